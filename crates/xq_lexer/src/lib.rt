@@ -1,0 +1,6 @@
+//! The tokens of a query's text.
+#![tactic(auto)]
+
+mod tokens;
+
+pub use tokens::{Lexeme, Symbol, Token};

@@ -1,0 +1,223 @@
+-- Rows that pass the test are those of a tree, and those of a tree pass it.
+use Rattle.std.proofs.Common.{◌≡◌, ℕ, zero, suc, ◌+◌, ◌-◌, ◌<◌, ◌≤◌, List, [], ◌∷◌, length, drop, map, true, false, not, ◌&&◌, refl, sym, ◌∙◌, ap, subst, arith}
+use Rattle.std.proofs.Math.Seq.{drop-cons}
+use Rattle.std.proofs.lemmas.Bool.{leb-true, le-leb}
+use Rattle.std.specs.Prelude.{nat_eq, nat_le, slice_index}
+use Rattle.xq_regions.specs.declared.NodeRow.{NodeRow}
+use Rattle.xq_regions.specs.Forest.{Forest, end, node, count, labels, tops, map_forest, EachNode, IsWithinHeight}
+use Rattle.xq_regions.specs.Tree.{Label, Tree, Row, IsTree, nodes, rows, measured, may_stand, is_attribute, has_text, has_name, may_precede, is_content, is_legal}
+use Rattle.xq_regions.specs.Nest.{front, back, nest, tree_of}
+use Rattle.xq_regions.specs.Axes.{no_row, row_at}
+use Rattle.xq_regions.specs.Checks.{label_of, child_ok, is_run, RowOk, IsChecked, roots}
+use Rattle.xq_regions.specs.Fragments.{row_of, AreNumbered, Encodes, IsSoundAt, IsEncoding}
+use Rattle.xq_regions.specs.Nesting.{count-measured, labels-nest, nest-rows, tree_of-rows}
+use Rattle.xq_regions.proofs.Regions.{length-labels}
+use Rattle.xq_regions.proofs.Checking.{both, both_true, each_row, checked, child_is_ok, child_ok_from, size_is, count-front-back, IsChecked-drop}
+use Rattle.xq_regions.proofs.Walks.{length-map}
+
+-- # From the test to the tree
+
+pub IsAtLevel : ℕ → Forest Row → Type 0
+IsAtLevel l end = Unit {0}
+IsAtLevel l (node r below beside) = (r.level ≡ l) × IsAtLevel l beside
+
+pub tops-map : {A B : Type 0} (f : A → B) (g : Forest A) → tops (map_forest f g) ≡ map f (tops g)
+tops-map f end = refl
+tops-map f (node a below beside) = ap (λ xs. f a ∷ xs) (tops-map f beside)
+
+pub count-map : {A B : Type 0} (f : A → B) (g : Forest A) → count (map_forest f g) ≡ count g
+count-map f end = refl
+count-map f (node a below beside) = ap suc (rw (count-map f below, count-map f beside))
+
+run_levels : (parent : Row) (n : ℕ) (f : Forest Row) → is_run parent n (tops f) ≡ true → IsAtLevel (suc parent.level) f
+unfolding IsAtLevel
+run_levels parent n end h = tt
+run_levels parent n (node r below beside) h =
+    let w = both (child_ok parent n r (map label_of (tops beside))) _ h in
+    ((child_is_ok parent n r (map label_of (tops beside)) w.0).level, run_levels parent (n - suc r.size) beside w.1)
+
+run_content : (parent : Row) (n : ℕ) (rs : List Row) → is_run parent n rs ≡ true → is_content parent.label (map label_of rs) ≡ true
+run_content parent n [] h = refl
+run_content parent n (r ∷ rs) h =
+    let w = both (child_ok parent n r (map label_of rs)) _ h in
+    let c = child_is_ok parent n r (map label_of rs) w.0 in
+    both_true _ _ c.kind (both_true _ _ c.text (both_true _ _ c.next (both_true _ _ c.name (run_content parent (n - suc r.size) rs w.1))))
+
+pub record RowParts (r : Row) (below : List Row) : Type 0 where
+  pub legal : is_legal r.label.kind r.label.name r.label.value ≡ true
+  pub level : r.level ≤ 100
+  pub run : is_run r r.size below ≡ true
+
+pub row_parts : (r : Row) (below : List Row) → RowOk r below → RowParts r below
+row_parts r below h =
+    let a = both (is_legal r.label.kind r.label.name r.label.value) _ h in
+    let b = both (nat_le r.level 100) _ a.1 in
+    record { legal = a.0; level = leb-true _ _ b.0; run = b.1 }
+
+same_row : (r : Row) (s l : ℕ) → s ≡ r.size → l ≡ r.level → ◌≡◌ {A = Row} (record { size = s; level = l; label = r.label }) r
+same_row r s l e f = rw (e, f)
+
+pub measured-label_of : (l : ℕ) (f : Forest Row) → EachNode RowOk f → IsAtLevel l f → measured l (map_forest label_of f) ≡ f
+unfolding IsAtLevel
+measured-label_of l end h g = refl
+measured-label_of l (node r below beside) h g =
+    let p = row_parts r (tops below) h.0 in
+    let k : count (map_forest label_of below) ≡ r.size = count-map label_of below ∙ size_is r below h.1.0 h.0 in
+    let lower : IsAtLevel (suc l) below = subst (λ n. IsAtLevel (suc n) below) g.0 (run_levels r r.size below p.run) in
+    ap (λ x. node x (measured (suc l) (map_forest label_of below)) (measured l (map_forest label_of beside))) (same_row r (count (map_forest label_of below)) l k (sym g.0))
+    ∙ ap (λ x. node r x (measured l (map_forest label_of beside))) (measured-label_of (suc l) below h.1.0 lower)
+    ∙ ap (node r below) (measured-label_of l beside h.1.1 g.1)
+
+pub rows_legal : (f : Forest Row) → EachNode RowOk f → EachNode (λ (a : Label) (below : List Label). is_legal a.kind a.name a.value ≡ true) (map_forest label_of f)
+rows_legal end h = tt
+rows_legal (node r below beside) h = ((row_parts r (tops below) h.0).legal, (rows_legal below h.1.0, rows_legal beside h.1.1))
+
+pub rows_content : (f : Forest Row) → EachNode RowOk f → EachNode (λ (a : Label) (below : List Label). is_content a below ≡ true) (map_forest label_of f)
+rows_content end h = tt
+rows_content (node r below beside) h =
+    (ap (is_content r.label) (tops-map label_of below) ∙ run_content r r.size (tops below) (row_parts r (tops below) h.0).run, (rows_content below h.1.0, rows_content beside h.1.1))
+
+pub rows_height : (l n : ℕ) (f : Forest Row) → l + n ≡ 101 → EachNode RowOk f → IsAtLevel l f → IsWithinHeight n (map_forest label_of f)
+unfolding IsAtLevel
+rows_height l n end e h g = tt
+rows_height l zero (node r below beside) e h g = absurd (let p = (row_parts r (tops below) h.0).level in omega (arith, g.0))
+rows_height l (suc n) (node r below beside) e h g =
+    let lower : IsAtLevel (suc l) below = subst (λ m. IsAtLevel (suc m) below) g.0 (run_levels r r.size below (row_parts r (tops below) h.0).run) in
+    (rows_height (suc l) n below (omega arith) h.1.0 lower, rows_height l (suc n) beside e h.1.1 g.1)
+
+empty_forest : {A : Type 0} (f : Forest A) → count f ≡ 0 → f ≡ end
+empty_forest end h = refl
+empty_forest (node a below beside) h = absurd (omega arith)
+
+-- rows that pass the test, from the root's on
+pub record Passes (rs : List Row) : Type 0 where
+  pub checked : IsChecked rs
+  pub root_level : (row_at rs 0).level ≡ 0
+  pub root_size : suc (row_at rs 0).size ≡ length rs
+  pub room : length rs ≤ 1000000
+
+pub count-nest : (rs : List Row) → count (nest rs) ≡ length rs
+count-nest rs = sym (length-labels (nest rs)) ∙ ap length (labels-nest rs)
+
+pub record EncodesRows (rs : List Row) (t : Tree) : Type 0 where
+  pub is_tree : IsTree t
+  pub rows : rs ≡ rows t
+
+pub encodes : (rs : List Row) → Passes rs → EncodesRows rs (tree_of rs)
+unfolding IsAtLevel
+encodes [] h = absurd (omega (arith, h.root_size))
+encodes (r ∷ rs) h =
+    let below = front r.size (nest rs) in
+    let beside = back r.size (nest rs) in
+    let each = each_row (r ∷ rs) h.checked in
+    let k : count below ≡ r.size = size_is r below each.1.0 each.0 in
+    let none : beside ≡ end = empty_forest beside (omega (arith, k, count-front-back r.size (nest rs), count-nest rs, h.root_size)) in
+    let forest : nest (r ∷ rs) ≡ node r below end = ap (node r below) none in
+    let sound : EachNode RowOk (node r below end) = (each.0, (each.1.0, tt)) in
+    let m : measured 0 (map_forest label_of (node r below end)) ≡ node r below end = measured-label_of 0 (node r below end) sound (h.root_level, tt) in
+    record {
+      is_tree = record {
+        legal = rows_legal (node r below end) sound;
+        content = rows_content (node r below end) sound;
+        height = rows_height 0 101 (node r below end) refl sound (h.root_level, tt);
+        room = omega (arith, count-map label_of below, k, h.root_size, h.room);
+      };
+      rows = sym (labels-nest (r ∷ rs)) ∙ ap labels (forest ∙ sym m);
+    }
+
+-- # From the tree to the test
+
+pub tops-measured : (l : ℕ) (f : Forest Label) → map label_of (tops (measured l f)) ≡ tops f
+tops-measured l end = refl
+tops-measured l (node a below beside) = ap (λ xs. a ∷ xs) (tops-measured l beside)
+
+pub run_from : (parent : Row) (f : Forest Label) → is_content parent.label (tops f) ≡ true → is_run parent (count f) (tops (measured (suc parent.level) f)) ≡ true
+run_from parent end h = refl
+run_from parent (node a below beside) h =
+    let b = both (may_stand parent.label.kind a.kind) _ h in
+    let c = both (has_text a.kind a.value) _ b.1 in
+    let d = both (may_precede a.kind (tops beside)) _ c.1 in
+    let e = both (not (is_attribute a.kind && has_name a.name (tops beside))) _ d.1 in
+    let later = map label_of (tops (measured (suc parent.level) beside)) in
+    let l : later ≡ tops beside = tops-measured (suc parent.level) beside in
+    let r : Row = record { size = count below; level = suc parent.level; label = a } in
+    let n : suc (count below + count beside) - suc (count below) ≡ count beside = omega arith in
+    both_true _ _
+    (child_ok_from parent (count (node a below beside)) r later (record {
+      level = refl;
+      kind = b.0;
+      text = c.0;
+      next = ap (may_precede a.kind) l ∙ d.0;
+      name = ap (λ xs. not (is_attribute a.kind && has_name a.name xs)) l ∙ e.0;
+      room = omega arith;
+    }))
+    (ap (λ m. is_run parent m (tops (measured (suc parent.level) beside))) n ∙ run_from parent beside e.1)
+
+pub row_sound : (l n : ℕ) (f : Forest Label) → l + n ≡ 101 → EachNode (λ (a : Label) (below : List Label). is_legal a.kind a.name a.value ≡ true) f → EachNode (λ (a : Label) (below : List Label). is_content a below ≡ true) f → IsWithinHeight n f → EachNode RowOk (measured l f)
+row_sound l n end e a b h = tt
+row_sound l zero (node x below beside) e a b h = absurd h
+row_sound l (suc n) (node x below beside) e a b h = (
+  both_true _ _ a.0 (both_true _ _ (le-leb l 100 (omega arith)) (run_from (record { size = count below; level = l; label = x }) below b.0)),
+  (row_sound (suc l) n below (omega arith) a.1.0 b.1.0 h.0, row_sound l (suc n) beside e a.1.1 b.1.1 h.1),
+)
+
+pub length-rows : (t : Tree) → length (rows t) ≡ count (nodes t)
+length-rows t = length-labels (measured 0 (nodes t)) ∙ count-measured 0 (nodes t)
+
+pub rows_pass : (t : Tree) → IsTree t → Passes (rows t)
+rows_pass t h = record {
+  checked = checked (rows t) (subst (EachNode RowOk) (sym (nest-rows t)) (row_sound 0 101 (nodes t) refl h.legal h.content h.height));
+  root_level = refl;
+  root_size = (let l = length-rows t in omega arith);
+  room = (let l = length-rows t in let r = h.room in omega arith);
+}
+
+-- # Row by row
+
+pub numbered_step : (xs : List NodeRow) (i n : ℕ) → i < length xs → slice_index (map (λ (r : NodeRow). r.pre) xs) i ≡ n → AreNumbered (suc n) (drop (suc i) xs) → AreNumbered n (drop i xs)
+numbered_step [] i n h e g = absurd (omega arith)
+numbered_step (x ∷ xs) zero n h e g = (e, g)
+numbered_step (x ∷ xs) (suc i) n h e g = numbered_step xs i n (omega arith) e g
+
+pub numbered_at : (n : ℕ) (xs : List NodeRow) (i : ℕ) → AreNumbered n xs → i < length xs → slice_index (map (λ (r : NodeRow). r.pre) xs) i ≡ n + i
+numbered_at n [] i g h = absurd (omega arith)
+numbered_at n (x ∷ xs) zero g h = omega (arith, g.0)
+numbered_at n (x ∷ xs) (suc i) g h = omega (arith, numbered_at (suc n) xs i g.1 (omega arith))
+
+roots_of_row : (rs : List Row) (i : ℕ) (r : Row) → roots rs (suc i) (suc i + r.size) ≡ tops (front r.size (nest (drop (suc i) rs)))
+roots_of_row rs i r = let e : suc i + r.size - suc i ≡ r.size = omega arith in ap (λ n. tops (front n (nest (drop (suc i) rs)))) e
+
+pub checked_step : (rs : List Row) (i : ℕ) → i < length rs → IsChecked (drop (suc i) rs) → RowOk (row_at rs i) (roots rs (suc i) (suc i + (row_at rs i).size)) → IsChecked (drop i rs)
+checked_step rs i h g k =
+    let r = row_at rs i in
+    subst IsChecked (sym (drop-cons rs i no_row h)) (subst (RowOk r) (roots_of_row rs i r) k, g)
+
+pub checked_at : (rs : List Row) (i : ℕ) → i < length rs → IsChecked rs → RowOk (row_at rs i) (roots rs (suc i) (suc i + (row_at rs i).size))
+checked_at rs i h g =
+    let r = row_at rs i in
+    let w : IsChecked (r ∷ drop (suc i) rs) = subst IsChecked (drop-cons rs i no_row h) (IsChecked-drop i rs g) in
+    subst (RowOk r) (sym (roots_of_row rs i r)) w.0
+
+pub passes : (xs : List NodeRow) (t : Tree) → Encodes xs t → Passes (map row_of xs)
+passes xs t h = subst Passes (sym h.rows) (rows_pass t h.is_tree)
+
+pub sound_at : (xs : List NodeRow) (i : ℕ) → i < length xs → IsEncoding xs → IsSoundAt xs i
+sound_at xs i h e =
+    let p = passes xs e.0 e.1 in
+    (let n = numbered_at 0 xs i e.1.numbered h in omega arith, checked_at (map row_of xs) i (let l = length-map row_of xs in omega arith) p.checked)
+
+pub encoding : (xs : List NodeRow) → Passes (map row_of xs) → AreNumbered 0 xs → IsEncoding xs
+encoding xs h n =
+    let e = encodes (map row_of xs) h in
+    (tree_of (map row_of xs), record { is_tree = e.is_tree; rows = e.rows; numbered = n })
+
+pub refused : (xs : List NodeRow) → (IsEncoding xs → ⊥) → (false ≡ true → IsEncoding xs) × (IsEncoding xs → false ≡ true)
+refused xs h = (λ e. absurd (cc), λ e. absurd (h e))
+
+pub some_rows : (n : ℕ) → nat_eq n 0 ≡ false → 0 < n
+some_rows zero h = absurd (cc)
+some_rows (suc n) h = omega arith
+
+-- rows of a tree are those of the tree that they give
+pub Encodes-tree_of : (xs : List NodeRow) → IsEncoding xs → Encodes xs (tree_of (map row_of xs))
+Encodes-tree_of xs e = subst (Encodes xs) (sym (ap tree_of e.1.rows ∙ tree_of-rows e.0)) e.1

@@ -1,0 +1,37 @@
+-- The test of rows, from the last to the first, without a list of what is open.
+use Rattle.std.proofs.Common.{suc}
+use Rattle.std.specs.Prelude.{ℕ, ◌-◌, ◌≡◌, List, [], ◌∷◌, map, drop, Bool, true, not, ◌&&◌, nat_eq, nat_le, nat_lt}
+use Rattle.xq_regions.specs.Forest.{tops}
+use Rattle.xq_regions.specs.Tree.{Label, Row, may_stand, is_attribute, has_text, has_name, may_precede, is_legal}
+use Rattle.xq_regions.specs.Nest.{front, nest}
+
+abbrev pub label_of : Row → Label
+label_of r = r.label
+
+-- a row may be the next child of the parent, where n rows are left below the parent and the labels come after it
+abbrev pub child_ok : Row → ℕ → Row → List Label → Bool
+child_ok parent n r labels =
+    nat_eq r.level (suc parent.level)
+    && (may_stand parent.label.kind r.label.kind
+    && (has_text r.label.kind r.label.value
+    && (may_precede r.label.kind labels
+    && (not (is_attribute r.label.kind && has_name r.label.name labels) && nat_lt r.size n))))
+
+-- these are all children of the parent
+abbrev pub is_run : Row → ℕ → List Row → Bool
+is_run parent n [] = nat_eq n 0
+is_run parent n (r ∷ rs) = child_ok parent n r (map label_of rs) && is_run parent (n - suc r.size) rs
+
+abbrev pub row_ok : Row → List Row → Bool
+row_ok r below = is_legal r.label.kind r.label.name r.label.value && (nat_le r.level 100 && is_run r r.size below)
+
+abbrev pub RowOk : Row → List Row → Type 0
+RowOk r below = row_ok r below ≡ true
+
+abbrev pub IsChecked : List Row → Type 0
+IsChecked [] = Unit {0}
+IsChecked (r ∷ rs) = RowOk r (tops (front r.size (nest rs))) × IsChecked rs
+
+-- the rows at the top, from the row c to before the row `stop`
+abbrev pub roots : List Row → ℕ → ℕ → List Row
+roots rs c stop = tops (front (stop - c) (nest (drop c rs)))

@@ -1,0 +1,96 @@
+-- A tree of a document, and its rows.
+use Rattle.std.proofs.Common.{suc}
+use Rattle.std.specs.Prelude.{ℕ, ◌≤◌, List, [], ◌∷◌, Bool, true, false, not, cond, ◌&&◌, ◌||◌, IsTrue}
+use Rattle.std.specs.Str.{bytes_eq, chars}
+use Rattle.xq_regions.specs.Names.{is_name}
+use Rattle.xq_regions.specs.Forest.{Forest, end, node, count, labels, EachNode, IsWithinHeight}
+use Rattle.xq_regions.specs.declared.Kind.{Kind}
+use Rattle.xq_regions.specs.declared.Kind.TheVariants.{Document, Element, Attribute, Text, Comment, ProcessingInstruction}
+
+-- what stands at a node: its kind, its name and its value, as UTF-8
+pub record Label : Type 0 where
+  pub kind : Kind
+  pub name : List ℕ
+  pub value : List ℕ
+
+-- a root, and what is below it: the attributes of an element come before its children
+pub record Tree : Type 0 where
+  pub root : Label
+  pub below : Forest Label
+
+abbrev pub nodes : Tree → Forest Label
+nodes t = node t.root t.below end
+
+pub record Row : Type 0 where
+  pub size : ℕ
+  pub level : ℕ
+  pub label : Label
+
+-- each node with the number of nodes below it and its level
+abbrev pub measured : ℕ → Forest Label → Forest Row
+measured level end = end
+measured level (node a below beside) =
+    node (record { size = count below; level = level; label = a }) (measured (suc level) below) (measured level beside)
+
+abbrev pub rows : Tree → List Row
+rows t = labels (measured 0 (nodes t))
+
+-- a node of the first kind may have a child or an attribute of the second
+abbrev pub may_stand : Kind → Kind → Bool
+may_stand Element Document = false
+may_stand Element child = true
+may_stand Document Document = false
+may_stand Document Attribute = false
+may_stand Document child = true
+may_stand parent child = false
+
+-- a node of the second kind may stand right beside one of the first: attributes come first, and no text comes after a text
+abbrev pub may_follow : Kind → Kind → Bool
+may_follow Text Text = false
+may_follow Attribute second = true
+may_follow kind Attribute = false
+may_follow kind second = true
+
+abbrev pub is_empty : List ℕ → Bool
+is_empty [] = true
+is_empty (x ∷ xs) = false
+
+abbrev pub is_attribute : Kind → Bool
+is_attribute Attribute = true
+is_attribute kind = false
+
+-- only a text below a parent has to have a value
+abbrev pub has_text : Kind → List ℕ → Bool
+has_text Text value = not (is_empty value)
+has_text kind value = true
+
+-- one of the attributes at the front has this name
+abbrev pub has_name : List ℕ → List Label → Bool
+has_name name [] = false
+has_name name (a ∷ labels) = cond (is_attribute a.kind) (bytes_eq a.name name || has_name name labels) false
+
+abbrev pub may_precede : Kind → List Label → Bool
+may_precede kind [] = true
+may_precede kind (next ∷ labels) = may_follow kind next.kind
+
+-- these may be the attributes and the children of a node
+abbrev pub is_content : Label → List Label → Bool
+is_content parent [] = true
+is_content parent (a ∷ labels) =
+    may_stand parent.kind a.kind && (has_text a.kind a.value && (may_precede a.kind labels
+    && (not (is_attribute a.kind && has_name a.name labels) && is_content parent labels)))
+
+-- a node of the kind may have the name and the value
+abbrev pub is_legal : Kind → List ℕ → List ℕ → Bool
+is_legal Document name value = is_empty name && is_empty value
+is_legal Element name value = is_name (chars name) && is_empty value
+is_legal Attribute name value = is_name (chars name)
+is_legal Text name value = is_empty name
+is_legal Comment name value = is_empty name
+is_legal ProcessingInstruction name value = is_name (chars name)
+
+pub record IsTree (t : Tree) : Type 0 where
+  pub legal : EachNode (λ a below. IsTrue (is_legal a.kind a.name a.value)) (nodes t)
+  pub content : EachNode (λ a below. IsTrue (is_content a below)) (nodes t)
+  pub height : IsWithinHeight 101 (nodes t)
+  pub room : count (nodes t) ≤ 1000000
