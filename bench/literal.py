@@ -1,0 +1,65 @@
+"""Stores document literals of 0.25, 0.5 and 1 MB through the server and reads them back; prints times and ratios.
+
+usage: literal.py [SERVER]
+
+A run's time is that of the whole program, from its start to its end, less that of a run of an empty input.
+"""
+
+import os
+import struct
+import subprocess
+import sys
+import time
+
+TOP = os.path.dirname(os.path.dirname(os.path.abspath(__file__)))
+
+
+def frame(tag, body):
+    rest = struct.pack(">I", tag) + body
+    return struct.pack(">I", len(rest)) + rest
+
+
+def literal(size):
+    """A document of about so many bytes: books with an attribute and a text."""
+    books, length, number = [], len("document {element lib {}}"), 0
+    while True:
+        book = 'element book {attribute id {"%d"}, text {"title %d"}}' % (number, number)
+        if length + len(book) + 2 > size:
+            return "document {element lib {%s}}" % ", ".join(books)
+        books.append(book)
+        length += len(book) + 2
+        number += 1
+
+
+def timed(server, data):
+    best, output = None, b""
+    for _ in range(3):
+        start = time.perf_counter()
+        output = subprocess.run([server], input=data, stdout=subprocess.PIPE, check=True).stdout
+        took = time.perf_counter() - start
+        best = took if best is None else min(best, took)
+    return best, output
+
+
+def main():
+    server = sys.argv[1] if len(sys.argv) > 1 else os.path.join(TOP, "serve")
+    empty, _ = timed(server, b"")
+    before = {}
+    print("%10s %8s %12s %12s %8s %8s" % ("bytes", "nodes", "store ms", "read ms", "ratio", "ratio"))
+    for size in (262_144, 524_288, 1_048_576):
+        text = literal(size).encode()
+        nodes = text.count(b"{")
+        store = frame(1, b"S\x01x" + text)
+        stored, _ = timed(server, store)
+        both, output = timed(server, store + frame(2, b'Qdoc("x")'))
+        reply = frame(1, b"\x00stored") + frame(2, b"\x00" + text)
+        if output != reply:
+            sys.exit("the document did not come back as it was stored")
+        times = ((stored - empty) * 1000, (both - stored) * 1000)
+        ratios = ["%8.2f" % (now / then) for now, then in zip(times, before)] if before else ["", ""]
+        print("%10d %8d %12.1f %12.1f %8s %8s" % (len(text), nodes, *times, *ratios))
+        before = times
+
+
+if __name__ == "__main__":
+    main()
