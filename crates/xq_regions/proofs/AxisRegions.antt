@@ -1,8 +1,12 @@
 -- Each axis is a region of the rows.
 use Rattle.std.proofs.Common.{◌≡◌, ◌≢◌, ◌↔◌, ℕ, zero, suc, ◌+◌, ◌<◌, List, [], ◌∷◌, length, inl, inr, refl, sym, ◌∙◌, ap, subst, arith}
-use Rattle.xq_regions.specs.Forest.{Forest, end, node, HasPath, place_of, path_at, IsAbove, IsLeftOf, IsBeside}
-use Rattle.xq_regions.specs.Tree.{Label, Tree, nodes, rows}
-use Rattle.xq_regions.specs.Axes.{row_at, kind_at, kind_of_row, IsInside, ShareParent, IsOnAxis, IsInRegion}
+use Rattle.xq_regions.specs.Forest.{Forest, end, node}
+use Rattle.xq_regions.specs.Tree.{Label, Tree, nodes}
+use Rattle.xq_regions.specs.Node.{HasPath, kind_at}
+use Rattle.xq_regions.specs.Order.{place_of, path_at, IsAbove, IsLeftOf, IsBeside}
+use Rattle.xq_regions.specs.Axis.{IsOnAxis}
+use Rattle.xq_regions.specs.Rows.{rows, row_at}
+use Rattle.xq_regions.specs.Regions.{kind_of_row, IsInside, ShareParent, IsInRegion}
 use Rattle.xq_regions.specs.declared.Axis.{Axis}
 use Rattle.xq_regions.specs.declared.Axis.TheVariants.{Child, Descendant, DescendantOrSelf, SelfNode, Attributes, Parent, Ancestor, AncestorOrSelf, Following, FollowingSibling, Preceding, PrecedingSibling}
 use Rattle.xq_regions.proofs.Paths.{place_lt, at_place}

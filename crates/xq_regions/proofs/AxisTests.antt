@@ -3,9 +3,11 @@ use Rattle.std.proofs.Common.{◌≡◌, ◌≢◌, ◌↔◌, ℕ, suc, List, [
 use Rattle.std.specs.Prelude.{nat_eq, nat_lt, filter}
 use Rattle.std.specs.List.{range_with_len}
 use Rattle.std.proofs.lemmas.Bool.{leb-true, eqb-true, le-leb, eq-eqb}
-use Rattle.xq_regions.specs.Forest.{Forest, path_at, count, IsAbove, IsLeftOf, IsBeside}
+use Rattle.xq_regions.specs.Forest.{Forest, count}
 use Rattle.xq_regions.specs.Tree.{Label, Tree, nodes, is_attribute}
-use Rattle.xq_regions.specs.Axes.{kind_at, IsOnAxis}
+use Rattle.xq_regions.specs.Node.{kind_at}
+use Rattle.xq_regions.specs.Order.{path_at, IsAbove, IsLeftOf, IsBeside}
+use Rattle.xq_regions.specs.Axis.{IsOnAxis}
 use Rattle.xq_regions.proofs.Checking.{both, both_true}
 use Rattle.xq_regions.specs.declared.Kind.{Kind}
 use Rattle.xq_regions.specs.declared.Kind.TheVariants.{Document, Element, Attribute, Text, Comment, ProcessingInstruction}

@@ -4,9 +4,8 @@ use Rattle.std.proofs.Math.Seq.{drop-cons}
 use Rattle.std.proofs.lemmas.Bool.{leb-true, eqb-true, le-leb, eq-eqb}
 use Rattle.std.proofs.lemmas.List.{drop-drop}
 use Rattle.xq_regions.specs.Forest.{Forest, end, node, count, labels, tops, EachNode}
-use Rattle.xq_regions.specs.Tree.{Label, Row, may_stand, is_attribute, has_text, has_name, may_precede}
-use Rattle.xq_regions.specs.Nest.{front, back, nest}
-use Rattle.xq_regions.specs.Axes.{no_row, row_at}
+use Rattle.xq_regions.specs.Tree.{Label, may_stand, is_attribute, has_text, has_name, may_precede}
+use Rattle.xq_regions.specs.Rows.{Row, front, back, nest, no_row, row_at}
 use Rattle.xq_regions.specs.Checks.{label_of, child_ok, is_run, RowOk, IsChecked, roots}
 
 pub both : (a b : Bool) → (a && b) ≡ true → (a ≡ true) × (b ≡ true)
@@ -17,15 +16,23 @@ pub both_true : (a b : Bool) → a ≡ true → b ≡ true → (a && b) ≡ true
 both_true true b h g = g
 both_true false b h g = absurd (cc)
 
+-- what holds at each node of a forest holds at each node of its front and back
+module _ {A : Type 0} (P : A → List A → Type 0) where
+  pub EachNode-front : (n : ℕ) (f : Forest A) → EachNode P f → EachNode P (front n f)
+  EachNode-front zero f h = tt
+  EachNode-front (suc n) end h = tt
+  EachNode-front (suc n) (node a below beside) h = (h.0, (h.1.0, EachNode-front (n - count below) beside h.1.1))
+
+  pub EachNode-back : (n : ℕ) (f : Forest A) → EachNode P f → EachNode P (back n f)
+  EachNode-back zero f h = h
+  EachNode-back (suc n) end h = tt
+  EachNode-back (suc n) (node a below beside) h = EachNode-back (n - count below) beside h.1.1
+
 pub EachRow-front : (n : ℕ) (f : Forest Row) → EachNode RowOk f → EachNode RowOk (front n f)
-EachRow-front zero f h = tt
-EachRow-front (suc n) end h = tt
-EachRow-front (suc n) (node a below beside) h = (h.0, (h.1.0, EachRow-front (n - count below) beside h.1.1))
+EachRow-front n f h = EachNode-front RowOk n f h
 
 pub EachRow-back : (n : ℕ) (f : Forest Row) → EachNode RowOk f → EachNode RowOk (back n f)
-EachRow-back zero f h = h
-EachRow-back (suc n) end h = tt
-EachRow-back (suc n) (node a below beside) h = EachRow-back (n - count below) beside h.1.1
+EachRow-back n f h = EachNode-back RowOk n f h
 
 pub EachRow-both : (n : ℕ) (f : Forest Row) → EachNode RowOk (front n f) → EachNode RowOk (back n f) → EachNode RowOk f
 EachRow-both zero f h g = g

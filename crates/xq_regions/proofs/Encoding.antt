@@ -2,17 +2,16 @@
 use Rattle.std.proofs.Common.{◌≡◌, ℕ, zero, suc, ◌+◌, ◌-◌, ◌<◌, ◌≤◌, List, [], ◌∷◌, length, drop, map, true, false, not, ◌&&◌, refl, sym, ◌∙◌, ap, subst, arith}
 use Rattle.std.proofs.Math.Seq.{drop-cons}
 use Rattle.std.proofs.lemmas.Bool.{leb-true, le-leb}
+use Rattle.std.proofs.lemmas.Str.{IsUtf8-string_bytes}
 use Rattle.std.specs.Prelude.{nat_eq, nat_le, slice_index}
 use Rattle.xq_regions.specs.declared.NodeRow.{NodeRow}
 use Rattle.xq_regions.specs.Forest.{Forest, end, node, count, labels, tops, map_forest, EachNode, IsWithinHeight}
-use Rattle.xq_regions.specs.Tree.{Label, Tree, Row, IsTree, nodes, rows, measured, may_stand, is_attribute, has_text, has_name, may_precede, is_content, is_legal}
-use Rattle.xq_regions.specs.Nest.{front, back, nest, tree_of}
-use Rattle.xq_regions.specs.Axes.{no_row, row_at}
-use Rattle.xq_regions.specs.Checks.{label_of, child_ok, is_run, RowOk, IsChecked, roots}
-use Rattle.xq_regions.specs.Fragments.{row_of, AreNumbered, Encodes, IsSoundAt, IsEncoding}
+use Rattle.xq_regions.specs.Tree.{Label, Tree, IsText, IsTree, nodes, may_stand, is_attribute, has_text, has_name, may_precede, is_content, is_legal}
+use Rattle.xq_regions.specs.Rows.{Row, rows, measured, front, back, nest, tree_of, no_row, row_at, row_of, AreNumbered, Encodes, IsEncoding}
+use Rattle.xq_regions.specs.Checks.{label_of, child_ok, is_run, RowOk, IsChecked, roots, IsSoundAt}
 use Rattle.xq_regions.specs.Nesting.{count-measured, labels-nest, nest-rows, tree_of-rows}
 use Rattle.xq_regions.proofs.Regions.{length-labels}
-use Rattle.xq_regions.proofs.Checking.{both, both_true, each_row, checked, child_is_ok, child_ok_from, size_is, count-front-back, IsChecked-drop}
+use Rattle.xq_regions.proofs.Checking.{EachNode-front, EachNode-back, both, both_true, each_row, checked, child_is_ok, child_ok_from, size_is, count-front-back, IsChecked-drop}
 use Rattle.xq_regions.proofs.Walks.{length-map}
 
 -- # From the test to the tree
@@ -96,6 +95,28 @@ pub record Passes (rs : List Row) : Type 0 where
   pub root_size : suc (row_at rs 0).size ≡ length rs
   pub room : length rs ≤ 1000000
 
+-- the names and values of the rows are UTF-8
+abbrev pub AreTexts : List Row → Type 0
+AreTexts [] = Unit {0}
+AreTexts (r ∷ rs) = IsText r.label × AreTexts rs
+
+abbrev IsTextRow : Row → List Row → Type 0
+IsTextRow r below = IsText r.label
+
+texts_nest : (rs : List Row) → AreTexts rs → EachNode IsTextRow (nest rs)
+texts_nest [] h = tt
+texts_nest (r ∷ rs) h =
+    (h.0, (EachNode-front IsTextRow r.size (nest rs) (texts_nest rs h.1), EachNode-back IsTextRow r.size (nest rs) (texts_nest rs h.1)))
+
+texts_map : (f : Forest Row) → EachNode IsTextRow f → EachNode (λ (a : Label) (below : List Label). IsText a) (map_forest label_of f)
+texts_map end h = tt
+texts_map (node r below beside) h = (h.0, (texts_map below h.1.0, texts_map beside h.1.1))
+
+-- those that code holds are
+pub texts_of : (xs : List NodeRow) → AreTexts (map row_of xs)
+texts_of [] = tt
+texts_of (x ∷ xs) = ((IsUtf8-string_bytes x.name, IsUtf8-string_bytes x.value), texts_of xs)
+
 pub count-nest : (rs : List Row) → count (nest rs) ≡ length rs
 count-nest rs = sym (length-labels (nest rs)) ∙ ap length (labels-nest rs)
 
@@ -103,10 +124,10 @@ pub record EncodesRows (rs : List Row) (t : Tree) : Type 0 where
   pub is_tree : IsTree t
   pub rows : rs ≡ rows t
 
-pub encodes : (rs : List Row) → Passes rs → EncodesRows rs (tree_of rs)
+pub encodes : (rs : List Row) → AreTexts rs → Passes rs → EncodesRows rs (tree_of rs)
 unfolding IsAtLevel
-encodes [] h = absurd (omega (arith, h.root_size))
-encodes (r ∷ rs) h =
+encodes [] u h = absurd (omega (arith, h.root_size))
+encodes (r ∷ rs) u h =
     let below = front r.size (nest rs) in
     let beside = back r.size (nest rs) in
     let each = each_row (r ∷ rs) h.checked in
@@ -117,6 +138,7 @@ encodes (r ∷ rs) h =
     let m : measured 0 (map_forest label_of (node r below end)) ≡ node r below end = measured-label_of 0 (node r below end) sound (h.root_level, tt) in
     record {
       is_tree = record {
+        texts = texts_map (node r below end) (subst (EachNode IsTextRow) forest (texts_nest (r ∷ rs) u));
         legal = rows_legal (node r below end) sound;
         content = rows_content (node r below end) sound;
         height = rows_height 0 101 (node r below end) refl sound (h.root_level, tt);
@@ -208,7 +230,7 @@ sound_at xs i h e =
 
 pub encoding : (xs : List NodeRow) → Passes (map row_of xs) → AreNumbered 0 xs → IsEncoding xs
 encoding xs h n =
-    let e = encodes (map row_of xs) h in
+    let e = encodes (map row_of xs) (texts_of xs) h in
     (tree_of (map row_of xs), record { is_tree = e.is_tree; rows = e.rows; numbered = n })
 
 pub refused : (xs : List NodeRow) → (IsEncoding xs → ⊥) → (false ≡ true → IsEncoding xs) × (IsEncoding xs → false ≡ true)

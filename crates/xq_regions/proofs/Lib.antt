@@ -6,3 +6,5 @@ pub mod Encoding
 pub mod Worked
 pub mod AxisRegions
 pub mod AxisTests
+pub mod Printed
+pub mod Texts

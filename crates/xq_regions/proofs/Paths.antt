@@ -2,7 +2,9 @@
 use Rattle.std.proofs.Common.{◌≡◌, ℕ, zero, suc, ◌+◌, ◌-◌, ◌<◌, ◌≤◌, List, [], ◌∷◌, ◌⊎◌, inl, inr, leb, Bool, true, false, cond, refl, ◌∙◌, ap, arith}
 use Rattle.std.proofs.lemmas.Bool.{le-leb}
 use Rattle.std.proofs.lemmas.Bool.Decides.{leb_tells}
-use Rattle.xq_regions.specs.Forest.{Forest, end, node, count, HasPath, place_of, path_at, step_down, step_right, below_at, IsAbove, IsLeftOf}
+use Rattle.xq_regions.specs.Forest.{Forest, end, node, count}
+use Rattle.xq_regions.specs.Node.{HasPath, below_at}
+use Rattle.xq_regions.specs.Order.{place_of, path_at, step_down, step_right, IsAbove, IsLeftOf}
 
 gt-leb : (a b : ℕ) → b < a → leb a b ≡ false
 gt-leb a b h = elim (leb_tells a b) [ inl e ↦ absurd (omega (arith, e.1)) | inr e ↦ e.0 ]

@@ -3,9 +3,11 @@ use Rattle.std.proofs.Common.{◌≡◌, ◌↔◌, ℕ, zero, suc, ◌+◌, ◌
 use Rattle.std.proofs.Math.ListN.{get_or-append}
 use Rattle.std.proofs.lemmas.List.{get_or-append-add, length-append}
 use Rattle.std.proofs.lemmas.Bool.Decides.{leb_tells}
-use Rattle.xq_regions.specs.Forest.{Forest, end, node, count, labels, HasPath, place_of, path_at, below_at, label_at, IsBefore, IsAbove, IsLeftOf}
-use Rattle.xq_regions.specs.Tree.{Label, Row, measured}
-use Rattle.xq_regions.specs.Axes.{no_label, no_row, row_at}
+use Rattle.xq_regions.specs.Forest.{Forest, end, node, count, labels}
+use Rattle.xq_regions.specs.Tree.{Label, no_label}
+use Rattle.xq_regions.specs.Node.{HasPath, below_at, label_at}
+use Rattle.xq_regions.specs.Order.{place_of, path_at, IsBefore, IsAbove, IsLeftOf}
+use Rattle.xq_regions.specs.Rows.{Row, measured, no_row, row_at}
 use Rattle.xq_regions.specs.Nesting.{count-measured}
 use Rattle.xq_regions.proofs.Paths.{place_lt, path_at-place_of, above_within, left_before}
 

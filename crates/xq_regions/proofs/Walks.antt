@@ -4,15 +4,13 @@ use Rattle.std.specs.Prelude.{string_bytes, nat_eq, nat_lt}
 use Rattle.std.proofs.Math.Bool.{and-true}
 use Rattle.std.proofs.lemmas.Bool.{le-leb, eq-eqb}
 use Rattle.std.specs.Str.{bytes_eq}
-use Rattle.xq_regions.specs.Tree.{Label, Row, is_attribute, has_name, may_precede, may_follow, may_stand, has_text}
-use Rattle.xq_regions.specs.Axes.{row_at}
+use Rattle.xq_regions.specs.Forest.{count, tops}
+use Rattle.xq_regions.specs.Tree.{Label, is_attribute, has_name, may_precede, may_follow, may_stand, has_text}
+use Rattle.xq_regions.specs.Rows.{Row, row_at, row_of, front, nest}
 use Rattle.xq_regions.specs.Checks.{IsChecked, roots, label_of, child_ok, is_run}
-use Rattle.xq_regions.specs.Fragments.{row_of}
 use Rattle.xq_regions.specs.declared.NodeRow.{NodeRow}
 use Rattle.xq_regions.specs.declared.Kind.{Kind}
 use Rattle.std.proofs.Common.{length-drop}
-use Rattle.xq_regions.specs.Forest.{count, tops}
-use Rattle.xq_regions.specs.Nest.{front, nest}
 use Rattle.xq_regions.specs.Nesting.{labels-nest}
 use Rattle.xq_regions.proofs.Regions.{length-labels}
 use Rattle.xq_regions.proofs.Checking.{roots_step, roots_stop, child_is_ok, count_run, EachRow-front, each_row, count-front-back}

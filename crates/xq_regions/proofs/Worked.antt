@@ -1,11 +1,13 @@
 -- The rows of a small document, and its axes.
-use Rattle.std.proofs.Common.{◌≡◌, ℕ, List, [], ◌∷◌, map, refl, arith}
+use Rattle.std.proofs.Common.{◌≡◌, true, ℕ, List, [], ◌∷◌, map, refl, arith}
 use Rattle.std.specs.Prelude.{codes}
-use Rattle.std.specs.Str.{chars}
-use Rattle.xq_regions.specs.Forest.{Forest, end, node, place_of, path_at}
-use Rattle.xq_regions.specs.Tree.{Label, Tree, Row, IsTree, nodes, rows}
-use Rattle.xq_regions.specs.Nest.{tree_of}
-use Rattle.xq_regions.specs.Axes.{row_at}
+use Rattle.std.specs.Str.{chars, IsUtf8, all_scalars}
+use Rattle.std.specs.Prelude.{encode_utf8_all}
+use Rattle.std.specs.Char.{encode_utf8}
+use Rattle.xq_regions.specs.Forest.{Forest, end, node, EachNode}
+use Rattle.xq_regions.specs.Tree.{Label, Tree, IsText, IsTree, nodes}
+use Rattle.xq_regions.specs.Order.{place_of, path_at}
+use Rattle.xq_regions.specs.Rows.{Row, rows, tree_of, row_at}
 use Rattle.xq_regions.specs.declared.Kind.{Kind}
 use Rattle.xq_regions.specs.declared.Kind.TheVariants.{Document, Element, Attribute, Text}
 
@@ -32,9 +34,21 @@ levels = refl
 back_again : tree_of (rows library) ≡ library
 back_again = refl
 
+utf8 : (text : List ℕ) → all_scalars text ≡ true → encode_utf8_all text ≡ text → IsUtf8 text
+utf8 text h e = (text, (h, e))
+
+texts_of_library : EachNode (λ (a : Label) (below : List Label). IsText a) (nodes library)
+unfolding encode_utf8
+texts_of_library =
+    let none : IsUtf8 [] = utf8 [] refl refl in
+    let id : IsUtf8 (codes "id") = utf8 (codes "id") refl refl in
+    let book : IsUtf8 (codes "book") = utf8 (codes "book") refl refl in
+    ((none, none), (((utf8 (codes "lib") refl refl, none), (((book, none), (((id, utf8 (codes "1") refl refl), (tt, ((none, utf8 (codes "A") refl refl), (tt, tt)))), ((book, none), (((id, utf8 (codes "2") refl refl), (tt, ((none, utf8 (codes "B") refl refl), (tt, tt)))), tt)))), tt)), tt))
+
 is_tree : IsTree library
 unfolding chars
 is_tree = record {
+  texts = texts_of_library;
   legal = (refl, ((refl, ((refl, ((refl, (tt, (refl, (tt, tt)))), (refl, ((refl, (tt, (refl, (tt, tt)))), tt)))), tt)), tt));
   content = (refl, ((refl, ((refl, ((refl, (tt, (refl, (tt, tt)))), (refl, ((refl, (tt, (refl, (tt, tt)))), tt)))), tt)), tt));
   height = omega arith;

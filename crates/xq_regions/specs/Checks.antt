@@ -1,9 +1,10 @@
 -- The test of rows, from the last to the first, without a list of what is open.
 use Rattle.std.proofs.Common.{suc}
-use Rattle.std.specs.Prelude.{ℕ, ◌-◌, ◌≡◌, List, [], ◌∷◌, map, drop, Bool, true, not, ◌&&◌, nat_eq, nat_le, nat_lt}
+use Rattle.std.specs.Prelude.{ℕ, ◌+◌, ◌-◌, ◌≡◌, slice_index, List, [], ◌∷◌, map, drop, Bool, true, not, ◌&&◌, nat_eq, nat_le, nat_lt}
 use Rattle.xq_regions.specs.Forest.{tops}
-use Rattle.xq_regions.specs.Tree.{Label, Row, may_stand, is_attribute, has_text, has_name, may_precede, is_legal}
-use Rattle.xq_regions.specs.Nest.{front, nest}
+use Rattle.xq_regions.specs.Tree.{Label, may_stand, is_attribute, has_text, has_name, may_precede, is_legal}
+use Rattle.xq_regions.specs.Rows.{Row, row_of, row_at, front, nest}
+use Rattle.xq_regions.specs.declared.NodeRow.{NodeRow}
 
 abbrev pub label_of : Row → Label
 label_of r = r.label
@@ -35,3 +36,9 @@ IsChecked (r ∷ rs) = RowOk r (tops (front r.size (nest rs))) × IsChecked rs
 -- the rows at the top, from the row c to before the row `stop`
 abbrev pub roots : List Row → ℕ → ℕ → List Row
 roots rs c stop = tops (front (stop - c) (nest (drop c rs)))
+
+-- the row at the place i is right, where those after it are
+abbrev pub IsSoundAt : List NodeRow → ℕ → Type 0
+IsSoundAt rs i =
+    (slice_index (map (λ (r : NodeRow). r.pre) rs) i ≡ i)
+    × RowOk (row_at (map row_of rs) i) (roots (map row_of rs) (suc i) (suc i + (row_at (map row_of rs) i).size))

@@ -2,8 +2,8 @@
 use Rattle.std.proofs.Common.{zero, suc}
 use Rattle.std.specs.Prelude.{◌≡◌, ℕ, List, refl}
 use Rattle.std.specs.Coded.{Coded, code_by, coded×, coded_ℕ, coded_list}
-use Rattle.xq_regions.specs.Tree.{Label, Tree, Row, rows}
-use Rattle.xq_regions.specs.Nest.{tree_of}
+use Rattle.xq_regions.specs.Tree.{Label, Tree}
+use Rattle.xq_regions.specs.Rows.{Row, rows, tree_of}
 use Rattle.xq_regions.specs.Nesting.{tree_of-rows}
 use Rattle.xq_regions.specs.declared.Kind.{Kind}
 use Rattle.xq_regions.specs.declared.Kind.TheVariants.{Document, Element, Attribute, Text, Comment, ProcessingInstruction}

@@ -1,8 +1,8 @@
 -- Rows give their tree back.
 use Rattle.std.proofs.Common.{◌≡◌, ℕ, zero, suc, ◌+◌, ◌-◌, List, [], ◌∷◌, ◌++◌, refl, sym, ◌∙◌, ap, arith, append_assoc}
-use Rattle.xq_regions.specs.Forest.{Forest, end, node, count, labels, map_forest}
-use Rattle.xq_regions.specs.Tree.{Label, Tree, Row, nodes, measured, rows}
-use Rattle.xq_regions.specs.Nest.{join, front, back, nest, first_tree, tree_of}
+use Rattle.xq_regions.specs.Forest.{Forest, end, node, count, labels, map_forest, join}
+use Rattle.xq_regions.specs.Tree.{Label, Tree, nodes}
+use Rattle.xq_regions.specs.Rows.{Row, measured, rows, front, back, nest, first_tree, tree_of}
 
 pub front-join : {A : Type 0} (f g : Forest A) → front (count f) (join f g) ≡ f
 front-join end g = refl

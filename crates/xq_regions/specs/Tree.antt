@@ -1,9 +1,8 @@
--- A tree of a document, and its rows.
-use Rattle.std.proofs.Common.{suc}
-use Rattle.std.specs.Prelude.{ℕ, ◌≤◌, List, [], ◌∷◌, Bool, true, false, not, cond, ◌&&◌, ◌||◌, IsTrue}
-use Rattle.std.specs.Str.{bytes_eq, chars}
-use Rattle.xq_regions.specs.Names.{is_name}
-use Rattle.xq_regions.specs.Forest.{Forest, end, node, count, labels, EachNode, IsWithinHeight}
+-- Trees of nodes: XDM 3.1, section 6.
+use Rattle.std.specs.Prelude.{ℕ, ◌≡◌, ◌≤◌, List, [], ◌∷◌, Bool, true, false, not, cond, ◌&&◌, ◌||◌, IsTrue}
+use Rattle.std.specs.Str.{bytes_eq, chars, IsUtf8}
+use Rattle.xq_regions.specs.Names.{is_empty, is_name, are_characters, is_attribute_name, is_comment, is_target, is_instruction}
+use Rattle.xq_regions.specs.Forest.{Forest, end, node, count, EachNode, IsWithinHeight}
 use Rattle.xq_regions.specs.declared.Kind.{Kind}
 use Rattle.xq_regions.specs.declared.Kind.TheVariants.{Document, Element, Attribute, Text, Comment, ProcessingInstruction}
 
@@ -13,6 +12,9 @@ pub record Label : Type 0 where
   pub name : List ℕ
   pub value : List ℕ
 
+abbrev pub no_label : Label
+no_label = record { kind = Document; name = []; value = [] }
+
 -- a root, and what is below it: the attributes of an element come before its children
 pub record Tree : Type 0 where
   pub root : Label
@@ -21,19 +23,11 @@ pub record Tree : Type 0 where
 abbrev pub nodes : Tree → Forest Label
 nodes t = node t.root t.below end
 
-pub record Row : Type 0 where
-  pub size : ℕ
-  pub level : ℕ
-  pub label : Label
+-- # What may stand where
 
--- each node with the number of nodes below it and its level
-abbrev pub measured : ℕ → Forest Label → Forest Row
-measured level end = end
-measured level (node a below beside) =
-    node (record { size = count below; level = level; label = a }) (measured (suc level) below) (measured level beside)
-
-abbrev pub rows : Tree → List Row
-rows t = labels (measured 0 (nodes t))
+abbrev pub is_attribute : Kind → Bool
+is_attribute Attribute = true
+is_attribute kind = false
 
 -- a node of the first kind may have a child or an attribute of the second
 abbrev pub may_stand : Kind → Kind → Bool
@@ -51,13 +45,9 @@ may_follow Attribute second = true
 may_follow kind Attribute = false
 may_follow kind second = true
 
-abbrev pub is_empty : List ℕ → Bool
-is_empty [] = true
-is_empty (x ∷ xs) = false
-
-abbrev pub is_attribute : Kind → Bool
-is_attribute Attribute = true
-is_attribute kind = false
+abbrev pub may_precede : Kind → List Label → Bool
+may_precede kind [] = true
+may_precede kind (next ∷ labels) = may_follow kind next.kind
 
 -- only a text below a parent has to have a value
 abbrev pub has_text : Kind → List ℕ → Bool
@@ -68,10 +58,6 @@ has_text kind value = true
 abbrev pub has_name : List ℕ → List Label → Bool
 has_name name [] = false
 has_name name (a ∷ labels) = cond (is_attribute a.kind) (bytes_eq a.name name || has_name name labels) false
-
-abbrev pub may_precede : Kind → List Label → Bool
-may_precede kind [] = true
-may_precede kind (next ∷ labels) = may_follow kind next.kind
 
 -- these may be the attributes and the children of a node
 abbrev pub is_content : Label → List Label → Bool
@@ -84,13 +70,26 @@ is_content parent (a ∷ labels) =
 abbrev pub is_legal : Kind → List ℕ → List ℕ → Bool
 is_legal Document name value = is_empty name && is_empty value
 is_legal Element name value = is_name (chars name) && is_empty value
-is_legal Attribute name value = is_name (chars name)
-is_legal Text name value = is_empty name
-is_legal Comment name value = is_empty name
-is_legal ProcessingInstruction name value = is_name (chars name)
+is_legal Attribute name value = is_attribute_name name && are_characters value
+is_legal Text name value = is_empty name && are_characters value
+is_legal Comment name value = is_empty name && is_comment value
+is_legal ProcessingInstruction name value = is_target name && is_instruction value
 
+-- # Trees
+
+-- the name and the value are UTF-8
+abbrev pub IsText : Label → Type 0
+IsText a = IsUtf8 a.name × IsUtf8 a.value
+
+-- levels are at most 100, where the root has 0; nodes are at most a million
 pub record IsTree (t : Tree) : Type 0 where
+  pub texts : EachNode (λ a below. IsText a) (nodes t)
   pub legal : EachNode (λ a below. IsTrue (is_legal a.kind a.name a.value)) (nodes t)
   pub content : EachNode (λ a below. IsTrue (is_content a below)) (nodes t)
   pub height : IsWithinHeight 101 (nodes t)
   pub room : count (nodes t) ≤ 1000000
+
+-- a tree with a document at its root
+pub record IsDocument (t : Tree) : Type 0 where
+  pub is_tree : IsTree t
+  pub root : t.root.kind ≡ Document

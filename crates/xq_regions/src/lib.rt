@@ -4,17 +4,18 @@
 ghost use Rattle.std.specs.Prelude.{◌≡◌, ℕ, ◌+◌, ◌-◌, ◌*◌, ◌<◌, ◌≤◌, ◌↔◌, ◌&&◌, List, [], ◌∷◌, ◌++◌, length, map, drop, IsTrue, IsOk, IsErr, IfOk, IfErr, OnErr, OnOk, string_bytes, vec_len};
 ghost use Rattle.xq_regions.specs.Tree.{may_stand as may_stand_lem, may_follow as may_follow_lem, is_legal as is_legal_lem, has_text as has_text_lem, has_name as has_name_lem, is_attribute as is_attribute_lem, may_precede as may_precede_lem};
 ghost use Rattle.std.proofs.Common.{suc};
-ghost use Rattle.xq_regions.specs.Fragments.{row_of, IsSoundAt, IsEncoding, Encodes};
-ghost use Rattle.xq_regions.specs.Axes.{row_at};
-ghost use Rattle.xq_regions.specs.Checks.{IsChecked, roots, label_of, child_ok, is_run};
+ghost use Rattle.xq_regions.specs.Rows.{row_of, row_at, IsEncoding, Encodes};
+ghost use Rattle.xq_regions.specs.Checks.{IsSoundAt, IsChecked, roots, label_of, child_ok, is_run};
 
 use std::marker::Model;
 
 mod items;
 mod names;
+mod values;
 
-use names::is_name;
 pub use items::{Item, Items, Node};
+use names::{are_characters, is_attribute_name, is_name, is_target};
+use values::{is_comment, is_instruction};
 
 /// The greatest level of a node, where the root has 0.
 pub const MAX_LEVEL: u32 = 100;
@@ -93,8 +94,12 @@ fn is_legal(row: &NodeRow) -> bool
     match row.kind {
         Kind::Document => row.name.is_empty() && row.value.is_empty(),
         Kind::Element => is_name(row.name.as_str()) && row.value.is_empty(),
-        Kind::Attribute | Kind::ProcessingInstruction => is_name(row.name.as_str()),
-        Kind::Text | Kind::Comment => row.name.is_empty(),
+        Kind::Attribute => is_attribute_name(row.name.as_str())
+            && are_characters(row.value.as_str()),
+        Kind::Text => row.name.is_empty() && are_characters(row.value.as_str()),
+        Kind::Comment => row.name.is_empty() && is_comment(row.value.as_str()),
+        Kind::ProcessingInstruction => is_target(row.name.as_str())
+            && is_instruction(row.value.as_str()),
     }
 }
 
@@ -249,8 +254,7 @@ pub struct Fragment {
 impl Model for Fragment {
     ghost use Rattle.std.specs.Prelude.{map};
     ghost use Rattle.xq_regions.specs.Tree.{Tree};
-    ghost use Rattle.xq_regions.specs.Nest.{tree_of};
-    ghost use Rattle.xq_regions.specs.Fragments.{row_of, Encodes};
+    ghost use Rattle.xq_regions.specs.Rows.{row_of, tree_of, Encodes};
     ghost use Rattle.xq_regions.specs.Codes.{tree_code};
 
     ghost Value = { Tree };

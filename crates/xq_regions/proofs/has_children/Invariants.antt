@@ -1,6 +1,5 @@
 use Rattle.std.proofs.Common.{suc, ◌-◌, ◌≡◌, ◌≤◌, map, drop}
-use Rattle.xq_regions.specs.Fragments.{row_of}
-use Rattle.xq_regions.specs.Axes.{row_at}
+use Rattle.xq_regions.specs.Rows.{row_of, row_at}
 use Rattle.xq_regions.specs.Checks.{IsChecked, roots, is_run}
 use Rattle.xq_regions.proofs.has_children.Given as goal
 

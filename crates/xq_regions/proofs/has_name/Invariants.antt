@@ -1,6 +1,6 @@
 use Rattle.std.proofs.Common.{◌-◌, ◌≡◌, map, drop}
 use Rattle.xq_regions.specs.Tree.{has_name as has_name_lem}
-use Rattle.xq_regions.specs.Fragments.{row_of}
+use Rattle.xq_regions.specs.Rows.{row_of}
 use Rattle.xq_regions.specs.Checks.{IsChecked, roots, label_of}
 use Rattle.xq_regions.proofs.has_name.Given as goal
 

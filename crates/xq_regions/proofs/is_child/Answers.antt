@@ -1,8 +1,8 @@
 use Rattle.std.proofs.Common.{◌+◌, ◌&&◌, not, sym, ◌∙◌, ap, map, refl, arith}
 use Rattle.std.specs.Prelude.{string_bytes}
-use Rattle.xq_regions.specs.Fragments.{row_of}
-use Rattle.xq_regions.specs.Checks.{roots, label_of}
 use Rattle.xq_regions.specs.Tree.{is_attribute, has_name}
+use Rattle.xq_regions.specs.Rows.{row_of}
+use Rattle.xq_regions.specs.Checks.{roots, label_of}
 use Rattle.xq_regions.proofs.Checking.{checked_later}
 use Rattle.xq_regions.proofs.Walks.{child_decided_at}
 use Rattle.xq_regions.proofs.is_child.Goals as goal

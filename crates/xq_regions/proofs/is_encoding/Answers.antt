@@ -1,8 +1,6 @@
 use Rattle.std.proofs.Common.{◌≡◌, ◌<◌, ◌-◌, suc, true, false, refl, sym, ◌∙◌, ap, map, drop, subst, length, arith}
-use Rattle.xq_regions.specs.Tree.{Row}
-use Rattle.xq_regions.specs.Axes.{row_at}
+use Rattle.xq_regions.specs.Rows.{Row, row_at, row_of, AreNumbered}
 use Rattle.xq_regions.specs.Checks.{IsChecked}
-use Rattle.xq_regions.specs.Fragments.{row_of, AreNumbered}
 use Rattle.xq_regions.proofs.Walks.{row_at-map, length-map}
 use Rattle.xq_regions.proofs.Encoding.{refused, passes, sound_at, encoding, checked_step, numbered_step, some_rows, Passes}
 use Rattle.std.proofs.lemmas.Bool.{eqb-true}

@@ -1,5 +1,5 @@
 use Rattle.std.proofs.Common.{◌≤◌, length, map, drop}
-use Rattle.xq_regions.specs.Fragments.{row_of, AreNumbered}
+use Rattle.xq_regions.specs.Rows.{row_of, AreNumbered}
 use Rattle.xq_regions.specs.Checks.{IsChecked}
 use Rattle.xq_regions.proofs.is_encoding.Given as goal
 

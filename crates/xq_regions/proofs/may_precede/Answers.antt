@@ -1,5 +1,5 @@
 use Rattle.std.proofs.Common.{sym, ◌∙◌, map, arith}
-use Rattle.xq_regions.specs.Fragments.{row_of}
+use Rattle.xq_regions.specs.Rows.{row_of}
 use Rattle.xq_regions.proofs.Walks.{may_precede_none, may_precede_some}
 use Rattle.xq_regions.proofs.may_precede.Goals as goal
 

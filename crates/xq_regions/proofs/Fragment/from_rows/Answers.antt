@@ -1,5 +1,5 @@
 use Rattle.std.proofs.Common.{subst}
-use Rattle.xq_regions.specs.Fragments.{IsEncoding}
+use Rattle.xq_regions.specs.Rows.{IsEncoding}
 use Rattle.xq_regions.proofs.Encoding.{Encodes-tree_of}
 use Rattle.xq_regions.proofs.Fragment.from_rows.Goals as goal
 
