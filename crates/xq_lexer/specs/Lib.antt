@@ -1,0 +1,2 @@
+pub mod Lexeme
+pub mod Nesting

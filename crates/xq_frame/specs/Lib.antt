@@ -1,0 +1,4 @@
+pub mod Frame
+pub mod Request
+pub mod Next
+pub mod Reply

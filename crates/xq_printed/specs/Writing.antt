@@ -1,0 +1,26 @@
+-- Writing at the end of a text, up to a limit of bytes.
+use Rattle.std.specs.Prelude.{◌≡◌, ℕ, ◌<◌, ◌≤◌, List, [], ◌∷◌, ◌++◌, length, Result, Ok, Err, String, string_bytes, if◌then◌else◌, ◌==◌, codes}
+use Rattle.std.specs.Char.{encode_utf8}
+use Rattle.xq_atoms.specs.declared.refusals.Code.TheVariants.{ProfReply}
+use Rattle.xq_atoms.specs.declared.refusals.Fault.{Fault}
+use Rattle.xq_printed.specs.Refusals.{IsRefusal}
+
+-- the text is refused for its length only where it is over the limit
+abbrev pub IsTooLong : ℕ → List ℕ → Fault → Type 0
+IsTooLong limit text fault = IsRefusal ProfReply (limit < length text) fault
+
+-- `after` is `before` with the piece, and within the limit
+abbrev pub Appends : ℕ → List ℕ → List ℕ → {T : Type 0} → Result T Fault → List ℕ → Type 0
+Appends limit before piece (Ok t) after = (after ≡ before ++ piece) × (length after ≤ limit)
+Appends limit before piece (Err fault) after = IsTooLong limit (before ++ piece) fault
+
+-- a character of a string literal
+abbrev pub escape_char : ℕ → List ℕ
+escape_char c =
+    if c == 34 then 34 ∷ 34 ∷ []
+    else (if c == 38 then codes "&amp;" else (if c == 13 then codes "&#xD;" else encode_utf8 c))
+
+-- the whole text, or a refusal
+abbrev pub Prints : ℕ → {Z : Type 0} → List ℕ → Result (String Z) Fault → Type 0
+Prints limit text (Ok s) = (string_bytes s ≡ text) × (length text ≤ limit)
+Prints limit text (Err fault) = IsTooLong limit text fault
