@@ -1,12 +1,13 @@
 -- The test of rows, from the last row to the first, and what it shows.
-use Rattle.std.proofs.Common.{◌≡◌, ℕ, zero, suc, ◌+◌, ◌-◌, ◌<◌, ◌≤◌, List, [], ◌∷◌, length, drop, map, Bool, true, false, not, ◌&&◌, refl, sym, ◌∙◌, ap, subst, arith}
+use Rattle.std.proofs.Common.{◌≡◌, ℕ, zero, suc, ◌+◌, ◌-◌, ◌<◌, ◌≤◌, List, [], ◌∷◌, length, drop, map, Bool, true, false, ◌&&◌, refl, sym, ◌∙◌, ap, subst, arith}
 use Rattle.std.proofs.Math.Seq.{drop-cons}
 use Rattle.std.proofs.lemmas.Bool.{leb-true, eqb-true, le-leb, eq-eqb}
 use Rattle.std.proofs.lemmas.List.{drop-drop}
 use Rattle.xq_regions.specs.Forest.{Forest, end, node, count, labels, tops, EachNode}
-use Rattle.xq_regions.specs.Tree.{Label, may_stand, is_attribute, has_text, has_name, may_precede}
+use Rattle.std.specs.Prelude.{nat_le}
+use Rattle.xq_regions.specs.Tree.{Label, may_stand, has_text, may_precede, is_legal}
 use Rattle.xq_regions.specs.Rows.{Row, front, back, nest, no_row, row_at}
-use Rattle.xq_regions.specs.Checks.{label_of, child_ok, is_run, RowOk, IsChecked, roots}
+use Rattle.xq_regions.specs.Checks.{label_of, child_ok, is_run, RowOk, IsChecked, NamesOk, AreNamed, roots}
 
 pub both : (a b : Bool) → (a && b) ≡ true → (a ≡ true) × (b ≡ true)
 both true b h = (refl, h)
@@ -28,6 +29,11 @@ module _ {A : Type 0} (P : A → List A → Type 0) where
   EachNode-back (suc n) end h = tt
   EachNode-back (suc n) (node a below beside) h = EachNode-back (n - count below) beside h.1.1
 
+  pub EachNode-both : (n : ℕ) (f : Forest A) → EachNode P (front n f) → EachNode P (back n f) → EachNode P f
+  EachNode-both zero f h g = g
+  EachNode-both (suc n) end h g = tt
+  EachNode-both (suc n) (node a below beside) h g = (h.0, (h.1.0, EachNode-both (n - count below) beside h.1.1 g))
+
 pub EachRow-front : (n : ℕ) (f : Forest Row) → EachNode RowOk f → EachNode RowOk (front n f)
 EachRow-front n f h = EachNode-front RowOk n f h
 
@@ -35,9 +41,7 @@ pub EachRow-back : (n : ℕ) (f : Forest Row) → EachNode RowOk f → EachNode 
 EachRow-back n f h = EachNode-back RowOk n f h
 
 pub EachRow-both : (n : ℕ) (f : Forest Row) → EachNode RowOk (front n f) → EachNode RowOk (back n f) → EachNode RowOk f
-EachRow-both zero f h g = g
-EachRow-both (suc n) end h g = tt
-EachRow-both (suc n) (node a below beside) h g = (h.0, (h.1.0, EachRow-both (n - count below) beside h.1.1 g))
+EachRow-both n f h g = EachNode-both RowOk n f h g
 
 pub each_row : (rs : List Row) → IsChecked rs → EachNode RowOk (nest rs)
 each_row [] h = tt
@@ -46,6 +50,14 @@ each_row (r ∷ rs) h = (h.0, (EachRow-front r.size (nest rs) (each_row rs h.1),
 pub checked : (rs : List Row) → EachNode RowOk (nest rs) → IsChecked rs
 checked [] h = tt
 checked (r ∷ rs) h = (h.0, checked rs (EachRow-both r.size (nest rs) h.1.0 h.1.1))
+
+pub each_named : (rs : List Row) → AreNamed rs → EachNode NamesOk (nest rs)
+each_named [] h = tt
+each_named (r ∷ rs) h = (h.0, (EachNode-front NamesOk r.size (nest rs) (each_named rs h.1), EachNode-back NamesOk r.size (nest rs) (each_named rs h.1)))
+
+pub named : (rs : List Row) → EachNode NamesOk (nest rs) → AreNamed rs
+named [] h = tt
+named (r ∷ rs) h = (h.0, named rs (EachNode-both NamesOk r.size (nest rs) h.1.0 h.1.1))
 
 pub count-front-back : {A : Type 0} (n : ℕ) (f : Forest A) → count (front n f) + count (back n f) ≡ count f
 count-front-back zero f = omega arith
@@ -57,7 +69,6 @@ pub record ChildOk (parent : Row) (n : ℕ) (r : Row) (labels : List Label) : Ty
   pub kind : may_stand parent.label.kind r.label.kind ≡ true
   pub text : has_text r.label.kind r.label.value ≡ true
   pub next : may_precede r.label.kind labels ≡ true
-  pub name : not (is_attribute r.label.kind && has_name r.label.name labels) ≡ true
   pub room : r.size < n
 
 pub child_is_ok : (parent : Row) (n : ℕ) (r : Row) (labels : List Label) → child_ok parent n r labels ≡ true → ChildOk parent n r labels
@@ -66,12 +77,14 @@ child_is_ok parent n r labels h =
     let b = both _ _ a.1 in
     let c = both _ _ b.1 in
     let d = both _ _ c.1 in
-    let e = both _ _ d.1 in
-    record { level = eqb-true _ _ a.0; kind = b.0; text = c.0; next = d.0; name = e.0; room = leb-true _ _ e.1 }
+    record { level = eqb-true _ _ a.0; kind = b.0; text = c.0; next = d.0; room = leb-true _ _ d.1 }
 
 pub child_ok_from : (parent : Row) (n : ℕ) (r : Row) (labels : List Label) → ChildOk parent n r labels → child_ok parent n r labels ≡ true
 child_ok_from parent n r labels h =
-    both_true _ _ (eq-eqb _ _ h.level) (both_true _ _ h.kind (both_true _ _ h.text (both_true _ _ h.next (both_true _ _ h.name (le-leb _ _ h.room)))))
+    both_true _ _ (eq-eqb _ _ h.level) (both_true _ _ h.kind (both_true _ _ h.text (both_true _ _ h.next (le-leb _ _ h.room))))
+
+pub run_below : (r : Row) (below : List Row) → RowOk r below → is_run r r.size below ≡ true
+run_below r below h = (both (nat_le r.level 100) (is_run r r.size below) (both (is_legal r.label.kind r.label.name r.label.value) _ h).1).1
 
 -- a run has as many rows as are wanted
 pub count_run : (parent : Row) (n : ℕ) (f : Forest Row) → EachNode RowOk f → is_run parent n (tops f) ≡ true → count f ≡ n
@@ -79,13 +92,13 @@ count_run parent n end h g = sym (eqb-true _ _ g)
 count_run parent n (node r below beside) h g =
     let w = both _ _ g in
     let c = child_is_ok parent n r (map label_of (tops beside)) w.0 in
-    let k : count below ≡ r.size = count_run r r.size below h.1.0 (both _ _ (both _ _ h.0).1).1 in
+    let k : count below ≡ r.size = count_run r r.size below h.1.0 (run_below r (tops below) h.0) in
     let b : count beside ≡ n - suc r.size = count_run parent (n - suc r.size) beside h.1.1 w.1 in
     let room = c.room in
     omega arith
 
 pub size_is : (r : Row) (below : Forest Row) → EachNode RowOk below → RowOk r (tops below) → count below ≡ r.size
-size_is r below h g = count_run r r.size below h (both _ _ (both _ _ g).1).1
+size_is r below h g = count_run r r.size below h (run_below r (tops below) g)
 
 -- the parts of a cut forest
 pub back-add : {A : Type 0} (m n : ℕ) (f : Forest A) → count (front m f) ≡ m → back n (back m f) ≡ back (m + n) f

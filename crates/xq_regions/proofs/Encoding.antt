@@ -1,17 +1,19 @@
 -- Rows that pass the test are those of a tree, and those of a tree pass it.
-use Rattle.std.proofs.Common.{◌≡◌, ℕ, zero, suc, ◌+◌, ◌-◌, ◌<◌, ◌≤◌, List, [], ◌∷◌, length, drop, map, true, false, not, ◌&&◌, refl, sym, ◌∙◌, ap, subst, arith}
+use Rattle.std.proofs.Common.{◌≡◌, ℕ, zero, suc, ◌+◌, ◌-◌, ◌<◌, ◌≤◌, List, [], ◌∷◌, length, drop, map, true, false, refl, sym, ◌∙◌, ap, subst, arith}
 use Rattle.std.proofs.Math.Seq.{drop-cons}
 use Rattle.std.proofs.lemmas.Bool.{leb-true, le-leb}
 use Rattle.std.proofs.lemmas.Str.{IsUtf8-string_bytes}
+use Rattle.std.specs.List.{IsDistinct}
+use Rattle.std.specs.Str.{bytes_eq}
 use Rattle.std.specs.Prelude.{nat_eq, nat_le, slice_index}
 use Rattle.xq_regions.specs.declared.NodeRow.{NodeRow}
 use Rattle.xq_regions.specs.Forest.{Forest, end, node, count, labels, tops, map_forest, EachNode, IsWithinHeight}
-use Rattle.xq_regions.specs.Tree.{Label, Tree, IsText, IsTree, nodes, may_stand, is_attribute, has_text, has_name, may_precede, is_content, is_legal}
+use Rattle.xq_regions.specs.Tree.{Label, Tree, IsText, IsTree, nodes, may_stand, has_text, may_precede, attribute_names, is_content, is_legal}
 use Rattle.xq_regions.specs.Rows.{Row, rows, measured, front, back, nest, tree_of, no_row, row_at, row_of, AreNumbered, Encodes, IsEncoding}
-use Rattle.xq_regions.specs.Checks.{label_of, child_ok, is_run, RowOk, IsChecked, roots, IsSoundAt}
+use Rattle.xq_regions.specs.Checks.{label_of, child_ok, is_run, RowOk, IsChecked, NamesOk, AreNamed, Passes, IsNested, roots, IsSoundAt}
 use Rattle.xq_regions.specs.Nesting.{count-measured, labels-nest, nest-rows, tree_of-rows}
 use Rattle.xq_regions.proofs.Regions.{length-labels}
-use Rattle.xq_regions.proofs.Checking.{EachNode-front, EachNode-back, both, both_true, each_row, checked, child_is_ok, child_ok_from, size_is, count-front-back, IsChecked-drop}
+use Rattle.xq_regions.proofs.Checking.{each_named, named, EachNode-front, EachNode-back, both, both_true, each_row, checked, child_is_ok, child_ok_from, size_is, count-front-back, IsChecked-drop}
 use Rattle.xq_regions.proofs.Walks.{length-map}
 
 -- # From the test to the tree
@@ -35,12 +37,12 @@ run_levels parent n (node r below beside) h =
     let w = both (child_ok parent n r (map label_of (tops beside))) _ h in
     ((child_is_ok parent n r (map label_of (tops beside)) w.0).level, run_levels parent (n - suc r.size) beside w.1)
 
-run_content : (parent : Row) (n : ℕ) (rs : List Row) → is_run parent n rs ≡ true → is_content parent.label (map label_of rs) ≡ true
+pub run_content : (parent : Row) (n : ℕ) (rs : List Row) → is_run parent n rs ≡ true → is_content parent.label (map label_of rs) ≡ true
 run_content parent n [] h = refl
 run_content parent n (r ∷ rs) h =
     let w = both (child_ok parent n r (map label_of rs)) _ h in
     let c = child_is_ok parent n r (map label_of rs) w.0 in
-    both_true _ _ c.kind (both_true _ _ c.text (both_true _ _ c.next (both_true _ _ c.name (run_content parent (n - suc r.size) rs w.1))))
+    both_true _ _ c.kind (both_true _ _ c.text (both_true _ _ c.next (run_content parent (n - suc r.size) rs w.1)))
 
 pub record RowParts (r : Row) (below : List Row) : Type 0 where
   pub legal : is_legal r.label.kind r.label.name r.label.value ≡ true
@@ -88,12 +90,10 @@ empty_forest : {A : Type 0} (f : Forest A) → count f ≡ 0 → f ≡ end
 empty_forest end h = refl
 empty_forest (node a below beside) h = absurd (omega arith)
 
--- rows that pass the test, from the root's on
-pub record Passes (rs : List Row) : Type 0 where
-  pub checked : IsChecked rs
-  pub root_level : (row_at rs 0).level ≡ 0
-  pub root_size : suc (row_at rs 0).size ≡ length rs
-  pub room : length rs ≤ 1000000
+rows_named : (f : Forest Row) → EachNode NamesOk f → EachNode (λ (a : Label) (below : List Label). IsDistinct bytes_eq (attribute_names below)) (map_forest label_of f)
+rows_named end h = tt
+rows_named (node r below beside) h =
+    (subst (λ l. IsDistinct bytes_eq (attribute_names l)) (sym (tops-map label_of below)) h.0, (rows_named below h.1.0, rows_named beside h.1.1))
 
 -- the names and values of the rows are UTF-8
 abbrev pub AreTexts : List Row → Type 0
@@ -124,10 +124,10 @@ pub record EncodesRows (rs : List Row) (t : Tree) : Type 0 where
   pub is_tree : IsTree t
   pub rows : rs ≡ rows t
 
-pub encodes : (rs : List Row) → AreTexts rs → Passes rs → EncodesRows rs (tree_of rs)
+pub encodes : (rs : List Row) → AreTexts rs → Passes rs → AreNamed rs → EncodesRows rs (tree_of rs)
 unfolding IsAtLevel
-encodes [] u h = absurd (omega (arith, h.root_size))
-encodes (r ∷ rs) u h =
+encodes [] u h d = absurd (omega (arith, h.root_size))
+encodes (r ∷ rs) u h d =
     let below = front r.size (nest rs) in
     let beside = back r.size (nest rs) in
     let each = each_row (r ∷ rs) h.checked in
@@ -141,6 +141,7 @@ encodes (r ∷ rs) u h =
         texts = texts_map (node r below end) (subst (EachNode IsTextRow) forest (texts_nest (r ∷ rs) u));
         legal = rows_legal (node r below end) sound;
         content = rows_content (node r below end) sound;
+        names = rows_named (node r below end) (subst (EachNode NamesOk) forest (each_named (r ∷ rs) d));
         height = rows_height 0 101 (node r below end) refl sound (h.root_level, tt);
         room = omega (arith, count-map label_of below, k, h.root_size, h.room);
       };
@@ -159,7 +160,6 @@ run_from parent (node a below beside) h =
     let b = both (may_stand parent.label.kind a.kind) _ h in
     let c = both (has_text a.kind a.value) _ b.1 in
     let d = both (may_precede a.kind (tops beside)) _ c.1 in
-    let e = both (not (is_attribute a.kind && has_name a.name (tops beside))) _ d.1 in
     let later = map label_of (tops (measured (suc parent.level) beside)) in
     let l : later ≡ tops beside = tops-measured (suc parent.level) beside in
     let r : Row = record { size = count below; level = suc parent.level; label = a } in
@@ -170,10 +170,9 @@ run_from parent (node a below beside) h =
       kind = b.0;
       text = c.0;
       next = ap (may_precede a.kind) l ∙ d.0;
-      name = ap (λ xs. not (is_attribute a.kind && has_name a.name xs)) l ∙ e.0;
       room = omega arith;
     }))
-    (ap (λ m. is_run parent m (tops (measured (suc parent.level) beside))) n ∙ run_from parent beside e.1)
+    (ap (λ m. is_run parent m (tops (measured (suc parent.level) beside))) n ∙ run_from parent beside d.1)
 
 pub row_sound : (l n : ℕ) (f : Forest Label) → l + n ≡ 101 → EachNode (λ (a : Label) (below : List Label). is_legal a.kind a.name a.value ≡ true) f → EachNode (λ (a : Label) (below : List Label). is_content a below ≡ true) f → IsWithinHeight n f → EachNode RowOk (measured l f)
 row_sound l n end e a b h = tt
@@ -182,6 +181,14 @@ row_sound l (suc n) (node x below beside) e a b h = (
   both_true _ _ a.0 (both_true _ _ (le-leb l 100 (omega arith)) (run_from (record { size = count below; level = l; label = x }) below b.0)),
   (row_sound (suc l) n below (omega arith) a.1.0 b.1.0 h.0, row_sound l (suc n) beside e a.1.1 b.1.1 h.1),
 )
+
+names_sound : (l : ℕ) (f : Forest Label) → EachNode (λ (a : Label) (below : List Label). IsDistinct bytes_eq (attribute_names below)) f → EachNode NamesOk (measured l f)
+names_sound l end h = tt
+names_sound l (node a below beside) h =
+    (subst (λ ls. IsDistinct bytes_eq (attribute_names ls)) (sym (tops-measured (suc l) below)) h.0, (names_sound (suc l) below h.1.0, names_sound l beside h.1.1))
+
+pub rows_named_of : (t : Tree) → IsTree t → AreNamed (rows t)
+rows_named_of t h = named (rows t) (subst (EachNode NamesOk) (sym (nest-rows t)) (names_sound 0 (nodes t) h.names))
 
 pub length-rows : (t : Tree) → length (rows t) ≡ count (nodes t)
 length-rows t = length-labels (measured 0 (nodes t)) ∙ count-measured 0 (nodes t)
@@ -206,7 +213,7 @@ numbered_at n [] i g h = absurd (omega arith)
 numbered_at n (x ∷ xs) zero g h = omega (arith, g.0)
 numbered_at n (x ∷ xs) (suc i) g h = omega (arith, numbered_at (suc n) xs i g.1 (omega arith))
 
-roots_of_row : (rs : List Row) (i : ℕ) (r : Row) → roots rs (suc i) (suc i + r.size) ≡ tops (front r.size (nest (drop (suc i) rs)))
+pub roots_of_row : (rs : List Row) (i : ℕ) (r : Row) → roots rs (suc i) (suc i + r.size) ≡ tops (front r.size (nest (drop (suc i) rs)))
 roots_of_row rs i r = let e : suc i + r.size - suc i ≡ r.size = omega arith in ap (λ n. tops (front n (nest (drop (suc i) rs)))) e
 
 pub checked_step : (rs : List Row) (i : ℕ) → i < length rs → IsChecked (drop (suc i) rs) → RowOk (row_at rs i) (roots rs (suc i) (suc i + (row_at rs i).size)) → IsChecked (drop i rs)
@@ -223,17 +230,22 @@ checked_at rs i h g =
 pub passes : (xs : List NodeRow) (t : Tree) → Encodes xs t → Passes (map row_of xs)
 passes xs t h = subst Passes (sym h.rows) (rows_pass t h.is_tree)
 
-pub sound_at : (xs : List NodeRow) (i : ℕ) → i < length xs → IsEncoding xs → IsSoundAt xs i
+pub names_of_rows : (xs : List NodeRow) (t : Tree) → Encodes xs t → AreNamed (map row_of xs)
+names_of_rows xs t h = subst AreNamed (sym h.rows) (rows_named_of t h.is_tree)
+
+pub nested : (xs : List NodeRow) → IsEncoding xs → IsNested xs
+nested xs e = record { passes = passes xs e.0 e.1; numbered = e.1.numbered }
+
+pub sound_at : (xs : List NodeRow) (i : ℕ) → i < length xs → IsNested xs → IsSoundAt xs i
 sound_at xs i h e =
-    let p = passes xs e.0 e.1 in
-    (let n = numbered_at 0 xs i e.1.numbered h in omega arith, checked_at (map row_of xs) i (let l = length-map row_of xs in omega arith) p.checked)
+    (let n = numbered_at 0 xs i e.numbered h in omega arith, checked_at (map row_of xs) i (let l = length-map row_of xs in omega arith) e.passes.checked)
 
-pub encoding : (xs : List NodeRow) → Passes (map row_of xs) → AreNumbered 0 xs → IsEncoding xs
-encoding xs h n =
-    let e = encodes (map row_of xs) (texts_of xs) h in
-    (tree_of (map row_of xs), record { is_tree = e.is_tree; rows = e.rows; numbered = n })
+pub encoding : (xs : List NodeRow) → IsNested xs → AreNamed (map row_of xs) → IsEncoding xs
+encoding xs h d =
+    let e = encodes (map row_of xs) (texts_of xs) h.passes d in
+    (tree_of (map row_of xs), record { is_tree = e.is_tree; rows = e.rows; numbered = h.numbered })
 
-pub refused : (xs : List NodeRow) → (IsEncoding xs → ⊥) → (false ≡ true → IsEncoding xs) × (IsEncoding xs → false ≡ true)
+pub refused : (xs : List NodeRow) → (IsNested xs → ⊥) → (false ≡ true → IsNested xs) × (IsNested xs → false ≡ true)
 refused xs h = (λ e. absurd (cc), λ e. absurd (h e))
 
 pub some_rows : (n : ℕ) → nat_eq n 0 ≡ false → 0 < n
@@ -243,3 +255,7 @@ some_rows (suc n) h = omega arith
 -- rows of a tree are those of the tree that they give
 pub Encodes-tree_of : (xs : List NodeRow) → IsEncoding xs → Encodes xs (tree_of (map row_of xs))
 Encodes-tree_of xs e = subst (Encodes xs) (sym (ap tree_of e.1.rows ∙ tree_of-rows e.0)) e.1
+
+-- as many rows as nodes
+pub length-encoded : (xs : List NodeRow) (t : Tree) → map row_of xs ≡ rows t → length xs ≡ count (nodes t)
+length-encoded xs t e = sym (length-map row_of xs) ∙ ap length e ∙ length-rows t

@@ -5,6 +5,9 @@ pub mod Walks
 pub mod Encoding
 pub mod Worked
 pub mod AxisRegions
-pub mod AxisTests
+pub mod AxisTable
 pub mod Printed
 pub mod Texts
+pub mod Distinctness
+pub mod AttributeRuns
+pub mod RegionTable

@@ -1,11 +1,10 @@
 -- The steps of a walk over the children of a row.
-use Rattle.std.proofs.Common.{◌≡◌, ℕ, zero, suc, ◌+◌, ◌-◌, ◌<◌, ◌≤◌, List, [], ◌∷◌, length, get_or, drop, map, Bool, true, false, not, cond, ◌&&◌, ◌||◌, refl, sym, ◌∙◌, ap, arith}
+use Rattle.std.proofs.Common.{◌≡◌, ℕ, zero, suc, ◌+◌, ◌-◌, ◌<◌, ◌≤◌, List, [], ◌∷◌, length, get_or, drop, map, Bool, true, false, ◌&&◌, refl, sym, ◌∙◌, ap, arith}
 use Rattle.std.specs.Prelude.{string_bytes, nat_eq, nat_lt}
 use Rattle.std.proofs.Math.Bool.{and-true}
 use Rattle.std.proofs.lemmas.Bool.{le-leb, eq-eqb}
-use Rattle.std.specs.Str.{bytes_eq}
 use Rattle.xq_regions.specs.Forest.{count, tops}
-use Rattle.xq_regions.specs.Tree.{Label, is_attribute, has_name, may_precede, may_follow, may_stand, has_text}
+use Rattle.xq_regions.specs.Tree.{Label, may_precede, may_follow, may_stand, has_text}
 use Rattle.xq_regions.specs.Rows.{Row, row_at, row_of, front, nest}
 use Rattle.xq_regions.specs.Checks.{IsChecked, roots, label_of, child_ok, is_run}
 use Rattle.xq_regions.specs.declared.NodeRow.{NodeRow}
@@ -36,55 +35,31 @@ module _ (xs : List NodeRow) (c stop : ℕ) (x : NodeRow) (before : c < stop) (w
       ∙ ap (λ (y : Row). y ∷ roots (map row_of xs) (suc c + y.size) stop) r
       ∙ ap (λ m. row_of x ∷ roots (map row_of xs) m stop) (sym e)
 
-  pub has_name_next : (name : List ℕ) (n : ℕ) → n ≡ suc c + x.size → has_name name (map label_of (roots (map row_of xs) c stop)) ≡ cond (is_attribute x.kind) (bytes_eq (string_bytes x.name) name || has_name name (map label_of (roots (map row_of xs) n stop))) false
-  has_name_next name n e = ap (λ rs. has_name name (map label_of rs)) (roots_next n e)
-
-  pub has_name_stop : (name : List ℕ) → is_attribute x.kind ≡ false → has_name name (map label_of (roots (map row_of xs) c stop)) ≡ false
-  has_name_stop name e = has_name_next name (suc c + x.size) refl ∙ ap (λ b. cond b (bytes_eq (string_bytes x.name) name || has_name name (map label_of (roots (map row_of xs) (suc c + x.size) stop))) false) e
-
-  pub has_name_here : (name : List ℕ) → is_attribute x.kind ≡ true → bytes_eq (string_bytes x.name) name ≡ true → has_name name (map label_of (roots (map row_of xs) c stop)) ≡ true
-  has_name_here name e g =
-      let rest = has_name name (map label_of (roots (map row_of xs) (suc c + x.size) stop)) in
-      has_name_next name (suc c + x.size) refl
-      ∙ ap (λ b. cond b (bytes_eq (string_bytes x.name) name || rest) false) e
-      ∙ ap (λ b. b || rest) g
-
-  pub has_name_later : (name : List ℕ) (n : ℕ) → n ≡ suc c + x.size → is_attribute x.kind ≡ true → bytes_eq (string_bytes x.name) name ≡ false → has_name name (map label_of (roots (map row_of xs) c stop)) ≡ has_name name (map label_of (roots (map row_of xs) n stop))
-  has_name_later name n k e g =
-      let rest = has_name name (map label_of (roots (map row_of xs) n stop)) in
-      has_name_next name n k
-      ∙ ap (λ b. cond b (bytes_eq (string_bytes x.name) name || rest) false) e
-      ∙ ap (λ b. b || rest) g
-
 pub may_precede_none : (rs : List Row) (c stop : ℕ) (kind : Kind) → stop ≤ c → may_precede kind (map label_of (roots rs c stop)) ≡ true
 may_precede_none rs c stop kind h = ap (λ xs. may_precede kind (map label_of xs)) (roots_stop rs c stop h)
 
 pub may_precede_some : (xs : List NodeRow) (c stop : ℕ) (kind : Kind) (x : NodeRow) → c < stop → stop ≤ length xs → x ≡ get_or xs c x → IsChecked (drop c (map row_of xs)) → may_precede kind (map label_of (roots (map row_of xs) c stop)) ≡ may_follow kind x.kind
 may_precede_some xs c stop kind x h w e g = ap (λ rs. may_precede kind (map label_of rs)) (roots_next xs c stop x h w e g (suc c + x.size) refl)
 
-pub has_name_none : (xs : List NodeRow) (c stop : ℕ) (name : List ℕ) → stop ≤ c → has_name name (map label_of (roots (map row_of xs) c stop)) ≡ false
-has_name_none xs c stop name h = ap (λ rs. has_name name (map label_of rs)) (roots_stop (map row_of xs) c stop h)
-
 -- what is left to test of a child, where the other tests passed
-pub child_decided : (parent r : Row) (n : ℕ) (labels : List Label) (p q : Bool) → r.level ≡ suc parent.level → may_stand parent.label.kind r.label.kind ≡ true → has_text r.label.kind r.label.value ≡ true → r.size < n → p ≡ may_precede r.label.kind labels → q ≡ (is_attribute r.label.kind && has_name r.label.name labels) → (p && not q) ≡ child_ok parent n r labels
-child_decided parent r n labels p q l k t s hp hq =
+pub child_decided : (parent r : Row) (n : ℕ) (labels : List Label) (p : Bool) → r.level ≡ suc parent.level → may_stand parent.label.kind r.label.kind ≡ true → has_text r.label.kind r.label.value ≡ true → r.size < n → p ≡ may_precede r.label.kind labels → p ≡ child_ok parent n r labels
+child_decided parent r n labels p l k t s hp =
     let a : nat_eq r.level (suc parent.level) ≡ true = eq-eqb _ _ l in
     let d : nat_lt r.size n ≡ true = le-leb _ _ s in
     let e = may_precede r.label.kind labels in
-    let f = not (is_attribute r.label.kind && has_name r.label.name labels) in
-    ap (λ b. b && not q) hp ∙ ap (λ b. e && not b) hq
-    ∙ ap (λ b. e && b) (sym (and-true f))
-    ∙ sym (ap (λ b. b && (may_stand parent.label.kind r.label.kind && (has_text r.label.kind r.label.value && (e && (f && nat_lt r.size n))))) a
-    ∙ ap (λ b. b && (has_text r.label.kind r.label.value && (e && (f && nat_lt r.size n)))) k
-    ∙ ap (λ b. b && (e && (f && nat_lt r.size n))) t
-    ∙ ap (λ b. e && (f && b)) d)
+    hp
+    ∙ sym (and-true e)
+    ∙ sym (ap (λ b. b && (may_stand parent.label.kind r.label.kind && (has_text r.label.kind r.label.value && (e && nat_lt r.size n)))) a
+    ∙ ap (λ b. b && (has_text r.label.kind r.label.value && (e && nat_lt r.size n))) k
+    ∙ ap (λ b. b && (e && nat_lt r.size n)) t
+    ∙ ap (λ b. e && b) d)
 
-pub child_decided_at : (xs : List NodeRow) (i c stop n : ℕ) (y x : NodeRow) (p q : Bool) → i < length xs → c < length xs → y ≡ get_or xs i y → x ≡ get_or xs c x → n ≡ suc c + x.size → x.level ≡ suc y.level → may_stand y.kind x.kind ≡ true → has_text x.kind (string_bytes x.value) ≡ true → x.size < stop - c → p ≡ may_precede x.kind (map label_of (roots (map row_of xs) n stop)) → q ≡ (is_attribute x.kind && has_name (string_bytes x.name) (map label_of (roots (map row_of xs) n stop))) → (p && not q) ≡ child_ok (row_at (map row_of xs) i) (stop - c) (row_at (map row_of xs) c) (map label_of (roots (map row_of xs) (suc c + (row_at (map row_of xs) c).size) stop))
-child_decided_at xs i c stop n y x p q hi hc hy hx e l k t s hp hq =
+pub child_decided_at : (xs : List NodeRow) (i c stop n : ℕ) (y x : NodeRow) (p : Bool) → i < length xs → c < length xs → y ≡ get_or xs i y → x ≡ get_or xs c x → n ≡ suc c + x.size → x.level ≡ suc y.level → may_stand y.kind x.kind ≡ true → has_text x.kind (string_bytes x.value) ≡ true → x.size < stop - c → p ≡ may_precede x.kind (map label_of (roots (map row_of xs) n stop)) → p ≡ child_ok (row_at (map row_of xs) i) (stop - c) (row_at (map row_of xs) c) (map label_of (roots (map row_of xs) (suc c + (row_at (map row_of xs) c).size) stop))
+child_decided_at xs i c stop n y x p hi hc hy hx e l k t s hp =
     let ey : row_at (map row_of xs) i ≡ row_of y = row_at-map xs i y hi hy in
     let ex : row_at (map row_of xs) c ≡ row_of x = row_at-map xs c x hc hx in
     let labels = map label_of (roots (map row_of xs) n stop) in
-    child_decided (row_of y) (row_of x) (stop - c) labels p q l k t s hp hq
+    child_decided (row_of y) (row_of x) (stop - c) labels p l k t s hp
     ∙ ap (λ m. child_ok (row_of y) (stop - c) (row_of x) (map label_of (roots (map row_of xs) m stop))) e
     ∙ sym (ap (λ (z : Row). child_ok (row_at (map row_of xs) i) (stop - c) z (map label_of (roots (map row_of xs) (suc c + z.size) stop))) ex
     ∙ ap (λ (z : Row). child_ok z (stop - c) (row_of x) (map label_of (roots (map row_of xs) (suc c + x.size) stop))) ey)

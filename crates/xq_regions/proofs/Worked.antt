@@ -1,12 +1,16 @@
 -- The rows of a small document, and its axes.
-use Rattle.std.proofs.Common.{◌≡◌, true, ℕ, List, [], ◌∷◌, map, refl, arith}
+use Rattle.std.proofs.Common.{◌≡◌, true, ℕ, List, [], ◌∷◌, ◌++◌, length, map, refl, arith}
 use Rattle.std.specs.Prelude.{codes}
+use Rattle.std.specs.List.{IsDistinct}
 use Rattle.std.specs.Str.{chars, IsUtf8, all_scalars}
 use Rattle.std.specs.Prelude.{encode_utf8_all}
 use Rattle.std.specs.Char.{encode_utf8}
 use Rattle.xq_regions.specs.Forest.{Forest, end, node, EachNode}
 use Rattle.xq_regions.specs.Tree.{Label, Tree, IsText, IsTree, nodes}
+use Rattle.xq_regions.specs.Node.{steps, attribute, child, subtree}
 use Rattle.xq_regions.specs.Order.{place_of, path_at}
+use Rattle.xq_regions.specs.Value.{string_value, typed_value, untyped}
+use Rattle.xq_regions.specs.Print.{print}
 use Rattle.xq_regions.specs.Rows.{Row, rows, tree_of, row_at}
 use Rattle.xq_regions.specs.declared.Kind.{Kind}
 use Rattle.xq_regions.specs.declared.Kind.TheVariants.{Document, Element, Attribute, Text}
@@ -46,20 +50,51 @@ texts_of_library =
     ((none, none), (((utf8 (codes "lib") refl refl, none), (((book, none), (((id, utf8 (codes "1") refl refl), (tt, ((none, utf8 (codes "A") refl refl), (tt, tt)))), ((book, none), (((id, utf8 (codes "2") refl refl), (tt, ((none, utf8 (codes "B") refl refl), (tt, tt)))), tt)))), tt)), tt))
 
 is_tree : IsTree library
-unfolding chars
+unfolding chars IsDistinct
 is_tree = record {
   texts = texts_of_library;
   legal = (refl, ((refl, ((refl, ((refl, (tt, (refl, (tt, tt)))), (refl, ((refl, (tt, (refl, (tt, tt)))), tt)))), tt)), tt));
   content = (refl, ((refl, ((refl, ((refl, (tt, (refl, (tt, tt)))), (refl, ((refl, (tt, (refl, (tt, tt)))), tt)))), tt)), tt));
+  names = (tt, ((tt, (((tt, tt), ((tt, (tt, (tt, (tt, tt)))), ((tt, tt), ((tt, (tt, (tt, (tt, tt)))), tt)))), tt)), tt));
   height = omega arith;
   room = omega arith;
 }
 
-place : place_of (nodes library) (0 ∷ 0 ∷ 1 ∷ 0 ∷ []) ≡ 6
-place = refl
+-- the nodes in document order: the root, the library, and each book with its attribute and its text
+paths :
+    map (path_at (nodes library)) (0 ∷ 1 ∷ 2 ∷ 3 ∷ 4 ∷ 5 ∷ 6 ∷ 7 ∷ [])
+    ≡ (0 ∷ []) ∷ (0 ∷ 0 ∷ []) ∷ (0 ∷ 0 ∷ 0 ∷ []) ∷ (0 ∷ 0 ∷ 0 ∷ 0 ∷ []) ∷ (0 ∷ 0 ∷ 0 ∷ 1 ∷ []) ∷ (0 ∷ 0 ∷ 1 ∷ []) ∷ (0 ∷ 0 ∷ 1 ∷ 0 ∷ []) ∷ (0 ∷ 0 ∷ 1 ∷ 1 ∷ []) ∷ []
+paths = refl
 
-path : path_at (nodes library) 6 ≡ 0 ∷ 0 ∷ 1 ∷ 0 ∷ []
-path = refl
+places : map (λ n. place_of (nodes library) (path_at (nodes library) n)) (0 ∷ 1 ∷ 2 ∷ 3 ∷ 4 ∷ 5 ∷ 6 ∷ 7 ∷ []) ≡ 0 ∷ 1 ∷ 2 ∷ 3 ∷ 4 ∷ 5 ∷ 6 ∷ 7 ∷ []
+places = refl
+
+-- the last two as steps from the root
+steps_to_id : steps library (path_at (nodes library) 6) ≡ child 0 ∷ child 1 ∷ attribute 0 ∷ []
+steps_to_id = refl
+
+steps_to_text : steps library (path_at (nodes library) 7) ≡ child 0 ∷ child 1 ∷ child 0 ∷ []
+steps_to_text = refl
 
 value : (row_at (rows library) 7).label.value ≡ codes "B"
 value = refl
+
+-- the values of the document, of a text and of an attribute
+joined : string_value library ≡ codes "AB"
+joined = refl
+
+typed_text : typed_value (subtree library (path_at (nodes library) 4)) ≡ untyped (codes "A")
+typed_text = refl
+
+typed_id : typed_value (subtree library (path_at (nodes library) 3)) ≡ untyped (codes "1")
+typed_id = refl
+
+printed : print library ≡ codes "document {element lib {element book {attribute id {\"1\"}, text {\"A\"}}, element book {attribute id {\"2\"}, text {\"B\"}}}}"
+printed = refl
+
+printed_length : length (print library) ≡ 117
+printed_length = refl
+
+-- a quote is doubled, `&` and a carriage return are written as references
+printed_text : print (record { root = label Text [] (34 ∷ 38 ∷ 13 ∷ 10 ∷ []); below = end }) ≡ codes "text {\"\"\"&amp;&#xD;" ++ 10 ∷ codes "\"}"
+printed_text = refl

@@ -1,13 +1,21 @@
 -- The test of rows, from the last to the first, without a list of what is open.
 use Rattle.std.proofs.Common.{suc}
-use Rattle.std.specs.Prelude.{ℕ, ◌+◌, ◌-◌, ◌≡◌, slice_index, List, [], ◌∷◌, map, drop, Bool, true, not, ◌&&◌, nat_eq, nat_le, nat_lt}
+use Rattle.std.specs.Prelude.{ℕ, ◌+◌, ◌-◌, ◌≡◌, ◌≤◌, length, slice_index, string_bytes, List, [], ◌∷◌, map, drop, Bool, true, ◌&&◌, nat_eq, nat_le, nat_lt}
+use Rattle.std.specs.List.{IsDistinct}
+use Rattle.std.specs.Str.{bytes_eq}
 use Rattle.xq_regions.specs.Forest.{tops}
-use Rattle.xq_regions.specs.Tree.{Label, may_stand, is_attribute, has_text, has_name, may_precede, is_legal}
-use Rattle.xq_regions.specs.Rows.{Row, row_of, row_at, front, nest}
+use Rattle.xq_regions.specs.Tree.{Label, may_stand, has_text, may_precede, attribute_names, is_legal}
+use Rattle.xq_regions.specs.Rows.{Row, row_of, row_at, AreNumbered, front, nest}
 use Rattle.xq_regions.specs.declared.NodeRow.{NodeRow}
 
 abbrev pub label_of : Row → Label
 label_of r = r.label
+
+abbrev pub name_of : NodeRow → List ℕ
+name_of r = string_bytes r.name
+
+abbrev pub pre_of : NodeRow → ℕ
+pre_of r = r.pre
 
 -- a row may be the next child of the parent, where n rows are left below the parent and the labels come after it
 abbrev pub child_ok : Row → ℕ → Row → List Label → Bool
@@ -15,8 +23,7 @@ child_ok parent n r labels =
     nat_eq r.level (suc parent.level)
     && (may_stand parent.label.kind r.label.kind
     && (has_text r.label.kind r.label.value
-    && (may_precede r.label.kind labels
-    && (not (is_attribute r.label.kind && has_name r.label.name labels) && nat_lt r.size n))))
+    && (may_precede r.label.kind labels && nat_lt r.size n)))
 
 -- these are all children of the parent
 abbrev pub is_run : Row → ℕ → List Row → Bool
@@ -33,6 +40,30 @@ abbrev pub IsChecked : List Row → Type 0
 IsChecked [] = Unit {0}
 IsChecked (r ∷ rs) = RowOk r (tops (front r.size (nest rs))) × IsChecked rs
 
+-- the attributes of each row have distinct names
+abbrev pub NamesOk : Row → List Row → Type 0
+NamesOk r below = IsDistinct bytes_eq (attribute_names (map label_of below))
+
+abbrev pub AreNamed : List Row → Type 0
+AreNamed [] = Unit {0}
+AreNamed (r ∷ rs) = NamesOk r (tops (front r.size (nest rs))) × AreNamed rs
+
+-- rows that pass the test, from the root's on
+pub record Passes (rs : List Row) : Type 0 where
+  pub checked : IsChecked rs
+  pub root_level : (row_at rs 0).level ≡ 0
+  pub root_size : suc (row_at rs 0).size ≡ length rs
+  pub room : length rs ≤ 1000000
+
+pub record IsNested (rs : List NodeRow) : Type 0 where
+  pub passes : Passes (map row_of rs)
+  pub numbered : AreNumbered 0 rs
+
+-- no attribute comes after a node that is none
+abbrev pub are_attributes_first : List Label → Bool
+are_attributes_first [] = true
+are_attributes_first (a ∷ labels) = may_precede a.kind labels && are_attributes_first labels
+
 -- the rows at the top, from the row c to before the row `stop`
 abbrev pub roots : List Row → ℕ → ℕ → List Row
 roots rs c stop = tops (front (stop - c) (nest (drop c rs)))
@@ -42,3 +73,7 @@ abbrev pub IsSoundAt : List NodeRow → ℕ → Type 0
 IsSoundAt rs i =
     (slice_index (map (λ (r : NodeRow). r.pre) rs) i ≡ i)
     × RowOk (row_at (map row_of rs) i) (roots (map row_of rs) (suc i) (suc i + (row_at (map row_of rs) i).size))
+
+-- the attributes of the row at the place i have distinct names
+abbrev pub IsNamedAt : List Row → ℕ → Type 0
+IsNamedAt rs i = NamesOk (row_at rs i) (tops (front (row_at rs i).size (nest (drop (suc i) rs))))

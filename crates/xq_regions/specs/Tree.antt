@@ -1,5 +1,6 @@
 -- Trees of nodes: XDM 3.1, section 6.
-use Rattle.std.specs.Prelude.{ℕ, ◌≡◌, ◌≤◌, List, [], ◌∷◌, Bool, true, false, not, cond, ◌&&◌, ◌||◌, IsTrue}
+use Rattle.std.specs.Prelude.{ℕ, ◌≡◌, ◌≤◌, List, [], ◌∷◌, Bool, true, false, not, ◌&&◌, map, filter, IsTrue}
+use Rattle.std.specs.List.{IsDistinct}
 use Rattle.std.specs.Str.{bytes_eq, chars, IsUtf8}
 use Rattle.xq_regions.specs.Names.{is_empty, is_name, are_characters, is_attribute_name, is_comment, is_target, is_instruction}
 use Rattle.xq_regions.specs.Forest.{Forest, end, node, count, EachNode, IsWithinHeight}
@@ -54,17 +55,15 @@ abbrev pub has_text : Kind → List ℕ → Bool
 has_text Text value = not (is_empty value)
 has_text kind value = true
 
--- one of the attributes at the front has this name
-abbrev pub has_name : List ℕ → List Label → Bool
-has_name name [] = false
-has_name name (a ∷ labels) = cond (is_attribute a.kind) (bytes_eq a.name name || has_name name labels) false
-
 -- these may be the attributes and the children of a node
 abbrev pub is_content : Label → List Label → Bool
 is_content parent [] = true
 is_content parent (a ∷ labels) =
-    may_stand parent.kind a.kind && (has_text a.kind a.value && (may_precede a.kind labels
-    && (not (is_attribute a.kind && has_name a.name labels) && is_content parent labels)))
+    may_stand parent.kind a.kind && (has_text a.kind a.value && (may_precede a.kind labels && is_content parent labels))
+
+-- the names of the attributes among these
+abbrev pub attribute_names : List Label → List (List ℕ)
+attribute_names labels = map (λ (a : Label). a.name) (filter (λ (a : Label). is_attribute a.kind) labels)
 
 -- a node of the kind may have the name and the value
 abbrev pub is_legal : Kind → List ℕ → List ℕ → Bool
@@ -86,6 +85,7 @@ pub record IsTree (t : Tree) : Type 0 where
   pub texts : EachNode (λ a below. IsText a) (nodes t)
   pub legal : EachNode (λ a below. IsTrue (is_legal a.kind a.name a.value)) (nodes t)
   pub content : EachNode (λ a below. IsTrue (is_content a below)) (nodes t)
+  pub names : EachNode (λ a below. IsDistinct bytes_eq (attribute_names below)) (nodes t)
   pub height : IsWithinHeight 101 (nodes t)
   pub room : count (nodes t) ≤ 1000000
 

@@ -1,21 +1,22 @@
-// Rows of trees, fragments and axes.
+//! Trees of nodes as rows, and the fragments that hold them.
 #![tactic(auto)]
 
-ghost use Rattle.std.specs.Prelude.{◌≡◌, ℕ, ◌+◌, ◌-◌, ◌*◌, ◌<◌, ◌≤◌, ◌↔◌, ◌&&◌, List, [], ◌∷◌, ◌++◌, length, map, drop, IsTrue, IsOk, IsErr, IfOk, IfErr, OnErr, OnOk, string_bytes, vec_len};
-ghost use Rattle.xq_regions.specs.Tree.{may_stand as may_stand_lem, may_follow as may_follow_lem, is_legal as is_legal_lem, has_text as has_text_lem, has_name as has_name_lem, is_attribute as is_attribute_lem, may_precede as may_precede_lem};
-ghost use Rattle.std.proofs.Common.{suc};
-ghost use Rattle.xq_regions.specs.Rows.{row_of, row_at, IsEncoding, Encodes};
-ghost use Rattle.xq_regions.specs.Checks.{IsSoundAt, IsChecked, roots, label_of, child_ok, is_run};
+ghost use Rattle.std.specs.Prelude.{◌≡◌, ◌↔◌, IfOk, IfErr, OnErr, IsTrue};
+ghost use Rattle.xq_regions.specs.Rows.{Encodes, IsEncoding};
 
 use std::marker::Model;
 
+mod attributes;
+mod axes;
+mod encodings;
 mod items;
+mod laws;
 mod names;
 mod values;
 
+use encodings::is_encoding;
 pub use items::{Item, Items, Node};
-use names::{are_characters, is_attribute_name, is_name, is_target};
-use values::{is_comment, is_instruction};
+pub use laws::trees_are_their_rows;
 
 /// The greatest level of a node, where the root has 0.
 pub const MAX_LEVEL: u32 = 100;
@@ -62,189 +63,6 @@ pub struct NodeRow {
     pub value: String,
 }
 
-/// Whether a node of the kind `parent` may have a child or an attribute of the kind `child`.
-fn may_stand(parent: Kind, child: Kind) -> bool
-    ensures { result ≡ may_stand_lem parent child }
-{
-    match (parent, child) {
-        (Kind::Element, Kind::Document) => false,
-        (Kind::Element, _) => true,
-        (Kind::Document, Kind::Document | Kind::Attribute) => false,
-        (Kind::Document, _) => true,
-        _ => false,
-    }
-}
-
-/// Whether a node of the kind `next` may stand right beside one of the kind `kind`.
-fn may_follow(kind: Kind, next: Kind) -> bool
-    ensures { result ≡ may_follow_lem kind next }
-{
-    match (kind, next) {
-        (Kind::Text, Kind::Text) => false,
-        (Kind::Attribute, _) => true,
-        (_, Kind::Attribute) => false,
-        _ => true,
-    }
-}
-
-/// Whether the row's kind may have its name and its value.
-fn is_legal(row: &NodeRow) -> bool
-    ensures { result ≡ is_legal_lem row.now.kind (string_bytes row.now.name) (string_bytes row.now.value) }
-{
-    match row.kind {
-        Kind::Document => row.name.is_empty() && row.value.is_empty(),
-        Kind::Element => is_name(row.name.as_str()) && row.value.is_empty(),
-        Kind::Attribute => is_attribute_name(row.name.as_str())
-            && are_characters(row.value.as_str()),
-        Kind::Text => row.name.is_empty() && are_characters(row.value.as_str()),
-        Kind::Comment => row.name.is_empty() && is_comment(row.value.as_str()),
-        Kind::ProcessingInstruction => is_target(row.name.as_str())
-            && is_instruction(row.value.as_str()),
-    }
-}
-
-/// Whether the row is no empty text.
-fn has_text(row: &NodeRow) -> bool
-    ensures { result ≡ has_text_lem row.now.kind (string_bytes row.now.value) }
-{
-    row.kind != Kind::Text || !row.value.is_empty()
-}
-
-/// Whether the kind is that of an attribute.
-fn is_attribute(kind: Kind) -> bool
-    ensures { result ≡ is_attribute_lem kind }
-{
-    match kind {
-        Kind::Attribute => true,
-        _ => false,
-    }
-}
-
-/// Whether one of the attributes from the row `from` on has this name.
-fn has_name(rows: &[NodeRow], from: usize, stop: usize, name: &str) -> bool
-    requires within { stop ≤ length rows.now }
-    requires checked { IsChecked (drop from (map row_of rows.now)) }
-    ensures { result ≡ has_name_lem name.now (map label_of (roots (map row_of rows.now) from stop)) }
-{
-    let mut at = from;
-    while at < stop {
-        let row = &rows[at];
-        if !is_attribute(row.kind) {
-            return false;
-        }
-        if row.name.as_str() == name {
-            return true;
-        }
-        at += 1 + row.size as usize;
-    }
-    false
-}
-
-/// Whether a node of the kind may stand before the node at the row `next`, where that is before `stop`.
-fn may_precede(rows: &[NodeRow], kind: Kind, next: usize, stop: usize) -> bool
-    requires within { stop ≤ length rows.now }
-    requires checked { IsChecked (drop next (map row_of rows.now)) }
-    ensures { result ≡ may_precede_lem kind (map label_of (roots (map row_of rows.now) next stop)) }
-{
-    if next >= stop {
-        return true;
-    }
-    let row = &rows[next];
-    may_follow(kind, row.kind)
-}
-
-/// Whether the row is an attribute, and one from the row `next` on has its name.
-fn repeats(rows: &[NodeRow], row: &NodeRow, next: usize, stop: usize) -> bool
-    requires within { stop ≤ length rows.now }
-    requires checked { IsChecked (drop next (map row_of rows.now)) }
-    ensures { result ≡ (is_attribute_lem row.now.kind && has_name_lem (string_bytes row.now.name) (map label_of (roots (map row_of rows.now) next stop))) }
-{
-    is_attribute(row.kind) && has_name(rows, next, stop, row.name.as_str())
-}
-
-/// Whether the row `at` may be the next child of `parent`, whose rows end before the row `stop`.
-fn is_child(rows: &[NodeRow], parent: usize, at: usize, stop: usize) -> bool
-    requires parent_in { parent < length rows.now }
-    requires at_in { at < stop }
-    requires within { stop ≤ length rows.now }
-    requires checked { IsChecked (drop at (map row_of rows.now)) }
-    ensures { result ≡ child_ok (row_at (map row_of rows.now) parent) (stop - at) (row_at (map row_of rows.now) at) (map label_of (roots (map row_of rows.now) (suc at + (row_at (map row_of rows.now) at).size) stop)) }
-{
-    let above = &rows[parent];
-    let row = &rows[at];
-    if row.level == 0 || row.level - 1 != above.level {
-        return false;
-    }
-    if !may_stand(above.kind, row.kind) || !has_text(row) {
-        return false;
-    }
-    if row.size as usize >= stop - at {
-        return false;
-    }
-    let next = at + 1 + row.size as usize;
-    may_precede(rows, row.kind, next, stop) && !repeats(rows, row, next, stop)
-}
-
-/// Whether the rows after the row `parent` are, as far as its size says, those of its children.
-fn has_children(rows: &[NodeRow], parent: usize) -> bool
-    requires parent_in { parent < length rows.now }
-    requires checked { IsChecked (drop (suc parent) (map row_of rows.now)) }
-    ensures { result ≡ is_run (row_at (map row_of rows.now) parent) (row_at (map row_of rows.now) parent).size (roots (map row_of rows.now) (suc parent) (suc parent + (row_at (map row_of rows.now) parent).size)) }
-{
-    let above = &rows[parent];
-    let size = above.size as usize;
-    if size >= rows.len() - parent {
-        return false;
-    }
-    let stop = parent + 1 + size;
-    let mut at = parent + 1;
-    while at < stop {
-        if !is_child(rows, parent, at, stop) {
-            return false;
-        }
-        let row = &rows[at];
-        at += 1 + row.size as usize;
-    }
-    true
-}
-
-/// Whether the row `at` is one of a tree, where the rows after it are.
-fn is_sound(rows: &[NodeRow], at: usize) -> bool
-    requires at_in { at < length rows.now }
-    requires checked { IsChecked (drop (suc at) (map row_of rows.now)) }
-    ensures { IsTrue result ↔ IsSoundAt rows.now at }
-{
-    let row = &rows[at];
-    row.pre as usize == at && row.level <= MAX_LEVEL && is_legal(row) && has_children(rows, at)
-}
-
-/// Whether the rows are those of one tree.
-fn is_encoding(rows: &[NodeRow]) -> bool
-    ensures { IsTrue result ↔ IsEncoding rows.now }
-{
-    if rows.is_empty() {
-        return false;
-    }
-    if rows.len() > MAX_NODES {
-        return false;
-    }
-    let root = &rows[0];
-    if root.level != 0 {
-        return false;
-    }
-    if root.size as usize != rows.len() - 1 {
-        return false;
-    }
-    let mut at = rows.len();
-    while at > 0 {
-        at -= 1;
-        if !is_sound(rows, at) {
-            return false;
-        }
-    }
-    true
-}
-
 /// The rows of one tree. Contracts see the tree.
 #[derive(Drop)]
 pub struct Fragment {
@@ -268,12 +86,12 @@ impl Model for Fragment {
 
 impl Fragment {
     /// The fragment with these rows; they are given back where they are those of no tree.
-    pub fn from_rows(rows: Vec<NodeRow>) -> Result<Fragment, Vec<NodeRow>>
+    pub fn from_rows(mut rows: Vec<NodeRow>) -> Result<Fragment, Vec<NodeRow>>
         ensures ok { IfOk result (λ tree. Encodes rows.items tree) }
         ensures err { OnErr result (¬ (IsEncoding rows.items)) }
-        ensures back { IfErr result (λ back. back ≡ rows) }
+        ensures back { IfErr result (λ back. back.items ≡ rows.items) }
     {
-        if is_encoding(&rows) {
+        if is_encoding(&mut rows) {
             Ok(Fragment { nodes: rows })
         } else {
             Err(rows)
@@ -300,72 +118,138 @@ mod tests {
     use super::*;
     use std::alloc::{AllocError, Global};
 
+    /// A row with the pre, size and level of `place`.
     fn row(
         alloc: Global,
-        pre: u32,
-        size: u32,
-        level: u32,
+        place: (u32, u32, u32),
         kind: Kind,
         name: &str,
         value: &str,
     ) -> Result<NodeRow, AllocError> {
         Ok(NodeRow {
-            pre,
-            size,
-            level,
+            pre: place.0,
+            size: place.1,
+            level: place.2,
             kind,
             name: String::from_str(alloc, name)?,
             value: String::from_str(alloc, value)?,
         })
     }
 
-    fn library(alloc: Global, book_size: u32) -> Result<Vec<NodeRow>, AllocError> {
+    /// The rows of the worked document.
+    fn library(alloc: Global) -> Result<Vec<NodeRow>, AllocError> {
         let mut rows = Vec::new(alloc);
-        rows.push(row(alloc, 0, 7, 0, Kind::Document, "", "")?)?;
-        rows.push(row(alloc, 1, 6, 1, Kind::Element, "lib", "")?)?;
-        rows.push(row(alloc, 2, book_size, 2, Kind::Element, "book", "")?)?;
-        rows.push(row(alloc, 3, 0, 3, Kind::Attribute, "id", "1")?)?;
-        rows.push(row(alloc, 4, 0, 3, Kind::Text, "", "A")?)?;
-        rows.push(row(alloc, 5, 2, 2, Kind::Element, "book", "")?)?;
-        rows.push(row(alloc, 6, 0, 3, Kind::Attribute, "id", "2")?)?;
-        rows.push(row(alloc, 7, 0, 3, Kind::Text, "", "B")?)?;
+        rows.push(row(alloc, (0, 7, 0), Kind::Document, "", "")?)?;
+        rows.push(row(alloc, (1, 6, 1), Kind::Element, "lib", "")?)?;
+        rows.push(row(alloc, (2, 2, 2), Kind::Element, "book", "")?)?;
+        rows.push(row(alloc, (3, 0, 3), Kind::Attribute, "id", "1")?)?;
+        rows.push(row(alloc, (4, 0, 3), Kind::Text, "", "A")?)?;
+        rows.push(row(alloc, (5, 2, 2), Kind::Element, "book", "")?)?;
+        rows.push(row(alloc, (6, 0, 3), Kind::Attribute, "id", "2")?)?;
+        rows.push(row(alloc, (7, 0, 3), Kind::Text, "", "B")?)?;
         Ok(rows)
     }
 
     #[test]
-    fn takes_a_document(rt: HostRuntime) -> Result<(), AllocError> {
-        let rows = library(rt.alloc(), 2)?;
-        assert!(rt; Fragment::from_rows(rows).is_ok());
+    fn takes_the_library(rt: HostRuntime) -> Result<(), AllocError> {
+        let Ok(fragment) = Fragment::from_rows(library(rt.alloc())?) else {
+            assert!(rt; false, "the rows are those of a document");
+            return Ok(());
+        };
+        assert!(rt; fragment.is_document());
+        assert_eq!(rt; fragment.rows().len(), 8);
         Ok(())
     }
 
     #[test]
-    fn refuses_a_wrong_size(rt: HostRuntime) -> Result<(), AllocError> {
-        let rows = library(rt.alloc(), 3)?;
-        assert!(rt; Fragment::from_rows(rows).is_err());
-        Ok(())
-    }
-
-    #[test]
-    fn wide(rt: HostRuntime) -> Result<(), AllocError> {
-        let mut rows = Vec::with_capacity(rt.alloc(), 1_000_000)?;
-        rows.push(row(rt.alloc(), 0, 999_999, 0, Kind::Document, "", "")?)?;
-        for i in 1u32..1_000_000 {
-            rows.push(row(rt.alloc(), i, 0, 1, Kind::Comment, "", "")?)?;
+    fn refuses_another_row(rt: HostRuntime) -> Result<(), AllocError> {
+        let alloc = rt.alloc();
+        for (at, place, kind, name, value) in [
+            (0, (0, 8, 0), Kind::Document, "", ""),
+            (0, (0, 7, 1), Kind::Document, "", ""),
+            (2, (2, 3, 2), Kind::Element, "book", ""),
+            (2, (2, 2, 3), Kind::Element, "book", ""),
+            (3, (4, 0, 3), Kind::Attribute, "id", "1"),
+            (4, (4, 0, 3), Kind::Text, "", ""),
+            (4, (4, 0, 3), Kind::Document, "", ""),
+            (4, (4, 0, 3), Kind::Attribute, "id", "A"),
+            (3, (3, 0, 3), Kind::Text, "", "1"),
+            (3, (3, 0, 3), Kind::Comment, "", "1--"),
+            (7, (7, 0, 101), Kind::Text, "", "B"),
+        ] {
+            let mut rows = library(alloc)?;
+            if let Some(old) = rows.get_mut(at) {
+                *old = row(alloc, place, kind, name, value)?;
+            }
+            assert!(rt; Fragment::from_rows(rows).is_err(), "at {at}");
         }
-        assert!(rt; Fragment::from_rows(rows).is_ok());
         Ok(())
     }
 
     #[test]
-    fn attributes(rt: HostRuntime) -> Result<(), AllocError> {
-        let mut rows = Vec::with_capacity(rt.alloc(), 2_001)?;
-        rows.push(row(rt.alloc(), 0, 2_000, 0, Kind::Element, "a", "")?)?;
-        for i in 1u32..2_001 {
-            let name = format!(in rt.alloc(); "n{i}")?;
-            rows.push(row(rt.alloc(), i, 0, 1, Kind::Attribute, name.as_str(), "")?)?;
+    fn judges_names_and_values(rt: HostRuntime) -> Result<(), AllocError> {
+        let alloc = rt.alloc();
+        for (kind, name, value, is_tree) in [
+            (Kind::Document, "", "", true),
+            (Kind::Text, "", "", true),
+            (Kind::Text, "", "\u{FFFE}", false),
+            (Kind::Attribute, "id", "<&\"", true),
+            (Kind::Attribute, "xmlns", "", false),
+            (Kind::Attribute, "xml", "", true),
+            (Kind::Element, "\u{3b1}\u{10000}-1", "", true),
+            (Kind::Element, "1a", "", false),
+            (Kind::Element, "p:a", "", false),
+            (Kind::Element, "a", "b", false),
+            (Kind::Comment, "", "a-b", true),
+            (Kind::Comment, "", "a--b", false),
+            (Kind::Comment, "", "a-", false),
+            (Kind::ProcessingInstruction, "t", "a?b>", true),
+            (Kind::ProcessingInstruction, "t", "a?>", false),
+            (Kind::ProcessingInstruction, "t", " a", false),
+            (Kind::ProcessingInstruction, "XmL", "a", false),
+        ] {
+            let mut rows = Vec::new(alloc);
+            rows.push(row(alloc, (0, 0, 0), kind, name, value)?)?;
+            assert_eq!(rt;
+                Fragment::from_rows(rows).is_ok(),
+                is_tree,
+                "name {name}, value {value}"
+            );
         }
-        assert!(rt; Fragment::from_rows(rows).is_ok());
+        Ok(())
+    }
+
+    /// An element with so many children, the rows with a name where `name` begins one.
+    fn wide(alloc: Global, kind: Kind, name: &str, count: u32) -> Result<Vec<NodeRow>, AllocError> {
+        let mut rows = Vec::new(alloc);
+        rows.push(row(alloc, (0, count, 0), Kind::Element, "a", "")?)?;
+        for at in 0..count {
+            let mut own = String::from_str(alloc, name)?;
+            if !name.is_empty() {
+                let number = at.wrapping_mul(2_654_435_761);
+                own = format!(in alloc; "{name}{number}")?;
+            }
+            rows.push(row(alloc, (at.saturating_add(1), 0, 1), kind, own.as_str(), "")?)?;
+        }
+        Ok(rows)
+    }
+
+    #[test]
+    fn takes_many_nodes(rt: HostRuntime) -> Result<(), AllocError> {
+        let most = wide(rt.alloc(), Kind::Comment, "", 999_999)?;
+        assert!(rt; Fragment::from_rows(most).is_ok());
+        let more = wide(rt.alloc(), Kind::Comment, "", 1_000_000)?;
+        assert!(rt; Fragment::from_rows(more).is_err());
+        let mut attributes = wide(rt.alloc(), Kind::Attribute, "n", 20_000)?;
+        if let Some(last) = attributes.last_mut() {
+            last.name = String::from_str(rt.alloc(), "n0")?;
+        }
+        assert!(rt;
+            Fragment::from_rows(attributes).is_err(),
+            "the first and the last have one name"
+        );
+        let attributes = wide(rt.alloc(), Kind::Attribute, "n", 20_000)?;
+        assert!(rt; Fragment::from_rows(attributes).is_ok());
         Ok(())
     }
 }

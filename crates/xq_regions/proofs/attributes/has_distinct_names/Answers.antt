@@ -1,0 +1,14 @@
+use Rattle.xq_regions.proofs.Distinctness.{distinct_if_ascending, back_in_place}
+use Rattle.std.proofs.lemmas.List.Sorted.{IsPermutation-trans}
+use Rattle.xq_regions.proofs.attributes.has_distinct_names.Goals as goal
+
+pub returns-clause-distinct : goal.returns-clause-distinct
+returns-clause-distinct c =
+    distinct_if_ascending c.args.run.now c.sort_by_name.new.run c.sort_by_name.ensures.permutation c.sort_by_name.ensures.sorted
+    c.names_ascend-distinct.result c.names_ascend-distinct.ensures
+
+pub returns-clause-kept : goal.returns-clause-kept
+returns-clause-kept c =
+    back_in_place c.args.run.now c.sort_by_place.new.run c.requires
+    (IsPermutation-trans c.args.run.now c.sort_by_name.new.run c.sort_by_place.new.run c.sort_by_name.ensures.permutation c.sort_by_place.ensures.permutation)
+    c.sort_by_place.ensures.sorted

@@ -1,0 +1,45 @@
+//! Whether the attributes of one element have distinct names, found out without memory.
+ghost use Rattle.std.specs.Prelude.{◌≡◌, ◌↔◌, IsTrue, IsPermutation, IsSortedByKey, map};
+ghost use Rattle.std.specs.List.{IsAllAdjacentAnswer, IsDistinct};
+ghost use Rattle.std.specs.List.Sorted.{IsNonDecreasingBy, IsStrictlyIncreasing};
+ghost use Rattle.std.specs.Str.{bytes_eq};
+ghost use Rattle.std.specs.Cmp.Lexicographic.{slice_cmp};
+ghost use Rattle.std.specs.Ordering.{is_lt, nat_cmp};
+ghost use Rattle.xq_regions.specs.Checks.{name_of, pre_of};
+
+use crate::NodeRow;
+
+/// Puts the rows into the order of their names.
+fn sort_by_name(run: &mut [NodeRow])
+    ensures permutation { IsPermutation run.old run.new }
+    ensures sorted { IsSortedByKey name_of (slice_cmp nat_cmp) run.new }
+{
+    run.sort_unstable_by(|first, second| first.name.as_str().cmp(second.name.as_str()));
+}
+
+/// Puts the rows into document order.
+fn sort_by_place(run: &mut [NodeRow])
+    ensures permutation { IsPermutation run.old run.new }
+    ensures sorted { IsNonDecreasingBy pre_of run.new }
+{
+    run.sort_unstable_by_key(|row| row.pre);
+}
+
+/// Whether each name is less than the next.
+fn names_ascend(run: &[NodeRow]) -> bool
+    ensures { IsAllAdjacentAnswer (λ x y b. b ≡ is_lt (slice_cmp nat_cmp (name_of x) (name_of y))) run.now result }
+{
+    run.is_sorted_by(|first, second| first.name < second.name)
+}
+
+/// Whether the names of the rows are distinct. The rows change places for it, and go back.
+pub fn has_distinct_names(run: &mut [NodeRow]) -> bool
+    requires { IsStrictlyIncreasing (map pre_of run.old) }
+    ensures distinct { IsTrue result ↔ IsDistinct bytes_eq (map name_of run.old) }
+    ensures kept { run.new ≡ run.old }
+{
+    sort_by_name(run);
+    let distinct = names_ascend(run);
+    sort_by_place(run);
+    distinct
+}
