@@ -1,0 +1,116 @@
+-- What the making of the tables does.
+use Rattle.std.proofs.Common.{◌≡◌, ◌⊎◌, inl, inr, ℕ, pos, None, Ok, Err, Result, List, [], ◌∷◌, Bool, true, false, IsTrue, OnOk, refl, sym, ap, subst, ◌∙◌, arith}
+use Rattle.sqlite_value.specs.declared.value.Value.TheVariants.{Int}
+use Rattle.sqlite_trees.specs.Tree.{Trees}
+use Rattle.sqlite.specs.Command.TheVariants.{CreateTable, Insert}
+use Rattle.sqlite.specs.Source.TheVariants.{Values}
+use Rattle.sqlite.specs.Change.{created, next_tree, KeepsRows}
+use Rattle.sqlite.specs.Does.{Tally, Does, lacks_sequence}
+use Rattle.sqlite.specs.Rows.{Written}
+use Rattle.sqlite.specs.Edit.{edit_of, edited}
+use Rattle.sqlite.specs.Rowids.TheVariants.{Chosen}
+use Rattle.sqlite.specs.Listing.{understood}
+use Rattle.sqlite.specs.Effect.{Database}
+use Rattle.sqlite.specs.State.{State, Writes, Executes, ExecutesInside, Shows, IsUnchanged, IsRolledBack, KeepsCommit, mode_of}
+use Rattle.sqlite.specs.declared.error.Error.{Error}
+use Rattle.sqlite_trees.specs.Tree.{IsTable}
+use Rattle.std.specs.List.{AllByRecursion}
+use Rattle.xq_rows.specs.Documents.{HasAddress, HaveInts, IsEmptyStore, IsStore, rows_at}
+use Rattle.xq_rows.specs.Statements.{MakesLayout, MakesNode, WritesEdition}
+use Rattle.sqlite.proofs.Callers.{statement_of, runs_as, one_step}
+use Rattle.xq_rows.specs.Tables.{no_schema, layout_table, layout_schema, node_table, store_schema}
+use Rattle.xq_rows.proofs.Texts.{layout_text, layout_is, layout_plain, makes_layout, node_text, node_is, node_plain, makes_node, edition_text, edition_terms, edition_is, edition_plain}
+use Rattle.xq_rows.proofs.Deletes.{went, same_value}
+use Rattle.xq_rows.proofs.Inserts.{cast_null, cast_int}
+
+pub makes_first : (old new : State) (count : ℕ) → old.now.schema ≡ no_schema → Executes layout_text [] old new (Ok count) → (new.now.schema ≡ layout_schema) × (new.now.trees 0 ≡ [])
+makes_first old new count has h =
+    let w = subst (λ t. Writes old new None CreateTable t [] count) layout_is.1 (runs_as layout_text [] old new no_schema has CreateTable layout_is.0 layout_plain count h) in
+    let all = went w.changed in
+    let first = went all.1 in
+    let made = first.1 in
+    let both : Ok made.table ≡ Ok layout_table = sym made.defined ∙ layout_is.2 in
+    let same : made.table ≡ layout_table = cc in
+    let schema : first.0.schema ≡ layout_schema = made.is ∙ ap (λ s. created s made.table) has ∙ ap (created no_schema) same ∙ makes_layout in
+    let plain : lacks_sequence first.0.schema ≡ false = ap lacks_sequence schema in
+    let now : new.now ≡ first.0 = ap (λ (p : Tally × Database). p.1) (same_value all.2) ∙ same_value (rw plain at first.2) in
+    (ap (λ (d : Database). d.schema) now ∙ schema, ap (λ (d : Database). d.trees 0) now ∙ subst (λ s. first.0.trees (next_tree s) ≡ []) has made.empty)
+
+pub makes_second : (old new : State) (count : ℕ) → old.now.schema ≡ layout_schema → Executes node_text [] old new (Ok count)
+    → (new.now.schema ≡ store_schema) × (new.now.trees 0 ≡ old.now.trees 0) × (new.now.trees 1 ≡ [])
+makes_second old new count has h =
+    let w = subst (λ t. Writes old new None CreateTable t [] count) node_is.1 (runs_as node_text [] old new layout_schema has CreateTable node_is.0 node_plain count h) in
+    let all = went w.changed in
+    let first = went all.1 in
+    let made = first.1 in
+    let both : Ok made.table ≡ Ok (record node_table { tree = 0 }) = sym made.defined ∙ node_is.2 in
+    let same : made.table ≡ record node_table { tree = 0 } = cc in
+    let schema : first.0.schema ≡ store_schema = made.is ∙ ap (λ s. created s made.table) has ∙ ap (created layout_schema) same ∙ makes_node in
+    let plain : lacks_sequence first.0.schema ≡ false = ap lacks_sequence schema in
+    let now : new.now ≡ first.0 = ap (λ (p : Tally × Database). p.1) (same_value all.2) ∙ same_value (rw plain at first.2) in
+    let others = subst (λ s. KeepsRows s.tables old.now.trees first.0.trees) has made.others in
+    (ap (λ (d : Database). d.schema) now ∙ schema, ap (λ (d : Database). d.trees 0) now ∙ others.0, ap (λ (d : Database). d.trees 1) now ∙ subst (λ s. first.0.trees (next_tree s) ≡ []) has made.empty)
+
+pub numbers : (old new : State) (count : ℕ) → old.now.schema ≡ store_schema → old.now.trees 0 ≡ [] → Executes edition_text [] old new (Ok count)
+    → (new.now.schema ≡ store_schema) × (new.now.trees 0 ≡ (Int (pos 1) ∷ Int (pos 1) ∷ []) ∷ []) × (new.now.trees 1 ≡ old.now.trees 1)
+numbers old new count has none h =
+    let db = old.now.trees in
+    let command = Insert 0 (Values edition_terms 2) in
+    let w = runs_as edition_text [] old new store_schema has command edition_is edition_plain count h in
+    let text = statement_of edition_text (understood store_schema edition_text) in
+    let done = went (subst (λ s. Does old.step_limit (mode_of old) [] (record old.now { schema = s }) text None command (Ok (w.tally, new.now))) has w.changed) in
+    let now = ap (λ (p : Tally × Database). p.1) (same_value (went (went done.2).2).2) in
+    let given = went done.1 in
+    let written = went (went given.2).2 in
+    let counted = went written.2 in
+    let trees : done.0.trees ≡ written.0 = ap (λ (it : Written). it.trees) (same_value counted.2) ∙ same_value counted.1 in
+    let e = edit_of db layout_table [] Chosen 0 given.0 in
+    let step = one_step store_schema _ db written.0 e refl written.1 in
+    let edit : edited db e ≡ (Int (pos 1) ∷ Int (pos 1) ∷ []) ∷ [] = ap (λ all. edited db (edit_of db layout_table [] Chosen 0 all)) given.1.1 ∙ rw (none, cast_null, cast_int (pos 1)) refl in
+    let apart : 1 ≡ 0 → ⊥ = λ e. omega (arith, e) in
+    (ap (λ (d : Database). d.schema) now, ap (λ (d : Database). d.trees 0) now ∙ ap (λ (t : Trees). t 0) trees ∙ step.rows ∙ edit, ap (λ (d : Database). d.trees 1) now ∙ ap (λ (t : Trees). t 1) trees ∙ step.tables.1.0 apart)
+
+-- the same inside a transaction, for each of the three
+pub ran_inside : (text : List ℕ) (P : Type 0) (old new : State) (e : Error) (r : Result ℕ Error) → (old.in_transaction ≡ false → r ≡ Err e)
+    → (IsTrue old.in_transaction → ExecutesInside 0 text [] old new r) → ((count : ℕ) → Executes text [] old new (Ok count) → P) → OnOk r P
+ran_inside text P old new e (Err f) ended runs step = tt
+ran_inside text P old new e (Ok count) ended runs step = go old.in_transaction refl
+  where
+    go : (b : Bool) → old.in_transaction ≡ b → P
+    go true inside = step count (runs inside).0
+    go false outside = absurd (let e = ended outside in cc)
+
+pub store_made : (a b c d : Database) → MakesLayout a b → MakesNode b c → WritesEdition c d → a.schema ≡ no_schema → IsEmptyStore d
+store_made a b c d one two three has =
+    let first = one has in
+    let second = two first.0 in
+    let third = three second.0 (second.1 ∙ first.1) in
+    let none : d.trees 1 ≡ [] = third.2 ∙ second.2 in
+    let store : IsStore d = record {
+      schema = third.0;
+      layout = third.1;
+      table = subst IsTable (sym none) tt;
+      ints = subst HaveInts (sym none) tt;
+      named = subst (AllByRecursion HasAddress) (sym none) tt;
+      whole = λ address. inl (ap (rows_at address) none);
+    } in
+    (store, none)
+
+shown_kept : (old new : State) (now : Database) (b : Bool) → Shows old new now old.committed b → KeepsCommit old new
+shown_kept old new now b h = record { was_open = λ up. h.was_open; committed = λ up. h.committed_is }
+
+undone_kept : (old new : State) → IsUnchanged old new ⊎ IsRolledBack old new → KeepsCommit old new
+undone_kept old new (inl h) = shown_kept old new old.now old.in_transaction h.0
+undone_kept old new (inr h) = record { was_open = h.was_open; committed = λ up. (h.undone up).1 }
+
+pub kept_same : (s : State) → KeepsCommit s s
+kept_same s = record { was_open = λ up. up; committed = λ up. refl }
+
+-- what was committed stays, whatever the statement answers
+pub kept_inside : (text : List ℕ) (old new : State) (r : Result ℕ Error) → (old.in_transaction ≡ false → KeepsCommit old new) → (IsTrue old.in_transaction → ExecutesInside 0 text [] old new r) → KeepsCommit old new
+kept_inside text old new r ended runs = go old.in_transaction refl r runs
+  where
+    go : (b : Bool) → old.in_transaction ≡ b → (r : Result ℕ Error) → (IsTrue old.in_transaction → ExecutesInside 0 text [] old new r) → KeepsCommit old new
+    go false outside r runs = ended outside
+    go true inside (Ok count) runs = shown_kept old new new.now true (runs inside).1
+    go true inside (Err e) runs = elim (runs inside) [ inl h ↦ undone_kept old new h.1 | inr h ↦ undone_kept old new (inl h.2) ]

@@ -1,0 +1,199 @@
+-- What INSERT does to the table `node`.
+use Rattle.std.proofs.Common.{◌≡◌, ◌&&◌, ℕ, ℤ, pos, None, Ok, Err, Result, List, [], ◌∷◌, map, filter, Bool, true, false, not, cond, refl, sym, ap, subst, ◌∙◌, arith}
+use Rattle.sqlite_value.specs.Order.{Row, value_cmp}
+use Rattle.sqlite_value.specs.declared.value.Value.{Value}
+use Rattle.sqlite_value.specs.declared.value.Value.TheVariants.{Null, Int, Text}
+use Rattle.sqlite_trees.specs.Tree.{Trees, put_row}
+use Rattle.sqlite_sql.specs.Ops.{unary}
+use Rattle.sqlite.specs.Kind.TheVariants as kind
+use Rattle.sqlite.specs.Cast.{cast}
+use Rattle.sqlite.specs.Source.TheVariants.{Values}
+use Rattle.sqlite.specs.Command.TheVariants.{Insert}
+use Rattle.sqlite_rules.specs.Edit.{edit_of, edited, next_rowid, is_taken, are_fresh, put_all}
+use Rattle.sqlite.specs.Rowids.TheVariants.{Chosen}
+use Rattle.sqlite.specs.Does.{Tally, Does}
+use Rattle.sqlite.specs.Rows.{Written}
+use Rattle.sqlite.specs.Listing.{understood}
+use Rattle.sqlite.specs.Effect.{Database}
+use Rattle.sqlite.specs.State.{State, mode_of, Executes}
+use Rattle.sqlite.proofs.Callers.{statement_of, runs_as, one_step}
+use Rattle.xq_rows.specs.Tables.{store_schema, node_table}
+use Rattle.xq_regions.specs.Rows.{Row as Node}
+use Rattle.xq_rows.specs.Nodes.{cells, number_of}
+use Rattle.xq_rows.proofs.Texts.{insert_text, insert_terms, insert_is, insert_plain}
+use Rattle.xq_rows.proofs.Deletes.{went, same_value}
+use Rattle.std.proofs.Common.{◌++◌, ◌||◌, ◌≢◌, Ordering, Less, Equal, Greater}
+use Rattle.std.specs.Ordering.{is_eq, match_ordering}
+use Rattle.std.specs.List.Sorted.{IsPermutation}
+use Rattle.std.proofs.lemmas.List.Sorted.{IsPermutation-refl, IsPermutation-cons, IsPermutation-to_front, IsPermutation-map}
+use Rattle.std.proofs.lemmas.Cmp.{tied_itself}
+use Rattle.sqlite_value.proofs.OrderLemmas.{value_cmp_total, value_cmp-Text}
+use Rattle.sqlite_trees.specs.Tree.{rowid}
+use Rattle.std.proofs.Common.{subst₂, append-nil, append_assoc, OnOk, IsTrue}
+use Rattle.std.proofs.lemmas.List.Sorted.{IsPermutation-trans, IsPermutation-append_left}
+use Rattle.std.proofs.lemmas.List.{map-append}
+use Rattle.std.proofs.lemmas.List.Elements.{filter-append}
+use Rattle.std.proofs.lemmas.Map.Lookups.{exact_bytes}
+use Rattle.sqlite_trees.specs.Tree.{IsTable}
+use Rattle.sqlite_trees.specs.View.{is_int}
+use Rattle.sqlite_trees.proofs.ListLemmas.{IsPermutation-filter}
+use Rattle.sqlite_trees.proofs.TreeLemmas.{IsTable-put_row, all-put_row}
+use Rattle.sqlite.specs.State.{ExecutesInside, KeepsCommit}
+use Rattle.sqlite.specs.declared.error.Error.{Error}
+use Rattle.std.specs.List.{AllByRecursion}
+use Rattle.xq_rows.specs.Documents.{is_at, kept, rows_at, HasAddress, HaveInts}
+use Rattle.xq_rows.specs.Statements.{HasAdded, Adds}
+
+either : (b : Bool) (x : Value) → cond b x x ≡ x
+either true x = refl
+either false x = refl
+
+pub cast_null : cast kind.Integer Null ≡ Null
+unfolding unary
+cast_null = either _ Null
+
+pub cast_int : (n : ℤ) → cast kind.Integer (Int n) ≡ Int n
+unfolding unary
+cast_int n = either _ (Int n)
+
+-- the new row comes after the others
+abbrev pub new_row : List ℕ → ℕ × Node → List Row → Row
+new_row address n rows = Int (next_rowid rows) ∷ Text address ∷ cells n
+
+pub record IsInserted (address : List ℕ) (n : ℕ × Node) (old new : Database) : Type 0 where
+  pub schema : new.schema ≡ old.schema
+  pub layout : new.trees 0 ≡ old.trees 0
+  pub nodes : new.trees 1 ≡ put_row (new_row address n (old.trees 1)) (old.trees 1)
+  pub fresh : is_taken (old.trees 1) (new_row address n (old.trees 1)) ≡ false
+
+news_are : (address : List ℕ) (n : ℕ × Node) (db : Trees) → (edit_of db node_table [] Chosen 0 ((Null ∷ Text address ∷ cells n) ∷ [])).news ≡ new_row address n (db 1) ∷ []
+news_are address n db = rw (cast_null, cast_int (pos n.0), cast_int (pos n.1.size), cast_int (pos n.1.level), cast_int (pos (number_of n.1.label.kind))) refl
+
+one_fresh : (rows : List Row) (row : Row) → are_fresh rows (row ∷ []) ≡ true → is_taken rows row ≡ false
+one_fresh rows row h = go (is_taken rows row) h
+  where
+    go : (b : Bool) → (not b && true) ≡ true → b ≡ false
+    go true e = absurd cc
+    go false e = refl
+
+pub inserts : (old new : State) (address : List ℕ) (n : ℕ × Node) (count : ℕ) → old.now.schema ≡ store_schema → Executes insert_text (Text address ∷ cells n) old new (Ok count) → IsInserted address n old.now new.now
+inserts old new address n count has h =
+    let params = Text address ∷ cells n in
+    let db = old.now.trees in
+    let command = Insert 1 (Values insert_terms 8) in
+    let w = runs_as insert_text params old new store_schema has command insert_is insert_plain count h in
+    let text = statement_of insert_text (understood store_schema insert_text) in
+    let done = went (subst (λ s. Does old.step_limit (mode_of old) params (record old.now { schema = s }) text None command (Ok (w.tally, new.now))) has w.changed) in
+    let now = ap (λ (p : Tally × Database). p.1) (same_value (went (went done.2).2).2) in
+    let given = went done.1 in
+    let written = went (went given.2).2 in
+    let counted = went written.2 in
+    let trees : done.0.trees ≡ written.0 = ap (λ (it : Written). it.trees) (same_value counted.2) ∙ same_value counted.1 in
+    let step = one_step store_schema _ db written.0 (edit_of db node_table [] Chosen 0 given.0) refl written.1 in
+    let sources : given.0 ≡ (Null ∷ params) ∷ [] = given.1.1 in
+    let e = edit_of db node_table [] Chosen 0 given.0 in
+    let news : e.news ≡ new_row address n (db 1) ∷ [] = ap (λ all. (edit_of db node_table [] Chosen 0 all).news) sources ∙ news_are address n db in
+    let edit : edited db e ≡ put_row (new_row address n (db 1)) (db 1) = ap (λ rows. put_all (db 1) rows) news in
+    let apart : 0 ≡ 1 → ⊥ = λ e. omega (arith, e) in record {
+      schema = ap (λ (d : Database). d.schema) now ∙ sym has;
+      layout = ap (λ (d : Database). d.trees 0) now ∙ ap (λ (t : Trees). t 0) trees ∙ step.tables.0 apart;
+      nodes = ap (λ (d : Database). d.trees 1) now ∙ ap (λ (t : Trees). t 1) trees ∙ step.rows ∙ edit;
+      fresh = one_fresh (db 1) (new_row address n (db 1)) (ap (λ rows. are_fresh (db 1) rows) (sym news) ∙ step.fresh);
+    }
+
+-- a row whose rowid is free is added, wherever it comes to stand
+pub put_permutes : (new : Row) (rows : List Row) → is_taken rows new ≡ false → IsPermutation (rows ++ new ∷ []) (put_row new rows)
+put_permutes new [] free = IsPermutation-refl _
+put_permutes new (r ∷ rs) free = go (value_cmp (rowid r) (rowid new)) free (put_permutes new rs)
+  where
+    go : (o : Ordering) → (is_eq o || is_taken rs new) ≡ false → (is_taken rs new ≡ false → IsPermutation (rs ++ new ∷ []) (put_row new rs))
+        → IsPermutation (r ∷ (rs ++ new ∷ [])) (match_ordering o (r ∷ put_row new rs) (new ∷ rs) (new ∷ r ∷ rs))
+    go Less h more = IsPermutation-cons r _ _ (more h)
+    go Equal h more = absurd cc
+    go Greater h more = IsPermutation-to_front (r ∷ rs) new
+
+pub put_passed : (p : Row → Bool) (new : Row) (rows : List Row) → p new ≡ false → is_taken rows new ≡ false → filter p (put_row new rows) ≡ filter p rows
+put_passed p new [] fails free = rw fails refl
+put_passed p new (r ∷ rs) fails free = go (value_cmp (rowid r) (rowid new)) free (put_passed p new rs fails)
+  where
+    go : (o : Ordering) → (is_eq o || is_taken rs new) ≡ false → (is_taken rs new ≡ false → filter p (put_row new rs) ≡ filter p rs)
+        → filter p (match_ordering o (r ∷ put_row new rs) (new ∷ rs) (new ∷ r ∷ rs)) ≡ filter p (r ∷ rs)
+    go Less h more = ap (λ l. cond (p r) (r ∷ l) l) (more h)
+    go Equal h more = absurd cc
+    go Greater h more = rw fails refl
+
+pub own_address : (a : List ℕ) → is_eq (value_cmp (Text a) (Text a)) ≡ true
+own_address a = ap is_eq (tied_itself value_cmp_total (Text a))
+
+pub other_address : (a b : List ℕ) → b ≢ a → is_eq (value_cmp (Text a) (Text b)) ≡ false
+other_address a b apart = go (value_cmp (Text a) (Text b)) refl
+  where
+    go : (o : Ordering) → value_cmp (Text a) (Text b) ≡ o → is_eq o ≡ false
+    go Less e = refl
+    go Equal e = absurd (apart (sym (exact_bytes a b (sym (value_cmp-Text a b) ∙ e))))
+    go Greater e = refl
+
+pub adds_one : (address : List ℕ) (n : ℕ × Node) (old new : Database) → IsInserted address n old new → HasAdded address (cells n ∷ []) old new
+adds_one address n old new it =
+    let rows = old.trees 1 in
+    let row = new_row address n rows in
+    let mine : is_at address row ≡ true = own_address address in
+    let whole = IsPermutation-map kept _ _ (IsPermutation-filter (is_at address) _ _ (put_permutes row rows it.fresh)) in
+    let last : filter (is_at address) (row ∷ []) ≡ row ∷ [] = rw mine refl in
+    let front : map kept (filter (is_at address) (rows ++ row ∷ [])) ≡ rows_at address rows ++ cells n ∷ [] =
+    ap (map kept) (filter-append (is_at address) rows (row ∷ []) ∙ ap (λ l. filter (is_at address) rows ++ l) last) ∙ map-append kept (filter (is_at address) rows) (row ∷ []) in
+    let nodes = it.nodes in record {
+      schema = it.schema;
+      layout = it.layout;
+      table = λ up. subst IsTable (sym nodes) (IsTable-put_row row rows up);
+      ints = λ ints. subst HaveInts (sym nodes) (all-put_row (λ r. IsTrue (is_int (rowid r))) row rows refl ints);
+      named = λ good all. subst (AllByRecursion HasAddress) (sym nodes) (all-put_row HasAddress row rows (address, good, refl) all);
+      own = subst₂ IsPermutation front (ap (rows_at address) (sym nodes)) whole;
+      others = λ b apart. ap (rows_at b) nodes ∙ ap (map kept) (put_passed (is_at b) row rows (other_address address b apart) it.fresh);
+    }
+
+pub adds_none : (address : List ℕ) (db : Database) → HasAdded address [] db db
+adds_none address db = record {
+  schema = refl;
+  layout = refl;
+  table = λ up. up;
+  ints = λ ints. ints;
+  named = λ good all. all;
+  own = subst (λ l. IsPermutation l (rows_at address (db.trees 1))) (sym (append-nil (rows_at address (db.trees 1)))) (IsPermutation-refl _);
+  others = λ b apart. refl;
+}
+
+pub adds_more : (address : List ℕ) (xs ys : List Row) (first mid last : Database) → HasAdded address xs first mid → HasAdded address ys mid last → HasAdded address (xs ++ ys) first last
+adds_more address xs ys first mid last p q = record {
+  schema = q.schema ∙ p.schema;
+  layout = q.layout ∙ p.layout;
+  table = λ up. q.table (p.table up);
+  ints = λ ints. q.ints (p.ints ints);
+  named = λ good all. q.named good (p.named good all);
+  own = subst (λ l. IsPermutation l (rows_at address (last.trees 1))) (append_assoc (rows_at address (first.trees 1)) xs ys) (IsPermutation-trans _ _ _ (IsPermutation-append_left ys _ _ p.own) q.own);
+  others = λ b apart. q.others b apart ∙ p.others b apart;
+}
+
+-- the same inside a transaction
+pub added_inside : (old new : State) (address : List ℕ) (n : ℕ × Node) (e : Error) (r : Result ℕ Error) → (old.in_transaction ≡ false → r ≡ Err e)
+    → (IsTrue old.in_transaction → ExecutesInside 0 insert_text (Text address ∷ cells n) old new r) → OnOk r (Adds address (cells n ∷ []) old new)
+added_inside old new address n e (Err f) ended runs = tt
+added_inside old new address n e (Ok count) ended runs = go old.in_transaction refl
+  where
+    go : (b : Bool) → old.in_transaction ≡ b → Adds address (cells n ∷ []) old new
+    go true inside =
+        let ran = runs inside in
+        record { mode = λ _. ran.1.mode; did = λ has. adds_one address n old.now new.now (inserts old new address n count has ran.0) }
+    go false outside = absurd (let e = ended outside in cc)
+
+pub adds_then : (address : List ℕ) (xs ys : List Row) (first mid last : State) → Adds address xs first mid → Adds address ys mid last → Adds address (xs ++ ys) first last
+adds_then address xs ys first mid last p q = record {
+  mode = λ inside. q.mode (p.mode inside);
+  did = λ has. let one = p.did has in adds_more address xs ys first.now mid.now last.now one (q.did (one.schema ∙ has));
+}
+
+pub adds_nothing : (address : List ℕ) (s : State) → Adds address [] s s
+adds_nothing address s = record { mode = λ inside. inside; did = λ has. adds_none address s.now }
+
+pub kept_then : (first mid last : State) → KeepsCommit first mid → KeepsCommit mid last → KeepsCommit first last
+kept_then first mid last p q = record { was_open = λ up. p.was_open (q.was_open up); committed = λ up. q.committed up ∙ p.committed (q.was_open up) }

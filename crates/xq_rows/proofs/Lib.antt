@@ -1,0 +1,12 @@
+pub mod Texts
+pub mod Lists
+pub mod Selects
+pub mod Deletes
+pub mod Inserts
+pub mod Orders
+pub mod Creates
+pub mod Maps
+pub mod Keys
+pub mod Loads
+pub mod Calls
+pub mod MemoryFiles

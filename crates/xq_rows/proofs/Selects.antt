@@ -1,0 +1,242 @@
+-- What a SELECT over the table `node` gives.
+use Rattle.std.proofs.Common.{◌≡◌, ◌&&◌, ◌+◌, ◌<◌, zero, suc, get_or, length, All, arith, ℕ, List, [], ◌∷◌, map, filter, Bool, true, false, Some, ℤ, refl, sym, ap, subst, subst₂, ◌∙◌, pos}
+use Rattle.std.specs.List.{list_all}
+use Rattle.std.specs.List.Sorted.{IsPermutation, IsSorted}
+use Rattle.std.specs.Ordering.{on, is_eq, is_le, is_ge}
+use Rattle.sqlite_value.specs.Order.{Row, column, value_cmp}
+use Rattle.sqlite_value.specs.declared.value.Value.{Value}
+use Rattle.sqlite_value.specs.declared.value.Value.TheVariants.{Null, Int, Real, Text, Blob}
+use Rattle.sqlite_value.specs.declared.keys.Key.{Key}
+use Rattle.sqlite_value.specs.declared.keys.Collation.TheVariants.{Binary}
+use Rattle.sqlite_value.proofs.OrderLemmas.{value_cmp-Null}
+use Rattle.sqlite_trees.specs.Tree.{Trees}
+use Rattle.sqlite_trees.proofs.ListLemmas.{map-map}
+use Rattle.sqlite_sql.specs.Term.{Term, eval_all, holds}
+use Rattle.sqlite_sql.specs.Query.{IsAnswer, Output, output, key_cmp}
+use Rattle.sqlite_sql.specs.Program.{overlay, IsProgramAnswer}
+use Rattle.sqlite_sql.specs.Ops.{binary, is_true, from_truth}
+use Rattle.sqlite_sql.specs.declared.ops.BinaryOp.TheVariants.{Compare}
+use Rattle.sqlite_sql.specs.declared.ops.CompareOp.TheVariants.{Eq, Ge, Le}
+use Rattle.std.proofs.lemmas.List.Sorted.{IsPermutation-map}
+use Rattle.xq_rows.proofs.Lists.{flat_map_picks}
+use Rattle.std.proofs.Common.{is_lt, ap₂}
+use Rattle.std.proofs.lemmas.List.Sorted.{All-permutation}
+use Rattle.std.proofs.lemmas.List.Elements.{All-from_recursion}
+use Rattle.sqlite_trees.proofs.ListLemmas.{all-map, all_of}
+use Rattle.sqlite_value.proofs.OrderLemmas.{then-Equal}
+use Rattle.sqlite_sql.specs.Term.{col}
+use Rattle.std.proofs.Common.{inl, inr, IsTrue, Result, Ok, Err, IfOk, IfErr}
+use Rattle.sqlite.specs.declared.error.Error.{Error}
+use Rattle.sqlite.specs.Listing.{understood}
+use Rattle.sqlite.specs.State.{State, Shown, Fails, FailsToQuery, IsNotRun, RunsCommand, ShowsRows, FailsToShow}
+use Rattle.sqlite.specs.Clock.{timed}
+use Rattle.std.proofs.Common.{Option, None}
+use Rattle.sqlite_resolve.specs.declared.compiled.Compiled.{Compiled}
+use Rattle.sqlite_schema.specs.declared.command.Returning.{Returning}
+use Rattle.sqlite.proofs.Callers.{IsPlain, reads_as}
+use Rattle.xq_rows.specs.Tables.{store_schema}
+use Rattle.xq_rows.proofs.Lists.{same_test}
+use Rattle.xq_rows.proofs.Texts.{body, key, range_text, range_tests, range_command, range_is, range_plain, addresses_text, addresses_tests, addresses_command, addresses_is, addresses_plain}
+use Rattle.xq_rows.specs.Documents.{by_first, is_at, kept}
+use Rattle.xq_rows.specs.Statements.{is_within, IsPicked, IsRange, AreAddresses}
+use Rattle.std.proofs.lemmas.List.{length-map}
+
+module _ (tests : List Term) (project : List Term) (order : List (Term × Key)) (db : Trees) (params : Row) where
+  abbrev pub test : Row → Bool
+  test r = list_all (holds (params ∷ r ∷ [])) tests
+
+  abbrev pub out : Row → Output
+  out r = output (body tests project order) (params ∷ r ∷ [])
+
+  -- the rows that pass the tests, in an order that ORDER BY allows
+  pub record IsSelected (rows : List Row) : Type 0 where
+    pub ordered : List Output
+    pub same : IsPermutation (map out (filter test (db 1))) ordered
+    pub sorted : IsSorted (on (λ o. o.0) (key_cmp 0 (map (λ k. k.1) order))) ordered
+    pub shown : rows ≡ map (λ o. o.1) ordered
+
+  pub selected : (rows : List Row) → IsProgramAnswer [] (body tests project order) db params rows → IsSelected rows
+  selected rows got =
+      let a : IsAnswer (body tests project order) (overlay db []) params rows = got Null in
+      let staged : a.staged ≡ map (λ r. params ∷ r ∷ []) (filter test (db 1)) = a.grouped ∙ flat_map_picks test (λ r. params ∷ r ∷ []) (db 1) in
+      let kept : a.kept ≡ map out (filter test (db 1)) = a.distinct ∙ ap (map (output (body tests project order))) staged ∙ map-map _ _ _ in
+      record { ordered = a.ordered; same = subst (λ k. IsPermutation k a.ordered) kept a.same; sorted = a.sorted; shown = a.shown }
+
+  pub selected_rows : (rows : List Row) → IsSelected rows → IsPermutation (map (λ r. eval_all project (params ∷ r ∷ [])) (filter test (db 1))) rows
+  selected_rows rows s =
+      let moved = IsPermutation-map (λ (o : Output). o.1) _ _ s.same in
+      let first : map (λ (o : Output). o.1) (map out (filter test (db 1))) ≡ map (λ r. eval_all project (params ∷ r ∷ [])) (filter test (db 1)) = map-map _ _ _ in
+      subst₂ IsPermutation first (sym s.shown) moved
+
+-- a comparison with a value that is not NULL
+truth_is : (b : Bool) → is_true (from_truth (Some b)) ≡ b
+truth_is true = refl
+truth_is false = refl
+
+pub equals_text : (v : Value) (t : List ℕ) → is_true (binary (Compare Eq Binary) v (Text t)) ≡ is_eq (value_cmp v (Text t))
+unfolding binary
+equals_text Null t = rw (value_cmp-Null (Text t)) refl
+equals_text (Int n) t = truth_is _
+equals_text (Real x) t = truth_is _
+equals_text (Text s) t = truth_is _
+equals_text (Blob b) t = truth_is _
+
+pub equals_int : (v : Value) (n : ℤ) → is_true (binary (Compare Eq Binary) v (Int n)) ≡ is_eq (value_cmp v (Int n))
+unfolding binary
+equals_int Null t = rw (value_cmp-Null (Int t)) refl
+equals_int (Int n) t = truth_is _
+equals_int (Real x) t = truth_is _
+equals_int (Text s) t = truth_is _
+equals_int (Blob b) t = truth_is _
+
+pub at_least_int : (v : Value) (n : ℤ) → is_true (binary (Compare Ge Binary) v (Int n)) ≡ is_ge (value_cmp v (Int n))
+unfolding binary
+at_least_int Null t = rw (value_cmp-Null (Int t)) refl
+at_least_int (Int n) t = truth_is _
+at_least_int (Real x) t = truth_is _
+at_least_int (Text s) t = truth_is _
+at_least_int (Blob b) t = truth_is _
+
+-- NULL, which is below each number, passes no test
+pub at_most_int : (v : Value) (low high : ℤ) → is_ge (value_cmp v (Int low)) ≡ true → is_true (binary (Compare Le Binary) v (Int high)) ≡ is_le (value_cmp v (Int high))
+unfolding binary
+at_most_int Null low high h = absurd (let e = rw (value_cmp-Null (Int low)) at h in cc)
+at_most_int (Int n) low high h = truth_is _
+at_most_int (Real x) low high h = truth_is _
+at_most_int (Text s) low high h = truth_is _
+at_most_int (Blob b) low high h = truth_is _
+
+and_true : (b : Bool) → (b && true) ≡ b
+and_true true = refl
+and_true false = refl
+
+get_or-map : {A B : Type 0} (f : A → B) (xs : List A) (i : ℕ) (a : A) → get_or (map f xs) i (f a) ≡ f (get_or xs i a)
+get_or-map f [] i a = refl
+get_or-map f (x ∷ xs) zero a = refl
+get_or-map f (x ∷ xs) (suc i) a = get_or-map f xs i a
+
+lower_keys : (a b : Output) → a.0 ≡ column a.1 0 ∷ [] → b.0 ≡ column b.1 0 ∷ [] → is_lt (key_cmp 0 (key ∷ []) a.0 b.0) ≡ false → is_lt (by_first a.1 b.1) ≡ false
+lower_keys a b ka kb h =
+    let both = subst₂ (λ x y. is_lt (key_cmp 0 (key ∷ []) x y) ≡ false) ka kb h in
+    ap is_lt (sym (then-Equal (value_cmp (column a.1 0) (column b.1 0)))) ∙ both
+
+-- what is sorted by its keys is sorted by the first column, where that is the key
+sorted_shown : (ordered : List Output) → All (λ (o : Output). o.0 ≡ column o.1 0 ∷ []) ordered → IsSorted (on (λ (o : Output). o.0) (key_cmp 0 (key ∷ []))) ordered → IsSorted by_first (map (λ (o : Output). o.1) ordered)
+sorted_shown ordered keyed sorted k d low high =
+    let D : Output = (column d 0 ∷ [], d) in
+    let within : k + 1 < length ordered = subst (λ n. k + 1 < n) (length-map ordered (λ (o : Output). o.1)) high in
+    let here = keyed k D (omega arith) in
+    let next = keyed (k + 1) D within in
+    let was = sorted k D low within in
+    let lower = get_or-map (λ (o : Output). o.1) ordered k D in
+    let upper = get_or-map (λ (o : Output). o.1) ordered (k + 1) D in
+    subst₂ (λ x y. is_lt (by_first x y) ≡ false) (sym upper) (sym lower) (lower_keys (get_or ordered (k + 1) D) (get_or ordered k D) next here was)
+
+module _ (tests : List Term) (first : ℕ) (more : List Term) (db : Trees) (params : Row) where
+  abbrev project : List Term
+  project = col 1 first ∷ more
+
+  abbrev order : List (Term × Key)
+  order = (col 1 first, key) ∷ []
+
+  abbrev keyed : Output → Type 0
+  keyed o = o.0 ≡ column o.1 0 ∷ []
+
+  pub picked : (rows : List Row) → IsProgramAnswer [] (body tests project order) db params rows
+      → IsPicked (λ r. list_all (holds (params ∷ r ∷ [])) tests) (λ r. eval_all project (params ∷ r ∷ [])) (db 1) rows
+  picked rows got =
+      let s = selected tests project order db params rows got in
+      let shown = filter (test tests project order db params) (db 1) in
+      let all : All keyed (map (out tests project order db params) shown) = All-from_recursion keyed _ (all-map keyed (out tests project order db params) shown (all_of (λ r. keyed (out tests project order db params r)) (λ r. refl) shown)) in
+      record {
+        same = selected_rows tests project order db params rows s;
+        sorted = subst (IsSorted by_first) (sym s.shown) (sorted_shown s.ordered (All-permutation keyed _ _ s.same all) s.sorted);
+      }
+
+same_passes : (p q : Row → Bool) (shows : Row → Row) (table rows : List Row) → ((r : Row) → p r ≡ q r) → IsPicked p shows table rows → IsPicked q shows table rows
+same_passes p q shows table rows h it = record { same = subst (λ l. IsPermutation (map shows l) rows) (same_test p q h table) it.same; sorted = it.sorted }
+
+tail_test : (v : Value) (low high : ℤ) (b : Bool) → is_ge (value_cmp v (Int low)) ≡ b → (b && (is_true (binary (Compare Le Binary) v (Int high)) && true)) ≡ (b && is_le (value_cmp v (Int high)))
+tail_test v low high true e = and_true _ ∙ at_most_int v low high e
+tail_test v low high false e = refl
+
+range_test : (address : List ℕ) (low high : ℕ) (r : Row) → list_all (holds ((Text address ∷ Int (pos low) ∷ Int (pos high) ∷ []) ∷ r ∷ [])) range_tests ≡ is_at address r && is_within low high r
+range_test address low high r =
+    let v = column r 2 in
+    let rest = ap (λ b. b && (is_true (binary (Compare Le Binary) v (Int (pos high))) && true)) (at_least_int v (pos low)) ∙ tail_test v (pos low) (pos high) _ refl in
+    ap₂ ◌&&◌ (equals_text (column r 1) address) rest
+
+pub ranges : (old new : State) (address : List ℕ) (low high : ℕ) (rows : List Row) → Shown range_text (Text address ∷ Int (pos low) ∷ Int (pos high) ∷ []) old new rows → IsRange address low high old.now rows
+ranges old new address low high rows h has =
+    let params = Text address ∷ Int (pos low) ∷ Int (pos high) ∷ [] in
+    let it = reads_as range_text params old new store_schema has range_command range_is.0 range_plain range_is.1 rows h in
+    same_passes _ _ kept (old.now.trees 1) rows (range_test address low high) (picked range_tests 2 (col 1 3 ∷ col 1 4 ∷ col 1 5 ∷ col 1 6 ∷ col 1 7 ∷ []) old.now.trees params rows it.answer)
+
+pub lists : (old new : State) (rows : List Row) → Shown addresses_text [] old new rows → AreAddresses old.now rows
+lists old new rows h has =
+    let it = reads_as addresses_text [] old new store_schema has addresses_command addresses_is.0 addresses_plain addresses_is.1 rows h in
+    same_passes _ _ (λ r. column r 1 ∷ []) (old.now.trees 1) rows (λ r. and_true _ ∙ equals_int (column r 2) (pos 0)) (picked addresses_tests 1 [] old.now.trees [] rows it.answer)
+
+-- a query leaves the database
+pub shown_keeps : (old new : State) (sql : List ℕ) (params : Row) (rows : List Row) → IsPlain (understood old.now.schema sql) → Shown sql params old new rows → new.now ≡ old.now
+unfolding Shown
+shown_keeps old new sql params rows plain h =
+    let none = (subst IsPlain h.1.is plain).0 in
+    let it = rw none at h.2 in
+    it.3.0.now_is
+
+failed_keeps : (old new : State) (too_big : Type 0) (e : Error) → (IsTrue old.is_open → old.now ≡ old.committed) → IsTrue new.is_open → Fails old new too_big e → new.now ≡ old.now
+failed_keeps old new too_big e settled up h = (h.3.undone up).0 ∙ sym (settled (h.3.was_open up))
+
+pub refused_keeps : (old new : State) (sql : List ℕ) (params : Row) (e : Error) → IsPlain (understood old.now.schema sql) → (IsTrue old.is_open → old.now ≡ old.committed) → IsTrue new.is_open
+    → FailsToQuery sql params old new e → new.now ≡ old.now
+unfolding FailsToQuery IsNotRun
+refused_keeps old new sql params e plain settled up (inl (inl h)) = h.1.0.now_is
+refused_keeps old new sql params e plain settled up (inl (inr h)) = failed_keeps old new ⊥ e settled up h
+refused_keeps old new sql params e plain settled up (inr h) =
+    let none = (subst IsPlain h.1.is plain).0 in
+    let it = rw none at h.2 in
+    it.3.0.now_is
+
+-- whatever it answers
+pub query_keeps : {X : Type 0} (show : X → List Row) (old new : State) (sql : List ℕ) (params : Row) (r : Result X Error) → IsPlain (understood store_schema sql) → old.now.schema ≡ store_schema
+    → (IsTrue old.is_open → old.now ≡ old.committed) → IsTrue new.is_open → IfOk r (λ x. Shown sql params old new (show x)) → IfErr r (FailsToQuery sql params old new) → new.now ≡ old.now
+query_keeps show old new sql params (Ok x) plain has settled up ok err = shown_keeps old new sql params (show x) (subst (λ s. IsPlain (understood s sql)) (sym has) plain) ok
+query_keeps show old new sql params (Err e) plain has settled up ok err = refused_keeps old new sql params e (subst (λ s. IsPlain (understood s sql)) (sym has) plain) settled up err
+
+-- a query that runs, or is refused, finds the connection open where it leaves it open
+shown_opens : (old new : State) (sql : List ℕ) (params : Row) (rows : List Row) → Shown sql params old new rows → IsTrue old.is_open
+unfolding Shown
+shown_opens old new sql params rows (c, it, h) = go c.returning h
+  where
+    go : (what : Option Returning) → ShowsRows old new sql c (timed params c.formats it.now) rows what → IsTrue old.is_open
+    go None h = h.3.0.was_open
+    go (Some what) h = h.1.shown.was_open
+
+command_opens : (old new : State) (sql : List ℕ) (c : Compiled) (params : Row) (e : Error) → IsTrue new.is_open → RunsCommand old new sql c params (Err e) → IsTrue old.is_open
+command_opens old new sql c params e up (inl h) = h.1.0.was_open
+command_opens old new sql c params e up (inr h) = h.3.was_open up
+
+refused_opens : (old new : State) (sql : List ℕ) (params : Row) (e : Error) → IsTrue new.is_open → FailsToQuery sql params old new e → IsTrue old.is_open
+unfolding FailsToQuery IsNotRun
+refused_opens old new sql params e up (inl (inl h)) = h.1.0.was_open
+refused_opens old new sql params e up (inl (inr h)) = h.3.was_open up
+refused_opens old new sql params e up (inr (c, it, h)) = go c.returning h
+  where
+    go : (what : Option Returning) → FailsToShow old new sql c (timed params c.formats it.now) e what → IsTrue old.is_open
+    go None h = h.3.0.was_open
+    go (Some what) h = command_opens old new sql c (timed params c.formats it.now) e up h
+
+pub query_opens : {X : Type 0} (show : X → List Row) (old new : State) (sql : List ℕ) (params : Row) (r : Result X Error) → IsTrue new.is_open
+    → IfOk r (λ x. Shown sql params old new (show x)) → IfErr r (FailsToQuery sql params old new) → IsTrue old.is_open
+query_opens show old new sql params (Ok x) up ok err = shown_opens old new sql params (show x) ok
+query_opens show old new sql params (Err e) up ok err = refused_opens old new sql params e up err
+
+pub all_ranges : {X : Type 0} (show : X → List Row) (old new : State) (address : List ℕ) (low high : ℕ) (r : Result X Error) → IfOk r (λ x. Shown range_text (Text address ∷ Int (pos low) ∷ Int (pos high) ∷ []) old new (show x))
+    → IfOk r (λ x. IsRange address low high old.now (show x))
+all_ranges show old new address low high (Ok x) h = ranges old new address low high (show x) h
+all_ranges show old new address low high (Err e) h = tt
+
+pub all_lists : {X : Type 0} (show : X → List Row) (old new : State) (r : Result X Error) → IfOk r (λ x. Shown addresses_text [] old new (show x)) → IfOk r (λ x. AreAddresses old.now (show x))
+all_lists show old new (Ok x) h = lists old new (show x) h
+all_lists show old new (Err e) h = tt

@@ -1,0 +1,158 @@
+-- What the fixed texts mean under the schema.
+use Rattle.std.proofs.Common.{◌≡◌, List, ℕ, [], ◌∷◌, codes, Ok, refl}
+use Rattle.std.proofs.Common.{None, false, pos, negsuc}
+use Rattle.sqlite.specs.Command.TheVariants.{CreateTable, Delete, Select, Insert}
+use Rattle.sqlite.specs.Source.TheVariants.{Values}
+use Rattle.sqlite.specs.Term.{Term, lit, col, op2}
+use Rattle.sqlite.specs.Query.{Query, inner, end}
+use Rattle.sqlite.specs.Collation.TheVariants.{Binary}
+use Rattle.sqlite.specs.declared.types.Value.TheVariants.{Null, Int}
+use Rattle.sqlite_value.specs.declared.keys.Key.{Key}
+use Rattle.sqlite_schema.specs.declared.program.Program.{Program}
+use Rattle.sqlite_sql.specs.declared.ops.BinaryOp.TheVariants.{Compare, Arith}
+use Rattle.sqlite_sql.specs.declared.ops.ArithOp.TheVariants.{Add}
+use Rattle.sqlite_sql.specs.declared.ops.CompareOp.TheVariants.{Eq, Lt, Ge, Le}
+use Rattle.sqlite.specs.Compile.{table_defined_by}
+use Rattle.sqlite_tied.specs.Compute.{everything}
+use Rattle.sqlite.specs.Listing.{understood, reads_listing}
+use Rattle.sqlite.specs.Command.{Command}
+use Rattle.sqlite.proofs.Callers.{IsPlain, command_of, statement_of}
+use Rattle.sqlite.specs.Change.{created}
+use Rattle.xq_rows.specs.Tables.{no_schema, layout_table, layout_schema, node_table, store_schema}
+
+abbrev pub layout_text : List ℕ
+layout_text = codes "CREATE TABLE layout (edition INTEGER NOT NULL) STRICT"
+
+pub layout_is : (command_of (understood no_schema layout_text) ≡ CreateTable) × (statement_of layout_text (understood no_schema layout_text) ≡ layout_text) × (table_defined_by layout_text ≡ Ok layout_table)
+unfolding understood everything
+layout_is = (refl, refl, refl)
+
+abbrev pub node_text : List ℕ
+node_text = codes "CREATE TABLE node (address TEXT NOT NULL, pre INTEGER NOT NULL, size INTEGER NOT NULL, level INTEGER NOT NULL, kind INTEGER NOT NULL, name TEXT NOT NULL, value TEXT NOT NULL, PRIMARY KEY (address, pre)) STRICT"
+
+pub node_is : (command_of (understood layout_schema node_text) ≡ CreateTable) × (statement_of node_text (understood layout_schema node_text) ≡ node_text) × (table_defined_by node_text ≡ Ok (record node_table { tree = 0 }))
+unfolding understood everything
+node_is = (refl, refl, refl)
+
+pub makes_layout : created no_schema layout_table ≡ layout_schema
+makes_layout = refl
+
+pub makes_node : created layout_schema (record node_table { tree = 0 }) ≡ store_schema
+unfolding everything
+makes_node = refl
+
+abbrev pub delete_text : List ℕ
+delete_text = codes "DELETE FROM node WHERE address = ?1"
+
+abbrev pub term1 : Term
+term1 = op2 (Compare Eq Binary) (col 1 1) (col 0 0)
+
+abbrev pub body : List Term → List Term → List (Term × Key) → Query
+body filter project order = record {
+  from = inner 1 end;
+  filter = filter;
+  group = None;
+  project = project;
+  distinct = false;
+  collations = [];
+  order = order;
+  limit = lit (Int (negsuc 0));
+  offset = lit (Int (pos 0));
+}
+
+abbrev pub key : Key
+key = record { collation = Binary; descending = false }
+
+abbrev pub delete_program : Program
+delete_program = record { lets = []; body = body (term1 ∷ []) (col 1 0 ∷ []) [] }
+
+pub delete_is : command_of (understood store_schema delete_text) ≡ Delete 1 delete_program
+unfolding understood everything
+delete_is = refl
+
+pub delete_plain : IsPlain (understood store_schema delete_text)
+unfolding understood everything
+delete_plain = (refl, refl)
+
+abbrev pub addresses_text : List ℕ
+addresses_text = codes "SELECT address FROM node WHERE pre = 0 ORDER BY address"
+
+abbrev pub addresses_tests : List Term
+addresses_tests = op2 (Compare Eq Binary) (col 1 2) (lit (Int (pos 0))) ∷ []
+
+abbrev pub addresses_command : Command
+addresses_command = Select (record { lets = []; body = body addresses_tests (col 1 1 ∷ []) ((col 1 1, key) ∷ []) }) (codes "address" ∷ [])
+
+pub addresses_is : (command_of (understood store_schema addresses_text) ≡ addresses_command) × (reads_listing store_schema addresses_text ≡ false)
+unfolding understood everything
+addresses_is = (refl, refl)
+
+pub addresses_plain : IsPlain (understood store_schema addresses_text)
+unfolding understood everything
+addresses_plain = (refl, refl)
+
+abbrev pub range_text : List ℕ
+range_text = codes "SELECT pre, size, level, kind, name, value FROM node WHERE address = ?1 AND pre >= ?2 AND pre <= ?3 ORDER BY pre"
+
+abbrev pub range_tests : List Term
+range_tests = op2 (Compare Eq Binary) (col 1 1) (col 0 0) ∷ op2 (Compare Ge Binary) (col 1 2) (col 0 1) ∷ op2 (Compare Le Binary) (col 1 2) (col 0 2) ∷ []
+
+abbrev pub kept_terms : List Term
+kept_terms = col 1 2 ∷ col 1 3 ∷ col 1 4 ∷ col 1 5 ∷ col 1 6 ∷ col 1 7 ∷ []
+
+abbrev pub kept_names : List (List ℕ)
+kept_names = codes "pre" ∷ codes "size" ∷ codes "level" ∷ codes "kind" ∷ codes "name" ∷ codes "value" ∷ []
+
+abbrev pub range_command : Command
+range_command = Select (record { lets = []; body = body range_tests kept_terms ((col 1 2, key) ∷ []) }) kept_names
+
+pub range_is : (command_of (understood store_schema range_text) ≡ range_command) × (reads_listing store_schema range_text ≡ false)
+unfolding understood everything
+range_is = (refl, refl)
+
+pub range_plain : IsPlain (understood store_schema range_text)
+unfolding understood everything
+range_plain = (refl, refl)
+
+abbrev pub enclosing_text : List ℕ
+enclosing_text = codes "SELECT pre, size, level, kind, name, value FROM node WHERE address = ?1 AND pre < ?2 AND pre + size >= ?2 ORDER BY pre"
+
+pub enclosing_is : command_of (understood store_schema enclosing_text) ≡ Select (record { lets = []; body = body (op2 (Compare Eq Binary) (col 1 1) (col 0 0) ∷ op2 (Compare Lt Binary) (col 1 2) (col 0 1) ∷ op2 (Compare Ge Binary) (op2 (Arith Add) (col 1 2) (col 1 3)) (col 0 1) ∷ []) (col 1 2 ∷ col 1 3 ∷ col 1 4 ∷ col 1 5 ∷ col 1 6 ∷ col 1 7 ∷ []) ((col 1 2, key) ∷ []) }) (codes "pre" ∷ codes "size" ∷ codes "level" ∷ codes "kind" ∷ codes "name" ∷ codes "value" ∷ [])
+unfolding understood everything
+enclosing_is = refl
+
+abbrev pub insert_text : List ℕ
+insert_text = codes "INSERT INTO node VALUES (?1, ?2, ?3, ?4, ?5, ?6, ?7)"
+
+abbrev pub insert_terms : List Term
+insert_terms = lit Null ∷ col 0 0 ∷ col 0 1 ∷ col 0 2 ∷ col 0 3 ∷ col 0 4 ∷ col 0 5 ∷ col 0 6 ∷ []
+
+pub insert_is : command_of (understood store_schema insert_text) ≡ Insert 1 (Values insert_terms 8)
+unfolding understood everything
+insert_is = refl
+
+pub insert_plain : IsPlain (understood store_schema insert_text)
+unfolding understood everything
+insert_plain = (refl, refl)
+
+pub layout_plain : IsPlain (understood no_schema layout_text)
+unfolding understood everything
+layout_plain = (refl, refl)
+
+pub node_plain : IsPlain (understood layout_schema node_text)
+unfolding understood everything
+node_plain = (refl, refl)
+
+abbrev pub edition_text : List ℕ
+edition_text = codes "INSERT INTO layout VALUES (1)"
+
+abbrev pub edition_terms : List Term
+edition_terms = lit Null ∷ lit (Int (pos 1)) ∷ []
+
+pub edition_is : command_of (understood store_schema edition_text) ≡ Insert 0 (Values edition_terms 2)
+unfolding understood everything
+edition_is = refl
+
+pub edition_plain : IsPlain (understood store_schema edition_text)
+unfolding understood everything
+edition_plain = (refl, refl)

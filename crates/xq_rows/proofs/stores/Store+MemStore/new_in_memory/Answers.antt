@@ -1,0 +1,22 @@
+use Rattle.std.proofs.Common.{refl}
+use Rattle.sqlite.specs.Held.{state}
+use Rattle.sqlite.specs.Steps.{over_memory}
+use Rattle.sqlite.proofs.Callers.{memory_is_clean}
+use Rattle.xq_rows.specs.Documents.{IsReady}
+use Rattle.xq_rows.proofs.Calls.{new_up, new_holds, new_empty}
+use Rattle.xq_rows.proofs.stores.Store+MemStore.new_in_memory.Goals as goal
+
+pub returns-clause-up : goal.returns-clause-up
+returns-clause-up c =
+    let ready : IsReady (state over_memory c.make_tables.new.conn) = (memory_is_clean c.make_tables.new.conn, refl) in
+    new_up over_memory c.make_tables.new.conn ready (c.in_ok-make_tables.ensures.made ready c.in-Ok.ensures.empty.2)
+
+pub returns-clause-holds : goal.returns-clause-holds
+returns-clause-holds c =
+    let ready : IsReady (state over_memory c.make_tables.new.conn) = (memory_is_clean c.make_tables.new.conn, refl) in
+    new_holds over_memory c.make_tables.new.conn ready (c.in_ok-make_tables.ensures.made ready c.in-Ok.ensures.empty.2)
+
+pub returns-clause-none : goal.returns-clause-none
+returns-clause-none c =
+    let ready : IsReady (state over_memory c.make_tables.new.conn) = (memory_is_clean c.make_tables.new.conn, refl) in
+    new_empty over_memory c.make_tables.new.conn ready (c.in_ok-make_tables.ensures.made ready c.in-Ok.ensures.empty.2)

@@ -1,0 +1,106 @@
+-- The map from addresses to documents that the tables of a database stand for.
+use Rattle.std.specs.Prelude.{◌≡◌, ◌⊎◌, ℕ, pos, Bool, List, [], ◌∷◌, map, filter, IsTrue, IsPermutation}
+use Rattle.std.specs.declared.cmp.Ordering.{Ordering}
+use Rattle.std.specs.Ordering.{is_eq, on, nat_cmp}
+use Rattle.std.specs.List.{AllByRecursion}
+use Rattle.std.specs.Cmp.Lexicographic.{slice_cmp}
+use Rattle.std.specs.FinMap.{FinMap, from_entries}
+use Rattle.sqlite_value.specs.Order.{Row, column, value_cmp}
+use Rattle.sqlite_value.specs.declared.value.Value.TheVariants.{Int, Text}
+use Rattle.sqlite_trees.specs.Tree.{IsTable, rowid}
+use Rattle.sqlite_trees.specs.View.{is_int}
+use Rattle.sqlite_trees.specs.declared.store.Store.{Ghosts}
+use Rattle.sqlite_keyed.specs.Lists.{sort_by}
+use Rattle.sqlite.specs.Effect.{Database}
+use Rattle.sqlite.specs.State.{State, HasCleanDisk}
+use Rattle.sqlite.specs.Held.{Held, state}
+use Rattle.xq_regions.specs.Tree.{Tree, IsDocument}
+use Rattle.xq_regions.specs.Rows.{placed_rows, tree_of}
+use Rattle.xq_atoms.specs.Address.{IsAddress}
+use Rattle.xq_rows.specs.Nodes.{cells, node_in, bytes_in}
+use Rattle.xq_rows.specs.Tables.{store_schema}
+
+-- The documents by their addresses, in the order of the addresses' bytes.
+abbrev pub Map : Type 0
+Map = FinMap (slice_cmp nat_cmp) Tree
+
+-- A row of the table node is its rowid, and then its columns: 1 address, 2 pre, 3 size, 4 level, 5 kind, 6 name, 7 value.
+
+-- the row is one of the address
+abbrev pub is_at : List ℕ → Row → Bool
+is_at address row = is_eq (value_cmp (column row 1) (Text address))
+
+-- the row is the first of a document
+abbrev pub is_first : Row → Bool
+is_first row = is_eq (value_cmp (column row 2) (Int (pos 0)))
+
+-- a row without its rowid and its address
+abbrev pub kept : Row → Row
+kept r = column r 2 ∷ column r 3 ∷ column r 4 ∷ column r 5 ∷ column r 6 ∷ column r 7 ∷ []
+
+-- the rows of an address, as they lie in the table
+abbrev pub rows_at : List ℕ → List Row → List Row
+rows_at address table = map kept (filter (is_at address) table)
+
+-- rows in the order of their first columns
+abbrev pub by_first : Row → Row → Ordering
+by_first = on (λ r. column r 0) value_cmp
+
+-- the tree whose rows those of an address are
+abbrev pub tree_at : List Row → List ℕ → Tree
+tree_at table address = tree_of (map node_in (sort_by by_first (rows_at address table)))
+
+-- an address is in the map where it has a row with number 0
+abbrev pub addresses_in : List Row → List (List ℕ)
+addresses_in table = map (λ r. bytes_in (column r 1)) (filter is_first table)
+
+-- the map that the table node stands for
+unfoldable pub documents_in : List Row → Map
+documents_in table = from_entries (map (λ address. (address, tree_at table address)) (addresses_in table))
+
+-- the rows are those of one document, in some order
+pub record IsWhole (rows : List Row) : Type 0 where
+  pub tree : Tree
+  pub is_document : IsDocument tree
+  pub same : IsPermutation rows (map cells (placed_rows tree))
+
+-- each rowid is an integer
+abbrev pub HaveInts : List Row → Type 0
+HaveInts = AllByRecursion (λ r. IsTrue (is_int (rowid r)))
+
+-- the row's address is a good one
+abbrev pub HasAddress : Row → Type 0
+HasAddress r = (address : List ℕ) × IsAddress address × (column r 1 ≡ Text address)
+
+-- The database holds the tables of edition 1: `layout` with its one row, 1, and `node`, in which the rows of each address are
+-- those of one document, or there are none.
+pub record IsStore (db : Database) : Type 0 where
+  pub schema : db.schema ≡ store_schema
+  pub layout : db.trees 0 ≡ (Int (pos 1) ∷ Int (pos 1) ∷ []) ∷ []
+  -- the rowids are integers that rise
+  pub table : IsTable (db.trees 1)
+  pub ints : HaveInts (db.trees 1)
+  pub named : AllByRecursion HasAddress (db.trees 1)
+  pub whole : (address : List ℕ) → (rows_at address (db.trees 1) ≡ []) ⊎ IsWhole (rows_at address (db.trees 1))
+
+-- it holds the tables and no row of a document
+abbrev pub IsEmptyStore : Database → Type 0
+IsEmptyStore db = IsStore db × (db.trees 1 ≡ [])
+
+-- the connection is open, and its disk has returned what was written
+abbrev pub IsReady : State → Type 0
+IsReady s = HasCleanDisk s × IsTrue s.is_open
+
+-- A store, of which a contract sees its connection: `g` are the ghosts of what it keeps its database in.
+module _ {S : Type 0} (g : Ghosts S) (store : Held S) where
+  -- It is open, and its disk has returned what was written; so it was at each call before. A store in memory is whenever it is open.
+  unfoldable pub IsUp : Type 0
+  IsUp = IsReady (state g store)
+
+  -- Its tables hold documents.
+  unfoldable pub Holds : Type 0
+  Holds = IsStore (state g store).now
+
+  -- The map that its tables stand for.
+  unfoldable pub documents : Map
+  documents = documents_in ((state g store).now.trees 1)

@@ -1,0 +1,5 @@
+pub mod Tables
+pub mod Nodes
+pub mod Documents
+pub mod Refusals
+pub mod Statements

@@ -1,0 +1,86 @@
+-- What each statement of the store does to the tables, or gives of them.
+use Rattle.std.specs.Prelude.{◌≡◌, ◌≢◌, ◌++◌, ◌&&◌, ℕ, pos, Bool, true, List, [], ◌∷◌, map, filter, length, Option, Some, None, IsPermutation, IsSorted}
+use Rattle.std.specs.Ordering.{is_ge, is_le}
+use Rattle.std.specs.List.{AllByRecursion}
+use Rattle.sqlite_value.specs.Order.{Row, column, value_cmp}
+use Rattle.sqlite_value.specs.declared.value.Value.TheVariants.{Int}
+use Rattle.sqlite_trees.specs.Tree.{IsTable}
+use Rattle.sqlite_keyed.specs.Lists.{delete_where}
+use Rattle.sqlite.specs.Effect.{Database}
+use Rattle.sqlite.specs.State.{State, Shows}
+use Rattle.xq_atoms.specs.Address.{IsAddress}
+use Rattle.xq_regions.specs.Tree.{Tree}
+use Rattle.xq_regions.specs.Rows.{Encodes}
+use Rattle.xq_regions.specs.declared.NodeRow.{NodeRow}
+use Rattle.xq_rows.specs.Documents.{is_at, is_first, kept, rows_at, by_first, HasAddress, HaveInts}
+use Rattle.xq_rows.specs.Tables.{no_schema, layout_schema, store_schema}
+
+-- the rows of an address are gone, and nothing else is
+pub record HasDropped (address : List ℕ) (old new : Database) : Type 0 where
+  pub schema : new.schema ≡ old.schema
+  pub layout : new.trees 0 ≡ old.trees 0
+  pub nodes : new.trees 1 ≡ delete_where (is_at address) (old.trees 1)
+
+-- an address has some rows more, and nothing else is changed
+pub record HasAdded (address : List ℕ) (added : List Row) (old new : Database) : Type 0 where
+  pub schema : new.schema ≡ old.schema
+  pub layout : new.trees 0 ≡ old.trees 0
+  pub table : IsTable (old.trees 1) → IsTable (new.trees 1)
+  pub ints : HaveInts (old.trees 1) → HaveInts (new.trees 1)
+  pub named : IsAddress address → AllByRecursion HasAddress (old.trees 1) → AllByRecursion HasAddress (new.trees 1)
+  pub own : IsPermutation (rows_at address (old.trees 1) ++ added) (rows_at address (new.trees 1))
+  pub others : (b : List ℕ) → b ≢ address → rows_at b (new.trees 1) ≡ rows_at b (old.trees 1)
+
+-- what a DELETE of so many rows makes of the tables of a store
+abbrev pub Deletes : List ℕ → Database → Database → ℕ → Type 0
+Deletes address old new count = old.schema ≡ store_schema → IsTable (old.trees 1) → HaveInts (old.trees 1)
+    → HasDropped address old new × (count ≡ length (filter (is_at address) (old.trees 1)))
+
+-- DELETE inside a transaction
+pub record Drops (address : List ℕ) (old new : State) (count : ℕ) : Type 0 where
+  pub inside : Shows old new new.now old.committed true
+  pub did : Deletes address old.now new.now count
+
+-- one or more INSERTs inside a transaction
+pub record Adds (address : List ℕ) (added : List Row) (old new : State) : Type 0 where
+  pub mode : old.in_transaction ≡ true → new.in_transaction ≡ true
+  pub did : old.now.schema ≡ store_schema → HasAdded address added old.now new.now
+
+-- a whole put: the rows of the address are these alone, where there were so many before
+abbrev pub Puts : List ℕ → List Row → Database → Database → ℕ → Type 0
+Puts address rows old new count = old.schema ≡ store_schema → IsTable (old.trees 1) → HaveInts (old.trees 1)
+    → (mid : Database) × HasDropped address old mid × HasAdded address rows mid new × (count ≡ length (filter (is_at address) (old.trees 1)))
+
+-- what a SELECT gives that is ordered by its first column
+pub record IsPicked (passes : Row → Bool) (shows : Row → Row) (table rows : List Row) : Type 0 where
+  pub same : IsPermutation (map shows (filter passes table)) rows
+  pub sorted : IsSorted by_first rows
+
+-- the row's number lies from low to high
+abbrev pub is_within : ℕ → ℕ → Row → Bool
+is_within low high row = is_ge (value_cmp (column row 2) (Int (pos low))) && is_le (value_cmp (column row 2) (Int (pos high)))
+
+-- the rows of an address with numbers from low to high
+abbrev pub IsRange : List ℕ → ℕ → ℕ → Database → List Row → Type 0
+IsRange address low high db rows = db.schema ≡ store_schema → IsPicked (λ r. is_at address r && is_within low high r) kept (db.trees 1) rows
+
+-- the addresses, one for each first row
+abbrev pub AreAddresses : Database → List Row → Type 0
+AreAddresses db rows = db.schema ≡ store_schema → IsPicked is_first (λ r. column r 1 ∷ []) (db.trees 1) rows
+
+-- what nodes that were read stand for: nothing where there are none, or the tree whose rows they are
+abbrev pub Finds : List NodeRow → Option Tree → Type 0
+Finds nodes None = nodes ≡ []
+Finds nodes (Some t) = Encodes nodes t
+
+-- the statements that make the tables
+
+abbrev pub MakesLayout : Database → Database → Type 0
+MakesLayout old new = old.schema ≡ no_schema → (new.schema ≡ layout_schema) × (new.trees 0 ≡ [])
+
+abbrev pub MakesNode : Database → Database → Type 0
+MakesNode old new = old.schema ≡ layout_schema → (new.schema ≡ store_schema) × (new.trees 0 ≡ old.trees 0) × (new.trees 1 ≡ [])
+
+abbrev pub WritesEdition : Database → Database → Type 0
+WritesEdition old new = old.schema ≡ store_schema → old.trees 0 ≡ []
+    → (new.schema ≡ store_schema) × (new.trees 0 ≡ (Int (pos 1) ∷ Int (pos 1) ∷ []) ∷ []) × (new.trees 1 ≡ old.trees 1)

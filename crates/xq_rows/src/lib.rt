@@ -1,0 +1,16 @@
+//! Documents in the tables of a database: a store is a map from address to tree, and a refused
+//! call leaves it as it was.
+//!
+//! The tables, their statements and the words of the database end in this crate. What lies
+//! above it sees [`Store`] alone.
+#![tactic(auto)]
+
+mod memory_files;
+mod readings;
+mod refusals;
+mod statements;
+mod stores;
+mod tables;
+mod transactions;
+
+pub use stores::{Put, Store};

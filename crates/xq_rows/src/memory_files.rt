@@ -1,0 +1,37 @@
+//! An empty database over two disks in memory.
+//!
+//! The engine's own store in memory deletes rows in quadratic time, and the store of a file does
+//! not. So a server without a file keeps its database in a file all the same, one in memory.
+ghost use Rattle.std.specs.Prelude.{IfOk};
+ghost use Rattle.sqlite.specs.State.{HasCleanDisk};
+ghost use Rattle.sqlite.specs.Steps.{IsEmpty};
+ghost use Rattle.sqlite.specs.Files.{file_state};
+
+use crate::refusals::Refusal;
+use sqlite::{Connection, Error, ErrorCode, FileStore, Files, Options};
+use std::alloc::Global;
+use xq_memory_disk::MemoryDisk;
+
+/// Where the choices of the store's page cache begin; any number serves where no one attacks it.
+const SEED: u64 = 7;
+
+/// Opens an empty database over two empty disks in memory.
+pub fn open_empty(alloc: Global) -> Result<Connection<FileStore<MemoryDisk>>, Refusal>
+    ensures clean { IfOk result (λ conn. HasCleanDisk (file_state conn)) }
+    ensures empty { IfOk result (λ conn. IsEmpty (file_state conn)) }
+{
+    let files = Files {
+        log: MemoryDisk::new(alloc),
+        db: MemoryDisk::new(alloc),
+    };
+    let conn = match Connection::open_files(alloc, files, Options::new(SEED)) {
+        Ok(conn) => conn,
+        Err((error, _files)) => return Err(Refusal(error)),
+    };
+    let schema = conn.schema();
+    if schema.tables.is_empty() && schema.indexes.is_empty() && schema.views.is_empty() {
+        Ok(conn)
+    } else {
+        Err(Refusal(Error::SqliteFailure(ErrorCode::NotADatabase)))
+    }
+}

@@ -1,0 +1,158 @@
+//! What a store reads of its database: the nodes of an address, and the addresses.
+ghost use Rattle.std.specs.Prelude.{◌≡◌, ◌≤◌, [], ◌∷◌, IfOk, IfSome, IsTrue, false, map, length, string_bytes};
+ghost use Rattle.sqlite.specs.Held.{state};
+ghost use Rattle.sqlite_trees.specs.View.{doubt};
+ghost use Rattle.xq_rows.specs.Documents.{IsReady};
+ghost use Rattle.xq_rows.specs.Statements.{AreAddresses, Finds, IsRange};
+ghost use Rattle.xq_rows.specs.Tables.{store_schema};
+ghost use Rattle.std.specs.List.{AllByRecursion};
+ghost use Rattle.sqlite_value.specs.Order.{column};
+ghost use Rattle.sqlite_value.specs.declared.value.Value.TheVariants.{Text};
+ghost use Rattle.xq_regions.specs.Rows.{placed};
+ghost use Rattle.xq_rows.specs.Nodes.{cells, number_of};
+
+use crate::refusals::Refusal;
+use crate::statements::{read_addresses, read_range};
+use sqlite::{Alter, Connection, Error, ErrorCode, Row};
+use std::alloc::Global;
+use xq_atoms::Want;
+use xq_regions::{Fragment, Kind, NodeRow};
+
+/// The kind that a number stands for in the tables.
+fn kind_of(number: u32) -> Option<Kind>
+    ensures { IfSome result (λ kind. number ≡ number_of kind) }
+{
+    match number {
+        0 => Some(Kind::Document),
+        1 => Some(Kind::Element),
+        2 => Some(Kind::Attribute),
+        3 => Some(Kind::Text),
+        4 => Some(Kind::Comment),
+        5 => Some(Kind::ProcessingInstruction),
+        _ => None,
+    }
+}
+
+/// The node of a row with the columns pre, size, level, kind, name and value. A row that is no
+/// node's tells of a damaged database.
+fn node_row(row: &Row) -> Result<NodeRow, Refusal>
+    ensures { length row.now ≡ 6 → IfOk result (λ node. cells (placed node) ≡ row.now) }
+{
+    let pre = row.get::<u32>(0)?;
+    let size = row.get::<u32>(1)?;
+    let level = row.get::<u32>(2)?;
+    let number = row.get::<u32>(3)?;
+    let name = row.get::<String>(4)?;
+    let value = row.get::<String>(5)?;
+    let Some(kind) = kind_of(number) else {
+        return Err(Refusal(Error::SqliteFailure(ErrorCode::DatabaseCorrupt)));
+    };
+    Ok(NodeRow {
+        pre,
+        size,
+        level,
+        kind,
+        name,
+        value,
+    })
+}
+
+/// The nodes of rows.
+fn node_rows(alloc: Global, rows: &[Row]) -> Result<Vec<NodeRow>, Want>
+    ensures { AllByRecursion (λ r. length r ≡ 6) rows.now → IfOk result (λ nodes. map cells (map placed nodes.items) ≡ rows.now) }
+{
+    let mut nodes = Vec::with_capacity(alloc, rows.len())?;
+    for row in rows {
+        nodes.push(node_row(row)?)?;
+    }
+    Ok(nodes)
+}
+
+/// The text of a row's one column.
+fn text_of(row: &Row) -> Result<String, Refusal>
+    ensures { IfOk result (λ text. Text (string_bytes text) ≡ column row.now 0) }
+{
+    Ok(row.get::<String>(0)?)
+}
+
+/// The texts of rows of one column.
+fn texts(alloc: Global, rows: &[Row]) -> Result<Vec<String>, Want>
+    ensures { IfOk result (λ texts. map Text (map string_bytes texts.items) ≡ map (λ r. column r 0) rows.now) }
+{
+    let mut texts = Vec::with_capacity(alloc, rows.len())?;
+    for row in rows {
+        texts.push(text_of(row)?)?;
+    }
+    Ok(texts)
+}
+
+/// The rows of an address in the order of their numbers.
+fn rows_of<S: Alter>(conn: &mut Connection<S>, address: &str) -> Result<Vec<Row>, Refusal>
+    requires { conn.old.in_transaction ≡ false }
+    ensures mode { conn.new.in_transaction ≡ false }
+    ensures clean { doubt (state S.Store conn.old).is_clean ≤ doubt (state S.Store conn.new).is_clean }
+    ensures open { IsReady (state S.Store conn.new) → IsTrue (state S.Store conn.old).is_open }
+    ensures same { IsReady (state S.Store conn.new) → (state S.Store conn.old).now.schema ≡ store_schema → (state S.Store conn.new).now ≡ (state S.Store conn.old).now }
+    ensures rows { IsReady (state S.Store conn.new) → IfOk result (λ rows. IsRange address.now 0 u32.MAX (state S.Store conn.old).now rows.items) }
+{
+    Ok(read_range(conn, address, 0, u32::MAX)?)
+}
+
+/// The nodes of an address in document order; there are none where it is absent.
+pub fn load_nodes<S: Alter>(
+    alloc: Global,
+    conn: &mut Connection<S>,
+    address: &str,
+) -> Result<Vec<NodeRow>, Want>
+    requires { conn.old.in_transaction ≡ false }
+    ensures mode { conn.new.in_transaction ≡ false }
+    ensures clean { doubt (state S.Store conn.old).is_clean ≤ doubt (state S.Store conn.new).is_clean }
+    ensures open { IsReady (state S.Store conn.new) → IsTrue (state S.Store conn.old).is_open }
+    ensures same { IsReady (state S.Store conn.new) → (state S.Store conn.old).now.schema ≡ store_schema → (state S.Store conn.new).now ≡ (state S.Store conn.old).now }
+    ensures nodes { IsReady (state S.Store conn.new) → IfOk result (λ nodes. IsRange address.now 0 u32.MAX (state S.Store conn.old).now (map cells (map placed nodes.items))) }
+{
+    let rows = rows_of(conn, address)?;
+    node_rows(alloc, &rows)
+}
+
+/// The document with these nodes, or None where there are none. Nodes that are those of no tree
+/// tell of a damaged database.
+pub fn document_of(nodes: Vec<NodeRow>) -> Result<Option<Fragment>, Want>
+    ensures { IfOk result (Finds nodes.items) }
+{
+    if nodes.is_empty() {
+        return Ok(None);
+    }
+    match Fragment::from_rows(nodes) {
+        Ok(document) => Ok(Some(document)),
+        Err(_nodes) => Err(Want::Store),
+    }
+}
+
+/// The rows of the addresses.
+fn address_rows<S: Alter>(conn: &mut Connection<S>) -> Result<Vec<Row>, Refusal>
+    requires { conn.old.in_transaction ≡ false }
+    ensures mode { conn.new.in_transaction ≡ false }
+    ensures clean { doubt (state S.Store conn.old).is_clean ≤ doubt (state S.Store conn.new).is_clean }
+    ensures open { IsReady (state S.Store conn.new) → IsTrue (state S.Store conn.old).is_open }
+    ensures same { IsReady (state S.Store conn.new) → (state S.Store conn.old).now.schema ≡ store_schema → (state S.Store conn.new).now ≡ (state S.Store conn.old).now }
+    ensures rows { IsReady (state S.Store conn.new) → IfOk result (λ rows. AreAddresses (state S.Store conn.old).now rows.items) }
+{
+    Ok(read_addresses(conn)?)
+}
+
+/// The addresses in the order of their bytes.
+pub fn list_addresses<S: Alter>(
+    alloc: Global,
+    conn: &mut Connection<S>,
+) -> Result<Vec<String>, Want>
+    requires { conn.old.in_transaction ≡ false }
+    ensures mode { conn.new.in_transaction ≡ false }
+    ensures clean { doubt (state S.Store conn.old).is_clean ≤ doubt (state S.Store conn.new).is_clean }
+    ensures open { IsReady (state S.Store conn.new) → IsTrue (state S.Store conn.old).is_open }
+    ensures same { IsReady (state S.Store conn.new) → (state S.Store conn.old).now.schema ≡ store_schema → (state S.Store conn.new).now ≡ (state S.Store conn.old).now }
+    ensures all { IsReady (state S.Store conn.new) → IfOk result (λ all. AreAddresses (state S.Store conn.old).now (map (λ bytes. Text bytes ∷ []) (map string_bytes all.items))) }
+{
+    let rows = address_rows(conn)?;
+    texts(alloc, &rows)
+}

@@ -1,0 +1,118 @@
+//! One function for each statement that a store runs, with what it does to the tables.
+//!
+//! Nothing above this file knows a text of SQL. A write runs inside a transaction, and a query
+//! outside one.
+ghost use Rattle.std.specs.Prelude.{◌≡◌, ◌≤◌, [], ◌∷◌, map, false, IfOk, OnOk, IsTrue};
+ghost use Rattle.sqlite.specs.State.{HasCleanDisk, KeepsCommit};
+ghost use Rattle.sqlite.specs.Held.{state};
+ghost use Rattle.sqlite_trees.specs.View.{doubt};
+ghost use Rattle.xq_regions.specs.Rows.{placed};
+ghost use Rattle.xq_rows.specs.Documents.{IsReady};
+ghost use Rattle.xq_rows.specs.Nodes.{cells, number_of as number_of_lem};
+ghost use Rattle.xq_rows.specs.Statements.{Adds, AreAddresses, Drops, IsRange};
+ghost use Rattle.xq_rows.specs.Tables.{store_schema};
+
+use sqlite::{Alter, Connection, Error, Row, Transaction, params};
+use xq_regions::{Kind, NodeRow};
+
+/// The number that stands for a kind in the tables.
+pub fn number_of(kind: Kind) -> u32
+    ensures { result ≡ number_of_lem kind }
+{
+    match kind {
+        Kind::Document => 0,
+        Kind::Element => 1,
+        Kind::Attribute => 2,
+        Kind::Text => 3,
+        Kind::Comment => 4,
+        Kind::ProcessingInstruction => 5,
+    }
+}
+
+/// Deletes the rows of an address, and says how many there were.
+pub fn delete_rows<S: Alter>(
+    transaction: &mut Transaction<'_, S>,
+    address: &str,
+) -> Result<usize, Error>
+    ensures same_reference { transaction.new.conn.ghost_name ≡ transaction.old.conn.ghost_name }
+    ensures dropped { HasCleanDisk (state S.Store transaction.new.conn.now) → IfOk result (Drops address.now (state S.Store transaction.old.conn.now) (state S.Store transaction.new.conn.now)) }
+    ensures kept { HasCleanDisk (state S.Store transaction.new.conn.now) → KeepsCommit (state S.Store transaction.old.conn.now) (state S.Store transaction.new.conn.now) }
+    ensures clean { doubt (state S.Store transaction.old.conn.now).is_clean ≤ doubt (state S.Store transaction.new.conn.now).is_clean }
+{
+    transaction.execute("DELETE FROM node WHERE address = ?1", params![address])
+}
+
+/// Inserts one row under an address.
+pub fn insert_row<S: Alter>(
+    transaction: &mut Transaction<'_, S>,
+    address: &str,
+    row: &NodeRow,
+) -> Result<usize, Error>
+    ensures same_reference { transaction.new.conn.ghost_name ≡ transaction.old.conn.ghost_name }
+    ensures added { HasCleanDisk (state S.Store transaction.new.conn.now) → OnOk result (Adds address.now (cells (placed row.now) ∷ []) (state S.Store transaction.old.conn.now) (state S.Store transaction.new.conn.now)) }
+    ensures kept { HasCleanDisk (state S.Store transaction.new.conn.now) → KeepsCommit (state S.Store transaction.old.conn.now) (state S.Store transaction.new.conn.now) }
+    ensures clean { doubt (state S.Store transaction.old.conn.now).is_clean ≤ doubt (state S.Store transaction.new.conn.now).is_clean }
+{
+    let kind = number_of(row.kind);
+    transaction.execute(
+        "INSERT INTO node VALUES (?1, ?2, ?3, ?4, ?5, ?6, ?7)",
+        params![
+            address, row.pre, row.size, row.level, kind, &row.name, &row.value
+        ],
+    )
+}
+
+/// Inserts rows under an address.
+pub fn insert_rows<S: Alter>(
+    transaction: &mut Transaction<'_, S>,
+    address: &str,
+    rows: &[NodeRow],
+) -> Result<(), Error>
+    ensures same_reference { transaction.new.conn.ghost_name ≡ transaction.old.conn.ghost_name }
+    ensures added { HasCleanDisk (state S.Store transaction.new.conn.now) → OnOk result (Adds address.now (map cells (map placed rows.now)) (state S.Store transaction.old.conn.now) (state S.Store transaction.new.conn.now)) }
+    ensures kept { HasCleanDisk (state S.Store transaction.new.conn.now) → KeepsCommit (state S.Store transaction.old.conn.now) (state S.Store transaction.new.conn.now) }
+    ensures clean { doubt (state S.Store transaction.old.conn.now).is_clean ≤ doubt (state S.Store transaction.new.conn.now).is_clean }
+{
+    for row in rows {
+        let _count = insert_row(transaction, address, row)?;
+    }
+    Ok(())
+}
+
+/// Reads the rows of an address whose numbers are from `low` to `high`, in the order of their
+/// numbers: the columns pre, size, level, kind, name and value.
+pub fn read_range<S: Alter>(
+    conn: &mut Connection<S>,
+    address: &str,
+    low: u32,
+    high: u32,
+) -> Result<Vec<Row>, Error>
+    requires { conn.old.in_transaction ≡ false }
+    ensures mode { conn.new.in_transaction ≡ false }
+    ensures clean { doubt (state S.Store conn.old).is_clean ≤ doubt (state S.Store conn.new).is_clean }
+    ensures open { IsReady (state S.Store conn.new) → IsTrue (state S.Store conn.old).is_open }
+    ensures same { IsReady (state S.Store conn.new) → (state S.Store conn.old).now.schema ≡ store_schema → (state S.Store conn.new).now ≡ (state S.Store conn.old).now }
+    ensures rows { IsReady (state S.Store conn.new) → IfOk result (λ rows. IsRange address.now low high (state S.Store conn.old).now rows.items) }
+{
+    let _settled = conn.is_autocommit();
+    conn.query_all(
+        "SELECT pre, size, level, kind, name, value FROM node WHERE address = ?1 AND pre >= ?2 AND pre <= ?3 ORDER BY pre",
+        params![address, low, high],
+    )
+}
+
+/// Reads the addresses in the order of their bytes: one row of one column for each document.
+pub fn read_addresses<S: Alter>(conn: &mut Connection<S>) -> Result<Vec<Row>, Error>
+    requires { conn.old.in_transaction ≡ false }
+    ensures mode { conn.new.in_transaction ≡ false }
+    ensures clean { doubt (state S.Store conn.old).is_clean ≤ doubt (state S.Store conn.new).is_clean }
+    ensures open { IsReady (state S.Store conn.new) → IsTrue (state S.Store conn.old).is_open }
+    ensures same { IsReady (state S.Store conn.new) → (state S.Store conn.old).now.schema ≡ store_schema → (state S.Store conn.new).now ≡ (state S.Store conn.old).now }
+    ensures rows { IsReady (state S.Store conn.new) → IfOk result (λ rows. AreAddresses (state S.Store conn.old).now rows.items) }
+{
+    let _settled = conn.is_autocommit();
+    conn.query_all(
+        "SELECT address FROM node WHERE pre = 0 ORDER BY address",
+        &[],
+    )
+}

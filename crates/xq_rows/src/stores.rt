@@ -1,0 +1,154 @@
+//! The store: a map from address to document, kept in a database.
+//!
+//! Each clause on the map stands under `IsUp` as the call ends (the store is open, and its disk
+//! has returned what was written) and `Holds` as it begins (its tables hold documents). `stays`
+//! hands `Holds` on to the next call, and `was_up` takes `IsUp` back to the call before.
+ghost use Rattle.std.specs.Prelude.{◌≡◌, IfOk, OnErr, map, string_bytes, if◌then◌else◌, false};
+ghost use Rattle.std.specs.FinMap.{get, insert, remove, keys, contains_key, empty};
+ghost use Rattle.sqlite.specs.Files.{over_files};
+ghost use Rattle.sqlite.specs.Steps.{over_memory};
+ghost use Rattle.xq_atoms.specs.Address.{IsAddress};
+ghost use Rattle.xq_regions.specs.declared.Kind.TheVariants.{Document};
+ghost use Rattle.xq_rows.specs.Documents.{IsUp, Holds, documents};
+
+use crate::memory_files::open_empty;
+use crate::readings::{document_of, list_addresses, load_nodes};
+use crate::tables::make_tables;
+use crate::transactions::{drop_rows, put_rows};
+use sqlite::{Alter, Connection, FileStore, MemStore};
+use std::alloc::Global;
+use std::marker::Model;
+use xq_atoms::Want;
+use xq_memory_disk::MemoryDisk;
+use xq_regions::Fragment;
+
+/// Documents under addresses, in the tables of a database. Contracts see its connection, of
+/// which [`IsUp`, `Holds` and `documents`] speak, and which is in no transaction.
+#[derive(Drop)]
+pub struct Store<S: Alter> {
+    alloc: Global,
+    conn: Connection<S>,
+}
+
+impl<S: Alter> Model for Store<S> {
+    ghost use Rattle.sqlite.specs.Held.{Held, held_code};
+    ghost use Rattle.std.specs.Prelude.{◌≡◌, false};
+
+    ghost Value = { Held S };
+
+    ghost coded = { held_code S.code };
+
+    ghost view = { λ s. s.conn };
+
+    ghost invariant = { λ s. s.conn.in_transaction ≡ false };
+}
+
+/// Whether a document was new under its address.
+#[derive(Clone, Copy, Debug, PartialEq, Eq)]
+pub enum Put {
+    /// The address was absent.
+    Stored,
+    /// Another document stood there, and is gone.
+    Replaced,
+}
+
+impl Store<MemStore> {
+    /// A store in memory, without a document.
+    pub fn new_in_memory(alloc: Global) -> Result<Store<MemStore>, Want>
+        ensures up { IfOk result (λ store. IsUp over_memory store) }
+        ensures holds { IfOk result (λ store. Holds over_memory store) }
+        ensures none { IfOk result (λ store. documents over_memory store ≡ empty) }
+    {
+        let Ok(mut conn) = Connection::open_in_memory(alloc) else {
+            return Err(Want::Memory);
+        };
+        make_tables(&mut conn)?;
+        Ok(Store { alloc, conn })
+    }
+}
+
+impl Store<FileStore<MemoryDisk>> {
+    /// A store without a document, whose database lies in two files in memory. Its statements take
+    /// the time that they take in a file on a disk, whereas [`Store::new_in_memory`] deletes in
+    /// quadratic time.
+    ///
+    /// Where memory runs out while a change is committed, the database shuts: each later call that
+    /// needs it is refused, with the documents as they were.
+    pub fn new_on_memory_disks(alloc: Global) -> Result<Store<FileStore<MemoryDisk>>, Want>
+        ensures up { IfOk result (λ store. IsUp over_files store) }
+        ensures holds { IfOk result (λ store. Holds over_files store) }
+        ensures none { IfOk result (λ store. documents over_files store ≡ empty) }
+    {
+        let mut conn = open_empty(alloc)?;
+        make_tables(&mut conn)?;
+        Ok(Store { alloc, conn })
+    }
+}
+
+impl<S: Alter> Store<S> {
+    /// The addresses, each once, in the order of their bytes.
+    pub fn addresses(&mut self) -> Result<Vec<String>, Want>
+        ensures all { IsUp S.Store self.new → Holds S.Store self.old → IfOk result (λ all. map string_bytes all.items ≡ keys (documents S.Store self.old)) }
+        ensures same { IsUp S.Store self.new → Holds S.Store self.old → documents S.Store self.new ≡ documents S.Store self.old }
+        ensures stays { IsUp S.Store self.new → Holds S.Store self.old → Holds S.Store self.new }
+        ensures was_up { IsUp S.Store self.new → IsUp S.Store self.old }
+    {
+        list_addresses(self.alloc, &mut self.conn)
+    }
+
+    /// The document of the address, or None where the address is absent.
+    pub fn load(&mut self, address: &str) -> Result<Option<Fragment>, Want>
+        ensures found { IsUp S.Store self.new → Holds S.Store self.old → IfOk result (λ found. found ≡ get (documents S.Store self.old) address.now) }
+        ensures same { IsUp S.Store self.new → Holds S.Store self.old → documents S.Store self.new ≡ documents S.Store self.old }
+        ensures stays { IsUp S.Store self.new → Holds S.Store self.old → Holds S.Store self.new }
+        ensures was_up { IsUp S.Store self.new → IsUp S.Store self.old }
+    {
+        let nodes = load_nodes(self.alloc, &mut self.conn, address)?;
+        document_of(nodes)
+    }
+
+    /// Sets the document of the address, and changes no other. A refusal leaves each document as
+    /// it was.
+    pub fn put(&mut self, address: &str, document: &Fragment) -> Result<Put, Want>
+        requires address { IsAddress address.now }
+        requires document { document.now.root.kind ≡ Document }
+        ensures put { IsUp S.Store self.new → Holds S.Store self.old → IfOk result (λ put. documents S.Store self.new ≡ insert (documents S.Store self.old) address.now document.now) }
+        ensures answer { IsUp S.Store self.new → Holds S.Store self.old → IfOk result (λ put. put ≡ (if contains_key (documents S.Store self.old) address.now then Put.Replaced else Put.Stored)) }
+        ensures kept { IsUp S.Store self.new → Holds S.Store self.old → OnErr result (documents S.Store self.new ≡ documents S.Store self.old) }
+        ensures stays { IsUp S.Store self.new → Holds S.Store self.old → Holds S.Store self.new }
+        ensures was_up { IsUp S.Store self.new → IsUp S.Store self.old }
+    {
+        let count = put_rows(&mut self.conn, address, document.rows())?;
+        let put = if count > 0 {
+            Put::Replaced
+        } else {
+            Put::Stored
+        };
+        Ok(put)
+    }
+
+    /// Removes the document of the address alone, and answers whether it was there. A refusal
+    /// leaves each document as it was.
+    pub fn drop_doc(&mut self, address: &str) -> Result<bool, Want>
+        ensures dropped { IsUp S.Store self.new → Holds S.Store self.old → IfOk result (λ was. documents S.Store self.new ≡ remove (documents S.Store self.old) address.now) }
+        ensures answer { IsUp S.Store self.new → Holds S.Store self.old → IfOk result (λ was. was ≡ contains_key (documents S.Store self.old) address.now) }
+        ensures kept { IsUp S.Store self.new → Holds S.Store self.old → OnErr result (documents S.Store self.new ≡ documents S.Store self.old) }
+        ensures stays { IsUp S.Store self.new → Holds S.Store self.old → Holds S.Store self.new }
+        ensures was_up { IsUp S.Store self.new → IsUp S.Store self.old }
+    {
+        let count = drop_rows(&mut self.conn, address)?;
+        Ok(count > 0)
+    }
+
+    /// Gives the connection back, in no transaction; its tables stand for the same map.
+    pub fn release(self) -> Connection<S>
+        ensures same { result ≡ self }
+        ensures outside { result.in_transaction ≡ false }
+    {
+        let Store { alloc: _, conn } = self;
+        conn
+    }
+}
+
+#[cfg(test)]
+mod tests;

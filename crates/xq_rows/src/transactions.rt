@@ -1,0 +1,50 @@
+//! The writes of a store, each in one transaction.
+ghost use Rattle.std.specs.Prelude.{◌≡◌, ◌≤◌, map, false, IfOk, OnErr, IsTrue};
+ghost use Rattle.sqlite.specs.Held.{state};
+ghost use Rattle.sqlite_trees.specs.View.{doubt};
+ghost use Rattle.xq_regions.specs.Rows.{placed};
+ghost use Rattle.xq_rows.specs.Documents.{IsReady};
+ghost use Rattle.xq_rows.specs.Nodes.{cells};
+ghost use Rattle.xq_rows.specs.Statements.{Deletes, Puts};
+
+use crate::refusals::Refusal;
+use crate::statements::{delete_rows, insert_rows};
+use sqlite::{Alter, Connection};
+use xq_regions::NodeRow;
+
+/// Takes the rows of an address out, and says how many there were.
+pub fn drop_rows<S: Alter>(conn: &mut Connection<S>, address: &str) -> Result<usize, Refusal>
+    requires { conn.old.in_transaction ≡ false }
+    ensures mode { conn.new.in_transaction ≡ false }
+    ensures clean { doubt (state S.Store conn.old).is_clean ≤ doubt (state S.Store conn.new).is_clean }
+    ensures open { IsReady (state S.Store conn.new) → IsTrue (state S.Store conn.old).is_open }
+    ensures kept { IsReady (state S.Store conn.new) → OnErr result ((state S.Store conn.new).now ≡ (state S.Store conn.old).now) }
+    ensures dropped { IsReady (state S.Store conn.new) → IfOk result (Deletes address.now (state S.Store conn.old).now (state S.Store conn.new).now) }
+{
+    let _settled = conn.is_autocommit();
+    let mut transaction = conn.transaction();
+    let count = delete_rows(&mut transaction, address)?;
+    transaction.commit()?;
+    Ok(count)
+}
+
+/// Puts these rows in the place of those of the address, and says how many these were.
+pub fn put_rows<S: Alter>(
+    conn: &mut Connection<S>,
+    address: &str,
+    rows: &[NodeRow],
+) -> Result<usize, Refusal>
+    requires { conn.old.in_transaction ≡ false }
+    ensures mode { conn.new.in_transaction ≡ false }
+    ensures clean { doubt (state S.Store conn.old).is_clean ≤ doubt (state S.Store conn.new).is_clean }
+    ensures open { IsReady (state S.Store conn.new) → IsTrue (state S.Store conn.old).is_open }
+    ensures kept { IsReady (state S.Store conn.new) → OnErr result ((state S.Store conn.new).now ≡ (state S.Store conn.old).now) }
+    ensures put { IsReady (state S.Store conn.new) → IfOk result (Puts address.now (map cells (map placed rows.now)) (state S.Store conn.old).now (state S.Store conn.new).now) }
+{
+    let _settled = conn.is_autocommit();
+    let mut transaction = conn.transaction();
+    let count = delete_rows(&mut transaction, address)?;
+    insert_rows(&mut transaction, address, rows)?;
+    transaction.commit()?;
+    Ok(count)
+}
