@@ -1,13 +1,15 @@
 -- What is printed is read back.
-use Rattle.std.proofs.Common.{◌≡◌, ℕ, zero, suc, ◌+◌, ◌-◌, ◌<◌, ◌≤◌, List, [], ◌∷◌, ◌++◌, length, Some, None, refl, sym, ap, ◌∙◌, subst, arith, append_assoc, Bool, true, false, cond, eqb, nat_lt, codes, drop}
+use Rattle.std.proofs.Common.{◌≡◌, ℕ, zero, suc, ◌+◌, ◌-◌, ◌<◌, ◌≤◌, List, [], ◌∷◌, ◌++◌, length, take, Some, None, refl, sym, ap, ◌∙◌, subst, arith, append_assoc, Bool, true, false, cond, eqb, nat_lt, codes, drop}
 use Rattle.std.proofs.lemmas.Bool.Decides.{nat_tests}
-use Rattle.std.proofs.lemmas.List.{length-append, append-nil}
+use Rattle.std.specs.List.{position_or_len}
+use Rattle.std.proofs.Math.Seq.{drop-append-add}
+use Rattle.std.proofs.lemmas.List.{take_at, length-append, append-nil}
 use Rattle.std.specs.Str.{IsUtf8}
 use Rattle.xq_regions.specs.Tree.{Label}
 use Rattle.xq_regions.specs.declared.Kind.{Kind}
 use Rattle.xq_regions.specs.declared.Kind.TheVariants.{Document, Element, Attribute, Text, Comment, ProcessingInstruction}
 use Rattle.xq_regions.specs.Print.{escape, escaped, word, is_named, is_valued, heading, content, opening, comma, closing, between, text_from}
-use Rattle.xq_printed.specs.Reading.{symbol, letter, all_from, string_at, name_at, kind_at, heading_at, content_at, opening_at, closings, turn, node_at, after_closings, rows_at}
+use Rattle.xq_printed.specs.Reading.{symbol, all_from, string_at, name_at, kind_at, heading_at, content_at, opening_at, closings, turn, node_at, after_closings, rows_at}
 use Rattle.xq_printed.proofs.Stripping.{utf8_some}
 
 -- no quote is next
@@ -57,14 +59,21 @@ abbrev pub NoSpace : List ℕ → Type 0
 NoSpace [] = Unit {0}
 NoSpace (b ∷ bs) = (eqb b 32 ≡ false) × NoSpace bs
 
-pub name_reads : (n : ℕ) (name rest : List ℕ) → NoSpace name → length name < n → all_from letter n (name ++ 32 ∷ rest) ≡ Some (name, rest)
-unfolding all_from
-name_reads zero name rest h lt = absurd (omega arith)
-name_reads (suc n) [] rest h lt = refl
-name_reads (suc n) (b ∷ name) rest h lt = let e = h.0 in rw e (rw (name_reads n name rest h.1 (omega arith)) refl)
+abbrev is_space : ℕ → Bool
+is_space b = eqb b 32
+
+space_at : (name rest : List ℕ) → NoSpace name → position_or_len is_space (name ++ 32 ∷ rest) ≡ length name
+space_at [] rest h = refl
+space_at (b ∷ name) rest h = let e = h.0 in rw e (ap (λ n. 1 + n) (space_at name rest h.1) ∙ (let one : 1 + length name ≡ suc (length name) = omega arith in one))
 
 pub name_at-space : (name rest : List ℕ) → NoSpace name → name_at (name ++ 32 ∷ rest) ≡ Some (name, rest)
-name_at-space name rest h = name_reads _ name rest h (omega (arith, length-append name (32 ∷ rest)))
+name_at-space name rest h =
+    let found = space_at name rest h in
+    let within : nat_lt (length name) (length (name ++ 32 ∷ rest)) ≡ true = (let l = length-append name (32 ∷ rest) in grind (arith, nat_tests)) in
+    let front : take (length name) (name ++ 32 ∷ rest) ≡ name = take_at name (32 ∷ rest) (length name) refl in
+    let next : length name + 1 ≡ suc (length name) = omega arith in
+    let back : drop (length name + 1) (name ++ 32 ∷ rest) ≡ rest = drop-append-add name (32 ∷ rest) 1 in
+    rw found (rw within (rw (front, rw next at back) refl))
 
 pub kind_at-word : (kind : Kind) (rest : List ℕ) → kind_at (word kind ++ rest) ≡ Some (kind, rest)
 unfolding kind_at

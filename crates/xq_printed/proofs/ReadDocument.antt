@@ -1,6 +1,6 @@
--- A document is read from its print.
-use Rattle.std.proofs.Common.{◌≡◌, ℕ, List, map, sym, ap, ◌∙◌, Some}
-use Rattle.xq_regions.specs.Tree.{Tree, nodes}
+-- A document is read from its printed form, and is the only one with it.
+use Rattle.std.proofs.Common.{◌≡◌, ℕ, List, map, refl, sym, ap, ◌∙◌, Some}
+use Rattle.xq_regions.specs.Tree.{Tree, nodes, IsDocument}
 use Rattle.xq_regions.specs.Rows.{AreNumbered, Encodes}
 use Rattle.xq_regions.specs.Nesting.{rows-injective}
 use Rattle.xq_regions.specs.declared.NodeRow.{NodeRow}
@@ -12,8 +12,7 @@ use Rattle.xq_printed.specs.Gives.{Fails}
 use Rattle.xq_regions.specs.Print.{print, flat_row}
 use Rattle.xq_printed.specs.Sizes.{sized, IsSized}
 use Rattle.xq_printed.specs.Reading.{rows_at, first}
-use Rattle.xq_regions.specs.Tree.{IsDocument}
-use Rattle.xq_printed.specs.Documents.{IsNoPrint}
+use Rattle.xq_printed.specs.Documents.{AreRowsWith, IsNoPrint}
 use Rattle.xq_printed.specs.Refusals.{IsRefusal}
 use Rattle.xq_regions.proofs.Printed.{leveled}
 use Rattle.xq_printed.proofs.Legal.{print_reads}
@@ -41,8 +40,17 @@ encodes_read t text before after r same s n d e =
 pub one_tree : (rs : List NodeRow) (t u : Tree) → Encodes rs t → Encodes rs u → t ≡ u
 one_tree rs t u h k = rows-injective t u (sym h.rows ∙ k.rows)
 
+-- documents with one printed form are one
+pub print-injective : (t u : Tree) → IsDocument t → IsDocument u → print t ≡ print u → t ≡ u
+print-injective t u d k e =
+    let same : leveled 0 (nodes t) ≡ leveled 0 (nodes u) = (
+    let p = document_reads t (print u) d e in
+    let q = document_reads u (print u) k refl in
+    cc) in
+    rows-injective t u (sym (sized-tree t) ∙ ap sized same ∙ sized-tree u)
+
 -- no document has this print, where it could only be that of one tree, which is no document or has another print
-pub no_other : (rs : List NodeRow) (tree : Tree) (text : List ℕ) → ((t : Tree) → IsDocument t → print t ≡ text → Encodes rs t) → Encodes rs tree
+pub no_other : (rs : List NodeRow) (tree : Tree) (text : List ℕ) → AreRowsWith text rs → Encodes rs tree
     → (tree.root.kind ≡ Document → print tree ≡ text → ⊥) → IsNoPrint text
 no_other rs tree text only is not t d e =
     let same : t ≡ tree = one_tree rs t tree (only t d e) is in

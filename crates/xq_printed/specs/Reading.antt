@@ -1,20 +1,38 @@
--- Reading the printed form.
+-- Reading the printed form from the front of a text, as the private functions do it: what is read and what comes after,
+-- None where it does not stand there. No public contract speaks of this; those speak of the print alone.
 use Rattle.std.proofs.Common.{zero, suc}
-use Rattle.std.specs.Prelude.{ℕ, ◌-◌, if◌then◌else◌, nat_lt, ◌==◌, List, [], ◌∷◌, codes, Option, Some, None, drop, length}
+use Rattle.std.specs.Prelude.{ℕ, ◌-◌, if◌then◌else◌, nat_lt, ◌==◌, List, [], ◌∷◌, codes, Option, Some, None, option_and_then, drop, length, take}
+use Rattle.std.specs.List.{position}
+use Rattle.std.specs.Option.{option_or}
 use Rattle.std.specs.Str.{is_utf8}
+use Rattle.xq_regions.specs.Print.{word, is_named, is_valued, comma}
 use Rattle.xq_regions.specs.Tree.{Label}
 use Rattle.xq_regions.specs.declared.Kind.{Kind}
 use Rattle.xq_regions.specs.declared.Kind.TheVariants.{Document, Element, Attribute, Text, Comment, ProcessingInstruction}
-use Rattle.xq_regions.specs.Print.{word, is_named, is_valued, comma}
 
 abbrev pub Bytes : Type 0
 Bytes = List ℕ
 
-abbrev pub and_then : {A B : Type 0} → Option A → (A → Option B) → Option B
-and_then None f = None
-and_then (Some x) f = f x
+-- # Items, one after another, up to an end
 
--- what comes after the word
+module _ {S A : Type 0} (turn : S → Option (Option A × S)) where
+  abbrev pub put : A → Option (List A × S) → Option (List A × S)
+  put a None = None
+  put a (Some x) = Some (a ∷ x.0, x.1)
+
+  -- a turn gives a fault, the end, or an item
+  abbrev pub one_more : (S → Option (List A × S)) → Option (Option A × S) → Option (List A × S)
+  one_more more None = None
+  one_more more (Some (None, s)) = Some ([], s)
+  one_more more (Some (Some a, s)) = put a (more s)
+
+  -- in at most so many turns
+  unfoldable pub all_from : ℕ → S → Option (List A × S)
+  all_from zero s = None
+  all_from (suc n) s = one_more (all_from n) (turn s)
+
+-- # Words, string literals and names
+
 abbrev pub strip : Bytes → Bytes → Option Bytes
 strip [] text = Some text
 strip (w ∷ ws) [] = None
@@ -23,10 +41,6 @@ strip (w ∷ ws) (b ∷ bs) = if w == b then strip ws bs else None
 abbrev pub as_byte : ℕ → Option Bytes → Option (Option ℕ × Bytes)
 as_byte b None = None
 as_byte b (Some rest) = Some (Some b, rest)
-
-abbrev pub or_else : {A : Type 0} → Option A → Option A → Option A
-or_else None b = b
-or_else (Some x) b = Some x
 
 -- what follows a quote: a second one, or the end of the string
 abbrev pub after_quote : Bytes → Option (Option ℕ × Bytes)
@@ -38,39 +52,28 @@ abbrev pub symbol : Bytes → Option (Option ℕ × Bytes)
 symbol [] = None
 symbol (b ∷ rest) =
     if b == 34 then after_quote rest
-    else (if b == 38 then or_else (as_byte 38 (strip (codes "amp;") rest)) (as_byte 13 (strip (codes "#xD;") rest))
+    else (if b == 38 then option_or (as_byte 38 (strip (codes "amp;") rest)) (as_byte 13 (strip (codes "#xD;") rest))
     else (if b == 13 then None else Some (Some b, rest)))
 
--- items, one after another, up to the end
-module _ {S A : Type 0} (turn : S → Option (Option A × S)) where
-  abbrev pub put : A → Option (List A × S) → Option (List A × S)
-  put a None = None
-  put a (Some x) = Some (a ∷ x.0, x.1)
-
-  abbrev pub one_more : (S → Option (List A × S)) → Option (Option A × S) → Option (List A × S)
-  one_more more None = None
-  one_more more (Some (None, s)) = Some ([], s)
-  one_more more (Some (Some a, s)) = put a (more s)
-
-  -- at most so many
-  unfoldable pub all_from : ℕ → S → Option (List A × S)
-  all_from zero s = None
-  all_from (suc n) s = one_more (all_from n) (turn s)
-
--- the byte of a name that is next, None at the space after it
-abbrev pub letter : Bytes → Option (Option ℕ × Bytes)
-letter [] = None
-letter (b ∷ rest) = if b == 32 then Some (None, rest) else Some (Some b, rest)
-
--- a string after its first quote, and a name with the space after it
+-- a string after its first quote
 abbrev pub string_at : Bytes → Option (Bytes × Bytes)
 string_at text = all_from symbol (length text) text
 
+-- a name ends at the first space
+abbrev pub name_end : Bytes → Option ℕ → Option (Bytes × Bytes)
+name_end text None = None
+name_end text (Some end) = Some (take end text, drop (suc end) text)
+
 abbrev pub name_at : Bytes → Option (Bytes × Bytes)
-name_at text = all_from letter (length text) text
+name_at text = name_end text (position (λ b. b == 32) text)
 
 abbrev pub utf8 : Bytes → Option Bytes
 utf8 bytes = if is_utf8 bytes then Some bytes else None
+
+abbrev pub with_rest : Bytes → Bytes → Option (Bytes × Bytes)
+with_rest rest bytes = option_and_then (λ text. Some (text, rest)) (utf8 bytes)
+
+-- # What stands at a node before its attributes and children
 
 abbrev pub kind_if : Kind → Option Bytes → Option (Kind × Bytes)
 kind_if kind None = None
@@ -79,48 +82,52 @@ kind_if kind (Some rest) = Some (kind, rest)
 abbrev pub kind_by : Kind → Bytes → Option (Kind × Bytes)
 kind_by kind text = kind_if kind (strip (word kind) text)
 
+-- the kind whose word is next
 unfoldable pub kind_at : Bytes → Option (Kind × Bytes)
 kind_at text =
-    or_else (kind_by Document text) (or_else (kind_by Element text) (or_else (kind_by Attribute text)
-    (or_else (kind_by Text text) (or_else (kind_by Comment text) (kind_by ProcessingInstruction text)))))
+    option_or (kind_by Document text) (option_or (kind_by Element text) (option_or (kind_by Attribute text)
+    (option_or (kind_by Text text) (option_or (kind_by Comment text) (kind_by ProcessingInstruction text)))))
 
-abbrev pub with_rest : Bytes → Bytes → Option (Bytes × Bytes)
-with_rest rest bytes = and_then (utf8 bytes) (λ text. Some (text, rest))
-
+-- the name, where the kind has one
 abbrev pub heading_at : Kind → Bytes → Option (Bytes × Bytes)
 heading_at kind text =
-    if is_named kind then and_then (name_at text) (λ x. and_then (strip (codes "{") x.1) (λ rest. with_rest rest x.0))
+    if is_named kind then option_and_then (λ x. option_and_then (λ rest. with_rest rest x.0) (strip (codes "{") x.1)) (name_at text)
     else Some ([], text)
 
+-- the value, where the kind has one
 abbrev pub content_at : Kind → Bytes → Option (Bytes × Bytes)
 content_at kind text =
-    if is_valued kind then and_then (strip (codes "\"") text) (λ inside. and_then (string_at inside) (λ x. with_rest x.1 x.0))
+    if is_valued kind then option_and_then (λ inside. option_and_then (λ x. with_rest x.1 x.0) (string_at inside)) (strip (codes "\"") text)
     else Some ([], text)
 
 unfoldable pub opening_at : Bytes → Option (Label × Bytes)
 opening_at text =
-    and_then (kind_at text) (λ k. and_then (heading_at k.0 k.1) (λ h. and_then (content_at k.0 h.1) (λ v.
-    Some (record { kind = k.0; name = h.0; value = v.0 }, v.1))))
+    option_and_then (λ k. option_and_then (λ h. option_and_then (λ v. Some (record { kind = k.0; name = h.0; value = v.0 }, v.1))
+    (content_at k.0 h.1)) (heading_at k.0 k.1)) (kind_at text)
+
+-- # Nodes, with their levels
 
 -- how many nodes are closed first
 abbrev pub closings : Bytes → ℕ
 closings [] = 0
 closings (b ∷ rest) = if b == 125 then suc (closings rest) else 0
 
+-- how many nodes are open, and the rest of the text
 abbrev pub Place : Type 0
 Place = ℕ × Bytes
 
--- what comes where so many nodes were closed and so many are open: the end, or a node
+-- a node of this level
 abbrev pub node_at : ℕ → Bytes → Option (Option (ℕ × Label) × Place)
 node_at level text =
     if nat_lt 100 level then None
-    else and_then (opening_at text) (λ x. Some (Some (level, x.0), (suc level, x.1)))
+    else option_and_then (λ x. Some (Some (level, x.0), (suc level, x.1))) (opening_at text)
 
+-- what comes where so many nodes were closed and so many are open: the end, or a node
 abbrev pub after_closings : ℕ → ℕ → Bytes → Option (Option (ℕ × Label) × Place)
 after_closings zero level [] = if level == 0 then Some (None, (0, [])) else None
 after_closings (suc closed) level [] = if level == 0 then Some (None, (0, [])) else None
 after_closings zero level (b ∷ rest) = node_at level (b ∷ rest)
-after_closings (suc closed) level (b ∷ rest) = and_then (strip comma (b ∷ rest)) (node_at level)
+after_closings (suc closed) level (b ∷ rest) = option_and_then (node_at level) (strip comma (b ∷ rest))
 
 unfoldable pub turn : Place → Option (Option (ℕ × Label) × Place)
 turn p =

@@ -1,6 +1,6 @@
 -- What the reader of rows finds in a turn, as the definition of reading gives it.
 use Rattle.std.proofs.Common.{suc}
-use Rattle.std.specs.Prelude.{◌≡◌, ◌≤◌, ℕ, Option, Some, None, List, []}
+use Rattle.std.specs.Prelude.{◌≡◌, ◌≤◌, ℕ, Option, Some, None, List, [], Vec, map}
 use denote.Ref.{Bor}
 use Rattle.xq_regions.specs.Tree.{Label}
 use Rattle.xq_regions.specs.declared.NodeRow.{NodeRow}
@@ -18,3 +18,7 @@ turn_of (Some x) = row_turn x
 -- the row has this place, and a level that a tree may have
 abbrev pub IsRowAt : ℕ → NodeRow → Type 0
 IsRowAt pre row = (row.pre ≡ pre) × (row.level ≤ 100)
+
+-- the levels and labels of rows
+abbrev pub flat_rows : {A : Type 0} → Vec NodeRow A → List (ℕ × Label)
+flat_rows rows = map flat_row rows.items

@@ -9,10 +9,10 @@ use Rattle.xq_printed.specs.Refusals.{IsRefusal}
 abbrev pub IsTooLong : ℕ → List ℕ → Fault → Type 0
 IsTooLong limit text fault = IsRefusal ProfReply (limit < length text) fault
 
--- `after` is `before` with the piece, and within the limit
-abbrev pub Appends : ℕ → List ℕ → List ℕ → {T : Type 0} → Result T Fault → List ℕ → Type 0
-Appends limit before piece (Ok t) after = (after ≡ before ++ piece) × (length after ≤ limit)
-Appends limit before piece (Err fault) after = IsTooLong limit (before ++ piece) fault
+-- the new text is the old one with the piece, and within the limit
+abbrev pub Appends : {T Y Z : Type 0} → ℕ → List ℕ → Result T Fault → String Y → String Z → Type 0
+Appends limit piece (Ok t) old new = (string_bytes new ≡ string_bytes old ++ piece) × (length (string_bytes new) ≤ limit)
+Appends limit piece (Err fault) old new = IsTooLong limit (string_bytes old ++ piece) fault
 
 -- a character of a string literal
 abbrev pub escape_char : ℕ → List ℕ

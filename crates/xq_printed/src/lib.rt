@@ -9,3 +9,6 @@ mod sizes;
 
 pub use printer::{MAX_REPLY, print_document};
 pub use reader::read_document;
+
+#[cfg(test)]
+mod tests;

@@ -1,5 +1,5 @@
 //! Printing a tree from its rows: one number is kept, how many nodes are open.
-ghost use Rattle.std.specs.Prelude.{◌≡◌, ◌≤◌, ◌<◌, ◌++◌, IfOk, IfErr, length, map, string_bytes, string_len};
+ghost use Rattle.std.specs.Prelude.{◌≡◌, ◌≤◌, ◌<◌, IfOk, IfErr, length, map, string_bytes, string_len};
 ghost use Rattle.std.specs.Char.{encode_utf8};
 ghost use Rattle.xq_atoms.specs.declared.refusals.Code.TheVariants.{ProfReply};
 ghost use Rattle.xq_regions.specs.Rows.{row_of};
@@ -17,7 +17,7 @@ pub const MAX_REPLY: usize = 16_777_216;
 
 /// Writes the piece at the end of the text, which has at most `limit` bytes then.
 fn append(text: &mut String, limit: usize, piece: &str) -> Result<(), Fault>
-    ensures { Appends limit (string_bytes text.old) piece.now result (string_bytes text.new) }
+    ensures { Appends limit piece.now result text.old text.new }
 {
     if text.len().saturating_add(piece.len()) > limit {
         return Err(Fault::Code(Code::ProfReply));
@@ -28,7 +28,7 @@ fn append(text: &mut String, limit: usize, piece: &str) -> Result<(), Fault>
 
 /// Writes a character that stands for itself in a string literal.
 fn append_char(text: &mut String, limit: usize, character: char) -> Result<(), Fault>
-    ensures { Appends limit (string_bytes text.old) (encode_utf8 character) result (string_bytes text.new) }
+    ensures { Appends limit (encode_utf8 character) result text.old text.new }
 {
     if text.len().saturating_add(character.len_utf8()) > limit {
         return Err(Fault::Code(Code::ProfReply));
@@ -40,7 +40,7 @@ fn append_char(text: &mut String, limit: usize, character: char) -> Result<(), F
 /// Writes a character of a string literal (XQuery 3.1, section 3.1.1): a quote is doubled, and
 /// what would be read otherwise stands as a reference.
 fn append_escaped(text: &mut String, limit: usize, character: char) -> Result<(), Fault>
-    ensures { Appends limit (string_bytes text.old) (escape_char character) result (string_bytes text.new) }
+    ensures { Appends limit (escape_char character) result text.old text.new }
 {
     match character {
         '"' => append(text, limit, "\"\""),
@@ -53,7 +53,7 @@ fn append_escaped(text: &mut String, limit: usize, character: char) -> Result<()
 /// Writes the characters of a string literal.
 fn append_value(text: &mut String, limit: usize, value: &str) -> Result<(), Fault>
     requires { length (string_bytes text.old) ≤ limit }
-    ensures { Appends limit (string_bytes text.old) (escaped value.now) result (string_bytes text.new) }
+    ensures { Appends limit (escaped value.now) result text.old text.new }
 {
     for character in value.chars() {
         append_escaped(text, limit, character)?;
@@ -63,7 +63,7 @@ fn append_value(text: &mut String, limit: usize, value: &str) -> Result<(), Faul
 
 /// Writes a string literal.
 fn append_quoted(text: &mut String, limit: usize, value: &str) -> Result<(), Fault>
-    ensures { Appends limit (string_bytes text.old) (quoted value.now) result (string_bytes text.new) }
+    ensures { Appends limit (quoted value.now) result text.old text.new }
 {
     append(text, limit, "\"")?;
     append_value(text, limit, value)?;
@@ -73,7 +73,7 @@ fn append_quoted(text: &mut String, limit: usize, value: &str) -> Result<(), Fau
 /// Writes the name, where the kind has one.
 fn append_heading(text: &mut String, limit: usize, kind: Kind, name: &str) -> Result<(), Fault>
     requires { length (string_bytes text.old) ≤ limit }
-    ensures { Appends limit (string_bytes text.old) (heading kind name.now) result (string_bytes text.new) }
+    ensures { Appends limit (heading kind name.now) result text.old text.new }
 {
     if !is_named(kind) {
         return Ok(());
@@ -85,7 +85,7 @@ fn append_heading(text: &mut String, limit: usize, kind: Kind, name: &str) -> Re
 /// Writes the value, where the kind has one.
 fn append_content(text: &mut String, limit: usize, kind: Kind, value: &str) -> Result<(), Fault>
     requires { length (string_bytes text.old) ≤ limit }
-    ensures { Appends limit (string_bytes text.old) (content kind value.now) result (string_bytes text.new) }
+    ensures { Appends limit (content kind value.now) result text.old text.new }
 {
     if !is_valued(kind) {
         return Ok(());
@@ -95,7 +95,7 @@ fn append_content(text: &mut String, limit: usize, kind: Kind, value: &str) -> R
 
 /// Writes what stands at a node before its attributes and children.
 fn append_opening(text: &mut String, limit: usize, row: &NodeRow) -> Result<(), Fault>
-    ensures { Appends limit (string_bytes text.old) (opening (row_of row.now).label) result (string_bytes text.new) }
+    ensures { Appends limit (opening (row_of row.now).label) result text.old text.new }
 {
     append(text, limit, word(row.kind))?;
     append_heading(text, limit, row.kind, row.name.as_str())?;
@@ -105,7 +105,7 @@ fn append_opening(text: &mut String, limit: usize, row: &NodeRow) -> Result<(), 
 /// Closes so many nodes.
 fn append_closing(text: &mut String, limit: usize, count: u64) -> Result<(), Fault>
     requires { length (string_bytes text.old) ≤ limit }
-    ensures { Appends limit (string_bytes text.old) (closing count) result (string_bytes text.new) }
+    ensures { Appends limit (closing count) result text.old text.new }
 {
     for _close in 0..count {
         append(text, limit, "}")?;
@@ -117,7 +117,7 @@ fn append_closing(text: &mut String, limit: usize, count: u64) -> Result<(), Fau
 /// nodes are open.
 fn append_between(text: &mut String, limit: usize, depth: u64, level: u64) -> Result<(), Fault>
     requires { length (string_bytes text.old) ≤ limit }
-    ensures { Appends limit (string_bytes text.old) (between depth level) result (string_bytes text.new) }
+    ensures { Appends limit (between depth level) result text.old text.new }
 {
     if level >= depth {
         return Ok(());
@@ -129,7 +129,7 @@ fn append_between(text: &mut String, limit: usize, depth: u64, level: u64) -> Re
 /// Writes the nodes of the rows.
 pub fn append_rows(text: &mut String, limit: usize, rows: &[NodeRow]) -> Result<(), Fault>
     requires { length (string_bytes text.old) ≤ limit }
-    ensures { Appends limit (string_bytes text.old) (text_from 0 (map flat_row rows.now)) result (string_bytes text.new) }
+    ensures { Appends limit (text_from 0 (map flat_row rows.now)) result text.old text.new }
 {
     let mut depth = 0;
     for row in rows {

@@ -1,21 +1,21 @@
 //! Reading a tree from its printed form, without recursion: one number is kept, how many nodes
 //! are open.
-ghost use Rattle.std.specs.Prelude.{◌≡◌, ◌≤◌, IfOk, IfErr, IfSome, length, map, vec_len};
+ghost use Rattle.std.specs.Prelude.{◌≡◌, ◌≤◌, IfOk, IfErr, IfSome, length, vec_len};
 ghost use Rattle.xq_atoms.specs.declared.refusals.Code.TheVariants.{XPST0003};
-ghost use Rattle.xq_regions.specs.Rows.{AreNumbered, Encodes};
-ghost use Rattle.xq_regions.specs.Tree.{IsDocument, Tree};
-ghost use Rattle.xq_printed.specs.Documents.{IsNoPrint, IsPrint};
+ghost use Rattle.xq_regions.specs.Rows.{AreNumbered};
+ghost use Rattle.xq_regions.specs.Tree.{IsDocument};
+ghost use Rattle.xq_printed.specs.Documents.{AreRowsWith, IsNoPrint, IsOnlyWith, IsPrint};
 ghost use Rattle.xq_printed.specs.Gives.{Gives};
-ghost use Rattle.xq_printed.specs.Turns.{IsRowAt, row_turn, turn_of};
-ghost use Rattle.xq_regions.specs.Print.{print, flat_row};
+ghost use Rattle.xq_printed.specs.Turns.{IsRowAt, flat_rows, row_turn, turn_of};
+ghost use Rattle.xq_regions.specs.Print.{print};
 ghost use Rattle.xq_printed.specs.Reading as spec;
 ghost use Rattle.xq_printed.specs.Refusals.{IsRefusal};
 
-use crate::openings::{content_at, expect, heading_at, kind_at};
+use crate::openings::{NO_PRINT, content_at, expect, heading_at, kind_at};
 use crate::printer::print_within;
 use crate::sizes::with_sizes;
 use std::alloc::Global;
-use xq_atoms::{Code, Fault};
+use xq_atoms::Fault;
 use xq_regions::{Fragment, MAX_LEVEL, NodeRow};
 
 /// The most turns of a loop over rows: one for each node that a tree may have, and one for the
@@ -44,7 +44,7 @@ fn row_at(alloc: Global, pre: u32, level: u32, text: &[u8]) -> Result<(NodeRow, 
     ensures place { IfOk result (λ x. IsRowAt pre x.0) }
 {
     if level > MAX_LEVEL {
-        return Err(Fault::Code(Code::XPST0003));
+        return Err(NO_PRINT);
     }
     let (kind, rest) = kind_at(text)?;
     let (name, rest) = heading_at(alloc, kind, rest)?;
@@ -74,16 +74,12 @@ fn next_row(
 {
     let closed = closings(text);
     if closed > depth as usize {
-        return Err(Fault::Code(Code::XPST0003));
+        return Err(NO_PRINT);
     }
     let level = depth - closed as u32;
     let rest = &text[closed..];
     if rest.is_empty() {
-        return if level == 0 {
-            Ok(None)
-        } else {
-            Err(Fault::Code(Code::XPST0003))
-        };
+        return if level == 0 { Ok(None) } else { Err(NO_PRINT) };
     }
     let rest = if closed == 0 {
         rest
@@ -95,7 +91,7 @@ fn next_row(
 
 /// The rows, still without their sizes.
 fn rows_at(alloc: Global, text: &[u8]) -> Result<Vec<NodeRow>, Fault>
-    ensures value { Gives (λ rows. map flat_row rows.items) result (spec.first (spec.rows_at text.now)) }
+    ensures value { Gives flat_rows result (spec.first (spec.rows_at text.now)) }
     ensures numbered { IfOk result (λ rows. AreNumbered 0 rows.items) }
     ensures short { IfOk result (λ rows. vec_len rows ≤ 1000000) }
 {
@@ -110,12 +106,12 @@ fn rows_at(alloc: Global, text: &[u8]) -> Result<Vec<NodeRow>, Fault>
         rest = after;
         rows.push(row)?;
     }
-    Err(Fault::Code(Code::XPST0003))
+    Err(NO_PRINT)
 }
 
 /// The rows of the one document tree whose printed form the text may be.
 fn candidate_rows(alloc: Global, text: &str) -> Result<Vec<NodeRow>, Fault>
-    ensures only { IfOk result (λ rows. (tree : Tree) → IsDocument tree → print tree ≡ text.now → Encodes rows.items tree) }
+    ensures only { IfOk result (λ rows. AreRowsWith text.now rows.items) }
     ensures refused { IfErr result (IsRefusal XPST0003 (IsNoPrint text.now)) }
 {
     let rows = rows_at(alloc, text.as_bytes())?;
@@ -139,15 +135,15 @@ fn is_print(alloc: Global, tree: &Fragment, text: &str) -> Result<bool, Fault>
 pub fn read_document(alloc: Global, text: &str) -> Result<Fragment, Fault>
     ensures document { IfOk result IsDocument }
     ensures printed { IfOk result (λ tree. print tree ≡ text.now) }
-    ensures only { IfOk result (λ tree. (other : Tree) → IsDocument other → print other ≡ text.now → other ≡ tree) }
+    ensures only { IfOk result (IsOnlyWith text.now) }
     ensures refused { IfErr result (IsRefusal XPST0003 (IsNoPrint text.now)) }
 {
     let Ok(tree) = Fragment::from_rows(candidate_rows(alloc, text)?) else {
-        return Err(Fault::Code(Code::XPST0003));
+        return Err(NO_PRINT);
     };
     if tree.is_document() && is_print(alloc, &tree, text)? {
         Ok(tree)
     } else {
-        Err(Fault::Code(Code::XPST0003))
+        Err(NO_PRINT)
     }
 }

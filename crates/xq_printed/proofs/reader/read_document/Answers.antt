@@ -1,5 +1,5 @@
-use Rattle.std.proofs.Common.{refl}
-use Rattle.xq_printed.proofs.ReadDocument.{one_tree, no_other}
+use Rattle.std.proofs.Common.{refl, sym, ◌∙◌}
+use Rattle.xq_printed.proofs.ReadDocument.{print-injective, no_other}
 use Rattle.xq_printed.proofs.reader.read_document.Goals as goal
 use Rattle.xq_printed.proofs.reader.read_document.Goals.{else-is_document-via-then-is_document+in_ok-is_print+else-branch, else-is_document-via-else-is_document}
 
@@ -7,7 +7,8 @@ pub returns-then-branch-clause-document : goal.returns-then-branch-clause-docume
 returns-then-branch-clause-document c = record { is_tree = c.in-Ok.ensures.ok.is_tree; root = c.if-is_document.ensures.0 refl }
 
 pub returns-then-branch-clause-only : goal.returns-then-branch-clause-only
-returns-then-branch-clause-only c = λ other d e. one_tree _ other c.in-Ok.tree (c.in_ok-candidate_rows.ensures.only other d e) c.in-Ok.ensures.ok
+returns-then-branch-clause-only c = λ other d e.
+    print-injective other c.in-Ok.tree d (returns-then-branch-clause-document c) (e ∙ sym (c.in_ok-is_print.ensures.0 c.if-branch.true))
 
 pub returns-else-is_document-clause-refused : goal.returns-else-is_document-clause-refused
 returns-else-is_document-clause-refused c = (
