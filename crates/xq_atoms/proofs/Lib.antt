@@ -1,1 +1,4 @@
 pub mod Keys
+pub mod OperandsLemmas
+pub mod TextLemmas
+pub mod PrintLemmas

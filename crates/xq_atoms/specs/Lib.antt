@@ -1,7 +1,15 @@
 pub mod Address
 pub mod Code
+pub mod Judged
 pub mod Decimal
 pub mod Text
 pub mod Atom
+pub mod Arithmetic
+pub mod Numbers
+pub mod Literal
+pub mod Cast
+pub mod Casting
 pub mod Compare
+pub mod Comparing
+pub mod Print
 pub mod Derived

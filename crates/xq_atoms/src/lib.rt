@@ -2,11 +2,22 @@
 #![tactic(auto)]
 
 mod addresses;
+mod arithmetic;
 mod atoms;
+mod casts;
+mod comparisons;
 mod decimals;
+mod literals;
+mod prints;
 mod refusals;
+mod texts;
 
 pub use addresses::{MAX_ADDRESS, address_ok};
+pub use arithmetic::{abs, add, ceiling, div, floor, idiv, mod_, mul, neg, round, sub};
 pub use atoms::{Atom, GroupKey};
+pub use casts::{cast_bool, cast_dec, cast_int};
+pub use comparisons::{CompOp, compare_general, compare_value};
 pub use decimals::Decimal;
+pub use literals::{dec_literal, int_literal};
+pub use prints::{cast_str, print};
 pub use refusals::{Code, Fault, Want};

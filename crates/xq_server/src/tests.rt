@@ -1,0 +1,194 @@
+//! The worked rows of the protocol on one server, byte for byte, and runs under refused memory.
+
+use crate::endings::outcome;
+use sqlite::{Alter, FileStore};
+use std::alloc::{AllocError, Global};
+use std::process::Abort;
+use std::test::Fail;
+use xq_memory_disk::MemoryDisk;
+use xq_rows::Store;
+use xq_service::{End, Server};
+
+/// A library of two books, as a query and as it is printed.
+const LIBRARY: &[u8] = b"document {element lib {element book {attribute id {\"1\"}, text {\"A\"}}, element book {attribute id {\"2\"}, text {\"B\"}}}}";
+
+/// The store of the library under `b`.
+const PUT_B: &[u8] = b"\x01bdocument {element lib {element book {attribute id {\"1\"}, text {\"A\"}}, element book {attribute id {\"2\"}, text {\"B\"}}}}";
+
+const DOC_B: &[u8] = b"doc(\"b\")";
+
+/// The frame of a request.
+fn frame(alloc: Global, tag: u32, kind: u8, body: &[u8]) -> Result<Vec<u8>, AllocError> {
+    let [_, _, _, _, length @ ..] = (body.len() as u64 + 5).to_be_bytes();
+    let mut bytes = Vec::new(alloc);
+    bytes.extend_from_slice(&length)?;
+    bytes.extend_from_slice(&tag.to_be_bytes())?;
+    bytes.push(kind)?;
+    bytes.extend_from_slice(body)?;
+    Ok(bytes)
+}
+
+/// The bytes of a reply.
+fn reply(alloc: Global, tag: u32, status: u8, text: &[u8]) -> Result<Vec<u8>, AllocError> {
+    frame(alloc, tag, status, text)
+}
+
+/// A server over the store that the program has.
+fn new_server(alloc: Global) -> Result<Server<FileStore<MemoryDisk>>, Fail> {
+    Ok(Server::new(alloc, Store::new_on_memory_disks(alloc)?))
+}
+
+/// Sends one request, and checks its reply and the end of the run.
+fn check<S: Alter>(
+    rt: &(impl Abort + AllocGlobal),
+    server: &mut Server<S>,
+    tag: u32,
+    (kind, body): (u8, &[u8]),
+    (status, text): (u8, &[u8]),
+) -> Result<(), AllocError> {
+    let mut out = Vec::new(rt.alloc());
+    let end = server.run(&frame(rt.alloc(), tag, kind, body)?, &mut out);
+    let wanted = reply(rt.alloc(), tag, status, text)?;
+    assert_eq!(rt; end, End::Finished);
+    assert_eq!(rt; out.as_slice(), wanted.as_slice(), "tag {tag}");
+    Ok(())
+}
+
+#[test]
+fn worked_rows(rt: HostRuntime) -> Result<(), Fail> {
+    let mut server = new_server(rt.alloc())?;
+    let rows: [((u8, &[u8]), (u8, &[u8])); 13] = [
+        ((b'L', b""), (0, b"()")),
+        ((b'S', PUT_B), (0, b"stored")),
+        ((b'S', PUT_B), (0, b"replaced")),
+        ((b'L', b""), (0, b"\"b\"")),
+        ((b'Q', DOC_B), (0, LIBRARY)),
+        ((b'S', b"\x01adocument {}"), (0, b"stored")),
+        ((b'L', b""), (0, b"\"a\", \"b\"")),
+        ((b'D', b"b"), (0, b"dropped")),
+        ((b'D', b"b"), (1, b"prof:ABSENT")),
+        ((b'D', b""), (1, b"prof:ADDRESS")),
+        ((b'Q', DOC_B), (1, b"FODC0002")),
+        ((b'Q', b"\xff"), (1, b"prof:UTF8")),
+        ((b'Q', b""), (1, b"XPST0003")),
+    ];
+    let mut tag = 0;
+    for (request, wanted) in rows {
+        check(&rt, &mut server, tag, request, wanted)?;
+        tag = tag.wrapping_add(1);
+    }
+    for (bytes, replies, end) in inputs() {
+        let mut out = Vec::new(rt.alloc());
+        assert_eq!(rt; server.run(bytes, &mut out), end);
+        assert_eq!(rt; out.as_slice(), replies);
+    }
+    Ok(())
+}
+
+/// Whole inputs after the rows, over a map with `a` alone: what they give, and how they end.
+fn inputs() -> [(&'static [u8], &'static [u8], End); 4] {
+    [
+        (b"\x00\x00\x00\x0a\x00\x00\x00\x01Q1", b"", End::Cut),
+        (
+            b"\x00\x00\x00\x02\xaa\xbb\x00\x00\x00\x05\x00\x00\x00\x01L",
+            b"\x00\x00\x00\x0f\x00\x00\x00\x00\x01prof:FRAME\x00\x00\x00\x08\x00\x00\x00\x01\x00\"a\"",
+            End::Finished,
+        ),
+        (
+            b"\x00\x10\x01\x01",
+            b"\x00\x00\x00\x0e\x00\x00\x00\x00\x01prof:LONG",
+            End::TooLong,
+        ),
+        (b"\x00\x00\x00", b"", End::Cut),
+    ]
+}
+
+/// Malformed frames, and the order in which the faults of one request are judged.
+#[test]
+fn refusals(rt: HostRuntime) -> Result<(), Fail> {
+    let mut server = new_server(rt.alloc())?;
+    let rows: [((u8, &[u8]), (u8, &[u8])); 16] = [
+        ((b'X', b""), (1, b"prof:FRAME")),
+        ((b'L', b"x"), (1, b"prof:FRAME")),
+        ((b'S', b""), (1, b"prof:FRAME")),
+        ((b'S', b"\x02a"), (1, b"prof:FRAME")),
+        ((b'S', b"\x00\xff"), (1, b"prof:ADDRESS")),
+        ((b'S', b"\x01 \xff"), (1, b"prof:ADDRESS")),
+        ((b'S', b"\x01a\xff("), (1, b"prof:UTF8")),
+        ((b'S', b"\x01adoc(\"a\""), (1, b"XPST0003")),
+        ((b'S', b"\x01adoc(\"a\")"), (1, b"FODC0002")),
+        ((b'S', b"\x01a"), (1, b"XPST0003")),
+        ((b'D', b"a/b c"), (1, b"prof:ADDRESS")),
+        ((b'D', b"a/b"), (1, b"prof:ABSENT")),
+        ((b'Q', b"doc(\"a b\")"), (1, b"XPST0003")),
+        ((b'Q', b"doc(\"\")"), (1, b"XPST0003")),
+        ((b'Q', b"document { }"), (1, b"XPST0003")),
+        ((b'L', b""), (0, b"()")),
+    ];
+    for (request, wanted) in rows {
+        check(&rt, &mut server, 7, request, wanted)?;
+    }
+    Ok(())
+}
+
+/// A document is copied under a second address; line ends are read as line feeds.
+#[test]
+fn copies_and_line_ends(rt: HostRuntime) -> Result<(), Fail> {
+    let mut server = new_server(rt.alloc())?;
+    let rows: [((u8, &[u8]), (u8, &[u8])); 5] = [
+        ((b'S', PUT_B), (0, b"stored")),
+        ((b'S', b"\x03x/ydoc(\"b\")"), (0, b"stored")),
+        ((b'D', b"b"), (0, b"dropped")),
+        ((b'Q', b"doc(\"x/y\")"), (0, LIBRARY)),
+        (
+            (b'Q', b"document {text {\"1\r\n2\r3\n4\r\r\n5&#xD;6\"}}"),
+            (0, b"document {text {\"1\n2\n3\n4\n\n5&#xD;6\"}}"),
+        ),
+    ];
+    for (request, wanted) in rows {
+        check(&rt, &mut server, 8, request, wanted)?;
+    }
+    Ok(())
+}
+
+/// Storing, replacing, asking and dropping again and again never wants for anything.
+#[test]
+fn fifty_rounds(rt: HostRuntime) -> Result<(), Fail> {
+    let mut server = new_server(rt.alloc())?;
+    for tag in 0..50u32 {
+        check(&rt, &mut server, tag, (b'S', PUT_B), (0, b"stored"))?;
+        check(&rt, &mut server, tag, (b'S', PUT_B), (0, b"replaced"))?;
+        check(&rt, &mut server, tag, (b'Q', DOC_B), (0, LIBRARY))?;
+        check(&rt, &mut server, tag, (b'D', b"b"), (0, b"dropped"))?;
+    }
+    Ok(())
+}
+
+/// The store outlives its server, and another server goes on with it.
+#[test]
+fn gives_the_store_back(rt: HostRuntime) -> Result<(), Fail> {
+    let store = Store::new_in_memory(rt.alloc())?;
+    let mut server = Server::new(rt.alloc(), store);
+    check(&rt, &mut server, 1, (b'S', PUT_B), (0, b"stored"))?;
+    let mut next = Server::new(rt.alloc(), server.into_store());
+    check(&rt, &mut next, 2, (b'Q', DOC_B), (0, LIBRARY))?;
+    Ok(())
+}
+
+#[test]
+fn endings(rt: HostRuntime) {
+    let rows = [
+        (End::Finished, 0, ""),
+        (End::Cut, 1, "xq_server: cut frame"),
+        (End::TooLong, 1, "xq_server: frame too long"),
+        (End::Bound, 1, "xq_server: frame limit"),
+        (End::ReadFault, 1, "xq_server: read fault"),
+        (End::WriteFault, 1, "xq_server: write fault"),
+        (End::NoRoom, 1, "xq_server: memory"),
+    ];
+    for (end, wanted_status, wanted_line) in rows {
+        let (status, line) = outcome(end);
+        assert_eq!(rt; status, wanted_status);
+        assert_eq!(rt; line, wanted_line);
+    }
+}

@@ -1,0 +1,4 @@
+pub mod LineEnds
+pub mod Telling
+pub mod Running
+pub mod Once

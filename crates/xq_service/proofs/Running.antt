@@ -1,0 +1,165 @@
+-- From one answered frame to a whole run.
+use Rattle.std.proofs.Common.{◌≡◌, ℕ, ◌+◌, ◌-◌, ◌≤◌, List, [], ◌∷◌, ◌++◌, length, take, drop, refl, length-drop, sym, ◌∙◌, ap, subst, arith, inl, inr, codes, append_assoc, lit≤, Result, Ok, Err, string_bytes}
+use Rattle.std.proofs.lemmas.List.{append-nil}
+use Rattle.std.proofs.lemmas.Grind.{flat_map-append, common_steps}
+use Rattle.std.proofs.Math.Seq.{drop-append_seam, take-length}
+use Rattle.std.specs.List.{flat_map, AllByRecursion}
+use Rattle.xq_frame.specs.Frame.{frame_bytes, IsMessage}
+use Rattle.xq_frame.specs.Request.{Asked, asked, message_asks}
+use Rattle.xq_frame.specs.Next.{Starts, IsFrameOf}
+use Rattle.xq_frame.specs.declared.frames.Frame.{Frame}
+use Rattle.xq_rows.specs.Documents.{Map}
+use Rattle.xq_atoms.specs.Code.{code_text, want_text}
+use Rattle.xq_service.specs.Answer.{longest_text}
+use Rattle.xq_service.specs.Step.{Step}
+use Rattle.xq_service.specs.Work.{Tells, Writes, IsShort}
+use Rattle.xq_service.specs.Run.{Reply, bytes_of, written, IsReplyTo, AreReplies, Run, Ran, RanOver, Answered}
+use Rattle.xq_atoms.specs.declared.refusals.Fault.{Fault}
+use Rattle.xq_atoms.specs.declared.refusals.Fault.TheVariants.{Code as OfCode, Want as OfWant}
+use Rattle.xq_atoms.specs.declared.refusals.Want.{Want}
+use Rattle.xq_atoms.specs.declared.refusals.Want.TheVariants.{Memory, Store}
+use Rattle.xq_service.specs.declared.answers.Answer.{Answer}
+use Rattle.xq_service.specs.declared.answers.Answer.TheVariants.{Text, Stored, Replaced, Dropped}
+
+want_short : (want : Want) → length (want_text want) ≤ longest_text
+want_short Memory = lit≤ tt
+want_short Store = lit≤ tt
+
+-- what was written is a reply, by which the step is one that may be
+pub record Says (before after : List ℕ) (tag : ℕ) (told : Result Answer Fault) (r : Reply) : Type 0 where
+  pub out : after ≡ before ++ bytes_of r
+  pub tagged : r.tag ≡ tag
+  pub status : r.status ≤ 2
+  pub short : length r.text ≤ longest_text
+  pub step : (m : Map) (asks : Asked) (new : Map) → Tells m asks new told → Step m asks new r.status r.text
+
+pub replied : (before after : List ℕ) (tag : ℕ) (told : Result Answer Fault) → IsShort told → Writes before after tag told → (r : Reply) × Says before after tag told r
+replied before after tag (Ok (Text t)) short w = elim w [
+  | inl out ↦ (
+    record { tag = tag; status = 0; text = string_bytes t },
+    record { out = out; tagged = refl; status = lit≤ tt; short = short; step = λ m asks new tells. inl tells.0 },
+  )
+  | inr out ↦ (
+    record { tag = tag; status = 2; text = want_text Memory },
+    record { out = out; tagged = refl; status = lit≤ tt; short = lit≤ tt; step = λ m asks new tells. inr (Memory, tells.1, refl, refl, tells.2) },
+  )
+]
+replied before after tag (Ok Stored) short w = (
+  record { tag = tag; status = 0; text = codes "stored" },
+  record { out = w; tagged = refl; status = lit≤ tt; short = lit≤ tt; step = λ m asks new tells. inl tells },
+)
+replied before after tag (Ok Replaced) short w = (
+  record { tag = tag; status = 0; text = codes "replaced" },
+  record { out = w; tagged = refl; status = lit≤ tt; short = lit≤ tt; step = λ m asks new tells. inl tells },
+)
+replied before after tag (Ok Dropped) short w = (
+  record { tag = tag; status = 0; text = codes "dropped" },
+  record { out = w; tagged = refl; status = lit≤ tt; short = lit≤ tt; step = λ m asks new tells. inl tells },
+)
+replied before after tag (Err (OfCode code)) short w = (
+  record { tag = tag; status = 1; text = code_text code },
+  record { out = w.0; tagged = refl; status = lit≤ tt; short = w.1; step = λ m asks new tells. inl tells },
+)
+replied before after tag (Err (OfWant want)) short w = (
+  record { tag = tag; status = 2; text = want_text want },
+  record { out = w; tagged = refl; status = lit≤ tt; short = want_short want; step = λ m asks new tells. inr (want, tells.0, refl, refl, tells.1) },
+)
+
+-- a run goes on by one frame
+more_run : (m mid new : Map) (messages : List (List ℕ)) (replies : List Reply) (message : List ℕ) (r : Reply) → Run m messages replies mid
+    → Step mid (message_asks message) new r.status r.text → Run m (messages ++ message ∷ []) (replies ++ r ∷ []) new
+more_run m mid new [] [] message r run step = (new, (subst (λ k. Step k (message_asks message) new r.status r.text) run step, refl))
+more_run m mid new (b ∷ messages) (s ∷ replies) message r run step = (run.0, (run.1.0, more_run run.0 mid new messages replies message r run.1.1 step))
+more_run m mid new [] (s ∷ replies) message r run step = absurd run
+more_run m mid new (b ∷ messages) [] message r run step = absurd run
+
+more_replies : (messages : List (List ℕ)) (replies : List Reply) (message : List ℕ) (r : Reply) → AreReplies messages replies → IsReplyTo message r
+    → AreReplies (messages ++ message ∷ []) (replies ++ r ∷ [])
+more_replies [] [] message r so_far is = (is, tt)
+more_replies (b ∷ messages) (s ∷ replies) message r so_far is = (so_far.0, more_replies messages replies message r so_far.1 is)
+more_replies [] (s ∷ replies) message r so_far is = absurd so_far
+more_replies (b ∷ messages) [] message r so_far is = absurd so_far
+
+more_each : (messages : List (List ℕ)) (message : List ℕ) → AllByRecursion IsMessage messages → IsMessage message → AllByRecursion IsMessage (messages ++ message ∷ [])
+more_each [] message each is = (is, tt)
+more_each (b ∷ messages) message each is = (each.0, more_each messages message each.1 is)
+
+pub frame_size : (message more : List ℕ) → length (frame_bytes message ++ more) ≡ 4 + length message + length more
+frame_size message more = grind (arith, common_steps)
+
+pub after_frame : (message more rest : List ℕ) (used : ℕ) → rest ≡ frame_bytes message ++ more → used ≡ 4 + length message → drop used rest ≡ more
+after_frame message more rest used e size =
+    let n : 4 + length message ≡ length (frame_bytes message) = grind (arith, common_steps) in
+    ap (λ k. drop k rest) (size ∙ n) ∙ ap (drop (length (frame_bytes message))) e ∙ drop-append_seam (frame_bytes message) more
+
+past : (n : ℕ) (xs : List ℕ) → take (length xs - n) (drop n xs) ≡ drop n xs
+past n xs = let h : length xs - n ≡ length (drop n xs) = sym (length-drop n xs) in rw h (take-length (drop n xs))
+
+pub left_after : (message more rest : List ℕ) (used : ℕ) → rest ≡ frame_bytes message ++ more → used ≡ 4 + length message
+    → more ≡ take (length rest - used) (drop used rest)
+left_after message more rest used e size = sym (past used rest ∙ after_frame message more rest used e size)
+
+module _ {D : Type 0} (up : D → Type 0) (holds : D → Type 0) (documents : D → Map) where
+  pub no_frames : (old : D) (bytes before : List ℕ) → RanOver up holds documents old old bytes before before [] [] bytes []
+  no_frames old bytes before = record {
+    whole = refl;
+    out = sym (append-nil (before ++ []) ∙ append-nil before);
+    ran = record { each = tt; replied = tt; was_up = λ h. h; stays = λ u h. h; run = λ u h. refl };
+  }
+
+  -- a run ends with the last bytes
+  pub ends_with : (old new : D) (bytes before middle after : List ℕ) (messages : List (List ℕ)) (replies : List Reply) (rest last : List ℕ)
+      → RanOver up holds documents old new bytes before middle messages replies rest [] → after ≡ middle ++ last
+      → RanOver up holds documents old new bytes before after messages replies rest last
+  ends_with old new bytes before middle after messages replies rest last so_far e = record {
+    whole = so_far.whole;
+    out = e ∙ ap (λ m. m ++ last) (so_far.out ∙ append-nil (before ++ written replies));
+    ran = so_far.ran;
+  }
+
+  pub ran_more : (old mid new : D) (messages : List (List ℕ)) (replies : List Reply) (frame : Frame) (message middle after : List ℕ) (r : Reply)
+      → Ran up holds documents old mid messages replies → IsMessage message → IsFrameOf frame message
+      → Answered up holds documents mid new frame.tag (asked frame.request) middle after r
+      → (up new → up mid) → (up new → holds mid → holds new)
+      → Ran up holds documents old new (messages ++ message ∷ []) (replies ++ r ∷ [])
+  ran_more old mid new messages replies frame message middle after r ran limit same answered was_up stays = record {
+    each = more_each messages message ran.each limit;
+    replied = more_replies messages replies message r ran.replied (answered.tagged ∙ same.tag, answered.status, answered.short);
+    was_up = λ u. ran.was_up (was_up u);
+    stays = λ u h. stays u (ran.stays (was_up u) h);
+    run = λ u h. more_run (documents old) (documents mid) (documents new) messages replies message r (ran.run (was_up u) h)
+        (subst (λ a. Step (documents mid) a (documents new) r.status r.text) same.request (answered.step u (ran.stays (was_up u) h)));
+  }
+
+  -- one more frame
+  pub one_more : (old mid new : D) (bytes before middle after : List ℕ) (messages : List (List ℕ)) (replies : List Reply) (rest : List ℕ)
+      (frame : Frame) (message more : List ℕ) (r : Reply)
+      → RanOver up holds documents old mid bytes before middle messages replies rest []
+      → Starts rest frame message more
+      → Answered up holds documents mid new frame.tag (asked frame.request) middle after r
+      → (up new → up mid) → (up new → holds mid → holds new)
+      → RanOver up holds documents old new bytes before after (messages ++ message ∷ []) (replies ++ r ∷ []) more []
+  one_more old mid new bytes before middle after messages replies rest frame message more r so_far starts answered was_up stays = record {
+    whole = so_far.whole ∙ ap (λ t. flat_map frame_bytes messages ++ t) starts.whole
+        ∙ sym (append_assoc (flat_map frame_bytes messages) (frame_bytes message) more)
+        ∙ ap (λ t. t ++ more) (ap (λ t. flat_map frame_bytes messages ++ t) (sym (append-nil (frame_bytes message))) ∙ sym (flat_map-append frame_bytes messages (message ∷ [])));
+    out = answered.out ∙ ap (λ m. m ++ bytes_of r) (so_far.out ∙ append-nil (before ++ written replies))
+        ∙ append_assoc before (written replies) (bytes_of r)
+        ∙ ap (λ t. before ++ t) (ap (λ t. written replies ++ t) (sym (append-nil (bytes_of r))) ∙ sym (flat_map-append bytes_of replies (r ∷ [])))
+        ∙ sym (append-nil (before ++ written (replies ++ r ∷ [])));
+    ran = ran_more old mid new messages replies frame message middle after r so_far.ran starts.limit starts.same answered was_up stays;
+  }
+
+  -- what a step told, written into room that was made first
+  pub answered : (old inside new : D) (tag : ℕ) (asks : Asked) (before roomy after : List ℕ) (told : Result Answer Fault) (r : Reply)
+      → roomy ≡ before → inside ≡ old → Says roomy after tag told r
+      → (up new → holds inside → Tells (documents inside) asks (documents new) told)
+      → Answered up holds documents old new tag asks before after r
+  answered old inside new tag asks before roomy after told r same view says tells = record {
+    out = says.out ∙ ap (λ t. t ++ bytes_of r) same;
+    tagged = says.tagged;
+    status = says.status;
+    short = says.short;
+    step = λ u h. says.step (documents old) asks (documents new)
+        (subst (λ d. Tells (documents d) asks (documents new) told) view (tells u (subst holds (sym view) h)));
+  }

@@ -1,0 +1,5 @@
+pub mod Meaning
+pub mod Answer
+pub mod Step
+pub mod Run
+pub mod Work

@@ -1,0 +1,116 @@
+//! One request carried out over a store.
+ghost use Rattle.std.specs.Prelude.{◌≡◌, MatchResult};
+ghost use Rattle.xq_atoms.specs.Address.{IsAddress};
+ghost use Rattle.xq_atoms.specs.declared.refusals.Code.TheVariants.{ProfAddress};
+ghost use Rattle.xq_rows.specs.Documents.{IsUp, Holds, documents};
+ghost use Rattle.xq_frame.specs.Request.{asked, query, put, remove as remove_one, list};
+ghost use Rattle.xq_service.specs.Work.{Tells, IsShort};
+
+use crate::listings::listing;
+use crate::queries::evaluate;
+use sqlite::Alter;
+use std::alloc::Global;
+use xq_atoms::{Code, Fault, address_ok};
+use xq_frame::Request;
+use xq_printed::print_document;
+use xq_rows::{Put, Store};
+
+/// What a request is told that isn't refused.
+#[derive(Drop)]
+pub(crate) enum Answer {
+    /// The printed value of a query, or the addresses.
+    Text(String),
+    /// The document is stored, and its address was absent.
+    Stored,
+    /// The document is stored in place of another.
+    Replaced,
+    /// The document is gone.
+    Dropped,
+}
+
+/// Carries the request out. Refusals come in this order: frame, address, the text of a query,
+/// its value, and last a text that is too long for a reply.
+pub(crate) fn carry_out<S: Alter>(
+    alloc: Global,
+    store: &mut Store<S>,
+    request: Request<'_>,
+) -> Result<Answer, Fault>
+    ensures tells { IsUp S.Store store.new → Holds S.Store store.old → Tells (documents S.Store store.old) (asked request.entry) (documents S.Store store.new) result }
+    ensures stays { IsUp S.Store store.new → Holds S.Store store.old → Holds S.Store store.new }
+    ensures was_up { IsUp S.Store store.new → IsUp S.Store store.old }
+    ensures short { IsShort result }
+{
+    match request {
+        Request::Query(text) => answer_query(alloc, store, text),
+        Request::Put { address, text } => answer_put(alloc, store, address, text),
+        Request::Remove(address) => answer_remove(store, address),
+        Request::List => answer_list(alloc, store),
+        Request::Bad => Err(Fault::Code(Code::ProfFrame)),
+    }
+}
+
+fn answer_query<S: Alter>(alloc: Global, store: &mut Store<S>, text: &[u8]) -> Result<Answer, Fault>
+    ensures tells { IsUp S.Store store.new → Holds S.Store store.old → Tells (documents S.Store store.old) (query text.now) (documents S.Store store.new) result }
+    ensures stays { IsUp S.Store store.new → Holds S.Store store.old → Holds S.Store store.new }
+    ensures was_up { IsUp S.Store store.new → IsUp S.Store store.old }
+    ensures short { IsShort result }
+{
+    let value = evaluate(alloc, store, text)?;
+    Ok(Answer::Text(print_document(alloc, &value)?))
+}
+
+fn answer_put<S: Alter>(
+    alloc: Global,
+    store: &mut Store<S>,
+    address: &[u8],
+    text: &[u8],
+) -> Result<Answer, Fault>
+    ensures tells { IsUp S.Store store.new → Holds S.Store store.old → Tells (documents S.Store store.old) (put address.now text.now) (documents S.Store store.new) result }
+    ensures stays { IsUp S.Store store.new → Holds S.Store store.old → Holds S.Store store.new }
+    ensures was_up { IsUp S.Store store.new → IsUp S.Store store.old }
+    ensures short { IsShort result }
+{
+    let address = good_address(address)?;
+    let tree = evaluate(alloc, store, text)?;
+    if !tree.is_document() {
+        return Err(Fault::Code(Code::ProfNotdoc));
+    }
+    match store.put(address, &tree)? {
+        Put::Stored => Ok(Answer::Stored),
+        Put::Replaced => Ok(Answer::Replaced),
+    }
+}
+
+fn answer_remove<S: Alter>(store: &mut Store<S>, address: &[u8]) -> Result<Answer, Fault>
+    ensures tells { IsUp S.Store store.new → Holds S.Store store.old → Tells (documents S.Store store.old) (remove_one address.now) (documents S.Store store.new) result }
+    ensures stays { IsUp S.Store store.new → Holds S.Store store.old → Holds S.Store store.new }
+    ensures was_up { IsUp S.Store store.new → IsUp S.Store store.old }
+    ensures short { IsShort result }
+{
+    let known = good_address(address)?;
+    if store.drop_doc(known)? {
+        Ok(Answer::Dropped)
+    } else {
+        Err(Fault::Code(Code::ProfAbsent))
+    }
+}
+
+fn answer_list<S: Alter>(alloc: Global, store: &mut Store<S>) -> Result<Answer, Fault>
+    ensures tells { IsUp S.Store store.new → Holds S.Store store.old → Tells (documents S.Store store.old) (list) (documents S.Store store.new) result }
+    ensures stays { IsUp S.Store store.new → Holds S.Store store.old → Holds S.Store store.new }
+    ensures was_up { IsUp S.Store store.new → IsUp S.Store store.old }
+    ensures short { IsShort result }
+{
+    let addresses = store.addresses()?;
+    Ok(Answer::Text(listing(alloc, &addresses)?))
+}
+
+/// The address, or `prof:ADDRESS` for bytes that are none.
+fn good_address(bytes: &[u8]) -> Result<&str, Code>
+    ensures { MatchResult result (λ address. (address.now ≡ bytes.now) × IsAddress bytes.now) (λ code. (¬ (IsAddress bytes.now)) × (code ≡ ProfAddress)) }
+{
+    if !address_ok(bytes) {
+        return Err(Code::ProfAddress);
+    }
+    Ok(std::str::from_utf8(bytes).unwrap())
+}

@@ -1,0 +1,8 @@
+//! Laws about what the contracts speak of.
+ghost use Rattle.xq_service.specs.Answer.{AnswersOnce};
+
+/// A request has no two answers over the same documents: `run` and `answer` leave no choice but
+/// that of a want.
+pub fn answers_once()
+    ensures { AnswersOnce }
+{}

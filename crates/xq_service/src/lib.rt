@@ -1,0 +1,18 @@
+//! The service: requests answered over a store of documents, one at a time and in whole runs of
+//! frames.
+//!
+//! Each reply that doesn't name want of memory or of the store is the printed meaning of its
+//! request over the documents that the accepted requests before it left.
+#![tactic(auto)]
+
+mod answers;
+mod ends;
+mod laws;
+mod listings;
+mod queries;
+mod replies;
+mod servers;
+
+pub use ends::End;
+pub use laws::answers_once;
+pub use servers::Server;

@@ -1,0 +1,97 @@
+//! The server: one frame answered, and a run over a list of bytes.
+ghost use Rattle.std.specs.Prelude.{◌≡◌, ◌+◌, ◌<◌, ◌++◌, ◌⊎◌, OnOk, OnErr, IfErr, vec_len, vec_capacity};
+ghost use Rattle.xq_atoms.specs.declared.refusals.Want.TheVariants.{Memory};
+ghost use Rattle.xq_rows.specs.Documents.{IsUp, Holds, documents};
+ghost use Rattle.xq_frame.specs.Request.{asked};
+ghost use Rattle.xq_service.specs.Run.{Reply, Answered, RunsTo, long_reply};
+
+use crate::answers::carry_out;
+use crate::ends::End;
+use crate::replies::{SHORT_REPLY, write_reply};
+use sqlite::Alter;
+use std::alloc::Global;
+use std::marker::Model;
+use xq_atoms::{Code, Fault, Want};
+use xq_frame::{Frame, Next, next_frame};
+use xq_rows::Store;
+
+/// A server over a store of documents. Contracts see the store.
+#[derive(Drop)]
+pub struct Server<S: Alter> {
+    alloc: Global,
+    store: Store<S>,
+}
+
+impl<S: Alter> Model for Server<S> {
+    ghost use Rattle.sqlite.specs.Held.{Held, held_code};
+
+    ghost Value = { Held S };
+
+    ghost coded = { held_code S.code };
+
+    ghost view = { λ s. s.store };
+}
+
+impl<S: Alter> Server<S> {
+    /// A server over the store.
+    pub fn new(alloc: Global, store: Store<S>) -> Self
+        ensures { result ≡ store }
+    {
+        Server { alloc, store }
+    }
+
+    /// Gives the store back.
+    pub fn into_store(self) -> Store<S>
+        ensures { result ≡ self }
+    {
+        let Server { alloc: _, store } = self;
+        store
+    }
+
+    /// Carries one frame out, and adds its reply to the output. It fails only where the output
+    /// has no room for 32 more bytes, and then nothing has changed.
+    pub fn answer(&mut self, frame: &Frame<'_>, out: &mut Vec<u8>) -> Result<(), Want>
+        ensures ok { OnOk result ((reply : Reply) × Answered (IsUp S.Store) (Holds S.Store) (documents S.Store) self.old self.new frame.now.tag (asked frame.now.request) out.old.items out.new.items reply) }
+        ensures err { OnErr result ((self.new ≡ self.old) × (out.new.items ≡ out.old.items)) }
+        ensures full { OnErr result (vec_capacity out.old < vec_len out.old + 32) }
+        ensures memory { IfErr result (λ want. want ≡ Memory) }
+        ensures stays { IsUp S.Store self.new → Holds S.Store self.old → Holds S.Store self.new }
+        ensures was_up { IsUp S.Store self.new → IsUp S.Store self.old }
+    {
+        out.reserve(SHORT_REPLY)?;
+        let answer = carry_out(self.alloc, &mut self.store, frame.request);
+        write_reply(out, frame.tag, answer);
+        Ok(())
+    }
+
+    /// Answers the frames with which the bytes begin, in order, up to what ends them.
+    pub fn run(&mut self, bytes: &[u8], out: &mut Vec<u8>) -> End
+        ensures { RunsTo (IsUp S.Store) (Holds S.Store) (documents S.Store) self.old self.new bytes.now out.old.items out.new.items result }
+    {
+        let mut rest = bytes;
+        'frames: loop {
+            match next_frame(rest) {
+                Next::End => return End::Finished,
+                Next::Cut => return End::Cut,
+                Next::TooLong => return refuse_long(out),
+                Next::Frame(frame) => {
+                    let Ok(()) = self.answer(&frame, out) else {
+                        return End::NoRoom;
+                    };
+                    rest = &rest[frame.used..];
+                }
+            }
+        }
+    }
+}
+
+/// Adds the reply to a length over the limit, or none where there is no room.
+fn refuse_long(out: &mut Vec<u8>) -> End
+    ensures { ((result ≡ End.TooLong) × (out.new.items ≡ out.old.items ++ long_reply)) ⊎ ((result ≡ End.NoRoom) × (out.new.items ≡ out.old.items)) }
+{
+    if out.reserve(SHORT_REPLY).is_err() {
+        return End::NoRoom;
+    }
+    write_reply(out, 0, Err(Fault::Code(Code::ProfLong)));
+    End::TooLong
+}
