@@ -10,3 +10,4 @@ pub mod Keys
 pub mod Loads
 pub mod Calls
 pub mod MemoryFiles
+pub mod MapLaws

@@ -22,8 +22,8 @@ use xq_atoms::Want;
 use xq_memory_disk::MemoryDisk;
 use xq_regions::Fragment;
 
-/// Documents under addresses, in the tables of a database. Contracts see its connection, of
-/// which [`IsUp`, `Holds` and `documents`] speak, and which is in no transaction.
+/// Documents under addresses, in the tables of a database. Contracts see the store's connection,
+/// which is in no transaction, and speak of it by `IsUp`, `Holds` and `documents`.
 #[derive(Drop)]
 pub struct Store<S: Alter> {
     alloc: Global,
@@ -59,9 +59,7 @@ impl Store<MemStore> {
         ensures holds { IfOk result (λ store. Holds over_memory store) }
         ensures none { IfOk result (λ store. documents over_memory store ≡ empty) }
     {
-        let Ok(mut conn) = Connection::open_in_memory(alloc) else {
-            return Err(Want::Memory);
-        };
+        let mut conn = Connection::open_in_memory(alloc)?;
         make_tables(&mut conn)?;
         Ok(Store { alloc, conn })
     }

@@ -43,8 +43,8 @@ pub fn put_rows<S: Alter>(
 {
     let _settled = conn.is_autocommit();
     let mut transaction = conn.transaction();
-    let count = delete_rows(&mut transaction, address)?;
+    let replaced = delete_rows(&mut transaction, address)?;
     insert_rows(&mut transaction, address, rows)?;
     transaction.commit()?;
-    Ok(count)
+    Ok(replaced)
 }

@@ -203,3 +203,102 @@ fn on_a_file(rt: HostRuntime) -> Result<(), Fail> {
     fs::remove_dir_all(&rt, "xq_rows_test")?;
     Ok(())
 }
+
+fn library_again(alloc: Global) -> Result<Fragment, Want> {
+    match library(alloc) {
+        Ok(document) => Ok(document),
+        Err(_want) => library(alloc),
+    }
+}
+
+fn nothing_again(alloc: Global) -> Result<Fragment, Want> {
+    match nothing(alloc) {
+        Ok(document) => Ok(document),
+        Err(_want) => nothing(alloc),
+    }
+}
+
+fn store_again(alloc: Global) -> Result<Store<MemStore>, Want> {
+    match Store::new_in_memory(alloc) {
+        Ok(store) => Ok(store),
+        Err(_want) => Store::new_in_memory(alloc),
+    }
+}
+
+/// Puts under `b`. Where that is refused, it is for memory, the documents are as they were, and
+/// they are put when it is tried again.
+fn put_again<S: Alter>(
+    store: &mut Store<S>,
+    document: &Fragment,
+    before: &str,
+    had_library: bool,
+) -> Result<bool, Want> {
+    match put(store, "b", document) {
+        Ok(_put) => Ok(true),
+        Err(Want::Store) => Ok(false),
+        Err(Want::Memory) => {
+            let same = joined(store)?.as_str() == before;
+            let kept = holds_library(store, "b")? == had_library;
+            let _put = put(store, "b", document)?;
+            Ok(same && kept)
+        }
+    }
+}
+
+/// Loads the library under `b`; where that is refused, the next load finds it.
+fn load_again<S: Alter>(store: &mut Store<S>) -> Result<bool, Want> {
+    match holds_library(store, "b") {
+        Ok(found) => Ok(found),
+        Err(Want::Store) => Ok(false),
+        Err(Want::Memory) => holds_library(store, "b"),
+    }
+}
+
+/// Drops the library under `b`; where that is refused, it is still there, and dropped the next
+/// time.
+fn drop_again<S: Alter>(store: &mut Store<S>) -> Result<bool, Want> {
+    match store.drop_doc("b") {
+        Ok(was) => Ok(was),
+        Err(Want::Store) => Ok(false),
+        Err(Want::Memory) => {
+            let kept = holds_library(store, "b")?;
+            Ok(store.drop_doc("b")? && kept)
+        }
+    }
+}
+
+/// A put, a replacement, a load and a drop, each of which may be refused for memory once; the
+/// number of the first that answers wrongly, or 0.
+fn survives<S: Alter>(
+    store: &mut Store<S>,
+    library: &Fragment,
+    empty: &Fragment,
+) -> Result<u32, Want> {
+    if !put_again(store, library, "", false)? {
+        return Ok(1);
+    }
+    if !put_again(store, empty, "b ", true)? {
+        return Ok(2);
+    }
+    if !put_again(store, library, "b ", false)? {
+        return Ok(3);
+    }
+    if !load_again(store)? {
+        return Ok(4);
+    }
+    if !drop_again(store)? {
+        return Ok(5);
+    }
+    Ok(0)
+}
+
+/// Run as it stands no allocation is refused; tools/each_allocation.sh runs it once for each of
+/// its allocations, refusing that one.
+#[test]
+fn each_allocation(rt: HostRuntime) -> Result<(), Fail> {
+    let library = library_again(rt.alloc())?;
+    let empty = nothing_again(rt.alloc())?;
+    let mut store = store_again(rt.alloc())?;
+    assert_eq!(rt; survives(&mut store, &library, &empty)?, 0);
+    Ok(())
+}

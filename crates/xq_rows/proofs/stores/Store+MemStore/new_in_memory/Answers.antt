@@ -9,14 +9,14 @@ use Rattle.xq_rows.proofs.stores.Store+MemStore.new_in_memory.Goals as goal
 pub returns-clause-up : goal.returns-clause-up
 returns-clause-up c =
     let ready : IsReady (state over_memory c.make_tables.new.conn) = (memory_is_clean c.make_tables.new.conn, refl) in
-    new_up over_memory c.make_tables.new.conn ready (c.in_ok-make_tables.ensures.made ready c.in-Ok.ensures.empty.2)
+    new_up over_memory c.make_tables.new.conn ready (c.in_ok-make_tables.ensures.made ready c.in_ok-conn.ensures.empty.2)
 
 pub returns-clause-holds : goal.returns-clause-holds
 returns-clause-holds c =
     let ready : IsReady (state over_memory c.make_tables.new.conn) = (memory_is_clean c.make_tables.new.conn, refl) in
-    new_holds over_memory c.make_tables.new.conn ready (c.in_ok-make_tables.ensures.made ready c.in-Ok.ensures.empty.2)
+    new_holds over_memory c.make_tables.new.conn ready (c.in_ok-make_tables.ensures.made ready c.in_ok-conn.ensures.empty.2)
 
 pub returns-clause-none : goal.returns-clause-none
 returns-clause-none c =
     let ready : IsReady (state over_memory c.make_tables.new.conn) = (memory_is_clean c.make_tables.new.conn, refl) in
-    new_empty over_memory c.make_tables.new.conn ready (c.in_ok-make_tables.ensures.made ready c.in-Ok.ensures.empty.2)
+    new_empty over_memory c.make_tables.new.conn ready (c.in_ok-make_tables.ensures.made ready c.in_ok-conn.ensures.empty.2)

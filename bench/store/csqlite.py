@@ -1,0 +1,50 @@
+"""The statements of the store in C SQLite: put, load, replace and drop of one document."""
+import sqlite3
+import sys
+import time
+
+rows, path = int(sys.argv[1]), sys.argv[2]
+INSERT = "INSERT INTO node VALUES (?1, ?2, ?3, ?4, ?5, ?6, ?7)"
+RANGE = ("SELECT pre, size, level, kind, name, value FROM node"
+         " WHERE address = ?1 AND pre >= ?2 AND pre <= ?3 ORDER BY pre")
+DELETE = "DELETE FROM node WHERE address = ?1"
+
+base = sqlite3.connect(path, isolation_level=None)
+if path != ":memory:":
+    base.execute("PRAGMA journal_mode=WAL")
+    base.execute("PRAGMA synchronous=FULL")
+base.execute("CREATE TABLE layout (edition INTEGER NOT NULL) STRICT")
+base.execute("CREATE TABLE node (address TEXT NOT NULL, pre INTEGER NOT NULL, size INTEGER NOT NULL,"
+             " level INTEGER NOT NULL, kind INTEGER NOT NULL, name TEXT NOT NULL, value TEXT NOT NULL,"
+             " PRIMARY KEY (address, pre)) STRICT")
+base.execute("INSERT INTO layout VALUES (1)")
+
+
+def document(count):
+    yield 0, count - 1, 0, 0, "", ""
+    yield 1, count - 2, 1, 1, "element", ""
+    for pre in range(2, count):
+        yield pre, 0, 2, 4, "", "some text that is a value"
+
+
+def put(address, count):
+    base.execute("BEGIN")
+    base.execute(DELETE, (address,))
+    for row in document(count):
+        base.execute(INSERT, (address, *row))
+    base.execute("COMMIT")
+
+
+def load():
+    return len(base.execute(RANGE, ("m", 0, 4294967295)).fetchall())
+
+
+put("a", 100)
+put("z", 100)
+calls = (("put", lambda: put("m", rows)), ("load", load), ("replace", lambda: put("m", rows)),
+         ("drop", lambda: base.execute(DELETE, ("m",))))
+for name, call in calls:
+    start = time.perf_counter()
+    call()
+    print(name, int((time.perf_counter() - start) * 1e6))
+base.close()
