@@ -23,57 +23,54 @@ PROGRAM = os.path.join(TOP, "crates", "xq_server", "out", "xq_server")
 FAILING = r"""
 #define _GNU_SOURCE
 #include <dlfcn.h>
+#include <errno.h>
+#include <fcntl.h>
+#include <stdio.h>
 #include <stdlib.h>
-#include <string.h>
-#include <unistd.h>
 
-/* Fails the allocation whose number is REFUSE, and writes how many there were to REPORT at exit. */
+/* Fails the allocation whose number is REFUSE, and writes into REPORT how many there were. */
 static long count, refused = -1;
-static int ready;
 
-static int refuses(void) {
-    if (!ready) {
-        const char *number = getenv("REFUSE");
-        refused = number ? atol(number) : -1;
-        ready = 1;
-    }
-    return ++count == refused;
+__attribute__((constructor)) static void begin(void) {
+    const char *number = getenv("REFUSE");
+    if (number) refused = atol(number);
+    count = 0;
 }
 
-#define REAL(name, type) \
-    static type real; if (!real) real = (type)dlsym(RTLD_NEXT, name)
+static int refuses(void) { return ++count == refused; }
 
 void *malloc(size_t size) {
-    REAL("malloc", void *(*)(size_t));
+    static void *(*real)(size_t);
+    if (!real) real = (void *(*)(size_t))dlsym(RTLD_NEXT, "malloc");
     return refuses() ? NULL : real(size);
 }
 
 void *realloc(void *block, size_t size) {
-    REAL("realloc", void *(*)(void *, size_t));
+    static void *(*real)(void *, size_t);
+    if (!real) real = (void *(*)(void *, size_t))dlsym(RTLD_NEXT, "realloc");
     return refuses() ? NULL : real(block, size);
 }
 
 void *aligned_alloc(size_t alignment, size_t size) {
-    REAL("aligned_alloc", void *(*)(size_t, size_t));
+    static void *(*real)(size_t, size_t);
+    if (!real) real = (void *(*)(size_t, size_t))dlsym(RTLD_NEXT, "aligned_alloc");
     return refuses() ? NULL : real(alignment, size);
 }
 
 int posix_memalign(void **block, size_t alignment, size_t size) {
-    REAL("posix_memalign", int (*)(void **, size_t, size_t));
-    return refuses() ? 12 : real(block, alignment, size);
+    static int (*real)(void **, size_t, size_t);
+    if (!real) real = (int (*)(void **, size_t, size_t))dlsym(RTLD_NEXT, "posix_memalign");
+    return refuses() ? ENOMEM : real(block, alignment, size);
 }
 
-__attribute__((destructor)) static void report(void) {
+__attribute__((destructor)) static void end(void) {
     const char *path = getenv("REPORT");
-    if (!path) return;
-    char text[32];
-    int length = 0;
-    long n = count;
-    do { text[31 - length++] = '0' + n % 10; n /= 10; } while (n);
-    int file = open(path, 1 | 64 | 512, 0600);
-    if (file >= 0) { if (write(file, text + 32 - length, length) < 0) _exit(9); close(file); }
+    if (path) {
+        int file = open(path, O_WRONLY | O_CREAT | O_TRUNC, 0600);
+        if (file >= 0) dprintf(file, "%ld\n", count);
+    }
 }
-""".replace("#include <dlfcn.h>", "#include <dlfcn.h>\n#include <fcntl.h>")
+"""
 
 LIBRARY = (b'document {element lib {element book {attribute id {"1"}, text {"A"}}, '
            b'element book {attribute id {"2"}, text {"B"}}}}')

@@ -8,11 +8,10 @@ mod tests;
 
 use endings::outcome;
 use sqlite::Alter;
-use std::env;
-use std::io;
 use std::io::{ErrorKind, Read, Write};
 use std::process::ExitCode;
 use std::rt::Env;
+use std::{env, io};
 use xq_rows::Store;
 use xq_service::{End, Server};
 
@@ -62,7 +61,8 @@ fn answer_input<R: Input + Print + AllocGlobal, S: Alter>(rt: &R, server: &mut S
 /// answered.
 fn read_input<R: Input + AllocGlobal>(rt: &R) -> Result<Vec<u8>, End> {
     let mut input = Vec::new(rt.alloc());
-    match rt.reader().take(MAX_INPUT as u64 + 1).read_to_end(&mut input) {
+    let mut reader = rt.reader().take(MAX_INPUT as u64 + 1);
+    match reader.read_to_end(&mut input) {
         Ok(_) if input.len() <= MAX_INPUT => Ok(input),
         Err(error) if error.kind() == ErrorKind::OutOfMemory => Err(End::NoRoom),
         _ => Err(End::ReadFault),

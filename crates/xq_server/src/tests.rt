@@ -10,18 +10,20 @@ use xq_rows::Store;
 use xq_service::{End, Server};
 
 /// A library of two books, as a query and as it is printed.
-const LIBRARY: &[u8] = b"document {element lib {element book {attribute id {\"1\"}, text {\"A\"}}, element book {attribute id {\"2\"}, text {\"B\"}}}}";
+const LIBRARY: &[u8] =
+    b"document {element lib {element book {attribute id {\"1\"}, text {\"A\"}}, element book {attribute id {\"2\"}, text {\"B\"}}}}";
 
 /// The store of the library under `b`.
-const PUT_B: &[u8] = b"\x01bdocument {element lib {element book {attribute id {\"1\"}, text {\"A\"}}, element book {attribute id {\"2\"}, text {\"B\"}}}}";
+const PUT_B: &[u8] =
+    b"\x01bdocument {element lib {element book {attribute id {\"1\"}, text {\"A\"}}, element book {attribute id {\"2\"}, text {\"B\"}}}}";
 
 const DOC_B: &[u8] = b"doc(\"b\")";
 
 /// The frame of a request.
 fn frame(alloc: Global, tag: u32, kind: u8, body: &[u8]) -> Result<Vec<u8>, AllocError> {
-    let [_, _, _, _, length @ ..] = (body.len() as u64 + 5).to_be_bytes();
+    let [_, _, _, _, a, b, c, d] = (body.len() as u64 + 5).to_be_bytes();
     let mut bytes = Vec::new(alloc);
-    bytes.extend_from_slice(&length)?;
+    bytes.extend_from_slice(&[a, b, c, d])?;
     bytes.extend_from_slice(&tag.to_be_bytes())?;
     bytes.push(kind)?;
     bytes.extend_from_slice(body)?;

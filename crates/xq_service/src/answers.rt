@@ -35,7 +35,8 @@ pub(crate) fn carry_out<S: Alter>(
     store: &mut Store<S>,
     request: Request<'_>,
 ) -> Result<Answer, Fault>
-    ensures tells { IsUp S.Store store.new → Holds S.Store store.old → Tells (documents S.Store store.old) (asked request.entry) (documents S.Store store.new) result }
+    ensures tells { IsUp S.Store store.new → Holds S.Store store.old
+        → Tells (documents S.Store store.old) (asked request.entry) (documents S.Store store.new) result }
     ensures stays { IsUp S.Store store.new → Holds S.Store store.old → Holds S.Store store.new }
     ensures was_up { IsUp S.Store store.new → IsUp S.Store store.old }
     ensures short { IsShort result }
@@ -50,7 +51,8 @@ pub(crate) fn carry_out<S: Alter>(
 }
 
 fn answer_query<S: Alter>(alloc: Global, store: &mut Store<S>, text: &[u8]) -> Result<Answer, Fault>
-    ensures tells { IsUp S.Store store.new → Holds S.Store store.old → Tells (documents S.Store store.old) (query text.now) (documents S.Store store.new) result }
+    ensures tells { IsUp S.Store store.new → Holds S.Store store.old
+        → Tells (documents S.Store store.old) (query text.now) (documents S.Store store.new) result }
     ensures stays { IsUp S.Store store.new → Holds S.Store store.old → Holds S.Store store.new }
     ensures was_up { IsUp S.Store store.new → IsUp S.Store store.old }
     ensures short { IsShort result }
@@ -65,7 +67,8 @@ fn answer_put<S: Alter>(
     address: &[u8],
     text: &[u8],
 ) -> Result<Answer, Fault>
-    ensures tells { IsUp S.Store store.new → Holds S.Store store.old → Tells (documents S.Store store.old) (put address.now text.now) (documents S.Store store.new) result }
+    ensures tells { IsUp S.Store store.new → Holds S.Store store.old
+        → Tells (documents S.Store store.old) (put address.now text.now) (documents S.Store store.new) result }
     ensures stays { IsUp S.Store store.new → Holds S.Store store.old → Holds S.Store store.new }
     ensures was_up { IsUp S.Store store.new → IsUp S.Store store.old }
     ensures short { IsShort result }
@@ -82,7 +85,8 @@ fn answer_put<S: Alter>(
 }
 
 fn answer_remove<S: Alter>(store: &mut Store<S>, address: &[u8]) -> Result<Answer, Fault>
-    ensures tells { IsUp S.Store store.new → Holds S.Store store.old → Tells (documents S.Store store.old) (remove_one address.now) (documents S.Store store.new) result }
+    ensures tells { IsUp S.Store store.new → Holds S.Store store.old
+        → Tells (documents S.Store store.old) (remove_one address.now) (documents S.Store store.new) result }
     ensures stays { IsUp S.Store store.new → Holds S.Store store.old → Holds S.Store store.new }
     ensures was_up { IsUp S.Store store.new → IsUp S.Store store.old }
     ensures short { IsShort result }
@@ -96,7 +100,8 @@ fn answer_remove<S: Alter>(store: &mut Store<S>, address: &[u8]) -> Result<Answe
 }
 
 fn answer_list<S: Alter>(alloc: Global, store: &mut Store<S>) -> Result<Answer, Fault>
-    ensures tells { IsUp S.Store store.new → Holds S.Store store.old → Tells (documents S.Store store.old) (list) (documents S.Store store.new) result }
+    ensures tells { IsUp S.Store store.new → Holds S.Store store.old
+        → Tells (documents S.Store store.old) (list) (documents S.Store store.new) result }
     ensures stays { IsUp S.Store store.new → Holds S.Store store.old → Holds S.Store store.new }
     ensures was_up { IsUp S.Store store.new → IsUp S.Store store.old }
     ensures short { IsShort result }
@@ -107,7 +112,8 @@ fn answer_list<S: Alter>(alloc: Global, store: &mut Store<S>) -> Result<Answer, 
 
 /// The address, or `prof:ADDRESS` for bytes that are none.
 fn good_address(bytes: &[u8]) -> Result<&str, Code>
-    ensures { MatchResult result (λ address. (address.now ≡ bytes.now) × IsAddress bytes.now) (λ code. (¬ (IsAddress bytes.now)) × (code ≡ ProfAddress)) }
+    ensures { MatchResult result (λ address. (address.now ≡ bytes.now) × IsAddress bytes.now)
+        (λ code. (¬ (IsAddress bytes.now)) × (code ≡ ProfAddress)) }
 {
     if !address_ok(bytes) {
         return Err(Code::ProfAddress);

@@ -13,7 +13,8 @@ use xq_frame::MAX_TEXT;
 pub(crate) fn listing(alloc: Global, addresses: &[String]) -> Result<String, Fault>
     ensures value { IfOk result (λ text. string_bytes text ≡ listing_lem (map string_bytes addresses.now)) }
     ensures short { IfOk result (λ text. string_len text ≤ MAX_TEXT) }
-    ensures refused { IfErr result (IsRefusal ProfReply (MAX_TEXT < length (listing_lem (map string_bytes addresses.now)))) }
+    ensures refused { IfErr result (IsRefusal ProfReply
+        (MAX_TEXT < length (listing_lem (map string_bytes addresses.now)))) }
 {
     let text = joined(alloc, addresses)?;
     if text.len() > MAX_TEXT {

@@ -20,7 +20,8 @@ pub(crate) fn evaluate<S: Alter>(
     store: &mut Store<S>,
     text: &[u8],
 ) -> Result<Fragment, Fault>
-    ensures value { IsUp S.Store store.new → Holds S.Store store.old → Evaluates (documents S.Store store.old) text.now (documents S.Store store.new) result }
+    ensures value { IsUp S.Store store.new → Holds S.Store store.old
+        → Evaluates (documents S.Store store.old) text.now (documents S.Store store.new) result }
     ensures stays { IsUp S.Store store.new → Holds S.Store store.old → Holds S.Store store.new }
     ensures was_up { IsUp S.Store store.new → IsUp S.Store store.old }
 {
@@ -56,7 +57,8 @@ fn with_line_feeds(alloc: Global, text: &str) -> Result<String, AllocError>
 
 /// The text before its first carriage return, and what follows the line end there.
 fn first_line(text: &str) -> Option<(&str, &str)>
-    ensures { MatchOption result (with_line_feeds_lem text.now ≡ text.now) (λ parts. IsFirstLine text.now parts.0.now parts.1.now) }
+    ensures { MatchOption result (with_line_feeds_lem text.now ≡ text.now)
+        (λ parts. IsFirstLine text.now parts.0.now parts.1.now) }
 {
     let (line, after) = text.split_once('\r')?;
     Some((line, after.strip_prefix('\n').unwrap_or(after)))
@@ -64,7 +66,8 @@ fn first_line(text: &str) -> Option<(&str, &str)>
 
 /// The address in a call of `doc` with a string literal, where the text is no more than that.
 fn address_in(text: &str) -> Option<&str>
-    ensures { MatchOption result ((address : List ℕ) → IsAddress address → ¬ (text.now ≡ doc_call address)) (λ address. IsAddress address.now × (text.now ≡ doc_call address.now)) }
+    ensures { MatchOption result ((address : List ℕ) → IsAddress address → ¬ (text.now ≡ doc_call address))
+        (λ address. IsAddress address.now × (text.now ≡ doc_call address.now)) }
 {
     let address = text.strip_prefix("doc(\"")?.strip_suffix("\")")?;
     if !address_ok(address.as_bytes()) {

@@ -31,7 +31,8 @@ pub(crate) fn write_reply(out: &mut Vec<u8>, tag: u32, answer: Result<Answer, Fa
 fn write_text(out: &mut Vec<u8>, tag: u32, text: &str)
     requires room { vec_len out.old + 32 ≤ vec_capacity out.old }
     requires short { length text.now ≤ 16777216 }
-    ensures { (out.new.items ≡ out.old.items ++ reply_bytes tag 0 text.now) ⊎ (out.new.items ≡ out.old.items ++ reply_bytes tag 2 (want_text Memory)) }
+    ensures { (out.new.items ≡ out.old.items ++ reply_bytes tag 0 text.now)
+        ⊎ (out.new.items ≡ out.old.items ++ reply_bytes tag 2 (want_text Memory)) }
 {
     if out.reserve(text.len() + 9).is_ok() {
         write(out, tag, 0, text);

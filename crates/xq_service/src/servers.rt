@@ -51,7 +51,9 @@ impl<S: Alter> Server<S> {
     /// Carries one frame out, and adds its reply to the output. It fails only where the output
     /// has no room for 32 more bytes, and then nothing has changed.
     pub fn answer(&mut self, frame: &Frame<'_>, out: &mut Vec<u8>) -> Result<(), Want>
-        ensures ok { OnOk result ((reply : Reply) × Answered (IsUp S.Store) (Holds S.Store) (documents S.Store) self.old self.new frame.now.tag (asked frame.now.request) out.old.items out.new.items reply) }
+        ensures ok { OnOk result ((reply : Reply)
+            × Answered (IsUp S.Store) (Holds S.Store) (documents S.Store) self.old self.new
+            frame.now.tag (asked frame.now.request) out.old.items out.new.items reply) }
         ensures err { OnErr result ((self.new ≡ self.old) × (out.new.items ≡ out.old.items)) }
         ensures full { OnErr result (vec_capacity out.old < vec_len out.old + 32) }
         ensures memory { IfErr result (λ want. want ≡ Memory) }
@@ -66,7 +68,8 @@ impl<S: Alter> Server<S> {
 
     /// Answers the frames with which the bytes begin, in order, up to what ends them.
     pub fn run(&mut self, bytes: &[u8], out: &mut Vec<u8>) -> End
-        ensures { RunsTo (IsUp S.Store) (Holds S.Store) (documents S.Store) self.old self.new bytes.now out.old.items out.new.items result }
+        ensures { RunsTo (IsUp S.Store) (Holds S.Store) (documents S.Store)
+            self.old self.new bytes.now out.old.items out.new.items result }
     {
         let mut rest = bytes;
         'frames: loop {
@@ -87,7 +90,8 @@ impl<S: Alter> Server<S> {
 
 /// Adds the reply to a length over the limit, or none where there is no room.
 fn refuse_long(out: &mut Vec<u8>) -> End
-    ensures { ((result ≡ End.TooLong) × (out.new.items ≡ out.old.items ++ long_reply)) ⊎ ((result ≡ End.NoRoom) × (out.new.items ≡ out.old.items)) }
+    ensures { ((result ≡ End.TooLong) × (out.new.items ≡ out.old.items ++ long_reply))
+        ⊎ ((result ≡ End.NoRoom) × (out.new.items ≡ out.old.items)) }
 {
     if out.reserve(SHORT_REPLY).is_err() {
         return End::NoRoom;
