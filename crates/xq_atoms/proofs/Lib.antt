@@ -1,4 +1,6 @@
+mod AtomRows
 pub mod Keys
 pub mod OperandsLemmas
 pub mod TextLemmas
 pub mod PrintLemmas
+pub mod ReadBack

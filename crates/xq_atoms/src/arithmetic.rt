@@ -157,7 +157,8 @@ fn numeric(atom: &Atom) -> Result<Number, Code>
 
 /// The operands of an operation, the left one judged first.
 fn numeric_operands(left: &Atom, right: &Atom) -> Result<Operands, Code>
-    ensures { operands_of result ≡ Arithmetic.operands (atomic_of left.now) (atomic_of right.now) }
+    ensures { operands_of result
+        ≡ Arithmetic.operands (atomic_of left.now) (atomic_of right.now) }
 {
     let left = numeric(left)?;
     let right = numeric(right)?;
@@ -224,7 +225,8 @@ fn quotient(dividend: i128, divisor: i128) -> Result<Atom, Code>
 /// The quotient of a number of millionths, truncated to whole millionths.
 fn truncated_quotient(dividend: i128, divisor: i128) -> Result<Atom, Code>
     requires { neg_ℤ (pos (2 ^ 120)) ≤ℤ dividend }
-    ensures { judged_of result ≡ Arithmetic.unless_zero divisor (Atomic.decimal (int_div dividend divisor)) }
+    ensures { judged_of result
+        ≡ Arithmetic.unless_zero divisor (Atomic.decimal (int_div dividend divisor)) }
 {
     if divisor == 0 {
         return Err(Code::FOAR0001);
@@ -253,7 +255,8 @@ fn whole_quotient(dividend: i128, divisor: i128) -> Result<Atom, Code>
 
 /// The remainder of two integers, with the dividend's sign.
 fn integer_remainder(dividend: i64, divisor: i64) -> Result<Atom, Code>
-    ensures { judged_of result ≡ Arithmetic.unless_zero divisor (Atomic.integer (int_rem dividend divisor)) }
+    ensures { judged_of result
+        ≡ Arithmetic.unless_zero divisor (Atomic.integer (int_rem dividend divisor)) }
 {
     if divisor == 0 {
         return Err(Code::FOAR0001);
@@ -263,7 +266,8 @@ fn integer_remainder(dividend: i64, divisor: i64) -> Result<Atom, Code>
 
 /// The remainder of two decimals, with the dividend's sign.
 fn decimal_remainder(dividend: Decimal, divisor: Decimal) -> Result<Atom, Code>
-    ensures { judged_of result ≡ Arithmetic.unless_zero divisor (Atomic.decimal (int_rem dividend divisor)) }
+    ensures { judged_of result
+        ≡ Arithmetic.unless_zero divisor (Atomic.decimal (int_rem dividend divisor)) }
 {
     if divisor.millionths() == 0 {
         return Err(Code::FOAR0001);

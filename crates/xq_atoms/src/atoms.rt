@@ -49,7 +49,8 @@ pub enum GroupKey {
 impl GroupKey {
     /// The key of at most one atom; an untyped value has that of the string.
     pub fn of(alloc: Global, atom: Option<&Atom>) -> Result<GroupKey, Want>
-        ensures value { IfOk result (λ made. key_of made ≡ group_key (option_copied atom.entry)) }
+        ensures value { IfOk result
+            (λ made. key_of made ≡ group_key (option_copied atom.entry)) }
         ensures want { IfErr result (λ want. want ≡ Want.Memory) }
     {
         Ok(match atom {

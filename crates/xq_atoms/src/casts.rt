@@ -152,7 +152,8 @@ fn integer_or_too_large(value: i128) -> Result<Atom, Code>
 
 /// A decimal, or FOCA0001 out of range.
 fn decimal_or_too_large(millionths: i128) -> Result<Atom, Code>
-    ensures { judged_of result ≡ only_if (is_decimal millionths) Code.FOCA0001 (ADecimal millionths) }
+    ensures { judged_of result
+        ≡ only_if (is_decimal millionths) Code.FOCA0001 (ADecimal millionths) }
 {
     match Decimal::from_millionths(millionths) {
         Some(value) => Ok(Atom::Dec(value)),

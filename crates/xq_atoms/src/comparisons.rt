@@ -94,7 +94,8 @@ fn compared_by(atom: &Atom) -> Comparable<'_>
 
 /// The order of two values of one kind, or None for two kinds.
 fn order(left: Comparable<'_>, right: Comparable<'_>) -> Option<Ordering>
-    ensures { result ≡ ordering_of (key_of_comparable left.entry) (key_of_comparable right.entry) }
+    ensures { result
+        ≡ ordering_of (key_of_comparable left.entry) (key_of_comparable right.entry) }
 {
     match (left, right) {
         (Comparable::Number(left), Comparable::Number(right)) => Some(left.cmp(&right)),

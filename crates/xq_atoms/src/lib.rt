@@ -7,6 +7,7 @@ mod atoms;
 mod casts;
 mod comparisons;
 mod decimals;
+pub mod laws;
 mod literals;
 mod prints;
 mod refusals;

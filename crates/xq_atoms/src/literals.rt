@@ -46,7 +46,8 @@ pub fn millionths(whole: &[u8], fraction: &[u8]) -> Option<i128>
     requires whole { IsTrue (Text.are_digits whole.now) }
     requires fraction { IsTrue (Text.are_digits fraction.now) }
     requires short { length fraction.now ≤ 6 }
-    ensures { SomeIff result (Text.value whole.now < 2 ^ 64) (pos (Literal.millionths_of whole.now fraction.now)) }
+    ensures { SomeIff result (Text.value whole.now < 2 ^ 64)
+        (pos (Literal.millionths_of whole.now fraction.now)) }
 {
     let missing = FRACTION_DIGITS - fraction.len();
     let below = texts::value(fraction)? * 10u64.pow(missing as u32);

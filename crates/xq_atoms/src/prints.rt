@@ -15,7 +15,8 @@ use std::alloc::Global;
 /// Appends an expression that gives the atom: digits, with a point for a decimal, `true()` or
 /// `false()`, a string in quotes, `xs:untypedAtomic("..")`. A refusal leaves the text as it was.
 pub fn print(atom: &Atom, out: &mut String) -> Result<(), Want>
-    ensures ok { OnOk result (string_bytes out.new ≡ string_bytes out.old ++ Print.print_atomic (atomic_of atom.now)) }
+    ensures ok { OnOk result
+        (string_bytes out.new ≡ string_bytes out.old ++ Print.print_atomic (atomic_of atom.now)) }
     ensures err { OnErr result (string_bytes out.new ≡ string_bytes out.old) }
     ensures want { IfErr result (λ want. want ≡ Want.Memory) }
 {
@@ -63,8 +64,10 @@ fn decimal_text(alloc: Global, value: Decimal) -> Result<String, Want>
 
 /// Appends the printed atom, or a part of it where there was no room for all.
 fn append_atom(atom: &Atom, out: &mut String) -> Result<(), Want>
-    ensures ok { OnOk result (string_bytes out.new ≡ string_bytes out.old ++ Print.print_atomic (atomic_of atom.now)) }
-    ensures kept { take (length (string_bytes out.old)) (string_bytes out.new) ≡ string_bytes out.old }
+    ensures ok { OnOk result
+        (string_bytes out.new ≡ string_bytes out.old ++ Print.print_atomic (atomic_of atom.now)) }
+    ensures kept { take (length (string_bytes out.old)) (string_bytes out.new)
+        ≡ string_bytes out.old }
     ensures want { IfErr result (λ want. want ≡ Want.Memory) }
 {
     match atom {
@@ -88,8 +91,10 @@ fn append_atom(atom: &Atom, out: &mut String) -> Result<(), Want>
 
 /// Appends a decimal, with at least one digit after its point.
 fn append_decimal(value: Decimal, out: &mut String) -> Result<(), Want>
-    ensures ok { OnOk result (string_bytes out.new ≡ string_bytes out.old ++ Print.print_decimal value) }
-    ensures kept { take (length (string_bytes out.old)) (string_bytes out.new) ≡ string_bytes out.old }
+    ensures ok { OnOk result
+        (string_bytes out.new ≡ string_bytes out.old ++ Print.print_decimal value) }
+    ensures kept { take (length (string_bytes out.old)) (string_bytes out.new)
+        ≡ string_bytes out.old }
     ensures want { IfErr result (λ want. want ≡ Want.Memory) }
 {
     append_whole(value, out)?;
@@ -106,8 +111,10 @@ fn append_decimal(value: Decimal, out: &mut String) -> Result<(), Want>
 
 /// Appends the sign of a decimal and its digits before the point.
 fn append_whole(value: Decimal, out: &mut String) -> Result<(), Want>
-    ensures ok { OnOk result (string_bytes out.new ≡ string_bytes out.old ++ Cast.whole_text value) }
-    ensures kept { take (length (string_bytes out.old)) (string_bytes out.new) ≡ string_bytes out.old }
+    ensures ok { OnOk result
+        (string_bytes out.new ≡ string_bytes out.old ++ Cast.whole_text value) }
+    ensures kept { take (length (string_bytes out.old)) (string_bytes out.new)
+        ≡ string_bytes out.old }
     ensures want { IfErr result (λ want. want ≡ Want.Memory) }
 {
     if value.millionths() < 0 {
@@ -139,8 +146,10 @@ fn six_digits(number: u64) -> [u8; 6]
 /// Appends ASCII bytes.
 fn append_digits(digits: &[u8], out: &mut String) -> Result<(), Want>
     requires { All (λ digit. digit < 128) digits.now }
-    ensures ok { OnOk result (string_bytes out.new ≡ string_bytes out.old ++ digits.now) }
-    ensures kept { take (length (string_bytes out.old)) (string_bytes out.new) ≡ string_bytes out.old }
+    ensures ok { OnOk result
+        (string_bytes out.new ≡ string_bytes out.old ++ digits.now) }
+    ensures kept { take (length (string_bytes out.old)) (string_bytes out.new)
+        ≡ string_bytes out.old }
     ensures want { IfErr result (λ want. want ≡ Want.Memory) }
 {
     for digit in digits {
@@ -151,8 +160,10 @@ fn append_digits(digits: &[u8], out: &mut String) -> Result<(), Want>
 
 /// Appends a string literal.
 fn append_quoted(text: &str, out: &mut String) -> Result<(), Want>
-    ensures ok { OnOk result (string_bytes out.new ≡ string_bytes out.old ++ Print.quoted text.now) }
-    ensures kept { take (length (string_bytes out.old)) (string_bytes out.new) ≡ string_bytes out.old }
+    ensures ok { OnOk result
+        (string_bytes out.new ≡ string_bytes out.old ++ Print.quoted text.now) }
+    ensures kept { take (length (string_bytes out.old)) (string_bytes out.new)
+        ≡ string_bytes out.old }
     ensures want { IfErr result (λ want. want ≡ Want.Memory) }
 {
     out.push('"')?;
@@ -165,8 +176,11 @@ fn append_quoted(text: &str, out: &mut String) -> Result<(), Want>
 
 /// Appends a character of a string literal.
 fn append_character(character: char, out: &mut String) -> Result<(), Want>
-    ensures ok { OnOk result (string_bytes out.new ≡ string_bytes out.old ++ flat_map Print.quoted_character (encode_utf8 character)) }
-    ensures kept { take (length (string_bytes out.old)) (string_bytes out.new) ≡ string_bytes out.old }
+    ensures ok { OnOk result
+        (string_bytes out.new ≡ string_bytes out.old
+        ++ flat_map Print.quoted_character (encode_utf8 character)) }
+    ensures kept { take (length (string_bytes out.old)) (string_bytes out.new)
+        ≡ string_bytes out.old }
     ensures want { IfErr result (λ want. want ≡ Want.Memory) }
 {
     if character == '"' {
