@@ -1,0 +1,9 @@
+pub mod Lists
+pub mod Keeping
+pub mod Copies
+pub mod Refusals
+pub mod Grouping
+pub mod KeyOrder
+pub mod Placing
+pub mod KeyRows
+pub mod Reading

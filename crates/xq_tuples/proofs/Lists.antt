@@ -1,0 +1,53 @@
+-- Lists side by side, and one function after another on a list.
+use Rattle.std.proofs.Common.{◌≡◌, ℕ, suc, ◌+◌, List, [], ◌∷◌, ◌++◌, map, length, Bool, true, false, cond, refl, ap, ◌∙◌, sym, arith}
+use Rattle.std.specs.List.{zip, enumerate_from, filter}
+use Rattle.std.proofs.lemmas.List.{map-id, map-append}
+use Rattle.std.proofs.lemmas.List.Elements.{filter-append}
+use Rattle.xq_regions.specs.Tuples.{kept}
+
+pub map-map : {A B C : Type 0} (g : B → C) (f : A → B) (xs : List A) → map g (map f xs) ≡ map (λ x. g (f x)) xs
+map-map g f [] = refl
+map-map g f (x ∷ xs) = ap (λ ys. g (f x) ∷ ys) (map-map g f xs)
+
+pub zip-map : {A B C D : Type 0} (f : A → C) (g : B → D) (xs : List A) (ys : List B) → zip (map f xs) (map g ys) ≡ map (λ p. (f p.0, g p.1)) (zip xs ys)
+zip-map f g [] ys = refl
+zip-map f g (x ∷ xs) [] = refl
+zip-map f g (x ∷ xs) (y ∷ ys) = ap (λ ps. (f x, g y) ∷ ps) (zip-map f g xs ys)
+
+pub enumerate_from-map : {A B : Type 0} (f : A → B) (n : ℕ) (xs : List A) → enumerate_from n (map f xs) ≡ map (λ p. (p.0, f p.1)) (enumerate_from n xs)
+enumerate_from-map f n [] = refl
+enumerate_from-map f n (x ∷ xs) = ap (λ ps. (n, f x) ∷ ps) (enumerate_from-map f (n + 1) xs)
+
+-- counted from one more
+pub enumerate_from-more : {A : Type 0} (n : ℕ) (xs : List A) → enumerate_from (n + 1) xs ≡ map (λ p. (p.0 + 1, p.1)) (enumerate_from n xs)
+enumerate_from-more n [] = refl
+enumerate_from-more n (x ∷ xs) = ap (λ ps. (n + 1, x) ∷ ps) (enumerate_from-more (n + 1) xs)
+
+-- what a loop over two lists side by side has yielded, where f and g read the elements
+pub zip-yielded : {A B C D : Type 0} (f : A → C) (g : B → D) (xs : List A) (ys : List B) (ps : List (A × B)) → map (λ p. p) ps ≡ zip xs ys → map (λ p. (f p.0, g p.1)) ps ≡ zip (map f xs) (map g ys)
+zip-yielded f g xs ys ps e = ap (map (λ p. (f p.0, g p.1))) (sym (map-id ps) ∙ e) ∙ sym (zip-map f g xs ys)
+
+pub zip-push : {A B : Type 0} (xs : List A) (ys : List B) (x : A) (y : B) → length xs ≡ length ys → zip (xs ++ x ∷ []) (ys ++ y ∷ []) ≡ zip xs ys ++ (x, y) ∷ []
+zip-push [] [] x y e = refl
+zip-push [] (y' ∷ ys) x y e = absurd (omega arith)
+zip-push (x' ∷ xs) [] x y e = absurd (omega arith)
+zip-push (x' ∷ xs) (y' ∷ ys) x y e = ap (λ ps. (x', y') ∷ ps) (zip-push xs ys x y (omega arith))
+
+one_kept : {A : Type 0} (x : A) (b : Bool) → map (λ (p : A × Bool). p.0) (filter (λ p. p.1) ((x, b) ∷ [])) ≡ cond b (x ∷ []) []
+one_kept x true = refl
+one_kept x false = refl
+
+pub kept-push : {A : Type 0} (xs : List A) (tests : List Bool) (x : A) (b : Bool) → length xs ≡ length tests → kept (xs ++ x ∷ []) (tests ++ b ∷ []) ≡ kept xs tests ++ cond b (x ∷ []) []
+kept-push xs tests x b e =
+    ap (λ ps. map (λ p. p.0) (filter (λ p. p.1) ps)) (zip-push xs tests x b e) ∙ ap (map (λ p. p.0)) (filter-append (λ p. p.1) (zip xs tests) ((x, b) ∷ [])) ∙ map-append (λ p. p.0) (filter (λ p. p.1) (zip xs tests)) _ ∙ ap (λ l. kept xs tests ++ l) (one_kept x b)
+
+-- what a loop over a list and its places has yielded, where f reads the elements
+pub counted-yielded : {A B : Type 0} (f : A → B) (xs : List A) (ps : List (ℕ × A)) → map (λ p. p) ps ≡ enumerate_from 0 xs → map (λ p. (p.0 + 1, f p.1)) ps ≡ enumerate_from 1 (map f xs)
+counted-yielded f xs ps e =
+    ap (map (λ p. (p.0 + 1, f p.1))) (sym (map-id ps) ∙ e) ∙ sym (map-map (λ p. (p.0, f p.1)) (λ p. (p.0 + 1, p.1)) (enumerate_from 0 xs)) ∙ ap (map (λ p. (p.0, f p.1))) (sym (enumerate_from-more 0 xs)) ∙ sym (enumerate_from-map f 1 xs)
+
+pub kept-map : {A B : Type 0} (f : A → B) (xs : List A) (tests : List Bool) → map f (kept xs tests) ≡ kept (map f xs) tests
+kept-map f [] tests = refl
+kept-map f (x ∷ xs) [] = refl
+kept-map f (x ∷ xs) (true ∷ tests) = ap (λ ys. f x ∷ ys) (kept-map f xs tests)
+kept-map f (x ∷ xs) (false ∷ tests) = kept-map f xs tests

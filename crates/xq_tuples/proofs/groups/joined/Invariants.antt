@@ -1,0 +1,10 @@
+use Rattle.std.proofs.Common.{◌≡◌, map}
+use Rattle.std.specs.List.{range_with_len}
+use Rattle.xq_regions.specs.Tuples.{grouped_value, slot_key}
+use Rattle.xq_tuples.specs.Views.{Value, tuple_of}
+use Rattle.xq_tuples.specs.Keys.{keys_of}
+use Rattle.xq_tuples.specs.Groups.{keyed_of}
+use Rattle.xq_tuples.proofs.groups.joined.Given as goal
+
+abbrev pub invariant-loop-slot : goal.invariant-loop-slot
+invariant-loop-slot l = tuple_of l.tuple ≡ map (λ slot. grouped_value Value (slot_key l.slots (keys_of (l.first).keys) slot) slot (map keyed_of l.group)) (range_with_len 0 l.slot)

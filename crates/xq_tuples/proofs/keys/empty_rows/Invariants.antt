@@ -1,0 +1,6 @@
+use Rattle.std.proofs.Common.{◌≡◌, [], replicate}
+use Rattle.xq_tuples.specs.Keys.{rows_of}
+use Rattle.xq_tuples.proofs.keys.empty_rows.Given as goal
+
+abbrev pub invariant-loop : goal.invariant-loop
+invariant-loop g l = rows_of l.rows ≡ replicate l.counter []

@@ -1,0 +1,8 @@
+use Rattle.std.proofs.Common.{◌≡◌, map, take}
+use Rattle.xq_regions.specs.Tuples.{grouped_tuple}
+use Rattle.xq_tuples.specs.Views.{Value, tuple_of}
+use Rattle.xq_tuples.specs.Groups.{group_of}
+use Rattle.xq_tuples.proofs.streams.Tuples.group.Given as goal
+
+abbrev pub invariant-loop-group : goal.invariant-loop-group
+invariant-loop-group l = map tuple_of l.tuples.items ≡ map (grouped_tuple Value l.slots) (map group_of (take l.group-index l.group-items))

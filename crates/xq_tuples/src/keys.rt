@@ -1,0 +1,120 @@
+//! Keys of groups and orders: at most one atomic value, where an untyped one is taken as a string.
+ghost use Rattle.std.specs.Prelude.{◌≡◌, [], map, fold, true, false, replicate, IfOk, IfErr};
+ghost use Rattle.std.specs.List.{list_all};
+ghost use Rattle.xq_atoms.specs.Atom.{atomic_of};
+ghost use Rattle.xq_atoms.specs.Compare.{key_of};
+ghost use Rattle.xq_regions.specs.Tuples.{is_key, as_string, key_value, are_keys, extended, comparison_keys};
+ghost use Rattle.xq_tuples.specs.Keys.{Refuses, atomics_of, column_of, columns_of, key_view, keys_of, rows_of};
+
+use std::alloc::Global;
+use xq_atoms::{Atom, Code, Fault, GroupKey, Want};
+
+/// The atom; a string in place of an untyped value.
+fn as_string(atom: Atom) -> Atom
+    ensures { atomic_of result ≡ as_string (atomic_of atom) }
+{
+    match atom {
+        Atom::Untyped(text) => Atom::Str(text),
+        typed => typed,
+    }
+}
+
+/// The key that the values are. XPTY0004 for more than one value.
+fn single_key(mut values: Vec<Atom>) -> Result<Option<Atom>, Code>
+    ensures is_key { IfOk result (λ _. is_key (atomics_of values) ≡ true) }
+    ensures key { IfOk result (λ key. key_view key ≡ key_value (atomics_of values)) }
+    ensures refused { IfErr result (λ code. (code ≡ Code.XPTY0004) × (is_key (atomics_of values) ≡ false)) }
+{
+    let last = values.pop();
+    if values.is_empty() {
+        Ok(last.map(as_string))
+    } else {
+        Err(Code::XPTY0004)
+    }
+}
+
+/// The keys of one specification, tuple by tuple. XPTY0004 where one is more than one value.
+pub fn key_column(alloc: Global, column: Vec<Vec<Atom>>) -> Result<Vec<Option<Atom>>, Fault>
+    ensures are_keys { IfOk result (λ _. list_all is_key (column_of column) ≡ true) }
+    ensures keys { IfOk result (λ keys. keys_of keys ≡ map key_value (column_of column)) }
+    ensures refused { IfErr result (Refuses (list_all is_key (column_of column) ≡ false)) }
+{
+    let mut keys = Vec::with_capacity(alloc, column.len())?;
+    for values in column {
+        keys.push(single_key(values)?)?;
+    }
+    Ok(keys)
+}
+
+/// The keys of each specification. XPTY0004 where a key is more than one value.
+pub fn key_columns(
+    alloc: Global,
+    columns: Vec<Vec<Vec<Atom>>>,
+) -> Result<Vec<Vec<Option<Atom>>>, Fault>
+    ensures are_keys { IfOk result (λ _. are_keys (columns_of columns) ≡ true) }
+    ensures keys { IfOk result (λ keys. map keys_of keys.items ≡ map (map key_value) (columns_of columns)) }
+    ensures refused { IfErr result (Refuses (are_keys (columns_of columns) ≡ false)) }
+{
+    let mut keys = Vec::with_capacity(alloc, columns.len())?;
+    for column in columns {
+        keys.push(key_column(alloc, column)?)?;
+    }
+    Ok(keys)
+}
+
+/// Each row with the key at its place in the column.
+fn extended_rows<K: Drop>(
+    alloc: Global,
+    rows: Vec<Vec<K>>,
+    column: Vec<K>,
+) -> Result<Vec<Vec<K>>, Want>
+    ensures rows { IfOk result (λ longer. rows_of longer ≡ extended (rows_of rows) column.items) }
+    ensures want { IfErr result (λ want. want ≡ Want.Memory) }
+{
+    let mut longer = Vec::with_capacity(alloc, rows.len())?;
+    for (mut row, key) in rows.into_iter().zip(column) {
+        row.push(key)?;
+        longer.push(row)?;
+    }
+    Ok(longer)
+}
+
+/// From the keys by specification, those of each tuple.
+pub fn key_rows<K: Drop>(
+    alloc: Global,
+    count: usize,
+    columns: Vec<Vec<K>>,
+) -> Result<Vec<Vec<K>>, Want>
+    ensures rows { IfOk result (λ rows. rows_of rows ≡ fold extended (replicate count []) (rows_of columns)) }
+    ensures want { IfErr result (λ want. want ≡ Want.Memory) }
+{
+    let mut rows = empty_rows(alloc, count)?;
+    for column in columns {
+        rows = extended_rows(alloc, rows, column)?;
+    }
+    Ok(rows)
+}
+
+/// So many rows without keys.
+fn empty_rows<K: Drop>(alloc: Global, count: usize) -> Result<Vec<Vec<K>>, Want>
+    ensures rows { IfOk result (λ rows. rows_of rows ≡ replicate count []) }
+    ensures want { IfErr result (λ want. want ≡ Want.Memory) }
+{
+    let mut rows = Vec::with_capacity(alloc, count)?;
+    for _ in 0..count {
+        rows.push(Vec::new(alloc))?;
+    }
+    Ok(rows)
+}
+
+/// What the keys are compared by.
+pub fn compared_keys(alloc: Global, keys: &[Option<Atom>]) -> Result<Vec<GroupKey>, Want>
+    ensures keys { IfOk result (λ made. map key_of made.items ≡ comparison_keys (map key_view keys.now)) }
+    ensures want { IfErr result (λ want. want ≡ Want.Memory) }
+{
+    let mut made = Vec::with_capacity(alloc, keys.len())?;
+    for key in keys {
+        made.push(GroupKey::of(alloc, key.as_ref())?)?;
+    }
+    Ok(made)
+}

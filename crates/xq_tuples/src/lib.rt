@@ -1,0 +1,10 @@
+//! Tuple streams: the engine of FLWOR expressions (XQuery 3.1, section 3.12).
+#![tactic(auto)]
+
+mod groups;
+mod keys;
+mod rows;
+mod streams;
+mod values;
+
+pub use streams::Tuples;

@@ -1,0 +1,148 @@
+//! The stream of tuples, and the clauses that make one stream of another.
+ghost use Rattle.std.specs.Prelude.{◌≡◌, ◌<◌, [], ◌∷◌, length, map, slice_index_or, All, IfOk, IfErr, Ok};
+ghost use Rattle.xq_regions.specs.Tuples.{bound, expanded, grouped, kept, value_at};
+ghost use Rattle.xq_tuples.specs.Keys.{IsRefusal, columns_of};
+ghost use Rattle.xq_tuples.specs.Views.{Value as AtomThing, thing_of, things_of};
+
+use crate::groups::{gather, joined};
+use crate::keys::{key_columns, key_rows};
+use crate::values::{Tuple, push_copies, push_each};
+use std::alloc::Global;
+use std::marker::Model;
+use std::rc::Rc;
+use xq_atoms::{Atom, Fault, Want};
+use xq_regions::{Item, Items};
+
+/// A stream of tuples, which have equally many slots. Contracts see the list of tuples, each as
+/// the list of its values.
+#[derive(Drop)]
+pub struct Tuples {
+    alloc: Global,
+    tuples: Vec<Tuple>,
+}
+
+impl Model for Tuples {
+    ghost use Rattle.std.specs.Prelude.{List, map};
+    ghost use Rattle.xq_tuples.specs.Views.{Thing, tuple_of};
+
+    ghost Value = { List (List (List Thing)) };
+
+    ghost view = { λ t. map tuple_of t.tuples.items };
+}
+
+impl Tuples {
+    /// The stream of one tuple without slots, with which a FLWOR expression begins.
+    pub fn one(alloc: Global) -> Result<Tuples, Want>
+        ensures stream { IfOk result (λ stream. stream ≡ [] ∷ []) }
+        ensures want { IfErr result (λ want. want ≡ Want.Memory) }
+    {
+        let mut tuples = Vec::new(alloc);
+        tuples.push(Vec::new(alloc))?;
+        Ok(Tuples { alloc, tuples })
+    }
+
+    /// The number of tuples.
+    pub fn len(&self) -> usize
+        ensures { result ≡ length self.now }
+    {
+        self.tuples.len()
+    }
+
+    /// The value of the slot in each tuple.
+    pub fn column(&self, slot: usize) -> Result<Vec<Items>, Want>
+        requires { All (λ tuple. slot < length tuple) self.now }
+        ensures values { IfOk result (λ column. map things_of column.items ≡ map (value_at slot) self.now) }
+        ensures want { IfErr result (λ want. want ≡ Want.Memory) }
+    {
+        let alloc = self.alloc;
+        let mut column = Vec::new(alloc);
+        for tuple in &self.tuples {
+            let mut value = Vec::new(alloc);
+            push_copies(alloc, &mut value, &tuple[slot])?;
+            column.push(value)?;
+        }
+        Ok(column)
+    }
+
+    /// The value of the slot in one tuple.
+    pub fn value(&self, tuple: usize, slot: usize) -> &[Item]
+        requires tuple { tuple < length self.now }
+        requires slot { slot < length (slice_index_or self.now tuple []) }
+        ensures { map thing_of result.now ≡ value_at slot (slice_index_or self.now tuple []) }
+    {
+        &self.tuples[tuple][slot]
+    }
+
+    /// `for`: the stream where each tuple stands once for each item of the list at its place in
+    /// `lists`, with a slot that holds the item, and where `at` asks for it another that holds its
+    /// position, from 1.
+    pub fn expand(self, lists: Vec<Items>, at: bool) -> Result<Tuples, Want>
+        requires { length lists.items ≡ length self }
+        ensures stream { IfOk result (λ stream. stream ≡ expanded AtomThing at self (map things_of lists.items)) }
+        ensures want { IfErr result (λ want. want ≡ Want.Memory) }
+    {
+        let alloc = self.alloc;
+        let mut tuples = Vec::new(alloc);
+        for (tuple, items) in self.tuples.into_iter().zip(lists) {
+            push_each(alloc, &mut tuples, &tuple, items, at)?;
+        }
+        Ok(Tuples { alloc, tuples })
+    }
+
+    /// `let`: the stream where each tuple has one slot more, with the value at its place in `values`.
+    pub fn bind(self, values: Vec<Items>) -> Result<Tuples, Want>
+        requires { length values.items ≡ length self }
+        ensures stream { IfOk result (λ stream. stream ≡ bound self (map things_of values.items)) }
+        ensures want { IfErr result (λ want. want ≡ Want.Memory) }
+    {
+        let alloc = self.alloc;
+        let mut tuples = Vec::new(alloc);
+        for (mut tuple, value) in self.tuples.into_iter().zip(values) {
+            tuple.push(Rc::new(alloc, value)?)?;
+            tuples.push(tuple)?;
+        }
+        Ok(Tuples { alloc, tuples })
+    }
+
+    /// `where`: the stream of the tuples at whose places `tests` holds.
+    pub fn keep(self, tests: &[bool]) -> Tuples
+        requires { length tests.now ≡ length self }
+        ensures { result ≡ kept self tests.now }
+    {
+        let mut tuples = self.tuples;
+        let mut count = 0;
+        for (index, test) in tests.iter().enumerate() {
+            if *test {
+                tuples.swap(count, index);
+                count += 1;
+            }
+        }
+        tuples.truncate(count);
+        Tuples {
+            alloc: self.alloc,
+            tuples,
+        }
+    }
+
+    /// `group by`: the stream of one tuple for each group of tuples whose keys are equal, the groups
+    /// by their first tuples. Of the slots, those of the grouping variables, which stand in `slots`
+    /// in the order of their keys, hold the first tuple's key, and each other the values of all its
+    /// tuples. `keys` has for each grouping variable the atomized value at each tuple. XPTY0004
+    /// where one of them is more than one value.
+    pub fn group(self, slots: &[usize], keys: Vec<Vec<Vec<Atom>>>) -> Result<Tuples, Fault>
+        requires slots { length slots.now ≡ length keys.items }
+        requires keys { All (λ column. length column.items ≡ length self) keys.items }
+        ensures stream { IfOk result (λ stream. grouped AtomThing slots.now self (columns_of keys) ≡ Ok stream) }
+        ensures refused { IfErr result (IsRefusal (grouped AtomThing slots.now self (columns_of keys))) }
+    {
+        let alloc = self.alloc;
+        let columns = key_columns(alloc, keys)?;
+        let rows = key_rows(alloc, self.tuples.len(), columns)?;
+        let groups = gather(alloc, self.tuples, rows)?;
+        let mut tuples = Vec::with_capacity(alloc, groups.len())?;
+        for group in &groups {
+            tuples.push(joined(alloc, slots, group)?)?;
+        }
+        Ok(Tuples { alloc, tuples })
+    }
+}

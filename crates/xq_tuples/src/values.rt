@@ -1,0 +1,84 @@
+//! Values of slots: copies, and the values that a `for` clause adds to a tuple.
+ghost use Rattle.std.specs.Prelude.{◌≡◌, ◌<◌, ◌^◌, [], ◌∷◌, ◌++◌, map, IfOk, IfErr, OnOk};
+ghost use Rattle.xq_regions.specs.Tuples.{item_values, with_each};
+ghost use Rattle.xq_tuples.specs.Views.{Value as AtomThing, thing_of, things_of, values_of, tuple_of};
+
+use std::alloc::Global;
+use std::rc::Rc;
+use xq_atoms::{Atom, Want};
+use xq_regions::{Item, Items};
+
+/// A tuple: the value of each slot. Tuples share the values that they have in common, so that a
+/// tuple is copied without a copy of its items.
+pub type Tuple = Vec<Rc<Items>>;
+
+/// The same item.
+fn copy(alloc: Global, item: &Item) -> Result<Item, Want>
+    ensures value { IfOk result (λ copy. thing_of copy ≡ thing_of item.now) }
+    ensures want { IfErr result (λ want. want ≡ Want.Memory) }
+{
+    Ok(match item {
+        Item::Node(node) => Item::Node(*node),
+        Item::Atom(atom) => Item::Atom(atom.try_clone(alloc)?),
+    })
+}
+
+/// Adds the same items to `copies`.
+pub fn push_copies(alloc: Global, copies: &mut Items, items: &[Item]) -> Result<(), Want>
+    ensures items { OnOk result (things_of copies.new ≡ things_of copies.old ++ map thing_of items.now) }
+    ensures want { IfErr result (λ want. want ≡ Want.Memory) }
+{
+    for item in items {
+        copies.push(copy(alloc, item)?)?;
+    }
+    Ok(())
+}
+
+/// The value of one item.
+pub fn single(alloc: Global, item: Item) -> Result<Rc<Items>, Want>
+    ensures value { IfOk result (λ value. things_of value.value ≡ thing_of item ∷ []) }
+    ensures want { IfErr result (λ want. want ≡ Want.Memory) }
+{
+    let mut items = Vec::new(alloc);
+    items.push(item)?;
+    Ok(Rc::new(alloc, items)?)
+}
+
+/// The tuple with the item, and with its position where `at` asks for it.
+fn with_item(
+    alloc: Global,
+    tuple: &[Rc<Items>],
+    item: Item,
+    position: usize,
+    at: bool,
+) -> Result<Tuple, Want>
+    requires { position < 2 ^ 63 }
+    ensures tuple { IfOk result (λ longer.
+        tuple_of longer ≡ values_of tuple.now ++ item_values AtomThing at position (thing_of item)) }
+    ensures want { IfErr result (λ want. want ≡ Want.Memory) }
+{
+    let mut longer = tuple.to_vec(alloc)?;
+    longer.push(single(alloc, item)?)?;
+    if at {
+        longer.push(single(alloc, Item::Atom(Atom::Int(position as i64)))?)?;
+    }
+    Ok(longer)
+}
+
+/// Adds the tuple to `tuples` once for each item, with its position from 1 where `at` asks for it.
+pub fn push_each(
+    alloc: Global,
+    tuples: &mut Vec<Tuple>,
+    tuple: &[Rc<Items>],
+    items: Items,
+    at: bool,
+) -> Result<(), Want>
+    ensures tuples { OnOk result (map tuple_of tuples.new.items
+        ≡ map tuple_of tuples.old.items ++ with_each AtomThing at (values_of tuple.now) (things_of items)) }
+    ensures want { IfErr result (λ want. want ≡ Want.Memory) }
+{
+    for (index, item) in items.into_iter().enumerate() {
+        tuples.push(with_item(alloc, tuple, item, index + 1, at)?)?;
+    }
+    Ok(())
+}
