@@ -1,1 +1,16 @@
+pub mod Classes
+pub mod Contents
+pub mod Forms
+pub mod Fronts
+pub mod Lists
 pub mod NestingLemmas
+pub mod NumberLemmas
+pub mod References
+pub mod RunLemmas
+pub mod SeparatorLemmas
+pub mod Spans
+pub mod StepLemmas
+pub mod StringLemmas
+pub mod SymbolLemmas
+pub mod TokenLemmas
+pub mod WorkedTokens

@@ -24,3 +24,15 @@ lex_of (Sym s) = symbol s
 
 abbrev pub lexemes : List Token → List Lex
 lexemes ts = map (λ t. lex_of t.lexeme) ts
+
+-- a token with its place, in bytes
+pub record Placed : Type 0 where
+  pub lex : Lex
+  pub start : ℕ
+  pub end : ℕ
+
+abbrev pub place_of : Token → Placed
+place_of t = record { lex = lex_of t.lexeme; start = t.start; end = t.end }
+
+abbrev pub placed : List Token → List Placed
+placed ts = map place_of ts

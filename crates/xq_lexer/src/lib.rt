@@ -1,8 +1,20 @@
 //! The tokens of a query's text.
 #![tactic(auto)]
 
+mod chars;
 mod depth;
+mod lexing;
+mod names;
+mod numbers;
+mod runs;
+mod separators;
+mod strings;
+mod symbols;
 mod tokens;
 
+#[cfg(test)]
+mod tests;
+
 pub use depth::nesting;
+pub use lexing::lex;
 pub use tokens::{Lexeme, Symbol, Token};

@@ -1,0 +1,14 @@
+//! Expressions of the query language, as their tokens derive them.
+#![tactic(auto)]
+
+mod expressions;
+mod names;
+mod operators;
+
+pub use expressions::{Clause, ConstructorName, Expr, GroupSpec, Step};
+pub use names::{QName, Text};
+pub use operators::{
+    AxisName, AxisStep, Comparison, Direction, EmptyOrder, NamedNode, NodeComparison, NodeTest,
+    OrderModifier, ProductOperator, Quantifier, Relation, Separator, SetOperator, Sign, Start,
+    UnnamedNode,
+};

@@ -1,0 +1,39 @@
+use Rattle.std.proofs.Common.{◌≡◌, ◌+◌, ◌<◌, ◌≤◌, length, sym, ap, ◌∙◌, arith, inl, inr}
+use Rattle.std.proofs.lemmas.Result.{err_from_is_err_and}
+use Rattle.xq_lexer.specs.Lexeme.{lex_of}
+use Rattle.xq_lexer.specs.Spelling.{bytes}
+use Rattle.xq_lexer.proofs.SeparatorLemmas.{skip_suffix}
+use Rattle.xq_lexer.proofs.StepLemmas.{was_read, next_is, step_fault, empty_left, some_left}
+use Rattle.xq_lexer.proofs.lexing.next.Goals as goal
+
+pub returns-in_err-begun : goal.returns-in_err-begun
+returns-in_err-begun c =
+    let p = err_from_is_err_and c.from_residual.result c.from_residual.ensures.1 in
+    rw (p.1, p.2) (inl c.in_err-begun.ensures)
+
+pub returns-then-is_empty : goal.returns-then-is_empty
+returns-then-is_empty c = empty_left _ c.in_ok-begun.begun.now c.in_ok-begun.ensures c.if-is_empty.ensures
+
+pub passed-requires-clause-suffix : goal.passed-requires-clause-suffix
+passed-requires-clause-suffix c =
+    let s = skip_suffix c.args.chars.now c.in_ok-begun.begun.now c.in_ok-begun.ensures in
+    (s.front, s.whole)
+
+pub passed-requires-2-clause-suffix : goal.passed-requires-2-clause-suffix
+passed-requires-2-clause-suffix c =
+    let some = some_left c.in_ok-begun.begun.now c.if-is_empty.ensures in
+    let r = was_read c.in_ok-begun.begun.now (lex_of c.in_ok-lexeme.lexeme) c.in_ok-lexeme.rest.now some c.in_ok-lexeme.ensures in
+    (_, r.found.whole)
+
+pub returns : goal.returns
+returns c =
+    let z = c.in_ok-begun.begun.now in
+    let some = some_left z c.if-is_empty.ensures in
+    let r = was_read z (lex_of c.in_ok-lexeme.lexeme) c.in_ok-lexeme.rest.now some c.in_ok-lexeme.ensures in
+    next_is c.args.place c.args.chars.now z (lex_of c.in_ok-lexeme.lexeme) c.in_ok-lexeme.rest.now _ _ c.in_ok-begun.ensures r (omega (arith, c.passed.ensures)) (omega (arith, c.passed.ensures, c.passed-2.ensures))
+
+pub returns-in_err-lexeme : goal.returns-in_err-lexeme
+returns-in_err-lexeme c =
+    let some = some_left c.in_ok-begun.begun.now c.if-is_empty.ensures in
+    let p = err_from_is_err_and c.from_residual-in_err-lexeme.result c.from_residual-in_err-lexeme.ensures.1 in
+    rw (p.1, p.2) (step_fault c.args.place c.args.chars.now c.in_ok-begun.begun.now c.in_err-lexeme.field-0.0 c.in_ok-begun.ensures some c.in_err-lexeme.ensures)

@@ -1,0 +1,34 @@
+use Rattle.std.proofs.Common.{◌≡◌, ◌+◌, ◌<◌, ◌≤◌, ℕ, List, Option, Some, None, Ok, length, sym, ap, subst, ◌∙◌, arith}
+use Rattle.std.proofs.lemmas.Result.{err_from_is_err_and}
+use denote.Ref.{Bor}
+use Rattle.xq_lexer.specs.declared.tokens.Token.{Token}
+use Rattle.xq_lexer.specs.Gives.{Nexts}
+use Rattle.xq_lexer.proofs.StepLemmas.{Lexed, lexed_more, lexed_all, lexed_error}
+use Rattle.xq_lexer.proofs.lexing.tokens.Goals as goal
+
+pub next-requires : goal.next-requires
+next-requires c = let r = c.loop-tokens.invariant.room in omega (arith, r, c.requires)
+
+pub loop-tokens-preserved : goal.loop-tokens-preserved
+loop-tokens-preserved c =
+    let l = c.loop-tokens in
+    let n : Nexts l.place l.rest.now (Ok (Some (c.in-Some.token, c.in-Some.after))) = subst (λ (o : Option (Token × Bor (List ℕ))). Nexts l.place l.rest.now (Ok o)) c.in-Some.is c.in_ok-token.ensures in
+    rw c.in_ok-push.ensures.items (lexed_more c.args.chars.now l.tokens.items l.place l.rest.now c.in-Some.token c.in-Some.after.now l.invariant n.0)
+
+pub loop-tokens-smaller : goal.loop-tokens-smaller
+loop-tokens-smaller c =
+    let l = c.loop-tokens in
+    let n : Nexts l.place l.rest.now (Ok (Some (c.in-Some.token, c.in-Some.after))) = subst (λ (o : Option (Token × Bor (List ℕ))). Nexts l.place l.rest.now (Ok o)) c.in-Some.is c.in_ok-token.ensures in
+    n.1
+
+pub returns : goal.returns
+returns c =
+    let l = c.loop-tokens in
+    let n : Nexts l.place l.rest.now (Ok None) = subst (λ (o : Option (Token × Bor (List ℕ))). Nexts l.place l.rest.now (Ok o)) c.in_default.is c.in_ok-token.ensures in
+    lexed_all c.args.chars.now l.tokens.items l.place l.rest.now l.invariant n
+
+pub returns-in_err-token : goal.returns-in_err-token
+returns-in_err-token c =
+    let l = c.loop-tokens in
+    let p = err_from_is_err_and c.from_residual.result c.from_residual.ensures.1 in
+    rw (p.1, p.2) (lexed_error c.args.chars.now l.tokens.items l.place l.rest.now c.in_err-token.field-0.0 l.invariant c.in_err-token.ensures)

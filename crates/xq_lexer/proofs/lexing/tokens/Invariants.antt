@@ -1,0 +1,9 @@
+use Rattle.std.proofs.Common.{length}
+use Rattle.xq_lexer.proofs.StepLemmas.{Lexed}
+use Rattle.xq_lexer.proofs.lexing.tokens.Given as goal
+
+abbrev pub invariant-loop-tokens : goal.invariant-loop-tokens
+invariant-loop-tokens l = Lexed l.chars l.tokens.items l.place l.rest
+
+abbrev pub decreases-loop-tokens : goal.decreases-loop-tokens
+decreases-loop-tokens l = length l.rest

@@ -1,0 +1,97 @@
+-- What a function that reads ensures: what the reader on lists gives, unless memory is wanting.
+use Rattle.std.specs.Prelude.{◌≡◌, ℕ, ℤ, min, List, [], ◌∷◌, Bool, true, false, if◌then◌else◌, Option, Some, None, option_map, Result, Ok, Err, map}
+use Rattle.std.specs.Str.{encode_utf8_all}
+use Rattle.xq_atoms.specs.declared.refusals.Code.{Code}
+use denote.Ref.{Bor}
+use Rattle.xq_atoms.specs.declared.refusals.Code.TheVariants.{XPST0003, XQST0090}
+use Rattle.xq_atoms.specs.declared.refusals.Fault.{Fault}
+use Rattle.xq_atoms.specs.declared.refusals.Fault.TheVariants.{Code as OfCode, Want as OfWant}
+use Rattle.xq_atoms.specs.declared.refusals.Want.TheVariants.{Memory}
+use Rattle.xq_atoms.specs.Literal.{integer_literal, decimal_literal}
+use Rattle.xq_lexer.specs.declared.runs.Class.{Class}
+use Rattle.xq_lexer.specs.declared.runs.Class.TheVariants.{Name, Digit, HexDigit}
+use Rattle.xq_lexer.specs.Chars.{Text, is_char, is_digit, is_hex, is_name_char}
+use Rattle.xq_lexer.specs.Lexeme.{Lex, int, dec, placed, place_of}
+use Rattle.xq_lexer.specs.Literals.{Number, integer, decimal, Reference, referred, Piece, piece_char, content_chars}
+use Rattle.xq_lexer.specs.Spelling.{Form, form_lex, Next, Spells, bytes}
+use Rattle.xq_lexer.specs.Separators.{skip}
+use Rattle.xq_lexer.specs.TokenFaults.{FaultHere, HasFault}
+use Rattle.xq_lexer.specs.declared.tokens.Token.{Token}
+use Rattle.std.specs.declared.alloc.Global.{Global}
+use Rattle.std.specs.Prelude.{◌+◌, ◌<◌, length}
+use Rattle.std.specs.declared.vec.Vec.{Vec}
+use Rattle.xq_lexer.specs.Reading.{Inside, closed, one, wrong}
+
+abbrev pub Fails : {Y : Type 0} → Fault → Result Y Code → Type 0
+Fails (OfCode c) read = read ≡ Err c
+Fails (OfWant w) read = w ≡ Memory
+
+abbrev pub Gives : {X Y : Type 0} → (X → Y) → Result X Fault → Result Y Code → Type 0
+Gives view (Ok x) read = read ≡ Ok (view x)
+Gives view (Err e) read = Fails e read
+
+-- the same of a function that takes no memory
+abbrev pub Answers : {X Y : Type 0} → (X → Y) → Result X Code → Result Y Code → Type 0
+Answers view (Ok x) read = read ≡ Ok (view x)
+Answers view (Err c) read = read ≡ Err c
+
+-- the test of a class of characters
+abbrev pub test : Class → ℕ → Bool
+test Name = is_name_char
+test Digit = is_digit
+test HexDigit = is_hex
+
+-- what a token read stands for
+abbrev pub lexed : Result (Form × Text) Code → Result (Lex × Text) Code
+lexed (Ok x) = Ok (form_lex x.0, x.1)
+lexed (Err c) = Err c
+
+-- whether a number has a point
+abbrev pub is_decimal : Number → Bool
+is_decimal (integer w) = false
+is_decimal (decimal w f) = true
+
+abbrev pub pointed : Number × Text → Bool × Text
+pointed x = (is_decimal x.0, x.1)
+
+-- the character that a reference stands for, where every number past the last character is one
+abbrev pub refers : Option (Reference × Text) → Option (ℕ × Text)
+refers o = option_map (λ x. (min 0x110000 (referred x.0), x.1)) o
+
+-- the character of a reference, or its fault
+abbrev pub referred_char : Option (Reference × Text) → Result (Option ℕ × Text) Code
+referred_char None = Err XPST0003
+referred_char (Some x) = if is_char (referred x.0) then Ok (Some (referred x.0), x.1) else Err XQST0090
+
+-- what is next inside a string: a character, or None at its end
+abbrev pub shown : ℕ → Inside → Result (Option ℕ × Text) Code
+shown quote (closed rest) = Ok (None, rest)
+shown quote (one p rest) = Ok (Some (piece_char quote p), rest)
+shown quote (wrong c) = Err c
+
+-- what is left behind the separators, or the code of their fault
+abbrev pub Skips : Result (Bor Text) Code → Option Text → Type 0
+Skips (Ok rest) left = left ≡ Some rest.now
+Skips (Err c) left = (left ≡ None) × (c ≡ XPST0003)
+
+abbrev pub made : (ℤ → Lex) → Result ℤ Code → Result Lex Code
+made make (Ok m) = Ok (make m)
+made make (Err c) = Err c
+
+-- what a number's literal stands for
+abbrev pub valued_lex : Bool → Text → Result Lex Code
+valued_lex true t = made dec (decimal_literal t)
+valued_lex false t = made int (integer_literal t)
+
+-- the next token, None at the end of the text, or the fault there
+abbrev pub Nexts : ℕ → Text → Result (Option (Token × Bor Text)) Fault → Type 0
+Nexts place text (Ok None) = skip 0 text ≡ Some []
+Nexts place text (Ok (Some x)) = Next (place + bytes text) text (place_of x.0) x.1.now × (length x.1.now < length text)
+Nexts place text (Err (OfCode c)) = FaultHere text c
+Nexts place text (Err (OfWant w)) = w ≡ Memory
+
+-- all tokens, or the fault
+abbrev pub Lexes : Text → Result (Vec Token Global) Fault → Type 0
+Lexes text (Ok v) = Spells text (placed v.items)
+Lexes text (Err (OfCode c)) = HasFault text c
+Lexes text (Err (OfWant w)) = w ≡ Memory

@@ -1,0 +1,132 @@
+//! From a text to its tokens.
+ghost use Rattle.std.specs.Prelude.{◌≡◌, ◌+◌, ◌<◌, ◌^◌, ◌++◌, List, IfOk, IfErr};
+ghost use Rattle.std.specs.Str.{chars as chars_of};
+ghost use Rattle.xq_atoms.specs.declared.refusals.Code.{Code as FaultCode};
+ghost use Rattle.xq_atoms.specs.declared.refusals.Fault.TheVariants.{Want as FaultWant};
+ghost use Rattle.xq_atoms.specs.declared.refusals.Want.TheVariants.{Memory as WantMemory};
+ghost use Rattle.xq_lexer.specs.Chars.{Text};
+ghost use Rattle.xq_lexer.specs.Gives.{Answers, Gives, Lexes, Nexts, lexed};
+ghost use Rattle.xq_lexer.specs.Lexeme.{Placed, lex_of, placed};
+ghost use Rattle.xq_lexer.specs.Reading as spec;
+ghost use Rattle.xq_lexer.specs.Spelling.{Spells, bytes as bytes_of};
+ghost use Rattle.xq_lexer.specs.TokenFaults.{HasFault, Refuses};
+
+use crate::chars::{is_name_start, is_quote};
+use crate::names::name;
+use crate::numbers::{begins_number, number};
+use crate::runs::bytes;
+use crate::separators::skip;
+use crate::strings::string;
+use crate::symbols::{double_symbol, single_symbol};
+use crate::tokens::{Lexeme, Token};
+use std::alloc::Global;
+use xq_atoms::{Code, Fault};
+
+/// The tokens that the text spells, with their places in bytes (XQuery 3.1, appendix A.2). Else
+/// the code of its first fault: XPST0003, XQST0090, prof:DOUBLE, prof:DIGITS or FOAR0002; or want
+/// of memory.
+pub fn lex(alloc: Global, text: &str) -> Result<Vec<Token>, Fault>
+    ensures spelled { IfOk result (λ tokens. Spells (chars_of text.now) (placed tokens.items)) }
+    ensures only { IfOk result (λ tokens. (other : List Placed) → Spells (chars_of text.now) other → other ≡ placed tokens.items) }
+    ensures sound { IfOk result (λ _. (code : FaultCode) → HasFault (chars_of text.now) code → ⊥) }
+    ensures refused { IfErr result (λ fault. Refuses (chars_of text.now) fault) }
+{
+    let chars = chars(alloc, text)?;
+    tokens(alloc, &chars)
+}
+
+/// The characters of the text.
+fn chars(alloc: Global, text: &str) -> Result<Vec<char>, Fault>
+    ensures chars { IfOk result (λ chars. chars.items ≡ chars_of text.now) }
+    ensures short { IfOk result (λ chars. bytes_of chars.items < 2 ^ 64) }
+    ensures want { IfErr result (λ fault. fault ≡ FaultWant WantMemory) }
+{
+    // A text's length is a `usize`, so the places of its tokens are.
+    let _bytes = text.len();
+    Ok(text.chars().collect(alloc)?)
+}
+
+/// The tokens that the characters spell, or the code of their first fault.
+fn tokens(alloc: Global, chars: &[char]) -> Result<Vec<Token>, Fault>
+    requires { bytes_of chars.now < 2 ^ 64 }
+    ensures { Lexes chars.now result }
+{
+    let mut tokens = Vec::new(alloc);
+    let mut place = 0;
+    let mut rest = chars;
+    while let Some((token, after)) = next(alloc, place, rest)? {
+        place = token.end;
+        rest = after;
+        tokens.push(token)?;
+    }
+    Ok(tokens)
+}
+
+/// The next token behind separators and what is left, or None at the end; so many bytes stand
+/// before the characters.
+fn next<'a>(
+    alloc: Global,
+    place: usize,
+    chars: &'a [char],
+) -> Result<Option<(Token, &'a [char])>, Fault>
+    requires { place + bytes_of chars.now < 2 ^ 64 }
+    ensures { Nexts place chars.now result }
+{
+    let begun = skip(chars)?;
+    if begun.is_empty() {
+        return Ok(None);
+    }
+    let (lexeme, rest) = token(alloc, begun)?;
+    let start = place + passed(chars, begun);
+    let end = start + passed(begun, rest);
+    Ok(Some((Token { lexeme, start, end }, rest)))
+}
+
+/// How many bytes spell the characters that stand before what is left.
+fn passed(chars: &[char], rest: &[char]) -> usize
+    requires short { bytes_of chars.now < 2 ^ 64 }
+    requires suffix { (front : Text) × (front ++ rest.now ≡ chars.now) }
+    ensures { result + bytes_of rest.now ≡ bytes_of chars.now }
+{
+    bytes(&chars[..chars.len() - rest.len()])
+}
+
+/// What the token at the front is, and what is left behind it.
+#[tactic(auto, unfolding(crate::specs::Reading::read_token))]
+fn token<'a>(alloc: Global, chars: &'a [char]) -> Result<(Lexeme, &'a [char]), Fault>
+    ensures { Gives (λ x. (lex_of x.0, x.1.now)) result (lexed (spec.read_token chars.now)) }
+{
+    match chars {
+        [] => Err(Fault::Code(Code::XPST0003)),
+        [c, rest @ ..] => {
+            if is_name_start(*c) {
+                name(alloc, chars)
+            } else if begins_number(chars) {
+                number(alloc, chars)
+            } else if is_quote(*c) {
+                string(alloc, *c, rest)
+            } else {
+                Ok(symbol(chars)?)
+            }
+        }
+    }
+}
+
+/// The symbol at the front, and what is left behind it.
+#[tactic(auto, unfolding(crate::specs::Reading::read_symbol))]
+fn symbol(chars: &[char]) -> Result<(Lexeme, &[char]), Code>
+    ensures { Answers (λ x. (lex_of x.0, x.1.now)) result (lexed (spec.read_symbol chars.now)) }
+{
+    if let [a, b, rest @ ..] = chars {
+        if let Some(symbol) = double_symbol(*a, *b) {
+            return Ok((Lexeme::Sym(symbol), rest));
+        }
+    }
+    match chars {
+        [] => Err(Code::XPST0003),
+        [a, rest @ ..] => match single_symbol(*a) {
+            Some(symbol) => Ok((Lexeme::Sym(symbol), rest)),
+            None => Err(Code::XPST0003),
+        },
+    }
+}

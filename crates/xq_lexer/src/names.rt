@@ -1,0 +1,28 @@
+//! Names.
+ghost use Rattle.std.specs.Prelude.{◌≡◌, Ok};
+ghost use Rattle.xq_lexer.specs.Gives.{Gives, lexed};
+ghost use Rattle.xq_lexer.specs.Lexeme.{lex_of};
+ghost use Rattle.xq_lexer.specs.Reading as spec;
+
+use crate::chars::is_name_start;
+use crate::runs::{Class, run, text};
+use crate::tokens::Lexeme;
+use std::alloc::Global;
+use xq_atoms::Fault;
+
+/// The name at the front, or the two names with a colon between them, and what is left.
+#[tactic(auto, unfolding(crate::specs::Reading::read_name, crate::specs::Reading::after_name))]
+pub fn name<'a>(alloc: Global, chars: &'a [char]) -> Result<(Lexeme, &'a [char]), Fault>
+    ensures { Gives (λ x. (lex_of x.0, x.1.now)) result (lexed (Ok (spec.read_name chars.now))) }
+{
+    let (first, rest) = run(Class::Name, chars);
+    match rest {
+        [colon, start, ..] if *colon == ':' && is_name_start(*start) => {
+            let (local, rest) = run(Class::Name, &rest[1..]);
+            let prefix = text(alloc, first)?;
+            let local = text(alloc, local)?;
+            Ok((Lexeme::Prefixed { prefix, local }, rest))
+        }
+        _ => Ok((Lexeme::Name(text(alloc, first)?), rest)),
+    }
+}

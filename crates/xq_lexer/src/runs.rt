@@ -1,0 +1,65 @@
+//! Runs of characters of one class, and their bytes.
+ghost use Rattle.std.specs.Prelude.{◌≡◌, ◌+◌, length, IfOk, string_bytes, ◌<◌, ◌^◌};
+ghost use Rattle.std.specs.Str.{encode_utf8_all};
+ghost use Rattle.xq_lexer.specs.Gives.{test};
+ghost use Rattle.xq_lexer.specs.Reading.{span};
+ghost use Rattle.xq_lexer.specs.Spelling.{bytes as bytes_of};
+
+use crate::chars::{is_digit, is_hex, is_name_char};
+use std::alloc::{AllocError, Global};
+
+/// A class of characters.
+#[derive(Clone, Copy)]
+pub enum Class {
+    Name,
+    Digit,
+    HexDigit,
+}
+
+impl Class {
+    /// Whether the character is of the class.
+    fn has(self, c: char) -> bool
+        ensures { result ≡ test self c }
+    {
+        match self {
+            Class::Name => is_name_char(c),
+            Class::Digit => is_digit(c),
+            Class::HexDigit => is_hex(c),
+        }
+    }
+}
+
+/// The longest front whose characters are of the class, and what is left.
+pub fn run(class: Class, chars: &[char]) -> (&[char], &[char])
+    ensures { (result.0.now, result.1.now) ≡ span (test class) chars.now }
+{
+    for (length, c) in chars.iter().enumerate() {
+        if !class.has(*c) {
+            return chars.split_at(length);
+        }
+    }
+    chars.split_at(chars.len())
+}
+
+/// The characters as a text.
+pub fn text(alloc: Global, chars: &[char]) -> Result<String, AllocError>
+    ensures { IfOk result (λ text. string_bytes text ≡ encode_utf8_all chars.now) }
+{
+    let mut text = String::new(alloc);
+    for c in chars {
+        text.push(*c)?;
+    }
+    Ok(text)
+}
+
+/// How many bytes spell the characters.
+pub fn bytes(chars: &[char]) -> usize
+    requires { bytes_of chars.now < 2 ^ 64 }
+    ensures { result ≡ bytes_of chars.now }
+{
+    let mut bytes = 0;
+    for c in chars {
+        bytes += c.len_utf8();
+    }
+    bytes
+}

@@ -1,0 +1,4 @@
+pub mod Look
+pub mod Rel
+pub mod Grammar
+pub mod Reading

@@ -1,0 +1,2 @@
+//! The one expression that tokens derive, or none.
+#![tactic(auto)]
