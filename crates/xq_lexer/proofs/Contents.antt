@@ -29,11 +29,17 @@ quote_means quote (b ∷ t) = go (b == quote) refl
     go false e = (refl, e)
 
 ampersand_means : (quote : ℕ) (t : Text) (o : Option (Reference × Text)) → read_reference t ≡ o → Means quote (38 ∷ t) (after_ampersand o)
-ampersand_means quote t None e = inr (inr (inr (record { ampersand = refl; no_reference = λ r after is whole.
-    let tail : reference_text r ++ after ≡ t = cc in
-    let some = sym (ap read_reference tail) ∙ reference_read r after is in
-    let clash : None ≡ Some (r, after) = sym e ∙ some in
-    absurd cc }, refl)))
+ampersand_means quote t None e = inr (inr (inr (
+  record {
+    ampersand = refl;
+    no_reference = λ r after is whole.
+        let tail : reference_text r ++ after ≡ t = cc in
+        let some = sym (ap read_reference tail) ∙ reference_read r after is in
+        let clash : None ≡ Some (r, after) = sym e ∙ some in
+        absurd cc;
+  },
+  refl,
+)))
 ampersand_means quote t (Some x) e =
     let r = reference_sound t x.0 x.1 e in
     go r (is_char (referred x.0)) refl
@@ -68,6 +74,7 @@ fault_read quote rest code is (inr (inl h)) =
     go : (b : Bool) → (h.0 == quote) ≡ b → (h.0 == quote) ≡ false
     go true e = true_not_false (is_char quote) (quote_is_char quote is) (ap is_char (sym (eq_is h.0 quote e)) ∙ h.3)
     go false e = e
+
     also : (b : Bool) → (h.0 == 38) ≡ b → (h.0 == 38) ≡ false
     also true e = true_not_false (is_char 38) ampersand_is_char (ap is_char (sym (eq_is h.0 38 e)) ∙ h.3)
     also false e = e
@@ -205,6 +212,7 @@ module _ (quote : ℕ) where
       piece : (p : Piece) (rest : Text) → piece_text quote p ++ rest ≡ t → IsPiece quote p → (o : Result (List Piece × Text) Code) → content n quote rest ≡ o → ((y : List Piece × Text) → content n quote rest ≡ Ok y → Content quote rest y) → with_piece p o ≡ Ok x → Content quote t x
       piece p rest e is (Ok y) k ih h = more_content p rest t y x e is (ih y k) cc
       piece p rest e is (Err c) k ih h = absurd cc
+
       go : (i : Inside) → inside quote t ≡ i → ((rest : Text) (y : List Piece × Text) → content n quote rest ≡ Ok y → Content quote rest y) → content_step (content n quote) i ≡ Ok x → Content quote t x
       go (closed rest) e ih h =
           let m : Means quote t (closed rest) = subst (Means quote t) e (inside_means quote t) in
@@ -223,6 +231,7 @@ module _ (quote : ℕ) where
       piece : (p : Piece) (rest : Text) → piece_text quote p ++ rest ≡ t → IsPiece quote p → (o : Result (List Piece × Text) Code) → content n quote rest ≡ o → (content n quote rest ≡ Err c → Wrong quote rest c) → with_piece p o ≡ Err c → Wrong quote t c
       piece p rest e is (Ok y) k ih h = absurd cc
       piece p rest e is (Err d) k ih h = let same : d ≡ c = cc in more_wrong p rest t c e is (ih (k ∙ ap (λ (c : Code). Err c) same))
+
       go : (i : Inside) → inside quote t ≡ i → ((rest : Text) → content n quote rest ≡ Err c → length rest < n → Wrong quote rest c) → content_step (content n quote) i ≡ Err c → Wrong quote t c
       go (closed rest) e ih h = absurd cc
       go (one p rest) e ih h =

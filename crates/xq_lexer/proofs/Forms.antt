@@ -71,7 +71,7 @@ module _ (p w after : Text) (is : IsName p) where
   pub prefixed_ends : IsName w → IsLongest (prefixed p w) after → begins is_name_char after ≡ false
   prefixed_ends is-w best = begins_none is_name_char after (λ d t e k.
       let same : (p ++ 58 ∷ (w ++ d ∷ [])) ++ t ≡ (p ++ 58 ∷ w) ++ after =
-          append_assoc p (58 ∷ (w ++ d ∷ [])) t ∙ ap (λ (y : Text). p ++ 58 ∷ y) (append_one w d t ∙ ap (λ (y : Text). w ++ y) (sym e)) ∙ sym (append_assoc p (58 ∷ w) after) in
+      append_assoc p (58 ∷ (w ++ d ∷ [])) t ∙ ap (λ (y : Text). p ++ 58 ∷ y) (append_one w d t ∙ ap (λ (y : Text). w ++ y) (sym e)) ∙ sym (append_assoc p (58 ∷ w) after) in
       let m = length_more w d in
       let m1 = length-append p (58 ∷ (w ++ d ∷ [])) in
       let m2 = length-append p (58 ∷ w) in
@@ -109,16 +109,16 @@ unfolding read_number
 number_read (integer w) after is best =
     let ends : begins is_digit after ≡ false = begins_none is_digit after (λ d t e k. longer (number (integer w)) after best (number (integer (w ++ d ∷ []))) t (all_more is_digit w d is.0 k, (let m = length_more w d in omega (arith, m))) (append_one w d t ∙ ap (λ (y : Text). w ++ y) (sym e)) (let m = length_more w d in omega (arith, m))) in
     let alone : begins (λ c. c == 46) after ≡ false = begins_none (λ c. c == 46) after (λ d t e k.
-        let same : (w ++ 46 ∷ []) ++ t ≡ w ++ after = append_one w 46 t ∙ ap (λ c. w ++ c ∷ t) (sym (eq_is d 46 k)) ∙ ap (λ (y : Text). w ++ y) (sym e) in
-        longer (number (integer w)) after best (number (decimal w [])) t (is.0, refl, omega (arith, is.1)) same (let m = length_more w 46 in omega (arith, m))) in
+    let same : (w ++ 46 ∷ []) ++ t ≡ w ++ after = append_one w 46 t ∙ ap (λ c. w ++ c ∷ t) (sym (eq_is d 46 k)) ∙ ap (λ (y : Text). w ++ y) (sym e) in
+    longer (number (integer w)) after best (number (decimal w [])) t (is.0, refl, omega (arith, is.1)) same (let m = length_more w 46 in omega (arith, m))) in
     rw (span_exact is_digit w after is.0 ends) (no_point_next w after alone)
 number_read (decimal w f) after is best =
     let ends : begins is_digit after ≡ false = begins_none is_digit after (λ d t e k.
-        let same : (w ++ 46 ∷ (f ++ d ∷ [])) ++ t ≡ (w ++ 46 ∷ f) ++ after =
-            append_assoc w (46 ∷ (f ++ d ∷ [])) t ∙ ap (λ (y : Text). w ++ 46 ∷ y) (append_one f d t ∙ ap (λ (y : Text). f ++ y) (sym e)) ∙ sym (append_assoc w (46 ∷ f) after) in
-        let m = length_more f d in
-        let m1 = length-append w (46 ∷ (f ++ d ∷ [])) in
-        let m2 = length-append w (46 ∷ f) in
-        longer (number (decimal w f)) after best (number (decimal w (f ++ d ∷ []))) t (is.0, all_more is_digit f d is.1 k, omega (arith, m)) same (omega (arith, m, m1, m2))) in
+    let same : (w ++ 46 ∷ (f ++ d ∷ [])) ++ t ≡ (w ++ 46 ∷ f) ++ after =
+    append_assoc w (46 ∷ (f ++ d ∷ [])) t ∙ ap (λ (y : Text). w ++ 46 ∷ y) (append_one f d t ∙ ap (λ (y : Text). f ++ y) (sym e)) ∙ sym (append_assoc w (46 ∷ f) after) in
+    let m = length_more f d in
+    let m1 = length-append w (46 ∷ (f ++ d ∷ [])) in
+    let m2 = length-append w (46 ∷ f) in
+    longer (number (decimal w f)) after best (number (decimal w (f ++ d ∷ []))) t (is.0, all_more is_digit f d is.1 k, omega (arith, m)) same (omega (arith, m, m1, m2))) in
     rw (append_assoc w (46 ∷ f) after, span_exact is_digit w (46 ∷ (f ++ after)) is.0 refl)
     (point_next w (f ++ after) ∙ ap (λ (x : Text × Text). (decimal w x.0, x.1)) (span_exact is_digit f after is.1 ends))

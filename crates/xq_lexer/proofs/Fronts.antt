@@ -80,6 +80,7 @@ after_digits_at w (a ∷ t) all h = go (a == 46) refl h
     digits : (0 < length w) ⊎ ((u : Text) × (a ∷ t ≡ 46 ∷ u) × (begins is_digit u ≡ true)) → 0 < length w + length (span is_digit t).0
     digits (inl some) = omega (arith, some)
     digits (inr k) = let same : k.0 ≡ t = cc (k.1) in let s = some_digits t (ap (begins is_digit) (sym same) ∙ k.2) in omega (arith, s)
+
     go : (b : Bool) → (a == 46) ≡ b → (0 < length w) ⊎ ((u : Text) × (a ∷ t ≡ 46 ∷ u) × (begins is_digit u ≡ true)) → NumberAt (w ++ a ∷ t) (cond b (let x = span is_digit t in (decimal w x.0, x.1)) (integer w, a ∷ t))
     go true e h = record {
       whole = append_assoc w (46 ∷ (span is_digit t).0) (span is_digit t).1 ∙ ap (λ (u : Text). w ++ 46 ∷ u) (parts is_digit t).whole ∙ ap (λ x. w ++ x ∷ t) (sym (eq_is a 46 e));
@@ -100,9 +101,9 @@ number_start c t h = go (is_digit c) refl (c == 46) refl (begins is_digit t) ref
 
 number_span : (c : ℕ) (t : Text) → begins_number (c ∷ t) ≡ true → (0 < length (span is_digit (c ∷ t)).0) ⊎ ((u : Text) × ((span is_digit (c ∷ t)).1 ≡ 46 ∷ u) × (begins is_digit u ≡ true))
 number_span c t h = elim (number_start c t h) [
-    | inl e ↦ inl (some_digits (c ∷ t) e)
-    | inr k ↦ inr (t, rw (k.2, k.0) refl, k.1)
-  ]
+  | inl e ↦ inl (some_digits (c ∷ t) e)
+  | inr k ↦ inr (t, rw (k.2, k.0) refl, k.1)
+]
 
 pub number_front : (c : ℕ) (t : Text) → begins_number (c ∷ t) ≡ true → NumberAt (c ∷ t) (read_number (c ∷ t))
 unfolding read_number

@@ -71,7 +71,7 @@ module _ (array : List ℕ) (count now so_far i : ℕ) (tokens : List Token) (c 
         let a = after in
         let g = at_most_greatest next (held next_open next_array) (lexemes (drop (i + 1) tokens)) in
         let b : max so_far (max now (greatest next (held next_open next_array) (lexemes (drop (i + 1) tokens)))) ≡ nesting (lexemes tokens) =
-            subst (λ (p : ℕ × List ℕ). max so_far (max now (greatest p.0 p.1 (lexemes (drop (i + 1) tokens)))) ≡ nesting (lexemes tokens)) e a in
+        subst (λ (p : ℕ × List ℕ). max so_far (max now (greatest p.0 p.1 (lexemes (drop (i + 1) tokens)))) ≡ nesting (lexemes tokens)) e a in
         record {
           room = room;
           within = within;
@@ -86,7 +86,7 @@ module _ (array : List ℕ) (count now so_far i : ℕ) (tokens : List Token) (c 
     pub counts_over : (saved : List ℕ) → changed change now (held count array) ≡ (now + 1, saved) → now ≡ 128 → 129 ≡ min 129 (nesting (lexemes tokens))
     counts_over saved e top =
         let b : max so_far (max now (greatest (now + 1) saved (lexemes (drop (i + 1) tokens)))) ≡ nesting (lexemes tokens) =
-            subst (λ (p : ℕ × List ℕ). max so_far (max now (greatest p.0 p.1 (lexemes (drop (i + 1) tokens)))) ≡ nesting (lexemes tokens)) e after in
+        subst (λ (p : ℕ × List ℕ). max so_far (max now (greatest p.0 p.1 (lexemes (drop (i + 1) tokens)))) ≡ nesting (lexemes tokens)) e after in
         let g = at_most_greatest (now + 1) saved (lexemes (drop (i + 1) tokens)) in
         omega (arith, b, g, top)
 

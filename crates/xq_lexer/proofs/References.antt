@@ -90,6 +90,7 @@ ended_is make x r rest h = go x.0 x.1 h
     last : (w : Text) (c d : ℕ) (u : Text) (b : Bool) → (d == 59) ≡ b → ◌≡◌ {A = Option (Reference × Text)} (cond b (Some (make (c ∷ w), u)) None) (Some (r, rest)) → (make (c ∷ w) ≡ r) × (59 ∷ rest ≡ d ∷ u) × (0 < length (c ∷ w))
     last w c d u true e h = let pair : ◌≡◌ {A = Reference × Text} (make (c ∷ w), u) (r, rest) = cc in let is = eq_is d 59 e in (ap (λ (x : Reference × Text). x.0) pair, ap (λ (y : Text). 59 ∷ y) (sym (ap (λ (x : Reference × Text). x.1) pair)) ∙ ap (λ x. x ∷ u) (sym is), omega arith)
     last w c d u false e h = absurd cc
+
     go : (w u : Text) → ended make (w, u) ≡ Some (r, rest) → (make w ≡ r) × (59 ∷ rest ≡ u) × (0 < length w)
     go [] u h = absurd cc
     go (c ∷ w) [] h = absurd cc

@@ -72,17 +72,19 @@ next_is place text z l rest start end s r a b =
     let l2 = length-append suffix.front z in
     let l3 = ap length f.whole in
     let l4 = length-append (form_text r.form) rest in
-    let some = form_some r.form f.is in
-    (record {
-      form = r.form;
-      skipped = s ∙ ap (λ (u : Text). Some u) (sym f.whole);
-      is_form = f.is;
-      longest = f.longest;
-      stands = f.stands;
-      lex = r.stands_for;
-      start = ap (λ (u : Text). start + bytes u) f.whole ∙ a;
-      end = b;
-    }, omega (arith, l1, l2, l3, l4, some))
+    let some = form_some r.form f.is in (
+      record {
+        form = r.form;
+        skipped = s ∙ ap (λ (u : Text). Some u) (sym f.whole);
+        is_form = f.is;
+        longest = f.longest;
+        stands = f.stands;
+        lex = r.stands_for;
+        start = ap (λ (u : Text). start + bytes u) f.whole ∙ a;
+        end = b;
+      },
+      omega (arith, l1, l2, l3, l4, some),
+    )
 
 -- ---- the loop
 

@@ -151,23 +151,23 @@ pub record SymbolHere (x : Symbol) (after : Text) : Type 0 where
 
 pub symbol_here : (x : Symbol) (after : Text) → IsLongest (symbol x) after → SymbolHere x after
 symbol_here x after best = elim (row_of x) [
-    | inl r ↦ record {
-        char = r.char;
-        rest = after;
-        whole = ap (λ (u : Text). u ++ after) r.text;
-        sign = r.sign;
-        no_number = no_number_at r.char after r.sign.1 (point_alone x r after best);
-        read = single_at x r after best;
-      }
-    | inr r ↦ record {
-        char = r.char;
-        rest = r.next ∷ after;
-        whole = ap (λ (u : Text). u ++ after) r.text;
-        sign = r.sign;
-        no_number = no_number_at r.char (r.next ∷ after) r.sign.1 (λ e. r.no_digit);
-        read = double_at x r after;
-      }
-  ]
+  | inl r ↦ record {
+    char = r.char;
+    rest = after;
+    whole = ap (λ (u : Text). u ++ after) r.text;
+    sign = r.sign;
+    no_number = no_number_at r.char after r.sign.1 (point_alone x r after best);
+    read = single_at x r after best;
+  }
+  | inr r ↦ record {
+    char = r.char;
+    rest = r.next ∷ after;
+    whole = ap (λ (u : Text). u ++ after) r.text;
+    sign = r.sign;
+    no_number = no_number_at r.char (r.next ∷ after) r.sign.1 (λ e. r.no_digit);
+    read = double_at x r after;
+  }
+]
 
 -- ---- what is read is a symbol at the front
 
@@ -218,20 +218,20 @@ pub record SymbolThere (x : Symbol) (rest : Text) : Type 0 where
 
 pub symbol_there : (x : Symbol) (rest : Text) → SymbolThere x rest
 symbol_there x rest = elim (row_of x) [
-    | inl r ↦ record {
-        char = r.char;
-        more = rest;
-        whole = ap (λ (u : Text). u ++ rest) r.text;
-        sign = r.sign;
-        short = λ e. ap length r.text;
-        read = rw r.text (single_longer x r rest);
-      }
-    | inr r ↦ record {
-        char = r.char;
-        more = r.next ∷ rest;
-        whole = ap (λ (u : Text). u ++ rest) r.text;
-        sign = r.sign;
-        short = λ e. true_not_false (begins_number (r.char ∷ r.next ∷ rest)) e (no_number_at r.char (r.next ∷ rest) r.sign.1 (λ e. r.no_digit));
-        read = rw (double_at x r rest) (omega arith);
-      }
-  ]
+  | inl r ↦ record {
+    char = r.char;
+    more = rest;
+    whole = ap (λ (u : Text). u ++ rest) r.text;
+    sign = r.sign;
+    short = λ e. ap length r.text;
+    read = rw r.text (single_longer x r rest);
+  }
+  | inr r ↦ record {
+    char = r.char;
+    more = r.next ∷ rest;
+    whole = ap (λ (u : Text). u ++ rest) r.text;
+    sign = r.sign;
+    short = λ e. true_not_false (begins_number (r.char ∷ r.next ∷ rest)) e (no_number_at r.char (r.next ∷ rest) r.sign.1 (λ e. r.no_digit));
+    read = rw (double_at x r rest) (omega arith);
+  }
+]

@@ -174,6 +174,7 @@ module _ (c : ℕ) (t : Text) where
     where
       x : Number × Text
       x = read_number (c ∷ t)
+
       go : (o : Option Code) → number_fault (read_number (c ∷ t)).0 (read_number (c ∷ t)).1 ≡ o → Means (c ∷ t) (unless_fault o (number (read_number (c ∷ t)).0, (read_number (c ∷ t)).1))
       go None e =
           let f = number_front c t n in

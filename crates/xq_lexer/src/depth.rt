@@ -91,14 +91,14 @@ fn name_change(name: &str, rest: &[Token]) -> Change
                 lexeme: Lexeme::Sym(Symbol::Dollar),
                 ..
             },
-            ..,
+            ..
         ] if is_binder(name) => Change::Deepens,
         [
             Token {
                 lexeme: Lexeme::Sym(Symbol::OpenParenthesis),
                 ..
             },
-            ..,
+            ..
         ] if name == "if" => Change::Deepens,
         _ => Change::Keeps,
     }

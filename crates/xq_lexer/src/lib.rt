@@ -10,10 +10,9 @@ mod runs;
 mod separators;
 mod strings;
 mod symbols;
-mod tokens;
-
 #[cfg(test)]
 mod tests;
+mod tokens;
 
 pub use depth::nesting;
 pub use lexing::lex;

@@ -17,7 +17,11 @@ const PAST_CHARS: u32 = 0x11_0000;
 
 /// The string whose first quote was read, and what is left behind its last one. XQST0090 where a
 /// reference stands for no character, XPST0003 at another fault or where the string stays open.
-pub fn string<'a>(alloc: Global, quote: char, chars: &'a [char]) -> Result<(Lexeme, &'a [char]), Fault>
+pub fn string<'a>(
+    alloc: Global,
+    quote: char,
+    chars: &'a [char],
+) -> Result<(Lexeme, &'a [char]), Fault>
     requires { chars_spec.is_quote quote ≡ true }
     ensures { Gives (λ x. (lex_of x.0, x.1.now)) result (lexed (spec.read_string quote chars.now)) }
 {

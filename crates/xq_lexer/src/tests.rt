@@ -23,34 +23,58 @@ fn code_of(alloc: Global, text: &str) -> Option<Code> {
 
 #[test]
 fn tokens_stand_in_their_places(rt: HostRuntime) -> Result<(), Fail> {
-    assert_eq!(rt; shown(rt.alloc(), "a:=1")?.as_str(), "[Token { lexeme: Name(\"a\"), start: 0, end: 1 }, Token { lexeme: Sym(Assign), start: 1, end: 3 }, Token { lexeme: Int(1), start: 3, end: 4 }]");
-    assert_eq!(rt; shown(rt.alloc(), " \u{10000}\u{E9} ")?.as_str(), "[Token { lexeme: Name(\"\u{10000}\u{E9}\"), start: 1, end: 7 }]");
+    assert_eq!(rt;
+        shown(rt.alloc(), "a:=1")?.as_str(),
+        "[Token { lexeme: Name(\"a\"), start: 0, end: 1 }, Token { lexeme: Sym(Assign), start: 1, end: 3 }, Token { lexeme: Int(1), start: 3, end: 4 }]"
+    );
+    assert_eq!(rt;
+        shown(rt.alloc(), " \u{10000}\u{E9} ")?.as_str(),
+        "[Token { lexeme: Name(\"\u{10000}\u{E9}\"), start: 1, end: 7 }]"
+    );
     Ok(())
 }
 
 #[test]
 fn names_take_hyphens_and_colons(rt: HostRuntime) -> Result<(), Fail> {
-    assert_eq!(rt; shown(rt.alloc(), "a-1")?.as_str(), "[Token { lexeme: Name(\"a-1\"), start: 0, end: 3 }]");
-    assert_eq!(rt; shown(rt.alloc(), "a -1")?.as_str(), "[Token { lexeme: Name(\"a\"), start: 0, end: 1 }, Token { lexeme: Sym(Minus), start: 2, end: 3 }, Token { lexeme: Int(1), start: 3, end: 4 }]");
-    assert_eq!(rt; shown(rt.alloc(), "a:b")?.as_str(), "[Token { lexeme: Prefixed { prefix: \"a\", local: \"b\" }, start: 0, end: 3 }]");
+    assert_eq!(rt;
+        shown(rt.alloc(), "a-1")?.as_str(),
+        "[Token { lexeme: Name(\"a-1\"), start: 0, end: 3 }]"
+    );
+    assert_eq!(rt;
+        shown(rt.alloc(), "a -1")?.as_str(),
+        "[Token { lexeme: Name(\"a\"), start: 0, end: 1 }, Token { lexeme: Sym(Minus), start: 2, end: 3 }, Token { lexeme: Int(1), start: 3, end: 4 }]"
+    );
+    assert_eq!(rt;
+        shown(rt.alloc(), "a:b")?.as_str(),
+        "[Token { lexeme: Prefixed { prefix: \"a\", local: \"b\" }, start: 0, end: 3 }]"
+    );
     Ok(())
 }
 
 #[test]
 fn comments_nest(rt: HostRuntime) -> Result<(), Fail> {
-    assert_eq!(rt; shown(rt.alloc(), "(: a (: b :) c :) 1")?.as_str(), "[Token { lexeme: Int(1), start: 18, end: 19 }]");
+    assert_eq!(rt;
+        shown(rt.alloc(), "(: a (: b :) c :) 1")?.as_str(),
+        "[Token { lexeme: Int(1), start: 18, end: 19 }]"
+    );
     Ok(())
 }
 
 #[test]
 fn strings_are_read(rt: HostRuntime) -> Result<(), Fail> {
-    assert_eq!(rt; shown(rt.alloc(), "\"a\"\"&amp;&#x41;\"")?.as_str(), "[Token { lexeme: Str(\"a\\\"&A\"), start: 0, end: 16 }]");
+    assert_eq!(rt;
+        shown(rt.alloc(), "\"a\"\"&amp;&#x41;\"")?.as_str(),
+        "[Token { lexeme: Str(\"a\\\"&A\"), start: 0, end: 16 }]"
+    );
     Ok(())
 }
 
 #[test]
 fn decimals_drop_trailing_zeros(rt: HostRuntime) -> Result<(), Fail> {
-    assert_eq!(rt; shown(rt.alloc(), "0.1000000")?.as_str(), "[Token { lexeme: Dec(Decimal { millionths: 100000 }), start: 0, end: 9 }]");
+    assert_eq!(rt;
+        shown(rt.alloc(), "0.1000000")?.as_str(),
+        "[Token { lexeme: Dec(Decimal { millionths: 100000 }), start: 0, end: 9 }]"
+    );
     Ok(())
 }
 

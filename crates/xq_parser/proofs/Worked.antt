@@ -121,4 +121,3 @@ call_named_if = refused 3 _ (omega arith) refl
 body_without_brace : (a : Expr) → g.Derives (word "element" ∷ word "a" ∷ symbol s.OpenBrace ∷ []) a → ⊥
 unfolding r.begins r.one_of r.many_from r.many r.begins_call r.begins_make r.begins_literal r.begins_primary r.begins_lone r.begins_flwor r.begins_quantified r.begins_if r.qname r.call_name r.variable r.after_comma r.commas r.whole r.governed r.inside r.body r.computed r.name_of_node r.name_of_instruction r.make_named r.make_instruction r.make_unnamed r.make r.argument_list r.arguments r.call r.parenthesised r.call_or_make r.primary r.name_or_any r.plain_kind r.instruction_kind r.kind_argument r.element_kind r.attribute_kind r.kind_test r.node_test r.along_axis r.along_attributes r.axis_step r.begins_union r.empty_words r.direction_word r.position r.predicate r.predicates r.primary_step r.predicated r.step r.next_step r.relative r.from_root r.from_below r.path r.unary r.set_item r.inter r.union_item r.union r.product_item r.product r.sum_item r.sum r.range_item r.range r.concat_item r.concat r.comparison_item r.comparison r.and_item r.conjunction r.or_item r.disjunction r.tested r.branches r.conditional r.quantifier_binding r.quantified r.order_spec r.order_by r.order_clause r.group_spec r.group_clause r.filter_clause r.let_binding r.let_clause r.for_binding r.for_clause r.later_clause r.clause_ r.first_clause r.clauses r.flwor r.any r.single r.query lookup same same_symbol
 body_without_brace = refused 2 _ (omega arith) refl
-

@@ -118,8 +118,8 @@ module _ {X : Type 0} (atom : Atomic → X) where
   abbrev pub grouped : List ℕ → List (Tuple X) → List (List (List Atomic)) → Result (List (Tuple X)) Code
   grouped slots tuples columns =
       if are_keys columns
-          then Ok (map (grouped_tuple slots) (groups same_keys (zip tuples (key_rows tuples (map (map key_value) columns)))))
-          else Err XPTY0004
+      then Ok (map (grouped_tuple slots) (groups same_keys (zip tuples (key_rows tuples (map (map key_value) columns)))))
+      else Err XPTY0004
 
 -- 3.12.8, order by
 
@@ -181,5 +181,5 @@ can_order column = list_all is_key column && are_of_one_kind (sort_keys column)
 abbrev pub ordered : {X : Type 0} → List OrderRule → List (Tuple X) → List (List (List Atomic)) → Result (List (Tuple X)) Code
 ordered rules tuples columns =
     if list_all can_order columns
-        then Ok (map (λ p. p.0) (sorted (λ p q. keys_cmp rules p.1 q.1) (zip tuples (key_rows tuples (map sort_keys columns)))))
-        else Err XPTY0004
+    then Ok (map (λ p. p.0) (sorted (λ p q. keys_cmp rules p.1 q.1) (zip tuples (key_rows tuples (map sort_keys columns)))))
+    else Err XPTY0004

@@ -23,13 +23,13 @@ pub valued-requires-clause-whole : goal.valued-requires-clause-whole
 valued-requires-clause-whole c =
     let k = cut c.args.chars.now c.digits-has_point.result.0 c.digits-has_point.result.1.now c.requires c.digits-has_point.ensures in
     rw k.point (subst (λ (t : List ℕ). OnFalse (is_decimal k.written) (IsTrue (is_whole t)))
-        (sym (c.as_str.ensures.value ∙ c.in_ok-literal.ensures ∙ ap encode_utf8_all k.literal ∙ number_encoded k.written k.is)) (whole_form k.written k.is))
+    (sym (c.as_str.ensures.value ∙ c.in_ok-literal.ensures ∙ ap encode_utf8_all k.literal ∙ number_encoded k.written k.is)) (whole_form k.written k.is))
 
 pub valued-requires-clause-number : goal.valued-requires-clause-number
 valued-requires-clause-number c =
     let k = cut c.args.chars.now c.digits-has_point.result.0 c.digits-has_point.result.1.now c.requires c.digits-has_point.ensures in
     rw k.point (subst (λ (t : List ℕ). OnTrue (is_decimal k.written) (IsTrue (is_number t)))
-        (sym (c.as_str.ensures.value ∙ c.in_ok-literal.ensures ∙ ap encode_utf8_all k.literal ∙ number_encoded k.written k.is)) (number_form k.written k.is))
+    (sym (c.as_str.ensures.value ∙ c.in_ok-literal.ensures ∙ ap encode_utf8_all k.literal ∙ number_encoded k.written k.is)) (number_form k.written k.is))
 
 pub returns-in_err-valued : goal.returns-in_err-valued
 returns-in_err-valued c =
