@@ -13,7 +13,9 @@ import subprocess
 import sys
 import tempfile
 
-TOP = os.path.dirname(os.path.dirname(os.path.abspath(__file__)))
+sys.path.insert(0, os.path.join(os.path.dirname(os.path.abspath(__file__)), "..", "tools"))
+from workspace import built
+
 CRATES = ("xq_atoms", "xq_regions", "xq_printed")
 SIZES = (262_144, 524_288, 1_048_576)
 PROGRAM = """\
@@ -47,24 +49,6 @@ fn main(rt: HostRuntime) -> io::Result<()> {
     }
 }
 """
-
-
-def build(folder):
-    for crate in CRATES:
-        shutil.copytree(os.path.join(TOP, "crates", crate), os.path.join(folder, "crates", crate),
-                        ignore=shutil.ignore_patterns("out", "must-fail"))
-    program = os.path.join(folder, "crates", "times")
-    os.makedirs(os.path.join(program, "src"))
-    with open(os.path.join(program, "src", "main.rt"), "w") as source:
-        source.write(PROGRAM)
-    shutil.copy(os.path.join(TOP, "HANDLES"), folder)
-    with open(os.path.join(folder, "crates.txt"), "w") as lines:
-        lines.write("xq_atoms:\nxq_regions: xq_atoms\nxq_printed: xq_atoms xq_regions\n"
-                    "times: xq_atoms xq_regions xq_printed\n")
-    built = subprocess.run(["rt", "run"], cwd=program, input=b"", capture_output=True)
-    if built.returncode:
-        sys.exit(built.stdout.decode() + built.stderr.decode())
-    return os.path.join(program, "out", "times")
 
 
 def listed(nodes, size, around):
@@ -112,7 +96,7 @@ def timed(program, text):
 def main():
     folder = tempfile.mkdtemp()
     try:
-        program = build(folder)
+        program = built(folder, CRATES, CRATES, PROGRAM)
         print("%-26s %10s %8s %10s %10s %8s %8s" % ("document", "bytes", "nodes", "read ms", "print ms", "ratio", "ratio"))
         for name, make in KINDS:
             before = None

@@ -1,0 +1,84 @@
+"""Lexes a megabyte of names, of digits, of nested comments, of one string, of symbols; prints times and MB/s.
+
+usage: lexer.py
+
+A time is the least of five runs, without the program's start and its input.
+"""
+
+import os
+import shutil
+import subprocess
+import sys
+import tempfile
+
+sys.path.insert(0, os.path.join(os.path.dirname(os.path.abspath(__file__)), "..", "tools"))
+from workspace import built
+
+CRATES = ("xq_atoms", "xq_lexer")
+SIZES = (262_144, 524_288, 1_048_576)
+PROGRAM = """\
+//! Lexes the text of standard input, and prints how many tokens it has and the microseconds it took.
+#![tactic(auto)]
+
+use std::io;
+use std::time::Instant;
+use xq_lexer::lex;
+
+fn main(rt: HostRuntime) -> io::Result<()> {
+    let text = io::read_to_string(rt.alloc(), rt.stdin())?;
+    let start = Instant::now(&rt)?;
+    let tokens = lex(rt.alloc(), text.as_str());
+    let time = start.elapsed(&rt)?;
+    match tokens {
+        Ok(tokens) => println!(rt; "{} {}", tokens.len(), time.as_micros()),
+        Err(_) => println!(rt; "refused"),
+    }
+}
+"""
+
+
+def repeated(piece, size):
+    return piece * (size // len(piece))
+
+
+KINDS = (
+    ("names", lambda size: repeated("element-name ", size)),
+    ("one name", lambda size: "a" * size),
+    ("integers", lambda size: repeated("123456789 ", size)),
+    ("digits of one number", lambda size: "0" * size),
+    ("nested comments", lambda size: repeated("(: " * 100_000 + "x" + ":)" * 100_000, size) if size > 500_000 else "(: " * (size // 5) + ":)" * (size // 5)),
+    ("one string", lambda size: '"%s"' % repeated('a"" &amp;', size - 2)),
+    ("symbols", lambda size: repeated(":=<=>>..||", size)),
+)
+
+
+def timed(program, text):
+    best, tokens = None, 0
+    for _ in range(5):
+        words = subprocess.run([program], input=text.encode(), stdout=subprocess.PIPE, check=True).stdout.decode().split()
+        if words[0] == "refused":
+            sys.exit("a text was refused")
+        tokens, time = int(words[0]), max(1, int(words[1]))
+        best = time if best is None else min(best, time)
+    return tokens, best
+
+
+def main():
+    folder = tempfile.mkdtemp()
+    try:
+        program = built(folder, CRATES, CRATES, PROGRAM)
+        print("%-22s %10s %8s %10s %8s %8s" % ("text", "bytes", "tokens", "ms", "MB/s", "ratio"))
+        for name, make in KINDS:
+            before = None
+            for size in SIZES:
+                text = make(size)
+                tokens, time = timed(program, text)
+                ratio = "%8.2f" % (time / before) if before else ""
+                print("%-22s %10d %8d %10.2f %8.1f %8s" % (name, len(text), tokens, time / 1000, len(text) / time, ratio), flush=True)
+                before = time
+    finally:
+        shutil.rmtree(folder)
+
+
+if __name__ == "__main__":
+    main()

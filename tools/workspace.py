@@ -1,0 +1,38 @@
+"""Builds a Rattle program over some of this repository's crates, in a workspace of its own.
+
+A program that prints times or reads other files can't stand among the crates: the gate runs each
+program, and compares what it prints.
+"""
+
+import os
+import shutil
+import subprocess
+import sys
+
+TOP = os.path.dirname(os.path.dirname(os.path.abspath(__file__)))
+
+
+def lines_of(crates):
+    """The lines of crates.txt for these crates."""
+    with open(os.path.join(TOP, "crates.txt")) as lines:
+        return [line for line in lines if line.split(":")[0] in crates]
+
+
+def built(folder, crates, uses, source):
+    """Proves and builds the program over the crates in the folder, and gives its path."""
+    for crate in crates:
+        shutil.copytree(os.path.join(TOP, "crates", crate), os.path.join(folder, "crates", crate),
+                        ignore=shutil.ignore_patterns("out", "must-fail"))
+    program = os.path.join(folder, "crates", "program")
+    os.makedirs(os.path.join(program, "src"))
+    with open(os.path.join(program, "src", "main.rt"), "w") as main:
+        main.write(source)
+    shutil.copy(os.path.join(TOP, "HANDLES"), folder)
+    with open(os.path.join(folder, "crates.txt"), "w") as lines:
+        lines.writelines(lines_of(crates))
+        lines.write("program: %s\n" % " ".join(uses))
+    done = subprocess.run(["rt", "run"], cwd=program, input=b"", capture_output=True)
+    path = os.path.join(program, "out", "program")
+    if done.returncode or not os.path.exists(path):
+        sys.exit(done.stdout.decode() + done.stderr.decode())
+    return path
