@@ -7,6 +7,6 @@ mkdir -p "$work/crates/timings/src"
 rm -rf "$work/crates/xq_atoms" "$work/crates/xq_regions"
 cp -r "$top/crates/xq_atoms" "$top/crates/xq_regions" "$work/crates/"
 cp "$top/bench/regions/main.rattle" "$work/crates/timings/src/main.rt"
-printf 'xq_atoms:\nxq_regions: xq_atoms\ntimings: xq_regions anyhow\n' > "$work/crates.txt"
+{ grep -E '^(xq_atoms|xq_regions):' "$top/crates.txt"; echo 'timings: xq_regions anyhow'; } > "$work/crates.txt"
 cd "$work/crates/timings"
 rt run
