@@ -6,7 +6,7 @@ use Rattle.std.proofs.lemmas.Bool.{le-leb, eq-eqb}
 use Rattle.xq_regions.specs.Forest.{count, tops}
 use Rattle.xq_regions.specs.Tree.{Label, may_precede, may_follow, may_stand, has_text}
 use Rattle.xq_regions.specs.Rows.{Row, row_at, row_of, front, nest}
-use Rattle.xq_regions.specs.Checks.{IsChecked, roots, label_of, child_ok, is_run}
+use Rattle.xq_regions.specs.Checks.{IsChecked, roots, label_of, child_ok, may_be_child, is_run}
 use Rattle.xq_regions.specs.declared.NodeRow.{NodeRow}
 use Rattle.xq_regions.specs.declared.Kind.{Kind}
 use Rattle.std.proofs.Common.{length-drop}
@@ -54,7 +54,7 @@ child_decided parent r n labels p l k t s hp =
     ∙ ap (λ b. b && (e && nat_lt r.size n)) t
     ∙ ap (λ b. e && b) d)
 
-pub child_decided_at : (xs : List NodeRow) (i c stop n : ℕ) (y x : NodeRow) (p : Bool) → i < length xs → c < length xs → y ≡ get_or xs i y → x ≡ get_or xs c x → n ≡ suc c + x.size → x.level ≡ suc y.level → may_stand y.kind x.kind ≡ true → has_text x.kind (string_bytes x.value) ≡ true → x.size < stop - c → p ≡ may_precede x.kind (map label_of (roots (map row_of xs) n stop)) → p ≡ child_ok (row_at (map row_of xs) i) (stop - c) (row_at (map row_of xs) c) (map label_of (roots (map row_of xs) (suc c + (row_at (map row_of xs) c).size) stop))
+pub child_decided_at : (xs : List NodeRow) (i c stop n : ℕ) (y x : NodeRow) (p : Bool) → i < length xs → c < length xs → y ≡ get_or xs i y → x ≡ get_or xs c x → n ≡ suc c + x.size → x.level ≡ suc y.level → may_stand y.kind x.kind ≡ true → has_text x.kind (string_bytes x.value) ≡ true → x.size < stop - c → p ≡ may_precede x.kind (map label_of (roots (map row_of xs) n stop)) → p ≡ may_be_child (row_at (map row_of xs) i) (map row_of xs) c stop
 child_decided_at xs i c stop n y x p hi hc hy hx e l k t s hp =
     let ey : row_at (map row_of xs) i ≡ row_of y = row_at-map xs i y hi hy in
     let ex : row_at (map row_of xs) c ≡ row_of x = row_at-map xs c x hc hx in
@@ -64,10 +64,10 @@ child_decided_at xs i c stop n y x p hi hc hy hx e l k t s hp =
     ∙ sym (ap (λ (z : Row). child_ok (row_at (map row_of xs) i) (stop - c) z (map label_of (roots (map row_of xs) (suc c + z.size) stop))) ex
     ∙ ap (λ (z : Row). child_ok z (stop - c) (row_of x) (map label_of (roots (map row_of xs) (suc c + x.size) stop))) ey)
 
-pub run_step : (parent : Row) (xs : List NodeRow) (c stop : ℕ) → c < stop → stop ≤ length xs → IsChecked (drop c (map row_of xs)) → is_run parent (stop - c) (roots (map row_of xs) c stop) ≡ (child_ok parent (stop - c) (row_at (map row_of xs) c) (map label_of (roots (map row_of xs) (suc c + (row_at (map row_of xs) c).size) stop)) && is_run parent (stop - c - suc (row_at (map row_of xs) c).size) (roots (map row_of xs) (suc c + (row_at (map row_of xs) c).size) stop))
+pub run_step : (parent : Row) (xs : List NodeRow) (c stop : ℕ) → c < stop → stop ≤ length xs → IsChecked (drop c (map row_of xs)) → is_run parent (stop - c) (roots (map row_of xs) c stop) ≡ (may_be_child parent (map row_of xs) c stop && is_run parent (stop - c - suc (row_at (map row_of xs) c).size) (roots (map row_of xs) (suc c + (row_at (map row_of xs) c).size) stop))
 run_step parent xs c stop h w g = ap (is_run parent (stop - c)) (roots_step (map row_of xs) c stop h (let l = length-map row_of xs in omega arith) g)
 
-pub run_fails : (parent : Row) (xs : List NodeRow) (c stop : ℕ) → c < stop → stop ≤ length xs → IsChecked (drop c (map row_of xs)) → child_ok parent (stop - c) (row_at (map row_of xs) c) (map label_of (roots (map row_of xs) (suc c + (row_at (map row_of xs) c).size) stop)) ≡ false → is_run parent (stop - c) (roots (map row_of xs) c stop) ≡ false
+pub run_fails : (parent : Row) (xs : List NodeRow) (c stop : ℕ) → c < stop → stop ≤ length xs → IsChecked (drop c (map row_of xs)) → may_be_child parent (map row_of xs) c stop ≡ false → is_run parent (stop - c) (roots (map row_of xs) c stop) ≡ false
 run_fails parent xs c stop h w g e =
     run_step parent xs c stop h w g ∙ ap (λ b. b && is_run parent (stop - c - suc (row_at (map row_of xs) c).size) (roots (map row_of xs) (suc c + (row_at (map row_of xs) c).size) stop)) e
 
@@ -76,7 +76,7 @@ pub record RunGoesOn (parent : Row) (xs : List NodeRow) (c stop m : ℕ) : Type 
   pub within : m ≤ stop
   pub same : is_run parent (stop - c) (roots (map row_of xs) c stop) ≡ is_run parent (stop - m) (roots (map row_of xs) m stop)
 
-pub run_goes_on : (parent : Row) (xs : List NodeRow) (c stop m : ℕ) (x : NodeRow) → c < stop → stop ≤ length xs → IsChecked (drop c (map row_of xs)) → x ≡ get_or xs c x → m ≡ suc c + x.size → child_ok parent (stop - c) (row_at (map row_of xs) c) (map label_of (roots (map row_of xs) (suc c + (row_at (map row_of xs) c).size) stop)) ≡ true → RunGoesOn parent xs c stop m
+pub run_goes_on : (parent : Row) (xs : List NodeRow) (c stop m : ℕ) (x : NodeRow) → c < stop → stop ≤ length xs → IsChecked (drop c (map row_of xs)) → x ≡ get_or xs c x → m ≡ suc c + x.size → may_be_child parent (map row_of xs) c stop ≡ true → RunGoesOn parent xs c stop m
 run_goes_on parent xs c stop m x h w g hx hm e =
     let ex : row_at (map row_of xs) c ≡ row_of x = row_at-map xs c x (omega arith) hx in
     let s : (row_at (map row_of xs) c).size ≡ x.size = ap (λ (r : Row). r.size) ex in

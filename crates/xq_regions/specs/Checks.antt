@@ -68,6 +68,15 @@ are_attributes_first (a ∷ labels) = may_precede a.kind labels && are_attribute
 abbrev pub roots : List Row → ℕ → ℕ → List Row
 roots rs c stop = tops (front (stop - c) (nest (drop c rs)))
 
+-- the row c may be the next child of the parent, whose rows end before the row `stop`
+abbrev pub may_be_child : Row → List Row → ℕ → ℕ → Bool
+may_be_child parent rs c stop =
+    child_ok parent (stop - c) (row_at rs c) (map label_of (roots rs (suc c + (row_at rs c).size) stop))
+
+-- the rows after the row p are, as far as its size says, those of its children
+abbrev pub are_children_after : List Row → ℕ → Bool
+are_children_after rs p = is_run (row_at rs p) (row_at rs p).size (roots rs (suc p) (suc p + (row_at rs p).size))
+
 -- the row at the place i is right, where those after it are
 abbrev pub IsSoundAt : List NodeRow → ℕ → Type 0
 IsSoundAt rs i =

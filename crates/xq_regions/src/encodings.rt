@@ -3,7 +3,7 @@ ghost use Rattle.std.specs.Prelude.{◌≡◌, ◌+◌, ◌-◌, ◌<◌, ◌≤
 ghost use Rattle.std.proofs.Common.{suc};
 ghost use Rattle.xq_regions.specs.Tree.{may_stand as may_stand_lem, may_follow as may_follow_lem, is_legal as is_legal_lem, has_text as has_text_lem, is_attribute as is_attribute_lem, may_precede as may_precede_lem, attribute_names};
 ghost use Rattle.xq_regions.specs.Rows.{row_of, row_at, AreNumbered, IsEncoding};
-ghost use Rattle.xq_regions.specs.Checks.{IsSoundAt, IsChecked, IsNested, IsNamedAt, AreNamed, are_attributes_first, roots, label_of, name_of, child_ok, is_run};
+ghost use Rattle.xq_regions.specs.Checks.{IsSoundAt, IsChecked, IsNested, IsNamedAt, AreNamed, are_attributes_first, roots, label_of, name_of, may_be_child, are_children_after};
 
 use crate::attributes::has_distinct_names;
 use crate::names::{are_characters, is_attribute_name, is_name, is_target};
@@ -87,7 +87,7 @@ fn is_child(rows: &[NodeRow], parent: usize, at: usize, stop: usize) -> bool
     requires at_in { at < stop }
     requires within { stop ≤ length rows.now }
     requires checked { IsChecked (drop at (map row_of rows.now)) }
-    ensures { result ≡ child_ok (row_at (map row_of rows.now) parent) (stop - at) (row_at (map row_of rows.now) at) (map label_of (roots (map row_of rows.now) (suc at + (row_at (map row_of rows.now) at).size) stop)) }
+    ensures { result ≡ may_be_child (row_at (map row_of rows.now) parent) (map row_of rows.now) at stop }
 {
     let above = &rows[parent];
     let row = &rows[at];
@@ -108,7 +108,7 @@ fn is_child(rows: &[NodeRow], parent: usize, at: usize, stop: usize) -> bool
 fn has_children(rows: &[NodeRow], parent: usize) -> bool
     requires parent_in { parent < length rows.now }
     requires checked { IsChecked (drop (suc parent) (map row_of rows.now)) }
-    ensures { result ≡ is_run (row_at (map row_of rows.now) parent) (row_at (map row_of rows.now) parent).size (roots (map row_of rows.now) (suc parent) (suc parent + (row_at (map row_of rows.now) parent).size)) }
+    ensures { result ≡ are_children_after (map row_of rows.now) parent }
 {
     let above = &rows[parent];
     let size = above.size as usize;
