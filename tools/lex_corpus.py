@@ -1,8 +1,10 @@
-"""Lexes the queries of a corpus: each that has an answer, or another code than XPST0003, has to give tokens.
+"""Lexes the queries of a corpus.
 
 usage: lex_corpus.py CORPUS        lines of JSON with the query as q, and its answer as a or its code as e
 
-Line ends are read as line feeds first, as the server does. The last line is 'tokens N of M'.
+A query of code XQST0090 has to be refused with it; one of XPST0003 has to give tokens, for the grammar to refuse, or
+be refused with that code; any other has to give tokens. Line ends are read as line feeds first, as the server does.
+The last lines say how many of each kind did: 'tokens N of M', 'XPST0003 N of M', 'XQST0090 N of M'.
 """
 
 import json
@@ -10,11 +12,12 @@ import shutil
 import subprocess
 import sys
 import tempfile
+from collections import Counter
 
 from workspace import built
 
 CRATES = ("xq_atoms", "xq_lexer")
-# Codes that tell of a token, so that a query refused by one of them need not give tokens.
+# Codes that a token may have.
 OF_TOKENS = ("XPST0003", "XQST0090")
 PROGRAM = """\
 //! Lexes the texts of standard input, each ended by a byte of 0, and prints a line for each: how
@@ -46,28 +49,42 @@ fn main(rt: HostRuntime) -> io::Result<()> {
 """
 
 
-def main():
-    with open(sys.argv[1]) as file:
-        rows = [json.loads(line) for line in file]
-    texts = [row["q"].replace("\r\n", "\n").replace("\r", "\n").encode() for row in rows]
+def kind_of(row):
+    """What the row asks of the lexer: tokens, or the code that it names."""
+    return row["e"] if row.get("e") in OF_TOKENS else "tokens"
+
+
+def is_right(kind, answer):
+    """Whether the lexer's answer, a count of tokens or a code, is what a row of the kind asks."""
+    return answer == kind or (answer.isdigit() and kind != "XQST0090")
+
+
+def answers_of(texts):
+    """The line that the lexer answers to each text."""
     folder = tempfile.mkdtemp()
     try:
         program = built(folder, CRATES, CRATES, PROGRAM)
-        output = subprocess.run([program], input=b"".join(text + b"\0" for text in texts), stdout=subprocess.PIPE, check=True).stdout
+        given = b"".join(text.encode() + b"\0" for text in texts)
+        return subprocess.run([program], input=given, stdout=subprocess.PIPE, check=True).stdout.decode().split()
     finally:
         shutil.rmtree(folder)
-    answers = output.decode().split()
-    good = total = 0
+
+
+def main():
+    with open(sys.argv[1]) as file:
+        rows = [json.loads(line) for line in file]
+    answers = answers_of(row["q"].replace("\r\n", "\n").replace("\r", "\n") for row in rows)
+    right, total = Counter(), Counter()
     for row, answer in zip(rows, answers, strict=True):
-        if row.get("e") in OF_TOKENS:
-            continue
-        total += 1
-        if answer.isdigit():
-            good += 1
+        kind = kind_of(row)
+        total[kind] += 1
+        if is_right(kind, answer):
+            right[kind] += 1
         else:
             print("%s: %s" % (answer, row["q"]))
-    print("tokens %d of %d" % (good, total))
-    return 0 if good == total else 1
+    for kind in ("tokens",) + OF_TOKENS:
+        print("%s %d of %d" % (kind, right[kind], total[kind]))
+    return 0 if right == total else 1
 
 
 if __name__ == "__main__":

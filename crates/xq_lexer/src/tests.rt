@@ -104,7 +104,17 @@ fn faults_have_their_codes(rt: HostRuntime) {
 
 #[test]
 fn brackets_nest(rt: HostRuntime) -> Result<(), Fail> {
-    let tokens = lex(rt.alloc(), "((1))").ok().ok_or("refused")?;
-    assert_eq!(rt; nesting(&tokens), 2);
+    let alloc = rt.alloc();
+    let two = lex(alloc, "((1))").ok().ok_or("refused")?;
+    assert_eq!(rt; nesting(&two), 2);
+    let mut text = String::from_str(alloc, "1")?;
+    for _ in 0..128 {
+        text = format!(in alloc; "({text})")?;
+    }
+    let most = lex(alloc, text.as_str()).ok().ok_or("refused")?;
+    assert_eq!(rt; nesting(&most), 128);
+    text = format!(in alloc; "({text})")?;
+    let more = lex(alloc, text.as_str()).ok().ok_or("refused")?;
+    assert_eq!(rt; nesting(&more), 129);
     Ok(())
 }
