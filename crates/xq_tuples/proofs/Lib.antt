@@ -5,5 +5,9 @@ pub mod Refusals
 pub mod Grouping
 pub mod KeyOrder
 pub mod Placing
+pub mod Sorting
+pub mod Rules
 pub mod KeyRows
+pub mod Comparing
 pub mod Reading
+mod WorkedRows

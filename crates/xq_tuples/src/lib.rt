@@ -3,8 +3,10 @@
 
 mod groups;
 mod keys;
+mod order;
 mod rows;
 mod streams;
 mod values;
 
+pub use rows::OrderSpec;
 pub use streams::Tuples;

@@ -1,11 +1,26 @@
 //! Tuples with their keys.
 
 use crate::values::Tuple;
-use xq_atoms::Atom;
+use xq_atoms::{Atom, GroupKey};
 
 /// A tuple with its keys, one for each specification.
 #[derive(Drop)]
 pub struct Keyed {
     pub tuple: Tuple,
     pub keys: Vec<Option<Atom>>,
+}
+
+/// How one specification of an `order by` clause orders (XQuery 3.1, section 3.12.8): ascending or
+/// descending, with the empty key least or greatest.
+#[derive(Clone, Copy, Debug, PartialEq, Eq)]
+pub struct OrderSpec {
+    pub descending: bool,
+    pub greatest: bool,
+}
+
+/// A tuple with what it is ordered by.
+#[derive(Drop)]
+pub struct Ranked {
+    pub tuple: Tuple,
+    pub keys: Vec<GroupKey>,
 }

@@ -1,11 +1,14 @@
 //! The stream of tuples, and the clauses that make one stream of another.
-ghost use Rattle.std.specs.Prelude.{◌≡◌, ◌<◌, [], ◌∷◌, length, map, slice_index_or, All, IfOk, IfErr, Ok};
-ghost use Rattle.xq_regions.specs.Tuples.{bound, expanded, grouped, kept, value_at};
+ghost use Rattle.std.specs.Prelude.{◌≡◌, ◌<◌, [], ◌∷◌, length, map, slice_index_or, All, IsTrue, ◌↔◌, IfOk, IfErr, Ok};
+ghost use Rattle.xq_regions.specs.Tuples.{bound, expanded, grouped, kept, ordered, value_at};
 ghost use Rattle.xq_tuples.specs.Keys.{IsRefusal, columns_of};
+ghost use Rattle.xq_tuples.specs.Orders.{rule_of};
 ghost use Rattle.xq_tuples.specs.Views.{Value as AtomThing, thing_of, things_of};
 
 use crate::groups::{gather, joined};
 use crate::keys::{key_columns, key_rows};
+use crate::order::{sort_columns, sorted};
+use crate::rows::OrderSpec;
 use crate::values::{Tuple, push_copies, push_each};
 use std::alloc::Global;
 use std::marker::Model;
@@ -46,6 +49,13 @@ impl Tuples {
         ensures { result ≡ length self.now }
     {
         self.tuples.len()
+    }
+
+    /// Whether each tuple has the slot.
+    pub fn has_slot(&self, slot: usize) -> bool
+        ensures { IsTrue result ↔ All (λ tuple. slot < length tuple) self.now }
+    {
+        self.tuples.iter().all(|tuple| slot < tuple.len())
     }
 
     /// The value of the slot in each tuple.
@@ -143,6 +153,23 @@ impl Tuples {
         for group in &groups {
             tuples.push(joined(alloc, slots, group)?)?;
         }
+        Ok(Tuples { alloc, tuples })
+    }
+
+    /// `order by`: the stream of the same tuples in the order of their keys, by the first
+    /// specification that tells them apart; equals stay in their order. `keys` has for each
+    /// specification the atomized value at each tuple. XPTY0004 where one of them is more than one
+    /// value, or those of one specification aren't all numbers, all strings or all booleans.
+    pub fn order(self, keys: Vec<Vec<Vec<Atom>>>, specs: &[OrderSpec]) -> Result<Tuples, Fault>
+        requires specs { length specs.now ≡ length keys.items }
+        requires keys { All (λ column. length column.items ≡ length self) keys.items }
+        ensures stream { IfOk result (λ stream. ordered (map rule_of specs.now) self (columns_of keys) ≡ Ok stream) }
+        ensures refused { IfErr result (IsRefusal (ordered (map rule_of specs.now) self (columns_of keys))) }
+    {
+        let alloc = self.alloc;
+        let columns = sort_columns(alloc, keys)?;
+        let rows = key_rows(alloc, self.tuples.len(), columns)?;
+        let tuples = sorted(alloc, specs, self.tuples, rows)?;
         Ok(Tuples { alloc, tuples })
     }
 }

@@ -1,0 +1,95 @@
+-- Kinds of keys, and their comparison specification by specification.
+use Rattle.std.proofs.Common.{◌≡◌, ℕ, zero, suc, ◌+◌, ◌<◌, List, [], ◌∷◌, map, drop, length, get_or, Bool, true, false, not, cond, ◌&&◌, ◌||◌, Option, Some, None, refl, ap, sym, ◌∙◌, arith}
+use Rattle.std.specs.declared.cmp.Ordering.{Ordering}
+use Rattle.std.specs.declared.cmp.Ordering.TheVariants.{Less, Equal, Greater}
+use Rattle.std.specs.Ordering.{ordering_then, is_ne}
+use Rattle.std.specs.List.{list_all, find}
+use Rattle.std.proofs.lemmas.Bool.{false≢true}
+use Rattle.std.proofs.lemmas.List.{drop-map, drop_more}
+use Rattle.xq_atoms.specs.declared.atoms.GroupKey.{GroupKey}
+use Rattle.xq_atoms.specs.Compare.{Key, Nothing, Number, Characters, Truth, key_of, of_one_kind}
+use Rattle.xq_tuples.specs.declared.rows.OrderSpec.{OrderSpec}
+use Rattle.xq_tuples.specs.Orders.{rule_of}
+use Rattle.xq_tuples.proofs.Lists.{list_all-map}
+use Rattle.xq_regions.specs.Tuples.{OrderRule, is_nothing, rule_cmp, first_key, later_keys, keys_cmp, are_of_one_kind}
+
+are_of_one_kind-empty : (k : Key) (ks : List Key) → is_nothing k ≡ true → are_of_one_kind (k ∷ ks) ≡ are_of_one_kind ks
+are_of_one_kind-empty Nothing ks e = refl
+are_of_one_kind-empty (Number m) ks e = absurd (false≢true e)
+are_of_one_kind-empty (Characters t) ks e = absurd (false≢true e)
+are_of_one_kind-empty (Truth b) ks e = absurd (false≢true e)
+
+are_of_one_kind-first : (k : Key) (ks : List Key) → is_nothing k ≡ false → are_of_one_kind (k ∷ ks) ≡ list_all (λ j. is_nothing j || of_one_kind k j) ks
+are_of_one_kind-first Nothing ks e = absurd (false≢true (sym e))
+are_of_one_kind-first (Number m) ks e = refl
+are_of_one_kind-first (Characters t) ks e = refl
+are_of_one_kind-first (Truth b) ks e = refl
+
+like_itself : (k : Key) → (is_nothing k || of_one_kind k k) ≡ true
+like_itself Nothing = refl
+like_itself (Number m) = refl
+like_itself (Characters t) = refl
+like_itself (Truth b) = refl
+
+-- whether the keys are empty or like the one that was found, which is the first that isn't empty
+abbrev pub like_found : Option GroupKey → List GroupKey → Bool
+like_found None ks = true
+like_found (Some first) ks = list_all (λ key. is_nothing (key_of key) || of_one_kind (key_of first) (key_of key)) ks
+
+found_later : (found : Option GroupKey) (k : GroupKey) (ks : List GroupKey) → is_nothing (key_of k) ≡ true → like_found found (k ∷ ks) ≡ like_found found ks
+found_later None k ks e = refl
+found_later (Some first) k ks e = ap (λ b. (b || of_one_kind (key_of first) (key_of k)) && like_found (Some first) ks) e
+
+like_found_step : (k : GroupKey) (ks : List GroupKey) (found : Option GroupKey) (b : Bool) → is_nothing (key_of k) ≡ b → like_found found ks ≡ are_of_one_kind (map key_of ks)
+    → like_found (cond (not b) (Some k) found) (k ∷ ks) ≡ are_of_one_kind (map key_of (k ∷ ks))
+like_found_step k ks found true e rest = found_later found k ks e ∙ rest ∙ sym (are_of_one_kind-empty (key_of k) (map key_of ks) e)
+like_found_step k ks found false e rest =
+    ap (λ b. b && like_found (Some k) ks) (like_itself (key_of k)) ∙ sym (list_all-map (λ j. is_nothing j || of_one_kind (key_of k) j) key_of ks) ∙ sym (are_of_one_kind-first (key_of k) (map key_of ks) e)
+
+pub like_found-all : (ks : List GroupKey) → like_found (find (λ key. not (is_nothing (key_of key))) ks) ks ≡ are_of_one_kind (map key_of ks)
+like_found-all [] = refl
+like_found-all (k ∷ ks) = like_found_step k ks (find (λ key. not (is_nothing (key_of key))) ks) (is_nothing (key_of k)) refl (like_found-all ks)
+
+first_key-drop : (ks : List Key) (i : ℕ) → first_key (drop i ks) ≡ get_or ks i Nothing
+first_key-drop [] zero = refl
+first_key-drop [] (suc i) = refl
+first_key-drop (k ∷ ks) zero = refl
+first_key-drop (k ∷ ks) (suc i) = first_key-drop ks i
+
+later_keys-drop : (ks : List Key) (i : ℕ) → later_keys (drop i ks) ≡ drop (suc i) ks
+later_keys-drop [] zero = refl
+later_keys-drop [] (suc i) = refl
+later_keys-drop (k ∷ ks) zero = refl
+later_keys-drop (k ∷ ks) (suc i) = later_keys-drop ks i
+
+-- from one specification on
+pub keys_cmp-drop : (rules : List OrderRule) (js ks : List Key) (i : ℕ) (rule : OrderRule) → drop i rules ≡ rule ∷ drop (i + 1) rules
+    → keys_cmp (drop i rules) (drop i js) (drop i ks) ≡ ordering_then (rule_cmp rule (get_or js i Nothing) (get_or ks i Nothing)) (keys_cmp (drop (i + 1) rules) (drop (i + 1) js) (drop (i + 1) ks))
+keys_cmp-drop rules js ks i rule e =
+    let one : suc i ≡ i + 1 = omega arith in
+    ap (λ r. keys_cmp r (drop i js) (drop i ks)) e
+    ∙ (λ t. ordering_then (rule_cmp rule (first_key-drop js i t) (first_key-drop ks i t)) (keys_cmp (drop (i + 1) rules) ((later_keys-drop js i ∙ ap (λ n. drop n js) one) t) ((later_keys-drop ks i ∙ ap (λ n. drop n ks) one) t)))
+
+pub ordering_then-ne : (o p : Ordering) → is_ne o ≡ true → ordering_then o p ≡ o
+ordering_then-ne Less p h = refl
+ordering_then-ne Equal p h = absurd (false≢true h)
+ordering_then-ne Greater p h = refl
+
+pub ordering_then-eq : (o p : Ordering) → is_ne o ≡ false → ordering_then o p ≡ p
+ordering_then-eq Less p h = absurd (false≢true (sym h))
+ordering_then-eq Equal p h = refl
+ordering_then-eq Greater p h = absurd (false≢true (sym h))
+
+-- what a turn of the loop over the specifications compares
+pub compared_at : (specs : List OrderSpec) (first second : List GroupKey) (i : ℕ) (d : OrderSpec) (none j k : GroupKey) {o : Ordering} → i < length specs → key_of none ≡ Nothing
+    → key_of j ≡ get_or (map key_of first) i (key_of none) → key_of k ≡ get_or (map key_of second) i (key_of none) → o ≡ rule_cmp (rule_of (get_or specs i d)) (key_of j) (key_of k)
+    → keys_cmp (map rule_of (drop i specs)) (map key_of (drop i first)) (map key_of (drop i second)) ≡ ordering_then o (keys_cmp (map rule_of (drop (i + 1) specs)) (map key_of (drop (i + 1) first)) (map key_of (drop (i + 1) second)))
+compared_at specs first second i d none j k {o} within is_none at_j at_k is =
+    let rules = map rule_of specs in
+    let js = map key_of first in
+    let ks = map key_of second in
+    let split = drop-map rule_of i specs ∙ ap (map rule_of) (drop_more specs i d within) ∙ ap (λ r. rule_of (get_or specs i d) ∷ r) (sym (drop-map rule_of (i + 1) specs)) in
+    (λ t. keys_cmp (sym (drop-map rule_of i specs) t) (sym (drop-map key_of i first) t) (sym (drop-map key_of i second) t))
+    ∙ keys_cmp-drop rules js ks i (rule_of (get_or specs i d)) split
+    ∙ (λ t. ordering_then (rule_cmp (rule_of (get_or specs i d)) (sym (at_j ∙ ap (get_or js i) is_none) t) (sym (at_k ∙ ap (get_or ks i) is_none) t)) (keys_cmp (drop-map rule_of (i + 1) specs t) (drop-map key_of (i + 1) first t) (drop-map key_of (i + 1) second t)))
+    ∙ ap (λ p. ordering_then p (keys_cmp (map rule_of (drop (i + 1) specs)) (map key_of (drop (i + 1) first)) (map key_of (drop (i + 1) second)))) (sym is)

@@ -1,0 +1,23 @@
+use Rattle.std.proofs.Common.{◌≡◌, ◌<◌, ◌+◌, ◌∷◌, map, drop, length, get_or, ap, sym, ◌∙◌, arith}
+use Rattle.std.specs.Ordering.{ordering_then}
+use Rattle.std.proofs.lemmas.List.{drop-map, drop_more}
+use Rattle.xq_atoms.specs.Compare.{Nothing, key_of}
+use Rattle.xq_regions.specs.Tuples.{keys_cmp, rule_cmp}
+use Rattle.xq_tuples.specs.Orders.{rule_of}
+use Rattle.xq_tuples.proofs.Comparing.{compared_at, ordering_then-ne, ordering_then-eq}
+use Rattle.xq_tuples.proofs.order.compare.Goals as goal
+
+pub returns-then-is_ne : goal.returns-then-is_ne
+returns-then-is_ne c =
+    let empty = c.loop-index.invariant.empty in
+    let at = compared_at c.args.specs.now c.args.first.now c.args.second.now c.loop-index.index _ _ _ _ c.loop-index-test.true empty c.key_at-first_key.ensures c.key_at.ensures c.compare_keys-ordering.ensures in
+    sym (ordering_then-ne c.compare_keys-ordering.result _ (sym c.is_ne.ensures ∙ c.if-is_ne.true)) ∙ sym at ∙ c.loop-index.invariant.rest
+
+pub loop-index-preserved : goal.loop-index-preserved
+loop-index-preserved c =
+    let empty = c.loop-index.invariant.empty in
+    let at = compared_at c.args.specs.now c.args.first.now c.args.second.now c.loop-index.index _ _ _ _ c.loop-index-test.true empty c.key_at-first_key.ensures c.key_at.ensures c.compare_keys-ordering.ensures in
+    record {
+      rest = sym (ordering_then-eq c.compare_keys-ordering.result _ (sym c.is_ne.ensures ∙ c.if-is_ne.false)) ∙ sym at ∙ c.loop-index.invariant.rest;
+      empty = empty;
+    }
