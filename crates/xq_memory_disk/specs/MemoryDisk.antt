@@ -3,4 +3,4 @@ use Rattle.std.specs.Prelude.{ℕ, List}
 use Rattle.xq_memory_disk.specs.declared.MemoryDisk.{MemoryDisk}
 
 abbrev pub disk_bytes : MemoryDisk → List ℕ
-disk_bytes disk = disk.bytes.items
+disk_bytes disk = disk.bytes

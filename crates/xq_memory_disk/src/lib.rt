@@ -2,13 +2,16 @@
 //!
 //! The database of a server that was given no file lies on two of these, the database's pages
 //! and its log. What was written is what is read, so a read needs no digest and a sync has
-//! nothing to do.
+//! nothing to do. The bytes lie in blocks, so the file grows without a copy of what it holds.
 #![tactic(auto)]
 
-ghost use Rattle.std.specs.Prelude.{◌≡◌, [], length, true, false, refl, is_ok, OnOk};
-ghost use Rattle.sqlite_disk.specs.Disk.{Holds, Torn, Cut, CountsFault};
+ghost use Rattle.std.specs.Prelude.{◌≡◌, [], true, false, refl, is_ok};
+ghost use Rattle.sqlite_disk.specs.Disk.{CountsFault};
 ghost use Rattle.sqlite_disk.specs.Refusal.{finds_no_room};
 
+mod blocks;
+
+use blocks::Blocks;
 use sqlite_disk::{Disk, Tally};
 use std::alloc::{AllocError, Global};
 use std::io;
@@ -16,7 +19,7 @@ use std::io;
 /// A file in memory, and how many times it found no room to grow.
 #[derive(Drop)]
 pub struct MemoryDisk {
-    bytes: Vec<u8>,
+    bytes: Blocks,
     refused: u64,
 }
 
@@ -28,17 +31,17 @@ impl MemoryDisk {
         ensures { disk_bytes result ≡ [] }
     {
         MemoryDisk {
-            bytes: Vec::new(alloc),
+            bytes: Blocks::new(alloc),
             refused: 0,
         }
     }
 }
 
 impl Disk for MemoryDisk {
-    ghost seen = { λ disk. disk.bytes.items };
+    ghost seen = { λ disk. disk.bytes };
 
     // The one crash is the end of the process, and of the file with it.
-    ghost may_leave = { λ disk content. content ≡ disk.bytes.items };
+    ghost may_leave = { λ disk content. content ≡ disk.bytes };
 
     ghost is_usable = { λ _. true };
 
@@ -83,7 +86,7 @@ impl Disk for MemoryDisk {
         if at > self.bytes.len() || buf.len() > self.bytes.len() - at {
             return Err(io::ErrorKind::UnexpectedEof.into());
         }
-        buf.copy_from_slice(&self.bytes[at..at + buf.len()]);
+        self.bytes.read(at, buf);
         Ok(())
     }
 
@@ -93,11 +96,11 @@ impl Disk for MemoryDisk {
     }
 
     fn write_at(&mut self, at: usize, bytes: &[u8]) -> io::Result<()> {
-        counted(overwrite(&mut self.bytes, at, bytes), &mut self.refused)
+        counted(self.bytes.write(at, bytes), &mut self.refused)
     }
 
     fn set_len(&mut self, len: usize) -> io::Result<()> {
-        counted(resize(&mut self.bytes, len), &mut self.refused)
+        counted(self.bytes.resize(len), &mut self.refused)
     }
 
     fn sync(&mut self) -> io::Result<()> {
@@ -115,27 +118,6 @@ fn counted(outcome: Result<(), AllocError>, refused: &mut u64) -> io::Result<()>
         *refused = refused.saturating_add(1);
         return Err(io::ErrorKind::OutOfMemory.into());
     }
-    Ok(())
-}
-
-/// Cuts the file, or lets it grow by bytes of 0.
-fn resize(file: &mut Vec<u8>, len: usize) -> Result<(), AllocError>
-    ensures len { OnOk result (length file.new.items ≡ len) }
-    ensures others { Cut len file.old.items file.new.items }
-{
-    file.resize(len, 0)
-}
-
-/// Writes the bytes at the place, where the file grows as far as it has to.
-fn overwrite(file: &mut Vec<u8>, at: usize, bytes: &[u8]) -> Result<(), AllocError>
-    ensures written { OnOk result (Holds file.new.items at bytes.now) }
-    ensures others { Torn at (length bytes.now) file.old.items file.new.items }
-{
-    let end = at.checked_add(bytes.len()).ok_or(AllocError)?;
-    if end > file.len() {
-        resize(file, end)?;
-    }
-    file[at..end].copy_from_slice(bytes);
     Ok(())
 }
 
@@ -168,6 +150,20 @@ mod tests {
         disk.sync()?;
         disk.read_at(0, &mut bytes)?;
         assert_eq!(rt; bytes.as_slice(), b"ab\0".as_slice());
+        Ok(())
+    }
+
+    #[test]
+    fn writes_from_one_block_into_the_next(rt: HostRuntime) -> Result<(), Fail> {
+        let mut disk = MemoryDisk::new(rt.alloc());
+        let mut bytes = [9; 4];
+        disk.write_at(65_534, b"abcd")?;
+        disk.read_at(65_534, &mut bytes)?;
+        assert_eq!(rt; bytes.as_slice(), b"abcd".as_slice());
+        disk.set_len(65_535)?;
+        disk.set_len(65_538)?;
+        disk.read_at(65_534, &mut bytes)?;
+        assert_eq!(rt; bytes.as_slice(), b"a\0\0\0".as_slice());
         Ok(())
     }
 
