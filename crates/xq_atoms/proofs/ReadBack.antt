@@ -12,7 +12,7 @@ use Rattle.xq_atoms.specs.Literal.{integer_literal}
 use Rattle.xq_atoms.specs.Cast.{after_sign, is_negated, integer_of_text}
 use Rattle.xq_atoms.proofs.TextLemmas.{digits_model, and-true}
 
-is_whole-decimal : (n : ℕ) → n < 2 ^ 64 → is_whole (decimal n) ≡ true
+pub is_whole-decimal : (n : ℕ) → n < 2 ^ 64 → is_whole (decimal n) ≡ true
 is_whole-decimal n small = whole (decimal n) (decimal_nonempty n small) (digits_decimal digits_model n small)
   where
     whole : (ds : Text) → 0 < length ds → IsTrue (are_digits ds) → is_whole ds ≡ true
@@ -37,7 +37,7 @@ shape negated n digits =
 is_integer-pos : (n : ℕ) → n < 2 ^ 63 → is_integer (pos n) ≡ true
 is_integer-pos n small = grind (arith, nat_tests)
 
-is_integer-neg : (n : ℕ) → n ≤ 2 ^ 63 → is_integer (neg_ℤ (pos n)) ≡ true
+pub is_integer-neg : (n : ℕ) → n ≤ 2 ^ 63 → is_integer (neg_ℤ (pos n)) ≡ true
 is_integer-neg zero small = refl
 is_integer-neg (suc n) small = grind (arith, nat_tests)
 

@@ -46,7 +46,7 @@ and-swap true false = refl
 and-swap false true = refl
 and-swap false false = refl
 
-list_all-reverse : (p : ℕ → Bool) (cs : Text) → list_all p (reverse cs) ≡ list_all p cs
+pub list_all-reverse : (p : ℕ → Bool) (cs : Text) → list_all p (reverse cs) ≡ list_all p cs
 list_all-reverse p [] = refl
 list_all-reverse p (c ∷ cs) = ap (list_all p) (reverse-append (c ∷ []) cs) ∙ list_all-append p (reverse cs) (c ∷ []) ∙ and-swap (list_all p (reverse cs)) (p c) ∙ ap (λ b. p c && b) (list_all-reverse p cs)
 

@@ -133,6 +133,11 @@ impl Code {
 }
 
 impl fmt::Display for Code {
+    ghost use Rattle.std.specs.Prelude.{Some};
+    ghost use Rattle.xq_atoms.specs.Code.{code_text};
+
+    ghost output = { λ code. Some (code_text code) };
+
     fn fmt<W: fmt::Write>(&self, f: &mut fmt::Formatter<W>) -> fmt::Result {
         f.write_str(self.text())
     }
@@ -154,6 +159,11 @@ impl Want {
 }
 
 impl fmt::Display for Want {
+    ghost use Rattle.std.specs.Prelude.{Some};
+    ghost use Rattle.xq_atoms.specs.Code.{want_text};
+
+    ghost output = { λ want. Some (want_text want) };
+
     fn fmt<W: fmt::Write>(&self, f: &mut fmt::Formatter<W>) -> fmt::Result {
         f.write_str(self.text())
     }
