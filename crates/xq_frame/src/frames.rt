@@ -53,7 +53,7 @@ pub fn next_frame(bytes: &[u8]) -> Next<'_>
 }
 
 /// The frame whose message this is.
-fn frame_of(message: &[u8]) -> Frame<'_>
+pub fn frame_of(message: &[u8]) -> Frame<'_>
     requires { length message.now ≤ 1048832 }
     ensures { IsFrameOf result message.now }
 {
@@ -71,7 +71,7 @@ fn frame_of(message: &[u8]) -> Frame<'_>
 }
 
 /// The number in the first four bytes, the highest byte first.
-fn number_at_start(bytes: &[u8]) -> u32
+pub fn number_at_start(bytes: &[u8]) -> u32
     requires { 4 ≤ length bytes.now }
     ensures value { result ≡ from_be_bytes w32 (take 4 bytes.now) }
     ensures bytes { to_be_bytes w32 result ≡ take 4 bytes.now }
