@@ -2,4 +2,5 @@ pub mod Meaning
 pub mod Answer
 pub mod Step
 pub mod Run
+pub mod Service
 pub mod Work

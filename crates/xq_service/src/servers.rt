@@ -1,19 +1,23 @@
-//! The server: one frame answered, and a run over a list of bytes.
+//! The server: one frame answered, a run over a list of bytes, and a service from a reader to a
+//! writer.
 ghost use Rattle.std.specs.Prelude.{◌≡◌, ◌+◌, ◌<◌, ◌++◌, ◌⊎◌, OnOk, OnErr, IfErr, vec_len, vec_capacity};
 ghost use Rattle.xq_atoms.specs.declared.refusals.Want.TheVariants.{Memory};
 ghost use Rattle.xq_rows.specs.Documents.{IsUp, Holds, documents};
 ghost use Rattle.xq_frame.specs.Request.{asked};
 ghost use Rattle.xq_service.specs.Run.{Reply, Answered, RunsTo, long_reply};
+ghost use Rattle.xq_service.specs.Service.{Serves, EndsLong};
 
 use crate::answers::carry_out;
 use crate::ends::End;
 use crate::replies::{SHORT_REPLY, write_reply};
 use sqlite::Alter;
 use std::alloc::Global;
+use std::io::{Read, Write};
 use std::marker::Model;
 use xq_atoms::{Code, Fault, Want};
-use xq_frame::{Frame, Next, next_frame};
+use xq_frame::{Frame, Next, frame_of, next_frame};
 use xq_rows::Store;
+use xq_streams::{Taken, Tries, send, take_message};
 
 /// A server over a store of documents. Contracts see the store.
 #[derive(Drop)]
@@ -85,6 +89,56 @@ impl<S: Alter> Server<S> {
                 }
             }
         }
+    }
+
+    /// Answers the frames that the reader gives, at most `max_frames` of them, each before the
+    /// next is read, and gives the writer each reply, flushed. Of one frame and its reply 999
+    /// interrupted calls are made again; the next is a fault.
+    pub fn serve<R: Read, W: Write>(
+        &mut self,
+        reader: &mut R,
+        writer: &mut W,
+        max_frames: u64,
+    ) -> End
+        ensures { Serves (IsUp S.Store) (Holds S.Store) (documents S.Store) self.old self.new
+            (R.remaining reader.old) (R.remaining reader.new)
+            (W.contents writer.old) (W.contents writer.new) max_frames result }
+    {
+        for count in 0..max_frames {
+            let mut tries = Tries::for_a_frame();
+            match take_message(self.alloc, reader, &mut tries) {
+                Taken::End => return End::Finished,
+                Taken::Cut => return End::Cut,
+                Taken::Fault => return End::ReadFault,
+                Taken::NoRoom => return End::NoRoom,
+                Taken::TooLong => return send_long(self.alloc, writer, &mut tries),
+                Taken::Message(message) => {
+                    let mut out = Vec::new(self.alloc);
+                    match self.answer(&frame_of(message.as_slice()), &mut out) {
+                        Err(_) => return End::NoRoom,
+                        Ok(()) => match send(writer, out.as_slice(), &mut tries) {
+                            Err(_) => return End::WriteFault,
+                            Ok(()) => {}
+                        },
+                    }
+                }
+            }
+        }
+        End::Bound
+    }
+}
+
+/// Gives the writer the reply to a length over the limit.
+fn send_long<W: Write>(alloc: Global, writer: &mut W, tries: &mut Tries) -> End
+    ensures { EndsLong (W.contents writer.old) (W.contents writer.new) result }
+{
+    let mut out = Vec::new(alloc);
+    match refuse_long(&mut out) {
+        End::TooLong => match send(writer, out.as_slice(), tries) {
+            Ok(()) => End::TooLong,
+            Err(_) => End::WriteFault,
+        },
+        end => end,
     }
 }
 
