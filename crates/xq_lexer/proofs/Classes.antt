@@ -1,10 +1,8 @@
 -- The classes of characters: what a digit, a quote, a sign isn't.
-use Rattle.std.proofs.Common.{◌≡◌, ℕ, ◌+◌, ◌<◌, ◌≤◌, Bool, true, false, List, [], ◌∷◌, ◌⊎◌, refl, sym, ap, subst, ◌∙◌, inl, inr, arith}
-use Rattle.std.specs.Prelude.{◌&&◌, ◌||◌, ◌==◌, nat_le}
+use Rattle.std.proofs.Common.{◌≡◌, ℕ, Bool, true, false, ◌⊎◌, refl, inl, inr, arith}
+use Rattle.std.specs.Prelude.{◌==◌}
 use Rattle.std.proofs.lemmas.Bool.Decides.{nat_tests}
-use Rattle.xq_lexer.specs.Chars.{Text, within, is_char, is_digit, is_hex, is_name_start, is_name_char, is_quote, begins}
-use Rattle.xq_lexer.specs.Literals.{is_plain}
-use Rattle.xq_lexer.proofs.Spans.{both}
+use Rattle.xq_lexer.specs.Chars.{is_char, is_digit, is_name_start, is_name_char, is_quote}
 
 pub eq_is : (a b : ℕ) → (a == b) ≡ true → a ≡ b
 eq_is a b h = grind (arith, nat_tests)

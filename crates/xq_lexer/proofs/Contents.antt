@@ -1,15 +1,14 @@
 -- The content of a string: what is written is read, what is read was written, and where a fault is found there is one.
-use Rattle.std.proofs.Common.{◌≡◌, ℕ, zero, suc, ◌+◌, ◌<◌, ◌≤◌, Bool, true, false, cond, List, [], ◌∷◌, ◌++◌, length, Option, Some, None, Result, Ok, Err, refl, sym, ap, subst, ◌∙◌, arith, append_assoc, ◌⊎◌, inl, inr}
-use Rattle.std.specs.Prelude.{◌&&◌, ◌||◌, ◌==◌}
+use Rattle.std.proofs.Common.{◌≡◌, ℕ, zero, suc, ◌<◌, ◌≤◌, Bool, true, false, cond, List, [], ◌∷◌, ◌++◌, length, Option, Some, None, Result, Ok, Err, refl, sym, ap, subst, ◌∙◌, arith, append_assoc, inl, inr}
+use Rattle.std.specs.Prelude.{◌==◌}
 use Rattle.std.proofs.lemmas.List.{length-append}
 use Rattle.xq_atoms.specs.declared.refusals.Code.{Code}
 use Rattle.xq_atoms.specs.declared.refusals.Code.TheVariants.{XPST0003, XQST0090}
 use Rattle.xq_lexer.specs.Chars.{Text, is_char, is_quote, begins}
-use Rattle.xq_lexer.specs.Literals.{Reference, reference_text, IsReference, referred, Piece, plain, doubled, reference, is_plain, IsPiece, ArePieces, piece_text, content_text}
-use Rattle.xq_lexer.specs.TokenFaults.{ContentFault, RefersToNone, RefersNot}
+use Rattle.xq_lexer.specs.Literals.{Reference, reference_text, referred, Piece, plain, doubled, reference, IsPiece, ArePieces, piece_text, content_text}
+use Rattle.xq_lexer.specs.TokenFaults.{ContentFault}
 use Rattle.xq_lexer.specs.Reading.{read_reference, Inside, closed, one, wrong, after_quote, after_ampersand, inside, with_piece, content_step, content}
-use Rattle.xq_lexer.proofs.Spans.{true_or_false}
-use Rattle.xq_lexer.proofs.Classes.{true_not_false, eq_is, eq_same, quote_no_ampersand, quote_is_char, ampersand_is_char}
+use Rattle.xq_lexer.proofs.Classes.{true_not_false, eq_is, quote_no_ampersand, quote_is_char, ampersand_is_char}
 use Rattle.xq_lexer.proofs.References.{reference_read, piece_read, end_read, ReadReference, reference_sound}
 
 -- ---- what is next was written

@@ -1,14 +1,14 @@
 -- What the longest token at its place says of what follows it, and that it is read.
-use Rattle.std.proofs.Common.{◌≡◌, ℕ, zero, suc, ◌+◌, ◌<◌, ◌≤◌, Bool, true, false, cond, List, [], ◌∷◌, ◌++◌, length, Option, Some, None, Result, Ok, Err, refl, sym, ap, subst, ◌∙◌, arith, append_assoc, ◌⊎◌, inl, inr}
-use Rattle.std.specs.Prelude.{◌&&◌, ◌||◌, ◌==◌}
+use Rattle.std.proofs.Common.{◌≡◌, ℕ, suc, ◌<◌, Bool, true, false, cond, [], ◌∷◌, ◌++◌, length, refl, sym, ap, ◌∙◌, arith, append_assoc}
+use Rattle.std.specs.Prelude.{◌&&◌, ◌==◌}
 use Rattle.std.specs.List.{list_all}
-use Rattle.std.proofs.lemmas.List.{length-append, append-nil}
-use Rattle.xq_lexer.specs.Chars.{Text, is_char, is_digit, is_name_start, is_name_char, is_quote, begins}
+use Rattle.std.proofs.lemmas.List.{length-append}
+use Rattle.xq_lexer.specs.Chars.{Text, is_digit, is_name_start, is_name_char, begins}
 use Rattle.xq_lexer.specs.Literals.{Number, integer, decimal, number_text, IsNumber}
-use Rattle.xq_lexer.specs.Spelling.{Form, name, prefixed, number, string, symbol, form_text, IsName, IsForm, IsLongest}
+use Rattle.xq_lexer.specs.Spelling.{Form, name, prefixed, number, form_text, IsName, IsForm, IsLongest}
 use Rattle.xq_lexer.specs.Reading.{span, after_name, read_name, after_digits, read_number}
-use Rattle.xq_lexer.proofs.Spans.{both, parts, span_exact, all_more, all_weaker, true_or_false}
-use Rattle.xq_lexer.proofs.Classes.{start_is_char, colon_no_char, digit_no_point, true_not_false, eq_is}
+use Rattle.xq_lexer.proofs.Spans.{span_exact, all_more}
+use Rattle.xq_lexer.proofs.Classes.{start_is_char, colon_no_char, eq_is}
 
 -- where a longer token begins, the token isn't the longest
 pub longer : (f : Form) (after : Text) → IsLongest f after → (g : Form) (rest : Text) → IsForm g → form_text g ++ rest ≡ form_text f ++ after → length (form_text f) < length (form_text g) → ⊥

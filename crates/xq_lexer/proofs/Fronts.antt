@@ -1,15 +1,14 @@
 -- What the readers of names and numbers give: a token at the front, no shorter than any that stands there.
-use Rattle.std.proofs.Common.{◌≡◌, ℕ, zero, suc, ◌+◌, ◌<◌, ◌≤◌, Bool, true, false, cond, List, [], ◌∷◌, ◌++◌, length, Option, Some, None, Result, Ok, Err, refl, sym, ap, subst, ◌∙◌, arith, append_assoc, ◌⊎◌, inl, inr}
-use Rattle.std.specs.Prelude.{◌&&◌, ◌||◌, ◌==◌}
+use Rattle.std.proofs.Common.{◌≡◌, ℕ, ◌+◌, ◌<◌, ◌≤◌, Bool, true, false, cond, [], ◌∷◌, ◌++◌, length, refl, sym, ap, subst, ◌∙◌, arith, append_assoc, ◌⊎◌, inl, inr}
+use Rattle.std.specs.Prelude.{◌&&◌, ◌==◌}
 use Rattle.std.specs.List.{list_all}
-use Rattle.std.proofs.lemmas.List.{length-append, append-nil}
+use Rattle.std.proofs.lemmas.List.{length-append}
 use Rattle.xq_lexer.specs.Chars.{Text, is_digit, is_name_start, is_name_char, begins}
 use Rattle.xq_lexer.specs.Literals.{Number, integer, decimal, number_text, IsNumber}
-use Rattle.xq_lexer.specs.Spelling.{Form, name, prefixed, number, form_text, IsName, IsForm}
+use Rattle.xq_lexer.specs.Spelling.{Form, name, prefixed, form_text, IsName, IsForm}
 use Rattle.xq_lexer.specs.Reading.{span, after_name, read_name, after_digits, read_number, begins_number}
 use Rattle.xq_lexer.proofs.Spans.{both, parts, span_exact}
 use Rattle.xq_lexer.proofs.Classes.{start_is_char, eq_is, true_not_false}
-use Rattle.xq_lexer.proofs.Forms.{not_true}
 
 -- ---- names
 

@@ -1,13 +1,11 @@
 -- From the token at the front to the list of tokens: a text spells one list, or has one fault, and not both.
-use Rattle.std.proofs.Common.{◌≡◌, ℕ, zero, suc, ◌+◌, ◌<◌, ◌≤◌, Bool, true, false, List, [], ◌∷◌, ◌++◌, length, Option, Some, None, Result, Ok, Err, refl, sym, ap, subst, ◌∙◌, arith, append_assoc, ap₂, ◌⊎◌, inl, inr}
-use Rattle.std.proofs.lemmas.List.{append-nil}
+use Rattle.std.proofs.Common.{◌≡◌, ℕ, List, [], ◌∷◌, ◌++◌, length, Option, Some, Result, Ok, Err, refl, sym, ap, subst, ◌∙◌, arith, ap₂, inl, inr}
 use Rattle.xq_atoms.specs.declared.refusals.Code.{Code}
 use Rattle.xq_atoms.specs.declared.refusals.Code.TheVariants.{XPST0003}
 use Rattle.xq_lexer.specs.Chars.{Text}
 use Rattle.xq_lexer.specs.Literals.{Number, integer, decimal, number_text, IsNumber}
-use Rattle.std.proofs.lemmas.List.{length-append}
 use Rattle.xq_lexer.specs.Separators.{skip}
-use Rattle.xq_lexer.specs.Lexeme.{Lex, Placed}
+use Rattle.xq_lexer.specs.Lexeme.{Placed}
 use Rattle.xq_lexer.specs.Spelling.{Form, form_text, form_lex, Next, Before, Spells, bytes}
 use Rattle.xq_lexer.specs.TokenFaults.{TokenFault, FaultHere, HasFault}
 use Rattle.xq_lexer.specs.Reading.{read_token}

@@ -1,11 +1,11 @@
 -- The saved numbers rise, so that few are saved, and what a change of the number keeps.
-use Rattle.std.proofs.Common.{◌≡◌, ℕ, ◌+◌, ◌-◌, ◌<◌, ◌≤◌, max, min, List, [], ◌∷◌, ◌++◌, length, get_or, take, drop, set, reverse, zero, suc, refl, sym, ap, ◌∙◌, subst, add-one, arith}
+use Rattle.std.proofs.Common.{◌≡◌, ℕ, ◌+◌, ◌<◌, ◌≤◌, max, min, List, [], ◌∷◌, length, get_or, take, drop, set, reverse, zero, suc, refl, sym, ap, ◌∙◌, subst, add-one, arith}
 use Rattle.std.proofs.lemmas.List.{take_more, take_more_set, length-set, reverse-append, length-reverse, length-take-le}
 use Rattle.xq_lexer.specs.Lexeme.{Lex, lexemes}
 use Rattle.xq_lexer.specs.declared.tokens.Token.{Token}
 use Rattle.xq_lexer.specs.declared.depth.Change.{Change}
 use Rattle.xq_lexer.specs.declared.depth.Change.TheVariants.{Opens, Closes, Deepens, Keeps}
-use Rattle.xq_lexer.specs.Nesting.{changed, change, first_change, greatest, nesting}
+use Rattle.xq_lexer.specs.Nesting.{changed, first_change, greatest, nesting}
 
 -- each saved number is below the next one, and the last below k
 abbrev pub Rises : ℕ → List ℕ → Type 0

@@ -1,6 +1,6 @@
 -- A number's literal, what it stands for, and its fault.
-use Rattle.std.proofs.Common.{◌≡◌, ℕ, zero, suc, ◌+◌, ◌-◌, ◌<◌, ◌≤◌, ℤ, pos, Bool, true, false, cond, List, [], ◌∷◌, ◌++◌, length, take, drop, Option, Some, None, Result, Ok, Err, refl, sym, ap, subst, ◌∙◌, arith, append_assoc, encode_utf8_all, encode_utf8}
-use Rattle.std.specs.Prelude.{IsTrue, ◌&&◌, ◌==◌, not, nat_lt}
+use Rattle.std.proofs.Common.{◌≡◌, ℕ, ◌+◌, ◌-◌, ◌<◌, ◌≤◌, ℤ, pos, Bool, true, false, cond, [], ◌∷◌, ◌++◌, length, take, drop, Some, None, Result, Ok, Err, refl, sym, ap, ◌∙◌, arith, append_assoc, encode_utf8_all}
+use Rattle.std.specs.Prelude.{IsTrue, nat_lt}
 use Rattle.std.specs.Bool.{OnTrue, OnFalse}
 use Rattle.std.specs.List.{list_all, position_or_len}
 use Rattle.std.proofs.lemmas.List.{take_at, drop_at, length-append}
@@ -8,15 +8,14 @@ use Rattle.std.proofs.lemmas.Str.{encode_ascii, encodes-append}
 use Rattle.std.proofs.lemmas.Bool.Decides.{nat_tests}
 use Rattle.xq_atoms.specs.declared.refusals.Code.{Code}
 use Rattle.xq_atoms.specs.declared.refusals.Code.TheVariants.{ProfDigits, FOAR0002}
-use Rattle.xq_atoms.specs.Text.{is_whole, value}
+use Rattle.xq_atoms.specs.Text.{is_whole}
 use Rattle.xq_atoms.specs.Judged.{only_if}
-use Rattle.xq_atoms.specs.Atom.{is_integer}
 use Rattle.xq_atoms.specs.Decimal as d
 use Rattle.xq_atoms.specs.Literal.{is_point, is_number, integer_literal, decimal_literal, millionths, fraction}
 use Rattle.xq_lexer.specs.Chars.{Text, is_digit}
 use Rattle.xq_lexer.specs.Lexeme.{Lex, int, dec}
-use Rattle.xq_lexer.specs.Literals.{Number, integer, decimal, number_text, IsNumber, follow_fault, value_fault, code_of, first_fault, number_fault}
-use Rattle.xq_lexer.specs.Spelling.{Form, number, form_lex}
+use Rattle.xq_lexer.specs.Literals.{Number, integer, decimal, number_text, IsNumber, follow_fault, code_of}
+use Rattle.xq_lexer.specs.Spelling.{number}
 use Rattle.xq_lexer.specs.Reading.{unless_fault, judged, read_number, begins_number}
 use Rattle.xq_lexer.specs.Gives.{lexed, pointed, is_decimal, made, valued_lex}
 use Rattle.xq_lexer.proofs.Spans.{both}

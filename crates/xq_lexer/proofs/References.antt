@@ -1,15 +1,12 @@
 -- References and the pieces of a string: what is written is read, and what is read was written.
-use Rattle.std.proofs.Common.{◌≡◌, ℕ, zero, suc, ◌+◌, ◌<◌, ◌≤◌, Bool, true, false, cond, List, [], ◌∷◌, ◌++◌, length, Option, Some, None, Result, Ok, Err, refl, sym, ap, subst, ◌∙◌, arith, append_assoc, ◌⊎◌, inl, inr, codes}
-use Rattle.std.specs.Prelude.{◌&&◌, ◌||◌, ◌==◌}
+use Rattle.std.proofs.Common.{◌≡◌, ℕ, ◌<◌, Bool, true, false, cond, [], ◌∷◌, ◌++◌, length, Option, Some, None, refl, sym, ap, subst, ◌∙◌, arith, append_assoc, codes}
+use Rattle.std.specs.Prelude.{◌==◌}
 use Rattle.std.specs.List.{list_all}
-use Rattle.std.proofs.lemmas.List.{length-append}
-use Rattle.xq_atoms.specs.declared.refusals.Code.{Code}
-use Rattle.xq_atoms.specs.declared.refusals.Code.TheVariants.{XPST0003, XQST0090}
 use Rattle.xq_lexer.specs.Chars.{Text, is_char, is_digit, is_hex, is_quote, begins}
-use Rattle.xq_lexer.specs.Literals.{Reference, less, greater, ampersand, quotation, apostrophe, numbered, hexadecimal, reference_text, IsReference, referred, Piece, plain, doubled, reference, is_plain, IsPiece, piece_text}
-use Rattle.xq_lexer.specs.Reading.{span, strip, ended, read_numbered, or_else, then_numbered, read_reference, Inside, closed, one, wrong, after_quote, after_ampersand, inside}
-use Rattle.xq_lexer.proofs.Spans.{both, parts, span_exact, true_or_false}
-use Rattle.xq_lexer.proofs.Classes.{digit_no_x, true_not_false, eq_is, eq_same, quote_no_ampersand, quote_is_char, ampersand_is_char}
+use Rattle.xq_lexer.specs.Literals.{Reference, less, greater, ampersand, quotation, apostrophe, numbered, hexadecimal, reference_text, IsReference, Piece, plain, doubled, reference, is_plain, IsPiece, piece_text}
+use Rattle.xq_lexer.specs.Reading.{span, strip, ended, read_numbered, or_else, then_numbered, read_reference, Inside, closed, one, after_quote, after_ampersand, inside}
+use Rattle.xq_lexer.proofs.Spans.{both, parts, span_exact}
+use Rattle.xq_lexer.proofs.Classes.{digit_no_x, eq_is, eq_same, quote_no_ampersand}
 
 -- ---- what is written is read
 

@@ -1,7 +1,7 @@
 -- Runs of characters, and the bytes of a front.
-use Rattle.std.proofs.Common.{◌≡◌, ℕ, ◌+◌, ◌<◌, ◌≤◌, Bool, true, false, List, [], ◌∷◌, ◌++◌, length, get_or, take, drop, refl, sym, ap, subst, ◌∙◌, arith, encode_utf8_all, encode_utf8}
+use Rattle.std.proofs.Common.{◌≡◌, ℕ, ◌+◌, ◌<◌, ◌≤◌, Bool, true, false, [], ◌∷◌, ◌++◌, length, get_or, take, drop, sym, ap, ◌∙◌, arith, encode_utf8_all, encode_utf8}
 use Rattle.std.specs.List.{list_all}
-use Rattle.std.proofs.lemmas.List.{take_more, take-append-drop, drop_more, length-append, append-nil, take_all, drop_all}
+use Rattle.std.proofs.lemmas.List.{take_more, take-append-drop, drop_more, length-append, append-nil, drop_all}
 use Rattle.std.proofs.lemmas.Str.{encodes-append}
 use Rattle.xq_lexer.specs.Chars.{Text, begins}
 use Rattle.xq_lexer.specs.Spelling.{bytes}

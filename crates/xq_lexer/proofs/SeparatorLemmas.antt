@@ -1,10 +1,10 @@
 -- Passing over separators step by step.
-use Rattle.std.proofs.Common.{◌≡◌, ℕ, zero, suc, ◌+◌, ◌-◌, ◌<◌, ◌≤◌, Bool, true, false, cond, List, [], ◌∷◌, ◌++◌, length, Option, Some, None, refl, sym, ap, subst, ◌∙◌, arith}
-use Rattle.std.specs.Prelude.{◌&&◌, ◌==◌, nat_lt}
+use Rattle.std.proofs.Common.{◌≡◌, ℕ, zero, suc, ◌+◌, ◌-◌, ◌<◌, ◌≤◌, Bool, true, false, cond, [], ◌∷◌, ◌++◌, length, Option, Some, None, refl, sym, ap, subst, arith}
+use Rattle.std.specs.Prelude.{◌==◌, nat_lt}
 use Rattle.std.proofs.lemmas.Bool.Decides.{nat_tests}
 use Rattle.xq_lexer.specs.Chars.{Text, is_char, is_space}
 use Rattle.xq_lexer.specs.Separators.{opens, closes, skip}
-use Rattle.xq_lexer.specs.Reading.{passes, skip_step, unless_open}
+use Rattle.xq_lexer.specs.Reading.{skip_step, unless_open}
 
 -- what a step leads to
 abbrev pub Leads : ℕ → Text → Option (ℕ × Text) → Type 0

@@ -1,5 +1,5 @@
 -- From what is read of a token to the next token of the text, and the loop over them.
-use Rattle.std.proofs.Common.{◌≡◌, ℕ, zero, suc, ◌+◌, ◌-◌, ◌<◌, ◌≤◌, Bool, true, false, List, [], ◌∷◌, ◌++◌, length, take, map, Option, Some, None, Result, Ok, Err, refl, sym, ap, subst, ◌∙◌, arith, append_assoc, ◌⊎◌, inl, inr}
+use Rattle.std.proofs.Common.{◌≡◌, ℕ, suc, ◌+◌, ◌-◌, ◌<◌, ◌≤◌, true, false, List, [], ◌∷◌, ◌++◌, length, take, Option, Some, Result, Ok, Err, refl, sym, ap, subst, ◌∙◌, arith, inl, inr}
 use Rattle.std.proofs.lemmas.List.{length-append, take_at, map-append}
 use Rattle.xq_atoms.specs.declared.refusals.Code.{Code}
 use Rattle.xq_atoms.specs.declared.refusals.Fault.{Fault}
@@ -12,15 +12,14 @@ use Rattle.xq_lexer.specs.declared.tokens.Token.{Token}
 use Rattle.xq_lexer.specs.Chars.{Text}
 use Rattle.xq_lexer.specs.Separators.{skip}
 use Rattle.xq_lexer.specs.Lexeme.{Lex, Placed, place_of, placed}
-use Rattle.xq_lexer.specs.Literals.{Number, integer, decimal, number_text, IsNumber}
-use Rattle.xq_lexer.specs.Spelling.{Form, name, prefixed, number, string, symbol, symbol_text, form_text, form_lex, IsForm, Next, Before, Spells, bytes}
+use Rattle.xq_lexer.specs.Spelling.{Form, name, prefixed, number, string, symbol, form_text, form_lex, IsForm, Next, Before, Spells, bytes}
 use Rattle.xq_lexer.specs.TokenFaults.{TokenFault, FaultHere, HasFault, Refuses}
 use Rattle.xq_lexer.specs.Reading.{read_token}
 use Rattle.xq_lexer.specs.Gives.{lexed, Fails, Nexts, Lexes}
 use Rattle.xq_lexer.proofs.RunLemmas.{bytes_append}
-use Rattle.xq_lexer.proofs.SymbolLemmas.{Single, Double, row_of}
+use Rattle.xq_lexer.proofs.SymbolLemmas.{row_of}
 use Rattle.xq_lexer.proofs.Fronts.{number_some}
-use Rattle.xq_lexer.proofs.SeparatorLemmas.{Suffix, skip_suffix}
+use Rattle.xq_lexer.proofs.SeparatorLemmas.{skip_suffix}
 use Rattle.xq_lexer.proofs.TokenLemmas.{Found, Means, token_means}
 use Rattle.xq_lexer.proofs.Lists.{before_more, spells_one, spells_no_fault, one_fault}
 

@@ -1,5 +1,5 @@
 -- What is shown of the inside of a string.
-use Rattle.std.proofs.Common.{◌≡◌, ℕ, zero, suc, ◌+◌, ◌<◌, ◌≤◌, min, Bool, true, false, cond, List, [], ◌∷◌, ◌++◌, length, get_or, drop, Option, Some, None, Result, Ok, Err, refl, sym, ap, subst, ◌∙◌, arith, append_assoc, encode_utf8_all, encode_utf8, ◌⊎◌, inl, inr}
+use Rattle.std.proofs.Common.{◌≡◌, ℕ, suc, ◌<◌, ◌≤◌, min, Bool, true, false, cond, List, [], ◌∷◌, ◌++◌, length, get_or, drop, Option, Some, None, Result, Ok, Err, refl, sym, ap, subst, ◌∙◌, arith, append_assoc, encode_utf8_all, encode_utf8, ◌⊎◌, inl, inr}
 use Rattle.std.specs.Prelude.{◌==◌}
 use Rattle.std.specs.Char.{IsScalar}
 use Rattle.std.proofs.lemmas.List.{append-nil, map-append}
@@ -7,7 +7,7 @@ use Rattle.std.proofs.lemmas.Str.{encodes-append}
 use Rattle.std.proofs.lemmas.Bool.{cases_lt}
 use Rattle.std.proofs.lemmas.Bool.Decides.{nat_tests}
 use Rattle.xq_atoms.specs.declared.refusals.Code.{Code}
-use Rattle.xq_atoms.specs.declared.refusals.Code.TheVariants.{XPST0003, XQST0090}
+use Rattle.xq_atoms.specs.declared.refusals.Code.TheVariants.{XQST0090}
 use Rattle.xq_lexer.specs.Chars.{Text, is_char, is_quote}
 use Rattle.xq_lexer.specs.Lexeme.{str}
 use Rattle.xq_lexer.specs.Literals.{Reference, referred, Piece, reference, IsPiece, ArePieces, piece_text, piece_char, content_text, content_chars}

@@ -1,8 +1,7 @@
 -- Symbols: the longest is read, and what is read is one.
-use Rattle.std.proofs.Common.{◌≡◌, ℕ, zero, suc, ◌+◌, ◌<◌, ◌≤◌, Bool, true, false, cond, List, [], ◌∷◌, ◌++◌, length, Option, Some, None, Result, Ok, Err, refl, sym, ap, subst, ◌∙◌, arith, ◌⊎◌, inl, inr}
-use Rattle.std.specs.Prelude.{◌&&◌, ◌||◌, ◌==◌}
+use Rattle.std.proofs.Common.{◌≡◌, ℕ, ◌≤◌, Bool, true, false, cond, List, [], ◌∷◌, ◌++◌, length, Option, Some, None, Result, Ok, Err, refl, sym, ap, subst, ◌∙◌, arith, ◌⊎◌, inl, inr}
+use Rattle.std.specs.Prelude.{◌&&◌, ◌==◌}
 use Rattle.xq_atoms.specs.declared.refusals.Code.{Code}
-use Rattle.xq_atoms.specs.declared.refusals.Code.TheVariants.{XPST0003}
 use Rattle.xq_lexer.specs.declared.tokens.Symbol.{Symbol}
 use Rattle.xq_lexer.specs.declared.tokens.Symbol.TheVariants as s
 use Rattle.xq_lexer.specs.Chars.{Text, is_digit, is_name_start, is_quote, begins}
@@ -11,7 +10,7 @@ use Rattle.xq_lexer.specs.Spelling.{Form, number, symbol, symbol_text, form_text
 use Rattle.xq_lexer.specs.Reading.{look_up, singles, single_symbol, look_up_two, doubles, double_symbol, or_single, read_symbol, begins_number}
 use Rattle.xq_lexer.proofs.Spans.{both}
 use Rattle.xq_lexer.proofs.Classes.{eq_is, true_not_false}
-use Rattle.xq_lexer.proofs.Forms.{longer, not_true, begins_none}
+use Rattle.xq_lexer.proofs.Forms.{longer, begins_none}
 
 -- what begins a symbol begins no other token, but for a point before a digit
 abbrev pub IsSign : ℕ → Type 0

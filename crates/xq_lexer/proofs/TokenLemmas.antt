@@ -1,19 +1,19 @@
 -- The token at the front of a text: what is read is the longest that stands there, what stands there is read, and so for faults.
-use Rattle.std.proofs.Common.{◌≡◌, ℕ, zero, suc, ◌+◌, ◌<◌, ◌≤◌, Bool, true, false, cond, List, [], ◌∷◌, ◌++◌, length, Option, Some, None, Result, Ok, Err, refl, sym, ap, subst, ◌∙◌, arith, append_assoc, ◌⊎◌, inl, inr}
-use Rattle.std.specs.Prelude.{◌&&◌, ◌||◌, ◌==◌}
+use Rattle.std.proofs.Common.{◌≡◌, ℕ, suc, ◌≤◌, Bool, true, false, cond, List, [], ◌∷◌, ◌++◌, length, Option, Some, None, Result, Ok, Err, refl, sym, ap, subst, ◌∙◌, arith, append_assoc, inl, inr}
+use Rattle.std.specs.Prelude.{◌&&◌, ◌==◌}
 use Rattle.std.specs.List.{list_all}
 use Rattle.std.proofs.lemmas.List.{length-append}
 use Rattle.xq_atoms.specs.declared.refusals.Code.{Code}
 use Rattle.xq_atoms.specs.declared.refusals.Code.TheVariants.{XPST0003}
 use Rattle.xq_lexer.specs.declared.tokens.Symbol.{Symbol}
 use Rattle.xq_lexer.specs.Chars.{Text, is_digit, is_name_start, is_name_char, is_quote, begins}
-use Rattle.xq_lexer.specs.Literals.{Number, integer, decimal, number_text, IsNumber, number_fault, Piece, ArePieces, content_text}
+use Rattle.xq_lexer.specs.Literals.{Number, number_text, IsNumber, number_fault, Piece, ArePieces, content_text}
 use Rattle.xq_lexer.specs.Spelling.{Form, name, prefixed, number, string, symbol, symbol_text, form_text, IsName, IsForm, IsLongest, MayStand}
-use Rattle.xq_lexer.specs.TokenFaults.{ContentFault, NumberFault, StringFault, NoToken, TokenFault}
+use Rattle.xq_lexer.specs.TokenFaults.{NoToken, TokenFault}
 use Rattle.xq_lexer.specs.Reading.{span, read_name, read_number, unless_fault, judged, content, as_string, read_string, read_symbol, single_symbol, double_symbol, or_single, after_name, begins_number, read_token}
-use Rattle.xq_lexer.proofs.Spans.{both, parts}
-use Rattle.xq_lexer.proofs.Classes.{start_is_char, eq_is, digit_no_start, point_no_start, quote_no_start, quote_no_digit, quote_no_point, true_not_false}
-use Rattle.xq_lexer.proofs.Forms.{name_read, prefix_read, prefixed_read, number_read, not_true}
+use Rattle.xq_lexer.proofs.Spans.{parts}
+use Rattle.xq_lexer.proofs.Classes.{start_is_char, digit_no_start, point_no_start, quote_no_start, quote_no_digit, quote_no_point, true_not_false}
+use Rattle.xq_lexer.proofs.Forms.{name_read, prefix_read, prefixed_read, number_read}
 use Rattle.xq_lexer.proofs.Contents.{content_read, content_fault_read, content_most, content_sound, content_wrong}
 use Rattle.xq_lexer.proofs.SymbolLemmas.{IsSign, Longer, symbol_here, SymbolThere, symbol_there, read_spelled}
 use Rattle.xq_lexer.proofs.Fronts.{name_front, read_name_longer, number_front, read_number_longer, read_number_some, number_there, NotStart}

@@ -1,12 +1,12 @@
 -- The rows of the table of tokens, computed.
-use Rattle.std.proofs.Common.{◌≡◌, ℕ, List, [], ◌∷◌, ◌++◌, codes, Some, None, Ok, Err, refl}
+use Rattle.std.proofs.Common.{◌≡◌, [], ◌∷◌, ◌++◌, codes, Some, None, Ok, Err, refl}
 use Rattle.xq_atoms.specs.declared.refusals.Code.TheVariants.{XPST0003, XQST0090, FOAR0002, ProfDigits, ProfDouble}
 use Rattle.xq_lexer.specs.declared.tokens.Symbol.TheVariants as s
 use Rattle.xq_atoms.specs.Literal.{millionths}
 use Rattle.xq_lexer.specs.Chars.{is_char, is_name_start, is_name_char}
 use Rattle.xq_lexer.specs.Separators.{skip}
-use Rattle.xq_lexer.specs.Literals.{integer, decimal, numbered, hexadecimal, ampersand, plain, doubled, reference}
-use Rattle.xq_lexer.specs.Spelling.{Form, name, prefixed, number, string, symbol}
+use Rattle.xq_lexer.specs.Literals.{decimal, ampersand, plain, doubled, reference}
+use Rattle.xq_lexer.specs.Spelling.{name, prefixed, number, string, symbol}
 use Rattle.xq_lexer.specs.Reading.{read_token, read_name, after_name, read_number, after_digits, judged, read_string, content, inside, read_reference, read_numbered, read_symbol}
 
 comments_nest : skip 0 (codes " (: a (: b :) c :) 1") ≡ Some (codes "1")

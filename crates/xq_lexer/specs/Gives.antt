@@ -1,6 +1,5 @@
 -- What a function that reads ensures: what the reader on lists gives, unless memory is wanting.
-use Rattle.std.specs.Prelude.{◌≡◌, ℕ, ℤ, min, List, [], ◌∷◌, Bool, true, false, if◌then◌else◌, Option, Some, None, option_map, Result, Ok, Err, map}
-use Rattle.std.specs.Str.{encode_utf8_all}
+use Rattle.std.specs.Prelude.{◌≡◌, ℕ, ℤ, min, [], Bool, true, false, if◌then◌else◌, Option, Some, None, option_map, Result, Ok, Err}
 use Rattle.xq_atoms.specs.declared.refusals.Code.{Code}
 use denote.Ref.{Bor}
 use Rattle.xq_atoms.specs.declared.refusals.Code.TheVariants.{XPST0003, XQST0090}
@@ -12,7 +11,7 @@ use Rattle.xq_lexer.specs.declared.runs.Class.{Class}
 use Rattle.xq_lexer.specs.declared.runs.Class.TheVariants.{Name, Digit, HexDigit}
 use Rattle.xq_lexer.specs.Chars.{Text, is_char, is_digit, is_hex, is_name_char}
 use Rattle.xq_lexer.specs.Lexeme.{Lex, int, dec, placed, place_of}
-use Rattle.xq_lexer.specs.Literals.{Number, integer, decimal, Reference, referred, Piece, piece_char, content_chars}
+use Rattle.xq_lexer.specs.Literals.{Number, integer, decimal, Reference, referred, piece_char}
 use Rattle.xq_lexer.specs.Spelling.{Form, form_lex, Next, Spells, bytes}
 use Rattle.xq_lexer.specs.Separators.{skip}
 use Rattle.xq_lexer.specs.TokenFaults.{FaultHere, HasFault}

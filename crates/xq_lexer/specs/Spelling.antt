@@ -1,5 +1,5 @@
 -- What a text spells: separators and tokens in turn, each the longest that begins at its place.
-use Rattle.std.specs.Prelude.{◌≡◌, ℕ, ◌+◌, ◌≤◌, ◌==◌, pos, Bool, true, false, List, [], ◌∷◌, ◌++◌, length, codes, Option, Some, None}
+use Rattle.std.specs.Prelude.{◌≡◌, ℕ, ◌+◌, ◌≤◌, ◌==◌, pos, true, false, List, [], ◌∷◌, ◌++◌, length, codes, Some, None}
 use Rattle.std.specs.List.{list_all}
 use Rattle.std.specs.Str.{encode_utf8_all}
 use Rattle.xq_atoms.specs.Text.{value}
@@ -8,9 +8,9 @@ use Rattle.xq_lexer.specs.declared.tokens.Symbol.{Symbol}
 use Rattle.xq_lexer.specs.declared.tokens.Symbol.TheVariants as s
 use Rattle.xq_lexer.specs.Lexeme as l
 use Rattle.xq_lexer.specs.Lexeme.{Lex, Placed}
-use Rattle.xq_lexer.specs.Chars.{Text, is_digit, is_name_start, is_name_char, is_quote, begins}
+use Rattle.xq_lexer.specs.Chars.{Text, is_name_start, is_name_char, is_quote, begins}
 use Rattle.xq_lexer.specs.Separators.{skip}
-use Rattle.xq_lexer.specs.Literals.{Number, integer, decimal, number_text, IsNumber, number_fault, Piece, IsPiece, ArePieces, content_text, content_chars}
+use Rattle.xq_lexer.specs.Literals.{Number, integer, decimal, number_text, IsNumber, number_fault, Piece, ArePieces, content_text, content_chars}
 
 abbrev pub symbol_text : Symbol → Text
 symbol_text s.OpenParenthesis = codes "("

@@ -1,5 +1,5 @@
 -- The first fault of a text that no list of tokens spells.
-use Rattle.std.specs.Prelude.{◌≡◌, ℕ, ◌<◌, ◌==◌, Bool, true, false, List, [], ◌∷◌, ◌++◌, length, Option, Some, None, ◌⊎◌}
+use Rattle.std.specs.Prelude.{◌≡◌, ℕ, ◌<◌, ◌==◌, true, false, List, [], ◌∷◌, ◌++◌, length, Some, None, ◌⊎◌}
 use Rattle.xq_atoms.specs.declared.refusals.Code.{Code}
 use Rattle.xq_atoms.specs.declared.refusals.Code.TheVariants.{XPST0003, XQST0090}
 use Rattle.xq_atoms.specs.declared.refusals.Fault.{Fault}
@@ -8,7 +8,7 @@ use Rattle.xq_atoms.specs.declared.refusals.Want.TheVariants.{Memory}
 use Rattle.xq_lexer.specs.Lexeme.{Placed}
 use Rattle.xq_lexer.specs.Chars.{Text, is_char, is_quote, begins}
 use Rattle.xq_lexer.specs.Separators.{skip}
-use Rattle.xq_lexer.specs.Literals.{Number, number_text, IsNumber, number_fault, Reference, reference_text, IsReference, referred, Piece, IsPiece, ArePieces, content_text}
+use Rattle.xq_lexer.specs.Literals.{Number, number_text, IsNumber, number_fault, Reference, reference_text, IsReference, referred, Piece, ArePieces, content_text}
 use Rattle.xq_lexer.specs.Spelling.{Form, number, form_text, IsForm, IsLongest, Before, Spells, bytes}
 
 -- a reference that stands for no character

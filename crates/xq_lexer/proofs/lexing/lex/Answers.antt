@@ -1,4 +1,4 @@
-use Rattle.std.proofs.Common.{◌≡◌, ℕ, List, subst, ◌∙◌}
+use Rattle.std.proofs.Common.{ℕ, List, subst, ◌∙◌}
 use Rattle.std.specs.Str.{chars as chars_of}
 use Rattle.xq_lexer.specs.Gives.{Lexes}
 use Rattle.xq_lexer.proofs.StepLemmas.{lexes_only, lexes_sound, lexes_refused}

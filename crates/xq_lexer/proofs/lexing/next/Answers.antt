@@ -1,7 +1,6 @@
-use Rattle.std.proofs.Common.{◌≡◌, ◌+◌, ◌<◌, ◌≤◌, length, sym, ap, ◌∙◌, arith, inl, inr}
+use Rattle.std.proofs.Common.{arith, inl}
 use Rattle.std.proofs.lemmas.Result.{err_from_is_err_and}
 use Rattle.xq_lexer.specs.Lexeme.{lex_of}
-use Rattle.xq_lexer.specs.Spelling.{bytes}
 use Rattle.xq_lexer.proofs.SeparatorLemmas.{skip_suffix}
 use Rattle.xq_lexer.proofs.StepLemmas.{was_read, next_is, step_fault, empty_left, some_left}
 use Rattle.xq_lexer.proofs.lexing.next.Goals as goal

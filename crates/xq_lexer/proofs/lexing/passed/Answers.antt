@@ -1,6 +1,4 @@
-use Rattle.std.proofs.Common.{◌≡◌, ◌+◌, ◌<◌, ◌≤◌, length, sym, ap, ◌∙◌, arith}
-use Rattle.xq_lexer.specs.Spelling.{bytes}
-use Rattle.xq_lexer.proofs.RunLemmas.{bytes_within}
+use Rattle.std.proofs.Common.{arith}
 use Rattle.xq_lexer.proofs.StepLemmas.{passed_is}
 use Rattle.xq_lexer.proofs.lexing.passed.Goals as goal
 

@@ -1,6 +1,5 @@
-use Rattle.std.proofs.Common.{◌≡◌, ◌+◌, ◌<◌, ◌≤◌, length, sym, ap, ◌∙◌, arith}
+use Rattle.std.proofs.Common.{◌+◌, arith}
 use Rattle.std.proofs.lemmas.List.{get_or_read}
-use Rattle.xq_lexer.specs.Spelling.{bytes}
 use Rattle.xq_lexer.proofs.RunLemmas.{bytes_more, bytes_within}
 use Rattle.xq_lexer.proofs.runs.bytes.Goals as goal
 

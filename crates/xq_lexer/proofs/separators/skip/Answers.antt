@@ -1,4 +1,4 @@
-use Rattle.std.proofs.Common.{◌≡◌, ◌+◌, ◌<◌, ◌≤◌, length, sym, ap, ◌∙◌, arith, rules}
+use Rattle.std.proofs.Common.{sym, ◌∙◌, arith}
 use Rattle.xq_lexer.proofs.SeparatorLemmas.{led}
 use Rattle.xq_lexer.proofs.separators.skip.Goals as goal
 

@@ -1,8 +1,5 @@
-use Rattle.std.proofs.Common.{◌≡◌, ℕ, List, drop, Option, Result, sym, ap, ◌∙◌, subst, arith, rules}
+use Rattle.std.proofs.Common.{sym, ◌∙◌, arith}
 use Rattle.std.proofs.lemmas.List.{take_rest, get_or_read}
-use Rattle.xq_lexer.specs.Chars.{Text}
-use Rattle.xq_lexer.specs.Reading.{read_reference}
-use Rattle.xq_lexer.specs.Gives.{Answers, referred_char}
 use Rattle.xq_lexer.proofs.StringLemmas.{inside_ampersand}
 use Rattle.xq_lexer.proofs.strings.inside.Goals as goal
 

@@ -1,6 +1,6 @@
-use Rattle.std.proofs.Common.{◌≡◌, ℕ, List, Option, Ok, sym, ap, ◌∙◌, subst, arith, rules, string_bytes}
+use Rattle.std.proofs.Common.{ℕ, Option, Ok, ap, ◌∙◌, string_bytes}
 use Rattle.std.proofs.lemmas.Result.{err_from_is_err_and}
-use Rattle.xq_lexer.proofs.StringLemmas.{PiecesRead, piece_more, piece_shorter_than, pieces_closed, pieces_wrong}
+use Rattle.xq_lexer.proofs.StringLemmas.{piece_more, piece_shorter_than, pieces_closed, pieces_wrong}
 use Rattle.xq_lexer.proofs.strings.string.Goals as goal
 
 pub returns-in_err-c : goal.returns-in_err-c

@@ -1,4 +1,4 @@
-use Rattle.std.proofs.Common.{◌≡◌, length, string_bytes}
+use Rattle.std.proofs.Common.{length, string_bytes}
 use Rattle.xq_lexer.proofs.StringLemmas.{PiecesRead}
 use Rattle.xq_lexer.proofs.strings.string.Given as goal
 
