@@ -1,9 +1,10 @@
 #!/usr/bin/env bash
-# Runs the store's test `each_allocation` again and again, refusing the first of its allocations, then
+# Runs the test `each_allocation` of the store again and again, refusing the first of its allocations, then
 # the second, and so on, until a run meets no refusal. Each run has to pass: after a refusal the map is
 # as it was, and the call succeeds when it is made again.
 #
-#   tools/each_allocation.sh            needs a C compiler; the test is built by `rt test` first
+#   tools/each_allocation.sh [CRATE TEST]      that of another crate, where it is named; needs a C compiler;
+#                                              the test is built by `rt test` first
 set -eu
 top=$(cd "$(dirname "$0")/.." && pwd)
 work=$(mktemp -d)
@@ -59,13 +60,15 @@ int posix_memalign(void **result, size_t align, size_t size) {
 C
 cc -shared -fPIC -O1 -o "$work/refuse.so" "$work/refuse.c" -ldl
 
-cd "$top/crates/xq_rows"
-test=out/xq_rows_tests
+crate=${1:-xq_rows}
+name=${2:-stores::tests::each_allocation}
+cd "$top/crates/$crate"
+test=out/${crate}_tests
 [ -x "$test" ] || rt test
 number=1
 while :; do
     rm -f "$work/refused"
-    if ! REFUSE=$number REFUSED="$work/refused" LD_PRELOAD="$work/refuse.so" "$test" stores::tests::each_allocation > "$work/output" 2>&1; then
+    if ! REFUSE=$number REFUSED="$work/refused" LD_PRELOAD="$work/refuse.so" "$test" "$name" > "$work/output" 2>&1; then
         echo "allocation $number: the test failed"
         cat "$work/output"
         exit 1
