@@ -1,9 +1,10 @@
-"""The statements of the store in C SQLite: put, load, replace and drop of one document."""
+"""The statements of the store in C SQLite: put, load, puts of one row, replace and drop of one document."""
 import sqlite3
 import sys
 import time
 
 rows, path = int(sys.argv[1]), sys.argv[2]
+SINGLE = 100
 INSERT = "INSERT INTO node VALUES (?1, ?2, ?3, ?4, ?5, ?6, ?7)"
 RANGE = ("SELECT pre, size, level, kind, name, value FROM node"
          " WHERE address = ?1 AND pre >= ?2 AND pre <= ?3 ORDER BY pre")
@@ -22,7 +23,8 @@ base.execute("INSERT INTO layout VALUES (1)")
 
 def document(count):
     yield 0, count - 1, 0, 0, "", ""
-    yield 1, count - 2, 1, 1, "element", ""
+    if count > 1:
+        yield 1, count - 2, 1, 1, "element", ""
     for pre in range(2, count):
         yield pre, 0, 2, 4, "", "some text that is a value"
 
@@ -39,9 +41,15 @@ def load():
     return len(base.execute(RANGE, ("m", 0, 4294967295)).fetchall())
 
 
+def put_single():
+    for number in range(SINGLE):
+        put(f"single/{number}", 1)
+
+
 put("a", 100)
 put("z", 100)
-calls = (("put", lambda: put("m", rows)), ("load", load), ("replace", lambda: put("m", rows)),
+calls = (("put", lambda: put("m", rows)), ("load", load), ("first", lambda: put("first", 1)),
+         ("single", put_single), ("replace", lambda: put("m", rows)),
          ("drop", lambda: base.execute(DELETE, ("m",))))
 for name, call in calls:
     start = time.perf_counter()
