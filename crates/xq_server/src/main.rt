@@ -1,22 +1,30 @@
-//! The program: answers the frames of its standard input over a database in memory, and writes
-//! the replies to its standard output. It takes no words.
+//! The program: answers the frames of its standard input, as they come, over a database in
+//! memory, and writes each reply to its standard output.
 #![tactic(auto)]
 
 mod endings;
 #[cfg(test)]
+mod scripts;
+#[cfg(test)]
+mod serving_tests;
+mod tasks;
+#[cfg(test)]
 mod tests;
+mod words;
 
 use endings::outcome;
-use sqlite::Alter;
-use std::io::{ErrorKind, Read, Write};
+use std::alloc::AllocError;
+use std::io::{BufReader, ErrorKind, Write};
 use std::process::ExitCode;
 use std::rt::Env;
 use std::{env, io};
+use tasks::Asked;
+use words::asked;
 use xq_rows::Store;
 use xq_service::{End, Server};
 
-/// The greatest length of the input, in bytes.
-const MAX_INPUT: usize = 16_777_216;
+/// The program ends once it has answered so many frames.
+const MAX_FRAMES: u64 = 1_000_000;
 
 fn main(rt: HostRuntime) -> ExitCode {
     let (status, line) = conclusion(&rt);
@@ -28,43 +36,55 @@ fn main(rt: HostRuntime) -> ExitCode {
 
 /// Does the program's work, and gives its exit status and its line on standard error.
 fn conclusion<R: Env + Input + Print + AllocGlobal>(rt: &R) -> (u8, &'static str) {
-    match env::args(rt) {
-        Ok(words) if words.len() > 1 => return (2, "xq_server: bad command line"),
-        Ok(_) => {}
-        Err(_) => return outcome(End::NoRoom),
+    match asked_by_arguments(rt) {
+        Asked::InMemory => serve_in_memory(rt),
+        Asked::Help(text) => outcome(print_help(rt, text.as_str())),
+        Asked::Bad => (2, "xq_server: bad command line"),
+        Asked::NoRoom => outcome(End::NoRoom),
     }
+}
+
+fn asked_by_arguments<R: Env + AllocGlobal>(rt: &R) -> Asked {
+    let arguments = match arguments(rt) {
+        Ok(arguments) => arguments,
+        Err(fault) => return fault,
+    };
+    let words: Result<Vec<&str>, AllocError> =
+        arguments.iter().map(|word| word.as_str()).collect(rt.alloc());
+    match words {
+        Ok(words) => asked(rt.alloc(), words.as_slice()),
+        Err(_) => Asked::NoRoom,
+    }
+}
+
+/// The words after the program's name. One that is no UTF-8 is none that the program knows.
+fn arguments<R: Env + AllocGlobal>(rt: &R) -> Result<Vec<String>, Asked> {
+    match env::args(rt) {
+        Ok(all) => match all.skip(1).collect(rt.alloc()) {
+            Ok(words) => Ok(words),
+            Err(_) => Err(Asked::NoRoom),
+        },
+        Err(error) if error.kind() == ErrorKind::OutOfMemory => Err(Asked::NoRoom),
+        Err(_) => Err(Asked::Bad),
+    }
+}
+
+fn print_help<R: Print>(rt: &R, text: &str) -> End {
+    match io::writer(rt).write_all(text.as_bytes()) {
+        Ok(()) => End::Finished,
+        Err(_) => End::WriteFault,
+    }
+}
+
+fn serve_in_memory<R: Input + Print + AllocGlobal>(rt: &R) -> (u8, &'static str) {
     let Ok(store) = Store::new_on_memory_disks(rt.alloc()) else {
         return (1, "xq_server: cannot open the store");
     };
     let mut server = Server::new(rt.alloc(), store);
-    let end = answer_input(rt, &mut server);
+    let end = match BufReader::new(rt.alloc(), rt.reader()) {
+        Ok(mut reader) => server.serve(&mut reader, &mut io::writer(rt), MAX_FRAMES),
+        Err(_) => End::NoRoom,
+    };
     drop(server.into_store().release());
     outcome(end)
-}
-
-/// Reads the whole input, answers its frames, and writes the replies.
-fn answer_input<R: Input + Print + AllocGlobal, S: Alter>(rt: &R, server: &mut Server<S>) -> End {
-    let input = match read_input(rt) {
-        Ok(input) => input,
-        Err(end) => return end,
-    };
-    let mut replies = Vec::new(rt.alloc());
-    let end = server.run(&input, &mut replies);
-    let mut output = io::writer(rt);
-    if output.write_all(&replies).is_err() || output.flush().is_err() {
-        return End::WriteFault;
-    }
-    end
-}
-
-/// The whole input, or how the run ends without one: of an input that is too long nothing is
-/// answered.
-fn read_input<R: Input + AllocGlobal>(rt: &R) -> Result<Vec<u8>, End> {
-    let mut input = Vec::new(rt.alloc());
-    let mut reader = rt.reader().take(MAX_INPUT as u64 + 1);
-    match reader.read_to_end(&mut input) {
-        Ok(_) if input.len() <= MAX_INPUT => Ok(input),
-        Err(error) if error.kind() == ErrorKind::OutOfMemory => Err(End::NoRoom),
-        _ => Err(End::ReadFault),
-    }
 }

@@ -1,6 +1,8 @@
 //! The worked rows of the protocol on one server, byte for byte, and runs under refused memory.
 
 use crate::endings::outcome;
+use crate::tasks::Asked;
+use crate::words::asked;
 use sqlite::{Alter, FileStore};
 use std::alloc::{AllocError, Global};
 use std::process::Abort;
@@ -20,7 +22,7 @@ const PUT_B: &[u8] =
 const DOC_B: &[u8] = b"doc(\"b\")";
 
 /// The frame of a request.
-fn frame(alloc: Global, tag: u32, kind: u8, body: &[u8]) -> Result<Vec<u8>, AllocError> {
+pub fn frame(alloc: Global, tag: u32, kind: u8, body: &[u8]) -> Result<Vec<u8>, AllocError> {
     let [_, _, _, _, a, b, c, d] = (body.len() as u64 + 5).to_be_bytes();
     let mut bytes = Vec::new(alloc);
     bytes.extend_from_slice(&[a, b, c, d])?;
@@ -36,7 +38,7 @@ fn reply(alloc: Global, tag: u32, status: u8, text: &[u8]) -> Result<Vec<u8>, Al
 }
 
 /// A server over the store that the program has.
-fn new_server(alloc: Global) -> Result<Server<FileStore<MemoryDisk>>, Fail> {
+pub fn new_server(alloc: Global) -> Result<Server<FileStore<MemoryDisk>>, Fail> {
     Ok(Server::new(alloc, Store::new_on_memory_disks(alloc)?))
 }
 
@@ -56,10 +58,9 @@ fn check<S: Alter>(
     Ok(())
 }
 
-#[test]
-fn worked_rows(rt: HostRuntime) -> Result<(), Fail> {
-    let mut server = new_server(rt.alloc())?;
-    let rows: [((u8, &[u8]), (u8, &[u8])); 13] = [
+/// The requests of the worked rows, kind and body, and their replies, status and text.
+pub fn worked_requests() -> [((u8, &'static [u8]), (u8, &'static [u8])); 15] {
+    [
         ((b'L', b""), (0, b"()")),
         ((b'S', PUT_B), (0, b"stored")),
         ((b'S', PUT_B), (0, b"replaced")),
@@ -73,9 +74,16 @@ fn worked_rows(rt: HostRuntime) -> Result<(), Fail> {
         ((b'Q', DOC_B), (1, b"FODC0002")),
         ((b'Q', b"\xff"), (1, b"prof:UTF8")),
         ((b'Q', b""), (1, b"XPST0003")),
-    ];
+        ((b'X', b""), (1, b"prof:FRAME")),
+        ((b'L', b"x"), (1, b"prof:FRAME")),
+    ]
+}
+
+#[test]
+fn worked_rows(rt: HostRuntime) -> Result<(), Fail> {
+    let mut server = new_server(rt.alloc())?;
     let mut tag = 0;
-    for (request, wanted) in rows {
+    for (request, wanted) in worked_requests() {
         check(&rt, &mut server, tag, request, wanted)?;
         tag = tag.wrapping_add(1);
     }
@@ -88,7 +96,7 @@ fn worked_rows(rt: HostRuntime) -> Result<(), Fail> {
 }
 
 /// Whole inputs after the rows, over a map with `a` alone: what they give, and how they end.
-fn inputs() -> [(&'static [u8], &'static [u8], End); 4] {
+pub fn inputs() -> [(&'static [u8], &'static [u8], End); 4] {
     [
         (b"\x00\x00\x00\x0a\x00\x00\x00\x01Q1", b"", End::Cut),
         (
@@ -109,9 +117,7 @@ fn inputs() -> [(&'static [u8], &'static [u8], End); 4] {
 #[test]
 fn refusals(rt: HostRuntime) -> Result<(), Fail> {
     let mut server = new_server(rt.alloc())?;
-    let rows: [((u8, &[u8]), (u8, &[u8])); 16] = [
-        ((b'X', b""), (1, b"prof:FRAME")),
-        ((b'L', b"x"), (1, b"prof:FRAME")),
+    let rows: [((u8, &[u8]), (u8, &[u8])); 14] = [
         ((b'S', b""), (1, b"prof:FRAME")),
         ((b'S', b"\x02a"), (1, b"prof:FRAME")),
         ((b'S', b"\x00\xff"), (1, b"prof:ADDRESS")),
@@ -192,5 +198,20 @@ fn endings(rt: HostRuntime) {
         let (status, line) = outcome(end);
         assert_eq!(rt; status, wanted_status);
         assert_eq!(rt; line, wanted_line);
+    }
+}
+
+#[test]
+fn words(rt: HostRuntime) {
+    assert!(rt; matches!(asked(rt.alloc(), &[]), Asked::InMemory));
+    for bad in ["a", "", "-", "--file", "--version", "help", "-x"] {
+        assert!(rt; matches!(asked(rt.alloc(), &[bad]), Asked::Bad), "{bad}");
+    }
+    for help in ["--help", "-h"] {
+        let Asked::Help(text) = asked(rt.alloc(), &[help]) else {
+            assert!(rt; false, "{help}");
+            return;
+        };
+        assert!(rt; text.as_str().contains("Usage: xq_server"), "{text}");
     }
 }
