@@ -1,0 +1,303 @@
+//! Rows of single calls, the clauses of worked queries, and calls whose memory is refused.
+
+use std::alloc::Global;
+use std::process::Abort;
+use std::test::Fail;
+use xq_atoms::{Atom, Code, Decimal, Fault, Want, print};
+use xq_regions::{Item, Items, Node};
+use xq_tuples::{OrderSpec, Tuples};
+
+/// A value of a slot or of a key.
+#[derive(Clone, Copy)]
+enum Sample {
+    Nothing,
+    Int(i64),
+    /// So many whole ones, as a decimal.
+    Dec(i64),
+    Str(&'static str),
+    Untyped(&'static str),
+    Row(u32),
+}
+
+const ASCENDING: OrderSpec = OrderSpec {
+    descending: false,
+    greatest: false,
+};
+
+const DESCENDING: OrderSpec = OrderSpec {
+    descending: true,
+    greatest: false,
+};
+
+/// The item, where the sample is one.
+fn item(alloc: Global, sample: Sample) -> Result<Option<Item>, Fault> {
+    Ok(Some(match sample {
+        Sample::Nothing => return Ok(None),
+        Sample::Int(integer) => Item::Atom(Atom::Int(integer)),
+        Sample::Dec(integer) => Item::Atom(Atom::Dec(Decimal::from_int(integer))),
+        Sample::Str(text) => Item::Atom(Atom::Str(String::from_str(alloc, text)?)),
+        Sample::Untyped(text) => Item::Atom(Atom::Untyped(String::from_str(alloc, text)?)),
+        Sample::Row(pre) => Item::Node(Node { tree: 0, pre }),
+    }))
+}
+
+fn items(alloc: Global, samples: &[Sample]) -> Result<Items, Fault> {
+    let mut items = Vec::new(alloc);
+    for sample in samples {
+        if let Some(item) = item(alloc, *sample)? {
+            items.push(item)?;
+        }
+    }
+    Ok(items)
+}
+
+/// A key of one value, or of none.
+fn key(alloc: Global, sample: Sample) -> Result<Vec<Atom>, Fault> {
+    let mut key = Vec::new(alloc);
+    if let Some(Item::Atom(atom)) = item(alloc, sample)? {
+        key.push(atom)?;
+    }
+    Ok(key)
+}
+
+/// One key for each tuple.
+fn column(alloc: Global, samples: &[Sample]) -> Result<Vec<Vec<Atom>>, Fault> {
+    let mut column = Vec::new(alloc);
+    for sample in samples {
+        column.push(key(alloc, *sample)?)?;
+    }
+    Ok(column)
+}
+
+/// `for` over the samples, as the first clause.
+fn for_each(rt: &impl Abort, alloc: Global, samples: &[Sample], at: bool) -> Result<Tuples, Fault> {
+    let stream = Tuples::one(alloc)?;
+    let mut lists = Vec::new(alloc);
+    lists.push(items(alloc, samples)?)?;
+    assert_eq!(rt; lists.len(), stream.len());
+    Ok(stream.expand(lists, at)?)
+}
+
+/// `let`, where each tuple's value is one sample.
+fn bind(
+    rt: &impl Abort,
+    alloc: Global,
+    stream: Tuples,
+    samples: &[Sample],
+) -> Result<Tuples, Fault> {
+    let mut values = Vec::new(alloc);
+    for sample in samples {
+        values.push(items(alloc, &[*sample])?)?;
+    }
+    assert_eq!(rt; values.len(), stream.len());
+    Ok(stream.bind(values)?)
+}
+
+/// `group by` one variable.
+fn group(
+    rt: &impl Abort,
+    alloc: Global,
+    stream: Tuples,
+    slot: usize,
+    column: Vec<Vec<Atom>>,
+) -> Result<Tuples, Fault> {
+    assert_eq!(rt; column.len(), stream.len());
+    let mut keys = Vec::new(alloc);
+    keys.push(column)?;
+    stream.group(&[slot], keys)
+}
+
+/// `order by` one specification.
+fn order(
+    rt: &impl Abort,
+    alloc: Global,
+    stream: Tuples,
+    column: Vec<Vec<Atom>>,
+    spec: OrderSpec,
+) -> Result<Tuples, Fault> {
+    assert_eq!(rt; column.len(), stream.len());
+    let mut keys = Vec::new(alloc);
+    keys.push(column)?;
+    stream.order(keys, &[spec])
+}
+
+/// Adds the items, as they are printed, a node by its row.
+fn push_items(alloc: Global, items: &[Item], out: &mut String) -> Result<(), Fault> {
+    for item in items {
+        if !out.as_str().is_empty() {
+            out.push_str(", ")?;
+        }
+        match item {
+            Item::Node(node) => out.push_str(format!(in alloc; "row {}", node.pre)?.as_str())?,
+            Item::Atom(atom) => print(atom, out)?,
+        }
+    }
+    Ok(())
+}
+
+/// The slot's values, tuple after tuple.
+fn returned(rt: &impl Abort, alloc: Global, stream: &Tuples, slot: usize) -> Result<String, Fault> {
+    assert!(rt; stream.has_slot(slot));
+    let mut out = String::new(alloc);
+    for items in &stream.column(slot)? {
+        push_items(alloc, items, &mut out)?;
+    }
+    Ok(out)
+}
+
+/// How many items the slot has in each tuple.
+fn counts(rt: &impl Abort, alloc: Global, stream: &Tuples, slot: usize) -> Result<String, Fault> {
+    assert!(rt; stream.has_slot(slot));
+    let mut out = String::new(alloc);
+    for tuple in 0..stream.len() {
+        let count = Atom::Int(stream.value(tuple, slot).len() as i64);
+        push_items(alloc, &[Item::Atom(count)], &mut out)?;
+    }
+    Ok(out)
+}
+
+/// The tuples of 7 and 8 with their positions, each with "x".
+fn two(rt: &impl Abort, alloc: Global) -> Result<Tuples, Fault> {
+    let stream = for_each(rt, alloc, &[Sample::Int(7), Sample::Int(8)], true)?;
+    bind(rt, alloc, stream, &[Sample::Str("x"), Sample::Str("x")])
+}
+
+/// The tuples of the library's books.
+fn books(rt: &impl Abort, alloc: Global) -> Result<Tuples, Fault> {
+    for_each(rt, alloc, &[Sample::Row(2), Sample::Row(5)], true)
+}
+
+fn expands_binds_and_keeps(rt: &impl Abort, alloc: Global) -> Result<(), Fault> {
+    assert_eq!(rt; Tuples::one(alloc)?.len(), 1);
+    let stream = two(rt, alloc)?;
+    assert_eq!(rt; stream.len(), 2);
+    assert_eq!(rt; returned(rt, alloc, &stream, 1)?.as_str(), "1, 2");
+    assert_eq!(rt; returned(rt, alloc, &stream, 2)?.as_str(), "\"x\", \"x\"");
+    assert!(rt; !stream.has_slot(3));
+    let tests = [false, true];
+    assert_eq!(rt; tests.len(), stream.len());
+    let kept = stream.keep(&tests);
+    assert_eq!(rt; kept.len(), 1);
+    assert_eq!(rt; returned(rt, alloc, &kept, 0)?.as_str(), "8");
+    Ok(())
+}
+
+fn groups(rt: &impl Abort, alloc: Global) -> Result<(), Fault> {
+    let keys = column(alloc, &[Sample::Str("x"), Sample::Str("x")])?;
+    let grouped = group(rt, alloc, two(rt, alloc)?, 2, keys)?;
+    assert_eq!(rt; grouped.len(), 1);
+    assert_eq!(rt; returned(rt, alloc, &grouped, 0)?.as_str(), "7, 8");
+    assert_eq!(rt; returned(rt, alloc, &grouped, 1)?.as_str(), "1, 2");
+    assert_eq!(rt; returned(rt, alloc, &grouped, 2)?.as_str(), "\"x\"");
+    Ok(())
+}
+
+fn orders(rt: &impl Abort, alloc: Global) -> Result<(), Fault> {
+    let keys = column(alloc, &[Sample::Int(7), Sample::Int(8)])?;
+    let ordered = order(rt, alloc, two(rt, alloc)?, keys, DESCENDING)?;
+    assert_eq!(rt; returned(rt, alloc, &ordered, 0)?.as_str(), "8, 7");
+    assert_eq!(rt; returned(rt, alloc, &ordered, 1)?.as_str(), "2, 1");
+    Ok(())
+}
+
+/// The books by falling number, and a falling order with an empty key.
+fn worked_orders(rt: &impl Abort, alloc: Global) -> Result<(), Fault> {
+    let stream = bind(
+        rt,
+        alloc,
+        books(rt, alloc)?,
+        &[Sample::Str("A"), Sample::Str("B")],
+    )?;
+    let keys = column(alloc, &[Sample::Int(1), Sample::Int(2)])?;
+    let stream = order(rt, alloc, stream, keys, DESCENDING)?;
+    assert_eq!(rt; returned(rt, alloc, &stream, 2)?.as_str(), "\"B\", \"A\"");
+
+    let stream = for_each(rt, alloc, &[Sample::Int(1), Sample::Int(2)], false)?;
+    let keys = column(alloc, &[Sample::Nothing, Sample::Int(5)])?;
+    let stream = order(rt, alloc, stream, keys, DESCENDING)?;
+    assert_eq!(rt; returned(rt, alloc, &stream, 0)?.as_str(), "2, 1");
+    Ok(())
+}
+
+/// The second of the books.
+fn worked_keep(rt: &impl Abort, alloc: Global) -> Result<(), Fault> {
+    let stream = books(rt, alloc)?;
+    let tests = [false, true];
+    assert_eq!(rt; tests.len(), stream.len());
+    let stream = stream.keep(&tests);
+    assert_eq!(rt; returned(rt, alloc, &stream, 0)?.as_str(), "row 5");
+    assert_eq!(rt; returned(rt, alloc, &stream, 1)?.as_str(), "2");
+    Ok(())
+}
+
+fn worked_groups(rt: &impl Abort, alloc: Global) -> Result<(), Fault> {
+    let samples = [Sample::Int(1), Sample::Dec(1), Sample::Str("1")];
+    let stream = bind(rt, alloc, for_each(rt, alloc, &samples, false)?, &samples)?;
+    let stream = group(rt, alloc, stream, 0, column(alloc, &samples)?)?;
+    assert_eq!(rt; counts(rt, alloc, &stream, 1)?.as_str(), "2, 1");
+    Ok(())
+}
+
+fn worked_first_keys(rt: &impl Abort, alloc: Global) -> Result<(), Fault> {
+    let samples = [Sample::Dec(1), Sample::Int(1)];
+    let stream = for_each(rt, alloc, &samples, false)?;
+    let stream = group(rt, alloc, stream, 0, column(alloc, &samples)?)?;
+    assert_eq!(rt; returned(rt, alloc, &stream, 0)?.as_str(), "1.0");
+
+    let lengths = [Sample::Int(1), Sample::Int(1)];
+    let stream = bind(rt, alloc, books(rt, alloc)?, &lengths)?;
+    let stream = group(rt, alloc, stream, 2, column(alloc, &lengths)?)?;
+    assert_eq!(rt; counts(rt, alloc, &stream, 0)?.as_str(), "2");
+    Ok(())
+}
+
+/// The rows of the calls, and then the clauses of worked queries.
+fn all_rows(rt: &impl Abort, alloc: Global) -> Result<(), Fault> {
+    expands_binds_and_keeps(rt, alloc)?;
+    groups(rt, alloc)?;
+    orders(rt, alloc)?;
+    worked_orders(rt, alloc)?;
+    worked_keep(rt, alloc)?;
+    worked_groups(rt, alloc)?;
+    worked_first_keys(rt, alloc)
+}
+
+#[test]
+fn rows_with_ample_memory(rt: HostRuntime) -> Result<(), Fail> {
+    Ok(all_rows(&rt, rt.alloc())?)
+}
+
+/// Untyped keys are strings; one that is too many, or of another kind, is refused.
+#[test]
+fn keys_of_one_kind(rt: HostRuntime) -> Result<(), Fail> {
+    let alloc = rt.alloc();
+    let texts = [Sample::Untyped("9"), Sample::Str("10")];
+    let stream = for_each(&rt, alloc, &texts, false)?;
+    let stream = order(&rt, alloc, stream, column(alloc, &texts)?, ASCENDING)?;
+    assert_eq!(rt;
+        returned(&rt, alloc, &stream, 0)?.as_str(),
+        "\"10\", xs:untypedAtomic(\"9\")"
+    );
+
+    let mixed = [Sample::Untyped("9"), Sample::Int(9)];
+    let stream = for_each(&rt, alloc, &mixed, false)?;
+    let ordered = order(&rt, alloc, stream, column(alloc, &mixed)?, ASCENDING);
+    assert!(rt; matches!(ordered, Err(Fault::Code(Code::XPTY0004))));
+
+    let mut long = column(alloc, &[Sample::Nothing])?;
+    let stream = for_each(&rt, alloc, &[Sample::Int(1)], false)?;
+    for key in &mut long {
+        key.push(Atom::Int(1))?;
+        key.push(Atom::Int(2))?;
+    }
+    let grouped = group(&rt, alloc, stream, 0, long);
+    assert!(rt; matches!(grouped, Err(Fault::Code(Code::XPTY0004))));
+    Ok(())
+}
+
+/// The rows where a growth may be refused: each result is that of ample memory, or want of memory.
+#[test]
+fn each_allocation(rt: HostRuntime) {
+    let outcome = all_rows(&rt, rt.alloc());
+    assert!(rt; matches!(outcome, Ok(()) | Err(Fault::Want(Want::Memory))));
+}
