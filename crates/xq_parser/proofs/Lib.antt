@@ -1,14 +1,3 @@
-pub mod Tokens
-pub mod Sound
-pub mod SoundLines
-pub mod Moves
-pub mod LinesMove
-pub mod Rank
-pub mod Complete
-pub mod NameLines
-pub mod PrimaryLines
-pub mod OperatorLines
-pub mod ClauseLines
-pub mod Begins
-pub mod Top
-pub mod Worked
+pub mod Answering
+pub mod Choice
+pub mod Loops

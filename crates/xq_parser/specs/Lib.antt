@@ -1,4 +1,0 @@
-pub mod Look
-pub mod Rel
-pub mod Grammar
-pub mod Reading

@@ -1,0 +1,14 @@
+pub mod Tokens
+pub mod Sound
+pub mod SoundLines
+pub mod Moves
+pub mod LinesMove
+pub mod Rank
+pub mod Complete
+pub mod NameLines
+pub mod PrimaryLines
+pub mod OperatorLines
+pub mod ClauseLines
+pub mod Begins
+pub mod Top
+pub mod Worked

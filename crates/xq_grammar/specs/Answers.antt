@@ -1,0 +1,22 @@
+-- When tokens are refused, and why.
+use Rattle.std.specs.Prelude.{◌≡◌, ◌≤◌, ◌<◌, Result, Ok, Err}
+use Rattle.xq_atoms.specs.declared.refusals.Fault.{Fault}
+use Rattle.xq_atoms.specs.declared.refusals.Fault.TheVariants.{Code as OfCode, Want as OfWant}
+use Rattle.xq_atoms.specs.declared.refusals.Code.TheVariants.{XPST0003, ProfDepth}
+use Rattle.xq_atoms.specs.declared.refusals.Want.TheVariants.{Memory}
+use Rattle.xq_lexer.specs.Nesting.{nesting}
+use Rattle.xq_expressions.specs.declared.expressions.Expr.{Expr}
+use Rattle.xq_grammar.specs.Look.{Tokens}
+use Rattle.xq_grammar.specs.Grammar.{Derives}
+
+-- Too deep nesting goes before a want of memory and before the grammar; no other fault is answered.
+abbrev pub IsRefusal : Fault → Tokens → Type 0
+IsRefusal (OfWant Memory) ts = nesting ts ≤ 128
+IsRefusal (OfWant _) ts = ⊥
+IsRefusal (OfCode ProfDepth) ts = 128 < nesting ts
+IsRefusal (OfCode XPST0003) ts = (nesting ts ≤ 128) × ((e : Expr) → Derives ts e → ⊥)
+IsRefusal (OfCode _) ts = ⊥
+
+abbrev pub Refuses : Result Expr Fault → Tokens → Type 0
+Refuses (Ok e) ts = Unit {0}
+Refuses (Err fault) ts = IsRefusal fault ts

@@ -1,0 +1,72 @@
+//! The expression that tokens derive.
+ghost use Rattle.std.specs.Prelude.{◌≡◌, ◌≤◌, IfOk};
+ghost use Rattle.xq_lexer.specs.Lexeme.{lexemes};
+ghost use Rattle.xq_lexer.specs.Nesting.{nesting as nesting_of};
+ghost use Rattle.xq_expressions.specs.declared.expressions.Expr.{Expr as Expr_};
+ghost use Rattle.xq_grammar.specs.Grammar.{Derives};
+ghost use Rattle.xq_grammar.specs.Reading as spec;
+ghost use Rattle.xq_grammar.specs.Gives.{Gives, Parses};
+ghost use Rattle.xq_grammar.specs.Answers.{Refuses};
+
+use crate::grammar::Grammar;
+use std::alloc::Global;
+use xq_atoms::{Code, Fault};
+use xq_expressions::Expr;
+use xq_lexer::{Token, nesting};
+
+/// The deepest nesting of an expression.
+const MAX_NESTING: u32 = 128;
+
+/// One more: the singles that may nest in one another.
+const MAX_DEPTH: usize = 129;
+
+/// A single expression, with singles nested at most so deep.
+fn single<'a>(
+    alloc: Global,
+    depth: usize,
+    tokens: &'a [Token],
+) -> Result<(Expr, &'a [Token]), Fault>
+    ensures { Parses result (spec.single depth (lexemes tokens.now)) }
+{
+    if depth == 0 {
+        return Err(Fault::Code(Code::XPST0003));
+    }
+    Grammar {
+        alloc,
+        depth: depth - 1,
+        single,
+    }
+    .any(tokens)
+}
+
+/// A whole expression that the tokens end with.
+#[tactic(auto, unfolding(xq_grammar::specs::Reading::query))]
+fn query(alloc: Global, tokens: &[Token]) -> Result<Expr, Fault>
+    ensures { Gives (λ x. x) result (spec.query 129 (lexemes tokens.now)) }
+{
+    let grammar = Grammar {
+        alloc,
+        depth: MAX_DEPTH,
+        single,
+    };
+    let (found, rest) = grammar.whole(tokens)?;
+    match rest {
+        [] => Ok(found),
+        [_, ..] => Err(Fault::Code(Code::XPST0003)),
+    }
+}
+
+/// The one expression that the tokens derive. It refuses with `prof:DEPTH` exactly where they nest
+/// deeper than 128, and with XPST0003 exactly where they don't and derive no expression; else it
+/// refuses only for want of memory.
+pub fn parse(alloc: Global, tokens: &[Token]) -> Result<Expr, Fault>
+    ensures found { IfOk result (λ e. Derives (lexemes tokens.now) e) }
+    ensures only { IfOk result (λ e. (other : Expr_) → Derives (lexemes tokens.now) other → other ≡ e) }
+    ensures shallow { IfOk result (λ _. nesting_of (lexemes tokens.now) ≤ 128) }
+    ensures refused { Refuses result (lexemes tokens.now) }
+{
+    if nesting(tokens) > MAX_NESTING {
+        return Err(Fault::Code(Code::ProfDepth));
+    }
+    query(alloc, tokens)
+}
