@@ -1,0 +1,6 @@
+pub mod Zeros
+pub mod Parts
+pub mod Visible
+pub mod Decimals
+pub mod Integers
+pub mod Strings
