@@ -6,8 +6,6 @@ mod frames;
 mod replies;
 mod requests;
 
-pub use frames::{
-    Frame, MAX_MESSAGE, Next, frame_of, next_frame, number_at_start, splits_once,
-};
+pub use frames::{Frame, MAX_MESSAGE, Next, frame_of, next_frame, number_at_start, splits_once};
 pub use replies::{MAX_TEXT, reply_header};
 pub use requests::Request;

@@ -49,8 +49,10 @@ fn asked_by_arguments<R: Env + AllocGlobal>(rt: &R) -> Asked {
         Ok(arguments) => arguments,
         Err(fault) => return fault,
     };
-    let words: Result<Vec<&str>, AllocError> =
-        arguments.iter().map(|word| word.as_str()).collect(rt.alloc());
+    let words: Result<Vec<&str>, AllocError> = arguments
+        .iter()
+        .map(|word| word.as_str())
+        .collect(rt.alloc());
     match words {
         Ok(words) => asked(rt.alloc(), words.as_slice()),
         Err(_) => Asked::NoRoom,

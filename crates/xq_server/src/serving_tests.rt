@@ -130,11 +130,21 @@ fn interruptions(rt: HostRuntime) -> Result<(), Fail> {
 #[test]
 fn flushes(rt: HostRuntime) -> Result<(), Fail> {
     let mut sink = Sink::new(Vec::new(rt.alloc()));
-    check_end(&rt, (&mut Source::new(LISTS), &mut sink), 1_000_000, (End::Finished, 33))?;
+    check_end(
+        &rt,
+        (&mut Source::new(LISTS), &mut sink),
+        1_000_000,
+        (End::Finished, 33),
+    )?;
     assert_eq!(rt; sink.flushes, 3);
     let mut stuck = Sink::new(Vec::new(rt.alloc()));
     stuck.flush_fails = true;
-    check_end(&rt, (&mut Source::new(LISTS), &mut stuck), 1_000_000, (End::WriteFault, 11))?;
+    check_end(
+        &rt,
+        (&mut Source::new(LISTS), &mut stuck),
+        1_000_000,
+        (End::WriteFault, 11),
+    )?;
     Ok(())
 }
 
@@ -146,7 +156,10 @@ fn bounds(rt: HostRuntime) -> Result<(), Fail> {
         source.fails = true;
         let mut sink = Sink::new(Vec::new(rt.alloc()));
         check_end(&rt, (&mut source, &mut sink), bound, (End::Bound, written))?;
-        assert_eq!(rt; source.bytes.len(), LISTS.len().saturating_sub(written / 11 * 9));
+        assert_eq!(rt;
+            source.bytes.len(),
+            LISTS.len().saturating_sub(written / 11 * 9)
+        );
     }
     Ok(())
 }
@@ -159,10 +172,16 @@ fn carries_out_what_it_cannot_tell(rt: HostRuntime) -> Result<(), Fail> {
     input.extend_from_slice(&frame(rt.alloc(), 2, b'S', b"\x01cdocument {}")?)?;
     let mut sink = Sink::new(Vec::new(rt.alloc()));
     sink.room = 3;
-    assert_eq!(rt; server.serve(&mut Source::new(&input), &mut sink, 10), End::WriteFault);
+    assert_eq!(rt;
+        server.serve(&mut Source::new(&input), &mut sink, 10),
+        End::WriteFault
+    );
     let mut out = Vec::new(rt.alloc());
     assert_eq!(rt; server.run(&LISTS[..9], &mut out), End::Finished);
-    assert_eq!(rt; out.as_slice(), b"\x00\x00\x00\x08\x00\x00\x00\x01\x00\"a\"".as_slice());
+    assert_eq!(rt;
+        out.as_slice(),
+        b"\x00\x00\x00\x08\x00\x00\x00\x01\x00\"a\"".as_slice()
+    );
     Ok(())
 }
 

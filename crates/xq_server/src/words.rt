@@ -16,7 +16,9 @@ pub fn asked(alloc: Global, words: &[&str]) -> Asked {
 /// The words that the program knows.
 fn command<'a>(alloc: Global) -> Command<'a> {
     Command::new(alloc, "xq_server")
-        .about("Answers the request frames of standard input over documents in memory, on standard output.")
+        .about(
+            "Answers the request frames of standard input over documents in memory, on standard output.",
+        )
         .no_binary_name(true)
 }
 

@@ -1,5 +1,5 @@
-//! The service: requests answered over a store of documents, one at a time and in whole runs of
-//! frames.
+//! The service: requests answered over a store of documents, one at a time, in whole runs of
+//! frames, and from a reader to a writer.
 //!
 //! Each reply that doesn't name want of memory or of the store is the printed meaning of its
 //! request over the documents that the accepted requests before it left.

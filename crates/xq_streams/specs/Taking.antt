@@ -1,7 +1,7 @@
 -- What is taken from a reader for one frame.
 use Rattle.std.specs.Prelude.{◌≡◌, ℕ, ◌<◌, ◌≤◌, List, [], length, take, Option, ◌⊎◌}
 use Rattle.std.specs.Io.KnownBytes.{Consumes, IsAtEnd}
-use Rattle.xq_frame.specs.Frame.{frame_bytes, IsMessage, IsTooLong, IsCut, announced, longest_message}
+use Rattle.xq_frame.specs.Frame.{frame_bytes, IsMessage, IsCut, announced, longest_message}
 use Rattle.xq_streams.specs.declared.messages.Filled.{Filled}
 use Rattle.xq_streams.specs.declared.messages.Filled.TheVariants.{Full, Ended, Fault as Broken}
 use Rattle.xq_streams.specs.declared.messages.Taken.{Taken}

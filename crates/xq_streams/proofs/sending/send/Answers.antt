@@ -11,8 +11,7 @@ pub writes-preserved-in-Ok : goal.writes-preserved-in-Ok
 writes-preserved-in-Ok g c =
     let given = c.writes.invariant.0 in
     let rest = c.writes.rest.now in
-    let n = c.in-Ok.n in
-    (
+    let n = c.in-Ok.n in (
       (given.0 ++ take n rest, (moves_front _ given.0 rest n given.1.0, Appends-trans _ _ _ _ _ given.1.1 c.in-Ok.ensures.bytes)),
       c.writes.invariant.1,
     )
