@@ -1,0 +1,8 @@
+//! Which texts the grammar derives, as the outermost level of what they stand for (XQuery 3.1,
+//! appendix A.1).
+#![tactic(auto)]
+
+#[cfg(test)]
+mod levels;
+#[cfg(test)]
+mod rows;

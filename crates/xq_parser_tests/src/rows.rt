@@ -1,0 +1,207 @@
+//! The rows.
+
+use crate::levels::{Outcome, outcome};
+use std::alloc::{AllocError, Global};
+use std::test::Fail;
+use xq_atoms::Code;
+use xq_expressions::{NamedNode, UnnamedNode};
+
+#[test]
+fn words_are_names_too(rt: HostRuntime) {
+    let rows = [
+        ("div div div", Outcome::Product(2)),
+        ("for", Outcome::Path(1)),
+        ("if", Outcome::Path(1)),
+        ("every", Outcome::Path(1)),
+        ("order/by/return", Outcome::Path(3)),
+        ("child", Outcome::Path(1)),
+        ("text", Outcome::Path(1)),
+        ("element div {element for {}}/for", Outcome::Path(2)),
+        ("if (if) then then else else", Outcome::If),
+        ("for $for in for return return", Outcome::Flwor(1)),
+        ("some", Outcome::Path(1)),
+    ];
+    for (text, level) in rows {
+        assert_eq!(rt; outcome(rt.alloc(), text), level, "{text}");
+    }
+}
+
+#[test]
+fn operators_bind_in_their_order(rt: HostRuntime) {
+    let rows = [
+        ("1, 2, 3", Outcome::Sequence(3)),
+        ("1 or 2 and 3 or 4", Outcome::Or(3)),
+        ("1 and 2 = 3 and 4", Outcome::And(3)),
+        ("/ = 1", Outcome::Comparison),
+        ("1 || 2 is 3", Outcome::Comparison),
+        ("1 to 2 || 3", Outcome::Concat(2)),
+        ("1 + 2 to 3 + 4", Outcome::Range),
+        ("1 - 2 - 3", Outcome::Sum(3)),
+        ("1 + 2 * 3", Outcome::Sum(2)),
+        ("a * b div c", Outcome::Product(3)),
+        ("a | b * c", Outcome::Product(2)),
+        ("a union b | c", Outcome::Union(3)),
+        ("a intersect b | c", Outcome::Union(2)),
+        ("a except b intersect c", Outcome::SetOperation(3)),
+        ("- + a", Outcome::Signed(2)),
+        ("-1 * 2", Outcome::Product(2)),
+        ("-a/b", Outcome::Signed(1)),
+        ("1 + $q", Outcome::Sum(2)),
+        ("1 - -2", Outcome::Sum(2)),
+    ];
+    for (text, level) in rows {
+        assert_eq!(rt; outcome(rt.alloc(), text), level, "{text}");
+    }
+}
+
+#[test]
+fn paths_and_primaries_stand_for_themselves(rt: HostRuntime) {
+    let rows = [
+        ("/", Outcome::Path(0)),
+        ("/a//b", Outcome::Path(2)),
+        ("//@id", Outcome::Path(1)),
+        ("/*", Outcome::Path(1)),
+        ("../child::*[1][2]/text()", Outcome::Path(3)),
+        ("processing-instruction(t)", Outcome::Path(1)),
+        ("element(a)/attribute(*)/document-node()", Outcome::Path(3)),
+        ("(1)", Outcome::Literal),
+        ("((\"a\"))", Outcome::Literal),
+        ("1.5", Outcome::Literal),
+        ("()", Outcome::Sequence(0)),
+        ("(1)[1]", Outcome::Path(1)),
+        ("$p:x", Outcome::Variable),
+        (".", Outcome::ContextItem),
+        ("f()", Outcome::Call(0)),
+        ("p:if(1, (2, 3))", Outcome::Call(2)),
+        ("element p:a {}", Outcome::Named(NamedNode::Element)),
+        (
+            "attribute {\"a\"} {1, 2}",
+            Outcome::Named(NamedNode::Attribute),
+        ),
+        (
+            "processing-instruction t {}",
+            Outcome::Named(NamedNode::ProcessingInstruction),
+        ),
+        ("document {}", Outcome::Unnamed(UnnamedNode::Document)),
+        ("text {1}", Outcome::Unnamed(UnnamedNode::Text)),
+        ("comment {()}", Outcome::Unnamed(UnnamedNode::Comment)),
+    ];
+    for (text, level) in rows {
+        assert_eq!(rt; outcome(rt.alloc(), text), level, "{text}");
+    }
+}
+
+#[test]
+fn clauses_and_quantifiers_take_lists(rt: HostRuntime) {
+    let rows = [
+        (
+            "for $x at $i in 1, $y in 2 return 3, 4",
+            Outcome::Sequence(2),
+        ),
+        ("let $x := 1, $y := 2 return $x", Outcome::Flwor(1)),
+        (
+            "for $x in 1 let $y := 2 where 3 return 4",
+            Outcome::Flwor(3),
+        ),
+        (
+            "for $x in 1 group by $x, $k := 2 return 4",
+            Outcome::Flwor(2),
+        ),
+        (
+            "for $x in 1 stable order by $x descending empty greatest, 2 empty least return 4",
+            Outcome::Flwor(2),
+        ),
+        ("for $x in 1 order by $x return 4", Outcome::Flwor(2)),
+        (
+            "every $x in 1, $y in 2 satisfies $x = $y",
+            Outcome::Quantified(2),
+        ),
+        ("if (1, 2) then 1 else if (3) then 2 else 3", Outcome::If),
+    ];
+    for (text, level) in rows {
+        assert_eq!(rt; outcome(rt.alloc(), text), level, "{text}");
+    }
+}
+
+#[test]
+fn what_nothing_derives_is_refused(rt: HostRuntime) {
+    let rows = [
+        "",
+        "1 eq 2 eq 3",
+        "1 = 2 = 3",
+        "1 to 2 to 3",
+        "/ * 5",
+        "text(\"a\")",
+        "if(1)",
+        "1 2",
+        "1,",
+        "1 +",
+        "| a",
+        "a/",
+        "//",
+        "a[",
+        "a[]",
+        "(1",
+        "$",
+        "$1",
+        "@",
+        "f(1,)",
+        "up::a",
+        "child::",
+        "child::1",
+        "node(a)",
+        "element(a, b)",
+        "element a",
+        "element a {",
+        "element {} {}",
+        "document a {}",
+        "processing-instruction p:a {}",
+        "processing-instruction(p:a)",
+        "for $x in 1",
+        "for x in 1 return 1",
+        "for $x at in 1 return 1",
+        "let $x = 1 return 1",
+        "for $x in 1 order by $x descending ascending return 1",
+        "for $x in 1 order by $x empty return 1",
+        "for $x in 1 stable return 1",
+        "for $x in 1 group by x return 1",
+        "where 1 return 1",
+        "some $x satisfies 1",
+        "some $x in 1, satisfies 1",
+        "if (1) then 2",
+        "if () then 1 else 2",
+    ];
+    for text in rows {
+        assert_eq!(rt;
+            outcome(rt.alloc(), text),
+            Outcome::Refused(Code::XPST0003),
+            "{text}"
+        );
+    }
+}
+
+/// So many pairs of parentheses round a number.
+fn enclosed(alloc: Global, pairs: usize) -> Result<String, AllocError> {
+    let mut text = String::new(alloc);
+    for _pair in 0..pairs {
+        text.push_str("(")?;
+    }
+    text.push_str("1")?;
+    for _pair in 0..pairs {
+        text.push_str(")")?;
+    }
+    Ok(text)
+}
+
+#[test]
+fn nesting_ends_at_128(rt: HostRuntime) -> Result<(), Fail> {
+    assert_eq!(rt;
+        outcome(rt.alloc(), &enclosed(rt.alloc(), 128)?),
+        Outcome::Literal
+    );
+    assert_eq!(rt;
+        outcome(rt.alloc(), &enclosed(rt.alloc(), 129)?),
+        Outcome::Refused(Code::ProfDepth)
+    );
+    Ok(())
+}
