@@ -1,5 +1,5 @@
 -- A loop that keeps in place the elements whose tests hold.
-use Rattle.std.proofs.Common.{◌≡◌, ℕ, ◌+◌, ◌<◌, ◌≤◌, List, [], ◌∷◌, ◌++◌, length, take, drop, get_or, set, Bool, true, false, cond, ap, sym, ◌∙◌, refl, arith}
+use Rattle.std.proofs.Common.{◌≡◌, ℕ, ◌+◌, ◌<◌, ◌≤◌, List, [], ◌∷◌, ◌++◌, length, take, drop, get_or, Bool, true, false, cond, ap, sym, ◌∙◌, arith}
 use Rattle.std.specs.List.{SwappedAt}
 use Rattle.std.proofs.lemmas.List.{take_more, take_all, take-set-le, drop-set-lt, drop_more, length-set, append-nil, length-take-le}
 use Rattle.xq_regions.specs.Tuples.{kept}

@@ -1,11 +1,9 @@
 -- The orders by specifications are total.
-use Rattle.std.proofs.Common.{◌≡◌, List, [], ◌∷◌, Bool, true, false, refl}
+use Rattle.std.proofs.Common.{List, [], ◌∷◌, Bool, true, false, refl}
 use Rattle.std.specs.Prelude.{if◌then◌else◌}
 use Rattle.std.specs.declared.cmp.Ordering.{Ordering}
-use Rattle.std.specs.declared.cmp.Ordering.TheVariants.{Less, Equal, Greater}
-use Rattle.std.specs.Ordering.{bool_cmp}
+use Rattle.std.specs.declared.cmp.Ordering.TheVariants.{Equal}
 use Rattle.std.specs.Cmp.{IsTotalOrder, on_total, back_total, then_total, bool_cmp_total}
-use Rattle.xq_atoms.specs.Compare.{Key}
 use Rattle.xq_regions.specs.Tuples.{OrderRule, is_nothing, placed_cmp, rule_cmp, first_key, later_keys, keys_cmp}
 use Rattle.xq_tuples.proofs.KeyOrder.{key_cmp_total}
 

@@ -1,5 +1,4 @@
-use Rattle.std.proofs.Common.{map, ap, sym, ◌∙◌}
-use Rattle.std.specs.List.{zip}
+use Rattle.std.proofs.Common.{ap, ◌∙◌}
 use Rattle.std.proofs.lemmas.Iterator.{YieldsList-from_zip}
 use Rattle.std.proofs.lemmas.Iterator.Adapters.{YieldsList-from_vec}
 use Rattle.std.proofs.lemmas.Iterator.Consumers.{YieldsList-end}

@@ -1,7 +1,6 @@
-use Rattle.std.proofs.Common.{◌≡◌, ◌<◌, List, [], ◌∷◌, ◌++◌, map, length, get_or, set, Bool, true, false, not, cond, subst, sym, ap, ◌∙◌, arith, refl}
+use Rattle.std.proofs.Common.{◌≡◌, ◌<◌, [], ◌∷◌, ◌++◌, map, length, get_or, set, Bool, true, false, not, cond, subst, sym, ap, ◌∙◌, arith}
 use Rattle.std.specs.List.{list_any}
 use Rattle.std.proofs.lemmas.List.{set_at, get_or_at}
-use Rattle.std.proofs.lemmas.Bool.{false≢true}
 use Rattle.xq_regions.specs.Tuples.{comparison_keys}
 use Rattle.xq_tuples.specs.Keys.{key_view}
 use Rattle.xq_tuples.specs.Groups.{Gathers, keyed_of}

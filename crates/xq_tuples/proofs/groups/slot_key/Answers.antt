@@ -1,4 +1,4 @@
-use Rattle.std.proofs.Common.{◌≡◌, ◌==◌, ℕ, Option, Some, None, map, refl, ap, sym, ◌∙◌, rules, tests}
+use Rattle.std.proofs.Common.{◌≡◌, ◌==◌, Some, None, map, ap, sym, ◌∙◌, rules, tests}
 use Rattle.std.specs.Prelude.{position, slice_get, option_and_then}
 use Rattle.std.proofs.lemmas.Iterator.{YieldsList-from_slice}
 use Rattle.std.proofs.lemmas.Iterator.Search.{position_from_yields_List}

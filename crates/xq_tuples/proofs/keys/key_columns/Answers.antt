@@ -1,12 +1,11 @@
-use Rattle.std.proofs.Common.{◌≡◌, map, length, get_or, false, sym, ap, ◌∙◌, arith}
+use Rattle.std.proofs.Common.{◌≡◌, map, length, false, sym, ap, ◌∙◌, arith}
 use Rattle.std.specs.List.{list_all}
 use Rattle.std.proofs.lemmas.List.{length-map, get_or-map}
 use Rattle.std.proofs.lemmas.Result.{err_from_is_err_and}
 use Rattle.std.proofs.lemmas.Iterator.Adapters.{YieldsList-from_vec}
 use Rattle.std.proofs.lemmas.Iterator.Consumers.{YieldsList-turn}
-use Rattle.xq_atoms.specs.declared.refusals.Fault.{Fault}
-use Rattle.xq_regions.specs.Tuples.{is_key, are_keys}
-use Rattle.xq_tuples.specs.Keys.{column_of, Refuses}
+use Rattle.xq_regions.specs.Tuples.{is_key}
+use Rattle.xq_tuples.specs.Keys.{column_of}
 use Rattle.xq_tuples.proofs.Refusals.{list_all-fails, Refuses-weaker}
 use Rattle.xq_tuples.proofs.keys.key_columns.Goals as goal
 

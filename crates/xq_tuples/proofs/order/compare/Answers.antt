@@ -1,9 +1,4 @@
-use Rattle.std.proofs.Common.{◌≡◌, ◌<◌, ◌+◌, ◌∷◌, map, drop, length, get_or, ap, sym, ◌∙◌, arith}
-use Rattle.std.specs.Ordering.{ordering_then}
-use Rattle.std.proofs.lemmas.List.{drop-map, drop_more}
-use Rattle.xq_atoms.specs.Compare.{Nothing, key_of}
-use Rattle.xq_regions.specs.Tuples.{keys_cmp, rule_cmp}
-use Rattle.xq_tuples.specs.Orders.{rule_of}
+use Rattle.std.proofs.Common.{sym, ◌∙◌}
 use Rattle.xq_tuples.proofs.Comparing.{compared_at, ordering_then-ne, ordering_then-eq}
 use Rattle.xq_tuples.proofs.order.compare.Goals as goal
 

@@ -1,6 +1,5 @@
-use Rattle.std.proofs.Common.{◌≡◌, arith, rules}
+use Rattle.std.proofs.Common.{arith}
 use Rattle.std.proofs.lemmas.Grind.{common_steps}
-use Rattle.xq_tuples.specs.Views.{values_of}
 use Rattle.xq_tuples.proofs.Copies.{values_of-clones}
 use Rattle.xq_tuples.proofs.values.with_item.Goals as goal
 use Rattle.xq_tuples.proofs.values.with_item.Goals.{then-at+in_ok-single-2+in_ok-push-2, else-at}
