@@ -1,10 +1,11 @@
 #!/usr/bin/env bash
-# Runs the test `each_allocation` of the store again and again, refusing the first of its allocations, then
-# the second, and so on, until a run meets no refusal. Each run has to pass: after a refusal the map is
-# as it was, and the call succeeds when it is made again.
+# Runs the store's tests of refused allocations again and again, refusing the first allocation, then the
+# second, and so on, until a run meets no refusal. Each run has to pass: after a refusal the map is as it
+# was, and the call succeeds when it is made again. A store on disks in memory may be shut instead; then
+# each later call is refused, and its files still hold the map as it was.
 #
-#   tools/each_allocation.sh [CRATE TEST]      that of another crate, where it is named; needs a C compiler;
-#                                              the test is built by `rt test` first
+#   tools/each_allocation.sh [CRATE TEST..]      tests of another crate, where they are named; needs a C
+#                                                compiler; the tests are built by `rt test` first
 set -eu
 top=$(cd "$(dirname "$0")/.." && pwd)
 work=$(mktemp -d)
@@ -60,20 +61,22 @@ int posix_memalign(void **result, size_t align, size_t size) {
 C
 cc -shared -fPIC -O1 -o "$work/refuse.so" "$work/refuse.c" -ldl
 
-crate=${1:-xq_rows}
-name=${2:-stores::tests::each_allocation}
+crate=${1:-xq_rows_tests}
+[ $# -gt 1 ] && shift || set -- tests::each_allocation_in_memory tests::each_allocation_on_memory_disks
 cd "$top/crates/$crate"
-test=out/${crate}_tests
-[ -x "$test" ] || rt test
-number=1
-while :; do
-    rm -f "$work/refused"
-    if ! REFUSE=$number REFUSED="$work/refused" LD_PRELOAD="$work/refuse.so" "$test" "$name" > "$work/output" 2>&1; then
-        echo "allocation $number: the test failed"
-        cat "$work/output"
-        exit 1
-    fi
-    [ -e "$work/refused" ] || break
-    number=$((number + 1))
+program=out/${crate}_tests
+[ -x "$program" ] || rt test
+for test in "$@"; do
+    number=1
+    while :; do
+        rm -f "$work/refused"
+        if ! REFUSE=$number REFUSED="$work/refused" LD_PRELOAD="$work/refuse.so" "$program" "$test" > "$work/output" 2>&1; then
+            echo "$test, allocation $number: the test failed"
+            cat "$work/output"
+            exit 1
+        fi
+        [ -e "$work/refused" ] || break
+        number=$((number + 1))
+    done
+    echo "$test: each of $((number - 1)) allocations was refused in turn; every run passed"
 done
-echo "each of $((number - 1)) allocations was refused in turn; every run passed"

@@ -147,6 +147,3 @@ impl<S: Alter> Store<S> {
         conn
     }
 }
-
-#[cfg(test)]
-mod tests;

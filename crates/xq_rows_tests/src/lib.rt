@@ -1,0 +1,12 @@
+//! Tests of the store, in memory and on disks in memory. They stand in a crate of their own, since
+//! a crate with tests is proved twice.
+#![tactic(auto)]
+
+#[cfg(test)]
+mod calls;
+#[cfg(test)]
+mod documents;
+#[cfg(test)]
+mod refusals;
+#[cfg(test)]
+mod tests;
