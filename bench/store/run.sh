@@ -10,5 +10,10 @@ program=$("$here/build.sh" "$work")
 mkdir -p "$work/files"
 python3 "$here/compare.py" "$program" "$work/files"
 
+# Where the memory lies, if there is a C compiler: the blocks of 64 KiB are the disks', the rest is the engine's.
+if cc -shared -fPIC -O1 -o "$work/held.so" "$here/held.c" -ldl; then
+    LD_PRELOAD=$work/held.so "$program" held 100000
+fi
+
 # The engine's own store in memory deletes in time that grows with the square of the rows, so it stops early.
 for rows in 1000 2000 4000 8000; do echo "memory $rows rows, microseconds:" $("$program" memory "$rows"); done

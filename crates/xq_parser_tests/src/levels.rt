@@ -77,7 +77,7 @@ fn parsed(alloc: Global, text: &str) -> Result<Expr, Fault> {
 }
 
 /// The level of what the text stands for, or the code that it is refused with.
-pub fn outcome(alloc: Global, text: &str) -> Outcome {
+pub fn outcome_of(alloc: Global, text: &str) -> Outcome {
     match parsed(alloc, text) {
         Ok(expression) => level(&expression),
         Err(Fault::Code(code)) => Outcome::Refused(code),

@@ -1,6 +1,6 @@
 //! The rows.
 
-use crate::levels::{Outcome, outcome};
+use crate::levels::{Outcome, outcome_of};
 use std::alloc::{AllocError, Global};
 use std::test::Fail;
 use xq_atoms::Code;
@@ -22,7 +22,7 @@ fn words_are_names_too(rt: HostRuntime) {
         ("some", Outcome::Path(1)),
     ];
     for (text, level) in rows {
-        assert_eq!(rt; outcome(rt.alloc(), text), level, "{text}");
+        assert_eq!(rt; outcome_of(rt.alloc(), text), level, "{text}");
     }
 }
 
@@ -50,7 +50,7 @@ fn operators_bind_in_their_order(rt: HostRuntime) {
         ("1 - -2", Outcome::Sum(2)),
     ];
     for (text, level) in rows {
-        assert_eq!(rt; outcome(rt.alloc(), text), level, "{text}");
+        assert_eq!(rt; outcome_of(rt.alloc(), text), level, "{text}");
     }
 }
 
@@ -87,7 +87,7 @@ fn paths_and_primaries_stand_for_themselves(rt: HostRuntime) {
         ("comment {()}", Outcome::Unnamed(UnnamedNode::Comment)),
     ];
     for (text, level) in rows {
-        assert_eq!(rt; outcome(rt.alloc(), text), level, "{text}");
+        assert_eq!(rt; outcome_of(rt.alloc(), text), level, "{text}");
     }
 }
 
@@ -119,7 +119,7 @@ fn clauses_and_quantifiers_take_lists(rt: HostRuntime) {
         ("if (1, 2) then 1 else if (3) then 2 else 3", Outcome::If),
     ];
     for (text, level) in rows {
-        assert_eq!(rt; outcome(rt.alloc(), text), level, "{text}");
+        assert_eq!(rt; outcome_of(rt.alloc(), text), level, "{text}");
     }
 }
 
@@ -173,7 +173,7 @@ fn what_nothing_derives_is_refused(rt: HostRuntime) {
     ];
     for text in rows {
         assert_eq!(rt;
-            outcome(rt.alloc(), text),
+            outcome_of(rt.alloc(), text),
             Outcome::Refused(Code::XPST0003),
             "{text}"
         );
@@ -196,11 +196,11 @@ fn enclosed(alloc: Global, pairs: usize) -> Result<String, AllocError> {
 #[test]
 fn nesting_ends_at_128(rt: HostRuntime) -> Result<(), Fail> {
     assert_eq!(rt;
-        outcome(rt.alloc(), &enclosed(rt.alloc(), 128)?),
+        outcome_of(rt.alloc(), &enclosed(rt.alloc(), 128)?),
         Outcome::Literal
     );
     assert_eq!(rt;
-        outcome(rt.alloc(), &enclosed(rt.alloc(), 129)?),
+        outcome_of(rt.alloc(), &enclosed(rt.alloc(), 129)?),
         Outcome::Refused(Code::ProfDepth)
     );
     Ok(())
