@@ -90,19 +90,19 @@ module _ {S : Type 0} (g : Ghosts S) (conn old new : Held S) (same : conn ≡ ol
     unfolding IsUp Holds
     drop_holds up holds =
         let was : IsStore (state g conn).now = subst (λ (h : Held S). IsStore (state g h).now) (sym same) holds in
-        store_drops a (state g conn).now (state g new).now (did up was.schema was.table was.ints).0 was
+        store_drops a (state g conn).now (state g new).now (did up was.schema was.apart was.ints).0 was
 
     pub drop_map : IsUp g new → Holds g old → documents g new ≡ remove (documents g old) a
     unfolding IsUp Holds documents
     drop_map up holds =
         let was : IsStore (state g conn).now = subst (λ (h : Held S). IsStore (state g h).now) (sym same) holds in
-        dropped_map a (state g conn).now (state g new).now (did up was.schema was.table was.ints).0 was ∙ ap (λ (h : Held S). remove (documents_in ((state g h).now.trees 1)) a) same
+        dropped_map a (state g conn).now (state g new).now (did up was.schema was.apart was.ints).0 was ∙ ap (λ (h : Held S). remove (documents_in ((state g h).now.trees 1)) a) same
 
     pub drop_answer : IsUp g new → Holds g old → nat_lt 0 count ≡ contains_key (documents g old) a
     unfolding IsUp Holds documents
     drop_answer up holds =
         let was : IsStore (state g conn).now = subst (λ (h : Held S). IsStore (state g h).now) (sym same) holds in
-        was_there a (state g conn).now count was (did up was.schema was.table was.ints).1 ∙ ap (λ (h : Held S). contains_key (documents_in ((state g h).now.trees 1)) a) same
+        was_there a (state g conn).now count was (did up was.schema was.apart was.ints).1 ∙ ap (λ (h : Held S). contains_key (documents_in ((state g h).now.trees 1)) a) same
 
   -- the rows of a document were put in their place
   module _ (a : List ℕ) (good : IsAddress a) (t : Tree) (rs : List NodeRow) (encodes : Encodes rs t) (root : t.root.kind ≡ Document) (count : ℕ)
@@ -117,21 +117,21 @@ module _ {S : Type 0} (g : Ghosts S) (conn old new : Held S) (same : conn ≡ ol
     unfolding IsUp Holds
     put_holds up holds =
         let was : IsStore (state g conn).now = subst (λ (h : Held S). IsStore (state g h).now) (sym same) holds in
-        let it = puts up was.schema was.table was.ints in
+        let it = puts up was.schema was.apart was.ints in
         store_puts a good t is (state g conn).now it.0 (state g new).now it.1 it.2 was
 
     pub put_documents : IsUp g new → Holds g old → documents g new ≡ insert (documents g old) a t
     unfolding IsUp Holds documents
     put_documents up holds =
         let was : IsStore (state g conn).now = subst (λ (h : Held S). IsStore (state g h).now) (sym same) holds in
-        let it = puts up was.schema was.table was.ints in
+        let it = puts up was.schema was.apart was.ints in
         put_map a good t is (state g conn).now it.0 (state g new).now it.1 it.2 was ∙ ap (λ (h : Held S). insert (documents_in ((state g h).now.trees 1)) a t) same
 
     pub put_answer : IsUp g new → Holds g old → nat_lt 0 count ≡ contains_key (documents g old) a
     unfolding IsUp Holds documents
     put_answer up holds =
         let was : IsStore (state g conn).now = subst (λ (h : Held S). IsStore (state g h).now) (sym same) holds in
-        let it = puts up was.schema was.table was.ints in
+        let it = puts up was.schema was.apart was.ints in
         was_there a (state g conn).now count was it.3 ∙ ap (λ (h : Held S). contains_key (documents_in ((state g h).now.trees 1)) a) same
 
 -- a new store

@@ -1,6 +1,7 @@
 -- What the making of the tables does.
-use Rattle.std.proofs.Common.{◌≡◌, ◌⊎◌, inl, inr, ℕ, pos, None, Ok, Err, Result, List, [], ◌∷◌, Bool, true, false, IsTrue, OnOk, refl, sym, ap, subst, ◌∙◌, arith}
+use Rattle.std.proofs.Common.{◌≡◌, ◌⊎◌, inl, inr, ℕ, pos, map, None, Ok, Err, Result, List, [], ◌∷◌, Bool, true, false, IsTrue, OnOk, refl, sym, ap, subst, ◌∙◌, arith}
 use Rattle.sqlite_value.specs.declared.value.Value.TheVariants.{Int}
+use Rattle.sqlite_value.specs.Order.{column}
 use Rattle.sqlite_trees.specs.Tree.{Trees}
 use Rattle.sqlite.specs.Command.TheVariants.{CreateTable, Insert}
 use Rattle.sqlite.specs.Source.TheVariants.{Values}
@@ -11,15 +12,14 @@ use Rattle.sqlite.specs.Edit.{edit_of, edited}
 use Rattle.sqlite.specs.Rowids.TheVariants.{Chosen}
 use Rattle.sqlite.specs.Listing.{understood}
 use Rattle.sqlite.specs.Effect.{Database}
-use Rattle.sqlite.specs.State.{State, Writes, Executes, ExecutesInside, Shows, IsUnchanged, IsRolledBack, KeepsCommit, mode_of}
+use Rattle.sqlite.specs.State.{State, Writes, Executes, ExecutesIn, ExecutesInside, Shows, IsUnchanged, IsRolledBack, KeepsCommit, mode_of}
 use Rattle.sqlite.specs.declared.error.Error.{Error}
-use Rattle.sqlite_trees.specs.Tree.{IsTable}
 use Rattle.std.specs.List.{AllByRecursion}
-use Rattle.xq_rows.specs.Documents.{HasAddress, HaveInts, IsEmptyStore, IsStore, rows_at}
-use Rattle.xq_rows.specs.Statements.{MakesLayout, MakesNode, WritesEdition}
+use Rattle.xq_rows.specs.Documents.{AreApart, HasAddress, HaveInts, IsEmptyStore, IsStore, rows_at}
+use Rattle.xq_rows.specs.Statements.{MakesLayout, MakesNode, MakesBoth, WritesEdition}
 use Rattle.sqlite.proofs.Callers.{statement_of, runs_as, one_step}
-use Rattle.xq_rows.specs.Tables.{no_schema, layout_table, layout_schema, node_table, store_schema}
-use Rattle.xq_rows.proofs.Texts.{layout_text, layout_is, layout_plain, makes_layout, node_text, node_is, node_plain, makes_node, edition_text, edition_terms, edition_is, edition_plain}
+use Rattle.xq_rows.specs.Tables.{no_schema, layout_table, layout_schema, node_table, node_schema, turned_schema, store_schema}
+use Rattle.xq_rows.proofs.Texts.{layout_text, layout_is, layout_plain, layout_beside, layout_beside_plain, makes_layout, makes_layout_beside, IsUnread, node_again, node_text, node_is, node_plain, makes_node, edition_text, edition_terms, edition_is, edition_plain}
 use Rattle.xq_rows.proofs.Deletes.{went, same_value}
 use Rattle.xq_rows.proofs.Inserts.{cast_null, cast_int}
 
@@ -51,6 +51,25 @@ makes_second old new count has h =
     let others = subst (λ s. KeepsRows s.tables old.now.trees first.0.trees) has made.others in
     (ap (λ (d : Database). d.schema) now ∙ schema, ap (λ (d : Database). d.trees 0) now ∙ others.0, ap (λ (d : Database). d.trees 1) now ∙ subst (λ s. first.0.trees (next_tree s) ≡ []) has made.empty)
 
+-- `layout` is made beside `node`
+pub makes_beside : (old new : State) (count : ℕ) → old.now.schema ≡ node_schema → Executes layout_text [] old new (Ok count) → new.now.schema ≡ turned_schema
+makes_beside old new count has h =
+    let w = subst (λ t. Writes old new None CreateTable t [] count) layout_beside.1 (runs_as layout_text [] old new node_schema has CreateTable layout_beside.0 layout_beside_plain count h) in
+    let all = went w.changed in
+    let first = went all.1 in
+    let made = first.1 in
+    let both : Ok made.table ≡ Ok layout_table = sym made.defined ∙ layout_is.2 in
+    let same : made.table ≡ layout_table = cc in
+    let schema : first.0.schema ≡ turned_schema = made.is ∙ ap (λ s. created s made.table) has ∙ ap (created node_schema) same ∙ makes_layout_beside in
+    let plain : lacks_sequence first.0.schema ≡ false = ap lacks_sequence schema in
+    let now : new.now ≡ first.0 = ap (λ (p : Tally × Database). p.1) (same_value all.2) ∙ same_value (rw plain at first.2) in
+    ap (λ (d : Database). d.schema) now ∙ schema
+
+-- `node` is never made again
+pub makes_never : (old new : State) (count : ℕ) → old.now.schema ≡ turned_schema → ¬ Executes node_text [] old new (Ok count)
+unfolding ExecutesIn
+makes_never old new count has h = subst IsUnread (ap (λ s. understood s node_text) (sym has) ∙ h.1.is) node_again
+
 pub numbers : (old new : State) (count : ℕ) → old.now.schema ≡ store_schema → old.now.trees 0 ≡ [] → Executes edition_text [] old new (Ok count)
     → (new.now.schema ≡ store_schema) × (new.now.trees 0 ≡ (Int (pos 1) ∷ Int (pos 1) ∷ []) ∷ []) × (new.now.trees 1 ≡ old.now.trees 1)
 numbers old new count has none h =
@@ -80,16 +99,24 @@ ran_inside text P old new e (Ok count) ended runs step = go old.in_transaction r
     go true inside = step count (runs inside).0
     go false outside = absurd (let e = ended outside in cc)
 
-pub store_made : (a b c d : Database) → MakesLayout a b → MakesNode b c → WritesEdition c d → a.schema ≡ no_schema → IsEmptyStore d
-store_made a b c d one two three has =
-    let first = one has in
-    let second = two first.0 in
-    let third = three second.0 (second.1 ∙ first.1) in
+pub both_made : (a b c : Database) → MakesLayout a b → MakesNode b c → MakesBoth a c
+both_made a b c one two = record {
+  both = λ has.
+      let first = one.first has in
+      let second = two.second first.0 in
+      (second.0, second.1 ∙ first.1, second.2);
+  never = λ has. two.never (one.second has);
+}
+
+pub store_made : (a b c : Database) → MakesBoth a b → WritesEdition b c → a.schema ≡ no_schema → IsEmptyStore c
+store_made a b d both edition has =
+    let second = both.both has in
+    let third = edition second.0 second.1 in
     let none : d.trees 1 ≡ [] = third.2 ∙ second.2 in
     let store : IsStore d = record {
       schema = third.0;
-      layout = third.1;
-      table = subst IsTable (sym none) tt;
+      layout = ap (map (λ r. column r 1)) third.1;
+      apart = subst AreApart (sym none) tt;
       ints = subst HaveInts (sym none) tt;
       named = subst (AllByRecursion HasAddress) (sym none) tt;
       whole = λ address. inl (ap (rows_at address) none);
@@ -99,7 +126,7 @@ store_made a b c d one two three has =
 shown_kept : (old new : State) (now : Database) (b : Bool) → Shows old new now old.committed b → KeepsCommit old new
 shown_kept old new now b h = record { was_open = λ up. h.was_open; committed = λ up. h.committed_is }
 
-undone_kept : (old new : State) → IsUnchanged old new ⊎ IsRolledBack old new → KeepsCommit old new
+pub undone_kept : (old new : State) → IsUnchanged old new ⊎ IsRolledBack old new → KeepsCommit old new
 undone_kept old new (inl h) = shown_kept old new old.now old.in_transaction h.0
 undone_kept old new (inr h) = record { was_open = h.was_open; committed = λ up. (h.undone up).1 }
 

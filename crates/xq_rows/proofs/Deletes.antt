@@ -3,12 +3,12 @@ use Rattle.std.proofs.Common.{◌≡◌, ◌&&◌, ◌⊎◌, inl, inr, ℕ, Non
 use Rattle.std.specs.List.Sorted.{IsPermutation}
 use Rattle.sqlite_value.specs.Order.{Row, column}
 use Rattle.sqlite_value.specs.declared.value.Value.TheVariants.{Text}
-use Rattle.sqlite_trees.specs.Tree.{Trees, IsTable, rowid}
+use Rattle.sqlite_trees.specs.Tree.{Trees, rowid}
 use Rattle.std.proofs.lemmas.List.Sorted.{length_permutation}
 use Rattle.sqlite_sql.specs.Program.{IsProgramAnswer}
 use Rattle.sqlite_sql.specs.Term.{col}
 use Rattle.sqlite_keyed.specs.Lists.{delete_where}
-use Rattle.xq_rows.specs.Documents.{is_at, HaveInts}
+use Rattle.xq_rows.specs.Documents.{is_at, AreApart, HaveInts}
 use Rattle.xq_rows.proofs.Texts.{body, term1}
 use Rattle.xq_rows.proofs.Selects.{selected, selected_rows, test, equals_text}
 use Rattle.xq_rows.proofs.Lists.{same_test}
@@ -55,7 +55,7 @@ went (inr on) = on
 pub same_value : {B E : Type 0} {a b : B} → ◌≡◌ {A = Result B E} (Ok a) (Ok b) → a ≡ b
 same_value e = cc
 
-pub deletes : (old new : State) (address : List ℕ) (count : ℕ) → old.now.schema ≡ store_schema → IsTable (old.now.trees 1) → HaveInts (old.now.trees 1)
+pub deletes : (old new : State) (address : List ℕ) (count : ℕ) → old.now.schema ≡ store_schema → AreApart (old.now.trees 1) → HaveInts (old.now.trees 1)
     → Executes delete_text (Text address ∷ []) old new (Ok count)
     → HasDropped address old.now new.now × (count ≡ length (filter (is_at address) (old.now.trees 1)))
 deletes old new address count has up ints h =

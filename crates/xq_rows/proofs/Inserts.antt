@@ -23,7 +23,7 @@ use Rattle.xq_rows.specs.Nodes.{cells, number_of}
 use Rattle.xq_rows.proofs.Texts.{insert_text, insert_terms, insert_is, insert_plain}
 use Rattle.xq_rows.proofs.Deletes.{went, same_value}
 use Rattle.std.proofs.Common.{◌++◌, ◌||◌, ◌≢◌, Ordering, Less, Equal, Greater}
-use Rattle.std.specs.Ordering.{is_eq, match_ordering}
+use Rattle.std.specs.Ordering.{is_eq, match_ordering, ordering_reverse}
 use Rattle.std.specs.List.Sorted.{IsPermutation}
 use Rattle.std.proofs.lemmas.List.Sorted.{IsPermutation-refl, IsPermutation-cons, IsPermutation-to_front, IsPermutation-map}
 use Rattle.std.proofs.lemmas.Cmp.{tied_itself}
@@ -34,14 +34,13 @@ use Rattle.std.proofs.lemmas.List.Sorted.{IsPermutation-trans, IsPermutation-app
 use Rattle.std.proofs.lemmas.List.{map-append}
 use Rattle.std.proofs.lemmas.List.Elements.{filter-append}
 use Rattle.std.proofs.lemmas.Map.Lookups.{exact_bytes}
-use Rattle.sqlite_trees.specs.Tree.{IsTable}
 use Rattle.sqlite_trees.specs.View.{is_int}
 use Rattle.sqlite_trees.proofs.ListLemmas.{IsPermutation-filter}
-use Rattle.sqlite_trees.proofs.TreeLemmas.{IsTable-put_row, all-put_row}
+use Rattle.sqlite_trees.proofs.TreeLemmas.{all-put_row}
 use Rattle.sqlite.specs.State.{ExecutesInside, KeepsCommit}
 use Rattle.sqlite.specs.declared.error.Error.{Error}
 use Rattle.std.specs.List.{AllByRecursion}
-use Rattle.xq_rows.specs.Documents.{is_at, kept, rows_at, HasAddress, HaveInts}
+use Rattle.xq_rows.specs.Documents.{is_at, kept, rows_at, AreApart, HasAddress, HaveInts}
 use Rattle.xq_rows.specs.Statements.{HasAdded, Adds}
 
 either : (b : Bool) (x : Value) → cond b x x ≡ x
@@ -112,6 +111,31 @@ put_permutes new (r ∷ rs) free = go (value_cmp (rowid r) (rowid new)) free (pu
     go Equal h more = absurd cc
     go Greater h more = IsPermutation-to_front (r ∷ rs) new
 
+turned : (o : Ordering) → is_eq (ordering_reverse o) ≡ is_eq o
+turned Less = refl
+turned Equal = refl
+turned Greater = refl
+
+not_taken : (new : Row) (rows : List Row) → is_taken rows new ≡ false → AllByRecursion (λ y. is_eq (value_cmp (rowid new) (rowid y)) ≡ false) rows
+not_taken new [] free = tt
+not_taken new (r ∷ rs) free = go (is_eq (value_cmp (rowid r) (rowid new))) refl free (not_taken new rs)
+  where
+    go : (b : Bool) → is_eq (value_cmp (rowid r) (rowid new)) ≡ b → (b || is_taken rs new) ≡ false → (is_taken rs new ≡ false → AllByRecursion (λ y. is_eq (value_cmp (rowid new) (rowid y)) ≡ false) rs)
+        → AllByRecursion (λ y. is_eq (value_cmp (rowid new) (rowid y)) ≡ false) (r ∷ rs)
+    go true e h more = absurd cc
+    go false e h more = (ap is_eq (value_cmp_total.antisymm (rowid new) (rowid r)) ∙ turned (value_cmp (rowid r) (rowid new)) ∙ e, more h)
+
+-- and no rowid comes twice
+pub apart-put_row : (new : Row) (rows : List Row) → is_taken rows new ≡ false → AreApart rows → AreApart (put_row new rows)
+apart-put_row new [] free up = (tt, tt)
+apart-put_row new (r ∷ rs) free up = go (value_cmp (rowid r) (rowid new)) refl free (apart-put_row new rs)
+  where
+    go : (o : Ordering) → value_cmp (rowid r) (rowid new) ≡ o → (is_eq o || is_taken rs new) ≡ false → (is_taken rs new ≡ false → AreApart rs → AreApart (put_row new rs))
+        → AreApart (match_ordering o (r ∷ put_row new rs) (new ∷ rs) (new ∷ r ∷ rs))
+    go Less e h more = (all-put_row _ new rs (ap is_eq e) up.0, more h up.1)
+    go Equal e h more = absurd cc
+    go Greater e h more = (not_taken new (r ∷ rs) free, up)
+
 pub put_passed : (p : Row → Bool) (new : Row) (rows : List Row) → p new ≡ false → is_taken rows new ≡ false → filter p (put_row new rows) ≡ filter p rows
 put_passed p new [] fails free = rw fails refl
 put_passed p new (r ∷ rs) fails free = go (value_cmp (rowid r) (rowid new)) free (put_passed p new rs fails)
@@ -145,7 +169,7 @@ adds_one address n old new it =
     let nodes = it.nodes in record {
       schema = it.schema;
       layout = it.layout;
-      table = λ up. subst IsTable (sym nodes) (IsTable-put_row row rows up);
+      apart = λ up. subst AreApart (sym nodes) (apart-put_row row rows it.fresh up);
       ints = λ ints. subst HaveInts (sym nodes) (all-put_row (λ r. IsTrue (is_int (rowid r))) row rows refl ints);
       named = λ good all. subst (AllByRecursion HasAddress) (sym nodes) (all-put_row HasAddress row rows (address, good, refl) all);
       own = subst₂ IsPermutation front (ap (rows_at address) (sym nodes)) whole;
@@ -156,7 +180,7 @@ pub adds_none : (address : List ℕ) (db : Database) → HasAdded address [] db 
 adds_none address db = record {
   schema = refl;
   layout = refl;
-  table = λ up. up;
+  apart = λ up. up;
   ints = λ ints. ints;
   named = λ good all. all;
   own = subst (λ l. IsPermutation l (rows_at address (db.trees 1))) (sym (append-nil (rows_at address (db.trees 1)))) (IsPermutation-refl _);
@@ -167,7 +191,7 @@ pub adds_more : (address : List ℕ) (xs ys : List Row) (first mid last : Databa
 adds_more address xs ys first mid last p q = record {
   schema = q.schema ∙ p.schema;
   layout = q.layout ∙ p.layout;
-  table = λ up. q.table (p.table up);
+  apart = λ up. q.apart (p.apart up);
   ints = λ ints. q.ints (p.ints ints);
   named = λ good all. q.named good (p.named good all);
   own = subst (λ l. IsPermutation l (rows_at address (last.trees 1))) (append_assoc (rows_at address (first.trees 1)) xs ys) (IsPermutation-trans _ _ _ (IsPermutation-append_left ys _ _ p.own) q.own);

@@ -11,3 +11,8 @@ pub mod Loads
 pub mod Calls
 pub mod MemoryFiles
 pub mod MapLaws
+pub mod AdoptReads
+pub mod CreateFaults
+pub mod Adopts
+pub mod Runs
+pub mod Adoptions

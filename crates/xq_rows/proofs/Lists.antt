@@ -14,12 +14,12 @@ use Rattle.sqlite_rules.proofs.ListLemmas.{all_has, all_from, has_kept, has_filt
 use Rattle.sqlite_rules.proofs.TableLemmas.{int_is}
 use Rattle.sqlite_trees.proofs.ListLemmas.{filter_same}
 use Rattle.sqlite_keyed.specs.Lists.{delete_where}
-use Rattle.xq_rows.specs.Documents.{HaveInts}
+use Rattle.xq_rows.specs.Documents.{AreApart, HaveInts}
 use Rattle.std.specs.List.Sorted.{IsPermutation}
 use Rattle.std.specs.Ordering.{is_eq}
 use Rattle.sqlite_value.specs.Order.{Row, value_cmp}
 use Rattle.sqlite.specs.declared.types.Value.TheVariants.{Int}
-use Rattle.sqlite_trees.specs.Tree.{IsTable, rowid, has_rowid, without_rowid}
+use Rattle.sqlite_trees.specs.Tree.{rowid, has_rowid, without_rowid}
 use Rattle.sqlite_rules.specs.Edit.{without_all}
 
 pub flat_map_picks : {A B : Type 0} (p : A → Bool) (f : A → B) (xs : List A) → flat_map (λ x. cond (p x) (f x ∷ []) []) xs ≡ map f (filter p xs)
@@ -98,25 +98,25 @@ tied Less e = absurd cc
 tied Equal e = refl
 tied Greater e = absurd cc
 
-not_equal : (a b : Value) → value_cmp a b ≡ Less → value_cmp a b ≡ Equal → ⊥
-not_equal a b less equal = absurd (let e = sym less ∙ equal in cc)
+not_equal : (a b : Value) → is_eq (value_cmp a b) ≡ false → value_cmp a b ≡ Equal → ⊥
+not_equal a b apart equal = absurd (let e = sym apart ∙ ap is_eq equal in cc)
 
 -- the rowids of a table tell its rows apart
-pub one_row : (table : List Row) (x y : Row) → IsTable table → Has table x → Has table y → value_cmp (rowid x) (rowid y) ≡ Equal → x ≡ y
+pub one_row : (table : List Row) (x y : Row) → AreApart table → Has table x → Has table y → value_cmp (rowid x) (rowid y) ≡ Equal → x ≡ y
 one_row [] x y up a b e = absurd a
 one_row (t ∷ ts) x y up (inl a) (inl b) e = a ∙ sym b
 one_row (t ∷ ts) x y up (inl a) (inr b) e =
-    absurd (not_equal (rowid t) (rowid y) (all_has (λ z. value_cmp (rowid t) (rowid z) ≡ Less) ts y up.0 b) (subst (λ z. value_cmp (rowid z) (rowid y) ≡ Equal) a e))
+    absurd (not_equal (rowid t) (rowid y) (all_has (λ z. is_eq (value_cmp (rowid t) (rowid z)) ≡ false) ts y up.0 b) (subst (λ z. value_cmp (rowid z) (rowid y) ≡ Equal) a e))
 one_row (t ∷ ts) x y up (inr a) (inl b) e =
     let back : value_cmp (rowid y) (rowid x) ≡ Equal = value_cmp_total.antisymm (rowid y) (rowid x) ∙ ap ordering_reverse e in
-    absurd (not_equal (rowid t) (rowid x) (all_has (λ z. value_cmp (rowid t) (rowid z) ≡ Less) ts x up.0 a) (subst (λ z. value_cmp (rowid z) (rowid x) ≡ Equal) b back))
+    absurd (not_equal (rowid t) (rowid x) (all_has (λ z. is_eq (value_cmp (rowid t) (rowid z)) ≡ false) ts x up.0 a) (subst (λ z. value_cmp (rowid z) (rowid x) ≡ Equal) b back))
 one_row (t ∷ ts) x y up (inr a) (inr b) e = one_row ts x y up.1 a b e
 
 own_rowid : (r : Row) → IsTrue (is_int (rowid r)) → has_rowid (id_in (rowid r)) r ≡ true
 own_rowid r h = ap (λ v. is_eq (value_cmp (rowid r) v)) (sym (int_is (rowid r) h)) ∙ ap is_eq (tied_itself value_cmp_total (rowid r))
 
 -- the rowids of the rows that pass a test take out these rows and no others
-pub takes_out : (p : Row → Bool) (table found : List Row) → IsTable table → HaveInts table → IsPermutation (map (λ r. rowid r ∷ []) (filter p table)) found
+pub takes_out : (p : Row → Bool) (table found : List Row) → AreApart table → HaveInts table → IsPermutation (map (λ r. rowid r ∷ []) (filter p table)) found
     → without_all table (ids_of found) ≡ delete_where p table
 takes_out p table found up ints same = without_all-is (ids_of found) table ∙ filter_same _ _ table (all_from _ table each)
   where

@@ -19,7 +19,7 @@ use Rattle.xq_regions.specs.Tree.{Tree, nodes}
 use Rattle.xq_regions.specs.Rows.{Row as Node, rows, measured, row_of, placed, placed_rows, Encodes}
 use Rattle.xq_regions.specs.Nesting.{count-measured, rows-injective}
 use Rattle.xq_regions.specs.declared.NodeRow.{NodeRow}
-use Rattle.xq_rows.specs.Nodes.{cells, node_in}
+use Rattle.xq_rows.specs.Nodes.{cells, node_in, node_of}
 use Rattle.xq_rows.specs.Documents.{is_at, kept, rows_at, by_first, documents_in, HasAddress, IsWhole, IsStore}
 use Rattle.xq_rows.specs.Statements.{is_within, Finds, IsPicked, IsRange}
 use Rattle.xq_rows.proofs.Maps.{get-whole, get-none, node_back, nodes_back}
@@ -43,7 +43,7 @@ all_numbers : (k : ℕ) (list : List Node) → k + length list ≤ most → AllB
 all_numbers k [] h = tt
 all_numbers k (n ∷ ns) h = (ap₂ ◌&&◌ (at_least k) (at_most k (omega (arith, h))), all_numbers (k + 1) ns (omega (arith, h)))
 
-length-labels : {A : Type 0} (f : Forest A) → length (labels f) ≡ count f
+pub length-labels : {A : Type 0} (f : Forest A) → length (labels f) ≡ count f
 length-labels end = refl
 length-labels (node a below beside) = ap suc (length-append (labels below) (labels beside) ∙ (let e = length-labels below in let g = length-labels beside in omega arith))
 
@@ -107,21 +107,26 @@ found_is db a list found store range finds = go (store.whole a) found finds
     go (inr it) None finds = absurd (let e : rows it.tree ≡ [] = sym (here it) ∙ ap (map row_of) finds in cc)
     go (inr it) (Some t) finds = ap Some (rows-injective t it.tree (sym finds.rows ∙ here it)) ∙ sym (get-whole (db.trees 1) a it.tree store.named it.same)
 
--- # The length of each row
+-- # The columns of each row
 
-all_six : (rows given : List Row) → IsPermutation (map kept rows) given → AllByRecursion (λ r. length r ≡ 6) given
+all_six : (rows given : List Row) → IsPermutation (map kept rows) given → map node_of given ≡ given
 all_six table given same =
-    let P : Row → Type 0 = λ r. length r ≡ 6 in
-    recursion_from_All P given (All-permutation P (map kept table) given same (All-from_recursion P (map kept table) (all-map P kept table (all_of (λ r. length (kept r) ≡ 6) (λ r. refl) table))))
+    let P : Row → Type 0 = λ r. node_of r ≡ r in
+    go given (recursion_from_All P given (All-permutation P (map kept table) given same (All-from_recursion P (map kept table) (all-map P kept table (all_of (λ r. node_of (kept r) ≡ kept r) (λ r. refl) table)))))
+  where
+    go : (list : List Row) → AllByRecursion (λ r. node_of r ≡ r) list → map node_of list ≡ list
+    go [] all = refl
+    go (r ∷ rs) all = ap₂ ◌∷◌ all.0 (go rs all.1)
 
 -- the nodes that were read of rows are what a SELECT of these rows gives
 pub read_range_is : (db : Database) (a : List ℕ) (low high : ℕ) (given : List Row) (list : List NodeRow) → IsRange a low high db given
-    → (AllByRecursion (λ r. length r ≡ 6) given → map cells (map placed list) ≡ given) → IsRange a low high db (map cells (map placed list))
+    → map cells (map placed list) ≡ map node_of given → IsRange a low high db (map cells (map placed list))
 read_range_is db a low high given list range read schema =
     let it = range schema in
-    subst (IsPicked (λ r. is_at a r && is_within low high r) kept (db.trees 1)) (sym (read (all_six (filter (λ r. is_at a r && is_within low high r) (db.trees 1)) given it.same))) it
+    let same = read ∙ all_six (filter (λ r. is_at a r && is_within low high r) (db.trees 1)) given it.same in
+    subst (IsPicked (λ r. is_at a r && is_within low high r) kept (db.trees 1)) (sym same) it
 
 pub nodes_read : {X E : Type 0} (db : Database) (a : List ℕ) (low high : ℕ) (given : List Row) (list : X → List NodeRow) (r : Result X E) → IsRange a low high db given
-    → (AllByRecursion (λ r. length r ≡ 6) given → IfOk r (λ nodes. map cells (map placed (list nodes)) ≡ given)) → IfOk r (λ nodes. IsRange a low high db (map cells (map placed (list nodes))))
+    → IfOk r (λ nodes. map cells (map placed (list nodes)) ≡ map node_of given) → IfOk r (λ nodes. IsRange a low high db (map cells (map placed (list nodes))))
 nodes_read db a low high given list (Err e) range read = tt
 nodes_read db a low high given list (Ok nodes) range read = read_range_is db a low high given (list nodes) range read

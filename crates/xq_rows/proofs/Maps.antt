@@ -15,7 +15,6 @@ use Rattle.sqlite_value.specs.declared.value.Value.{Value}
 use Rattle.sqlite_value.specs.declared.value.Value.TheVariants.{Null, Int, Real, Text, Blob}
 use Rattle.sqlite_value.proofs.OrderLemmas.{value_cmp_total, value_cmp-Null, value_cmp-Text, value_cmp-apart}
 use Rattle.sqlite_trees.proofs.ListLemmas.{filter-filter, ascending-filter, all-filter}
-use Rattle.sqlite_trees.specs.Tree.{IsTable}
 use Rattle.sqlite_keyed.specs.Lists.{delete_where, sort_by}
 use Rattle.sqlite.specs.Effect.{Database}
 use Rattle.xq_atoms.specs.Address.{IsAddress}
@@ -25,7 +24,7 @@ use Rattle.xq_regions.specs.Nesting.{tree_of-rows}
 use Rattle.xq_regions.specs.declared.Kind.{Kind}
 use Rattle.xq_regions.specs.declared.Kind.TheVariants.{Document, Element, Attribute, Text as TextNode, Comment, ProcessingInstruction}
 use Rattle.xq_rows.specs.Nodes.{cells, node_in, bytes_in, number_of, kind_from}
-use Rattle.xq_rows.specs.Documents.{is_at, is_first, kept, rows_at, by_first, tree_at, addresses_in, documents_in, HasAddress, HaveInts, IsWhole, IsStore}
+use Rattle.xq_rows.specs.Documents.{is_at, is_first, kept, rows_at, by_first, tree_at, addresses_in, documents_in, AreApart, HasAddress, HaveInts, IsWhole, IsStore}
 use Rattle.xq_rows.specs.Statements.{HasDropped, HasAdded}
 use Rattle.xq_rows.proofs.Inserts.{own_address}
 use Rattle.xq_rows.proofs.Lists.{tied}
@@ -76,8 +75,8 @@ rows_stay a b old new apart h = ap (rows_at b) h.nodes ∙ ap (map kept) (filter
 pub store_drops : (a : List ℕ) (old new : Database) → HasDropped a old new → IsStore old → IsStore new
 store_drops a old new h was = record {
   schema = h.schema ∙ was.schema;
-  layout = h.layout ∙ was.layout;
-  table = subst IsTable (sym h.nodes) (ascending-filter _ (λ r. not (is_at a r)) (old.trees 1) was.table);
+  layout = ap (map (λ r. column r 1)) h.layout ∙ was.layout;
+  apart = subst AreApart (sym h.nodes) (ascending-filter _ (λ r. not (is_at a r)) (old.trees 1) was.apart);
   ints = subst HaveInts (sym h.nodes) (all-filter _ (λ r. not (is_at a r)) (old.trees 1) was.ints);
   named = subst (AllByRecursion HasAddress) (sym h.nodes) (all-filter _ (λ r. not (is_at a r)) (old.trees 1) was.named);
   whole = λ b. elim (same_address a b) [
@@ -98,8 +97,8 @@ module _ (a : List ℕ) (good : IsAddress a) (t : Tree) (is : IsDocument t) (old
       let between = store_drops a old mid dropped was in
       let own : IsWhole (rows_at a (new.trees 1)) = record { tree = t; is_document = is; same = own_rows } in record {
         schema = added.schema ∙ between.schema;
-        layout = added.layout ∙ between.layout;
-        table = added.table between.table;
+        layout = ap (map (λ r. column r 1)) added.layout ∙ between.layout;
+        apart = added.apart between.apart;
         ints = added.ints between.ints;
         named = added.named good between.named;
         whole = λ b. elim (same_address a b) [

@@ -38,7 +38,7 @@ module _ {X : Type 0} (cmp : X → X → Ordering) (total : IsTotalOrder cmp) wh
   all_more P new (x ∷ xs) h all =
       elim (is_gt (cmp new x)) as (λ b. AllByRecursion P (cond b (x ∷ insert_sorted cmp new xs) (new ∷ x ∷ xs))) [ true ↦ (all.0, all_more P new xs h all.1) | false ↦ (h, all) ]
 
-  rises : (new : X) (xs : List X) → IsAscending AtMost xs → IsAscending AtMost (insert_sorted cmp new xs)
+  pub rises : (new : X) (xs : List X) → IsAscending AtMost xs → IsAscending AtMost (insert_sorted cmp new xs)
   rises new [] up = (tt, tt)
   rises new (x ∷ xs) up = go (is_gt (cmp new x)) refl (rises new xs up.1)
     where
@@ -50,7 +50,7 @@ module _ {X : Type 0} (cmp : X → X → Ordering) (total : IsTotalOrder cmp) wh
   all_rise [] = tt
   all_rise (x ∷ xs) = rises x (sort_by cmp xs) (all_rise xs)
 
-  sorted_from : (xs : List X) → IsAscending AtMost xs → IsSorted cmp xs
+  pub sorted_from : (xs : List X) → IsAscending AtMost xs → IsSorted cmp xs
   sorted_from xs up k d low high = let h = ascending-get_or AtMost xs k (k + 1) d up (omega arith) high in ap is_lt (total.antisymm _ _) ∙ flipped _ h
 
   -- a list has one order that rises

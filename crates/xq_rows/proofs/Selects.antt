@@ -110,7 +110,7 @@ and_true : (b : Bool) → (b && true) ≡ b
 and_true true = refl
 and_true false = refl
 
-get_or-map : {A B : Type 0} (f : A → B) (xs : List A) (i : ℕ) (a : A) → get_or (map f xs) i (f a) ≡ f (get_or xs i a)
+pub get_or-map : {A B : Type 0} (f : A → B) (xs : List A) (i : ℕ) (a : A) → get_or (map f xs) i (f a) ≡ f (get_or xs i a)
 get_or-map f [] i a = refl
 get_or-map f (x ∷ xs) zero a = refl
 get_or-map f (x ∷ xs) (suc i) a = get_or-map f xs i a

@@ -1,5 +1,5 @@
 -- What the fixed texts mean under the schema.
-use Rattle.std.proofs.Common.{◌≡◌, List, ℕ, [], ◌∷◌, codes, Ok, refl}
+use Rattle.std.proofs.Common.{◌≡◌, List, ℕ, [], ◌∷◌, codes, Result, Ok, Err, refl}
 use Rattle.std.proofs.Common.{None, false, pos, negsuc}
 use Rattle.sqlite.specs.Command.TheVariants.{CreateTable, Delete, Select, Insert}
 use Rattle.sqlite.specs.Source.TheVariants.{Values}
@@ -14,11 +14,13 @@ use Rattle.sqlite_sql.specs.declared.ops.ArithOp.TheVariants.{Add}
 use Rattle.sqlite_sql.specs.declared.ops.CompareOp.TheVariants.{Eq, Lt, Ge, Le}
 use Rattle.sqlite.specs.Compile.{table_defined_by}
 use Rattle.sqlite_tied.specs.Compute.{everything}
-use Rattle.sqlite.specs.Listing.{understood, reads_listing}
+use Rattle.sqlite.specs.Listing.{understood, reads_listing, listing_schema}
+use Rattle.sqlite_resolve.specs.declared.compiled.Compiled.{Compiled}
+use Rattle.sqlite_resolve.specs.declared.error.CompileError.{CompileError}
 use Rattle.sqlite.specs.Command.{Command}
 use Rattle.sqlite.proofs.Callers.{IsPlain, command_of, statement_of}
 use Rattle.sqlite.specs.Change.{created}
-use Rattle.xq_rows.specs.Tables.{no_schema, layout_table, layout_schema, node_table, store_schema}
+use Rattle.xq_rows.specs.Tables.{no_schema, layout_table, layout_schema, node_table, node_schema, turned_schema, store_schema}
 
 abbrev pub layout_text : List ℕ
 layout_text = codes "CREATE TABLE layout (edition INTEGER NOT NULL) STRICT"
@@ -40,6 +42,29 @@ makes_layout = refl
 pub makes_node : created layout_schema (record node_table { tree = 0 }) ≡ store_schema
 unfolding everything
 makes_node = refl
+
+-- beside the other table, and after both
+
+pub layout_beside : (command_of (understood node_schema layout_text) ≡ CreateTable) × (statement_of layout_text (understood node_schema layout_text) ≡ layout_text)
+unfolding understood everything
+layout_beside = (refl, refl)
+
+pub layout_beside_plain : IsPlain (understood node_schema layout_text)
+unfolding understood everything
+layout_beside_plain = (refl, refl)
+
+pub makes_layout_beside : created node_schema layout_table ≡ turned_schema
+unfolding everything
+makes_layout_beside = refl
+
+-- the text has no meaning
+abbrev pub IsUnread : Result Compiled CompileError → Type 0
+IsUnread (Ok c) = ⊥
+IsUnread (Err e) = Unit {0}
+
+pub node_again : IsUnread (understood turned_schema node_text)
+unfolding understood listing_schema everything
+node_again = tt
 
 abbrev pub delete_text : List ℕ
 delete_text = codes "DELETE FROM node WHERE address = ?1"

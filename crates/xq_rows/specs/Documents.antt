@@ -1,5 +1,5 @@
 -- The map from addresses to documents that the tables of a database stand for.
-use Rattle.std.specs.Prelude.{◌≡◌, ◌⊎◌, ℕ, pos, Bool, List, [], ◌∷◌, map, filter, IsTrue, IsPermutation}
+use Rattle.std.specs.Prelude.{◌≡◌, ◌⊎◌, ℕ, pos, Bool, false, List, [], ◌∷◌, map, filter, IsTrue, IsPermutation}
 use Rattle.std.specs.declared.cmp.Ordering.{Ordering}
 use Rattle.std.specs.Ordering.{is_eq, on, nat_cmp}
 use Rattle.std.specs.List.{AllByRecursion}
@@ -7,7 +7,7 @@ use Rattle.std.specs.Cmp.Lexicographic.{slice_cmp}
 use Rattle.std.specs.FinMap.{FinMap, from_entries}
 use Rattle.sqlite_value.specs.Order.{Row, column, value_cmp}
 use Rattle.sqlite_value.specs.declared.value.Value.TheVariants.{Int, Text}
-use Rattle.sqlite_trees.specs.Tree.{IsTable, rowid}
+use Rattle.sqlite_trees.specs.Tree.{IsAscending, rowid}
 use Rattle.sqlite_trees.specs.View.{is_int}
 use Rattle.sqlite_trees.specs.declared.store.Store.{Ghosts}
 use Rattle.sqlite_keyed.specs.Lists.{sort_by}
@@ -64,6 +64,10 @@ pub record IsWhole (rows : List Row) : Type 0 where
   pub is_document : IsDocument tree
   pub same : IsPermutation rows (map cells (placed_rows tree))
 
+-- no rowid comes twice
+abbrev pub AreApart : List Row → Type 0
+AreApart = IsAscending (λ a b. is_eq (value_cmp (rowid a) (rowid b)) ≡ false)
+
 -- each rowid is an integer
 abbrev pub HaveInts : List Row → Type 0
 HaveInts = AllByRecursion (λ r. IsTrue (is_int (rowid r)))
@@ -76,9 +80,9 @@ HasAddress r = (address : List ℕ) × IsAddress address × (column r 1 ≡ Text
 -- those of one document, or there are none.
 pub record IsStore (db : Database) : Type 0 where
   pub schema : db.schema ≡ store_schema
-  pub layout : db.trees 0 ≡ (Int (pos 1) ∷ Int (pos 1) ∷ []) ∷ []
-  -- the rowids are integers that rise
-  pub table : IsTable (db.trees 1)
+  pub layout : map (λ r. column r 1) (db.trees 0) ≡ Int (pos 1) ∷ []
+  -- the rowids are integers, each another one
+  pub apart : AreApart (db.trees 1)
   pub ints : HaveInts (db.trees 1)
   pub named : AllByRecursion HasAddress (db.trees 1)
   pub whole : (address : List ℕ) → (rows_at address (db.trees 1) ≡ []) ⊎ IsWhole (rows_at address (db.trees 1))

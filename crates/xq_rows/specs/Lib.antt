@@ -3,3 +3,4 @@ pub mod Nodes
 pub mod Documents
 pub mod Refusals
 pub mod Statements
+pub mod Adopt

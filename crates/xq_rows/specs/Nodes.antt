@@ -1,6 +1,6 @@
 -- A node as the columns pre, size, level, kind, name and value of its row.
 use Rattle.std.proofs.Common.{zero, suc}
-use Rattle.std.specs.Prelude.{ℕ, pos, List, [], ◌∷◌}
+use Rattle.std.specs.Prelude.{◌≡◌, ◌<◌, ◌^◌, ℕ, pos, List, [], ◌∷◌, IsUtf8}
 use Rattle.sqlite_value.specs.Order.{Row, column}
 use Rattle.sqlite_value.specs.declared.value.Value.{Value}
 use Rattle.sqlite_value.specs.declared.value.Value.TheVariants.{Int, Text}
@@ -45,3 +45,11 @@ node_in r = record {
   level = number_in (column r 2);
   label = record { kind = kind_from (number_in (column r 3)); name = bytes_in (column r 4); value = bytes_in (column r 5) };
 }
+
+-- the first six columns
+abbrev pub node_of : Row → Row
+node_of r = column r 0 ∷ column r 1 ∷ column r 2 ∷ column r 3 ∷ column r 4 ∷ column r 5 ∷ []
+
+-- these columns are those of a node whose numbers and texts code can hold
+abbrev pub IsReadable : Row → Type 0
+IsReadable r = (p : ℕ × NodeRow) × (r ≡ cells p) × (p.0 < 2 ^ 32) × (p.1.size < 2 ^ 32) × (p.1.level < 2 ^ 32) × IsUtf8 p.1.label.name × IsUtf8 p.1.label.value

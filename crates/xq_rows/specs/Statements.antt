@@ -4,7 +4,6 @@ use Rattle.std.specs.Ordering.{is_ge, is_le}
 use Rattle.std.specs.List.{AllByRecursion}
 use Rattle.sqlite_value.specs.Order.{Row, column, value_cmp}
 use Rattle.sqlite_value.specs.declared.value.Value.TheVariants.{Int}
-use Rattle.sqlite_trees.specs.Tree.{IsTable}
 use Rattle.sqlite_keyed.specs.Lists.{delete_where}
 use Rattle.sqlite.specs.Effect.{Database}
 use Rattle.sqlite.specs.State.{State, Shows}
@@ -12,8 +11,8 @@ use Rattle.xq_atoms.specs.Address.{IsAddress}
 use Rattle.xq_regions.specs.Tree.{Tree}
 use Rattle.xq_regions.specs.Rows.{Encodes}
 use Rattle.xq_regions.specs.declared.NodeRow.{NodeRow}
-use Rattle.xq_rows.specs.Documents.{is_at, is_first, kept, rows_at, by_first, HasAddress, HaveInts}
-use Rattle.xq_rows.specs.Tables.{no_schema, layout_schema, store_schema}
+use Rattle.xq_rows.specs.Documents.{is_at, is_first, kept, rows_at, by_first, AreApart, HasAddress, HaveInts, IsEmptyStore}
+use Rattle.xq_rows.specs.Tables.{no_schema, layout_schema, node_schema, turned_schema, store_schema}
 
 -- the rows of an address are gone, and nothing else is
 pub record HasDropped (address : List ℕ) (old new : Database) : Type 0 where
@@ -25,7 +24,7 @@ pub record HasDropped (address : List ℕ) (old new : Database) : Type 0 where
 pub record HasAdded (address : List ℕ) (added : List Row) (old new : Database) : Type 0 where
   pub schema : new.schema ≡ old.schema
   pub layout : new.trees 0 ≡ old.trees 0
-  pub table : IsTable (old.trees 1) → IsTable (new.trees 1)
+  pub apart : AreApart (old.trees 1) → AreApart (new.trees 1)
   pub ints : HaveInts (old.trees 1) → HaveInts (new.trees 1)
   pub named : IsAddress address → AllByRecursion HasAddress (old.trees 1) → AllByRecursion HasAddress (new.trees 1)
   pub own : IsPermutation (rows_at address (old.trees 1) ++ added) (rows_at address (new.trees 1))
@@ -33,7 +32,7 @@ pub record HasAdded (address : List ℕ) (added : List Row) (old new : Database)
 
 -- what a DELETE of so many rows makes of the tables of a store
 abbrev pub Deletes : List ℕ → Database → Database → ℕ → Type 0
-Deletes address old new count = old.schema ≡ store_schema → IsTable (old.trees 1) → HaveInts (old.trees 1)
+Deletes address old new count = old.schema ≡ store_schema → AreApart (old.trees 1) → HaveInts (old.trees 1)
     → HasDropped address old new × (count ≡ length (filter (is_at address) (old.trees 1)))
 
 -- DELETE inside a transaction
@@ -48,7 +47,7 @@ pub record Adds (address : List ℕ) (added : List Row) (old new : State) : Type
 
 -- a whole put: the rows of the address are these alone, where there were so many before
 abbrev pub Puts : List ℕ → List Row → Database → Database → ℕ → Type 0
-Puts address rows old new count = old.schema ≡ store_schema → IsTable (old.trees 1) → HaveInts (old.trees 1)
+Puts address rows old new count = old.schema ≡ store_schema → AreApart (old.trees 1) → HaveInts (old.trees 1)
     → (mid : Database) × HasDropped address old mid × HasAdded address rows mid new × (count ≡ length (filter (is_at address) (old.trees 1)))
 
 -- what a SELECT gives that is ordered by its first column
@@ -75,12 +74,23 @@ Finds nodes (Some t) = Encodes nodes t
 
 -- the statements that make the tables
 
-abbrev pub MakesLayout : Database → Database → Type 0
-MakesLayout old new = old.schema ≡ no_schema → (new.schema ≡ layout_schema) × (new.trees 0 ≡ [])
+pub record MakesLayout (old new : Database) : Type 0 where
+  pub first : old.schema ≡ no_schema → (new.schema ≡ layout_schema) × (new.trees 0 ≡ [])
+  pub second : old.schema ≡ node_schema → new.schema ≡ turned_schema
 
-abbrev pub MakesNode : Database → Database → Type 0
-MakesNode old new = old.schema ≡ layout_schema → (new.schema ≡ store_schema) × (new.trees 0 ≡ old.trees 0) × (new.trees 1 ≡ [])
+pub record MakesNode (old new : Database) : Type 0 where
+  pub second : old.schema ≡ layout_schema → (new.schema ≡ store_schema) × (new.trees 0 ≡ old.trees 0) × (new.trees 1 ≡ [])
+  pub never : old.schema ≢ turned_schema
+
+pub record MakesBoth (old new : Database) : Type 0 where
+  pub both : old.schema ≡ no_schema → (new.schema ≡ store_schema) × (new.trees 0 ≡ []) × (new.trees 1 ≡ [])
+  pub never : old.schema ≢ node_schema
 
 abbrev pub WritesEdition : Database → Database → Type 0
 WritesEdition old new = old.schema ≡ store_schema → old.trees 0 ≡ []
     → (new.schema ≡ store_schema) × (new.trees 0 ≡ (Int (pos 1) ∷ Int (pos 1) ∷ []) ∷ []) × (new.trees 1 ≡ old.trees 1)
+
+-- all three
+pub record MakesStore (old new : Database) : Type 0 where
+  pub made : old.schema ≡ no_schema → IsEmptyStore new
+  pub never : old.schema ≢ node_schema

@@ -60,6 +60,14 @@ node_table = record {
 abbrev pub node_index : Index
 node_index = record { name = codes "sqlite_autoindex_node_1"; tree = 2; table = 1; columns = 1 ∷ 2 ∷ []; order = plain; is_unique = true }
 
+-- the table `node` alone
+abbrev pub node_schema : Schema
+node_schema = record { tables = record node_table { tree = 0 } ∷ []; indexes = record node_index { tree = 1; table = 0 } ∷ []; views = [] }
+
+-- `node`, and `layout` made after it
+abbrev pub turned_schema : Schema
+turned_schema = record { tables = record node_table { tree = 0 } ∷ record layout_table { tree = 2 } ∷ []; indexes = record node_index { tree = 1; table = 0 } ∷ []; views = [] }
+
 -- the two tables
 abbrev pub store_schema : Schema
 store_schema = record { tables = layout_table ∷ node_table ∷ []; indexes = node_index ∷ []; views = [] }

@@ -5,6 +5,8 @@
 //! above it sees [`Store`] alone.
 #![tactic(auto)]
 
+mod adopt;
+mod faults;
 mod memory_files;
 mod readings;
 mod refusals;
@@ -13,4 +15,5 @@ mod stores;
 mod tables;
 mod transactions;
 
+pub use faults::OpenFault;
 pub use stores::{Put, Store};

@@ -1,15 +1,15 @@
 //! What a store reads of its database: the nodes of an address, and the addresses.
-ghost use Rattle.std.specs.Prelude.{◌≡◌, ◌≤◌, [], ◌∷◌, IfOk, IfSome, IsTrue, false, map, length, string_bytes};
+ghost use Rattle.std.specs.Prelude.{◌≡◌, ◌≢◌, ◌≤◌, [], ◌∷◌, None, IfErr, IfOk, IfSome, IsTrue, false, map, string_bytes};
 ghost use Rattle.sqlite.specs.Held.{state};
 ghost use Rattle.sqlite_trees.specs.View.{doubt};
 ghost use Rattle.xq_rows.specs.Documents.{IsReady};
 ghost use Rattle.xq_rows.specs.Statements.{AreAddresses, Finds, IsRange};
+ghost use Rattle.xq_rows.specs.Refusals.{want_of};
 ghost use Rattle.xq_rows.specs.Tables.{store_schema};
-ghost use Rattle.std.specs.List.{AllByRecursion};
 ghost use Rattle.sqlite_value.specs.Order.{column};
 ghost use Rattle.sqlite_value.specs.declared.value.Value.TheVariants.{Text};
 ghost use Rattle.xq_regions.specs.Rows.{placed};
-ghost use Rattle.xq_rows.specs.Nodes.{cells, number_of};
+ghost use Rattle.xq_rows.specs.Nodes.{IsReadable, cells, node_of, number_of};
 
 use crate::refusals::Refusal;
 use crate::statements::{read_addresses, read_range};
@@ -20,7 +20,8 @@ use xq_regions::{Fragment, Kind, NodeRow};
 
 /// The kind that a number stands for in the tables.
 fn kind_of(number: u32) -> Option<Kind>
-    ensures { IfSome result (λ kind. number ≡ number_of kind) }
+    ensures some { IfSome result (λ kind. number ≡ number_of kind) }
+    ensures none { result ≡ None → (kind : _) → number ≢ number_of kind }
 {
     match number {
         0 => Some(Kind::Document),
@@ -35,8 +36,9 @@ fn kind_of(number: u32) -> Option<Kind>
 
 /// The node of a row with the columns pre, size, level, kind, name and value. A row that is no
 /// node's tells of a damaged database.
-fn node_row(row: &Row) -> Result<NodeRow, Refusal>
-    ensures { length row.now ≡ 6 → IfOk result (λ node. cells (placed node) ≡ row.now) }
+pub fn node_row(row: &Row) -> Result<NodeRow, Refusal>
+    ensures ok { IfOk result (λ node. cells (placed node) ≡ node_of row.now) }
+    ensures err { IfErr result (λ refusal. want_of refusal.0 ≡ Want.Store → ¬ (IsReadable (node_of row.now))) }
 {
     let pre = row.get::<u32>(0)?;
     let size = row.get::<u32>(1)?;
@@ -59,7 +61,7 @@ fn node_row(row: &Row) -> Result<NodeRow, Refusal>
 
 /// The nodes of rows.
 fn node_rows(alloc: Global, rows: &[Row]) -> Result<Vec<NodeRow>, Want>
-    ensures { AllByRecursion (λ r. length r ≡ 6) rows.now → IfOk result (λ nodes. map cells (map placed nodes.items) ≡ rows.now) }
+    ensures { IfOk result (λ nodes. map cells (map placed nodes.items) ≡ map node_of rows.now) }
 {
     let mut nodes = Vec::with_capacity(alloc, rows.len())?;
     for row in rows {

@@ -3,14 +3,18 @@
 //! Each clause on the map stands under `IsUp` as the call ends (the store is open, and its disk
 //! has returned what was written) and `Holds` as it begins (its tables hold documents). `stays`
 //! hands `Holds` on to the next call, and `was_up` takes `IsUp` back to the call before.
-ghost use Rattle.std.specs.Prelude.{◌≡◌, IfOk, OnErr, map, string_bytes, if◌then◌else◌, false};
+ghost use Rattle.std.specs.Prelude.{◌≡◌, IfErr, IfOk, OnErr, map, string_bytes, if◌then◌else◌, false};
 ghost use Rattle.std.specs.FinMap.{get, insert, remove, keys, contains_key, empty};
 ghost use Rattle.sqlite.specs.Files.{over_files};
+ghost use Rattle.sqlite.specs.Held.{state};
 ghost use Rattle.sqlite.specs.Steps.{over_memory};
 ghost use Rattle.xq_atoms.specs.Address.{IsAddress};
 ghost use Rattle.xq_regions.specs.declared.Kind.TheVariants.{Document};
+ghost use Rattle.xq_rows.specs.Adopt.{IsBlank, HasTables, HasOneTable};
 ghost use Rattle.xq_rows.specs.Documents.{IsUp, Holds, documents};
 
+use crate::adopt::adopt_tables;
+use crate::faults::OpenFault;
 use crate::memory_files::open_empty;
 use crate::readings::{document_of, list_addresses, load_nodes};
 use crate::tables::make_tables;
@@ -84,6 +88,32 @@ impl Store<FileStore<MemoryDisk>> {
 }
 
 impl<S: Alter> Store<S> {
+    /// The store whose tables a database holds, with the documents that these stand for. Where the
+    /// database holds no table they are made, and there is no document.
+    ///
+    /// All of it is one transaction, and a refusal gives the connection back, with the database as
+    /// it was: [`OpenFault::NotAStore`] where other tables are there, one of the two alone, another
+    /// edition than 1, or rows that are not those of documents under good addresses, and
+    /// [`OpenFault::Want`] where memory runs out or the database refuses for another cause.
+    pub fn adopt(alloc: Global, conn: Connection<S>) -> Result<Store<S>, (OpenFault, Connection<S>)>
+        requires { conn.in_transaction ≡ false }
+        ensures made { IfOk result (λ store. IsUp S.Store store → IsBlank S.Store conn → Holds S.Store store × (documents S.Store store ≡ empty)) }
+        ensures found { IfOk result (λ store. IsUp S.Store store → HasTables S.Store conn → Holds S.Store conn × Holds S.Store store × (documents S.Store store ≡ documents S.Store conn)) }
+        ensures same { IfOk result (λ store. IsUp S.Store store → HasTables S.Store conn → (state S.Store store).now ≡ (state S.Store conn).now) }
+        ensures both { IfOk result (λ store. IsUp S.Store store → ¬ (HasOneTable S.Store conn)) }
+        ensures no_store { IfErr result (λ e. IsUp S.Store e.1 → e.0 ≡ OpenFault.NotAStore → ¬ (IsBlank S.Store conn) × ¬ (Holds S.Store conn)) }
+        ensures kept { IfErr result (λ e. IsUp S.Store e.1 → (state S.Store e.1).now ≡ (state S.Store conn).now) }
+        ensures outside { IfErr result (λ e. e.1.in_transaction ≡ false) }
+        ensures was_up { IfOk result (λ store. IsUp S.Store store → IsUp S.Store conn) }
+        ensures still_up { IfErr result (λ e. IsUp S.Store e.1 → IsUp S.Store conn) }
+    {
+        let mut conn = conn;
+        match adopt_tables(alloc, &mut conn) {
+            Ok(()) => Ok(Store { alloc, conn }),
+            Err(fault) => Err((fault, conn)),
+        }
+    }
+
     /// The addresses, each once, in the order of their bytes.
     pub fn addresses(&mut self) -> Result<Vec<String>, Want>
         ensures all { IsUp S.Store self.new → Holds S.Store self.old → IfOk result (λ all. map string_bytes all.items ≡ keys (documents S.Store self.old)) }

@@ -1,12 +1,14 @@
 //! The making of the tables.
-ghost use Rattle.std.specs.Prelude.{◌≡◌, ◌≤◌, false, OnErr, OnOk, IsTrue};
+ghost use Rattle.std.specs.Prelude.{◌≡◌, ◌≢◌, ◌≤◌, false, IfErr, OnErr, OnOk, IsTrue};
 ghost use Rattle.sqlite.specs.State.{HasCleanDisk, KeepsCommit};
 ghost use Rattle.sqlite.specs.Held.{state};
 ghost use Rattle.sqlite_trees.specs.View.{doubt};
 ghost use Rattle.xq_rows.specs.Documents.{IsEmptyStore, IsReady};
-ghost use Rattle.xq_rows.specs.Statements.{MakesLayout, MakesNode, WritesEdition};
-ghost use Rattle.xq_rows.specs.Tables.{no_schema};
+ghost use Rattle.xq_rows.specs.Adopt.{fault_of};
+ghost use Rattle.xq_rows.specs.Statements.{MakesBoth, MakesLayout, MakesNode, WritesEdition};
+ghost use Rattle.xq_rows.specs.Tables.{no_schema, layout_schema};
 
+use crate::faults::OpenFault;
 use crate::refusals::Refusal;
 use sqlite::{Alter, Connection, Error, Transaction};
 
@@ -14,6 +16,7 @@ use sqlite::{Alter, Connection, Error, Transaction};
 fn make_layout<S: Alter>(transaction: &mut Transaction<'_, S>) -> Result<usize, Error>
     ensures same_reference { transaction.new.conn.ghost_name ≡ transaction.old.conn.ghost_name }
     ensures made { HasCleanDisk (state S.Store transaction.new.conn.now) → OnOk result (MakesLayout (state S.Store transaction.old.conn.now).now (state S.Store transaction.new.conn.now).now) }
+    ensures refused { HasCleanDisk (state S.Store transaction.new.conn.now) → IfErr result (λ e. fault_of e ≡ OpenFault.NotAStore → (state S.Store transaction.old.conn.now).now.schema ≢ no_schema) }
     ensures kept { HasCleanDisk (state S.Store transaction.new.conn.now) → KeepsCommit (state S.Store transaction.old.conn.now) (state S.Store transaction.new.conn.now) }
     ensures mode { HasCleanDisk (state S.Store transaction.new.conn.now) → OnOk result (IsTrue (state S.Store transaction.new.conn.now).in_transaction) }
     ensures clean { doubt (state S.Store transaction.old.conn.now).is_clean ≤ doubt (state S.Store transaction.new.conn.now).is_clean }
@@ -25,6 +28,7 @@ fn make_layout<S: Alter>(transaction: &mut Transaction<'_, S>) -> Result<usize, 
 fn make_node<S: Alter>(transaction: &mut Transaction<'_, S>) -> Result<usize, Error>
     ensures same_reference { transaction.new.conn.ghost_name ≡ transaction.old.conn.ghost_name }
     ensures made { HasCleanDisk (state S.Store transaction.new.conn.now) → OnOk result (MakesNode (state S.Store transaction.old.conn.now).now (state S.Store transaction.new.conn.now).now) }
+    ensures refused { HasCleanDisk (state S.Store transaction.new.conn.now) → IfErr result (λ e. fault_of e ≡ OpenFault.NotAStore → (state S.Store transaction.old.conn.now).now.schema ≢ layout_schema) }
     ensures kept { HasCleanDisk (state S.Store transaction.new.conn.now) → KeepsCommit (state S.Store transaction.old.conn.now) (state S.Store transaction.new.conn.now) }
     ensures mode { HasCleanDisk (state S.Store transaction.new.conn.now) → OnOk result (IsTrue (state S.Store transaction.new.conn.now).in_transaction) }
     ensures clean { doubt (state S.Store transaction.old.conn.now).is_clean ≤ doubt (state S.Store transaction.new.conn.now).is_clean }
@@ -36,7 +40,7 @@ fn make_node<S: Alter>(transaction: &mut Transaction<'_, S>) -> Result<usize, Er
 }
 
 /// Writes the edition, 1.
-fn write_edition<S: Alter>(transaction: &mut Transaction<'_, S>) -> Result<usize, Error>
+pub fn write_edition<S: Alter>(transaction: &mut Transaction<'_, S>) -> Result<usize, Error>
     ensures same_reference { transaction.new.conn.ghost_name ≡ transaction.old.conn.ghost_name }
     ensures made { HasCleanDisk (state S.Store transaction.new.conn.now) → OnOk result (WritesEdition (state S.Store transaction.old.conn.now).now (state S.Store transaction.new.conn.now).now) }
     ensures kept { HasCleanDisk (state S.Store transaction.new.conn.now) → KeepsCommit (state S.Store transaction.old.conn.now) (state S.Store transaction.new.conn.now) }
@@ -44,6 +48,20 @@ fn write_edition<S: Alter>(transaction: &mut Transaction<'_, S>) -> Result<usize
     ensures clean { doubt (state S.Store transaction.old.conn.now).is_clean ≤ doubt (state S.Store transaction.new.conn.now).is_clean }
 {
     transaction.execute("INSERT INTO layout VALUES (1)", &[])
+}
+
+/// Makes both tables, inside a transaction.
+pub fn make_both<S: Alter>(transaction: &mut Transaction<'_, S>) -> Result<(), Error>
+    ensures same_reference { transaction.new.conn.ghost_name ≡ transaction.old.conn.ghost_name }
+    ensures made { HasCleanDisk (state S.Store transaction.new.conn.now) → OnOk result (MakesBoth (state S.Store transaction.old.conn.now).now (state S.Store transaction.new.conn.now).now) }
+    ensures refused { HasCleanDisk (state S.Store transaction.new.conn.now) → IfErr result (λ e. fault_of e ≡ OpenFault.NotAStore → (state S.Store transaction.old.conn.now).now.schema ≢ no_schema) }
+    ensures kept { HasCleanDisk (state S.Store transaction.new.conn.now) → KeepsCommit (state S.Store transaction.old.conn.now) (state S.Store transaction.new.conn.now) }
+    ensures mode { HasCleanDisk (state S.Store transaction.new.conn.now) → OnOk result (IsTrue (state S.Store transaction.new.conn.now).in_transaction) }
+    ensures clean { doubt (state S.Store transaction.old.conn.now).is_clean ≤ doubt (state S.Store transaction.new.conn.now).is_clean }
+{
+    let _layout = make_layout(transaction)?;
+    let _node = make_node(transaction)?;
+    Ok(())
 }
 
 /// Makes both tables and writes the edition, all or nothing.
@@ -58,8 +76,7 @@ pub fn make_tables<S: Alter>(conn: &mut Connection<S>) -> Result<(), Refusal>
 {
     let _settled = conn.is_autocommit();
     let mut transaction = conn.transaction();
-    let _layout = make_layout(&mut transaction)?;
-    let _node = make_node(&mut transaction)?;
+    make_both(&mut transaction)?;
     let _edition = write_edition(&mut transaction)?;
     Ok(transaction.commit()?)
 }

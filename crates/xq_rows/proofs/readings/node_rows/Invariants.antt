@@ -1,9 +1,7 @@
-use Rattle.std.proofs.Common.{◌≡◌, map, take, length}
-use Rattle.std.specs.List.{AllByRecursion}
-use Rattle.sqlite_value.specs.Order.{Row}
+use Rattle.std.proofs.Common.{◌≡◌, map, take}
 use Rattle.xq_regions.specs.Rows.{placed}
-use Rattle.xq_rows.specs.Nodes.{cells}
+use Rattle.xq_rows.specs.Nodes.{cells, node_of}
 use Rattle.xq_rows.proofs.readings.node_rows.Given as goal
 
 abbrev pub invariant-loop-row : goal.invariant-loop-row
-invariant-loop-row l = AllByRecursion (λ (r : Row). length r ≡ 6) l.rows → map cells (map placed l.nodes.items) ≡ take l.row-index l.rows
+invariant-loop-row l = map cells (map placed l.nodes.items) ≡ map node_of (take l.row-index l.rows)

@@ -1,0 +1,612 @@
+-- The rows that an adoption reads, and the table that they are of.
+use Rattle.std.proofs.Common.{◌≡◌, ◌≢◌, ◌⊎◌, inl, inr, ◌+◌, ◌<◌, ◌≤◌, ℕ, ℤ, zero, suc, pos, Bool, true, false, not, cond, List, [], ◌∷◌, ◌++◌, map, filter, length, take, drop, slice_get, Option, None, Some, IsTrue, refl, sym, ap, ap₂, subst, ◌∙◌, arith, Ordering, Less, Equal, Greater, is_lt, is_gt, append-nil, append_assoc, get_or, add-one, drop-cons, length-drop}
+use Rattle.std.specs.Ordering.{is_eq, ordering_reverse, ordering_then}
+use Rattle.std.specs.Cmp.{IsTotalOrder, then_total}
+use Rattle.std.specs.List.{AllByRecursion}
+use Rattle.std.specs.List.Sorted.{IsPermutation, IsSorted}
+use Rattle.std.proofs.lemmas.Cmp.{tied_itself, alike_right, upto, on_total}
+use Rattle.std.proofs.lemmas.List.{take-append-drop, take_more}
+use Rattle.std.proofs.lemmas.List.Elements.{filter-append, All-from_recursion, recursion_from_All}
+use Rattle.std.proofs.lemmas.List.Sorted.{IsPermutation-map, IsPermutation-sym, IsPermutation-trans, length_permutation, All-permutation}
+use Rattle.sqlite_value.specs.Order.{Row, column, value_cmp}
+use Rattle.sqlite_value.specs.declared.value.Value.{Value}
+use Rattle.sqlite_value.specs.declared.value.Value.TheVariants.{Int, Text}
+use Rattle.sqlite_value.proofs.OrderLemmas.{value_cmp_total, value_cmp-Int, value_cmp-Text}
+use lib.Dec.{T}
+use Rattle.std.specs.Int.Signed.{lt_z, lt_z_yes}
+use Rattle.std.specs.Cmp.{int_cmp_is}
+use Rattle.std.specs.Str.{bytes_eq}
+use Rattle.std.proofs.lemmas.Map.Text.{is_eq-slice_cmp}
+use Rattle.sqlite_trees.specs.Tree.{Trees, IsAscending, rowid}
+use Rattle.sqlite_trees.specs.View.{is_int}
+use Rattle.sqlite_trees.proofs.ListLemmas.{map-map, filter-map, IsPermutation-filter}
+use Rattle.sqlite_keyed.proofs.ListLemmas.{all_weaker, all_map, all_unmap, filter_all, filter_none, ascending-filter, ascending_weaker}
+use Rattle.sqlite_keyed.proofs.SortLemmas.{sorted_unique}
+use Rattle.sqlite.specs.Effect.{Database}
+use Rattle.sqlite.proofs.Callers.{one_permutation}
+use Rattle.xq_atoms.specs.Address.{IsAddress}
+use Rattle.xq_regions.specs.Tree.{Tree, IsDocument}
+use Rattle.xq_regions.specs.Rows.{rows as rows_of, placed_rows}
+use Rattle.xq_rows.specs.Nodes.{cells, node_of, bytes_in}
+use Rattle.xq_rows.specs.Documents.{AreApart, HaveInts, HasAddress, is_at, kept, rows_at, by_first, IsWhole, IsStore}
+use Rattle.xq_rows.specs.Adopt.{named, is_under, HasOwner, by_place, run_length, IsRun, nodes_under, AreTold, HasLayout, ReadsEdition, SeesEdition, IsPast, ReadsRowids, SeesRowids, AreNodes, ReadsNodes, AreDocuments, SeesNothing, SeesDocuments, IsAdopted, IsNoStore}
+use Rattle.xq_rows.specs.Statements.{MakesStore}
+use Rattle.xq_rows.specs.Tables.{no_schema, store_schema}
+use Rattle.xq_rows.proofs.Lists.{tied}
+use Rattle.xq_rows.proofs.Maps.{text_is, same_address}
+use Rattle.xq_rows.proofs.Orders.{first_total, numbers_rise, sorted_from}
+
+-- # Lists
+
+all_moved : {X : Type 0} (P : X → Type 0) (xs ys : List X) → IsPermutation xs ys → AllByRecursion P xs → AllByRecursion P ys
+all_moved P xs ys same all = recursion_from_All P ys (All-permutation P xs ys same (All-from_recursion P xs all))
+
+pub all_joined : {X : Type 0} (P : X → Type 0) (xs ys : List X) → AllByRecursion P xs → AllByRecursion P ys → AllByRecursion P (xs ++ ys)
+all_joined P [] ys all more = more
+all_joined P (x ∷ xs) ys all more = (all.0, all_joined P xs ys all.1 more)
+
+all_later : {X : Type 0} (P : X → Type 0) (xs ys : List X) → AllByRecursion P (xs ++ ys) → AllByRecursion P ys
+all_later P [] ys all = all
+all_later P (x ∷ xs) ys all = all_later P xs ys all.1
+
+rises_later : {X : Type 0} (R : X → X → Type 0) (xs ys : List X) → IsAscending R (xs ++ ys) → IsAscending R ys
+rises_later R [] ys up = up
+rises_later R (x ∷ xs) ys up = rises_later R xs ys up.1
+
+all_passed : {X : Type 0} (p : X → Bool) (xs : List X) → AllByRecursion (λ x. p x ≡ true) (filter p xs)
+all_passed p [] = tt
+all_passed p (x ∷ xs) = go (p x) refl (all_passed p xs)
+  where
+    go : (b : Bool) → p x ≡ b → AllByRecursion (λ x. p x ≡ true) (filter p xs) → AllByRecursion (λ x. p x ≡ true) (cond b (x ∷ filter p xs) (filter p xs))
+    go true e more = (e, more)
+    go false e more = more
+
+none_passed : {X : Type 0} (p : X → Bool) (xs : List X) → length (filter p xs) ≡ 0 → AllByRecursion (λ x. p x ≡ false) xs
+none_passed p [] h = tt
+none_passed p (x ∷ xs) h = go (p x) refl h (none_passed p xs)
+  where
+    go : (b : Bool) → p x ≡ b → length (cond b (x ∷ filter p xs) (filter p xs)) ≡ 0 → (length (filter p xs) ≡ 0 → AllByRecursion (λ x. p x ≡ false) xs) → AllByRecursion (λ x. p x ≡ false) (x ∷ xs)
+    go true e h more = absurd (omega (arith, h))
+    go false e h more = (e, more h)
+
+no_length : {X : Type 0} (xs : List X) → length xs ≡ 0 → xs ≡ []
+no_length [] h = refl
+no_length (x ∷ xs) h = absurd (omega (arith, h))
+
+-- # The edition
+
+editions_moved : (db : Trees) (rows : List Row) → IsPermutation (map (λ r. column r 1 ∷ []) (db 0)) rows → IsPermutation (map (λ r. column r 1) (db 0)) (map (λ r. column r 0) rows)
+editions_moved db rows same =
+    subst (λ l. IsPermutation l (map (λ r. column r 0) rows)) (map-map (λ r. column r 0) (λ r. column r 1 ∷ []) (db 0)) (IsPermutation-map (λ r. column r 0) _ _ same)
+
+pub edition_seen : (old new : Database) (rows : List Row) → ReadsEdition old new rows → map (λ r. column r 0) rows ≡ Int (pos 1) ∷ [] → SeesEdition old new
+edition_seen old new rows it one = record {
+  some = it.some;
+  same = it.same;
+  first = λ layout.
+      let moved = editions_moved old.trees rows (it.rows layout) in
+      one_permutation (Int (pos 1)) _ (IsPermutation-sym _ _ (subst (IsPermutation (map (λ r. column r 1) (old.trees 0))) one moved));
+}
+
+pub no_edition : (old new : Database) (rows : List Row) → ReadsEdition old new rows → ¬ (map (λ r. column r 0) rows ≡ Int (pos 1) ∷ []) → IsNoStore old
+no_edition old new rows it other = record {
+  some = λ has. it.some (inl has);
+  none = λ store.
+      let moved = editions_moved old.trees rows (it.rows (inr store.schema)) in
+      other (one_permutation (Int (pos 1)) _ (subst (λ l. IsPermutation l (map (λ r. column r 0) rows)) store.layout moved));
+}
+
+-- # Rowids
+
+abbrev has_id : Value → Row → Bool
+has_id v r = is_eq (value_cmp (rowid r) v)
+
+turned_eq : (o : Ordering) → is_eq (ordering_reverse o) ≡ is_eq o
+turned_eq Less = refl
+turned_eq Equal = refl
+turned_eq Greater = refl
+
+other_id : (x y v : Value) → is_eq (value_cmp x v) ≡ true → is_eq (value_cmp x y) ≡ false → is_eq (value_cmp y v) ≡ false
+other_id x y v same apart = go (is_eq (value_cmp y v)) refl
+  where
+    go : (b : Bool) → is_eq (value_cmp y v) ≡ b → is_eq (value_cmp y v) ≡ false
+    go false e = e
+    go true e = absurd (
+        let here : value_cmp x y ≡ value_cmp x v = alike_right value_cmp_total y v x (tied _ e) in
+        let f = sym apart ∙ ap is_eq here ∙ same in cc)
+
+once : (rows : List Row) → AreApart rows → (v : Value) → length (filter (has_id v) rows) ≤ 1
+once [] up v = omega arith
+once (r ∷ rs) up v = go (has_id v r) refl (once rs up.1 v)
+  where
+    go : (b : Bool) → has_id v r ≡ b → length (filter (has_id v) rs) ≤ 1 → length (cond b (r ∷ filter (has_id v) rs) (filter (has_id v) rs)) ≤ 1
+    go false e h = h
+    go true e h =
+        let none : length (filter (has_id v) rs) ≡ 0 =
+        ap length (filter_none (has_id v) rs (all_weaker _ (λ y. has_id v y ≡ false) (λ y apart. other_id (rowid r) (rowid y) v e apart) rs up.0)) in
+        omega (arith, none)
+
+apart_if_once : (rows : List Row) → ((v : Value) → length (filter (has_id v) rows) ≤ 1) → AreApart rows
+apart_if_once [] h = tt
+apart_if_once (r ∷ rs) h = (first, apart_if_once rs (λ v. fewer v (has_id v r) (h v)))
+  where
+    fewer : (v : Value) (b : Bool) → length (cond b (r ∷ filter (has_id v) rs) (filter (has_id v) rs)) ≤ 1 → length (filter (has_id v) rs) ≤ 1
+    fewer v true h = omega (arith, h)
+    fewer v false h = h
+
+    only : (b : Bool) → has_id (rowid r) r ≡ b → length (cond b (r ∷ filter (has_id (rowid r)) rs) (filter (has_id (rowid r)) rs)) ≤ 1 → length (filter (has_id (rowid r)) rs) ≡ 0
+    only true e h = omega (arith, h)
+    only false e h = absurd (let f = sym (ap is_eq (tied_itself value_cmp_total (rowid r))) ∙ e in cc)
+
+    first : AllByRecursion (λ y. is_eq (value_cmp (rowid r) (rowid y)) ≡ false) rs
+    first =
+        all_weaker _ (λ y. is_eq (value_cmp (rowid r) (rowid y)) ≡ false)
+        (λ y e. ap is_eq (value_cmp_total.antisymm (rowid r) (rowid y)) ∙ turned_eq (value_cmp (rowid y) (rowid r)) ∙ e) rs
+        (none_passed (has_id (rowid r)) rs (only (has_id (rowid r) r) refl (h (rowid r))))
+
+apart_moved : (xs ys : List Row) → IsPermutation xs ys → AreApart xs → AreApart ys
+apart_moved xs ys same up = apart_if_once ys (λ v. subst (λ n. n ≤ 1) (sym (length_permutation _ _ (IsPermutation-filter (has_id v) _ _ same))) (once xs up v))
+
+apart_shown : (rows : List Row) → AreApart (map (λ r. rowid r ∷ []) rows) → AreApart rows
+apart_shown [] up = tt
+apart_shown (r ∷ rs) up = (all_unmap (λ y. is_eq (value_cmp (rowid r) (rowid y)) ≡ false) (λ r. rowid r ∷ []) rs up.0, apart_shown rs up.1)
+
+pub rowids_seen : (old new : Database) (rows : List Row) → ReadsRowids old new rows → AreApart rows → HaveInts rows → SeesRowids old new
+rowids_seen old new rows it up ints = record {
+  alone = it.alone;
+  same = it.same;
+  apart = λ has. apart_shown (old.trees 1) (apart_moved rows _ (IsPermutation-sym _ _ (it.rows has)) up);
+  ints = λ has. all_unmap (λ r. IsTrue (is_int (rowid r))) (λ r. rowid r ∷ []) (old.trees 1) (all_moved (λ r. IsTrue (is_int (rowid r))) rows _ (IsPermutation-sym _ _ (it.rows has)) ints);
+}
+
+-- each rowid is at most the last one
+abbrev pub AreUpTo : Option ℤ → List Row → Type 0
+AreUpTo None rows = rows ≡ []
+AreUpTo (Some n) rows = AllByRecursion (λ r. is_gt (value_cmp (rowid r) (Int n)) ≡ false) rows
+
+-- integers that rise, up to the last one
+pub record HaveRisen (last : Option ℤ) (rows : List Row) : Type 0 where
+  pub apart : AreApart rows
+  pub ints : HaveInts rows
+  pub up_to : AreUpTo last rows
+
+strictly : (x m n : Value) → is_gt (value_cmp x m) ≡ false → value_cmp m n ≡ Less → value_cmp x n ≡ Less
+strictly x m n low less = go (value_cmp x m) refl low
+  where
+    go : (o : Ordering) → value_cmp x m ≡ o → is_gt o ≡ false → value_cmp x n ≡ Less
+    go Less e h = value_cmp_total.trans x m n e less
+    go Equal e h = value_cmp_total.congr x m n e ∙ less
+    go Greater e h = absurd cc
+
+apart_more : (rows : List Row) (row : Row) → AreApart rows → AllByRecursion (λ r. is_eq (value_cmp (rowid r) (rowid row)) ≡ false) rows → AreApart (rows ++ row ∷ [])
+apart_more [] row up all = (tt, tt)
+apart_more (r ∷ rs) row up all = (all_joined (λ y. is_eq (value_cmp (rowid r) (rowid y)) ≡ false) rs (row ∷ []) up.0 (all.0, tt), apart_more rs row up.1 all.1)
+
+all_below : (last : Option ℤ) (n : ℤ) (rows : List Row) → AreUpTo last rows → IsPast last n → AllByRecursion (λ r. value_cmp (rowid r) (Int n) ≡ Less) rows
+all_below None n rows none past = subst (AllByRecursion (λ r. value_cmp (rowid r) (Int n) ≡ Less)) (sym none) tt
+all_below (Some m) n rows low past = all_weaker _ (λ r. value_cmp (rowid r) (Int n) ≡ Less) (λ r h. strictly (rowid r) (Int m) (Int n) h past) rows low
+
+pub past_of : (last : Option ℤ) (m n : ℤ) → last ≡ Some m → IsTrue (lt_z m n) → IsPast last n
+past_of last m n is less = subst (λ o. IsPast o n) (sym is) (value_cmp-Int m n ∙ sym (int_cmp_is m n Less (lt_z_yes (subst T (sym less) tt))))
+
+pub risen_none : HaveRisen None []
+risen_none = record { apart = tt; ints = tt; up_to = refl }
+
+pub risen_more : (last : Option ℤ) (rows : List Row) (row : Row) (n : ℤ) → HaveRisen last rows → Int n ≡ column row 0 → IsPast last n → HaveRisen (Some n) (rows ++ row ∷ [])
+risen_more last rows row n it is past =
+    let below = all_below last n rows it.up_to past in
+    let own : is_gt (value_cmp (rowid row) (Int n)) ≡ false = ap (λ v. is_gt (value_cmp v (Int n))) (sym is) ∙ ap is_gt (tied_itself value_cmp_total (Int n)) in
+    record {
+      apart = apart_more rows row it.apart (all_weaker _ (λ r. is_eq (value_cmp (rowid r) (rowid row)) ≡ false) (λ r h. ap (λ v. is_eq (value_cmp (rowid r) v)) (sym is) ∙ ap is_eq h) rows below);
+      ints = all_joined (λ r. IsTrue (is_int (rowid r))) rows (row ∷ []) it.ints (ap is_int (sym is), tt);
+      up_to = all_joined (λ r. is_gt (value_cmp (rowid r) (Int n)) ≡ false) rows (row ∷ []) (all_weaker _ (λ r. is_gt (value_cmp (rowid r) (Int n)) ≡ false) (λ r h. ap is_gt h) rows below) (own, tt);
+    }
+
+pub risen_next : (last : Option ℤ) (rows : List Row) (i : ℕ) (row : Row) (n : ℤ) → i < length rows → row ≡ get_or rows i row → HaveRisen last (take i rows) → Int n ≡ column row 0 → IsPast last n
+    → HaveRisen (Some n) (take (i + 1) rows)
+risen_next last rows i row n low is it id past =
+    let grown : take (i + 1) rows ≡ take i rows ++ row ∷ [] = take_more rows i row low ∙ ap (λ r. take i rows ++ r ∷ []) (sym is) in
+    subst (HaveRisen (Some n)) (sym grown) (risen_more last (take i rows) row n it id past)
+
+-- # Rows in their order
+
+place_total : IsTotalOrder by_place
+place_total = then_total (on_total (λ r. column r 6) value_cmp_total) (on_total (λ r. column r 0) value_cmp_total)
+
+module _ {X : Type 0} (cmp : X → X → Ordering) (total : IsTotalOrder cmp) where
+  turned : (o : Ordering) → is_lt o ≡ false → is_gt (ordering_reverse o) ≡ false
+  turned Less h = h
+  turned Equal h = refl
+  turned Greater h = refl
+
+  below_all : (x : X) (ys : List X) → IsSorted cmp (x ∷ ys) → IsAscending (λ a b. is_gt (cmp a b) ≡ false) ys → AllByRecursion (λ y. is_gt (cmp x y) ≡ false) ys
+  below_all x [] sorted up = tt
+  below_all x (y ∷ ys) sorted up =
+      let first : is_gt (cmp x y) ≡ false = ap is_gt (total.antisymm x y) ∙ turned _ (sorted 0 x (omega arith) (omega arith)) in
+      (first, all_weaker _ (λ z. is_gt (cmp x z) ≡ false) (λ z. upto total x y z first) ys up.0)
+
+  rises_from : (xs : List X) → IsSorted cmp xs → IsAscending (λ a b. is_gt (cmp a b) ≡ false) xs
+  rises_from [] sorted = tt
+  rises_from (x ∷ xs) sorted =
+      let tail : IsSorted cmp xs = λ k d p q. rw Rattle.std.proofs.Common.add-one (rw Rattle.std.proofs.Common.add-one at (sorted (suc k) d (omega arith) (omega arith))) in
+      let up = rises_from xs tail in
+      (below_all x xs sorted up, up)
+
+-- no address is lower than that of a row before
+abbrev AtMost : Row → Row → Type 0
+AtMost a b = is_gt (value_cmp (column a 6) (column b 6)) ≡ false
+
+first_most : (o p : Ordering) → is_gt (ordering_then o p) ≡ false → is_gt o ≡ false
+first_most Less p h = refl
+first_most Equal p h = refl
+first_most Greater p h = absurd cc
+
+addresses_rise : (rows : List Row) → IsSorted by_place rows → IsAscending AtMost rows
+addresses_rise rows sorted = ascending_weaker _ AtMost (λ a b h. first_most (value_cmp (column a 6) (column b 6)) _ h) rows (rises_from by_place place_total rows sorted)
+
+-- # The run of the first address
+
+pub own_under : (a own : List ℕ) (r : Row) (b : Bool) → b ≡ bytes_eq own a → column r 6 ≡ Text own → b ≡ is_under a r
+own_under a own r b is text = is ∙ sym (is_eq-slice_cmp own a) ∙ ap is_eq (sym (value_cmp-Text own a)) ∙ ap (λ v. is_eq (value_cmp v (Text a))) (sym text)
+
+pub none_under : (a : List ℕ) (r : Row) → ((b : List ℕ) → column r 6 ≢ Text b) → false ≡ is_under a r
+none_under a r other = go (is_under a r) refl
+  where
+    go : (b : Bool) → is_under a r ≡ b → false ≡ is_under a r
+    go false e = sym e
+    go true e = absurd (other a (text_is (column r 6) a e))
+
+all_in_run : (a : List ℕ) (rows : List Row) → AllByRecursion (λ r. is_under a r ≡ true) (take (run_length a rows) rows)
+all_in_run a [] = tt
+all_in_run a (r ∷ rs) = go (is_under a r) refl (all_in_run a rs)
+  where
+    go : (b : Bool) → is_under a r ≡ b → AllByRecursion (λ r. is_under a r ≡ true) (take (run_length a rs) rs)
+        → AllByRecursion (λ r. is_under a r ≡ true) (take (cond b (suc (run_length a rs)) 0) (r ∷ rs))
+    go true e more = (e, more)
+    go false e more = tt
+
+above : (o : Ordering) → is_lt o ≡ false → is_eq o ≡ false → o ≡ Greater
+above Less h e = absurd cc
+above Equal h e = absurd cc
+above Greater h e = refl
+
+still_above : (a : List ℕ) (r x : Row) → value_cmp (column r 6) (Text a) ≡ Greater → AtMost r x → is_under a x ≡ false
+still_above a r x high up = go (is_under a x) refl
+  where
+    go : (b : Bool) → is_under a x ≡ b → is_under a x ≡ false
+    go false e = e
+    go true e = absurd (
+        let same : value_cmp (column r 6) (column x 6) ≡ value_cmp (column r 6) (Text a) = alike_right value_cmp_total (column x 6) (Text a) (column r 6) (tied _ e) in
+        let f = sym up ∙ ap is_gt (same ∙ high) in cc)
+
+none_after : (a : List ℕ) (rows : List Row) → AllByRecursion (λ r. is_lt (value_cmp (column r 6) (Text a)) ≡ false) rows → IsAscending AtMost rows → filter (is_under a) (drop (run_length a rows) rows) ≡ []
+none_after a [] low up = refl
+none_after a (r ∷ rs) low up = go (is_under a r) refl (none_after a rs low.1 up.1)
+  where
+    go : (b : Bool) → is_under a r ≡ b → filter (is_under a) (drop (run_length a rs) rs) ≡ [] → filter (is_under a) (drop (cond b (suc (run_length a rs)) 0) (r ∷ rs)) ≡ []
+    go true e more = more
+    go false e more =
+        let high = above _ low.0 e in
+        filter_none (is_under a) (r ∷ rs) (e, all_weaker _ (λ x. is_under a x ≡ false) (λ x h. still_above a r x high h) rs up.0)
+
+turned_gt : (o : Ordering) → is_gt o ≡ false → is_lt (ordering_reverse o) ≡ false
+turned_gt Less h = refl
+turned_gt Equal h = refl
+turned_gt Greater h = absurd cc
+
+-- no address is on both sides
+abbrev pub IsCut : List Row → List Row → Type 0
+IsCut past rest = (b : List ℕ) → (filter (is_under b) past ≡ []) ⊎ (filter (is_under b) rest ≡ [])
+
+joined_none : {X : Type 0} (p : X → Bool) (xs ys : List X) → filter p (xs ++ ys) ≡ [] → filter p ys ≡ []
+joined_none p [] ys h = h
+joined_none p (x ∷ xs) ys h = go (p x) h (joined_none p xs ys)
+  where
+    go : (b : Bool) → cond b (x ∷ filter p (xs ++ ys)) (filter p (xs ++ ys)) ≡ [] → (filter p (xs ++ ys) ≡ [] → filter p ys ≡ []) → filter p ys ≡ []
+    go true h more = absurd cc
+    go false h more = more h
+
+other_owner : (a b : List ℕ) (r : Row) → b ≢ a → is_under a r ≡ true → is_under b r ≡ false
+other_owner a b r apart h = go (is_under b r) refl
+  where
+    go : (t : Bool) → is_under b r ≡ t → is_under b r ≡ false
+    go false e = e
+    go true e = absurd (apart (let f = sym (text_is (column r 6) b e) ∙ text_is (column r 6) a h in ap bytes_in f))
+
+module _ (a : List ℕ) (first : Row) (own : column first 6 ≡ Text a) where
+  passes : (r : Row) → r ≡ first → is_under a r ≡ true
+  passes r same = ap (λ v. is_eq (value_cmp v (Text a))) (ap (λ x. column x 6) same ∙ own) ∙ ap is_eq (tied_itself value_cmp_total (Text a))
+
+  some_run : (rest : List Row) → slice_get rest 0 ≡ Some first → map node_of (take (run_length a rest) rest) ≢ []
+  some_run [] here none = absurd cc
+  some_run (r ∷ rs) here none =
+      let same : r ≡ first = cc in
+      let all : map node_of (take (suc (run_length a rs)) (r ∷ rs)) ≡ [] = subst (λ b. map node_of (take (cond b (suc (run_length a rs)) 0) (r ∷ rs)) ≡ []) (passes r same) none in
+      absurd cc
+
+  not_none : (rest : List Row) → slice_get rest 0 ≡ Some first → filter (is_under a) rest ≢ []
+  not_none [] here none = absurd cc
+  not_none (r ∷ rs) here none =
+      let same : r ≡ first = cc in
+      let all : r ∷ filter (is_under a) rs ≡ [] = subst (λ b. cond b (r ∷ filter (is_under a) rs) (filter (is_under a) rs) ≡ []) (passes r same) none in
+      absurd cc
+
+  not_lower : (rest : List Row) → slice_get rest 0 ≡ Some first → IsAscending AtMost rest → AllByRecursion (λ r. is_lt (value_cmp (column r 6) (Text a)) ≡ false) rest
+  not_lower [] here up = tt
+  not_lower (r ∷ rs) here up =
+      let same : r ≡ first = cc in
+      let text : column r 6 ≡ Text a = ap (λ x. column x 6) same ∙ own in (
+        ap (λ v. is_lt (value_cmp v (Text a))) text ∙ ap is_lt (tied_itself value_cmp_total (Text a)),
+        all_weaker _ (λ x. is_lt (value_cmp (column x 6) (Text a)) ≡ false)
+            (λ x h. ap is_lt (value_cmp_total.antisymm (column x 6) (Text a)) ∙ turned_gt (value_cmp (Text a) (column x 6)) (subst (λ v. is_gt (value_cmp v (column x 6)) ≡ false) text h)) rs up.0,
+      )
+
+  owned_first : (rest : List Row) → slice_get rest 0 ≡ Some first → AllByRecursion HasOwner rest → IsAddress a
+  owned_first [] here all = absurd cc
+  owned_first (r ∷ rs) here all =
+      let same : r ≡ first = cc in
+      let text : Text all.0.0 ≡ Text a = sym all.0.2 ∙ ap (λ x. column x 6) same ∙ own in
+      subst IsAddress (ap bytes_in text) all.0.1
+
+  module _ (past rest : List Row) (here : slice_get rest 0 ≡ Some first) (up : IsAscending AtMost rest) (cut : IsCut past rest) where
+    abbrev run : List Row
+    run = take (run_length a rest) rest
+
+    abbrev more : List Row
+    more = drop (run_length a rest) rest
+
+    whole_rest : run ++ more ≡ rest
+    whole_rest = take-append-drop (run_length a rest) rest
+
+    in_run : AllByRecursion (λ r. is_under a r ≡ true) run
+    in_run = all_in_run a rest
+
+    gone : filter (is_under a) more ≡ []
+    gone = none_after a rest (not_lower rest here up) up
+
+    others : (b : List ℕ) → b ≢ a → filter (is_under b) run ≡ []
+    others b apart = filter_none (is_under b) run (all_weaker _ (λ r. is_under b r ≡ false) (λ r h. other_owner a b r apart h) run in_run)
+
+    before : filter (is_under a) past ≡ []
+    before = elim (cut a) [ inl h ↦ h | inr h ↦ absurd (not_none rest here h) ]
+
+    here_is : nodes_under a (past ++ rest) ≡ map node_of run
+    here_is =
+        let mine : filter (is_under a) rest ≡ run =
+        ap (filter (is_under a)) (sym whole_rest) ∙ filter-append (is_under a) run more ∙ ap₂ ◌++◌ (filter_all (is_under a) run in_run) gone ∙ append-nil run in
+        ap (map node_of) (filter-append (is_under a) past rest ∙ ap₂ ◌++◌ before mine)
+
+    told_more : AreTold past → IsAddress a → IsRun (map node_of run) → AreTold (past ++ run)
+    told_more told good is = record {
+      owned = all_joined HasOwner past run told.owned (all_weaker _ HasOwner (λ r h. (a, good, text_is (column r 6) a h)) run in_run);
+      whole = λ b. elim (same_address a b) [
+        | inl e ↦
+            let own_is : nodes_under a (past ++ run) ≡ map node_of run = ap (map node_of) (filter-append (is_under a) past run ∙ ap₂ ◌++◌ before (filter_all (is_under a) run in_run)) in
+            inr (subst (λ x. IsRun (nodes_under x (past ++ run))) (sym e) (subst IsRun (sym own_is) is))
+        | inr apart ↦
+            let other_is : nodes_under b (past ++ run) ≡ nodes_under b past = ap (map node_of) (filter-append (is_under b) past run ∙ ap (λ l. filter (is_under b) past ++ l) (others b apart) ∙ append-nil _) in
+            subst (λ l. (l ≡ []) ⊎ IsRun l) (sym other_is) (told.whole b)
+      ];
+    }
+
+    cut_more : IsCut (past ++ run) more
+    cut_more b = elim (same_address a b) [
+      | inl e ↦ inr (subst (λ x. filter (is_under x) more ≡ []) (sym e) gone)
+      | inr apart ↦ elim (cut b) [
+        | inl h ↦ inl (filter-append (is_under b) past run ∙ ap₂ ◌++◌ h (others b apart))
+        | inr h ↦ inr (joined_none (is_under b) run more (ap (filter (is_under b)) whole_rest ∙ h))
+      ]
+    ]
+
+    bad_run : ¬ (IsAddress a × IsRun (map node_of run)) → ¬ AreTold (past ++ rest)
+    bad_run bad told = elim (told.whole a) [
+      | inl none ↦ some_run rest here (sym here_is ∙ none)
+      | inr ok ↦ bad (owned_first rest here (all_later HasOwner past rest told.owned), subst IsRun here_is ok)
+    ]
+
+-- the rows before the rest were judged
+pub record AreJudged (all rest : List Row) : Type 0 where
+  pub past : List Row
+  pub is : past ++ rest ≡ all
+  pub told : IsSorted by_place all → AreTold past × IsCut past rest
+
+pub judged_none : (all : List Row) → AreJudged all all
+judged_none all = record { past = []; is = refl; told = λ sorted. (record { owned = tt; whole = λ b. inl refl }, λ b. inl refl) }
+
+rest_rises : (all rest past : List Row) → past ++ rest ≡ all → IsSorted by_place all → IsAscending AtMost rest
+rest_rises all rest past is sorted = rises_later AtMost past rest (subst (IsAscending AtMost) (sym is) (addresses_rise all sorted))
+
+module _ (all rest : List Row) (judged : AreJudged all rest) (a : List ℕ) (first : Row) (here : slice_get rest 0 ≡ Some first) (own : column first 6 ≡ Text a) where
+  pub judged_more : IsAddress a → IsRun (map node_of (take (run_length a rest) rest)) → AreJudged all (drop (run_length a rest) rest)
+  judged_more good is = record {
+    past = judged.past ++ take (run_length a rest) rest;
+    is = append_assoc judged.past (take (run_length a rest) rest) (drop (run_length a rest) rest) ∙ ap (λ l. judged.past ++ l) (take-append-drop (run_length a rest) rest) ∙ judged.is;
+    told = λ sorted.
+        let so_far = judged.told sorted in
+        let up = rest_rises all rest judged.past judged.is sorted in
+        (told_more a first own judged.past rest here up so_far.1 so_far.0 good is, cut_more a first own judged.past rest here up so_far.1);
+  }
+
+  pub judged_bad : ¬ (IsAddress a × IsRun (map node_of (take (run_length a rest) rest))) → IsSorted by_place all → ¬ AreTold all
+  judged_bad bad sorted told =
+      let so_far = judged.told sorted in
+      let up = rest_rises all rest judged.past judged.is sorted in
+      bad_run a first own judged.past rest here up so_far.1 bad (subst AreTold (sym judged.is) told)
+
+pub judged_all : (all rest : List Row) → AreJudged all rest → rest ≡ [] → IsSorted by_place all → AreTold all
+judged_all all rest judged none sorted = subst AreTold (sym (append-nil judged.past) ∙ ap (λ l. judged.past ++ l) (sym none) ∙ judged.is) (judged.told sorted).0
+
+pub first_is : (rest : List Row) (first : Row) → (0 < length rest) × ((d : Row) → first ≡ get_or rest 0 d) → slice_get rest 0 ≡ Some first
+first_is [] first is = absurd (omega (arith, is.0))
+first_is (r ∷ rest) first is = ap Some (sym (is.1 r))
+
+first_owned : (rest : List Row) (first : Row) → slice_get rest 0 ≡ Some first → AllByRecursion HasOwner rest → HasOwner first
+first_owned [] first here all = absurd cc
+first_owned (r ∷ rs) first here all = let same : r ≡ first = cc in subst HasOwner same all.0
+
+-- a row without a text for its address
+pub judged_stray : (all rest : List Row) → AreJudged all rest → (first : Row) → slice_get rest 0 ≡ Some first → ((a : List ℕ) → column first 6 ≢ Text a) → ¬ AreTold all
+judged_stray all rest judged first here stray told =
+    let owner = first_owned rest first here (all_later HasOwner judged.past rest (subst (λ l. AllByRecursion HasOwner l) (sym judged.is) told.owned)) in
+    stray owner.0 owner.2
+
+-- # The table
+
+nodes_of_named : (a : List ℕ) (table : List Row) → nodes_under a (map named table) ≡ rows_at a table
+nodes_of_named a table = ap (map node_of) (filter-map (is_under a) named table) ∙ map-map node_of named (filter (is_at a) table)
+
+module _ (table rows : List Row) (are : AreNodes table rows) where
+  moved : (a : List ℕ) → IsPermutation (rows_at a table) (nodes_under a rows)
+  moved a = subst (λ l. IsPermutation l (nodes_under a rows)) (nodes_of_named a table) (IsPermutation-map node_of _ _ (IsPermutation-filter (is_under a) _ _ are.same))
+
+  none_too : (a : List ℕ) → nodes_under a rows ≡ [] → rows_at a table ≡ []
+  none_too a none = no_length (rows_at a table) (sym (length_permutation _ _ (moved a)) ∙ ap length none)
+
+  pub table_named : AreTold rows → AllByRecursion HasAddress table
+  table_named told = all_unmap HasOwner named table (all_moved HasOwner rows (map named table) (IsPermutation-sym _ _ are.same) told.owned)
+
+  pub table_whole : AreTold rows → (a : List ℕ) → (rows_at a table ≡ []) ⊎ IsWhole (rows_at a table)
+  table_whole told a = elim (told.whole a) [
+    | inl none ↦ inl (none_too a none)
+    | inr is ↦ inr (record { tree = is.0; is_document = is.1; same = subst (IsPermutation (rows_at a table)) is.2 (moved a) })
+  ]
+
+  -- and back: the nodes of an address stand in the order of their numbers
+  numbers_fall_not : (o p : Ordering) → o ≡ Equal → is_gt (ordering_then o p) ≡ false → is_gt p ≡ false
+  numbers_fall_not o p e h = subst (λ x. is_gt (ordering_then x p) ≡ false) e h
+
+  by_number : (a : List ℕ) (x y : Row) → is_under a x ≡ true → is_under a y ≡ true → is_gt (by_place x y) ≡ false → is_gt (by_first (node_of x) (node_of y)) ≡ false
+  by_number a x y hx hy h =
+      let same : value_cmp (column x 6) (column y 6) ≡ Equal =
+      ap (λ v. value_cmp v (column y 6)) (text_is (column x 6) a hx) ∙ ap (value_cmp (Text a)) (text_is (column y 6) a hy) ∙ tied_itself value_cmp_total (Text a) in
+      numbers_fall_not _ (value_cmp (column x 0) (column y 0)) same h
+
+  run_rises : (a : List ℕ) (l : List Row) → AllByRecursion (λ r. is_under a r ≡ true) l → IsAscending (λ x y. is_gt (by_place x y) ≡ false) l → IsAscending (λ x y. is_gt (by_first x y) ≡ false) (map node_of l)
+  run_rises a [] all up = tt
+  run_rises a (r ∷ rs) all up = (each rs all.1 up.0, run_rises a rs all.1 up.1)
+    where
+      each : (l : List Row) → AllByRecursion (λ r. is_under a r ≡ true) l → AllByRecursion (λ y. is_gt (by_place r y) ≡ false) l → AllByRecursion (λ y. is_gt (by_first (node_of r) y) ≡ false) (map node_of l)
+      each [] all up = tt
+      each (y ∷ ys) more up = (by_number a r y all.0 more.0 up.0, each ys more.1 up.1)
+
+  nodes_sorted : (a : List ℕ) → IsSorted by_first (nodes_under a rows)
+  nodes_sorted a =
+      let up = ascending-filter (λ x y. is_gt (by_place x y) ≡ false) (is_under a) rows (rises_from by_place place_total rows are.sorted) in
+      sorted_from by_first first_total _ (run_rises a (filter (is_under a) rows) (all_passed (is_under a) rows) up)
+
+  pub told_of : AllByRecursion HasAddress table → ((a : List ℕ) → (rows_at a table ≡ []) ⊎ IsWhole (rows_at a table)) → AreTold rows
+  told_of named_all whole = record {
+    owned = all_moved HasOwner (map named table) rows are.same (all_map HasOwner named table named_all);
+    whole = λ a. elim (whole a) [
+      | inl none ↦ inl (no_length (nodes_under a rows) (length_permutation _ _ (moved a) ∙ ap length none))
+      | inr it ↦ inr (
+        it.tree,
+        it.is_document,
+        sorted_unique by_first first_total (map cells (placed_rows it.tree)) (nodes_under a rows) (numbers_rise 0 (rows_of it.tree)) (IsPermutation-trans _ _ _ (IsPermutation-sym _ _ it.same) (moved a)) (nodes_sorted a),
+      )
+    ];
+  }
+
+pub documents_seen : (old mid new : Database) (rows : List Row) → SeesRowids old mid → ReadsNodes mid new rows → (IsSorted by_place rows → AreTold rows) → SeesDocuments old new
+documents_seen old mid new rows ids nodes told = record {
+  alone = ids.alone;
+  same = λ has. nodes.same (schema has) ∙ ids.same has;
+  documents = λ has.
+      let are : AreNodes (old.trees 1) rows = subst (λ (d : Database). AreNodes (d.trees 1) rows) (ids.same has) (nodes.rows (schema has)) in record {
+        apart = ids.apart has;
+        ints = ids.ints has;
+        named = table_named (old.trees 1) rows are (told are.sorted);
+        whole = table_whole (old.trees 1) rows are (told are.sorted);
+      };
+}
+  where
+    schema : old.schema ≡ store_schema → mid.schema ≡ store_schema
+    schema has = ap (λ (d : Database). d.schema) (ids.same has) ∙ has
+
+pub no_documents_seen : (old mid new : Database) (rows : List Row) → SeesRowids old mid → ReadsNodes mid new rows → (IsSorted by_place rows → ¬ AreTold rows) → ¬ IsStore old
+no_documents_seen old mid new rows ids nodes untold store =
+    let same = ids.same store.schema in
+    let has : mid.schema ≡ store_schema = ap (λ (d : Database). d.schema) same ∙ store.schema in
+    let are : AreNodes (old.trees 1) rows = subst (λ (d : Database). AreNodes (d.trees 1) rows) same (nodes.rows has) in
+    untold are.sorted (told_of (old.trees 1) rows are store.named store.whole)
+
+-- # The whole adoption
+
+pub adopted_found : (old mid new : Database) → SeesEdition old mid → SeesDocuments mid new → IsAdopted old new
+adopted_found old mid new edition documents = record {
+  made = λ has. absurd (edition.some (inl has));
+  found = λ has.
+      let same = edition.same (inr has) in
+      let still : mid.schema ≡ store_schema = ap (λ (d : Database). d.schema) same ∙ has in
+      let are : AreDocuments (old.trees 1) = subst (λ (d : Database). AreDocuments (d.trees 1)) same (documents.documents still) in (
+        documents.same still ∙ same,
+        record { schema = has; layout = edition.first (inr has); apart = are.apart; ints = are.ints; named = are.named; whole = are.whole },
+      );
+  alone = λ one. elim one [
+    | inl has ↦ documents.alone (ap (λ (d : Database). d.schema) (edition.same (inl has)) ∙ has)
+    | inr has ↦ edition.some (inr has)
+  ];
+}
+
+pub adopted_made : (old mid new : Database) → SeesNothing old mid → MakesStore mid new → IsAdopted old new
+adopted_made old mid new nothing made = record {
+  made = λ has. made.made (ap (λ (d : Database). d.schema) (nothing.same (inl has)) ∙ has);
+  found = λ has. absurd (nothing.none (inr has));
+  alone = λ one. elim one [
+    | inl has ↦ nothing.none (inl has)
+    | inr has ↦ made.never (ap (λ (d : Database). d.schema) (nothing.same (inr has)) ∙ has)
+  ];
+}
+
+-- a database that holds no documents, as it was after the edition was read
+pub refused_found : (old mid : Database) → SeesEdition old mid → ¬ IsStore mid → IsNoStore old
+refused_found old mid edition bad = record {
+  some = λ has. edition.some (inl has);
+  none = λ store. bad (subst IsStore (sym (edition.same (inr store.schema))) store);
+}
+
+pub refused_made : (old mid : Database) → SeesNothing old mid → mid.schema ≢ no_schema → IsNoStore old
+refused_made old mid nothing some = record {
+  some = λ has. some (ap (λ (d : Database). d.schema) (nothing.same (inl has)) ∙ has);
+  none = λ store. nothing.none (inr store.schema);
+}
+
+pub run_within : (a : List ℕ) (rows : List Row) → run_length a rows ≤ length rows
+run_within a [] = omega arith
+run_within a (r ∷ rs) = go (is_under a r) (run_within a rs)
+  where
+    go : (b : Bool) → run_length a rs ≤ length rs → cond b (suc (run_length a rs)) 0 ≤ suc (length rs)
+    go true h = omega (arith, h)
+    go false h = omega arith
+
+pub run_starts : (a : List ℕ) (rest : List Row) (first : Row) → slice_get rest 0 ≡ Some first → column first 6 ≡ Text a → 0 < run_length a rest
+run_starts a [] first here own = absurd cc
+run_starts a (r ∷ rs) first here own =
+    let same : r ≡ first = cc in
+    subst (λ b. 0 < cond b (suc (run_length a rs)) 0) (sym (passes a first own r same)) (omega arith)
+
+-- # The length of a run, row by row
+
+after_at : (rows : List Row) (i : ℕ) (row : Row) → i < length rows → row ≡ get_or rows i row → drop i rows ≡ row ∷ drop (i + 1) rows
+after_at rows i row low is = rw (add-one, drop-cons rows i row) (ap (λ x. x ∷ drop (suc i) rows) (sym is))
+
+module _ (a : List ℕ) (rows : List Row) (i : ℕ) (so_far : run_length a rows ≡ i + run_length a (drop i rows)) where
+  pub run_out : length rows ≤ i → run_length a rows ≡ i
+  run_out out =
+      let none : drop i rows ≡ [] = no_length (drop i rows) (let size = length-drop i rows in omega (arith, size)) in
+      let last : run_length a (drop i rows) ≡ 0 = ap (run_length a) none in
+      omega (arith, so_far, last)
+
+  module _ (row : Row) (low : i < length rows) (is : row ≡ get_or rows i row) where
+    here : run_length a rows ≡ i + cond (is_under a row) (suc (run_length a (drop (i + 1) rows))) 0
+    here = so_far ∙ ap (λ l. i + run_length a l) (after_at rows i row low is)
+
+    pub run_ends : is_under a row ≡ false → run_length a rows ≡ i
+    run_ends other =
+        let stop : run_length a rows ≡ i + 0 = subst (λ b. run_length a rows ≡ i + cond b (suc (run_length a (drop (i + 1) rows))) 0) other here in
+        omega (arith, stop)
+
+    pub run_goes : is_under a row ≡ true → run_length a rows ≡ i + 1 + run_length a (drop (i + 1) rows)
+    run_goes own =
+        let next : run_length a rows ≡ i + suc (run_length a (drop (i + 1) rows)) = subst (λ b. run_length a rows ≡ i + cond b (suc (run_length a (drop (i + 1) rows))) 0) own here in
+        omega (arith, next)

@@ -1,0 +1,179 @@
+-- What the adoption of a database tells of it.
+use Rattle.std.proofs.Common.{suc}
+use Rattle.std.specs.Prelude.{◌≡◌, ◌≢◌, ◌⊎◌, ℕ, ℤ, pos, Option, None, Some, Bool, true, false, if◌then◌else◌, List, [], ◌∷◌, map, filter, IsPermutation, IsSorted}
+use Rattle.std.specs.declared.cmp.Ordering.{Ordering}
+use Rattle.std.specs.declared.cmp.Ordering.TheVariants.{Less}
+use Rattle.std.specs.Ordering.{is_eq, on, then_cmp}
+use Rattle.std.specs.List.{AllByRecursion}
+use Rattle.sqlite_value.specs.Order.{Row, column, value_cmp}
+use Rattle.sqlite_value.specs.declared.value.Value.TheVariants.{Int, Text}
+use Rattle.sqlite_trees.specs.Tree.{rowid}
+use Rattle.sqlite_trees.specs.declared.store.Store.{Ghosts}
+use Rattle.sqlite_resolve.specs.declared.error.CompileError.{CompileError}
+use Rattle.sqlite.specs.Effect.{Database}
+use Rattle.sqlite.specs.Held.{Held, state}
+use Rattle.sqlite.specs.declared.error.Error.{Error}
+use Rattle.sqlite.specs.declared.error.Error.TheVariants.{SqliteFailure, SqlInputError}
+use Rattle.sqlite.specs.declared.error.ErrorCode.TheVariants.{NameTaken, OutOfMemory}
+use Rattle.xq_atoms.specs.Address.{IsAddress}
+use Rattle.xq_atoms.specs.declared.refusals.Want.TheVariants.{Memory}
+use Rattle.xq_regions.specs.Tree.{Tree, IsDocument}
+use Rattle.xq_regions.specs.Rows.{placed_rows}
+use Rattle.xq_rows.specs.declared.faults.OpenFault.{OpenFault}
+use Rattle.xq_rows.specs.declared.faults.OpenFault.TheVariants.{Want, NotAStore}
+use Rattle.xq_rows.specs.Documents.{AreApart, HaveInts, HasAddress, rows_at, IsWhole, IsEmptyStore, IsStore}
+use Rattle.xq_rows.specs.Nodes.{cells, node_of}
+use Rattle.xq_rows.specs.Refusals.{want_of}
+use Rattle.xq_rows.specs.Tables.{no_schema, layout_schema, node_schema, store_schema}
+
+-- one of the two tables stands without the other
+abbrev pub HasOne : Database → Type 0
+HasOne db = (db.schema ≡ layout_schema) ⊎ (db.schema ≡ node_schema)
+
+-- An adoption that succeeds makes an empty store where no table was there, and takes the two tables as they stand where they
+-- hold documents. Where one of them stands alone, it never succeeds.
+pub record IsAdopted (old new : Database) : Type 0 where
+  pub made : old.schema ≡ no_schema → IsEmptyStore new
+  pub found : old.schema ≡ store_schema → (new ≡ old) × IsStore old
+  pub alone : ¬ HasOne old
+
+-- there are tables, and they hold no documents, or are others
+pub record IsNoStore (db : Database) : Type 0 where
+  pub some : db.schema ≢ no_schema
+  pub none : ¬ IsStore db
+
+-- A connection whose database is to be adopted: `g` are the ghosts of what it keeps its database in.
+module _ {S : Type 0} (g : Ghosts S) (conn : Held S) where
+  -- no table was made in it
+  unfoldable pub IsBlank : Type 0
+  IsBlank = (state g conn).now.schema ≡ no_schema
+
+  -- its tables are the two of a store, whatever rows they have
+  unfoldable pub HasTables : Type 0
+  HasTables = (state g conn).now.schema ≡ store_schema
+
+  -- it has one of the two tables and not the other
+  unfoldable pub HasOneTable : Type 0
+  HasOneTable = HasOne (state g conn).now
+
+-- a statement that is refused since other tables are there, or none, tells of no store; any other refusal is a want
+abbrev pub fault_of : Error → OpenFault
+fault_of (SqlInputError e) = NotAStore
+fault_of (SqliteFailure NameTaken) = NotAStore
+fault_of error = Want (want_of error)
+
+-- a row that cannot be read for another cause than memory is no node's
+abbrev pub row_fault : Error → OpenFault
+row_fault (SqliteFailure OutOfMemory) = Want Memory
+row_fault error = NotAStore
+
+-- the statement has no meaning under the schema
+abbrev pub IsInputError : Error → Type 0
+IsInputError e = (fault : CompileError) × (e ≡ SqlInputError fault)
+
+-- # The rows that are read: the columns pre, size, level, kind, name, value and address
+
+abbrev pub named : Row → Row
+named r = column r 2 ∷ column r 3 ∷ column r 4 ∷ column r 5 ∷ column r 6 ∷ column r 7 ∷ column r 1 ∷ []
+
+-- the row is one of the address
+abbrev pub is_under : List ℕ → Row → Bool
+is_under address r = is_eq (value_cmp (column r 6) (Text address))
+
+-- its address is a good one
+abbrev pub HasOwner : Row → Type 0
+HasOwner r = (address : List ℕ) × IsAddress address × (column r 6 ≡ Text address)
+
+-- by address, and then by number
+abbrev pub by_place : Row → Row → Ordering
+by_place = then_cmp (on (λ r. column r 6) value_cmp) (on (λ r. column r 0) value_cmp)
+
+-- how many rows at the front are of the address
+abbrev pub run_length : List ℕ → List Row → ℕ
+run_length address [] = 0
+run_length address (r ∷ rows) = if is_under address r then suc (run_length address rows) else 0
+
+-- these are the nodes of a document, in document order
+abbrev pub IsRun : List Row → Type 0
+IsRun nodes = (t : Tree) × IsDocument t × (nodes ≡ map cells (placed_rows t))
+
+-- the nodes of an address
+abbrev pub nodes_under : List ℕ → List Row → List Row
+nodes_under address rows = map node_of (filter (is_under address) rows)
+
+-- the rows of each address are those of one document, in document order, or there are none
+pub record AreTold (rows : List Row) : Type 0 where
+  pub owned : AllByRecursion HasOwner rows
+  pub whole : (address : List ℕ) → (nodes_under address rows ≡ []) ⊎ IsRun (nodes_under address rows)
+
+-- # The steps of an adoption, by the schema found
+
+-- there is a table `layout`, alone or beside `node`
+abbrev pub HasLayout : Database → Type 0
+HasLayout db = (db.schema ≡ layout_schema) ⊎ (db.schema ≡ store_schema)
+
+-- there is no table, or `node` alone
+abbrev pub LacksLayout : Database → Type 0
+LacksLayout db = (db.schema ≡ no_schema) ⊎ (db.schema ≡ node_schema)
+
+-- the editions were read
+pub record ReadsEdition (old new : Database) (given : List Row) : Type 0 where
+  pub some : ¬ LacksLayout old
+  pub same : HasLayout old → new ≡ old
+  pub rows : HasLayout old → IsPermutation (map (λ r. column r 1 ∷ []) (old.trees 0)) given
+
+-- there is one, and it is 1
+pub record SeesEdition (old new : Database) : Type 0 where
+  pub some : ¬ LacksLayout old
+  pub same : HasLayout old → new ≡ old
+  pub first : HasLayout old → map (λ r. column r 1) (old.trees 0) ≡ Int (pos 1) ∷ []
+
+-- there is no table of editions
+pub record SeesNothing (old new : Database) : Type 0 where
+  pub none : ¬ HasLayout old
+  pub same : LacksLayout old → new ≡ old
+
+abbrev pub Sees : Bool → Database → Database → Type 0
+Sees true = SeesEdition
+Sees false = SeesNothing
+
+-- the rowids were read
+pub record ReadsRowids (old new : Database) (given : List Row) : Type 0 where
+  pub alone : old.schema ≢ layout_schema
+  pub same : old.schema ≡ store_schema → new ≡ old
+  pub rows : old.schema ≡ store_schema → IsPermutation (map (λ r. rowid r ∷ []) (old.trees 1)) given
+
+-- the number is above the last one
+abbrev pub IsPast : Option ℤ → ℤ → Type 0
+IsPast None n = Unit {0}
+IsPast (Some m) n = value_cmp (Int m) (Int n) ≡ Less
+
+-- they are integers, each another one
+pub record SeesRowids (old new : Database) : Type 0 where
+  pub alone : old.schema ≢ layout_schema
+  pub same : old.schema ≡ store_schema → new ≡ old
+  pub apart : old.schema ≡ store_schema → AreApart (old.trees 1)
+  pub ints : old.schema ≡ store_schema → HaveInts (old.trees 1)
+
+-- the nodes are the rows of the table, by address and number
+pub record AreNodes (table rows : List Row) : Type 0 where
+  pub same : IsPermutation (map named table) rows
+  pub sorted : IsSorted by_place rows
+
+-- they were read
+pub record ReadsNodes (old new : Database) (given : List Row) : Type 0 where
+  pub same : old.schema ≡ store_schema → new ≡ old
+  pub rows : old.schema ≡ store_schema → AreNodes (old.trees 1) given
+
+-- the rows of a table are those of documents
+pub record AreDocuments (table : List Row) : Type 0 where
+  pub apart : AreApart table
+  pub ints : HaveInts table
+  pub named : AllByRecursion HasAddress table
+  pub whole : (address : List ℕ) → (rows_at address table ≡ []) ⊎ IsWhole (rows_at address table)
+
+-- the nodes were read, and are those of documents
+pub record SeesDocuments (old new : Database) : Type 0 where
+  pub alone : old.schema ≢ layout_schema
+  pub same : old.schema ≡ store_schema → new ≡ old
+  pub documents : old.schema ≡ store_schema → AreDocuments (old.trees 1)
