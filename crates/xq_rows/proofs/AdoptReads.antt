@@ -1,5 +1,5 @@
 -- What the queries of an adoption give.
-use Rattle.std.proofs.Common.{◌≡◌, ◌≢◌, ◌⊎◌, inl, inr, ◌+◌, ◌<◌, ℕ, true, false, Bool, All, List, [], ◌∷◌, map, filter, length, get_or, codes, Option, None, Some, Result, Ok, Err, IfOk, IfErr, OnOk, IsTrue, is_lt, refl, sym, ap, subst, subst₂, ◌∙◌, arith, Ordering}
+use Rattle.std.proofs.Common.{◌≡◌, ◌≢◌, ◌⊎◌, inl, inr, ◌+◌, ◌<◌, ℕ, true, false, All, List, [], ◌∷◌, map, filter, length, get_or, codes, Option, None, Some, Result, Ok, Err, IfOk, IfErr, OnOk, IsTrue, is_lt, refl, sym, ap, subst, subst₂, ◌∙◌, arith, Ordering}
 use Rattle.std.specs.List.Sorted.{IsPermutation, IsSorted}
 use Rattle.std.specs.Ordering.{on, ordering_then}
 use Rattle.std.proofs.lemmas.List.{length-map}
@@ -17,28 +17,23 @@ use Rattle.sqlite_schema.specs.declared.program.Program.{Program}
 use Rattle.sqlite_schema.specs.declared.schema.Schema.{Schema}
 use Rattle.sqlite_schema.specs.declared.command.Returning.{Returning}
 use Rattle.sqlite_sql.specs.Query.{Query, inner, end, IsAnswer, Output, output, key_cmp}
-use Rattle.sqlite_sql.specs.Term.{col, eval_all, holds}
+use Rattle.sqlite_sql.specs.Term.{col}
 use Rattle.sqlite_sql.specs.Program.{overlay, IsProgramAnswer}
-use Rattle.sqlite_resolve.specs.declared.compiled.Compiled.{Compiled}
-use Rattle.sqlite_resolve.specs.declared.error.CompileError.{CompileError}
 use Rattle.sqlite_tied.specs.Compute.{everything}
-use Rattle.sqlite.specs.Command.{Command}
 use Rattle.sqlite.specs.Command.TheVariants.{Select}
 use Rattle.sqlite.specs.Clock.{timed}
 use Rattle.sqlite.specs.Effect.{Database, RefusesToRead, RefusesQuery}
 use Rattle.sqlite.specs.Listing.{understood, reads_listing, listing_schema}
-use Rattle.sqlite.specs.State.{State, KeepsCommit, Shown, ShowsRows, Fails, FailsToQuery, FailsToShow, IsNotRun, IsTooLate, RunsCommand, store_error}
+use Rattle.sqlite.specs.State.{State, KeepsCommit, Shown, ShowsRows, FailsToQuery, FailsToShow, IsNotRun, IsTooLate, store_error}
 use Rattle.sqlite.specs.declared.error.Error.{Error}
-use Rattle.sqlite.specs.declared.error.Error.TheVariants.{SqliteFailure, SqlInputError, MultipleStatement, InvalidParameterCount}
-use Rattle.sqlite.specs.declared.error.ErrorCode.TheVariants as code
 use Rattle.sqlite.proofs.Callers.{IsPlain, command_of, reads_as}
 use Rattle.xq_rows.specs.declared.faults.OpenFault.TheVariants.{NotAStore}
 use Rattle.xq_rows.specs.Tables.{no_schema, layout_schema, node_schema, store_schema}
-use Rattle.xq_rows.specs.Adopt.{fault_of, IsInputError, named, by_place, AreNodes, HasLayout, ReadsEdition, ReadsRowids, ReadsNodes, SeesNothing}
+use Rattle.xq_rows.specs.Adopt.{fault_of, IsInputError, named, by_place, AreNodes, ReadsEdition, ReadsRowids, ReadsNodes, SeesNothing}
 use Rattle.xq_rows.proofs.Texts.{IsUnread, body, key}
 use Rattle.xq_rows.proofs.Lists.{flat_map_picks}
 use Rattle.xq_rows.proofs.Creates.{undone_kept}
-use Rattle.xq_rows.proofs.Selects.{IsSelected, selected, selected_rows, get_or-map, shown_keeps, test, out}
+use Rattle.xq_rows.proofs.Selects.{selected, selected_rows, get_or-map, shown_keeps, test, out}
 
 -- # What the texts mean
 

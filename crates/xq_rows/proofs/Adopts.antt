@@ -25,11 +25,10 @@ use Rattle.sqlite_keyed.proofs.SortLemmas.{sorted_unique}
 use Rattle.sqlite.specs.Effect.{Database}
 use Rattle.sqlite.proofs.Callers.{one_permutation}
 use Rattle.xq_atoms.specs.Address.{IsAddress}
-use Rattle.xq_regions.specs.Tree.{Tree, IsDocument}
 use Rattle.xq_regions.specs.Rows.{rows as rows_of, placed_rows}
 use Rattle.xq_rows.specs.Nodes.{cells, node_of, bytes_in}
-use Rattle.xq_rows.specs.Documents.{AreApart, HaveInts, HasAddress, is_at, kept, rows_at, by_first, IsWhole, IsStore}
-use Rattle.xq_rows.specs.Adopt.{named, is_under, HasOwner, by_place, run_length, IsRun, nodes_under, AreTold, HasLayout, ReadsEdition, SeesEdition, IsPast, ReadsRowids, SeesRowids, AreNodes, ReadsNodes, AreDocuments, SeesNothing, SeesDocuments, IsAdopted, IsNoStore}
+use Rattle.xq_rows.specs.Documents.{AreApart, HaveInts, HasAddress, is_at, rows_at, by_first, IsWhole, IsStore}
+use Rattle.xq_rows.specs.Adopt.{named, is_under, HasOwner, by_place, run_length, IsRun, nodes_under, AreTold, ReadsEdition, SeesEdition, IsPast, ReadsRowids, SeesRowids, AreNodes, ReadsNodes, AreDocuments, SeesNothing, SeesDocuments, IsAdopted, IsNoStore}
 use Rattle.xq_rows.specs.Statements.{MakesStore}
 use Rattle.xq_rows.specs.Tables.{no_schema, store_schema}
 use Rattle.xq_rows.proofs.Lists.{tied}

@@ -1,12 +1,12 @@
 -- The rows that a SELECT gives of an address are those of its tree.
-use Rattle.std.proofs.Common.{◌≡◌, ◌⊎◌, ◌&&◌, ◌+◌, ◌<◌, ◌≤◌, inl, inr, ℕ, suc, pos, Bool, true, false, cond, List, [], ◌∷◌, ◌++◌, map, filter, length, refl, sym, ap, ap₂, subst, ◌∙◌, arith, Option, Some, None, Result, Ok, Err, IfOk}
+use Rattle.std.proofs.Common.{◌≡◌, ◌⊎◌, ◌&&◌, ◌+◌, ◌≤◌, inl, inr, ℕ, suc, pos, Bool, true, false, cond, List, [], ◌∷◌, map, filter, length, refl, sym, ap, ap₂, subst, ◌∙◌, arith, Option, Some, None, Result, Ok, Err, IfOk}
 use Rattle.std.specs.Ordering.{is_ge, is_le}
 use Rattle.std.specs.FinMap.{get}
 use Rattle.std.specs.List.{AllByRecursion, enumerate_from}
 use Rattle.std.specs.List.Sorted.{IsPermutation}
 use Rattle.std.proofs.lemmas.List.Sorted.{IsPermutation-sym, IsPermutation-trans, length_permutation, All-permutation}
 use Rattle.std.proofs.lemmas.List.Elements.{All-from_recursion, recursion_from_All}
-use Rattle.std.proofs.lemmas.List.{length-map, length-append}
+use Rattle.std.proofs.lemmas.List.{length-append}
 use Rattle.std.proofs.lemmas.Int.{ints}
 use Rattle.sqlite_value.specs.Order.{Row, column, value_cmp}
 use Rattle.sqlite_value.specs.declared.value.Value.TheVariants.{Int}
@@ -16,11 +16,11 @@ use Rattle.sqlite_keyed.proofs.SortLemmas.{sorted_unique}
 use Rattle.sqlite.specs.Effect.{Database}
 use Rattle.xq_regions.specs.Forest.{Forest, end, node, count, labels}
 use Rattle.xq_regions.specs.Tree.{Tree, nodes}
-use Rattle.xq_regions.specs.Rows.{Row as Node, rows, measured, row_of, placed, placed_rows, Encodes}
+use Rattle.xq_regions.specs.Rows.{Row as Node, rows, measured, row_of, placed, placed_rows}
 use Rattle.xq_regions.specs.Nesting.{count-measured, rows-injective}
 use Rattle.xq_regions.specs.declared.NodeRow.{NodeRow}
 use Rattle.xq_rows.specs.Nodes.{cells, node_in, node_of}
-use Rattle.xq_rows.specs.Documents.{is_at, kept, rows_at, by_first, documents_in, HasAddress, IsWhole, IsStore}
+use Rattle.xq_rows.specs.Documents.{is_at, kept, rows_at, by_first, documents_in, IsWhole, IsStore}
 use Rattle.xq_rows.specs.Statements.{is_within, Finds, IsPicked, IsRange}
 use Rattle.xq_rows.proofs.Maps.{get-whole, get-none, node_back, nodes_back}
 use Rattle.xq_rows.proofs.Orders.{first_total, numbers_rise}

@@ -1,6 +1,6 @@
-use Rattle.std.proofs.Common.{◌≡◌, sym, ap, ◌∙◌, rules, arith}
+use Rattle.std.proofs.Common.{◌≡◌, sym, ap, ◌∙◌, rules}
 use Rattle.std.proofs.lemmas.Int.{to_z-of_z}
-use mir.Val.{SFits, of_z, to_z}
+use mir.Val.{of_z, to_z}
 use mir.Syntax.{w64}
 use Rattle.sqlite_value.specs.Order.{column}
 use Rattle.sqlite_value.specs.Value.{owned}

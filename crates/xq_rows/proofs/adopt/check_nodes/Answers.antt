@@ -1,4 +1,4 @@
-use Rattle.std.proofs.Common.{◌≡◌, arith, sym, subst, IsSorted, IsTrue}
+use Rattle.std.proofs.Common.{◌≡◌, arith, IsSorted, IsTrue}
 use Rattle.sqlite.specs.Held.{state}
 use Rattle.sqlite.specs.State.{HasCleanDisk}
 use Rattle.xq_rows.specs.declared.faults.OpenFault.TheVariants.{NotAStore}

@@ -1,10 +1,10 @@
-use Rattle.std.proofs.Common.{◌≡◌, ◌<◌, ◌≤◌, Some, List, map, length, take, drop, slice_get, refl, sym, ap, subst, ◌∙◌, arith, length-drop}
+use Rattle.std.proofs.Common.{◌≡◌, ◌≤◌, Some, List, map, length, take, drop, slice_get, refl, sym, ap, subst, ◌∙◌}
 use Rattle.std.proofs.lemmas.Result.{err_from_is_err_and}
 use Rattle.sqlite_value.specs.Order.{Row}
 use Rattle.xq_atoms.specs.Address.{IsAddress}
-use Rattle.xq_rows.specs.Adopt.{IsRun, run_length}
+use Rattle.xq_rows.specs.Adopt.{IsRun}
 use Rattle.xq_rows.specs.Nodes.{node_of}
-use Rattle.xq_rows.proofs.Adopts.{AreJudged, first_is, judged_more, judged_bad, judged_stray, run_within, run_starts}
+use Rattle.xq_rows.proofs.Adopts.{AreJudged, first_is, judged_more, judged_bad, judged_stray, run_within}
 use Rattle.xq_rows.proofs.adopt.check_rows.Goals as goal
 
 pub returns-in_default-address_of-clause-err : goal.returns-in_default-address_of-clause-err

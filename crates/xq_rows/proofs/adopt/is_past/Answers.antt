@@ -1,6 +1,6 @@
-use Rattle.std.proofs.Common.{◌≡◌, arith, rules, IsTrue}
+use Rattle.std.proofs.Common.{◌≡◌, rules, IsTrue}
 use Rattle.std.proofs.lemmas.Int.{to_z-of_z}
-use mir.Val.{SFits, of_z, to_z}
+use mir.Val.{of_z, to_z}
 use mir.Syntax.{w64}
 use Rattle.std.specs.Int.Signed.{lt_z}
 use Rattle.xq_rows.proofs.Adopts.{past_of}
