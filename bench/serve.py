@@ -1,73 +1,79 @@
 #!/usr/bin/env python3
-"""Frames per second over a pipe: one at a time, each after the reply to the one before, and 64 in flight.
+"""Frames per second over a pipe, in memory and on a file; and how long a file of 100,000 rows takes to open.
 
-    bench/serve.py [SECONDS [PROGRAM [WORDS]]]      2 seconds for each line, of the built program, where none are named
+    bench/serve.py [SECONDS]      2 seconds for each figure where none are named
 
-`L` lists one address, `doc("b")` reads a document of 8 nodes, and `S` stores that document, which each time replaces it.
+`L` lists one address, `doc("b")` reads a document of 8 nodes, and `S` stores that document, which each time replaces it. One
+at a time: each frame after the reply to the one before; 64 in flight: so many frames, and then their replies.
 """
-import os
-import struct
-import subprocess
+import pathlib
 import sys
+import tempfile
 import time
 
-TOP = os.path.dirname(os.path.dirname(os.path.abspath(__file__)))
-PROGRAM = os.path.join(TOP, "crates", "xq_server", "out", "xq_server")
-LIBRARY = (b'document {element lib {element book {attribute id {"1"}, text {"A"}}, '
-           b'element book {attribute id {"2"}, text {"B"}}}}')
-REQUESTS = [("L", b"L"), ('doc("b")', b'Qdoc("b")'), ("S", b"S\x01b" + LIBRARY)]
+TOP = pathlib.Path(__file__).resolve().parent.parent
+sys.path.insert(0, str(TOP / "tools"))
+from client import LIBRARY, Server, built, frame, store
+
+REQUESTS = [("L", b"L", b""), ('doc("b")', b"Q", b'doc("b")'), ("S", b"S", store(b"b", LIBRARY))]
+ROWS = 50_000
 
 
-def frame(request):
-    message = struct.pack(">I", 7) + request
-    return struct.pack(">I", len(message)) + message
-
-
-def read_exactly(file, count):
-    data = b""
-    while len(data) < count:
-        piece = os.read(file, count - len(data))
-        if not piece:
-            sys.exit("the server ended")
-        data += piece
-    return data
-
-
-def measure(command, request, flight, seconds):
+def rate(command, request, flight, seconds):
     """Frames per second with so many in flight."""
-    server = subprocess.Popen(command, stdin=subprocess.PIPE, stdout=subprocess.PIPE)
-    source, sink = server.stdin.fileno(), server.stdout.fileno()
-
-    def exchange(data, replies, size):
-        os.write(source, data)
-        return read_exactly(sink, replies * size)
-
-    def reply_to(data):
-        os.write(source, data)
-        head = read_exactly(sink, 4)
-        return head + read_exactly(sink, struct.unpack(">I", head)[0])
-
-    reply_to(frame(b"S\x01b" + LIBRARY))
-    expected = reply_to(frame(request))
+    server = Server(command)
+    server.ask(b"S", store(b"b", LIBRARY))
+    server.ask(*request)
+    expected = server.ask(*request)
+    size = len(expected[1]) + 9
+    data = frame(*request) * flight
     count, begin = 0, time.perf_counter()
     while time.perf_counter() - begin < seconds and count < 990_000:
-        got = exchange(frame(request) * flight, flight, len(expected))
-        if got != expected * flight:
-            sys.exit(f"another reply: {got[:40]!r}")
+        server.send(data)
+        if len(server.read(size * flight)) < size * flight:
+            sys.exit("the server ended")
         count += flight
-    rate = count / (time.perf_counter() - begin)
-    server.stdin.close()
-    server.wait()
-    return rate
+    found = count / (time.perf_counter() - begin)
+    server.end()
+    return found
+
+
+def rates(what, words, seconds):
+    """A line for each request."""
+    for name, *request in REQUESTS:
+        one, many = (rate([built(), *words], request, flight, seconds) for flight in (1, 64))
+        print(f"{what:10} {name:10} {one:14,.0f} {many:14,.0f}", flush=True)
+
+
+def large_document():
+    """A document of so many rows, as it is printed."""
+    return b"document {element rows {" + b", ".join([b"element r {}"] * (ROWS - 2)) + b"}}"
+
+
+def opening(path):
+    """Milliseconds from the start of the server to its first reply, in the middle of five."""
+    times = []
+    for _ in range(5):
+        begin = time.perf_counter()
+        server = Server([built(), "--file", path])
+        server.ask(b"L")
+        times.append((time.perf_counter() - begin) * 1000)
+        server.end()
+    return sorted(times)[2]
 
 
 def main():
     seconds = float(sys.argv[1]) if len(sys.argv) > 1 else 2.0
-    command = sys.argv[2:] or [PROGRAM]
-    print(f"{'request':10} {'one at a time':>14} {'64 in flight':>14}   frames per second")
-    for name, request in REQUESTS:
-        one, many = (measure(command, request, flight, seconds) for flight in (1, 64))
-        print(f"{name:10} {one:14,.0f} {many:14,.0f}")
+    print(f"{'':10} {'request':10} {'one at a time':>14} {'64 in flight':>14}   frames per second")
+    rates("memory", [], seconds)
+    with tempfile.TemporaryDirectory() as folder:
+        rates("file", ["--file", f"{folder}/x.db"], seconds)
+        print("a file without rows opens in %.0f ms" % opening(f"{folder}/empty.db"))
+        server = Server([built(), "--file", f"{folder}/large.db"])
+        for address in (b"a", b"b"):
+            server.ask(b"S", store(address, large_document()))
+        server.end()
+        print("a file of %d rows opens in %.0f ms" % (2 * ROWS, opening(f"{folder}/large.db")))
 
 
 if __name__ == "__main__":

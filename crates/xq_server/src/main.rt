@@ -1,8 +1,11 @@
 //! The program: answers the frames of its standard input, as they come, over a database in
-//! memory, and writes each reply to its standard output.
+//! memory or in a file, and writes each reply to its standard output.
 #![tactic(auto)]
 
 mod endings;
+#[cfg(test)]
+mod file_tests;
+mod files;
 #[cfg(test)]
 mod scripts;
 #[cfg(test)]
@@ -13,6 +16,8 @@ mod tests;
 mod words;
 
 use endings::outcome;
+use files::open_file;
+use sqlite::Alter;
 use std::alloc::AllocError;
 use std::io::{BufReader, ErrorKind, Write};
 use std::process::ExitCode;
@@ -26,6 +31,9 @@ use xq_service::{End, Server};
 /// The program ends once it has answered so many frames.
 const MAX_FRAMES: u64 = 1_000_000;
 
+/// How the program ends where there is no store to serve, whatever the cause.
+const CANNOT_OPEN: (u8, &str) = (1, "xq_server: cannot open the store");
+
 fn main(rt: HostRuntime) -> ExitCode {
     let (status, line) = conclusion(&rt);
     if !line.is_empty() {
@@ -35,9 +43,10 @@ fn main(rt: HostRuntime) -> ExitCode {
 }
 
 /// Does the program's work, and gives its exit status and its line on standard error.
-fn conclusion<R: Env + Input + Print + AllocGlobal>(rt: &R) -> (u8, &'static str) {
+fn conclusion(rt: &HostRuntime) -> (u8, &'static str) {
     match asked_by_arguments(rt) {
         Asked::InMemory => serve_in_memory(rt),
+        Asked::File(path) => serve_file(rt, path.as_str()),
         Asked::Help(text) => outcome(print_help(rt, text.as_str())),
         Asked::Bad => (2, "xq_server: bad command line"),
         Asked::NoRoom => outcome(End::NoRoom),
@@ -80,13 +89,30 @@ fn print_help<R: Print>(rt: &R, text: &str) -> End {
 
 fn serve_in_memory<R: Input + Print + AllocGlobal>(rt: &R) -> (u8, &'static str) {
     let Ok(store) = Store::new_on_memory_disks(rt.alloc()) else {
-        return (1, "xq_server: cannot open the store");
+        return CANNOT_OPEN;
     };
+    let (end, store) = serve(rt, store);
+    drop(store.release());
+    outcome(end)
+}
+
+/// A file whose log can't be copied into it at the end keeps the log beside it, and the next
+/// opening reads both.
+fn serve_file(rt: &HostRuntime, path: &str) -> (u8, &'static str) {
+    let Some(store) = open_file(rt, path) else {
+        return CANNOT_OPEN;
+    };
+    let (end, store) = serve(rt, store);
+    let _ = store.release().close();
+    outcome(end)
+}
+
+/// Answers the frames of standard input over a store, and gives the store back.
+fn serve<R: Input + Print + AllocGlobal, S: Alter>(rt: &R, store: Store<S>) -> (End, Store<S>) {
     let mut server = Server::new(rt.alloc(), store);
     let end = match BufReader::new(rt.alloc(), rt.reader()) {
         Ok(mut reader) => server.serve(&mut reader, &mut io::writer(rt), MAX_FRAMES),
         Err(_) => End::NoRoom,
     };
-    drop(server.into_store().release());
-    outcome(end)
+    (end, server.into_store())
 }

@@ -5,6 +5,8 @@
 pub enum Asked {
     /// To serve a database in memory.
     InMemory,
+    /// To serve the database in the file at this path.
+    File(String),
     /// How the program is called: this text.
     Help(String),
     /// Nothing that the program knows.

@@ -12,11 +12,11 @@ use xq_rows::Store;
 use xq_service::{End, Server};
 
 /// A library of two books, as a query and as it is printed.
-const LIBRARY: &[u8] =
+pub const LIBRARY: &[u8] =
     b"document {element lib {element book {attribute id {\"1\"}, text {\"A\"}}, element book {attribute id {\"2\"}, text {\"B\"}}}}";
 
 /// The store of the library under `b`.
-const PUT_B: &[u8] =
+pub const PUT_B: &[u8] =
     b"\x01bdocument {element lib {element book {attribute id {\"1\"}, text {\"A\"}}, element book {attribute id {\"2\"}, text {\"B\"}}}}";
 
 const DOC_B: &[u8] = b"doc(\"b\")";
@@ -43,7 +43,7 @@ pub fn new_server(alloc: Global) -> Result<Server<FileStore<MemoryDisk>>, Fail> 
 }
 
 /// Sends one request, and checks its reply and the end of the run.
-fn check<S: Alter>(
+pub fn check<S: Alter>(
     rt: &(impl Abort + AllocGlobal),
     server: &mut Server<S>,
     tag: u32,
@@ -204,7 +204,7 @@ fn endings(rt: HostRuntime) {
 #[test]
 fn words(rt: HostRuntime) {
     assert!(rt; matches!(asked(rt.alloc(), &[]), Asked::InMemory));
-    for bad in ["a", "", "-", "--file", "--version", "help", "-x"] {
+    for bad in ["a", "", "-", "--file", "--file=", "--version", "help", "-x"] {
         assert!(rt; matches!(asked(rt.alloc(), &[bad]), Asked::Bad), "{bad}");
     }
     for help in ["--help", "-h"] {
@@ -213,5 +213,25 @@ fn words(rt: HostRuntime) {
             return;
         };
         assert!(rt; text.as_str().contains("Usage: xq_server"), "{text}");
+    }
+}
+
+#[test]
+fn words_of_a_file(rt: HostRuntime) {
+    let given: [&[&str]; 2] = [&["--file", "x"], &["--file=x"]];
+    for words in given {
+        let Asked::File(path) = asked(rt.alloc(), words) else {
+            assert!(rt; false, "no file");
+            return;
+        };
+        assert_eq!(rt; path.as_str(), "x");
+    }
+    let bad: [&[&str]; 3] = [
+        &["--file", ""],
+        &["--file", "x", "y"],
+        &["x", "--file", "y"],
+    ];
+    for words in bad {
+        assert!(rt; matches!(asked(rt.alloc(), words), Asked::Bad));
     }
 }

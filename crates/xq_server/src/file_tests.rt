@@ -1,0 +1,69 @@
+//! Stores in files: a service, its end, and the next over the same file.
+
+use crate::files::open_file;
+use crate::tests::{LIBRARY, PUT_B, check};
+use std::fs;
+use std::test::Fail;
+use xq_service::Server;
+
+/// The folder of the files, made anew by each test, and gone after it.
+fn make_folder(rt: &HostRuntime, folder: &str) -> Result<(), Fail> {
+    let _ = fs::remove_dir_all(rt, folder);
+    fs::create_dir(rt, folder)?;
+    Ok(())
+}
+
+/// Opens the file, sends one request, checks its reply, and closes the file.
+fn check_opened(
+    rt: &HostRuntime,
+    path: &str,
+    request: (u8, &[u8]),
+    wanted: (u8, &[u8]),
+) -> Result<(), Fail> {
+    let Some(store) = open_file(rt, path) else {
+        return Err(Fail::new("the file is no store"));
+    };
+    let mut server = Server::new(rt.alloc(), store);
+    check(rt, &mut server, 3, request, wanted)?;
+    if server.into_store().release().close().is_err() {
+        return Err(Fail::new("the file was not closed"));
+    }
+    Ok(())
+}
+
+/// Each request finds what those before it left in the file.
+#[test]
+fn documents_outlive_a_service(rt: HostRuntime) -> Result<(), Fail> {
+    make_folder(&rt, "xq_server_kept")?;
+    let rows: [((u8, &[u8]), (u8, &[u8])); 8] = [
+        ((b'L', b""), (0, b"()")),
+        ((b'S', PUT_B), (0, b"stored")),
+        ((b'L', b""), (0, b"\"b\"")),
+        ((b'Q', b"doc(\"b\")"), (0, LIBRARY)),
+        ((b'S', PUT_B), (0, b"replaced")),
+        ((b'S', b"\x01adoc(\"c\")"), (1, b"FODC0002")),
+        ((b'D', b"b"), (0, b"dropped")),
+        ((b'L', b""), (0, b"()")),
+    ];
+    for (request, wanted) in rows {
+        check_opened(&rt, "xq_server_kept/x.db", request, wanted)?;
+    }
+    fs::remove_dir_all(&rt, "xq_server_kept")?;
+    Ok(())
+}
+
+/// An empty file is made a store; a text and a folder are none, and stay.
+#[test]
+fn other_files(rt: HostRuntime) -> Result<(), Fail> {
+    make_folder(&rt, "xq_server_other")?;
+    fs::write(&rt, "xq_server_other/empty", b"")?;
+    check_opened(&rt, "xq_server_other/empty", (b'L', b""), (0, b"()"))?;
+    let text = b"This is a text, and no database.";
+    fs::write(&rt, "xq_server_other/text", text)?;
+    assert!(rt; open_file(&rt, "xq_server_other/text").is_none());
+    let kept = fs::read(&rt, "xq_server_other/text")?;
+    assert_eq!(rt; kept.as_slice(), text.as_slice());
+    assert!(rt; open_file(&rt, "xq_server_other").is_none());
+    fs::remove_dir_all(&rt, "xq_server_other")?;
+    Ok(())
+}

@@ -1,0 +1,106 @@
+#!/usr/bin/env python3
+"""Kills a server on a file at random moments, and looks at what the file holds.
+
+    tools/kill_often.py [TIMES [SEED]]      200 times where none is named
+
+A round starts the server on the file, reads all its documents, and sends stores and drops until the server is killed,
+between two frames or inside one, or while it opens the file. The next round must find the documents as they were before the
+frame under way or after it. The script prints how often the file opened, and what it held; its status is 0 where all rounds did.
+"""
+import os
+import pathlib
+import random
+import sys
+import tempfile
+import threading
+import time
+
+sys.path.insert(0, os.path.dirname(os.path.abspath(__file__)))
+from client import LIBRARY, Server, built, store
+
+ADDRESSES = [b"a", b"b", b"c/d"]
+LATEST_KILL = 0.25
+
+
+def document(chance):
+    """A document of up to some thousand rows, as it is printed."""
+    count = chance.choice([0, 1, 20, 500, 3000])
+    if count == 0:
+        return LIBRARY
+    row = b'element row {attribute number {"%d"}, text {"%d"}}'
+    rows = b", ".join(row % (number, chance.randrange(1000)) for number in range(count))
+    return b"document {element rows {" + rows + b"}}"
+
+
+def held(server):
+    """All documents by address, or None where the server ends before it has told them."""
+    found = {}
+    for address in ADDRESSES:
+        reply = server.ask(b"Q", b'doc("' + address + b'")')
+        if reply is None:
+            return None
+        if reply[0] == 0:
+            found[address] = reply[1]
+    return found
+
+
+def request(chance, documents):
+    """A random request, and the documents after it."""
+    address = chance.choice(ADDRESSES)
+    if chance.random() < 0.25:
+        return (b"D", address), {name: text for name, text in documents.items() if name != address}
+    text = document(chance)
+    return (b"S", store(address, text)), {**documents, address: text}
+
+
+def send_until_killed(server, chance, documents):
+    """Sends requests, each after the reply to the one before, and gives the documents before and after the one under way."""
+    while True:
+        (kind, body), after = request(chance, documents)
+        reply = server.ask(kind, body)
+        if reply is None:
+            return documents, after
+        if reply[0] == 0:
+            documents = after
+
+
+def judge(found, before, after):
+    """What the documents found are."""
+    if found == before:
+        return "before"
+    return "after" if found == after else "neither"
+
+
+def main():
+    times = int(sys.argv[1]) if len(sys.argv) > 1 else 200
+    chance = random.Random(int(sys.argv[2]) if len(sys.argv) > 2 else time.time_ns())
+    program = built()
+    counts = {"opens": 0, "before": 0, "after": 0, "neither": 0, "refused": 0, "killed while it opened or read": 0}
+    with tempfile.TemporaryDirectory() as folder:
+        command = [program, "--file", pathlib.Path(folder) / "x.db"]
+        before, after = {}, {}
+        for number in range(times + 1):
+            server = Server(command)
+            timer = threading.Timer(chance.random() * LATEST_KILL, server.kill)
+            if number < times:
+                timer.start()
+            found = held(server)
+            if found is None:
+                status, line = server.end()
+                counts["killed while it opened or read" if status < 0 else "refused"] += 1
+                timer.cancel()
+                continue
+            counts["opens"] += 1
+            counts[judge(found, before, after)] += 1
+            if number == times:
+                server.end()
+                continue
+            before, after = send_until_killed(server, chance, found)
+            server.end()
+    for name, count in counts.items():
+        print("%-32s %d" % (name, count))
+    return 1 if counts["neither"] or counts["refused"] else 0
+
+
+if __name__ == "__main__":
+    sys.exit(main())

@@ -1,0 +1,140 @@
+#!/usr/bin/env python3
+"""Starts the server on files, ends it, and starts it again: the documents are there; and on files that it must refuse.
+
+    tools/try_file.py
+
+Each line says what was tried, and `ok` or what was found in place of it. The status is 0 where all is well.
+"""
+import os
+import pathlib
+import shutil
+import sqlite3
+import subprocess
+import sys
+import tempfile
+
+sys.path.insert(0, os.path.dirname(os.path.abspath(__file__)))
+from client import LIBRARY, Server, built, store
+
+REFUSED = (1, "xq_server: cannot open the store\n")
+wrong = []
+
+
+def check(what, found, wanted):
+    """Prints whether the one is the other."""
+    print("%-52s %s" % (what, "ok" if found == wanted else "found %r, wanted %r" % (found, wanted)), flush=True)
+    if found != wanted:
+        wrong.append(what)
+
+
+def restarts(program, path):
+    """Documents are there after an end of input, after another, and after a drop."""
+    first = Server([program, "--file", path])
+    check("an absent file holds nothing", first.ask(b"L"), (0, b"()"))
+    check("a document is stored", first.ask(b"S", store(b"b", LIBRARY)), (0, b"stored"))
+    check("the input ends", first.end(), (0, ""))
+    second = Server([program, "--file", path])
+    check("after a start it is there", second.ask(b"Q", b'doc("b")'), (0, LIBRARY))
+    check("another is stored", second.ask(b"S", store(b"a", b"document {}")), (0, b"stored"))
+    check("it is replaced", second.ask(b"S", store(b"a", b'doc("b")')), (0, b"replaced"))
+    check("the first is dropped", second.ask(b"D", b"b"), (0, b"dropped"))
+    check("the input ends again", second.end(), (0, ""))
+    third = Server([program, "--file", path])
+    check("after a start one is there", third.ask(b"L"), (0, b'"a"'))
+    check("it is the copy", third.ask(b"Q", b'doc("a")'), (0, LIBRARY))
+    check("another server finds the file held", Server([program, "--file", path]).end(), REFUSED)
+    check("which changes nothing for the first", third.ask(b"L"), (0, b'"a"'))
+    check("the input ends a third time", third.end(), (0, ""))
+
+
+def reads_with_sqlite(path):
+    """The tables are as documented, to other readers of such files."""
+    rows = sqlite3.connect("file:%s?mode=ro" % path, uri=True).execute(
+        "SELECT pre, size, level, kind, name, value FROM node WHERE address = 'a' ORDER BY pre").fetchall()
+    check("sqlite3 reads its rows", (len(rows), rows[:2]), (8, [(0, 7, 0, 0, "", ""), (1, 6, 1, 1, "lib", "")]))
+
+
+def refuses(what, program, path, **how):
+    """The file is refused, and its bytes stay."""
+    def content():
+        return path.read_bytes() if path.is_file() else None
+    before = content()
+    check(what, Server([program, "--file", path], **how).end(), REFUSED)
+    check("  its bytes stay", content() == before, True)
+
+
+def written_by_sqlite(path, *statements):
+    """A file that sqlite3 made."""
+    file = sqlite3.connect(path)
+    for statement in statements:
+        file.execute(statement)
+    file.commit()
+    file.close()
+    return path
+
+
+def damaged(path, copy):
+    """A copy in which one byte of a stored name is another."""
+    data = bytearray(path.read_bytes())
+    at = data.rindex(b"book")
+    data[at] = ord("c")
+    copy.write_bytes(data)
+    return copy
+
+
+LAYOUT = "CREATE TABLE layout (edition INTEGER NOT NULL) STRICT"
+NODE = ("CREATE TABLE node (address TEXT NOT NULL, pre INTEGER NOT NULL, size INTEGER NOT NULL, level INTEGER NOT NULL, "
+        "kind INTEGER NOT NULL, name TEXT NOT NULL, value TEXT NOT NULL, PRIMARY KEY (address, pre)) STRICT")
+ONE = "INSERT INTO layout VALUES (1)"
+
+
+def bad_files(program, folder, path):
+    """Files that are no store."""
+    text = folder / "text"
+    text.write_text("This is a text, and no database of any kind.\n" * 200)
+    refuses("a file of text", program, text)
+    refuses("a directory", program, folder)
+    refuses("a path in no directory", program, folder / "absent" / "x.db")
+    refuses("a store with a changed byte", program, damaged(path, folder / "damaged.db"))
+    refuses("edition 9", program, written_by_sqlite(folder / "nine.db", LAYOUT, NODE, "INSERT INTO layout VALUES (9)"))
+    refuses("the table of editions alone", program, written_by_sqlite(folder / "alone.db", LAYOUT, ONE))
+    refuses("a text that stands at the root", program, written_by_sqlite(
+        folder / "text.db", LAYOUT, NODE, ONE, "INSERT INTO node VALUES ('b', 0, 0, 0, 3, '', 'A')"))
+    refuses("an address with a blank", program, written_by_sqlite(
+        folder / "address.db", LAYOUT, NODE, ONE, "INSERT INTO node VALUES ('b b', 0, 0, 0, 0, '', '')"))
+
+
+def unwritable(program, folder, path):
+    """A file that its server may read and not write, which takes a user other than root."""
+    if os.geteuid() != 0:
+        path.chmod(0o444)
+        refuses("a file that may only be read", program, path)
+        return
+    copy = pathlib.Path(shutil.copy(program, folder))
+    copy.chmod(0o755)
+    folder.chmod(0o755)
+    path.chmod(0o444)
+    refuses("a file that may only be read", copy, path, user="nobody")
+
+
+def main():
+    program = built()
+    with tempfile.TemporaryDirectory() as name:
+        folder = pathlib.Path(name)
+        path = folder / "x.db"
+        restarts(program, path)
+        reads_with_sqlite(path)
+        (folder / "empty.db").touch()
+        check("an empty file holds nothing", Server([program, "--file", folder / "empty.db"]).ask(b"L"), (0, b"()"))
+        bad_files(program, folder, path)
+        unwritable(program, folder, path)
+    help_text = subprocess.run([program, "--help"], stdin=subprocess.DEVNULL, capture_output=True)
+    check("--help names the option", (help_text.returncode, b"--file <PATH>" in help_text.stdout), (0, True))
+    bad = subprocess.run([program, "--file"], stdin=subprocess.DEVNULL, capture_output=True)
+    check("--file alone", (bad.returncode, bad.stderr), (2, b"xq_server: bad command line\n"))
+    print("wrong: %d" % len(wrong))
+    return 1 if wrong else 0
+
+
+if __name__ == "__main__":
+    sys.exit(main())
