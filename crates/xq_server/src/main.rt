@@ -2,29 +2,16 @@
 //! memory or in a file, and writes each reply to its standard output.
 #![tactic(auto)]
 
-mod endings;
-#[cfg(test)]
-mod file_tests;
-mod files;
-#[cfg(test)]
-mod scripts;
-#[cfg(test)]
-mod serving_tests;
-mod tasks;
-#[cfg(test)]
-mod tests;
-mod words;
-
-use endings::outcome;
-use files::open_file;
 use sqlite::Alter;
 use std::alloc::AllocError;
 use std::io::{BufReader, ErrorKind, Write};
 use std::process::ExitCode;
 use std::rt::Env;
 use std::{env, io};
-use tasks::Asked;
-use words::asked;
+use xq_command::endings::outcome;
+use xq_command::files::open_file;
+use xq_command::tasks::Asked;
+use xq_command::words::asked;
 use xq_rows::Store;
 use xq_service::{End, Server};
 

@@ -1,9 +1,10 @@
 //! Stores in files: a service, its end, and the next over the same file.
 
-use crate::files::open_file;
 use crate::tests::{LIBRARY, PUT_B, check};
+use sqlite::{FileFrom, FileStore, Unknown};
 use std::fs;
 use std::test::Fail;
+use xq_command::files::open_file;
 use xq_service::Server;
 
 /// The folder of the files, made anew by each test, and gone after it.
@@ -13,22 +14,20 @@ fn make_folder(rt: &HostRuntime, folder: &str) -> Result<(), Fail> {
     Ok(())
 }
 
-/// Opens the file, sends one request, checks its reply, and closes the file.
-fn check_opened(
-    rt: &HostRuntime,
-    path: &str,
-    request: (u8, &[u8]),
-    wanted: (u8, &[u8]),
-) -> Result<(), Fail> {
-    let Some(store) = open_file(rt, path) else {
-        return Err(Fail::new("the file is no store"));
-    };
-    let mut server = Server::new(rt.alloc(), store);
-    check(rt, &mut server, 3, request, wanted)?;
-    if server.into_store().release().close().is_err() {
-        return Err(Fail::new("the file was not closed"));
+/// A server over the store in a file.
+fn opened(rt: &HostRuntime, path: &str) -> Result<Server<FileStore<FileFrom<Unknown>>>, Fail> {
+    match open_file(rt, path) {
+        Some(store) => Ok(Server::new(rt.alloc(), store)),
+        None => Err(Fail::new("the file is no store")),
     }
-    Ok(())
+}
+
+/// Ends a server, and copies its log into its file.
+fn close(server: Server<FileStore<FileFrom<Unknown>>>) -> Result<(), Fail> {
+    match server.into_store().release().close() {
+        Ok(()) => Ok(()),
+        Err(_error) => Err(Fail::new("the file was not closed")),
+    }
 }
 
 /// Each request finds what those before it left in the file.
@@ -46,7 +45,9 @@ fn documents_outlive_a_service(rt: HostRuntime) -> Result<(), Fail> {
         ((b'L', b""), (0, b"()")),
     ];
     for (request, wanted) in rows {
-        check_opened(&rt, "xq_server_kept/x.db", request, wanted)?;
+        let mut server = opened(&rt, "xq_server_kept/x.db")?;
+        check(&rt, &mut server, 3, request, wanted)?;
+        close(server)?;
     }
     fs::remove_dir_all(&rt, "xq_server_kept")?;
     Ok(())
@@ -57,7 +58,9 @@ fn documents_outlive_a_service(rt: HostRuntime) -> Result<(), Fail> {
 fn other_files(rt: HostRuntime) -> Result<(), Fail> {
     make_folder(&rt, "xq_server_other")?;
     fs::write(&rt, "xq_server_other/empty", b"")?;
-    check_opened(&rt, "xq_server_other/empty", (b'L', b""), (0, b"()"))?;
+    let mut server = opened(&rt, "xq_server_other/empty")?;
+    check(&rt, &mut server, 3, (b'L', b""), (0, b"()"))?;
+    close(server)?;
     let text = b"This is a text, and no database.";
     fs::write(&rt, "xq_server_other/text", text)?;
     assert!(rt; open_file(&rt, "xq_server_other/text").is_none());

@@ -1,6 +1,6 @@
 //! How the program ends: its exit status, and its line on standard error.
 ghost use Rattle.std.specs.Prelude.{◌≡◌};
-ghost use Rattle.xq_server.specs.Ending.{outcome as outcome_lem};
+ghost use Rattle.xq_command.specs.Ending.{outcome as outcome_lem};
 
 use xq_service::End;
 

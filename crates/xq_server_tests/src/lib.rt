@@ -1,0 +1,14 @@
+//! Tests of the server and of the edge of the program: the worked rows of the protocol, services by
+//! scripted readers and writers, files, words and ends.
+#![tactic(auto)]
+
+#[cfg(test)]
+mod edge_tests;
+#[cfg(test)]
+mod file_tests;
+#[cfg(test)]
+mod scripts;
+#[cfg(test)]
+mod serving_tests;
+#[cfg(test)]
+mod tests;
