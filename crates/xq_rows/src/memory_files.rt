@@ -15,6 +15,14 @@ use xq_memory_disk::MemoryDisk;
 /// Where the choices of the store's page cache begin; any number serves where no one attacks it.
 const SEED: u64 = 7;
 
+/// How many pages are kept of those that were read, and of those that a transaction wrote. Others
+/// are a copy in memory away, and what is kept once is held as long as the store is.
+const KEPT_PAGES: usize = 128;
+
+/// How many pages the log has before it is copied into the database: the log holds these and the
+/// largest transaction since.
+const LOG_PAGES: usize = 128;
+
 /// Opens an empty database over two empty disks in memory.
 pub fn open_empty(alloc: Global) -> Result<Connection<FileStore<MemoryDisk>>, Refusal>
     ensures clean { IfOk result (λ conn. HasCleanDisk (file_state conn)) }
@@ -24,7 +32,13 @@ pub fn open_empty(alloc: Global) -> Result<Connection<FileStore<MemoryDisk>>, Re
         log: MemoryDisk::new(alloc),
         db: MemoryDisk::new(alloc),
     };
-    let conn = match Connection::open_files(alloc, files, Options::new(SEED)) {
+    let options = Options {
+        cache_pages: KEPT_PAGES,
+        spill_pages: KEPT_PAGES,
+        checkpoint_frames: LOG_PAGES,
+        seed: SEED,
+    };
+    let conn = match Connection::open_files(alloc, files, options) {
         Ok(conn) => conn,
         Err((error, _files)) => return Err(Refusal(error)),
     };
