@@ -1,0 +1,139 @@
+//! Rows that are those of a tree, and rows that are those of none.
+
+use std::alloc::{AllocError, Global};
+use xq_regions::{Fragment, Kind, NodeRow};
+
+/// A row with the pre, size and level of `place`.
+fn row(
+    alloc: Global,
+    place: (u32, u32, u32),
+    kind: Kind,
+    name: &str,
+    value: &str,
+) -> Result<NodeRow, AllocError> {
+    Ok(NodeRow {
+        pre: place.0,
+        size: place.1,
+        level: place.2,
+        kind,
+        name: String::from_str(alloc, name)?,
+        value: String::from_str(alloc, value)?,
+    })
+}
+
+/// The rows of the worked document.
+fn library(alloc: Global) -> Result<Vec<NodeRow>, AllocError> {
+    let mut rows = Vec::new(alloc);
+    rows.push(row(alloc, (0, 7, 0), Kind::Document, "", "")?)?;
+    rows.push(row(alloc, (1, 6, 1), Kind::Element, "lib", "")?)?;
+    rows.push(row(alloc, (2, 2, 2), Kind::Element, "book", "")?)?;
+    rows.push(row(alloc, (3, 0, 3), Kind::Attribute, "id", "1")?)?;
+    rows.push(row(alloc, (4, 0, 3), Kind::Text, "", "A")?)?;
+    rows.push(row(alloc, (5, 2, 2), Kind::Element, "book", "")?)?;
+    rows.push(row(alloc, (6, 0, 3), Kind::Attribute, "id", "2")?)?;
+    rows.push(row(alloc, (7, 0, 3), Kind::Text, "", "B")?)?;
+    Ok(rows)
+}
+
+#[test]
+fn takes_the_library(rt: HostRuntime) -> Result<(), AllocError> {
+    let Ok(fragment) = Fragment::from_rows(library(rt.alloc())?) else {
+        assert!(rt; false, "the rows are those of a document");
+        return Ok(());
+    };
+    assert!(rt; fragment.is_document());
+    assert_eq!(rt; fragment.rows().len(), 8);
+    Ok(())
+}
+
+#[test]
+fn refuses_another_row(rt: HostRuntime) -> Result<(), AllocError> {
+    let alloc = rt.alloc();
+    for (at, place, kind, name, value) in [
+        (0, (0, 8, 0), Kind::Document, "", ""),
+        (0, (0, 7, 1), Kind::Document, "", ""),
+        (2, (2, 3, 2), Kind::Element, "book", ""),
+        (2, (2, 2, 3), Kind::Element, "book", ""),
+        (3, (4, 0, 3), Kind::Attribute, "id", "1"),
+        (4, (4, 0, 3), Kind::Text, "", ""),
+        (4, (4, 0, 3), Kind::Document, "", ""),
+        (4, (4, 0, 3), Kind::Attribute, "id", "A"),
+        (3, (3, 0, 3), Kind::Text, "", "1"),
+        (3, (3, 0, 3), Kind::Comment, "", "1--"),
+        (7, (7, 0, 101), Kind::Text, "", "B"),
+    ] {
+        let mut rows = library(alloc)?;
+        if let Some(old) = rows.get_mut(at) {
+            *old = row(alloc, place, kind, name, value)?;
+        }
+        assert!(rt; Fragment::from_rows(rows).is_err(), "at {at}");
+    }
+    Ok(())
+}
+
+#[test]
+fn judges_names_and_values(rt: HostRuntime) -> Result<(), AllocError> {
+    let alloc = rt.alloc();
+    for (kind, name, value, is_tree) in [
+        (Kind::Document, "", "", true),
+        (Kind::Text, "", "", true),
+        (Kind::Text, "", "\u{FFFE}", false),
+        (Kind::Attribute, "id", "<&\"", true),
+        (Kind::Attribute, "xmlns", "", false),
+        (Kind::Attribute, "xml", "", true),
+        (Kind::Element, "\u{3b1}\u{10000}-1", "", true),
+        (Kind::Element, "1a", "", false),
+        (Kind::Element, "p:a", "", false),
+        (Kind::Element, "a", "b", false),
+        (Kind::Comment, "", "a-b", true),
+        (Kind::Comment, "", "a--b", false),
+        (Kind::Comment, "", "a-", false),
+        (Kind::ProcessingInstruction, "t", "a?b>", true),
+        (Kind::ProcessingInstruction, "t", "a?>", false),
+        (Kind::ProcessingInstruction, "t", " a", false),
+        (Kind::ProcessingInstruction, "XmL", "a", false),
+    ] {
+        let mut rows = Vec::new(alloc);
+        rows.push(row(alloc, (0, 0, 0), kind, name, value)?)?;
+        assert_eq!(rt;
+            Fragment::from_rows(rows).is_ok(),
+            is_tree,
+            "name {name}, value {value}"
+        );
+    }
+    Ok(())
+}
+
+/// An element with so many children, the rows with a name where `name` begins one.
+fn wide(alloc: Global, kind: Kind, name: &str, count: u32) -> Result<Vec<NodeRow>, AllocError> {
+    let mut rows = Vec::new(alloc);
+    rows.push(row(alloc, (0, count, 0), Kind::Element, "a", "")?)?;
+    for at in 0..count {
+        let mut own = String::from_str(alloc, name)?;
+        if !name.is_empty() {
+            let number = at.wrapping_mul(2_654_435_761);
+            own = format!(in alloc; "{name}{number}")?;
+        }
+        rows.push(row(alloc, (at.saturating_add(1), 0, 1), kind, own.as_str(), "")?)?;
+    }
+    Ok(rows)
+}
+
+#[test]
+fn takes_many_nodes(rt: HostRuntime) -> Result<(), AllocError> {
+    let most = wide(rt.alloc(), Kind::Comment, "", 999_999)?;
+    assert!(rt; Fragment::from_rows(most).is_ok());
+    let more = wide(rt.alloc(), Kind::Comment, "", 1_000_000)?;
+    assert!(rt; Fragment::from_rows(more).is_err());
+    let mut attributes = wide(rt.alloc(), Kind::Attribute, "n", 20_000)?;
+    if let Some(last) = attributes.last_mut() {
+        last.name = String::from_str(rt.alloc(), "n0")?;
+    }
+    assert!(rt;
+        Fragment::from_rows(attributes).is_err(),
+        "the first and the last have one name"
+    );
+    let attributes = wide(rt.alloc(), Kind::Attribute, "n", 20_000)?;
+    assert!(rt; Fragment::from_rows(attributes).is_ok());
+    Ok(())
+}
