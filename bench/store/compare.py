@@ -1,42 +1,57 @@
 """Times the store beside C SQLite (python3's sqlite3) with the same statements, in one run, and measures the memory
 that a store on disks in memory holds.
 
-    python3 bench/store/compare.py PROGRAM FOLDER       as bench/store/run.sh calls it
+    python3 bench/store/compare.py times PROGRAM FOLDER            as bench/store/run.sh calls it
+    python3 bench/store/compare.py memory PROGRAM FOLDER [COUNTER]  after it
 
-Each figure is the least of RUNS runs. A time is a multiple of C SQLite's in memory, and for a file also of C
-SQLite's in a file.
+Each time is the median of some runs, ours and C's in turn, more of them where there are few rows. It is given as a
+multiple of C SQLite's in memory, and for a file also of C SQLite's in a file. COUNTER is held.c's library, which
+counts what the process has allocated and not freed.
 """
 import os
+import statistics
 import subprocess
 import sys
 
 HERE = os.path.dirname(os.path.abspath(__file__))
-ROWS = (1_000, 10_000, 100_000)
-RUNS = 3
+RUNS = {1_000: 31, 10_000: 11, 100_000: 3}
+ROWS = tuple(RUNS)
 SINGLE = 100
 CALLS = ("put", "load", "replace", "drop", "single")
 LIMITS = {"put": 3.5, "load": 3.5, "replace": 3.5, "drop": 12}
 GROWTH = 14
+HELD = 3
 PAGE = os.sysconf("SC_PAGE_SIZE")
-program, folder = sys.argv[1:]
+what, program, folder = sys.argv[1:4]
+counter = sys.argv[4] if len(sys.argv) > 4 else None
 
 
-def lines_of(*words):
-    """The lines of a program: a name, and numbers."""
-    done = subprocess.run(words, check=True, capture_output=True, text=True)
-    return [(line.split()[0], [int(word) for word in line.split()[1:]]) for line in done.stdout.splitlines()]
+def lines_of(*words, **environment):
+    """The lines of a program, as words."""
+    done = subprocess.run(words, check=True, capture_output=True, text=True, env={**os.environ, **environment})
+    return [line.split() for line in done.stdout.splitlines()]
 
 
-def times_of(*words):
-    """Microseconds of each call, the least of some runs in new files."""
-    best = {}
-    for _ in range(RUNS):
-        for name in os.listdir(folder):
-            if ".db" in name:
-                os.remove(os.path.join(folder, name))
-        for name, (time,) in lines_of(*words):
-            best[name] = min(best.get(name, time), max(time, 1))
-    return best
+def run_once(times, *words):
+    """Adds the microseconds of each call of one run, in new files."""
+    for name in os.listdir(folder):
+        if ".db" in name:
+            os.remove(os.path.join(folder, name))
+    for name, time in lines_of(*words):
+        times.setdefault(name, []).append(max(int(time), 1))
+
+
+def times_of(rows):
+    """Microseconds of each call, the median of some runs: C's in memory and in a file, and ours on both kinds."""
+    words = {("c", "memory"): ("python3", os.path.join(HERE, "csqlite.py"), str(rows), ":memory:"),
+             ("c", "file"): ("python3", os.path.join(HERE, "csqlite.py"), str(rows), os.path.join(folder, "c.db")),
+             ("ours", "disks"): (program, "disks", str(rows), ""),
+             ("ours", "file"): (program, "file", str(rows), os.path.join(folder, "ours.db"))}
+    times = {key: {} for key in words}
+    for _ in range(RUNS[rows]):
+        for key, these in words.items():
+            run_once(times[key], *these)
+    return {key: {name: statistics.median(all_of) for name, all_of in these.items()} for key, these in times.items()}
 
 
 def report(kind, rows, ours, theirs, there):
@@ -50,12 +65,11 @@ def report(kind, rows, ours, theirs, there):
 def compare():
     times = {}
     for rows in ROWS:
-        c = {"memory": times_of("python3", os.path.join(HERE, "csqlite.py"), str(rows), ":memory:"),
-             "file": times_of("python3", os.path.join(HERE, "csqlite.py"), str(rows), os.path.join(folder, "c.db"))}
+        found = times_of(rows)
         for kind, others in (("disks", ("memory",)), ("file", ("memory", "file"))):
-            ours = times[kind, rows] = times_of(program, kind, str(rows), os.path.join(folder, "ours.db"))
+            ours = times[kind, rows] = found["ours", kind]
             for there in others:
-                report(kind, rows, ours, c[there], there)
+                report(kind, rows, ours, found["c", there], there)
             print(f"{kind:6} {rows:7}   " + "   ".join(
                 f"{name} {ours[name] / (SINGLE if name == 'single' else 1) / 1000:.2f} ms" for name in CALLS)
                 + f"   first write after the put {ours['first'] / 1000:.2f} ms")
@@ -67,18 +81,34 @@ def compare():
                       + (f"   BEYOND THE LIMIT {GROWTH}" if growth > GROWTH else ""))
 
 
+def resident():
+    """The bytes that the process has resident, by the name of the moment."""
+    return {words[0]: int(words[2]) * PAGE for words in lines_of(program, "held", str(ROWS[-1]), "")}
+
+
+def allocated():
+    """The bytes allocated and not freed, and those in blocks of 64 KiB, by the name of the moment."""
+    lines = lines_of(program, "held", str(ROWS[-1]), "", LD_PRELOAD=counter)
+    return {words[6]: (int(words[1]), int(words[5])) for words in lines}
+
+
 def memory():
     """The database is the one that the last run in a file left, without its log; it never gets shorter."""
-    rows = ROWS[-1]
     size = os.path.getsize(os.path.join(folder, "ours.db"))
-    pages = {name: numbers[1] for name, numbers in lines_of(program, "held", str(rows), "")}
-    print(f"memory {rows} rows: the database has {size / 1e6:.1f} MB")
-    for name in ("empty", "put", "replaces"):
-        held = (pages[name] - pages["document"]) * PAGE
-        above = (pages[name] - pages["empty"]) * PAGE
-        print(f"memory after {name}: {held / 1e6:.1f} MB more than before the store was made, "
-              f"{above / 1e6:.1f} MB or {above / size:.2f} databases more than an empty store")
+    print(f"memory {ROWS[-1]} rows: the database has {size / 1e6:.1f} MB")
+    found = resident()
+    counted = allocated() if counter else {}
+    for name in ("small", "put", "replaces", "load"):
+        words = []
+        if counter:
+            held = counted[name][0] - counted["document"][0]
+            disks = counted[name][1] - counted["document"][1]
+            words += [f"{held / 1e6:.1f} MB or {held / size:.2f} databases allocated and not freed, "
+                      f"{disks / 1e6:.1f} MB of it in blocks of the disks"
+                      + (f" BEYOND THE LIMIT {HELD}" if held > HELD * size else "")]
+        more = found[name] - found["document"]
+        words += [f"{more / 1e6:.1f} MB or {more / size:.2f} databases resident"]
+        print(f"memory after {name}, above what was there before the store: " + "; ".join(words))
 
 
-compare()
-memory()
+{"times": compare, "memory": memory}[what]()

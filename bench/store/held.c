@@ -57,7 +57,7 @@ ssize_t write(int file, const void *bytes, size_t count) {
     if (!real) real = dlsym(RTLD_NEXT, "write");
     if (file == 1) {
         char line[80];
-        int length = snprintf(line, sizeof line, "held %zu most %zu in blocks %zu ", held, most, blocks);
+        int length = snprintf(line, sizeof line, "held %zu most %zu blocks %zu ", held, most, blocks);
         if (length > 0) real(1, line, (size_t)length);
     }
     return real(file, bytes, count);
