@@ -10,8 +10,6 @@ mod runs;
 mod separators;
 mod strings;
 mod symbols;
-#[cfg(test)]
-mod tests;
 mod tokens;
 
 pub use depth::nesting;

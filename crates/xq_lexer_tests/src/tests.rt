@@ -1,9 +1,9 @@
 //! The worked rows of tokens, and the refusal rows whose code is a token's.
 
-use crate::{lex, nesting};
 use std::alloc::{AllocError, Global};
 use std::test::Fail;
 use xq_atoms::{Code, Fault};
+use xq_lexer::{lex, nesting};
 
 /// The tokens as their derived debug texts, or the fault's.
 fn shown(alloc: Global, text: &str) -> Result<String, AllocError> {
