@@ -4,8 +4,9 @@
     tools/kill_often.py [TIMES [SEED]]      200 times where none is named
 
 A round starts the server on the file, reads all its documents, and sends stores and drops until the server is killed,
-between two frames or inside one, or while it opens the file. The next round must find the documents as they were before the
-frame under way or after it. The script prints how often the file opened, and what it held; its status is 0 where all rounds did.
+between two frames or inside one; each tenth server is killed sooner, while it opens the file or tells its documents. The next
+server must find the documents as they were before the frame under way or after it. The script prints how often the file opened,
+and what it held; its status is 0 where every server found the one or the other.
 """
 import os
 import pathlib
@@ -19,7 +20,7 @@ sys.path.insert(0, os.path.dirname(os.path.abspath(__file__)))
 from client import LIBRARY, Server, built, store
 
 ADDRESSES = [b"a", b"b", b"c/d"]
-LATEST_KILL = 0.25
+LATEST_KILL = 0.2
 
 
 def document(chance):
@@ -75,27 +76,30 @@ def main():
     times = int(sys.argv[1]) if len(sys.argv) > 1 else 200
     chance = random.Random(int(sys.argv[2]) if len(sys.argv) > 2 else time.time_ns())
     program = built()
-    counts = {"opens": 0, "before": 0, "after": 0, "neither": 0, "refused": 0, "killed while it opened or read": 0}
+    counts = {"opens": 0, "before": 0, "after": 0, "neither": 0, "refused": 0, "killed before the first frame": 0}
     with tempfile.TemporaryDirectory() as folder:
         command = [program, "--file", pathlib.Path(folder) / "x.db"]
         before, after = {}, {}
-        for number in range(times + 1):
+        rounds = 0
+        while rounds <= times:
             server = Server(command)
             timer = threading.Timer(chance.random() * LATEST_KILL, server.kill)
-            if number < times:
+            if chance.random() < 0.1:
                 timer.start()
             found = held(server)
             if found is None:
-                status, line = server.end()
-                counts["killed while it opened or read" if status < 0 else "refused"] += 1
-                timer.cancel()
+                status, _line = server.end()
+                counts["killed before the first frame" if status < 0 else "refused"] += 1
                 continue
             counts["opens"] += 1
             counts[judge(found, before, after)] += 1
-            if number == times:
-                server.end()
-                continue
-            before, after = send_until_killed(server, chance, found)
+            rounds += 1
+            if rounds <= times:
+                if not timer.is_alive() and not timer.finished.is_set():
+                    timer.start()
+                before, after = send_until_killed(server, chance, found)
+            else:
+                timer.cancel()
             server.end()
     for name, count in counts.items():
         print("%-32s %d" % (name, count))
