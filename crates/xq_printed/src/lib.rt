@@ -9,6 +9,3 @@ mod sizes;
 
 pub use printer::{MAX_REPLY, print_document};
 pub use reader::read_document;
-
-#[cfg(test)]
-mod tests;

@@ -1,8 +1,8 @@
 //! What no contract says: the printed form of worked documents, and that the calls give answers.
 
-use crate::{print_document, read_document};
 use std::alloc::Global;
 use xq_atoms::{Code, Fault};
+use xq_printed::{print_document, read_document};
 
 const LIBRARY: &str =
     "document {element lib {element book {attribute id {\"1\"}, text {\"A\"}}, element book {attribute id {\"2\"}, text {\"B\"}}}}";
