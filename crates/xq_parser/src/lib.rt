@@ -1,11 +1,7 @@
-//! The one expression that tokens derive, or none.
+//! The one expression that tokens derive, or none (XQuery 3.1, appendix A.1).
 #![tactic(auto)]
 
-mod clauses;
-mod grammar;
 pub mod laws;
-mod operators;
 mod parsing;
-mod values;
 
 pub use parsing::parse;

@@ -5,14 +5,18 @@ ghost use Rattle.xq_lexer.specs.Nesting.{nesting as nesting_of};
 ghost use Rattle.xq_expressions.specs.declared.expressions.Expr.{Expr as Expr_};
 ghost use Rattle.xq_grammar.specs.Grammar.{Derives};
 ghost use Rattle.xq_grammar.specs.Reading as spec;
-ghost use Rattle.xq_grammar.specs.Gives.{Gives, Parses};
+ghost use Rattle.xq_grammar.specs.Gives.{Gives, Nests, Parses};
 ghost use Rattle.xq_grammar.specs.Answers.{Refuses};
 
-use crate::grammar::Grammar;
+use sqlite_items::Boxed;
 use std::alloc::Global;
 use xq_atoms::{Code, Fault};
+use xq_clauses::Clauses;
 use xq_expressions::Expr;
 use xq_lexer::{Token, nesting};
+use xq_operators::Operators;
+use xq_phrases::grammar::Grammar;
+use xq_words::look::{begins_flwor, begins_if, begins_quantified};
 
 /// The deepest nesting of an expression.
 const MAX_NESTING: u32 = 128;
@@ -20,23 +24,43 @@ const MAX_NESTING: u32 = 128;
 /// One more: the singles that may nest in one another.
 const MAX_DEPTH: usize = 129;
 
+/// A single expression, over what reads singles that nest deeper.
+#[tactic(auto, unfolding(xq_grammar::specs::Reading::any))]
+fn any<'a, F: Fn(Global, usize, &'a [Token]) -> Result<(Boxed<Expr>, &'a [Token]), Fault> + Copy>(
+    grammar: Grammar<F>,
+    tokens: &'a [Token],
+) -> Result<(Boxed<Expr>, &'a [Token]), Fault>
+    requires { Nests grammar.depth (F.pre grammar.single) (F.post grammar.single) }
+    ensures { Parses result (spec.any (spec.single grammar.depth) (lexemes tokens.now)) }
+{
+    if begins_flwor(tokens) {
+        Clauses { grammar }.flwor(tokens)
+    } else if begins_quantified(tokens) {
+        Clauses { grammar }.quantified(tokens)
+    } else if begins_if(tokens) {
+        Clauses { grammar }.conditional(tokens)
+    } else {
+        Operators { grammar }.disjunction(tokens)
+    }
+}
+
 /// A single expression, with singles nested at most so deep.
 fn single<'a>(
     alloc: Global,
     depth: usize,
     tokens: &'a [Token],
-) -> Result<(Expr, &'a [Token]), Fault>
+) -> Result<(Boxed<Expr>, &'a [Token]), Fault>
     ensures { Parses result (spec.single depth (lexemes tokens.now)) }
 {
     if depth == 0 {
         return Err(Fault::Code(Code::XPST0003));
     }
-    Grammar {
+    let grammar = Grammar {
         alloc,
         depth: depth - 1,
         single,
-    }
-    .any(tokens)
+    };
+    any(grammar, tokens)
 }
 
 /// A whole expression that the tokens end with.
@@ -51,7 +75,7 @@ fn query(alloc: Global, tokens: &[Token]) -> Result<Expr, Fault>
     };
     let (found, rest) = grammar.whole(tokens)?;
     match rest {
-        [] => Ok(found),
+        [] => Ok(found.into_inner()),
         [_, ..] => Err(Fault::Code(Code::XPST0003)),
     }
 }

@@ -1,0 +1,282 @@
+//! What phrases stand for.
+ghost use Rattle.std.specs.Prelude.{◌≡◌, codes, Option, Some, None, List, [], ◌∷◌};
+ghost use Rattle.xq_lexer.specs.Lexeme.{lexemes, name as name_lex, symbol as symbol_lex};
+ghost use Rattle.xq_lexer.specs.declared.tokens.Symbol.TheVariants as s;
+ghost use Rattle.xq_expressions.specs.declared.expressions.Expr.TheVariants as e;
+ghost use Rattle.xq_expressions.specs.declared.expressions.ConstructorName.TheVariants as constructor_name;
+ghost use Rattle.xq_grammar.specs.Look as look;
+ghost use Rattle.xq_grammar.specs.Grammar as g;
+ghost use Rattle.xq_grammar.specs.Reading as spec;
+ghost use Rattle.xq_grammar.specs.Gives.{Gives, Nests, Parses};
+
+use sqlite_items::{Boxed, Items};
+use std::alloc::Global;
+use xq_atoms::Fault;
+use xq_expressions::{
+    Clause, Comparison, ConstructorName, Expr, NamedNode, ProductOperator, QName, Quantifier,
+    Separator, SetOperator, Sign, Start, Step, UnnamedNode,
+};
+
+/// The first item and those after it.
+pub fn listed<T: Drop>(alloc: Global, first: T, more: Items<T>) -> Result<Items<T>, Fault>
+    ensures { Gives (λ x. x) result (Some (first ∷ more)) }
+{
+    let mut all = Items::new(alloc);
+    all.push(first)?;
+    all.append(more)?;
+    Ok(all)
+}
+
+/// An expression, or a sequence of two and more.
+pub fn sequence(alloc: Global, first: Boxed<Expr>, more: Items<Expr>) -> Result<Boxed<Expr>, Fault>
+    ensures { Gives (λ x. x) result (Some (g.several e.Sequence (first, more))) }
+{
+    if more.len() == 0 {
+        return Ok(first);
+    }
+    let all = listed(alloc, first.into_inner(), more)?;
+    Ok(Boxed::new(alloc, Expr::Sequence(all))?)
+}
+
+/// An operand, or two and more with `or` between them.
+pub fn disjunction(
+    alloc: Global,
+    first: Boxed<Expr>,
+    more: Items<Expr>,
+) -> Result<Boxed<Expr>, Fault>
+    ensures { Gives (λ x. x) result (Some (g.several e.Or (first, more))) }
+{
+    if more.len() == 0 {
+        return Ok(first);
+    }
+    let all = listed(alloc, first.into_inner(), more)?;
+    Ok(Boxed::new(alloc, Expr::Or(all))?)
+}
+
+/// An operand, or two and more with `and` between them.
+pub fn conjunction(
+    alloc: Global,
+    first: Boxed<Expr>,
+    more: Items<Expr>,
+) -> Result<Boxed<Expr>, Fault>
+    ensures { Gives (λ x. x) result (Some (g.several e.And (first, more))) }
+{
+    if more.len() == 0 {
+        return Ok(first);
+    }
+    let all = listed(alloc, first.into_inner(), more)?;
+    Ok(Boxed::new(alloc, Expr::And(all))?)
+}
+
+/// An operand, or two and more with `||` between them.
+pub fn concatenation(
+    alloc: Global,
+    first: Boxed<Expr>,
+    more: Items<Expr>,
+) -> Result<Boxed<Expr>, Fault>
+    ensures { Gives (λ x. x) result (Some (g.several e.Concat (first, more))) }
+{
+    if more.len() == 0 {
+        return Ok(first);
+    }
+    let all = listed(alloc, first.into_inner(), more)?;
+    Ok(Boxed::new(alloc, Expr::Concat(all))?)
+}
+
+/// An operand, or the union of two and more.
+pub fn united(alloc: Global, first: Boxed<Expr>, more: Items<Expr>) -> Result<Boxed<Expr>, Fault>
+    ensures { Gives (λ x. x) result (Some (g.several e.Union (first, more))) }
+{
+    if more.len() == 0 {
+        return Ok(first);
+    }
+    let all = listed(alloc, first.into_inner(), more)?;
+    Ok(Boxed::new(alloc, Expr::Union(all))?)
+}
+
+/// An operand, or a sum.
+pub fn sum(
+    alloc: Global,
+    first: Boxed<Expr>,
+    more: Items<(Sign, Expr)>,
+) -> Result<Boxed<Expr>, Fault>
+    ensures { Gives (λ x. x) result (Some (g.chain e.Sum (first, more))) }
+{
+    if more.len() == 0 {
+        Ok(first)
+    } else {
+        Ok(Boxed::new(alloc, Expr::Sum(first, more))?)
+    }
+}
+
+/// An operand, or a product.
+pub fn product(
+    alloc: Global,
+    first: Boxed<Expr>,
+    more: Items<(ProductOperator, Expr)>,
+) -> Result<Boxed<Expr>, Fault>
+    ensures { Gives (λ x. x) result (Some (g.chain e.Product (first, more))) }
+{
+    if more.len() == 0 {
+        Ok(first)
+    } else {
+        Ok(Boxed::new(alloc, Expr::Product(first, more))?)
+    }
+}
+
+/// An operand, or intersections and differences.
+pub fn set_operation(
+    alloc: Global,
+    first: Boxed<Expr>,
+    more: Items<(SetOperator, Expr)>,
+) -> Result<Boxed<Expr>, Fault>
+    ensures { Gives (λ x. x) result (Some (g.chain e.SetOperation (first, more))) }
+{
+    if more.len() == 0 {
+        Ok(first)
+    } else {
+        Ok(Boxed::new(alloc, Expr::SetOperation(first, more))?)
+    }
+}
+
+/// An operand, or a comparison of two.
+pub fn compared(
+    alloc: Global,
+    left: Boxed<Expr>,
+    right: Option<(Comparison, Boxed<Expr>)>,
+) -> Result<Boxed<Expr>, Fault>
+    ensures { Gives (λ x. x) result (Some (g.compared (left, right))) }
+{
+    match right {
+        None => Ok(left),
+        Some((operator, right)) => {
+            Ok(Boxed::new(alloc, Expr::Comparison(left, operator, right))?)
+        }
+    }
+}
+
+/// An operand, or the range between two.
+pub fn ranged(
+    alloc: Global,
+    first: Boxed<Expr>,
+    last: Option<Boxed<Expr>>,
+) -> Result<Boxed<Expr>, Fault>
+    ensures { Gives (λ x. x) result (Some (g.ranged (first, last))) }
+{
+    match last {
+        None => Ok(first),
+        Some(last) => { Ok(Boxed::new(alloc, Expr::Range(first, last))?) }
+    }
+}
+
+/// An operand with its signs, if there are any.
+pub fn signed(alloc: Global, signs: Items<Sign>, operand: Boxed<Expr>) -> Result<Boxed<Expr>, Fault>
+    ensures { Gives (λ x. x) result (Some (g.signed (signs, operand))) }
+{
+    if signs.len() == 0 {
+        Ok(operand)
+    } else {
+        Ok(Boxed::new(alloc, Expr::Signed(signs, operand))?)
+    }
+}
+
+/// A path from a start that isn't its first step.
+pub fn rooted(
+    alloc: Global,
+    start: Start,
+    first: Step,
+    more: Items<(Separator, Step)>,
+) -> Result<Boxed<Expr>, Fault>
+    ensures { Gives (λ x. x) result (Some (g.rooted start (first, more))) }
+{
+    let steps = listed(alloc, (Separator::Slash, first), more)?;
+    Ok(Boxed::new(alloc, Expr::Path(start, steps))?)
+}
+
+/// A path from its first step; one primary expression without predicates is itself.
+pub fn relative(
+    alloc: Global,
+    first: Step,
+    more: Items<(Separator, Step)>,
+) -> Result<Boxed<Expr>, Fault>
+    ensures { Gives (λ x. x) result (Some (g.relative (first, more))) }
+{
+    if more.len() > 0 {
+        return rooted(alloc, Start::Relative, first, more);
+    }
+    match first {
+        Step::Primary(value, predicates) => {
+            if predicates.len() == 0 {
+                Ok(value)
+            } else {
+                rooted(
+                    alloc,
+                    Start::Relative,
+                    Step::Primary(value, predicates),
+                    more,
+                )
+            }
+        }
+        first => rooted(alloc, Start::Relative, first, more),
+    }
+}
+
+/// A FLWOR expression of its first clause, the others and what it returns.
+pub fn flwor(
+    alloc: Global,
+    first: Clause,
+    more: Items<Clause>,
+    value: Boxed<Expr>,
+) -> Result<Boxed<Expr>, Fault>
+    ensures { Gives (λ x. x) result (Some (g.flwor (first, (more, value)))) }
+{
+    let clauses = listed(alloc, first, more)?;
+    Ok(Boxed::new(alloc, Expr::Flwor(clauses, value))?)
+}
+
+/// A quantified expression.
+pub fn quantified(
+    alloc: Global,
+    quantifier: Quantifier,
+    bindings: Items<(QName, Expr)>,
+    condition: Boxed<Expr>,
+) -> Result<Boxed<Expr>, Fault>
+    ensures { Gives (λ x. x) result (Some (g.quantified (quantifier, (bindings, condition)))) }
+{
+    Ok(Boxed::new(alloc, Expr::Quantified(quantifier, bindings, condition))?)
+}
+
+/// A conditional expression.
+pub fn conditional(
+    alloc: Global,
+    test: Boxed<Expr>,
+    yes: Boxed<Expr>,
+    no: Boxed<Expr>,
+) -> Result<Boxed<Expr>, Fault>
+    ensures { Gives (λ x. x) result (Some (g.conditional (test, (yes, no)))) }
+{
+    Ok(Boxed::new(alloc, Expr::If(test, yes, no))?)
+}
+
+/// The constructor of a node with a name.
+pub fn named_node(
+    alloc: Global,
+    node: NamedNode,
+    name: ConstructorName,
+    content: Boxed<Expr>,
+) -> Result<Boxed<Expr>, Fault>
+    ensures { Gives (λ x. x) result (Some (g.named_node (node, (name, content)))) }
+{
+    Ok(Boxed::new(alloc, Expr::Named(node, name, content))?)
+}
+
+/// The constructor of a node without a name.
+pub fn unnamed_node(
+    alloc: Global,
+    node: UnnamedNode,
+    content: Boxed<Expr>,
+) -> Result<Boxed<Expr>, Fault>
+    ensures { Gives (λ x. x) result (Some (g.unnamed_node (node, content))) }
+{
+    Ok(Boxed::new(alloc, Expr::Unnamed(node, content))?)
+}
