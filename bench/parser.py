@@ -1,56 +1,47 @@
 """Parses long chains, signs and open parentheses; prints times, and how they grow with the length.
 
-usage: parser.py
+usage: parser.py [FOLDER]      builds bench/parser/main.rattle in the folder, unless an earlier call did
 
 A time is the least of five runs, without the lexer, the program's start and its input; the end of the
-expression is in it.
+expression is in it. The last lines are the least stack, in kilobytes, on which parentheses and an operand of each
+operator nest 128 deep.
 """
 
 import os
-import shutil
+import resource
 import subprocess
 import sys
 import tempfile
 
-sys.path.insert(0, os.path.join(os.path.dirname(os.path.abspath(__file__)), "..", "tools"))
+TOP = os.path.join(os.path.dirname(os.path.abspath(__file__)), "..")
+sys.path.insert(0, os.path.join(TOP, "tools"))
 from workspace import built
 
-CRATES = ("xq_atoms", "xq_lexer", "xq_expressions", "xq_grammar", "xq_words", "xq_parser")
-PROGRAM = """\
-//! Reads the text of standard input as an expression, and prints how that ends, how many tokens the
-//! text has and the microseconds that parsing took.
-#![tactic(auto)]
-
-use std::io;
-use std::time::Instant;
-use xq_atoms::Fault;
-use xq_lexer::lex;
-use xq_parser::parse;
-
-fn main(rt: HostRuntime) -> io::Result<()> {
-    let text = io::read_to_string(rt.alloc(), rt.stdin())?;
-    let Ok(tokens) = lex(rt.alloc(), text.as_str()) else {
-        return println!(rt; "refused");
-    };
-    let start = Instant::now(&rt)?;
-    let outcome = match parse(rt.alloc(), tokens.as_slice()) {
-        Ok(_) => "expression",
-        Err(Fault::Code(code)) => code.text(),
-        Err(Fault::Want(want)) => want.text(),
-    };
-    let time = start.elapsed(&rt)?;
-    println!(rt; "{} {} {}", outcome, tokens.len(), time.as_micros())
-}
-"""
-KINDS = (
+CRATES = ("xq_atoms", "xq_lexer", "xq_expressions", "xq_grammar", "xq_words", "xq_phrases", "xq_operators", "xq_clauses", "xq_parser")
+CHAINS = (
     ("1+1+1 ..", 500_000, "expression", lambda count: "1" + "+1" * count),
     ("/a/a ..", 300_000, "expression", lambda count: "/a" * count),
     ("--- .. 1", 1_000_000, "expression", lambda count: "-" * count + "1"),
     ("((( ..", 1_000_000, "prof:DEPTH", lambda count: "(" * count),
 )
+LEVELS = "1 or 1 and 1 = 1 || 1 to 1 + 1 * 1 union 1 intersect - 1/a["
+NESTS = (
+    ("(((1)))", "(" * 128 + "1" + ")" * 128),
+    ("1 or .. a[..]", LEVELS * 128 + "1" + "]" * 128),
+)
+
+
+def program_in(folder):
+    """The program's path; it is built if it isn't there."""
+    path = os.path.join(folder, "crates", "program", "out", "program")
+    if os.path.exists(path):
+        return path
+    with open(os.path.join(TOP, "bench", "parser", "main.rattle")) as source:
+        return built(folder, CRATES, CRATES + ("sqlite_items",), source.read())
 
 
 def timed(program, text, wanted):
+    """The number of the text's tokens, and the least time of five runs in microseconds."""
     best, tokens = None, 0
     for _ in range(5):
         words = subprocess.run([program], input=text.encode(), stdout=subprocess.PIPE, check=True).stdout.decode().split()
@@ -61,20 +52,41 @@ def timed(program, text, wanted):
     return tokens, best
 
 
+def is_parsed(program, text, kilobytes):
+    """Whether the text gives an expression on a stack of that size."""
+    limit = kilobytes * 1024
+    ran = subprocess.run([program], input=text.encode(), stdout=subprocess.PIPE, stderr=subprocess.DEVNULL,
+                         preexec_fn=lambda: resource.setrlimit(resource.RLIMIT_STACK, (limit, limit)))
+    return ran.returncode == 0 and ran.stdout.startswith(b"expression")
+
+
+def least_stack(program, text):
+    """The least stack on which the text is parsed, to 64 kilobytes."""
+    low, high = 0, 1024
+    while high * 64 < 1_000_000 and not is_parsed(program, text, high * 64):
+        low, high = high, high * 2
+    while high - low > 1:
+        middle = (low + high) // 2
+        if is_parsed(program, text, middle * 64):
+            high = middle
+        else:
+            low = middle
+    return high * 64
+
+
 def main():
-    folder = tempfile.mkdtemp()
-    try:
-        program = built(folder, CRATES, CRATES + ("sqlite_items",), PROGRAM)
-        print("%-12s %10s %10s %10s %8s" % ("text", "tokens", "ends as", "ms", "ratio"))
-        for name, most, wanted, make in KINDS:
-            before = None
-            for count in (most // 4, most // 2, most):
-                tokens, time = timed(program, make(count), wanted)
-                ratio = "%8.2f" % (time / before) if before else ""
-                print("%-12s %10d %10s %10.2f %8s" % (name, tokens, wanted, time / 1000, ratio), flush=True)
-                before = time
-    finally:
-        shutil.rmtree(folder)
+    folder = sys.argv[1] if len(sys.argv) > 1 else tempfile.mkdtemp()
+    program = program_in(folder)
+    print("%-14s %10s %10s %10s %8s" % ("text", "tokens", "ends as", "ms", "ratio"))
+    for name, most, wanted, make in CHAINS:
+        before = None
+        for count in (most // 4, most // 2, most):
+            tokens, time = timed(program, make(count), wanted)
+            ratio = "%8.2f" % (time / before) if before else ""
+            print("%-14s %10d %10s %10.2f %8s" % (name, tokens, wanted, time / 1000, ratio), flush=True)
+            before = time
+    for name, text in NESTS:
+        print("%-14s %10d KB of stack" % (name, least_stack(program, text)), flush=True)
 
 
 if __name__ == "__main__":

@@ -19,18 +19,11 @@ from workspace import built
 CRATES = ("xq_atoms", "xq_lexer")
 # Codes that a token may have.
 OF_TOKENS = ("XPST0003", "XQST0090")
-PROGRAM = """\
-//! Lexes the texts of standard input, each ended by a byte of 0, and prints a line for each: how
-//! many tokens it has, or its code.
-#![tactic(auto)]
-
-use std::io::{self, BufRead};
-use xq_atoms::Fault;
-use xq_lexer::lex;
-
+# A program that prints, for each text of its input, what its own function `of` says of it.
+REPORTS = """\
 fn report<R: Print + AllocGlobal>(rt: &R, text: &str) -> io::Result<()> {
-    match lex(rt.alloc(), text) {
-        Ok(tokens) => println!(rt; "{}", tokens.len()),
+    match of(rt, text) {
+        Ok(outcome) => println!(rt; "{}", outcome),
         Err(Fault::Code(code)) => println!(rt; "{}", code.text()),
         Err(Fault::Want(want)) => println!(rt; "{}", want.text()),
     }
@@ -47,6 +40,38 @@ fn main(rt: HostRuntime) -> io::Result<()> {
     Ok(())
 }
 """
+PROGRAM = """\
+//! Lexes the texts of standard input, each ended by a byte of 0, and prints a line for each: how
+//! many tokens it has, or its code.
+#![tactic(auto)]
+
+use std::io::{self, BufRead};
+use xq_atoms::Fault;
+use xq_lexer::lex;
+
+fn of<R: AllocGlobal>(rt: &R, text: &str) -> Result<usize, Fault> {
+    Ok(lex(rt.alloc(), text)?.len())
+}
+
+""" + REPORTS
+
+
+def rows_of(path):
+    """The rows of the corpus."""
+    with open(path) as file:
+        return [json.loads(line) for line in file]
+
+
+def answers_of(rows, crates, uses, program):
+    """What the program says of the text of each row."""
+    texts = (row["q"].replace("\r\n", "\n").replace("\r", "\n") for row in rows)
+    given = b"".join(text.encode() + b"\0" for text in texts)
+    folder = tempfile.mkdtemp()
+    try:
+        path = built(folder, crates, uses, program)
+        return subprocess.run([path], input=given, stdout=subprocess.PIPE, check=True).stdout.decode().split()
+    finally:
+        shutil.rmtree(folder)
 
 
 def kind_of(row):
@@ -59,23 +84,10 @@ def is_right(kind, answer):
     return answer == kind or (answer.isdigit() and kind != "XQST0090")
 
 
-def answers_of(texts):
-    """The line that the lexer answers to each text."""
-    folder = tempfile.mkdtemp()
-    try:
-        program = built(folder, CRATES, CRATES, PROGRAM)
-        given = b"".join(text.encode() + b"\0" for text in texts)
-        return subprocess.run([program], input=given, stdout=subprocess.PIPE, check=True).stdout.decode().split()
-    finally:
-        shutil.rmtree(folder)
-
-
 def main():
-    with open(sys.argv[1]) as file:
-        rows = [json.loads(line) for line in file]
-    answers = answers_of(row["q"].replace("\r\n", "\n").replace("\r", "\n") for row in rows)
+    rows = rows_of(sys.argv[1])
     right, total = Counter(), Counter()
-    for row, answer in zip(rows, answers, strict=True):
+    for row, answer in zip(rows, answers_of(rows, CRATES, CRATES, PROGRAM), strict=True):
         kind = kind_of(row)
         total[kind] += 1
         if is_right(kind, answer):

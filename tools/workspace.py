@@ -1,4 +1,4 @@
-"""Builds a Rattle program over some of this repository's crates, in a workspace of its own.
+"""Runs a Rattle program over some of this repository's crates, in a workspace of its own.
 
 A program that prints times or reads other files can't stand among the crates: the gate runs each
 program, and compares what it prints.
@@ -19,10 +19,10 @@ def lines_of(crates):
 
 
 def built(folder, crates, uses, source):
-    """Proves and builds the program over the crates in the folder, and gives its path."""
+    """Proves and builds the program over the crates in the folder, and gives its path. What is built of the crates is taken along."""
     for crate in crates:
         shutil.copytree(os.path.join(TOP, "crates", crate), os.path.join(folder, "crates", crate),
-                        ignore=shutil.ignore_patterns("out", "must-fail"))
+                        ignore=shutil.ignore_patterns("incremental", "must-fail"))
     program = os.path.join(folder, "crates", "program")
     os.makedirs(os.path.join(program, "src"))
     with open(os.path.join(program, "src", "main.rt"), "w") as main:
