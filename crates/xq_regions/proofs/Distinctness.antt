@@ -147,6 +147,10 @@ apart_if_ascending zs h =
     let sorted : IsStrictlySortedBy cmp ns = sorted_from_all_adjacent nat_list_cmp_total ns [] (less_at zs h) in
     IsDistinct-from_apart bytes_eq ns (λ i j d l b. texts_ties (get_or ns i d) (get_or ns j d) ∙ not_equal _ (Less-from_sorted cmp ns i j d sorted l b))
 
+pub distinct_at_once : (zs : List NodeRow) (r : Bool) → Ascends zs r → IsTrue r → IsTrue true ↔ IsDistinct bytes_eq (map name_of zs)
+distinct_at_once zs true h e = (λ _. apart_if_ascending zs h, λ _. refl)
+distinct_at_once zs false h e = absurd (true≢false (sym e))
+
 -- names in order that do not ascend are not distinct
 level_if_not : (zs : List NodeRow) → IsSortedByKey name_of cmp zs → Ascends zs false → IsDistinct bytes_eq (map name_of zs) → ⊥
 level_if_not [] s h a = absurd (omega (arith, h.1))

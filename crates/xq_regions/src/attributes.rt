@@ -32,12 +32,16 @@ fn names_ascend(run: &[NodeRow]) -> bool
     run.is_sorted_by(|first, second| first.name < second.name)
 }
 
-/// Whether the names of the rows are distinct. The rows change places for it, and go back.
+/// Whether the names of the rows are distinct: seen in one walk where they ascend. Else the rows
+/// change places for it, and go back.
 pub fn has_distinct_names(run: &mut [NodeRow]) -> bool
     requires { IsStrictlyIncreasing (map pre_of run.old) }
     ensures distinct { IsTrue result ↔ IsDistinct bytes_eq (map name_of run.old) }
     ensures kept { run.new ≡ run.old }
 {
+    if names_ascend(run) {
+        return true;
+    }
     sort_by_name(run);
     let distinct = names_ascend(run);
     sort_by_place(run);

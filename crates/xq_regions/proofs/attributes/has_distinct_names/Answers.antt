@@ -1,6 +1,9 @@
-use Rattle.xq_regions.proofs.Distinctness.{distinct_if_ascending, back_in_place}
+use Rattle.xq_regions.proofs.Distinctness.{distinct_at_once, distinct_if_ascending, back_in_place}
 use Rattle.std.proofs.lemmas.List.Sorted.{IsPermutation-trans}
 use Rattle.xq_regions.proofs.attributes.has_distinct_names.Goals as goal
+
+pub returns-then-names_ascend-clause-distinct : goal.returns-then-names_ascend-clause-distinct
+returns-then-names_ascend-clause-distinct c = distinct_at_once c.args.run.now c.names_ascend.result c.names_ascend.ensures c.if-names_ascend.true
 
 pub returns-clause-distinct : goal.returns-clause-distinct
 returns-clause-distinct c =
