@@ -3,8 +3,9 @@
 usage: parser.py [FOLDER]      builds bench/parser/main.rattle in the folder, unless an earlier call did
 
 A time is the least of five runs, without the lexer, the program's start and its input; the end of the
-expression is in it. The last lines are the least stack, in kilobytes, on which parentheses and an operand of each
-operator nest 128 deep.
+expression is in it. The last lines are the least stack, in kilobytes, on which a text nested 128 deep is parsed:
+parentheses, predicates below one operator of each level, and later items of predicates, which took most of 323
+nests that were tried.
 """
 
 import os
@@ -24,10 +25,15 @@ CHAINS = (
     ("--- .. 1", 1_000_000, "expression", lambda count: "-" * count + "1"),
     ("((( ..", 1_000_000, "prof:DEPTH", lambda count: "(" * count),
 )
+# Microseconds too few for a ratio.
+SHORT = 100
+# Kilobytes between two sizes of stack that are tried.
+STEP = 16
 LEVELS = "1 or 1 and 1 = 1 || 1 to 1 + 1 * 1 union 1 intersect - 1/a["
 NESTS = (
     ("(((1)))", "(" * 128 + "1" + ")" * 128),
-    ("1 or .. a[..]", LEVELS * 128 + "1" + "]" * 128),
+    ("1 or .. a[1]", LEVELS * 128 + "1" + "]" * 128),
+    ("1[1, 1[1, 1]]", "1[1," * 128 + "1" + "]" * 128),
 )
 
 
@@ -61,32 +67,36 @@ def is_parsed(program, text, kilobytes):
 
 
 def least_stack(program, text):
-    """The least stack on which the text is parsed, to 64 kilobytes."""
+    """The least stack on which the text is parsed, a multiple of STEP."""
     low, high = 0, 1024
-    while high * 64 < 1_000_000 and not is_parsed(program, text, high * 64):
+    while high * STEP < 1_000_000 and not is_parsed(program, text, high * STEP):
         low, high = high, high * 2
     while high - low > 1:
         middle = (low + high) // 2
-        if is_parsed(program, text, middle * 64):
+        if is_parsed(program, text, middle * STEP):
             high = middle
         else:
             low = middle
-    return high * 64
+    return high * STEP
 
 
-def main():
-    folder = sys.argv[1] if len(sys.argv) > 1 else tempfile.mkdtemp()
-    program = program_in(folder)
+def measure(program):
+    """Prints the times and the stacks."""
     print("%-14s %10s %10s %10s %8s" % ("text", "tokens", "ends as", "ms", "ratio"))
     for name, most, wanted, make in CHAINS:
         before = None
         for count in (most // 4, most // 2, most):
             tokens, time = timed(program, make(count), wanted)
-            ratio = "%8.2f" % (time / before) if before else ""
+            ratio = "%8.2f" % (time / before) if before and before > SHORT else ""
             print("%-14s %10d %10s %10.2f %8s" % (name, tokens, wanted, time / 1000, ratio), flush=True)
             before = time
     for name, text in NESTS:
         print("%-14s %10d KB of stack" % (name, least_stack(program, text)), flush=True)
+
+
+def main():
+    with tempfile.TemporaryDirectory() as scratch:
+        measure(program_in(sys.argv[1] if len(sys.argv) > 1 else scratch))
 
 
 if __name__ == "__main__":
