@@ -3,6 +3,8 @@
 #![tactic(auto)]
 
 #[cfg(test)]
+mod adopt_tests;
+#[cfg(test)]
 mod calls;
 #[cfg(test)]
 mod documents;

@@ -13,12 +13,13 @@ use xq_rows::Store;
 const LIBRARY_ROWS: &str =
     "b 0 7 0 0  |b 1 6 1 1 lib |b 2 2 2 1 book |b 3 0 3 2 id 1|b 4 0 3 3  A|b 5 2 2 1 book |b 6 0 3 2 id 2|b 7 0 3 3  B|";
 
+/// Shows each row of the table as a text.
+pub const ROWS_AS_TEXT: &str =
+    "SELECT address || ' ' || pre || ' ' || size || ' ' || level || ' ' || kind || ' ' || name || ' ' || value || '|' FROM node ORDER BY address, pre";
+
 /// The rows of the table, in the order of the addresses and of the numbers.
 fn table_rows<S: Alter>(alloc: Global, conn: &mut Connection<S>) -> Result<String, Fail> {
-    let rows = conn.query_all(
-        "SELECT address || ' ' || pre || ' ' || size || ' ' || level || ' ' || kind || ' ' || name || ' ' || value || '|' FROM node ORDER BY address, pre",
-        &[],
-    )?;
+    let rows = conn.query_all(ROWS_AS_TEXT, &[])?;
     let mut text = String::new(alloc);
     for row in &rows {
         text.push_str(row.get::<String>(0)?.as_str())?;

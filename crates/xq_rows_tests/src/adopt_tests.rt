@@ -1,0 +1,206 @@
+//! What is adopted, and what is no store.
+use crate::calls::{CALL_ROWS, first_wrong};
+use crate::documents::Documents;
+use crate::tests::ROWS_AS_TEXT;
+use sqlite::{Alter, Connection};
+use std::alloc::Global;
+use std::test::Fail;
+use xq_rows::{OpenFault, Store};
+
+const LAYOUT: &str = "CREATE TABLE layout (edition INTEGER NOT NULL) STRICT";
+
+const NODE: &str =
+    "CREATE TABLE node (address TEXT NOT NULL, pre INTEGER NOT NULL, size INTEGER NOT NULL, level INTEGER NOT NULL, kind INTEGER NOT NULL, name TEXT NOT NULL, value TEXT NOT NULL, PRIMARY KEY (address, pre)) STRICT";
+
+const ONE: &str = "INSERT INTO layout VALUES (1)";
+
+const DOCUMENT: &str = "INSERT INTO node VALUES ('b', 0, 0, 0, 0, '', '')";
+
+/// How a database is answered.
+#[derive(Clone, Copy, Debug, PartialEq, Eq)]
+enum Answer {
+    Adopted,
+    NotAStore,
+    Wanting,
+    /// A refusal that has changed the database.
+    Changed,
+}
+
+/// The statements that make a database, and how it is answered.
+type Judged = (&'static [&'static str], Answer);
+
+/// What tables there are.
+const TABLES: [Judged; 10] = [
+    (&[], Answer::Adopted),
+    (&[LAYOUT, NODE, ONE], Answer::Adopted),
+    (&[LAYOUT, ONE, NODE], Answer::Adopted),
+    (&["CREATE TABLE other (a INTEGER) STRICT"], Answer::Adopted),
+    (&[LAYOUT], Answer::NotAStore),
+    (&[LAYOUT, ONE], Answer::NotAStore),
+    (&[NODE], Answer::NotAStore),
+    (&[NODE, DOCUMENT], Answer::NotAStore),
+    (
+        &["CREATE TABLE layout (text TEXT NOT NULL) STRICT"],
+        Answer::NotAStore,
+    ),
+    (
+        &[
+            LAYOUT,
+            ONE,
+            "CREATE TABLE node (address TEXT NOT NULL) STRICT",
+        ],
+        Answer::NotAStore,
+    ),
+];
+
+/// What editions there are.
+const EDITIONS: [Judged; 5] = [
+    (
+        &[LAYOUT, NODE, "INSERT INTO layout VALUES (9)"],
+        Answer::NotAStore,
+    ),
+    (
+        &[LAYOUT, NODE, "INSERT INTO layout VALUES (2)"],
+        Answer::NotAStore,
+    ),
+    (
+        &[LAYOUT, NODE, "INSERT INTO layout VALUES (-1)"],
+        Answer::NotAStore,
+    ),
+    (&[LAYOUT, NODE, ONE, ONE], Answer::NotAStore),
+    (&[LAYOUT, NODE], Answer::NotAStore),
+];
+
+/// What a row of `node` is beside a document under `b`, or alone.
+const ROWS: [(&str, Answer); 12] = [
+    ("('c', 0, 0, 0, 0, '', '')", Answer::Adopted),
+    ("('c', 0, 0, 0, 3, '', 'A')", Answer::NotAStore),
+    ("('c', 0, 0, 0, 1, 'a', '')", Answer::NotAStore),
+    ("('c', 1, 0, 0, 0, '', '')", Answer::NotAStore),
+    ("('b', 1, 0, 1, 1, 'a', '')", Answer::NotAStore),
+    ("('b b', 0, 0, 0, 0, '', '')", Answer::NotAStore),
+    ("('', 0, 0, 0, 0, '', '')", Answer::NotAStore),
+    ("('c', 0, -1, 0, 0, '', '')", Answer::NotAStore),
+    ("('c', 0, 4294967296, 0, 0, '', '')", Answer::NotAStore),
+    ("('c', 0, 0, 1, 0, '', '')", Answer::NotAStore),
+    ("('c', 0, 0, 0, 6, '', '')", Answer::NotAStore),
+    ("('c', 0, 0, 0, 0, 'a', '')", Answer::NotAStore),
+];
+
+/// The first columns of what a query shows, each before a line, or a dash where it is refused.
+fn shown<S: Alter>(alloc: Global, conn: &mut Connection<S>, sql: &str) -> Result<String, Fail> {
+    let Ok(rows) = conn.query_all(sql, &[]) else {
+        return Ok(String::from_str(alloc, "-")?);
+    };
+    let mut text = String::new(alloc);
+    for row in &rows {
+        text.push_str(row.get::<String>(0)?.as_str())?;
+        text.push_str("|")?;
+    }
+    Ok(text)
+}
+
+/// The tables and the editions.
+fn outline<S: Alter>(alloc: Global, conn: &mut Connection<S>) -> Result<String, Fail> {
+    let mut text = shown(alloc, conn, "SELECT name FROM sqlite_schema ORDER BY name")?;
+    let editions = shown(alloc, conn, "SELECT edition || '' FROM layout")?;
+    text.push_str(editions.as_str())?;
+    Ok(text)
+}
+
+/// The tables, the editions and the nodes.
+fn picture<S: Alter>(alloc: Global, conn: &mut Connection<S>) -> Result<String, Fail> {
+    let mut text = outline(alloc, conn)?;
+    text.push_str(shown(alloc, conn, ROWS_AS_TEXT)?.as_str())?;
+    Ok(text)
+}
+
+/// Adopts the database, and tells how it is answered.
+fn adoption_of<S: Alter + Drop>(alloc: Global, mut conn: Connection<S>) -> Result<Answer, Fail> {
+    let before = picture(alloc, &mut conn)?;
+    if !conn.is_autocommit() {
+        return Err(Fail::new("in a transaction"));
+    }
+    let Err((fault, mut conn)) = Store::adopt(alloc, conn) else {
+        return Ok(Answer::Adopted);
+    };
+    if !conn.is_autocommit() || picture(alloc, &mut conn)?.as_str() != before.as_str() {
+        return Ok(Answer::Changed);
+    }
+    Ok(match fault {
+        OpenFault::NotAStore => Answer::NotAStore,
+        OpenFault::Want(_want) => Answer::Wanting,
+    })
+}
+
+/// The answer of a database that these statements make, and then this one.
+fn answer_of(alloc: Global, statements: &[&str], last: Option<&str>) -> Result<Answer, Fail> {
+    let mut conn = Connection::open_in_memory(alloc)?;
+    for statement in statements.iter().copied().chain(last) {
+        let _count = conn.execute(statement, &[])?;
+    }
+    adoption_of(alloc, conn)
+}
+
+#[test]
+fn judges_tables(rt: HostRuntime) -> Result<(), Fail> {
+    for (statements, wanted) in TABLES {
+        assert_eq!(rt; answer_of(rt.alloc(), statements, None)?, wanted);
+    }
+    Ok(())
+}
+
+#[test]
+fn judges_editions(rt: HostRuntime) -> Result<(), Fail> {
+    for (statements, wanted) in EDITIONS {
+        assert_eq!(rt; answer_of(rt.alloc(), statements, None)?, wanted);
+    }
+    Ok(())
+}
+
+#[test]
+fn judges_rows(rt: HostRuntime) -> Result<(), Fail> {
+    for (row, wanted) in ROWS {
+        let insert = format!(in rt.alloc(); "INSERT INTO node VALUES {row}")?;
+        let made = [LAYOUT, NODE, ONE, DOCUMENT];
+        assert_eq!(rt;
+            answer_of(rt.alloc(), &made, Some(insert.as_str()))?,
+            wanted
+        );
+    }
+    let text = "INSERT INTO node VALUES ('b', 0, 0, 0, 3, '', 'A')";
+    assert_eq!(rt;
+        answer_of(rt.alloc(), &[LAYOUT, NODE, ONE, text], None)?,
+        Answer::NotAStore
+    );
+    Ok(())
+}
+
+/// Adopts a database that is a store.
+fn adopted<S: Alter + Drop>(alloc: Global, conn: Connection<S>) -> Result<Store<S>, Fail> {
+    if !conn.is_autocommit() {
+        return Err(Fail::new("in a transaction"));
+    }
+    Store::adopt(alloc, conn).map_err(|_refused| Fail::new("it was not adopted"))
+}
+
+#[test]
+fn an_empty_database(rt: HostRuntime) -> Result<(), Fail> {
+    let documents = Documents::new(rt.alloc())?;
+    let mut store = adopted(rt.alloc(), Connection::open_in_memory(rt.alloc())?)?;
+    assert_eq!(rt; first_wrong(&mut store, &documents, &CALL_ROWS)?, 0);
+    let mut conn = store.release();
+    let outline = outline(rt.alloc(), &mut conn)?;
+    assert_eq!(rt; outline.as_str(), "layout|node|sqlite_autoindex_node_1|1|");
+    Ok(())
+}
+
+#[test]
+fn what_was_released(rt: HostRuntime) -> Result<(), Fail> {
+    let documents = Documents::new(rt.alloc())?;
+    let mut store = Store::new_on_memory_disks(rt.alloc())?;
+    assert_eq!(rt; first_wrong(&mut store, &documents, &CALL_ROWS[..2])?, 0);
+    let mut store = adopted(rt.alloc(), store.release())?;
+    assert_eq!(rt; first_wrong(&mut store, &documents, &CALL_ROWS[3..])?, 0);
+    Ok(())
+}
