@@ -1,13 +1,14 @@
 #!/usr/bin/env python3
 """Refuses each growth of the program's memory in turn, and checks each run against the protocol.
 
-    tools/refuse_each_growth.py [--every N] [--first N] [--last N]
+    tools/refuse_each_growth.py [--every N] [--first N] [--last N] [--file]
 
 Runs the built program over requests that store, replace, copy, read, list and drop, once for each
 allocation that it makes, and has that one fail. Each run has to end with one reply for each frame,
 or say that it had no room: for the store, for the input, or for a reply, and then the frames before
 have theirs. A reply may name want of memory. Each other one has to be what the replies before it
-make it: they alone say which documents there are. Needs a C compiler, for the allocator that fails.
+make it: they alone say which documents there are. With --file each run keeps its documents in a new
+file, which then has to open with these documents. Needs a C compiler, for the allocator that fails.
 """
 import argparse
 import concurrent.futures
@@ -130,15 +131,15 @@ def answer(documents, kind, address, text):
     return status, told, after
 
 
-def fault(done):
-    """What is wrong with a run, or None."""
+def fault(done, path=None):
+    """What is wrong with a run, or None; and with the file at the path, where it kept one."""
     out, documents = done.stdout, {}
     for tag, request in enumerate(REQUESTS):
         if not out:
             line = done.stderr.strip()
             silent = (b"xq_server: memory", b"xq_server: cannot open the store")
             if line == silent[0] or (tag == 0 and line == silent[1]):
-                return None if done.returncode == 1 else f"status {done.returncode} after {line!r}"
+                return kept(path, documents) if done.returncode == 1 else f"status {done.returncode} after {line!r}"
             return f"no reply to frame {tag}: {line!r}, status {done.returncode}"
         length, got, status = struct.unpack(">IIB", out[:9])
         text, out = out[9:length + 4], out[length + 4:]
@@ -154,14 +155,28 @@ def fault(done):
             documents = after
     if out or done.returncode != 0:
         return f"{len(out)} bytes too many, status {done.returncode}, {done.stderr.strip()!r}"
-    return None
+    return kept(path, documents)
 
 
-def run(library, number, report=None):
+def kept(path, documents):
+    """What is wrong with the documents in the file, or None."""
+    if path is None:
+        return None
+    asked = [(b"L", b"", b"")] + [(b"Q", b"", b'doc("' + name + b'")') for name in sorted(documents)]
+    data = b"".join(struct.pack(">I", len(m)) + m for m in (message(1, *request) for request in asked))
+    done = subprocess.run([PROGRAM, "--file", path], input=data, capture_output=True, timeout=60)
+    replies = [answer(documents, *request)[:2] for request in asked]
+    wanted = b"".join(struct.pack(">IIB", len(text) + 5, 1, status) + text for status, text in replies)
+    return None if done.stdout == wanted else f"the file holds {done.stdout!r} {done.stderr!r} and not {wanted!r}"
+
+
+def run(library, number, path=None, report=None):
+    """A run over a new file at the path, or in memory; the allocation of this number fails."""
     environment = dict(LD_PRELOAD=library, REFUSE=str(number))
     if report:
         environment["REPORT"] = report
-    return subprocess.run([PROGRAM], input=frames(), capture_output=True, env=environment, timeout=60)
+    command = [PROGRAM] + (["--file", path] if path else [])
+    return subprocess.run(command, input=frames(), capture_output=True, env=environment, timeout=60)
 
 
 def main():
@@ -169,6 +184,7 @@ def main():
     words.add_argument("--every", type=int, default=1)
     words.add_argument("--first", type=int, default=1)
     words.add_argument("--last", type=int)
+    words.add_argument("--file", action="store_true")
     asked = words.parse_args()
     if not os.path.exists(PROGRAM):
         sys.exit("the program is not built: rt run in crates/xq_server")
@@ -177,16 +193,22 @@ def main():
         with open(source, "w") as file:
             file.write(FAILING)
         subprocess.run(["cc", "-shared", "-fPIC", "-O1", "-o", library, source, "-ldl"], check=True)
-        whole = run(library, -1, report)
-        if fault(whole):
-            sys.exit(f"with ample memory: {fault(whole)}")
+        def path(number):
+            return os.path.join(folder, f"{number}.db") if asked.file else None
+
+        def judged(number):
+            done = run(library, number, path(number))
+            return done, fault(done, path(number))
+
+        whole = run(library, -1, path(-1), report)
+        if fault(whole, path(-1)):
+            sys.exit(f"with ample memory: {fault(whole, path(-1))}")
         with open(report) as file:
             total = int(file.read())
         numbers = range(asked.first, (asked.last or total) + 1, asked.every)
         wanting, faults = 0, []
         with concurrent.futures.ThreadPoolExecutor(4) as pool:
-            for number, done in zip(numbers, pool.map(lambda n: run(library, n), numbers)):
-                wrong = fault(done)
+            for number, (done, wrong) in zip(numbers, pool.map(judged, numbers)):
                 if wrong:
                     faults.append(f"allocation {number}: {wrong}")
                 wanting += done.stdout != whole.stdout
