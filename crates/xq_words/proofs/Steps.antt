@@ -1,6 +1,6 @@
 -- Steps of a reader: what is read after a word, a fault that is handed on, a choice.
 -- They stand here for the words that are too long for a search to compare.
-use Rattle.std.proofs.Common.{◌≡◌, Bool, true, false, List, Option, Some, None, Result, Ok, Err, refl}
+use Rattle.std.proofs.Common.{◌≡◌, Bool, true, false, List, Some, Result, Ok, Err, refl}
 use Rattle.std.specs.Result.{IsErrAnd}
 use denote.Ref.{Bor}
 use Rattle.xq_atoms.specs.declared.refusals.Fault.{Fault}
