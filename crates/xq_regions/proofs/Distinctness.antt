@@ -1,10 +1,10 @@
 -- Rows that are sorted by name show whether their names are distinct, and sorted by place they are as they were.
-use Rattle.std.proofs.Common.{◌≡◌, ℕ, zero, suc, ◌+◌, ◌<◌, List, [], ◌∷◌, length, get_or, map, Bool, true, false, ◌↔◌, ◌⊎◌, inl, inr, refl, sym, ◌∙◌, ap, subst, arith, nat_eq}
+use Rattle.std.proofs.Common.{◌≡◌, ℕ, zero, suc, ◌+◌, ◌<◌, List, [], ◌∷◌, length, get_or, map, Bool, true, false, ◌↔◌, ◌⊎◌, inl, inr, refl, sym, ◌∙◌, ap, subst, arith, nat_eq, ◌&&◌}
 use Rattle.std.specs.Prelude.{IsPermutation, IsSortedByKey, Contains, IsTrue}
-use Rattle.std.specs.List.{IsDistinct, IsAllAdjacentAnswer}
+use Rattle.std.specs.List.{IsDistinct, IsAllAdjacentAnswer, AllByRecursion}
 use Rattle.std.specs.List.Sorted.{IsNonDecreasingBy, IsNonDecreasing, IsStrictlyIncreasing, IsStrictlySortedBy}
 use Rattle.std.specs.Str.{bytes_eq}
-use Rattle.std.specs.Cmp.Lexicographic.{slice_cmp, texts_ties}
+use Rattle.std.specs.Cmp.Lexicographic.{slice_cmp, texts_ties, as_long}
 use Rattle.std.specs.Ordering.{is_lt, is_eq, nat_cmp, ordering_reverse}
 use Rattle.std.specs.declared.cmp.Ordering.{Ordering}
 use Rattle.std.specs.declared.cmp.Ordering.TheVariants.{Less, Equal, Greater}
@@ -12,9 +12,9 @@ use Rattle.std.proofs.lemmas.Bool.{ne_eqb, true≢false}
 use Rattle.std.proofs.lemmas.Cmp.{nat_list_cmp_total}
 use Rattle.std.proofs.lemmas.List.{get_or-map}
 use Rattle.std.proofs.lemmas.List.Sorted.{IsPermutation-map, IsPermutation-sym, Contains-permutation}
-use Rattle.std.proofs.lemmas.Map.Keys.{IsDistinct-from_apart, IsDistinct-IsPermutation, IsStrictlyIncreasing-from_distinct, sorted_from_strictly_increasing, below_from_sorted, apart_from_distinct, sorted_from_all_adjacent, Less-from_sorted}
+use Rattle.std.proofs.lemmas.Map.Keys.{IsDistinct-from_apart, IsDistinct-head, IsDistinct-tail, IsDistinct-cons, IsDistinct-IsPermutation, IsStrictlyIncreasing-from_distinct, sorted_from_strictly_increasing, below_from_sorted, apart_from_distinct, sorted_from_all_adjacent, Less-from_sorted}
 use Rattle.xq_regions.specs.declared.NodeRow.{NodeRow}
-use Rattle.xq_regions.specs.Checks.{name_of, pre_of}
+use Rattle.xq_regions.specs.Checks.{name_of, pre_of, rank_of}
 use Rattle.xq_regions.proofs.Walks.{length-map}
 
 -- # Back in document order
@@ -126,50 +126,82 @@ bytes_eq-flips [] (y ∷ ys) = refl
 bytes_eq-flips (x ∷ xs) [] = refl
 bytes_eq-flips (x ∷ xs) (y ∷ ys) = rw (nat_eq-flips x y, bytes_eq-flips xs ys) refl
 
+-- names are equal where their lengths and they are
+equal_lengths : (xs ys : List ℕ) → bytes_eq (length xs ∷ xs) (length ys ∷ ys) ≡ bytes_eq xs ys
+equal_lengths xs ys = go (bytes_eq xs ys) refl
+  where
+    none : (l : Bool) → (l && false) ≡ false
+    none true = refl
+    none false = refl
+
+    go : (b : Bool) → bytes_eq xs ys ≡ b → (nat_eq (length xs) (length ys) && b) ≡ b
+    go true e = (let same : length xs ≡ length ys = as_long nat_eq xs ys e in grind (arith, same))
+    go false e = none (nat_eq (length xs) (length ys))
+
+none_apart : IsDistinct bytes_eq []
+unfolding IsDistinct
+none_apart = tt
+
+-- so ranks are distinct where names are
+apart_ranks : (f g : NodeRow → List ℕ) → ((x y : NodeRow) → bytes_eq (f x) (f y) ≡ bytes_eq (g x) (g y)) → (zs : List NodeRow) → IsDistinct bytes_eq (map f zs) → IsDistinct bytes_eq (map g zs)
+apart_ranks f g same [] h = none_apart
+apart_ranks f g same (z ∷ zs) h =
+    IsDistinct-cons bytes_eq (g z) (map g zs) (each zs (IsDistinct-head bytes_eq (f z) (map f zs) h)) (apart_ranks f g same zs (IsDistinct-tail bytes_eq (f z) (map f zs) h))
+  where
+    each : (ys : List NodeRow) → AllByRecursion (λ k. bytes_eq (f z) k ≡ false) (map f ys) → AllByRecursion (λ k. bytes_eq (g z) k ≡ false) (map g ys)
+    each [] a = tt
+    each (y ∷ ys) a = (sym (same z y) ∙ a.0, each ys a.1)
+
+ranks_as_names : (x y : NodeRow) → bytes_eq (rank_of x) (rank_of y) ≡ bytes_eq (name_of x) (name_of y)
+ranks_as_names x y = equal_lengths (name_of x) (name_of y)
+
+with_names : (zs : List NodeRow) (r : Bool) → IsTrue r ↔ IsDistinct bytes_eq (map rank_of zs) → IsTrue r ↔ IsDistinct bytes_eq (map name_of zs)
+with_names zs r h = (λ e. apart_ranks rank_of name_of ranks_as_names zs (h.0 e), λ d. h.1 (apart_ranks name_of rank_of (λ x y. sym (ranks_as_names x y)) zs d))
+
 abbrev Ascends : List NodeRow → Bool → Type 0
-Ascends zs r = IsAllAdjacentAnswer (λ (x y : NodeRow) (b : Bool). b ≡ is_lt (cmp (name_of x) (name_of y))) zs r
+Ascends zs r = IsAllAdjacentAnswer (λ (x y : NodeRow) (b : Bool). b ≡ is_lt (cmp (rank_of x) (rank_of y))) zs r
 
-name_at : (z : NodeRow) (zs : List NodeRow) (k : ℕ) → k < length (z ∷ zs) → get_or (map name_of (z ∷ zs)) k [] ≡ name_of (get_or (z ∷ zs) k z)
-name_at z zs k h = get_or-map name_of (z ∷ zs) k z [] h
+rank_at : (z : NodeRow) (zs : List NodeRow) (k : ℕ) → k < length (z ∷ zs) → get_or (map rank_of (z ∷ zs)) k [] ≡ rank_of (get_or (z ∷ zs) k z)
+rank_at z zs k h = get_or-map rank_of (z ∷ zs) k z [] h
 
-less_at : (zs : List NodeRow) → Ascends zs true → (k : ℕ) → k + 1 < length (map name_of zs) → cmp (get_or (map name_of zs) k []) (get_or (map name_of zs) (k + 1) []) ≡ Less
+less_at : (zs : List NodeRow) → Ascends zs true → (k : ℕ) → k + 1 < length (map rank_of zs) → cmp (get_or (map rank_of zs) k []) (get_or (map rank_of zs) (k + 1) []) ≡ Less
 less_at [] h k l = absurd (omega arith)
 less_at (z ∷ zs) h k l =
-    let b : k + 1 < length (z ∷ zs) = (let n = length-map name_of (z ∷ zs) in omega arith) in
-    ap (λ x. cmp x (get_or (map name_of (z ∷ zs)) (k + 1) [])) (name_at z zs k (omega arith))
-    ∙ ap (λ x. cmp (name_of (get_or (z ∷ zs) k z)) x) (name_at z zs (k + 1) b)
+    let b : k + 1 < length (z ∷ zs) = (let n = length-map rank_of (z ∷ zs) in omega arith) in
+    ap (λ x. cmp x (get_or (map rank_of (z ∷ zs)) (k + 1) [])) (rank_at z zs k (omega arith))
+    ∙ ap (λ x. cmp (rank_of (get_or (z ∷ zs) k z)) x) (rank_at z zs (k + 1) b)
     ∙ less_from _ (h k z b)
 
 -- names that ascend are distinct
-apart_if_ascending : (zs : List NodeRow) → Ascends zs true → IsDistinct bytes_eq (map name_of zs)
+apart_if_ascending : (zs : List NodeRow) → Ascends zs true → IsDistinct bytes_eq (map rank_of zs)
 apart_if_ascending zs h =
-    let ns = map name_of zs in
+    let ns = map rank_of zs in
     let sorted : IsStrictlySortedBy cmp ns = sorted_from_all_adjacent nat_list_cmp_total ns [] (less_at zs h) in
     IsDistinct-from_apart bytes_eq ns (λ i j d l b. texts_ties (get_or ns i d) (get_or ns j d) ∙ not_equal _ (Less-from_sorted cmp ns i j d sorted l b))
 
 pub distinct_at_once : (zs : List NodeRow) (r : Bool) → Ascends zs r → IsTrue r → IsTrue true ↔ IsDistinct bytes_eq (map name_of zs)
-distinct_at_once zs true h e = (λ _. apart_if_ascending zs h, λ _. refl)
+distinct_at_once zs true h e = with_names zs true (λ _. apart_if_ascending zs h, λ _. refl)
 distinct_at_once zs false h e = absurd (true≢false (sym e))
 
 -- names in order that do not ascend are not distinct
-level_if_not : (zs : List NodeRow) → IsSortedByKey name_of cmp zs → Ascends zs false → IsDistinct bytes_eq (map name_of zs) → ⊥
+level_if_not : (zs : List NodeRow) → IsSortedByKey rank_of cmp zs → Ascends zs false → IsDistinct bytes_eq (map rank_of zs) → ⊥
 level_if_not [] s h a = absurd (omega (arith, h.1))
 level_if_not (z ∷ zs) s h a =
     let k = h.0 in
-    let n = length-map name_of (z ∷ zs) in
-    let x = name_of (get_or (z ∷ zs) k z) in
-    let y = name_of (get_or (z ∷ zs) (k + 1) z) in
+    let n = length-map rank_of (z ∷ zs) in
+    let x = rank_of (get_or (z ∷ zs) k z) in
+    let y = rank_of (get_or (z ∷ zs) (k + 1) z) in
     let level : is_eq (cmp x y) ≡ true = equal_if_level (cmp x y) (cmp y x) (nat_list_cmp_total.antisymm x y) (sym (h.2 z)) (s k z (omega arith) h.1) in
-    let apart : bytes_eq (get_or (map name_of (z ∷ zs)) k []) (get_or (map name_of (z ∷ zs)) (k + 1) []) ≡ false = apart_from_distinct bytes_eq (map name_of (z ∷ zs)) k (k + 1) [] a (omega arith) (omega (arith, h.1, n)) in
+    let apart : bytes_eq (get_or (map rank_of (z ∷ zs)) k []) (get_or (map rank_of (z ∷ zs)) (k + 1) []) ≡ false = apart_from_distinct bytes_eq (map rank_of (z ∷ zs)) k (k + 1) [] a (omega arith) (omega (arith, h.1, n)) in
     let apart_names : bytes_eq x y ≡ false =
-    ap (λ w. bytes_eq w y) (sym (name_at z zs k (omega (arith, h.1))))
-    ∙ ap (λ w. bytes_eq (get_or (map name_of (z ∷ zs)) k []) w) (sym (name_at z zs (k + 1) h.1))
+    ap (λ w. bytes_eq w y) (sym (rank_at z zs k (omega (arith, h.1))))
+    ∙ ap (λ w. bytes_eq (get_or (map rank_of (z ∷ zs)) k []) w) (sym (rank_at z zs (k + 1) h.1))
     ∙ apart in
     absurd (true≢false (sym level ∙ sym (texts_ties x y) ∙ apart_names))
 
 -- the rows zs are xs, sorted by name, and the answer is whether each name is less than the next
-pub distinct_if_ascending : (xs zs : List NodeRow) → IsPermutation xs zs → IsSortedByKey name_of cmp zs → (r : Bool) → Ascends zs r → IsTrue r ↔ IsDistinct bytes_eq (map name_of xs)
-distinct_if_ascending xs zs p s true h =
-    (λ e. IsDistinct-IsPermutation bytes_eq bytes_eq-flips (map name_of zs) (map name_of xs) (IsPermutation-sym (map name_of xs) (map name_of zs) (IsPermutation-map name_of xs zs p)) (apart_if_ascending zs h), λ a. refl)
-distinct_if_ascending xs zs p s false h =
-    (λ e. absurd (true≢false (sym e)), λ a. absurd (level_if_not zs s h (IsDistinct-IsPermutation bytes_eq bytes_eq-flips (map name_of xs) (map name_of zs) (IsPermutation-map name_of xs zs p) a)))
+pub distinct_if_ascending : (xs zs : List NodeRow) → IsPermutation xs zs → IsSortedByKey rank_of cmp zs → (r : Bool) → Ascends zs r → IsTrue r ↔ IsDistinct bytes_eq (map name_of xs)
+distinct_if_ascending xs zs p s true h = with_names xs true
+    (λ e. IsDistinct-IsPermutation bytes_eq bytes_eq-flips (map rank_of zs) (map rank_of xs) (IsPermutation-sym (map rank_of xs) (map rank_of zs) (IsPermutation-map rank_of xs zs p)) (apart_if_ascending zs h), λ a. refl)
+distinct_if_ascending xs zs p s false h = with_names xs false
+    (λ e. absurd (true≢false (sym e)), λ a. absurd (level_if_not zs s h (IsDistinct-IsPermutation bytes_eq bytes_eq-flips (map rank_of xs) (map rank_of zs) (IsPermutation-map rank_of xs zs p) a)))

@@ -14,6 +14,10 @@ label_of r = r.label
 abbrev pub name_of : NodeRow → List ℕ
 name_of r = string_bytes r.name
 
+-- what rows are ordered by to find equal names: the length of the name, and then the name
+abbrev pub rank_of : NodeRow → List ℕ
+rank_of r = length (name_of r) ∷ name_of r
+
 abbrev pub pre_of : NodeRow → ℕ
 pre_of r = r.pre
 
