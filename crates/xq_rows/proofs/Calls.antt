@@ -1,5 +1,5 @@
 -- What a call of a store comes to, from what it does to the connection.
-use Rattle.std.proofs.Common.{Option, IfOk, ◌≡◌, ◌+◌, ◌≤◌, ℕ, suc, List, [], ◌∷◌, map, IsTrue, refl, sym, ap, subst, ◌∙◌, arith, nat_lt, Result, Ok, Err, OnErr}
+use Rattle.std.proofs.Common.{Option, Bool, IfOk, ◌≡◌, ◌+◌, ◌≤◌, ℕ, suc, List, [], ◌∷◌, map, IsTrue, refl, sym, ap, subst, ◌∙◌, arith, nat_lt, Result, Ok, Err, OnErr}
 use Rattle.std.specs.List.{enumerate_from}
 use Rattle.std.specs.FinMap.{get, insert, remove, contains_key, keys, empty}
 use Rattle.sqlite_trees.specs.View.{doubt}
@@ -12,7 +12,7 @@ use Rattle.xq_regions.specs.Rows.{row_of, placed, placed_rows, AreNumbered, Enco
 use Rattle.xq_regions.specs.declared.NodeRow.{NodeRow}
 use Rattle.xq_regions.specs.declared.Kind.TheVariants.{Document}
 use Rattle.xq_rows.specs.Nodes.{cells}
-use Rattle.xq_rows.specs.Documents.{IsReady, IsUp, Holds, documents, documents_in, IsStore, IsEmptyStore}
+use Rattle.xq_rows.specs.Documents.{IsReady, IsUp, Holds, documents, documents_in, is_at, IsStore, IsEmptyStore}
 use Rattle.xq_rows.specs.Statements.{AreAddresses, Deletes, Finds, IsRange, Puts}
 use Rattle.xq_rows.specs.Tables.{store_schema}
 use Rattle.sqlite_value.specs.declared.value.Value.TheVariants.{Text}
@@ -85,7 +85,7 @@ module _ {S : Type 0} (g : Ghosts S) (conn old new : Held S) (same : conn ≡ ol
       keys_are ((state g conn).now.trees 1) (bytes all) was.named was.whole (shown up was.schema) ∙ ap (λ (h : Held S). keys (documents_in ((state g h).now.trees 1))) same
 
   -- the rows of an address were deleted
-  module _ (a : List ℕ) (count : ℕ) (did : IsReady (state g new) → Deletes a (state g conn).now (state g new).now count) where
+  module _ (a : List ℕ) (count : ℕ) (did : IsReady (state g new) → Deletes (is_at a) (state g conn).now (state g new).now count) where
     pub drop_holds : IsUp g new → Holds g old → Holds g new
     unfolding IsUp Holds
     drop_holds up holds =
@@ -105,34 +105,34 @@ module _ {S : Type 0} (g : Ghosts S) (conn old new : Held S) (same : conn ≡ ol
         was_there a (state g conn).now count was (did up was.schema was.apart was.ints).1 ∙ ap (λ (h : Held S). contains_key (documents_in ((state g h).now.trees 1)) a) same
 
   -- the rows of a document were put in their place
-  module _ (a : List ℕ) (good : IsAddress a) (t : Tree) (rs : List NodeRow) (encodes : Encodes rs t) (root : t.root.kind ≡ Document) (count : ℕ)
-      (did : IsReady (state g new) → Puts a (map cells (map placed rs)) (state g conn).now (state g new).now count) where
+  module _ (a : List ℕ) (good : IsAddress a) (t : Tree) (rs : List NodeRow) (encodes : Encodes rs t) (root : t.root.kind ≡ Document) (replaced : Bool)
+      (did : IsReady (state g new) → Puts a (map cells (map placed rs)) (state g conn).now (state g new).now replaced) where
     is : IsDocument t
     is = record { is_tree = encodes.is_tree; root = root }
 
-    puts : IsReady (state g new) → Puts a (map cells (placed_rows t)) (state g conn).now (state g new).now count
-    puts up = subst (λ l. Puts a (map cells l) (state g conn).now (state g new).now count) (encoded rs t encodes) (did up)
+    puts : IsReady (state g new) → Puts a (map cells (placed_rows t)) (state g conn).now (state g new).now replaced
+    puts up = subst (λ l. Puts a (map cells l) (state g conn).now (state g new).now replaced) (encoded rs t encodes) (did up)
 
     pub put_holds : IsUp g new → Holds g old → Holds g new
     unfolding IsUp Holds
     put_holds up holds =
         let was : IsStore (state g conn).now = subst (λ (h : Held S). IsStore (state g h).now) (sym same) holds in
-        let it = puts up was.schema was.apart was.ints in
+        let it = puts up was in
         store_puts a good t is (state g conn).now it.0 (state g new).now it.1 it.2 was
 
     pub put_documents : IsUp g new → Holds g old → documents g new ≡ insert (documents g old) a t
     unfolding IsUp Holds documents
     put_documents up holds =
         let was : IsStore (state g conn).now = subst (λ (h : Held S). IsStore (state g h).now) (sym same) holds in
-        let it = puts up was.schema was.apart was.ints in
+        let it = puts up was in
         put_map a good t is (state g conn).now it.0 (state g new).now it.1 it.2 was ∙ ap (λ (h : Held S). insert (documents_in ((state g h).now.trees 1)) a t) same
 
-    pub put_answer : IsUp g new → Holds g old → nat_lt 0 count ≡ contains_key (documents g old) a
+    pub put_answer : IsUp g new → Holds g old → replaced ≡ contains_key (documents g old) a
     unfolding IsUp Holds documents
     put_answer up holds =
         let was : IsStore (state g conn).now = subst (λ (h : Held S). IsStore (state g h).now) (sym same) holds in
-        let it = puts up was.schema was.apart was.ints in
-        was_there a (state g conn).now count was it.3 ∙ ap (λ (h : Held S). contains_key (documents_in ((state g h).now.trees 1)) a) same
+        let it = puts up was in
+        it.3 ∙ was_there a (state g conn).now _ was refl ∙ ap (λ (h : Held S). contains_key (documents_in ((state g h).now.trees 1)) a) same
 
 -- a new store
 module _ {S : Type 0} (g : Ghosts S) (store : Held S) (ready : IsReady (state g store)) (made : IsEmptyStore (state g store).now) where

@@ -4,6 +4,7 @@ pub mod Selects
 pub mod Deletes
 pub mod Inserts
 pub mod Orders
+pub mod Parts
 pub mod Creates
 pub mod Maps
 pub mod Keys

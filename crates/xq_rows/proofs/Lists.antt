@@ -34,7 +34,7 @@ abbrev pub is_gone : List ℤ → Row → Bool
 is_gone [] r = false
 is_gone (id ∷ ids) r = cond (has_rowid id r) true (is_gone ids r)
 
-both_filters : {A : Type 0} (p q : A → Bool) (xs : List A) → filter p (filter q xs) ≡ filter (λ x. cond (q x) (p x) false) xs
+pub both_filters : {A : Type 0} (p q : A → Bool) (xs : List A) → filter p (filter q xs) ≡ filter (λ x. cond (q x) (p x) false) xs
 both_filters p q [] = refl
 both_filters p q (x ∷ xs) = go (q x) (p x) refl (both_filters p q xs)
   where

@@ -42,7 +42,7 @@ text_is (Blob b) t h = absurd (let e = rw (value_cmp-apart (Blob b) (Text t) (λ
 one_address : (a b : List ℕ) (r : Row) → is_at a r ≡ true → is_at b r ≡ true → b ≡ a
 one_address a b r p q = let e = sym (text_is (column r 1) b q) ∙ text_is (column r 1) a p in ap bytes_in e
 
-apart_rows : (a b : List ℕ) (r : Row) → b ≢ a → is_at b r ≡ true → not (is_at a r) ≡ true
+pub apart_rows : (a b : List ℕ) (r : Row) → b ≢ a → is_at b r ≡ true → not (is_at a r) ≡ true
 apart_rows a b r apart here = go (is_at a r) refl
   where
     go : (t : Bool) → is_at a r ≡ t → not t ≡ true
@@ -66,13 +66,13 @@ same_address a b = go (is_eq (value_cmp (Text a) (Text b))) refl
 
 -- # The rows of an address
 
-pub rows_gone : (a : List ℕ) (old new : Database) → HasDropped a old new → rows_at a (new.trees 1) ≡ []
+pub rows_gone : (a : List ℕ) (old new : Database) → HasDropped (is_at a) old new → rows_at a (new.trees 1) ≡ []
 rows_gone a old new h = ap (rows_at a) h.nodes ∙ ap (map kept) (none_left (is_at a) (old.trees 1))
 
-pub rows_stay : (a b : List ℕ) (old new : Database) → b ≢ a → HasDropped a old new → rows_at b (new.trees 1) ≡ rows_at b (old.trees 1)
+pub rows_stay : (a b : List ℕ) (old new : Database) → b ≢ a → HasDropped (is_at a) old new → rows_at b (new.trees 1) ≡ rows_at b (old.trees 1)
 rows_stay a b old new apart h = ap (rows_at b) h.nodes ∙ ap (map kept) (filter-filter (is_at b) (λ r. not (is_at a r)) (λ r here. apart_rows a b r apart here) (old.trees 1))
 
-pub store_drops : (a : List ℕ) (old new : Database) → HasDropped a old new → IsStore old → IsStore new
+pub store_drops : (a : List ℕ) (old new : Database) → HasDropped (is_at a) old new → IsStore old → IsStore new
 store_drops a old new h was = record {
   schema = h.schema ∙ was.schema;
   layout = ap (map (λ r. column r 1)) h.layout ∙ was.layout;
@@ -85,7 +85,7 @@ store_drops a old new h was = record {
   ];
 }
 
-module _ (a : List ℕ) (good : IsAddress a) (t : Tree) (is : IsDocument t) (old mid new : Database) (dropped : HasDropped a old mid) (added : HasAdded a (map cells (placed_rows t)) mid new) where
+module _ (a : List ℕ) (good : IsAddress a) (t : Tree) (is : IsDocument t) (old mid new : Database) (dropped : HasDropped (is_at a) old mid) (added : HasAdded a (map cells (placed_rows t)) mid new) where
   pub own_rows : IsPermutation (rows_at a (new.trees 1)) (map cells (placed_rows t))
   own_rows = IsPermutation-sym _ _ (subst (λ l. IsPermutation (l ++ map cells (placed_rows t)) (rows_at a (new.trees 1))) (rows_gone a old mid dropped) added.own)
 
@@ -211,7 +211,7 @@ apart_key a q apart = go (eq_by_cmp order q a) refl
 own_key : (a q : List ℕ) → q ≡ a → eq_by_cmp order q a ≡ true
 own_key a q e = ap (λ x. eq_by_cmp order x a) e ∙ ap is_eq (tied_itself order_total a)
 
-pub dropped_map : (a : List ℕ) (old new : Database) → HasDropped a old new → IsStore old → documents_in (new.trees 1) ≡ remove (documents_in (old.trees 1)) a
+pub dropped_map : (a : List ℕ) (old new : Database) → HasDropped (is_at a) old new → IsStore old → documents_in (new.trees 1) ≡ remove (documents_in (old.trees 1)) a
 dropped_map a old new h was = same_map order_total order_exact _ _ each
   where
     now : IsStore new
@@ -226,7 +226,7 @@ dropped_map a old new h was = same_map order_total order_exact _ _ each
               ∙ sym (get-remove order_total (documents_in (old.trees 1)) a q ∙ ap (λ b. cond b None (get (documents_in (old.trees 1)) q)) (apart_key a q apart))
         ]
 
-pub put_map : (a : List ℕ) (good : IsAddress a) (t : Tree) (is : IsDocument t) (old mid new : Database) → HasDropped a old mid → HasAdded a (map cells (placed_rows t)) mid new
+pub put_map : (a : List ℕ) (good : IsAddress a) (t : Tree) (is : IsDocument t) (old mid new : Database) → HasDropped (is_at a) old mid → HasAdded a (map cells (placed_rows t)) mid new
     → IsStore old → documents_in (new.trees 1) ≡ insert (documents_in (old.trees 1)) a t
 put_map a good t is old mid new dropped added was = same_map order_total order_exact _ _ each
   where

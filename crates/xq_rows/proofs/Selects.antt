@@ -16,7 +16,7 @@ use Rattle.sqlite_sql.specs.Query.{IsAnswer, Output, output, key_cmp}
 use Rattle.sqlite_sql.specs.Program.{overlay, IsProgramAnswer}
 use Rattle.sqlite_sql.specs.Ops.{binary, is_true, from_truth}
 use Rattle.sqlite_sql.specs.declared.ops.BinaryOp.TheVariants.{Compare}
-use Rattle.sqlite_sql.specs.declared.ops.CompareOp.TheVariants.{Eq, Ge, Le}
+use Rattle.sqlite_sql.specs.declared.ops.CompareOp.TheVariants.{Eq, Ge, Le, Lt}
 use Rattle.std.proofs.lemmas.List.Sorted.{IsPermutation-map}
 use Rattle.xq_rows.proofs.Lists.{flat_map_picks}
 use Rattle.std.proofs.Common.{is_lt, ap₂}
@@ -36,9 +36,9 @@ use Rattle.sqlite_schema.specs.declared.command.Returning.{Returning}
 use Rattle.sqlite.proofs.Callers.{IsPlain, reads_as}
 use Rattle.xq_rows.specs.Tables.{store_schema}
 use Rattle.xq_rows.proofs.Lists.{same_test}
-use Rattle.xq_rows.proofs.Texts.{body, key, range_text, range_tests, range_command, range_is, range_plain, addresses_text, addresses_tests, addresses_command, addresses_is, addresses_plain}
+use Rattle.xq_rows.proofs.Texts.{body, key, range_text, range_tests, range_command, range_is, range_plain, part_tests, addresses_text, addresses_tests, addresses_command, addresses_is, addresses_plain}
 use Rattle.xq_rows.specs.Documents.{by_first, is_at, kept}
-use Rattle.xq_rows.specs.Statements.{is_within, IsPicked, IsRange, AreAddresses}
+use Rattle.xq_rows.specs.Statements.{is_within, is_part, IsPicked, IsRange, AreAddresses}
 use Rattle.std.proofs.lemmas.List.{length-map}
 
 module _ (tests : List Term) (project : List Term) (order : List (Term × Key)) (db : Trees) (params : Row) where
@@ -106,7 +106,15 @@ at_most_int (Real x) low high h = truth_is _
 at_most_int (Text s) low high h = truth_is _
 at_most_int (Blob b) low high h = truth_is _
 
-and_true : (b : Bool) → (b && true) ≡ b
+pub below_int : (v : Value) (low high : ℤ) → is_ge (value_cmp v (Int low)) ≡ true → is_true (binary (Compare Lt Binary) v (Int high)) ≡ is_lt (value_cmp v (Int high))
+unfolding binary
+below_int Null low high h = absurd (let e = rw (value_cmp-Null (Int low)) at h in cc)
+below_int (Int n) low high h = truth_is _
+below_int (Real x) low high h = truth_is _
+below_int (Text s) low high h = truth_is _
+below_int (Blob b) low high h = truth_is _
+
+pub and_true : (b : Bool) → (b && true) ≡ b
 and_true true = refl
 and_true false = refl
 
@@ -165,6 +173,16 @@ range_test address low high r =
     let v = column r 2 in
     let rest = ap (λ b. b && (is_true (binary (Compare Le Binary) v (Int (pos high))) && true)) (at_least_int v (pos low)) ∙ tail_test v (pos low) (pos high) _ refl in
     ap₂ ◌&&◌ (equals_text (column r 1) address) rest
+
+pub part_test : (address : List ℕ) (low high : ℕ) (r : Row) → list_all (holds ((Text address ∷ Int (pos low) ∷ Int (pos high) ∷ []) ∷ r ∷ [])) part_tests ≡ is_part address low high r
+part_test address low high r = ap₂ ◌&&◌ (equals_text (column r 1) address) (ap (λ b. b && (is_true (binary (Compare Lt Binary) v (Int (pos high))) && true)) (at_least_int v (pos low)) ∙ tail _ refl)
+  where
+    v : Value
+    v = column r 2
+
+    tail : (b : Bool) → is_ge (value_cmp v (Int (pos low))) ≡ b → (b && (is_true (binary (Compare Lt Binary) v (Int (pos high))) && true)) ≡ (b && is_lt (value_cmp v (Int (pos high))))
+    tail true e = and_true _ ∙ below_int v (pos low) (pos high) e
+    tail false e = refl
 
 pub ranges : (old new : State) (address : List ℕ) (low high : ℕ) (rows : List Row) → Shown range_text (Text address ∷ Int (pos low) ∷ Int (pos high) ∷ []) old new rows → IsRange address low high old.now rows
 ranges old new address low high rows h has =

@@ -9,8 +9,7 @@ use Rattle.sqlite.specs.Collation.TheVariants.{Binary}
 use Rattle.sqlite.specs.declared.types.Value.TheVariants.{Null, Int}
 use Rattle.sqlite_value.specs.declared.keys.Key.{Key}
 use Rattle.sqlite_schema.specs.declared.program.Program.{Program}
-use Rattle.sqlite_sql.specs.declared.ops.BinaryOp.TheVariants.{Compare, Arith}
-use Rattle.sqlite_sql.specs.declared.ops.ArithOp.TheVariants.{Add}
+use Rattle.sqlite_sql.specs.declared.ops.BinaryOp.TheVariants.{Compare}
 use Rattle.sqlite_sql.specs.declared.ops.CompareOp.TheVariants.{Eq, Lt, Ge, Le}
 use Rattle.sqlite.specs.Compile.{table_defined_by}
 use Rattle.sqlite_tied.specs.Compute.{everything}
@@ -88,16 +87,30 @@ body filter project order = record {
 abbrev pub key : Key
 key = record { collation = Binary; descending = false }
 
-abbrev pub delete_program : Program
-delete_program = record { lets = []; body = body (term1 ∷ []) (col 1 0 ∷ []) [] }
+abbrev pub delete_program : List Term → Program
+delete_program tests = record { lets = []; body = body tests (col 1 0 ∷ []) [] }
 
-pub delete_is : command_of (understood store_schema delete_text) ≡ Delete 1 delete_program
+pub delete_is : command_of (understood store_schema delete_text) ≡ Delete 1 (delete_program (term1 ∷ []))
 unfolding understood everything
 delete_is = refl
 
 pub delete_plain : IsPlain (understood store_schema delete_text)
 unfolding understood everything
 delete_plain = (refl, refl)
+
+abbrev pub part_text : List ℕ
+part_text = codes "DELETE FROM node WHERE address = ?1 AND pre >= ?2 AND pre < ?3"
+
+abbrev pub part_tests : List Term
+part_tests = term1 ∷ op2 (Compare Ge Binary) (col 1 2) (col 0 1) ∷ op2 (Compare Lt Binary) (col 1 2) (col 0 2) ∷ []
+
+pub part_is : command_of (understood store_schema part_text) ≡ Delete 1 (delete_program part_tests)
+unfolding understood everything
+part_is = refl
+
+pub part_plain : IsPlain (understood store_schema part_text)
+unfolding understood everything
+part_plain = (refl, refl)
 
 abbrev pub addresses_text : List ℕ
 addresses_text = codes "SELECT address FROM node WHERE pre = 0 ORDER BY address"
@@ -138,13 +151,6 @@ range_is = (refl, refl)
 pub range_plain : IsPlain (understood store_schema range_text)
 unfolding understood everything
 range_plain = (refl, refl)
-
-abbrev pub enclosing_text : List ℕ
-enclosing_text = codes "SELECT pre, size, level, kind, name, value FROM node WHERE address = ?1 AND pre < ?2 AND pre + size >= ?2 ORDER BY pre"
-
-pub enclosing_is : command_of (understood store_schema enclosing_text) ≡ Select (record { lets = []; body = body (op2 (Compare Eq Binary) (col 1 1) (col 0 0) ∷ op2 (Compare Lt Binary) (col 1 2) (col 0 1) ∷ op2 (Compare Ge Binary) (op2 (Arith Add) (col 1 2) (col 1 3)) (col 0 1) ∷ []) (col 1 2 ∷ col 1 3 ∷ col 1 4 ∷ col 1 5 ∷ col 1 6 ∷ col 1 7 ∷ []) ((col 1 2, key) ∷ []) }) (codes "pre" ∷ codes "size" ∷ codes "level" ∷ codes "kind" ∷ codes "name" ∷ codes "value" ∷ [])
-unfolding understood everything
-enclosing_is = refl
 
 abbrev pub insert_text : List ℕ
 insert_text = codes "INSERT INTO node VALUES (?1, ?2, ?3, ?4, ?5, ?6, ?7)"

@@ -1,6 +1,6 @@
 -- What each statement of the store does to the tables, or gives of them.
-use Rattle.std.specs.Prelude.{◌≡◌, ◌≢◌, ◌++◌, ◌&&◌, ℕ, pos, Bool, true, List, [], ◌∷◌, map, filter, length, Option, Some, None, IsPermutation, IsSorted}
-use Rattle.std.specs.Ordering.{is_ge, is_le}
+use Rattle.std.specs.Prelude.{◌≡◌, ◌≢◌, ◌++◌, ◌&&◌, ℕ, pos, Bool, true, List, [], ◌∷◌, map, filter, length, Option, Some, None, IsPermutation, IsSorted, nat_lt}
+use Rattle.std.specs.Ordering.{is_ge, is_le, is_lt}
 use Rattle.std.specs.List.{AllByRecursion}
 use Rattle.sqlite_value.specs.Order.{Row, column, value_cmp}
 use Rattle.sqlite_value.specs.declared.value.Value.TheVariants.{Int}
@@ -11,14 +11,18 @@ use Rattle.xq_atoms.specs.Address.{IsAddress}
 use Rattle.xq_regions.specs.Tree.{Tree}
 use Rattle.xq_regions.specs.Rows.{Encodes}
 use Rattle.xq_regions.specs.declared.NodeRow.{NodeRow}
-use Rattle.xq_rows.specs.Documents.{is_at, is_first, kept, rows_at, by_first, AreApart, HasAddress, HaveInts, IsEmptyStore}
+use Rattle.xq_rows.specs.Documents.{is_at, is_first, kept, rows_at, by_first, AreApart, HasAddress, HaveInts, IsEmptyStore, IsStore}
 use Rattle.xq_rows.specs.Tables.{no_schema, layout_schema, node_schema, turned_schema, store_schema}
 
--- the rows of an address are gone, and nothing else is
-pub record HasDropped (address : List ℕ) (old new : Database) : Type 0 where
+-- the rows that pass a test are gone, and nothing else is
+pub record HasDropped (gone : Row → Bool) (old new : Database) : Type 0 where
   pub schema : new.schema ≡ old.schema
   pub layout : new.trees 0 ≡ old.trees 0
-  pub nodes : new.trees 1 ≡ delete_where (is_at address) (old.trees 1)
+  pub nodes : new.trees 1 ≡ delete_where gone (old.trees 1)
+
+-- the row is one of the address, and its number lies from low up to, and without, high
+abbrev pub is_part : List ℕ → ℕ → ℕ → Row → Bool
+is_part address low high row = is_at address row && (is_ge (value_cmp (column row 2) (Int (pos low))) && is_lt (value_cmp (column row 2) (Int (pos high))))
 
 -- an address has some rows more, and nothing else is changed
 pub record HasAdded (address : List ℕ) (added : List Row) (old new : Database) : Type 0 where
@@ -31,24 +35,29 @@ pub record HasAdded (address : List ℕ) (added : List Row) (old new : Database)
   pub others : (b : List ℕ) → b ≢ address → rows_at b (new.trees 1) ≡ rows_at b (old.trees 1)
 
 -- what a DELETE of so many rows makes of the tables of a store
-abbrev pub Deletes : List ℕ → Database → Database → ℕ → Type 0
-Deletes address old new count = old.schema ≡ store_schema → AreApart (old.trees 1) → HaveInts (old.trees 1)
-    → HasDropped address old new × (count ≡ length (filter (is_at address) (old.trees 1)))
+abbrev pub Deletes : (Row → Bool) → Database → Database → ℕ → Type 0
+Deletes gone old new count = old.schema ≡ store_schema → AreApart (old.trees 1) → HaveInts (old.trees 1)
+    → HasDropped gone old new × (count ≡ length (filter gone (old.trees 1)))
 
 -- DELETE inside a transaction
-pub record Drops (address : List ℕ) (old new : State) (count : ℕ) : Type 0 where
+pub record Drops (gone : Row → Bool) (old new : State) (count : ℕ) : Type 0 where
   pub inside : Shows old new new.now old.committed true
-  pub did : Deletes address old.now new.now count
+  pub did : Deletes gone old.now new.now count
 
 -- one or more INSERTs inside a transaction
 pub record Adds (address : List ℕ) (added : List Row) (old new : State) : Type 0 where
   pub mode : old.in_transaction ≡ true → new.in_transaction ≡ true
   pub did : old.now.schema ≡ store_schema → HasAdded address added old.now new.now
 
--- a whole put: the rows of the address are these alone, where there were so many before
-abbrev pub Puts : List ℕ → List Row → Database → Database → ℕ → Type 0
-Puts address rows old new count = old.schema ≡ store_schema → AreApart (old.trees 1) → HaveInts (old.trees 1)
-    → (mid : Database) × HasDropped address old mid × HasAdded address rows mid new × (count ≡ length (filter (is_at address) (old.trees 1)))
+-- a whole put into a store: the rows of the address are these alone, and the answer is whether there were others before
+abbrev pub Puts : List ℕ → List Row → Database → Database → Bool → Type 0
+Puts address rows old new replaced = IsStore old
+    → (mid : Database) × HasDropped (is_at address) old mid × HasAdded address rows mid new × (replaced ≡ nat_lt 0 (length (filter (is_at address) (old.trees 1))))
+
+-- the same inside a transaction
+pub record Replaces (address : List ℕ) (rows : List Row) (old new : State) (replaced : Bool) : Type 0 where
+  pub inside : new.in_transaction ≡ true
+  pub did : Puts address rows old.now new.now replaced
 
 -- what a SELECT gives that is ordered by its first column
 pub record IsPicked (passes : Row → Bool) (shows : Row → Row) (table rows : List Row) : Type 0 where

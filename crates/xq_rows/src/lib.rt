@@ -10,6 +10,7 @@ mod faults;
 mod memory_files;
 mod readings;
 mod refusals;
+mod replacements;
 mod statements;
 mod stores;
 mod tables;

@@ -7,9 +7,9 @@ ghost use Rattle.sqlite.specs.State.{HasCleanDisk, KeepsCommit};
 ghost use Rattle.sqlite.specs.Held.{state};
 ghost use Rattle.sqlite_trees.specs.View.{doubt};
 ghost use Rattle.xq_regions.specs.Rows.{placed};
-ghost use Rattle.xq_rows.specs.Documents.{IsReady};
+ghost use Rattle.xq_rows.specs.Documents.{IsReady, is_at};
 ghost use Rattle.xq_rows.specs.Nodes.{cells, number_of as number_of_lem};
-ghost use Rattle.xq_rows.specs.Statements.{Adds, AreAddresses, Drops, IsRange};
+ghost use Rattle.xq_rows.specs.Statements.{Adds, AreAddresses, Drops, IsRange, is_part};
 ghost use Rattle.xq_rows.specs.Tables.{store_schema};
 
 use sqlite::{Alter, Connection, Error, Row, Transaction, params};
@@ -35,11 +35,30 @@ pub fn delete_rows<S: Alter>(
     address: &str,
 ) -> Result<usize, Error>
     ensures same_reference { transaction.new.conn.ghost_name ≡ transaction.old.conn.ghost_name }
-    ensures dropped { HasCleanDisk (state S.Store transaction.new.conn.now) → IfOk result (Drops address.now (state S.Store transaction.old.conn.now) (state S.Store transaction.new.conn.now)) }
+    ensures dropped { HasCleanDisk (state S.Store transaction.new.conn.now) → IfOk result (Drops (is_at address.now) (state S.Store transaction.old.conn.now) (state S.Store transaction.new.conn.now)) }
     ensures kept { HasCleanDisk (state S.Store transaction.new.conn.now) → KeepsCommit (state S.Store transaction.old.conn.now) (state S.Store transaction.new.conn.now) }
     ensures clean { doubt (state S.Store transaction.old.conn.now).is_clean ≤ doubt (state S.Store transaction.new.conn.now).is_clean }
 {
     transaction.execute("DELETE FROM node WHERE address = ?1", params![address])
+}
+
+/// Deletes the rows of an address whose numbers are from `low` up to, and without, `high`, and says
+/// how many there were.
+pub fn delete_part<S: Alter>(
+    transaction: &mut Transaction<'_, S>,
+    address: &str,
+    low: u32,
+    high: u32,
+) -> Result<usize, Error>
+    ensures same_reference { transaction.new.conn.ghost_name ≡ transaction.old.conn.ghost_name }
+    ensures dropped { HasCleanDisk (state S.Store transaction.new.conn.now) → IfOk result (Drops (is_part address.now low high) (state S.Store transaction.old.conn.now) (state S.Store transaction.new.conn.now)) }
+    ensures kept { HasCleanDisk (state S.Store transaction.new.conn.now) → KeepsCommit (state S.Store transaction.old.conn.now) (state S.Store transaction.new.conn.now) }
+    ensures clean { doubt (state S.Store transaction.old.conn.now).is_clean ≤ doubt (state S.Store transaction.new.conn.now).is_clean }
+{
+    transaction.execute(
+        "DELETE FROM node WHERE address = ?1 AND pre >= ?2 AND pre < ?3",
+        params![address, low, high],
+    )
 }
 
 /// Inserts one row under an address.

@@ -146,12 +146,8 @@ impl<S: Alter> Store<S> {
         ensures stays { IsUp S.Store self.new → Holds S.Store self.old → Holds S.Store self.new }
         ensures was_up { IsUp S.Store self.new → IsUp S.Store self.old }
     {
-        let count = put_rows(&mut self.conn, address, document.rows())?;
-        let put = if count > 0 {
-            Put::Replaced
-        } else {
-            Put::Stored
-        };
+        let replaced = put_rows(&mut self.conn, address, document.rows())?;
+        let put = if replaced { Put::Replaced } else { Put::Stored };
         Ok(put)
     }
 

@@ -1,14 +1,15 @@
 //! The writes of a store, each in one transaction.
-ghost use Rattle.std.specs.Prelude.{◌≡◌, ◌≤◌, map, false, IfOk, OnErr, IsTrue};
+ghost use Rattle.std.specs.Prelude.{◌≡◌, ◌≤◌, length, map, false, IfOk, OnErr, IsTrue};
 ghost use Rattle.sqlite.specs.Held.{state};
 ghost use Rattle.sqlite_trees.specs.View.{doubt};
-ghost use Rattle.xq_regions.specs.Rows.{placed};
-ghost use Rattle.xq_rows.specs.Documents.{IsReady};
+ghost use Rattle.xq_regions.specs.Rows.{AreNumbered, placed};
+ghost use Rattle.xq_rows.specs.Documents.{IsReady, is_at};
 ghost use Rattle.xq_rows.specs.Nodes.{cells};
 ghost use Rattle.xq_rows.specs.Statements.{Deletes, Puts};
 
 use crate::refusals::Refusal;
-use crate::statements::{delete_rows, insert_rows};
+use crate::replacements::replace_rows;
+use crate::statements::delete_rows;
 use sqlite::{Alter, Connection};
 use xq_regions::NodeRow;
 
@@ -19,7 +20,7 @@ pub fn drop_rows<S: Alter>(conn: &mut Connection<S>, address: &str) -> Result<us
     ensures clean { doubt (state S.Store conn.old).is_clean ≤ doubt (state S.Store conn.new).is_clean }
     ensures open { IsReady (state S.Store conn.new) → IsTrue (state S.Store conn.old).is_open }
     ensures kept { IsReady (state S.Store conn.new) → OnErr result ((state S.Store conn.new).now ≡ (state S.Store conn.old).now) }
-    ensures dropped { IsReady (state S.Store conn.new) → IfOk result (Deletes address.now (state S.Store conn.old).now (state S.Store conn.new).now) }
+    ensures dropped { IsReady (state S.Store conn.new) → IfOk result (Deletes (is_at address.now) (state S.Store conn.old).now (state S.Store conn.new).now) }
 {
     let _settled = conn.is_autocommit();
     let mut transaction = conn.transaction();
@@ -28,13 +29,15 @@ pub fn drop_rows<S: Alter>(conn: &mut Connection<S>, address: &str) -> Result<us
     Ok(count)
 }
 
-/// Puts these rows in the place of those of the address, and says how many these were.
+/// Puts these rows in the place of those of the address, and says whether there were any.
 pub fn put_rows<S: Alter>(
     conn: &mut Connection<S>,
     address: &str,
     rows: &[NodeRow],
-) -> Result<usize, Refusal>
-    requires { conn.old.in_transaction ≡ false }
+) -> Result<bool, Refusal>
+    requires outside { conn.old.in_transaction ≡ false }
+    requires numbered { AreNumbered 0 rows.now }
+    requires few { length rows.now ≤ 1000000 }
     ensures mode { conn.new.in_transaction ≡ false }
     ensures clean { doubt (state S.Store conn.old).is_clean ≤ doubt (state S.Store conn.new).is_clean }
     ensures open { IsReady (state S.Store conn.new) → IsTrue (state S.Store conn.old).is_open }
@@ -43,8 +46,7 @@ pub fn put_rows<S: Alter>(
 {
     let _settled = conn.is_autocommit();
     let mut transaction = conn.transaction();
-    let replaced = delete_rows(&mut transaction, address)?;
-    insert_rows(&mut transaction, address, rows)?;
+    let replaced = replace_rows(&mut transaction, address, rows)?;
     transaction.commit()?;
     Ok(replaced)
 }
