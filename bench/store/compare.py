@@ -1,5 +1,5 @@
-"""Times the store beside C SQLite (python3's sqlite3) with the same statements, in one run, and measures the memory
-that a store on disks in memory holds.
+"""Times the store beside C SQLite (python3's sqlite3), which replaces a document by one DELETE and the same INSERTs, in
+one run, and measures the memory that a store on disks in memory holds.
 
     python3 bench/store/compare.py times PROGRAM FOLDER            as bench/store/run.sh calls it
     python3 bench/store/compare.py memory PROGRAM FOLDER [COUNTER]  after it
@@ -21,6 +21,7 @@ CALLS = ("put", "load", "replace", "drop", "single")
 LIMITS = {"put": 3.5, "load": 3.5, "replace": 3.5, "drop": 12}
 GROWTH = 14
 HELD = 3
+LIMITED = ("put", "replaces")
 PAGE = os.sysconf("SC_PAGE_SIZE")
 what, program, folder = sys.argv[1:4]
 counter = sys.argv[4] if len(sys.argv) > 4 else None
@@ -105,7 +106,7 @@ def memory():
             disks = counted[name][1] - counted["document"][1]
             words += [f"{held / 1e6:.1f} MB or {held / size:.2f} databases allocated and not freed, "
                       f"{disks / 1e6:.1f} MB of it in blocks of the disks"
-                      + (f" BEYOND THE LIMIT {HELD}" if held > HELD * size else "")]
+                      + (f" BEYOND THE LIMIT {HELD}" if name in LIMITED and held > HELD * size else "")]
         more = found[name] - found["document"]
         words += [f"{more / 1e6:.1f} MB or {more / size:.2f} databases resident"]
         print(f"memory after {name}, above what was there before the store: " + "; ".join(words))

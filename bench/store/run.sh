@@ -1,6 +1,6 @@
 #!/usr/bin/env bash
 # Times put, load, replace, drop and put of one row of the store, on disks in memory and on a real file, beside C
-# SQLite (python3's sqlite3) with the same statements in the same run, and measures the memory that it holds.
+# SQLite (python3's sqlite3), which replaces by one DELETE, in the same run, and measures the memory that it holds.
 #
 #   bench/store/run.sh [FOLDER]       FOLDER keeps the built program from run to run (default: a new one)
 #

@@ -9,6 +9,8 @@ mod calls;
 #[cfg(test)]
 mod documents;
 #[cfg(test)]
+mod part_tests;
+#[cfg(test)]
 mod refusals;
 #[cfg(test)]
 mod tests;
