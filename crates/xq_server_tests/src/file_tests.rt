@@ -1,7 +1,6 @@
 //! Stores in files: a service, its end, and the next over the same file.
 
-use crate::tests::{LIBRARY, PUT_B, check};
-use sqlite::{FileFrom, FileStore, Unknown};
+use crate::tests::{LIBRARY, PUT_B, is_answered};
 use std::fs;
 use std::test::Fail;
 use xq_command::files::open_file;
@@ -14,18 +13,23 @@ fn make_folder(rt: &HostRuntime, folder: &str) -> Result<(), Fail> {
     Ok(())
 }
 
-/// A server over the store in a file.
-fn opened(rt: &HostRuntime, path: &str) -> Result<Server<FileStore<FileFrom<Unknown>>>, Fail> {
-    match open_file(rt, path) {
-        Some(store) => Ok(Server::new(rt.alloc(), store)),
-        None => Err(Fail::new("the file is no store")),
-    }
-}
-
-/// Ends a server, and copies its log into its file.
-fn close(server: Server<FileStore<FileFrom<Unknown>>>) -> Result<(), Fail> {
+/// Opens a server over the store in a file, sends it one request, and ends it, whose log is copied
+/// into its file. Says whether the reply is the one that is wanted.
+///
+/// It takes long to prove how such a server is dropped, so it lives here alone.
+fn ask_file(
+    rt: &HostRuntime,
+    path: &str,
+    request: (u8, &[u8]),
+    wanted: (u8, &[u8]),
+) -> Result<bool, Fail> {
+    let Some(store) = open_file(rt, path) else {
+        return Err(Fail::new("the file is no store"));
+    };
+    let mut server = Server::new(rt.alloc(), store);
+    let is_right = is_answered(rt.alloc(), &mut server, 3, request, wanted)?;
     match server.into_store().release().close() {
-        Ok(()) => Ok(()),
+        Ok(()) => Ok(is_right),
         Err(_error) => Err(Fail::new("the file was not closed")),
     }
 }
@@ -45,9 +49,7 @@ fn documents_outlive_a_service(rt: HostRuntime) -> Result<(), Fail> {
         ((b'L', b""), (0, b"()")),
     ];
     for (request, wanted) in rows {
-        let mut server = opened(&rt, "xq_server_kept/x.db")?;
-        check(&rt, &mut server, 3, request, wanted)?;
-        close(server)?;
+        assert!(rt; ask_file(&rt, "xq_server_kept/x.db", request, wanted)?);
     }
     fs::remove_dir_all(&rt, "xq_server_kept")?;
     Ok(())
@@ -58,9 +60,7 @@ fn documents_outlive_a_service(rt: HostRuntime) -> Result<(), Fail> {
 fn other_files(rt: HostRuntime) -> Result<(), Fail> {
     make_folder(&rt, "xq_server_other")?;
     fs::write(&rt, "xq_server_other/empty", b"")?;
-    let mut server = opened(&rt, "xq_server_other/empty")?;
-    check(&rt, &mut server, 3, (b'L', b""), (0, b"()"))?;
-    close(server)?;
+    assert!(rt; ask_file(&rt, "xq_server_other/empty", (b'L', b""), (0, b"()"))?);
     let text = b"This is a text, and no database.";
     fs::write(&rt, "xq_server_other/text", text)?;
     assert!(rt; open_file(&rt, "xq_server_other/text").is_none());

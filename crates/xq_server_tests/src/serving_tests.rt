@@ -55,16 +55,27 @@ const NOTHINGS: &[u8] =
 
 /// Serves at most so many frames over an empty map, and checks how that ends, and that this many
 /// bytes of the replies were written.
-fn check_end(
+fn check_replies(
     rt: &(impl Abort + AllocGlobal),
     (source, sink): (&mut Source<'_>, &mut Sink),
     max_frames: u64,
     (end, written): (End, usize),
+    replies: &[u8],
 ) -> Result<(), Fail> {
     let mut server = new_server(rt.alloc())?;
     assert_eq!(rt; server.serve(source, sink, max_frames), end);
-    assert_eq!(rt; Some(sink.taken.as_slice()), NOTHINGS.get(..written));
+    assert_eq!(rt; Some(sink.taken.as_slice()), replies.get(..written));
     Ok(())
+}
+
+/// The same where the requests are for all addresses.
+fn check_end(
+    rt: &(impl Abort + AllocGlobal),
+    streams: (&mut Source<'_>, &mut Sink),
+    max_frames: u64,
+    wanted: (End, usize),
+) -> Result<(), Fail> {
+    check_replies(rt, streams, max_frames, wanted, NOTHINGS)
 }
 
 #[test]
@@ -192,11 +203,9 @@ fn too_long(rt: HostRuntime) -> Result<(), Fail> {
         let mut source = Source::new(b"\x00\x10\x01\x01rest");
         let mut sink = Sink::new(Vec::new(rt.alloc()));
         sink.room = room;
-        let mut server = new_server(rt.alloc())?;
-        assert_eq!(rt; server.serve(&mut source, &mut sink, 10), end);
+        let reply = b"\x00\x00\x00\x0e\x00\x00\x00\x00\x01prof:LONG";
+        check_replies(&rt, (&mut source, &mut sink), 10, (end, written), reply)?;
         assert_eq!(rt; source.bytes, b"rest".as_slice());
-        let reply = b"\x00\x00\x00\x0e\x00\x00\x00\x00\x01prof:LONG".as_slice();
-        assert_eq!(rt; Some(sink.taken.as_slice()), reply.get(..written));
     }
     Ok(())
 }

@@ -39,19 +39,34 @@ pub fn new_server(alloc: Global) -> Result<Server<FileStore<MemoryDisk>>, Fail> 
     Ok(Server::new(alloc, Store::new_on_memory_disks(alloc)?))
 }
 
-/// Sends one request, and checks its reply and the end of the run.
-pub fn check<S: Alter>(
-    rt: &(impl Abort + AllocGlobal),
+/// Sends one request, and says whether its reply is the one that is wanted, and the run ends after
+/// it.
+pub fn is_answered<S: Alter>(
+    alloc: Global,
     server: &mut Server<S>,
     tag: u32,
     (kind, body): (u8, &[u8]),
     (status, text): (u8, &[u8]),
-) -> Result<(), AllocError> {
-    let mut out = Vec::new(rt.alloc());
-    let end = server.run(&frame(rt.alloc(), tag, kind, body)?, &mut out);
-    let wanted = reply(rt.alloc(), tag, status, text)?;
-    assert_eq!(rt; end, End::Finished);
-    assert_eq!(rt; out.as_slice(), wanted.as_slice(), "tag {tag}");
+) -> Result<bool, AllocError> {
+    let mut out = Vec::new(alloc);
+    let end = server.run(&frame(alloc, tag, kind, body)?, &mut out);
+    let wanted = reply(alloc, tag, status, text)?;
+    Ok(end == End::Finished && out.as_slice() == wanted.as_slice())
+}
+
+/// Sends the requests to one new server, so many times one after the other, and checks each reply.
+fn check_all(
+    rt: &(impl Abort + AllocGlobal),
+    rounds: u32,
+    rows: &[((u8, &[u8]), (u8, &[u8]))],
+) -> Result<(), Fail> {
+    let mut server = new_server(rt.alloc())?;
+    for tag in 0..rounds {
+        for (at, (request, wanted)) in rows.iter().enumerate() {
+            let is_right = is_answered(rt.alloc(), &mut server, tag, *request, *wanted)?;
+            assert!(rt; is_right, "request {at} of round {tag}");
+        }
+    }
     Ok(())
 }
 
@@ -81,7 +96,8 @@ fn worked_rows(rt: HostRuntime) -> Result<(), Fail> {
     let mut server = new_server(rt.alloc())?;
     let mut tag = 0;
     for (request, wanted) in worked_requests() {
-        check(&rt, &mut server, tag, request, wanted)?;
+        let is_right = is_answered(rt.alloc(), &mut server, tag, request, wanted)?;
+        assert!(rt; is_right, "row {tag}");
         tag = tag.wrapping_add(1);
     }
     for (bytes, replies, end) in inputs() {
@@ -113,7 +129,6 @@ pub fn inputs() -> [(&'static [u8], &'static [u8], End); 4] {
 /// Malformed frames, and the order in which the faults of one request are judged.
 #[test]
 fn refusals(rt: HostRuntime) -> Result<(), Fail> {
-    let mut server = new_server(rt.alloc())?;
     let rows: [((u8, &[u8]), (u8, &[u8])); 14] = [
         ((b'S', b""), (1, b"prof:FRAME")),
         ((b'S', b"\x02a"), (1, b"prof:FRAME")),
@@ -130,16 +145,12 @@ fn refusals(rt: HostRuntime) -> Result<(), Fail> {
         ((b'Q', b"document { }"), (1, b"XPST0003")),
         ((b'L', b""), (0, b"()")),
     ];
-    for (request, wanted) in rows {
-        check(&rt, &mut server, 7, request, wanted)?;
-    }
-    Ok(())
+    check_all(&rt, 1, &rows)
 }
 
 /// A document is copied under a second address; line ends are read as line feeds.
 #[test]
 fn copies_and_line_ends(rt: HostRuntime) -> Result<(), Fail> {
-    let mut server = new_server(rt.alloc())?;
     let rows: [((u8, &[u8]), (u8, &[u8])); 5] = [
         ((b'S', PUT_B), (0, b"stored")),
         ((b'S', b"\x03x/ydoc(\"b\")"), (0, b"stored")),
@@ -150,23 +161,19 @@ fn copies_and_line_ends(rt: HostRuntime) -> Result<(), Fail> {
             (0, b"document {text {\"1\n2\n3\n4\n\n5&#xD;6\"}}"),
         ),
     ];
-    for (request, wanted) in rows {
-        check(&rt, &mut server, 8, request, wanted)?;
-    }
-    Ok(())
+    check_all(&rt, 1, &rows)
 }
 
 /// Storing, replacing, asking and dropping again and again never wants for anything.
 #[test]
 fn fifty_rounds(rt: HostRuntime) -> Result<(), Fail> {
-    let mut server = new_server(rt.alloc())?;
-    for tag in 0..50u32 {
-        check(&rt, &mut server, tag, (b'S', PUT_B), (0, b"stored"))?;
-        check(&rt, &mut server, tag, (b'S', PUT_B), (0, b"replaced"))?;
-        check(&rt, &mut server, tag, (b'Q', DOC_B), (0, LIBRARY))?;
-        check(&rt, &mut server, tag, (b'D', b"b"), (0, b"dropped"))?;
-    }
-    Ok(())
+    let rows: [((u8, &[u8]), (u8, &[u8])); 4] = [
+        ((b'S', PUT_B), (0, b"stored")),
+        ((b'S', PUT_B), (0, b"replaced")),
+        ((b'Q', DOC_B), (0, LIBRARY)),
+        ((b'D', b"b"), (0, b"dropped")),
+    ];
+    check_all(&rt, 50, &rows)
 }
 
 /// The store outlives its server, and another server goes on with it.
@@ -174,8 +181,8 @@ fn fifty_rounds(rt: HostRuntime) -> Result<(), Fail> {
 fn gives_the_store_back(rt: HostRuntime) -> Result<(), Fail> {
     let store = Store::new_in_memory(rt.alloc())?;
     let mut server = Server::new(rt.alloc(), store);
-    check(&rt, &mut server, 1, (b'S', PUT_B), (0, b"stored"))?;
+    assert!(rt; is_answered(rt.alloc(), &mut server, 1, (b'S', PUT_B), (0, b"stored"))?);
     let mut next = Server::new(rt.alloc(), server.into_store());
-    check(&rt, &mut next, 2, (b'Q', DOC_B), (0, LIBRARY))?;
+    assert!(rt; is_answered(rt.alloc(), &mut next, 2, (b'Q', DOC_B), (0, LIBRARY))?);
     Ok(())
 }
