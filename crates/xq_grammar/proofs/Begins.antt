@@ -1,5 +1,5 @@
 -- What a single begins with.
-use Rattle.std.proofs.Common.{◌≡◌, ℕ, zero, suc, Bool, true, false, List, [], ◌∷◌, Option, Some, None, refl, inl, inr, ◌⊎◌}
+use Rattle.std.proofs.Common.{◌≡◌, Bool, true, List, [], ◌∷◌, refl, inl, inr}
 use Rattle.xq_lexer.specs.Lexeme.{Lex, name, prefixed, int, dec, str, symbol}
 use Rattle.xq_expressions.specs.declared.names.QName.{QName}
 use Rattle.xq_expressions.specs.declared.operators.Sign.{Sign}
@@ -8,11 +8,11 @@ use Rattle.xq_expressions.specs.declared.operators.AxisStep.{AxisStep}
 use Rattle.xq_expressions.specs.declared.expressions.Expr.{Expr}
 use Rattle.xq_expressions.specs.declared.expressions.Step.{Step}
 use Rattle.xq_grammar.specs.Look.{Tokens, begins_step}
-use Rattle.xq_grammar.specs.Rel.{Rel, OneOf, ◌&◌, ◌▹◌, ◌◃◌, ◌⟨$⟩◌, ◌∣◌, Maybe, Many}
+use Rattle.xq_grammar.specs.Rel.{Rel, OneOf, ◌&◌, ◌⟨$⟩◌, Many}
 use Rattle.xq_grammar.specs.Grammar as g
-use Rattle.xq_grammar.proofs.Tokens.{every, every_found}
+use Rattle.xq_grammar.proofs.Tokens.{every_found}
 use Rattle.xq_grammar.proofs.Rank.{is_word, begins_path, begins_phrase, step_is_path, path_is_phrase, kind_begins}
-use Rattle.xq_grammar.proofs.NameLines.{word_is, kind_reads}
+use Rattle.xq_grammar.proofs.NameLines.{kind_reads}
 
 -- a name begins all that a phrase may begin with
 word_begins : (t : Lex) (ts : Tokens) → is_word t ≡ true → begins_step (t ∷ ts) ≡ true

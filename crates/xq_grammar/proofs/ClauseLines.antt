@@ -1,5 +1,5 @@
 -- Conditions, quantified expressions and clauses that are derived are read.
-use Rattle.std.proofs.Common.{◌≡◌, ℕ, zero, suc, ◌+◌, ◌<◌, ◌≤◌, Bool, true, false, List, [], ◌∷◌, length, Option, Some, None, refl, sym, ap, subst, ◌∙◌, arith, inl, inr, ◌⊎◌}
+use Rattle.std.proofs.Common.{◌≡◌, ℕ, suc, ◌<◌, Bool, true, false, List, [], ◌∷◌, length, Option, Some, None, refl, sym, ap, subst, ◌∙◌, arith, inl, inr}
 use Rattle.std.specs.Prelude.{codes, not, ◌||◌, ◌&&◌}
 use Rattle.std.specs.Str.{bytes_eq}
 use Rattle.xq_lexer.specs.Lexeme.{Lex, name, prefixed, int, dec, str, symbol}
@@ -8,25 +8,22 @@ use Rattle.xq_lexer.specs.declared.tokens.Symbol.TheVariants as s
 use Rattle.xq_expressions.specs.declared.names.QName.{QName}
 use Rattle.xq_expressions.specs.declared.operators.Direction.{Direction}
 use Rattle.xq_expressions.specs.declared.operators.EmptyOrder.{EmptyOrder}
-use Rattle.xq_expressions.specs.declared.operators.OrderModifier.{OrderModifier}
 use Rattle.xq_expressions.specs.declared.expressions.Expr.{Expr}
 use Rattle.xq_expressions.specs.declared.expressions.Clause.{Clause}
-use Rattle.xq_expressions.specs.declared.expressions.Clause.TheVariants as clause
-use Rattle.xq_expressions.specs.declared.expressions.GroupSpec.{GroupSpec}
-use Rattle.xq_grammar.specs.Look.{Tokens, Table, lookup, same, same_symbol, word}
-use Rattle.xq_grammar.specs.Rel.{Rel, empty, Is, OneOf, ◌&◌, ◌▹◌, ◌◃◌, ◌⟨$⟩◌, ◌∣◌, Maybe, Many}
+use Rattle.xq_grammar.specs.Look.{Tokens, lookup, same, word}
+use Rattle.xq_grammar.specs.Rel.{Rel, ◌&◌, ◌▹◌, ◌∣◌, Maybe}
 use Rattle.xq_grammar.specs.Grammar as g
 use Rattle.xq_grammar.specs.Reading.{Outcome, Parser, and_then, one_of, begins, found, is, expect, only, many, begins_brace, clause_words, begins_flwor, begins_quantified, begins_if}
 use Rattle.xq_grammar.specs.Reading as r
 use Rattle.xq_grammar.proofs.Tokens.{every, every_found}
-use Rattle.xq_grammar.proofs.Moves.{Moves, AllMove, Deepens, one, token, plain, is_plain, then, stays, move-many, move-maybe, move-▹}
+use Rattle.xq_grammar.proofs.Moves.{AllMove, Deepens, one, token, plain, is_plain, move-many, move-maybe, move-▹}
 use Rattle.xq_grammar.proofs.LinesMove as m
-use Rattle.xq_grammar.proofs.Rank.{rank, rank_of, has_rank, rank-plain, table_rank, table_stops, is_word, begins_phrase, phrase_no_brace, Plain}
-use Rattle.xq_grammar.proofs.NameLines.{word_is, Dollar, variable_line, variable_reads}
+use Rattle.xq_grammar.proofs.Rank.{rank, rank_of, has_rank, rank-plain, table_rank, table_stops, is_word, begins_phrase, phrase_no_brace}
+use Rattle.xq_grammar.proofs.NameLines.{Dollar, variable_line, variable_reads}
 use Rattle.xq_grammar.proofs.PrimaryLines as p
 use Rattle.xq_grammar.proofs.PrimaryLines.{parenthesis_low}
 use Rattle.xq_grammar.proofs.OperatorLines as o
-use Rattle.xq_grammar.proofs.Complete.{is_fixed, Fits, Deeper, fits_after, deeper_after, deeper_fits, enter, enter_word, Reads, Item, value_is, only_at, is_at, one_of_at, begins_at, item-▹, reads-maybe, reads-map, reads-&, reads-▹, reads-∣, reads-◃, reads-open, reads_to, follows}
+use Rattle.xq_grammar.proofs.Complete.{is_fixed, Fits, Deeper, deeper_after, deeper_fits, enter_word, Reads, Item, value_is, only_at, is_at, one_of_at, begins_at, item-▹, reads-maybe, reads-map, reads-&, reads-▹, reads-◃, reads-open, reads_to, follows}
 
 -- ---- words
 

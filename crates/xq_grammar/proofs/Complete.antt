@@ -1,19 +1,16 @@
 -- What is derived is read: for each way to put a line together.
-use Rattle.std.proofs.Common.{◌≡◌, ℕ, zero, suc, ◌+◌, ◌<◌, ◌≤◌, max, Bool, true, false, cond, List, [], ◌∷◌, length, Option, Some, None, refl, sym, ap, subst, ◌∙◌, arith, inl, inr, ◌⊎◌}
-use Rattle.std.specs.Str.{bytes_eq}
+use Rattle.std.proofs.Common.{◌≡◌, ℕ, zero, suc, ◌+◌, ◌<◌, ◌≤◌, Bool, true, false, List, [], ◌∷◌, length, Option, Some, None, refl, sym, ap, subst, arith, inl, inr}
 use Rattle.std.proofs.lemmas.Slice.Eq.{bytes_eq-Decides}
 use denote.Enum.Bare.{true_same}
 use Rattle.xq_lexer.specs.contracts.tokens.Symbol.{the_type}
 use Rattle.xq_lexer.specs.Lexeme.{Lex, name, prefixed, int, dec, str, symbol}
-use Rattle.xq_lexer.specs.declared.tokens.Symbol.TheVariants as s
 use Rattle.xq_lexer.specs.Nesting.{greatest}
-use Rattle.xq_expressions.specs.declared.expressions.Expr.{Expr}
 use Rattle.xq_grammar.specs.Look.{Tokens, Table, lookup, same, same_symbol}
-use Rattle.xq_grammar.specs.Rel.{Rel, empty, Is, OneOf, ◌&◌, ◌▹◌, ◌◃◌, ◌⟨$⟩◌, ◌∣◌, Maybe, Many}
-use Rattle.xq_grammar.specs.Reading.{Outcome, Parser, and_then, one_of, begins, found, is, expect, only, with_rest, pure, both, mapped, after, before, choose, maybe, many, many_from, begins_brace}
+use Rattle.xq_grammar.specs.Rel.{Rel, empty, OneOf, ◌&◌, ◌▹◌, ◌◃◌, ◌⟨$⟩◌, ◌∣◌, Maybe, Many}
+use Rattle.xq_grammar.specs.Reading.{Outcome, Parser, one_of, begins, is, expect, pure, both, mapped, after, before, choose, maybe, many, many_from, begins_brace}
 use Rattle.xq_grammar.proofs.Tokens.{every}
-use Rattle.xq_grammar.proofs.Moves.{Under, Moves, AllMove, Opens, Deepens, stays, then, one, token, plain, is_plain, greatest-at}
-use Rattle.xq_grammar.proofs.Rank.{rank, rank_of, has_rank, table_rank, table_stops, rank-plain}
+use Rattle.xq_grammar.proofs.Moves.{Under, Moves, AllMove, Opens, Deepens, then, one, token, plain, is_plain, greatest-at}
+use Rattle.xq_grammar.proofs.Rank.{rank, rank_of, has_rank, table_rank, rank-plain}
 
 -- ---- room for what nests
 

@@ -1,13 +1,11 @@
 -- No line of the grammar lowers the number of nested constructs.
-use Rattle.std.proofs.Common.{◌≡◌, ℕ, List, [], ◌∷◌, refl, inl, inr, ◌⊎◌}
-use Rattle.std.specs.Prelude.{codes}
-use Rattle.xq_lexer.specs.Lexeme.{Lex, name, prefixed, int, dec, str, symbol}
+use Rattle.std.proofs.Common.{ℕ, List, refl}
+use Rattle.xq_lexer.specs.Lexeme.{name, prefixed, int, dec, str, symbol}
 use Rattle.xq_lexer.specs.declared.tokens.Symbol.TheVariants as s
 use Rattle.xq_expressions.specs.declared.expressions.Expr.{Expr}
-use Rattle.xq_grammar.specs.Look.{Tokens}
-use Rattle.xq_grammar.specs.Rel.{Rel, empty, ◌&◌, ◌▹◌, ◌◃◌, ◌⟨$⟩◌, ◌∣◌, OneOf, Maybe, Many}
+use Rattle.xq_grammar.specs.Rel.{Rel, empty, ◌▹◌, ◌◃◌, ◌∣◌, OneOf, Many}
 use Rattle.xq_grammar.specs.Grammar as g
-use Rattle.xq_grammar.proofs.Moves.{Moves, AllMove, one, move-&, move-▹, move-map, move-∣, move-maybe, move-many, move-empty, move-is, move-one_of, move-between}
+use Rattle.xq_grammar.proofs.Moves.{AllMove, one, move-&, move-▹, move-map, move-∣, move-maybe, move-many, move-empty, move-is, move-one_of, move-between}
 
 pub nc-moves : AllMove g.NC
 nc-moves ts n us d = one (name n) ts us refl d

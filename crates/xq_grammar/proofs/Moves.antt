@@ -1,11 +1,11 @@
 -- Nothing that is derived leaves the number of nested constructs lower than it was.
-use Rattle.std.proofs.Common.{◌≡◌, ℕ, zero, suc, ◌+◌, ◌<◌, ◌≤◌, max, Bool, true, false, cond, List, [], ◌∷◌, length, Option, Some, None, refl, sym, ap, subst, ◌∙◌, arith, inl, inr, ◌⊎◌}
+use Rattle.std.proofs.Common.{◌≡◌, ℕ, ◌+◌, ◌≤◌, max, Bool, true, false, List, [], ◌∷◌, length, Some, None, refl, ap, subst, arith, inl, inr, ◌⊎◌}
 use Rattle.std.specs.Prelude.{codes}
 use Rattle.std.specs.Str.{bytes_eq}
 use Rattle.xq_lexer.specs.Lexeme.{Lex, name, prefixed, int, dec, str, symbol}
 use Rattle.xq_lexer.specs.declared.tokens.Symbol.TheVariants as s
 use Rattle.xq_lexer.specs.Nesting.{change, changed, greatest, is_binder}
-use Rattle.xq_grammar.specs.Look.{Tokens, Table, lookup}
+use Rattle.xq_grammar.specs.Look.{Tokens, Table}
 use Rattle.xq_grammar.specs.Rel.{Rel, empty, Is, OneOf, ◌&◌, ◌▹◌, ◌◃◌, ◌⟨$⟩◌, ◌∣◌, Maybe, Many}
 use Rattle.xq_grammar.proofs.Tokens.{every, every_found}
 

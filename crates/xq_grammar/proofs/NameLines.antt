@@ -1,6 +1,5 @@
 -- Names and node tests that are derived are read.
-use Rattle.std.proofs.Common.{◌≡◌, ℕ, zero, suc, ◌<◌, ◌≤◌, Bool, true, false, List, [], ◌∷◌, Option, Some, None, refl, sym, ap, subst, ◌∙◌, arith, inl, inr, ◌⊎◌}
-use Rattle.std.specs.Prelude.{codes, not, ◌&&◌}
+use Rattle.std.proofs.Common.{◌≡◌, ℕ, ◌<◌, true, false, List, ◌∷◌, Option, Some, None, refl, sym, ap, subst, ◌∙◌, inl, inr}
 use Rattle.xq_lexer.specs.Lexeme.{Lex, name, prefixed, int, dec, str, symbol}
 use Rattle.xq_lexer.specs.declared.tokens.Symbol.TheVariants as s
 use Rattle.xq_expressions.specs.declared.names.QName.{QName}
@@ -9,14 +8,14 @@ use Rattle.xq_expressions.specs.declared.operators.NodeTest.TheVariants as nodet
 use Rattle.xq_expressions.specs.declared.operators.AxisStep.{AxisStep}
 use Rattle.xq_expressions.specs.declared.operators.AxisStep.TheVariants as along
 use Rattle.xq_expressions.specs.declared.expressions.Expr.{Expr}
-use Rattle.xq_grammar.specs.Look.{Tokens, Table, lookup, same, same_symbol, word, begins_step}
-use Rattle.xq_grammar.specs.Rel.{Rel, empty, Is, OneOf, ◌&◌, ◌▹◌, ◌◃◌, ◌⟨$⟩◌, ◌∣◌, Maybe, Many}
+use Rattle.xq_grammar.specs.Look.{Tokens, lookup, same, same_symbol, word, begins_step}
+use Rattle.xq_grammar.specs.Rel.{Rel, OneOf, ◌&◌, ◌▹◌, ◌◃◌, ◌⟨$⟩◌, Maybe}
 use Rattle.xq_grammar.specs.Grammar as g
 use Rattle.xq_grammar.specs.Reading.{Outcome, Parser, and_then, one_of, begins, is, expect, only, begins_nc, begins_name, begins_name_test, begins_axis, begins_primary, begins_literal, begins_call, begins_make, begins_flwor, begins_quantified, begins_if}
 use Rattle.xq_grammar.specs.Reading as r
 use Rattle.xq_grammar.proofs.Tokens.{every, every_found}
-use Rattle.xq_grammar.proofs.Rank.{rank, is_word, Plain, NameAlone, name_alone, prefixed_alone, prefixed_plain, kind_word, KindBegins, kind_begins}
-use Rattle.xq_grammar.proofs.Complete.{Reads, value_is, one_of_at, begins_at, only_at, is_at}
+use Rattle.xq_grammar.proofs.Rank.{rank, is_word, Plain, name_alone, prefixed_alone, prefixed_plain, kind_word, kind_begins}
+use Rattle.xq_grammar.proofs.Complete.{Reads, value_is, one_of_at, begins_at, only_at}
 
 -- a token that is a name
 pub word_is : (t : Lex) → is_word t ≡ true → (n : List ℕ) × (t ≡ name n)

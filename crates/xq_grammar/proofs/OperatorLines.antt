@@ -1,27 +1,26 @@
 -- Steps, paths and operators that are derived are read.
-use Rattle.std.proofs.Common.{◌≡◌, ℕ, zero, suc, ◌<◌, ◌≤◌, Bool, true, false, List, [], ◌∷◌, length, Option, Some, None, refl, sym, ap, subst, ◌∙◌, arith, inl, inr, ◌⊎◌}
-use Rattle.std.specs.Prelude.{codes, not, ◌||◌}
+use Rattle.std.proofs.Common.{◌≡◌, ℕ, zero, suc, ◌<◌, ◌≤◌, Bool, true, false, List, [], ◌∷◌, length, Some, refl, ap, subst, ◌∙◌, arith, inl, inr}
+use Rattle.std.specs.Prelude.{◌||◌}
 use Rattle.xq_lexer.specs.Lexeme.{Lex, name, prefixed, int, dec, str, symbol}
 use Rattle.xq_lexer.specs.declared.tokens.Symbol.TheVariants as s
 use Rattle.xq_expressions.specs.declared.operators.Sign.{Sign}
-use Rattle.xq_expressions.specs.declared.operators.Separator.{Separator}
 use Rattle.xq_expressions.specs.declared.operators.Start.TheVariants as start
 use Rattle.xq_expressions.specs.declared.expressions.Expr.{Expr}
 use Rattle.xq_expressions.specs.declared.expressions.Expr.TheVariants as e
 use Rattle.xq_expressions.specs.declared.expressions.Step.{Step}
 use Rattle.xq_grammar.specs.Look.{Tokens, Table, lookup, same, same_symbol, word, begins_step}
-use Rattle.xq_grammar.specs.Rel.{Rel, empty, Is, OneOf, ◌&◌, ◌▹◌, ◌◃◌, ◌⟨$⟩◌, ◌∣◌, Maybe, Many}
+use Rattle.xq_grammar.specs.Rel.{Rel, OneOf, ◌&◌, ◌▹◌, ◌⟨$⟩◌, ◌∣◌, Many}
 use Rattle.xq_grammar.specs.Grammar as g
 use Rattle.xq_grammar.specs.Reading.{Outcome, Parser, and_then, one_of, begins, is, expect, only, many, many_from, begins_primary, begins_lone, begins_flwor, begins_quantified, begins_if, begins_union}
 use Rattle.xq_grammar.specs.Reading as r
 use Rattle.xq_grammar.proofs.Tokens.{every, every_found}
-use Rattle.xq_grammar.proofs.Moves.{Moves, AllMove, one, token, plain, is_plain, then, move-one_of, move-∣, move-many}
+use Rattle.xq_grammar.proofs.Moves.{AllMove, one, is_plain, move-one_of, move-∣, move-many}
 use Rattle.xq_grammar.proofs.LinesMove as m
-use Rattle.xq_grammar.proofs.Rank.{rank, rank_of, has_rank, table_rank, table_stops, is_word, begins_path, begins_phrase, step_is_path, path_is_phrase, path_no_sign, phrase_no_brace, Plain}
-use Rattle.xq_grammar.proofs.NameLines.{AxisBegins, axis_reads}
+use Rattle.xq_grammar.proofs.Rank.{rank, rank_of, has_rank, table_stops, begins_path, begins_phrase, step_is_path, path_is_phrase, path_no_sign, phrase_no_brace, Plain}
+use Rattle.xq_grammar.proofs.NameLines.{axis_reads}
 use Rattle.xq_grammar.proofs.PrimaryLines as p
 use Rattle.xq_grammar.proofs.PrimaryLines.{bracket_rank, bracket_stops, close_bracket_low}
-use Rattle.xq_grammar.proofs.Complete.{is_fixed, Fits, Deeper, fits_after, Reads, Item, value_is, only_at, is_at, one_of_at, begins_at, item-▹, item-one_of, reads-chain, reads-optional, reads-many, reads-map, reads-&, reads-∣, reads-◃, reads-open}
+use Rattle.xq_grammar.proofs.Complete.{is_fixed, Fits, Deeper, fits_after, Reads, Item, value_is, only_at, is_at, one_of_at, begins_at, item-▹, item-one_of, reads-chain, reads-optional, reads-many, reads-&, reads-∣, reads-◃, reads-open}
 
 -- ---- ranks of the operators
 

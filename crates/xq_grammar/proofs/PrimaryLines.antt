@@ -1,5 +1,5 @@
 -- Primary expressions that are derived are read.
-use Rattle.std.proofs.Common.{◌≡◌, ℕ, zero, suc, ◌<◌, ◌≤◌, Bool, true, false, List, [], ◌∷◌, length, Option, Some, None, refl, sym, ap, subst, ◌∙◌, arith, inl, inr, ◌⊎◌}
+use Rattle.std.proofs.Common.{◌≡◌, ℕ, suc, ◌<◌, Bool, true, false, List, [], ◌∷◌, Option, Some, refl, sym, ap, subst, ◌∙◌, arith, inl, inr}
 use Rattle.std.specs.Prelude.{codes, not, ◌&&◌}
 use Rattle.xq_lexer.specs.Lexeme.{Lex, name, prefixed, int, dec, str, symbol}
 use Rattle.xq_lexer.specs.declared.tokens.Symbol.TheVariants as s
@@ -8,17 +8,17 @@ use Rattle.xq_expressions.specs.declared.expressions.Expr.{Expr}
 use Rattle.xq_expressions.specs.declared.expressions.Expr.TheVariants as e
 use Rattle.xq_expressions.specs.declared.expressions.ConstructorName.{ConstructorName}
 use Rattle.xq_expressions.specs.declared.expressions.ConstructorName.TheVariants as constructor_name
-use Rattle.xq_grammar.specs.Look.{Tokens, Table, lookup, same, same_symbol, word, begins_step}
-use Rattle.xq_grammar.specs.Rel.{Rel, empty, Is, OneOf, ◌&◌, ◌▹◌, ◌◃◌, ◌⟨$⟩◌, ◌∣◌, Maybe, Many}
+use Rattle.xq_grammar.specs.Look.{Tokens, lookup, same, same_symbol, word, begins_step}
+use Rattle.xq_grammar.specs.Rel.{Rel, OneOf, ◌&◌, ◌▹◌, ◌⟨$⟩◌}
 use Rattle.xq_grammar.specs.Grammar as g
 use Rattle.xq_grammar.specs.Reading.{Outcome, Parser, and_then, one_of, begins, found, is, expect, only, many, begins_nc, begins_name, begins_brace, begins_primary, begins_literal, begins_call, begins_make, makes, makers, name_makers, begins_flwor, begins_quantified, begins_if}
 use Rattle.xq_grammar.specs.Reading as r
 use Rattle.xq_grammar.proofs.Tokens.{every, every_found}
-use Rattle.xq_grammar.proofs.Moves.{Moves, AllMove, one, token, plain}
+use Rattle.xq_grammar.proofs.Moves.{AllMove, one}
 use Rattle.xq_grammar.proofs.LinesMove as m
-use Rattle.xq_grammar.proofs.Rank.{rank, rank_of, has_rank, table_stops, is_word, begins_phrase, phrase_no_brace, phrase_no_parenthesis, phrase_no_close_brace, Plain, call_plain, name_called, prefixed_plain}
-use Rattle.xq_grammar.proofs.NameLines.{word_is, qname_reads, Dollar, variable_line}
-use Rattle.xq_grammar.proofs.Complete.{Fits, Deeper, fits_after, deeper_after, deeper_fits, Reads, Item, value_is, only_at, is_at, one_of_at, begins_at, item-▹, reads-chain, reads-map, reads-&, reads-▹, reads-◃, reads-inside, reads-open}
+use Rattle.xq_grammar.proofs.Rank.{rank, rank_of, table_stops, is_word, begins_phrase, phrase_no_brace, phrase_no_parenthesis, phrase_no_close_brace, Plain, call_plain, name_called, prefixed_plain}
+use Rattle.xq_grammar.proofs.NameLines.{word_is, qname_reads, variable_line}
+use Rattle.xq_grammar.proofs.Complete.{Fits, Deeper, fits_after, deeper_after, Reads, Item, value_is, only_at, is_at, one_of_at, begins_at, item-▹, reads-chain, reads-map, reads-◃, reads-inside, reads-open}
 
 -- ---- ranks of single tokens
 

@@ -1,6 +1,6 @@
 -- How tightly the next token would bind to a phrase before it.
-use Rattle.std.proofs.Common.{◌≡◌, ℕ, zero, suc, ◌+◌, ◌<◌, ◌≤◌, Bool, true, false, cond, List, [], ◌∷◌, length, Option, Some, None, refl, sym, ap, subst, ◌∙◌, arith, inl, inr, ◌⊎◌}
-use Rattle.std.specs.Prelude.{codes, not, ◌&&◌, ◌||◌}
+use Rattle.std.proofs.Common.{◌≡◌, ℕ, ◌<◌, ◌≤◌, Bool, true, false, cond, List, [], ◌∷◌, Option, Some, None, refl, sym, subst, ◌∙◌, arith, inl, inr, ◌⊎◌}
+use Rattle.std.specs.Prelude.{codes, not, ◌&&◌}
 use Rattle.std.specs.Str.{bytes_eq}
 use Rattle.std.proofs.lemmas.Slice.Eq.{bytes_eq-Decides}
 use Rattle.std.proofs.Math.Dec.{eqb}
@@ -10,8 +10,8 @@ use Rattle.xq_lexer.specs.declared.tokens.Symbol.{Symbol}
 use Rattle.xq_lexer.specs.declared.tokens.Symbol.TheVariants as s
 use Rattle.xq_grammar.specs.Look.{Tokens, Table, lookup, same, same_symbol, word, begins_step}
 use Rattle.xq_grammar.specs.Grammar as g
-use Rattle.xq_grammar.specs.Reading.{is, only, begins, found, begins_brace, begins_call, begins_make, makes, makers, name_makers, begins_literal, begins_primary, begins_flwor, begins_quantified, begins_if, begins_axis, begins_name_test}
-use Rattle.xq_grammar.proofs.Tokens.{chosen, every, every_found, same_is, only_gives, none_some}
+use Rattle.xq_grammar.specs.Reading.{is, begins, found, begins_brace, begins_call, begins_make, begins_literal, begins_primary, begins_flwor, begins_quantified, begins_if, begins_axis, begins_name_test}
+use Rattle.xq_grammar.proofs.Tokens.{every, every_found, none_some}
 
 -- the words that may follow a phrase of the same level
 abbrev word_ranks : Table ℕ

@@ -1,6 +1,6 @@
 -- What is read is derived: for each way to put a line together.
-use Rattle.std.proofs.Common.{◌≡◌, ℕ, zero, suc, Bool, true, false, cond, List, [], ◌∷◌, length, Option, Some, None, refl, sym, ap, subst, ◌∙◌, inl, inr, ◌⊎◌}
-use Rattle.xq_lexer.specs.Lexeme.{Lex, name, prefixed, int, dec, str, symbol}
+use Rattle.std.proofs.Common.{◌≡◌, ℕ, zero, suc, Bool, [], ◌∷◌, length, Option, Some, None, refl, sym, ap, subst, ◌∙◌, inl, inr}
+use Rattle.xq_lexer.specs.Lexeme.{Lex}
 use Rattle.xq_grammar.specs.Look.{Tokens, Table, lookup}
 use Rattle.xq_grammar.specs.Rel.{Rel, empty, Is, OneOf, ◌&◌, ◌▹◌, ◌◃◌, ◌⟨$⟩◌, ◌∣◌, Maybe, Many}
 use Rattle.xq_grammar.specs.Reading.{Outcome, Parser, and_then, one_of, expect, only, with_rest, pure, both, mapped, after, before, choose, maybe, many, many_from}

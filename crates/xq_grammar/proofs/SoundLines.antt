@@ -1,14 +1,13 @@
 -- What is read is derived: line by line.
-use Rattle.std.proofs.Common.{◌≡◌, ℕ, zero, suc, ℤ, Bool, true, false, cond, List, [], ◌∷◌, length, Option, Some, None, refl, sym, ap, subst, ◌∙◌, inl, inr, ◌⊎◌}
+use Rattle.std.proofs.Common.{◌≡◌, ℕ, zero, suc, Bool, true, false, List, [], ◌∷◌, Option, Some, None, refl, subst, inl, inr}
 use Rattle.xq_lexer.specs.Lexeme.{Lex, name, prefixed, int, dec, str, symbol}
 use Rattle.std.specs.Prelude.{not}
 use Rattle.xq_lexer.specs.declared.tokens.Symbol.TheVariants as s
-use Rattle.xq_expressions.specs.declared.names.QName.{QName}
 use Rattle.xq_expressions.specs.declared.expressions.Expr.{Expr}
 use Rattle.xq_expressions.specs.declared.expressions.Expr.TheVariants as e
 use Rattle.xq_expressions.specs.declared.operators.Start.TheVariants as start
-use Rattle.xq_grammar.specs.Look.{Tokens, Table, lookup, begins_step}
-use Rattle.xq_grammar.specs.Rel.{Rel, empty, Is, OneOf, ◌&◌, ◌▹◌, ◌◃◌, ◌⟨$⟩◌, ◌∣◌, Maybe, Many}
+use Rattle.xq_grammar.specs.Look.{Tokens, lookup, begins_step}
+use Rattle.xq_grammar.specs.Rel.{Rel, empty, ◌&◌, ◌▹◌, ◌⟨$⟩◌, ◌∣◌, Many}
 use Rattle.xq_grammar.specs.Grammar as g
 use Rattle.xq_grammar.specs.Reading.{Outcome, Parser, found, begins_lone, one_of, only}
 use Rattle.xq_grammar.specs.Reading as r

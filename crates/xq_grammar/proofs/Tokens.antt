@@ -1,13 +1,11 @@
 -- Tables of tokens.
-use Rattle.std.proofs.Common.{◌≡◌, ℕ, Bool, true, false, cond, List, [], ◌∷◌, Option, Some, None, refl, sym, ap, subst, ◌∙◌, rules, inl, inr, ◌⊎◌, Decides}
+use Rattle.std.proofs.Common.{◌≡◌, ℕ, Bool, true, false, cond, List, [], ◌∷◌, Option, Some, None, refl, sym, ap, subst, rules, inl, inr, ◌⊎◌}
 use Rattle.std.specs.Prelude.{◌&&◌}
-use Rattle.std.specs.Str.{bytes_eq}
 use Rattle.std.proofs.lemmas.Slice.Eq.{bytes_eq-Decides}
 use denote.Enum.Bare.{same_true}
 use Rattle.xq_lexer.specs.contracts.tokens.Symbol.{the_type}
 use Rattle.xq_lexer.specs.Lexeme.{Lex, name, prefixed, int, dec, str, symbol}
-use Rattle.xq_grammar.specs.Look.{Tokens, Table, lookup, same, same_symbol}
-use Rattle.xq_grammar.specs.Reading.{Outcome, one_of, begins, is, expect, only, found, with_rest}
+use Rattle.xq_grammar.specs.Look.{Table, lookup, same, same_symbol}
 
 pub chosen : {X : Type 0} (b : Bool) (x y z : X) → cond b x y ≡ z → ((b ≡ true) × (x ≡ z)) ⊎ ((b ≡ false) × (y ≡ z))
 chosen true x y z h = inl (refl, h)

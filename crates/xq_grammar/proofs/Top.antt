@@ -1,20 +1,18 @@
 -- The whole list of tokens: what is derived within the depth is read, and so there is one expression at most.
-use Rattle.std.proofs.Common.{◌≡◌, ℕ, zero, suc, ◌+◌, ◌<◌, ◌≤◌, max, Bool, true, false, List, [], ◌∷◌, length, Option, Some, None, refl, sym, ap, subst, ◌∙◌, arith, inl, inr, ◌⊎◌}
-use Rattle.xq_lexer.specs.Lexeme.{Lex}
-use Rattle.xq_lexer.specs.Nesting.{greatest, nesting}
+use Rattle.std.proofs.Common.{◌≡◌, ℕ, zero, suc, ◌<◌, ◌≤◌, true, [], Some, refl, sym, ◌∙◌, arith}
+use Rattle.xq_lexer.specs.Nesting.{nesting}
 use Rattle.xq_expressions.specs.declared.expressions.Expr.{Expr}
 use Rattle.xq_grammar.specs.Look.{Tokens}
 use Rattle.xq_grammar.specs.Grammar as g
 use Rattle.xq_grammar.specs.Reading as r
 use Rattle.xq_grammar.proofs.Tokens.{some_is}
-use Rattle.xq_grammar.proofs.Moves.{Moves, AllMove, Under}
+use Rattle.xq_grammar.proofs.Moves.{AllMove}
 use Rattle.xq_grammar.proofs.LinesMove as m
 use Rattle.xq_grammar.proofs.Rank.{rank, begins_phrase}
 use Rattle.xq_grammar.proofs.Begins.{any_begins}
 use Rattle.xq_grammar.proofs.Complete.{Fits, Deeper, greatest-least}
 use Rattle.xq_grammar.proofs.PrimaryLines.{whole_line}
 use Rattle.xq_grammar.proofs.ClauseLines.{any_reads}
-use Rattle.xq_grammar.proofs.SoundLines.{query_sound}
 
 single_moves : (h : ℕ) → AllMove (g.Single h)
 single_moves zero = λ ts a us w. absurd w

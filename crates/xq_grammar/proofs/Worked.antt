@@ -1,8 +1,8 @@
 -- Worked rows: lists of tokens that derive an expression, and lists that derive none.
-use Rattle.std.proofs.Common.{◌≡◌, ℕ, ◌≤◌, suc, List, [], ◌∷◌, Option, Some, None, refl, sym, ◌∙◌, arith}
+use Rattle.std.proofs.Common.{◌≡◌, ℕ, ◌≤◌, List, [], ◌∷◌, Some, None, refl, sym, ◌∙◌, arith}
 use Rattle.std.specs.Prelude.{codes, pos}
 use Prim.Native.String.{String}
-use Rattle.xq_lexer.specs.Lexeme.{Lex, name, prefixed, int, dec, str, symbol}
+use Rattle.xq_lexer.specs.Lexeme.{int, str, symbol}
 use Rattle.xq_lexer.specs.Nesting.{nesting}
 use Rattle.xq_lexer.specs.declared.tokens.Symbol.TheVariants as s
 use Rattle.xq_expressions.specs.declared.operators.Quantifier.TheVariants as quantifier
@@ -23,7 +23,6 @@ use Rattle.xq_expressions.specs.declared.expressions.Clause.TheVariants as claus
 use Rattle.xq_expressions.specs.declared.expressions.ConstructorName.{ConstructorName}
 use Rattle.xq_expressions.specs.declared.expressions.ConstructorName.TheVariants as constructor_name
 use Rattle.xq_expressions.specs.declared.expressions.Step.{Step}
-use Rattle.xq_expressions.specs.declared.expressions.Step.TheVariants as step
 use Rattle.xq_grammar.specs.Look.{Tokens, word, lookup, same, same_symbol}
 use Rattle.xq_grammar.specs.Grammar as g
 use Rattle.xq_grammar.specs.Reading as r

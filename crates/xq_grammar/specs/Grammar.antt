@@ -2,9 +2,8 @@
 -- is one line, over what derives a single expression that nests deeper; the lines stand in the order of the
 -- table of productions read from its end, each after those that it names. What stands before ⟨$⟩ says what a
 -- phrase stands for: a level without an operator is its operand.
-use Rattle.std.specs.Prelude.{◌≡◌, ℕ, zero, suc, List, [], ◌∷◌, Bool, true, false, not, Option, Some, None, codes, ℤ}
-use Prim.Native.String.{String}
-use Rattle.xq_lexer.specs.Lexeme.{Lex, name, prefixed, int, dec, str, symbol}
+use Rattle.std.specs.Prelude.{◌≡◌, ℕ, zero, suc, List, [], ◌∷◌, false, Option, Some, None, ℤ}
+use Rattle.xq_lexer.specs.Lexeme.{name, prefixed, int, dec, str, symbol}
 use Rattle.xq_lexer.specs.declared.tokens.Symbol.TheVariants as s
 use Rattle.xq_expressions.specs.declared.names.QName.{QName}
 use Rattle.xq_expressions.specs.declared.operators.Quantifier.{Quantifier}

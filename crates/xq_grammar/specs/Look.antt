@@ -1,9 +1,9 @@
 -- Tokens, and what the next ones are.
-use Rattle.std.specs.Prelude.{ℕ, List, [], ◌∷◌, Bool, true, false, if◌then◌else◌, Option, Some, None, codes}
+use Rattle.std.specs.Prelude.{List, [], ◌∷◌, Bool, true, false, if◌then◌else◌, Option, Some, None, codes}
 use Rattle.std.specs.Str.{bytes_eq}
 use Prim.Native.String.{String}
 use denote.Enum.Bare.{sameb}
-use Rattle.xq_lexer.specs.Lexeme.{Lex, name, prefixed, int, dec, str, symbol}
+use Rattle.xq_lexer.specs.Lexeme.{Lex, name, symbol}
 use Rattle.xq_lexer.specs.contracts.tokens.Symbol.{the_type}
 use Rattle.xq_lexer.specs.declared.tokens.Symbol.{Symbol}
 use Rattle.xq_lexer.specs.declared.tokens.Symbol.TheVariants as s

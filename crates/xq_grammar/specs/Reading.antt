@@ -4,20 +4,16 @@ use Rattle.std.specs.Str.{bytes_eq}
 use Rattle.xq_lexer.specs.Lexeme.{Lex, name, prefixed, int, dec, str, symbol}
 use Rattle.xq_lexer.specs.declared.tokens.Symbol.TheVariants as s
 use Rattle.xq_expressions.specs.declared.names.QName.{QName}
-use Rattle.xq_expressions.specs.declared.operators.Quantifier.{Quantifier}
 use Rattle.xq_expressions.specs.declared.operators.Comparison.{Comparison}
 use Rattle.xq_expressions.specs.declared.operators.Sign.{Sign}
 use Rattle.xq_expressions.specs.declared.operators.ProductOperator.{ProductOperator}
 use Rattle.xq_expressions.specs.declared.operators.SetOperator.{SetOperator}
 use Rattle.xq_expressions.specs.declared.operators.Start.TheVariants as start
 use Rattle.xq_expressions.specs.declared.operators.Separator.{Separator}
-use Rattle.xq_expressions.specs.declared.operators.AxisName.{AxisName}
 use Rattle.xq_expressions.specs.declared.operators.NodeTest.{NodeTest}
 use Rattle.xq_expressions.specs.declared.operators.NodeTest.TheVariants as nodetest
 use Rattle.xq_expressions.specs.declared.operators.AxisStep.{AxisStep}
 use Rattle.xq_expressions.specs.declared.operators.AxisStep.TheVariants as along
-use Rattle.xq_expressions.specs.declared.operators.NamedNode.{NamedNode}
-use Rattle.xq_expressions.specs.declared.operators.UnnamedNode.{UnnamedNode}
 use Rattle.xq_expressions.specs.declared.operators.Direction.{Direction}
 use Rattle.xq_expressions.specs.declared.operators.Direction.TheVariants as direction
 use Rattle.xq_expressions.specs.declared.operators.EmptyOrder.{EmptyOrder}

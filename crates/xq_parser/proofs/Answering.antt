@@ -1,5 +1,5 @@
 -- What the answer of the reader says of the grammar.
-use Rattle.std.proofs.Common.{◌≡◌, ℕ, ◌≤◌, Option, Some, None, Result, Ok, Err, refl, sym, ◌∙◌}
+use Rattle.std.proofs.Common.{◌≡◌, ◌≤◌, Result, Ok, Err, sym, ◌∙◌}
 use Rattle.std.specs.Prelude.{IfOk}
 use Rattle.xq_atoms.specs.declared.refusals.Fault.{Fault}
 use Rattle.xq_atoms.specs.declared.refusals.Fault.TheVariants.{Code as OfCode, Want as OfWant}
@@ -12,7 +12,7 @@ use Rattle.xq_grammar.specs.Grammar.{Derives}
 use Rattle.xq_grammar.specs.Reading.{query}
 use Rattle.xq_grammar.specs.Gives.{Gives}
 use Rattle.xq_grammar.specs.Answers.{Refuses}
-use Rattle.xq_grammar.proofs.Tokens.{some_is, none_some}
+use Rattle.xq_grammar.proofs.Tokens.{none_some}
 use Rattle.xq_grammar.proofs.SoundLines.{query_sound}
 use Rattle.xq_grammar.proofs.Top.{query_reads, derives_one}
 

@@ -1,9 +1,7 @@
 use Rattle.std.proofs.Common.{sym, arith, length}
 use Rattle.std.proofs.lemmas.Result.{err_from_is_err_and}
-use Rattle.xq_lexer.specs.Lexeme.{lexemes, symbol as symbol_lex}
-use Rattle.xq_lexer.specs.declared.tokens.Symbol.TheVariants as s
+use Rattle.xq_lexer.specs.Lexeme.{lexemes}
 use Rattle.xq_grammar.specs.Look as look
-use Rattle.xq_grammar.specs.Grammar as g_
 use Rattle.xq_grammar.specs.Reading as spec
 use Rattle.xq_phrases.proofs.Loops.{kept_first, kept_stop, kept_next, kept_last, fails_along}
 use Rattle.xq_operators.proofs.operators.Operators.or_items.Goals as goal

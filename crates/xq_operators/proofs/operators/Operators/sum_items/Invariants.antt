@@ -1,7 +1,5 @@
 use Rattle.std.proofs.Common.{length}
-use Rattle.xq_lexer.specs.Lexeme.{lexemes, symbol as symbol_lex}
-use Rattle.xq_lexer.specs.declared.tokens.Symbol.TheVariants as s
-use Rattle.xq_grammar.specs.Look as look
+use Rattle.xq_lexer.specs.Lexeme.{lexemes}
 use Rattle.xq_grammar.specs.Grammar as g_
 use Rattle.xq_grammar.specs.Reading as spec
 use Rattle.xq_phrases.proofs.Loops.{Kept}
