@@ -1,5 +1,5 @@
 -- What is written in a string literal, and what stays of a text that is appended to.
-use Rattle.std.proofs.Common.{◌≡◌, ◌≢◌, ℕ, zero, suc, ◌+◌, ◌-◌, ◌<◌, ◌≤◌, List, [], ◌∷◌, ◌++◌, length, get_or, take, drop, replicate, arith, refl, sym, ap, ◌∙◌, ⊎_elim, flat_map, subst}
+use Rattle.std.proofs.Common.{◌≡◌, ◌≢◌, ℕ, suc, ◌+◌, ◌-◌, ◌<◌, ◌≤◌, List, [], ◌∷◌, ◌++◌, length, get_or, take, drop, replicate, arith, refl, sym, ap, ◌∙◌, ⊎_elim, flat_map, subst}
 use Rattle.std.specs.Prelude.{encode_utf8, encode_utf8_all, IsUtf8, IsCharBoundary}
 use Rattle.std.proofs.lemmas.List.{take-append-le, take-append-drop, length-take, append-nil, append_assoc, take-replicate}
 use Rattle.std.proofs.lemmas.Grind.{flat_map-append}

@@ -1,12 +1,11 @@
 -- The texts of integers, read back.
-use Rattle.std.proofs.Common.{◌≡◌, ℕ, zero, suc, ◌<◌, ◌≤◌, ◌^◌, ◌==◌, ◌||◌, ◌&&◌, Bool, true, false, not, IsTrue, List, [], ◌∷◌, length, ℤ, pos, neg_ℤ, Ok, Err, arith, rules, refl, sym, ap, ◌∙◌}
+use Rattle.std.proofs.Common.{◌≡◌, ℕ, zero, suc, ◌<◌, ◌≤◌, ◌^◌, ◌==◌, ◌||◌, Bool, true, false, IsTrue, [], ◌∷◌, length, pos, neg_ℤ, Ok, Err, arith, refl, ap, ◌∙◌}
 use Rattle.std.specs.Prelude.{decimal, if◌then◌else◌}
-use Rattle.std.specs.Fmt.{signed_decimal}
 use Rattle.std.proofs.lemmas.Fmt.{decimal_nonempty, digits_decimal, digits_value-decimal}
 use Rattle.std.proofs.lemmas.Bool.Decides.{nat_tests}
 use Rattle.xq_atoms.specs.declared.refusals.Code.TheVariants.{FORG0001, FOAR0002, FOCA0003}
 use Rattle.xq_atoms.specs.Judged.{Judged, only_if}
-use Rattle.xq_atoms.specs.Text.{Text, is_empty, is_digit, are_digits, is_whole, value}
+use Rattle.xq_atoms.specs.Text.{Text, is_digit, are_digits, is_whole, value}
 use Rattle.xq_atoms.specs.Atom.{Atomic, Integer, is_integer}
 use Rattle.xq_atoms.specs.Literal.{integer_literal}
 use Rattle.xq_atoms.specs.Cast.{after_sign, is_negated, integer_of_text}

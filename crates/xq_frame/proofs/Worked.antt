@@ -1,7 +1,7 @@
 -- Frames and replies of the protocol, computed by the definitions.
-use Rattle.std.proofs.Common.{◌≡◌, ℕ, List, [], ◌∷◌, ◌++◌, codes, refl}
+use Rattle.std.proofs.Common.{◌≡◌, ℕ, List, [], ◌∷◌, codes, refl}
 use Rattle.xq_frame.specs.Frame.{frame_bytes, announced}
-use Rattle.xq_frame.specs.Request.{message_asks, message_tag, list, remove, put, bad}
+use Rattle.xq_frame.specs.Request.{message_asks, message_tag, list, put, bad}
 use Rattle.xq_frame.specs.Reply.{reply_bytes}
 
 -- the frame of a request for all addresses, with tag 1

@@ -1,8 +1,6 @@
 -- A text has one reading, and a request one answer.
-use Rattle.std.proofs.Common.{◌≡◌, ◌≢◌, ℕ, ◌+◌, List, ◌++◌, length, take, drop, get_or, refl, sym, ◌∙◌, ap, subst, arith, Ok, Err, Some, Result, inl, inr, codes, length-append}
+use Rattle.std.proofs.Common.{◌≡◌, ℕ, List, ◌++◌, length, take, drop, get_or, refl, sym, ◌∙◌, ap, arith, Err, inl, inr, codes, length-append}
 use Rattle.std.proofs.Math.Seq.{take-append_seam}
-use Rattle.std.specs.FinMap.{contains_key}
-use Rattle.xq_atoms.specs.Address.{IsAddress}
 use Rattle.xq_atoms.specs.declared.refusals.Code.{Code}
 use Rattle.xq_regions.specs.Tree.{Tree, IsDocument, nodes}
 use Rattle.xq_regions.specs.Nesting.{rows-injective}
@@ -16,7 +14,7 @@ use Rattle.xq_printed.proofs.Sized.{sized-tree}
 use Rattle.xq_rows.specs.Documents.{Map}
 use Rattle.xq_frame.specs.Request.{Asked, query, put, remove as remove_one, list, bad}
 use Rattle.xq_service.specs.Meaning.{Query, Reads, Spells, document_under, literal, doc_call, with_line_feeds, value}
-use Rattle.xq_service.specs.Answer.{Outcome, Answers, AnswersOnce, Refuses, CarriesOut, refused, queried, stored}
+use Rattle.xq_service.specs.Answer.{Outcome, AnswersOnce, Refuses, CarriesOut, refused, queried, stored}
 use Rattle.xq_service.proofs.Telling.{not_both}
 
 -- what stands before one tail is known

@@ -1,4 +1,4 @@
-use Rattle.std.proofs.Common.{◌≡◌, not, ◌&&◌, true, false, sym, ◌∙◌, ap}
+use Rattle.std.proofs.Common.{◌≡◌, not, ◌&&◌, false, sym, ◌∙◌, ap}
 use Rattle.std.proofs.lemmas.Bool.{false≢true}
 use Rattle.xq_atoms.specs.Text.{is_empty}
 use Rattle.xq_atoms.proofs.TextLemmas.{is_number-from_parts, is_empty-length, and-false}
