@@ -1,9 +1,9 @@
 -- The texts of decimals, read back.
-use Rattle.std.proofs.Common.{◌≡◌, ℕ, zero, suc, ◌+◌, ◌-◌, ◌*◌, ◌/◌, ◌%◌, ◌^◌, ◌<◌, ◌≤◌, Bool, true, false, not, ◌&&◌, IsTrue, List, [], ◌∷◌, ◌++◌, length, ℤ, pos, negsuc, neg_ℤ, Ok, Err, arith, refl, sym, ap, subst, ◌∙◌, append_assoc}
+use Rattle.std.proofs.Common.{◌≡◌, ℕ, zero, suc, ◌+◌, ◌-◌, ◌*◌, ◌/◌, ◌%◌, ◌^◌, ◌<◌, ◌≤◌, Bool, true, false, not, ◌&&◌, IsTrue, [], ◌∷◌, ◌++◌, length, ℤ, pos, negsuc, neg_ℤ, Ok, Err, arith, refl, sym, ap, subst, ◌∙◌, append_assoc}
 use Rattle.std.specs.Prelude.{decimal, nat_lt, codes, if◌then◌else◌}
 use Rattle.std.specs.List.{list_all}
 use Rattle.std.proofs.lemmas.Bool.Decides.{nat_tests}
-use Rattle.std.proofs.lemmas.Fmt.{digits_decimal, digits_value-decimal}
+use Rattle.std.proofs.lemmas.Fmt.{digits_value-decimal}
 use Rattle.std.proofs.lemmas.Int.{ints}
 use Rattle.std.proofs.lemmas.List.{append-nil}
 use Rattle.std.proofs.lemmas.List.Folds.{list_all-append}
@@ -11,10 +11,10 @@ use Rattle.xq_atoms.specs.declared.refusals.Code.TheVariants.{FOAR0002, FORG0001
 use Rattle.xq_atoms.specs.Judged.{Judged, ◌>>=◌, only_if}
 use Rattle.xq_atoms.specs.Decimal.{IsDecimal, is_decimal}
 use Rattle.xq_atoms.specs.Text.{Text, are_digits, is_whole, value, trimmed}
-use Rattle.xq_atoms.specs.Literal.{is_number, whole_part, fraction, without_trailing_zeros, millionths, millionths_of, integer_literal, decimal_literal}
+use Rattle.xq_atoms.specs.Literal.{is_number, whole_part, fraction, without_trailing_zeros, millionths_of, integer_literal, decimal_literal}
 use Rattle.xq_atoms.specs.Atom.{Atomic, Integer, Decimal, String}
 use Rattle.xq_atoms.specs.Arithmetic.{neg}
-use Rattle.xq_atoms.specs.Cast.{is_negated, after_sign, decimal_of_text, cast_decimal, six_digits, fraction_text, sign_text, pointed, decimal_text}
+use Rattle.xq_atoms.specs.Cast.{after_sign, decimal_of_text, cast_decimal, six_digits, fraction_text, sign_text, pointed, decimal_text}
 use Rattle.xq_atoms.specs.Print.{at_least_zero, print_decimal}
 use Rattle.xq_atoms.proofs.TextLemmas.{digits_model, are_digits-six_digits, are_digits-without_trailing_zeros}
 use Rattle.xq_atoms.proofs.ReadBack.{is_whole-decimal}

@@ -1,5 +1,5 @@
 -- The texts of integers, read back.
-use Rattle.std.proofs.Common.{◌≡◌, ℕ, zero, suc, ◌<◌, ◌≤◌, ◌^◌, Bool, true, false, not, ◌&&◌, IsTrue, List, [], ◌∷◌, ◌++◌, ℤ, pos, negsuc, neg_ℤ, Ok, Err, arith, refl, sym, ap, ◌∙◌}
+use Rattle.std.proofs.Common.{◌≡◌, ℕ, suc, ◌<◌, ◌≤◌, ◌^◌, Bool, false, IsTrue, [], ◌∷◌, ◌++◌, ℤ, pos, negsuc, neg_ℤ, Ok, Err, arith, refl, sym, ap, ◌∙◌}
 use Rattle.std.specs.Prelude.{decimal, ◌<ℤ◌, FitsSigned, codes, if◌then◌else◌}
 use Rattle.std.specs.Fmt.{signed_decimal, digits}
 use mir.Syntax.{w64}
@@ -10,8 +10,8 @@ use Rattle.std.proofs.lemmas.Int.{ints}
 use Rattle.std.proofs.lemmas.List.{append-nil}
 use Rattle.xq_atoms.specs.declared.refusals.Code.TheVariants.{FOAR0002, XPST0003}
 use Rattle.xq_atoms.specs.Judged.{Judged, ◌>>=◌, only_if}
-use Rattle.xq_atoms.specs.Text.{Text, is_whole, trimmed}
-use Rattle.xq_atoms.specs.Literal.{is_number, integer_literal, decimal_literal}
+use Rattle.xq_atoms.specs.Text.{Text}
+use Rattle.xq_atoms.specs.Literal.{is_number, decimal_literal}
 use Rattle.xq_atoms.specs.Atom.{Atomic, Integer, Decimal, String}
 use Rattle.xq_atoms.specs.Arithmetic.{neg}
 use Rattle.xq_atoms.specs.Cast.{after_sign, integer_of_text, cast_integer, text_of}

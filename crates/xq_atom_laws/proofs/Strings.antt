@@ -1,5 +1,5 @@
 -- A printed string is one token.
-use Rattle.std.proofs.Common.{◌≡◌, ◌≢◌, ℕ, ◌+◌, ◌≤◌, Bool, true, false, cond, not, ◌&&◌, List, [], ◌∷◌, ◌++◌, length, map, flat_map, Some, arith, refl, sym, ap, subst, ◌∙◌}
+use Rattle.std.proofs.Common.{◌≡◌, ◌≢◌, ℕ, Bool, true, false, cond, not, ◌&&◌, List, [], ◌∷◌, ◌++◌, length, map, flat_map, Some, arith, refl, sym, ap, ◌∙◌}
 use Rattle.std.specs.Prelude.{◌==◌, encode_utf8, encode_utf8_all, IsUtf8}
 use Rattle.std.specs.List.{list_all}
 use Rattle.std.specs.Str.{chars}
@@ -13,9 +13,9 @@ use Rattle.xq_atoms.proofs.TextLemmas.{and-true}
 use Rattle.xq_atoms.proofs.PrintLemmas.{flat_map-encode}
 use Rattle.xq_lexer.specs.Chars.{Text, is_char}
 use Rattle.xq_lexer.specs.Separators.{skip}
-use Rattle.xq_lexer.specs.Lexeme.{Lex, Placed, str}
-use Rattle.xq_lexer.specs.Literals.{Reference, ampersand, hexadecimal, Piece, plain, doubled, reference, IsPiece, ArePieces, piece_text, piece_char, content_text, content_chars}
-use Rattle.xq_lexer.specs.Spelling.{Form, string, form_text, IsForm, form_lex, MayStand, bytes, Next, Spells}
+use Rattle.xq_lexer.specs.Lexeme.{Lex, str}
+use Rattle.xq_lexer.specs.Literals.{ampersand, hexadecimal, Piece, plain, doubled, reference, IsPiece, ArePieces, piece_text, piece_char, content_text, content_chars}
+use Rattle.xq_lexer.specs.Spelling.{Form, string, form_text, IsForm, form_lex, MayStand, bytes, Spells}
 use Rattle.xq_atom_laws.specs.Tokens.{IsToken}
 
 -- ---- how a character is printed

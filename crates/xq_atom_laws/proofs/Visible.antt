@@ -1,11 +1,10 @@
 -- Texts without white space are trimmed already, and those that begin with a digit have no sign.
-use Rattle.std.proofs.Common.{◌≡◌, ℕ, Bool, true, false, cond, not, ◌&&◌, IsTrue, List, [], ◌∷◌, ◌++◌, reverse, refl, sym, ap, ◌∙◌, arith}
+use Rattle.std.proofs.Common.{◌≡◌, ℕ, Bool, true, false, cond, not, ◌&&◌, IsTrue, [], ◌∷◌, ◌++◌, reverse, refl, ap, ◌∙◌, arith}
 use Rattle.std.specs.Prelude.{◌==◌, ◌||◌, if◌then◌else◌}
 use Rattle.std.specs.List.{list_all}
 use Rattle.std.proofs.lemmas.Bool.{false≢true}
 use Rattle.std.proofs.lemmas.Bool.Decides.{nat_tests}
 use Rattle.std.proofs.lemmas.List.{reverse-reverse}
-use Rattle.std.proofs.lemmas.List.Folds.{list_all-append}
 use Rattle.xq_atoms.specs.Text.{Text, is_space, is_digit, are_digits, is_whole, after_leading, before_trailing, trimmed}
 use Rattle.xq_atoms.specs.Cast.{after_sign, is_negated}
 use Rattle.xq_atoms.proofs.TextLemmas.{and-true, list_all-reverse}

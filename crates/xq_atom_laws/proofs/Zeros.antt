@@ -1,11 +1,11 @@
 -- Digits with zeros at their front or their end.
-use Rattle.std.proofs.Common.{◌≡◌, ℕ, zero, suc, ◌+◌, ◌-◌, ◌*◌, ◌/◌, ◌%◌, ◌^◌, ◌<◌, ◌≤◌, Bool, true, false, cond, IsTrue, List, [], ◌∷◌, ◌++◌, length, reverse, replicate, arith, refl, sym, ap, ◌∙◌, lit<}
+use Rattle.std.proofs.Common.{◌≡◌, ℕ, zero, suc, ◌+◌, ◌-◌, ◌*◌, ◌^◌, ◌<◌, ◌≤◌, Bool, true, false, cond, [], ◌∷◌, ◌++◌, length, reverse, replicate, arith, refl, sym, ap, ◌∙◌, lit<}
 use Rattle.std.specs.Prelude.{decimal}
 use Rattle.std.proofs.Math.Nat.{pow-succ', mul_assoc}
 use Rattle.std.proofs.lemmas.Bool.Decides.{nat_tests}
 use Rattle.std.proofs.lemmas.Fmt.{digits_value-decimal, length-decimal-le}
 use Rattle.std.proofs.lemmas.List.{reverse-append, reverse-reverse, length-append, length-replicate, replicate_more}
-use Rattle.xq_atoms.specs.Text.{Text, after_leading, before_trailing, value, value_after}
+use Rattle.xq_atoms.specs.Text.{Text, after_leading, value, value_after}
 use Rattle.xq_atoms.specs.Literal.{is_zero_digit, without_trailing_zeros}
 use Rattle.xq_atoms.specs.Cast.{six_digits}
 use Rattle.xq_atoms.proofs.TextLemmas.{digits_model}

@@ -1,7 +1,7 @@
 -- Texts that are one token.
 use Rattle.std.specs.Prelude.{ℕ, List, [], ◌∷◌, length}
 use Rattle.std.specs.Str.{chars}
-use Rattle.xq_lexer.specs.Lexeme.{Lex, Placed}
+use Rattle.xq_lexer.specs.Lexeme.{Lex}
 use Rattle.xq_lexer.specs.Spelling.{Spells}
 
 -- the text of these bytes spells this token, and no other beside it
