@@ -13,8 +13,8 @@ fn make_folder(rt: &HostRuntime, folder: &str) -> Result<(), Fail> {
     Ok(())
 }
 
-/// Opens a server over the store in a file, sends it one request, and ends it, whose log is copied
-/// into its file. Says whether the reply is the one that is wanted.
+/// Opens a server over the store in a file, sends it one request, and ends the server, which copies
+/// its log into the file. Says whether the reply is the one that is wanted.
 ///
 /// It takes long to prove how such a server is dropped, so it lives here alone.
 fn ask_file(
