@@ -8,8 +8,8 @@
 
 use crate::names::{QName, Text};
 use crate::operators::{
-    AxisStep, Comparison, NamedNode, OrderModifier, ProductOperator, Quantifier, Separator,
-    SetOperator, Sign, Start, UnnamedNode,
+    AxisStep, ComparisonOperator, NamedNode, OrderModifier, PathStart, ProductOperator, Quantifier,
+    Separator, SetOperator, Sign, UnnamedNode,
 };
 use sqlite_items::{Boxed, Items};
 use xq_atoms::Decimal;
@@ -30,7 +30,7 @@ pub enum Expr {
     Or(Items<Expr>),
     /// Two operands and more.
     And(Items<Expr>),
-    Comparison(Boxed<Expr>, Comparison, Boxed<Expr>),
+    Comparison(Boxed<Expr>, ComparisonOperator, Boxed<Expr>),
     /// Two operands and more.
     Concat(Items<Expr>),
     Range(Boxed<Expr>, Boxed<Expr>),
@@ -41,8 +41,11 @@ pub enum Expr {
     Union(Items<Expr>),
     SetOperation(Boxed<Expr>, Items<(SetOperator, Expr)>),
     /// One sign and more, the outermost first.
-    Signed(Items<Sign>, Boxed<Expr>),
-    Path(Start, Items<(Separator, Step)>),
+    Unary(Items<Sign>, Boxed<Expr>),
+    /// A lone `/`.
+    Root,
+    /// Where it starts, its first step, and the others with what stands before each.
+    Path(PathStart, Step, Items<(Separator, Step)>),
     Int(i64),
     Dec(Decimal),
     Str(Text),

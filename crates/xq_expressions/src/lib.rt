@@ -8,7 +8,7 @@ mod operators;
 pub use expressions::{Clause, ConstructorName, Expr, GroupSpec, Step};
 pub use names::{QName, Text};
 pub use operators::{
-    AxisName, AxisStep, Comparison, Direction, EmptyOrder, NamedNode, NodeComparison, NodeTest,
-    OrderModifier, ProductOperator, Quantifier, Relation, Separator, SetOperator, Sign, Start,
-    UnnamedNode,
+    AxisName, AxisStep, ComparisonOperator, Direction, EmptyOrder, NamedNode, NodeComparison,
+    NodeTest, OrderModifier, PathStart, ProductOperator, Quantifier, Relation, Separator,
+    SetOperator, Sign, UnnamedNode,
 };

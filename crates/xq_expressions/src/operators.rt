@@ -30,7 +30,7 @@ pub enum NodeComparison {
 
 /// A comparison (XQuery 3.1, section 3.7): `eq` to `ge`, `=` to `>=`, or `is`, `<<`, `>>`.
 #[derive(Clone, Copy, Debug, PartialEq, Eq)]
-pub enum Comparison {
+pub enum ComparisonOperator {
     Value(Relation),
     General(Relation),
     Node(NodeComparison),
@@ -59,13 +59,13 @@ pub enum SetOperator {
 
 /// Where a path starts: at its first step, at the root, or at the root and all below it.
 #[derive(Clone, Copy, Debug, PartialEq, Eq)]
-pub enum Start {
+pub enum PathStart {
     Relative,
     Root,
     RootAndBelow,
 }
 
-/// What stands before a step: `/` or `//`. The first step of a path has `/`.
+/// What stands before a later step of a path: `/` or `//`.
 #[derive(Clone, Copy, Debug, PartialEq, Eq)]
 pub enum Separator {
     Slash,

@@ -4,7 +4,7 @@ use Rattle.std.specs.Prelude.{◌||◌}
 use Rattle.xq_lexer.specs.Lexeme.{Lex, name, prefixed, int, dec, str, symbol}
 use Rattle.xq_lexer.specs.declared.tokens.Symbol.TheVariants as s
 use Rattle.xq_expressions.specs.declared.operators.Sign.{Sign}
-use Rattle.xq_expressions.specs.declared.operators.Start.TheVariants as start
+use Rattle.xq_expressions.specs.declared.operators.PathStart.TheVariants as start
 use Rattle.xq_expressions.specs.declared.expressions.Expr.{Expr}
 use Rattle.xq_expressions.specs.declared.expressions.Expr.TheVariants as e
 use Rattle.xq_expressions.specs.declared.expressions.Step.{Step}
@@ -208,9 +208,9 @@ module _ (Single : Rel Expr) (single : Parser Expr) (d : ℕ) (single-moves : Al
       (λ ts a us w f. fits_after d ts us (m.step-moves Single single-moves ts a us w) f)
       (λ ts low. low)
 
-  lone_at : (ts : Tokens) → begins_lone (symbol s.Slash ∷ ts) ≡ true → r.path single (symbol s.Slash ∷ ts) ≡ Some (e.Path start.Root [], ts)
+  lone_at : (ts : Tokens) → begins_lone (symbol s.Slash ∷ ts) ≡ true → r.path single (symbol s.Slash ∷ ts) ≡ Some (e.Root, ts)
   unfolding r.path
-  lone_at ts h = let one : one_of ((symbol s.Slash, e.Path start.Root []) ∷ []) (symbol s.Slash ∷ ts) ≡ Some (e.Path start.Root [], ts) = only_at _ (e.Path start.Root []) ts refl in rw (h, one) refl
+  lone_at ts h = let one : one_of ((symbol s.Slash, e.Root) ∷ []) (symbol s.Slash ∷ ts) ≡ Some (e.Root, ts) = only_at _ (e.Root) ts refl in rw (h, one) refl
 
   root_at : (ts : Tokens) → begins_lone (symbol s.Slash ∷ ts) ≡ false → r.path single (symbol s.Slash ∷ ts) ≡ r.from_root single (symbol s.Slash ∷ ts)
   unfolding r.path

@@ -5,7 +5,7 @@ use Rattle.std.specs.Prelude.{not}
 use Rattle.xq_lexer.specs.declared.tokens.Symbol.TheVariants as s
 use Rattle.xq_expressions.specs.declared.expressions.Expr.{Expr}
 use Rattle.xq_expressions.specs.declared.expressions.Expr.TheVariants as e
-use Rattle.xq_expressions.specs.declared.operators.Start.TheVariants as start
+use Rattle.xq_expressions.specs.declared.operators.PathStart.TheVariants as start
 use Rattle.xq_grammar.specs.Look.{Tokens, lookup, begins_step}
 use Rattle.xq_grammar.specs.Rel.{Rel, empty, ◌&◌, ◌▹◌, ◌⟨$⟩◌, ◌∣◌, Many}
 use Rattle.xq_grammar.specs.Grammar as g
@@ -167,7 +167,7 @@ module _ (Single : Rel Expr) (single : Parser Expr) (single_sound : IsSound Sing
   relative_sound = sound-both _ _ _ _ step_sound (sound-many _ _ _ (sound-both _ _ _ _ (sound-one_of _) step_sound))
 
   -- a slash alone is one where the test says so
-  lone_path : (test : Tokens → Bool) (Q : Rel Expr) (q : Parser Expr) → ((ts : Tokens) → test (symbol s.Slash ∷ ts) ≡ true → begins_step ts ≡ false) → IsSound Q q → IsSound (g.Lone Single ∣ Q) (r.choose test (one_of ((symbol s.Slash, e.Path start.Root []) ∷ [])) q)
+  lone_path : (test : Tokens → Bool) (Q : Rel Expr) (q : Parser Expr) → ((ts : Tokens) → test (symbol s.Slash ∷ ts) ≡ true → begins_step ts ≡ false) → IsSound Q q → IsSound (g.Lone Single ∣ Q) (r.choose test (one_of ((symbol s.Slash, e.Root) ∷ [])) q)
   lone_path test Q q alone sq ts a us h = elim (chosen (test ts) _ _ _ h) [
     | inl w ↦
         let lone = sound-is _ _ ts a us w.1 in

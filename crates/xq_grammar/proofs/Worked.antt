@@ -7,10 +7,10 @@ use Rattle.xq_lexer.specs.Nesting.{nesting}
 use Rattle.xq_lexer.specs.declared.tokens.Symbol.TheVariants as s
 use Rattle.xq_expressions.specs.declared.operators.Quantifier.TheVariants as quantifier
 use Rattle.xq_expressions.specs.declared.operators.Relation.TheVariants as relation
-use Rattle.xq_expressions.specs.declared.operators.Comparison.TheVariants as comparison
+use Rattle.xq_expressions.specs.declared.operators.ComparisonOperator.TheVariants as comparison
 use Rattle.xq_expressions.specs.declared.operators.Sign.TheVariants as sign
 use Rattle.xq_expressions.specs.declared.operators.ProductOperator.TheVariants as product
-use Rattle.xq_expressions.specs.declared.operators.Start.TheVariants as start
+use Rattle.xq_expressions.specs.declared.operators.PathStart.TheVariants as start
 use Rattle.xq_expressions.specs.declared.operators.Separator.TheVariants as separator
 use Rattle.xq_expressions.specs.declared.operators.NodeTest.TheVariants as test
 use Rattle.xq_expressions.specs.declared.operators.AxisStep.TheVariants as along
@@ -53,11 +53,11 @@ derived =
     -- div div div
     (word "div" ∷ word "div" ∷ word "div" ∷ [], e.Product (bare "div") ((product.Div, bare "div") ∷ []))
     -- / = 1
-    ∷ (symbol s.Slash ∷ symbol s.Equal ∷ int (pos 1) ∷ [], e.Comparison (e.Path start.Root []) (comparison.General relation.Equal) (one 1))
+    ∷ (symbol s.Slash ∷ symbol s.Equal ∷ int (pos 1) ∷ [], e.Comparison (e.Root) (comparison.General relation.Equal) (one 1))
     -- 1 - 2 - 3
     ∷ (int (pos 1) ∷ symbol s.Minus ∷ int (pos 2) ∷ symbol s.Minus ∷ int (pos 3) ∷ [], e.Sum (one 1) ((sign.Minus, one 2) ∷ (sign.Minus, one 3) ∷ []))
     -- - 1 * 2
-    ∷ (symbol s.Minus ∷ int (pos 1) ∷ symbol s.Star ∷ int (pos 2) ∷ [], e.Product (e.Signed (sign.Minus ∷ []) (one 1)) ((product.Times, one 2) ∷ []))
+    ∷ (symbol s.Minus ∷ int (pos 1) ∷ symbol s.Star ∷ int (pos 2) ∷ [], e.Product (e.Unary (sign.Minus ∷ []) (one 1)) ((product.Times, one 2) ∷ []))
     -- 1 + 2 to 3
     ∷ (int (pos 1) ∷ symbol s.Plus ∷ int (pos 2) ∷ word "to" ∷ int (pos 3) ∷ [], e.Range (e.Sum (one 1) ((sign.Plus, one 2) ∷ [])) (one 3))
     -- element div {element for {}}/for

@@ -10,16 +10,16 @@ use Rattle.xq_expressions.specs.declared.operators.Quantifier.{Quantifier}
 use Rattle.xq_expressions.specs.declared.operators.Quantifier.TheVariants as quantifier
 use Rattle.xq_expressions.specs.declared.operators.Relation.TheVariants as relation
 use Rattle.xq_expressions.specs.declared.operators.NodeComparison.TheVariants as nodes
-use Rattle.xq_expressions.specs.declared.operators.Comparison.{Comparison}
-use Rattle.xq_expressions.specs.declared.operators.Comparison.TheVariants as comparison
+use Rattle.xq_expressions.specs.declared.operators.ComparisonOperator.{ComparisonOperator}
+use Rattle.xq_expressions.specs.declared.operators.ComparisonOperator.TheVariants as comparison
 use Rattle.xq_expressions.specs.declared.operators.Sign.{Sign}
 use Rattle.xq_expressions.specs.declared.operators.Sign.TheVariants as sign
 use Rattle.xq_expressions.specs.declared.operators.ProductOperator.{ProductOperator}
 use Rattle.xq_expressions.specs.declared.operators.ProductOperator.TheVariants as product
 use Rattle.xq_expressions.specs.declared.operators.SetOperator.{SetOperator}
 use Rattle.xq_expressions.specs.declared.operators.SetOperator.TheVariants as set
-use Rattle.xq_expressions.specs.declared.operators.Start.{Start}
-use Rattle.xq_expressions.specs.declared.operators.Start.TheVariants as start
+use Rattle.xq_expressions.specs.declared.operators.PathStart.{PathStart}
+use Rattle.xq_expressions.specs.declared.operators.PathStart.TheVariants as start
 use Rattle.xq_expressions.specs.declared.operators.Separator.{Separator}
 use Rattle.xq_expressions.specs.declared.operators.Separator.TheVariants as separator
 use Rattle.xq_expressions.specs.declared.operators.AxisName.{AxisName}
@@ -72,7 +72,7 @@ abbrev pub chain : {A : Type 0} → (Expr → List (A × Expr) → Expr) → Exp
 chain operation (first, []) = first
 chain operation (first, second ∷ more) = operation first (second ∷ more)
 
-abbrev pub compared : Expr × Option (Comparison × Expr) → Expr
+abbrev pub compared : Expr × Option (ComparisonOperator × Expr) → Expr
 compared (x, None) = x
 compared (x, Some (operator, y)) = e.Comparison x operator y
 
@@ -82,7 +82,7 @@ ranged (x, Some y) = e.Range x y
 
 abbrev pub signed : List Sign × Expr → Expr
 signed ([], operand) = operand
-signed (outer ∷ inner, operand) = e.Signed (outer ∷ inner) operand
+signed (outer ∷ inner, operand) = e.Unary (outer ∷ inner) operand
 
 abbrev pub for_binding : QName × (Option QName × Expr) → QName × Option QName × Expr
 for_binding (variable, (position, x)) = (variable, position, x)
@@ -104,8 +104,8 @@ abbrev pub conditional : Expr × (Expr × Expr) → Expr
 conditional (test, (yes_branch, no_branch)) = e.If test yes_branch no_branch
 
 -- a path from a start that isn't its first step
-abbrev pub rooted : Start → Step × List (Separator × Step) → Expr
-rooted from (first, more) = e.Path from ((separator.Slash, first) ∷ more)
+abbrev pub rooted : PathStart → Step × List (Separator × Step) → Expr
+rooted from (first, more) = e.Path from first more
 
 abbrev Layer : Type 0
 Layer = Step-F Clause ConstructorName Expr GroupSpec Step
@@ -144,7 +144,7 @@ unnamed_node (node, content) = e.Unnamed node content
 abbrev pub quantifiers : Table Quantifier
 quantifiers = (word "some", quantifier.Some) ∷ (word "every", quantifier.Every) ∷ []
 
-abbrev pub comparisons : Table Comparison
+abbrev pub comparisons : Table ComparisonOperator
 comparisons =
     (word "eq", comparison.Value relation.Equal) ∷ (word "ne", comparison.Value relation.NotEqual)
     ∷ (word "lt", comparison.Value relation.Less) ∷ (word "le", comparison.Value relation.LessEqual)
@@ -306,7 +306,7 @@ module _ (Single : Rel Expr) where
 
   -- a slash alone, which isn't followed by what begins a step
   abbrev pub Lone : Rel Expr
-  Lone ts a us = (ts ≡ symbol s.Slash ∷ us) × (begins_step us ≡ false) × (e.Path start.Root [] ≡ a)
+  Lone ts a us = (ts ≡ symbol s.Slash ∷ us) × (begins_step us ≡ false) × (e.Root ≡ a)
 
   abbrev pub Path : Rel Expr
   Path = Lone ∣ (rooted start.Root ⟨$⟩ symbol s.Slash ▹ Relative) ∣ (rooted start.RootAndBelow ⟨$⟩ symbol s.DoubleSlash ▹ Relative)

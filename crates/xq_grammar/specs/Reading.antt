@@ -4,11 +4,11 @@ use Rattle.std.specs.Str.{bytes_eq}
 use Rattle.xq_lexer.specs.Lexeme.{Lex, name, prefixed, int, dec, str, symbol}
 use Rattle.xq_lexer.specs.declared.tokens.Symbol.TheVariants as s
 use Rattle.xq_expressions.specs.declared.names.QName.{QName}
-use Rattle.xq_expressions.specs.declared.operators.Comparison.{Comparison}
+use Rattle.xq_expressions.specs.declared.operators.ComparisonOperator.{ComparisonOperator}
 use Rattle.xq_expressions.specs.declared.operators.Sign.{Sign}
 use Rattle.xq_expressions.specs.declared.operators.ProductOperator.{ProductOperator}
 use Rattle.xq_expressions.specs.declared.operators.SetOperator.{SetOperator}
-use Rattle.xq_expressions.specs.declared.operators.Start.TheVariants as start
+use Rattle.xq_expressions.specs.declared.operators.PathStart.TheVariants as start
 use Rattle.xq_expressions.specs.declared.operators.Separator.{Separator}
 use Rattle.xq_expressions.specs.declared.operators.NodeTest.{NodeTest}
 use Rattle.xq_expressions.specs.declared.operators.NodeTest.TheVariants as nodetest
@@ -391,7 +391,7 @@ module _ (single : Parser Expr) where
 
   unfoldable pub path : Parser Expr
   path =
-      choose begins_lone (one_of ((symbol s.Slash, e.Path start.Root []) ∷ []))
+      choose begins_lone (one_of ((symbol s.Slash, e.Root) ∷ []))
       (choose (is (symbol s.Slash)) from_root (choose (is (symbol s.DoubleSlash)) from_below (mapped g.relative relative)))
 
   unfoldable pub unary : Parser Expr
@@ -433,7 +433,7 @@ module _ (single : Parser Expr) where
   unfoldable pub concat : Parser Expr
   concat = mapped (g.several e.Concat) (both range (many (is (symbol s.DoubleBar)) concat_item))
 
-  unfoldable pub comparison_item : Parser (Comparison × Expr)
+  unfoldable pub comparison_item : Parser (ComparisonOperator × Expr)
   comparison_item = both (one_of g.comparisons) concat
 
   unfoldable pub comparison : Parser Expr

@@ -4,7 +4,7 @@ ghost use Rattle.xq_lexer.specs.Lexeme.{lexemes, name as name_lex, symbol as sym
 ghost use Rattle.xq_lexer.specs.declared.tokens.Symbol.TheVariants as s;
 ghost use Rattle.xq_expressions.specs.declared.expressions.Expr.TheVariants as e;
 ghost use Rattle.xq_expressions.specs.declared.expressions.ConstructorName.TheVariants as constructor_name;
-ghost use Rattle.xq_expressions.specs.declared.operators.Start.TheVariants as start;
+ghost use Rattle.xq_expressions.specs.declared.operators.PathStart.TheVariants as start;
 ghost use Rattle.xq_grammar.specs.Look as look;
 ghost use Rattle.xq_grammar.specs.Grammar as g;
 ghost use Rattle.xq_grammar.specs.Reading as spec;
@@ -14,7 +14,7 @@ use sqlite_items::{Boxed, Items};
 use std::alloc::Global;
 use xq_atoms::{Code, Fault};
 use xq_expressions::{
-    Comparison, Expr, ProductOperator, Separator, SetOperator, Sign, Start, Step,
+    ComparisonOperator, Expr, PathStart, ProductOperator, Separator, SetOperator, Sign, Step,
 };
 use xq_lexer::{Lexeme, Symbol, Token};
 use xq_phrases::grammar::Grammar;
@@ -176,7 +176,10 @@ impl<'a, F: Fn(Global, usize, &'a [Token]) -> Result<(Boxed<Expr>, &'a [Token]),
     {
         let rest = expect_symbol(Symbol::Slash, tokens)?;
         let ((first, more), rest) = self.steps(rest)?;
-        Ok((rooted(self.grammar.alloc, Start::Root, first, more)?, rest))
+        Ok((
+            rooted(self.grammar.alloc, PathStart::Root, first, more)?,
+            rest,
+        ))
     }
 
     #[tactic(auto, unfolding(xq_grammar::specs::Reading::from_below))]
@@ -187,7 +190,7 @@ impl<'a, F: Fn(Global, usize, &'a [Token]) -> Result<(Boxed<Expr>, &'a [Token]),
         let rest = expect_symbol(Symbol::DoubleSlash, tokens)?;
         let ((first, more), rest) = self.steps(rest)?;
         Ok((
-            rooted(self.grammar.alloc, Start::RootAndBelow, first, more)?,
+            rooted(self.grammar.alloc, PathStart::RootAndBelow, first, more)?,
             rest,
         ))
     }
@@ -195,7 +198,7 @@ impl<'a, F: Fn(Global, usize, &'a [Token]) -> Result<(Boxed<Expr>, &'a [Token]),
     /// A `/` alone.
     #[tactic(auto, unfolding(xq_grammar::specs::Reading::one_of, xq_grammar::specs::Look::lookup, xq_grammar::specs::Look::same, xq_grammar::specs::Look::same_symbol))]
     fn lone(&self, tokens: &'a [Token]) -> Result<(Boxed<Expr>, &'a [Token]), Fault>
-        ensures { Parses result (spec.one_of ((symbol_lex s.Slash, e.Path start.Root []) ∷ []) (lexemes tokens.now)) }
+        ensures { Parses result (spec.one_of ((symbol_lex s.Slash, e.Root) ∷ []) (lexemes tokens.now)) }
     {
         match tokens {
             [
@@ -204,10 +207,7 @@ impl<'a, F: Fn(Global, usize, &'a [Token]) -> Result<(Boxed<Expr>, &'a [Token]),
                     ..
                 },
                 rest @ ..,
-            ] => {
-                let path = Expr::Path(Start::Root, Items::new(self.grammar.alloc));
-                Ok((Boxed::new(self.grammar.alloc, path)?, rest))
-            }
+            ] => { Ok((Boxed::new(self.grammar.alloc, Expr::Root)?, rest)) }
             _ => Err(Fault::Code(Code::XPST0003)),
         }
     }
@@ -492,7 +492,7 @@ impl<'a, F: Fn(Global, usize, &'a [Token]) -> Result<(Boxed<Expr>, &'a [Token]),
     fn comparison_item(
         &self,
         tokens: &'a [Token],
-    ) -> Result<((Comparison, Boxed<Expr>), &'a [Token]), Fault>
+    ) -> Result<((ComparisonOperator, Boxed<Expr>), &'a [Token]), Fault>
         requires { Nests self.now.grammar.depth (F.pre self.now.grammar.single) (F.post self.now.grammar.single) }
         ensures { Parses result (spec.comparison_item (spec.single self.now.grammar.depth) (lexemes tokens.now)) }
     {
@@ -504,7 +504,7 @@ impl<'a, F: Fn(Global, usize, &'a [Token]) -> Result<(Boxed<Expr>, &'a [Token]),
     fn comparison_end(
         &self,
         tokens: &'a [Token],
-    ) -> Result<(Option<(Comparison, Boxed<Expr>)>, &'a [Token]), Fault>
+    ) -> Result<(Option<(ComparisonOperator, Boxed<Expr>)>, &'a [Token]), Fault>
         requires { Nests self.now.grammar.depth (F.pre self.now.grammar.single) (F.post self.now.grammar.single) }
         ensures { Parses result (spec.maybe (spec.begins g.comparisons) (spec.comparison_item (spec.single self.now.grammar.depth)) (lexemes tokens.now)) }
     {

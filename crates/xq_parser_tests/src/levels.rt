@@ -26,7 +26,7 @@ pub enum Outcome {
     Union(usize),
     SetOperation(usize),
     /// The number of its signs.
-    Signed(usize),
+    Unary(usize),
     /// The number of its steps.
     Path(usize),
     Literal,
@@ -60,8 +60,9 @@ fn level(expression: &Expr) -> Outcome {
         Expr::Product(_, more) => Outcome::Product(with_first(more)),
         Expr::Union(operands) => Outcome::Union(operands.len()),
         Expr::SetOperation(_, more) => Outcome::SetOperation(with_first(more)),
-        Expr::Signed(signs, _) => Outcome::Signed(signs.len()),
-        Expr::Path(_, steps) => Outcome::Path(steps.len()),
+        Expr::Unary(signs, _) => Outcome::Unary(signs.len()),
+        Expr::Root => Outcome::Path(0),
+        Expr::Path(_, _, more) => Outcome::Path(with_first(more)),
         Expr::Int(_) | Expr::Dec(_) | Expr::Str(_) => Outcome::Literal,
         Expr::Variable(_) => Outcome::Variable,
         Expr::ContextItem => Outcome::ContextItem,

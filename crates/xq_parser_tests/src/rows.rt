@@ -43,9 +43,9 @@ fn operators_bind_in_their_order(rt: HostRuntime) {
         ("a union b | c", Outcome::Union(3)),
         ("a intersect b | c", Outcome::Union(2)),
         ("a except b intersect c", Outcome::SetOperation(3)),
-        ("- + a", Outcome::Signed(2)),
+        ("- + a", Outcome::Unary(2)),
         ("-1 * 2", Outcome::Product(2)),
-        ("-a/b", Outcome::Signed(1)),
+        ("-a/b", Outcome::Unary(1)),
         ("1 + $q", Outcome::Sum(2)),
         ("1 - -2", Outcome::Sum(2)),
     ];

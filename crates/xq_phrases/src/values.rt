@@ -13,8 +13,8 @@ use sqlite_items::{Boxed, Items};
 use std::alloc::Global;
 use xq_atoms::Fault;
 use xq_expressions::{
-    Clause, Comparison, ConstructorName, Expr, NamedNode, ProductOperator, QName, Quantifier,
-    Separator, SetOperator, Sign, Start, Step, UnnamedNode,
+    Clause, ComparisonOperator, ConstructorName, Expr, NamedNode, PathStart, ProductOperator,
+    QName, Quantifier, Separator, SetOperator, Sign, Step, UnnamedNode,
 };
 
 /// The first item and those after it.
@@ -143,7 +143,7 @@ pub fn set_operation(
 pub fn compared(
     alloc: Global,
     left: Boxed<Expr>,
-    right: Option<(Comparison, Boxed<Expr>)>,
+    right: Option<(ComparisonOperator, Boxed<Expr>)>,
 ) -> Result<Boxed<Expr>, Fault>
     ensures { Gives (λ x. x) result (Some (g.compared (left, right))) }
 {
@@ -176,21 +176,20 @@ pub fn signed(alloc: Global, signs: Items<Sign>, operand: Boxed<Expr>) -> Result
     if signs.len() == 0 {
         Ok(operand)
     } else {
-        Ok(Boxed::new(alloc, Expr::Signed(signs, operand))?)
+        Ok(Boxed::new(alloc, Expr::Unary(signs, operand))?)
     }
 }
 
 /// A path from a start that isn't its first step.
 pub fn rooted(
     alloc: Global,
-    start: Start,
+    start: PathStart,
     first: Step,
     more: Items<(Separator, Step)>,
 ) -> Result<Boxed<Expr>, Fault>
     ensures { Gives (λ x. x) result (Some (g.rooted start (first, more))) }
 {
-    let steps = listed(alloc, (Separator::Slash, first), more)?;
-    Ok(Boxed::new(alloc, Expr::Path(start, steps))?)
+    Ok(Boxed::new(alloc, Expr::Path(start, first, more))?)
 }
 
 /// A path from its first step; one primary expression without predicates is itself.
@@ -202,7 +201,7 @@ pub fn relative(
     ensures { Gives (λ x. x) result (Some (g.relative (first, more))) }
 {
     if more.len() > 0 {
-        return rooted(alloc, Start::Relative, first, more);
+        return rooted(alloc, PathStart::Relative, first, more);
     }
     match first {
         Step::Primary(value, predicates) => {
@@ -211,13 +210,13 @@ pub fn relative(
             } else {
                 rooted(
                     alloc,
-                    Start::Relative,
+                    PathStart::Relative,
                     Step::Primary(value, predicates),
                     more,
                 )
             }
         }
-        first => rooted(alloc, Start::Relative, first, more),
+        first => rooted(alloc, PathStart::Relative, first, more),
     }
 }
 

@@ -12,7 +12,7 @@ use Rattle.xq_atoms.specs.Derived.{group_key_eq}
 use Rattle.xq_atoms.proofs.Keys.{group_key_eq-is}
 use Rattle.xq_regions.specs.Tuples.{Keyed as KeyedTuple, comparison_keys, same_keys, firsts, groups}
 use Rattle.xq_tuples.specs.declared.rows.Keyed.{Keyed}
-use Rattle.xq_tuples.specs.Views.{Thing}
+use Rattle.xq_regions.specs.Items.{ItemView}
 use Rattle.xq_tuples.specs.Keys.{keys_of}
 use Rattle.xq_tuples.specs.Groups.{Gathers, keyed_of, group_of, compared_of}
 use Rattle.xq_tuples.proofs.Grouping.{list_any-map, position_or_len-map, neither, firsts-push, groups-push_new, groups-push_old}
@@ -22,10 +22,10 @@ use Rattle.xq_tuples.proofs.KeyOrder.{key_eq_equiv}
 abbrev pub same_compared : Vec GroupKey → Vec GroupKey → Bool
 same_compared x y = pointwise group_key_eq x.items y.items
 
-abbrev keys_in : KeyedTuple Thing → List Key
+abbrev keys_in : KeyedTuple ItemView → List Key
 keys_in row = comparison_keys row.1
 
-laws : IsEquivalence (same_keys {X = Thing})
+laws : IsEquivalence (same_keys {X = ItemView})
 laws = on_equiv keys_in (lists_equiv key_eq_equiv)
 
 pointwise-key_of : (js ks : List GroupKey) → pointwise group_key_eq js ks ≡ pointwise key_eq (map key_of js) (map key_of ks)
@@ -34,7 +34,7 @@ pointwise-key_of [] (k ∷ ks) = refl
 pointwise-key_of (j ∷ js) [] = refl
 pointwise-key_of (j ∷ js) (k ∷ ks) = λ i. group_key_eq-is j k i && pointwise-key_of js ks i
 
-module _ (key : Vec GroupKey) (seen : List (Vec GroupKey)) (row : KeyedTuple Thing) (fs : List (KeyedTuple Thing)) (is : compared_of key ≡ keys_in row) (same : map compared_of seen ≡ map keys_in fs) where
+module _ (key : Vec GroupKey) (seen : List (Vec GroupKey)) (row : KeyedTuple ItemView) (fs : List (KeyedTuple ItemView)) (is : compared_of key ≡ keys_in row) (same : map compared_of seen ≡ map keys_in fs) where
   seen_any : list_any (same_compared key) seen ≡ list_any (same_keys row) fs
   seen_any =
       (λ i. list_any (λ z. pointwise-key_of key.items z.items i) seen) ∙ sym (list_any-map (pointwise key_eq (compared_of key)) compared_of seen)
@@ -62,7 +62,7 @@ pub position_or_len-some : {X : Type 0} (p : X → Bool) (xs : List X) → list_
 position_or_len-some p [] h = absurd (false≢true h)
 position_or_len-some p (x ∷ xs) h = position_or_len-some_step (p x) (position_or_len p xs) (length xs) (λ e. position_or_len-some p xs (either (p x) (list_any p xs) h e))
 
-module _ {done : List (KeyedTuple Thing)} {seen : List (Vec GroupKey)} {gathered : List (Vec Keyed)} (h : Gathers done seen gathered) (key : Vec GroupKey) (row : Keyed) (is : compared_of key ≡ comparison_keys (keys_of row.keys)) where
+module _ {done : List (KeyedTuple ItemView)} {seen : List (Vec GroupKey)} {gathered : List (Vec Keyed)} (h : Gathers done seen gathered) (key : Vec GroupKey) (row : Keyed) (is : compared_of key ≡ comparison_keys (keys_of row.keys)) where
   -- a group more
   pub Gathers-new : list_any (same_compared key) seen ≡ false → (group : Vec Keyed) → group.items ≡ row ∷ [] → Gathers (done ++ keyed_of row ∷ []) (seen ++ key ∷ []) (gathered ++ group ∷ [])
   Gathers-new none group items =

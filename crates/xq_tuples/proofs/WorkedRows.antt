@@ -3,7 +3,7 @@ use Rattle.std.specs.Prelude.{◌≡◌, refl, ℕ, ◌*◌, List, [], ◌∷◌
 use Rattle.xq_atoms.specs.declared.refusals.Code.TheVariants.{XPTY0004}
 use Rattle.xq_atoms.specs.Atom.{Atomic, Integer, Decimal, String, Untyped}
 use Rattle.xq_regions.specs.Tuples.{Tuple, OrderRule, value_at, bound, kept, expanded, grouped, ordered}
-use Rattle.xq_tuples.specs.Views.{Thing, Value}
+use Rattle.xq_regions.specs.Items.{ItemView, Value}
 
 abbrev int : ℕ → Atomic
 int n = Integer (pos n)
@@ -14,7 +14,7 @@ dec n = Decimal (pos (n * 1000000))
 abbrev x : Atomic
 x = String (codes "x")
 
-abbrev one : Atomic → List Thing
+abbrev one : Atomic → List ItemView
 one a = Value a ∷ []
 
 abbrev keys : Atomic → Atomic → List (List (List Atomic))
@@ -27,11 +27,11 @@ abbrev descending : List OrderRule
 descending = record { descending = true; greatest = false } ∷ []
 
 -- for $n at $p in (7, 8)
-abbrev numbered : List (Tuple Thing)
+abbrev numbered : List (Tuple ItemView)
 numbered = (one (int 7) ∷ one (int 1) ∷ []) ∷ (one (int 8) ∷ one (int 2) ∷ []) ∷ []
 
 -- and let $x := "x"
-abbrev two : List (Tuple Thing)
+abbrev two : List (Tuple ItemView)
 two = (one (int 7) ∷ one (int 1) ∷ one x ∷ []) ∷ (one (int 8) ∷ one (int 2) ∷ one x ∷ []) ∷ []
 
 expand_row : expanded Value true ([] ∷ []) ((Value (int 7) ∷ Value (int 8) ∷ []) ∷ []) ≡ numbered

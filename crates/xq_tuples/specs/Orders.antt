@@ -5,15 +5,16 @@ use Rattle.xq_atoms.specs.Compare.{Key}
 use Rattle.xq_regions.specs.Tuples.{Tuple, OrderRule, keys_cmp}
 use Rattle.xq_tuples.specs.declared.rows.OrderSpec.{OrderSpec}
 use Rattle.xq_tuples.specs.declared.rows.Ranked.{Ranked}
-use Rattle.xq_tuples.specs.Views.{Thing, tuple_of}
+use Rattle.xq_regions.specs.Items.{ItemView}
+use Rattle.xq_tuples.specs.Views.{tuple_of}
 use Rattle.xq_tuples.specs.Groups.{compared_of}
 
 abbrev pub rule_of : OrderSpec → OrderRule
 rule_of spec = record { descending = spec.descending; greatest = spec.greatest }
 
-abbrev pub ranked_of : Ranked → Tuple Thing × List Key
+abbrev pub ranked_of : Ranked → Tuple ItemView × List Key
 ranked_of row = (tuple_of row.tuple, compared_of row.keys)
 
 -- the order of two tuples with their keys
-abbrev pub by_keys : List OrderSpec → Tuple Thing × List Key → Tuple Thing × List Key → Ordering
+abbrev pub by_keys : List OrderSpec → Tuple ItemView × List Key → Tuple ItemView × List Key → Ordering
 by_keys specs p q = keys_cmp (map rule_of specs) p.1 q.1

@@ -3,7 +3,8 @@ ghost use Rattle.std.specs.Prelude.{◌≡◌, [], ◌∷◌, ◌++◌, length, 
 ghost use Rattle.std.specs.Option.{option_map};
 ghost use Rattle.std.specs.List.{flat_map, zip};
 ghost use Rattle.xq_regions.specs.Tuples.{groups, same_keys, slot_key, key_items, grouped_tuple, value_at};
-ghost use Rattle.xq_tuples.specs.Views.{Value as AtomThing, things_of, tuple_of};
+ghost use Rattle.xq_regions.specs.Items.{Value as AtomView, item_views};
+ghost use Rattle.xq_tuples.specs.Views.{tuple_of};
 ghost use Rattle.xq_tuples.specs.Keys.{key_view, keys_of};
 ghost use Rattle.xq_tuples.specs.Groups.{Gathers, keyed_of, group_of};
 
@@ -67,7 +68,7 @@ fn slot_key<'a>(slots: &[usize], keys: &'a [Option<Atom>], slot: usize) -> Optio
 
 /// The value that a key is.
 fn key_value(alloc: Global, key: &Option<Atom>) -> Result<Items, Want>
-    ensures value { IfOk result (λ value. things_of value ≡ key_items AtomThing (key_view key.now)) }
+    ensures value { IfOk result (λ value. item_views value ≡ key_items AtomView (key_view key.now)) }
     ensures want { IfErr result (λ want. want ≡ Want.Memory) }
 {
     let mut value = Vec::new(alloc);
@@ -80,7 +81,7 @@ fn key_value(alloc: Global, key: &Option<Atom>) -> Result<Items, Want>
 /// The values of a slot, one tuple after another.
 fn concatenated(alloc: Global, slot: usize, group: &[Keyed]) -> Result<Items, Want>
     ensures value { IfOk result (λ value.
-        things_of value ≡ flat_map (λ row. value_at slot row.0) (map keyed_of group.now)) }
+        item_views value ≡ flat_map (λ row. value_at slot row.0) (map keyed_of group.now)) }
     ensures want { IfErr result (λ want. want ≡ Want.Memory) }
 {
     let mut value = Vec::new(alloc);
@@ -95,7 +96,7 @@ fn concatenated(alloc: Global, slot: usize, group: &[Keyed]) -> Result<Items, Wa
 /// The tuple of a group: a grouping variable has the first tuple's key, any other its values.
 pub fn joined(alloc: Global, slots: &[usize], group: &[Keyed]) -> Result<Tuple, Want>
     ensures tuple { IfOk result (λ tuple.
-        tuple_of tuple ≡ grouped_tuple AtomThing slots.now (map keyed_of group.now)) }
+        tuple_of tuple ≡ grouped_tuple AtomView slots.now (map keyed_of group.now)) }
     ensures want { IfErr result (λ want. want ≡ Want.Memory) }
 {
     let mut tuple = Vec::new(alloc);

@@ -3,7 +3,7 @@ ghost use Rattle.std.specs.Prelude.{◌≡◌, ◌<◌, [], ◌∷◌, length, m
 ghost use Rattle.xq_regions.specs.Tuples.{bound, expanded, grouped, kept, ordered, value_at};
 ghost use Rattle.xq_tuples.specs.Keys.{IsRefusal, columns_of};
 ghost use Rattle.xq_tuples.specs.Orders.{rule_of};
-ghost use Rattle.xq_tuples.specs.Views.{Value as AtomThing, thing_of, things_of};
+ghost use Rattle.xq_regions.specs.Items.{Value as AtomView, item_view, item_views};
 
 use crate::groups::{gather, joined};
 use crate::keys::{key_columns, key_rows};
@@ -26,9 +26,10 @@ pub struct Tuples {
 
 impl Model for Tuples {
     ghost use Rattle.std.specs.Prelude.{List, map};
-    ghost use Rattle.xq_tuples.specs.Views.{Thing, tuple_of};
+    ghost use Rattle.xq_regions.specs.Items.{ItemView};
+    ghost use Rattle.xq_tuples.specs.Views.{tuple_of};
 
-    ghost Value = { List (List (List Thing)) };
+    ghost Value = { List (List (List ItemView)) };
 
     ghost view = { λ t. map tuple_of t.tuples.items };
 }
@@ -61,7 +62,7 @@ impl Tuples {
     /// The value of the slot in each tuple.
     pub fn column(&self, slot: usize) -> Result<Vec<Items>, Want>
         requires { All (λ tuple. slot < length tuple) self.now }
-        ensures values { IfOk result (λ column. map things_of column.items ≡ map (value_at slot) self.now) }
+        ensures values { IfOk result (λ column. map item_views column.items ≡ map (value_at slot) self.now) }
         ensures want { IfErr result (λ want. want ≡ Want.Memory) }
     {
         let alloc = self.alloc;
@@ -78,7 +79,7 @@ impl Tuples {
     pub fn value(&self, tuple: usize, slot: usize) -> &[Item]
         requires tuple { tuple < length self.now }
         requires slot { slot < length (slice_index_or self.now tuple []) }
-        ensures { map thing_of result.now ≡ value_at slot (slice_index_or self.now tuple []) }
+        ensures { map item_view result.now ≡ value_at slot (slice_index_or self.now tuple []) }
     {
         &self.tuples[tuple][slot]
     }
@@ -88,7 +89,7 @@ impl Tuples {
     /// position, from 1.
     pub fn expand(self, lists: Vec<Items>, at: bool) -> Result<Tuples, Want>
         requires { length lists.items ≡ length self }
-        ensures stream { IfOk result (λ stream. stream ≡ expanded AtomThing at self (map things_of lists.items)) }
+        ensures stream { IfOk result (λ stream. stream ≡ expanded AtomView at self (map item_views lists.items)) }
         ensures want { IfErr result (λ want. want ≡ Want.Memory) }
     {
         let alloc = self.alloc;
@@ -102,7 +103,7 @@ impl Tuples {
     /// `let`: the stream where each tuple has one slot more, with the value at its place in `values`.
     pub fn bind(self, values: Vec<Items>) -> Result<Tuples, Want>
         requires { length values.items ≡ length self }
-        ensures stream { IfOk result (λ stream. stream ≡ bound self (map things_of values.items)) }
+        ensures stream { IfOk result (λ stream. stream ≡ bound self (map item_views values.items)) }
         ensures want { IfErr result (λ want. want ≡ Want.Memory) }
     {
         let alloc = self.alloc;
@@ -142,8 +143,8 @@ impl Tuples {
     pub fn group(self, slots: &[usize], keys: Vec<Vec<Vec<Atom>>>) -> Result<Tuples, Fault>
         requires slots { length slots.now ≡ length keys.items }
         requires keys { All (λ column. length column.items ≡ length self) keys.items }
-        ensures stream { IfOk result (λ stream. grouped AtomThing slots.now self (columns_of keys) ≡ Ok stream) }
-        ensures refused { IfErr result (IsRefusal (grouped AtomThing slots.now self (columns_of keys))) }
+        ensures stream { IfOk result (λ stream. grouped AtomView slots.now self (columns_of keys) ≡ Ok stream) }
+        ensures refused { IfErr result (IsRefusal (grouped AtomView slots.now self (columns_of keys))) }
     {
         let alloc = self.alloc;
         let columns = key_columns(alloc, keys)?;

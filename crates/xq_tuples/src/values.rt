@@ -1,7 +1,8 @@
 //! Values of slots: copies, and the values that a `for` clause adds to a tuple.
 ghost use Rattle.std.specs.Prelude.{◌≡◌, ◌<◌, ◌^◌, [], ◌∷◌, ◌++◌, map, IfOk, IfErr, OnOk};
 ghost use Rattle.xq_regions.specs.Tuples.{item_values, with_each};
-ghost use Rattle.xq_tuples.specs.Views.{Value as AtomThing, thing_of, things_of, values_of, tuple_of};
+ghost use Rattle.xq_regions.specs.Items.{Value as AtomView, item_view, item_views};
+ghost use Rattle.xq_tuples.specs.Views.{values_of, tuple_of};
 
 use std::alloc::Global;
 use std::rc::Rc;
@@ -14,7 +15,7 @@ pub type Tuple = Vec<Rc<Items>>;
 
 /// The same item.
 fn copy(alloc: Global, item: &Item) -> Result<Item, Want>
-    ensures value { IfOk result (λ copy. thing_of copy ≡ thing_of item.now) }
+    ensures value { IfOk result (λ copy. item_view copy ≡ item_view item.now) }
     ensures want { IfErr result (λ want. want ≡ Want.Memory) }
 {
     Ok(match item {
@@ -25,7 +26,7 @@ fn copy(alloc: Global, item: &Item) -> Result<Item, Want>
 
 /// Adds the same items to `copies`.
 pub fn push_copies(alloc: Global, copies: &mut Items, items: &[Item]) -> Result<(), Want>
-    ensures items { OnOk result (things_of copies.new ≡ things_of copies.old ++ map thing_of items.now) }
+    ensures items { OnOk result (item_views copies.new ≡ item_views copies.old ++ map item_view items.now) }
     ensures want { IfErr result (λ want. want ≡ Want.Memory) }
 {
     for item in items {
@@ -36,7 +37,7 @@ pub fn push_copies(alloc: Global, copies: &mut Items, items: &[Item]) -> Result<
 
 /// The value of one item.
 pub fn single(alloc: Global, item: Item) -> Result<Rc<Items>, Want>
-    ensures value { IfOk result (λ value. things_of value.value ≡ thing_of item ∷ []) }
+    ensures value { IfOk result (λ value. item_views value.value ≡ item_view item ∷ []) }
     ensures want { IfErr result (λ want. want ≡ Want.Memory) }
 {
     let mut items = Vec::new(alloc);
@@ -54,7 +55,7 @@ fn with_item(
 ) -> Result<Tuple, Want>
     requires { position < 2 ^ 63 }
     ensures tuple { IfOk result (λ longer.
-        tuple_of longer ≡ values_of tuple.now ++ item_values AtomThing at position (thing_of item)) }
+        tuple_of longer ≡ values_of tuple.now ++ item_values AtomView at position (item_view item)) }
     ensures want { IfErr result (λ want. want ≡ Want.Memory) }
 {
     let mut longer = tuple.to_vec(alloc)?;
@@ -74,7 +75,7 @@ pub fn push_each(
     at: bool,
 ) -> Result<(), Want>
     ensures tuples { OnOk result (map tuple_of tuples.new.items
-        ≡ map tuple_of tuples.old.items ++ with_each AtomThing at (values_of tuple.now) (things_of items)) }
+        ≡ map tuple_of tuples.old.items ++ with_each AtomView at (values_of tuple.now) (item_views items)) }
     ensures want { IfErr result (λ want. want ≡ Want.Memory) }
 {
     for (index, item) in items.into_iter().enumerate() {

@@ -10,7 +10,7 @@ ghost use Rattle.xq_grammar.specs.Gives.{Parses};
 
 use xq_atoms::{Code, Fault};
 use xq_expressions::{
-    AxisName, Comparison, Direction, EmptyOrder, NamedNode, NodeComparison, NodeTest,
+    AxisName, ComparisonOperator, Direction, EmptyOrder, NamedNode, NodeComparison, NodeTest,
     ProductOperator, Quantifier, Relation, Separator, SetOperator, Sign, UnnamedNode,
 };
 use xq_lexer::{Lexeme, Symbol, Token};
@@ -120,34 +120,40 @@ impl Listed for Separator {
 }
 
 /// The operator of a comparison, as a word.
-fn comparison_word(word: &str) -> Option<Comparison>
+fn comparison_word(word: &str) -> Option<ComparisonOperator>
     ensures { result ≡ look.lookup g.comparisons (name_lex word.now) }
 {
     match word {
-        "eq" => Some(Comparison::Value(Relation::Equal)),
-        "ne" => Some(Comparison::Value(Relation::NotEqual)),
-        "lt" => Some(Comparison::Value(Relation::Less)),
-        "le" => Some(Comparison::Value(Relation::LessEqual)),
-        "gt" => Some(Comparison::Value(Relation::Greater)),
-        "ge" => Some(Comparison::Value(Relation::GreaterEqual)),
-        "is" => Some(Comparison::Node(NodeComparison::Is)),
+        "eq" => Some(ComparisonOperator::Value(Relation::Equal)),
+        "ne" => Some(ComparisonOperator::Value(Relation::NotEqual)),
+        "lt" => Some(ComparisonOperator::Value(Relation::Less)),
+        "le" => Some(ComparisonOperator::Value(Relation::LessEqual)),
+        "gt" => Some(ComparisonOperator::Value(Relation::Greater)),
+        "ge" => Some(ComparisonOperator::Value(Relation::GreaterEqual)),
+        "is" => Some(ComparisonOperator::Node(NodeComparison::Is)),
         _ => None,
     }
 }
 
-impl Listed for Comparison {
+impl Listed for ComparisonOperator {
     ghost table = { g.comparisons };
 
-    fn of(lexeme: &Lexeme) -> Option<Comparison> {
+    fn of(lexeme: &Lexeme) -> Option<ComparisonOperator> {
         match lexeme {
-            Lexeme::Sym(Symbol::Equal) => Some(Comparison::General(Relation::Equal)),
-            Lexeme::Sym(Symbol::NotEqual) => Some(Comparison::General(Relation::NotEqual)),
-            Lexeme::Sym(Symbol::Less) => Some(Comparison::General(Relation::Less)),
-            Lexeme::Sym(Symbol::LessEqual) => Some(Comparison::General(Relation::LessEqual)),
-            Lexeme::Sym(Symbol::Greater) => Some(Comparison::General(Relation::Greater)),
-            Lexeme::Sym(Symbol::GreaterEqual) => Some(Comparison::General(Relation::GreaterEqual)),
-            Lexeme::Sym(Symbol::Precedes) => Some(Comparison::Node(NodeComparison::Precedes)),
-            Lexeme::Sym(Symbol::Follows) => Some(Comparison::Node(NodeComparison::Follows)),
+            Lexeme::Sym(Symbol::Equal) => Some(ComparisonOperator::General(Relation::Equal)),
+            Lexeme::Sym(Symbol::NotEqual) => Some(ComparisonOperator::General(Relation::NotEqual)),
+            Lexeme::Sym(Symbol::Less) => Some(ComparisonOperator::General(Relation::Less)),
+            Lexeme::Sym(Symbol::LessEqual) => Some(ComparisonOperator::General(
+                Relation::LessEqual,
+            )),
+            Lexeme::Sym(Symbol::Greater) => Some(ComparisonOperator::General(Relation::Greater)),
+            Lexeme::Sym(Symbol::GreaterEqual) => Some(ComparisonOperator::General(
+                Relation::GreaterEqual,
+            )),
+            Lexeme::Sym(Symbol::Precedes) => Some(ComparisonOperator::Node(
+                NodeComparison::Precedes,
+            )),
+            Lexeme::Sym(Symbol::Follows) => Some(ComparisonOperator::Node(NodeComparison::Follows)),
             Lexeme::Name(word) => comparison_word(word.as_str()),
             _ => None,
         }
@@ -378,7 +384,7 @@ pub fn begins_separator(tokens: &[Token]) -> bool
 }
 
 /// The operator of a comparison, which is the next token.
-pub fn comparison(tokens: &[Token]) -> Result<(Comparison, &[Token]), Fault>
+pub fn comparison(tokens: &[Token]) -> Result<(ComparisonOperator, &[Token]), Fault>
     ensures { Parses result (spec.one_of g.comparisons (lexemes tokens.now)) }
 {
     one_of(tokens)
@@ -388,7 +394,7 @@ pub fn comparison(tokens: &[Token]) -> Result<(Comparison, &[Token]), Fault>
 pub fn begins_comparison(tokens: &[Token]) -> bool
     ensures { result ≡ spec.begins g.comparisons (lexemes tokens.now) }
 {
-    begins::<Comparison>(tokens)
+    begins::<ComparisonOperator>(tokens)
 }
 
 /// `some` or `every`, which is the next token.

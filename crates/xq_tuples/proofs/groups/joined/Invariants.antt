@@ -1,7 +1,8 @@
 use Rattle.std.proofs.Common.{◌≡◌, map}
 use Rattle.std.specs.List.{range_with_len}
 use Rattle.xq_regions.specs.Tuples.{grouped_value, slot_key}
-use Rattle.xq_tuples.specs.Views.{Value, tuple_of}
+use Rattle.xq_regions.specs.Items.{Value}
+use Rattle.xq_tuples.specs.Views.{tuple_of}
 use Rattle.xq_tuples.specs.Keys.{keys_of}
 use Rattle.xq_tuples.specs.Groups.{keyed_of}
 use Rattle.xq_tuples.proofs.groups.joined.Given as goal

@@ -1,8 +1,9 @@
 use Rattle.std.proofs.Common.{◌≡◌, ◌+◌, ◌++◌, map}
 use Rattle.xq_regions.specs.Tuples.{item_values}
-use Rattle.xq_tuples.specs.Views.{Value, thing_of, values_of, tuple_of}
+use Rattle.xq_regions.specs.Items.{Value, item_view}
+use Rattle.xq_tuples.specs.Views.{values_of, tuple_of}
 use Rattle.xq_tuples.proofs.values.push_each.Given as goal
 
 abbrev pub invariant-loop-index : goal.invariant-loop-index
 invariant-loop-index l =
-    map tuple_of l.tuples.items ≡ map tuple_of l.fn.tuples.items ++ map (λ p. values_of l.tuple ++ item_values Value l.at (p.0 + 1) (thing_of p.1)) l.yielded
+    map tuple_of l.tuples.items ≡ map tuple_of l.fn.tuples.items ++ map (λ p. values_of l.tuple ++ item_values Value l.at (p.0 + 1) (item_view p.1)) l.yielded

@@ -1,7 +1,7 @@
 use Rattle.std.proofs.Common.{◌≡◌, map, take}
 use Rattle.xq_regions.specs.Tuples.{value_at}
-use Rattle.xq_tuples.specs.Views.{things_of}
+use Rattle.xq_regions.specs.Items.{item_views}
 use Rattle.xq_tuples.proofs.streams.Tuples.column.Given as goal
 
 abbrev pub invariant-loop-tuple : goal.invariant-loop-tuple
-invariant-loop-tuple l = map things_of l.column.items ≡ map (λ t. value_at l.slot t) (take l.tuple-index l.self)
+invariant-loop-tuple l = map item_views l.column.items ≡ map (λ t. value_at l.slot t) (take l.tuple-index l.self)
