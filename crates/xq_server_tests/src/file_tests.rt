@@ -3,8 +3,7 @@
 use crate::tests::{LIBRARY, PUT_B, is_answered};
 use std::fs;
 use std::test::Fail;
-use xq_command::files::open_file;
-use xq_service::Server;
+use xq_servers::FileServer;
 
 /// The folder of the files, made anew by each test, and gone after it.
 fn make_folder(rt: &HostRuntime, folder: &str) -> Result<(), Fail> {
@@ -15,22 +14,20 @@ fn make_folder(rt: &HostRuntime, folder: &str) -> Result<(), Fail> {
 
 /// Opens a server over the store in a file, sends it one request, and ends the server, which copies
 /// its log into the file. Says whether the reply is the one that is wanted.
-///
-/// It takes long to prove how such a server is dropped, so it lives here alone.
 fn ask_file(
     rt: &HostRuntime,
     path: &str,
     request: (u8, &[u8]),
     wanted: (u8, &[u8]),
 ) -> Result<bool, Fail> {
-    let Some(store) = open_file(rt, path) else {
+    let Some(mut file) = FileServer::open(rt, path) else {
         return Err(Fail::new("the file is no store"));
     };
-    let mut server = Server::new(rt.alloc(), store);
-    let is_right = is_answered(rt.alloc(), &mut server, 3, request, wanted)?;
-    match server.into_store().release().close() {
-        Ok(()) => Ok(is_right),
-        Err(_error) => Err(Fail::new("the file was not closed")),
+    let is_right = is_answered(rt.alloc(), &mut file.server, 3, request, wanted)?;
+    if file.close() {
+        Ok(is_right)
+    } else {
+        Err(Fail::new("the file was not closed"))
     }
 }
 
@@ -63,10 +60,10 @@ fn other_files(rt: HostRuntime) -> Result<(), Fail> {
     assert!(rt; ask_file(&rt, "xq_server_other/empty", (b'L', b""), (0, b"()"))?);
     let text = b"This is a text, and no database.";
     fs::write(&rt, "xq_server_other/text", text)?;
-    assert!(rt; open_file(&rt, "xq_server_other/text").is_none());
+    assert!(rt; FileServer::open(&rt, "xq_server_other/text").is_none());
     let kept = fs::read(&rt, "xq_server_other/text")?;
     assert_eq!(rt; kept.as_slice(), text.as_slice());
-    assert!(rt; open_file(&rt, "xq_server_other").is_none());
+    assert!(rt; FileServer::open(&rt, "xq_server_other").is_none());
     fs::remove_dir_all(&rt, "xq_server_other")?;
     Ok(())
 }
