@@ -141,6 +141,10 @@ module _ {S : Type 0} (g : Ghosts S) (conn old new : Held S) (same : conn ≡ ol
 
 -- what is left open, as clauses say it
 module _ {S : Type 0} (g : Ghosts S) (new : Held S) where
+  pub clean_now : HasCleanDisk (state g new) → IsClean g new
+  unfolding IsClean
+  clean_now clean = clean
+
   pub is_answered : {A B : Type 0} (r : Result A B) → (HasCleanDisk (state g new) → OnOk r (IsTrue (state g new).is_open)) → IsClean g new → OnOk r (IsOpen g new)
   unfolding IsClean IsOpen
   is_answered (Ok x) ends clean = ends clean
