@@ -9,10 +9,9 @@ use std::process::ExitCode;
 use std::rt::Env;
 use std::{env, io};
 use xq_command::endings::outcome;
-use xq_command::files::open_file;
 use xq_command::tasks::Asked;
 use xq_command::words::asked;
-use xq_rows::Store;
+use xq_servers::{FileServer, MemoryServer};
 use xq_service::{End, Server};
 
 /// The program ends once it has answered so many frames.
@@ -75,31 +74,25 @@ fn print_help<R: Print>(rt: &R, text: &str) -> End {
 }
 
 fn serve_in_memory<R: Input + Print + AllocGlobal>(rt: &R) -> (u8, &'static str) {
-    let Ok(store) = Store::new_on_memory_disks(rt.alloc()) else {
+    let Ok(mut served) = MemoryServer::new(rt.alloc()) else {
         return CANNOT_OPEN;
     };
-    let (end, store) = serve(rt, store);
-    drop(store.release());
-    outcome(end)
+    outcome(serve(rt, &mut served.server))
 }
 
-/// A file whose log can't be copied into it at the end keeps the log beside it, and the next
-/// opening reads both.
 fn serve_file(rt: &HostRuntime, path: &str) -> (u8, &'static str) {
-    let Some(store) = open_file(rt, path) else {
+    let Some(mut served) = FileServer::open(rt, path) else {
         return CANNOT_OPEN;
     };
-    let (end, store) = serve(rt, store);
-    let _ = store.release().close();
+    let end = serve(rt, &mut served.server);
+    let _is_closed = served.close();
     outcome(end)
 }
 
-/// Answers the frames of standard input over a store, and gives the store back.
-fn serve<R: Input + Print + AllocGlobal, S: Alter>(rt: &R, store: Store<S>) -> (End, Store<S>) {
-    let mut server = Server::new(rt.alloc(), store);
-    let end = match BufReader::new(rt.alloc(), rt.reader()) {
+/// Answers the frames of standard input.
+fn serve<R: Input + Print + AllocGlobal, S: Alter>(rt: &R, server: &mut Server<S>) -> End {
+    match BufReader::new(rt.alloc(), rt.reader()) {
         Ok(mut reader) => server.serve(&mut reader, &mut io::writer(rt), MAX_FRAMES),
         Err(_) => End::NoRoom,
-    };
-    (end, server.into_store())
+    }
 }

@@ -3,8 +3,7 @@
 use crate::tests::{LIBRARY, PUT_B, is_answered};
 use std::fs;
 use std::test::Fail;
-use xq_command::files::open_file;
-use xq_service::Server;
+use xq_servers::FileServer;
 
 /// The folder of the files, made anew by each test, and gone after it.
 fn make_folder(rt: &HostRuntime, folder: &str) -> Result<(), Fail> {
@@ -15,22 +14,20 @@ fn make_folder(rt: &HostRuntime, folder: &str) -> Result<(), Fail> {
 
 /// Opens a server over the store in a file, sends it one request, and ends the server, which copies
 /// its log into the file. Says whether the reply is the one that is wanted.
-///
-/// It takes long to prove how such a server is dropped, so it lives here alone.
 fn ask_file(
     rt: &HostRuntime,
     path: &str,
     request: (u8, &[u8]),
     wanted: (u8, &[u8]),
 ) -> Result<bool, Fail> {
-    let Some(store) = open_file(rt, path) else {
+    let Some(mut file) = FileServer::open(rt, path) else {
         return Err(Fail::new("the file is no store"));
     };
-    let mut server = Server::new(rt.alloc(), store);
-    let is_right = is_answered(rt.alloc(), &mut server, 3, request, wanted)?;
-    match server.into_store().release().close() {
-        Ok(()) => Ok(is_right),
-        Err(_error) => Err(Fail::new("the file was not closed")),
+    let is_right = is_answered(rt.alloc(), &mut file.server, 3, request, wanted)?;
+    if file.close() {
+        Ok(is_right)
+    } else {
+        Err(Fail::new("the file was not closed"))
     }
 }
 
@@ -55,6 +52,27 @@ fn documents_outlive_a_service(rt: HostRuntime) -> Result<(), Fail> {
     Ok(())
 }
 
+/// Refuses a file with these bytes: they stay, and no log is left beside it.
+fn refuse_file(rt: &HostRuntime, path: &str, log: &str, bytes: &[u8]) -> Result<bool, Fail> {
+    fs::write(rt, path, bytes)?;
+    if FileServer::open(rt, path).is_some() {
+        return Ok(false);
+    }
+    Ok(fs::read(rt, path)?.as_slice() == bytes && !fs::exists(rt, log)?)
+}
+
+/// What is refused stays as it is.
+#[test]
+fn refused_files(rt: HostRuntime) -> Result<(), Fail> {
+    make_folder(&rt, "xq_server_refused")?;
+    for bytes in [b"S".as_slice(), b"x", b"SQLite format 3", b"A text, and no database."] {
+        let path = "xq_server_refused/x";
+        assert!(rt; refuse_file(&rt, path, "xq_server_refused/x-wal", bytes)?);
+    }
+    fs::remove_dir_all(&rt, "xq_server_refused")?;
+    Ok(())
+}
+
 /// An empty file is made a store; a text and a folder are none, and stay.
 #[test]
 fn other_files(rt: HostRuntime) -> Result<(), Fail> {
@@ -63,10 +81,10 @@ fn other_files(rt: HostRuntime) -> Result<(), Fail> {
     assert!(rt; ask_file(&rt, "xq_server_other/empty", (b'L', b""), (0, b"()"))?);
     let text = b"This is a text, and no database.";
     fs::write(&rt, "xq_server_other/text", text)?;
-    assert!(rt; open_file(&rt, "xq_server_other/text").is_none());
+    assert!(rt; FileServer::open(&rt, "xq_server_other/text").is_none());
     let kept = fs::read(&rt, "xq_server_other/text")?;
     assert_eq!(rt; kept.as_slice(), text.as_slice());
-    assert!(rt; open_file(&rt, "xq_server_other").is_none());
+    assert!(rt; FileServer::open(&rt, "xq_server_other").is_none());
     fs::remove_dir_all(&rt, "xq_server_other")?;
     Ok(())
 }

@@ -1,30 +1,28 @@
 //! Services by scripted readers and writers: the worked rows in pieces, and each end.
 
 use crate::scripts::{Sink, Source};
-use crate::tests::{frame, inputs, new_server, worked_requests};
-use sqlite::FileStore;
+use crate::tests::{frame, inputs, worked_requests};
 use std::process::Abort;
 use std::test::Fail;
-use xq_memory_disk::MemoryDisk;
-use xq_service::{End, Server};
-
-type TestServer = Server<FileStore<MemoryDisk>>;
+use xq_servers::MemoryServer;
+use xq_service::End;
 
 /// Serves the input in pieces, and runs it, each on its server, and compares the replies and
 /// ends.
 fn serve_as_run(
     rt: &(impl Abort + AllocGlobal),
-    (served, ran): (&mut TestServer, &mut TestServer),
+    (served, ran): (&mut MemoryServer, &mut MemoryServer),
     input: &[u8],
     piece: usize,
 ) {
     let mut replies = Vec::new(rt.alloc());
-    let end = ran.run(input, &mut replies);
+    let end = ran.server.run(input, &mut replies);
     let mut source = Source::new(input);
     source.piece = piece;
     let mut sink = Sink::new(Vec::new(rt.alloc()));
     sink.piece = piece;
-    assert_eq!(rt; served.serve(&mut source, &mut sink, u64::MAX), end);
+    let served_end = served.server.serve(&mut source, &mut sink, u64::MAX);
+    assert_eq!(rt; served_end, end);
     assert_eq!(rt; sink.taken.as_slice(), replies.as_slice());
 }
 
@@ -32,8 +30,8 @@ fn serve_as_run(
 #[test]
 fn in_pieces(rt: HostRuntime) -> Result<(), Fail> {
     for piece in [1, 2, 3, 7] {
-        let mut served = new_server(rt.alloc())?;
-        let mut ran = new_server(rt.alloc())?;
+        let mut served = MemoryServer::new(rt.alloc())?;
+        let mut ran = MemoryServer::new(rt.alloc())?;
         for ((kind, body), _) in worked_requests() {
             let input = frame(rt.alloc(), 5, kind, body)?;
             serve_as_run(&rt, (&mut served, &mut ran), &input, piece);
@@ -62,8 +60,8 @@ fn check_replies(
     (end, written): (End, usize),
     replies: &[u8],
 ) -> Result<(), Fail> {
-    let mut server = new_server(rt.alloc())?;
-    assert_eq!(rt; server.serve(source, sink, max_frames), end);
+    let mut memory = MemoryServer::new(rt.alloc())?;
+    assert_eq!(rt; memory.server.serve(source, sink, max_frames), end);
     assert_eq!(rt; Some(sink.taken.as_slice()), replies.get(..written));
     Ok(())
 }
@@ -93,6 +91,7 @@ fn ends_by_the_reader(rt: HostRuntime) -> Result<(), Fail> {
             bytes,
             piece: usize::MAX,
             interruptions,
+            again: 0,
             fails,
         };
         let mut sink = Sink::new(Vec::new(rt.alloc()));
@@ -130,6 +129,22 @@ fn interruptions(rt: HostRuntime) -> Result<(), Fail> {
     for (reads, writes, wanted) in rows {
         let mut source = Source::new(LISTS);
         source.interruptions = reads;
+        let mut sink = Sink::new(Vec::new(rt.alloc()));
+        sink.interruptions = writes;
+        check_end(&rt, (&mut source, &mut sink), 1_000_000, wanted)?;
+    }
+    Ok(())
+}
+
+/// Each frame and its reply has a count of its own: 600 interruptions before each of three frames
+/// are borne, and with 400 of the first reply they are one too many.
+#[test]
+fn counts_anew_for_each_frame(rt: HostRuntime) -> Result<(), Fail> {
+    let rows = [(0, (End::Finished, 33)), (399, (End::Finished, 33)), (400, (End::WriteFault, 0))];
+    for (writes, wanted) in rows {
+        let mut source = Source::new(LISTS);
+        source.interruptions = 600;
+        source.again = 600;
         let mut sink = Sink::new(Vec::new(rt.alloc()));
         sink.interruptions = writes;
         check_end(&rt, (&mut source, &mut sink), 1_000_000, wanted)?;
@@ -178,17 +193,15 @@ fn bounds(rt: HostRuntime) -> Result<(), Fail> {
 /// After a fault of the writer the frame at hand was carried out, and none after it.
 #[test]
 fn carries_out_what_it_cannot_tell(rt: HostRuntime) -> Result<(), Fail> {
-    let mut server = new_server(rt.alloc())?;
+    let mut memory = MemoryServer::new(rt.alloc())?;
     let mut input = frame(rt.alloc(), 1, b'S', b"\x01adocument {}")?;
     input.extend_from_slice(&frame(rt.alloc(), 2, b'S', b"\x01cdocument {}")?)?;
     let mut sink = Sink::new(Vec::new(rt.alloc()));
     sink.room = 3;
-    assert_eq!(rt;
-        server.serve(&mut Source::new(&input), &mut sink, 10),
-        End::WriteFault
-    );
+    let end = memory.server.serve(&mut Source::new(&input), &mut sink, 10);
+    assert_eq!(rt; end, End::WriteFault);
     let mut out = Vec::new(rt.alloc());
-    assert_eq!(rt; server.run(&LISTS[..9], &mut out), End::Finished);
+    assert_eq!(rt; memory.server.run(&LISTS[..9], &mut out), End::Finished);
     assert_eq!(rt;
         out.as_slice(),
         b"\x00\x00\x00\x08\x00\x00\x00\x01\x00\"a\"".as_slice()

@@ -1,11 +1,10 @@
 //! The worked rows of the protocol on one server, byte for byte, and runs under refused memory.
 
-use sqlite::{Alter, FileStore};
+use sqlite::Alter;
 use std::alloc::{AllocError, Global};
 use std::process::Abort;
 use std::test::Fail;
-use xq_memory_disk::MemoryDisk;
-use xq_rows::Store;
+use xq_servers::MemoryServer;
 use xq_service::{End, Server};
 
 /// A library of two books, as a query and as it is printed.
@@ -34,11 +33,6 @@ fn reply(alloc: Global, tag: u32, status: u8, text: &[u8]) -> Result<Vec<u8>, Al
     frame(alloc, tag, status, text)
 }
 
-/// A server over the store that the program has.
-pub fn new_server(alloc: Global) -> Result<Server<FileStore<MemoryDisk>>, Fail> {
-    Ok(Server::new(alloc, Store::new_on_memory_disks(alloc)?))
-}
-
 /// Sends one request, and says whether its reply is the one that is wanted, and the run ends after
 /// it.
 pub fn is_answered<S: Alter>(
@@ -54,18 +48,31 @@ pub fn is_answered<S: Alter>(
     Ok(end == End::Finished && out.as_slice() == wanted.as_slice())
 }
 
+/// Sends the requests in turn, and gives the place of the first whose reply is another.
+fn first_wrong<S: Alter>(
+    alloc: Global,
+    server: &mut Server<S>,
+    tag: u32,
+    rows: &[((u8, &[u8]), (u8, &[u8]))],
+) -> Result<Option<usize>, AllocError> {
+    for (at, (request, wanted)) in rows.iter().enumerate() {
+        if !is_answered(alloc, server, tag, *request, *wanted)? {
+            return Ok(Some(at));
+        }
+    }
+    Ok(None)
+}
+
 /// Sends the requests to one new server, so many times one after the other, and checks each reply.
 fn check_all(
     rt: &(impl Abort + AllocGlobal),
     rounds: u32,
     rows: &[((u8, &[u8]), (u8, &[u8]))],
 ) -> Result<(), Fail> {
-    let mut server = new_server(rt.alloc())?;
+    let mut memory = MemoryServer::new(rt.alloc())?;
     for tag in 0..rounds {
-        for (at, (request, wanted)) in rows.iter().enumerate() {
-            let is_right = is_answered(rt.alloc(), &mut server, tag, *request, *wanted)?;
-            assert!(rt; is_right, "request {at} of round {tag}");
-        }
+        let wrong = first_wrong(rt.alloc(), &mut memory.server, tag, rows)?;
+        assert!(rt; wrong.is_none(), "request {wrong:?} of round {tag}");
     }
     Ok(())
 }
@@ -93,16 +100,12 @@ pub fn worked_requests() -> [((u8, &'static [u8]), (u8, &'static [u8])); 15] {
 
 #[test]
 fn worked_rows(rt: HostRuntime) -> Result<(), Fail> {
-    let mut server = new_server(rt.alloc())?;
-    let mut tag = 0;
-    for (request, wanted) in worked_requests() {
-        let is_right = is_answered(rt.alloc(), &mut server, tag, request, wanted)?;
-        assert!(rt; is_right, "row {tag}");
-        tag = tag.wrapping_add(1);
-    }
+    let mut memory = MemoryServer::new(rt.alloc())?;
+    let wrong = first_wrong(rt.alloc(), &mut memory.server, 1, &worked_requests())?;
+    assert!(rt; wrong.is_none(), "request {wrong:?}");
     for (bytes, replies, end) in inputs() {
         let mut out = Vec::new(rt.alloc());
-        assert_eq!(rt; server.run(bytes, &mut out), end);
+        assert_eq!(rt; memory.server.run(bytes, &mut out), end);
         assert_eq!(rt; out.as_slice(), replies);
     }
     Ok(())
@@ -179,10 +182,11 @@ fn fifty_rounds(rt: HostRuntime) -> Result<(), Fail> {
 /// The store outlives its server, and another server goes on with it.
 #[test]
 fn gives_the_store_back(rt: HostRuntime) -> Result<(), Fail> {
-    let store = Store::new_in_memory(rt.alloc())?;
-    let mut server = Server::new(rt.alloc(), store);
-    assert!(rt; is_answered(rt.alloc(), &mut server, 1, (b'S', PUT_B), (0, b"stored"))?);
-    let mut next = Server::new(rt.alloc(), server.into_store());
-    assert!(rt; is_answered(rt.alloc(), &mut next, 2, (b'Q', DOC_B), (0, LIBRARY))?);
+    let mut memory = MemoryServer::new(rt.alloc())?;
+    let put = ((b'S', PUT_B), (0, b"stored".as_slice()));
+    assert!(rt; first_wrong(rt.alloc(), &mut memory.server, 1, &[put])?.is_none());
+    let mut next = memory.restarted(rt.alloc());
+    let asked = ((b'Q', DOC_B), (0, LIBRARY));
+    assert!(rt; first_wrong(rt.alloc(), &mut next.server, 2, &[asked])?.is_none());
     Ok(())
 }

@@ -1,0 +1,80 @@
+#!/usr/bin/env python3
+"""Shows which public functions and clauses differ between two commits.
+
+    tools/public_contracts.py OLD [NEW] [--rename A=B ..]     (NEW is the last commit if not given)
+
+A public function is a `pub fn` of a file below crates/*/src, outside tests; it is shown with its
+`requires` and `ensures`, white space folded. Words of OLD are renamed first. Crates and files do
+not count, so that what moved stays the same. Lines begin with `-` for OLD alone and `+` for NEW
+alone; the last line counts.
+"""
+
+import re
+import subprocess
+import sys
+
+HEAD = re.compile(r"(?m)^[ \t]*pub (?:const )?fn ")
+
+
+def git(*words):
+    return subprocess.check_output(["git", *words], text=True)
+
+
+def sources(commit):
+    names = git("ls-tree", "-r", "--name-only", commit, "crates").split("\n")
+    return [it for it in names if re.match(r"crates/\w+/src/.*\.rt$", it) and "_tests/" not in it]
+
+
+def skip_braces(text, at):
+    """The place after the group that opens at this place."""
+    depth = 0
+    for place in range(at, len(text)):
+        depth += {"{": 1, "}": -1}.get(text[place], 0)
+        if depth == 0:
+            return place + 1
+    return len(text)
+
+
+def contract(text, at):
+    """A function's head and clauses, from its first word to its body."""
+    found, place = "", at
+    while place < len(text):
+        brace = text.find("{", place)
+        semicolon = text.find(";", place)
+        if brace < 0 or 0 <= semicolon < brace:
+            return text[at:semicolon]
+        before = text[place:brace]
+        if not re.search(r"\b(requires|ensures|ghost)\b\*?\s*[\w+]*\s*:?\s*\Z|\b\w+:\s*\Z", before):
+            return text[at:brace]
+        place = skip_braces(text, brace)
+    return found
+
+
+def contracts(commit, renames):
+    found = set()
+    for name in sources(commit):
+        text = git("show", f"{commit}:{name}")
+        text = re.sub(r"(?m)^\s*//.*$", "", text)
+        for head in HEAD.finditer(text):
+            shown = " ".join(contract(text, head.start()).split())
+            for old, new in renames:
+                shown = re.sub(rf"\b{re.escape(old)}\b", new, shown)
+            found.add(shown)
+    return found
+
+
+def main(words):
+    renames = [it.split("=", 1) for it in words if "=" in it]
+    commits = [it for it in words if "=" not in it and it != "--rename"]
+    old = contracts(commits[0], renames)
+    new = contracts(commits[1] if len(commits) > 1 else "HEAD", [])
+    for shown in sorted(old - new):
+        print(f"- {shown}\n")
+    for shown in sorted(new - old):
+        print(f"+ {shown}\n")
+    gone, added = len(old - new), len(new - old)
+    print(f"{len(old & new)} the same, {gone} in {commits[0]} alone, {added} new")
+
+
+if __name__ == "__main__":
+    main(sys.argv[1:])

@@ -1,0 +1,203 @@
+#!/usr/bin/env python3
+"""Lists what a reader must believe: the definitions that public contracts reach.
+
+    tools/reading_order.py [--unreached] [CRATE ..]
+
+Begins at the clauses of the public functions of the crates named (of all, if none is), and follows
+each name through the specs/ of the repository. Prints a line for each file, lowest crate first:
+its lines, those of the definitions that are reached, and their names; the last line has the sums.
+With --unreached it lists the public definitions of specs/ (without specs/private/) that are not.
+
+It reads words, not the logic: a definition is reached where its name stands in a clause or in the
+definition of one that is reached, and the file brings that name in.
+"""
+
+import os
+import re
+import sys
+
+TOP = os.path.dirname(os.path.dirname(os.path.abspath(__file__)))
+USE = re.compile(r"(?m)^\s*(?:ghost )?use (Rattle\.[\w.+«»:-]+?)"
+                 r"(?:\.\{([^}]*)\})?(?: as ([\w']+))?;?$")
+HEAD = re.compile(r" *(?:(?:abbrev|unfoldable|pub) )*(?:record |data )?"
+                  r"([^\s:(){}]+)(?: :|.* : .* where$)")
+CLAUSE = re.compile(r"(?s)(?:requires|ensures|ghost)\b[^{;]*\{(.*?)\}\s*(?=\n)")
+BEGIN = re.compile(r"^( *)((?:abbrev|unfoldable|pub|record|data|infix\w*) )*([^\s:(){}]+)")
+WORD = re.compile(r"[^\s(){}\[\];,.λ×]+(?:\.[^\s(){}\[\];,λ×]+)*")
+
+
+def read(path):
+    with open(path) as file:
+        return file.read()
+
+
+class File:
+    """A file of specs/: what it brings in, and its definitions with their lines."""
+
+    def __init__(self, path, module):
+        self.path, self.module, self.text = path, module, read(path)
+        self.uses, self.aliases = uses_of(self.text)
+        self.definitions = definitions_of(self.text)
+        self.lines = self.text.count("\n")
+
+
+def uses_of(text):
+    """Names by what they stand for, and short words for modules."""
+    names, aliases = {}, {}
+    for module, brought, alias in USE.findall(text):
+        if alias:
+            aliases[alias] = module
+        elif not brought:
+            aliases[module.split(".")[-1]] = module
+        for part in filter(None, (it.strip() for it in brought.split(","))):
+            name, _, other = part.partition(" as ")
+            names[other or name] = (module, name)
+    return names, aliases
+
+
+def definitions_of(text):
+    """Each definition's lines, the comment above it among them."""
+    found, name, comment = {}, None, []
+    for line in text.split("\n"):
+        if line.strip().startswith("--"):
+            comment.append(line)
+            continue
+        if line.strip().startswith("use ") or not line.strip():
+            if not line.strip():
+                comment = []
+            continue
+        head = BEGIN.match(line)
+        declared = HEAD.match(line)
+        words = re.match(r" *(abbrev|unfoldable|pub|record|data|abstract)\b", line)
+        is_head = head and words and declared and len(head.group(1)) <= 2
+        if is_head and not in_record(found, name, line):
+            name = declared.group(1)
+            found.setdefault(name, []).extend(comment)
+        if name:
+            found[name].append(line)
+        comment = []
+    return found
+
+
+def in_record(found, name, line):
+    """Whether the line is a field of the record or variant of the data at hand."""
+    if name is None:
+        return False
+    heads = [it for it in found[name] if not it.strip().startswith("--")]
+    is_block = bool(re.match(r" *(?:(?:abbrev|unfoldable|pub) )*(?:record|data) ", heads[0]))
+    depth = len(heads[0]) - len(heads[0].lstrip())
+    return is_block and len(line) - len(line.lstrip()) > depth
+
+
+def files_of_specs():
+    files = {}
+    for crate in sorted(os.listdir(f"{TOP}/crates")):
+        base = f"{TOP}/crates/{crate}/specs"
+        for folder, _, names in os.walk(base):
+            for name in names:
+                if name.endswith(".antt") and name != "Lib.antt":
+                    part = os.path.relpath(os.path.join(folder, name), base)[:-5].replace("/", ".")
+                    files[f"Rattle.{crate}.specs.{part}"] = File(os.path.join(folder, name), part)
+    return files
+
+
+def order_of_crates():
+    return [line.split(":")[0].split()[0] for line in read(f"{TOP}/crates.txt").split("\n")
+            if ":" in line and not line.startswith("#")]
+
+
+def exported(crate):
+    """The names that a crate's root hands out, and its public modules."""
+    path = f"{TOP}/crates/{crate}/src/lib.rt"
+    root = read(path) if os.path.exists(path) else ""
+    names = set()
+    for group in re.findall(r"(?s)pub use [\w:]+?::(\{.*?\}|\w+);", root):
+        names.update(re.findall(r"\w+", group))
+    return names, set(re.findall(r"(?m)^pub mod (\w+);", root))
+
+
+def clauses_of(crate):
+    """The clauses of a crate's public functions and models, with what their files bring in."""
+    names, modules = exported(crate)
+    for folder, _, files in os.walk(f"{TOP}/crates/{crate}/src"):
+        for file in filter(lambda it: it.endswith(".rt"), files):
+            text = read(os.path.join(folder, file))
+            uses, aliases = uses_of(text)
+            for piece in public_pieces(text, names, file[:-3] in modules):
+                yield " ".join(CLAUSE.findall(piece)), {**uses, **uses_of(piece)[0]}, aliases
+
+
+def public_pieces(text, names, is_open):
+    """The public functions, methods and models of a file."""
+    of_type = False
+    for piece in re.split(r"(?m)^ *(?=pub (?:const )?fn |fn |pub\(crate\) |impl\b)", text):
+        if piece.startswith("impl"):
+            head = re.match(r"(?s)impl\b.*?\b(\w+)(?:<[^{]*>)?\s*(?:where[^{]*)?\{", piece)
+            of_type = bool(head) and (head.group(1) in names or is_open)
+            if of_type and " Model for " in piece:
+                yield piece
+        name = re.match(r"pub (?:const )?fn (\w+)", piece)
+        if name and (is_open or name.group(1) in names or of_type):
+            yield piece
+
+
+def references(text, uses, aliases, own, module):
+    for word in set(WORD.findall(text)):
+        first, _, rest = word.partition(".")
+        if first in uses:
+            yield uses[first]
+        elif first in aliases and rest:
+            yield aliases[first], rest.split(".")[0]
+        elif first in own:
+            yield module, first
+
+
+def reached(files, crates):
+    todo = [it for crate in crates for text, uses, aliases in clauses_of(crate)
+            for it in references(text, uses, aliases, (), "")]
+    done = set()
+    while todo:
+        module, name = todo.pop()
+        file = files.get(module)
+        if file is None or (module, name) in done or name not in file.definitions:
+            continue
+        done.add((module, name))
+        text = "\n".join(it for it in file.definitions[name] if not it.strip().startswith("--"))
+        todo.extend(references(text, file.uses, file.aliases, file.definitions, module))
+    return done
+
+
+def show(files, done):
+    sums = [0, 0]
+    rank = {crate: at for at, crate in enumerate(order_of_crates())}
+    crate_of = {module: module.split(".")[1] for module in files}
+    for module in sorted(files, key=lambda it: (rank.get(crate_of[it], 99), it)):
+        file = files[module]
+        names = [it for it in file.definitions if (module, it) in done]
+        if names:
+            lines = sum(len(file.definitions[it]) for it in names)
+            sums = [sums[0] + file.lines, sums[1] + lines]
+            path = os.path.relpath(file.path, TOP)
+            print(f"{file.lines:5} {lines:5}  {path}: {', '.join(names)}")
+    print(f"{sums[0]:5} {sums[1]:5}  lines of these files; lines of these definitions")
+
+
+def show_unreached(files, done):
+    for module, file in sorted(files.items()):
+        names = [it for it in file.definitions if (module, it) not in done]
+        if names and ".specs.private." not in module:
+            print(f"{os.path.relpath(file.path, TOP)}: {', '.join(names)}")
+
+
+def main(words):
+    files = files_of_specs()
+    crates = [it for it in words if not it.startswith("--")] or order_of_crates()
+    done = reached(files, crates)
+    if "--unreached" in words:
+        show_unreached(files, done)
+    else:
+        show(files, done)
+
+
+if __name__ == "__main__":
+    main(sys.argv[1:])
