@@ -12,7 +12,7 @@ use Rattle.xq_regions.specs.Rows.{row_of, placed, placed_rows, AreNumbered, Enco
 use Rattle.xq_regions.specs.declared.NodeRow.{NodeRow}
 use Rattle.xq_regions.specs.declared.Kind.TheVariants.{Document}
 use Rattle.xq_rows.specs.Nodes.{cells}
-use Rattle.xq_rows.specs.Documents.{Map, IsReady, IsClean, IsOpen, IsUp, StandsFor, documents_in, is_at, IsStore, IsEmptyStore}
+use Rattle.xq_rows.specs.Documents.{Map, IsReady, IsClean, IsOpen, StandsFor, documents_in, is_at, IsStore, IsEmptyStore}
 use Rattle.xq_rows.specs.Statements.{AreAddresses, Deletes, Finds, IsRange, Puts}
 use Rattle.xq_rows.specs.Tables.{store_schema}
 use Rattle.sqlite_value.specs.declared.value.Value.TheVariants.{Text}

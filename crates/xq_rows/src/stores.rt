@@ -99,17 +99,24 @@ impl<S: Alter> Store<S> {
     /// [`OpenFault::Want`] where memory runs out or the database refuses for another cause.
     pub fn adopt(alloc: Global, conn: Connection<S>) -> Result<Store<S>, (OpenFault, Connection<S>)>
         requires { conn.in_transaction ≡ false }
-        ensures made { IfOk result (λ store. IsClean S.Store store → IsBlank S.Store conn → StandsFor S.Store store empty) }
-        ensures found { IfOk result (λ store. IsClean S.Store store → HasTables S.Store conn → Holds S.Store conn × StandsFor S.Store store (documents S.Store conn)) }
-        ensures same { IfOk result (λ store. IsClean S.Store store → HasTables S.Store conn → (state S.Store store).now ≡ (state S.Store conn).now) }
+        ensures made { IfOk result (λ store. IsClean S.Store store → IsBlank S.Store conn
+            → StandsFor S.Store store empty) }
+        ensures found { IfOk result (λ store. IsClean S.Store store → HasTables S.Store conn
+            → Holds S.Store conn × StandsFor S.Store store (documents S.Store conn)) }
+        ensures same { IfOk result (λ store. IsClean S.Store store → HasTables S.Store conn
+            → (state S.Store store).now ≡ (state S.Store conn).now) }
         ensures both { IfOk result (λ store. IsClean S.Store store → ¬ (HasOneTable S.Store conn)) }
-        ensures open { IfOk result (λ store. IsClean S.Store store → IsOpen S.Store store × IsOpen S.Store conn) }
-        ensures no_store { IfErr result (λ e. IsUp S.Store e.1 → e.0 ≡ OpenFault.NotAStore → ¬ (IsBlank S.Store conn) × ¬ (Holds S.Store conn)) }
-        ensures kept { IfErr result (λ e. IsUp S.Store e.1 → (state S.Store e.1).now ≡ (state S.Store conn).now) }
+        ensures open { IfOk result (λ store. IsClean S.Store store
+            → IsOpen S.Store store × IsOpen S.Store conn) }
+        ensures no_store { IfErr result (λ e. IsUp S.Store e.1 → e.0 ≡ OpenFault.NotAStore
+            → ¬ (IsBlank S.Store conn) × ¬ (Holds S.Store conn)) }
+        ensures kept { IfErr result (λ e. IsUp S.Store e.1
+            → (state S.Store e.1).now ≡ (state S.Store conn).now) }
         ensures outside { IfErr result (λ e. e.1.in_transaction ≡ false) }
         ensures was_clean { IfOk result (λ store. IsClean S.Store store → IsClean S.Store conn) }
         ensures still_clean { IfErr result (λ e. IsClean S.Store e.1 → IsClean S.Store conn) }
-        ensures still_open { IfErr result (λ e. IsClean S.Store e.1 → IsOpen S.Store e.1 → IsOpen S.Store conn) }
+        ensures still_open { IfErr result (λ e. IsClean S.Store e.1 → IsOpen S.Store e.1
+            → IsOpen S.Store conn) }
     {
         let mut conn = conn;
         match adopt_tables(alloc, &mut conn) {
@@ -120,10 +127,13 @@ impl<S: Alter> Store<S> {
 
     /// The addresses, each once, in the order of their bytes.
     pub fn addresses(&mut self) -> Result<Vec<String>, Want>
-        ensures all { IsClean S.Store self.new → (m : Map) → StandsFor S.Store self.old m → IfOk result (λ all. map string_bytes all.items ≡ keys m) }
-        ensures same { IsClean S.Store self.new → (m : Map) → StandsFor S.Store self.old m → StandsFor S.Store self.new m }
+        ensures all { IsClean S.Store self.new → (m : Map) → StandsFor S.Store self.old m
+            → IfOk result (λ all. map string_bytes all.items ≡ keys m) }
+        ensures same { IsClean S.Store self.new → (m : Map) → StandsFor S.Store self.old m
+            → StandsFor S.Store self.new m }
         ensures answered { IsClean S.Store self.new → OnOk result (IsOpen S.Store self.new) }
-        ensures was_open { IsClean S.Store self.new → IsOpen S.Store self.new → IsOpen S.Store self.old }
+        ensures was_open { IsClean S.Store self.new → IsOpen S.Store self.new
+            → IsOpen S.Store self.old }
         ensures was_clean { IsClean S.Store self.new → IsClean S.Store self.old }
     {
         list_addresses(self.alloc, &mut self.conn)
@@ -132,11 +142,14 @@ impl<S: Alter> Store<S> {
     /// The document of the address, or None where the address is absent. Rows that are those of no
     /// document, as a damaged database may hold, are answered [`Want::Store`].
     pub fn load(&mut self, address: &str) -> Result<Option<Fragment>, Want>
-        ensures found { IsClean S.Store self.new → (m : Map) → StandsFor S.Store self.old m → IfOk result (λ found. found ≡ get m address.now) }
+        ensures found { IsClean S.Store self.new → (m : Map) → StandsFor S.Store self.old m
+            → IfOk result (λ found. found ≡ get m address.now) }
         ensures document { IfOk result (λ found. IfSome found IsDocument) }
-        ensures same { IsClean S.Store self.new → (m : Map) → StandsFor S.Store self.old m → StandsFor S.Store self.new m }
+        ensures same { IsClean S.Store self.new → (m : Map) → StandsFor S.Store self.old m
+            → StandsFor S.Store self.new m }
         ensures answered { IsClean S.Store self.new → OnOk result (IsOpen S.Store self.new) }
-        ensures was_open { IsClean S.Store self.new → IsOpen S.Store self.new → IsOpen S.Store self.old }
+        ensures was_open { IsClean S.Store self.new → IsOpen S.Store self.new
+            → IsOpen S.Store self.old }
         ensures was_clean { IsClean S.Store self.new → IsClean S.Store self.old }
     {
         let nodes = load_nodes(self.alloc, &mut self.conn, address)?;
@@ -148,11 +161,16 @@ impl<S: Alter> Store<S> {
     pub fn put(&mut self, address: &str, document: &Fragment) -> Result<Put, Want>
         requires address { IsAddress address.now }
         requires document { document.now.root.kind ≡ Document }
-        ensures put { IsClean S.Store self.new → (m : Map) → StandsFor S.Store self.old m → IfOk result (λ put. StandsFor S.Store self.new (insert m address.now document.now)) }
-        ensures answer { IsClean S.Store self.new → (m : Map) → StandsFor S.Store self.old m → IfOk result (λ put. put ≡ (if contains_key m address.now then Put.Replaced else Put.Stored)) }
-        ensures kept { IsClean S.Store self.new → (m : Map) → StandsFor S.Store self.old m → OnErr result (StandsFor S.Store self.new m) }
+        ensures put { IsClean S.Store self.new → (m : Map) → StandsFor S.Store self.old m
+            → IfOk result (λ put. StandsFor S.Store self.new (insert m address.now document.now)) }
+        ensures answer { IsClean S.Store self.new → (m : Map) → StandsFor S.Store self.old m
+            → IfOk result (λ put.
+            put ≡ (if contains_key m address.now then Put.Replaced else Put.Stored)) }
+        ensures kept { IsClean S.Store self.new → (m : Map) → StandsFor S.Store self.old m
+            → OnErr result (StandsFor S.Store self.new m) }
         ensures answered { IsClean S.Store self.new → OnOk result (IsOpen S.Store self.new) }
-        ensures was_open { IsClean S.Store self.new → IsOpen S.Store self.new → IsOpen S.Store self.old }
+        ensures was_open { IsClean S.Store self.new → IsOpen S.Store self.new
+            → IsOpen S.Store self.old }
         ensures was_clean { IsClean S.Store self.new → IsClean S.Store self.old }
     {
         let replaced = put_rows(&mut self.conn, address, document.rows())?;
@@ -163,11 +181,15 @@ impl<S: Alter> Store<S> {
     /// Removes the document of the address alone, and answers whether it was there. A refusal
     /// leaves each document as it was.
     pub fn drop_doc(&mut self, address: &str) -> Result<bool, Want>
-        ensures dropped { IsClean S.Store self.new → (m : Map) → StandsFor S.Store self.old m → IfOk result (λ was. StandsFor S.Store self.new (remove m address.now)) }
-        ensures answer { IsClean S.Store self.new → (m : Map) → StandsFor S.Store self.old m → IfOk result (λ was. was ≡ contains_key m address.now) }
-        ensures kept { IsClean S.Store self.new → (m : Map) → StandsFor S.Store self.old m → OnErr result (StandsFor S.Store self.new m) }
+        ensures dropped { IsClean S.Store self.new → (m : Map) → StandsFor S.Store self.old m
+            → IfOk result (λ was. StandsFor S.Store self.new (remove m address.now)) }
+        ensures answer { IsClean S.Store self.new → (m : Map) → StandsFor S.Store self.old m
+            → IfOk result (λ was. was ≡ contains_key m address.now) }
+        ensures kept { IsClean S.Store self.new → (m : Map) → StandsFor S.Store self.old m
+            → OnErr result (StandsFor S.Store self.new m) }
         ensures answered { IsClean S.Store self.new → OnOk result (IsOpen S.Store self.new) }
-        ensures was_open { IsClean S.Store self.new → IsOpen S.Store self.new → IsOpen S.Store self.old }
+        ensures was_open { IsClean S.Store self.new → IsOpen S.Store self.new
+            → IsOpen S.Store self.old }
         ensures was_clean { IsClean S.Store self.new → IsClean S.Store self.old }
     {
         let count = drop_rows(&mut self.conn, address)?;

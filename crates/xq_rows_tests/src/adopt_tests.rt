@@ -215,7 +215,11 @@ fn what_was_released(rt: HostRuntime) -> Result<(), Fail> {
 #[test]
 fn other_orders(rt: HostRuntime) -> Result<(), Fail> {
     let documents = Documents::new(rt.alloc())?;
-    for made in [[NODE, LAYOUT, ONE], [LAYOUT, TURNED_NODE, ONE], [TURNED_NODE, LAYOUT, ONE]] {
+    for made in [
+        [NODE, LAYOUT, ONE],
+        [LAYOUT, TURNED_NODE, ONE],
+        [TURNED_NODE, LAYOUT, ONE],
+    ] {
         let mut conn = Connection::open_in_memory(rt.alloc())?;
         for statement in made {
             let _count = conn.execute(statement, &[])?;

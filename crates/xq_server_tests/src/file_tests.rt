@@ -65,7 +65,12 @@ fn refuse_file(rt: &HostRuntime, path: &str, log: &str, bytes: &[u8]) -> Result<
 #[test]
 fn refused_files(rt: HostRuntime) -> Result<(), Fail> {
     make_folder(&rt, "xq_server_refused")?;
-    for bytes in [b"S".as_slice(), b"x", b"SQLite format 3", b"A text, and no database."] {
+    for bytes in [
+        b"S".as_slice(),
+        b"x",
+        b"SQLite format 3",
+        b"A text, and no database.",
+    ] {
         let path = "xq_server_refused/x";
         assert!(rt; refuse_file(&rt, path, "xq_server_refused/x-wal", bytes)?);
     }

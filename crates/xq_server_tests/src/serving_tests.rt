@@ -140,7 +140,11 @@ fn interruptions(rt: HostRuntime) -> Result<(), Fail> {
 /// are borne, and with 400 of the first reply they are one too many.
 #[test]
 fn counts_anew_for_each_frame(rt: HostRuntime) -> Result<(), Fail> {
-    let rows = [(0, (End::Finished, 33)), (399, (End::Finished, 33)), (400, (End::WriteFault, 0))];
+    let rows = [
+        (0, (End::Finished, 33)),
+        (399, (End::Finished, 33)),
+        (400, (End::WriteFault, 0)),
+    ];
     for (writes, wanted) in rows {
         let mut source = Source::new(LISTS);
         source.interruptions = 600;

@@ -33,7 +33,9 @@ pub(crate) fn remove_log(rt: &HostRuntime, log: Option<String>) {
     let Some(log) = log else {
         return;
     };
-    if let Ok(found) = fs::metadata(rt, log.as_str()) && found.len() < SHORTEST_PAGE {
+    if let Ok(found) = fs::metadata(rt, log.as_str())
+        && found.len() < SHORTEST_PAGE
+    {
         let _ = fs::remove_file(rt, log.as_str());
     }
 }

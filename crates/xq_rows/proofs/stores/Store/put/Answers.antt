@@ -1,4 +1,4 @@
-use Rattle.std.proofs.Common.{◌≡◌, ◌∙◌, sym, ap, if◌then◌else◌}
+use Rattle.std.proofs.Common.{◌∙◌, sym, ap, if◌then◌else◌}
 use Rattle.xq_rows.specs.declared.stores.Put.TheVariants.{Replaced, Stored}
 use Rattle.xq_rows.proofs.stores.Store.put.Goals.{then-replaced, else-replaced}
 use Rattle.xq_rows.specs.Documents.{StandsFor}
