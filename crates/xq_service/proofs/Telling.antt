@@ -1,5 +1,5 @@
 -- Each way to tell a request its answer is one of those of a step.
-use Rattle.std.proofs.Common.{◌≡◌, ℕ, ◌<◌, ◌≤◌, List, length, refl, sym, ◌∙◌, ap, subst, rules, None, Some, Ok, Err, Result, inl, inr, nat_le, cond, true, false, Bool, IsTrue, string_bytes, IsErrAnd, IfOk, IfErr, MatchResult, IsOk, arith, zero, suc, [], ◌∷◌, get_or, All, nat_cmp, Option, is_some, codes, if◌then◌else◌}
+use Rattle.std.proofs.Common.{◌≡◌, ℕ, ◌<◌, ◌≤◌, List, length, refl, sym, ◌∙◌, ap, subst, rules, None, Some, Ok, Err, Result, inl, inr, nat_le, cond, true, false, Bool, IsTrue, IsErrAnd, IfOk, IfErr, MatchResult, IsOk, arith, zero, suc, [], ◌∷◌, get_or, All, nat_cmp, Option, is_some, codes, if◌then◌else◌}
 use Rattle.std.specs.FinMap.{get, insert, remove, contains_key, get-remove, same_map, slice_cmp-IsAntisymmetric, nat_cmp-IsAntisymmetric}
 use Rattle.std.specs.Cmp.Lexicographic.{slice_cmp, nat_list_cmp_total}
 use Rattle.std.specs.Ordering.{is_eq, eq_by_cmp}

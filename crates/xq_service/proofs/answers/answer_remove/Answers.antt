@@ -15,7 +15,9 @@ pub returns-in_err-drop_doc-clause-tells : goal.returns-in_err-drop_doc-clause-t
 returns-in_err-drop_doc-clause-tells g c = λ clean m stood. (
   m,
   rw (handed_on c.from_residual-in_err-drop_doc.result (OfWant c.in_err-drop_doc.field-0.0) c.from_residual-in_err-drop_doc.ensures.1) (
-      remove_wanted c.args.address.now c.in_err-drop_doc.field-0.0 c.in_ok-known.ensures.1, refl),
+    remove_wanted c.args.address.now c.in_err-drop_doc.field-0.0 c.in_ok-known.ensures.1,
+    refl,
+  ),
   c.in_err-drop_doc.ensures.kept clean m stood,
 )
 
