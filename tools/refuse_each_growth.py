@@ -6,8 +6,9 @@
 Runs the built program over requests that store, replace, copy, read, list and drop, once for each
 allocation that it makes, and has that one fail. Each run has to end with one reply for each frame,
 or say that it had no room: for the store, for the input, or for a reply, and then the frames before
-have theirs. A reply may name want of memory. Each other one has to be what the replies before it
-make it: they alone say which documents there are. With --file each run keeps its documents in a new
+have theirs. The reply to the frame at hand may name want of memory, or of the store where it was a
+disk in memory that could not grow; where the database has shut, each later one wants the store. Each other one has to be what the replies before it make it: they alone
+say which documents there are. With --file each run keeps its documents in a new
 file, which then has to open with these documents. Needs a C compiler, for the allocator that fails.
 """
 import argparse
@@ -133,7 +134,7 @@ def answer(documents, kind, address, text):
 
 def fault(done, path=None):
     """What is wrong with a run, or None; and with the file at the path, where it kept one."""
-    out, documents = done.stdout, {}
+    out, documents, wants = done.stdout, {}, (b"memory", b"store")
     for tag, request in enumerate(REQUESTS):
         if not out:
             line = done.stderr.strip()
@@ -147,8 +148,9 @@ def fault(done, path=None):
         if got != (0 if request[0] == b"" else tag):
             return f"reply {tag} has the tag {got}"
         if status == 2:
-            if told in (b"prof:FRAME", b"prof:ADDRESS", b"prof:UTF8") or text not in (b"memory", b"store"):
+            if told in (b"prof:FRAME", b"prof:ADDRESS", b"prof:UTF8") or text not in wants:
                 return f"reply {tag} wants {text!r} in place of {told!r}"
+            wants = (b"store",)
         elif (status, text) != (expected, told):
             return f"reply {tag} is {status} {text!r} and not {expected} {told!r}"
         else:

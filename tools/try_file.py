@@ -55,12 +55,17 @@ def reads_with_sqlite(path):
 
 
 def refuses(what, program, path, **how):
-    """The file is refused, and its bytes stay."""
+    """The file is refused, its bytes stay, and nothing is left beside it that wasn't there."""
     def content():
         return path.read_bytes() if path.is_file() else None
-    before = content()
+
+    def beside():
+        folder = path if path.is_dir() else path.parent
+        return sorted(os.listdir(folder)) if folder.is_dir() else None
+    before, files = content(), beside()
     check(what, Server([program, "--file", path], **how).end(), REFUSED)
     check("  its bytes stay", content() == before, True)
+    check("  nothing is left beside it", beside(), files)
 
 
 def written_by_sqlite(path, *statements):
@@ -85,6 +90,8 @@ def damaged(path, copy):
 LAYOUT = "CREATE TABLE layout (edition INTEGER NOT NULL) STRICT"
 NODE = ("CREATE TABLE node (address TEXT NOT NULL, pre INTEGER NOT NULL, size INTEGER NOT NULL, level INTEGER NOT NULL, "
         "kind INTEGER NOT NULL, name TEXT NOT NULL, value TEXT NOT NULL, PRIMARY KEY (address, pre)) STRICT")
+TURNED_NODE = ("CREATE TABLE node (value TEXT NOT NULL, name TEXT NOT NULL, kind INTEGER NOT NULL, level INTEGER NOT NULL, "
+               "size INTEGER NOT NULL, pre INTEGER NOT NULL, address TEXT NOT NULL, PRIMARY KEY (address, pre)) STRICT")
 ONE = "INSERT INTO layout VALUES (1)"
 
 
@@ -93,15 +100,56 @@ def bad_files(program, folder, path):
     text = folder / "text"
     text.write_text("This is a text, and no database of any kind.\n" * 200)
     refuses("a file of text", program, text)
+    for byte in (b"S", b"x"):
+        one = folder / "one"
+        one.write_bytes(byte)
+        refuses("a file of one byte", program, one)
     refuses("a directory", program, folder)
     refuses("a path in no directory", program, folder / "absent" / "x.db")
     refuses("a store with a changed byte", program, damaged(path, folder / "damaged.db"))
     refuses("edition 9", program, written_by_sqlite(folder / "nine.db", LAYOUT, NODE, "INSERT INTO layout VALUES (9)"))
     refuses("the table of editions alone", program, written_by_sqlite(folder / "alone.db", LAYOUT, ONE))
+    refuses("the table of nodes alone", program, written_by_sqlite(folder / "nodes.db", NODE))
     refuses("a text that stands at the root", program, written_by_sqlite(
         folder / "text.db", LAYOUT, NODE, ONE, "INSERT INTO node VALUES ('b', 0, 0, 0, 3, '', 'A')"))
     refuses("an address with a blank", program, written_by_sqlite(
         folder / "address.db", LAYOUT, NODE, ONE, "INSERT INTO node VALUES ('b b', 0, 0, 0, 0, '', '')"))
+
+
+def other_orders(program, folder):
+    """Tables that sqlite3 made in another order, of themselves or of their columns, are served as well."""
+    for number, made in enumerate([(NODE, LAYOUT, ONE), (LAYOUT, TURNED_NODE, ONE), (TURNED_NODE, LAYOUT, ONE)]):
+        path = written_by_sqlite(folder / ("order%d.db" % number), *made)
+        server = Server([program, "--file", path])
+        check("tables in another order: stored", server.ask(b"S", store(b"b", LIBRARY)), (0, b"stored"))
+        check("  replaced", server.ask(b"S", store(b"b", LIBRARY)), (0, b"replaced"))
+        check("  read", server.ask(b"Q", b'doc("b")'), (0, LIBRARY))
+        check("  the input ends", server.end(), (0, ""))
+        check("  read after a start", Server([program, "--file", path]).ask(b"Q", b'doc("b")'), (0, LIBRARY))
+
+
+def names_of_files(program, folder):
+    """PATH is taken as it stands; the engine can't open two kinds of names, and makes no file for them."""
+    for name in (":memory:", "file:x"):
+        before = sorted(os.listdir(folder))
+        check("--file " + name, Server([program, "--file", name], cwd=folder).end(), REFUSED)
+        check("  no file is made", sorted(os.listdir(folder)), before)
+        check("  with a folder it is a name", Server([program, "--file", "./" + name], cwd=folder).ask(b"L"), (0, b"()"))
+
+
+def taken_back(program, folder):
+    """What sqlite3 wrote into a file of the server is refused, and take_file.sh copies its documents into a new one."""
+    path = folder / "written.db"
+    server = Server([program, "--file", path])
+    check("a document is stored", server.ask(b"S", store(b"b", LIBRARY)), (0, b"stored"))
+    check("the input ends", server.end(), (0, ""))
+    written_by_sqlite(path, "UPDATE node SET value = 'C' WHERE pre = 4")
+    refuses("a file that sqlite3 wrote to", program, path)
+    taken = subprocess.run([os.path.join(os.path.dirname(os.path.abspath(__file__)), "take_file.sh"), path, folder / "taken.db"],
+                           capture_output=True)
+    check("take_file.sh copies it", (taken.returncode, taken.stdout), (0, b"1 documents taken over\n"))
+    check("  the copy is served", Server([program, "--file", folder / "taken.db"]).ask(b"Q", b'doc("b")'),
+          (0, LIBRARY.replace(b'text {"A"}', b'text {"C"}')))
 
 
 def unwritable(program, folder, path):
@@ -127,6 +175,12 @@ def main():
         (folder / "empty.db").touch()
         check("an empty file holds nothing", Server([program, "--file", folder / "empty.db"]).ask(b"L"), (0, b"()"))
         bad_files(program, folder, path)
+        other_orders(program, folder)
+        names_of_files(program, folder)
+        if shutil.which("sqlite3"):
+            taken_back(program, folder)
+        else:
+            print("take_file.sh is not tried: there is no sqlite3 here")
         unwritable(program, folder, path)
     help_text = subprocess.run([program, "--help"], stdin=subprocess.DEVNULL, capture_output=True)
     check("--help names the option", (help_text.returncode, b"--file <PATH>" in help_text.stdout), (0, True))

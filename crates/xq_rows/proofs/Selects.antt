@@ -25,7 +25,7 @@ use Rattle.std.proofs.lemmas.List.Elements.{All-from_recursion}
 use Rattle.sqlite_trees.proofs.ListLemmas.{all-map, all_of}
 use Rattle.sqlite_value.proofs.OrderLemmas.{then-Equal}
 use Rattle.sqlite_sql.specs.Term.{col}
-use Rattle.std.proofs.Common.{inl, inr, IsTrue, Result, Ok, Err, IfOk, IfErr}
+use Rattle.std.proofs.Common.{inl, inr, IsTrue, Result, Ok, Err, IfOk, OnOk, IfErr}
 use Rattle.sqlite.specs.declared.error.Error.{Error}
 use Rattle.sqlite.specs.Listing.{understood}
 use Rattle.sqlite.specs.State.{State, Shown, Fails, FailsToQuery, IsNotRun, RunsCommand, ShowsRows, FailsToShow}
@@ -258,3 +258,16 @@ all_ranges show old new address low high (Err e) h = tt
 pub all_lists : {X : Type 0} (show : X → List Row) (old new : State) (r : Result X Error) → IfOk r (λ x. Shown addresses_text [] old new (show x)) → IfOk r (λ x. AreAddresses old.now (show x))
 all_lists show old new (Ok x) h = lists old new (show x) h
 all_lists show old new (Err e) h = tt
+
+-- a query that answers leaves the connection open
+shown_ends : (old new : State) (sql : List ℕ) (params : Row) (rows : List Row) → Shown sql params old new rows → IsTrue new.is_open
+unfolding Shown
+shown_ends old new sql params rows (c, it, h) = go c.returning h
+  where
+    go : (what : Option Returning) → ShowsRows old new sql c (timed params c.formats it.now) rows what → IsTrue new.is_open
+    go None h = h.3.0.is_open
+    go (Some what) h = h.1.shown.is_open
+
+pub query_ends : {X : Type 0} (show : X → List Row) (old new : State) (sql : List ℕ) (params : Row) (r : Result X Error) → IfOk r (λ x. Shown sql params old new (show x)) → OnOk r (IsTrue new.is_open)
+query_ends show old new sql params (Ok x) ok = shown_ends old new sql params (show x) ok
+query_ends show old new sql params (Err e) ok = tt

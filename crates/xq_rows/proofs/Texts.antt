@@ -153,7 +153,7 @@ unfolding understood everything
 range_plain = (refl, refl)
 
 abbrev pub insert_text : List ℕ
-insert_text = codes "INSERT INTO node VALUES (?1, ?2, ?3, ?4, ?5, ?6, ?7)"
+insert_text = codes "INSERT INTO node (address, pre, size, level, kind, name, value) VALUES (?1, ?2, ?3, ?4, ?5, ?6, ?7)"
 
 abbrev pub insert_terms : List Term
 insert_terms = lit Null ∷ col 0 0 ∷ col 0 1 ∷ col 0 2 ∷ col 0 3 ∷ col 0 4 ∷ col 0 5 ∷ col 0 6 ∷ []
@@ -175,7 +175,7 @@ unfolding understood everything
 node_plain = (refl, refl)
 
 abbrev pub edition_text : List ℕ
-edition_text = codes "INSERT INTO layout VALUES (1)"
+edition_text = codes "INSERT INTO layout (edition) VALUES (1)"
 
 abbrev pub edition_terms : List Term
 edition_terms = lit Null ∷ lit (Int (pos 1)) ∷ []

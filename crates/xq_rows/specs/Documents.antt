@@ -97,7 +97,15 @@ IsReady s = HasCleanDisk s × IsTrue s.is_open
 
 -- A store, of which a contract sees its connection: `g` are the ghosts of what it keeps its database in.
 module _ {S : Type 0} (g : Ghosts S) (store : Held S) where
-  -- It is open, and its disk has returned what was written; so it was at each call before. A store in memory is whenever it is open.
+  -- Its disk has returned what was written; so it had at each call before. A database in memory always has.
+  unfoldable pub IsClean : Type 0
+  IsClean = HasCleanDisk (state g store)
+
+  -- It is open; so it was at each call before.
+  unfoldable pub IsOpen : Type 0
+  IsOpen = IsTrue (state g store).is_open
+
+  -- both
   unfoldable pub IsUp : Type 0
   IsUp = IsReady (state g store)
 
@@ -108,3 +116,8 @@ module _ {S : Type 0} (g : Ghosts S) (store : Held S) where
   -- The map that its tables stand for.
   unfoldable pub documents : Map
   documents = documents_in ((state g store).now.trees 1)
+
+  -- It stands for this map: while it is open, its tables hold these documents. What has shut tells nothing of its tables any
+  -- more, and stands for the map that it stood for when it shut.
+  unfoldable pub StandsFor : Map → Type 0
+  StandsFor m = IsTrue (state g store).is_open → IsStore (state g store).now × (documents_in ((state g store).now.trees 1) ≡ m)

@@ -297,6 +297,7 @@ pub fn adopt_tables<S: Alter>(alloc: Global, conn: &mut Connection<S>) -> Result
     ensures mode { conn.new.in_transaction ≡ false }
     ensures clean { doubt (state S.Store conn.old).is_clean ≤ doubt (state S.Store conn.new).is_clean }
     ensures open { IsReady (state S.Store conn.new) → IsTrue (state S.Store conn.old).is_open }
+    ensures ends_open { HasCleanDisk (state S.Store conn.new) → OnOk result (IsTrue (state S.Store conn.new).is_open) }
     ensures kept { IsReady (state S.Store conn.new) → OnErr result ((state S.Store conn.new).now ≡ (state S.Store conn.old).now) }
     ensures adopted { IsReady (state S.Store conn.new) → OnOk result (IsAdopted (state S.Store conn.old).now (state S.Store conn.new).now) }
     ensures refused { IsReady (state S.Store conn.new) → IfErr result (λ fault. fault ≡ OpenFault.NotAStore → IsNoStore (state S.Store conn.old).now) }

@@ -7,6 +7,7 @@
 
 mod adopt;
 mod faults;
+mod laws;
 mod memory_files;
 mod readings;
 mod refusals;
@@ -17,4 +18,5 @@ mod tables;
 mod transactions;
 
 pub use faults::OpenFault;
+pub use laws::{memory_disks_are_clean, memory_is_clean};
 pub use stores::{Put, Store};

@@ -1,5 +1,6 @@
 //! What a store reads of its database: the nodes of an address, and the addresses.
-ghost use Rattle.std.specs.Prelude.{◌≡◌, ◌≢◌, ◌≤◌, [], ◌∷◌, None, IfErr, IfOk, IfSome, IsTrue, false, map, string_bytes};
+ghost use Rattle.std.specs.Prelude.{◌≡◌, ◌≢◌, ◌≤◌, [], ◌∷◌, None, IfErr, IfOk, IfSome, IsTrue, OnOk, false, map, string_bytes};
+ghost use Rattle.sqlite.specs.State.{HasCleanDisk};
 ghost use Rattle.sqlite.specs.Held.{state};
 ghost use Rattle.sqlite_trees.specs.View.{doubt};
 ghost use Rattle.xq_rows.specs.Documents.{IsReady};
@@ -9,6 +10,7 @@ ghost use Rattle.xq_rows.specs.Tables.{store_schema};
 ghost use Rattle.sqlite_value.specs.Order.{column};
 ghost use Rattle.sqlite_value.specs.declared.value.Value.TheVariants.{Text};
 ghost use Rattle.xq_regions.specs.Rows.{placed};
+ghost use Rattle.xq_regions.specs.Tree.{IsDocument};
 ghost use Rattle.xq_rows.specs.Nodes.{IsReadable, cells, node_of, number_of};
 
 use crate::refusals::Refusal;
@@ -94,6 +96,7 @@ fn rows_of<S: Alter>(conn: &mut Connection<S>, address: &str) -> Result<Vec<Row>
     ensures mode { conn.new.in_transaction ≡ false }
     ensures clean { doubt (state S.Store conn.old).is_clean ≤ doubt (state S.Store conn.new).is_clean }
     ensures open { IsReady (state S.Store conn.new) → IsTrue (state S.Store conn.old).is_open }
+    ensures ends_open { HasCleanDisk (state S.Store conn.new) → OnOk result (IsTrue (state S.Store conn.new).is_open) }
     ensures same { IsReady (state S.Store conn.new) → (state S.Store conn.old).now.schema ≡ store_schema → (state S.Store conn.new).now ≡ (state S.Store conn.old).now }
     ensures rows { IsReady (state S.Store conn.new) → IfOk result (λ rows. IsRange address.now 0 u32.MAX (state S.Store conn.old).now rows.items) }
 {
@@ -110,6 +113,7 @@ pub fn load_nodes<S: Alter>(
     ensures mode { conn.new.in_transaction ≡ false }
     ensures clean { doubt (state S.Store conn.old).is_clean ≤ doubt (state S.Store conn.new).is_clean }
     ensures open { IsReady (state S.Store conn.new) → IsTrue (state S.Store conn.old).is_open }
+    ensures ends_open { HasCleanDisk (state S.Store conn.new) → OnOk result (IsTrue (state S.Store conn.new).is_open) }
     ensures same { IsReady (state S.Store conn.new) → (state S.Store conn.old).now.schema ≡ store_schema → (state S.Store conn.new).now ≡ (state S.Store conn.old).now }
     ensures nodes { IsReady (state S.Store conn.new) → IfOk result (λ nodes. IsRange address.now 0 u32.MAX (state S.Store conn.old).now (map cells (map placed nodes.items))) }
 {
@@ -117,17 +121,22 @@ pub fn load_nodes<S: Alter>(
     node_rows(alloc, &rows)
 }
 
-/// The document with these nodes, or None where there are none. Nodes that are those of no tree
-/// tell of a damaged database.
+/// The document with these nodes, or None where there are none. Nodes that are those of no
+/// document tell of a damaged database.
 pub fn document_of(nodes: Vec<NodeRow>) -> Result<Option<Fragment>, Want>
-    ensures { IfOk result (Finds nodes.items) }
+    ensures found { IfOk result (Finds nodes.items) }
+    ensures document { IfOk result (λ found. IfSome found IsDocument) }
 {
     if nodes.is_empty() {
         return Ok(None);
     }
-    match Fragment::from_rows(nodes) {
-        Ok(document) => Ok(Some(document)),
-        Err(_nodes) => Err(Want::Store),
+    let Ok(tree) = Fragment::from_rows(nodes) else {
+        return Err(Want::Store);
+    };
+    if tree.is_document() {
+        Ok(Some(tree))
+    } else {
+        Err(Want::Store)
     }
 }
 
@@ -137,6 +146,7 @@ fn address_rows<S: Alter>(conn: &mut Connection<S>) -> Result<Vec<Row>, Refusal>
     ensures mode { conn.new.in_transaction ≡ false }
     ensures clean { doubt (state S.Store conn.old).is_clean ≤ doubt (state S.Store conn.new).is_clean }
     ensures open { IsReady (state S.Store conn.new) → IsTrue (state S.Store conn.old).is_open }
+    ensures ends_open { HasCleanDisk (state S.Store conn.new) → OnOk result (IsTrue (state S.Store conn.new).is_open) }
     ensures same { IsReady (state S.Store conn.new) → (state S.Store conn.old).now.schema ≡ store_schema → (state S.Store conn.new).now ≡ (state S.Store conn.old).now }
     ensures rows { IsReady (state S.Store conn.new) → IfOk result (λ rows. AreAddresses (state S.Store conn.old).now rows.items) }
 {
@@ -152,6 +162,7 @@ pub fn list_addresses<S: Alter>(
     ensures mode { conn.new.in_transaction ≡ false }
     ensures clean { doubt (state S.Store conn.old).is_clean ≤ doubt (state S.Store conn.new).is_clean }
     ensures open { IsReady (state S.Store conn.new) → IsTrue (state S.Store conn.old).is_open }
+    ensures ends_open { HasCleanDisk (state S.Store conn.new) → OnOk result (IsTrue (state S.Store conn.new).is_open) }
     ensures same { IsReady (state S.Store conn.new) → (state S.Store conn.old).now.schema ≡ store_schema → (state S.Store conn.new).now ≡ (state S.Store conn.old).now }
     ensures all { IsReady (state S.Store conn.new) → IfOk result (λ all. AreAddresses (state S.Store conn.old).now (map (λ bytes. Text bytes ∷ []) (map string_bytes all.items))) }
 {

@@ -74,7 +74,7 @@ pub fn insert_row<S: Alter>(
 {
     let kind = number_of(row.kind);
     transaction.execute(
-        "INSERT INTO node VALUES (?1, ?2, ?3, ?4, ?5, ?6, ?7)",
+        "INSERT INTO node (address, pre, size, level, kind, name, value) VALUES (?1, ?2, ?3, ?4, ?5, ?6, ?7)",
         params![
             address, row.pre, row.size, row.level, kind, &row.name, &row.value
         ],
@@ -110,6 +110,7 @@ pub fn read_range<S: Alter>(
     ensures mode { conn.new.in_transaction ≡ false }
     ensures clean { doubt (state S.Store conn.old).is_clean ≤ doubt (state S.Store conn.new).is_clean }
     ensures open { IsReady (state S.Store conn.new) → IsTrue (state S.Store conn.old).is_open }
+    ensures ends_open { HasCleanDisk (state S.Store conn.new) → OnOk result (IsTrue (state S.Store conn.new).is_open) }
     ensures same { IsReady (state S.Store conn.new) → (state S.Store conn.old).now.schema ≡ store_schema → (state S.Store conn.new).now ≡ (state S.Store conn.old).now }
     ensures rows { IsReady (state S.Store conn.new) → IfOk result (λ rows. IsRange address.now low high (state S.Store conn.old).now rows.items) }
 {
@@ -126,6 +127,7 @@ pub fn read_addresses<S: Alter>(conn: &mut Connection<S>) -> Result<Vec<Row>, Er
     ensures mode { conn.new.in_transaction ≡ false }
     ensures clean { doubt (state S.Store conn.old).is_clean ≤ doubt (state S.Store conn.new).is_clean }
     ensures open { IsReady (state S.Store conn.new) → IsTrue (state S.Store conn.old).is_open }
+    ensures ends_open { HasCleanDisk (state S.Store conn.new) → OnOk result (IsTrue (state S.Store conn.new).is_open) }
     ensures same { IsReady (state S.Store conn.new) → (state S.Store conn.old).now.schema ≡ store_schema → (state S.Store conn.new).now ≡ (state S.Store conn.old).now }
     ensures rows { IsReady (state S.Store conn.new) → IfOk result (λ rows. AreAddresses (state S.Store conn.old).now rows.items) }
 {

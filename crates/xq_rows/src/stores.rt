@@ -1,9 +1,10 @@
 //! The store: a map from address to document, kept in a database.
 //!
-//! Each clause on the map stands under `IsUp` as the call ends (the store is open, and its disk
-//! has returned what was written) and `Holds` as it begins (its tables hold documents). `stays`
-//! hands `Holds` on to the next call, and `was_up` takes `IsUp` back to the call before.
-ghost use Rattle.std.specs.Prelude.{◌≡◌, IfErr, IfOk, OnErr, map, string_bytes, if◌then◌else◌, false};
+//! Each clause on the map stands under `IsClean` as the call ends (the disk has returned what was
+//! written), which `was_clean` takes back to the call before, and speaks of whichever map the store
+//! stands for as the call begins. A store that has shut, after a fault or where memory ran out in a
+//! commit, stands for the map that it stood for then: each later call is refused, by `answered`.
+ghost use Rattle.std.specs.Prelude.{◌≡◌, IfErr, IfOk, IfSome, OnErr, OnOk, map, string_bytes, if◌then◌else◌, false};
 ghost use Rattle.std.specs.FinMap.{get, insert, remove, keys, contains_key, empty};
 ghost use Rattle.sqlite.specs.Files.{over_files};
 ghost use Rattle.sqlite.specs.Held.{state};
@@ -11,7 +12,8 @@ ghost use Rattle.sqlite.specs.Steps.{over_memory};
 ghost use Rattle.xq_atoms.specs.Address.{IsAddress};
 ghost use Rattle.xq_regions.specs.declared.Kind.TheVariants.{Document};
 ghost use Rattle.xq_rows.specs.Adopt.{IsBlank, HasTables, HasOneTable};
-ghost use Rattle.xq_rows.specs.Documents.{IsUp, Holds, documents};
+ghost use Rattle.xq_regions.specs.Tree.{IsDocument};
+ghost use Rattle.xq_rows.specs.Documents.{IsClean, IsOpen, IsUp, Holds, Map, StandsFor, documents};
 
 use crate::adopt::adopt_tables;
 use crate::faults::OpenFault;
@@ -27,7 +29,7 @@ use xq_memory_disk::MemoryDisk;
 use xq_regions::Fragment;
 
 /// Documents under addresses, in the tables of a database. Contracts see the store's connection,
-/// which is in no transaction, and speak of it by `IsUp`, `Holds` and `documents`.
+/// which is in no transaction, and speak of it by `IsClean`, `IsOpen` and `StandsFor`.
 #[derive(Drop)]
 pub struct Store<S: Alter> {
     alloc: Global,
@@ -59,9 +61,9 @@ pub enum Put {
 impl Store<MemStore> {
     /// A store in memory, without a document.
     pub fn new_in_memory(alloc: Global) -> Result<Store<MemStore>, Want>
-        ensures up { IfOk result (λ store. IsUp over_memory store) }
-        ensures holds { IfOk result (λ store. Holds over_memory store) }
-        ensures none { IfOk result (λ store. documents over_memory store ≡ empty) }
+        ensures clean { IfOk result (λ store. IsClean over_memory store) }
+        ensures open { IfOk result (λ store. IsOpen over_memory store) }
+        ensures none { IfOk result (λ store. StandsFor over_memory store empty) }
     {
         let mut conn = Connection::open_in_memory(alloc)?;
         make_tables(&mut conn)?;
@@ -77,9 +79,9 @@ impl Store<FileStore<MemoryDisk>> {
     /// Where memory runs out while a change is committed, the database shuts: each later call that
     /// needs it is refused, with the documents as they were.
     pub fn new_on_memory_disks(alloc: Global) -> Result<Store<FileStore<MemoryDisk>>, Want>
-        ensures up { IfOk result (λ store. IsUp over_files store) }
-        ensures holds { IfOk result (λ store. Holds over_files store) }
-        ensures none { IfOk result (λ store. documents over_files store ≡ empty) }
+        ensures clean { IfOk result (λ store. IsClean over_files store) }
+        ensures open { IfOk result (λ store. IsOpen over_files store) }
+        ensures none { IfOk result (λ store. StandsFor over_files store empty) }
     {
         let mut conn = open_empty(alloc)?;
         make_tables(&mut conn)?;
@@ -97,15 +99,24 @@ impl<S: Alter> Store<S> {
     /// [`OpenFault::Want`] where memory runs out or the database refuses for another cause.
     pub fn adopt(alloc: Global, conn: Connection<S>) -> Result<Store<S>, (OpenFault, Connection<S>)>
         requires { conn.in_transaction ≡ false }
-        ensures made { IfOk result (λ store. IsUp S.Store store → IsBlank S.Store conn → Holds S.Store store × (documents S.Store store ≡ empty)) }
-        ensures found { IfOk result (λ store. IsUp S.Store store → HasTables S.Store conn → Holds S.Store conn × Holds S.Store store × (documents S.Store store ≡ documents S.Store conn)) }
-        ensures same { IfOk result (λ store. IsUp S.Store store → HasTables S.Store conn → (state S.Store store).now ≡ (state S.Store conn).now) }
-        ensures both { IfOk result (λ store. IsUp S.Store store → ¬ (HasOneTable S.Store conn)) }
-        ensures no_store { IfErr result (λ e. IsUp S.Store e.1 → e.0 ≡ OpenFault.NotAStore → ¬ (IsBlank S.Store conn) × ¬ (Holds S.Store conn)) }
-        ensures kept { IfErr result (λ e. IsUp S.Store e.1 → (state S.Store e.1).now ≡ (state S.Store conn).now) }
+        ensures made { IfOk result (λ store. IsClean S.Store store → IsBlank S.Store conn
+            → StandsFor S.Store store empty) }
+        ensures found { IfOk result (λ store. IsClean S.Store store → HasTables S.Store conn
+            → Holds S.Store conn × StandsFor S.Store store (documents S.Store conn)) }
+        ensures same { IfOk result (λ store. IsClean S.Store store → HasTables S.Store conn
+            → (state S.Store store).now ≡ (state S.Store conn).now) }
+        ensures both { IfOk result (λ store. IsClean S.Store store → ¬ (HasOneTable S.Store conn)) }
+        ensures open { IfOk result (λ store. IsClean S.Store store
+            → IsOpen S.Store store × IsOpen S.Store conn) }
+        ensures no_store { IfErr result (λ e. IsUp S.Store e.1 → e.0 ≡ OpenFault.NotAStore
+            → ¬ (IsBlank S.Store conn) × ¬ (Holds S.Store conn)) }
+        ensures kept { IfErr result (λ e. IsUp S.Store e.1
+            → (state S.Store e.1).now ≡ (state S.Store conn).now) }
         ensures outside { IfErr result (λ e. e.1.in_transaction ≡ false) }
-        ensures was_up { IfOk result (λ store. IsUp S.Store store → IsUp S.Store conn) }
-        ensures still_up { IfErr result (λ e. IsUp S.Store e.1 → IsUp S.Store conn) }
+        ensures was_clean { IfOk result (λ store. IsClean S.Store store → IsClean S.Store conn) }
+        ensures still_clean { IfErr result (λ e. IsClean S.Store e.1 → IsClean S.Store conn) }
+        ensures still_open { IfErr result (λ e. IsClean S.Store e.1 → IsOpen S.Store e.1
+            → IsOpen S.Store conn) }
     {
         let mut conn = conn;
         match adopt_tables(alloc, &mut conn) {
@@ -116,20 +127,30 @@ impl<S: Alter> Store<S> {
 
     /// The addresses, each once, in the order of their bytes.
     pub fn addresses(&mut self) -> Result<Vec<String>, Want>
-        ensures all { IsUp S.Store self.new → Holds S.Store self.old → IfOk result (λ all. map string_bytes all.items ≡ keys (documents S.Store self.old)) }
-        ensures same { IsUp S.Store self.new → Holds S.Store self.old → documents S.Store self.new ≡ documents S.Store self.old }
-        ensures stays { IsUp S.Store self.new → Holds S.Store self.old → Holds S.Store self.new }
-        ensures was_up { IsUp S.Store self.new → IsUp S.Store self.old }
+        ensures all { IsClean S.Store self.new → (m : Map) → StandsFor S.Store self.old m
+            → IfOk result (λ all. map string_bytes all.items ≡ keys m) }
+        ensures same { IsClean S.Store self.new → (m : Map) → StandsFor S.Store self.old m
+            → StandsFor S.Store self.new m }
+        ensures answered { IsClean S.Store self.new → OnOk result (IsOpen S.Store self.new) }
+        ensures was_open { IsClean S.Store self.new → IsOpen S.Store self.new
+            → IsOpen S.Store self.old }
+        ensures was_clean { IsClean S.Store self.new → IsClean S.Store self.old }
     {
         list_addresses(self.alloc, &mut self.conn)
     }
 
-    /// The document of the address, or None where the address is absent.
+    /// The document of the address, or None where the address is absent. Rows that are those of no
+    /// document, as a damaged database may hold, are answered [`Want::Store`].
     pub fn load(&mut self, address: &str) -> Result<Option<Fragment>, Want>
-        ensures found { IsUp S.Store self.new → Holds S.Store self.old → IfOk result (λ found. found ≡ get (documents S.Store self.old) address.now) }
-        ensures same { IsUp S.Store self.new → Holds S.Store self.old → documents S.Store self.new ≡ documents S.Store self.old }
-        ensures stays { IsUp S.Store self.new → Holds S.Store self.old → Holds S.Store self.new }
-        ensures was_up { IsUp S.Store self.new → IsUp S.Store self.old }
+        ensures found { IsClean S.Store self.new → (m : Map) → StandsFor S.Store self.old m
+            → IfOk result (λ found. found ≡ get m address.now) }
+        ensures document { IfOk result (λ found. IfSome found IsDocument) }
+        ensures same { IsClean S.Store self.new → (m : Map) → StandsFor S.Store self.old m
+            → StandsFor S.Store self.new m }
+        ensures answered { IsClean S.Store self.new → OnOk result (IsOpen S.Store self.new) }
+        ensures was_open { IsClean S.Store self.new → IsOpen S.Store self.new
+            → IsOpen S.Store self.old }
+        ensures was_clean { IsClean S.Store self.new → IsClean S.Store self.old }
     {
         let nodes = load_nodes(self.alloc, &mut self.conn, address)?;
         document_of(nodes)
@@ -140,11 +161,17 @@ impl<S: Alter> Store<S> {
     pub fn put(&mut self, address: &str, document: &Fragment) -> Result<Put, Want>
         requires address { IsAddress address.now }
         requires document { document.now.root.kind ≡ Document }
-        ensures put { IsUp S.Store self.new → Holds S.Store self.old → IfOk result (λ put. documents S.Store self.new ≡ insert (documents S.Store self.old) address.now document.now) }
-        ensures answer { IsUp S.Store self.new → Holds S.Store self.old → IfOk result (λ put. put ≡ (if contains_key (documents S.Store self.old) address.now then Put.Replaced else Put.Stored)) }
-        ensures kept { IsUp S.Store self.new → Holds S.Store self.old → OnErr result (documents S.Store self.new ≡ documents S.Store self.old) }
-        ensures stays { IsUp S.Store self.new → Holds S.Store self.old → Holds S.Store self.new }
-        ensures was_up { IsUp S.Store self.new → IsUp S.Store self.old }
+        ensures put { IsClean S.Store self.new → (m : Map) → StandsFor S.Store self.old m
+            → IfOk result (λ put. StandsFor S.Store self.new (insert m address.now document.now)) }
+        ensures answer { IsClean S.Store self.new → (m : Map) → StandsFor S.Store self.old m
+            → IfOk result (λ put.
+            put ≡ (if contains_key m address.now then Put.Replaced else Put.Stored)) }
+        ensures kept { IsClean S.Store self.new → (m : Map) → StandsFor S.Store self.old m
+            → OnErr result (StandsFor S.Store self.new m) }
+        ensures answered { IsClean S.Store self.new → OnOk result (IsOpen S.Store self.new) }
+        ensures was_open { IsClean S.Store self.new → IsOpen S.Store self.new
+            → IsOpen S.Store self.old }
+        ensures was_clean { IsClean S.Store self.new → IsClean S.Store self.old }
     {
         let replaced = put_rows(&mut self.conn, address, document.rows())?;
         let put = if replaced { Put::Replaced } else { Put::Stored };
@@ -154,11 +181,16 @@ impl<S: Alter> Store<S> {
     /// Removes the document of the address alone, and answers whether it was there. A refusal
     /// leaves each document as it was.
     pub fn drop_doc(&mut self, address: &str) -> Result<bool, Want>
-        ensures dropped { IsUp S.Store self.new → Holds S.Store self.old → IfOk result (λ was. documents S.Store self.new ≡ remove (documents S.Store self.old) address.now) }
-        ensures answer { IsUp S.Store self.new → Holds S.Store self.old → IfOk result (λ was. was ≡ contains_key (documents S.Store self.old) address.now) }
-        ensures kept { IsUp S.Store self.new → Holds S.Store self.old → OnErr result (documents S.Store self.new ≡ documents S.Store self.old) }
-        ensures stays { IsUp S.Store self.new → Holds S.Store self.old → Holds S.Store self.new }
-        ensures was_up { IsUp S.Store self.new → IsUp S.Store self.old }
+        ensures dropped { IsClean S.Store self.new → (m : Map) → StandsFor S.Store self.old m
+            → IfOk result (λ was. StandsFor S.Store self.new (remove m address.now)) }
+        ensures answer { IsClean S.Store self.new → (m : Map) → StandsFor S.Store self.old m
+            → IfOk result (λ was. was ≡ contains_key m address.now) }
+        ensures kept { IsClean S.Store self.new → (m : Map) → StandsFor S.Store self.old m
+            → OnErr result (StandsFor S.Store self.new m) }
+        ensures answered { IsClean S.Store self.new → OnOk result (IsOpen S.Store self.new) }
+        ensures was_open { IsClean S.Store self.new → IsOpen S.Store self.new
+            → IsOpen S.Store self.old }
+        ensures was_clean { IsClean S.Store self.new → IsClean S.Store self.old }
     {
         let count = drop_rows(&mut self.conn, address)?;
         Ok(count > 0)

@@ -47,7 +47,7 @@ pub fn write_edition<S: Alter>(transaction: &mut Transaction<'_, S>) -> Result<u
     ensures mode { HasCleanDisk (state S.Store transaction.new.conn.now) → OnOk result (IsTrue (state S.Store transaction.new.conn.now).in_transaction) }
     ensures clean { doubt (state S.Store transaction.old.conn.now).is_clean ≤ doubt (state S.Store transaction.new.conn.now).is_clean }
 {
-    transaction.execute("INSERT INTO layout VALUES (1)", &[])
+    transaction.execute("INSERT INTO layout (edition) VALUES (1)", &[])
 }
 
 /// Makes both tables, inside a transaction.

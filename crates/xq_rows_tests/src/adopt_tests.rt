@@ -1,5 +1,5 @@
 //! What is adopted, and what is no store.
-use crate::calls::{CALL_ROWS, first_wrong};
+use crate::calls::{CALL_ROWS, REPLACING, first_wrong};
 use crate::documents::Documents;
 use crate::tests::ROWS_AS_TEXT;
 use sqlite::{Alter, Connection};
@@ -11,6 +11,10 @@ const LAYOUT: &str = "CREATE TABLE layout (edition INTEGER NOT NULL) STRICT";
 
 const NODE: &str =
     "CREATE TABLE node (address TEXT NOT NULL, pre INTEGER NOT NULL, size INTEGER NOT NULL, level INTEGER NOT NULL, kind INTEGER NOT NULL, name TEXT NOT NULL, value TEXT NOT NULL, PRIMARY KEY (address, pre)) STRICT";
+
+/// The same columns in another order.
+const TURNED_NODE: &str =
+    "CREATE TABLE node (value TEXT NOT NULL, name TEXT NOT NULL, kind INTEGER NOT NULL, level INTEGER NOT NULL, size INTEGER NOT NULL, pre INTEGER NOT NULL, address TEXT NOT NULL, PRIMARY KEY (address, pre)) STRICT";
 
 const ONE: &str = "INSERT INTO layout VALUES (1)";
 
@@ -30,10 +34,12 @@ enum Answer {
 type Judged = (&'static [&'static str], Answer);
 
 /// What tables there are.
-const TABLES: [Judged; 10] = [
+const TABLES: [Judged; 12] = [
     (&[], Answer::Adopted),
     (&[LAYOUT, NODE, ONE], Answer::Adopted),
     (&[LAYOUT, ONE, NODE], Answer::Adopted),
+    (&[NODE, LAYOUT, ONE], Answer::Adopted),
+    (&[LAYOUT, TURNED_NODE, ONE], Answer::Adopted),
     (&["CREATE TABLE other (a INTEGER) STRICT"], Answer::Adopted),
     (&[LAYOUT], Answer::NotAStore),
     (&[LAYOUT, ONE], Answer::NotAStore),
@@ -202,5 +208,24 @@ fn what_was_released(rt: HostRuntime) -> Result<(), Fail> {
     assert_eq!(rt; first_wrong(&mut store, &documents, &CALL_ROWS[..2])?, 0);
     let mut store = adopted(rt.alloc(), store.release())?;
     assert_eq!(rt; first_wrong(&mut store, &documents, &CALL_ROWS[3..])?, 0);
+    Ok(())
+}
+
+/// Tables that were made in another order, of themselves or of their columns, serve as well.
+#[test]
+fn other_orders(rt: HostRuntime) -> Result<(), Fail> {
+    let documents = Documents::new(rt.alloc())?;
+    for made in [
+        [NODE, LAYOUT, ONE],
+        [LAYOUT, TURNED_NODE, ONE],
+        [TURNED_NODE, LAYOUT, ONE],
+    ] {
+        let mut conn = Connection::open_in_memory(rt.alloc())?;
+        for statement in made {
+            let _count = conn.execute(statement, &[])?;
+        }
+        let mut store = adopted(rt.alloc(), conn)?;
+        assert_eq!(rt; first_wrong(&mut store, &documents, &REPLACING)?, 0);
+    }
     Ok(())
 }

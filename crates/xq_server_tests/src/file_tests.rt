@@ -52,6 +52,32 @@ fn documents_outlive_a_service(rt: HostRuntime) -> Result<(), Fail> {
     Ok(())
 }
 
+/// Refuses a file with these bytes: they stay, and no log is left beside it.
+fn refuse_file(rt: &HostRuntime, path: &str, log: &str, bytes: &[u8]) -> Result<bool, Fail> {
+    fs::write(rt, path, bytes)?;
+    if FileServer::open(rt, path).is_some() {
+        return Ok(false);
+    }
+    Ok(fs::read(rt, path)?.as_slice() == bytes && !fs::exists(rt, log)?)
+}
+
+/// What is refused stays as it is.
+#[test]
+fn refused_files(rt: HostRuntime) -> Result<(), Fail> {
+    make_folder(&rt, "xq_server_refused")?;
+    for bytes in [
+        b"S".as_slice(),
+        b"x",
+        b"SQLite format 3",
+        b"A text, and no database.",
+    ] {
+        let path = "xq_server_refused/x";
+        assert!(rt; refuse_file(&rt, path, "xq_server_refused/x-wal", bytes)?);
+    }
+    fs::remove_dir_all(&rt, "xq_server_refused")?;
+    Ok(())
+}
+
 /// An empty file is made a store; a text and a folder are none, and stay.
 #[test]
 fn other_files(rt: HostRuntime) -> Result<(), Fail> {

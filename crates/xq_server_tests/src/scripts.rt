@@ -12,6 +12,8 @@ pub struct Source<'a> {
     pub piece: usize,
     /// So many reads are interrupted first.
     pub interruptions: u32,
+    /// So many more are each time that nine bytes were given: a request for all addresses.
+    pub again: u32,
     /// Whether a read after the last byte fails. It answers 0 otherwise.
     pub fails: bool,
 }
@@ -23,6 +25,7 @@ impl<'a> Source<'a> {
             bytes,
             piece: usize::MAX,
             interruptions: 0,
+            again: 0,
             fails: false,
         }
     }
@@ -40,6 +43,9 @@ impl Read for Source<'_> {
         let n = self.piece.min(self.bytes.len()).min(buf.len());
         buf[..n].copy_from_slice(&self.bytes[..n]);
         self.bytes = &self.bytes[n..];
+        if self.bytes.len() % 9 == 0 {
+            self.interruptions = self.again;
+        }
         Ok(n)
     }
 }

@@ -91,6 +91,7 @@ fn ends_by_the_reader(rt: HostRuntime) -> Result<(), Fail> {
             bytes,
             piece: usize::MAX,
             interruptions,
+            again: 0,
             fails,
         };
         let mut sink = Sink::new(Vec::new(rt.alloc()));
@@ -128,6 +129,26 @@ fn interruptions(rt: HostRuntime) -> Result<(), Fail> {
     for (reads, writes, wanted) in rows {
         let mut source = Source::new(LISTS);
         source.interruptions = reads;
+        let mut sink = Sink::new(Vec::new(rt.alloc()));
+        sink.interruptions = writes;
+        check_end(&rt, (&mut source, &mut sink), 1_000_000, wanted)?;
+    }
+    Ok(())
+}
+
+/// Each frame and its reply has a count of its own: 600 interruptions before each of three frames
+/// are borne, and with 400 of the first reply they are one too many.
+#[test]
+fn counts_anew_for_each_frame(rt: HostRuntime) -> Result<(), Fail> {
+    let rows = [
+        (0, (End::Finished, 33)),
+        (399, (End::Finished, 33)),
+        (400, (End::WriteFault, 0)),
+    ];
+    for (writes, wanted) in rows {
+        let mut source = Source::new(LISTS);
+        source.interruptions = 600;
+        source.again = 600;
         let mut sink = Sink::new(Vec::new(rt.alloc()));
         sink.interruptions = writes;
         check_end(&rt, (&mut source, &mut sink), 1_000_000, wanted)?;

@@ -1,5 +1,6 @@
 //! A server whose documents live in a file.
 
+use crate::files::{absent_log, has_one_byte, remove_log};
 use sqlite::{Connection, FileFrom, FileStore, Unknown};
 use xq_rows::Store;
 use xq_service::Server;
@@ -13,19 +14,23 @@ pub struct FileServer {
 impl FileServer {
     /// The server over the file at a path; an absent or empty file becomes an empty store. None
     /// for a file that is no store, that can't be read or written, that another program holds or
-    /// that is damaged. A new file gets a sum on each page, so that an opening finds changed bytes.
+    /// that is damaged: its bytes stay, and no log is left beside it that wasn't there. A new file
+    /// gets a sum on each page, so that an opening finds changed bytes.
     pub fn open(rt: &HostRuntime, path: &str) -> Option<FileServer> {
-        let Ok(conn) = Connection::open_from(rt, path, true, Unknown) else {
-            return None;
-        };
-        if !conn.is_autocommit() {
+        if has_one_byte(rt, path) {
             return None;
         }
-        match Store::adopt(rt.alloc(), conn) {
-            Ok(store) => Some(FileServer {
-                server: Server::new(rt.alloc(), store),
-            }),
-            Err(_refused) => None,
+        let Ok(log) = absent_log(rt, path) else {
+            return None;
+        };
+        match Connection::open_from(rt, path, true, Unknown) {
+            Ok(conn) => adopted(rt, conn, log),
+            Err((_error, held)) => {
+                if held.is_some() {
+                    remove_log(rt, log);
+                }
+                None
+            }
         }
     }
 
@@ -34,6 +39,27 @@ impl FileServer {
     pub fn close(self) -> bool {
         let FileServer { server } = self;
         server.into_store().release().close().is_ok()
+    }
+}
+
+/// The server over a database that was opened. Where it is refused it is still held as its log is
+/// removed.
+fn adopted(
+    rt: &HostRuntime,
+    conn: Connection<FileStore<FileFrom<Unknown>>>,
+    log: Option<String>,
+) -> Option<FileServer> {
+    if !conn.is_autocommit() {
+        return None;
+    }
+    match Store::adopt(rt.alloc(), conn) {
+        Ok(store) => Some(FileServer {
+            server: Server::new(rt.alloc(), store),
+        }),
+        Err((_fault, _held)) => {
+            remove_log(rt, log);
+            None
+        }
     }
 }
 

@@ -6,6 +6,7 @@
 #![tactic(auto)]
 
 mod file_servers;
+mod files;
 mod memory_servers;
 
 pub use file_servers::FileServer;

@@ -2,7 +2,7 @@
 ghost use Rattle.std.specs.Prelude.{◌≡◌, IfOk};
 ghost use Rattle.std.specs.FinMap.{empty};
 ghost use Rattle.sqlite.specs.Files.{over_files};
-ghost use Rattle.xq_rows.specs.Documents.{IsUp, Holds, documents};
+ghost use Rattle.xq_rows.specs.Documents.{IsClean, IsOpen, StandsFor};
 
 use sqlite::FileStore;
 use std::alloc::Global;
@@ -20,9 +20,9 @@ pub struct MemoryServer {
 impl MemoryServer {
     /// A server without a document. It refuses only for want of memory or of the store.
     pub fn new(alloc: Global) -> Result<MemoryServer, Want>
-        ensures up { IfOk result (λ made. IsUp over_files made.server) }
-        ensures holds { IfOk result (λ made. Holds over_files made.server) }
-        ensures none { IfOk result (λ made. documents over_files made.server ≡ empty) }
+        ensures clean { IfOk result (λ made. IsClean over_files made.server) }
+        ensures open { IfOk result (λ made. IsOpen over_files made.server) }
+        ensures none { IfOk result (λ made. StandsFor over_files made.server empty) }
     {
         let store = Store::new_on_memory_disks(alloc)?;
         let server = Server::new(alloc, store);

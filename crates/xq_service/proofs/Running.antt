@@ -99,18 +99,18 @@ pub left_after : (message more rest : List ℕ) (used : ℕ) → rest ≡ frame_
     → more ≡ take (length rest - used) (drop used rest)
 left_after message more rest used e size = sym (past used rest ∙ after_frame message more rest used e size)
 
-module _ {D : Type 0} (up : D → Type 0) (holds : D → Type 0) (documents : D → Map) where
-  pub no_frames : (old : D) (bytes before : List ℕ) → RanOver up holds documents old old bytes before before [] [] bytes []
+module _ {D : Type 0} (clean : D → Type 0) (stands : D → Map → Type 0) where
+  pub no_frames : (old : D) (bytes before : List ℕ) → RanOver clean stands old old bytes before before [] [] bytes []
   no_frames old bytes before = record {
     whole = refl;
     out = sym (append-nil (before ++ []) ∙ append-nil before);
-    ran = record { each = tt; replied = tt; was_up = λ h. h; stays = λ u h. h; run = λ u h. refl };
+    ran = record { each = tt; replied = tt; was_clean = λ h. h; run = λ h m stood. (m, refl, stood) };
   }
 
   -- a run ends with the last bytes
   pub ends_with : (old new : D) (bytes before middle after : List ℕ) (messages : List (List ℕ)) (replies : List Reply) (rest last : List ℕ)
-      → RanOver up holds documents old new bytes before middle messages replies rest [] → after ≡ middle ++ last
-      → RanOver up holds documents old new bytes before after messages replies rest last
+      → RanOver clean stands old new bytes before middle messages replies rest [] → after ≡ middle ++ last
+      → RanOver clean stands old new bytes before after messages replies rest last
   ends_with old new bytes before middle after messages replies rest last so_far e = record {
     whole = so_far.whole;
     out = e ∙ ap (λ m. m ++ last) (so_far.out ∙ append-nil (before ++ written replies));
@@ -118,28 +118,27 @@ module _ {D : Type 0} (up : D → Type 0) (holds : D → Type 0) (documents : D 
   }
 
   pub ran_more : (old mid new : D) (messages : List (List ℕ)) (replies : List Reply) (frame : Frame) (message middle after : List ℕ) (r : Reply)
-      → Ran up holds documents old mid messages replies → IsMessage message → IsFrameOf frame message
-      → Answered up holds documents mid new frame.tag (asked frame.request) middle after r
-      → (up new → up mid) → (up new → holds mid → holds new)
-      → Ran up holds documents old new (messages ++ message ∷ []) (replies ++ r ∷ [])
-  ran_more old mid new messages replies frame message middle after r ran limit same answered was_up stays = record {
+      → Ran clean stands old mid messages replies → IsMessage message → IsFrameOf frame message
+      → Answered clean stands mid new frame.tag (asked frame.request) middle after r
+      → Ran clean stands old new (messages ++ message ∷ []) (replies ++ r ∷ [])
+  ran_more old mid new messages replies frame message middle after r ran limit same answered = record {
     each = more_each messages message ran.each limit;
     replied = more_replies messages replies message r ran.replied (answered.tagged ∙ same.tag, answered.status, answered.short);
-    was_up = λ u. ran.was_up (was_up u);
-    stays = λ u h. stays u (ran.stays (was_up u) h);
-    run = λ u h. more_run (documents old) (documents mid) (documents new) messages replies message r (ran.run (was_up u) h)
-        (subst (λ a. Step (documents mid) a (documents new) r.status r.text) same.request (answered.step u (ran.stays (was_up u) h)));
+    was_clean = λ h. ran.was_clean (answered.was_clean h);
+    run = λ h m stood.
+        let so_far = ran.run (answered.was_clean h) m stood in
+        let next = answered.step h so_far.0 so_far.2 in
+        (next.0, more_run m so_far.0 next.0 messages replies message r so_far.1 (subst (λ a. Step so_far.0 a next.0 r.status r.text) same.request next.1), next.2);
   }
 
   -- one more frame
   pub one_more : (old mid new : D) (bytes before middle after : List ℕ) (messages : List (List ℕ)) (replies : List Reply) (rest : List ℕ)
       (frame : Frame) (message more : List ℕ) (r : Reply)
-      → RanOver up holds documents old mid bytes before middle messages replies rest []
+      → RanOver clean stands old mid bytes before middle messages replies rest []
       → Starts rest frame message more
-      → Answered up holds documents mid new frame.tag (asked frame.request) middle after r
-      → (up new → up mid) → (up new → holds mid → holds new)
-      → RanOver up holds documents old new bytes before after (messages ++ message ∷ []) (replies ++ r ∷ []) more []
-  one_more old mid new bytes before middle after messages replies rest frame message more r so_far starts answered was_up stays = record {
+      → Answered clean stands mid new frame.tag (asked frame.request) middle after r
+      → RanOver clean stands old new bytes before after (messages ++ message ∷ []) (replies ++ r ∷ []) more []
+  one_more old mid new bytes before middle after messages replies rest frame message more r so_far starts answered = record {
     whole = so_far.whole ∙ ap (λ t. flat_map frame_bytes messages ++ t) starts.whole
         ∙ sym (append_assoc (flat_map frame_bytes messages) (frame_bytes message) more)
         ∙ ap (λ t. t ++ more) (ap (λ t. flat_map frame_bytes messages ++ t) (sym (append-nil (frame_bytes message))) ∙ sym (flat_map-append frame_bytes messages (message ∷ [])));
@@ -147,19 +146,21 @@ module _ {D : Type 0} (up : D → Type 0) (holds : D → Type 0) (documents : D 
         ∙ append_assoc before (written replies) (bytes_of r)
         ∙ ap (λ t. before ++ t) (ap (λ t. written replies ++ t) (sym (append-nil (bytes_of r))) ∙ sym (flat_map-append bytes_of replies (r ∷ [])))
         ∙ sym (append-nil (before ++ written (replies ++ r ∷ [])));
-    ran = ran_more old mid new messages replies frame message middle after r so_far.ran starts.limit starts.same answered was_up stays;
+    ran = ran_more old mid new messages replies frame message middle after r so_far.ran starts.limit starts.same answered;
   }
 
   -- what a step told, written into room that was made first
   pub answered : (old inside new : D) (tag : ℕ) (asks : Asked) (before roomy after : List ℕ) (told : Result Answer Fault) (r : Reply)
-      → roomy ≡ before → inside ≡ old → Says roomy after tag told r
-      → (up new → holds inside → Tells (documents inside) asks (documents new) told)
-      → Answered up holds documents old new tag asks before after r
-  answered old inside new tag asks before roomy after told r same view says tells = record {
+      → roomy ≡ before → inside ≡ old → Says roomy after tag told r → (clean new → clean inside)
+      → (clean new → (m : Map) → stands inside m → (later : Map) × Tells m asks later told × stands new later)
+      → Answered clean stands old new tag asks before after r
+  answered old inside new tag asks before roomy after told r same view says was_clean tells = record {
     out = says.out ∙ ap (λ t. t ++ bytes_of r) same;
     tagged = says.tagged;
     status = says.status;
     short = says.short;
-    step = λ u h. says.step (documents old) asks (documents new)
-        (subst (λ d. Tells (documents d) asks (documents new) told) view (tells u (subst holds (sym view) h)));
+    was_clean = λ h. subst clean view (was_clean h);
+    step = λ h m stood.
+        let did = tells h m (subst (λ d. stands d m) (sym view) stood) in
+        (did.0, says.step m asks did.0 did.1, did.2);
   }

@@ -1,5 +1,5 @@
 -- From one frame taken, answered and its reply given to a whole service.
-use Rattle.std.proofs.Common.{◌≡◌, ℕ, ◌+◌, ◌<◌, List, [], ◌∷◌, ◌++◌, length, refl, sym, ◌∙◌, ap, subst, arith, inr, Option, append_assoc}
+use Rattle.std.proofs.Common.{◌≡◌, ℕ, ◌+◌, ◌<◌, List, [], ◌∷◌, ◌++◌, length, refl, sym, ◌∙◌, ap, subst, arith, inl, inr, Option}
 use Rattle.std.proofs.lemmas.List.{append-nil}
 use Rattle.std.proofs.lemmas.Grind.{flat_map-append, common_steps}
 use Rattle.std.proofs.KnownBytes.{Consumes-nil, Consumes-trans, Appends-nil, Appends-trans}
@@ -12,7 +12,7 @@ use Rattle.xq_frame.specs.declared.frames.Frame.{Frame}
 use Rattle.xq_rows.specs.Documents.{Map}
 use Rattle.xq_streams.specs.Taking.{IsLongHead}
 use Rattle.xq_service.specs.Run.{Reply, bytes_of, written, Answered, long_reply}
-use Rattle.xq_service.specs.Service.{Served, Serves, EndsLong}
+use Rattle.xq_service.specs.Service.{Served, Serves, EndsLong, BreaksOff}
 use Rattle.xq_service.specs.declared.ends.End.{End}
 use Rattle.xq_service.specs.declared.ends.End.TheVariants.{Finished, Cut, TooLong, Bound, ReadFault, WriteFault, NoRoom}
 use Rattle.xq_service.proofs.Running.{ran_more}
@@ -34,26 +34,26 @@ sent_front slice items before reply sent unsent value out none split = sym (valu
 pub sent_whole : (slice items before reply : List ℕ) → slice ≡ items → items ≡ before ++ reply → before ≡ [] → slice ≡ reply
 sent_whole slice items before reply value out none = value ∙ out ∙ ap (λ b. b ++ reply) none
 
-pub broken_off : (replies : List Reply) (r : Reply) (sent unsent : List ℕ) → bytes_of r ≡ sent ++ unsent
-    → written (replies ++ r ∷ []) ≡ (written replies ++ sent) ++ unsent
-broken_off replies r sent unsent e = written_more replies r ∙ ap (λ t. written replies ++ t) e ∙ sym (append_assoc (written replies) sent unsent)
+-- all replies but the last were given, and a front of that
+pub broken_off : (replies : List Reply) (r : Reply) (sent unsent : List ℕ) → bytes_of r ≡ sent ++ unsent → BreaksOff (replies ++ r ∷ []) [] (written replies ++ sent)
+broken_off replies r sent unsent e = inl (refl, (replies, r, refl, (sent, (unsent, e), refl)))
 
 pub all_sent : (replies : List Reply) (r : Reply) (sent : List ℕ) → sent ≡ bytes_of r → written replies ++ sent ≡ written (replies ++ r ∷ [])
 all_sent replies r sent e = ap (λ t. written replies ++ t) e ∙ sym (written_more replies r)
 
-module _ {D : Type 0} (up : D → Type 0) (holds : D → Type 0) (documents : D → Map) where
-  pub served_none : (old : D) (left held : Option (List ℕ)) → Served up holds documents old old left left held held [] [] [] []
+module _ {D : Type 0} (clean : D → Type 0) (stands : D → Map → Type 0) where
+  pub served_none : (old : D) (left held : Option (List ℕ)) → Served clean stands old old left left held held [] [] [] []
   served_none old left held = record {
     taken = Consumes-nil left;
     given = Appends-nil held;
-    ran = record { each = tt; replied = tt; was_up = λ h. h; stays = λ u h. h; run = λ u h. refl };
+    ran = record { each = tt; replied = tt; was_clean = λ h. h; run = λ h m stood. (m, refl, stood) };
   }
 
   -- more was taken, and more was given
   pub served_on : (old new : D) (before left left' held holding holding' : Option (List ℕ)) (messages : List (List ℕ)) (replies : List Reply) (taken sent : List ℕ)
-      → Served up holds documents old new before left held holding messages replies [] (written replies)
+      → Served clean stands old new before left held holding messages replies [] (written replies)
       → Consumes left left' taken → Appends holding holding' sent
-      → Served up holds documents old new before left' held holding' messages replies taken (written replies ++ sent)
+      → Served clean stands old new before left' held holding' messages replies taken (written replies ++ sent)
   served_on old new before left left' held holding holding' messages replies taken sent so_far took gave = record {
     taken = subst (λ f. Consumes before left' (f ++ taken)) (append-nil (flat_map frame_bytes messages))
         (Consumes-trans before left left' (flat_map frame_bytes messages ++ []) taken so_far.taken took);
@@ -62,36 +62,35 @@ module _ {D : Type 0} (up : D → Type 0) (holds : D → Type 0) (documents : D 
   }
 
   pub served_taken : (old new : D) (before left left' held holding : Option (List ℕ)) (messages : List (List ℕ)) (replies : List Reply) (taken : List ℕ)
-      → Served up holds documents old new before left held holding messages replies [] (written replies)
+      → Served clean stands old new before left held holding messages replies [] (written replies)
       → Consumes left left' taken
-      → Served up holds documents old new before left' held holding messages replies taken (written replies)
+      → Served clean stands old new before left' held holding messages replies taken (written replies)
   served_taken old new before left left' held holding messages replies taken so_far took =
-      subst (Served up holds documents old new before left' held holding messages replies taken) (append-nil (written replies))
+      subst (Served clean stands old new before left' held holding messages replies taken) (append-nil (written replies))
       (served_on old new before left left' held holding holding messages replies taken [] so_far took (Appends-nil holding))
 
   -- a frame was taken and answered, and its reply, or a front of it, was given
   pub served_more : (old mid new : D) (before left left' held holding holding' : Option (List ℕ)) (messages : List (List ℕ)) (replies : List Reply)
       (frame : Frame) (message taken middle after sent : List ℕ) (r : Reply)
-      → Served up holds documents old mid before left held holding messages replies [] (written replies)
+      → Served clean stands old mid before left held holding messages replies [] (written replies)
       → Consumes left left' taken → IsMessage message → taken ≡ frame_bytes message → IsFrameOf frame message
-      → Answered up holds documents mid new frame.tag (asked frame.request) middle after r
-      → (up new → up mid) → (up new → holds mid → holds new)
+      → Answered clean stands mid new frame.tag (asked frame.request) middle after r
       → Appends holding holding' sent
-      → Served up holds documents old new before left' held holding' (messages ++ message ∷ []) (replies ++ r ∷ []) [] (written replies ++ sent)
-  served_more old mid new before left left' held holding holding' messages replies frame message taken middle after sent r so_far took limit whole same answered was_up stays gave =
+      → Served clean stands old new before left' held holding' (messages ++ message ∷ []) (replies ++ r ∷ []) [] (written replies ++ sent)
+  served_more old mid new before left left' held holding holding' messages replies frame message taken middle after sent r so_far took limit whole same answered gave =
       let on = served_on old mid before left left' held holding holding' messages replies taken sent so_far took gave in
       record {
         taken = subst (Consumes before left') (ap (λ t. flat_map frame_bytes messages ++ t) whole ∙ sym (frames_more messages message)
             ∙ sym (append-nil (flat_map frame_bytes (messages ++ message ∷ [])))) on.taken;
         given = on.given;
-        ran = ran_more up holds documents old mid new messages replies frame message middle after r so_far.ran limit same answered was_up stays;
+        ran = ran_more clean stands old mid new messages replies frame message middle after r so_far.ran limit same answered;
       }
 
   -- a length over the limit
   pub serves_long : (old new : D) (before left left' held holding holding' : Option (List ℕ)) (messages : List (List ℕ)) (replies : List Reply) (taken : List ℕ) (bound : ℕ) (end : End)
-      → Served up holds documents old new before left held holding messages replies [] (written replies)
+      → Served clean stands old new before left held holding messages replies [] (written replies)
       → Consumes left left' taken → IsLongHead taken → length messages < bound → EndsLong holding holding' end
-      → Serves up holds documents old new before left' held holding' bound end
+      → Serves clean stands old new before left' held holding' bound end
   serves_long old new before left left' held holding holding' messages replies taken bound TooLong so_far took long below ends = (
     messages,
     replies,
@@ -107,7 +106,7 @@ module _ {D : Type 0} (up : D → Type 0) (holds : D → Type 0) (documents : D 
         written replies ++ sent,
         (
           served_on old new before left left' held holding holding' messages replies taken sent so_far took ends.2,
-          (inr (long, (ends.1, ap (λ t. written replies ++ t) ends.3 ∙ sym (append_assoc (written replies) sent ends.1))), omega (arith, below)),
+          (inr (long, (sent, (ends.1, ends.3), refl)), omega (arith, below)),
         ),
       )
   serves_long old new before left left' held holding holding' messages replies taken bound NoRoom so_far took long below ends = (

@@ -59,24 +59,25 @@ EndsRun Bound rest last = ⊥
 EndsRun ReadFault rest last = ⊥
 EndsRun WriteFault rest last = ⊥
 
--- Below, D is a store: `up` says that it is clean, as it then was before each call; `holds` that it holds documents, and
--- `documents` which. What is said of the documents stands where the store is clean at the end and held documents at the start.
-module _ {D : Type 0} (up holds : D → Type 0) (documents : D → Map) where
-  -- one frame answered: its reply is added to the output, and is that of a step
+-- Below, D is a store: `clean` says that its disk has returned what was written, as it then had before each call, and `stands`
+-- which documents it stands for. What is said of the documents stands where the store is clean at the end.
+module _ {D : Type 0} (clean : D → Type 0) (stands : D → Map → Type 0) where
+  -- One frame answered: its reply is added to the output. Over the documents that the store stood for the reply is that of a
+  -- step, and the store stands for the documents that the step leaves.
   pub record Answered (old new : D) (tag : ℕ) (asked : Asked) (before after : List ℕ) (reply : Reply) : Type 0 where
     pub out : after ≡ before ++ bytes_of reply
     pub tagged : reply.tag ≡ tag
     pub status : reply.status ≤ 2
     pub short : length reply.text ≤ longest_text
-    pub step : up new → holds old → Step (documents old) asked (documents new) reply.status reply.text
+    pub was_clean : clean new → clean old
+    pub step : clean new → (m : Map) → stands old m → (later : Map) × Step m asked later reply.status reply.text × stands new later
 
   -- these frames were answered by these replies
   pub record Ran (old new : D) (messages : List (List ℕ)) (replies : List Reply) : Type 0 where
     pub each : AllByRecursion IsMessage messages
     pub replied : AreReplies messages replies
-    pub was_up : up new → up old
-    pub stays : up new → holds old → holds new
-    pub run : up new → holds old → Run (documents old) messages replies (documents new)
+    pub was_clean : clean new → clean old
+    pub run : clean new → (m : Map) → stands old m → (later : Map) × Run m messages replies later × stands new later
 
   -- the bytes are these frames and a rest, and what was added to the output is their replies and some last bytes
   pub record RanOver (old new : D) (bytes before after : List ℕ) (messages : List (List ℕ)) (replies : List Reply) (rest last : List ℕ) : Type 0 where

@@ -1,13 +1,13 @@
 -- A service: frames are taken from a reader in whatever pieces it gives them, and each reply is given to a writer before the
 -- next frame is taken.
-use Rattle.std.specs.Prelude.{◌≡◌, ℕ, ◌<◌, ◌≤◌, List, [], ◌++◌, length, Option, ◌⊎◌}
+use Rattle.std.specs.Prelude.{◌≡◌, ℕ, ◌<◌, ◌≤◌, List, [], ◌∷◌, ◌++◌, length, Option, ◌⊎◌}
 use Rattle.std.specs.List.{flat_map}
 use Rattle.std.specs.Io.KnownBytes.{Consumes, Appends, IsAtEnd}
 use Rattle.xq_frame.specs.Frame.{frame_bytes, IsMessage, IsCut}
 use Rattle.xq_rows.specs.Documents.{Map}
 use Rattle.xq_streams.specs.Taking.{IsPart, IsHead, IsLongHead}
 use Rattle.xq_streams.specs.Sending.{GivesFront}
-use Rattle.xq_service.specs.Run.{Reply, Ran, written, long_reply}
+use Rattle.xq_service.specs.Run.{Reply, Ran, bytes_of, written, long_reply}
 use Rattle.xq_service.specs.declared.ends.End.{End}
 use Rattle.xq_service.specs.declared.ends.End.TheVariants.{Finished, Cut, TooLong, Bound, ReadFault, WriteFault, NoRoom}
 
@@ -19,10 +19,15 @@ IsNotCarriedOut rest = IsHead rest ⊎ ((message : List ℕ) × IsMessage messag
 abbrev pub IsFrontOf : List ℕ → List ℕ → Type 0
 IsFrontOf sent bytes = (unsent : List ℕ) × (bytes ≡ sent ++ unsent)
 
--- a front was given of the replies to the frames taken, or of these and the reply to a length over the limit
+-- these replies were given, and a front of these bytes
+abbrev pub BreaksOffIn : List Reply → List ℕ → List ℕ → Type 0
+BreaksOffIn replies bytes sent = (front : List ℕ) × IsFrontOf front bytes × (sent ≡ written replies ++ front)
+
+-- all replies were given but the last, and a front of that: it is the reply to the last frame taken, or to a length over the limit
 abbrev pub BreaksOff : List Reply → List ℕ → List ℕ → Type 0
-BreaksOff replies rest sent = ((rest ≡ []) × IsFrontOf sent (written replies))
-    ⊎ (IsLongHead rest × IsFrontOf sent (written replies ++ long_reply))
+BreaksOff replies rest sent =
+    ((rest ≡ []) × ((earlier : List Reply) × (last : Reply) × (replies ≡ earlier ++ last ∷ []) × BreaksOffIn earlier (bytes_of last) sent))
+    ⊎ (IsLongHead rest × BreaksOffIn replies long_reply sent)
 
 -- Why a service ends, by the greatest number of frames and the number answered, the replies to these, what was taken after
 -- them, what was given, and what the reader has left.
@@ -45,14 +50,14 @@ EndsLong held holding Cut = ⊥
 EndsLong held holding Bound = ⊥
 EndsLong held holding ReadFault = ⊥
 
--- Below, D, `up`, `holds` and `documents` are as in Run. `before` and `left` are what the reader will give, at the start and
+-- Below, D, `clean` and `stands` are as in Run. `before` and `left` are what the reader will give, at the start and
 -- at the end, `held` and `holding` what the writer holds, each where it is known.
-module _ {D : Type 0} (up holds : D → Type 0) (documents : D → Map) where
+module _ {D : Type 0} (clean : D → Type 0) (stands : D → Map → Type 0) where
   -- these frames and a rest were taken, this was given, and the frames were answered by these replies
   pub record Served (old new : D) (before left held holding : Option (List ℕ)) (messages : List (List ℕ)) (replies : List Reply) (rest sent : List ℕ) : Type 0 where
     pub taken : Consumes before left (flat_map frame_bytes messages ++ rest)
     pub given : Appends held holding sent
-    pub ran : Ran up holds documents old new messages replies
+    pub ran : Ran clean stands old new messages replies
 
   -- The headline for a service: each frame taken has its reply, and the rest says why no more are.
   abbrev pub Serves : D → D → Option (List ℕ) → Option (List ℕ) → Option (List ℕ) → Option (List ℕ) → ℕ → End → Type 0

@@ -20,12 +20,11 @@ abbrev pub IsFirstLine : List ℕ → List ℕ → List ℕ → Type 0
 IsFirstLine text line others =
     (with_line_feeds text ≡ line ++ 10 ∷ with_line_feeds others) × (length others < length text)
 
--- a query text gives this tree, or is refused; the documents stay
-abbrev pub Evaluates : Map → List ℕ → Map → Result Tree Fault → Type 0
-Evaluates m text new (Ok tree) = ((q : Query) × Reads text (Ok q) × (value q m ≡ Ok tree)) × (new ≡ m)
-Evaluates m text new (Err (OfCode code)) =
-    (Reads text (Err code) ⊎ ((q : Query) × Reads text (Ok q) × (value q m ≡ Err code))) × (new ≡ m)
-Evaluates m text new (Err (OfWant want)) = MayWant (query text) want × (new ≡ m)
+-- a query text gives this tree, or is refused
+abbrev pub Evaluates : Map → List ℕ → Result Tree Fault → Type 0
+Evaluates m text (Ok tree) = (q : Query) × Reads text (Ok q) × (value q m ≡ Ok tree)
+Evaluates m text (Err (OfCode code)) = Reads text (Err code) ⊎ ((q : Query) × Reads text (Ok q) × (value q m ≡ Err code))
+Evaluates m text (Err (OfWant want)) = MayWant (query text) want
 
 -- a request is answered, or refused; memory may still be wanting for a text, which changes nothing
 abbrev pub Tells : Map → Asked → Map → Result Answer Fault → Type 0

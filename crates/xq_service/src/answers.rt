@@ -2,7 +2,7 @@
 ghost use Rattle.std.specs.Prelude.{◌≡◌, MatchResult};
 ghost use Rattle.xq_atoms.specs.Address.{IsAddress};
 ghost use Rattle.xq_atoms.specs.declared.refusals.Code.TheVariants.{ProfAddress};
-ghost use Rattle.xq_rows.specs.Documents.{IsUp, Holds, documents};
+ghost use Rattle.xq_rows.specs.Documents.{IsClean, Map, StandsFor};
 ghost use Rattle.xq_frame.specs.Request.{asked, query, put, remove as remove_one, list};
 ghost use Rattle.xq_service.specs.Work.{Tells, IsShort};
 
@@ -35,10 +35,9 @@ pub(crate) fn carry_out<S: Alter>(
     store: &mut Store<S>,
     request: Request<'_>,
 ) -> Result<Answer, Fault>
-    ensures tells { IsUp S.Store store.new → Holds S.Store store.old
-        → Tells (documents S.Store store.old) (asked request.entry) (documents S.Store store.new) result }
-    ensures stays { IsUp S.Store store.new → Holds S.Store store.old → Holds S.Store store.new }
-    ensures was_up { IsUp S.Store store.new → IsUp S.Store store.old }
+    ensures tells { IsClean S.Store store.new → (m : Map) → StandsFor S.Store store.old m
+        → (later : Map) × Tells m (asked request.entry) later result × StandsFor S.Store store.new later }
+    ensures was_clean { IsClean S.Store store.new → IsClean S.Store store.old }
     ensures short { IsShort result }
 {
     match request {
@@ -51,10 +50,11 @@ pub(crate) fn carry_out<S: Alter>(
 }
 
 fn answer_query<S: Alter>(alloc: Global, store: &mut Store<S>, text: &[u8]) -> Result<Answer, Fault>
-    ensures tells { IsUp S.Store store.new → Holds S.Store store.old
-        → Tells (documents S.Store store.old) (query text.now) (documents S.Store store.new) result }
-    ensures stays { IsUp S.Store store.new → Holds S.Store store.old → Holds S.Store store.new }
-    ensures was_up { IsUp S.Store store.new → IsUp S.Store store.old }
+    ensures tells { IsClean S.Store store.new → (m : Map) → StandsFor S.Store store.old m
+        → Tells m (query text.now) m result }
+    ensures same { IsClean S.Store store.new → (m : Map) → StandsFor S.Store store.old m
+        → StandsFor S.Store store.new m }
+    ensures was_clean { IsClean S.Store store.new → IsClean S.Store store.old }
     ensures short { IsShort result }
 {
     let value = evaluate(alloc, store, text)?;
@@ -67,10 +67,9 @@ fn answer_put<S: Alter>(
     address: &[u8],
     text: &[u8],
 ) -> Result<Answer, Fault>
-    ensures tells { IsUp S.Store store.new → Holds S.Store store.old
-        → Tells (documents S.Store store.old) (put address.now text.now) (documents S.Store store.new) result }
-    ensures stays { IsUp S.Store store.new → Holds S.Store store.old → Holds S.Store store.new }
-    ensures was_up { IsUp S.Store store.new → IsUp S.Store store.old }
+    ensures tells { IsClean S.Store store.new → (m : Map) → StandsFor S.Store store.old m
+        → (later : Map) × Tells m (put address.now text.now) later result × StandsFor S.Store store.new later }
+    ensures was_clean { IsClean S.Store store.new → IsClean S.Store store.old }
     ensures short { IsShort result }
 {
     let address = good_address(address)?;
@@ -85,10 +84,9 @@ fn answer_put<S: Alter>(
 }
 
 fn answer_remove<S: Alter>(store: &mut Store<S>, address: &[u8]) -> Result<Answer, Fault>
-    ensures tells { IsUp S.Store store.new → Holds S.Store store.old
-        → Tells (documents S.Store store.old) (remove_one address.now) (documents S.Store store.new) result }
-    ensures stays { IsUp S.Store store.new → Holds S.Store store.old → Holds S.Store store.new }
-    ensures was_up { IsUp S.Store store.new → IsUp S.Store store.old }
+    ensures tells { IsClean S.Store store.new → (m : Map) → StandsFor S.Store store.old m
+        → (later : Map) × Tells m (remove_one address.now) later result × StandsFor S.Store store.new later }
+    ensures was_clean { IsClean S.Store store.new → IsClean S.Store store.old }
     ensures short { IsShort result }
 {
     let known = good_address(address)?;
@@ -100,10 +98,11 @@ fn answer_remove<S: Alter>(store: &mut Store<S>, address: &[u8]) -> Result<Answe
 }
 
 fn answer_list<S: Alter>(alloc: Global, store: &mut Store<S>) -> Result<Answer, Fault>
-    ensures tells { IsUp S.Store store.new → Holds S.Store store.old
-        → Tells (documents S.Store store.old) (list) (documents S.Store store.new) result }
-    ensures stays { IsUp S.Store store.new → Holds S.Store store.old → Holds S.Store store.new }
-    ensures was_up { IsUp S.Store store.new → IsUp S.Store store.old }
+    ensures tells { IsClean S.Store store.new → (m : Map) → StandsFor S.Store store.old m
+        → Tells m (list) m result }
+    ensures same { IsClean S.Store store.new → (m : Map) → StandsFor S.Store store.old m
+        → StandsFor S.Store store.new m }
+    ensures was_clean { IsClean S.Store store.new → IsClean S.Store store.old }
     ensures short { IsShort result }
 {
     let addresses = store.addresses()?;

@@ -1,7 +1,7 @@
 //! Texts read as queries, and their values over a store.
 ghost use Rattle.std.specs.Prelude.{◌≡◌, IfOk, MatchOption, string_bytes, ℕ, List};
 ghost use Rattle.xq_atoms.specs.Address.{IsAddress};
-ghost use Rattle.xq_rows.specs.Documents.{IsUp, Holds, documents};
+ghost use Rattle.xq_rows.specs.Documents.{IsClean, Map, StandsFor};
 ghost use Rattle.xq_service.specs.Meaning.{with_line_feeds as with_line_feeds_lem, doc_call};
 ghost use Rattle.xq_service.specs.Work.{Evaluates, IsFirstLine};
 
@@ -20,10 +20,11 @@ pub(crate) fn evaluate<S: Alter>(
     store: &mut Store<S>,
     text: &[u8],
 ) -> Result<Fragment, Fault>
-    ensures value { IsUp S.Store store.new → Holds S.Store store.old
-        → Evaluates (documents S.Store store.old) text.now (documents S.Store store.new) result }
-    ensures stays { IsUp S.Store store.new → Holds S.Store store.old → Holds S.Store store.new }
-    ensures was_up { IsUp S.Store store.new → IsUp S.Store store.old }
+    ensures value { IsClean S.Store store.new → (m : Map) → StandsFor S.Store store.old m
+        → Evaluates m text.now result }
+    ensures same { IsClean S.Store store.new → (m : Map) → StandsFor S.Store store.old m
+        → StandsFor S.Store store.new m }
+    ensures was_clean { IsClean S.Store store.new → IsClean S.Store store.old }
 {
     let Ok(text) = std::str::from_utf8(text) else {
         return Err(Fault::Code(Code::ProfUtf8));

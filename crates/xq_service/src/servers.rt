@@ -2,7 +2,7 @@
 //! writer.
 ghost use Rattle.std.specs.Prelude.{◌≡◌, ◌+◌, ◌<◌, ◌++◌, ◌⊎◌, OnOk, OnErr, IfErr, vec_len, vec_capacity};
 ghost use Rattle.xq_atoms.specs.declared.refusals.Want.TheVariants.{Memory};
-ghost use Rattle.xq_rows.specs.Documents.{IsUp, Holds, documents};
+ghost use Rattle.xq_rows.specs.Documents.{IsClean, StandsFor};
 ghost use Rattle.xq_frame.specs.Request.{asked};
 ghost use Rattle.xq_service.specs.Run.{Reply, Answered, RunsTo, long_reply};
 ghost use Rattle.xq_service.specs.Service.{Serves, EndsLong};
@@ -56,13 +56,11 @@ impl<S: Alter> Server<S> {
     /// has no room for 32 more bytes, and then nothing has changed.
     pub fn answer(&mut self, frame: &Frame<'_>, out: &mut Vec<u8>) -> Result<(), Want>
         ensures ok { OnOk result ((reply : Reply)
-            × Answered (IsUp S.Store) (Holds S.Store) (documents S.Store) self.old self.new
+            × Answered (IsClean S.Store) (StandsFor S.Store) self.old self.new
             frame.now.tag (asked frame.now.request) out.old.items out.new.items reply) }
         ensures err { OnErr result ((self.new ≡ self.old) × (out.new.items ≡ out.old.items)) }
         ensures full { OnErr result (vec_capacity out.old < vec_len out.old + 32) }
         ensures memory { IfErr result (λ want. want ≡ Memory) }
-        ensures stays { IsUp S.Store self.new → Holds S.Store self.old → Holds S.Store self.new }
-        ensures was_up { IsUp S.Store self.new → IsUp S.Store self.old }
     {
         out.reserve(SHORT_REPLY)?;
         let answer = carry_out(self.alloc, &mut self.store, frame.request);
@@ -72,7 +70,7 @@ impl<S: Alter> Server<S> {
 
     /// Answers the frames with which the bytes begin, in order, up to what ends them.
     pub fn run(&mut self, bytes: &[u8], out: &mut Vec<u8>) -> End
-        ensures { RunsTo (IsUp S.Store) (Holds S.Store) (documents S.Store)
+        ensures { RunsTo (IsClean S.Store) (StandsFor S.Store)
             self.old self.new bytes.now out.old.items out.new.items result }
     {
         let mut rest = bytes;
@@ -100,7 +98,7 @@ impl<S: Alter> Server<S> {
         writer: &mut W,
         max_frames: u64,
     ) -> End
-        ensures { Serves (IsUp S.Store) (Holds S.Store) (documents S.Store) self.old self.new
+        ensures { Serves (IsClean S.Store) (StandsFor S.Store) self.old self.new
             (R.remaining reader.old) (R.remaining reader.new)
             (W.contents writer.old) (W.contents writer.new) max_frames result }
     {

@@ -2,7 +2,7 @@ use Rattle.std.proofs.Common.{[], not, ap, ◌∙◌, Vec, Global}
 use Rattle.sqlite_value.specs.Order.{Row}
 use Rattle.sqlite.specs.Held.{state}
 use Rattle.xq_rows.proofs.Texts.{addresses_text, addresses_plain}
-use Rattle.xq_rows.proofs.Selects.{query_keeps, query_opens, all_lists}
+use Rattle.xq_rows.proofs.Selects.{query_keeps, query_opens, query_ends, all_lists}
 use Rattle.xq_rows.proofs.statements.read_addresses.Goals as goal
 
 pub returns-clause-same : goal.returns-clause-same
@@ -17,3 +17,7 @@ returns-clause-rows g c up = all_lists (λ (v : Vec Row Global). v.items) (state
 pub returns-clause-open : goal.returns-clause-open
 returns-clause-open g c up =
     query_opens (λ (v : Vec Row Global). v.items) (state g.S.Store c.args.conn.now) (state g.S.Store c.query_all.new.self) addresses_text ([]) c.query_all.result up.1 (c.query_all.ensures.ok up.0) (c.query_all.ensures.err up.0)
+
+pub returns-clause-ends_open : goal.returns-clause-ends_open
+returns-clause-ends_open g c clean =
+    query_ends (λ (v : Vec Row Global). v.items) (state g.S.Store c.args.conn.now) (state g.S.Store c.query_all.new.self) addresses_text ([]) c.query_all.result (c.query_all.ensures.ok clean)

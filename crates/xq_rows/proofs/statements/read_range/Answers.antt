@@ -3,7 +3,7 @@ use Rattle.sqlite_value.specs.declared.value.Value.TheVariants.{Text, Int}
 use Rattle.sqlite_value.specs.Order.{Row}
 use Rattle.sqlite.specs.Held.{state}
 use Rattle.xq_rows.proofs.Texts.{range_text, range_plain}
-use Rattle.xq_rows.proofs.Selects.{query_keeps, query_opens, all_ranges}
+use Rattle.xq_rows.proofs.Selects.{query_keeps, query_opens, query_ends, all_ranges}
 use Rattle.xq_rows.proofs.statements.read_range.Goals as goal
 
 pub returns-clause-same : goal.returns-clause-same
@@ -18,3 +18,7 @@ returns-clause-rows g c up = all_ranges (λ (v : Vec Row Global). v.items) (stat
 pub returns-clause-open : goal.returns-clause-open
 returns-clause-open g c up =
     query_opens (λ (v : Vec Row Global). v.items) (state g.S.Store c.args.conn.now) (state g.S.Store c.query_all.new.self) range_text (Text c.args.address.now ∷ Int (pos c.args.low) ∷ Int (pos c.args.high) ∷ []) c.query_all.result up.1 (rw (c.params-to_sql.ensures, c.params-to_sql-2.ensures, c.params-to_sql-3.ensures) at (c.query_all.ensures.ok up.0)) (rw (c.params-to_sql.ensures, c.params-to_sql-2.ensures, c.params-to_sql-3.ensures) at (c.query_all.ensures.err up.0))
+
+pub returns-clause-ends_open : goal.returns-clause-ends_open
+returns-clause-ends_open g c clean =
+    query_ends (λ (v : Vec Row Global). v.items) (state g.S.Store c.args.conn.now) (state g.S.Store c.query_all.new.self) range_text (Text c.args.address.now ∷ Int (pos c.args.low) ∷ Int (pos c.args.high) ∷ []) c.query_all.result (rw (c.params-to_sql.ensures, c.params-to_sql-2.ensures, c.params-to_sql-3.ensures) at (c.query_all.ensures.ok clean))

@@ -2,21 +2,21 @@ use Rattle.std.proofs.Common.{refl}
 use Rattle.sqlite.specs.Held.{state}
 use Rattle.sqlite.specs.Files.{over_files}
 use Rattle.xq_rows.specs.Documents.{IsReady}
-use Rattle.xq_rows.proofs.Calls.{new_up, new_holds, new_empty}
+use Rattle.xq_rows.proofs.Calls.{new_clean, new_open, new_empty}
 use Rattle.xq_rows.proofs.MemoryFiles.{always_clean}
 use Rattle.xq_rows.proofs.stores.Store+FileStore+MemoryDisk.new_on_memory_disks.Goals as goal
 
-pub returns-clause-up : goal.returns-clause-up
-returns-clause-up c =
+pub returns-clause-clean : goal.returns-clause-clean
+returns-clause-clean c =
     let clean = always_clean _ refl c.make_tables.new.conn in
     let ready : IsReady (state over_files c.make_tables.new.conn) = (clean, c.in_ok-make_tables.ensures.ends_open clean) in
-    new_up over_files c.make_tables.new.conn ready (c.in_ok-make_tables.ensures.made ready c.in_ok-conn.ensures.empty.2)
+    new_clean over_files c.make_tables.new.conn ready (c.in_ok-make_tables.ensures.made ready c.in_ok-conn.ensures.empty.2)
 
-pub returns-clause-holds : goal.returns-clause-holds
-returns-clause-holds c =
+pub returns-clause-open : goal.returns-clause-open
+returns-clause-open c =
     let clean = always_clean _ refl c.make_tables.new.conn in
     let ready : IsReady (state over_files c.make_tables.new.conn) = (clean, c.in_ok-make_tables.ensures.ends_open clean) in
-    new_holds over_files c.make_tables.new.conn ready (c.in_ok-make_tables.ensures.made ready c.in_ok-conn.ensures.empty.2)
+    new_open over_files c.make_tables.new.conn ready (c.in_ok-make_tables.ensures.made ready c.in_ok-conn.ensures.empty.2)
 
 pub returns-clause-none : goal.returns-clause-none
 returns-clause-none c =

@@ -3,18 +3,18 @@ use Rattle.sqlite.specs.Held.{state}
 use Rattle.sqlite.specs.Steps.{over_memory}
 use Rattle.sqlite.proofs.Callers.{memory_is_clean}
 use Rattle.xq_rows.specs.Documents.{IsReady}
-use Rattle.xq_rows.proofs.Calls.{new_up, new_holds, new_empty}
+use Rattle.xq_rows.proofs.Calls.{new_clean, new_open, new_empty}
 use Rattle.xq_rows.proofs.stores.Store+MemStore.new_in_memory.Goals as goal
 
-pub returns-clause-up : goal.returns-clause-up
-returns-clause-up c =
+pub returns-clause-clean : goal.returns-clause-clean
+returns-clause-clean c =
     let ready : IsReady (state over_memory c.make_tables.new.conn) = (memory_is_clean c.make_tables.new.conn, refl) in
-    new_up over_memory c.make_tables.new.conn ready (c.in_ok-make_tables.ensures.made ready c.in_ok-conn.ensures.empty.2)
+    new_clean over_memory c.make_tables.new.conn ready (c.in_ok-make_tables.ensures.made ready c.in_ok-conn.ensures.empty.2)
 
-pub returns-clause-holds : goal.returns-clause-holds
-returns-clause-holds c =
+pub returns-clause-open : goal.returns-clause-open
+returns-clause-open c =
     let ready : IsReady (state over_memory c.make_tables.new.conn) = (memory_is_clean c.make_tables.new.conn, refl) in
-    new_holds over_memory c.make_tables.new.conn ready (c.in_ok-make_tables.ensures.made ready c.in_ok-conn.ensures.empty.2)
+    new_open over_memory c.make_tables.new.conn ready (c.in_ok-make_tables.ensures.made ready c.in_ok-conn.ensures.empty.2)
 
 pub returns-clause-none : goal.returns-clause-none
 returns-clause-none c =

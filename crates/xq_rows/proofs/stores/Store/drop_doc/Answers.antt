@@ -1,27 +1,28 @@
-use Rattle.std.proofs.Common.{◌≡◌}
-use Rattle.xq_rows.specs.Documents.{documents}
-use Rattle.xq_rows.proofs.Calls.{on_err, was_up, map_kept, still_holds, drop_holds, drop_map, drop_answer}
+use Rattle.xq_rows.specs.Documents.{StandsFor}
+use Rattle.xq_rows.proofs.Calls.{on_err, was_clean, was_open, kept_stands, drop_stands, drop_answer, leaves_open}
 use Rattle.xq_rows.proofs.stores.Store.drop_doc.Goals as goal
 
 pub returns-in_err-count-clause-kept : goal.returns-in_err-count-clause-kept
-returns-in_err-count-clause-kept g c up holds =
-    let kept = map_kept g.S.Store c.self.inside.conn c.args.self.now c.drop_rows.new.conn c.self.view_is c.in_err-count.ensures.kept up in
-    on_err (documents g.S.Store c.drop_rows.new.conn ≡ documents g.S.Store c.args.self.now) _ kept
-
-pub returns-in_err-count-clause-stays : goal.returns-in_err-count-clause-stays
-returns-in_err-count-clause-stays g c = still_holds g.S.Store c.self.inside.conn c.args.self.now c.drop_rows.new.conn c.self.view_is c.in_err-count.ensures.kept
-
-pub returns-in_err-count-clause-was_up : goal.returns-in_err-count-clause-was_up
-returns-in_err-count-clause-was_up g c = was_up g.S.Store c.self.inside.conn c.args.self.now c.drop_rows.new.conn c.self.view_is c.drop_rows.ensures.clean c.drop_rows.ensures.open
+returns-in_err-count-clause-kept g c clean m stands =
+    on_err (StandsFor g.S.Store c.drop_rows.new.conn m) _ (kept_stands g.S.Store c.self.inside.conn c.args.self.now c.drop_rows.new.conn c.self.view_is c.drop_rows.ensures.open c.in_err-count.ensures.kept clean m stands)
 
 pub returns-clause-dropped : goal.returns-clause-dropped
-returns-clause-dropped g c = drop_map g.S.Store c.self.inside.conn c.args.self.now c.drop_rows.new.conn c.self.view_is c.args.address.now c.in_ok-count.count c.in_ok-count.ensures.dropped
+returns-clause-dropped g c = drop_stands g.S.Store c.self.inside.conn c.args.self.now c.drop_rows.new.conn c.self.view_is c.drop_rows.ensures.open c.in_ok-count.ensures.ends_open c.args.address.now c.in_ok-count.count c.in_ok-count.ensures.dropped
 
 pub returns-clause-answer : goal.returns-clause-answer
-returns-clause-answer g c = drop_answer g.S.Store c.self.inside.conn c.args.self.now c.drop_rows.new.conn c.self.view_is c.args.address.now c.in_ok-count.count c.in_ok-count.ensures.dropped
+returns-clause-answer g c = drop_answer g.S.Store c.self.inside.conn c.args.self.now c.drop_rows.new.conn c.self.view_is c.drop_rows.ensures.open c.in_ok-count.ensures.ends_open c.args.address.now c.in_ok-count.count c.in_ok-count.ensures.dropped
 
-pub returns-clause-stays : goal.returns-clause-stays
-returns-clause-stays g c = drop_holds g.S.Store c.self.inside.conn c.args.self.now c.drop_rows.new.conn c.self.view_is c.args.address.now c.in_ok-count.count c.in_ok-count.ensures.dropped
+pub returns-clause-answered : goal.returns-clause-answered
+returns-clause-answered g c = leaves_open g.S.Store c.drop_rows.new.conn c.in_ok-count.ensures.ends_open
 
-pub returns-clause-was_up : goal.returns-clause-was_up
-returns-clause-was_up g c = was_up g.S.Store c.self.inside.conn c.args.self.now c.drop_rows.new.conn c.self.view_is c.drop_rows.ensures.clean c.drop_rows.ensures.open
+pub returns-in_err-count-clause-was_open : goal.returns-in_err-count-clause-was_open
+returns-in_err-count-clause-was_open g c = was_open g.S.Store c.self.inside.conn c.args.self.now c.drop_rows.new.conn c.self.view_is c.drop_rows.ensures.open
+
+pub returns-in_err-count-clause-was_clean : goal.returns-in_err-count-clause-was_clean
+returns-in_err-count-clause-was_clean g c = was_clean g.S.Store c.self.inside.conn c.args.self.now c.drop_rows.new.conn c.self.view_is c.drop_rows.ensures.clean
+
+pub returns-clause-was_open : goal.returns-clause-was_open
+returns-clause-was_open g c = was_open g.S.Store c.self.inside.conn c.args.self.now c.drop_rows.new.conn c.self.view_is c.drop_rows.ensures.open
+
+pub returns-clause-was_clean : goal.returns-clause-was_clean
+returns-clause-was_clean g c = was_clean g.S.Store c.self.inside.conn c.args.self.now c.drop_rows.new.conn c.self.view_is c.drop_rows.ensures.clean

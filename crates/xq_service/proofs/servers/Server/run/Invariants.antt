@@ -1,12 +1,12 @@
 use Rattle.std.proofs.Common.{List, ℕ, [], length}
-use Rattle.xq_rows.specs.Documents.{IsUp, Holds, documents}
+use Rattle.xq_rows.specs.Documents.{IsClean, StandsFor}
 use Rattle.xq_service.specs.Run.{Reply, RanOver}
 use Rattle.xq_service.proofs.servers.Server.run.Given as goal
 
 -- the frames so far were answered
 abbrev pub invariant-frames : goal.invariant-frames
 invariant-frames g l = (messages : List (List ℕ)) × (replies : List Reply)
-    × RanOver (IsUp g.S.Store) (Holds g.S.Store) (documents g.S.Store) l.fn.self l.self l.bytes l.fn.out.items l.out.items messages replies l.rest []
+    × RanOver (IsClean g.S.Store) (StandsFor g.S.Store) l.fn.self l.self l.bytes l.fn.out.items l.out.items messages replies l.rest []
 
 abbrev pub decreases-frames : goal.decreases-frames
 decreases-frames g l = length l.rest

@@ -1,6 +1,6 @@
 use Rattle.std.proofs.Common.{◌≡◌, ◌++◌, ◌∷◌, [], List, ℕ, refl, sym, subst, inl, inr, arith}
 use Rattle.std.specs.Io.KnownBytes.{Appends}
-use Rattle.xq_rows.specs.Documents.{IsUp, Holds, documents}
+use Rattle.xq_rows.specs.Documents.{IsClean, StandsFor}
 use Rattle.xq_frame.specs.Next.{IsFrameOf}
 use Rattle.xq_service.specs.Run.{written, bytes_of}
 use Rattle.xq_service.specs.Service.{Served}
@@ -8,7 +8,7 @@ use Rattle.xq_service.proofs.Serving.{served_none, served_taken, served_more, se
 use Rattle.xq_service.proofs.servers.Server.serve.Goals as goal
 
 pub loop-count-init : goal.loop-count-init
-loop-count-init g c = ([], [], served_none (IsUp g.S.Store) (Holds g.S.Store) (documents g.S.Store) c.args.self.now _ _, refl)
+loop-count-init g c = ([], [], served_none (IsClean g.S.Store) (StandsFor g.S.Store) c.args.self.now _ _, refl)
 
 pub returns-in-Cut : goal.returns-in-Cut
 returns-in-Cut g c =
@@ -19,7 +19,7 @@ returns-in-Cut g c =
       got.0,
       written so_far.1,
       (
-        served_taken (IsUp g.S.Store) (Holds g.S.Store) (documents g.S.Store) _ _ _ _ _ _ _ so_far.0 so_far.1 got.0 so_far.2 got.1,
+        served_taken (IsClean g.S.Store) (StandsFor g.S.Store) _ _ _ _ _ _ _ so_far.0 so_far.1 got.0 so_far.2 got.1,
         (got.2.0, got.2.1, refl, omega (arith, so_far.3, c.loop-count-test.true)),
       ),
     )
@@ -33,7 +33,7 @@ returns-in-NoRoom g c =
       got.0,
       written so_far.1,
       (
-        served_taken (IsUp g.S.Store) (Holds g.S.Store) (documents g.S.Store) _ _ _ _ _ _ _ so_far.0 so_far.1 got.0 so_far.2 got.1,
+        served_taken (IsClean g.S.Store) (StandsFor g.S.Store) _ _ _ _ _ _ _ so_far.0 so_far.1 got.0 so_far.2 got.1,
         (inl got.2, refl, omega (arith, so_far.3, c.loop-count-test.true)),
       ),
     )
@@ -42,7 +42,7 @@ pub returns-in-TooLong : goal.returns-in-TooLong
 returns-in-TooLong g c =
     let so_far = c.loop-count.invariant in
     let got = c.in-TooLong.ensures.taken in
-    serves_long (IsUp g.S.Store) (Holds g.S.Store) (documents g.S.Store) _ _ _ _ _ _ _ _ so_far.0 so_far.1 got.0 c.args.max_frames c.send_long.result
+    serves_long (IsClean g.S.Store) (StandsFor g.S.Store) _ _ _ _ _ _ _ _ so_far.0 so_far.1 got.0 c.args.max_frames c.send_long.result
     so_far.2 got.1 got.2 (omega (arith, so_far.3, c.loop-count-test.true)) c.send_long.ensures
 
 pub returns-in-Err : goal.returns-in-Err
@@ -54,9 +54,9 @@ returns-in-Err g c =
       got.0,
       written so_far.1,
       (
-        subst (λ s. Served (IsUp g.S.Store) (Holds g.S.Store) (documents g.S.Store) c.args.self.now s (g.R.Read.remaining c.args.reader.now) (g.R.Read.remaining c.take_message.new.reader)
+        subst (λ s. Served (IsClean g.S.Store) (StandsFor g.S.Store) c.args.self.now s (g.R.Read.remaining c.args.reader.now) (g.R.Read.remaining c.take_message.new.reader)
             (g.W.Write.contents c.args.writer.now) (g.W.Write.contents c.loop-count.writer) so_far.0 so_far.1 got.0 (written so_far.1)) (sym c.in-Err.ensures.err.0)
-            (served_taken (IsUp g.S.Store) (Holds g.S.Store) (documents g.S.Store) _ _ _ _ _ _ _ so_far.0 so_far.1 got.0 so_far.2 got.1),
+            (served_taken (IsClean g.S.Store) (StandsFor g.S.Store) _ _ _ _ _ _ _ so_far.0 so_far.1 got.0 so_far.2 got.1),
         (inr (inl (c.in-Message.message.items, got.2.0, got.2.1)), refl, omega (arith, so_far.3, c.loop-count-test.true)),
       ),
     )
@@ -75,9 +75,9 @@ returns-in-Err-send g c =
       [],
       written so_far.1 ++ gave.0,
       (
-        served_more (IsUp g.S.Store) (Holds g.S.Store) (documents g.S.Store) _ c.loop-count.self c.answer.new.self _ _ _ _ _ _ so_far.0 so_far.1 c.frame_of.result message got.0 _ _ gave.0 reply.0
-            so_far.2 got.1 got.2.0 got.2.1 (subst (IsFrameOf c.frame_of.result) c.as_slice.ensures.value c.frame_of.ensures) reply.1 c.in-Ok.ensures.was_up c.in-Ok.ensures.stays gave.2,
-        (inl (refl, (gave.1, broken_off so_far.1 reply.0 gave.0 gave.1 split)), omega (arith, count, c.loop-count-test.true)),
+        served_more (IsClean g.S.Store) (StandsFor g.S.Store) _ c.loop-count.self c.answer.new.self _ _ _ _ _ _ so_far.0 so_far.1 c.frame_of.result message got.0 _ _ gave.0 reply.0
+            so_far.2 got.1 got.2.0 got.2.1 (subst (IsFrameOf c.frame_of.result) c.as_slice.ensures.value c.frame_of.ensures) reply.1 gave.2,
+        (broken_off so_far.1 reply.0 gave.0 gave.1 split, omega (arith, count, c.loop-count-test.true)),
       ),
     )
 
@@ -92,10 +92,10 @@ loop-count-preserved g c =
     subst (Appends (g.W.Write.contents c.loop-count.writer) (g.W.Write.contents c.send.new.writer)) whole c.in-Ok-send.ensures.all in (
       so_far.0 ++ message ∷ [],
       so_far.1 ++ reply.0 ∷ [],
-      subst (Served (IsUp g.S.Store) (Holds g.S.Store) (documents g.S.Store) c.args.self.now c.answer.new.self (g.R.Read.remaining c.args.reader.now) (g.R.Read.remaining c.take_message.new.reader)
+      subst (Served (IsClean g.S.Store) (StandsFor g.S.Store) c.args.self.now c.answer.new.self (g.R.Read.remaining c.args.reader.now) (g.R.Read.remaining c.take_message.new.reader)
           (g.W.Write.contents c.args.writer.now) (g.W.Write.contents c.send.new.writer) (so_far.0 ++ message ∷ []) (so_far.1 ++ reply.0 ∷ []) [])
           (all_sent so_far.1 reply.0 (bytes_of reply.0) refl)
-          (served_more (IsUp g.S.Store) (Holds g.S.Store) (documents g.S.Store) _ c.loop-count.self c.answer.new.self _ _ _ _ _ _ so_far.0 so_far.1 c.frame_of.result message got.0 _ _ (bytes_of reply.0) reply.0
-          so_far.2 got.1 got.2.0 got.2.1 (subst (IsFrameOf c.frame_of.result) c.as_slice.ensures.value c.frame_of.ensures) reply.1 c.in-Ok.ensures.was_up c.in-Ok.ensures.stays gave),
+          (served_more (IsClean g.S.Store) (StandsFor g.S.Store) _ c.loop-count.self c.answer.new.self _ _ _ _ _ _ so_far.0 so_far.1 c.frame_of.result message got.0 _ _ (bytes_of reply.0) reply.0
+          so_far.2 got.1 got.2.0 got.2.1 (subst (IsFrameOf c.frame_of.result) c.as_slice.ensures.value c.frame_of.ensures) reply.1 gave),
       one_longer so_far.0 message c.loop-count.count so_far.3,
     )

@@ -1,5 +1,5 @@
 use Rattle.std.proofs.Common.{◌≡◌, List, ℕ, [], length}
-use Rattle.xq_rows.specs.Documents.{IsUp, Holds, documents}
+use Rattle.xq_rows.specs.Documents.{IsClean, StandsFor}
 use Rattle.xq_service.specs.Run.{Reply, written}
 use Rattle.xq_service.specs.Service.{Served}
 use Rattle.xq_service.proofs.servers.Server.serve.Given as goal
@@ -7,6 +7,6 @@ use Rattle.xq_service.proofs.servers.Server.serve.Given as goal
 -- as many frames as turns were taken and answered, and their replies were given
 abbrev pub invariant-loop-count : goal.invariant-loop-count
 invariant-loop-count g l = (messages : List (List ℕ)) × (replies : List Reply)
-    × Served (IsUp g.S.Store) (Holds g.S.Store) (documents g.S.Store) l.fn.self l.self (g.R.Read.remaining l.fn.reader) (g.R.Read.remaining l.reader)
+    × Served (IsClean g.S.Store) (StandsFor g.S.Store) l.fn.self l.self (g.R.Read.remaining l.fn.reader) (g.R.Read.remaining l.reader)
     (g.W.Write.contents l.fn.writer) (g.W.Write.contents l.writer) messages replies [] (written replies)
     × (length messages ≡ l.count)

@@ -1,0 +1,35 @@
+#!/usr/bin/env bash
+# A way back to a file that another program has written to, so that the server refuses it: copies its documents into a new
+# file. Needs stock sqlite3 (Debian package sqlite3).
+#
+#   tools/take_file.sh OLD NEW
+#
+# OLD, with its log OLD-wal where there is one, is only read; no server may hold it. NEW must not be there yet. The rows go
+# over as they are, and the server judges them as it opens NEW: where they are not those of documents, it still refuses.
+set -eu
+if [ $# != 2 ] || [ ! -f "$1" ] || [ -e "$2" ]; then
+    echo "usage: tools/take_file.sh OLD NEW, where OLD is a file and NEW is not there" >&2
+    exit 2
+fi
+old=$1
+new=$(realpath -m -- "$2")
+room=$(mktemp -d)
+trap 'rm -rf "$room"' EXIT
+cp -- "$old" "$room/old.db"
+if [ -f "$old-wal" ]; then
+    cp -- "$old-wal" "$room/old.db-wal"
+fi
+cd "$room"
+sqlite3 -bail new.db <<'SQL'
+ATTACH 'old.db' AS old;
+BEGIN;
+CREATE TABLE layout (edition INTEGER NOT NULL) STRICT;
+CREATE TABLE node (address TEXT NOT NULL, pre INTEGER NOT NULL, size INTEGER NOT NULL, level INTEGER NOT NULL, kind INTEGER NOT NULL, name TEXT NOT NULL, value TEXT NOT NULL, PRIMARY KEY (address, pre)) STRICT;
+INSERT INTO layout (edition) SELECT edition FROM old.layout;
+INSERT INTO node (address, pre, size, level, kind, name, value)
+    SELECT address, pre, size, level, kind, name, value FROM old.node ORDER BY address, pre;
+COMMIT;
+DETACH old;
+SQL
+cp -- new.db "$new"
+echo "$(sqlite3 new.db 'SELECT count(*) FROM node WHERE pre = 0') documents taken over"
