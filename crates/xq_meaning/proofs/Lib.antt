@@ -3,4 +3,11 @@ pub mod CoreEquations
 pub mod PlanEquations
 pub mod Writing
 pub mod Library
-mod Rows
+mod WorkedRows
+mod RefusalRows
+mod OperatorRows
+mod PathRows
+mod ConstructorRows
+mod FlworRows
+mod FunctionRows
+mod MoreFunctionRows
