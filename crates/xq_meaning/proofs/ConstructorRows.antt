@@ -1,10 +1,8 @@
 -- Rows of constructors and their content.
-use Rattle.std.specs.Prelude.{◌≡◌, refl, [], ◌∷◌, Some, None, Ok, Err, codes}
+use Rattle.std.specs.Prelude.{◌≡◌, refl, [], ◌∷◌, Ok, Err, codes}
 use Rattle.std.specs.Fmt.{digits}
 use Rattle.std.specs.Str.{chars}
-use Rattle.std.specs.Char.{encode_utf8}
 use Rattle.xq_atoms.specs.declared.refusals.Code.TheVariants.{FOAR0001, ProfPrefix, XPTY0004, XQDY0025, XQDY0026, XQDY0041, XQDY0044, XQDY0064, XQDY0072, XQDY0074, XQTY0024}
-use Rattle.xq_expressions.specs.declared.operators.ComparisonOperator.TheVariants.{Node}
 use Rattle.xq_expressions.specs.declared.operators.NodeTest.TheVariants as written
 use Rattle.xq_meaning.proofs.Writing.{num, dec, txt, var, seq, none, call, call_by, prefixed, product, path, primary, named, bare_step, at, element, element_by, attribute, attribute_by, instruction, instruction_by, document, text, comment, flwor, let_be, div_by, idiv_by, slash, below}
 use Rattle.xq_meaning.proofs.Library.{answer}

@@ -1,8 +1,7 @@
 -- Rows of FLWOR and quantified expressions.
-use Rattle.std.specs.Prelude.{◌≡◌, refl, [], ◌∷◌, Some, None, Ok, Err, codes}
+use Rattle.std.specs.Prelude.{◌≡◌, refl, [], ◌∷◌, Ok, Err, codes}
 use Rattle.std.specs.Fmt.{digits}
 use Rattle.std.specs.Str.{chars}
-use Rattle.std.specs.Char.{encode_utf8}
 use Rattle.xq_atoms.specs.declared.refusals.Code.TheVariants.{FOAR0001, FORG0006, XPTY0004}
 use Rattle.xq_expressions.specs.declared.operators.Relation.TheVariants.{Equal, LessEqual, Greater}
 use Rattle.xq_expressions.specs.declared.operators.ComparisonOperator.TheVariants.{Value, General, Node}

@@ -2,6 +2,8 @@ pub mod Equations
 pub mod CoreEquations
 pub mod PlanEquations
 pub mod Writing
+pub mod CoreWriting
+pub mod PlanWriting
 pub mod Library
 mod WorkedRows
 mod RefusalRows
@@ -11,3 +13,6 @@ mod ConstructorRows
 mod FlworRows
 mod FunctionRows
 mod MoreFunctionRows
+mod LimitRows
+mod CoreRows
+mod PlanRows

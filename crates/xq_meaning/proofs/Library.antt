@@ -1,6 +1,6 @@
 -- Documents for worked rows, and what a query is answered over them.
 use Prim.Native.String.{String}
-use Rattle.std.specs.Prelude.{List, [], ◌∷◌, Ok, Err, codes}
+use Rattle.std.specs.Prelude.{List, [], ◌∷◌, None, Ok, Err, codes}
 use Rattle.xq_regions.specs.declared.Kind.TheVariants as kind
 use Rattle.xq_atoms.specs.Judged.{Judged}
 use Rattle.xq_atoms.specs.Text.{Text}
@@ -11,7 +11,8 @@ use Rattle.xq_values.specs.Print.{print_items}
 use Rattle.xq_values.specs.Content.{label}
 use Rattle.xq_meaning.specs.Doing.{Outcome}
 use Rattle.xq_meaning.specs.Meaning.{Meaning, first_frame}
-use Rattle.xq_meaning.proofs.Writing.{utf8}
+use Rattle.xq_meaning.specs.PlanMeaning
+use Rattle.xq_meaning.specs.Same.{frame_of}
 
 abbrev pub Nodes : Type 0
 Nodes = Forest Label
@@ -41,7 +42,8 @@ tree parts = record { root = label kind.Document [] []; below = all parts }
 abbrev pub book : String → String → Nodes
 book id title = el "book" (att "id" id ∷ tex title ∷ [])
 
--- document {element lib {element book {attribute id {"1"}, text {"A"}}, element book {attribute id {"2"}, text {"B"}}}}
+-- document {element lib {
+--   element book {attribute id {"1"}, text {"A"}}, element book {attribute id {"2"}, text {"B"}}}}
 abbrev pub library : Tree
 library = tree (el "lib" (book "1" "A" ∷ book "2" "B" ∷ []) ∷ [])
 
@@ -53,3 +55,6 @@ printed (Err code, trees) = Err code
 -- over the library at the address b
 abbrev pub answer : Meaning → Judged Text
 answer m = printed (m (first_frame (codes "b" ∷ [])) (library ∷ []))
+
+abbrev pub plan_answer : PlanMeaning.Meaning → Judged Text
+plan_answer m = printed (m (frame_of [] None (codes "b" ∷ [])) (library ∷ []))

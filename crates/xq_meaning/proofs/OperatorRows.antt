@@ -1,8 +1,7 @@
 -- Rows of literals, sequences, operators, comparisons and conditions.
-use Rattle.std.specs.Prelude.{◌≡◌, refl, [], ◌∷◌, Some, None, Ok, Err, codes}
+use Rattle.std.specs.Prelude.{◌≡◌, refl, [], ◌∷◌, Ok, Err, codes}
 use Rattle.std.specs.Fmt.{digits}
 use Rattle.std.specs.Str.{chars}
-use Rattle.std.specs.Char.{encode_utf8}
 use Rattle.xq_atoms.specs.declared.refusals.Code.TheVariants.{FOAR0001, FOAR0002, FORG0001, FORG0006, ProfDouble, ProfRange, XPTY0004}
 use Rattle.xq_expressions.specs.declared.operators.Sign.TheVariants.{Plus, Minus}
 use Rattle.xq_expressions.specs.declared.operators.Relation.TheVariants.{Equal, NotEqual, Less, LessEqual, Greater, GreaterEqual}

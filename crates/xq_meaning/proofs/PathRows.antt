@@ -2,10 +2,9 @@
 use Rattle.std.specs.Prelude.{◌≡◌, refl, [], ◌∷◌, Some, None, Ok, Err, codes}
 use Rattle.std.specs.Fmt.{digits}
 use Rattle.std.specs.Str.{chars}
-use Rattle.std.specs.Char.{encode_utf8}
 use Rattle.xq_atoms.specs.declared.refusals.Code.TheVariants.{FORG0006, XPDY0002, XPTY0019}
 use Rattle.xq_expressions.specs.declared.operators.Relation.TheVariants.{Equal}
-use Rattle.xq_expressions.specs.declared.operators.ComparisonOperator.TheVariants.{General, Node}
+use Rattle.xq_expressions.specs.declared.operators.ComparisonOperator.TheVariants.{General}
 use Rattle.xq_expressions.specs.declared.operators.AxisName.TheVariants as axis
 use Rattle.xq_expressions.specs.declared.operators.NodeTest.TheVariants as written
 use Rattle.xq_meaning.proofs.Writing.{num, dec, txt, var, dot, seq, none, call, product, to, compare, root, path, path_from_root, path_below_root, primary, filtered, named, along, bare_step, child, at_test, at, up, element, attribute, instruction, text, comment, flwor, let_be, bare, div_by, mod_by, slash, below}

@@ -1,6 +1,6 @@
 -- Short words to write worked rows with: each form of expression, as its meaning from those of its parts.
 use Prim.Native.String.{String}
-use Rattle.std.specs.Prelude.{ℕ, pos, List, [], ◌∷◌, Option, Some, None, Ok, Err, codes, encode_utf8_all}
+use Rattle.std.specs.Prelude.{ℕ, pos, List, [], ◌∷◌, Option, Some, None, codes, encode_utf8_all}
 use Rattle.xq_expressions.specs.declared.names.QName.{QName}
 use Rattle.xq_expressions.specs.declared.operators.Sign.{Sign}
 use Rattle.xq_expressions.specs.declared.operators.Sign.TheVariants.{Plus, Minus}
@@ -12,7 +12,6 @@ use Rattle.xq_expressions.specs.declared.operators.ComparisonOperator.{Compariso
 use Rattle.xq_expressions.specs.declared.operators.Quantifier.{Quantifier}
 use Rattle.xq_expressions.specs.declared.operators.NamedNode.{NamedNode}
 use Rattle.xq_expressions.specs.declared.operators.NamedNode.TheVariants as kind
-use Rattle.xq_expressions.specs.declared.operators.UnnamedNode.{UnnamedNode}
 use Rattle.xq_expressions.specs.declared.operators.UnnamedNode.TheVariants as unnamed
 use Rattle.xq_expressions.specs.declared.operators.OrderModifier.{OrderModifier}
 use Rattle.xq_expressions.specs.declared.operators.Direction.TheVariants as direction

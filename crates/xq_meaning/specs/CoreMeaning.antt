@@ -1,6 +1,7 @@
 -- What a normal form means, over names: one line a form.
-use Rattle.std.specs.Prelude.{List, [], ◌∷◌, map}
+use Rattle.std.specs.Prelude.{map}
 use Rattle.xq_meaning.specs.declared.normal_forms.Core.{Core, fold-Core}
+use Rattle.xq_meaning.specs.declared.normal_forms.CoreClause.{CoreClause, fold-CoreClause}
 use Rattle.xq_meaning.specs.declared.normal_forms.Core.TheOpen.{Core-F, CoreClause-F}
 use Rattle.xq_atoms.specs.Atom.{Integer, Decimal, String}
 use Rattle.xq_meaning.specs.Forms
@@ -33,7 +34,11 @@ core_form (Core-F.Named kind name part) = Forms.named_node kind name part
 core_form (Core-F.Unnamed kind part) = Forms.unnamed_node kind part
 core_form (Core-F.Flwor clauses part) = flwor clauses part
 core_form (Core-F.If part yes' no') = Forms.conditional part yes' no'
-core_form (Core-F.Quantified which bindings part) = Forms.quantified which (map (λ (v, range). (bind v, range)) bindings) part
+core_form (Core-F.Quantified which bindings part) =
+    Forms.quantified which (map (λ (v, range). (bind v, range)) bindings) part
 
 abbrev pub core_mean : Core → Meaning
 core_mean = fold-Core Meaning ClauseMeaning core_form core_clause
+
+abbrev pub core_clause_mean : CoreClause → ClauseMeaning
+core_clause_mean = fold-CoreClause Meaning ClauseMeaning core_form core_clause

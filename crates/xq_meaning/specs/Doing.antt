@@ -1,5 +1,5 @@
 -- Evaluation: over a list of trees that only grows, to a value or a code, and to the trees then.
-use Rattle.std.specs.Prelude.{List, [], ◌∷◌, ◌++◌, Bool, true, false, not, Result, Ok, Err}
+use Rattle.std.specs.Prelude.{List, [], ◌∷◌, ◌++◌, Bool, true, false, not, Ok, Err}
 use Rattle.xq_atoms.specs.declared.refusals.Code.{Code}
 use Rattle.xq_atoms.specs.Judged.{Judged}
 use Rattle.xq_regions.specs.Tree.{Tree}

@@ -1,5 +1,5 @@
--- What each form of expression means, from the meanings of its parts. An environment is of any type E: of names or of
--- slots. The sections are those of XQuery 3.1.
+-- What each form of expression means, from the meanings of its parts. An environment is of any type
+-- E: of names or of slots. The sections are those of XQuery 3.1.
 use Rattle.std.specs.Prelude.{ℕ, List, [], ◌∷◌, ◌++◌, map, length, Bool, true, false, Option, Some, None, Ok, if◌then◌else◌, slice_index_or}
 use Rattle.std.specs.List.{range_with_len, flat_map}
 use Rattle.std.specs.Prelude.{nat_eq}
@@ -20,6 +20,7 @@ use Rattle.xq_signatures.specs.declared.Function.{Function}
 use Rattle.xq_values.specs.declared.node_tests.Test.{Test}
 use Rattle.xq_values.specs.declared.node_tests.Test.TheVariants.{Any}
 use Rattle.xq_values.specs.declared.operators.Operator.{Operator}
+use Rattle.xq_atoms.specs.Judged.{Judged}
 use Rattle.xq_atoms.specs.Text.{Text}
 use Rattle.xq_atoms.specs.Atom.{Atomic}
 use Rattle.xq_regions.specs.Tree.{Tree}
@@ -32,7 +33,8 @@ use Rattle.xq_values.specs.Content.{name_of, named_tree, unnamed_tree}
 use Rattle.xq_values.specs.Steps.{focuses, context_item, context_node, axis_nodes, in_axis_order, document_root}
 use Rattle.xq_meaning.specs.Doing.{Doing, ◌>>=◌, give, judged, on_trees, in_turn, for_each, collected, first_that}
 
--- 2.1: the values of the variables, the focus, and the addresses of the documents, which are the first trees
+-- 2.1: the values of the variables, the focus, and the addresses of the documents, which are the
+-- first trees
 pub record Frame (E : Type 0) : Type 0 where
   pub env : E
   pub focus : Option Focus
@@ -62,7 +64,8 @@ is_greatest Least = false
 is_greatest Greatest = true
 
 abbrev pub rule_of : OrderModifier → OrderRule
-rule_of modifier = record { descending = is_descending modifier.direction; greatest = is_greatest modifier.empty }
+rule_of modifier =
+    record { descending = is_descending modifier.direction; greatest = is_greatest modifier.empty }
 
 -- from the keys of each tuple, those of each of so many specifications
 abbrev pub key_columns : {A : Type 0} → ℕ → List (List (List A)) → List (List (List A))
@@ -86,6 +89,9 @@ Binding E = (E → List Item → E) × Meaning E
 module _ {E : Type 0} where
   abbrev pub in_focus : Frame E → Focus → Frame E
   in_focus frame focus = record frame { focus = Some focus }
+
+  abbrev pub in_env : Frame E → E → Frame E
+  in_env frame env = record frame { env = env }
 
   -- 2.4.2: a value, atomized
   abbrev pub atoms_of : Meaning E → Frame E → Doing (List Atomic)
@@ -119,7 +125,8 @@ module _ {E : Type 0} where
   abbrev pub sequence : List (Meaning E) → Meaning E
   sequence parts frame = collected (λ part. part frame) parts
 
-  -- # 3.4 to 3.7: operators group to the left; each evaluates its right operand, and then judges both
+  -- # 3.4 to 3.7: operators, which group to the left. Each evaluates its right operand, and then
+  -- judges both
 
   abbrev pub next_operand : Frame E → List Item → Operator × Meaning E → Doing (List Item)
   next_operand frame xs (operator, part) = do
@@ -229,49 +236,67 @@ module _ {E : Type 0} where
 
   -- # 3.16: quantified expressions, up to the first value that decides
 
-  -- whether the test gives the wanted answer for some values of the variables, the later ones for each of the earlier ones
+  -- whether the test gives the wanted answer for some values of the variables, the later ones for
+  -- each of the earlier ones
   abbrev pub satisfied : Bool → List (Binding E) → Meaning E → Frame E → Doing Bool
   satisfied wanted [] test frame = tested test frame
   satisfied wanted ((bind, part) ∷ bindings) test frame = do
     xs ← part frame
-    first_that wanted (λ x. satisfied wanted bindings test (record frame { env = bind frame.env (x ∷ []) })) xs
+    first_that wanted (λ x. satisfied wanted bindings test (in_env frame (bind frame.env (x ∷
+        [])))) xs
 
   abbrev pub quantified : Quantifier → List (Binding E) → Meaning E → Meaning E
   quantified which bindings test frame = do
     answer ← satisfied (deciding which) bindings test frame
     give (boolean answer)
 
-  -- # 3.12: the clauses of a FLWOR expression, each for all tuples; `frame_at` is the frame of a tuple
+  -- # 3.12: the clauses of a FLWOR expression, each for all tuples; `frame_at` is the frame of a
+  -- tuple
 
   -- 3.12.2
-  abbrev pub for_tuples : Bool → Meaning E → (Tuple Item → Frame E) → List (Tuple Item) → Doing (List (Tuple Item))
+  abbrev pub for_tuples : Bool → Meaning E → (Tuple Item → Frame E) → List (Tuple Item) →
+      Doing (List (Tuple Item))
   for_tuples at part frame_at tuples = do
     lists ← for_each (λ t. part (frame_at t)) tuples
     give (expanded Atom at tuples lists)
 
   -- 3.12.3
-  abbrev pub let_tuples : Meaning E → (Tuple Item → Frame E) → List (Tuple Item) → Doing (List (Tuple Item))
+  abbrev pub let_tuples : Meaning E → (Tuple Item → Frame E) → List (Tuple Item) →
+      Doing (List (Tuple Item))
   let_tuples part frame_at tuples = do
     values ← for_each (λ t. part (frame_at t)) tuples
     give (bound tuples values)
 
   -- 3.12.5
-  abbrev pub where_tuples : Meaning E → (Tuple Item → Frame E) → List (Tuple Item) → Doing (List (Tuple Item))
+  abbrev pub where_tuples : Meaning E → (Tuple Item → Frame E) → List (Tuple Item) →
+      Doing (List (Tuple Item))
   where_tuples part frame_at tuples = do
     tests ← for_each (λ t. tested part (frame_at t)) tuples
     give (kept tuples tests)
 
+  abbrev pub rules_of : List (Meaning E × OrderModifier) → List OrderRule
+  rules_of specs = map (λ (part, modifier). rule_of modifier) specs
+
   -- 3.12.8: all keys of a tuple, tuple by tuple, are evaluated and atomized, and then judged
-  abbrev pub order_tuples : List (Meaning E × OrderModifier) → (Tuple Item → Frame E) → List (Tuple Item) → Doing (List (Tuple Item))
+  abbrev pub order_tuples : List (Meaning E × OrderModifier) → (Tuple Item → Frame E) →
+      List (Tuple Item) → Doing (List (Tuple Item))
   order_tuples specs frame_at tuples = do
     keys ← for_each (λ t. for_each (λ (part, modifier). atoms_of part (frame_at t)) specs) tuples
-    judged (ordered (map (λ (part, modifier). rule_of modifier) specs) tuples (key_columns (length specs) keys))
+    judged (ordered (rules_of specs) tuples (key_columns (length specs) keys))
 
   -- 3.12.9
   abbrev pub return_of : Meaning E → (Tuple Item → Frame E) → List (Tuple Item) → Doing (List Item)
   return_of part frame_at tuples = collected (λ t. part (frame_at t)) tuples
 
--- 3.12.7: by the values of these slots, atomized; one named twice counts once
+-- 3.12.7: by the values of these slots, atomized
+
+abbrev pub slot_values : List Tree → List (Tuple Item) → ℕ → List (List Atomic)
+slot_values trees tuples slot = map (λ t. atomized trees (value_at slot t)) tuples
+
+abbrev pub group_by_slots : List Tree → List ℕ → List (Tuple Item) → Judged (List (Tuple Item))
+group_by_slots trees slots tuples =
+    grouped Atom slots tuples (map (slot_values trees tuples) slots)
+
+-- a slot that is named twice counts once
 abbrev pub group_tuples : List ℕ → List (Tuple Item) → Doing (List (Tuple Item))
-group_tuples slots tuples =
-    on_trees (λ trees. grouped Atom (firsts nat_eq slots) tuples (map (λ slot. map (λ t. atomized trees (value_at slot t)) tuples) (firsts nat_eq slots)))
+group_tuples slots tuples = on_trees (λ trees. group_by_slots trees (firsts nat_eq slots) tuples)

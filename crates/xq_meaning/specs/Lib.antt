@@ -1,6 +1,6 @@
-pub mod Doing
 pub mod Forms
 pub mod Meaning
+pub mod Doing
 pub mod CoreMeaning
 pub mod PlanMeaning
 pub mod Same

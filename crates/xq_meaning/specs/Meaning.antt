@@ -1,4 +1,5 @@
--- What an expression means, as it is parsed: XQuery 3.1, over names. The tables stand at the end, one line a form.
+-- What an expression means, as it is parsed: XQuery 3.1, over names. The tables stand at the end,
+-- one line a form.
 use Rattle.std.proofs.Common.{suc}
 use Rattle.std.specs.Prelude.{ℕ, List, [], ◌∷◌, ◌++◌, map, length, Bool, true, false, Option, Some, None, Ok, Err, if◌then◌else◌}
 use Rattle.std.specs.List.{zip, flat_map}
@@ -16,6 +17,10 @@ use Rattle.xq_expressions.specs.declared.operators.AxisName.TheVariants as name
 use Rattle.xq_expressions.specs.declared.operators.NodeTest.{NodeTest}
 use Rattle.xq_expressions.specs.declared.operators.NodeTest.TheVariants as written
 use Rattle.xq_expressions.specs.declared.expressions.Expr.{Expr, fold-Expr}
+use Rattle.xq_expressions.specs.declared.expressions.ConstructorName.{ConstructorName, fold-ConstructorName}
+use Rattle.xq_expressions.specs.declared.expressions.Clause.{Clause, fold-Clause}
+use Rattle.xq_expressions.specs.declared.expressions.GroupSpec.{GroupSpec, fold-GroupSpec}
+use Rattle.xq_expressions.specs.declared.expressions.Step.{Step, fold-Step}
 use Rattle.xq_expressions.specs.declared.expressions.Clause.TheOpen.{Clause-F, ConstructorName-F, Expr-F, GroupSpec-F, Step-F}
 use Rattle.xq_regions.specs.declared.Axis.{Axis}
 use Rattle.xq_regions.specs.declared.Axis.TheVariants as axis
@@ -105,7 +110,8 @@ default_axis (written.Attribute wanted) = axis.Attributes
 default_axis node_test = axis.Child
 
 abbrev pub step_on : Axis → NodeTest → List Meaning → Meaning
-step_on direction node_test predicates = Forms.step direction (test_on direction node_test) predicates
+step_on direction node_test predicates =
+    Forms.step direction (test_on direction node_test) predicates
 
 abbrev pub axis_step : AxisStep → List Meaning → Meaning
 axis_step (step.Along axis_name node_test) = step_on (axis_of axis_name) node_test
@@ -126,7 +132,8 @@ later_parts steps = flat_map (λ (separator, part). after separator part) steps
 abbrev pub path_from : PathStart → Meaning → List (Separator × Meaning) → Meaning
 path_from Relative first steps = Forms.path first (later_parts steps)
 path_from Root first steps = Forms.path Forms.root (first ∷ later_parts steps)
-path_from RootAndBelow first steps = Forms.path Forms.root (Forms.self_and_below ∷ first ∷ later_parts steps)
+path_from RootAndBelow first steps =
+    Forms.path Forms.root (Forms.self_and_below ∷ first ∷ later_parts steps)
 
 -- # Calls: 3.1.5
 
@@ -141,7 +148,8 @@ abbrev pub call_of : Option Function → List Meaning → Meaning
 call_of None parts = unknown_function
 call_of (Some function) parts = call_if (admits (arity function) (length parts)) function parts
 
--- # FLWOR: 3.12. A stream has its tuples and the names of their slots; a later binding of a name hides an earlier one
+-- # FLWOR: 3.12. A stream has its tuples and the names of their slots; a later binding of a name
+-- hides an earlier one
 
 pub record Stream : Type 0 where
   pub names : List Text
@@ -173,13 +181,16 @@ is_asked (Some v) = true
 
 abbrev pub for_clause : Text → Option Text → Meaning → ClauseMeaning
 for_clause v at part frame s =
-    named (s.names ++ v ∷ position_name at) (Forms.for_tuples (is_asked at) part (at_tuple frame s.names) s.tuples)
+    let next = Forms.for_tuples (is_asked at) part (at_tuple frame s.names) s.tuples in
+    named (s.names ++ v ∷ position_name at) next
 
 abbrev pub let_clause : Text → Meaning → ClauseMeaning
-let_clause v part frame s = named (s.names ++ v ∷ []) (Forms.let_tuples part (at_tuple frame s.names) s.tuples)
+let_clause v part frame s =
+    named (s.names ++ v ∷ []) (Forms.let_tuples part (at_tuple frame s.names) s.tuples)
 
 abbrev pub where_clause : Meaning → ClauseMeaning
-where_clause part frame s = named s.names (Forms.where_tuples part (at_tuple frame s.names) s.tuples)
+where_clause part frame s =
+    named s.names (Forms.where_tuples part (at_tuple frame s.names) s.tuples)
 
 -- the last slot of that name, among those from number n on
 abbrev pub slot_from : ℕ → Option ℕ → List Text → Text → Option ℕ
@@ -199,7 +210,8 @@ group_clause vs frame s = do
   named s.names (Forms.group_tuples slots s.tuples)
 
 abbrev pub order_clause : List (Meaning × OrderModifier) → ClauseMeaning
-order_clause specs frame s = named s.names (Forms.order_tuples specs (at_tuple frame s.names) s.tuples)
+order_clause specs frame s =
+    named s.names (Forms.order_tuples specs (at_tuple frame s.names) s.tuples)
 
 abbrev pub next_clause : Frame → Stream → ClauseMeaning → Doing Stream
 next_clause frame s clause = clause frame s
@@ -219,23 +231,29 @@ abbrev pub GroupMeaning : Type 0
 GroupMeaning = Text × List ClauseMeaning
 
 abbrev pub group_by : List GroupMeaning → ClauseMeaning
-group_by specs = clauses (flat_map (λ (v, lets). lets) specs ++ group_clause (map (λ (v, lets). v) specs) ∷ [])
+group_by specs =
+    clauses (flat_map (λ (v, lets). lets) specs ++ group_clause (map (λ (v, lets). v) specs) ∷ [])
 
 -- # One line a form, with the meanings of its parts in their places
 
-abbrev pub clause_meaning : Clause-F ClauseMeaning Meaning Meaning GroupMeaning Meaning → ClauseMeaning
-clause_meaning (Clause-F.For bindings) = clauses (map (λ (v, at, part). for_clause v.local (local_name at) part) bindings)
-clause_meaning (Clause-F.Let bindings) = clauses (map (λ (v, part). let_clause v.local part) bindings)
+abbrev pub clause_meaning : Clause-F ClauseMeaning Meaning Meaning GroupMeaning Meaning →
+    ClauseMeaning
+clause_meaning (Clause-F.For bindings) =
+    clauses (map (λ (v, at, part). for_clause v.local (local_name at) part) bindings)
+clause_meaning (Clause-F.Let bindings) =
+    clauses (map (λ (v, part). let_clause v.local part) bindings)
 clause_meaning (Clause-F.Filter part) = where_clause part
 clause_meaning (Clause-F.Group specs) = group_by specs
 clause_meaning (Clause-F.Order specs) = order_clause specs
 
-abbrev pub group_meaning : GroupSpec-F ClauseMeaning Meaning Meaning GroupMeaning Meaning → GroupMeaning
+abbrev pub group_meaning : GroupSpec-F ClauseMeaning Meaning Meaning GroupMeaning Meaning →
+    GroupMeaning
 group_meaning (GroupSpec-F.«GroupSpec::Variable» v) = (v.local, [])
 group_meaning (GroupSpec-F.Assigned v part) = (v.local, let_clause v.local part ∷ [])
 
 -- a name that is written out is the name that a string gives
-abbrev pub name_meaning : ConstructorName-F ClauseMeaning Meaning Meaning GroupMeaning Meaning → Meaning
+abbrev pub name_meaning : ConstructorName-F ClauseMeaning Meaning Meaning GroupMeaning Meaning →
+    Meaning
 name_meaning (ConstructorName-F.Literal v) = Forms.literal (String v.local)
 name_meaning (ConstructorName-F.Computed part) = part
 
@@ -253,12 +271,16 @@ form_meaning (Expr-F.Call q parts) = call_of (function_named q.prefix q.local) p
 form_meaning (Expr-F.Sequence parts) = Forms.sequence parts
 form_meaning (Expr-F.Range left right) = Forms.chain left ((operator.Range, right) ∷ [])
 form_meaning (Expr-F.Union parts) = joined_by operator.Union parts
-form_meaning (Expr-F.SetOperation first rest) = Forms.chain first (map (λ (op, part). (operator.SetOperation op, part)) rest)
-form_meaning (Expr-F.Sum first rest) = Forms.chain first (map (λ (op, part). (operator.Sum op, part)) rest)
-form_meaning (Expr-F.Product first rest) = Forms.chain first (map (λ (op, part). (operator.Product op, part)) rest)
+form_meaning (Expr-F.SetOperation first rest) =
+    Forms.chain first (map (λ (op, part). (operator.SetOperation op, part)) rest)
+form_meaning (Expr-F.Sum first rest) =
+    Forms.chain first (map (λ (op, part). (operator.Sum op, part)) rest)
+form_meaning (Expr-F.Product first rest) =
+    Forms.chain first (map (λ (op, part). (operator.Product op, part)) rest)
 form_meaning (Expr-F.Unary signs part) = Forms.unary signs part
 form_meaning (Expr-F.Concat parts) = joined_by operator.Concat parts
-form_meaning (Expr-F.Comparison left op right) = Forms.chain left ((operator.Comparison op, right) ∷ [])
+form_meaning (Expr-F.Comparison left op right) =
+    Forms.chain left ((operator.Comparison op, right) ∷ [])
 form_meaning (Expr-F.Or parts) = Forms.or parts
 form_meaning (Expr-F.And parts) = Forms.and parts
 form_meaning Expr-F.Root = Forms.root
@@ -267,12 +289,39 @@ form_meaning (Expr-F.Named kind name_part part) = Forms.named_node kind name_par
 form_meaning (Expr-F.Unnamed kind part) = Forms.unnamed_node kind part
 form_meaning (Expr-F.Flwor parts part) = flwor parts part
 form_meaning (Expr-F.If part yes' no') = Forms.conditional part yes' no'
-form_meaning (Expr-F.Quantified which bindings part) = Forms.quantified which (map (λ (v, range). (bind v.local, range)) bindings) part
+form_meaning (Expr-F.Quantified which bindings part) =
+    Forms.quantified which (map (λ (v, range). (bind v.local, range)) bindings) part
 
 -- # The meaning of an expression in a frame
 
 abbrev pub mean : Expr → Meaning
-mean = fold-Expr ClauseMeaning Meaning Meaning GroupMeaning Meaning clause_meaning name_meaning form_meaning group_meaning step_meaning
+mean =
+    fold-Expr ClauseMeaning Meaning Meaning GroupMeaning Meaning clause_meaning name_meaning
+    form_meaning group_meaning step_meaning
+
+-- and of its parts
+
+abbrev pub name_mean : ConstructorName → Meaning
+name_mean =
+    fold-ConstructorName ClauseMeaning Meaning Meaning GroupMeaning Meaning clause_meaning
+    name_meaning form_meaning group_meaning step_meaning
+
+abbrev pub clause_mean : Clause → ClauseMeaning
+clause_mean =
+    fold-Clause ClauseMeaning Meaning Meaning GroupMeaning Meaning clause_meaning name_meaning
+    form_meaning group_meaning step_meaning
+
+abbrev pub group_mean : GroupSpec → GroupMeaning
+group_mean =
+    fold-GroupSpec ClauseMeaning Meaning Meaning GroupMeaning Meaning clause_meaning
+    name_meaning form_meaning group_meaning step_meaning
+
+abbrev pub step_mean : Step → Meaning
+step_mean =
+    fold-Step ClauseMeaning Meaning Meaning GroupMeaning Meaning clause_meaning name_meaning
+    form_meaning group_meaning step_meaning
+
+-- # A query
 
 abbrev pub no_variable : Environment
 no_variable = λ v. []

@@ -1,6 +1,8 @@
 -- What a plan means, over numbered slots: one line a form.
 use Rattle.std.specs.Prelude.{ℕ, List, [], ◌∷◌, ◌++◌, map}
 use Rattle.xq_meaning.specs.declared.plans.Plan.{Plan, fold-Plan}
+use Rattle.xq_meaning.specs.declared.plans.PlanClause.{PlanClause, fold-PlanClause}
+use Rattle.xq_meaning.specs.declared.plans.PlanStep.{PlanStep, fold-PlanStep}
 use Rattle.xq_meaning.specs.declared.plans.Plan.TheOpen.{Plan-F, PlanClause-F, PlanStep-F}
 use Rattle.xq_atoms.specs.Atom.{Integer, Decimal, String}
 use Rattle.xq_regions.specs.Tuples.{Tuple, value_at}
@@ -84,7 +86,14 @@ plan_form (Plan-F.Named kind name part) = Forms.named_node kind name part
 plan_form (Plan-F.Unnamed kind part) = Forms.unnamed_node kind part
 plan_form (Plan-F.Flwor clauses part) = flwor clauses part
 plan_form (Plan-F.If part yes' no') = Forms.conditional part yes' no'
-plan_form (Plan-F.Quantified which ranges part) = Forms.quantified which (map (λ range. (opened, range)) ranges) part
+plan_form (Plan-F.Quantified which ranges part) =
+    Forms.quantified which (map (λ range. (opened, range)) ranges) part
 
 abbrev pub plan_mean : Plan → Meaning
 plan_mean = fold-Plan Meaning ClauseMeaning StepMeaning plan_form plan_clause plan_step
+
+abbrev pub plan_clause_mean : PlanClause → ClauseMeaning
+plan_clause_mean = fold-PlanClause Meaning ClauseMeaning StepMeaning plan_form plan_clause plan_step
+
+abbrev pub plan_step_mean : PlanStep → StepMeaning
+plan_step_mean = fold-PlanStep Meaning ClauseMeaning StepMeaning plan_form plan_clause plan_step

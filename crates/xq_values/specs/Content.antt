@@ -1,6 +1,6 @@
 -- What constructors build: XQuery 3.1, 3.9.3.
 use Rattle.std.proofs.Common.{zero, suc}
-use Rattle.std.specs.Prelude.{ℕ, List, [], ◌∷◌, ◌++◌, map, Bool, true, false, not, ◌&&◌, ◌||◌, ◌==◌, nat_le, Option, Some, None, Ok, Err, codes, if◌then◌else◌}
+use Rattle.std.specs.Prelude.{ℕ, List, [], ◌∷◌, ◌++◌, map, Bool, true, false, not, ◌&&◌, ◌==◌, nat_le, Option, Some, None, Ok, Err, codes, if◌then◌else◌}
 use Rattle.std.specs.List.{list_any, before_first, after_first}
 use Rattle.std.specs.Str.{chars}
 use Rattle.xq_atoms.specs.declared.refusals.Code.{Code}
@@ -66,7 +66,8 @@ is_text other = false
 abbrev pub spaced : List Atomic → Text
 spaced values = joined (codes " ") (map text_of values)
 
--- First the items as nodes: a run of atomic values is one text; a node is copied with all below it, a document's children are
+-- First the items as nodes: a run of atomic values is one text; a node is copied with all below it,
+-- and of a document its children are
 
 abbrev pub run : List Atomic → Forest Label
 run [] = end
@@ -83,7 +84,8 @@ copied t = copied_as t.root.kind t
 abbrev pub flattened_after : List Tree → List Atomic → List Item → Forest Label
 flattened_after trees open_run [] = run open_run
 flattened_after trees open_run (Atom a ∷ xs) = flattened_after trees (open_run ++ a ∷ []) xs
-flattened_after trees open_run (Node p ∷ xs) = join (run open_run) (join (copied (tree_below trees p)) (flattened_after trees [] xs))
+flattened_after trees open_run (Node p ∷ xs) =
+    join (run open_run) (join (copied (tree_below trees p)) (flattened_after trees [] xs))
 
 abbrev pub flattened : List Tree → List Item → Forest Label
 flattened trees xs = flattened_after trees [] xs
@@ -112,7 +114,8 @@ in_front_unless false a below others = node a below others
 
 abbrev pub without_empty_texts : Forest Label → Forest Label
 without_empty_texts end = end
-without_empty_texts (node a below beside) = in_front_unless (is_empty_text a) a below (without_empty_texts beside)
+without_empty_texts (node a below beside) =
+    in_front_unless (is_empty_text a) a below (without_empty_texts beside)
 
 abbrev pub content : List Tree → List Item → Forest Label
 content trees xs = without_empty_texts (merged (flattened trees xs))
@@ -123,7 +126,8 @@ content trees xs = without_empty_texts (merged (flattened trees xs))
 abbrev pub attribute_fault : Kind → List Text → Bool → Text → Option Code
 attribute_fault kind.Document names late name = Some XPTY0004
 attribute_fault parent names true name = Some XQTY0024
-attribute_fault parent names false name = if list_any (text_eq name) names then Some XQDY0025 else None
+attribute_fault parent names false name =
+    if list_any (text_eq name) names then Some XQDY0025 else None
 
 abbrev pub or_else : Option Code → Option Code → Option Code
 or_else (Some code) other = Some code
@@ -133,7 +137,9 @@ abbrev pub first_fault : Kind → List Text → Bool → List Label → Option C
 first_fault parent names late [] = None
 first_fault parent names late (a ∷ labels) =
     if is_attribute a.kind
-    then or_else (attribute_fault parent names late a.name) (first_fault parent (a.name ∷ names) late labels)
+    then or_else
+    (attribute_fault parent names late a.name)
+    (first_fault parent (a.name ∷ names) late labels)
     else first_fault parent names true labels
 
 -- Last the limits: no level over 100, where the root has 0, and at most a million nodes
@@ -141,7 +147,8 @@ first_fault parent names late (a ∷ labels) =
 abbrev pub is_within_height : {A : Type 0} → ℕ → Forest A → Bool
 is_within_height n end = true
 is_within_height zero (node a below beside) = false
-is_within_height (suc n) (node a below beside) = is_within_height n below && is_within_height (suc n) beside
+is_within_height (suc n) (node a below beside) =
+    is_within_height n below && is_within_height (suc n) beside
 
 abbrev pub within_limits : Tree → Judged Tree
 within_limits t =
@@ -154,7 +161,9 @@ unless_fault (Some code) t = Err code
 unless_fault None t = within_limits t
 
 abbrev pub built : Label → Forest Label → Judged Tree
-built root below = unless_fault (first_fault root.kind [] false (tops below)) (record { root = root; below = below })
+built root below =
+    let whole : Tree = record { root = root; below = below } in
+    unless_fault (first_fault root.kind [] false (tops below)) whole
 
 abbrev pub element_tree : Text → List Tree → List Item → Judged Tree
 element_tree name trees xs = built (label kind.Element name []) (content trees xs)
@@ -173,20 +182,25 @@ attribute_tree name value = lone kind.Attribute name value
 abbrev pub text_tree : Text → Tree
 text_tree value = lone kind.Text [] value
 
+abbrev pub may_be_comment : Text → Bool
+may_be_comment value = not (holds (codes "--") value) && not (ends_with_dash value)
+
 abbrev pub comment_tree : Text → Judged Tree
-comment_tree value = only_if (not (holds (codes "--") value) && not (ends_with_dash value)) XQDY0072 (lone kind.Comment [] value)
+comment_tree value = only_if (may_be_comment value) XQDY0072 (lone kind.Comment [] value)
 
 -- without white space in front
 abbrev pub instruction_tree : Text → Text → Judged Tree
-instruction_tree name value =
-    only_if (not (holds (codes "?>") value)) XQDY0026 (lone kind.ProcessingInstruction name (after_leading is_space value))
+instruction_tree name value = do
+  good ← only_if (not (holds (codes "?>") value)) XQDY0026 value
+  Ok (lone kind.ProcessingInstruction name (after_leading is_space good))
 
 -- # The constructors, from a name that was judged and the value of the content
 
 abbrev pub named_tree : NamedNode → Text → List Tree → List Item → Judged Tree
 named_tree named.Element name trees xs = element_tree name trees xs
 named_tree named.Attribute name trees xs = Ok (attribute_tree name (spaced (atomized trees xs)))
-named_tree named.ProcessingInstruction name trees xs = instruction_tree name (spaced (atomized trees xs))
+named_tree named.ProcessingInstruction name trees xs =
+    instruction_tree name (spaced (atomized trees xs))
 
 -- no text for an empty content
 abbrev pub text_of_content : List Atomic → Option Tree

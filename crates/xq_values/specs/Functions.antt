@@ -1,5 +1,6 @@
 -- What the functions give, from the values of their arguments: F&O 3.1. They know no evaluation.
--- The tables by numbers of arguments stand at the end; before them each function that is more than a word.
+-- The tables by numbers of arguments stand at the end, and before them each function that is more
+-- than a word.
 use Rattle.std.proofs.Common.{suc}
 use Rattle.std.specs.Prelude.{ℕ, pos, List, [], ◌∷◌, map, length, reverse, Bool, true, false, not, ◌&&◌, ◌==◌, nat_lt, nat_le, Option, Some, None, Ok, Err, flat_map}
 use Rattle.std.specs.List.{list_all, range_with_len}
@@ -8,7 +9,7 @@ use Rattle.xq_atoms.specs.declared.refusals.Code.TheVariants.{XPST0017, XPDY0002
 use Rattle.xq_atoms.specs.Address.{is_address_byte}
 use Rattle.xq_atoms.specs.Judged.{Judged, ◌>>=◌, only_if}
 use Rattle.xq_atoms.specs.Text.{Text, text_eq}
-use Rattle.xq_atoms.specs.Atom.{Atomic, Integer, Decimal, String, Untyped}
+use Rattle.xq_atoms.specs.Atom.{Atomic, Integer, Decimal, Untyped}
 use Rattle.xq_atoms.specs.Arithmetic.{add, abs, floor, ceiling, round}
 use Rattle.xq_atoms.specs.Cast.{cast_integer, cast_decimal, cast_boolean, text_of}
 use Rattle.xq_atoms.specs.Compare.{key, key_eq, key_cmp, of_one_kind}
@@ -54,11 +55,14 @@ abbrev pub is_found : Judged (List Item) → Bool
 is_found (Ok xs) = true
 is_found (Err code) = false
 
+abbrev pub is_there : List Text → Text → Bool
+is_there addresses address = is_found (document addresses address)
+
 -- a bad address is no refusal
 abbrev pub doc_available : List Text → List Atomic → Judged (List Item)
 doc_available addresses as' = do
   a ← optional as'
-  if_given (boolean false) (λ b. do t ← text_argument b; Ok (boolean (is_found (document addresses t)))) a
+  if_given (boolean false) (λ b. do t ← text_argument b; Ok (boolean (is_there addresses t))) a
 
 abbrev pub collection : List Text → List Item
 collection addresses = map (λ n. Node (root_of n)) (range_with_len 0 (length addresses))
@@ -170,7 +174,7 @@ is_less a b = is_lt (key_cmp (key a) (key b))
 abbrev pub is_greater : Atomic → Atomic → Bool
 is_greater a b = is_gt (key_cmp (key a) (key b))
 
--- # All functions, by the number of their arguments. A call with another number has no meaning: XPST0017
+-- # All functions, by the number of their arguments; a call with another number is XPST0017
 
 abbrev pub of_one : Function → List Tree → List Text → List Item → Judged (List Item)
 of_one f.Doc trees addresses xs = doc addresses (atomized trees xs)
@@ -180,8 +184,10 @@ of_one f.Name trees addresses xs = name trees xs
 of_one f.LocalName trees addresses xs = name trees xs
 of_one f.String trees addresses xs = string trees xs
 of_one f.Data trees addresses xs = Ok (map Atom (atomized trees xs))
-of_one f.StringLength trees addresses xs = do t ← optional_text (atomized trees xs); Ok (whole (character_count t))
-of_one f.NormalizeSpace trees addresses xs = do t ← optional_text (atomized trees xs); Ok (text (normalized t))
+of_one f.StringLength trees addresses xs =
+    do t ← optional_text (atomized trees xs); Ok (whole (character_count t))
+of_one f.NormalizeSpace trees addresses xs =
+    do t ← optional_text (atomized trees xs); Ok (text (normalized t))
 of_one f.StringJoin trees addresses xs = Ok (text (flat_map text_of (atomized trees xs)))
 of_one f.Count trees addresses xs = Ok (whole (length xs))
 of_one f.Empty trees addresses xs = Ok (boolean (length xs == 0))
@@ -202,11 +208,15 @@ of_one f.Abs trees addresses xs = on_optional (λ a. as_items (abs a)) (atomized
 of_one f.Floor trees addresses xs = on_optional (λ a. as_items (floor a)) (atomized trees xs)
 of_one f.Ceiling trees addresses xs = on_optional (λ a. as_items (ceiling a)) (atomized trees xs)
 of_one f.Round trees addresses xs = on_optional (λ a. as_items (round a)) (atomized trees xs)
-of_one f.ToInteger trees addresses xs = on_optional (λ a. as_items (cast_integer a)) (atomized trees xs)
-of_one f.ToDecimal trees addresses xs = on_optional (λ a. as_items (cast_decimal a)) (atomized trees xs)
-of_one f.ToBoolean trees addresses xs = on_optional (λ a. as_items (cast_boolean a)) (atomized trees xs)
+of_one f.ToInteger trees addresses xs =
+    on_optional (λ a. as_items (cast_integer a)) (atomized trees xs)
+of_one f.ToDecimal trees addresses xs =
+    on_optional (λ a. as_items (cast_decimal a)) (atomized trees xs)
+of_one f.ToBoolean trees addresses xs =
+    on_optional (λ a. as_items (cast_boolean a)) (atomized trees xs)
 of_one f.ToString trees addresses xs = on_optional (λ a. Ok (text (text_of a))) (atomized trees xs)
-of_one f.ToUntyped trees addresses xs = on_optional (λ a. Ok (atomic (Untyped (text_of a)))) (atomized trees xs)
+of_one f.ToUntyped trees addresses xs =
+    on_optional (λ a. Ok (atomic (Untyped (text_of a)))) (atomized trees xs)
 of_one function trees addresses xs = Err XPST0017
 
 -- the argument that the context item stands for: of functions on strings, its text
@@ -245,22 +255,32 @@ of_two f.StartsWith as' bs = of_texts (λ s t. boolean (begins t s)) as' bs
 of_two f.EndsWith as' bs = of_texts (λ s t. boolean (ends t s)) as' bs
 of_two f.SubstringBefore as' bs = of_texts (λ s t. text (substring_before s t)) as' bs
 of_two f.SubstringAfter as' bs = of_texts (λ s t. text (substring_after s t)) as' bs
-of_two f.Substring as' bs = do t ← optional_text as'; n ← one_count bs; Ok (text (from_position n t))
+of_two f.Substring as' bs =
+    do t ← optional_text as'; n ← one_count bs; Ok (text (from_position n t))
 of_two function as' bs = Err XPST0017
 
 abbrev pub of_three : Function → List Atomic → List Atomic → List Atomic → Judged (List Item)
 of_three f.Concat as' bs cs = concat (as' ∷ bs ∷ cs ∷ [])
-of_three f.Substring as' bs cs = do t ← optional_text as'; n ← one_count bs; l ← one_count cs; Ok (text (between_positions n l t))
+of_three f.Substring as' bs cs = do
+  t ← optional_text as'
+  n ← one_count bs
+  l ← one_count cs
+  Ok (text (between_positions n l t))
 of_three function as' bs cs = Err XPST0017
 
 abbrev pub of_many : Function → List (List Atomic) → Judged (List Item)
 of_many f.Concat lists = concat lists
 of_many function lists = Err XPST0017
 
--- what a call gives from the values of its arguments, over these trees, of which the first are the documents
-abbrev pub called : Function → List Tree → List Text → Option Focus → List (List Item) → Judged (List Item)
+-- what a call gives from the values of its arguments, over these trees, of which the first are the
+-- documents
+abbrev pub called : Function → List Tree → List Text → Option Focus → List (List Item) →
+    Judged (List Item)
 called function trees addresses focus [] = of_none function trees addresses focus
 called function trees addresses focus (xs ∷ []) = of_one function trees addresses xs
-called function trees addresses focus (xs ∷ ys ∷ []) = of_two function (atomized trees xs) (atomized trees ys)
-called function trees addresses focus (xs ∷ ys ∷ zs ∷ []) = of_three function (atomized trees xs) (atomized trees ys) (atomized trees zs)
-called function trees addresses focus (w ∷ xs ∷ ys ∷ zs ∷ more) = of_many function (map (atomized trees) (w ∷ xs ∷ ys ∷ zs ∷ more))
+called function trees addresses focus (xs ∷ ys ∷ []) =
+    of_two function (atomized trees xs) (atomized trees ys)
+called function trees addresses focus (xs ∷ ys ∷ zs ∷ []) =
+    of_three function (atomized trees xs) (atomized trees ys) (atomized trees zs)
+called function trees addresses focus (w ∷ xs ∷ ys ∷ zs ∷ more) =
+    of_many function (map (atomized trees) (w ∷ xs ∷ ys ∷ zs ∷ more))

@@ -1,5 +1,5 @@
 -- Items (XDM 3.1, 2.1): atomic values, and nodes of a list of trees; and what nodes are worth.
-use Rattle.std.proofs.Common.{zero, suc}
+use Rattle.std.proofs.Common.{suc}
 use Rattle.std.specs.Prelude.{ℕ, List, [], ◌∷◌, ◌++◌, map, filter, Bool, ◌&&◌, ◌||◌, ◌==◌, nat_lt, slice_index_or}
 use Rattle.std.specs.List.{list_any}
 use Rattle.xq_atoms.specs.Atom.{Atomic, String, Untyped}
@@ -31,14 +31,19 @@ root_of tree = place tree (0 ∷ [])
 abbrev pub same_node : Place → Place → Bool
 same_node p q = p.tree == q.tree && is_same p.path q.path
 
+-- a path that is above the other one, or to its left
+abbrev pub comes_first : List ℕ → List ℕ → Bool
+comes_first v w = is_above v w || is_left_of v w
+
 -- trees stand by their numbers; in a tree, a node before what is below it and to its right
 abbrev pub is_before : Place → Place → Bool
-is_before p q = nat_lt p.tree q.tree || (p.tree == q.tree && (is_above p.path q.path || is_left_of p.path q.path))
+is_before p q = nat_lt p.tree q.tree || (p.tree == q.tree && comes_first p.path q.path)
 
 -- the paths of all nodes, a node before what is below it
 abbrev pub paths : {A : Type 0} → Forest A → List (List ℕ)
 paths end = []
-paths (node a below beside) = (0 ∷ []) ∷ map step_down (paths below) ++ map step_right (paths beside)
+paths (node a below beside) =
+    (0 ∷ []) ∷ map step_down (paths below) ++ map step_right (paths beside)
 
 -- all nodes of trees with numbers from n on, in document order
 abbrev pub places_from : ℕ → List Tree → List Place
@@ -61,8 +66,11 @@ no_tree = record { root = no_label; below = end }
 abbrev pub tree_at : List Tree → ℕ → Tree
 tree_at trees n = slice_index_or trees n no_tree
 
+abbrev pub nodes_at : List Tree → ℕ → Forest Label
+nodes_at trees n = nodes (tree_at trees n)
+
 abbrev pub label_at : List Tree → Place → Label
-label_at trees p = label_in no_label (nodes (tree_at trees p.tree)) p.path
+label_at trees p = label_in no_label (nodes_at trees p.tree) p.path
 
 -- the node with all that is below it
 abbrev pub tree_below : List Tree → Place → Tree

@@ -1,8 +1,8 @@
-pub mod Texts
-pub mod Items
-pub mod Print
-pub mod Arguments
 pub mod Functions
-pub mod Operators
 pub mod Content
+pub mod Operators
 pub mod Steps
+pub mod Arguments
+pub mod Items
+pub mod Texts
+pub mod Print

@@ -1,5 +1,5 @@
--- Operators on the values of their operands: XQuery 3.1, 3.4 to 3.7. Both operands are evaluated before; here the left
--- one is judged, and then the right one.
+-- Operators on the values of their operands: XQuery 3.1, 3.4 to 3.7. Both operands are evaluated
+-- before; here the left one is judged, and then the right one.
 use Rattle.std.proofs.Common.{zero, suc}
 use Rattle.std.specs.Prelude.{ℕ, ◌+◌, ℤ, pos, nat_abs, ◌+ℤ◌, ◌-ℤ◌, int_lt, List, [], ◌∷◌, ◌++◌, map, filter, Bool, true, false, not, nat_le, Ok, Err, if◌then◌else◌}
 use Rattle.std.specs.Ordering.{int_eq}
@@ -32,7 +32,8 @@ use Rattle.xq_values.specs.Arguments.{boolean, text, as_items, as_boolean, singl
 use Rattle.xq_values.specs.Functions.{piece}
 
 -- an empty operand gives (); else the left one is judged, and then the right one
-abbrev pub of_both : {A B : Type 0} → (List A → Judged B) → (B → B → Judged (List Item)) → List A → List A → Judged (List Item)
+abbrev pub of_both : {A B : Type 0} → (List A → Judged B) → (B → B → Judged (List Item)) → List A →
+    List A → Judged (List Item)
 of_both judge result [] ys = Ok []
 of_both judge result (x ∷ xs) [] = Ok []
 of_both judge result (x ∷ xs) (y ∷ ys) = do
@@ -47,8 +48,10 @@ number_operand as' = do
   a ← single as'
   numeric a
 
-abbrev pub calculated : (Atomic → Atomic → Judged Atomic) → List Tree → List Item → List Item → Judged (List Item)
-calculated op trees xs ys = of_both number_operand (λ a b. as_items (op a b)) (atomized trees xs) (atomized trees ys)
+abbrev pub calculated : (Atomic → Atomic → Judged Atomic) → List Tree → List Item → List Item →
+    Judged (List Item)
+calculated op trees xs ys =
+    of_both number_operand (λ a b. as_items (op a b)) (atomized trees xs) (atomized trees ys)
 
 abbrev pub sum_of : Sign → Atomic → Atomic → Judged Atomic
 sum_of Plus = add
@@ -131,7 +134,12 @@ related_by relation.LessEqual = comp.Le
 related_by relation.Greater = comp.Gt
 related_by relation.GreaterEqual = comp.Ge
 
--- 3.7.2: some pair compares; the first that does, or is refused, decides. Pairs go by the left value, and then by the right one
+-- 3.7.1
+abbrev pub by_value : CompOp → List Atomic → List Atomic → Judged (List Item)
+by_value op = of_both single (λ a b. as_boolean (compare_value op a b))
+
+-- 3.7.2: some pair compares; the first that does, or is refused, decides. Pairs go by the left
+-- value, and then by the right one
 
 abbrev pub or_rest : Bool → Judged Bool → Judged Bool
 or_rest true rest = Ok true
@@ -149,6 +157,9 @@ some_pair op (a ∷ as') bs = do
   answer ← some_with op a bs
   or_rest answer (some_pair op as' bs)
 
+abbrev pub by_pairs : CompOp → List Atomic → List Atomic → Judged (List Item)
+by_pairs op as' bs = as_boolean (some_pair op as' bs)
+
 -- 3.7.3: nodes
 
 abbrev pub one_node : List Item → Judged Place
@@ -160,18 +171,23 @@ stand Is p q = same_node p q
 stand Precedes p q = is_before p q
 stand Follows p q = is_before q p
 
+abbrev pub by_nodes : NodeComparison → List Item → List Item → Judged (List Item)
+by_nodes op = of_both one_node (λ p q. Ok (boolean (stand op p q)))
+
 abbrev pub compared : ComparisonOperator → List Tree → List Item → List Item → Judged (List Item)
 compared (comparing.Value op) trees xs ys =
-    of_both single (λ a b. as_boolean (compare_value (related_by op) a b)) (atomized trees xs) (atomized trees ys)
-compared (comparing.General op) trees xs ys = as_boolean (some_pair (related_by op) (atomized trees xs) (atomized trees ys))
-compared (comparing.Node op) trees xs ys = of_both one_node (λ p q. Ok (boolean (stand op p q))) xs ys
+    by_value (related_by op) (atomized trees xs) (atomized trees ys)
+compared (comparing.General op) trees xs ys =
+    by_pairs (related_by op) (atomized trees xs) (atomized trees ys)
+compared (comparing.Node op) trees xs ys = by_nodes op xs ys
 
 -- # 3.4.2: nodes put together, in document order, each once
 
 abbrev pub in_order : List Tree → List Place → List Item
 in_order trees places = map Node (in_document_order trees places)
 
-abbrev pub from_nodes : (List Place → List Place → List Place) → List Tree → List Item → List Item → Judged (List Item)
+abbrev pub from_nodes : (List Place → List Place → List Place) → List Tree → List Item → List Item →
+    Judged (List Item)
 from_nodes result trees xs ys = do
   ps ← all_nodes XPTY0004 xs
   qs ← all_nodes XPTY0004 ys
@@ -192,7 +208,8 @@ operated (operator.Comparison op) = compared op
 operated operator.Union = from_nodes (λ ps qs. ps ++ qs)
 operated (operator.SetOperation op) = from_nodes (set_of op)
 
--- # 3.3.1.1: what a path gives from what its last step gave for each item: nodes in document order, or atomic values
+-- # 3.3.1.1: what a path gives from what its last step gave for each item: nodes in document order,
+-- or atomic values
 
 abbrev pub are_atoms : List Item → Bool
 are_atoms [] = true

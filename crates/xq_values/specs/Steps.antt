@@ -10,9 +10,9 @@ use Rattle.xq_values.specs.declared.node_tests.Test.{Test}
 use Rattle.xq_values.specs.declared.node_tests.Test.TheVariants as test
 use Rattle.xq_atoms.specs.Judged.{Judged}
 use Rattle.xq_atoms.specs.Text.{Text, text_eq}
-use Rattle.xq_regions.specs.Tree.{Tree, nodes}
+use Rattle.xq_regions.specs.Tree.{Tree}
 use Rattle.xq_regions.specs.AxisTests.{on_axis}
-use Rattle.xq_values.specs.Items.{Place, place, Item, Node, Atom, root_of, paths, tree_at, label_at}
+use Rattle.xq_values.specs.Items.{Place, place, Item, Node, root_of, paths, nodes_at, label_at}
 use Rattle.xq_values.specs.Arguments.{node_or}
 use Rattle.xq_values.specs.Functions.{Focus}
 
@@ -20,7 +20,8 @@ use Rattle.xq_values.specs.Functions.{Focus}
 
 abbrev pub focuses_from : ℕ → ℕ → List Item → List Focus
 focuses_from position last [] = []
-focuses_from position last (x ∷ xs) = record { item = x; position = position; last = last } ∷ focuses_from (suc position) last xs
+focuses_from position last (x ∷ xs) =
+    record { item = x; position = position; last = last } ∷ focuses_from (suc position) last xs
 
 -- the items, each with its position, from 1, and the last
 abbrev pub focuses : List Item → List Focus
@@ -59,11 +60,13 @@ passes_at trees node_test p = passes node_test (label_at trees p).kind (label_at
 -- the nodes on the axis from this one, in document order
 abbrev pub on_axis_from : List Tree → Axis → Place → List Place
 on_axis_from trees direction p =
-    map (place p.tree) (filter (on_axis direction (nodes (tree_at trees p.tree)) p.path) (paths (nodes (tree_at trees p.tree))))
+    let below = nodes_at trees p.tree in
+    map (place p.tree) (filter (on_axis direction below p.path) (paths below))
 
 -- those of them that pass the test
 abbrev pub axis_nodes : List Tree → Axis → Test → Place → List Place
-axis_nodes trees direction node_test p = filter (passes_at trees node_test) (on_axis_from trees direction p)
+axis_nodes trees direction node_test p =
+    filter (passes_at trees node_test) (on_axis_from trees direction p)
 
 abbrev pub is_reverse : Axis → Bool
 is_reverse axis.Parent = true
@@ -84,4 +87,6 @@ is_document kind.Document = true
 is_document other = false
 
 abbrev pub document_root : List Tree → Place → Judged (List Item)
-document_root trees p = if is_document (label_at trees (root_of p.tree)).kind then Ok (Node (root_of p.tree) ∷ []) else Err XPDY0050
+document_root trees p =
+    if is_document (label_at trees (root_of p.tree)).kind then Ok (Node (root_of p.tree) ∷ [])
+    else Err XPDY0050

@@ -1,5 +1,5 @@
--- What functions do with texts: F&O 3.1, 5.4 and 5.5. Texts are UTF-8: characters are counted as code points, and a
--- text stands in another one by characters exactly where it does by bytes.
+-- What functions do with texts: F&O 3.1, 5.4 and 5.5. Texts are UTF-8: characters are counted as
+-- code points, and a text stands in another one by characters exactly where it does by bytes.
 use Rattle.std.proofs.Common.{suc}
 use Rattle.std.specs.Prelude.{ℕ, ℤ, pos, ◌+ℤ◌, int_le, int_lt, List, [], ◌∷◌, ◌++◌, length, drop, filter, Bool, true, false, not, ◌&&◌, nat_eq, codes, if◌then◌else◌}
 use Rattle.std.specs.List.{starts_with as starts_by}
@@ -74,7 +74,8 @@ before_first word (c ∷ cs) = if begins word (c ∷ cs) then [] else c ∷ befo
 -- 5.5.5, where the word is not empty
 abbrev pub after_first : Text → Text → Text
 after_first word [] = []
-after_first word (c ∷ cs) = if begins word (c ∷ cs) then drop (length word) (c ∷ cs) else after_first word cs
+after_first word (c ∷ cs) =
+    if begins word (c ∷ cs) then drop (length word) (c ∷ cs) else after_first word cs
 
 abbrev pub substring_before : Text → Text → Text
 substring_before t word = if holds word t then before_first word t else []
