@@ -16,3 +16,5 @@ mod MoreFunctionRows
 mod LimitRows
 mod CoreRows
 mod PlanRows
+mod LanguageRows
+mod MoreLanguageRows

@@ -1,16 +1,13 @@
 -- Documents for worked rows, and what a query is answered over them.
 use Prim.Native.String.{String}
-use Rattle.std.specs.Prelude.{List, [], ◌∷◌, None, Ok, Err, codes}
+use Rattle.std.specs.Prelude.{List, [], ◌∷◌, None, codes}
 use Rattle.xq_regions.specs.declared.Kind.TheVariants as kind
 use Rattle.xq_atoms.specs.Judged.{Judged}
 use Rattle.xq_atoms.specs.Text.{Text}
 use Rattle.xq_regions.specs.Forest.{Forest, end, node, join}
 use Rattle.xq_regions.specs.Tree.{Label, Tree}
-use Rattle.xq_values.specs.Items.{Item}
-use Rattle.xq_values.specs.Print.{print_items}
 use Rattle.xq_values.specs.Content.{label}
-use Rattle.xq_meaning.specs.Doing.{Outcome}
-use Rattle.xq_meaning.specs.Meaning.{Meaning, first_frame}
+use Rattle.xq_meaning.specs.Meaning.{Meaning, first_frame, answered}
 use Rattle.xq_meaning.specs.PlanMeaning
 use Rattle.xq_meaning.specs.Same.{frame_of}
 
@@ -47,14 +44,9 @@ book id title = el "book" (att "id" id ∷ tex title ∷ [])
 abbrev pub library : Tree
 library = tree (el "lib" (book "1" "A" ∷ book "2" "B" ∷ []) ∷ [])
 
--- the text of the reply, or the code
-abbrev pub printed : Outcome (List Item) → Judged Text
-printed (Ok xs, trees) = Ok (print_items trees xs)
-printed (Err code, trees) = Err code
-
 -- over the library at the address b
 abbrev pub answer : Meaning → Judged Text
-answer m = printed (m (first_frame (codes "b" ∷ [])) (library ∷ []))
+answer m = answered (m (first_frame (codes "b" ∷ [])) (library ∷ []))
 
 abbrev pub plan_answer : PlanMeaning.Meaning → Judged Text
-plan_answer m = printed (m (frame_of [] None (codes "b" ∷ [])) (library ∷ []))
+plan_answer m = answered (m (frame_of [] None (codes "b" ∷ [])) (library ∷ []))
