@@ -34,11 +34,13 @@ unfolding chars
 two_trees = refl
 
 -- (element a {}, 1 div 0): the tree stays where a code is the answer
-tree_beside_a_code : length (outcome (seq (element "a" none ∷ product (num 1) (div_by (num 0) ∷ []) ∷ []))).1 ≡ 2
+tree_beside_a_code : length (outcome (seq (element "a" none ∷ product (num 1) (div_by (num 0) ∷
+    []) ∷ []))).1 ≡ 2
 unfolding chars
 tree_beside_a_code = refl
 
-code_beside_a_tree : (outcome (seq (element "a" none ∷ product (num 1) (div_by (num 0) ∷ []) ∷ []))).0 ≡ Err FOAR0001
+code_beside_a_tree : (outcome (seq (element "a" none ∷ product (num 1) (div_by (num 0) ∷ []) ∷
+    []))).0 ≡ Err FOAR0001
 unfolding chars
 code_beside_a_tree = refl
 
@@ -58,10 +60,12 @@ level_101 = refl
 
 -- # Limits over a million can't be computed in a row: what they say of any tree and any text
 
-nodes_over_a_million : (t : Tree) → is_within_height 101 (nodes t) ≡ true → nat_le (count (nodes t)) 1000000 ≡ false → within_limits t ≡ Err ProfNodes
+nodes_over_a_million : (t : Tree) → is_within_height 101 (nodes t) ≡ true →
+    nat_le (count (nodes t)) 1000000 ≡ false → within_limits t ≡ Err ProfNodes
 nodes_over_a_million t low many = rw (low, many)
 
-a_million_nodes : (t : Tree) → is_within_height 101 (nodes t) ≡ true → nat_le (count (nodes t)) 1000000 ≡ true → within_limits t ≡ Ok t
+a_million_nodes : (t : Tree) → is_within_height 101 (nodes t) ≡ true →
+    nat_le (count (nodes t)) 1000000 ≡ true → within_limits t ≡ Ok t
 a_million_nodes t low few = rw (low, few)
 
 long_reply : (t : Text) → nat_le (length t) 16777216 ≡ false → within_reply t ≡ Err ProfReply

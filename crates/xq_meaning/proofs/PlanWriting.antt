@@ -1,4 +1,5 @@
--- Short words to write worked rows of plans with: each form, as its meaning from those of its parts.
+-- Short words to write worked rows of plans with: each form, as its meaning from those of its
+-- parts.
 use Prim.Native.String.{String}
 use Rattle.std.specs.Prelude.{ℕ, pos, true, false, List, codes}
 use Rattle.xq_expressions.specs.declared.operators.Sign.{Sign}

@@ -1,4 +1,5 @@
--- Short words to write worked rows with: each form of expression, as its meaning from those of its parts.
+-- Short words to write worked rows with: each form of expression, as its meaning from those of its
+-- parts.
 use Prim.Native.String.{String}
 use Rattle.std.specs.Prelude.{ℕ, pos, List, [], ◌∷◌, Option, Some, None, codes, encode_utf8_all}
 use Rattle.xq_expressions.specs.declared.names.QName.{QName}
@@ -184,10 +185,12 @@ up predicates = step_meaning (Step-F.Axis step.Parent predicates)
 -- # Constructors: by a name that is written out, or by an expression
 
 abbrev pub written_node : NamedNode → String → Meaning → Meaning
-written_node which s part = form_meaning (Expr-F.Named which (name_meaning (ConstructorName-F.Literal (bare s))) part)
+written_node which s part =
+    form_meaning (Expr-F.Named which (name_meaning (ConstructorName-F.Literal (bare s))) part)
 
 abbrev pub computed_node : NamedNode → Meaning → Meaning → Meaning
-computed_node which name part = form_meaning (Expr-F.Named which (name_meaning (ConstructorName-F.Computed name)) part)
+computed_node which name part =
+    form_meaning (Expr-F.Named which (name_meaning (ConstructorName-F.Computed name)) part)
 
 abbrev pub element : String → Meaning → Meaning
 element = written_node kind.Element
