@@ -2,9 +2,12 @@
 use Rattle.std.specs.Prelude.{◌≡◌, refl, [], ◌∷◌, Ok, Err, codes}
 use Rattle.std.specs.Fmt.{digits}
 use Rattle.std.specs.Str.{chars}
+use Rattle.std.specs.Char.{encode_utf8}
 use Rattle.xq_atoms.specs.declared.refusals.Code.TheVariants.{FOAR0001, ProfPrefix, XPTY0004, XQDY0025, XQDY0026, XQDY0041, XQDY0044, XQDY0064, XQDY0072, XQDY0074, XQTY0024}
+use Rattle.xq_expressions.specs.declared.operators.ComparisonOperator.TheVariants.{Node}
+use Rattle.xq_expressions.specs.declared.operators.NodeComparison.TheVariants.{Precedes}
 use Rattle.xq_expressions.specs.declared.operators.NodeTest.TheVariants as written
-use Rattle.xq_meaning.proofs.Writing.{num, dec, txt, var, seq, none, call, call_by, prefixed, product, path, primary, named, bare_step, at, element, element_by, attribute, attribute_by, instruction, instruction_by, document, text, comment, flwor, let_be, div_by, idiv_by, slash, below}
+use Rattle.xq_meaning.proofs.Writing.{num, dec, txt, txt8, var, seq, none, call, call_by, prefixed, product, compare, path, primary, named, bare_step, child, at_test, at, element, element_by, attribute, attribute_by, instruction, instruction_by, document, text, comment, flwor, let_be, utf8, div_by, idiv_by, slash, below}
 use Rattle.xq_meaning.proofs.Library.{answer}
 
 -- document {}, document {element a {}}, document {"a", comment {"b"}}
@@ -239,3 +242,54 @@ value_of_an_instruction : answer (seq (call "data" (instruction "p" (txt "b") �
     "\"b\", xs:untypedAtomic(\"t\"), xs:untypedAtomic(\"d\")")
 unfolding digits chars
 value_of_an_instruction = refl
+
+-- element {xs:untypedAtomic(" b ")} {}
+untyped_name_is_trimmed : answer (element_by (call_by (prefixed "xs" "untypedAtomic") (txt " b " ∷
+    [])) none) ≡ Ok (codes "element b {}")
+unfolding digits chars
+untyped_name_is_trimmed = refl
+
+-- element {"é"} {}, attribute {"日本"} {}, name(element {"é"} {})
+names_have_characters : answer (seq (element_by (txt8 "é") none ∷ attribute_by (txt8 "日本") none ∷
+    call "name" (element_by (txt8 "é") none ∷ []) ∷ [])) ≡ Ok (utf8
+    "element é {}, attribute 日本 {\"\"}, \"é\"")
+unfolding digits chars encode_utf8
+names_have_characters = refl
+
+-- comment {doc("b")//book}, attribute a {doc("b")//@id}, text {doc("b")//book},
+-- processing-instruction p {doc("b")//@id}
+values_of_nodes_in_content : answer (seq (comment (path (primary (call "doc" (txt "b" ∷ [])))
+    (below (child "book") ∷ [])) ∷ attribute "a" (path (primary (call "doc" (txt "b" ∷ []))) (below
+    (at "id") ∷ [])) ∷ text (path (primary (call "doc" (txt "b" ∷ []))) (below (child "book") ∷
+    [])) ∷ instruction "p" (path (primary (call "doc" (txt "b" ∷ []))) (below (at "id") ∷ [])) ∷
+    [])) ≡ Ok (codes
+    "comment {\"A B\"}, attribute a {\"1 2\"}, text {\"A B\"}, processing-instruction p {\"1 2\"}")
+unfolding digits chars
+values_of_nodes_in_content = refl
+
+-- let $e := element e {attribute b {1}, attribute a {2}} return ($e/@*, $e/@b << $e/@a)
+attributes_stand_as_built : answer (flwor (let_be "e" (element "e" (seq (attribute "b" (num 1) ∷
+    attribute "a" (num 2) ∷ []))) ∷ []) (seq (path (primary (var "e")) (slash (at_test
+    written.AnyName []) ∷ []) ∷ compare (Node Precedes) (path (primary (var "e")) (slash (at "b") ∷
+    [])) (path (primary (var "e")) (slash (at "a") ∷ [])) ∷ []))) ≡ Ok (codes
+    "attribute b {\"1\"}, attribute a {\"2\"}, true()")
+unfolding digits chars
+attributes_stand_as_built = refl
+
+-- let $e := element e {attribute a {1}, comment {"c"}, processing-instruction p {"q"}, text
+-- {"t"}} return element f {$e/@a, $e/node()}
+all_kinds_are_copied : answer (flwor (let_be "e" (element "e" (seq (attribute "a" (num 1) ∷ comment
+    (txt "c") ∷ instruction "p" (txt "q") ∷ text (txt "t") ∷ []))) ∷ []) (element "f" (seq (path
+    (primary (var "e")) (slash (at "a") ∷ []) ∷ path (primary (var "e")) (slash (bare_step
+    written.Node []) ∷ []) ∷ [])))) ≡ Ok (codes
+    "element f {attribute a {\"1\"}, comment {\"c\"}, processing-instruction p {\"q\"}, text {\"t\"}}")
+unfolding digits chars
+all_kinds_are_copied = refl
+
+-- root(attribute a {1}), root(text {"t"}), count(element a {element b {}}/b/root())
+root_of_a_lone_node : answer (seq (call "root" (attribute "a" (num 1) ∷ []) ∷ call "root" (text
+    (txt "t") ∷ []) ∷ call "count" (path (primary (element "a" (element "b" none))) (slash (child
+    "b") ∷ slash (primary (call "root" [])) ∷ []) ∷ []) ∷ [])) ≡ Ok (codes
+    "attribute a {\"1\"}, text {\"t\"}, 1")
+unfolding digits chars
+root_of_a_lone_node = refl

@@ -3,11 +3,11 @@ use Rattle.std.specs.Prelude.{◌≡◌, refl, [], ◌∷◌, Ok, Err, codes}
 use Rattle.std.specs.Fmt.{digits}
 use Rattle.std.specs.Str.{chars}
 use Rattle.xq_atoms.specs.declared.refusals.Code.TheVariants.{FOAR0001, FORG0006, XPTY0004}
-use Rattle.xq_expressions.specs.declared.operators.Relation.TheVariants.{Equal, LessEqual, Greater}
+use Rattle.xq_expressions.specs.declared.operators.Relation.TheVariants.{Equal, NotEqual, LessEqual, Greater}
 use Rattle.xq_expressions.specs.declared.operators.ComparisonOperator.TheVariants.{Value, General, Node}
 use Rattle.xq_expressions.specs.declared.operators.NodeComparison.TheVariants.{Precedes}
 use Rattle.xq_expressions.specs.declared.operators.Quantifier.TheVariants as quantifier
-use Rattle.xq_meaning.proofs.Writing.{num, dec, txt, var, dot, seq, none, call, call_by, prefixed, sum, product, to, compare, union, iff, quantified, path, primary, filtered, at, element, attribute, flwor, for_all, for_in, let_all, let_be, where_is, grouping, assigned, group_by, order_by, ascending, descending, empty_greatest, descending_greatest, plus, times, div_by, idiv_by, mod_by, slash, be, each, each_at, by}
+use Rattle.xq_meaning.proofs.Writing.{num, dec, txt, var, dot, seq, none, call, call_by, prefixed, sum, product, to, compare, union, iff, quantified, path, primary, filtered, named, bare_step, child, at, element, attribute, flwor, for_all, for_in, let_all, let_be, where_is, grouping, assigned, group_by, order_by, ascending, descending, empty_greatest, descending_greatest, plus, times, div_by, idiv_by, mod_by, slash, below, be, each, each_at, by}
 use Rattle.xq_meaning.proofs.Library.{answer}
 
 -- for $x in (1, 2) return $x * 10
@@ -401,3 +401,63 @@ quantifier_hides : answer (quantified quantifier.Some (be "x" (seq (num 1 ∷ nu
     "true()")
 unfolding digits chars
 quantifier_hides = refl
+
+-- for $b in (doc("b")//book, doc("b")//book[1]) group by $b return $b
+group_by_nodes : answer (flwor (for_in "b" (seq (path (primary (call "doc" (txt "b" ∷ []))) (below
+    (child "book") ∷ []) ∷ path (primary (call "doc" (txt "b" ∷ []))) (below (bare_step (named
+    "book") (num 1 ∷ [])) ∷ []) ∷ [])) ∷ group_by (grouping "b" ∷ []) ∷ []) (var "b")) ≡ Ok (codes
+    "\"A\", \"B\"")
+unfolding digits chars
+group_by_nodes = refl
+
+-- for $b in doc("b")//book order by $b descending return string($b/@id)
+order_by_nodes : answer (flwor (for_in "b" (path (primary (call "doc" (txt "b" ∷ []))) (below
+    (child "book") ∷ [])) ∷ order_by (by (var "b") descending ∷ []) ∷ []) (call "string" (path
+    (primary (var "b")) (slash (at "id") ∷ []) ∷ []))) ≡ Ok (codes "\"2\", \"1\"")
+unfolding digits chars
+order_by_nodes = refl
+
+-- doc("b")//book/(for $x in (1, 2) where $x = 2 return @id)
+focus_inside_flwor : answer (path (primary (call "doc" (txt "b" ∷ []))) (below (child "book") ∷
+    slash (primary (flwor (for_in "x" (seq (num 1 ∷ num 2 ∷ [])) ∷ where_is (compare (General
+    Equal) (var "x") (num 2)) ∷ []) (path (at "id") []))) ∷ [])) ≡ Ok (codes
+    "attribute id {\"1\"}, attribute id {\"2\"}")
+unfolding digits chars
+focus_inside_flwor = refl
+
+-- (1, 2)[some $x in . satisfies $x = 2]
+focus_inside_a_quantifier : answer (path (filtered (seq (num 1 ∷ num 2 ∷ [])) (quantified
+    quantifier.Some (be "x" dot ∷ []) (compare (General Equal) (var "x") (num 2)) ∷ [])) []) ≡ Ok
+    (codes "2")
+unfolding digits chars
+focus_inside_a_quantifier = refl
+
+-- for $x in ("", "a") group by $k := $x[. != ""] return (count($k), $x)
+group_key_of_nothing_and_string : answer (flwor (for_in "x" (seq (txt "" ∷ txt "a" ∷ [])) ∷
+    group_by (assigned "k" (path (filtered (var "x") (compare (General NotEqual) dot (txt "") ∷
+    [])) []) ∷ []) ∷ []) (seq (call "count" (var "k" ∷ []) ∷ var "x" ∷ []))) ≡ Ok (codes
+    "0, \"\", 1, \"a\"")
+unfolding digits chars
+group_key_of_nothing_and_string = refl
+
+-- for $x in (2, 1) order by $x[. = 2] descending empty greatest return $x
+order_empty_and_greatest_first : answer (flwor (for_in "x" (seq (num 2 ∷ num 1 ∷ [])) ∷ order_by
+    (by (path (filtered (var "x") (compare (General Equal) dot (num 2) ∷ [])) [])
+    descending_greatest ∷ []) ∷ []) (var "x")) ≡ Ok (codes "1, 2")
+unfolding digits chars
+order_empty_and_greatest_first = refl
+
+-- for $x in (1, 2, 1) group by $x let $y := $x + 1 return $y
+let_after_group : answer (flwor (for_in "x" (seq (num 1 ∷ num 2 ∷ num 1 ∷ [])) ∷ group_by (grouping
+    "x" ∷ []) ∷ let_be "y" (sum (var "x") (plus (num 1) ∷ [])) ∷ []) (var "y")) ≡ Ok (codes "2, 3")
+unfolding digits chars
+let_after_group = refl
+
+-- for $x in (1, 2, 3, 4) group by $k := $x mod 2 group by $j := count($x) return ($j, count($k),
+-- count($x))
+two_groups : answer (flwor (for_in "x" (seq (num 1 ∷ num 2 ∷ num 3 ∷ num 4 ∷ [])) ∷ group_by
+    (assigned "k" (product (var "x") (mod_by (num 2) ∷ [])) ∷ []) ∷ group_by (assigned "j" (call
+    "count" (var "x" ∷ [])) ∷ []) ∷ []) (seq (var "j" ∷ call "count" (var "k" ∷ []) ∷ call "count"
+    (var "x" ∷ []) ∷ []))) ≡ Ok (codes "2, 2, 4")
+unfolding digits chars
+two_groups = refl

@@ -3,7 +3,7 @@ use Rattle.std.specs.Prelude.{◌≡◌, refl, [], ◌∷◌, Ok, Err, codes}
 use Rattle.std.specs.Fmt.{digits}
 use Rattle.std.specs.Str.{chars}
 use Rattle.std.specs.Char.{encode_utf8}
-use Rattle.xq_atoms.specs.declared.refusals.Code.TheVariants.{FODC0005, ProfDouble, XPDY0002, XPTY0004}
+use Rattle.xq_atoms.specs.declared.refusals.Code.TheVariants.{FODC0002, FODC0005, ProfDouble, XPDY0002, XPTY0004}
 use Rattle.xq_expressions.specs.declared.operators.Sign.TheVariants.{Minus}
 use Rattle.xq_expressions.specs.declared.operators.Relation.TheVariants.{Equal}
 use Rattle.xq_expressions.specs.declared.operators.ComparisonOperator.TheVariants.{General, Node}
@@ -449,3 +449,29 @@ substring_after_two : answer (call "substring-after" (seq (txt "a" ∷ txt "b" �
     ≡ Err XPTY0004
 unfolding digits chars encode_utf8
 substring_after_two = refl
+
+-- doc("aaaaaaaaaaaaaaaaaaaaaaaaaaaaaaaaaaaaaaaaaaaaaaaaaaaaaaaaaaaaaaaaaaaaaaaaaaaaaaaaaaaaaaaaaaaaaaaaaaaaaaaaaaaaaaaaaaaaaaaaaaaaaaaaaaaaaaaaaaaaaaaaaaaaaaaaaaaaaaaaaaaaaaaaaaaaaaaaaaaaaaaaaaaaaaaaaaaaaaaa")
+address_of_200_bytes : answer (call "doc" (txt
+    "aaaaaaaaaaaaaaaaaaaaaaaaaaaaaaaaaaaaaaaaaaaaaaaaaaaaaaaaaaaaaaaaaaaaaaaaaaaaaaaaaaaaaaaaaaaaaaaaaaaaaaaaaaaaaaaaaaaaaaaaaaaaaaaaaaaaaaaaaaaaaaaaaaaaaaaaaaaaaaaaaaaaaaaaaaaaaaaaaaaaaaaaaaaaaaaaaaaaaaaa"
+    ∷ [])) ≡ Err FODC0002
+unfolding digits chars
+address_of_200_bytes = refl
+
+-- doc("aaaaaaaaaaaaaaaaaaaaaaaaaaaaaaaaaaaaaaaaaaaaaaaaaaaaaaaaaaaaaaaaaaaaaaaaaaaaaaaaaaaaaaaaaaaaaaaaaaaaaaaaaaaaaaaaaaaaaaaaaaaaaaaaaaaaaaaaaaaaaaaaaaaaaaaaaaaaaaaaaaaaaaaaaaaaaaaaaaaaaaaaaaaaaaaaaaaaaaaaa")
+address_of_201_bytes : answer (call "doc" (txt
+    "aaaaaaaaaaaaaaaaaaaaaaaaaaaaaaaaaaaaaaaaaaaaaaaaaaaaaaaaaaaaaaaaaaaaaaaaaaaaaaaaaaaaaaaaaaaaaaaaaaaaaaaaaaaaaaaaaaaaaaaaaaaaaaaaaaaaaaaaaaaaaaaaaaaaaaaaaaaaaaaaaaaaaaaaaaaaaaaaaaaaaaaaaaaaaaaaaaaaaaaaa"
+    ∷ [])) ≡ Err FODC0005
+unfolding digits chars
+address_of_201_bytes = refl
+
+-- doc-available("aZ09._/-"), doc("é")
+address_characters : answer (seq (call "doc-available" (txt "aZ09._/-" ∷ []) ∷ call "doc" (txt8 "é"
+    ∷ []) ∷ [])) ≡ Err FODC0005
+unfolding digits chars encode_utf8
+address_characters = refl
+
+-- doc-available(xs:untypedAtomic("b"))
+doc_available_of_untyped : answer (call "doc-available" (call_by (prefixed "xs" "untypedAtomic")
+    (txt "b" ∷ []) ∷ [])) ≡ Ok (codes "true()")
+unfolding digits chars
+doc_available_of_untyped = refl

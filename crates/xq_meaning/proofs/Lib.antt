@@ -19,3 +19,4 @@ mod CoreRows
 mod PlanRows
 mod LanguageRows
 mod MoreLanguageRows
+mod TwoDocumentRows

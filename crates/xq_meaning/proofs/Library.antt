@@ -48,5 +48,11 @@ library = tree (el "lib" (book "1" "A" ∷ book "2" "B" ∷ []) ∷ [])
 abbrev pub answer : Meaning → Judged Text
 answer m = answered (m (first_frame (codes "b" ∷ [])) (library ∷ []))
 
+-- over an empty document at the address a, and the library at the address b
+abbrev pub answer_of_two : Meaning → Judged Text
+answer_of_two m =
+    answered (m (first_frame (codes "a" ∷ codes "b" ∷ [])) (tree [] ∷ library ∷ []))
+
+-- of a plan, over the library
 abbrev pub plan_answer : PlanMeaning.Meaning → Judged Text
 plan_answer m = answered (m (frame_of [] None (codes "b" ∷ [])) (library ∷ []))

@@ -440,3 +440,34 @@ too_many_arguments = refl
 too_few_arguments : answer (call "concat" (txt "a" ∷ [])) ≡ Err XPST0017
 unfolding digits chars
 too_few_arguments = refl
+
+-- head(collection()) is doc("b"), tail(collection()), empty(tail((1, 2))), empty(head(()))
+collection_and_heads : answer (seq (compare (Node Is) (call "head" (call "collection" [] ∷ []))
+    (call "doc" (txt "b" ∷ [])) ∷ call "tail" (call "collection" [] ∷ []) ∷ call "empty" (call
+    "tail" (seq (num 1 ∷ num 2 ∷ []) ∷ []) ∷ []) ∷ call "empty" (call "head" (none ∷ []) ∷ []) ∷
+    [])) ≡ Ok (codes "true(), false(), true()")
+unfolding digits chars
+collection_and_heads = refl
+
+-- zero-or-one("a"), one-or-more(("a", "b", "c")), exactly-one((), ())
+bounds_of_counts : answer (seq (call "zero-or-one" (txt "a" ∷ []) ∷ call "one-or-more" (seq (txt
+    "a" ∷ txt "b" ∷ txt "c" ∷ []) ∷ []) ∷ call "exactly-one" (none ∷ none ∷ []) ∷ [])) ≡ Err
+    XPST0017
+unfolding digits chars
+bounds_of_counts = refl
+
+-- zero-or-one("a"), one-or-more("b"), exactly-one(doc("b")//book[1]/@id)
+one_of_each : answer (seq (call "zero-or-one" (txt "a" ∷ []) ∷ call "one-or-more" (txt "b" ∷ []) ∷
+    call "exactly-one" (path (primary (call "doc" (txt "b" ∷ []))) (below (bare_step (named "book")
+    (num 1 ∷ [])) ∷ slash (at "id") ∷ []) ∷ []) ∷ [])) ≡ Ok (codes
+    "\"a\", \"b\", attribute id {\"1\"}")
+unfolding digits chars
+one_of_each = refl
+
+-- min((1.0, 1)), max((1, 1.0)), min((2, 1, 1.0)), max(("a", "b", "a"))
+extremes_keep_the_first : answer (seq (call "min" (seq (dec 1000000 ∷ num 1 ∷ []) ∷ []) ∷ call
+    "max" (seq (num 1 ∷ dec 1000000 ∷ []) ∷ []) ∷ call "min" (seq (num 2 ∷ num 1 ∷ dec 1000000 ∷
+    []) ∷ []) ∷ call "max" (seq (txt "a" ∷ txt "b" ∷ txt "a" ∷ []) ∷ []) ∷ [])) ≡ Ok (codes
+    "1.0, 1, 1, \"b\"")
+unfolding digits chars
+extremes_keep_the_first = refl

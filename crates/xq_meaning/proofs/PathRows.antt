@@ -3,7 +3,7 @@ use Rattle.std.specs.Prelude.{◌≡◌, refl, [], ◌∷◌, Some, None, Ok, Er
 use Rattle.std.specs.Fmt.{digits}
 use Rattle.std.specs.Str.{chars}
 use Rattle.xq_atoms.specs.declared.refusals.Code.TheVariants.{FORG0006, XPDY0002, XPTY0019}
-use Rattle.xq_expressions.specs.declared.operators.Relation.TheVariants.{Equal}
+use Rattle.xq_expressions.specs.declared.operators.Relation.TheVariants.{Equal, Less}
 use Rattle.xq_expressions.specs.declared.operators.ComparisonOperator.TheVariants.{General}
 use Rattle.xq_expressions.specs.declared.operators.AxisName.TheVariants as axis
 use Rattle.xq_expressions.specs.declared.operators.NodeTest.TheVariants as written
@@ -309,3 +309,40 @@ predicate_on_nothing : answer (path (filtered none (product (num 1) (div_by (num
     []) ≡ Ok (codes "()")
 unfolding digits chars
 predicate_on_nothing = refl
+
+-- doc("b")//book/string(@id)/a
+atoms_in_the_middle : answer (path (primary (call "doc" (txt "b" ∷ []))) (below (child "book") ∷
+    slash (primary (call "string" (path (at "id") [] ∷ []))) ∷ slash (child "a") ∷ [])) ≡ Err
+    XPTY0019
+unfolding digits chars
+atoms_in_the_middle = refl
+
+-- (5, 6)[position() = last()], doc("b")//book[position() < last()]/@id
+position_is_last : answer (seq (path (filtered (seq (num 5 ∷ num 6 ∷ [])) (compare (General Equal)
+    (call "position" []) (call "last" []) ∷ [])) [] ∷ path (primary (call "doc" (txt "b" ∷ [])))
+    (below (bare_step (named "book") (compare (General Less) (call "position" []) (call "last" [])
+    ∷ [])) ∷ slash (at "id") ∷ []) ∷ [])) ≡ Ok (codes "6, attribute id {\"1\"}")
+unfolding digits chars
+position_is_last = refl
+
+-- let $a := attribute a {1} return (count($a/..), count($a/following::node()),
+-- count($a/preceding::node()), count($a/ancestor-or-self::node()))
+axes_of_a_lone_attribute : answer (flwor (let_be "a" (attribute "a" (num 1)) ∷ []) (seq (call
+    "count" (path (primary (var "a")) (slash (up []) ∷ []) ∷ []) ∷ call "count" (path (primary (var
+    "a")) (slash (along axis.Following written.Node []) ∷ []) ∷ []) ∷ call "count" (path (primary
+    (var "a")) (slash (along axis.Preceding written.Node []) ∷ []) ∷ []) ∷ call "count" (path
+    (primary (var "a")) (slash (along axis.AncestorOrSelf written.Node []) ∷ []) ∷ []) ∷ []))) ≡ Ok
+    (codes "0, 0, 0, 1")
+unfolding digits chars
+axes_of_a_lone_attribute = refl
+
+-- doc("b")//book[2]/ancestor-or-self::*[2]/name(),
+-- name(doc("b")//book[2]/text()/ancestor::*[last()])
+predicates_on_reverse_axes : answer (seq (path (primary (call "doc" (txt "b" ∷ []))) (below
+    (bare_step (named "book") (num 2 ∷ [])) ∷ slash (along axis.AncestorOrSelf written.AnyName (num
+    2 ∷ [])) ∷ slash (primary (call "name" [])) ∷ []) ∷ call "name" (path (primary (call "doc" (txt
+    "b" ∷ []))) (below (bare_step (named "book") (num 2 ∷ [])) ∷ slash (bare_step written.Text [])
+    ∷ slash (along axis.Ancestor written.AnyName (call "last" [] ∷ [])) ∷ []) ∷ []) ∷ [])) ≡ Ok
+    (codes "\"lib\", \"lib\"")
+unfolding digits chars
+predicates_on_reverse_axes = refl
