@@ -204,6 +204,18 @@ min_of_untyped : answer (call "min" (path (primary (call "doc" (txt "b" ∷ []))
 unfolding digits chars
 min_of_untyped = refl
 
+-- min(doc("b")//book[1]/@id)
+min_of_one_untyped : answer (call "min" (path (primary (call "doc" (txt "b" ∷ []))) (below
+    (bare_step (named "book") (num 1 ∷ [])) ∷ slash (at "id") ∷ []) ∷ [])) ≡ Err ProfDouble
+unfolding digits chars
+min_of_one_untyped = refl
+
+-- max(xs:untypedAtomic("1"))
+max_of_one_untyped : answer (call "max" (call_by (prefixed "xs" "untypedAtomic") (txt "1" ∷ []) ∷
+    [])) ≡ Err ProfDouble
+unfolding digits chars
+max_of_one_untyped = refl
+
 -- max((1, doc("b")//@id))
 max_of_untyped : answer (call "max" (seq (num 1 ∷ path (primary (call "doc" (txt "b" ∷ []))) (below
     (at "id") ∷ []) ∷ []) ∷ [])) ≡ Err ProfDouble

@@ -168,7 +168,7 @@ quoted : answer (txt "a\"&\r") ≡ Ok (codes "\"a\"\"&amp;&#xD;\"")
 unfolding digits chars
 quoted = refl
 
--- "a  b"
+-- "a\r\nb"
 line_ends : answer (txt "a\nb") ≡ Ok (codes "\"a\nb\"")
 unfolding digits chars
 line_ends = refl
