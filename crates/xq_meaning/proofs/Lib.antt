@@ -1,0 +1,22 @@
+pub mod Equations
+pub mod CoreEquations
+pub mod PlanEquations
+pub mod SameForms
+pub mod Writing
+pub mod CoreWriting
+pub mod PlanWriting
+pub mod Library
+mod WorkedRows
+mod RefusalRows
+mod OperatorRows
+mod PathRows
+mod ConstructorRows
+mod FlworRows
+mod FunctionRows
+mod MoreFunctionRows
+mod LimitRows
+mod CoreRows
+mod PlanRows
+mod LanguageRows
+mod MoreLanguageRows
+mod TwoDocumentRows

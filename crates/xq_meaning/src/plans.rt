@@ -1,0 +1,71 @@
+//! Plans: normal forms with numbered slots in place of names, and with scans.
+//!
+//! A place in a plan has the slots that are open there: first those outside, then, in a FLWOR, one
+//! for each binding of its clauses so far, two for a `for` with a position, and in a quantified
+//! expression one for each binding before. So a binding needs no number: it takes the next slot.
+
+use sqlite_items::{Boxed, Items};
+use xq_atoms::Decimal;
+use xq_expressions::{NamedNode, OrderModifier, Quantifier, Sign, Text, UnnamedNode};
+use xq_regions::Axis;
+use xq_signatures::Function;
+use xq_values::{Operator, Test};
+
+/// A plan.
+#[derive(Drop)]
+#[cycle(plan)]
+pub enum Plan {
+    Int(i64),
+    Dec(Decimal),
+    Str(Text),
+    /// The value of a slot, by its number from 0.
+    Slot(usize),
+    ContextItem,
+    /// A leading `/`.
+    Root,
+    Sequence(Items<Plan>),
+    /// The clauses, and what is returned.
+    Flwor(Items<PlanClause>, Boxed<Plan>),
+    /// What each variable ranges over, and what they satisfy.
+    Quantified(Quantifier, Items<Plan>, Boxed<Plan>),
+    /// The test, and the two branches.
+    If(Boxed<Plan>, Boxed<Plan>, Boxed<Plan>),
+    Or(Items<Plan>),
+    And(Items<Plan>),
+    /// The first operand, and the others with their operators.
+    Chain(Boxed<Plan>, Items<(Operator, Plan)>),
+    /// The signs, the outermost first.
+    Unary(Items<Sign>, Boxed<Plan>),
+    Path(Boxed<Plan>, Items<PlanStep>),
+    /// A step from the context item, and its predicates.
+    Step(Axis, Test, Items<Plan>),
+    /// A primary expression and its predicates.
+    Filter(Boxed<Plan>, Items<Plan>),
+    Call(Function, Items<Plan>),
+    /// The name and the content.
+    Named(NamedNode, Boxed<Plan>, Boxed<Plan>),
+    Unnamed(UnnamedNode, Boxed<Plan>),
+}
+
+/// A clause, from the tuples so far to others.
+#[derive(Drop)]
+#[cycle(plan)]
+pub enum PlanClause {
+    /// Whether a slot for the position follows that of the item, and what the item ranges over.
+    For(bool, Plan),
+    Let(Plan),
+    Where(Plan),
+    /// By slots of the tuples, numbered from 0 for the first binding of this FLWOR.
+    Group(Items<usize>),
+    Order(Items<(Plan, OrderModifier)>),
+}
+
+/// What follows a slash.
+#[derive(Drop)]
+#[cycle(plan)]
+pub enum PlanStep {
+    /// A part for each item.
+    Each(Plan),
+    /// The nodes on the axis from all nodes that pass the test, in document order.
+    Scan(Axis, Test),
+}
