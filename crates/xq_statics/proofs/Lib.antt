@@ -2,3 +2,4 @@ mod Equations
 mod Judging
 mod LastPlaces
 mod Lists
+mod WorkedRows

@@ -1,5 +1,5 @@
 //! The fault of one place: a name, a variable or a call.
-ghost use Rattle.xq_statics.specs.Places.{named, position as position_place, variable as variable_place, grouping as grouping_place, call as call_place};
+ghost use Rattle.xq_statics.specs.Places as place;
 ghost use Rattle.xq_statics.specs.Faults.{fault_at, first_fault, arity_fault};
 ghost use Rattle.xq_statics.specs.Gives.{Judges};
 ghost use Rattle.std.specs.Prelude.{drop};
@@ -12,7 +12,7 @@ use xq_signatures::Function;
 
 /// A name that is bound, tested, or given to a node.
 pub fn name(name: &QName) -> Result<(), Fault>
-    ensures { Judges result (fault_at (named name.now)) }
+    ensures { Judges result (fault_at (place.named name.now)) }
 {
     match name.prefix {
         Some(_) => Err(Fault::Code(Code::ProfPrefix)),
@@ -22,7 +22,7 @@ pub fn name(name: &QName) -> Result<(), Fault>
 
 /// The variable after `at`, beside that of its `for`.
 pub fn position(position: &QName, ranging: &QName) -> Result<(), Fault>
-    ensures { Judges result (fault_at (position_place position.now ranging.now)) }
+    ensures { Judges result (fault_at (place.position position.now ranging.now)) }
 {
     name(position)?;
     if position.local.as_str() == ranging.local.as_str() {
@@ -33,7 +33,7 @@ pub fn position(position: &QName, ranging: &QName) -> Result<(), Fault>
 
 /// A variable that is used.
 pub fn variable(scope: &Scope<'_>, variable: &QName) -> Result<(), Fault>
-    ensures { Judges result (fault_at (variable_place variable.now scope.now)) }
+    ensures { Judges result (fault_at (place.variable variable.now scope.now)) }
 {
     name(variable)?;
     if !scope.sees(variable.local.as_str()) {
@@ -44,7 +44,7 @@ pub fn variable(scope: &Scope<'_>, variable: &QName) -> Result<(), Fault>
 
 /// A grouping variable: its FLWOR has bound the variables from a place on.
 pub fn grouping(scope: &Scope<'_>, flwor: usize, variable: &QName) -> Result<(), Fault>
-    ensures { Judges result (fault_at (grouping_place variable.now (drop flwor scope.now))) }
+    ensures { Judges result (fault_at (place.grouping variable.now (drop flwor scope.now))) }
 {
     name(variable)?;
     if !scope.sees_from(flwor, variable.local.as_str()) {
@@ -65,7 +65,7 @@ fn arity(function: Option<Function>, arguments: usize) -> Result<(), Fault>
 
 /// The name of a call, with so many arguments.
 pub fn call(name: &QName, arguments: usize) -> Result<(), Fault>
-    ensures { Judges result (fault_at (call_place name.now arguments)) }
+    ensures { Judges result (fault_at (place.call name.now arguments)) }
 {
     let local = name.local.as_str();
     match name.prefix.as_ref().map(|prefix| prefix.as_str()) {
@@ -74,7 +74,7 @@ pub fn call(name: &QName, arguments: usize) -> Result<(), Fault>
             None => Err(Fault::Code(Code::ProfType)),
             function => arity(function, arguments),
         },
-        Some(_) => Err(Fault::Code(Code::ProfPrefix)),
+        _ => Err(Fault::Code(Code::ProfPrefix)),
     }
 }
 

@@ -1,5 +1,5 @@
 //! The variables in scope, in the order in which they were bound.
-ghost use Rattle.std.specs.Prelude.{◌≡◌, ◌≤◌, ◌-◌, ℕ, List, [], ◌∷◌, ◌++◌, length, take, drop, OnOk};
+ghost use Rattle.std.specs.Prelude.{◌≡◌, ◌-◌, [], ◌∷◌, ◌++◌, length, take, drop, OnOk};
 ghost use Rattle.xq_statics.specs.Faults.{is_among};
 
 use indexmap::IndexMap;
@@ -68,7 +68,7 @@ impl<'a> Scope<'a> {
         }
     }
 
-    /// Brings a variable into scope. It refuses only for want of memory, and then nothing has changed.
+    /// Brings a variable into scope. It refuses only for want of memory.
     pub fn bind(&mut self, name: &'a str) -> Result<(), AllocError>
         ensures { OnOk result (self.new ≡ self.old ++ name.now ∷ []) }
     {

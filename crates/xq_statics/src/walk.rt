@@ -69,10 +69,10 @@ pub fn expression<'a>(scope: &mut Scope<'a>, expr: &'a Expr) -> Result<(), Fault
             Ok(())
         }
         Expr::Quantified(_, bindings, part) => {
-            let start = scope.len();
+            let outer = scope.len();
             assignments(scope, bindings.as_slice())?;
             expression(scope, part.get())?;
-            scope.leave(start);
+            scope.leave(outer);
             Ok(())
         }
     }
@@ -271,8 +271,8 @@ fn range<'a>(
 #[cycle(walk)]
 fn group_specs<'a>(scope: &mut Scope<'a>, start: usize, specs: &'a [GroupSpec]) -> Result<(), Fault>
     requires { start ≤ length scope.old }
-    ensures judged { Judges result
-        (binding_fault (in_turn (map parts.group_spec specs.now)) scope.old (drop start scope.old)) }
+    ensures judged { Judges result (binding_fault
+        (in_turn (map parts.group_spec specs.now)) scope.old (drop start scope.old)) }
     ensures bound { OnOk result
         (scope.new ≡ scope.old ++ (in_turn (map parts.group_spec specs.now)).binds) }
 {
