@@ -13,10 +13,10 @@ import tempfile
 
 TOP = os.path.join(os.path.dirname(os.path.abspath(__file__)), "..")
 sys.path.insert(0, os.path.join(TOP, "tools"))
+from parse_corpus import CRATES as OF_PARSER
 from workspace import built
 
-CRATES = ("xq_atoms", "xq_lexer", "xq_expressions", "xq_signatures", "xq_grammar", "xq_words", "xq_phrases", "xq_operators",
-          "xq_clauses", "xq_parser", "xq_statics")
+CRATES = OF_PARSER + ("xq_signatures", "xq_statics")
 MEGABYTE = 1_000_000
 # The most that a time may grow where the length doubles.
 MOST = 2.3
