@@ -1,0 +1,113 @@
+"""Checks queries of up to a megabyte; prints times, and how they grow with the length.
+
+usage: statics.py [FOLDER]     builds bench/statics/main.rattle in the folder, unless an earlier call did
+
+A time is the least of five runs, of the checks alone. The queries are bindings and uses of ever new variables, of
+one variable that is bound again and again, of calls, and one FLWOR expression of up to 20,000 clauses of all kinds.
+"""
+
+import os
+import subprocess
+import sys
+import tempfile
+
+TOP = os.path.join(os.path.dirname(os.path.abspath(__file__)), "..")
+sys.path.insert(0, os.path.join(TOP, "tools"))
+from parse_corpus import CRATES as OF_PARSER
+from workspace import built
+
+CRATES = OF_PARSER + ("xq_signatures", "xq_statics")
+MEGABYTE = 1_000_000
+# The most that a time may grow where the length doubles.
+MOST = 2.3
+# Microseconds too few for a ratio.
+SHORT = 100
+
+
+def of_length(length, begin, part, end):
+    """A query of about that many bytes: its begin, parts by their numbers, and its end."""
+    parts, size, number = [begin], len(begin) + len(end), 0
+    while size < length:
+        parts.append(part(number))
+        size += len(parts[-1])
+        number += 1
+    return "".join(parts) + end
+
+
+def new_variables(length):
+    return of_length(length, "let $v0 := 1", lambda n: " let $v%d := ($v%d, $v%d)" % (n + 1, n, n // 2), " return $v0")
+
+
+def one_variable(length):
+    return of_length(length, "let $v := 1", lambda n: " let $v := $v + 1", " return $v")
+
+
+def nested_scopes(length):
+    return of_length(length, "1", lambda n: ", (for $v%d at $p in 1 to 3 return $v%d + $p)" % (n % 1000, n % 1000), "")
+
+
+def calls(length):
+    names = ("count(1)", "string-join(1, 2)", "concat(1, 2, 3)", "xs:integer(1)", "fn:round(1)")
+    return of_length(length, "1", lambda n: ", " + names[n % len(names)], "")
+
+
+def clauses(count):
+    kinds = ("let $v%d := $x", "for $v%d at $p in $x", "where $x", "group by $v%d := $x, $x", "order by $x, $x descending")
+    lines = [kinds[n % 5] % n if "%d" in kinds[n % 5] else kinds[n % 5] for n in range(count - 1)]
+    return "let $x := 1 " + " ".join(lines) + " return $x"
+
+
+QUERIES = (
+    ("ever new variables", MEGABYTE, new_variables),
+    ("one variable", MEGABYTE, one_variable),
+    ("many scopes", MEGABYTE, nested_scopes),
+    ("calls", MEGABYTE, calls),
+    ("clauses of a FLWOR", 20_000, clauses),
+)
+
+
+def program_in(folder):
+    """The program's path; it is built if it isn't there."""
+    path = os.path.join(folder, "crates", "program", "out", "program")
+    if os.path.exists(path):
+        return path
+    with open(os.path.join(TOP, "bench", "statics", "main.rattle")) as source:
+        return built(folder, CRATES, CRATES + ("sqlite_items",), source.read())
+
+
+def timed(program, text):
+    """The least time of five runs in microseconds."""
+    best = None
+    for _ in range(5):
+        words = subprocess.run([program], input=text.encode(), stdout=subprocess.PIPE, check=True).stdout.decode().split()
+        if words[0] != "passed":
+            sys.exit("%s, not passed" % words[0])
+        time = max(1, int(words[1]))
+        best = time if best is None else min(best, time)
+    return best
+
+
+def measure(program):
+    """Prints the times, and whether each doubling is within the bound."""
+    within = True
+    print("%-20s %10s %10s %8s" % ("query", "bytes", "ms", "ratio"))
+    for name, most, make in QUERIES:
+        before = None
+        for size in (most // 4, most // 2, most):
+            text = make(size)
+            time = timed(program, text)
+            ratio = time / before if before and before > SHORT else None
+            within = within and (ratio is None or ratio <= MOST)
+            print("%-20s %10d %10.2f %8s" % (name, len(text), time / 1000, "" if ratio is None else "%.2f" % ratio), flush=True)
+            before = time
+    print("each doubling at most %.1f times: %s" % (MOST, "yes" if within else "no"))
+    return 0 if within else 1
+
+
+def main():
+    with tempfile.TemporaryDirectory() as scratch:
+        return measure(program_in(sys.argv[1] if len(sys.argv) > 1 else scratch))
+
+
+if __name__ == "__main__":
+    sys.exit(main())

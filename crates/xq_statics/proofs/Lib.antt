@@ -1,0 +1,5 @@
+mod Equations
+mod Judging
+mod LastPlaces
+mod Lists
+mod WorkedRows

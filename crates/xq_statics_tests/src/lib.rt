@@ -1,0 +1,5 @@
+//! Which texts the static checks refuse, and with which code (XQuery 3.1, section 2.2.5).
+#![tactic(auto)]
+
+#[cfg(test)]
+mod rows;
