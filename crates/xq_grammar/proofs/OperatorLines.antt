@@ -4,7 +4,6 @@ use Rattle.std.specs.Prelude.{◌||◌}
 use Rattle.xq_lexer.specs.Lexeme.{Lex, name, prefixed, int, dec, str, symbol}
 use Rattle.xq_lexer.specs.declared.tokens.Symbol.TheVariants as s
 use Rattle.xq_expressions.specs.declared.operators.Sign.{Sign}
-use Rattle.xq_expressions.specs.declared.operators.PathStart.TheVariants as start
 use Rattle.xq_expressions.specs.declared.expressions.Expr.{Expr}
 use Rattle.xq_expressions.specs.declared.expressions.Expr.TheVariants as e
 use Rattle.xq_expressions.specs.declared.expressions.Step.{Step}

@@ -5,7 +5,6 @@ use Rattle.std.specs.Prelude.{not}
 use Rattle.xq_lexer.specs.declared.tokens.Symbol.TheVariants as s
 use Rattle.xq_expressions.specs.declared.expressions.Expr.{Expr}
 use Rattle.xq_expressions.specs.declared.expressions.Expr.TheVariants as e
-use Rattle.xq_expressions.specs.declared.operators.PathStart.TheVariants as start
 use Rattle.xq_grammar.specs.Look.{Tokens, lookup, begins_step}
 use Rattle.xq_grammar.specs.Rel.{Rel, empty, ◌&◌, ◌▹◌, ◌⟨$⟩◌, ◌∣◌, Many}
 use Rattle.xq_grammar.specs.Grammar as g

@@ -10,7 +10,6 @@ use Rattle.xq_expressions.specs.declared.operators.Relation.TheVariants as relat
 use Rattle.xq_expressions.specs.declared.operators.ComparisonOperator.TheVariants as comparison
 use Rattle.xq_expressions.specs.declared.operators.Sign.TheVariants as sign
 use Rattle.xq_expressions.specs.declared.operators.ProductOperator.TheVariants as product
-use Rattle.xq_expressions.specs.declared.operators.PathStart.TheVariants as start
 use Rattle.xq_expressions.specs.declared.operators.Separator.TheVariants as separator
 use Rattle.xq_expressions.specs.declared.operators.NodeTest.TheVariants as test
 use Rattle.xq_expressions.specs.declared.operators.AxisStep.TheVariants as along
