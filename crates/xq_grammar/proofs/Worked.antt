@@ -24,7 +24,7 @@ use Rattle.xq_expressions.specs.declared.expressions.ConstructorName.TheVariants
 use Rattle.xq_expressions.specs.declared.expressions.Step.{Step}
 use Rattle.xq_grammar.specs.Look.{Tokens, word, lookup, same, same_symbol}
 use Rattle.xq_grammar.specs.Grammar as g
-use Rattle.xq_grammar.specs.Reading as r
+use Rattle.xq_grammar.specs.private.Reading as r
 use Rattle.xq_grammar.proofs.Tokens.{none_some}
 use Rattle.xq_grammar.proofs.SoundLines.{query_sound}
 use Rattle.xq_grammar.proofs.Top.{query_reads}
