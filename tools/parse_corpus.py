@@ -10,7 +10,7 @@ import sys
 
 from lex_corpus import REPORTS, answers_of, rows_of
 
-CRATES = ("xq_atoms", "xq_lexer", "xq_expressions", "xq_grammar", "xq_words", "xq_phrases", "xq_operators", "xq_clauses", "xq_parser")
+CRATES = ("xq_atoms", "xq_lexer", "xq_expressions", "xq_grammar", "xq_parser")
 OF_TOKENS = "XQST0090"
 OF_GRAMMAR = "XPST0003"
 PROGRAM = """\

@@ -13,8 +13,8 @@ use Rattle.xq_expressions.specs.declared.expressions.Clause.{Clause}
 use Rattle.xq_grammar.specs.Look.{Tokens, lookup, same, word}
 use Rattle.xq_grammar.specs.Rel.{Rel, ◌&◌, ◌▹◌, ◌∣◌, Maybe}
 use Rattle.xq_grammar.specs.Grammar as g
-use Rattle.xq_grammar.specs.Reading.{Outcome, Parser, and_then, one_of, begins, found, is, expect, only, many, begins_brace, clause_words, begins_flwor, begins_quantified, begins_if}
-use Rattle.xq_grammar.specs.Reading as r
+use Rattle.xq_grammar.specs.private.Reading.{Outcome, Parser, and_then, one_of, begins, found, is, expect, only, many, begins_brace, clause_words, begins_flwor, begins_quantified, begins_if}
+use Rattle.xq_grammar.specs.private.Reading as r
 use Rattle.xq_grammar.proofs.Tokens.{every, every_found}
 use Rattle.xq_grammar.proofs.Moves.{AllMove, Deepens, one, token, plain, is_plain, move-many, move-maybe, move-▹}
 use Rattle.xq_grammar.proofs.LinesMove as m

@@ -7,7 +7,7 @@ use Rattle.xq_lexer.specs.Lexeme.{Lex, name, prefixed, int, dec, str, symbol}
 use Rattle.xq_lexer.specs.Nesting.{greatest}
 use Rattle.xq_grammar.specs.Look.{Tokens, Table, lookup, same, same_symbol}
 use Rattle.xq_grammar.specs.Rel.{Rel, empty, OneOf, ◌&◌, ◌▹◌, ◌◃◌, ◌⟨$⟩◌, ◌∣◌, Maybe, Many}
-use Rattle.xq_grammar.specs.Reading.{Outcome, Parser, one_of, begins, is, expect, pure, both, mapped, after, before, choose, maybe, many, many_from, begins_brace}
+use Rattle.xq_grammar.specs.private.Reading.{Outcome, Parser, one_of, begins, is, expect, pure, both, mapped, after, before, choose, maybe, many, many_from, begins_brace}
 use Rattle.xq_grammar.proofs.Tokens.{every}
 use Rattle.xq_grammar.proofs.Moves.{Under, Moves, AllMove, Opens, Deepens, then, one, token, plain, is_plain, greatest-at}
 use Rattle.xq_grammar.proofs.Rank.{rank, rank_of, has_rank, table_rank, rank-plain}

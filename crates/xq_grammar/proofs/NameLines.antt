@@ -11,8 +11,8 @@ use Rattle.xq_expressions.specs.declared.expressions.Expr.{Expr}
 use Rattle.xq_grammar.specs.Look.{Tokens, lookup, same, same_symbol, word, begins_step}
 use Rattle.xq_grammar.specs.Rel.{Rel, OneOf, ◌&◌, ◌▹◌, ◌◃◌, ◌⟨$⟩◌, Maybe}
 use Rattle.xq_grammar.specs.Grammar as g
-use Rattle.xq_grammar.specs.Reading.{Outcome, Parser, and_then, one_of, begins, is, expect, only, begins_nc, begins_name, begins_name_test, begins_axis, begins_primary, begins_literal, begins_call, begins_make, begins_flwor, begins_quantified, begins_if}
-use Rattle.xq_grammar.specs.Reading as r
+use Rattle.xq_grammar.specs.private.Reading.{Outcome, Parser, and_then, one_of, begins, is, expect, only, begins_nc, begins_name, begins_name_test, begins_axis, begins_primary, begins_literal, begins_call, begins_make, begins_flwor, begins_quantified, begins_if}
+use Rattle.xq_grammar.specs.private.Reading as r
 use Rattle.xq_grammar.proofs.Tokens.{every, every_found}
 use Rattle.xq_grammar.proofs.Rank.{rank, is_word, Plain, name_alone, prefixed_alone, prefixed_plain, kind_word, kind_begins}
 use Rattle.xq_grammar.proofs.Complete.{Reads, value_is, one_of_at, begins_at, only_at}

@@ -4,15 +4,14 @@ use Rattle.std.specs.Prelude.{◌||◌}
 use Rattle.xq_lexer.specs.Lexeme.{Lex, name, prefixed, int, dec, str, symbol}
 use Rattle.xq_lexer.specs.declared.tokens.Symbol.TheVariants as s
 use Rattle.xq_expressions.specs.declared.operators.Sign.{Sign}
-use Rattle.xq_expressions.specs.declared.operators.PathStart.TheVariants as start
 use Rattle.xq_expressions.specs.declared.expressions.Expr.{Expr}
 use Rattle.xq_expressions.specs.declared.expressions.Expr.TheVariants as e
 use Rattle.xq_expressions.specs.declared.expressions.Step.{Step}
 use Rattle.xq_grammar.specs.Look.{Tokens, Table, lookup, same, same_symbol, word, begins_step}
 use Rattle.xq_grammar.specs.Rel.{Rel, OneOf, ◌&◌, ◌▹◌, ◌⟨$⟩◌, ◌∣◌, Many}
 use Rattle.xq_grammar.specs.Grammar as g
-use Rattle.xq_grammar.specs.Reading.{Outcome, Parser, and_then, one_of, begins, is, expect, only, many, many_from, begins_primary, begins_lone, begins_flwor, begins_quantified, begins_if, begins_union}
-use Rattle.xq_grammar.specs.Reading as r
+use Rattle.xq_grammar.specs.private.Reading.{Outcome, Parser, and_then, one_of, begins, is, expect, only, many, many_from, begins_primary, begins_lone, begins_flwor, begins_quantified, begins_if, begins_union}
+use Rattle.xq_grammar.specs.private.Reading as r
 use Rattle.xq_grammar.proofs.Tokens.{every, every_found}
 use Rattle.xq_grammar.proofs.Moves.{AllMove, one, is_plain, move-one_of, move-∣, move-many}
 use Rattle.xq_grammar.proofs.LinesMove as m

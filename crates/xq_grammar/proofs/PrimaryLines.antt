@@ -11,8 +11,8 @@ use Rattle.xq_expressions.specs.declared.expressions.ConstructorName.TheVariants
 use Rattle.xq_grammar.specs.Look.{Tokens, lookup, same, same_symbol, word, begins_step}
 use Rattle.xq_grammar.specs.Rel.{Rel, OneOf, ◌&◌, ◌▹◌, ◌⟨$⟩◌}
 use Rattle.xq_grammar.specs.Grammar as g
-use Rattle.xq_grammar.specs.Reading.{Outcome, Parser, and_then, one_of, begins, found, is, expect, only, many, begins_nc, begins_name, begins_brace, begins_primary, begins_literal, begins_call, begins_make, makes, makers, name_makers, begins_flwor, begins_quantified, begins_if}
-use Rattle.xq_grammar.specs.Reading as r
+use Rattle.xq_grammar.specs.private.Reading.{Outcome, Parser, and_then, one_of, begins, found, is, expect, only, many, begins_nc, begins_name, begins_brace, begins_primary, begins_literal, begins_call, begins_make, makes, makers, name_makers, begins_flwor, begins_quantified, begins_if}
+use Rattle.xq_grammar.specs.private.Reading as r
 use Rattle.xq_grammar.proofs.Tokens.{every, every_found}
 use Rattle.xq_grammar.proofs.Moves.{AllMove, one}
 use Rattle.xq_grammar.proofs.LinesMove as m

@@ -10,7 +10,7 @@ use Rattle.xq_lexer.specs.declared.tokens.Symbol.{Symbol}
 use Rattle.xq_lexer.specs.declared.tokens.Symbol.TheVariants as s
 use Rattle.xq_grammar.specs.Look.{Tokens, Table, lookup, same, same_symbol, word, begins_step}
 use Rattle.xq_grammar.specs.Grammar as g
-use Rattle.xq_grammar.specs.Reading.{is, begins, found, begins_brace, begins_call, begins_make, begins_literal, begins_primary, begins_flwor, begins_quantified, begins_if, begins_axis, begins_name_test}
+use Rattle.xq_grammar.specs.private.Reading.{is, begins, found, begins_brace, begins_call, begins_make, begins_literal, begins_primary, begins_flwor, begins_quantified, begins_if, begins_axis, begins_name_test}
 use Rattle.xq_grammar.proofs.Tokens.{every, every_found, none_some}
 
 -- the words that may follow a phrase of the same level

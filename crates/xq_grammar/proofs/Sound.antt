@@ -3,7 +3,7 @@ use Rattle.std.proofs.Common.{◌≡◌, ℕ, zero, suc, Bool, [], ◌∷◌, le
 use Rattle.xq_lexer.specs.Lexeme.{Lex}
 use Rattle.xq_grammar.specs.Look.{Tokens, Table, lookup}
 use Rattle.xq_grammar.specs.Rel.{Rel, empty, Is, OneOf, ◌&◌, ◌▹◌, ◌◃◌, ◌⟨$⟩◌, ◌∣◌, Maybe, Many}
-use Rattle.xq_grammar.specs.Reading.{Outcome, Parser, and_then, one_of, expect, only, with_rest, pure, both, mapped, after, before, choose, maybe, many, many_from}
+use Rattle.xq_grammar.specs.private.Reading.{Outcome, Parser, and_then, one_of, expect, only, with_rest, pure, both, mapped, after, before, choose, maybe, many, many_from}
 use Rattle.xq_grammar.proofs.Tokens.{chosen, some_is, none_some, only_gives}
 
 abbrev pub IsSound : {A : Type 0} → Rel A → Parser A → Type 0

@@ -5,12 +5,11 @@ use Rattle.std.specs.Prelude.{not}
 use Rattle.xq_lexer.specs.declared.tokens.Symbol.TheVariants as s
 use Rattle.xq_expressions.specs.declared.expressions.Expr.{Expr}
 use Rattle.xq_expressions.specs.declared.expressions.Expr.TheVariants as e
-use Rattle.xq_expressions.specs.declared.operators.PathStart.TheVariants as start
 use Rattle.xq_grammar.specs.Look.{Tokens, lookup, begins_step}
 use Rattle.xq_grammar.specs.Rel.{Rel, empty, ◌&◌, ◌▹◌, ◌⟨$⟩◌, ◌∣◌, Many}
 use Rattle.xq_grammar.specs.Grammar as g
-use Rattle.xq_grammar.specs.Reading.{Outcome, Parser, found, begins_lone, one_of, only}
-use Rattle.xq_grammar.specs.Reading as r
+use Rattle.xq_grammar.specs.private.Reading.{Outcome, Parser, found, begins_lone, one_of, only}
+use Rattle.xq_grammar.specs.private.Reading as r
 use Rattle.xq_grammar.proofs.Tokens.{chosen, some_is, none_some}
 use Rattle.xq_grammar.proofs.Sound.{IsSound, at_end, sound-one_of, sound-is, sound-pure, sound-both, sound-mapped, sound-after, sound-before, sound-choose, sound-other, sound-maybe, sound-many}
 

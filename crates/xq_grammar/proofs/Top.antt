@@ -4,7 +4,7 @@ use Rattle.xq_lexer.specs.Nesting.{nesting}
 use Rattle.xq_expressions.specs.declared.expressions.Expr.{Expr}
 use Rattle.xq_grammar.specs.Look.{Tokens}
 use Rattle.xq_grammar.specs.Grammar as g
-use Rattle.xq_grammar.specs.Reading as r
+use Rattle.xq_grammar.specs.private.Reading as r
 use Rattle.xq_grammar.proofs.Tokens.{some_is}
 use Rattle.xq_grammar.proofs.Moves.{AllMove}
 use Rattle.xq_grammar.proofs.LinesMove as m

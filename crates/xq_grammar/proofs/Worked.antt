@@ -10,7 +10,6 @@ use Rattle.xq_expressions.specs.declared.operators.Relation.TheVariants as relat
 use Rattle.xq_expressions.specs.declared.operators.ComparisonOperator.TheVariants as comparison
 use Rattle.xq_expressions.specs.declared.operators.Sign.TheVariants as sign
 use Rattle.xq_expressions.specs.declared.operators.ProductOperator.TheVariants as product
-use Rattle.xq_expressions.specs.declared.operators.PathStart.TheVariants as start
 use Rattle.xq_expressions.specs.declared.operators.Separator.TheVariants as separator
 use Rattle.xq_expressions.specs.declared.operators.NodeTest.TheVariants as test
 use Rattle.xq_expressions.specs.declared.operators.AxisStep.TheVariants as along
@@ -25,7 +24,7 @@ use Rattle.xq_expressions.specs.declared.expressions.ConstructorName.TheVariants
 use Rattle.xq_expressions.specs.declared.expressions.Step.{Step}
 use Rattle.xq_grammar.specs.Look.{Tokens, word, lookup, same, same_symbol}
 use Rattle.xq_grammar.specs.Grammar as g
-use Rattle.xq_grammar.specs.Reading as r
+use Rattle.xq_grammar.specs.private.Reading as r
 use Rattle.xq_grammar.proofs.Tokens.{none_some}
 use Rattle.xq_grammar.proofs.SoundLines.{query_sound}
 use Rattle.xq_grammar.proofs.Top.{query_reads}

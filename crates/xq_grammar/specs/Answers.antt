@@ -1,4 +1,5 @@
--- When tokens are refused, and why.
+-- When tokens are refused, and why: XPST0003 where they derive no expression (XQuery 3.1, appendix F), `prof:DEPTH` where
+-- they nest too deep for this profile.
 use Rattle.std.specs.Prelude.{◌≤◌, ◌<◌, Result, Ok, Err}
 use Rattle.xq_atoms.specs.declared.refusals.Fault.{Fault}
 use Rattle.xq_atoms.specs.declared.refusals.Fault.TheVariants.{Code as OfCode, Want as OfWant}
@@ -17,6 +18,7 @@ IsRefusal (OfCode ProfDepth) ts = 128 < nesting ts
 IsRefusal (OfCode XPST0003) ts = (nesting ts ≤ 128) × ((e : Expr) → Derives ts e → ⊥)
 IsRefusal (OfCode _) ts = ⊥
 
+-- an answer of the parser, which may be any expression as far as this goes
 abbrev pub Refuses : Result Expr Fault → Tokens → Type 0
 Refuses (Ok e) ts = Unit {0}
 Refuses (Err fault) ts = IsRefusal fault ts

@@ -1,6 +1,5 @@
 pub mod Look
 pub mod Rel
 pub mod Grammar
-pub mod Reading
-pub mod Gives
 pub mod Answers
+pub mod private

@@ -1,9 +1,10 @@
--- How the lines of a grammar are written: each line relates the tokens before a phrase, what the phrase
--- stands for, and the tokens after it.
+-- How the lines of a grammar are written (the notation of XQuery 3.1, appendix A.1.1): each line relates the tokens
+-- before a phrase, what the phrase stands for, and the tokens after it.
 use Rattle.std.specs.Prelude.{◌≡◌, List, [], ◌∷◌, ◌⊎◌, Option, Some, None}
 use Rattle.xq_lexer.specs.Lexeme.{Lex}
 use Rattle.xq_grammar.specs.Look.{Tokens, Table, lookup}
 
+-- phrases that stand for values of the type
 abbrev pub Rel : Type 0 → Type 1
 Rel A = Tokens → A → Tokens → Type 0
 

@@ -9,8 +9,8 @@ use Rattle.xq_lexer.specs.Nesting.{nesting}
 use Rattle.xq_expressions.specs.declared.expressions.Expr.{Expr}
 use Rattle.xq_grammar.specs.Look.{Tokens}
 use Rattle.xq_grammar.specs.Grammar.{Derives}
-use Rattle.xq_grammar.specs.Reading.{query}
-use Rattle.xq_grammar.specs.Gives.{Gives}
+use Rattle.xq_grammar.specs.private.Reading.{query}
+use Rattle.xq_grammar.specs.private.Gives.{Gives}
 use Rattle.xq_grammar.specs.Answers.{Refuses}
 use Rattle.xq_grammar.proofs.Tokens.{none_some}
 use Rattle.xq_grammar.proofs.SoundLines.{query_sound}

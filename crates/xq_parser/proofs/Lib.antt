@@ -1,1 +1,4 @@
 pub mod Answering
+pub mod Choice
+pub mod Loops
+pub mod Steps

@@ -4,19 +4,17 @@ ghost use Rattle.xq_lexer.specs.Lexeme.{lexemes};
 ghost use Rattle.xq_lexer.specs.Nesting.{nesting as nesting_of};
 ghost use Rattle.xq_expressions.specs.declared.expressions.Expr.{Expr as Expr_};
 ghost use Rattle.xq_grammar.specs.Grammar.{Derives};
-ghost use Rattle.xq_grammar.specs.Reading as spec;
-ghost use Rattle.xq_grammar.specs.Gives.{Gives, Nests, Parses};
+ghost use Rattle.xq_grammar.specs.private.Reading as spec;
+ghost use Rattle.xq_grammar.specs.private.Gives.{Gives, Nests, Parses};
 ghost use Rattle.xq_grammar.specs.Answers.{Refuses};
 
+use crate::lookahead::{begins_flwor, begins_if, begins_quantified};
+use crate::primaries::Grammar;
 use sqlite_items::Boxed;
 use std::alloc::Global;
 use xq_atoms::{Code, Fault};
-use xq_clauses::Clauses;
 use xq_expressions::Expr;
 use xq_lexer::{Token, nesting};
-use xq_operators::Operators;
-use xq_phrases::grammar::Grammar;
-use xq_words::look::{begins_flwor, begins_if, begins_quantified};
 
 /// The deepest nesting of an expression.
 const MAX_NESTING: u32 = 128;
@@ -25,7 +23,7 @@ const MAX_NESTING: u32 = 128;
 const MAX_DEPTH: usize = 129;
 
 /// A single expression, over what reads singles that nest deeper.
-#[tactic(auto, unfolding(xq_grammar::specs::Reading::any))]
+#[tactic(auto, unfolding(xq_grammar::specs::private::Reading::any))]
 fn any<'a, F: Fn(Global, usize, &'a [Token]) -> Result<(Boxed<Expr>, &'a [Token]), Fault> + Copy>(
     grammar: Grammar<F>,
     tokens: &'a [Token],
@@ -34,13 +32,13 @@ fn any<'a, F: Fn(Global, usize, &'a [Token]) -> Result<(Boxed<Expr>, &'a [Token]
     ensures { Parses result (spec.any (spec.single grammar.depth) (lexemes tokens.now)) }
 {
     if begins_flwor(tokens) {
-        Clauses { grammar }.flwor(tokens)
+        grammar.flwor(tokens)
     } else if begins_quantified(tokens) {
-        Clauses { grammar }.quantified(tokens)
+        grammar.quantified(tokens)
     } else if begins_if(tokens) {
-        Clauses { grammar }.conditional(tokens)
+        grammar.conditional(tokens)
     } else {
-        Operators { grammar }.disjunction(tokens)
+        grammar.disjunction(tokens)
     }
 }
 
@@ -64,7 +62,7 @@ fn single<'a>(
 }
 
 /// A whole expression that the tokens end with.
-#[tactic(auto, unfolding(xq_grammar::specs::Reading::query))]
+#[tactic(auto, unfolding(xq_grammar::specs::private::Reading::query))]
 fn query(alloc: Global, tokens: &[Token]) -> Result<Expr, Fault>
     ensures { Gives (λ x. x) result (spec.query 129 (lexemes tokens.now)) }
 {

@@ -1,8 +1,0 @@
-use Rattle.std.proofs.Common.{length}
-use Rattle.xq_lexer.specs.Lexeme.{lexemes}
-use Rattle.xq_grammar.specs.Reading as spec
-use Rattle.xq_phrases.proofs.Loops.{Kept}
-use Rattle.xq_operators.proofs.operators.Operators.union_items.Given as goal
-
-abbrev pub invariant-loop-turn : goal.invariant-loop-turn
-invariant-loop-turn g l = Kept spec.begins_union (spec.union_item (spec.single l.self.grammar.depth)) l.found (length l.tokens) l._turn (lexemes l.rest) (lexemes l.tokens)

@@ -1,0 +1,418 @@
+//! Operators, from signs to disjunctions (XQuery 3.1, sections 3.4 to 3.8).
+ghost use Rattle.xq_lexer.specs.Lexeme.{lexemes, symbol as symbol_lex};
+ghost use Rattle.xq_lexer.specs.declared.tokens.Symbol.TheVariants as s;
+ghost use Rattle.xq_grammar.specs.Look as look;
+ghost use Rattle.xq_grammar.specs.Grammar as g;
+ghost use Rattle.xq_grammar.specs.private.Reading as spec;
+ghost use Rattle.xq_grammar.specs.private.Gives.{Nests, Parses};
+
+use crate::lists::{Repeated, many};
+use crate::lookahead::{begins_union, expect_symbol, expect_word, is_symbol, is_word};
+use crate::primaries::Grammar;
+use crate::values::{
+    compared, concatenation, conjunction, disjunction, product, ranged, set_operation, signed, sum,
+    united,
+};
+use crate::words::{begins, one_of};
+use sqlite_items::Boxed;
+use std::alloc::Global;
+use xq_atoms::Fault;
+use xq_expressions::{ComparisonOperator, Expr, ProductOperator, SetOperator, Sign};
+use xq_lexer::{Symbol, Token};
+
+impl<'a, F: Fn(Global, usize, &'a [Token]) -> Result<(Boxed<Expr>, &'a [Token]), Fault>> Grammar<
+    F,
+> {
+    /// An operand with its signs.
+    #[tactic(auto, unfolding(xq_grammar::specs::private::Reading::unary))]
+    fn unary(&self, tokens: &'a [Token]) -> Result<(Boxed<Expr>, &'a [Token]), Fault>
+        requires { Nests self.now.depth (F.pre self.now.single) (F.post self.now.single) }
+        ensures { Parses result (spec.unary (spec.single self.now.depth) (lexemes tokens.now)) }
+    {
+        let (signs, rest) = many(self.alloc, &NextSign, tokens)?;
+        let (operand, rest) = self.path(rest)?;
+        Ok((signed(self.alloc, signs, operand)?, rest))
+    }
+
+    /// Intersections and differences.
+    #[tactic(auto, unfolding(xq_grammar::specs::private::Reading::inter))]
+    fn intersection(&self, tokens: &'a [Token]) -> Result<(Boxed<Expr>, &'a [Token]), Fault>
+        requires { Nests self.now.depth (F.pre self.now.single) (F.post self.now.single) }
+        ensures { Parses result (spec.inter (spec.single self.now.depth) (lexemes tokens.now)) }
+    {
+        let (first, rest) = self.unary(tokens)?;
+        let (more, rest) = many(self.alloc, &SetItem(self), rest)?;
+        Ok((set_operation(self.alloc, first, more)?, rest))
+    }
+
+    /// Unions.
+    #[tactic(auto, unfolding(xq_grammar::specs::private::Reading::union))]
+    fn unions(&self, tokens: &'a [Token]) -> Result<(Boxed<Expr>, &'a [Token]), Fault>
+        requires { Nests self.now.depth (F.pre self.now.single) (F.post self.now.single) }
+        ensures { Parses result (spec.union (spec.single self.now.depth) (lexemes tokens.now)) }
+    {
+        let (first, rest) = self.intersection(tokens)?;
+        let (more, rest) = many(self.alloc, &UnionItem(self), rest)?;
+        Ok((united(self.alloc, first, more)?, rest))
+    }
+
+    /// Products.
+    #[tactic(auto, unfolding(xq_grammar::specs::private::Reading::product))]
+    fn product(&self, tokens: &'a [Token]) -> Result<(Boxed<Expr>, &'a [Token]), Fault>
+        requires { Nests self.now.depth (F.pre self.now.single) (F.post self.now.single) }
+        ensures { Parses result (spec.product (spec.single self.now.depth) (lexemes tokens.now)) }
+    {
+        let (first, rest) = self.unions(tokens)?;
+        let (more, rest) = many(self.alloc, &ProductItem(self), rest)?;
+        Ok((product(self.alloc, first, more)?, rest))
+    }
+
+    /// Sums.
+    #[tactic(auto, unfolding(xq_grammar::specs::private::Reading::sum))]
+    fn sum(&self, tokens: &'a [Token]) -> Result<(Boxed<Expr>, &'a [Token]), Fault>
+        requires { Nests self.now.depth (F.pre self.now.single) (F.post self.now.single) }
+        ensures { Parses result (spec.sum (spec.single self.now.depth) (lexemes tokens.now)) }
+    {
+        let (first, rest) = self.product(tokens)?;
+        let (more, rest) = many(self.alloc, &SumItem(self), rest)?;
+        Ok((sum(self.alloc, first, more)?, rest))
+    }
+
+    #[tactic(auto, unfolding(xq_grammar::specs::private::Reading::range_item))]
+    fn range_item(&self, tokens: &'a [Token]) -> Result<(Boxed<Expr>, &'a [Token]), Fault>
+        requires { Nests self.now.depth (F.pre self.now.single) (F.post self.now.single) }
+        ensures { Parses result (spec.range_item (spec.single self.now.depth) (lexemes tokens.now)) }
+    {
+        let rest = expect_word("to", tokens)?;
+        self.sum(rest)
+    }
+
+    fn range_end(&self, tokens: &'a [Token]) -> Result<(Option<Boxed<Expr>>, &'a [Token]), Fault>
+        requires { Nests self.now.depth (F.pre self.now.single) (F.post self.now.single) }
+        ensures { Parses result (spec.maybe (spec.is (look.word "to")) (spec.range_item (spec.single self.now.depth)) (lexemes tokens.now)) }
+    {
+        if is_word("to", tokens) {
+            let (item, rest) = self.range_item(tokens)?;
+            Ok((Some(item), rest))
+        } else {
+            Ok((None, tokens))
+        }
+    }
+
+    /// Ranges.
+    #[tactic(auto, unfolding(xq_grammar::specs::private::Reading::range))]
+    fn range(&self, tokens: &'a [Token]) -> Result<(Boxed<Expr>, &'a [Token]), Fault>
+        requires { Nests self.now.depth (F.pre self.now.single) (F.post self.now.single) }
+        ensures { Parses result (spec.range (spec.single self.now.depth) (lexemes tokens.now)) }
+    {
+        let (first, rest) = self.sum(tokens)?;
+        let (more, rest) = self.range_end(rest)?;
+        Ok((ranged(self.alloc, first, more)?, rest))
+    }
+
+    /// Concatenations.
+    #[tactic(auto, unfolding(xq_grammar::specs::private::Reading::concat))]
+    fn concat(&self, tokens: &'a [Token]) -> Result<(Boxed<Expr>, &'a [Token]), Fault>
+        requires { Nests self.now.depth (F.pre self.now.single) (F.post self.now.single) }
+        ensures { Parses result (spec.concat (spec.single self.now.depth) (lexemes tokens.now)) }
+    {
+        let (first, rest) = self.range(tokens)?;
+        let (more, rest) = many(self.alloc, &ConcatItem(self), rest)?;
+        Ok((concatenation(self.alloc, first, more)?, rest))
+    }
+
+    #[tactic(auto, unfolding(xq_grammar::specs::private::Reading::comparison_item))]
+    fn comparison_item(
+        &self,
+        tokens: &'a [Token],
+    ) -> Result<((ComparisonOperator, Boxed<Expr>), &'a [Token]), Fault>
+        requires { Nests self.now.depth (F.pre self.now.single) (F.post self.now.single) }
+        ensures { Parses result (spec.comparison_item (spec.single self.now.depth) (lexemes tokens.now)) }
+    {
+        let (operator, rest) = one_of::<ComparisonOperator>(tokens)?;
+        let (operand, rest) = self.concat(rest)?;
+        Ok(((operator, operand), rest))
+    }
+
+    fn comparison_end(
+        &self,
+        tokens: &'a [Token],
+    ) -> Result<(Option<(ComparisonOperator, Boxed<Expr>)>, &'a [Token]), Fault>
+        requires { Nests self.now.depth (F.pre self.now.single) (F.post self.now.single) }
+        ensures { Parses result (spec.maybe (spec.begins g.comparisons) (spec.comparison_item (spec.single self.now.depth)) (lexemes tokens.now)) }
+    {
+        if begins::<ComparisonOperator>(tokens) {
+            let (item, rest) = self.comparison_item(tokens)?;
+            Ok((Some(item), rest))
+        } else {
+            Ok((None, tokens))
+        }
+    }
+
+    /// Comparisons.
+    #[tactic(auto, unfolding(xq_grammar::specs::private::Reading::comparison))]
+    fn comparison(&self, tokens: &'a [Token]) -> Result<(Boxed<Expr>, &'a [Token]), Fault>
+        requires { Nests self.now.depth (F.pre self.now.single) (F.post self.now.single) }
+        ensures { Parses result (spec.comparison (spec.single self.now.depth) (lexemes tokens.now)) }
+    {
+        let (first, rest) = self.concat(tokens)?;
+        let (more, rest) = self.comparison_end(rest)?;
+        Ok((compared(self.alloc, first, more)?, rest))
+    }
+
+    /// Conjunctions.
+    #[tactic(auto, unfolding(xq_grammar::specs::private::Reading::conjunction))]
+    fn conjunction(&self, tokens: &'a [Token]) -> Result<(Boxed<Expr>, &'a [Token]), Fault>
+        requires { Nests self.now.depth (F.pre self.now.single) (F.post self.now.single) }
+        ensures { Parses result (spec.conjunction (spec.single self.now.depth) (lexemes tokens.now)) }
+    {
+        let (first, rest) = self.comparison(tokens)?;
+        let (more, rest) = many(self.alloc, &AndItem(self), rest)?;
+        Ok((conjunction(self.alloc, first, more)?, rest))
+    }
+
+    /// Disjunctions.
+    #[tactic(auto, unfolding(xq_grammar::specs::private::Reading::disjunction))]
+    pub(crate) fn disjunction(
+        &self,
+        tokens: &'a [Token],
+    ) -> Result<(Boxed<Expr>, &'a [Token]), Fault>
+        requires { Nests self.now.depth (F.pre self.now.single) (F.post self.now.single) }
+        ensures { Parses result (spec.disjunction (spec.single self.now.depth) (lexemes tokens.now)) }
+    {
+        let (first, rest) = self.conjunction(tokens)?;
+        let (more, rest) = many(self.alloc, &OrItem(self), rest)?;
+        Ok((disjunction(self.alloc, first, more)?, rest))
+    }
+}
+
+/// A sign before an operand.
+#[derive(Drop)]
+struct NextSign;
+
+impl<'a> Repeated<'a> for NextSign {
+    type Value = Sign;
+
+    ghost ready = { λ _. Unit {0} };
+
+    ghost test = { spec.begins g.signs };
+
+    ghost reader = { λ _. spec.one_of g.signs };
+
+    fn follows(&self, tokens: &[Token]) -> bool {
+        begins::<Sign>(tokens)
+    }
+
+    fn next(&self, tokens: &'a [Token]) -> Result<(Sign, &'a [Token]), Fault> {
+        one_of::<Sign>(tokens)
+    }
+}
+
+/// An operand of an intersection or difference.
+#[derive(Drop)]
+struct SetItem<'g, F>(&'g Grammar<F>);
+
+impl<
+    'a,
+    'g,
+    F: Fn(Global, usize, &'a [Token]) -> Result<(Boxed<Expr>, &'a [Token]), Fault>,
+> Repeated<'a> for SetItem<'g, F> {
+    type Value = (SetOperator, Expr);
+
+    ghost ready = { λ it. Nests it.0.now.depth (F.pre it.0.now.single) (F.post it.0.now.single) };
+
+    ghost test = { spec.begins g.set_operators };
+
+    ghost reader = { λ it. spec.set_item (spec.single it.0.now.depth) };
+
+    fn follows(&self, tokens: &[Token]) -> bool {
+        begins::<SetOperator>(tokens)
+    }
+
+    #[tactic(auto, unfolding(xq_grammar::specs::private::Reading::set_item))]
+    fn next(&self, tokens: &'a [Token]) -> Result<((SetOperator, Expr), &'a [Token]), Fault> {
+        let (operator, rest) = one_of::<SetOperator>(tokens)?;
+        let (operand, rest) = self.0.unary(rest)?;
+        Ok(((operator, operand.into_inner()), rest))
+    }
+}
+
+/// An operand of a union.
+#[derive(Drop)]
+struct UnionItem<'g, F>(&'g Grammar<F>);
+
+impl<
+    'a,
+    'g,
+    F: Fn(Global, usize, &'a [Token]) -> Result<(Boxed<Expr>, &'a [Token]), Fault>,
+> Repeated<'a> for UnionItem<'g, F> {
+    type Value = Expr;
+
+    ghost ready = { λ it. Nests it.0.now.depth (F.pre it.0.now.single) (F.post it.0.now.single) };
+
+    ghost test = { spec.begins_union };
+
+    ghost reader = { λ it. spec.union_item (spec.single it.0.now.depth) };
+
+    fn follows(&self, tokens: &[Token]) -> bool {
+        begins_union(tokens)
+    }
+
+    #[tactic(auto, unfolding(xq_grammar::specs::private::Reading::union_item))]
+    fn next(&self, tokens: &'a [Token]) -> Result<(Expr, &'a [Token]), Fault> {
+        if is_word("union", tokens) {
+            let rest = expect_word("union", tokens)?;
+            let (operand, rest) = self.0.intersection(rest)?;
+            Ok((operand.into_inner(), rest))
+        } else {
+            let rest = expect_symbol(Symbol::Bar, tokens)?;
+            let (operand, rest) = self.0.intersection(rest)?;
+            Ok((operand.into_inner(), rest))
+        }
+    }
+}
+
+/// A factor and its operator.
+#[derive(Drop)]
+struct ProductItem<'g, F>(&'g Grammar<F>);
+
+impl<
+    'a,
+    'g,
+    F: Fn(Global, usize, &'a [Token]) -> Result<(Boxed<Expr>, &'a [Token]), Fault>,
+> Repeated<'a> for ProductItem<'g, F> {
+    type Value = (ProductOperator, Expr);
+
+    ghost ready = { λ it. Nests it.0.now.depth (F.pre it.0.now.single) (F.post it.0.now.single) };
+
+    ghost test = { spec.begins g.product_operators };
+
+    ghost reader = { λ it. spec.product_item (spec.single it.0.now.depth) };
+
+    fn follows(&self, tokens: &[Token]) -> bool {
+        begins::<ProductOperator>(tokens)
+    }
+
+    #[tactic(auto, unfolding(xq_grammar::specs::private::Reading::product_item))]
+    fn next(&self, tokens: &'a [Token]) -> Result<((ProductOperator, Expr), &'a [Token]), Fault> {
+        let (operator, rest) = one_of::<ProductOperator>(tokens)?;
+        let (operand, rest) = self.0.unions(rest)?;
+        Ok(((operator, operand.into_inner()), rest))
+    }
+}
+
+/// A term and its sign.
+#[derive(Drop)]
+struct SumItem<'g, F>(&'g Grammar<F>);
+
+impl<
+    'a,
+    'g,
+    F: Fn(Global, usize, &'a [Token]) -> Result<(Boxed<Expr>, &'a [Token]), Fault>,
+> Repeated<'a> for SumItem<'g, F> {
+    type Value = (Sign, Expr);
+
+    ghost ready = { λ it. Nests it.0.now.depth (F.pre it.0.now.single) (F.post it.0.now.single) };
+
+    ghost test = { spec.begins g.signs };
+
+    ghost reader = { λ it. spec.sum_item (spec.single it.0.now.depth) };
+
+    fn follows(&self, tokens: &[Token]) -> bool {
+        begins::<Sign>(tokens)
+    }
+
+    #[tactic(auto, unfolding(xq_grammar::specs::private::Reading::sum_item))]
+    fn next(&self, tokens: &'a [Token]) -> Result<((Sign, Expr), &'a [Token]), Fault> {
+        let (operator, rest) = one_of::<Sign>(tokens)?;
+        let (operand, rest) = self.0.product(rest)?;
+        Ok(((operator, operand.into_inner()), rest))
+    }
+}
+
+/// An operand of a concatenation.
+#[derive(Drop)]
+struct ConcatItem<'g, F>(&'g Grammar<F>);
+
+impl<
+    'a,
+    'g,
+    F: Fn(Global, usize, &'a [Token]) -> Result<(Boxed<Expr>, &'a [Token]), Fault>,
+> Repeated<'a> for ConcatItem<'g, F> {
+    type Value = Expr;
+
+    ghost ready = { λ it. Nests it.0.now.depth (F.pre it.0.now.single) (F.post it.0.now.single) };
+
+    ghost test = { spec.is (symbol_lex s.DoubleBar) };
+
+    ghost reader = { λ it. spec.concat_item (spec.single it.0.now.depth) };
+
+    fn follows(&self, tokens: &[Token]) -> bool {
+        is_symbol(Symbol::DoubleBar, tokens)
+    }
+
+    #[tactic(auto, unfolding(xq_grammar::specs::private::Reading::concat_item))]
+    fn next(&self, tokens: &'a [Token]) -> Result<(Expr, &'a [Token]), Fault> {
+        let rest = expect_symbol(Symbol::DoubleBar, tokens)?;
+        let (operand, rest) = self.0.range(rest)?;
+        Ok((operand.into_inner(), rest))
+    }
+}
+
+/// An operand of a conjunction.
+#[derive(Drop)]
+struct AndItem<'g, F>(&'g Grammar<F>);
+
+impl<
+    'a,
+    'g,
+    F: Fn(Global, usize, &'a [Token]) -> Result<(Boxed<Expr>, &'a [Token]), Fault>,
+> Repeated<'a> for AndItem<'g, F> {
+    type Value = Expr;
+
+    ghost ready = { λ it. Nests it.0.now.depth (F.pre it.0.now.single) (F.post it.0.now.single) };
+
+    ghost test = { spec.is (look.word "and") };
+
+    ghost reader = { λ it. spec.and_item (spec.single it.0.now.depth) };
+
+    fn follows(&self, tokens: &[Token]) -> bool {
+        is_word("and", tokens)
+    }
+
+    #[tactic(auto, unfolding(xq_grammar::specs::private::Reading::and_item))]
+    fn next(&self, tokens: &'a [Token]) -> Result<(Expr, &'a [Token]), Fault> {
+        let rest = expect_word("and", tokens)?;
+        let (operand, rest) = self.0.comparison(rest)?;
+        Ok((operand.into_inner(), rest))
+    }
+}
+
+/// An operand of a disjunction.
+#[derive(Drop)]
+struct OrItem<'g, F>(&'g Grammar<F>);
+
+impl<
+    'a,
+    'g,
+    F: Fn(Global, usize, &'a [Token]) -> Result<(Boxed<Expr>, &'a [Token]), Fault>,
+> Repeated<'a> for OrItem<'g, F> {
+    type Value = Expr;
+
+    ghost ready = { λ it. Nests it.0.now.depth (F.pre it.0.now.single) (F.post it.0.now.single) };
+
+    ghost test = { spec.is (look.word "or") };
+
+    ghost reader = { λ it. spec.or_item (spec.single it.0.now.depth) };
+
+    fn follows(&self, tokens: &[Token]) -> bool {
+        is_word("or", tokens)
+    }
+
+    #[tactic(auto, unfolding(xq_grammar::specs::private::Reading::or_item))]
+    fn next(&self, tokens: &'a [Token]) -> Result<(Expr, &'a [Token]), Fault> {
+        let rest = expect_word("or", tokens)?;
+        let (operand, rest) = self.0.conjunction(rest)?;
+        Ok((operand.into_inner(), rest))
+    }
+}

@@ -1,0 +1,279 @@
+//! What phrases stand for.
+ghost use Rattle.std.specs.Prelude.{Some};
+ghost use Rattle.xq_expressions.specs.declared.expressions.Expr.TheVariants as e;
+ghost use Rattle.xq_grammar.specs.Grammar as g;
+ghost use Rattle.xq_grammar.specs.private.Gives.{Gives};
+
+use crate::lists::listed;
+use sqlite_items::{Boxed, Items};
+use std::alloc::Global;
+use xq_atoms::Fault;
+use xq_expressions::{
+    Clause, ComparisonOperator, ConstructorName, Expr, NamedNode, PathStart, ProductOperator,
+    QName, Quantifier, Separator, SetOperator, Sign, Step, UnnamedNode,
+};
+
+/// An expression, or a sequence of two and more.
+pub(crate) fn sequence(
+    alloc: Global,
+    first: Boxed<Expr>,
+    more: Items<Expr>,
+) -> Result<Boxed<Expr>, Fault>
+    ensures { Gives (λ x. x) result (Some (g.several e.Sequence (first, more))) }
+{
+    if more.len() == 0 {
+        return Ok(first);
+    }
+    let all = listed(alloc, first.into_inner(), more)?;
+    Ok(Boxed::new(alloc, Expr::Sequence(all))?)
+}
+
+/// An operand, or two and more with `or` between them.
+pub(crate) fn disjunction(
+    alloc: Global,
+    first: Boxed<Expr>,
+    more: Items<Expr>,
+) -> Result<Boxed<Expr>, Fault>
+    ensures { Gives (λ x. x) result (Some (g.several e.Or (first, more))) }
+{
+    if more.len() == 0 {
+        return Ok(first);
+    }
+    let all = listed(alloc, first.into_inner(), more)?;
+    Ok(Boxed::new(alloc, Expr::Or(all))?)
+}
+
+/// An operand, or two and more with `and` between them.
+pub(crate) fn conjunction(
+    alloc: Global,
+    first: Boxed<Expr>,
+    more: Items<Expr>,
+) -> Result<Boxed<Expr>, Fault>
+    ensures { Gives (λ x. x) result (Some (g.several e.And (first, more))) }
+{
+    if more.len() == 0 {
+        return Ok(first);
+    }
+    let all = listed(alloc, first.into_inner(), more)?;
+    Ok(Boxed::new(alloc, Expr::And(all))?)
+}
+
+/// An operand, or two and more with `||` between them.
+pub(crate) fn concatenation(
+    alloc: Global,
+    first: Boxed<Expr>,
+    more: Items<Expr>,
+) -> Result<Boxed<Expr>, Fault>
+    ensures { Gives (λ x. x) result (Some (g.several e.Concat (first, more))) }
+{
+    if more.len() == 0 {
+        return Ok(first);
+    }
+    let all = listed(alloc, first.into_inner(), more)?;
+    Ok(Boxed::new(alloc, Expr::Concat(all))?)
+}
+
+/// An operand, or the union of two and more.
+pub(crate) fn united(
+    alloc: Global,
+    first: Boxed<Expr>,
+    more: Items<Expr>,
+) -> Result<Boxed<Expr>, Fault>
+    ensures { Gives (λ x. x) result (Some (g.several e.Union (first, more))) }
+{
+    if more.len() == 0 {
+        return Ok(first);
+    }
+    let all = listed(alloc, first.into_inner(), more)?;
+    Ok(Boxed::new(alloc, Expr::Union(all))?)
+}
+
+/// An operand, or a sum.
+pub(crate) fn sum(
+    alloc: Global,
+    first: Boxed<Expr>,
+    more: Items<(Sign, Expr)>,
+) -> Result<Boxed<Expr>, Fault>
+    ensures { Gives (λ x. x) result (Some (g.chain e.Sum (first, more))) }
+{
+    if more.len() == 0 {
+        Ok(first)
+    } else {
+        Ok(Boxed::new(alloc, Expr::Sum(first, more))?)
+    }
+}
+
+/// An operand, or a product.
+pub(crate) fn product(
+    alloc: Global,
+    first: Boxed<Expr>,
+    more: Items<(ProductOperator, Expr)>,
+) -> Result<Boxed<Expr>, Fault>
+    ensures { Gives (λ x. x) result (Some (g.chain e.Product (first, more))) }
+{
+    if more.len() == 0 {
+        Ok(first)
+    } else {
+        Ok(Boxed::new(alloc, Expr::Product(first, more))?)
+    }
+}
+
+/// An operand, or intersections and differences.
+pub(crate) fn set_operation(
+    alloc: Global,
+    first: Boxed<Expr>,
+    more: Items<(SetOperator, Expr)>,
+) -> Result<Boxed<Expr>, Fault>
+    ensures { Gives (λ x. x) result (Some (g.chain e.SetOperation (first, more))) }
+{
+    if more.len() == 0 {
+        Ok(first)
+    } else {
+        Ok(Boxed::new(alloc, Expr::SetOperation(first, more))?)
+    }
+}
+
+/// An operand, or a comparison of two.
+pub(crate) fn compared(
+    alloc: Global,
+    left: Boxed<Expr>,
+    right: Option<(ComparisonOperator, Boxed<Expr>)>,
+) -> Result<Boxed<Expr>, Fault>
+    ensures { Gives (λ x. x) result (Some (g.compared (left, right))) }
+{
+    match right {
+        None => Ok(left),
+        Some((operator, right)) => {
+            Ok(Boxed::new(alloc, Expr::Comparison(left, operator, right))?)
+        }
+    }
+}
+
+/// An operand, or the range between two.
+pub(crate) fn ranged(
+    alloc: Global,
+    first: Boxed<Expr>,
+    last: Option<Boxed<Expr>>,
+) -> Result<Boxed<Expr>, Fault>
+    ensures { Gives (λ x. x) result (Some (g.ranged (first, last))) }
+{
+    match last {
+        None => Ok(first),
+        Some(last) => { Ok(Boxed::new(alloc, Expr::Range(first, last))?) }
+    }
+}
+
+/// An operand with its signs, if there are any.
+pub(crate) fn signed(
+    alloc: Global,
+    signs: Items<Sign>,
+    operand: Boxed<Expr>,
+) -> Result<Boxed<Expr>, Fault>
+    ensures { Gives (λ x. x) result (Some (g.signed (signs, operand))) }
+{
+    if signs.len() == 0 {
+        Ok(operand)
+    } else {
+        Ok(Boxed::new(alloc, Expr::Unary(signs, operand))?)
+    }
+}
+
+/// A path from a start that isn't its first step.
+pub(crate) fn rooted(
+    alloc: Global,
+    start: PathStart,
+    first: Step,
+    more: Items<(Separator, Step)>,
+) -> Result<Boxed<Expr>, Fault>
+    ensures { Gives (λ x. x) result (Some (g.rooted start (first, more))) }
+{
+    Ok(Boxed::new(alloc, Expr::Path(start, first, more))?)
+}
+
+/// A path from its first step; one primary expression without predicates is itself.
+pub(crate) fn relative(
+    alloc: Global,
+    first: Step,
+    more: Items<(Separator, Step)>,
+) -> Result<Boxed<Expr>, Fault>
+    ensures { Gives (λ x. x) result (Some (g.relative (first, more))) }
+{
+    if more.len() > 0 {
+        return rooted(alloc, PathStart::Relative, first, more);
+    }
+    match first {
+        Step::Primary(value, predicates) => {
+            if predicates.len() == 0 {
+                Ok(value)
+            } else {
+                rooted(
+                    alloc,
+                    PathStart::Relative,
+                    Step::Primary(value, predicates),
+                    more,
+                )
+            }
+        }
+        first => rooted(alloc, PathStart::Relative, first, more),
+    }
+}
+
+/// A FLWOR expression of its first clause, the others and what it returns.
+pub(crate) fn flwor(
+    alloc: Global,
+    first: Boxed<Clause>,
+    more: Items<Clause>,
+    value: Boxed<Expr>,
+) -> Result<Boxed<Expr>, Fault>
+    ensures { Gives (λ x. x) result (Some (g.flwor (first, (more, value)))) }
+{
+    let clauses = listed(alloc, first.into_inner(), more)?;
+    Ok(Boxed::new(alloc, Expr::Flwor(clauses, value))?)
+}
+
+/// A quantified expression.
+pub(crate) fn quantified(
+    alloc: Global,
+    quantifier: Quantifier,
+    bindings: Items<(QName, Expr)>,
+    condition: Boxed<Expr>,
+) -> Result<Boxed<Expr>, Fault>
+    ensures { Gives (λ x. x) result (Some (g.quantified (quantifier, (bindings, condition)))) }
+{
+    Ok(Boxed::new(alloc, Expr::Quantified(quantifier, bindings, condition))?)
+}
+
+/// A conditional expression.
+pub(crate) fn conditional(
+    alloc: Global,
+    test: Boxed<Expr>,
+    yes: Boxed<Expr>,
+    no: Boxed<Expr>,
+) -> Result<Boxed<Expr>, Fault>
+    ensures { Gives (λ x. x) result (Some (g.conditional (test, (yes, no)))) }
+{
+    Ok(Boxed::new(alloc, Expr::If(test, yes, no))?)
+}
+
+/// The constructor of a node with a name.
+pub(crate) fn named_node(
+    alloc: Global,
+    node: NamedNode,
+    name: ConstructorName,
+    content: Boxed<Expr>,
+) -> Result<Boxed<Expr>, Fault>
+    ensures { Gives (λ x. x) result (Some (g.named_node (node, (name, content)))) }
+{
+    Ok(Boxed::new(alloc, Expr::Named(node, name, content))?)
+}
+
+/// The constructor of a node without a name.
+pub(crate) fn unnamed_node(
+    alloc: Global,
+    node: UnnamedNode,
+    content: Boxed<Expr>,
+) -> Result<Boxed<Expr>, Fault>
+    ensures { Gives (λ x. x) result (Some (g.unnamed_node (node, content))) }
+{
+    Ok(Boxed::new(alloc, Expr::Unnamed(node, content))?)
+}
