@@ -123,7 +123,7 @@ def clauses_of(crate):
         for file in filter(lambda it: it.endswith(".rt"), files):
             text = read(os.path.join(folder, file))
             uses, aliases = uses_of(text)
-            for piece in public_pieces(text, names, file[:-3] in modules):
+            for piece in public_pieces(text, names, file[:-3] in {*modules, "lib"}):
                 yield " ".join(CLAUSE.findall(piece)), {**uses, **uses_of(piece)[0]}, aliases
 
 
