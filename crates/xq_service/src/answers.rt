@@ -2,7 +2,7 @@
 ghost use Rattle.std.specs.Prelude.{◌≡◌, MatchResult};
 ghost use Rattle.xq_atoms.specs.Address.{IsAddress};
 ghost use Rattle.xq_atoms.specs.declared.refusals.Code.TheVariants.{ProfAddress};
-ghost use Rattle.xq_rows.specs.Documents.{IsClean, Map, StandsFor};
+ghost use Rattle.xq_rows.specs.Documents.{IsClean, IsOpen, Map, StandsFor};
 ghost use Rattle.xq_frame.specs.Request.{asked, query, put, remove as remove_one, list};
 ghost use Rattle.xq_service.specs.Work.{Tells, IsShort};
 
@@ -38,6 +38,8 @@ pub(crate) fn carry_out<S: Alter>(
     ensures tells { IsClean S.Store store.new → (m : Map) → StandsFor S.Store store.old m
         → (later : Map) × Tells m (asked request.entry) later result × StandsFor S.Store store.new later }
     ensures was_clean { IsClean S.Store store.new → IsClean S.Store store.old }
+    ensures was_open { IsClean S.Store store.new → IsOpen S.Store store.new
+        → IsOpen S.Store store.old }
     ensures short { IsShort result }
 {
     match request {
@@ -55,6 +57,8 @@ fn answer_query<S: Alter>(alloc: Global, store: &mut Store<S>, text: &[u8]) -> R
     ensures same { IsClean S.Store store.new → (m : Map) → StandsFor S.Store store.old m
         → StandsFor S.Store store.new m }
     ensures was_clean { IsClean S.Store store.new → IsClean S.Store store.old }
+    ensures was_open { IsClean S.Store store.new → IsOpen S.Store store.new
+        → IsOpen S.Store store.old }
     ensures short { IsShort result }
 {
     let value = evaluate(alloc, store, text)?;
@@ -70,6 +74,8 @@ fn answer_put<S: Alter>(
     ensures tells { IsClean S.Store store.new → (m : Map) → StandsFor S.Store store.old m
         → (later : Map) × Tells m (put address.now text.now) later result × StandsFor S.Store store.new later }
     ensures was_clean { IsClean S.Store store.new → IsClean S.Store store.old }
+    ensures was_open { IsClean S.Store store.new → IsOpen S.Store store.new
+        → IsOpen S.Store store.old }
     ensures short { IsShort result }
 {
     let address = good_address(address)?;
@@ -87,6 +93,8 @@ fn answer_remove<S: Alter>(store: &mut Store<S>, address: &[u8]) -> Result<Answe
     ensures tells { IsClean S.Store store.new → (m : Map) → StandsFor S.Store store.old m
         → (later : Map) × Tells m (remove_one address.now) later result × StandsFor S.Store store.new later }
     ensures was_clean { IsClean S.Store store.new → IsClean S.Store store.old }
+    ensures was_open { IsClean S.Store store.new → IsOpen S.Store store.new
+        → IsOpen S.Store store.old }
     ensures short { IsShort result }
 {
     let known = good_address(address)?;
@@ -103,6 +111,8 @@ fn answer_list<S: Alter>(alloc: Global, store: &mut Store<S>) -> Result<Answer, 
     ensures same { IsClean S.Store store.new → (m : Map) → StandsFor S.Store store.old m
         → StandsFor S.Store store.new m }
     ensures was_clean { IsClean S.Store store.new → IsClean S.Store store.old }
+    ensures was_open { IsClean S.Store store.new → IsOpen S.Store store.new
+        → IsOpen S.Store store.old }
     ensures short { IsShort result }
 {
     let addresses = store.addresses()?;

@@ -1,7 +1,7 @@
 //! Texts read as queries, and their values over a store.
 ghost use Rattle.std.specs.Prelude.{◌≡◌, IfOk, MatchOption, string_bytes, ℕ, List};
 ghost use Rattle.xq_atoms.specs.Address.{IsAddress};
-ghost use Rattle.xq_rows.specs.Documents.{IsClean, Map, StandsFor};
+ghost use Rattle.xq_rows.specs.Documents.{IsClean, IsOpen, Map, StandsFor};
 ghost use Rattle.xq_service.specs.Meaning.{with_line_feeds as with_line_feeds_lem, doc_call};
 ghost use Rattle.xq_service.specs.Work.{Evaluates, IsFirstLine};
 
@@ -25,6 +25,8 @@ pub(crate) fn evaluate<S: Alter>(
     ensures same { IsClean S.Store store.new → (m : Map) → StandsFor S.Store store.old m
         → StandsFor S.Store store.new m }
     ensures was_clean { IsClean S.Store store.new → IsClean S.Store store.old }
+    ensures was_open { IsClean S.Store store.new → IsOpen S.Store store.new
+        → IsOpen S.Store store.old }
 {
     let Ok(text) = std::str::from_utf8(text) else {
         return Err(Fault::Code(Code::ProfUtf8));

@@ -2,7 +2,7 @@
 //! writer.
 ghost use Rattle.std.specs.Prelude.{◌≡◌, ◌+◌, ◌<◌, ◌++◌, ◌⊎◌, OnOk, OnErr, IfErr, vec_len, vec_capacity};
 ghost use Rattle.xq_atoms.specs.declared.refusals.Want.TheVariants.{Memory};
-ghost use Rattle.xq_rows.specs.Documents.{IsClean, StandsFor};
+ghost use Rattle.xq_rows.specs.Documents.{IsClean, IsOpen, StandsFor};
 ghost use Rattle.xq_frame.specs.Request.{asked};
 ghost use Rattle.xq_service.specs.Run.{Reply, Answered, RunsTo, long_reply};
 ghost use Rattle.xq_service.specs.Service.{Serves, EndsLong};
@@ -61,6 +61,8 @@ impl<S: Alter> Server<S> {
         ensures err { OnErr result ((self.new ≡ self.old) × (out.new.items ≡ out.old.items)) }
         ensures full { OnErr result (vec_capacity out.old < vec_len out.old + 32) }
         ensures memory { IfErr result (λ want. want ≡ Memory) }
+        ensures was_open { IsClean S.Store self.new → IsOpen S.Store self.new
+            → IsOpen S.Store self.old }
     {
         out.reserve(SHORT_REPLY)?;
         let answer = carry_out(self.alloc, &mut self.store, frame.request);
@@ -70,8 +72,10 @@ impl<S: Alter> Server<S> {
 
     /// Answers the frames with which the bytes begin, in order, up to what ends them.
     pub fn run(&mut self, bytes: &[u8], out: &mut Vec<u8>) -> End
-        ensures { RunsTo (IsClean S.Store) (StandsFor S.Store)
+        ensures run { RunsTo (IsClean S.Store) (StandsFor S.Store)
             self.old self.new bytes.now out.old.items out.new.items result }
+        ensures was_open { IsClean S.Store self.new → IsOpen S.Store self.new
+            → IsOpen S.Store self.old }
     {
         let mut rest = bytes;
         'frames: loop {
@@ -98,9 +102,11 @@ impl<S: Alter> Server<S> {
         writer: &mut W,
         max_frames: u64,
     ) -> End
-        ensures { Serves (IsClean S.Store) (StandsFor S.Store) self.old self.new
+        ensures served { Serves (IsClean S.Store) (StandsFor S.Store) self.old self.new
             (R.remaining reader.old) (R.remaining reader.new)
             (W.contents writer.old) (W.contents writer.new) max_frames result }
+        ensures was_open { IsClean S.Store self.new → IsOpen S.Store self.new
+            → IsOpen S.Store self.old }
     {
         for count in 0..max_frames {
             let mut tries = Tries::for_a_frame();

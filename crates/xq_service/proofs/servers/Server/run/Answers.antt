@@ -5,7 +5,7 @@ use Rattle.xq_service.proofs.Running.{no_frames, one_more, left_after}
 use Rattle.xq_service.proofs.servers.Server.run.Goals as goal
 
 pub frames-init : goal.frames-init
-frames-init g c = ([], [], no_frames (IsClean g.S.Store) (StandsFor g.S.Store) c.args.self.now c.args.bytes.now c.args.out.now.items)
+frames-init g c = ([], [], no_frames (IsClean g.S.Store) (StandsFor g.S.Store) c.args.self.now c.args.bytes.now c.args.out.now.items, λ clean up. up)
 
 pub frames-preserved : goal.frames-preserved
 frames-preserved g c =
@@ -20,4 +20,5 @@ frames-preserved g c =
           (one_more (IsClean g.S.Store) (StandsFor g.S.Store) c.args.self.now c.frames.self c.answer.new.self c.args.bytes.now
           c.args.out.now.items c.frames.out.items c.answer.new.out.items so_far.0 so_far.1 c.frames.rest.now c.in-Frame.frame starts.0 starts.1 r.0
           so_far.2 starts.2 r.1),
+      λ clean up. so_far.3 (r.1.was_clean clean) (c.in-Ok.ensures.was_open clean up),
     )

@@ -1,5 +1,5 @@
 use Rattle.std.proofs.Common.{List, ℕ, [], length}
-use Rattle.xq_rows.specs.Documents.{IsClean, StandsFor}
+use Rattle.xq_rows.specs.Documents.{IsClean, IsOpen, StandsFor}
 use Rattle.xq_service.specs.Run.{Reply, RanOver}
 use Rattle.xq_service.proofs.servers.Server.run.Given as goal
 
@@ -7,6 +7,7 @@ use Rattle.xq_service.proofs.servers.Server.run.Given as goal
 abbrev pub invariant-frames : goal.invariant-frames
 invariant-frames g l = (messages : List (List ℕ)) × (replies : List Reply)
     × RanOver (IsClean g.S.Store) (StandsFor g.S.Store) l.fn.self l.self l.bytes l.fn.out.items l.out.items messages replies l.rest []
+    × (IsClean g.S.Store l.self → IsOpen g.S.Store l.self → IsOpen g.S.Store l.fn.self)
 
 abbrev pub decreases-frames : goal.decreases-frames
 decreases-frames g l = length l.rest

@@ -8,10 +8,10 @@ use Rattle.xq_service.proofs.Serving.{served_none, served_taken, served_more, se
 use Rattle.xq_service.proofs.servers.Server.serve.Goals as goal
 
 pub loop-count-init : goal.loop-count-init
-loop-count-init g c = ([], [], served_none (IsClean g.S.Store) (StandsFor g.S.Store) c.args.self.now _ _, refl)
+loop-count-init g c = ([], [], served_none (IsClean g.S.Store) (StandsFor g.S.Store) c.args.self.now _ _, refl, λ clean up. up)
 
-pub returns-in-Cut : goal.returns-in-Cut
-returns-in-Cut g c =
+pub returns-in-Cut-clause-served : goal.returns-in-Cut-clause-served
+returns-in-Cut-clause-served g c =
     let so_far = c.loop-count.invariant in
     let got = c.in-Cut.ensures.taken in (
       so_far.0,
@@ -24,8 +24,8 @@ returns-in-Cut g c =
       ),
     )
 
-pub returns-in-NoRoom : goal.returns-in-NoRoom
-returns-in-NoRoom g c =
+pub returns-in-NoRoom-clause-served : goal.returns-in-NoRoom-clause-served
+returns-in-NoRoom-clause-served g c =
     let so_far = c.loop-count.invariant in
     let got = c.in-NoRoom.ensures.taken in (
       so_far.0,
@@ -38,15 +38,15 @@ returns-in-NoRoom g c =
       ),
     )
 
-pub returns-in-TooLong : goal.returns-in-TooLong
-returns-in-TooLong g c =
+pub returns-in-TooLong-clause-served : goal.returns-in-TooLong-clause-served
+returns-in-TooLong-clause-served g c =
     let so_far = c.loop-count.invariant in
     let got = c.in-TooLong.ensures.taken in
     serves_long (IsClean g.S.Store) (StandsFor g.S.Store) _ _ _ _ _ _ _ _ so_far.0 so_far.1 got.0 c.args.max_frames c.send_long.result
     so_far.2 got.1 got.2 (omega (arith, so_far.3, c.loop-count-test.true)) c.send_long.ensures
 
-pub returns-in-Err : goal.returns-in-Err
-returns-in-Err g c =
+pub returns-in-Err-clause-served : goal.returns-in-Err-clause-served
+returns-in-Err-clause-served g c =
     let so_far = c.loop-count.invariant in
     let got = c.in-Message.ensures.taken in (
       so_far.0,
@@ -61,8 +61,8 @@ returns-in-Err g c =
       ),
     )
 
-pub returns-in-Err-send : goal.returns-in-Err-send
-returns-in-Err-send g c =
+pub returns-in-Err-send-clause-served : goal.returns-in-Err-send-clause-served
+returns-in-Err-send-clause-served g c =
     let so_far = c.loop-count.invariant in
     let got = c.in-Message.ensures.taken in
     let message : List ℕ = c.in-Message.message.items in
@@ -98,4 +98,9 @@ loop-count-preserved g c =
           (served_more (IsClean g.S.Store) (StandsFor g.S.Store) _ c.loop-count.self c.answer.new.self _ _ _ _ _ _ so_far.0 so_far.1 c.frame_of.result message got.0 _ _ (bytes_of reply.0) reply.0
           so_far.2 got.1 got.2.0 got.2.1 (subst (IsFrameOf c.frame_of.result) c.as_slice.ensures.value c.frame_of.ensures) reply.1 gave),
       one_longer so_far.0 message c.loop-count.count so_far.3,
+      λ clean up. so_far.4 (reply.1.was_clean clean) (c.in-Ok.ensures.was_open clean up),
     )
+
+pub returns-in-Err-send-clause-was_open : goal.returns-in-Err-send-clause-was_open
+returns-in-Err-send-clause-was_open g c = λ clean up.
+    c.loop-count.invariant.4 (c.in-Ok.ensures.ok.1.was_clean clean) (c.in-Ok.ensures.was_open clean up)

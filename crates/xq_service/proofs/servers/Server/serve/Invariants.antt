@@ -1,5 +1,5 @@
 use Rattle.std.proofs.Common.{◌≡◌, List, ℕ, [], length}
-use Rattle.xq_rows.specs.Documents.{IsClean, StandsFor}
+use Rattle.xq_rows.specs.Documents.{IsClean, IsOpen, StandsFor}
 use Rattle.xq_service.specs.Run.{Reply, written}
 use Rattle.xq_service.specs.Service.{Served}
 use Rattle.xq_service.proofs.servers.Server.serve.Given as goal
@@ -10,3 +10,4 @@ invariant-loop-count g l = (messages : List (List ℕ)) × (replies : List Reply
     × Served (IsClean g.S.Store) (StandsFor g.S.Store) l.fn.self l.self (g.R.Read.remaining l.fn.reader) (g.R.Read.remaining l.reader)
     (g.W.Write.contents l.fn.writer) (g.W.Write.contents l.writer) messages replies [] (written replies)
     × (length messages ≡ l.count)
+    × (IsClean g.S.Store l.self → IsOpen g.S.Store l.self → IsOpen g.S.Store l.fn.self)
