@@ -2,6 +2,7 @@ pub mod Equations
 pub mod CoreEquations
 pub mod PlanEquations
 pub mod SameForms
+pub mod Growth
 pub mod Writing
 pub mod CoreWriting
 pub mod PlanWriting
