@@ -30,7 +30,11 @@ fn first_fault_in_text_order_answers(rt: HostRuntime) {
         ("for $p:x in $q return 1", Code::ProfPrefix),
     ];
     for (text, code) in rows {
-        assert_eq!(rt; outcome_of(rt.alloc(), text), Err(Fault::Code(code)), "{text}");
+        assert_eq!(rt;
+            outcome_of(rt.alloc(), text),
+            Err(Fault::Code(code)),
+            "{text}"
+        );
     }
 }
 
@@ -44,13 +48,26 @@ fn variables_are_in_scope(rt: HostRuntime) {
         ("(for $x in 1 return $x), $x", Code::XPST0008),
         ("(some $x in 1 satisfies $x), $x", Code::XPST0008),
         ("some $x in $y, $y in 1 satisfies 1", Code::XPST0008),
-        ("for $x in (let $y := 1 return $y) return $y", Code::XPST0008),
-        ("let $x := 1 return (let $x := 2 return $x), $x", Code::XPST0008),
-        ("(let $x := 1, $y := (let $x := 2 return $x), $z := $x return $y), $z", Code::XPST0008),
+        (
+            "for $x in (let $y := 1 return $y) return $y",
+            Code::XPST0008,
+        ),
+        (
+            "let $x := 1 return (let $x := 2 return $x), $x",
+            Code::XPST0008,
+        ),
+        (
+            "(let $x := 1, $y := (let $x := 2 return $x), $z := $x return $y), $z",
+            Code::XPST0008,
+        ),
         ("for $x at $x in 1 return $x", Code::XQST0089),
     ];
     for (text, code) in rows {
-        assert_eq!(rt; outcome_of(rt.alloc(), text), Err(Fault::Code(code)), "{text}");
+        assert_eq!(rt;
+            outcome_of(rt.alloc(), text),
+            Err(Fault::Code(code)),
+            "{text}"
+        );
     }
     let passed = [
         "for $x at $p in (1, 2) return ($x, $p)",
@@ -70,15 +87,28 @@ fn variables_are_in_scope(rt: HostRuntime) {
 fn grouping_variables_are_bound_by_their_own_flwor(rt: HostRuntime) {
     let rows = [
         ("for $x in 1 group by $y return 1", Code::XQST0094),
-        ("let $y := 1 return for $x in 1 group by $y return 1", Code::XQST0094),
-        ("some $y in 1 satisfies (for $x in 1 group by $y return 1)", Code::XQST0094),
+        (
+            "let $y := 1 return for $x in 1 group by $y return 1",
+            Code::XQST0094,
+        ),
+        (
+            "some $y in 1 satisfies (for $x in 1 group by $y return 1)",
+            Code::XQST0094,
+        ),
         ("for $x in 1 group by $k := $k return 1", Code::XPST0008),
         ("for $x in 1 group by $p:x return 1", Code::ProfPrefix),
         ("for $x in 1 group by $y, $y := 1 return 1", Code::XQST0094),
-        ("for $x in (for $z in 1 return 1) group by $z return 1", Code::XQST0094),
+        (
+            "for $x in (for $z in 1 return 1) group by $z return 1",
+            Code::XQST0094,
+        ),
     ];
     for (text, code) in rows {
-        assert_eq!(rt; outcome_of(rt.alloc(), text), Err(Fault::Code(code)), "{text}");
+        assert_eq!(rt;
+            outcome_of(rt.alloc(), text),
+            Err(Fault::Code(code)),
+            "{text}"
+        );
     }
     let passed = [
         "for $x in 1 group by $x return $x",
@@ -113,7 +143,11 @@ fn calls_are_of_the_library(rt: HostRuntime) {
         ("my:count(1)", Code::ProfPrefix),
     ];
     for (text, code) in rows {
-        assert_eq!(rt; outcome_of(rt.alloc(), text), Err(Fault::Code(code)), "{text}");
+        assert_eq!(rt;
+            outcome_of(rt.alloc(), text),
+            Err(Fault::Code(code)),
+            "{text}"
+        );
     }
     let passed = [
         "count(1), fn:count(1), xs:integer(1), xs:untypedAtomic(1)",
