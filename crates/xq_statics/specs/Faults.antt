@@ -25,7 +25,7 @@ unprefixed (Some prefix) fault = Some ProfPrefix
 abbrev pub position_fault : Text → Text → Option Code
 position_fault at ranging = if text_eq at ranging then Some XQST0089 else None
 
--- XQuery 3.1, 3.1.5.1: a function of that name takes so many arguments
+-- XQuery 3.1, 3.1.5: a function of that name takes so many arguments
 abbrev pub arity_fault : Option Function → ℕ → Option Code
 arity_fault None count = Some XPST0017
 arity_fault (Some function) count = unless (admits (arity function) count) XPST0017

@@ -15,7 +15,7 @@ use xq_expressions::Expr;
 
 /// Whether a query may be evaluated: `Ok` where no name, variable or call of it has a static
 /// fault, and else the code of the first that has one, in the order of the text (XQuery 3.1,
-/// section 2.2.5): XPST0008, XPST0017, XQST0089, XQST0094, `prof:PREFIX` or `prof:TYPE`. A
+/// section 2.3.1): XPST0008, XPST0017, XQST0089, XQST0094, `prof:PREFIX` or `prof:TYPE`. A
 /// refused growth is want of memory.
 pub fn check(alloc: Global, query: &Expr) -> Result<(), Fault>
     ensures { Judges result (static_fault query.now) }
