@@ -4,9 +4,9 @@ use std::alloc::Global;
 use std::process::Abort;
 use std::test::Fail;
 use xq_atoms::{
-    Atom, Code, CompOp, Decimal, GroupKey, Want, abs, add, cast_bool, cast_dec, cast_int, cast_str,
-    ceiling, compare_general, compare_value, dec_literal, div, floor, idiv, int_literal, mod_, mul,
-    neg, print, round, sub,
+    Atom, Code, CompOp, Decimal, GroupKey, Want, abs, add, address_ok, cast_bool, cast_dec,
+    cast_int, cast_str, ceiling, compare_general, compare_value, dec_literal, div, floor, idiv,
+    int_literal, mod_, mul, neg, print, round, sub,
 };
 
 /// One more than the greatest number of millionths.
@@ -259,4 +259,24 @@ fn each_growth(rt: HostRuntime) {
         None => "",
     };
     assert_eq!(rt; out.as_str(), printed);
+}
+
+/// An address has 1 to 200 bytes of letters, digits and four signs.
+#[test]
+fn addresses(rt: HostRuntime) {
+    let longest = [b'a'; 200];
+    let too_long = [b'a'; 201];
+    let rows: [(&[u8], bool); 8] = [
+        (b"", false),
+        (b"a", true),
+        (&longest, true),
+        (&too_long, false),
+        (b"A/z0._-9", true),
+        (b"a b", false),
+        (b"a:b", false),
+        (b"\xc3\xa4", false),
+    ];
+    for (bytes, is_address) in rows {
+        assert_eq!(rt; address_ok(bytes), is_address);
+    }
 }

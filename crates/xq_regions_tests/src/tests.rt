@@ -137,3 +137,21 @@ fn takes_many_nodes(rt: HostRuntime) -> Result<(), AllocError> {
     assert!(rt; Fragment::from_rows(attributes).is_ok());
     Ok(())
 }
+
+/// Elements one below the other, so many levels below the root.
+fn deep(alloc: Global, levels: u32) -> Result<Vec<NodeRow>, AllocError> {
+    let mut rows = Vec::new(alloc);
+    for level in 0..=levels {
+        let place = (level, levels.saturating_sub(level), level);
+        rows.push(row(alloc, place, Kind::Element, "a", "")?)?;
+    }
+    Ok(rows)
+}
+
+#[test]
+fn takes_a_hundred_levels(rt: HostRuntime) -> Result<(), AllocError> {
+    assert!(rt; Fragment::from_rows(deep(rt.alloc(), 100)?).is_ok());
+    assert!(rt; Fragment::from_rows(deep(rt.alloc(), 101)?).is_err());
+    assert!(rt; Fragment::from_rows(Vec::new(rt.alloc())).is_err());
+    Ok(())
+}

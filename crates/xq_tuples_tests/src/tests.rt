@@ -16,6 +16,7 @@ enum Sample {
     Dec(i64),
     Str(&'static str),
     Untyped(&'static str),
+    Bool(bool),
     Row(u32),
 }
 
@@ -29,6 +30,16 @@ const DESCENDING: OrderSpec = OrderSpec {
     greatest: false,
 };
 
+const EMPTY_GREATEST: OrderSpec = OrderSpec {
+    descending: false,
+    greatest: true,
+};
+
+const DESCENDING_EMPTY_GREATEST: OrderSpec = OrderSpec {
+    descending: true,
+    greatest: true,
+};
+
 /// The item, where the sample is one.
 fn item(alloc: Global, sample: Sample) -> Result<Option<Item>, Fault> {
     Ok(Some(match sample {
@@ -37,6 +48,7 @@ fn item(alloc: Global, sample: Sample) -> Result<Option<Item>, Fault> {
         Sample::Dec(integer) => Item::Atom(Atom::Dec(Decimal::from_int(integer))),
         Sample::Str(text) => Item::Atom(Atom::Str(String::from_str(alloc, text)?)),
         Sample::Untyped(text) => Item::Atom(Atom::Untyped(String::from_str(alloc, text)?)),
+        Sample::Bool(truth) => Item::Atom(Atom::Bool(truth)),
         Sample::Row(pre) => Item::Node(Node { tree: 0, pre }),
     }))
 }
@@ -300,4 +312,139 @@ fn keys_of_one_kind(rt: HostRuntime) -> Result<(), Fail> {
 fn each_allocation(rt: HostRuntime) {
     let outcome = all_rows(&rt, rt.alloc());
     assert!(rt; matches!(outcome, Ok(()) | Err(Fault::Want(Want::Memory))));
+}
+
+/// The samples in the order of their own keys, as they are printed; an empty one prints nothing.
+fn in_order(
+    rt: &impl Abort,
+    alloc: Global,
+    samples: &[Sample],
+    spec: OrderSpec,
+) -> Result<String, Fault> {
+    let mut numbers = Vec::new(alloc);
+    for at in 0..samples.len() {
+        numbers.push(Sample::Int(at as i64))?;
+    }
+    let stream = for_each(rt, alloc, &numbers, false)?;
+    let stream = order(rt, alloc, stream, column(alloc, samples)?, spec)?;
+    returned(rt, alloc, &stream, 0)
+}
+
+/// Where the empty key stands, with and without `descending`; booleans; ties, which stay.
+#[test]
+fn orders_by_one_key(rt: HostRuntime) -> Result<(), Fail> {
+    let alloc = rt.alloc();
+    let numbers = [Sample::Int(5), Sample::Nothing, Sample::Dec(3)];
+    let truths = [Sample::Bool(true), Sample::Bool(false), Sample::Nothing];
+    let ties = [
+        Sample::Int(1),
+        Sample::Int(2),
+        Sample::Dec(1),
+        Sample::Int(2),
+    ];
+    let rows: [(&[Sample], OrderSpec, &str); 9] = [
+        (&numbers, ASCENDING, "1, 2, 0"),
+        (&numbers, DESCENDING, "0, 2, 1"),
+        (&numbers, EMPTY_GREATEST, "2, 0, 1"),
+        (&numbers, DESCENDING_EMPTY_GREATEST, "1, 0, 2"),
+        (&truths, ASCENDING, "2, 1, 0"),
+        (&truths, DESCENDING, "0, 1, 2"),
+        (&ties, ASCENDING, "0, 2, 1, 3"),
+        (&ties, DESCENDING, "1, 3, 0, 2"),
+        (&[Sample::Nothing, Sample::Nothing], DESCENDING, "0, 1"),
+    ];
+    for (samples, spec, wanted) in rows {
+        assert_eq!(rt; in_order(&rt, alloc, samples, spec)?.as_str(), wanted);
+    }
+    Ok(())
+}
+
+/// The keys of two specifications, for tuples numbered from 0.
+fn two_columns(
+    alloc: Global,
+    first: &[Sample],
+    second: &[Sample],
+) -> Result<Vec<Vec<Vec<Atom>>>, Fault> {
+    let mut keys = Vec::new(alloc);
+    keys.push(column(alloc, first)?)?;
+    keys.push(column(alloc, second)?)?;
+    Ok(keys)
+}
+
+/// The later specification decides where the earlier one does not, each with its own words.
+#[test]
+fn orders_by_two_keys(rt: HostRuntime) -> Result<(), Fail> {
+    let alloc = rt.alloc();
+    let numbers = [
+        Sample::Int(0),
+        Sample::Int(1),
+        Sample::Int(2),
+        Sample::Int(3),
+    ];
+    let stream = for_each(&rt, alloc, &numbers, false)?;
+    let first = [
+        Sample::Int(2),
+        Sample::Int(1),
+        Sample::Int(2),
+        Sample::Int(1),
+    ];
+    let second = [
+        Sample::Str("a"),
+        Sample::Str("a"),
+        Sample::Str("b"),
+        Sample::Str("a"),
+    ];
+    let keys = two_columns(alloc, &first, &second)?;
+    assert!(rt; keys.iter().all(|column| column.len() == stream.len()));
+    let stream = stream.order(keys, &[ASCENDING, DESCENDING])?;
+    assert_eq!(rt; returned(&rt, alloc, &stream, 0)?.as_str(), "1, 3, 2, 0");
+    Ok(())
+}
+
+/// Two grouping variables: one group for each pair of keys, in the order of first appearance.
+#[test]
+fn groups_by_two_variables(rt: HostRuntime) -> Result<(), Fail> {
+    let alloc = rt.alloc();
+    let first = [
+        Sample::Int(1),
+        Sample::Dec(1),
+        Sample::Nothing,
+        Sample::Int(1),
+    ];
+    let second = [
+        Sample::Bool(true),
+        Sample::Bool(false),
+        Sample::Nothing,
+        Sample::Bool(true),
+    ];
+    let numbers = [
+        Sample::Int(0),
+        Sample::Int(1),
+        Sample::Int(2),
+        Sample::Int(3),
+    ];
+    let stream = for_each(&rt, alloc, &numbers, false)?;
+    let stream = bind(&rt, alloc, stream, &first)?;
+    let stream = bind(&rt, alloc, stream, &second)?;
+    let keys = two_columns(alloc, &first, &second)?;
+    assert!(rt; keys.iter().all(|column| column.len() == stream.len()));
+    let stream = stream.group(&[1, 2], keys)?;
+    assert_eq!(rt; counts(&rt, alloc, &stream, 0)?.as_str(), "2, 1, 1");
+    assert_eq!(rt; returned(&rt, alloc, &stream, 0)?.as_str(), "0, 3, 1, 2");
+    Ok(())
+}
+
+/// A stream without tuples stays one through each clause.
+#[test]
+fn no_tuples(rt: HostRuntime) -> Result<(), Fail> {
+    let alloc = rt.alloc();
+    let stream = for_each(&rt, alloc, &[], true)?;
+    assert_eq!(rt; stream.len(), 0);
+    let stream = bind(&rt, alloc, stream, &[])?;
+    let stream = group(&rt, alloc, stream, 0, Vec::new(alloc))?;
+    let stream = order(&rt, alloc, stream, Vec::new(alloc), DESCENDING)?;
+    assert_eq!(rt; stream.len(), 0);
+    let kept = stream.keep(&[]);
+    assert_eq!(rt; kept.len(), 0);
+    Ok(())
 }
