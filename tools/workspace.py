@@ -18,18 +18,24 @@ def lines_of(crates):
         return [line for line in lines if line.split(":")[0] in crates]
 
 
-def built(folder, crates, uses, source):
-    """Proves and builds the program over the crates in the folder, and gives its path. What is built of the crates is taken along."""
+def begin(folder, crates, leave_out=("incremental", "must-fail")):
+    """Makes the folder a workspace of copies of the crates, with what is built of them."""
     for crate in crates:
         shutil.copytree(os.path.join(TOP, "crates", crate), os.path.join(folder, "crates", crate),
-                        ignore=shutil.ignore_patterns("incremental", "must-fail"))
+                        ignore=shutil.ignore_patterns(*leave_out))
+    shutil.copy(os.path.join(TOP, "HANDLES"), folder)
+    with open(os.path.join(folder, "crates.txt"), "w") as lines:
+        lines.writelines(lines_of(crates))
+
+
+def built(folder, crates, uses, source):
+    """Proves and builds the program over copies of the crates in the folder; gives its path."""
+    begin(folder, crates)
     program = os.path.join(folder, "crates", "program")
     os.makedirs(os.path.join(program, "src"))
     with open(os.path.join(program, "src", "main.rt"), "w") as main:
         main.write(source)
-    shutil.copy(os.path.join(TOP, "HANDLES"), folder)
-    with open(os.path.join(folder, "crates.txt"), "w") as lines:
-        lines.writelines(lines_of(crates))
+    with open(os.path.join(folder, "crates.txt"), "a") as lines:
         lines.write("program: %s\n" % " ".join(uses))
     done = subprocess.run(["rt", "run"], cwd=program, input=b"", capture_output=True)
     path = os.path.join(program, "out", "program")

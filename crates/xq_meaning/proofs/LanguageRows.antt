@@ -9,7 +9,7 @@ use Rattle.xq_expressions.specs.declared.operators.ComparisonOperator.TheVariant
 use Rattle.xq_expressions.specs.declared.operators.NodeComparison.TheVariants.{Is, Precedes}
 use Rattle.xq_expressions.specs.declared.operators.AxisName.TheVariants as axis
 use Rattle.xq_expressions.specs.declared.operators.NodeTest.TheVariants as written
-use Rattle.xq_meaning.proofs.Writing.{num, dec, txt, var, dot, seq, none, call, call_by, prefixed, sum, product, unary, to, concat, compare, union, sets, any_of, all_of, iff, root, path, path_from_root, path_below_root, primary, filtered, named, along, bare_step, child, at_test, at, up, element, element_by, attribute, instruction, instruction_by, document, text, comment, flwor, let_be, bare, plus, times, div_by, idiv_by, mod_by, intersect, without, slash, below}
+use Rattle.xq_meaning.proofs.Writing.{bare, prefixed, num, dec, txt, var, dot, seq, none, call, call_by, plus, times, div_by, idiv_by, mod_by, intersect, without, sum, product, unary, to, concat, compare, union, sets, any_of, all_of, iff, slash, below, root, path, path_from_root, path_below_root, primary, filtered, named, along, bare_step, child, at_test, at, up, element, element_by, attribute, instruction, instruction_by, document, text, comment, flwor, let_be}
 use Rattle.xq_meaning.proofs.Library.{answer}
 
 -- 1, 1.5, "a", ()

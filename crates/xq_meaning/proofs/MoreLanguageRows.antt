@@ -9,7 +9,7 @@ use Rattle.xq_expressions.specs.declared.operators.Relation.TheVariants.{Equal}
 use Rattle.xq_expressions.specs.declared.operators.ComparisonOperator.TheVariants.{General, Node}
 use Rattle.xq_expressions.specs.declared.operators.NodeComparison.TheVariants.{Is}
 use Rattle.xq_expressions.specs.declared.operators.Quantifier.TheVariants as quantifier
-use Rattle.xq_meaning.proofs.Writing.{num, dec, txt, txt8, var, seq, none, call, call_by, prefixed, sum, product, unary, to, compare, quantified, path, primary, filtered, named, bare_step, child, at, flwor, for_all, for_in, let_all, let_be, where_is, grouping, assigned, group_by, order_by, ascending, descending, minus, times, div_by, mod_by, slash, below, be, each, each_at, by}
+use Rattle.xq_meaning.proofs.Writing.{prefixed, num, dec, txt, txt8, var, seq, none, call, call_by, minus, times, div_by, mod_by, sum, product, unary, to, compare, quantified, slash, below, path, primary, filtered, named, bare_step, child, at, flwor, be, each, each_at, for_all, for_in, let_all, let_be, where_is, grouping, assigned, group_by, by, order_by, ascending, descending}
 use Rattle.xq_meaning.proofs.Library.{answer}
 
 -- for $x at $p in ("a", "b") return ($p, $x)

@@ -1,0 +1,158 @@
+#!/usr/bin/env python3
+"""Has the checker compute queries of a corpus from the definitions of crates/xq_meaning.
+
+    tools/compute_corpus.py --corpus FOLDER SET [--most N]
+
+The folder has docs.jsonl, lines of JSON with a set as s and its documents by address as docs, and
+public.jsonl, lines with the set as s, the query as q and its answer as a or its code as e. Each
+query of the set, or of its first N, becomes a row of a crate in a workspace of its own, over
+copies of this repository's crates and what they have built. Queries that are refused before
+evaluation are left out: the definitions say nothing of them.
+
+Prints the queries whose row is refused and those that pass the checker's limit of steps, each by
+its line in public.jsonl, and last 'agree N of M'.
+"""
+
+import argparse
+import json
+import os
+import re
+import subprocess
+import sys
+import tempfile
+
+from rows import documents
+from rows.files import Row, file_of
+from rows.terms import meaning
+from rows.tokens import Refused
+from workspace import begin
+
+CRATES = ("xq_atoms", "xq_expressions", "xq_regions", "xq_signatures", "xq_values", "xq_meaning")
+CRATE = "xq_corpus"
+ROWS_A_FILE = 10
+BEFORE_EVALUATION = ("XPST0003", "XPST0008", "XPST0017", "XQST0089", "XQST0090", "XQST0094")
+# An error with its other lines, which are indented; and what one says of two values.
+FAULT = re.compile(r"(?m)^\S*proofs/\w+\.antt:\d+:\d+: error: `(line_\d+)`: (.*(?:\n  .*)*)")
+COMPUTED = re.compile(r"computed as far as they go, the two types (.*)")
+PAST_LIMIT = "stopped at the step limit"
+
+
+def lines_of(folder, name):
+    """The values of a file of lines of JSON."""
+    with open(os.path.join(folder, name)) as file:
+        return [json.loads(line) for line in file]
+
+
+def documents_of(folder, wanted):
+    """The documents of a set, by address."""
+    for line in lines_of(folder, "docs.jsonl"):
+        if line["s"] == wanted:
+            return line["docs"]
+    sys.exit(f"no set {wanted} in {folder}")
+
+
+def is_evaluated(line):
+    """Whether the definitions give the query of a line a meaning: it is not refused before."""
+    code = line.get("e")
+    try:
+        meaning(line["q"])
+    except Refused as refused:
+        if str(refused) != code:
+            raise
+        return False
+    return code not in BEFORE_EVALUATION
+
+
+def rows_of(folder, wanted):
+    """The rows of a set, each named by its line."""
+    for count, line in enumerate(lines_of(folder, "public.jsonl"), 1):
+        if line["s"] == wanted and is_evaluated(line):
+            answer = line["a"] if "a" in line else line["e"]
+            yield Row(f"line_{count}", line["q"], answer, "a" not in line)
+
+
+def write(path, text):
+    os.makedirs(os.path.dirname(path), exist_ok=True)
+    with open(path, "w") as file:
+        file.write(text)
+
+
+def write_crate(folder, documents_by_address):
+    """A crate over the others, with the documents and no rows yet; gives its folder."""
+    begin(folder, CRATES, leave_out=("must-fail",))
+    with open(os.path.join(folder, "crates.txt"), "a") as lines:
+        lines.write("%s: %s sqlite_items\n" % (CRATE, " ".join(CRATES)))
+    crate = os.path.join(folder, "crates", CRATE)
+    write(f"{crate}/src/lib.rt", "//! Rows of a corpus.\n#![tactic(auto)]\n")
+    write(f"{crate}/specs/Lib.antt", "")
+    write(f"{crate}/proofs/Documents.antt", documents.file_of(documents_by_address))
+    return crate
+
+
+def write_rows(crate, files):
+    """The files of rows, by their modules; one that has none left is left out."""
+    modules = ["pub mod Documents"]
+    for name, rows in files.items():
+        if rows:
+            modules.append(f"mod {name}")
+            answers = f"Rattle.{CRATE}.proofs.Documents"
+            text = file_of("Rows of a corpus.", rows, answers, encodes=True)
+            write(f"{crate}/proofs/{name}.antt", text)
+    write(f"{crate}/proofs/Lib.antt", "\n".join(modules) + "\n")
+
+
+def faults_of(crate):
+    """What the checker has against rows, by their names."""
+    done = subprocess.run(["rt", "check"], cwd=crate, capture_output=True, text=True)
+    faults = dict(FAULT.findall(done.stdout + done.stderr))
+    if done.returncode and not faults:
+        sys.exit(done.stdout + done.stderr)
+    return faults
+
+
+def all_faults(crate, rows):
+    """The faults of all rows; one can hide others, so rows are taken out until none has one."""
+    files = {f"Rows{at}": rows[at:at + ROWS_A_FILE] for at in range(0, len(rows), ROWS_A_FILE)}
+    found = {}
+    while True:
+        write_rows(crate, files)
+        faults = faults_of(crate)
+        if not faults:
+            return found
+        found.update(faults)
+        files = {name: [row for row in part if row.name not in faults]
+                 for name, part in files.items()}
+
+
+def told(fault):
+    """In which way a row is refused."""
+    if PAST_LIMIT in fault:
+        return "past the limit of steps"
+    computed = COMPUTED.search(fault)
+    return f"differs ({computed.group(1)})" if computed else "differs"
+
+
+def options():
+    parser = argparse.ArgumentParser(description=__doc__.partition("\n")[0])
+    parser.add_argument("--corpus", required=True, metavar="FOLDER")
+    parser.add_argument("--most", type=int, metavar="N")
+    parser.add_argument("set", metavar="SET")
+    return parser.parse_args()
+
+
+def main():
+    given = options()
+    documents_by_address = documents_of(given.corpus, given.set)
+    rows = list(rows_of(given.corpus, given.set))[:given.most]
+    with tempfile.TemporaryDirectory() as folder:
+        faults = all_faults(write_crate(folder, documents_by_address), rows)
+    for row in rows:
+        if row.name in faults:
+            query = json.dumps(row.query, ensure_ascii=False)
+            print("%s: %s: %s" % (row.name, told(faults[row.name]), query))
+    print("agree %d of %d" % (len(rows) - len(faults), len(rows)))
+    return 1 if faults else 0
+
+
+if __name__ == "__main__":
+    sys.exit(main())

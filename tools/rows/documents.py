@@ -1,0 +1,74 @@
+"""Writes documents, given by their constructors, as trees for worked rows."""
+
+from rows import queries as form
+from rows.terms import is_plain, quoted, written
+
+NODES = {"attribute": "att", "processing-instruction": "ins", "text": "tex", "comment": "note"}
+# Beside the words of Library, those for nodes whose values have characters beyond ASCII.
+HEAD = """\
+-- The documents of a set, and what a query is answered over them.
+use Prim.Native.String.{String}
+use Rattle.std.specs.Prelude.{[], ◌∷◌, codes}
+use Rattle.xq_regions.specs.declared.Kind.TheVariants as kind
+use Rattle.xq_atoms.specs.Judged.{Judged}
+use Rattle.xq_atoms.specs.Text.{Text}
+use Rattle.xq_regions.specs.Forest.{end, node}
+use Rattle.xq_regions.specs.Tree.{Tree}
+use Rattle.xq_values.specs.Content.{label}
+use Rattle.xq_meaning.specs.Meaning.{Meaning, first_frame, answered}
+use Rattle.xq_meaning.proofs.Writing.{utf8}
+use Rattle.xq_meaning.proofs.Library.{Nodes, el, att, tex, note, ins, tree}
+
+abbrev pub att8 : String → String → Nodes
+att8 s value = node (label kind.Attribute (codes s) (utf8 value)) end end
+
+abbrev pub tex8 : String → Nodes
+tex8 value = node (label kind.Text [] (utf8 value)) end end
+
+abbrev pub note8 : String → Nodes
+note8 value = node (label kind.Comment [] (utf8 value)) end end
+
+abbrev pub ins8 : String → String → Nodes
+ins8 s value = node (label kind.ProcessingInstruction (codes s) (utf8 value)) end end
+"""
+
+
+def parts_of(content):
+    """The parts of what stands in braces."""
+    return content.parts if isinstance(content, form.Sequence) else [content]
+
+
+def value_of(content):
+    """The value of a node whose content is one string, or nothing."""
+    return "" if content == form.Sequence([]) else content.text
+
+
+def node_of(constructor):
+    """The term of a node."""
+    if constructor.kind == "element":
+        parts = list(map(node_of, parts_of(constructor.content)))
+        return ("el", quoted(constructor.name.local), parts)
+    value = value_of(constructor.content)
+    word = NODES[constructor.kind] + ("" if is_plain(value) else "8")
+    if isinstance(constructor, form.Named):
+        return (word, quoted(constructor.name.local), quoted(value))
+    return (word, quoted(value))
+
+
+def tree_of(text):
+    """The term of the document that a constructor's text gives."""
+    return ("tree", list(map(node_of, parts_of(form.tree(text).content))))
+
+
+def file_of(documents):
+    """A file that defines the documents, by the bytes of their addresses, and `answer`."""
+    addresses = sorted(documents, key=str.encode)
+    names = [f"document{at}" for at in range(len(addresses))]
+    parts = [HEAD]
+    for name, address in zip(names, addresses):
+        tree = written(tree_of(documents[address]))
+        parts.append(f"abbrev pub {name} : Tree\n{name} = {tree}\n")
+    stored = written([("codes", quoted(address)) for address in addresses])
+    parts.append("abbrev pub answer : Meaning → Judged Text\n"
+                 f"answer m = answered (m (first_frame {stored}) {written(names)})\n")
+    return "\n".join(parts)

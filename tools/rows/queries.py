@@ -1,0 +1,429 @@
+"""Reads the text of a query into a tree, by the grammar of XQuery 3.1 (A.1) in this profile.
+
+The forms are those of crates/xq_expressions. Static checks are not made: a variable that is not
+bound, or a call of no function, is read as any other.
+"""
+
+from collections import namedtuple
+
+from rows.tokens import Name, Refused, Token, tokens
+
+# Primary expressions.
+Integer = namedtuple("Integer", "value")
+Decimal = namedtuple("Decimal", "millionths")
+String = namedtuple("String", "text")
+Variable = namedtuple("Variable", "name")
+ContextItem = namedtuple("ContextItem", "")
+Sequence = namedtuple("Sequence", "parts")
+Call = namedtuple("Call", "name arguments")
+
+# Operators. A chain has pairs of an operator and its right operand.
+Or = namedtuple("Or", "parts")
+And = namedtuple("And", "parts")
+Comparison = namedtuple("Comparison", "left kind relation right")
+Concat = namedtuple("Concat", "parts")
+Range = namedtuple("Range", "first last")
+Sum = namedtuple("Sum", "first rest")
+Product = namedtuple("Product", "first rest")
+Union = namedtuple("Union", "parts")
+SetOperation = namedtuple("SetOperation", "first rest")
+Unary = namedtuple("Unary", "signs part")
+If = namedtuple("If", "condition yes no")
+Quantified = namedtuple("Quantified", "quantifier bindings condition")
+
+# Paths: pairs of a separator and a step follow the first step.
+Root = namedtuple("Root", "")
+Path = namedtuple("Path", "start first rest")
+PrimaryStep = namedtuple("PrimaryStep", "part predicates")
+ParentStep = namedtuple("ParentStep", "predicates")
+AttributeStep = namedtuple("AttributeStep", "test predicates")
+AxisStep = namedtuple("AxisStep", "axis test predicates")
+ShortStep = namedtuple("ShortStep", "test predicates")
+NameTest = namedtuple("NameTest", "name")
+KindTest = namedtuple("KindTest", "kind")
+NamedKindTest = namedtuple("NamedKindTest", "kind name")
+
+# Constructors: the name is a Name, or the expression that gives it.
+Named = namedtuple("Named", "kind name content")
+Unnamed = namedtuple("Unnamed", "kind content")
+
+# FLWOR.
+Flwor = namedtuple("Flwor", "clauses result")
+For = namedtuple("For", "bindings")
+Each = namedtuple("Each", "name position range")
+Let = namedtuple("Let", "bindings")
+Binding = namedtuple("Binding", "name value")
+Where = namedtuple("Where", "condition")
+Group = namedtuple("Group", "bindings")
+Order = namedtuple("Order", "keys")
+Key = namedtuple("Key", "part descends is_empty_greatest")
+
+
+def symbol(text):
+    return Token("symbol", text)
+
+
+def word(text):
+    return Token("name", text)
+
+
+COMMA = symbol(",")
+DOLLAR = symbol("$")
+SIGNS = {symbol("+"): "Plus", symbol("-"): "Minus"}
+PRODUCTS = {symbol("*"): "Times", word("div"): "Div", word("idiv"): "Idiv", word("mod"): "Mod"}
+SETS = {word("intersect"): "Intersect", word("except"): "Except"}
+SEPARATORS = {symbol("/"): "Slash", symbol("//"): "DoubleSlash"}
+COMPARISONS = {
+    word("eq"): ("Value", "Equal"), word("ne"): ("Value", "NotEqual"),
+    word("lt"): ("Value", "Less"), word("le"): ("Value", "LessEqual"),
+    word("gt"): ("Value", "Greater"), word("ge"): ("Value", "GreaterEqual"),
+    symbol("="): ("General", "Equal"), symbol("!="): ("General", "NotEqual"),
+    symbol("<"): ("General", "Less"), symbol("<="): ("General", "LessEqual"),
+    symbol(">"): ("General", "Greater"), symbol(">="): ("General", "GreaterEqual"),
+    word("is"): ("Node", "Is"), symbol("<<"): ("Node", "Precedes"),
+    symbol(">>"): ("Node", "Follows")}
+AXES = {
+    "child": "Child", "descendant": "Descendant", "descendant-or-self": "DescendantOrSelf",
+    "self": "SelfNode", "attribute": "Attribute", "parent": "Parent", "ancestor": "Ancestor",
+    "ancestor-or-self": "AncestorOrSelf", "following": "Following",
+    "following-sibling": "FollowingSibling", "preceding": "Preceding",
+    "preceding-sibling": "PrecedingSibling"}
+KINDS = {"node": "Node", "text": "Text", "comment": "Comment", "document-node": "Document"}
+NAMED_KINDS = {"processing-instruction": "ProcessingInstruction", "element": "Element",
+               "attribute": "Attribute"}
+UNNAMED_NODES = ("document", "text", "comment")
+# Names that no function has.
+RESERVED = frozenset((
+    "array", "attribute", "comment", "document-node", "element", "empty-sequence", "function",
+    "if", "item", "map", "namespace-node", "node", "processing-instruction", "schema-attribute",
+    "schema-element", "switch", "text", "typeswitch"))
+
+
+def tree(text):
+    """The tree of a query's text; Refused where it is none."""
+    reader = Reader(tokens(text))
+    form = reader.expression()
+    reader.expect(Token("end", None))
+    return form
+
+
+class Reader:
+    """Reads forms from tokens; each method takes the tokens of what it gives."""
+
+    def __init__(self, given):
+        self.tokens, self.at = given, 0
+
+    def peek(self, ahead=0):
+        """The next token, or one after it."""
+        return self.tokens[min(self.at + ahead, len(self.tokens) - 1)]
+
+    def stands(self, *wanted):
+        """Whether these tokens come next."""
+        return all(self.peek(ahead) == token for ahead, token in enumerate(wanted))
+
+    def take(self):
+        token = self.peek()
+        self.at += 1
+        return token
+
+    def takes(self, *wanted):
+        """Takes these tokens if they come next, and says whether they did."""
+        is_next = self.stands(*wanted)
+        if is_next:
+            self.at += len(wanted)
+        return is_next
+
+    def expect(self, *wanted):
+        """Takes these tokens, which have to come next."""
+        if not self.takes(*wanted):
+            raise Refused("XPST0003")
+
+    def parts(self, part, *separators):
+        """One or more parts, with one of the separators between two."""
+        found = [part()]
+        while self.peek() in separators:
+            self.take()
+            found.append(part())
+        return found
+
+    def joined(self, form, part, *separators):
+        """Parts as the form; one alone is itself."""
+        found = self.parts(part, *separators)
+        return form(found) if len(found) > 1 else found[0]
+
+    def chain(self, form, part, operators):
+        """A first part, and each operator with its right operand."""
+        first, rest = part(), []
+        while self.peek() in operators:
+            rest.append((operators[self.take()], part()))
+        return form(first, rest) if rest else first
+
+    def name(self):
+        token = self.take()
+        if token.kind == "prefixed":
+            return token.value
+        if token.kind == "name":
+            return Name(None, token.value)
+        raise Refused("XPST0003")
+
+    def variable(self):
+        self.expect(DOLLAR)
+        return self.name()
+
+    def expression(self):
+        return self.joined(Sequence, self.single, COMMA)
+
+    def single(self):
+        for first in ("for", "let"):
+            if self.stands(word(first), DOLLAR):
+                return self.flwor()
+        for quantifier in ("some", "every"):
+            if self.stands(word(quantifier), DOLLAR):
+                return self.quantified()
+        if self.stands(word("if"), symbol("(")):
+            return self.conditional()
+        return self.joined(Or, self.conjunction, word("or"))
+
+    # FLWOR, quantified and conditional expressions
+
+    def flwor(self):
+        clauses = []
+        while not self.takes(word("return")):
+            clauses.append(self.clause())
+        return Flwor(clauses, self.single())
+
+    def clause(self):
+        if self.stands(word("for"), DOLLAR):
+            self.take()
+            return For(self.parts(self.each, COMMA))
+        if self.stands(word("let"), DOLLAR):
+            self.take()
+            return Let(self.parts(self.assigned, COMMA))
+        if self.takes(word("where")):
+            return Where(self.single())
+        if self.takes(word("group"), word("by")):
+            return Group(self.parts(self.grouping, COMMA))
+        if self.stands(word("stable"), word("order")):
+            self.take()
+        self.expect(word("order"), word("by"))
+        return Order(self.parts(self.key, COMMA))
+
+    def each(self):
+        """A variable of `for`, with that of its position."""
+        name = self.variable()
+        position = self.variable() if self.takes(word("at")) else None
+        self.expect(word("in"))
+        return Each(name, position, self.single())
+
+    def assigned(self):
+        """A variable of `let`."""
+        name = self.variable()
+        self.expect(symbol(":="))
+        return Binding(name, self.single())
+
+    def grouping(self):
+        """A variable of `group by`, with the value that it is bound to, or none."""
+        name = self.variable()
+        return Binding(name, self.single() if self.takes(symbol(":=")) else None)
+
+    def key(self):
+        """A key of an order, with its modifiers."""
+        part = self.single()
+        descends = self.takes(word("descending"))
+        if not descends:
+            self.takes(word("ascending"))
+        is_empty_greatest = self.takes(word("empty"), word("greatest"))
+        if not is_empty_greatest:
+            self.takes(word("empty"), word("least"))
+        return Key(part, descends, is_empty_greatest)
+
+    def ranged(self):
+        """A variable of a quantified expression."""
+        name = self.variable()
+        self.expect(word("in"))
+        return Binding(name, self.single())
+
+    def quantified(self):
+        quantifier = self.take().value
+        bindings = self.parts(self.ranged, COMMA)
+        self.expect(word("satisfies"))
+        return Quantified(quantifier, bindings, self.single())
+
+    def conditional(self):
+        self.expect(word("if"), symbol("("))
+        condition = self.expression()
+        self.expect(symbol(")"), word("then"))
+        yes = self.single()
+        self.expect(word("else"))
+        return If(condition, yes, self.single())
+
+    # Operators, from loose to tight
+
+    def conjunction(self):
+        return self.joined(And, self.comparison, word("and"))
+
+    def comparison(self):
+        left = self.concatenation()
+        if self.peek() not in COMPARISONS:
+            return left
+        kind, relation = COMPARISONS[self.take()]
+        return Comparison(left, kind, relation, self.concatenation())
+
+    def concatenation(self):
+        return self.joined(Concat, self.range, symbol("||"))
+
+    def range(self):
+        first = self.sum()
+        return Range(first, self.sum()) if self.takes(word("to")) else first
+
+    def sum(self):
+        return self.chain(Sum, self.product, SIGNS)
+
+    def product(self):
+        return self.chain(Product, self.union, PRODUCTS)
+
+    def union(self):
+        return self.joined(Union, self.set_operation, symbol("|"), word("union"))
+
+    def set_operation(self):
+        return self.chain(SetOperation, self.unary, SETS)
+
+    def unary(self):
+        signs = []
+        while self.peek() in SIGNS:
+            signs.append(SIGNS[self.take()])
+        part = self.path()
+        return Unary(signs, part) if signs else part
+
+    # Paths
+
+    def path(self):
+        if self.takes(symbol("//")):
+            return self.path_from("RootAndBelow")
+        if self.takes(symbol("/")):
+            return self.path_from("Root") if self.begins_step() else Root()
+        return self.path_from("Relative")
+
+    def begins_step(self):
+        kind, value = self.peek()
+        if kind == "symbol":
+            return value in ("$", "(", ".", "..", "@", "*")
+        return kind != "end"
+
+    def path_from(self, start):
+        """Steps; a primary expression alone is itself."""
+        first, rest = self.step(), []
+        while self.peek() in SEPARATORS:
+            rest.append((SEPARATORS[self.take()], self.step()))
+        is_alone = start == "Relative" and not rest
+        if is_alone and isinstance(first, PrimaryStep) and not first.predicates:
+            return first.part
+        return Path(start, first, rest)
+
+    def predicates(self):
+        """None, one or more."""
+        found = []
+        while self.takes(symbol("[")):
+            found.append(self.expression())
+            self.expect(symbol("]"))
+        return found
+
+    def step(self):
+        if self.takes(symbol("..")):
+            return ParentStep(self.predicates())
+        if self.takes(symbol("@")):
+            return AttributeStep(self.test(), self.predicates())
+        kind, value = self.peek()
+        if kind == "name" and value in AXES and self.peek(1) == symbol("::"):
+            self.expect(word(value), symbol("::"))
+            return AxisStep(AXES[value], self.test(), self.predicates())
+        part = self.primary()
+        if part is None:
+            return ShortStep(self.test(), self.predicates())
+        return PrimaryStep(part, self.predicates())
+
+    def test(self):
+        if self.takes(symbol("*")):
+            return KindTest("AnyName")
+        kind, value = self.peek()
+        if kind == "name" and self.peek(1) == symbol("("):
+            if value in KINDS:
+                self.expect(word(value), symbol("("), symbol(")"))
+                return KindTest(KINDS[value])
+            if value in NAMED_KINDS:
+                self.expect(word(value), symbol("("))
+                return NamedKindTest(NAMED_KINDS[value], self.name_of_kind(value))
+        return NameTest(self.name())
+
+    def name_of_kind(self, kind):
+        """The name in a kind test, or none, and the parenthesis after it."""
+        if self.takes(symbol(")")):
+            return None
+        is_any = kind != "processing-instruction" and self.takes(symbol("*"))
+        name = None if is_any else self.name()
+        self.expect(symbol(")"))
+        return name
+
+    # Primary expressions; none where a step along an axis begins
+
+    def primary(self):
+        kind, value = self.peek()
+        match kind:
+            case "integer" | "decimal" | "string":
+                self.take()
+                return {"integer": Integer, "decimal": Decimal, "string": String}[kind](value)
+            case "symbol":
+                return self.primary_of_symbol()
+            case "name" | "prefixed":
+                return self.constructor() or self.call()
+            case _:
+                return None
+
+    def primary_of_symbol(self):
+        if self.stands(DOLLAR):
+            return Variable(self.variable())
+        if self.takes(symbol(".")):
+            return ContextItem()
+        return self.enclosed("(", ")") if self.stands(symbol("(")) else None
+
+    def enclosed(self, left, right):
+        """An expression, or nothing, between two symbols."""
+        self.expect(symbol(left))
+        if self.takes(symbol(right)):
+            return Sequence([])
+        part = self.expression()
+        self.expect(symbol(right))
+        return part
+
+    def constructor(self):
+        """A node constructor, or none where no such begins."""
+        value, brace = self.peek().value, symbol("{")
+        if value in UNNAMED_NODES and self.peek(1) == brace:
+            self.take()
+            return Unnamed(value, self.enclosed("{", "}"))
+        is_named = self.peek(1).kind in ("name", "prefixed") and self.peek(2) == brace
+        if value not in NAMED_KINDS or not (is_named or self.peek(1) == brace):
+            return None
+        self.take()
+        name = self.name() if is_named else self.computed_name()
+        return Named(value, name, self.enclosed("{", "}"))
+
+    def computed_name(self):
+        self.expect(symbol("{"))
+        name = self.expression()
+        self.expect(symbol("}"))
+        return name
+
+    def call(self):
+        """A function call, or none where no such begins."""
+        kind, value = self.peek()
+        is_reserved = kind == "name" and value in RESERVED
+        if is_reserved or self.peek(1) != symbol("("):
+            return None
+        name = self.name()
+        self.expect(symbol("("))
+        if self.takes(symbol(")")):
+            return Call(name, [])
+        arguments = self.parts(self.single, COMMA)
+        self.expect(symbol(")"))
+        return Call(name, arguments)

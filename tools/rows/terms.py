@@ -1,0 +1,205 @@
+"""Writes the meaning of a query as a term, with the words of crates/xq_meaning/proofs/Writing.
+
+A term is a word, a quoted text, an application (a tuple of a word and its arguments) or a list.
+"""
+
+import re
+
+from rows import queries as form
+from rows.tokens import Name, Refused
+
+PATHS = {"Relative": "path", "Root": "path_from_root", "RootAndBelow": "path_below_root"}
+OPERATORS = {
+    "Plus": "plus", "Minus": "minus", "Times": "times", "Div": "div_by", "Idiv": "idiv_by",
+    "Mod": "mod_by", "Intersect": "intersect", "Except": "without", "Slash": "slash",
+    "DoubleSlash": "below"}
+QUANTIFIERS = {"some": "quantifier.Some", "every": "quantifier.Every"}
+NAMED_NODES = {"element": "element", "attribute": "attribute",
+               "processing-instruction": "instruction"}
+# By whether a key descends, and whether an empty one is the greatest.
+MODIFIERS = {(False, False): "ascending", (True, False): "descending",
+             (False, True): "empty_greatest", (True, True): "descending_greatest"}
+
+
+def meaning(text):
+    """The term of what the query of this text means; Refused where it is no query."""
+    return term(form.tree(text))
+
+
+def written(given, is_argument=False):
+    """The text of a term, in parentheses where it stands as an argument and needs them."""
+    if isinstance(given, str):
+        return given
+    if isinstance(given, list):
+        return f"({' ∷ '.join([*map(written, given), '[]'])})" if given else "[]"
+    text = " ".join(written(part, is_argument=True) for part in given)
+    return f"({text})" if is_argument else text
+
+
+def words(given):
+    """The words of a term, without its quoted texts; of a list also its constructors."""
+    if isinstance(given, str):
+        return set() if given.startswith('"') else {given}
+    found = set().union(*map(words, given))
+    if isinstance(given, list):
+        found.add("[]")
+        if given:
+            found.add("◌∷◌")
+    return found
+
+
+def is_plain(text):
+    """Whether the characters of a text are its bytes."""
+    return all(ord(character) < 127 for character in text)
+
+
+def quoted(text):
+    """The text as a literal."""
+    escapes = {"\\": "\\\\", '"': '\\"', "\n": "\\n", "\t": "\\t", "\r": "\\r"}
+    return '"%s"' % re.sub(r'[\\"\n\t\r]', lambda match: escapes[match.group()], text)
+
+
+def spelled(name):
+    """The text of a name, which has no prefix."""
+    if name.prefix is not None:
+        raise Refused("prof:PREFIX")
+    return quoted(name.local)
+
+
+def term(given):
+    """The term of an expression, a clause, a step or a test."""
+    return TERMS[type(given)](given)
+
+
+def terms(given):
+    return [term(part) for part in given]
+
+
+def chain_of(name):
+    """What writes a first operand, and the others with their operators."""
+    return lambda it: (name, term(it.first), followers(it.rest))
+
+
+def followers(rest):
+    """The pairs that follow a first operand or step."""
+    return [(OPERATORS[operator], term(part)) for operator, part in rest]
+
+
+def string_term(it):
+    return ("txt" if is_plain(it.text) else "txt8", quoted(it.text))
+
+
+def call_term(it):
+    prefix, local = it.name
+    if prefix is None:
+        return ("call", quoted(local), terms(it.arguments))
+    return ("call_by", ("prefixed", quoted(prefix), quoted(local)), terms(it.arguments))
+
+
+def named_term(it):
+    """A constructor whose name is written out, or computed."""
+    name = NAMED_NODES[it.kind]
+    if isinstance(it.name, Name):
+        return (name, spelled(it.name), term(it.content))
+    return (f"{name}_by", term(it.name), term(it.content))
+
+
+def primary_step_term(it):
+    if it.predicates:
+        return ("filtered", term(it.part), terms(it.predicates))
+    return ("primary", term(it.part))
+
+
+def step_of(short, long):
+    """What writes a step whose axis is understood: a name alone has a shorter word."""
+    def step_term(it):
+        if isinstance(it.test, form.NameTest) and not it.predicates:
+            return (short, spelled(it.test.name))
+        return (long, term(it.test), terms(it.predicates))
+    return step_term
+
+
+def named_kind_term(it):
+    if it.name is None:
+        return (f"written.{it.kind}", "None")
+    wrapper = "codes" if it.kind == "ProcessingInstruction" else "bare"
+    return (f"written.{it.kind}", ("Some", (wrapper, spelled(it.name))))
+
+
+def for_term(it):
+    first = it.bindings[0]
+    if len(it.bindings) == 1 and first.position is None:
+        return ("for_in", spelled(first.name), term(first.range))
+    return ("for_all", terms(it.bindings))
+
+
+def each_term(it):
+    if it.position is None:
+        return ("each", spelled(it.name), term(it.range))
+    return ("each_at", spelled(it.name), spelled(it.position), term(it.range))
+
+
+def binding_term(it):
+    """A variable with its value, or with what it ranges over."""
+    return ("be", spelled(it.name), term(it.value))
+
+
+def let_term(it):
+    if len(it.bindings) == 1:
+        _, *arguments = binding_term(it.bindings[0])
+        return ("let_be", *arguments)
+    return ("let_all", terms(it.bindings))
+
+
+def grouping_term(it):
+    if it.value is None:
+        return ("grouping", spelled(it.name))
+    return ("assigned", spelled(it.name), term(it.value))
+
+
+TERMS = {
+    form.Integer: lambda it: ("num", str(it.value)),
+    form.Decimal: lambda it: ("dec", str(it.millionths)),
+    form.String: string_term,
+    form.Variable: lambda it: ("var", spelled(it.name)),
+    form.ContextItem: lambda it: "dot",
+    form.Sequence: lambda it: ("seq", terms(it.parts)) if it.parts else "none",
+    form.Call: call_term,
+    form.Or: lambda it: ("any_of", terms(it.parts)),
+    form.And: lambda it: ("all_of", terms(it.parts)),
+    form.Comparison: lambda it: (
+        "compare", (it.kind, it.relation), term(it.left), term(it.right)),
+    form.Concat: lambda it: ("concat", terms(it.parts)),
+    form.Range: lambda it: ("to", term(it.first), term(it.last)),
+    form.Sum: chain_of("sum"),
+    form.Product: chain_of("product"),
+    form.Union: lambda it: ("union", terms(it.parts)),
+    form.SetOperation: chain_of("sets"),
+    form.Unary: lambda it: ("unary", it.signs, term(it.part)),
+    form.If: lambda it: ("iff", term(it.condition), term(it.yes), term(it.no)),
+    form.Quantified: lambda it: (
+        "quantified", QUANTIFIERS[it.quantifier], terms(it.bindings), term(it.condition)),
+    form.Root: lambda it: "root",
+    form.Path: lambda it: (PATHS[it.start], term(it.first), followers(it.rest)),
+    form.PrimaryStep: primary_step_term,
+    form.ParentStep: lambda it: ("up", terms(it.predicates)),
+    form.AttributeStep: step_of("at", "at_test"),
+    form.AxisStep: lambda it: (
+        "along", f"axis.{it.axis}", term(it.test), terms(it.predicates)),
+    form.ShortStep: step_of("child", "bare_step"),
+    form.NameTest: lambda it: ("named", spelled(it.name)),
+    form.KindTest: lambda it: f"written.{it.kind}",
+    form.NamedKindTest: named_kind_term,
+    form.Named: named_term,
+    form.Unnamed: lambda it: (it.kind, term(it.content)),
+    form.Flwor: lambda it: ("flwor", terms(it.clauses), term(it.result)),
+    form.For: for_term,
+    form.Each: each_term,
+    form.Let: let_term,
+    form.Binding: binding_term,
+    form.Where: lambda it: ("where_is", term(it.condition)),
+    form.Group: lambda it: ("group_by", [grouping_term(part) for part in it.bindings]),
+    form.Order: lambda it: ("order_by", terms(it.keys)),
+    form.Key: lambda it: (
+        "by", term(it.part), MODIFIERS[it.descends, it.is_empty_greatest]),
+}
