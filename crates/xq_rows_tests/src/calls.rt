@@ -24,9 +24,8 @@ pub const CALL_ROWS: [Call; 7] = [
     Call::Drop("b", false),
 ];
 
-/// A replaced document has no row of the old one, and no other document is touched. Addresses are
-/// listed by their bytes, capitals first.
-pub const REPLACING: [Call; 11] = [
+/// A replaced document has no row of the old one, and no other document is touched.
+pub const REPLACING: [Call; 9] = [
     Call::Put("b", Named::Library, Put::Stored),
     Call::Put("a/1", Named::Library, Put::Stored),
     Call::Put("b", Named::Empty, Put::Replaced),
@@ -36,8 +35,6 @@ pub const REPLACING: [Call; 11] = [
     Call::Drop("a/1", true),
     Call::Load("a/1", None),
     Call::List(&["b"]),
-    Call::Put("B", Named::Empty, Put::Stored),
-    Call::List(&["B", "b"]),
 ];
 
 /// The number of the first call whose answer is another, or 0.
