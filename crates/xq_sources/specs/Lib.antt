@@ -1,0 +1,4 @@
+pub mod Meters
+pub mod Sources
+pub mod Lenders
+pub mod private

@@ -1,0 +1,162 @@
+//! Trees in memory.
+ghost use Rattle.std.specs.Prelude.{◌≡◌, ◌++◌, ◌∷◌, [], Some, None, slice_get, IfOk, OnErr, OnOk};
+ghost use Rattle.xq_regions.specs.Rows.{Encodes};
+ghost use Rattle.xq_sources.specs.Meters.{no_readings};
+ghost use Rattle.xq_sources.specs.Sources.{tree_at, HasTree};
+ghost use Rattle.xq_sources.specs.private.Runs.{rows_of_run};
+
+use crate::rows::{copy_enclosing, copy_row, copy_rows, places_enclosing, rows_between};
+use crate::{Meter, RowLender, RowSource, TreeSource};
+use std::alloc::Global;
+use xq_atoms::Want;
+use xq_regions::{Fragment, NodeRow};
+
+/// The rows of a tree from `low` to `high`.
+#[derive(Clone, Copy)]
+struct Run {
+    tree: usize,
+    low: u32,
+    high: u32,
+}
+
+/// Trees in memory, which give copies of their rows and lend the rows themselves. They are always
+/// clean.
+#[derive(Drop)]
+pub struct Fragments {
+    list: Vec<Fragment>,
+    meter: Meter,
+    run: Run,
+}
+
+impl Fragments {
+    /// No tree.
+    pub fn new(alloc: Global) -> Fragments
+        ensures empty { ⟦<Fragments as TreeSource>⟧.forest result ≡ [] }
+        ensures unread { ⟦<Fragments as TreeSource>⟧.meter result ≡ no_readings }
+    {
+        Fragments {
+            list: Vec::new(alloc),
+            meter: Meter::new(),
+            run: Run {
+                tree: 0,
+                low: 1,
+                high: 0,
+            },
+        }
+    }
+
+    /// Adds a tree after the others; where it is refused, they are as before.
+    pub fn push(&mut self, tree: Fragment) -> Result<(), Want>
+        ensures ok { OnOk result (⟦<Fragments as TreeSource>⟧.forest self.new
+            ≡ ⟦<Fragments as TreeSource>⟧.forest self.old ++ tree ∷ []) }
+        ensures err { OnErr result (⟦<Fragments as TreeSource>⟧.forest self.new
+            ≡ ⟦<Fragments as TreeSource>⟧.forest self.old) }
+        ensures meter { ⟦<Fragments as TreeSource>⟧.meter self.new
+            ≡ ⟦<Fragments as TreeSource>⟧.meter self.old }
+    {
+        self.list.push(tree)?;
+        Ok(())
+    }
+
+    /// The rows of the tree; `Want::Store` where there is none of this number.
+    fn rows_of(&self, tree: usize) -> Result<&[NodeRow], Want>
+        ensures exists { OnOk result (HasTree self.now.list.items tree) }
+        ensures held { OnOk result (slice_get self.now.list.items tree
+            ≡ Some (tree_at self.now.list.items tree)) }
+        ensures absent { OnErr result (slice_get self.now.list.items tree ≡ None) }
+        ensures rows { IfOk result (λ rows. Encodes rows.now (tree_at self.now.list.items tree)) }
+    {
+        match self.list.get(tree) {
+            Some(fragment) => Ok(fragment.rows()),
+            None => Err(Want::Store),
+        }
+    }
+}
+
+impl TreeSource for Fragments {
+    ghost forest = { λ s. s.list.items };
+
+    ghost meter = { λ s. s.meter };
+
+    ghost is_clean = { λ _. Unit {0} };
+
+    fn trees(&self) -> usize {
+        self.list.len()
+    }
+
+    fn meter(&self) -> Meter {
+        self.meter
+    }
+}
+
+impl RowSource for Fragments {
+    fn range(
+        &mut self,
+        alloc: Global,
+        tree: usize,
+        low: u32,
+        high: u32,
+    ) -> Result<Vec<NodeRow>, Want> {
+        let rows = self.rows_of(tree)?;
+        let found = copy_rows(alloc, rows_between(rows, low, high))?;
+        self.meter = self.meter.with_rows(found.len());
+        Ok(found)
+    }
+
+    fn enclosing(&mut self, alloc: Global, tree: usize, node: u32) -> Result<Vec<NodeRow>, Want> {
+        let rows = self.rows_of(tree)?;
+        let found = copy_enclosing(alloc, rows, node)?;
+        self.meter = self.meter.with_singles(found.len());
+        Ok(found)
+    }
+
+    fn row(&mut self, alloc: Global, tree: usize, node: u32) -> Result<NodeRow, Want> {
+        let rows = self.rows_of(tree)?;
+        if node as usize >= rows.len() {
+            return Err(Want::Store);
+        }
+        let found = copy_row(alloc, &rows[node as usize])?;
+        self.meter = self.meter.with_singles(1);
+        Ok(found)
+    }
+}
+
+impl RowLender for Fragments {
+    ghost lent = { λ s. rows_of_run (slice_get s.list.items s.run.tree) s.run.low s.run.high };
+
+    fn fetch(&mut self, _: Global, tree: usize, low: u32, high: u32) -> Result<(), Want> {
+        let rows = self.rows_of(tree)?;
+        let count = rows_between(rows, low, high).len();
+        self.run = Run { tree, low, high };
+        self.meter = self.meter.with_rows(count);
+        Ok(())
+    }
+
+    fn fetch_row(&mut self, _: Global, tree: usize, node: u32) -> Result<(), Want> {
+        let rows = self.rows_of(tree)?;
+        if node as usize >= rows.len() {
+            return Err(Want::Store);
+        }
+        self.run = Run {
+            tree,
+            low: node,
+            high: node,
+        };
+        self.meter = self.meter.with_singles(1);
+        Ok(())
+    }
+
+    fn above(&mut self, alloc: Global, tree: usize, node: u32) -> Result<Vec<u32>, Want> {
+        let rows = self.rows_of(tree)?;
+        let found = places_enclosing(alloc, rows, node)?;
+        self.meter = self.meter.with_singles(found.len());
+        Ok(found)
+    }
+
+    fn lent(&self) -> &[NodeRow] {
+        match self.rows_of(self.run.tree) {
+            Ok(rows) => rows_between(rows, self.run.low, self.run.high),
+            Err(_) => &[],
+        }
+    }
+}

@@ -1,0 +1,141 @@
+//! Lenders of rows: what each of them promises, and a lender over any source.
+ghost use Rattle.std.specs.Prelude.{◌≡◌, ◌↔◌, ◌∷◌, [], ℕ, List, map, vec_len, IfOk, OnErr, OnOk};
+ghost use Rattle.xq_regions.specs.Tree.{IsTree};
+ghost use Rattle.xq_regions.specs.Rows.{Row, placed, row_at, rows};
+ghost use Rattle.xq_sources.specs.Meters.{with_singles};
+ghost use Rattle.xq_sources.specs.Sources.{tree_at, HasTree, HasNode, rows_between, after_row};
+ghost use Rattle.xq_sources.specs.Lenders.{IsRun, places_above, after_fetch};
+
+use crate::rows::places;
+use crate::{Meter, RowSource, TreeSource};
+use std::alloc::Global;
+use xq_atoms::Want;
+use xq_regions::NodeRow;
+
+/// Trees whose rows are lent: one call makes them ready, the next lends them.
+///
+/// A call may name any tree and any node. Where the lender is clean as the call ends, an answer
+/// tells that they exist. After a refusal nothing is promised of what is lent.
+pub trait RowLender: TreeSource {
+    /// What the last fetch made ready.
+    ghost lent: { Self → List (ℕ × Row) };
+
+    /// Makes rows p with low <= p <= high ready: the first of them, one at least where there is
+    /// one. They are counted as rows of a range, and nothing is where the call is refused.
+    fn fetch(&mut self, alloc: Global, tree: usize, low: u32, high: u32) -> Result<(), Want>
+        ensures exists { Self.is_clean self.new
+            → OnOk result (HasTree (Self.forest self.old) tree) }
+        ensures found { Self.is_clean self.new
+            → OnOk result (IsRun (rows_between (tree_at (Self.forest self.old) tree) low high)
+            (lent self.new)) }
+        ensures counts { Self.meter self.new
+            ≡ after_fetch (Self.meter self.old) (lent self.new) result }
+        ensures keeps { Self.forest self.new ≡ Self.forest self.old }
+        ensures was_clean { Self.is_clean self.new → Self.is_clean self.old };
+
+    /// Makes the row of the node ready. It is counted as a single row, and nothing is where the
+    /// call is refused.
+    fn fetch_row(&mut self, alloc: Global, tree: usize, node: u32) -> Result<(), Want>
+        ensures exists { Self.is_clean self.new
+            → OnOk result (HasNode (Self.forest self.old) tree node) }
+        ensures found { Self.is_clean self.new
+            → OnOk result (lent self.new
+            ≡ (node, row_at (rows (tree_at (Self.forest self.old) tree)) node) ∷ []) }
+        ensures is_tree { Self.is_clean self.new
+            → OnOk result (IsTree (tree_at (Self.forest self.old) tree)) }
+        ensures counts { Self.meter self.new ≡ after_row (Self.meter self.old) result }
+        ensures keeps { Self.forest self.new ≡ Self.forest self.old }
+        ensures was_clean { Self.is_clean self.new → Self.is_clean self.old };
+
+    /// The places of the nodes above the node, the root's first. They are counted as single rows;
+    /// a call that is refused may have read, and counted, some as well.
+    fn above(&mut self, alloc: Global, tree: usize, node: u32) -> Result<Vec<u32>, Want>
+        ensures exists { Self.is_clean self.new
+            → OnOk result (HasTree (Self.forest self.old) tree) }
+        ensures found { Self.is_clean self.new
+            → IfOk result (λ found. found.items
+            ≡ places_above (tree_at (Self.forest self.old) tree) node) }
+        ensures counts { IfOk result (λ found. Self.meter self.new
+            ≡ with_singles (Self.meter self.old) (vec_len found)) }
+        ensures refused { OnErr result ((Self.meter self.new).rows ≡ (Self.meter self.old).rows) }
+        ensures keeps { Self.forest self.new ≡ Self.forest self.old }
+        ensures was_clean { Self.is_clean self.new → Self.is_clean self.old };
+
+    /// The rows that the last fetch made ready, in document order.
+    fn lent(&self) -> &[NodeRow]
+        ensures { map placed result.now ≡ lent self.now };
+}
+
+/// A source with a buffer beside it, which lends what it read last.
+#[derive(Drop)]
+pub struct Buffered<S: RowSource + Drop> {
+    source: S,
+    buffer: Vec<NodeRow>,
+}
+
+impl<S: RowSource + Drop> Buffered<S> {
+    /// The source with nothing read yet.
+    pub fn new(alloc: Global, source: S) -> Buffered<S>
+        ensures forest { ⟦<Buffered<S> as TreeSource>⟧.forest result ≡ S.forest source }
+        ensures meter { ⟦<Buffered<S> as TreeSource>⟧.meter result ≡ S.meter source }
+        ensures clean { ⟦<Buffered<S> as TreeSource>⟧.is_clean result ↔ S.is_clean source }
+    {
+        Buffered {
+            source,
+            buffer: Vec::new(alloc),
+        }
+    }
+
+    /// Gives the source back.
+    pub fn into_source(self) -> S
+        ensures forest { S.forest result ≡ ⟦<Buffered<S> as TreeSource>⟧.forest self }
+        ensures meter { S.meter result ≡ ⟦<Buffered<S> as TreeSource>⟧.meter self }
+        ensures clean { S.is_clean result ↔ ⟦<Buffered<S> as TreeSource>⟧.is_clean self }
+    {
+        self.source
+    }
+}
+
+impl<S: RowSource + Drop> TreeSource for Buffered<S> {
+    ghost forest = { λ s. S.forest s.source };
+
+    ghost meter = { λ s. S.meter s.source };
+
+    ghost is_clean = { λ s. S.is_clean s.source };
+
+    fn trees(&self) -> usize {
+        self.source.trees()
+    }
+
+    fn meter(&self) -> Meter {
+        self.source.meter()
+    }
+}
+
+impl<S: RowSource + Drop> RowLender for Buffered<S> {
+    ghost lent = { λ s. map placed s.buffer.items };
+
+    fn fetch(&mut self, alloc: Global, tree: usize, low: u32, high: u32) -> Result<(), Want> {
+        self.buffer = self.source.range(alloc, tree, low, high)?;
+        Ok(())
+    }
+
+    fn fetch_row(&mut self, alloc: Global, tree: usize, node: u32) -> Result<(), Want> {
+        let mut buffer = Vec::with_capacity(alloc, 1)?;
+        let row = self.source.row(alloc, tree, node)?;
+        let Ok(()) = buffer.push(row) else {
+            unreachable!();
+        };
+        self.buffer = buffer;
+        Ok(())
+    }
+
+    fn above(&mut self, alloc: Global, tree: usize, node: u32) -> Result<Vec<u32>, Want> {
+        let rows = self.source.enclosing(alloc, tree, node)?;
+        places(alloc, &rows)
+    }
+
+    fn lent(&self) -> &[NodeRow] {
+        &self.buffer
+    }
+}

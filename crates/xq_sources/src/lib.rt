@@ -1,0 +1,13 @@
+//! Where trees are read from: sources, which give copies of rows, and lenders, which lend them.
+#![tactic(auto)]
+
+mod fragments;
+mod lenders;
+mod meters;
+mod rows;
+mod sources;
+
+pub use fragments::Fragments;
+pub use lenders::{Buffered, RowLender};
+pub use meters::Meter;
+pub use sources::{RowSource, TreeSource};
