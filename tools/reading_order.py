@@ -128,17 +128,31 @@ def clauses_of(crate):
 
 
 def public_pieces(text, names, is_open):
-    """The public functions, methods and models of a file."""
-    of_type = False
-    for piece in re.split(r"(?m)^ *(?=pub (?:const )?fn |fn |pub\(crate\) |impl\b)", text):
-        if piece.startswith("impl"):
-            head = re.match(r"(?s)impl\b.*?\b(\w+)(?:<[^{]*>)?\s*(?:where[^{]*)?\{", piece)
-            of_type = bool(head) and (head.group(1) in names or is_open)
-            if of_type and " Model for " in piece:
+    """The public functions, methods, traits and models of a file."""
+    of_type = of_trait = False
+    begins = r"(?m)^ *(?=pub (?:const )?fn |fn |pub\(crate\) |pub trait |impl\b)"
+    for piece in re.split(begins, text):
+        if piece.startswith(("impl", "pub trait")):
+            of_trait = piece.startswith("pub trait") and trait_name(piece) in names
+            of_type = piece.startswith("impl") and (is_open or implemented(piece) in names)
+            if of_trait or of_type and " Model for " in piece:
                 yield piece
         name = re.match(r"pub (?:const )?fn (\w+)", piece)
         if name and (is_open or name.group(1) in names or of_type):
             yield piece
+        elif of_trait and piece.startswith("fn "):
+            yield piece
+
+
+def implemented(piece):
+    """The type of an impl."""
+    head = r"(?s)impl\b.*?\b(\w+)(?:<[^{]*>)?\s*(?:where[^{]*)?\{"
+    found = re.match(head, piece)
+    return found.group(1) if found else ""
+
+
+def trait_name(piece):
+    return re.match(r"pub trait (\w+)", piece).group(1)
 
 
 def references(text, uses, aliases, own, module):
