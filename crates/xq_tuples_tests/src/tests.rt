@@ -314,61 +314,83 @@ fn each_allocation(rt: HostRuntime) {
     assert!(rt; matches!(outcome, Ok(()) | Err(Fault::Want(Want::Memory))));
 }
 
-/// The samples in the order of their own keys, as they are printed; an empty one prints nothing.
-fn in_order(
+/// The numbers of the samples from 0, in the order of the samples as keys, are these.
+fn check_order(
     rt: &impl Abort,
     alloc: Global,
     samples: &[Sample],
     spec: OrderSpec,
-) -> Result<String, Fault> {
+    wanted: &str,
+) -> Result<(), Fault> {
     let mut numbers = Vec::new(alloc);
     for at in 0..samples.len() {
         numbers.push(Sample::Int(at as i64))?;
     }
     let stream = for_each(rt, alloc, &numbers, false)?;
     let stream = order(rt, alloc, stream, column(alloc, samples)?, spec)?;
-    returned(rt, alloc, &stream, 0)
+    assert_eq!(rt; returned(rt, alloc, &stream, 0)?.as_str(), wanted);
+    Ok(())
 }
 
-/// Where the empty key stands, with and without `descending`; booleans; ties, which stay.
+/// Where the empty key stands, with and without `descending`.
 #[test]
-fn orders_by_one_key(rt: HostRuntime) -> Result<(), Fail> {
+fn orders_with_an_empty_key(rt: HostRuntime) -> Result<(), Fail> {
     let alloc = rt.alloc();
-    let numbers = [Sample::Int(5), Sample::Nothing, Sample::Dec(3)];
+    let keys = [Sample::Int(5), Sample::Nothing, Sample::Dec(3)];
+    check_order(&rt, alloc, &keys, ASCENDING, "1, 2, 0")?;
+    check_order(&rt, alloc, &keys, DESCENDING, "0, 2, 1")?;
+    check_order(&rt, alloc, &keys, EMPTY_GREATEST, "2, 0, 1")?;
+    check_order(&rt, alloc, &keys, DESCENDING_EMPTY_GREATEST, "1, 0, 2")?;
+    Ok(())
+}
+
+/// Booleans, and ties, which stay as they were.
+#[test]
+fn orders_booleans_and_ties(rt: HostRuntime) -> Result<(), Fail> {
+    let alloc = rt.alloc();
     let truths = [Sample::Bool(true), Sample::Bool(false), Sample::Nothing];
+    check_order(&rt, alloc, &truths, ASCENDING, "2, 1, 0")?;
+    check_order(&rt, alloc, &truths, DESCENDING, "0, 1, 2")?;
     let ties = [
         Sample::Int(1),
         Sample::Int(2),
         Sample::Dec(1),
         Sample::Int(2),
     ];
-    let rows: [(&[Sample], OrderSpec, &str); 9] = [
-        (&numbers, ASCENDING, "1, 2, 0"),
-        (&numbers, DESCENDING, "0, 2, 1"),
-        (&numbers, EMPTY_GREATEST, "2, 0, 1"),
-        (&numbers, DESCENDING_EMPTY_GREATEST, "1, 0, 2"),
-        (&truths, ASCENDING, "2, 1, 0"),
-        (&truths, DESCENDING, "0, 1, 2"),
-        (&ties, ASCENDING, "0, 2, 1, 3"),
-        (&ties, DESCENDING, "1, 3, 0, 2"),
-        (&[Sample::Nothing, Sample::Nothing], DESCENDING, "0, 1"),
-    ];
-    for (samples, spec, wanted) in rows {
-        assert_eq!(rt; in_order(&rt, alloc, samples, spec)?.as_str(), wanted);
-    }
+    check_order(&rt, alloc, &ties, ASCENDING, "0, 2, 1, 3")?;
+    check_order(&rt, alloc, &ties, DESCENDING, "1, 3, 0, 2")?;
     Ok(())
 }
 
-/// The keys of two specifications, for tuples numbered from 0.
-fn two_columns(
+/// `order by` two specifications.
+fn order_by_two(
+    rt: &impl Abort,
     alloc: Global,
-    first: &[Sample],
-    second: &[Sample],
-) -> Result<Vec<Vec<Vec<Atom>>>, Fault> {
+    stream: Tuples,
+    (first, second): (Vec<Vec<Atom>>, Vec<Vec<Atom>>),
+    specs: [OrderSpec; 2],
+) -> Result<Tuples, Fault> {
+    assert_eq!(rt; first.len(), stream.len());
+    assert_eq!(rt; second.len(), stream.len());
     let mut keys = Vec::new(alloc);
-    keys.push(column(alloc, first)?)?;
-    keys.push(column(alloc, second)?)?;
-    Ok(keys)
+    keys.push(first)?;
+    keys.push(second)?;
+    stream.order(keys, &specs)
+}
+
+/// `group by` the variables of the slots 1 and 2.
+fn group_by_two(
+    rt: &impl Abort,
+    alloc: Global,
+    stream: Tuples,
+    (first, second): (Vec<Vec<Atom>>, Vec<Vec<Atom>>),
+) -> Result<Tuples, Fault> {
+    assert_eq!(rt; first.len(), stream.len());
+    assert_eq!(rt; second.len(), stream.len());
+    let mut keys = Vec::new(alloc);
+    keys.push(first)?;
+    keys.push(second)?;
+    stream.group(&[1, 2], keys)
 }
 
 /// The later specification decides where the earlier one does not, each with its own words.
@@ -394,9 +416,8 @@ fn orders_by_two_keys(rt: HostRuntime) -> Result<(), Fail> {
         Sample::Str("b"),
         Sample::Str("a"),
     ];
-    let keys = two_columns(alloc, &first, &second)?;
-    assert!(rt; keys.iter().all(|column| column.len() == stream.len()));
-    let stream = stream.order(keys, &[ASCENDING, DESCENDING])?;
+    let keys = (column(alloc, &first)?, column(alloc, &second)?);
+    let stream = order_by_two(&rt, alloc, stream, keys, [ASCENDING, DESCENDING])?;
     assert_eq!(rt; returned(&rt, alloc, &stream, 0)?.as_str(), "1, 3, 2, 0");
     Ok(())
 }
@@ -426,9 +447,8 @@ fn groups_by_two_variables(rt: HostRuntime) -> Result<(), Fail> {
     let stream = for_each(&rt, alloc, &numbers, false)?;
     let stream = bind(&rt, alloc, stream, &first)?;
     let stream = bind(&rt, alloc, stream, &second)?;
-    let keys = two_columns(alloc, &first, &second)?;
-    assert!(rt; keys.iter().all(|column| column.len() == stream.len()));
-    let stream = stream.group(&[1, 2], keys)?;
+    let keys = (column(alloc, &first)?, column(alloc, &second)?);
+    let stream = group_by_two(&rt, alloc, stream, keys)?;
     assert_eq!(rt; counts(&rt, alloc, &stream, 0)?.as_str(), "2, 1, 1");
     assert_eq!(rt; returned(&rt, alloc, &stream, 0)?.as_str(), "0, 3, 1, 2");
     Ok(())
