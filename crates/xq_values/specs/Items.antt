@@ -1,6 +1,6 @@
 -- Items (XDM 3.1, 2.1): atomic values, and nodes of a list of trees; and what nodes are worth.
 use Rattle.std.proofs.Common.{suc}
-use Rattle.std.specs.Prelude.{ℕ, List, [], ◌∷◌, ◌++◌, map, filter, Bool, ◌&&◌, ◌||◌, ◌==◌, nat_lt, slice_index_or}
+use Rattle.std.specs.Prelude.{ℕ, List, [], ◌∷◌, ◌++◌, map, filter, Bool, ◌&&◌, ◌||◌, ◌==◌, nat_lt}
 use Rattle.std.specs.List.{list_any}
 use Rattle.xq_atoms.specs.Atom.{Atomic, String, Untyped}
 use Rattle.xq_regions.specs.Forest.{Forest, end, node}
@@ -8,6 +8,7 @@ use Rattle.xq_regions.specs.Tree.{Label, Tree, nodes, no_label}
 use Rattle.xq_regions.specs.Node.{label_at as label_in, subtree}
 use Rattle.xq_regions.specs.Order.{step_down, step_right}
 use Rattle.xq_regions.specs.AxisTests.{is_above, is_left_of, is_same}
+use Rattle.xq_sources.specs.Sources.{tree_at}
 use Rattle.xq_regions.specs.Value.{TypedValue, string, untyped, typed_value}
 
 -- a node: the number of its tree, and the path from the root
@@ -58,13 +59,6 @@ abbrev pub in_document_order : List Tree → List Place → List Place
 in_document_order trees places = filter (is_among places) (places_from 0 trees)
 
 -- # Trees, labels and values of nodes
-
-abbrev pub no_tree : Tree
-no_tree = record { root = no_label; below = end }
-
--- the tree of that number
-abbrev pub tree_at : List Tree → ℕ → Tree
-tree_at trees n = slice_index_or trees n no_tree
 
 abbrev pub nodes_at : List Tree → ℕ → Forest Label
 nodes_at trees n = nodes (tree_at trees n)

@@ -6,3 +6,4 @@ pub mod Arguments
 pub mod Items
 pub mod Texts
 pub mod Print
+pub mod Readings
