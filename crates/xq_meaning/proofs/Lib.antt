@@ -16,6 +16,7 @@ mod FlworRows
 mod FunctionRows
 mod MoreFunctionRows
 mod LimitRows
+mod MillionRows
 mod CoreRows
 mod PlanRows
 mod LanguageRows
