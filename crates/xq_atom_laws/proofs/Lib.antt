@@ -4,3 +4,5 @@ pub mod Visible
 pub mod Decimals
 pub mod Integers
 pub mod Strings
+pub mod Rounding
+pub mod Orders
