@@ -2,7 +2,7 @@
 
 usage: statics.py [FOLDER]     builds bench/statics/main.rattle in the folder, unless an earlier call did
 
-A time is the least of five runs, of the checks alone. The queries are bindings and uses of ever new variables, of
+A time is the least of 25 runs, of the checks alone. The queries are bindings and uses of ever new variables, of
 one variable that is bound again and again, of calls, and one FLWOR expression of up to 20,000 clauses of all kinds.
 """
 
@@ -35,11 +35,11 @@ def of_length(length, begin, part, end):
 
 
 def new_variables(length):
-    return of_length(length, "let $v0 := 1", lambda n: " let $v%d := ($v%d, $v%d)" % (n + 1, n, n // 2), " return $v0")
+    return of_length(length, "let $v0 := 1", lambda n: ", $v%d := ($v%d, $v%d)" % (n + 1, n, n // 2), " return $v0")
 
 
 def one_variable(length):
-    return of_length(length, "let $v := 1", lambda n: " let $v := $v + 1", " return $v")
+    return of_length(length, "let $v := 1", lambda n: ", $v := $v + 1", " return $v")
 
 
 def nested_scopes(length):
@@ -52,9 +52,11 @@ def calls(length):
 
 
 def clauses(count):
-    kinds = ("let $v%d := $x", "for $v%d at $p in $x", "where $x", "group by $v%d := $x, $x", "order by $x, $x descending")
-    lines = [kinds[n % 5] % n if "%d" in kinds[n % 5] else kinds[n % 5] for n in range(count - 1)]
-    return "let $x := 1 " + " ".join(lines) + " return $x"
+    # Each word that binds nests what follows, and nesting goes to 128: so few clauses are of for and let.
+    kinds = ("where $x", "group by $v%d := $x, $x", "order by $x, $x descending", "stable order by $v0")
+    rare = {0: "let $v%d := $x", 200: "for $v%d at $p in $x"}
+    lines = [rare.get(n % 400, kinds[n % len(kinds)]) for n in range(count - 1)]
+    return "let $x := 1 " + " ".join(line.replace("%d", str(n)) for n, line in enumerate(lines)) + " return $x"
 
 
 QUERIES = (
@@ -76,9 +78,9 @@ def program_in(folder):
 
 
 def timed(program, text):
-    """The least time of five runs in microseconds."""
+    """The least time of 25 runs in microseconds."""
     best = None
-    for _ in range(5):
+    for _ in range(25):
         words = subprocess.run([program], input=text.encode(), stdout=subprocess.PIPE, check=True).stdout.decode().split()
         if words[0] != "passed":
             sys.exit("%s, not passed" % words[0])

@@ -19,16 +19,20 @@ PROGRAM = """\
 //! Checks the texts of standard input, each ended by a byte of 0, and prints for each how that ends.
 #![tactic(auto)]
 
+use std::alloc::Global;
 use std::io::{self, BufRead};
 use xq_atoms::Fault;
 use xq_lexer::lex;
 use xq_parser::parse;
 use xq_statics::check;
 
+fn checked(alloc: Global, text: &str) -> Result<(), Fault> {
+    let tokens = lex(alloc, text)?;
+    check(alloc, &parse(alloc, &tokens)?)
+}
+
 fn of<R: AllocGlobal>(rt: &R, text: &str) -> Result<&'static str, Fault> {
-    let tokens = lex(rt.alloc(), text)?;
-    let query = parse(rt.alloc(), tokens.as_slice())?;
-    check(rt.alloc(), &query)?;
+    checked(rt.alloc(), text)?;
     Ok("passed")
 }
 
