@@ -3,6 +3,7 @@ ghost use Rattle.std.specs.Prelude.{◌≡◌, ◌<◌, [], ◌∷◌, length, m
 ghost use Rattle.xq_regions.specs.Tuples.{bound, expanded, grouped, kept, ordered, value_at};
 ghost use Rattle.xq_tuples.specs.Keys.{IsRefusal, columns_of};
 ghost use Rattle.xq_tuples.specs.Orders.{rule_of};
+ghost use Rattle.xq_tuples.specs.Views.{values_of};
 ghost use Rattle.xq_regions.specs.Items.{Value as AtomView, item_view, item_views};
 
 use crate::groups::{gather, joined};
@@ -82,6 +83,14 @@ impl Tuples {
         ensures { map item_view result.now ≡ value_at slot (slice_index_or self.now tuple []) }
     {
         &self.tuples[tuple][slot]
+    }
+
+    /// The values of one tuple, which it may share with others.
+    pub fn tuple(&self, index: usize) -> &[Rc<Items>]
+        requires { index < length self.now }
+        ensures { values_of result.now ≡ slice_index_or self.now index [] }
+    {
+        &self.tuples[index]
     }
 
     /// `for`: the stream where each tuple stands once for each item of the list at its place in

@@ -1,0 +1,16 @@
+//! Trees to which others can be added.
+ghost use Rattle.std.specs.Prelude.{◌≡◌, ◌++◌, ◌∷◌, [], OnErr, OnOk};
+
+use xq_atoms::Want;
+use xq_regions::Fragment;
+use xq_sources::TreeSource;
+
+/// Trees to which a constructed one can be added.
+pub trait Growing: TreeSource {
+    /// Adds the tree after the others. Where it is refused, they are as before.
+    fn plant(&mut self, tree: Fragment) -> Result<(), Want>
+        ensures grown { OnOk result (Self.forest self.new ≡ Self.forest self.old ++ tree ∷ []) }
+        ensures kept { OnErr result (Self.forest self.new ≡ Self.forest self.old) }
+        ensures meter { Self.meter self.new ≡ Self.meter self.old }
+        ensures was_clean { Self.is_clean self.new → Self.is_clean self.old };
+}
