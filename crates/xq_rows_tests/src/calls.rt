@@ -24,8 +24,9 @@ pub const CALL_ROWS: [Call; 7] = [
     Call::Drop("b", false),
 ];
 
-/// A replaced document has no row of the old one, and no other document is touched.
-pub const REPLACING: [Call; 9] = [
+/// A replaced document has no row of the old one, and no other document is touched; addresses stand
+/// by their bytes, capitals first.
+pub const REPLACING: [Call; 11] = [
     Call::Put("b", Named::Library, Put::Stored),
     Call::Put("a/1", Named::Library, Put::Stored),
     Call::Put("b", Named::Empty, Put::Replaced),
@@ -34,7 +35,8 @@ pub const REPLACING: [Call; 9] = [
     Call::List(&["a/1", "b"]),
     Call::Drop("a/1", true),
     Call::Load("a/1", None),
-    Call::List(&["b"]),
+    Call::Put("B", Named::Empty, Put::Stored),
+    Call::List(&["B", "b"]),
 ];
 
 /// The number of the first call whose answer is another, or 0.
