@@ -3,10 +3,11 @@ ghost use Rattle.std.specs.Prelude.{◌≡◌, ◌++◌, ◌∷◌, [], OnErr, O
 
 use xq_atoms::Want;
 use xq_regions::Fragment;
-use xq_sources::TreeSource;
+use xq_sources::RowLender;
 
-/// Trees to which a constructed one can be added.
-pub trait Growing: TreeSource {
+/// Trees that lend their rows, and to which a constructed one can be added: all that an evaluation
+/// needs of them.
+pub trait Growing: RowLender {
     /// Adds the tree after the others. Where it is refused, they are as before.
     fn plant(&mut self, tree: Fragment) -> Result<(), Want>
         ensures grown { OnOk result (Self.forest self.new ≡ Self.forest self.old ++ tree ∷ []) }

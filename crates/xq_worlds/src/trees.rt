@@ -58,7 +58,7 @@ impl<S: TreeSource + Drop> TreeSource for Trees<S> {
     }
 }
 
-impl<S: TreeSource + Drop> Growing for Trees<S> {
+impl<S: RowLender + Drop> Growing for Trees<S> {
     fn plant(&mut self, tree: Fragment) -> Result<(), Want> {
         if self.trees() == usize::MAX {
             return Err(Want::Memory);
