@@ -1,0 +1,22 @@
+-- Writing at the end of a text, up to a limit of bytes.
+use Rattle.std.specs.Prelude.{◌≡◌, ℕ, ◌<◌, ◌≤◌, List, [], ◌∷◌, ◌++◌, length, Result, Ok, Err, String, string_bytes, if◌then◌else◌, ◌==◌, codes}
+use Rattle.std.specs.Char.{encode_utf8}
+use Rattle.xq_atoms.specs.declared.refusals.Code.TheVariants.{ProfReply}
+use Rattle.xq_atoms.specs.declared.refusals.Fault.{Fault}
+use Rattle.xq_atoms.specs.declared.refusals.Fault.TheVariants.{Code as OfCode, Want as OfWant}
+
+-- the text is refused for its length only where it is over the limit; a want tells nothing
+abbrev pub IsTooLong : ℕ → List ℕ → Fault → Type 0
+IsTooLong limit text (OfCode code) = (code ≡ ProfReply) × (limit < length text)
+IsTooLong limit text (OfWant want) = Unit {0}
+
+-- the new text is the old one with the piece, and within the limit
+abbrev pub Appends : {T Y Z : Type 0} → ℕ → List ℕ → Result T Fault → String Y → String Z → Type 0
+Appends limit piece (Ok t) old new = (string_bytes new ≡ string_bytes old ++ piece) × (length (string_bytes new) ≤ limit)
+Appends limit piece (Err fault) old new = IsTooLong limit (string_bytes old ++ piece) fault
+
+-- a character of a string literal
+abbrev pub escape_char : ℕ → List ℕ
+escape_char c =
+    if c == 34 then 34 ∷ 34 ∷ []
+    else (if c == 38 then codes "&amp;" else (if c == 13 then codes "&#xD;" else encode_utf8 c))
