@@ -3,4 +3,10 @@
 
 mod copies;
 mod kinds;
+mod leaves;
+mod printer;
+mod values;
+
+pub use leaves::{attribute, comment, pi, text};
+pub use printer::{MAX_REPLY, print_items};
 

@@ -1,6 +1,9 @@
 -- Writing at the end of a text, up to a limit of bytes.
 use Rattle.std.specs.Prelude.{◌≡◌, ℕ, ◌<◌, ◌≤◌, List, [], ◌∷◌, ◌++◌, length, Result, Ok, Err, String, string_bytes, if◌then◌else◌, ◌==◌, codes}
 use Rattle.std.specs.Char.{encode_utf8}
+use Rattle.xq_regions.specs.Tree.{Tree}
+use Rattle.xq_values.specs.Items.{Item}
+use Rattle.xq_values.specs.Print.{print_item}
 use Rattle.xq_atoms.specs.declared.refusals.Code.TheVariants.{ProfReply}
 use Rattle.xq_atoms.specs.declared.refusals.Fault.{Fault}
 use Rattle.xq_atoms.specs.declared.refusals.Fault.TheVariants.{Code as OfCode, Want as OfWant}
@@ -20,3 +23,8 @@ abbrev pub escape_char : ℕ → List ℕ
 escape_char c =
     if c == 34 then 34 ∷ 34 ∷ []
     else (if c == 38 then codes "&amp;" else (if c == 13 then codes "&#xD;" else encode_utf8 c))
+
+-- the items, each after a comma
+abbrev pub each_after_comma : List Tree → List Item → List ℕ
+each_after_comma trees [] = []
+each_after_comma trees (x ∷ xs) = codes ", " ++ (print_item trees x ++ each_after_comma trees xs)
