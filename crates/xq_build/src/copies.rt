@@ -8,6 +8,7 @@ ghost use Rattle.xq_values.specs.Items.{tree_below};
 ghost use Rattle.xq_values.specs.Readings.{node_at};
 ghost use Rattle.xq_values.specs.Content.{copied};
 ghost use Rattle.xq_build.specs.private.Leaves.{leaves, lowered, leaves_between, IsRowOf};
+ghost use Rattle.xq_build.specs.private.Content.{Childless};
 
 use std::alloc::Global;
 use xq_atoms::Want;
@@ -173,6 +174,8 @@ pub fn append_content<L: RowLender>(
     ensures copied { L.is_clean source.new
         → OnOk result (map flat_row copies.new.items ≡ map flat_row copies.old.items
         ++ leaves (copied (tree_below (L.forest source.old) (node_at (L.forest source.old) node)))) }
+    ensures childless { L.is_clean source.new → OnOk result
+        (Childless (copied (tree_below (L.forest source.old) (node_at (L.forest source.old) node)))) }
     ensures keeps { L.forest source.new ≡ L.forest source.old }
     ensures was_clean { L.is_clean source.new → L.is_clean source.old }
 {

@@ -1,7 +1,9 @@
 //! Constructors of nodes, their content, and the text of a result, over any lender of rows.
 #![tactic(auto)]
 
+mod content;
 mod copies;
+mod judging;
 mod kinds;
 mod leaves;
 mod printer;

@@ -1,5 +1,5 @@
 -- Content of elements and documents on leaves, where a node at the top has the level 0.
-use Rattle.std.specs.Prelude.{ℕ, ◌+◌, List, [], ◌∷◌, ◌++◌, map, filter, Bool, true, false, not, ◌&&◌, ◌==◌, nat_lt, if◌then◌else◌, Option, Some, None, codes, String, string_bytes, IsTrue, ◌≡◌, Result, Ok, Err}
+use Rattle.std.specs.Prelude.{ℕ, ◌+◌, List, [], ◌∷◌, ◌++◌, map, filter, reverse, Bool, true, false, not, ◌&&◌, ◌==◌, nat_lt, if◌then◌else◌, Option, Some, None, codes, String, string_bytes, IsTrue, ◌≡◌, Result, Ok, Err}
 use Rattle.std.specs.List.{list_all}
 use Rattle.xq_atoms.specs.Text.{Text, is_empty}
 use Rattle.xq_atoms.specs.Cast.{text_of}
@@ -8,9 +8,12 @@ use Rattle.xq_atoms.specs.declared.refusals.Fault.{Fault}
 use Rattle.xq_atoms.specs.declared.refusals.Fault.TheVariants.{Code as OfCode, Want as OfWant}
 use Rattle.xq_regions.specs.Forest.{Forest, end, node, join}
 use Rattle.xq_regions.specs.Tree.{Label, Tree}
-use Rattle.xq_values.specs.Content.{is_text, text_label, copied}
+use Rattle.xq_regions.specs.declared.Kind.{Kind}
+use Rattle.indexmap.specs.IndexSet.{IndexSet}
+use denote.Ref.{Bor}
+use Rattle.xq_values.specs.Content.{is_text, text_label, copied, flattened, first_fault}
 use Rattle.xq_values.specs.Items.{Item, Node, Atom, tree_below}
-use Rattle.xq_build.specs.private.Leaves.{Leaf}
+use Rattle.xq_build.specs.private.Leaves.{Leaf, leaves}
 
 -- # Items as nodes: a run of atomic values that is not closed yet is known by its text
 
@@ -83,3 +86,34 @@ abbrev pub JudgedAs : Option Code → Result (Unit {0}) Fault → Type 0
 JudgedAs fault (Ok done) = fault ≡ None
 JudgedAs fault (Err (OfCode code)) = fault ≡ Some code
 JudgedAs fault (Err (OfWant want)) = Unit {0}
+
+-- # Taking items one after another
+
+-- leaves so far, and the text of a run that is open, with more items after them
+abbrev pub so_far : List Tree → List Leaf → Option Text → List Item → List Leaf
+so_far trees ps run xs = ps ++ leaves (flattened_with trees run xs)
+
+-- an item was taken
+pub record Takes (trees : List Tree) (x : Item) (before : List Leaf) (run : Option Text) (after : List Leaf) (next : Option Text) : Type 0 where
+  pub is : (xs : List Item) → so_far trees after next xs ≡ so_far trees before run (x ∷ xs)
+  pub childless : (xs : List Item) → Childless (flattened_with trees next xs) → Childless (flattened_with trees run (x ∷ xs))
+
+-- the leaves of the items as nodes
+pub record Flattens (trees : List Tree) (xs : List Item) (ps : List Leaf) : Type 0 where
+  pub is : ps ≡ leaves (flattened trees xs)
+  pub childless : Childless (flattened trees xs)
+
+-- # Judging nodes one after another
+
+-- the names of attributes, the last one first
+abbrev pub names_of : {S : Type 0} → IndexSet (Bor (List ℕ)) S → List Text
+names_of set = reverse (map (λ k. k.now) set.keys)
+
+abbrev pub fault_from : Kind → List Text → Bool → List Leaf → Option Code
+fault_from parent names late ps = first_fault parent names late (top_labels ps)
+
+-- the node is let through, or a code is given, whatever others come
+abbrev pub JudgesLeaf : Kind → List Text → Bool → Leaf → List Text → Result Bool Fault → Type 0
+JudgesLeaf parent old late p new (Ok later) = (others : List Leaf) → fault_from parent new later others ≡ fault_from parent old late (p ∷ others)
+JudgesLeaf parent old late p new (Err (OfCode code)) = (others : List Leaf) → fault_from parent old late (p ∷ others) ≡ Some code
+JudgesLeaf parent old late p new (Err (OfWant want)) = Unit {0}

@@ -4,6 +4,7 @@ use Rattle.xq_regions.specs.Print.{flat_row}
 use Rattle.xq_sources.specs.Sources.{tree_at}
 use Rattle.xq_build.specs.private.Leaves.{Leaf, IsRowOf, lowered, leaves_between}
 use Rattle.xq_build.proofs.Subtrees.{document_leaves, whole_copied}
+use Rattle.xq_build.proofs.Contents.{childless_node}
 use Rattle.xq_build.proofs.copies.append_content.Goals as goal
 
 pub returns-in_ok-append_below-in-Document-clause-copied : goal.returns-in_ok-append_below-in-Document-clause-copied
@@ -24,3 +25,11 @@ returns-in_ok-append_whole-in_default-clause-copied g c = λ h.
     whole_copied (g.L.TreeSource.forest c.args.source.now) (g.L.TreeSource.forest c.row_of_node.new.source) c.args.node c.in_ok-row.row
     (map flat_row c.args.copies.now.items) (map flat_row c.append_whole.new.copies.items) (sym c.row_of_node.ensures.keeps)
     (c.in_ok-row.ensures.found (c.append_whole.ensures.was_clean h)) c.in_default.not-Document (c.in_ok-append_whole-in_default.ensures.copied h)
+
+pub returns-in_ok-append_below-in-Document-clause-childless : goal.returns-in_ok-append_below-in-Document-clause-childless
+returns-in_ok-append_below-in-Document-clause-childless g c = λ h.
+    childless_node (g.L.TreeSource.forest c.args.source.now) c.args.node c.in_ok-row.row (c.in_ok-row.ensures.found (c.append_below.ensures.was_clean h))
+
+pub returns-in_ok-append_whole-in_default-clause-childless : goal.returns-in_ok-append_whole-in_default-clause-childless
+returns-in_ok-append_whole-in_default-clause-childless g c = λ h.
+    childless_node (g.L.TreeSource.forest c.args.source.now) c.args.node c.in_ok-row.row (c.in_ok-row.ensures.found (c.append_whole.ensures.was_clean h))
