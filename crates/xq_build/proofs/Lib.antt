@@ -1,3 +1,4 @@
 pub mod Subtrees
 pub mod Written
 pub mod Contents
+pub mod Judges

@@ -74,7 +74,12 @@ fn judge_attributes(alloc: Global, parent: Kind, rows: &[NodeRow]) -> Result<(),
 fn are_low(rows: &[NodeRow]) -> bool
     ensures { result ≡ are_low_lem (map flat_row rows.now) }
 {
-    rows.iter().all(|row| row.level < MAX_LEVEL)
+    for row in rows {
+        if row.level >= MAX_LEVEL {
+            return false;
+        }
+    }
+    true
 }
 
 /// The row one level further down.

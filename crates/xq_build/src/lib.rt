@@ -3,12 +3,14 @@
 
 mod content;
 mod copies;
+mod elements;
 mod judging;
 mod kinds;
 mod leaves;
 mod printer;
 mod values;
 
+pub use elements::{document, element};
 pub use leaves::{attribute, comment, pi, text};
 pub use printer::{MAX_REPLY, print_items};
 
