@@ -2,3 +2,4 @@ pub mod Subtrees
 pub mod Written
 pub mod Contents
 pub mod Judges
+pub mod Spelling

@@ -1,7 +1,7 @@
 //! Constructors of nodes without nodes below them.
 ghost use Rattle.std.specs.Prelude.{◌≡◌, string_bytes, Ok};
 ghost use Rattle.xq_values.specs.Content.{attribute_tree, text_tree, comment_tree, instruction_tree, lone};
-ghost use Rattle.xq_build.specs.Gives.{Gives, GivesTree};
+ghost use Rattle.xq_build.specs.Gives.{GivesTree};
 
 use crate::values::{ends_with_dash, holds_an_end, holds_two_dashes, without_leading_space};
 use std::alloc::Global;
@@ -59,7 +59,7 @@ pub fn comment(alloc: Global, value: String) -> Result<Fragment, Fault>
 /// 3.9.3.5), refused as `XQDY0026` where `?>` stands in it. The name is one that `name_of`
 /// answers; where it or the value is such as no instruction may have, `Want::Store` is answered.
 pub fn pi(alloc: Global, name: String, value: String) -> Result<Fragment, Fault>
-    ensures { Gives (λ tree. tree) (instruction_tree (string_bytes name) (string_bytes value)) result }
+    ensures { GivesTree (instruction_tree (string_bytes name) (string_bytes value)) result }
 {
     if holds_an_end(value.as_str()) {
         return Err(Fault::Code(Code::XQDY0026));

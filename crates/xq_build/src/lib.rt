@@ -7,10 +7,12 @@ mod elements;
 mod judging;
 mod kinds;
 mod leaves;
+mod names;
 mod printer;
 mod values;
 
 pub use elements::{document, element};
 pub use leaves::{attribute, comment, pi, text};
+pub use names::name_of;
 pub use printer::{MAX_REPLY, print_items};
 

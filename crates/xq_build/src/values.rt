@@ -1,5 +1,6 @@
 //! Tests and parts of values.
-ghost use Rattle.std.specs.Prelude.{◌≡◌, codes, string_bytes, IfOk};
+ghost use Rattle.std.specs.Prelude.{◌≡◌, codes, string_bytes, IfErr, IfOk};
+ghost use Rattle.std.specs.Str.{IsUtf8};
 ghost use Rattle.xq_atoms.specs.Text as Text;
 ghost use Rattle.xq_regions.specs.Names.{holds, ends_with_dash as ends_with_dash_lem};
 
@@ -62,26 +63,31 @@ fn before_spaces(text: &[u8]) -> &[u8]
     rest
 }
 
-/// A copy of a part of a text.
+/// A copy of a text by its bytes.
 fn copied_text(alloc: Global, bytes: &[u8]) -> Result<String, Want>
-    ensures { IfOk result (λ text. string_bytes text ≡ bytes.now) }
+    requires { IsUtf8 bytes.now }
+    ensures text { IfOk result (λ text. string_bytes text ≡ bytes.now) }
+    ensures want { IfErr result (λ want. want ≡ Want.Memory) }
 {
     match String::from_utf8(bytes.to_vec(alloc)?) {
         Ok(text) => Ok(text),
-        Err(_) => Err(Want::Store),
+        Err(_) => unreachable!(),
     }
 }
 
 /// A copy of the text without the white space in front.
 pub fn without_leading_space(alloc: Global, text: &str) -> Result<String, Want>
-    ensures { IfOk result (λ rest. string_bytes rest ≡ Text.after_leading Text.is_space text.now) }
+    ensures text { IfOk result (λ rest. string_bytes rest
+        ≡ Text.after_leading Text.is_space text.now) }
+    ensures want { IfErr result (λ want. want ≡ Want.Memory) }
 {
     copied_text(alloc, after_spaces(text.as_bytes()))
 }
 
 /// A copy of the text without the white space at its ends.
 pub fn trimmed(alloc: Global, text: &str) -> Result<String, Want>
-    ensures { IfOk result (λ rest. string_bytes rest ≡ Text.trimmed text.now) }
+    ensures text { IfOk result (λ rest. string_bytes rest ≡ Text.trimmed text.now) }
+    ensures want { IfErr result (λ want. want ≡ Want.Memory) }
 {
     copied_text(alloc, before_spaces(after_spaces(text.as_bytes())))
 }
