@@ -1,5 +1,5 @@
 -- Content by forests is content by leaves.
-use Rattle.std.proofs.Common.{◌≡◌, ℕ, zero, suc, ◌+◌, ◌<◌, ◌≤◌, List, [], ◌∷◌, ◌++◌, length, map, Bool, true, false, not, ◌&&◌, cond, Option, Some, None, refl, sym, ◌∙◌, ap, subst, arith, append_assoc}
+use Rattle.std.proofs.Common.{◌≡◌, ℕ, zero, suc, ◌+◌, List, [], ◌∷◌, ◌++◌, length, map, Bool, true, false, not, ◌&&◌, cond, Option, Some, None, refl, sym, ◌∙◌, ap, subst, arith, append_assoc}
 use Rattle.std.specs.Prelude.{filter, codes, nat_lt, nat_eq}
 use Rattle.std.specs.List.{list_all}
 use Rattle.std.proofs.lemmas.Bool.Decides.{nat_tests}
@@ -8,9 +8,9 @@ use Rattle.xq_regions.specs.Print.{flat_row}
 use Rattle.xq_atoms.specs.Text.{Text, is_empty}
 use Rattle.xq_atoms.specs.Atom.{Atomic}
 use Rattle.xq_atoms.specs.Cast.{text_of}
-use Rattle.xq_regions.specs.Forest.{Forest, end, node, count, join, tops, labels}
+use Rattle.xq_regions.specs.Forest.{Forest, end, node, count, join, tops}
 use Rattle.xq_regions.specs.Tree.{Label, Tree, nodes}
-use Rattle.xq_regions.specs.Rows.{rows, measured}
+use Rattle.xq_regions.specs.Rows.{rows}
 use Rattle.xq_regions.specs.Nesting.{rows-injective}
 use Rattle.xq_regions.proofs.Printed.{leveled, flat-measured}
 use Rattle.xq_regions.proofs.Sized.{sized-tree}

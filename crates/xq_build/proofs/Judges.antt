@@ -1,5 +1,5 @@
 -- What is judged of content, and the tree that it becomes.
-use Rattle.std.proofs.Common.{◌≡◌, ℕ, suc, ◌+◌, ◌<◌, ◌≤◌, List, [], ◌∷◌, ◌++◌, length, map, Bool, true, false, not, ◌&&◌, ◌||◌, cond, Option, Some, None, Ok, Err, refl, sym, ◌∙◌, ap, arith, Bor}
+use Rattle.std.proofs.Common.{◌≡◌, ℕ, suc, ◌+◌, ◌<◌, ◌≤◌, List, [], ◌∷◌, ◌++◌, length, map, Bool, true, false, not, ◌||◌, Some, None, Ok, Err, refl, sym, ◌∙◌, ap, arith, Bor}
 use Rattle.std.specs.Prelude.{reverse, nat_le, nat_eq, if◌then◌else◌, bytes_eq}
 use Rattle.std.specs.List.{list_any}
 use Rattle.std.proofs.lemmas.Bool.Decides.{nat_tests}
@@ -9,8 +9,8 @@ use Rattle.xq_atoms.specs.declared.refusals.Code.{Code}
 use Rattle.xq_atoms.specs.declared.refusals.Code.TheVariants.{XQDY0025, ProfLevel, ProfNodes}
 use Rattle.xq_atoms.specs.declared.refusals.Fault.{Fault}
 use Rattle.xq_atoms.specs.declared.refusals.Fault.TheVariants.{Code as OfCode, Want as OfWant}
-use Rattle.xq_regions.specs.Forest.{Forest, end, node, count, tops}
-use Rattle.xq_regions.specs.Tree.{Label, Tree, nodes, is_attribute}
+use Rattle.xq_regions.specs.Forest.{Forest, count, tops}
+use Rattle.xq_regions.specs.Tree.{Label, Tree, nodes}
 use Rattle.xq_regions.specs.declared.Kind.{Kind}
 use Rattle.xq_regions.specs.declared.Kind.TheVariants.{Document, Element, Attribute, Text as TextKind, Comment, ProcessingInstruction}
 use Rattle.xq_values.specs.Content.{attribute_fault, first_fault, or_else, is_within_height, within_limits, unless_fault, built}
@@ -74,9 +74,9 @@ at_top parent names late p others e =
 pub attribute_decides : (parent : Kind) (names new : List Text) (late : Bool) (p : Leaf) (others : List Leaf) → p.0 ≡ 0 → p.1.kind ≡ Attribute
     → attribute_fault parent names late p.1.name ≡ None → new ≡ p.1.name ∷ names → fault_from parent new late others ≡ fault_from parent names late (p ∷ others)
 attribute_decides parent names new late p others e k f n = sym (
-  at_top parent names late p others e ∙ of_kind ∙ ap (λ o. or_else o (first_fault parent (p.1.name ∷ names) late (top_labels others))) f
-  ∙ ap (λ (ns : List Text). first_fault parent ns late (top_labels others)) (sym n)
-)
+    at_top parent names late p others e ∙ of_kind ∙ ap (λ o. or_else o (first_fault parent (p.1.name ∷ names) late (top_labels others))) f
+    ∙ ap (λ (ns : List Text). first_fault parent ns late (top_labels others)) (sym n)
+    )
   where
     of_kind : first_fault parent names late (p.1 ∷ top_labels others) ≡ or_else (attribute_fault parent names late p.1.name) (first_fault parent (p.1.name ∷ names) late (top_labels others))
     of_kind = rw k refl

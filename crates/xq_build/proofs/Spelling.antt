@@ -1,13 +1,13 @@
 -- Parts of texts: names around a colon, and what stands between white space.
-use Rattle.std.proofs.Common.{◌≡◌, ℕ, zero, suc, ◌+◌, ◌<◌, ◌≤◌, List, [], ◌∷◌, ◌++◌, length, take, drop, get_or, Bool, true, false, not, ◌&&◌, cond, Option, Some, None, refl, sym, ◌∙◌, ap, subst, arith, encode_utf8}
-use Rattle.std.specs.Prelude.{reverse, nat_eq, if◌then◌else◌}
-use Rattle.std.specs.List.{before_first, after_first, position_or_len, prefix_len}
-use Rattle.std.specs.Str.{chars, IsUtf8, NoCharPasses, NonePass, encode_utf8_all}
+use Rattle.std.proofs.Common.{◌≡◌, ℕ, zero, suc, ◌+◌, ◌<◌, List, [], ◌∷◌, ◌++◌, length, take, drop, get_or, Bool, true, false, ◌&&◌, Some, refl, sym, ◌∙◌, ap, subst, arith, encode_utf8}
+use Rattle.std.specs.Prelude.{reverse, if◌then◌else◌}
+use Rattle.std.specs.List.{before_first, after_first, position_or_len}
+use Rattle.std.specs.Str.{chars, IsUtf8, NoCharPasses, NonePass}
 use Rattle.std.specs.Str.Pattern.{FindsChar}
 use Rattle.std.proofs.lemmas.Bool.Decides.{nat_tests}
 use Rattle.std.proofs.lemmas.List.{take_at, drop_at, take-append-drop, reverse-append, length-drop, drop-drop, drop_all, reverse-reverse}
 use Rattle.std.proofs.lemmas.Str.{encode_ascii, chars-append, chars_past_char, chars_from_encodes, IsUtf8-take, IsUtf8-drop, IsUtf8-from_ascii, IsCharBoundary-before_ascii, IsCharBoundary-after_ascii, IsCharBoundary-at_seam}
-use Rattle.xq_atoms.specs.Text.{Text, is_space, after_leading, before_trailing, trimmed}
+use Rattle.xq_atoms.specs.Text.{is_space, after_leading, before_trailing}
 use Rattle.xq_regions.specs.Names.{is_name}
 use Rattle.xq_values.specs.Content.{is_colon, is_prefixed}
 
@@ -24,9 +24,10 @@ none_at_all (c ∷ cs) h = let e = none_at_all cs h.1 in rw h.0 (omega (arith, e
 split_chars : (cs rest : List ℕ) → NonePass is_colon cs → (before_first is_colon (cs ++ 58 ∷ rest) ≡ cs) × (after_first is_colon (cs ++ 58 ∷ rest) ≡ rest)
 split_chars cs rest h =
     let n = none_before cs rest h in
-    let whole = cs ++ 58 ∷ rest in
-    (ap (λ i. take i whole) n ∙ take_at cs (58 ∷ rest) (length cs) refl,
-    ap (λ i. drop (i + 1) whole) n ∙ sym (drop-one (length cs) whole) ∙ ap (drop 1) (drop_at cs (58 ∷ rest) (length cs) refl))
+    let whole = cs ++ 58 ∷ rest in (
+      ap (λ i. take i whole) n ∙ take_at cs (58 ∷ rest) (length cs) refl,
+      ap (λ i. drop (i + 1) whole) n ∙ sym (drop-one (length cs) whole) ∙ ap (drop 1) (drop_at cs (58 ∷ rest) (length cs) refl),
+    )
   where
     drop-one : (i : ℕ) (xs : List ℕ) → drop 1 (drop i xs) ≡ drop (i + 1) xs
     drop-one i xs = drop-drop 1 i xs

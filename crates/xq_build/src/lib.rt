@@ -15,4 +15,3 @@ pub use elements::{document, element};
 pub use leaves::{attribute, comment, pi, text};
 pub use names::name_of;
 pub use printer::{MAX_REPLY, print_items};
-

@@ -1,4 +1,4 @@
-use Rattle.std.proofs.Common.{◌≡◌, ◌∙◌, sym}
+use Rattle.std.proofs.Common.{◌∙◌, sym}
 use Rattle.xq_build.proofs.Contents.{one_glued, one_added, not_both, not_second}
 use Rattle.xq_build.proofs.content.append_merged.Goals as goal
 use Rattle.xq_build.proofs.content.append_merged.Goals.{else-is_top_text-via-then-is_top_text+else-is_top_text-2, else-is_top_text-via-else-is_top_text}

@@ -1,8 +1,5 @@
-use Rattle.std.proofs.Common.{◌≡◌, ◌∙◌, List, ap}
+use Rattle.std.proofs.Common.{◌∙◌, ap}
 use Rattle.std.specs.Prelude.{filter}
-use Rattle.xq_regions.specs.Items.{item_view}
-use Rattle.xq_values.specs.Content.{flattened}
-use Rattle.xq_values.specs.Readings.{items_at}
 use Rattle.xq_build.specs.private.Content.{merged_leaves, is_kept}
 use Rattle.xq_build.proofs.Contents.{content_leaves}
 use Rattle.xq_build.proofs.content.content.Goals as goal

@@ -1,5 +1,5 @@
-use Rattle.std.proofs.Common.{◌≡◌, List, map, ap, arith, drop}
-use Rattle.std.specs.Prelude.{string_bytes, []}
+use Rattle.std.proofs.Common.{List, map, ap, arith, drop}
+use Rattle.std.specs.Prelude.{string_bytes}
 use Rattle.std.specs.Option.{option_map}
 use Rattle.std.proofs.lemmas.List.{drop_all}
 use Rattle.xq_regions.specs.declared.items.Item.{Item}

@@ -1,4 +1,4 @@
-use Rattle.std.proofs.Common.{◌≡◌, List, map, subst, sym}
+use Rattle.std.proofs.Common.{map, subst, sym}
 use Rattle.std.specs.Prelude.{string_bytes, None}
 use Rattle.std.specs.Option.{option_map}
 use Rattle.xq_regions.specs.declared.items.Item.{Item}

@@ -1,4 +1,4 @@
-use Rattle.std.proofs.Common.{◌≡◌, ◌∙◌, ◌+◌, ◌<◌, ap, sym, arith, map, ◌++◌}
+use Rattle.std.proofs.Common.{◌∙◌, ◌+◌, ap, sym, arith, map, ◌++◌}
 use Rattle.std.proofs.lemmas.List.{append-nil}
 use Rattle.xq_regions.specs.Print.{flat_row}
 use Rattle.xq_sources.specs.Sources.{tree_at}

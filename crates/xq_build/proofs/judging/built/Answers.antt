@@ -4,8 +4,7 @@ use Rattle.std.proofs.lemmas.List.{length-map}
 use Rattle.xq_regions.specs.Print.{flat_row}
 use Rattle.xq_regions.specs.declared.NodeRow.{NodeRow}
 use Rattle.xq_values.specs.Content.{label}
-use Rattle.xq_build.specs.private.Leaves.{Leaf}
-use Rattle.xq_build.specs.private.Content.{are_low, raised, fault_from}
+use Rattle.xq_build.specs.private.Content.{are_low, raised}
 use Rattle.xq_build.proofs.Judges.{built_refused, built_high, built_large, built_whole}
 use Rattle.xq_build.proofs.judging.built.Goals as goal
 

@@ -1,4 +1,4 @@
-use Rattle.std.proofs.Common.{◌≡◌, ◌∙◌, ◌&&◌, ap, sym}
+use Rattle.std.proofs.Common.{◌∙◌, ◌&&◌, ap, sym}
 use Rattle.std.specs.Str.{chars}
 use Rattle.xq_regions.specs.Names.{is_name}
 use Rattle.xq_build.proofs.Spelling.{no_colon, around_colon}

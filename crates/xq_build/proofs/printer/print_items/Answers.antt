@@ -1,4 +1,4 @@
-use Rattle.std.proofs.Common.{◌≡◌, ◌∷◌, ◌∙◌, ℕ, List, string_bytes, subst}
+use Rattle.std.proofs.Common.{◌∙◌, string_bytes}
 use Rattle.std.specs.Global.{Global}
 use Rattle.std.proofs.lemmas.Result.{err_from_is_err_and}
 use Rattle.xq_build.proofs.Written.{begun, reply_refused, reply_given}
