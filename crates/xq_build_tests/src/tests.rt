@@ -123,8 +123,14 @@ fn prints<L: RowLender>(rt: &impl Abort, alloc: Global, lender: &mut L) -> Resul
         "element book {attribute id {\"1\"}, text {\"A\"}}, attribute id {\"2\"}, text {\"B\"}, \
         2.0, -1, true(), \"a\"\"&amp;&#xD;<\", xs:untypedAtomic(\"1\")"
     );
-    assert_eq!(rt; print_items(alloc, lender, &[node(0, 8)]).err(), Some(Fault::Want(Want::Store)));
-    assert_eq!(rt; print_items(alloc, lender, &[node(1, 0)]).err(), Some(Fault::Want(Want::Store)));
+    assert_eq!(rt;
+        print_items(alloc, lender, &[node(0, 8)]).err(),
+        Some(Fault::Want(Want::Store))
+    );
+    assert_eq!(rt;
+        print_items(alloc, lender, &[node(1, 0)]).err(),
+        Some(Fault::Want(Want::Store))
+    );
     Ok(())
 }
 
@@ -135,7 +141,12 @@ fn builds<L: RowLender>(rt: &impl Abort, alloc: Global, lender: &mut L) -> Resul
     assert_made(rt, alloc, made, "element a {text {\"1 2\"}}")?;
     assert_made(rt, alloc, document(alloc, lender, &[]), "document {}")?;
     let made = document(alloc, lender, &[node(0, 2)]);
-    assert_made(rt, alloc, made, "document {element book {attribute id {\"1\"}, text {\"A\"}}}")?;
+    assert_made(
+        rt,
+        alloc,
+        made,
+        "document {element book {attribute id {\"1\"}, text {\"A\"}}}",
+    )?;
     let name = owned(alloc, "copy")?;
     let made = element(alloc, lender, name, &[node(0, 3), node(0, 0), node(0, 4)]);
     assert_made(
@@ -147,7 +158,12 @@ fn builds<L: RowLender>(rt: &impl Abort, alloc: Global, lender: &mut L) -> Resul
     )?;
     let empty = string(alloc, "")?;
     let name = owned(alloc, "t")?;
-    let made = element(alloc, lender, name, &[node(0, 4), int(1), empty, node(0, 7)]);
+    let made = element(
+        alloc,
+        lender,
+        name,
+        &[node(0, 4), int(1), empty, node(0, 7)],
+    );
     assert_made(rt, alloc, made, "element t {text {\"A1 B\"}}")?;
     let name = owned(alloc, "n")?;
     let made = element(alloc, lender, name, &[string(alloc, "")?]);
@@ -199,7 +215,12 @@ fn lone_nodes_are_built(rt: HostRuntime) -> Result<(), Fault> {
     let made = attribute(alloc, owned(alloc, "b")?, owned(alloc, "1")?);
     assert_made(&rt, alloc, made, "attribute b {\"1\"}")?;
     assert_made(&rt, alloc, text(alloc, owned(alloc, "")?), "text {\"\"}")?;
-    assert_made(&rt, alloc, comment(alloc, owned(alloc, "x")?), "comment {\"x\"}")?;
+    assert_made(
+        &rt,
+        alloc,
+        comment(alloc, owned(alloc, "x")?),
+        "comment {\"x\"}",
+    )?;
     let made = pi(alloc, owned(alloc, "t")?, owned(alloc, "  x")?);
     assert_made(&rt, alloc, made, "processing-instruction t {\"x\"}")?;
     assert_refused(&rt, comment(alloc, owned(alloc, "a--b")?), Code::XQDY0072);
