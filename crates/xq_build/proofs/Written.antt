@@ -9,7 +9,7 @@ use Rattle.xq_atoms.specs.declared.refusals.Fault.TheVariants.{Code as OfCode, W
 use Rattle.xq_atoms.specs.declared.refusals.Code.{Code}
 use Rattle.xq_atoms.specs.declared.refusals.Code.TheVariants.{ProfReply}
 use Rattle.xq_regions.specs.Print.{escape, escaped, text_from, print, flat_row}
-use Rattle.xq_regions.specs.Tree.{Tree, nodes}
+use Rattle.xq_regions.specs.Tree.{Tree}
 use Rattle.xq_regions.specs.declared.NodeRow.{NodeRow}
 use Rattle.xq_regions.proofs.Printed.{text-rows}
 use Rattle.xq_regions.specs.declared.items.Item.{Item as CodeItem}
@@ -17,10 +17,20 @@ use Rattle.xq_regions.specs.Items.{item_view}
 use Rattle.xq_values.specs.Items.{Item}
 use Rattle.xq_values.specs.Readings.{item_at, items_at}
 use Rattle.xq_values.specs.Print.{print_item, print_items, within_reply}
+use Rattle.xq_regions.specs.Rows.{row_of, placed}
+use Rattle.xq_regions.specs.declared.items.Node.{Node as CodeNode}
+use Rattle.xq_sources.specs.Lenders.{IsRun}
+use Rattle.xq_sources.specs.Sources.{rows_between, tree_at}
+use Rattle.xq_values.specs.Items.{tree_below}
+use Rattle.xq_values.specs.Readings.{node_at}
+use Rattle.xq_build.proofs.Subtrees.{run_splits, whole_leaves}
+use Rattle.std.specs.Prelude.{Result, String, string_bytes}
+use Rattle.std.proofs.Common.{◌+◌, ◌-◌, drop}
+use Rattle.std.proofs.lemmas.List.{drop_more, map-append}
 use Rattle.xq_build.specs.Gives.{Gives}
-use Rattle.xq_build.specs.private.Leaves.{leaves}
+use Rattle.xq_build.specs.private.Leaves.{Leaf, lowered, leaves_between, IsRowOf}
 use Rattle.std.specs.Prelude.{codes, nat_le, Ok, Err}
-use Rattle.xq_build.specs.private.Writing.{IsTooLong, each_after_comma, escape_char}
+use Rattle.xq_build.specs.private.Writing.{IsTooLong, Appends, each_after_comma, escape_char}
 
 -- a text that is too long stays so
 too_long_more : (limit : ℕ) (e : Fault) (before p q : List ℕ) → IsTooLong limit (before ++ p) e → IsTooLong limit (before ++ (p ++ q)) e
@@ -140,6 +150,68 @@ begun trees now items x xs start first s e i h =
     ∙ sym (printed_all trees (item_at trees (item_view x)) (items_at trees (map item_view xs)))
     ∙ ap (λ (ys : List CodeItem). print_items trees (items_at trees (map item_view ys))) (sym i)
 
--- the text of the rows of a node
-pub node_text : (rows empty : List NodeRow) (t : Tree) → empty ≡ [] → map flat_row rows ≡ map flat_row empty ++ leaves (nodes t) → text_from 0 (map flat_row rows) ≡ print t
-node_text rows empty t e h = ap (text_from 0) (h ∙ ap (λ (l : List NodeRow). map flat_row l ++ leaves (nodes t)) e) ∙ text-rows t
+-- a node, and what is below it
+pub whole_text : (trees : List Tree) (n : CodeNode) (row : NodeRow) → IsRowOf trees n row
+    → text_from 0 ((0, (row_of row).label) ∷ map (lowered row.level) (leaves_between (tree_at trees n.tree) (n.pre + 1) (n.pre + row.size))) ≡ print (tree_below trees (node_at trees n))
+whole_text trees n row is = ap (text_from 0) (whole_leaves trees n row is) ∙ text-rows (tree_below trees (node_at trees n))
+
+-- # Nodes run by run
+
+-- a text that ends otherwise, by what was there before
+pub appended : {Z : Type 0} (limit : ℕ) (piece all : List ℕ) (result : Result (Unit {0}) Fault) (old mid new : String Z) → string_bytes mid ++ piece ≡ string_bytes old ++ all
+    → Appends limit piece result mid new → Appends limit all result old new
+appended limit piece all (Ok t) old mid new e h = (h.0 ∙ e, h.1)
+appended limit piece all (Err f) old mid new e h = too_long_along limit f (string_bytes mid ++ piece) (string_bytes old ++ all) e h
+
+-- a row that is refused
+pub run_refused : (limit : ℕ) (f : Fault) (text all : List ℕ) (depth base i : ℕ) (rs : List NodeRow) (row : NodeRow) (others : List Leaf) → i < length rs → row ≡ get_or rs i row
+    → text ++ text_from depth (map (lowered base) (map flat_row (drop i rs)) ++ others) ≡ all
+    → ((os : List Leaf) → IsTooLong limit (text ++ text_from depth (lowered base (flat_row row) ∷ os)) f) → IsTooLong limit all f
+run_refused limit f text all depth base i rs row others lt is e h =
+    let d : drop i rs ≡ row ∷ drop (i + 1) rs = drop_more rs i row lt ∙ ap (λ (r : NodeRow). r ∷ drop (i + 1) rs) (sym is) in
+    too_long_along limit f _ all (ap (λ (xs : List NodeRow). text ++ text_from depth (map (lowered base) (map flat_row xs) ++ others)) (sym d) ∙ e)
+    (h (map (lowered base) (map flat_row (drop (i + 1) rs)) ++ others))
+
+-- the leaves of a run, and those after it
+split_lowered : (t : Tree) (low high base : ℕ) (run : List NodeRow) → IsRun (rows_between t low high) (map placed run)
+    → map (lowered base) (leaves_between t low high) ≡ map (lowered base) (map flat_row run) ++ map (lowered base) (leaves_between t (low + length run) high)
+split_lowered t low high base run is =
+    ap (map (lowered base)) (run_splits t low high run is).is ∙ map-append (lowered base) (map flat_row run) (leaves_between t (low + length run) high)
+
+pub nodes_refused : (limit : ℕ) (f : Fault) (t : Tree) (low high base : ℕ) (run : List NodeRow) (text all : List ℕ) (depth : ℕ) → IsRun (rows_between t low high) (map placed run)
+    → text ++ text_from depth (map (lowered base) (leaves_between t low high)) ≡ all
+    → ((os : List Leaf) → IsTooLong limit (text ++ text_from depth (map (lowered base) (map flat_row run) ++ os)) f) → IsTooLong limit all f
+nodes_refused limit f t low high base run text all depth is e h =
+    too_long_along limit f _ all (ap (λ (ps : List Leaf). text ++ text_from depth ps) (sym (split_lowered t low high base run is)) ∙ e)
+    (h (map (lowered base) (leaves_between t (low + length run) high)))
+
+pub nodes_next : (t : Tree) (low high base : ℕ) (run : List NodeRow) (next : ℕ) (text now all : List ℕ) (depth depth' : ℕ) → IsRun (rows_between t low high) (map placed run)
+    → next ≡ low + length run
+    → ((os : List Leaf) → now ++ text_from depth' os ≡ text ++ text_from depth (map (lowered base) (map flat_row run) ++ os))
+    → text ++ text_from depth (map (lowered base) (leaves_between t low high)) ≡ all
+    → now ++ text_from depth' (map (lowered base) (leaves_between t next high)) ≡ all
+nodes_next t low high base run next text now all depth depth' is n h e =
+    ap (λ i. now ++ text_from depth' (map (lowered base) (leaves_between t i high))) n ∙ h (map (lowered base) (leaves_between t (low + length run) high))
+    ∙ ap (λ (ps : List Leaf). text ++ text_from depth ps) (sym (split_lowered t low high base run is)) ∙ e
+
+root_leaf : (row : NodeRow) → lowered row.level (flat_row row) ≡ (0, (row_of row).label)
+root_leaf row = let z : row.level - row.level ≡ 0 = omega arith in ap (λ i. (i, (row_of row).label)) z
+
+-- the text of a node is that of its row, and then of what is below it
+node_rows : (trees : List Tree) (n : CodeNode) (row : NodeRow) (last : ℕ) → IsRowOf trees n row → last ≡ n.pre + row.size
+    → text_from 0 (lowered row.level (flat_row row) ∷ map (lowered row.level) (leaves_between (tree_at trees n.tree) (n.pre + 1) last)) ≡ print (tree_below trees (node_at trees n))
+node_rows trees n row last is e =
+    ap (λ i. text_from 0 (lowered row.level (flat_row row) ∷ map (lowered row.level) (leaves_between (tree_at trees n.tree) (n.pre + 1) i))) e
+    ∙ ap (λ (p : Leaf). text_from 0 (p ∷ map (lowered row.level) (leaves_between (tree_at trees n.tree) (n.pre + 1) (n.pre + row.size)))) (root_leaf row)
+    ∙ whole_text trees n row is
+
+pub node_begun : (trees : List Tree) (n : CodeNode) (row : NodeRow) (last depth : ℕ) (old mid : List ℕ) → IsRowOf trees n row → last ≡ n.pre + row.size
+    → ((os : List Leaf) → mid ++ text_from depth os ≡ old ++ text_from 0 (lowered row.level (flat_row row) ∷ os))
+    → mid ++ text_from depth (map (lowered row.level) (leaves_between (tree_at trees n.tree) (n.pre + 1) last)) ≡ old ++ print (tree_below trees (node_at trees n))
+node_begun trees n row last depth old mid is e h =
+    h (map (lowered row.level) (leaves_between (tree_at trees n.tree) (n.pre + 1) last)) ∙ ap (λ (l : List ℕ). old ++ l) (node_rows trees n row last is e)
+
+pub node_refused : (limit : ℕ) (f : Fault) (trees : List Tree) (n : CodeNode) (row : NodeRow) (last : ℕ) (old : List ℕ) → IsRowOf trees n row → last ≡ n.pre + row.size
+    → ((os : List Leaf) → IsTooLong limit (old ++ text_from 0 (lowered row.level (flat_row row) ∷ os)) f) → IsTooLong limit (old ++ print (tree_below trees (node_at trees n))) f
+node_refused limit f trees n row last old is e h =
+    too_long_along limit f _ _ (ap (λ (l : List ℕ). old ++ l) (node_rows trees n row last is e)) (h (map (lowered row.level) (leaves_between (tree_at trees n.tree) (n.pre + 1) last)))

@@ -89,7 +89,7 @@ fn append_between<L: RowLender>(
 }
 
 /// A copy of the node's row.
-fn row_of_node<L: RowLender>(alloc: Global, source: &mut L, node: Node) -> Result<NodeRow, Want>
+pub fn row_of_node<L: RowLender>(alloc: Global, source: &mut L, node: Node) -> Result<NodeRow, Want>
     ensures found { L.is_clean source.new → IfOk result (IsRowOf (L.forest source.old) node) }
     ensures keeps { L.forest source.new ≡ L.forest source.old }
     ensures was_clean { L.is_clean source.new → L.is_clean source.old }
@@ -144,23 +144,6 @@ fn append_whole<L: RowLender>(
     copies.push(NodeRow { level: 0, ..row })?;
     append_below(alloc, source, copies, node, size, base)?;
     Ok(())
-}
-
-/// Adds copies of the node and of all that is below it.
-pub fn append_node<L: RowLender>(
-    alloc: Global,
-    source: &mut L,
-    copies: &mut Vec<NodeRow>,
-    node: Node,
-) -> Result<(), Want>
-    ensures copied { L.is_clean source.new
-        → OnOk result (map flat_row copies.new.items ≡ map flat_row copies.old.items
-        ++ leaves (nodes (tree_below (L.forest source.old) (node_at (L.forest source.old) node)))) }
-    ensures keeps { L.forest source.new ≡ L.forest source.old }
-    ensures was_clean { L.is_clean source.new → L.is_clean source.old }
-{
-    let row = row_of_node(alloc, source, node)?;
-    append_whole(alloc, source, copies, node, row)
 }
 
 /// Adds copies of the node and of all that is below it; of a document, of what is below it alone

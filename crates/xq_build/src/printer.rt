@@ -1,22 +1,25 @@
 //! The text of a result. A node is printed from its rows: one number is kept, how many nodes are
 //! open.
-ghost use Rattle.std.specs.Prelude.{◌≡◌, ◌≤◌, length, map, string_bytes, OnOk};
+ghost use Rattle.std.specs.Prelude.{◌≡◌, ◌≤◌, ◌∷◌, [], length, map, string_bytes, OnOk};
 ghost use Rattle.std.specs.Char.{encode_utf8};
 ghost use Rattle.xq_atoms.specs.Atom.{atomic_of};
 ghost use Rattle.xq_atoms.specs.Print.{print_atomic};
 ghost use Rattle.xq_regions.specs.Items.{item_view};
 ghost use Rattle.xq_regions.specs.Rows.{row_of};
-ghost use Rattle.xq_regions.specs.Print.{quoted, heading, content, opening, escaped, closing, between, text_from, flat_row};
+ghost use Rattle.xq_regions.specs.Print.{quoted, heading, content, opening, escaped, closing, between, text_from, flat_row, print};
+ghost use Rattle.xq_sources.specs.Sources.{tree_at};
 ghost use Rattle.xq_values.specs.Print.{print_item, print_items as printed_items, within_reply};
-ghost use Rattle.xq_values.specs.Readings.{item_at, items_at};
+ghost use Rattle.xq_values.specs.Items.{tree_below};
+ghost use Rattle.xq_values.specs.Readings.{item_at, items_at, node_at};
 ghost use Rattle.xq_build.specs.Gives.{Gives};
-ghost use Rattle.xq_build.specs.private.Writing.{Appends, each_after_comma, escape_char};
+ghost use Rattle.xq_build.specs.private.Leaves.{lowered, leaves_between, IsRowOf};
+ghost use Rattle.xq_build.specs.private.Writing.{Appends, GoesOn, each_after_comma, escape_char};
 
-use crate::copies::append_node;
+use crate::copies::row_of_node;
 use crate::kinds::{is_named, is_valued, word};
 use std::alloc::Global;
-use xq_atoms::{Atom, Code, Fault};
-use xq_regions::{Item, Kind, NodeRow};
+use xq_atoms::{Atom, Code, Fault, Want};
+use xq_regions::{Item, Kind, Node, NodeRow};
 use xq_sources::RowLender;
 
 /// The greatest length of a reply's text, in bytes.
@@ -133,19 +136,102 @@ fn append_between(text: &mut String, limit: usize, depth: u64, level: u64) -> Re
     append(text, limit, ", ")
 }
 
-/// Writes the nodes of the rows.
-fn append_rows(text: &mut String, limit: usize, rows: &[NodeRow]) -> Result<(), Fault>
+/// Writes the node of the row, so many levels further up, where `depth` nodes are open; tells how
+/// many are open then.
+fn append_row(
+    text: &mut String,
+    limit: usize,
+    depth: u64,
+    base: u32,
+    row: &NodeRow,
+) -> Result<u64, Fault>
     requires { length (string_bytes text.old) ≤ limit }
-    ensures { Appends limit (text_from 0 (map flat_row rows.now)) result text.old text.new }
+    ensures { GoesOn limit depth (lowered base (flat_row row.now) ∷ []) result text.old text.new }
 {
-    let mut depth = 0;
+    let level = u64::from(row.level.saturating_sub(base));
+    append_between(text, limit, depth, level)?;
+    append_opening(text, limit, row)?;
+    Ok(level + 1)
+}
+
+/// Writes the nodes of the rows, as [`append_row`] does.
+fn append_run(
+    text: &mut String,
+    limit: usize,
+    depth: u64,
+    base: u32,
+    rows: &[NodeRow],
+) -> Result<u64, Fault>
+    requires { length (string_bytes text.old) ≤ limit }
+    ensures { GoesOn limit depth (map (lowered base) (map flat_row rows.now)) result
+        text.old text.new }
+{
+    let mut depth = depth;
     for row in rows {
-        let level = u64::from(row.level);
-        append_between(text, limit, depth, level)?;
-        append_opening(text, limit, row)?;
-        depth = level + 1;
+        depth = append_row(text, limit, depth, base, row)?;
+    }
+    Ok(depth)
+}
+
+/// Writes the nodes of the tree from `low` to `high`, so many levels further up, where `depth`
+/// nodes are open, and closes all.
+fn append_nodes<L: RowLender>(
+    alloc: Global,
+    source: &mut L,
+    text: &mut String,
+    limit: usize,
+    depth: u64,
+    base: u32,
+    tree: usize,
+    low: usize,
+    high: u32,
+) -> Result<(), Fault>
+    requires { length (string_bytes text.old) ≤ limit }
+    ensures appends { L.is_clean source.new → Appends limit
+        (text_from depth (map (lowered base)
+        (leaves_between (tree_at (L.forest source.old) tree) low high))) result
+        text.old text.new }
+    ensures within { OnOk result (length (string_bytes text.new) ≤ limit) }
+    ensures keeps { L.forest source.new ≡ L.forest source.old }
+    ensures was_clean { L.is_clean source.new → L.is_clean source.old }
+{
+    let mut depth = depth;
+    let mut next = low;
+    while next <= high as usize {
+        source.fetch(alloc, tree, next as u32, high)?;
+        let run = source.lent();
+        if run.is_empty() {
+            return append_closing(text, limit, depth);
+        }
+        depth = append_run(text, limit, depth, base, run)?;
+        next = next.saturating_add(run.len());
     }
     append_closing(text, limit, depth)
+}
+
+/// Writes the node whose row this is, and all that is below it.
+fn append_node<L: RowLender>(
+    alloc: Global,
+    source: &mut L,
+    text: &mut String,
+    limit: usize,
+    node: Node,
+    root: &NodeRow,
+) -> Result<(), Fault>
+    requires { length (string_bytes text.old) ≤ limit }
+    ensures appends { L.is_clean source.new → IsRowOf (L.forest source.old) node root.now
+        → Appends limit (print (tree_below (L.forest source.old)
+        (node_at (L.forest source.old) node))) result text.old text.new }
+    ensures within { OnOk result (length (string_bytes text.new) ≤ limit) }
+    ensures keeps { L.forest source.new ≡ L.forest source.old }
+    ensures was_clean { L.is_clean source.new → L.is_clean source.old }
+{
+    let Some(last) = node.pre.checked_add(root.size) else {
+        return Err(Fault::Want(Want::Store));
+    };
+    let depth = append_row(text, limit, 0, root.level, root)?;
+    let first = node.pre as usize + 1;
+    append_nodes(alloc, source, text, limit, depth, root.level, node.tree, first, last)
 }
 
 /// Writes an atom.
@@ -178,9 +264,8 @@ fn append_item<L: RowLender>(
     match item {
         Item::Atom(atom) => append_atom(text, limit, atom),
         Item::Node(node) => {
-            let mut rows = Vec::new(alloc);
-            append_node(alloc, source, &mut rows, *node)?;
-            append_rows(text, limit, &rows)
+            let root = row_of_node(alloc, source, *node)?;
+            append_node(alloc, source, text, limit, *node, &root)
         }
     }
 }
