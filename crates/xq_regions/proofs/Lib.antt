@@ -11,3 +11,5 @@ pub mod Texts
 pub mod Distinctness
 pub mod AttributeRuns
 pub mod RegionTable
+pub mod SizedRows
+pub mod Sized

@@ -11,12 +11,14 @@ mod axes;
 mod encodings;
 mod items;
 mod laws;
+mod levels;
 mod names;
 mod values;
 
 use encodings::is_encoding;
 pub use items::{Item, Items, Node};
 pub use laws::trees_are_their_rows;
+pub use names::{is_name, is_target};
 
 /// The greatest level of a node, where the root has 0.
 pub const MAX_LEVEL: u32 = 100;

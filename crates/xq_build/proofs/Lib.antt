@@ -1,0 +1,5 @@
+pub mod Subtrees
+pub mod Written
+pub mod Contents
+pub mod Judges
+pub mod Spelling

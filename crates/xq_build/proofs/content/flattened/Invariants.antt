@@ -1,0 +1,20 @@
+use Rattle.std.proofs.Common.{◌≡◌, map, drop}
+use Rattle.std.specs.Prelude.{string_bytes, None, []}
+use Rattle.std.specs.Option.{option_map}
+use Rattle.xq_regions.specs.Items.{item_view}
+use Rattle.xq_regions.specs.Print.{flat_row}
+use Rattle.xq_values.specs.Readings.{items_at}
+use Rattle.xq_build.specs.private.Content.{so_far, flattened_with, Childless}
+use Rattle.xq_build.proofs.content.flattened.Given as goal
+
+abbrev pub invariant-loop-item : goal.invariant-loop-item
+invariant-loop-item g l =
+    let trees = g.L.TreeSource.forest l.fn.source in
+    let left = items_at trees (map item_view (drop l.item-index l.items)) in
+    let all = items_at trees (map item_view l.items) in
+    record {
+      keeps : g.L.TreeSource.forest l.source ≡ g.L.TreeSource.forest l.fn.source;
+      was_clean : g.L.TreeSource.is_clean l.source → g.L.TreeSource.is_clean l.fn.source;
+      is : g.L.TreeSource.is_clean l.source → so_far trees (map flat_row l.rows.items) (option_map string_bytes l.run) left ≡ so_far trees [] None all;
+      childless : g.L.TreeSource.is_clean l.source → Childless (flattened_with trees (option_map string_bytes l.run) left) → Childless (flattened_with trees None all);
+    }

@@ -1,0 +1,12 @@
+use Rattle.std.proofs.Common.{◌≡◌, ◌++◌, List, map}
+use Rattle.xq_regions.specs.Print.{flat_row}
+use Rattle.xq_build.specs.private.Leaves.{Leaf}
+use Rattle.xq_build.specs.private.Content.{merged_leaves, AreApart}
+use Rattle.xq_build.proofs.content.merged.Given as goal
+
+-- the rows so far, merged, may stand for those that they came from
+abbrev pub invariant-loop-row : goal.invariant-loop-row
+invariant-loop-row l = record {
+  merges : (others : List Leaf) → merged_leaves (map flat_row l.all.items ++ others) ≡ merged_leaves (map flat_row l.yielded ++ others);
+  apart : AreApart (map flat_row l.all.items);
+}

@@ -1,0 +1,8 @@
+use Rattle.std.proofs.Common.{sym, subst}
+use Rattle.std.specs.Str.{IsUtf8}
+use Rattle.xq_build.proofs.Spelling.{leading_utf8}
+use Rattle.xq_build.proofs.values.without_leading_space.Goals as goal
+
+pub copied_text-requires : goal.copied_text-requires
+copied_text-requires c =
+    subst IsUtf8 (sym c.after_spaces.ensures) (leading_utf8 c.as_bytes.result.now (subst IsUtf8 (sym c.as_bytes.ensures.value) c.utf8.text))

@@ -1,0 +1,4 @@
+pub mod Leaves
+pub mod Writing
+pub mod Judging
+pub mod Content

@@ -1,0 +1,138 @@
+//! What is judged of the content of an element or a document, and the tree that it becomes.
+ghost use Rattle.std.specs.Prelude.{◌≡◌, ◌∷◌, [], false, map, string_bytes, IfOk, OnOk};
+ghost use Rattle.xq_regions.specs.Forest.{Forest};
+ghost use Rattle.xq_regions.specs.Tree.{Label};
+ghost use Rattle.xq_regions.specs.Print.{flat_row};
+ghost use Rattle.xq_values.specs.Content.{attribute_fault, built as built_lem, label};
+ghost use Rattle.xq_build.specs.Gives.{Gives};
+ghost use Rattle.xq_build.specs.private.Leaves.{leaves};
+ghost use Rattle.xq_build.specs.private.Content.{are_low as are_low_lem, raised as raised_lem, fault_from, names_of, JudgedAs, JudgesLeaf};
+
+use indexmap::IndexSet;
+use std::alloc::Global;
+use xq_atoms::{Code, Fault, Want};
+use xq_regions::{Fragment, Kind, MAX_LEVEL, MAX_NODES, NodeRow};
+
+/// Judges an attribute, after others with these names, and perhaps after another node.
+fn judge_attribute<'a>(
+    parent: Kind,
+    names: &mut IndexSet<&'a str>,
+    late: bool,
+    name: &'a str,
+) -> Result<(), Fault>
+    ensures judged { JudgedAs (attribute_fault parent (names_of names.old) late name.now) result }
+    ensures names { OnOk result (names_of names.new ≡ name.now ∷ names_of names.old) }
+{
+    match parent {
+        Kind::Document => return Err(Fault::Code(Code::XPTY0004)),
+        _ => {}
+    }
+    if late {
+        return Err(Fault::Code(Code::XQTY0024));
+    }
+    if !names.insert(name)? {
+        return Err(Fault::Code(Code::XQDY0025));
+    }
+    Ok(())
+}
+
+/// Judges a node, where it is one at the top; tells whether a later attribute is too late.
+fn judge_node<'a>(
+    parent: Kind,
+    names: &mut IndexSet<&'a str>,
+    late: bool,
+    row: &'a NodeRow,
+) -> Result<bool, Fault>
+    ensures { JudgesLeaf parent (names_of names.old) late (flat_row row.now)
+        (names_of names.new) result }
+{
+    if row.level > 0 {
+        return Ok(late);
+    }
+    match row.kind {
+        Kind::Attribute => {
+            judge_attribute(parent, names, late, row.name.as_str())?;
+            Ok(late)
+        }
+        _ => Ok(true),
+    }
+}
+
+/// Judges the attributes among the nodes at the top, in order.
+fn judge_attributes(alloc: Global, parent: Kind, rows: &[NodeRow]) -> Result<(), Fault>
+    ensures { JudgedAs (fault_from parent [] false (map flat_row rows.now)) result }
+{
+    let mut names = IndexSet::new(alloc);
+    let mut late = false;
+    for row in rows {
+        late = judge_node(parent, &mut names, late, row)?;
+    }
+    Ok(())
+}
+
+/// Whether no level is over that of the children of the lowest nodes but one.
+fn are_low(rows: &[NodeRow]) -> bool
+    ensures { result ≡ are_low_lem (map flat_row rows.now) }
+{
+    for row in rows {
+        if row.level >= MAX_LEVEL {
+            return false;
+        }
+    }
+    true
+}
+
+/// The row one level further down.
+fn raised(row: NodeRow) -> Result<NodeRow, Want>
+    ensures { IfOk result (λ lower. flat_row lower ≡ raised_lem (flat_row row)) }
+{
+    match row.level.checked_add(1) {
+        Some(level) => Ok(NodeRow { level, ..row }),
+        None => Err(Want::Store),
+    }
+}
+
+/// The root, and the content below it.
+fn with_root(alloc: Global, root: NodeRow, content: Vec<NodeRow>) -> Result<Vec<NodeRow>, Want>
+    ensures { IfOk result (λ rows. map flat_row rows.items
+        ≡ flat_row root ∷ map raised_lem (map flat_row content.items)) }
+{
+    let mut rows = Vec::with_capacity(alloc, content.len().saturating_add(1))?;
+    rows.push(root)?;
+    for row in content {
+        rows.push(raised(row)?)?;
+    }
+    Ok(rows)
+}
+
+/// The tree of a root with the content below it, where that may stand there.
+pub fn built(
+    alloc: Global,
+    kind: Kind,
+    name: String,
+    content: Vec<NodeRow>,
+) -> Result<Fragment, Fault>
+    ensures { (f : Forest Label) → map flat_row content.items ≡ leaves f
+        → Gives (λ tree. tree) (built_lem (label kind (string_bytes name) []) f) result }
+{
+    judge_attributes(alloc, kind, &content)?;
+    if !are_low(&content) {
+        return Err(Fault::Code(Code::ProfLevel));
+    }
+    if content.len() >= MAX_NODES {
+        return Err(Fault::Code(Code::ProfNodes));
+    }
+    let root = NodeRow {
+        pre: 0,
+        size: 0,
+        level: 0,
+        kind,
+        name,
+        value: String::new(alloc),
+    };
+    let rows = with_root(alloc, root, content)?;
+    match Fragment::from_levels(rows) {
+        Some(tree) => Ok(tree),
+        None => Err(Fault::Want(Want::Store)),
+    }
+}

@@ -1,0 +1,17 @@
+//! Constructors of nodes, their content, and the text of a result, over any lender of rows.
+#![tactic(auto)]
+
+mod content;
+mod copies;
+mod elements;
+mod judging;
+mod kinds;
+mod leaves;
+mod names;
+mod printer;
+mod values;
+
+pub use elements::{document, element};
+pub use leaves::{attribute, comment, pi, text};
+pub use names::name_of;
+pub use printer::{MAX_REPLY, print_items};

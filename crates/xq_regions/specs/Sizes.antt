@@ -1,0 +1,24 @@
+-- The sizes of rows from their levels: below a node are those after it that are deeper.
+use Rattle.std.specs.Prelude.{ℕ, nat_lt, ◌≡◌, List, [], ◌∷◌, map}
+use Rattle.std.specs.List.{prefix_len}
+use Rattle.xq_regions.specs.Print.{flat_row}
+use Rattle.xq_regions.specs.Rows.{Row}
+use Rattle.xq_regions.specs.Tree.{Label}
+use Rattle.xq_regions.specs.declared.NodeRow.{NodeRow}
+
+-- the rows with these levels and labels
+abbrev pub sized : List (ℕ × Label) → List Row
+sized [] = []
+sized (p ∷ ps) = record { size = prefix_len (λ q. nat_lt p.0 q.0) ps; level = p.0; label = p.1 } ∷ sized ps
+
+-- how many rows at the front are deeper than the level
+abbrev pub deeper : ℕ → List NodeRow → ℕ
+deeper level rs = prefix_len (λ q. nat_lt level q.0) (map flat_row rs)
+
+-- each row's size is how many of the rows after it are deeper
+abbrev pub IsSized : List NodeRow → Type 0
+IsSized [] = Unit {0}
+IsSized (r ∷ rs) = (r.size ≡ deeper r.level rs) × IsSized rs
+
+abbrev pub level_of : NodeRow → ℕ
+level_of r = r.level

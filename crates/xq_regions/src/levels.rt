@@ -1,0 +1,95 @@
+//! Trees from the levels of their nodes, in document order.
+ghost use Rattle.std.specs.Prelude.{◌≡◌, ◌≤◌, ◌<◌, ◌+◌, length, map, drop, slice_index, vec_len, IsNone, IfSome};
+ghost use Rattle.xq_regions.specs.Tree.{Tree, IsTree};
+ghost use Rattle.xq_regions.specs.Rows.{AreNumbered};
+ghost use Rattle.xq_regions.specs.Levels.{HasLevels};
+ghost use Rattle.xq_regions.specs.Print.{flat_row};
+ghost use Rattle.xq_regions.specs.Sizes.{IsSized, deeper, level_of};
+
+use crate::{Fragment, MAX_NODES, NodeRow};
+
+/// How many rows after the row `at` are deeper, where the sizes of those are known.
+fn size_at(rows: &[NodeRow], at: usize) -> usize
+    requires at_in { at < length rows.now }
+    requires after { IsSized (drop (at + 1) rows.now) }
+    ensures value { result ≡ deeper (slice_index (map level_of rows.now) at) (drop (at + 1) rows.now) }
+    ensures bound { at + result < length rows.now }
+{
+    let level = rows[at].level;
+    let mut next = at + 1;
+    while next < rows.len() {
+        let row = &rows[next];
+        if row.level <= level {
+            return next - at - 1;
+        }
+        next += 1 + row.size as usize;
+    }
+    next - at - 1
+}
+
+/// Sets the sizes.
+fn set_sizes(rows: &mut [NodeRow])
+    requires { length rows.old ≤ 1000000 }
+    ensures sized { IsSized rows.new }
+    ensures same { map flat_row rows.new ≡ map flat_row rows.old }
+    ensures numbered { AreNumbered 0 rows.old → AreNumbered 0 rows.new }
+{
+    let mut at = rows.len();
+    while at > 0 {
+        at -= 1;
+        let size = size_at(rows, at);
+        rows[at].size = size as u32;
+    }
+}
+
+/// Sets the places.
+fn set_places(rows: &mut [NodeRow])
+    requires { length rows.old ≤ 1000000 }
+    ensures numbered { AreNumbered 0 rows.new }
+    ensures same { map flat_row rows.new ≡ map flat_row rows.old }
+{
+    let mut at = rows.len();
+    while at > 0 {
+        at -= 1;
+        rows[at].pre = at as u32;
+    }
+}
+
+/// The rows with their places.
+fn with_places(mut rows: Vec<NodeRow>) -> Vec<NodeRow>
+    requires { vec_len rows ≤ 1000000 }
+    ensures numbered { AreNumbered 0 result.items }
+    ensures same { map flat_row result.items ≡ map flat_row rows.items }
+    ensures long { vec_len result ≡ vec_len rows }
+{
+    set_places(&mut rows);
+    rows
+}
+
+/// The rows with their sizes.
+fn with_sizes(mut rows: Vec<NodeRow>) -> Vec<NodeRow>
+    requires { vec_len rows ≤ 1000000 }
+    ensures sized { IsSized result.items }
+    ensures same { map flat_row result.items ≡ map flat_row rows.items }
+    ensures numbered { AreNumbered 0 rows.items → AreNumbered 0 result.items }
+{
+    set_sizes(&mut rows);
+    rows
+}
+
+impl Fragment {
+    /// The tree with the nodes of these rows in document order, whatever places and sizes they
+    /// have: it is told by their kinds, names, values and levels. None where there is no such tree.
+    pub fn from_levels(rows: Vec<NodeRow>) -> Option<Fragment>
+        ensures some { IfSome result (λ tree. HasLevels tree rows.items) }
+        ensures none { IsNone result → (tree : Tree) → IsTree tree → ¬ (HasLevels tree rows.items) }
+    {
+        if rows.len() > MAX_NODES {
+            return None;
+        }
+        match Fragment::from_rows(with_sizes(with_places(rows))) {
+            Ok(tree) => Some(tree),
+            Err(_) => None,
+        }
+    }
+}
