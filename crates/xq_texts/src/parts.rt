@@ -11,7 +11,7 @@ use xq_atoms::{Atom, Want, cast_str};
 /// The atoms' texts with a separator between them (fn:string-join, F&O 3.1, section 5.4.2).
 pub fn joined(alloc: Global, separator: &str, atoms: &[Atom]) -> Result<String, Want>
     ensures text { IfOk result (λ made. string_bytes made
-        ≡ Texts.joined separator.now (map (λ atom. text_of (atomic_of atom)) atoms.now)) }
+        ≡ Texts.joined separator.now (map text_of (map atomic_of atoms.now))) }
     ensures want { IfErr result (λ want. want ≡ Want.Memory) }
 {
     let mut text = String::new(alloc);

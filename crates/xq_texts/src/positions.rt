@@ -1,11 +1,12 @@
 //! Characters by their positions, from 1.
-ghost use Rattle.std.specs.Prelude.{◌≡◌, ℕ, ◌+◌, ◌^◌, ◌<◌, pos, ◌≤ℤ◌, int_lt, nat_lt, take, drop, encode_utf8_all};
+ghost use Rattle.std.specs.Prelude.{◌≡◌, ℕ, ◌+◌, ◌^◌, ◌<◌, ◌≤◌, length, pos, ◌≤ℤ◌, int_lt, nat_lt, take, drop, encode_utf8_all};
 ghost use Rattle.std.specs.Str.{chars};
 ghost use Rattle.xq_values.specs.Texts as Texts;
 
 /// How many characters the text has (fn:string-length, F&O 3.1, section 5.4.4).
 pub fn character_count(text: &str) -> usize
-    ensures { result ≡ Texts.character_count text.now }
+    ensures count { result ≡ Texts.character_count text.now }
+    ensures at_most { result ≤ length text.now }
 {
     text.chars().count()
 }

@@ -1,12 +1,12 @@
 use Rattle.std.proofs.Common.{◌≡◌, ◌==◌, ◌++◌, ◌∷◌, [], ◌+◌, map, take, length, string_bytes, sym, ap, ◌∙◌, arith}
-use Rattle.std.proofs.lemmas.List.{map_more, length-map, length-take-le}
+use Rattle.std.proofs.lemmas.List.{map_more, length-map, length-take-le, take_all}
 use Rattle.std.proofs.lemmas.Bool.{ne_eqb}
 use Rattle.xq_atoms.specs.declared.atoms.Atom.{Atom}
 use Rattle.xq_atoms.specs.Text.{Text}
 use Rattle.xq_atoms.specs.Atom.{atomic_of}
 use Rattle.xq_atoms.specs.Cast.{text_of}
 use Rattle.xq_values.specs.Texts as Texts
-use Rattle.xq_texts.proofs.JoinLemmas.{joined-more, joined-first}
+use Rattle.xq_texts.proofs.JoinLemmas.{joined-more, joined-first, map-map}
 use Rattle.xq_texts.proofs.parts.joined.Goals as goal
 use Rattle.xq_texts.proofs.parts.joined.Goals.{then-not-is_first+in_ok-push_str, else-not-is_first}
 
@@ -32,3 +32,8 @@ loop-atom-preserved c =
           pushed ∙ ap (λ t. string_bytes t ++ this) w.text-is ∙ ap (λ t. t ++ this) c.loop-atom.invariant.text ∙ sym (joined-first separator done this (before ∙ w.if-not-is_first.false))
     ] in
     record { text = text ∙ ap (Texts.joined separator) (sym item); first = sym (ne_eqb (i + 1) 0 (λ e. omega (arith, e))) }
+
+pub returns-clause-text : goal.returns-clause-text
+returns-clause-text c =
+    let atoms = c.args.atoms.now in
+    c.loop-atom.invariant.text ∙ ap (λ l. Texts.joined c.args.separator.now l) (ap (map (λ (atom : Atom). text_of (atomic_of atom))) (take_all c.loop-atom.atom-index atoms (omega arith)) ∙ sym (map-map text_of atomic_of atoms))
