@@ -14,3 +14,7 @@ Gives-fault view judged other outcome (OfWant want) r is gives same = subst (Giv
 -- the same outcome
 pub Gives-same : {A B : Type 0} (view : A → B) (judged other : Judged B) (r : Result A Fault) → judged ≡ other → Gives view other r → Gives view judged r
 Gives-same view judged other r is gives = subst (λ j. Gives view j r) (sym is) gives
+
+-- a code
+pub Gives-code : {A B : Type 0} (view : A → B) (judged : Judged B) (code : Code) (r : Result A Fault) → r ≡ Err (OfCode code) → judged ≡ Err code → Gives view judged r
+Gives-code view judged code r is e = subst (Gives view judged) (sym is) e

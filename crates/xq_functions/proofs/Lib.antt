@@ -1,6 +1,7 @@
 pub mod AnswerLemmas
 pub mod ListLemmas
 pub mod TextLemmas
+pub mod CallLemmas
 pub mod NumberLemmas
 pub mod ChoiceLemmas
 pub mod DistinctLemmas

@@ -5,11 +5,16 @@
 mod aggregates;
 mod arguments;
 mod arithmetic;
+mod calls;
 mod comparisons;
 mod distinct;
+mod kinds;
 mod results;
 mod sequences;
 mod texts;
 mod truths;
 
+pub use arithmetic::signed;
+pub use calls::{call_on_atoms, call_on_items, call_on_lists, operate_on_atoms};
+pub use kinds::{Argument, argument_of, is_on_atoms};
 pub use truths::{effective, keeps};

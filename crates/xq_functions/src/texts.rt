@@ -152,3 +152,21 @@ pub fn concat(alloc: Global, lists: &[Vec<Atom>]) -> Result<Items, Fault>
     }
     Ok(one(alloc, Atom::Str(text))?)
 }
+
+/// The texts of three lists of at most one atom each, one after another (fn:concat).
+pub fn concat_three(
+    alloc: Global,
+    first: &[Atom],
+    second: &[Atom],
+    third: &[Atom],
+) -> Result<Items, Fault>
+    ensures { GivesItems (Calls.three_concatenated
+        (atomics first.now) (atomics second.now) (atomics third.now)) result }
+{
+    let mut text = piece(alloc, first)?;
+    let middle = piece(alloc, second)?;
+    let end = piece(alloc, third)?;
+    text.push_str(middle.as_str())?;
+    text.push_str(end.as_str())?;
+    Ok(one(alloc, Atom::Str(text))?)
+}
