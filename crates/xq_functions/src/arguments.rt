@@ -34,7 +34,7 @@ pub fn single(atoms: &[Atom]) -> Result<&Atom, Code>
 }
 
 /// The characters of a string or of an untyped value; XPTY0004 for another type.
-fn text_argument(atom: &Atom) -> Result<&str, Code>
+pub fn text_argument(atom: &Atom) -> Result<&str, Code>
     ensures text { judged_as (λ text. text.now) result
         ≡ Arguments.text_argument (atomic_of atom.now) }
     ensures small { IfOk result (λ text. length text.now < 2 ^ 63) }

@@ -8,6 +8,7 @@ mod arithmetic;
 mod calls;
 mod comparisons;
 mod distinct;
+mod documents;
 mod kinds;
 mod results;
 mod sequences;
@@ -16,5 +17,6 @@ mod truths;
 
 pub use arithmetic::signed;
 pub use calls::{call_on_atoms, call_on_items, call_on_lists, operate_on_atoms};
+pub use documents::doc;
 pub use kinds::{Argument, argument_of, is_on_atoms};
 pub use truths::{effective, keeps};
