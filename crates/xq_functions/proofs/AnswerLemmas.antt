@@ -1,5 +1,5 @@
 -- From what a call gave to what its caller gives.
-use Rattle.std.proofs.Common.{◌≡◌, List, Ok, Err, Result, refl, sym, ap, ◌∙◌, subst}
+use Rattle.std.proofs.Common.{◌≡◌, Err, Result, sym, subst}
 use Rattle.xq_atoms.specs.declared.refusals.Code.{Code}
 use Rattle.xq_atoms.specs.declared.refusals.Fault.{Fault}
 use Rattle.xq_atoms.specs.declared.refusals.Fault.TheVariants.{Code as OfCode, Want as OfWant}

@@ -1,8 +1,8 @@
 -- What calls and operators are, from the atomic values of their arguments and operands.
-use Rattle.std.proofs.Common.{◌≡◌, ◌≤◌, ◌<◌, List, [], ◌∷◌, ◌++◌, map, length, get_or, ◌==◌, Option, Some, None, Ok, Err, true, false, refl, sym, ap, ◌∙◌, arith}
+use Rattle.std.proofs.Common.{◌≡◌, ◌≤◌, ◌<◌, List, [], ◌∷◌, ◌++◌, map, length, get_or, ◌==◌, Option, Some, Ok, Err, true, false, refl, sym, ap, ◌∙◌, arith}
 use Rattle.std.specs.Global.{Vec}
 use Rattle.std.proofs.lemmas.List.{append-nil, append_assoc}
-use Rattle.std.proofs.lemmas.Bool.{false≢true, eqb-true, eqb-false}
+use Rattle.std.proofs.lemmas.Bool.{false≢true}
 use Rattle.xq_atoms.specs.Judged.{Judged, ◌>>=◌}
 use Rattle.xq_atoms.specs.Text.{Text}
 use Rattle.xq_atoms.specs.Atom.{Atomic}
@@ -17,9 +17,9 @@ use Rattle.xq_values.specs.declared.operators.Operator.{Operator}
 use Rattle.xq_values.specs.declared.operators.Operator.TheVariants as operator
 use Rattle.xq_values.specs.Items.{Item, Atom, atomized}
 use Rattle.xq_values.specs.Readings.{items_at}
-use Rattle.xq_values.specs.Arguments.{text, optional, single, as_items, as_boolean, if_given, each}
+use Rattle.xq_values.specs.Arguments.{text, optional, single, as_items, as_boolean, if_given}
 use Rattle.xq_values.specs.Texts.{joined}
-use Rattle.xq_values.specs.Functions.{Focus, piece, concat, of_one, of_two, of_three, of_many, called, distinct_values}
+use Rattle.xq_values.specs.Functions.{Focus, piece, of_one, of_two, of_three, of_many, called, distinct_values}
 use Rattle.xq_values.specs.Operators.{operated, of_both, number_operand, sum_of, product_of, one_bound, integers, related_by}
 use Rattle.xq_atoms.specs.Compare.{compare_value}
 use Rattle.xq_functions.specs.Answers.{items_of}

@@ -1,11 +1,11 @@
 -- One value more among the distinct ones.
-use Rattle.std.proofs.Common.{◌≡◌, List, [], ◌∷◌, ◌++◌, map, Bool, true, false, cond, refl, sym, ap, ◌∙◌}
+use Rattle.std.proofs.Common.{◌≡◌, List, [], ◌∷◌, ◌++◌, map, Bool, true, false, cond, sym, ap, ◌∙◌}
 use Rattle.std.specs.List.{list_any}
 use Rattle.std.specs.Cmp.{IsEquivalence, on_equiv}
 use Rattle.std.proofs.lemmas.List.{map_push}
 use Rattle.xq_atoms.specs.declared.atoms.GroupKey.{GroupKey}
 use Rattle.xq_atoms.specs.Atom.{Atomic}
-use Rattle.xq_atoms.specs.Compare.{Key, key, key_of, key_eq}
+use Rattle.xq_atoms.specs.Compare.{key, key_of, key_eq}
 use Rattle.xq_atoms.specs.Derived.{group_key_eq}
 use Rattle.xq_atoms.proofs.Keys.{group_key_eq-is}
 use Rattle.xq_regions.specs.Items.{ItemView, Value}
@@ -30,11 +30,11 @@ module _ {done : List Atomic} {seen : List GroupKey} {values : List ItemView} (h
   pub Distinct-new : list_any (group_key_eq k) seen ≡ false → (new : List GroupKey) (longer : List ItemView) → new ≡ seen ++ k ∷ [] → longer ≡ values ++ Value a ∷ [] → Distinct (done ++ a ∷ []) new longer
   Distinct-new none new longer seen_is values_is = record {
     keys = ap (map key_of) seen_is ∙ map_push key_of seen k ∙ (λ i. h.keys i ++ is i ∷ []) ∙ sym (map_push key (distinct_values done) a) ∙ sym (ap (map key) (more false none));
-    items = values_is ∙ ap (λ l. l ++ Value a ∷ []) h.items ∙ sym (map_push Value (distinct_values done) a) ∙ sym (ap (map Value) (more false none))
+    items = values_is ∙ ap (λ l. l ++ Value a ∷ []) h.items ∙ sym (map_push Value (distinct_values done) a) ∙ sym (ap (map Value) (more false none));
   }
 
   pub Distinct-old : list_any (group_key_eq k) seen ≡ true → (new : List GroupKey) → new ≡ seen → Distinct (done ++ a ∷ []) new values
   Distinct-old some new seen_is = record {
     keys = ap (map key_of) seen_is ∙ h.keys ∙ sym (ap (map key) (more true some));
-    items = h.items ∙ sym (ap (map Value) (more true some))
+    items = h.items ∙ sym (ap (map Value) (more true some));
   }

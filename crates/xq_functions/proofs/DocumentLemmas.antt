@@ -1,5 +1,5 @@
 -- Which texts are addresses.
-use Rattle.std.proofs.Common.{◌≡◌, ℕ, length, Bool, true, false, not, Result, Ok, Err, is_ok, refl, arith}
+use Rattle.std.proofs.Common.{◌≡◌, ℕ, length, true, false, Result, Ok, Err, is_ok, refl}
 use Rattle.xq_atoms.specs.declared.refusals.Code.{Code}
 use Rattle.xq_functions.specs.private.Documents.{document_at}
 use Rattle.std.proofs.lemmas.Bool.{lt-ltb, le-leb, ltb-true, leb-true, and_from, and_parts, false_from_ne_true}

@@ -1,5 +1,5 @@
 -- Judgements on each element of a list, and lists of items.
-use Rattle.std.proofs.Common.{◌≡◌, ℕ, suc, ◌+◌, ◌<◌, List, [], ◌∷◌, ◌++◌, map, reverse, take, drop, length, get_or, Result, Ok, Err, refl, sym, ap, ◌∙◌, arith}
+use Rattle.std.proofs.Common.{◌≡◌, ℕ, ◌+◌, ◌<◌, List, [], ◌∷◌, ◌++◌, map, take, drop, length, get_or, Ok, Err, refl, sym, ap, ◌∙◌}
 use Rattle.std.proofs.lemmas.List.{map_more, drop_more, take-append-drop, map-append}
 use Rattle.xq_atoms.specs.declared.refusals.Code.{Code}
 use Rattle.xq_atoms.specs.Judged.{Judged, ◌>>=◌}
@@ -44,4 +44,3 @@ from_here f xs i x h is = ap (map f) (drop_more xs i x h ∙ ap (λ y. y ∷ dro
 -- the first ones, with the i-th element
 pub to_here : {A B : Type 0} (f : A → B) (xs : List A) (i : ℕ) (x : A) → i < length xs → x ≡ get_or xs i x → map f (take (i + 1) xs) ≡ map f (take i xs) ++ f x ∷ []
 to_here f xs i x h is = map_more f xs i x h ∙ ap (λ y. map f (take i xs) ++ f y ∷ []) (sym is)
-

@@ -1,5 +1,5 @@
 -- Signs before numbers, and ranges.
-use Rattle.std.proofs.Common.{◌≡◌, ℕ, zero, suc, ◌+◌, ◌<◌, ◌≤◌, ℤ, pos, ◌+ℤ◌, ◌-ℤ◌, ◌≤ℤ◌, neg_ℤ, Bool, true, false, List, [], ◌∷◌, ◌++◌, Ok, Err, refl, sym, ap, ◌∙◌, arith}
+use Rattle.std.proofs.Common.{◌≡◌, ℕ, zero, suc, ◌≤◌, ℤ, pos, ◌+ℤ◌, neg_ℤ, Bool, true, false, List, [], ◌∷◌, ◌++◌, Ok, Err, refl, sym, ap, ◌∙◌, arith}
 use Rattle.std.proofs.lemmas.Int.{ints}
 use Rattle.xq_expressions.specs.declared.operators.Sign.{Sign}
 use Rattle.xq_expressions.specs.declared.operators.Sign.TheVariants.{Plus, Minus}
@@ -7,7 +7,7 @@ use Rattle.xq_atoms.specs.Judged.{Judged, ◌>>=◌, only_if}
 use Rattle.xq_atoms.specs.Atom.{Atomic, Integer, Decimal, String, Boolean, Untyped, numeric, is_integer}
 use Rattle.xq_atoms.specs.Decimal.{is_decimal}
 use Rattle.xq_atoms.specs.declared.refusals.Code.TheVariants.{FOAR0002}
-use Rattle.xq_values.specs.Items.{Item, Atom}
+use Rattle.xq_values.specs.Items.{Atom}
 use Rattle.xq_values.specs.Operators.{sign_of, with_signs, integers_from, integers, integers_within, how_many}
 use Rattle.std.proofs.lemmas.Bool.{le-leb}
 

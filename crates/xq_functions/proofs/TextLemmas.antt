@@ -6,7 +6,6 @@ use Rattle.xq_atoms.specs.Judged.{Judged, ◌>>=◌}
 use Rattle.xq_atoms.specs.Text.{Text}
 use Rattle.xq_atoms.specs.Atom.{Atomic}
 use Rattle.xq_atoms.specs.Cast.{text_of}
-use Rattle.xq_values.specs.Items.{Item}
 use Rattle.xq_values.specs.Texts.{joined}
 use Rattle.xq_values.specs.Arguments.{text, each}
 use Rattle.xq_values.specs.Functions.{piece}

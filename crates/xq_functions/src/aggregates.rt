@@ -108,7 +108,7 @@ fn judge_beside(first: &Atom, atom: &Atom) -> Result<(), Code>
 /// Whether two atoms are of one kind, and the first is better.
 fn is_better(better: CompOp, atom: &Atom, best: &Atom) -> bool
     ensures { result ≡ (Compare.of_one_kind
-            (Compare.key (atomic_of atom.now)) (Compare.key (atomic_of best.now))
+        (Compare.key (atomic_of atom.now)) (Compare.key (atomic_of best.now))
         && is_better_lem better (atomic_of atom.now) (atomic_of best.now)) }
 {
     compare_value(better, atom, best).unwrap_or(false)

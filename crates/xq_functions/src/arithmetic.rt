@@ -56,12 +56,7 @@ fn product_of(operator: ProductOperator, left: &Atom, right: &Atom) -> Result<At
 }
 
 /// `+` and `-` of operands, the left one judged first.
-pub fn sums(
-    alloc: Global,
-    sign: Sign,
-    left: &[Atom],
-    right: &[Atom],
-) -> Result<Items, Fault>
+pub fn sums(alloc: Global, sign: Sign, left: &[Atom], right: &[Atom]) -> Result<Items, Fault>
     ensures { GivesItems (Calls.on_numbers (Operators.sum_of sign)
         (atomics left.now) (atomics right.now)) result }
 {

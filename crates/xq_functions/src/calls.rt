@@ -33,7 +33,7 @@ use xq_values::Operator;
 pub fn call_on_items(alloc: Global, function: Function, items: Items) -> Result<Items, Fault>
     ensures { Kinds.argument_of function ≡ Argument.Items →
         (trees : List Tree) (addresses : List Text) → Gives (items_of trees)
-            (Functions.of_one function trees addresses (items_of trees items)) result }
+        (Functions.of_one function trees addresses (items_of trees items)) result }
 {
     match function {
         Function::Count => Ok(one(alloc, Atom::Int(items.len() as i64))?),
@@ -57,7 +57,7 @@ pub fn call_on_atoms(alloc: Global, function: Function, atoms: &[Atom]) -> Resul
     ensures atoms { Kinds.argument_of function ≡ Argument.Atoms →
         (trees : List Tree) (addresses : List Text) (items : List ItemSeen) →
         atomized trees items ≡ atomics atoms.now → Gives (items_of trees)
-            (Functions.of_one function trees addresses items) result }
+        (Functions.of_one function trees addresses items) result }
     ensures missing { Kinds.argument_of function ≡ Argument.Missing →
         (trees : List Tree) (addresses : List Text) (items : List ItemSeen) →
         Gives (items_of trees) (Functions.of_one function trees addresses items) result }
@@ -113,11 +113,7 @@ fn of_atom(alloc: Global, function: Function, atom: &Atom) -> Result<Items, Faul
 }
 
 /// A call with two arguments or more, from the atoms of each.
-pub fn call_on_lists(
-    alloc: Global,
-    function: Function,
-    lists: &[Vec<Atom>],
-) -> Result<Items, Fault>
+pub fn call_on_lists(alloc: Global, function: Function, lists: &[Vec<Atom>]) -> Result<Items, Fault>
     ensures { (trees : List Tree) (addresses : List Text) (focus : Option Functions.Focus)
         (values : List (List ItemSeen)) → 2 ≤ length values →
         map (atomized trees) values ≡ map (λ list. atomics list.items) lists.now →
@@ -241,12 +237,7 @@ fn unless_empty(
 }
 
 /// What an operator gives from operands that are both there.
-fn of_both(
-    alloc: Global,
-    operator: Operator,
-    left: &[Atom],
-    right: &[Atom],
-) -> Result<Items, Fault>
+fn of_both(alloc: Global, operator: Operator, left: &[Atom], right: &[Atom]) -> Result<Items, Fault>
     ensures { GivesItems
         (Calls.both_operated operator (atomics left.now) (atomics right.now)) result }
 {
@@ -284,7 +275,7 @@ fn compare_there(
 ) -> Result<Items, Fault>
     ensures { GivesItems (Calls.unless_empty (atomics left.now) (atomics right.now)
         (Calls.values_compared (Operators.related_by relation)
-            (atomics left.now) (atomics right.now))) result }
+        (atomics left.now) (atomics right.now))) result }
 {
     if left.is_empty() || right.is_empty() {
         return Ok(Vec::new(alloc));

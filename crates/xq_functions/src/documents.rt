@@ -28,11 +28,7 @@ pub fn doc(alloc: Global, addresses: &[String], atoms: &[Atom]) -> Result<Items,
 
 /// Whether a document has the address (fn:doc-available); false for nothing and for a text that is
 /// no address. XPTY0004 for more than one atom, a number or a boolean.
-pub fn doc_available(
-    alloc: Global,
-    addresses: &[String],
-    atoms: &[Atom],
-) -> Result<Items, Fault>
+pub fn doc_available(alloc: Global, addresses: &[String], atoms: &[Atom]) -> Result<Items, Fault>
     ensures { GivesItems
         (Functions.doc_available (map string_bytes addresses.now) (atomics atoms.now)) result }
 {
@@ -65,7 +61,10 @@ pub fn root(alloc: Global, items: &[Item]) -> Result<Items, Fault>
     let mut roots = Vec::new(alloc);
     match items {
         [] => {}
-        [Item::Node(node)] => roots.push(Item::Node(Node { tree: node.tree, pre: 0 }))?,
+        [Item::Node(node)] => roots.push(Item::Node(Node {
+            tree: node.tree,
+            pre: 0,
+        }))?,
         [Item::Atom(_)] | [_, _, ..] => return Err(Fault::Code(Code::XPTY0004)),
     }
     Ok(roots)

@@ -27,11 +27,8 @@ pub fn argument_of(function: Function) -> Argument
 {
     match function {
         Function::Doc | Function::DocAvailable => Argument::Address,
-        Function::Root
-        | Function::Name
-        | Function::LocalName
-        | Function::String
-        | Function::Data => Argument::Nodes,
+        Function::Root | Function::Name | Function::LocalName | Function::String | Function::Data =>
+            Argument::Nodes,
         Function::Count
         | Function::Empty
         | Function::Exists

@@ -40,11 +40,7 @@ pub fn string_join(alloc: Global, atoms: &[Atom]) -> Result<Items, Fault>
 }
 
 /// The atoms' texts with a separator between them (fn:string-join).
-pub fn string_join_by(
-    alloc: Global,
-    atoms: &[Atom],
-    separator: &[Atom],
-) -> Result<Items, Fault>
+pub fn string_join_by(alloc: Global, atoms: &[Atom], separator: &[Atom]) -> Result<Items, Fault>
     ensures { GivesItems
         (Functions.of_two Function.StringJoin (atomics atoms.now) (atomics separator.now)) result }
 {

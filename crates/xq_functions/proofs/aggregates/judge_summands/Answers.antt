@@ -1,4 +1,4 @@
-use Rattle.std.proofs.Common.{◌≡◌, ◌+◌, ◌++◌, ◌∷◌, [], take, drop, Ok, Err, sym, ap, ◌∙◌, arith, rules, take_all}
+use Rattle.std.proofs.Common.{◌≡◌, ◌+◌, take, drop, Ok, Err, sym, ap, ◌∙◌, arith, rules, take_all}
 use Rattle.xq_atoms.specs.Atom.{atomic_of}
 use Rattle.xq_values.specs.Arguments.{each}
 use Rattle.xq_values.specs.Functions.{summand}

@@ -1,4 +1,4 @@
-use Rattle.std.proofs.Common.{◌≡◌, ◌+◌, drop, Ok, Err, sym, ap, ◌∙◌, arith, rules}
+use Rattle.std.proofs.Common.{◌≡◌, ◌+◌, drop, Err, sym, ap, ◌∙◌, arith, rules}
 use Rattle.std.proofs.lemmas.List.{drop_all}
 use Rattle.xq_atoms.specs.Judged.{◌>>=◌}
 use Rattle.xq_atoms.specs.Atom.{atomic_of, judged_of}

@@ -1,4 +1,4 @@
-use Rattle.std.proofs.Common.{◌≡◌, ℕ, suc, ◌+◌, ◌++◌, ◌∷◌, ◌≤◌, ◌+ℤ◌, map, to_z, of_z, w64, pos, [], Ok, ap, sym, ◌∙◌, arith, rules}
+use Rattle.std.proofs.Common.{◌≡◌, suc, ◌+◌, ◌++◌, ◌∷◌, ◌≤◌, ◌+ℤ◌, map, to_z, of_z, w64, pos, [], Ok, ap, sym, ◌∙◌, arith, rules}
 use Rattle.std.proofs.lemmas.Int.{ints}
 use Rattle.std.proofs.lemmas.List.{map_push}
 use Rattle.xq_atoms.specs.Atom.{Integer}
@@ -7,8 +7,7 @@ use Rattle.xq_regions.specs.declared.items.Item.TheVariants.{Atom as AtomItem}
 use Rattle.xq_regions.specs.Items.{Value, item_view}
 use Rattle.xq_values.specs.Readings.{item_at, items_at}
 use Rattle.xq_values.specs.Items.{Atom}
-use Rattle.xq_values.specs.Operators.{integers, integers_from, how_many}
-use Rattle.xq_functions.specs.Answers.{items_of}
+use Rattle.xq_values.specs.Operators.{integers_from, how_many}
 use Rattle.xq_functions.proofs.NumberLemmas.{integers_from-push, integers-within}
 use Rattle.xq_functions.proofs.arithmetic.integers.Goals as goal
 

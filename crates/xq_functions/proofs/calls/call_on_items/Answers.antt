@@ -1,16 +1,11 @@
-use Rattle.std.proofs.Common.{◌≡◌, not, List, [], ◌∷◌, map, ap, sym, ◌∙◌, Ok, Err, true, false, rules}
-use Rattle.xq_atoms.specs.Atom.{atomic_of}
-use Rattle.xq_signatures.specs.declared.Function.TheVariants as f
+use Rattle.std.proofs.Common.{◌≡◌, not, ap, sym, ◌∙◌, Ok, Err, rules}
 use Rattle.xq_atoms.specs.Judged.{◌>>=◌}
 use Rattle.xq_values.specs.Arguments.{boolean, effective}
 use Rattle.xq_values.specs.Readings.{items_at}
 use Rattle.xq_values.specs.Functions as Functions
-use Rattle.xq_values.specs.Operators as Operators
 use Rattle.xq_functions.specs.Answers.{items_of, lent_items}
-use Rattle.xq_functions.specs.private.Calls as Calls
-use Rattle.xq_functions.proofs.AnswerLemmas.{Gives-same, Gives-code}
+use Rattle.xq_functions.proofs.AnswerLemmas.{Gives-code}
 use Rattle.xq_atoms.specs.declared.refusals.Fault.TheVariants.{Code as OfCode}
-use Rattle.xq_functions.proofs.CallLemmas as lemmas
 use Rattle.xq_functions.proofs.calls.call_on_items.Goals as goal
 
 pub returns-in-Head : goal.returns-in-Head

@@ -1,9 +1,7 @@
-use Rattle.std.proofs.Common.{◌≡◌, List, [], ◌∷◌, map, ap, sym, ◌∙◌, Ok, Err, true, false, rules}
-use Rattle.xq_atoms.specs.Atom.{atomic_of}
+use Rattle.std.proofs.Common.{ap, ◌∙◌}
 use Rattle.xq_signatures.specs.declared.Function.TheVariants as f
 use Rattle.xq_values.specs.Functions as Functions
-use Rattle.xq_values.specs.Operators as Operators
-use Rattle.xq_functions.specs.Answers.{Gives, atomics, items_of}
+use Rattle.xq_functions.specs.Answers.{atomics, items_of}
 use Rattle.xq_functions.specs.private.Calls as Calls
 use Rattle.xq_functions.proofs.AnswerLemmas.{Gives-same}
 use Rattle.xq_functions.proofs.CallLemmas as lemmas

@@ -1,7 +1,7 @@
-use Rattle.std.proofs.Common.{◌≡◌, ◌+◌, ◌++◌, ◌∷◌, [], take, map, length, Bool, true, false, not, cond, ap, sym, ◌∙◌, arith, subst}
+use Rattle.std.proofs.Common.{◌≡◌, ◌++◌, ◌∷◌, [], take, map, Bool, true, false, not, cond, ap, sym, ◌∙◌, arith, subst}
 use Rattle.std.specs.List.{list_any}
 use Rattle.std.proofs.lemmas.List.{map_push}
-use Rattle.xq_atoms.specs.Atom.{Atomic, atomic_of}
+use Rattle.xq_atoms.specs.Atom.{atomic_of}
 use Rattle.xq_atoms.specs.Derived.{group_key_eq}
 use Rattle.xq_regions.specs.declared.items.Item.TheVariants.{Atom}
 use Rattle.xq_regions.specs.Items.{Value, item_view, item_views}
@@ -31,11 +31,11 @@ loop-atom-preserved c =
     subst (λ as'. Distinct as' c.insert.new.self.keys (item_views c.if-branch.items)) (sym here)
     (elim c.if-branch.branch [
       | then-branch+in_ok-try_clone+in_ok-push w ↦
-        let none : list_any (group_key_eq k) seen ≡ false = from_not c.in_ok-insert.field-0 _ true w.if-branch.true c.in_ok-insert.ensures.added in
-        let values : item_views c.if-branch.items ≡ item_views c.loop-atom.items ++ Value (atomic_of atom) ∷ [] =
-            ap item_views w.items-is ∙ ap (map item_view) w.in_ok-push.ensures.items ∙ map_push item_view c.loop-atom.items.items (Atom w.in_ok-try_clone.field-0) ∙ ap (λ a. item_views c.loop-atom.items ++ Value a ∷ []) w.in_ok-try_clone.ensures.value in
-        Distinct-new h k (atomic_of atom) key_is none c.insert.new.self.keys (item_views c.if-branch.items) (seen_is false none) values
+          let none : list_any (group_key_eq k) seen ≡ false = from_not c.in_ok-insert.field-0 _ true w.if-branch.true c.in_ok-insert.ensures.added in
+          let values : item_views c.if-branch.items ≡ item_views c.loop-atom.items ++ Value (atomic_of atom) ∷ [] =
+          ap item_views w.items-is ∙ ap (map item_view) w.in_ok-push.ensures.items ∙ map_push item_view c.loop-atom.items.items (Atom w.in_ok-try_clone.field-0) ∙ ap (λ a. item_views c.loop-atom.items ++ Value a ∷ []) w.in_ok-try_clone.ensures.value in
+          Distinct-new h k (atomic_of atom) key_is none c.insert.new.self.keys (item_views c.if-branch.items) (seen_is false none) values
       | else-branch w ↦
-        let some : list_any (group_key_eq k) seen ≡ true = from_not c.in_ok-insert.field-0 _ false w.if-branch.false c.in_ok-insert.ensures.added in
-        subst (Distinct (done ++ atomic_of atom ∷ []) c.insert.new.self.keys) (sym (ap item_views w.items-is)) (Distinct-old h k (atomic_of atom) key_is some c.insert.new.self.keys (seen_is true some))
+          let some : list_any (group_key_eq k) seen ≡ true = from_not c.in_ok-insert.field-0 _ false w.if-branch.false c.in_ok-insert.ensures.added in
+          subst (Distinct (done ++ atomic_of atom ∷ []) c.insert.new.self.keys) (sym (ap item_views w.items-is)) (Distinct-old h k (atomic_of atom) key_is some c.insert.new.self.keys (seen_is true some))
     ])

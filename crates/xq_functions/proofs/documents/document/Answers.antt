@@ -1,9 +1,9 @@
-use Rattle.std.proofs.Common.{◌≡◌, map, string_bytes, true, false, ap, sym, ◌∙◌, subst}
+use Rattle.std.proofs.Common.{map, string_bytes, ap, sym, ◌∙◌, subst}
 use Rattle.std.proofs.lemmas.Bool.{false≢true}
 use Rattle.xq_atoms.specs.declared.refusals.Code.TheVariants.{FODC0005}
 use Rattle.xq_atoms.specs.Judged.{◌>>=◌, only_if}
 use Rattle.xq_atoms.specs.Address.{IsAddress}
-use Rattle.xq_values.specs.Functions.{is_address, document_from}
+use Rattle.xq_values.specs.Functions.{document_from}
 use Rattle.xq_functions.proofs.DocumentLemmas.{is_address-true, is_address-false}
 use Rattle.xq_functions.proofs.documents.document.Goals as goal
 

@@ -1,4 +1,4 @@
-use Rattle.std.proofs.Common.{ap, sym, ◌∙◌}
+use Rattle.std.proofs.Common.{ap, ◌∙◌}
 use Rattle.xq_values.specs.Functions.{is_found}
 use Rattle.xq_functions.proofs.DocumentLemmas.{is_found-is}
 use Rattle.xq_functions.proofs.documents.is_there.Goals as goal

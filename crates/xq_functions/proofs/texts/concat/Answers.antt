@@ -1,4 +1,4 @@
-use Rattle.std.proofs.Common.{◌≡◌, ◌+◌, ◌++◌, ◌∷◌, List, [], map, drop, string_bytes, get_or, ap, sym, ◌∙◌, Ok, Err, arith, rules, append-nil}
+use Rattle.std.proofs.Common.{◌≡◌, ◌+◌, ◌++◌, ◌∷◌, List, map, drop, string_bytes, ap, sym, ◌∙◌, Ok, Err, arith, rules, append-nil}
 use Rattle.std.specs.Global.{Vec, Global}
 use Rattle.std.proofs.lemmas.List.{drop_more, drop_all}
 use Rattle.xq_atoms.specs.declared.atoms.Atom.{Atom}

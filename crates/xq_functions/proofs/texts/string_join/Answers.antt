@@ -1,7 +1,5 @@
 use Rattle.std.proofs.Common.{ap, sym, ◌∙◌, Ok}
-use Rattle.xq_atoms.specs.Atom.{String}
 use Rattle.xq_values.specs.Arguments.{text}
-use Rattle.xq_regions.specs.Items.{Value}
 use Rattle.xq_values.specs.Readings.{items_at}
 use Rattle.xq_functions.specs.Answers.{atomics}
 use Rattle.xq_functions.proofs.TextLemmas.{joined-texts}
