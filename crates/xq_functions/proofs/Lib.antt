@@ -3,6 +3,7 @@ pub mod ListLemmas
 pub mod TextLemmas
 pub mod CallLemmas
 pub mod DocumentLemmas
+pub mod NodeLemmas
 pub mod NumberLemmas
 pub mod ChoiceLemmas
 pub mod DistinctLemmas
