@@ -43,9 +43,10 @@ pub fn atoms(alloc: Global, samples: &[Sample]) -> Result<Vec<Atom>, Fault> {
 pub fn items(alloc: Global, samples: &[Sample]) -> Result<Items, Fault> {
     let mut items = Vec::new(alloc);
     for sample in samples {
-        match atom(alloc, *sample)? {
-            Some(atom) => items.push(Item::Atom(atom))?,
-            None => items.push(Item::Node(Node { tree: 0, pre: 0 }))?,
+        if let Sample::Row(pre) = *sample {
+            items.push(Item::Node(Node { tree: 0, pre }))?;
+        } else if let Some(atom) = atom(alloc, *sample)? {
+            items.push(Item::Atom(atom))?;
         }
     }
     Ok(items)
@@ -55,14 +56,14 @@ pub fn items(alloc: Global, samples: &[Sample]) -> Result<Items, Fault> {
 pub fn answer(alloc: Global, outcome: Result<Items, Fault>) -> Result<String, Fault> {
     let mut text = String::new(alloc);
     match outcome {
-        Ok(items) => push_items(&items, &mut text)?,
+        Ok(items) => push_items(alloc, &items, &mut text)?,
         Err(Fault::Code(code)) => text.push_str(code.text())?,
         Err(Fault::Want(want)) => return Err(Fault::Want(want)),
     }
     Ok(text)
 }
 
-fn push_items(items: &[Item], text: &mut String) -> Result<(), Fault> {
+fn push_items(alloc: Global, items: &[Item], text: &mut String) -> Result<(), Fault> {
     if items.is_empty() {
         text.push_str("()")?;
     }
@@ -72,7 +73,9 @@ fn push_items(items: &[Item], text: &mut String) -> Result<(), Fault> {
         }
         match item {
             Item::Atom(atom) => print(atom, text)?,
-            Item::Node(_) => text.push_str("node")?,
+            Item::Node(node) => {
+                text.push_str(format!(in alloc; "node {} {}", node.tree, node.pre)?.as_str())?;
+            }
         }
     }
     Ok(())

@@ -5,9 +5,10 @@ use crate::samples::{Sample, answer, atoms, items};
 use std::alloc::Global;
 use std::process::Abort;
 use xq_atoms::Fault;
-use xq_expressions::{ComparisonOperator, ProductOperator, Relation, Sign};
+use xq_expressions::{ComparisonOperator, NodeComparison, ProductOperator, Relation, Sign};
 use xq_functions::{
-    call_on_atoms, call_on_items, call_on_lists, effective, keeps, operate_on_atoms, signed,
+    call_on_atoms, call_on_items, call_on_lists, collection, compare_nodes, doc, doc_available,
+    effective, keeps, operate_on_atoms, root, signed,
 };
 use xq_signatures::Function;
 use xq_values::Operator;
@@ -176,15 +177,15 @@ fn functions_of_items(rt: HostRuntime) -> Result<(), Fault> {
         (Function::Exists, &[], "false()"),
         (Function::Head, three, "1"),
         (Function::Head, &[], "()"),
-        (Function::Tail, three, "node, 3"),
+        (Function::Tail, three, "node 0 0, 3"),
         (Function::Tail, &[Int(1)], "()"),
         (Function::Tail, &[], "()"),
-        (Function::Reverse, three, "3, node, 1"),
+        (Function::Reverse, three, "3, node 0 0, 1"),
         (Function::ZeroOrOne, &[Int(1)], "1"),
         (Function::ZeroOrOne, three, "FORG0003"),
-        (Function::OneOrMore, three, "1, node, 3"),
+        (Function::OneOrMore, three, "1, node 0 0, 3"),
         (Function::OneOrMore, &[], "FORG0004"),
-        (Function::ExactlyOne, &[Row(0)], "node"),
+        (Function::ExactlyOne, &[Row(0)], "node 0 0"),
         (Function::ExactlyOne, &[], "FORG0005"),
         (Function::ExactlyOne, three, "FORG0005"),
         (Function::Not, &[Str("")], "true()"),
@@ -294,5 +295,55 @@ fn truths(rt: HostRuntime) -> Result<(), Fault> {
     assert_eq!(rt; keeps(2, &items(alloc, &[Dec(2_000_001)])?), Ok(false));
     assert_eq!(rt; keeps(2, &items(alloc, &[Row(0), Int(2)])?), Ok(true));
     assert_eq!(rt; keeps(2, &items(alloc, &[Str("")])?), Ok(false));
+    Ok(())
+}
+
+#[test]
+fn nodes(rt: HostRuntime) -> Result<(), Fault> {
+    let alloc = rt.alloc();
+    for (comparison, left, right, wanted) in [
+        (NodeComparison::Is, Row(1), Row(1), "true()"),
+        (NodeComparison::Is, Row(1), Row(2), "false()"),
+        (NodeComparison::Precedes, Row(1), Row(2), "true()"),
+        (NodeComparison::Follows, Row(1), Row(2), "false()"),
+        (NodeComparison::Is, Row(1), Int(1), "XPTY0004"),
+    ] {
+        let left = items(alloc, &[left])?;
+        let right = items(alloc, &[right])?;
+        let found = answer(alloc, compare_nodes(alloc, comparison, &left, &right))?;
+        assert_eq!(rt; found.as_str(), wanted);
+    }
+    let one = items(alloc, &[Row(1)])?;
+    let none = items(alloc, &[])?;
+    let found = answer(alloc, compare_nodes(alloc, NodeComparison::Is, &none, &one))?;
+    assert_eq!(rt; found.as_str(), "()");
+    let found = answer(alloc, root(alloc, &one))?;
+    assert_eq!(rt; found.as_str(), "node 0 0");
+    Ok(())
+}
+
+#[test]
+fn documents(rt: HostRuntime) -> Result<(), Fault> {
+    let alloc = rt.alloc();
+    let mut addresses = Vec::new(alloc);
+    addresses.push(String::from_str(alloc, "a")?)?;
+    addresses.push(String::from_str(alloc, "b")?)?;
+    for (samples, node, is_there) in [
+        (&[Str("b")] as &[Sample], "node 1 0", "true()"),
+        (&[Str("c")], "FODC0002", "false()"),
+        (&[Str("a b")], "FODC0005", "false()"),
+        (&[], "()", "false()"),
+        (&[Int(1)], "XPTY0004", "XPTY0004"),
+        (&[Str("a"), Str("b")], "XPTY0004", "XPTY0004"),
+    ] {
+        let atoms = atoms(alloc, samples)?;
+        let found = answer(alloc, doc(alloc, &addresses, &atoms))?;
+        assert_eq!(rt; found.as_str(), node);
+        let found = answer(alloc, doc_available(alloc, &addresses, &atoms))?;
+        assert_eq!(rt; found.as_str(), is_there);
+    }
+    let all = collection(alloc, &addresses)?;
+    let found = answer(alloc, Ok(all))?;
+    assert_eq!(rt; found.as_str(), "node 0 0, node 1 0");
     Ok(())
 }
