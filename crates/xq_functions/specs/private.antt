@@ -1,0 +1,4 @@
+pub mod Calls
+pub mod Running
+pub mod Documents
+pub mod Nodes

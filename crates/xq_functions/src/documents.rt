@@ -1,0 +1,102 @@
+//! Documents by their addresses (F&O 3.1, section 14.6).
+ghost use Rattle.std.specs.Prelude.{◌≡◌, List, map, string_bytes, IfOk, IfErr};
+ghost use Rattle.xq_regions.specs.Tree.{Tree};
+ghost use Rattle.xq_values.specs.Functions as Functions;
+ghost use Rattle.xq_functions.specs.Answers.{Gives, GivesItems, atomics, items_of, lent_items};
+ghost use Rattle.xq_functions.specs.private.Documents as Documents;
+
+use crate::arguments::{optional, text_argument};
+use crate::results::one;
+use std::alloc::Global;
+use xq_atoms::{Atom, Code, Fault, Want, address_ok};
+use xq_regions::{Item, Items, Node};
+
+/// The document node at the address (fn:doc), nothing for nothing; the first trees are the
+/// documents, in the order of `addresses`. FODC0005 for a text that is no address, FODC0002 where
+/// no document has it, XPTY0004 for more than one atom, a number or a boolean.
+pub fn doc(alloc: Global, addresses: &[String], atoms: &[Atom]) -> Result<Items, Fault>
+    ensures { (trees : List Tree) → Gives (items_of trees)
+        (Functions.doc (map string_bytes addresses.now) (atomics atoms.now)) result }
+{
+    let mut items = Vec::new(alloc);
+    if let Some(atom) = optional(atoms)? {
+        let tree = document(addresses, text_argument(atom)?)?;
+        items.push(Item::Node(Node { tree, pre: 0 }))?;
+    }
+    Ok(items)
+}
+
+/// Whether a document has the address (fn:doc-available); false for nothing and for a text that is
+/// no address. XPTY0004 for more than one atom, a number or a boolean.
+pub fn doc_available(alloc: Global, addresses: &[String], atoms: &[Atom]) -> Result<Items, Fault>
+    ensures { GivesItems
+        (Functions.doc_available (map string_bytes addresses.now) (atomics atoms.now)) result }
+{
+    let is_there = match optional(atoms)? {
+        Some(atom) => is_there(addresses, text_argument(atom)?),
+        None => false,
+    };
+    Ok(one(alloc, Atom::Bool(is_there))?)
+}
+
+/// All document nodes, by their addresses (fn:collection).
+pub fn collection(alloc: Global, addresses: &[String]) -> Result<Items, Want>
+    ensures nodes { IfOk result (λ items. (trees : List Tree) →
+        items_of trees items ≡ Functions.collection (map string_bytes addresses.now)) }
+    ensures want { IfErr result (λ want. want ≡ Want.Memory) }
+{
+    let mut items = Vec::new(alloc);
+    for tree in 0..addresses.len() {
+        items.push(Item::Node(Node { tree, pre: 0 }))?;
+    }
+    Ok(items)
+}
+
+/// The root of the tree around a node (fn:root), nothing for nothing. XPTY0004 for an atom and
+/// for more than one item.
+pub fn root(alloc: Global, items: &[Item]) -> Result<Items, Fault>
+    ensures { (trees : List Tree) → Gives (items_of trees)
+        (Functions.root (lent_items trees items.now)) result }
+{
+    let mut roots = Vec::new(alloc);
+    match items {
+        [] => {}
+        [Item::Node(node)] => roots.push(Item::Node(Node {
+            tree: node.tree,
+            pre: 0,
+        }))?,
+        [Item::Atom(_)] | [_, _, ..] => return Err(Fault::Code(Code::XPTY0004)),
+    }
+    Ok(roots)
+}
+
+/// Whether a document has the address.
+fn is_there(addresses: &[String], address: &str) -> bool
+    ensures { result ≡ Functions.is_there (map string_bytes addresses.now) address.now }
+{
+    document(addresses, address).is_ok()
+}
+
+/// The number of the tree of the document at the address.
+fn document(addresses: &[String], address: &str) -> Result<usize, Code>
+    ensures { Documents.document_at result
+        ≡ Functions.document (map string_bytes addresses.now) address.now }
+{
+    if !address_ok(address.as_bytes()) {
+        return Err(Code::FODC0005);
+    }
+    place(addresses, address)
+}
+
+/// Where the address stands first.
+fn place(addresses: &[String], address: &str) -> Result<usize, Code>
+    ensures { Documents.document_at result
+        ≡ Functions.document_from 0 (map string_bytes addresses.now) address.now }
+{
+    for (tree, other) in addresses.iter().enumerate() {
+        if other.as_str() == address {
+            return Ok(tree);
+        }
+    }
+    Err(Code::FODC0002)
+}

@@ -1,0 +1,4 @@
+pub mod WordLemmas
+pub mod PositionLemmas
+pub mod PlaceLemmas
+pub mod JoinLemmas
