@@ -43,7 +43,12 @@ pub fn expression(alloc: Global, expr: &Expr) -> Result<Core, AllocError>
         }
         Expr::Range(left, right) => {
             let left = boxed(alloc, left.get())?;
-            operation(alloc, left, Operator::Range, expression(alloc, right.get())?)
+            operation(
+                alloc,
+                left,
+                Operator::Range,
+                expression(alloc, right.get())?,
+            )
         }
         Expr::Sum(first, more) => {
             let first = boxed(alloc, first.get())?;
@@ -75,9 +80,7 @@ pub fn expression(alloc: Global, expr: &Expr) -> Result<Core, AllocError>
             let name = constructor_name(alloc, name)?;
             Ok(Core::Named(*node, name, boxed(alloc, content.get())?))
         }
-        Expr::Unnamed(node, content) => {
-            Ok(Core::Unnamed(*node, boxed(alloc, content.get())?))
-        }
+        Expr::Unnamed(node, content) => { Ok(Core::Unnamed(*node, boxed(alloc, content.get())?)) }
         Expr::Flwor(list, part) => {
             let list = clauses(alloc, list.as_slice())?;
             Ok(Core::Flwor(list, boxed(alloc, part.get())?))
@@ -157,10 +160,7 @@ fn operation(
 
 /// The operands of a sum after the first.
 #[cycle(normal)]
-fn addends(
-    alloc: Global,
-    operands: &[(Sign, Expr)],
-) -> Result<Items<(Operator, Core)>, AllocError>
+fn addends(alloc: Global, operands: &[(Sign, Expr)]) -> Result<Items<(Operator, Core)>, AllocError>
     ensures { IfOk result
         (λ found. parts.core_operands found ≡ parts.operands operator.Sum operands.now) }
 {
@@ -198,7 +198,10 @@ fn set_operands(
 {
     let mut found = Items::new(alloc);
     for (operator, operand) in operands {
-        found.push((Operator::SetOperation(*operator), expression(alloc, operand)?))?;
+        found.push((
+            Operator::SetOperation(*operator),
+            expression(alloc, operand)?,
+        ))?;
     }
     Ok(found)
 }
