@@ -115,7 +115,8 @@ fn expressions(alloc: Global, exprs: &[Expr]) -> Result<Items<Core>, AllocError>
 /// Operands with one operator between them.
 #[cycle(normal)]
 fn joined(alloc: Global, operator: Operator, exprs: &[Expr]) -> Result<Core, AllocError>
-    ensures { IfOk result (λ core. core_mean core ≡ meaning.joined_by operator (map mean exprs.now)) }
+    ensures { IfOk result
+        (λ core. core_mean core ≡ meaning.joined_by operator (map mean exprs.now)) }
 {
     match exprs {
         [] => Ok(Core::Sequence(Items::new(alloc))),
@@ -308,7 +309,8 @@ fn next(
     step: Core,
 ) -> Result<(), AllocError>
     ensures { OnOk result
-        (map core_mean found.new ≡ map core_mean found.old ++ meaning.after separator (core_mean step)) }
+        (map core_mean found.new
+        ≡ map core_mean found.old ++ meaning.after separator (core_mean step)) }
 {
     match separator {
         Separator::Slash => found.push(step),
@@ -351,7 +353,8 @@ fn filtered(alloc: Global, primary: Core, predicates: Items<Core>) -> Result<Cor
 #[cycle(normal)]
 fn clauses(alloc: Global, list: &[Clause]) -> Result<Items<CoreClause>, AllocError>
     ensures { IfOk result
-        (λ found. meaning.clauses (map core_clause_mean found) ≡ meaning.clauses (map clause_mean list.now)) }
+        (λ found. meaning.clauses (map core_clause_mean found)
+        ≡ meaning.clauses (map clause_mean list.now)) }
 {
     let mut found = Items::new(alloc);
     for next in list {
@@ -419,7 +422,8 @@ fn assignments(alloc: Global, list: &[(QName, Expr)]) -> Result<Items<CoreClause
 #[cycle(normal)]
 fn group(alloc: Global, specs: &[GroupSpec]) -> Result<Items<CoreClause>, AllocError>
     ensures { IfOk result
-        (λ found. meaning.clauses (map core_clause_mean found) ≡ meaning.group_by (map group_mean specs.now)) }
+        (λ found. meaning.clauses (map core_clause_mean found)
+        ≡ meaning.group_by (map group_mean specs.now)) }
 {
     let mut found = Items::new(alloc);
     for spec in specs {

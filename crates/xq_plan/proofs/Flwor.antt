@@ -79,9 +79,11 @@ module _ (outer own : List Text) (slots : Slots) (focus : Option Focus) (address
       AreAll (IsKey (outer ++ own)) cs ps → (tuples : List (Tuple Item)) → AreWide (length own) tuples →
       AllByRecursion (KeysAt cs ps) tuples
   keys_at cs ps all [] k = tt
-  keys_at cs ps all (t ∷ ts) k =
-      (related_map (IsKey (outer ++ own)) (SameKey slots_at names_at t) (λ (x : Core × OrderModifier). (core_mean x.0, x.1)) (λ (x : Plan × OrderModifier). (plan_mean x.0, x.1))
-      (λ x y is. at_one x.0 y.0 is.0 t k.0) cs ps all, keys_at cs ps all ts k.1)
+  keys_at cs ps all (t ∷ ts) k = (
+    related_map (IsKey (outer ++ own)) (SameKey slots_at names_at t) (λ (x : Core × OrderModifier). (core_mean x.0, x.1)) (λ (x : Plan × OrderModifier). (plan_mean x.0, x.1))
+        (λ x y is. at_one x.0 y.0 is.0 t k.0) cs ps all,
+    keys_at cs ps all ts k.1,
+  )
 
   pub modifiers_at : (cs : List (Core × OrderModifier)) (ps : List (Plan × OrderModifier)) →
       AreAll (IsKey (outer ++ own)) cs ps →

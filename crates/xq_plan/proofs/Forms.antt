@@ -215,12 +215,13 @@ ranges_same m q [] [] names slots addresses env is h all last = λ focus f.
     ∙ ap (λ e. core_mean m (frame_of e focus addresses) f) (sym is)
 ranges_same m q [] (p ∷ ps) names slots addresses env is h all last = absurd all
 ranges_same m q (b ∷ bs) [] names slots addresses env is h all last = absurd all
-ranges_same m q (b ∷ bs) (p ∷ ps) names slots addresses env is h all last =
-    ((λ focus f. same_of names b.1 p all.0 slots addresses h focus f ∙ ap (λ e. core_mean b.1 (frame_of e focus addresses) f) (sym is)),
-    (λ xs. ranges_same m q bs ps (names ++ b.0 ∷ []) (slots ++ xs ∷ []) addresses (bind b.0 env xs)
-    (ap (λ e. bind b.0 e xs) is ∙ sym (open_more names slots (b.0 ∷ []) (xs ∷ []) h))
-    (as_long names (b.0 ∷ []) slots (xs ∷ []) h refl) all.1
-    (subst (λ ns. IsPlan ns m q) (sym (append_assoc names (b.0 ∷ []) (map (λ c. c.0) bs))) last)))
+ranges_same m q (b ∷ bs) (p ∷ ps) names slots addresses env is h all last = (
+  (λ focus f. same_of names b.1 p all.0 slots addresses h focus f ∙ ap (λ e. core_mean b.1 (frame_of e focus addresses) f) (sym is)),
+  (λ xs. ranges_same m q bs ps (names ++ b.0 ∷ []) (slots ++ xs ∷ []) addresses (bind b.0 env xs)
+      (ap (λ e. bind b.0 e xs) is ∙ sym (open_more names slots (b.0 ∷ []) (xs ∷ []) h))
+      (as_long names (b.0 ∷ []) slots (xs ∷ []) h refl) all.1
+      (subst (λ ns. IsPlan ns m q) (sym (append_assoc names (b.0 ∷ []) (map (λ c. c.0) bs))) last)),
+)
 
 pub quantified_plan : (names : List Text) (which : Quantifier) (bs : List (Text × Core)) (m : Core)
     (ps : List Plan) (q : Plan) → AreRanges names bs ps → IsPlan (names ++ map (λ b. b.0) bs) m q →

@@ -42,8 +42,8 @@ nodes_or_refused [] = inl ([], refl)
 nodes_or_refused (Atom a ∷ xs) = inr (λ code. refl)
 nodes_or_refused (Node p ∷ xs) =
     elim (nodes_or_refused xs) [
-      inl h ↦ inl (p ∷ h.0, ap (λ ys. Node p ∷ ys) h.1)
-    | inr h ↦ inr (λ code. ap (λ r. r >>= (λ qs. Ok (p ∷ qs))) (h code))
+      | inl h ↦ inl (p ∷ h.0, ap (λ ys. Node p ∷ ys) h.1)
+      | inr h ↦ inr (λ code. ap (λ r. r >>= (λ qs. Ok (p ∷ qs))) (h code))
     ]
 
 module _ {E : Type 0} (axis : Axis) (test : Test) (frame : Forms.Frame E) (f : List Tree) where

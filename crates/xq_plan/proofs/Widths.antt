@@ -150,10 +150,11 @@ in_own_groups : (n : ℕ) (before ps : List (Keyed Item)) → AllByRecursion (Is
     AllByRecursion (IsOfWidth n) ps →
     AllByRecursion (λ p. HasFirst n (filter (same_keys p) (before ++ ps))) ps
 in_own_groups n before [] h k = tt
-in_own_groups n before (p ∷ ps) h k =
-    (in_own_group n p before ps h k.0,
-    subst (λ whole. AllByRecursion (λ q. HasFirst n (filter (same_keys q) whole)) ps) (append_assoc before (p ∷ []) ps)
-    (in_own_groups n (before ++ p ∷ []) ps (all_append (IsOfWidth n) before (p ∷ []) h (k.0, tt)) k.1))
+in_own_groups n before (p ∷ ps) h k = (
+  in_own_group n p before ps h k.0,
+  subst (λ whole. AllByRecursion (λ q. HasFirst n (filter (same_keys q) whole)) ps) (append_assoc before (p ∷ []) ps)
+      (in_own_groups n (before ++ p ∷ []) ps (all_append (IsOfWidth n) before (p ∷ []) h (k.0, tt)) k.1),
+)
 
 filter_if : {A : Type 0} (P : A → Type 0) (b : Bool) (x : A) (xs : List A) → P x → AllByRecursion P xs →
     AllByRecursion P (if b then x ∷ xs else xs)

@@ -15,7 +15,8 @@ use xq_meaning::{Core, Plan};
 
 /// The plan of a normal form: whatever the focus, the addresses and the documents are, it gives the
 /// value or the code that the normal form gives where no variable is bound, and leaves the same
-/// trees. A variable that is not in scope is the empty sequence. It refuses only for want of memory.
+/// trees. A variable that is not in scope is the empty sequence (XQuery 3.1, sections 3.1.2, 3.3,
+/// 3.12 and 3.16). It refuses only for want of memory.
 pub fn plan(alloc: Global, core: &Core) -> Result<Plan, Want>
     ensures { IfOk result (λ plan. IsPlan [] core.now plan) }
 {

@@ -50,7 +50,11 @@ pub fn expression<'a>(
         }
         Core::Step(axis, tested, predicates) => {
             let tested = test(alloc, tested)?;
-            Ok(Plan::Step(*axis, tested, expressions(alloc, scope, predicates.as_slice())?))
+            Ok(Plan::Step(
+                *axis,
+                tested,
+                expressions(alloc, scope, predicates.as_slice())?,
+            ))
         }
         Core::Filter(start, predicates) => {
             let start = boxed(alloc, scope, start.get())?;
@@ -144,7 +148,8 @@ fn operands<'a>(
     scope: &mut Scope<'a>,
     list: &'a [(Operator, Core)],
 ) -> Result<Items<(Operator, Plan)>, AllocError>
-    ensures planned { IfOk result (λ found. plans.AreAll (plans.IsOperand scope.old) list.now found) }
+    ensures planned { IfOk result
+        (λ found. plans.AreAll (plans.IsOperand scope.old) list.now found) }
     ensures kept { OnOk result (scope.new ≡ scope.old) }
 {
     let mut found = Items::new(alloc);
@@ -213,7 +218,8 @@ fn clauses<'a>(
     list: &'a [CoreClause],
 ) -> Result<Items<PlanClause>, AllocError>
     requires { start ≤ length scope.old }
-    ensures planned { IfOk result (λ found. plans.AreClauses start scope.old list.now found scope.new) }
+    ensures planned { IfOk result
+        (λ found. plans.AreClauses start scope.old list.now found scope.new) }
     ensures outer { OnOk result (plans.Extends start scope.old scope.new) }
 {
     let mut found = Items::new(alloc);
@@ -232,11 +238,14 @@ fn clause<'a>(
     next: &'a CoreClause,
 ) -> Result<PlanClause, AllocError>
     requires { start ≤ length scope.old }
-    ensures planned { IfOk result (λ found. plans.IsClause start scope.old next.now found scope.new) }
+    ensures planned { IfOk result
+        (λ found. plans.IsClause start scope.old next.now found scope.new) }
     ensures outer { OnOk result (plans.Extends start scope.old scope.new) }
 {
     match next {
-        CoreClause::For(variable, at, sequence) => range(alloc, scope, start, variable, at, sequence),
+        CoreClause::For(variable, at, sequence) => {
+            range(alloc, scope, start, variable, at, sequence)
+        }
         CoreClause::Let(variable, value) => assignment(alloc, scope, start, variable, value),
         CoreClause::Where(condition) => {
             Ok(PlanClause::Where(expression(alloc, scope, condition)?))
@@ -257,8 +266,8 @@ fn range<'a>(
     sequence: &'a Core,
 ) -> Result<PlanClause, AllocError>
     requires { start ≤ length scope.old }
-    ensures planned { IfOk result (λ found.
-        plans.IsClause start scope.old (clause.For variable.now at.now sequence.now) found scope.new) }
+    ensures planned { IfOk result (λ found. plans.IsClause start scope.old
+        (clause.For variable.now at.now sequence.now) found scope.new) }
     ensures outer { OnOk result (plans.Extends start scope.old scope.new) }
 {
     let sequence = expression(alloc, scope, sequence)?;
@@ -291,8 +300,8 @@ fn assignment<'a>(
     value: &'a Core,
 ) -> Result<PlanClause, AllocError>
     requires { start ≤ length scope.old }
-    ensures planned { IfOk result (λ found.
-        plans.IsClause start scope.old (clause.Let variable.now value.now) found scope.new) }
+    ensures planned { IfOk result (λ found. plans.IsClause start scope.old
+        (clause.Let variable.now value.now) found scope.new) }
     ensures outer { OnOk result (plans.Extends start scope.old scope.new) }
 {
     let value = expression(alloc, scope, value)?;

@@ -73,7 +73,8 @@ with_names names (Ok tuples, trees) = (Ok (record { names = names; tuples = tupl
 with_names names (Err code, trees) = (Err code, trees)
 
 -- a stream whose slots have these names, and its tuples
-pub record Follows (names : List Text) (stream : Outcome Stream) (tuples : Outcome (List (Tuple Item))) : Type 0 where
+pub record Follows (names : List Text) (stream : Outcome Stream)
+    (tuples : Outcome (List (Tuple Item))) : Type 0 where
   pub same : stream ≡ with_names names tuples
   pub wide : GivesWide (length names) tuples
 
@@ -83,7 +84,8 @@ module _ (outer own : List Text) (found : List Text) where
       (slots : Slots) (focus : Option Focus) (addresses : List Text) → length slots ≡ length outer →
       (tuples : List (Tuple Item)) (trees : List Tree) → AreWide (length own) tuples →
       Follows found
-      (core_clause_mean c (frame_of (environment outer slots) focus addresses) (record { names = own; tuples = tuples }) trees)
+      (core_clause_mean c (frame_of (environment outer slots) focus addresses)
+      (record { names = own; tuples = tuples }) trees)
       (plan_clause_mean p (frame_of slots focus addresses) tuples trees)
 
   abbrev pub ClausesLead : List CoreClause → List PlanClause → Type 0
@@ -91,13 +93,16 @@ module _ (outer own : List Text) (found : List Text) where
       (slots : Slots) (focus : Option Focus) (addresses : List Text) → length slots ≡ length outer →
       (tuples : List (Tuple Item)) (trees : List Tree) → AreWide (length own) tuples →
       Follows found
-      (clauses (map core_clause_mean cs) (frame_of (environment outer slots) focus addresses) (record { names = own; tuples = tuples }) trees)
-      (in_turn (next_clause (frame_of slots focus addresses)) tuples (map plan_clause_mean ps) trees)
+      (clauses (map core_clause_mean cs) (frame_of (environment outer slots) focus addresses)
+      (record { names = own; tuples = tuples }) trees)
+      (in_turn (next_clause (frame_of slots focus addresses)) tuples (map plan_clause_mean ps)
+      trees)
 
 -- by the names in scope before and after, of which those from a place on are of the FLWOR
 
 abbrev pub IsClause : ℕ → List Text → CoreClause → PlanClause → List Text → Type 0
-IsClause start before c p after = ClauseLeads (take start before) (drop start before) (drop start after) c p
+IsClause start before c p after =
+    ClauseLeads (take start before) (drop start before) (drop start after) c p
 
 abbrev pub AreClauses : ℕ → List Text → List CoreClause → List PlanClause → List Text → Type 0
 AreClauses start before cs ps after =
