@@ -1,6 +1,7 @@
 -- The meaning of a plan at each form, from the meanings of its parts.
 use Rattle.std.specs.Prelude.{◌≡◌, ℕ, ℤ, List, map, Bool}
 use Rattle.std.proofs.Common.{sym, ◌∙◌, ap}
+use Rattle.xq_atoms.specs.declared.refusals.Code.{Code}
 use Rattle.xq_expressions.specs.declared.operators.Sign.{Sign}
 use Rattle.xq_expressions.specs.declared.operators.Quantifier.{Quantifier}
 use Rattle.xq_expressions.specs.declared.operators.NamedNode.{NamedNode}
@@ -200,3 +201,10 @@ step-Scan a b =
     ap plan_step_mean (sym (step.rolls-Scan a b))
     ∙ fold-roll-PlanStep Meaning ClauseMeaning StepMeaning plan_form plan_clause plan_step
     (PlanStep-F.Scan a b)
+
+pub clause-Refused : (a : Code) → plan_clause_mean (clause.Refused a)
+    ≡ plan_clause (PlanClause-F.Refused a)
+clause-Refused a =
+    ap plan_clause_mean (sym (clause.rolls-Refused a))
+    ∙ fold-roll-PlanClause Meaning ClauseMeaning StepMeaning plan_form plan_clause plan_step
+    (PlanClause-F.Refused a)

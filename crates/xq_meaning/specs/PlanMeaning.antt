@@ -7,7 +7,7 @@ use Rattle.xq_meaning.specs.declared.plans.Plan.TheOpen.{Plan-F, PlanClause-F, P
 use Rattle.xq_atoms.specs.Atom.{Integer, Decimal, String}
 use Rattle.xq_regions.specs.Tuples.{Tuple, value_at}
 use Rattle.xq_values.specs.Items.{Item}
-use Rattle.xq_meaning.specs.Doing.{Doing, ◌>>=◌, give, in_turn}
+use Rattle.xq_meaning.specs.Doing.{Doing, ◌>>=◌, give, refuse, in_turn}
 use Rattle.xq_meaning.specs.Forms
 
 -- the values of the slots that are open
@@ -65,6 +65,7 @@ plan_clause (PlanClause-F.Let part) frame = Forms.let_tuples part (at_tuple fram
 plan_clause (PlanClause-F.Where part) frame = Forms.where_tuples part (at_tuple frame)
 plan_clause (PlanClause-F.Group slots) frame = Forms.group_tuples slots
 plan_clause (PlanClause-F.Order specs) frame = Forms.order_tuples specs (at_tuple frame)
+plan_clause (PlanClause-F.Refused code) frame = λ tuples. refuse code
 
 abbrev pub plan_form : Plan-F Meaning ClauseMeaning StepMeaning → Meaning
 plan_form (Plan-F.Int n) = Forms.literal (Integer n)

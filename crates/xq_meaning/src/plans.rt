@@ -5,7 +5,7 @@
 //! expression one for each binding before. So a binding needs no number: it takes the next slot.
 
 use sqlite_items::{Boxed, Items};
-use xq_atoms::Decimal;
+use xq_atoms::{Code, Decimal};
 use xq_expressions::{NamedNode, OrderModifier, Quantifier, Sign, Text, UnnamedNode};
 use xq_regions::Axis;
 use xq_signatures::Function;
@@ -58,6 +58,8 @@ pub enum PlanClause {
     /// By slots of the tuples, numbered from 0 for the first binding of this FLWOR.
     Group(Items<usize>),
     Order(Items<(Plan, OrderModifier)>),
+    /// Refused, whatever the tuples are: it groups by a variable that its FLWOR doesn't bind.
+    Refused(Code),
 }
 
 /// What follows a slash.

@@ -1,0 +1,24 @@
+//! From expressions to plans: the normal form, without abbreviations, and the plan, with numbered
+//! slots in place of names and scans in place of steps. Each means what the expression means.
+#![tactic(auto)]
+
+ghost use Rattle.std.specs.Prelude.{IfOk};
+ghost use Rattle.xq_meaning.specs.Same.{IsNormalForm};
+
+mod names;
+mod normal;
+
+use std::alloc::Global;
+use xq_atoms::Want;
+use xq_expressions::Expr;
+use xq_meaning::Core;
+
+/// The normal form of an expression: whatever the environment, the focus, the addresses and the
+/// documents are, it gives the value or the code that the expression gives, and leaves the same
+/// trees. `//`, `..`, `@`, a leading `/`, axes that are not named and clauses with several bindings
+/// are written out (XQuery 3.1, sections 3.3.5 and 3.12). It refuses only for want of memory.
+pub fn normalise(alloc: Global, expr: &Expr) -> Result<Core, Want>
+    ensures { IfOk result (λ core. IsNormalForm expr.now core) }
+{
+    Ok(normal::expression(alloc, expr)?)
+}

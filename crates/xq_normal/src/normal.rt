@@ -1,0 +1,499 @@
+//! The normal form of each form of expression.
+ghost use Rattle.std.specs.Prelude.{◌≡◌, ◌++◌, IfOk, OnOk, List, map};
+ghost use Rattle.xq_values.specs.declared.operators.Operator.TheVariants as operator;
+ghost use Rattle.xq_meaning.specs.Meaning as meaning;
+ghost use Rattle.xq_meaning.specs.Meaning.{mean, name_mean, clause_mean, group_mean, step_mean};
+ghost use Rattle.xq_meaning.specs.CoreMeaning.{core_mean, core_clause_mean};
+ghost use Rattle.xq_normal.specs.private.Parts as parts;
+
+use crate::names::{axis_step, function, local, text};
+use sqlite_items::{Boxed, Items};
+use std::alloc::{AllocError, Global};
+use xq_expressions::{
+    Clause, ConstructorName, Expr, GroupSpec, OrderModifier, PathStart, ProductOperator, QName,
+    Separator, SetOperator, Sign, Step, Text,
+};
+use xq_meaning::{Core, CoreClause};
+use xq_regions::Axis;
+use xq_signatures::Function;
+use xq_values::{Operator, Test};
+
+/// The normal form of an expression.
+#[cycle(normal)]
+pub fn expression(alloc: Global, expr: &Expr) -> Result<Core, AllocError>
+    ensures { IfOk result (λ core. core_mean core ≡ mean expr.now) }
+{
+    match expr {
+        Expr::Root => Ok(Core::Root),
+        Expr::Int(value) => Ok(Core::Int(*value)),
+        Expr::Dec(value) => Ok(Core::Dec(*value)),
+        Expr::Str(value) => Ok(Core::Str(text(alloc, value)?)),
+        Expr::ContextItem => Ok(Core::ContextItem),
+        Expr::Variable(name) => Ok(Core::Variable(text(alloc, &name.local)?)),
+        Expr::Call(name, arguments) => call(alloc, name, arguments.as_slice()),
+        Expr::Sequence(parts) => Ok(Core::Sequence(expressions(alloc, parts.as_slice())?)),
+        Expr::Or(parts) => Ok(Core::Or(expressions(alloc, parts.as_slice())?)),
+        Expr::And(parts) => Ok(Core::And(expressions(alloc, parts.as_slice())?)),
+        Expr::Concat(parts) => joined(alloc, Operator::Concat, parts.as_slice()),
+        Expr::Union(parts) => joined(alloc, Operator::Union, parts.as_slice()),
+        Expr::Comparison(left, operator, right) => {
+            let left = boxed(alloc, left.get())?;
+            let operator = Operator::Comparison(*operator);
+            operation(alloc, left, operator, expression(alloc, right.get())?)
+        }
+        Expr::Range(left, right) => {
+            let left = boxed(alloc, left.get())?;
+            operation(
+                alloc,
+                left,
+                Operator::Range,
+                expression(alloc, right.get())?,
+            )
+        }
+        Expr::Sum(first, more) => {
+            let first = boxed(alloc, first.get())?;
+            Ok(Core::Chain(first, addends(alloc, more.as_slice())?))
+        }
+        Expr::Product(first, more) => {
+            let first = boxed(alloc, first.get())?;
+            Ok(Core::Chain(first, factors(alloc, more.as_slice())?))
+        }
+        Expr::SetOperation(first, more) => {
+            let first = boxed(alloc, first.get())?;
+            Ok(Core::Chain(first, set_operands(alloc, more.as_slice())?))
+        }
+        Expr::Unary(signs, part) => {
+            let signs = Items::from_slice(alloc, signs.as_slice())?;
+            Ok(Core::Unary(signs, boxed(alloc, part.get())?))
+        }
+        Expr::Path(start, first, more) => {
+            let first = step(alloc, first)?;
+            let later = steps(alloc, more.as_slice())?;
+            path(alloc, *start, first, later)
+        }
+        Expr::If(condition, positive, negative) => {
+            let condition = boxed(alloc, condition.get())?;
+            let positive = boxed(alloc, positive.get())?;
+            Ok(Core::If(condition, positive, boxed(alloc, negative.get())?))
+        }
+        Expr::Named(node, name, content) => {
+            let name = constructor_name(alloc, name)?;
+            Ok(Core::Named(*node, name, boxed(alloc, content.get())?))
+        }
+        Expr::Unnamed(node, content) => { Ok(Core::Unnamed(*node, boxed(alloc, content.get())?)) }
+        Expr::Flwor(list, part) => {
+            let list = clauses(alloc, list.as_slice())?;
+            Ok(Core::Flwor(list, boxed(alloc, part.get())?))
+        }
+        Expr::Quantified(quantifier, list, part) => {
+            let list = bindings(alloc, list.as_slice())?;
+            Ok(Core::Quantified(*quantifier, list, boxed(alloc, part.get())?))
+        }
+    }
+}
+
+/// The normal form of an expression, as a part of another.
+#[cycle(normal)]
+fn boxed(alloc: Global, expr: &Expr) -> Result<Boxed<Core>, AllocError>
+    ensures { IfOk result (λ core. core_mean core ≡ mean expr.now) }
+{
+    Boxed::new(alloc, expression(alloc, expr)?)
+}
+
+/// The normal form of each expression.
+#[cycle(normal)]
+fn expressions(alloc: Global, exprs: &[Expr]) -> Result<Items<Core>, AllocError>
+    ensures { IfOk result (λ cores. map core_mean cores ≡ map mean exprs.now) }
+{
+    let mut cores = Items::new(alloc);
+    for expr in exprs {
+        cores.push(expression(alloc, expr)?)?;
+    }
+    Ok(cores)
+}
+
+/// Operands with one operator between them.
+#[cycle(normal)]
+fn joined(alloc: Global, operator: Operator, exprs: &[Expr]) -> Result<Core, AllocError>
+    ensures { IfOk result
+        (λ core. core_mean core ≡ meaning.joined_by operator (map mean exprs.now)) }
+{
+    match exprs {
+        [] => Ok(Core::Sequence(Items::new(alloc))),
+        [first, more @ ..] => {
+            let first = boxed(alloc, first)?;
+            Ok(Core::Chain(first, following(alloc, operator, more)?))
+        }
+    }
+}
+
+/// The operands after the first, with their operator.
+#[cycle(normal)]
+fn following(
+    alloc: Global,
+    operator: Operator,
+    exprs: &[Expr],
+) -> Result<Items<(Operator, Core)>, AllocError>
+    ensures { IfOk result
+        (λ operands. parts.core_operands operands ≡ parts.following operator exprs.now) }
+{
+    let mut operands = Items::new(alloc);
+    for expr in exprs {
+        operands.push((operator, expression(alloc, expr)?))?;
+    }
+    Ok(operands)
+}
+
+/// Two operands with their operator.
+fn operation(
+    alloc: Global,
+    left: Boxed<Core>,
+    operator: Operator,
+    right: Core,
+) -> Result<Core, AllocError>
+    ensures { IfOk result
+        (λ core. core_mean core ≡ parts.operation (core_mean left) operator (core_mean right)) }
+{
+    let mut more = Items::new(alloc);
+    more.push((operator, right))?;
+    Ok(Core::Chain(left, more))
+}
+
+/// The operands of a sum after the first.
+#[cycle(normal)]
+fn addends(alloc: Global, operands: &[(Sign, Expr)]) -> Result<Items<(Operator, Core)>, AllocError>
+    ensures { IfOk result
+        (λ found. parts.core_operands found ≡ parts.operands operator.Sum operands.now) }
+{
+    let mut found = Items::new(alloc);
+    for (sign, operand) in operands {
+        found.push((Operator::Sum(*sign), expression(alloc, operand)?))?;
+    }
+    Ok(found)
+}
+
+/// The operands of a product after the first.
+#[cycle(normal)]
+fn factors(
+    alloc: Global,
+    operands: &[(ProductOperator, Expr)],
+) -> Result<Items<(Operator, Core)>, AllocError>
+    ensures { IfOk result
+        (λ found. parts.core_operands found ≡ parts.operands operator.Product operands.now) }
+{
+    let mut found = Items::new(alloc);
+    for (operator, operand) in operands {
+        found.push((Operator::Product(*operator), expression(alloc, operand)?))?;
+    }
+    Ok(found)
+}
+
+/// The operands of intersections and differences after the first.
+#[cycle(normal)]
+fn set_operands(
+    alloc: Global,
+    operands: &[(SetOperator, Expr)],
+) -> Result<Items<(Operator, Core)>, AllocError>
+    ensures { IfOk result
+        (λ found. parts.core_operands found ≡ parts.operands operator.SetOperation operands.now) }
+{
+    let mut found = Items::new(alloc);
+    for (operator, operand) in operands {
+        found.push((
+            Operator::SetOperation(*operator),
+            expression(alloc, operand)?,
+        ))?;
+    }
+    Ok(found)
+}
+
+/// A call. One that names no function, or gives it another number of arguments than it takes, is
+/// refused when it is evaluated, before its arguments.
+#[cycle(normal)]
+fn call(alloc: Global, name: &QName, arguments: &[Expr]) -> Result<Core, AllocError>
+    ensures { IfOk result
+        (λ core. core_mean core ≡ parts.call_named name.now (map mean arguments.now)) }
+{
+    match function(name) {
+        Some(function) if function.arity().admits(arguments.len()) => {
+            Ok(Core::Call(function, expressions(alloc, arguments)?))
+        }
+        _ => unknown_function(alloc),
+    }
+}
+
+/// A call that is always refused with XPST0017: `true` with an argument.
+fn unknown_function(alloc: Global) -> Result<Core, AllocError>
+    ensures { IfOk result (λ core. core_mean core ≡ meaning.unknown_function) }
+{
+    let mut arguments = Items::new(alloc);
+    arguments.push(Core::Sequence(Items::new(alloc)))?;
+    Ok(Core::Call(Function::True, arguments))
+}
+
+/// The name of a constructed node. One that is written out is a string.
+#[cycle(normal)]
+fn constructor_name(alloc: Global, name: &ConstructorName) -> Result<Boxed<Core>, AllocError>
+    ensures { IfOk result (λ core. core_mean core ≡ name_mean name.now) }
+{
+    match name {
+        ConstructorName::Literal(name) => {
+            Boxed::new(alloc, Core::Str(text(alloc, &name.local)?))
+        }
+        ConstructorName::Computed(part) => boxed(alloc, part.get()),
+    }
+}
+
+/// A path, with what follows the slashes after its first step.
+fn path(
+    alloc: Global,
+    start: PathStart,
+    first: Core,
+    later: Items<Core>,
+) -> Result<Core, AllocError>
+    ensures { IfOk result (λ core. core_mean core
+        ≡ parts.path_from start (core_mean first) (map core_mean later)) }
+{
+    match start {
+        PathStart::Relative => path_along(alloc, first, later),
+        PathStart::Root => rooted(alloc, Separator::Slash, first, later),
+        PathStart::RootAndBelow => rooted(alloc, Separator::DoubleSlash, first, later),
+    }
+}
+
+/// A path from the root, whose first step stands after a separator.
+fn rooted(
+    alloc: Global,
+    separator: Separator,
+    first: Core,
+    later: Items<Core>,
+) -> Result<Core, AllocError>
+    ensures { IfOk result (λ core. core_mean core
+        ≡ parts.rooted separator (core_mean first) (map core_mean later)) }
+{
+    let mut found = Items::new(alloc);
+    next(alloc, &mut found, separator, first)?;
+    found.append(later)?;
+    path_along(alloc, Core::Root, found)
+}
+
+/// A start, and what follows each slash; a start alone is itself.
+fn path_along(alloc: Global, start: Core, found: Items<Core>) -> Result<Core, AllocError>
+    ensures { IfOk result
+        (λ core. core_mean core ≡ parts.path (core_mean start) (map core_mean found)) }
+{
+    if found.is_empty() {
+        return Ok(start);
+    }
+    Ok(Core::Path(Boxed::new(alloc, start)?, found))
+}
+
+/// What follows the slashes after the first step of a path.
+#[cycle(normal)]
+fn steps(alloc: Global, more: &[(Separator, Step)]) -> Result<Items<Core>, AllocError>
+    ensures { IfOk result
+        (λ found. map core_mean found ≡ meaning.later_parts (parts.steps more.now)) }
+{
+    let mut found = Items::new(alloc);
+    for (separator, later) in more {
+        next(alloc, &mut found, *separator, step(alloc, later)?)?;
+    }
+    Ok(found)
+}
+
+/// Puts a step at the end, after what its separator stands for.
+fn next(
+    alloc: Global,
+    found: &mut Items<Core>,
+    separator: Separator,
+    step: Core,
+) -> Result<(), AllocError>
+    ensures { OnOk result
+        (map core_mean found.new
+        ≡ map core_mean found.old ++ meaning.after separator (core_mean step)) }
+{
+    match separator {
+        Separator::Slash => found.push(step),
+        Separator::DoubleSlash => {
+            found.push(Core::Step(Axis::DescendantOrSelf, Test::Any, Items::new(alloc)))?;
+            found.push(step)
+        }
+    }
+}
+
+/// A step of a path.
+#[cycle(normal)]
+fn step(alloc: Global, step: &Step) -> Result<Core, AllocError>
+    ensures { IfOk result (λ core. core_mean core ≡ step_mean step.now) }
+{
+    match step {
+        Step::Axis(along, predicates) => {
+            let (axis, test) = axis_step(alloc, along)?;
+            Ok(Core::Step(axis, test, expressions(alloc, predicates.as_slice())?))
+        }
+        Step::Primary(primary, predicates) => {
+            let primary = expression(alloc, primary.get())?;
+            filtered(alloc, primary, expressions(alloc, predicates.as_slice())?)
+        }
+    }
+}
+
+/// A primary expression with its predicates; without one it is itself.
+fn filtered(alloc: Global, primary: Core, predicates: Items<Core>) -> Result<Core, AllocError>
+    ensures { IfOk result
+        (λ core. core_mean core ≡ parts.filter_of (core_mean primary) (map core_mean predicates)) }
+{
+    if predicates.is_empty() {
+        return Ok(primary);
+    }
+    Ok(Core::Filter(Boxed::new(alloc, primary)?, predicates))
+}
+
+/// Clauses with one binding each, one after another.
+#[cycle(normal)]
+fn clauses(alloc: Global, list: &[Clause]) -> Result<Items<CoreClause>, AllocError>
+    ensures { IfOk result
+        (λ found. meaning.clauses (map core_clause_mean found)
+        ≡ meaning.clauses (map clause_mean list.now)) }
+{
+    let mut found = Items::new(alloc);
+    for next in list {
+        found.append(clause(alloc, next)?)?;
+    }
+    Ok(found)
+}
+
+/// The clauses with one binding that a clause is short for.
+#[cycle(normal)]
+fn clause(alloc: Global, clause: &Clause) -> Result<Items<CoreClause>, AllocError>
+    ensures { IfOk result
+        (λ found. meaning.clauses (map core_clause_mean found) ≡ clause_mean clause.now) }
+{
+    match clause {
+        Clause::For(list) => ranges(alloc, list.as_slice()),
+        Clause::Let(list) => assignments(alloc, list.as_slice()),
+        Clause::Filter(condition) => one(alloc, CoreClause::Where(expression(alloc, condition)?)),
+        Clause::Group(specs) => group(alloc, specs.as_slice()),
+        Clause::Order(specs) => one(alloc, CoreClause::Order(keys(alloc, specs.as_slice())?)),
+    }
+}
+
+/// A clause by itself.
+fn one(alloc: Global, clause: CoreClause) -> Result<Items<CoreClause>, AllocError>
+    ensures { IfOk result
+        (λ found. meaning.clauses (map core_clause_mean found) ≡ core_clause_mean clause) }
+{
+    let mut found = Items::new(alloc);
+    found.push(clause)?;
+    Ok(found)
+}
+
+/// A clause for each variable of `for`.
+#[cycle(normal)]
+fn ranges(
+    alloc: Global,
+    list: &[(QName, Option<QName>, Expr)],
+) -> Result<Items<CoreClause>, AllocError>
+    ensures { IfOk result (λ found. map core_clause_mean found ≡ parts.ranges list.now) }
+{
+    let mut found = Items::new(alloc);
+    for (variable, at, sequence) in list {
+        let variable = text(alloc, &variable.local)?;
+        let at = local(alloc, at)?;
+        found.push(CoreClause::For(variable, at, expression(alloc, sequence)?))?;
+    }
+    Ok(found)
+}
+
+/// A clause for each variable of `let`.
+#[cycle(normal)]
+fn assignments(alloc: Global, list: &[(QName, Expr)]) -> Result<Items<CoreClause>, AllocError>
+    ensures { IfOk result (λ found. map core_clause_mean found ≡ parts.assignments list.now) }
+{
+    let mut found = Items::new(alloc);
+    for (variable, value) in list {
+        let variable = text(alloc, &variable.local)?;
+        found.push(CoreClause::Let(variable, expression(alloc, value)?))?;
+    }
+    Ok(found)
+}
+
+/// The values that grouping variables are given, as by `let`, and then the groups.
+#[cycle(normal)]
+fn group(alloc: Global, specs: &[GroupSpec]) -> Result<Items<CoreClause>, AllocError>
+    ensures { IfOk result
+        (λ found. meaning.clauses (map core_clause_mean found)
+        ≡ meaning.group_by (map group_mean specs.now)) }
+{
+    let mut found = Items::new(alloc);
+    for spec in specs {
+        found.append(lets(alloc, spec)?)?;
+    }
+    found.push(CoreClause::Group(grouping(alloc, specs)?))?;
+    Ok(found)
+}
+
+/// The value of a grouping variable, as by `let`, where it has one.
+#[cycle(normal)]
+fn lets(alloc: Global, spec: &GroupSpec) -> Result<Items<CoreClause>, AllocError>
+    ensures { IfOk result
+        (λ found. map core_clause_mean found ≡ parts.lets (group_mean spec.now)) }
+{
+    let mut found = Items::new(alloc);
+    match spec {
+        GroupSpec::Variable(_) => Ok(found),
+        GroupSpec::Assigned(variable, value) => {
+            let value = expression(alloc, value)?;
+            found.push(CoreClause::Let(text(alloc, &variable.local)?, value))?;
+            Ok(found)
+        }
+    }
+}
+
+/// The names of grouping variables.
+fn grouping(alloc: Global, specs: &[GroupSpec]) -> Result<Items<Text>, AllocError>
+    ensures { IfOk result (λ found. found ≡ parts.variables specs.now) }
+{
+    let mut found = Items::new(alloc);
+    for spec in specs {
+        found.push(text(alloc, &grouped_by(spec).local)?)?;
+    }
+    Ok(found)
+}
+
+/// A grouping variable.
+fn grouped_by(spec: &GroupSpec) -> &QName
+    ensures { result.now.local ≡ parts.variable (group_mean spec.now) }
+{
+    match spec {
+        GroupSpec::Variable(variable) | GroupSpec::Assigned(variable, _) => variable,
+    }
+}
+
+/// The keys of `order by`.
+#[cycle(normal)]
+fn keys(
+    alloc: Global,
+    specs: &[(Expr, OrderModifier)],
+) -> Result<Items<(Core, OrderModifier)>, AllocError>
+    ensures { IfOk result (λ found. parts.core_keys found ≡ parts.keys specs.now) }
+{
+    let mut found = Items::new(alloc);
+    for (key, modifier) in specs {
+        found.push((expression(alloc, key)?, *modifier))?;
+    }
+    Ok(found)
+}
+
+/// The variables of a quantified expression, each with what it ranges over.
+#[cycle(normal)]
+fn bindings(alloc: Global, list: &[(QName, Expr)]) -> Result<Items<(Text, Core)>, AllocError>
+    ensures { IfOk result (λ found. parts.core_bindings found ≡ parts.bindings list.now) }
+{
+    let mut found = Items::new(alloc);
+    for (variable, sequence) in list {
+        let variable = text(alloc, &variable.local)?;
+        found.push((variable, expression(alloc, sequence)?))?;
+    }
+    Ok(found)
+}

@@ -1,0 +1,24 @@
+//! Plans: normal forms with numbered slots in place of names, and with scans in place of steps.
+#![tactic(auto)]
+
+ghost use Rattle.std.specs.Prelude.{IfOk, []};
+ghost use Rattle.xq_meaning.specs.Same.{IsPlan};
+
+mod copies;
+mod scopes;
+mod walk;
+
+use scopes::Scope;
+use std::alloc::Global;
+use xq_atoms::Want;
+use xq_meaning::{Core, Plan};
+
+/// The plan of a normal form: whatever the focus, the addresses and the documents are, it gives the
+/// value or the code that the normal form gives where no variable is bound, and leaves the same
+/// trees. A variable that is not in scope is the empty sequence (XQuery 3.1, sections 3.1.2, 3.3,
+/// 3.12 and 3.16). It refuses only for want of memory.
+pub fn plan(alloc: Global, core: &Core) -> Result<Plan, Want>
+    ensures { IfOk result (λ plan. IsPlan [] core.now plan) }
+{
+    Ok(walk::expression(alloc, &mut Scope::new(alloc), core)?)
+}
