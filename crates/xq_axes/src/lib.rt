@@ -1,0 +1,9 @@
+//! Steps along the axes, string values and copies of nodes, read from a lender of rows.
+#![tactic(auto)]
+
+mod copies;
+mod values;
+mod walks;
+
+pub use copies::copy;
+pub use values::string_value;
