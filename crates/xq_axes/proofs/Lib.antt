@@ -4,3 +4,8 @@ pub mod Texts
 pub mod RunBounds
 pub mod Sizes
 pub mod Copying
+pub mod Trees
+pub mod Lists
+pub mod Picking
+pub mod Clusters
+pub mod Searching

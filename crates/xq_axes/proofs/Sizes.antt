@@ -1,6 +1,6 @@
 -- What the row of a node says of the rows and nodes below it.
 use Rattle.std.proofs.Common.{◌≡◌, ℕ, zero, suc, ◌+◌, ◌-◌, ◌<◌, ◌≤◌, List, [], ◌∷◌, length, get_or, map, take, drop, min, max, Result, Ok, Err, Bool, true, false, string_bytes, refl, sym, ◌∙◌, ap, subst, arith}
-use Rattle.std.specs.Prelude.{IfOk}
+use Rattle.std.specs.Prelude.{IfOk, OnOk}
 use Rattle.std.proofs.lemmas.List.{drop_all, length-take}
 use Rattle.xq_regions.specs.declared.Kind.{Kind}
 use Rattle.xq_regions.specs.declared.Kind.TheVariants.{Document, Element, Attribute, Text, Comment, ProcessingInstruction}
@@ -117,3 +117,24 @@ module _ (trees : List Tree) (node : Spot) (x : NodeRow) (there : HasNode trees 
       let p = tree_below trees (node_at trees node) in
       let h : p.root.kind ≡ x.kind = sym (ap (λ (l : Label). l.kind) label_read) in
       e ∙ ap (λ (l : Label). l.value) label_read ∙ sym (value_by_leaf p.root.kind p.root.value (texts p.below) (ap is_parent h ∙ k))
+
+pub OnOk-then : {T E : Type 0} (r : Result T E) (P Q : Type 0) → (P → Q) → OnOk r P → OnOk r Q
+OnOk-then (Ok x) P Q f h = f h
+OnOk-then (Err e) P Q f h = tt
+
+-- the span below v, where nothing saturates
+pub record IsExact (t : Tree) (v size low high : ℕ) : Type 0 where
+  pub low_is : low ≡ v + 1
+  pub high_is : high ≡ v + size
+  pub end_is : span_end t (span low high) ≡ v + 1 + size
+
+pub exact_span : (t : Tree) (v size low high : ℕ) → IsSized t v size → low ≡ min (v + 1) 4294967295 → high ≡ min (v + size) 4294967295 → IsExact t v size low high
+exact_span t v size low high h a b =
+    let r = h.is_tree.room in
+    let d = (node_of t v h.is_there).ends in
+    let s = h.size in
+    record {
+      low_is = omega (arith, d, s, r, a);
+      high_is = omega (arith, d, s, r, b);
+      end_is = omega (arith, d, s, r, a, b);
+    }

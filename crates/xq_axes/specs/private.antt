@@ -1,1 +1,4 @@
 pub mod Reads
+pub mod Hits
+pub mod Downward
+pub mod Passing

@@ -21,7 +21,7 @@ struct Copied {
 }
 
 impl Visitor for Copied {
-    ghost has_read = { λ v t s n. AreCopied t s n v.place v.level v.rows.items };
+    ghost has_read = { λ _ v t s n. AreCopied t s n v.place v.level v.rows.items };
 
     fn visit(&mut self, row: &NodeRow) -> Result<(), Want> {
         self.rows.push(NodeRow {

@@ -2,6 +2,10 @@
 #![tactic(auto)]
 
 mod copies;
+mod contexts;
+mod downward;
+mod picks;
+mod tests;
 mod values;
 mod walks;
 

@@ -12,20 +12,21 @@ use xq_sources::RowLender;
 
 /// What is made of the rows of a range, one after another.
 pub trait Visitor {
-    /// Of the rows of the tree in the span, those before the place were visited.
-    ghost has_read: { Self → Tree → Span → ℕ → Type 0 };
+    /// From the first state on, the rows of the tree in the span before the place were visited.
+    ghost has_read: { Self → Self → Tree → Span → ℕ → Type 0 };
 
     /// Takes one more row.
     fn visit(&mut self, row: &NodeRow) -> Result<(), Want>
-        ensures { (t : Tree) (s : Span) (n : ℕ) → IsRowIn t s n (placed row.now)
-            → has_read self.old t s n → OnOk result (has_read self.new t s (n + 1)) };
+        ensures { (start : Self) (t : Tree) (s : Span) (n : ℕ)
+            → IsRowIn t s n (placed row.now) → has_read start self.old t s n
+            → OnOk result (has_read start self.new t s (n + 1)) };
 }
 
 /// Visits the rows in turn.
 fn visit_all<V: Visitor>(rows: &[NodeRow], visitor: &mut V) -> Result<(), Want>
-    ensures { (t : Tree) (s : Span) (n : ℕ) → AreRowsIn t s n (map placed rows.now)
-        → V.has_read visitor.old t s n
-        → OnOk result (V.has_read visitor.new t s (n + length rows.now)) }
+    ensures { (start : V) (t : Tree) (s : Span) (n : ℕ) → AreRowsIn t s n (map placed rows.now)
+        → V.has_read start visitor.old t s n
+        → OnOk result (V.has_read start visitor.new t s (n + length rows.now)) }
 {
     for row in rows {
         visitor.visit(row)?;
@@ -44,8 +45,8 @@ pub fn walk<L: RowLender, V: Visitor>(
 ) -> Result<(), Want>
     ensures read { L.is_clean source.new
         → let t = tree_at (L.forest source.old) tree in
-        V.has_read visitor.old t (span low high) low
-        → OnOk result (V.has_read visitor.new t (span low high) (span_end t (span low high))) }
+        (start : V) → V.has_read start visitor.old t (span low high) low
+        → OnOk result (V.has_read start visitor.new t (span low high) (span_end t (span low high))) }
     ensures rows { L.is_clean source.new
         → (L.meter source.new).rows ≤ (L.meter source.old).rows
         + (span_end (tree_at (L.forest source.old) tree) (span low high) - low) }

@@ -19,5 +19,5 @@ returns-in-Ok-clause-copied g c = λ k. (
     let high = c.saturating_add-high.result in
     let start = subst (AreCopied t (span node.pre high) node.pre node.pre x.level) (sym c.in_ok-with_capacity.ensures.items)
     (copied_none t (span node.pre high) x.level (ap (λ (p : ℕ × Row). p.1.level) read)) in
-    let w = subst (λ f. AreCopied (tree_at f node.tree) (span node.pre high) node.pre node.pre x.level c.in_ok-with_capacity.field-0.items → AreCopied (tree_at f node.tree) (span node.pre high) (span_end (tree_at f node.tree) (span node.pre high)) c.walk.new.visitor.place c.walk.new.visitor.level c.walk.new.visitor.rows.items) c.in_ok-fetch_row.ensures.keeps (c.in_ok-walk.ensures.read k) start in
+    let w = subst (λ f. AreCopied (tree_at f node.tree) (span node.pre high) node.pre node.pre x.level c.in_ok-with_capacity.field-0.items → AreCopied (tree_at f node.tree) (span node.pre high) (span_end (tree_at f node.tree) (span node.pre high)) c.walk.new.visitor.place c.walk.new.visitor.level c.walk.new.visitor.rows.items) c.in_ok-fetch_row.ensures.keeps (c.in_ok-walk.ensures.read k c.walk.new.visitor) start in
     copied_tree t c.in-Ok.copy node.pre x.size _ _ high _ sized c.saturating_add-high.ensures w c.in-Ok.ensures.ok)

@@ -9,4 +9,4 @@ returns-clause-value g c = λ k h. (
     let t = tree_at (g.L.TreeSource.forest c.args.source.now) c.args.node.tree in
     let low = c.saturating_add-low.result in
     let start = c.new.ensures.bytes ∙ sym (ap joined_texts (rows_to-none t low)) in
-    texts_of_walk t c.args.node.pre c.args.size low c.saturating_add-high.result _ h c.saturating_add-low.ensures c.saturating_add-high.ensures (c.in_ok-walk.ensures.read k start))
+    texts_of_walk t c.args.node.pre c.args.size low c.saturating_add-high.result _ h c.saturating_add-low.ensures c.saturating_add-high.ensures (c.in_ok-walk.ensures.read k c.walk.new.visitor start))

@@ -43,10 +43,10 @@ loop-next-preserved g c =
       clean = λ k. inv.clean (c.in_ok-fetch.ensures.was_clean k);
       from = omega arith;
       to = λ k. (let w = within k in let e = exact k in omega (arith, w, e, n));
-      read = λ k r. (
+      read = λ k start r. (
           let turn : AreRowsIn t s c.loop-next.next (map placed rows) = subst (AreRowsIn t s c.loop-next.next) (sym c.lent-rows.ensures) (run_in_turn t s c.loop-next.next run inv.from (found k)) in
-          subst (λ m. g.V.Visitor.has_read c.visit_all.new.visitor t s m) (exact k)
-          (c.in_ok-visit_all.ensures t s c.loop-next.next turn (inv.read (c.in_ok-fetch.ensures.was_clean k) r)));
+          subst (λ m. g.V.Visitor.has_read start c.visit_all.new.visitor t s m) (exact k)
+          (c.in_ok-visit_all.ensures start t s c.loop-next.next turn (inv.read (c.in_ok-fetch.ensures.was_clean k) start r)));
       rows = λ k. (
           let w = within k in
           let e = exact k in
@@ -58,7 +58,7 @@ loop-next-preserved g c =
     }
 
 pub returns-then-is_empty-clause-read : goal.returns-then-is_empty-clause-read
-returns-then-is_empty-clause-read g c = λ k r. (
+returns-then-is_empty-clause-read g c = λ k start r. (
     let inv = c.loop-next.invariant in
     let was = c.in_ok-fetch.ensures.was_clean k in
     let t = tree_at (g.L.TreeSource.forest c.args.source.now) c.args.tree in
@@ -70,4 +70,4 @@ returns-then-is_empty-clause-read g c = λ k r. (
     subst (λ f. IsRun (rows_between (tree_at f c.args.tree) c.loop-next.next c.args.high) run) inv.forest (c.in_ok-fetch.ensures.found k) in
     let z : length rows ≡ 0 = eqb-true (length rows) 0 (sym c.is_empty.ensures ∙ c.if-is_empty.true) in
     let e = run_last t s c.loop-next.next run found (sym n ∙ z) inv.from (omega arith) (inv.to was) in
-    subst (λ m. g.V.Visitor.has_read c.loop-next.visitor t s m) e (inv.read was r))
+    subst (λ m. g.V.Visitor.has_read start c.loop-next.visitor t s m) e (inv.read was start r))

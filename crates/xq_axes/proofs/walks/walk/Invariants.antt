@@ -13,7 +13,7 @@ invariant-loop-next g l =
       clean : g.L.TreeSource.is_clean l.source → g.L.TreeSource.is_clean l.initial.source;
       from : l.low ≤ l.next;
       to : g.L.TreeSource.is_clean l.source → l.next ≤ span_end t s;
-      read : g.L.TreeSource.is_clean l.source → g.V.Visitor.has_read l.initial.visitor t s l.low → g.V.Visitor.has_read l.visitor t s l.next;
+      read : g.L.TreeSource.is_clean l.source → (start : g.row.V.Denot) → g.V.Visitor.has_read start l.initial.visitor t s l.low → g.V.Visitor.has_read start l.visitor t s l.next;
       rows : g.L.TreeSource.is_clean l.source → (g.L.TreeSource.meter l.source).rows ≤ (g.L.TreeSource.meter l.initial.source).rows + (l.next - l.low);
       singles : (g.L.TreeSource.meter l.source).singles ≡ (g.L.TreeSource.meter l.initial.source).singles;
     }

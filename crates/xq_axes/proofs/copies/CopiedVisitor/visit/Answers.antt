@@ -4,7 +4,7 @@ use Rattle.xq_axes.proofs.Copying.{copied_more, copied_row}
 use Rattle.xq_axes.proofs.copies.CopiedVisitor.visit.Goals as goal
 
 pub returns : goal.returns
-returns c = λ t s n r h. (
+returns c = λ _ t s n r h. (
     let x = c.args.row.now in
     let old = c.args.self.now in
     subst (AreCopied t s (n + 1) old.place old.level) (sym c.in_ok-push.ensures.items)
