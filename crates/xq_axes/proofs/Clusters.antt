@@ -13,8 +13,9 @@ use Rattle.xq_axes.specs.private.Hits.{is_among, is_hit, IsRising, IsReached}
 use Rattle.xq_axes.specs.private.Downward.{axis_of, is_chosen, is_own, level_of, end_of, IsCluster, AreMarked, IsJudged}
 use Rattle.xq_axes.specs.declared.downward.Downward.{Downward}
 use Rattle.xq_axes.specs.declared.downward.Downward.TheVariants.{Child, Attribute, Descendant, DescendantOrSelf}
+use Rattle.xq_axes.specs.private.Kin.{IsParent}
 use Rattle.xq_axes.proofs.Lists.{any_from, any_at, any_agree, any_and, any_or, any_none, same_tests, among_at, among_index}
-use Rattle.xq_axes.proofs.Trees.{inside_deeper, inside_trans, inside_ends, between_deeper, IsParent, HasParent, parent_of, one_parent}
+use Rattle.xq_axes.proofs.Trees.{inside_deeper, inside_trans, inside_ends, between_deeper, HasParent, parent_of, one_parent}
 
 pub inside_true : (rs : List Row) (v p : ℕ) → IsInside rs v p → inside rs v p ≡ true
 inside_true rs v p h = and_from _ _ (le-leb (suc v) p h.0) (le-leb p (v + (row_at rs v).size) h.1)

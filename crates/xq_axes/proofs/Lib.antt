@@ -9,3 +9,7 @@ pub mod Lists
 pub mod Picking
 pub mod Clusters
 pub mod Searching
+pub mod Ranges
+pub mod OwnNodes
+pub mod Siblings
+pub mod OnPaths

@@ -10,6 +10,7 @@ use Rattle.xq_regions.specs.Regions.{IsInside}
 use Rattle.xq_regions.proofs.Paths.{IsAt, at_place, place_lt}
 use Rattle.xq_regions.proofs.AxisRegions.{Located, located}
 use Rattle.xq_axes.specs.private.Downward.{level_of, end_of}
+use Rattle.xq_axes.specs.private.Kin.{IsParent}
 use Rattle.xq_axes.proofs.Sizes.{Node, node_of}
 
 above_longer : (p q : List ℕ) → IsAbove p q → length p < length q
@@ -84,11 +85,6 @@ front_exists end i j p h = h
 front_exists (node a k r) zero j [] h = tt
 front_exists (node a k r) zero j (l ∷ p) h = front_exists k j l p h
 front_exists (node a k r) (suc i) j p h = front_exists r i j p h
-
--- the row above v, one level up
-pub record IsParent (t : Tree) (u v : ℕ) : Type 0 where
-  pub inside : IsInside (rows t) u v
-  pub level : level_of t v ≡ suc (level_of t u)
 
 pub record HasParent (t : Tree) (v : ℕ) : Type 0 where
   pub parent : ℕ

@@ -2,3 +2,4 @@ pub mod Reads
 pub mod Hits
 pub mod Downward
 pub mod Passing
+pub mod Kin

@@ -4,10 +4,15 @@
 mod copies;
 mod contexts;
 mod downward;
+mod kin;
+mod passing;
 mod picks;
+mod selves;
+mod steps;
 mod tests;
 mod values;
 mod walks;
 
 pub use copies::copy;
+pub use steps::axis;
 pub use values::string_value;

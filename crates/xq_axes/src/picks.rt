@@ -12,6 +12,17 @@ use xq_atoms::Want;
 use xq_regions::NodeRow;
 use xq_values::Test;
 
+/// Adds the place to those found, if it is told that it is wanted.
+pub fn push_if(found: &mut Vec<u32>, is_wanted: bool, place: u32) -> Result<(), Want>
+    ensures { OnOk result (found.new.items
+        ≡ found.old.items ++ (if is_wanted then place ∷ [] else [])) }
+{
+    if is_wanted {
+        found.push(place)?;
+    }
+    Ok(())
+}
+
 /// Tells of rows, one after another, whether they are on an axis from one of the context nodes.
 pub trait Judge {
     /// The axis.
