@@ -32,15 +32,15 @@ module _ (t : Tree) (vs : List ℕ) (n : ℕ) (hn : n < count (nodes t)) where
   pub child_of_some : (w : ℕ) → IsParent t w n → list_any (is_child_of t n) vs ≡ is_among vs w
   child_of_some w p = same_tests (list_any (is_child_of t n) vs) (is_among vs w)
       (λ e. (
-          let s = any_at (is_child_of t n) vs 0 e in
-          let u = get_or vs s.index 0 in
-          let k = and_parts _ _ s.holds in
-          let q : IsParent t u n = record { inside = true_inside (rows t) u n k.0; level = eqb-true (level_of t n) (suc (level_of t u)) k.1 } in
-          among_at vs s.index w s.within (one_parent t u w n hn q p)))
+      let s = any_at (is_child_of t n) vs 0 e in
+      let u = get_or vs s.index 0 in
+      let k = and_parts _ _ s.holds in
+      let q : IsParent t u n = record { inside = true_inside (rows t) u n k.0; level = eqb-true (level_of t n) (suc (level_of t u)) k.1 } in
+      among_at vs s.index w s.within (one_parent t u w n hn q p)))
       (λ e. (
-          let i = among_index vs w e in
-          let holds : is_child_of t n w ≡ true = and_from _ _ (inside_true (rows t) w n p.inside) (eq-eqb (level_of t n) (suc (level_of t w)) p.level) in
-          any_from (is_child_of t n) vs i.0 0 i.1 (ap (is_child_of t n) i.2 ∙ holds)))
+      let i = among_index vs w e in
+      let holds : is_child_of t n w ≡ true = and_from _ _ (inside_true (rows t) w n p.inside) (eq-eqb (level_of t n) (suc (level_of t w)) p.level) in
+      any_from (is_child_of t n) vs i.0 0 i.1 (ap (is_child_of t n) i.2 ∙ holds)))
 
   pub inside_some : (v : ℕ) → is_among vs v ≡ true → IsInside (rows t) v n → list_any (λ u. inside (rows t) u n) vs ≡ true
   inside_some v m h =
@@ -74,10 +74,10 @@ pub parent_below : (t : Tree) (v w n : ℕ) → n < count (nodes t) → IsInside
 parent_below t v w n hn h p =
     elim (cases_lt w v) [
       | inl l ↦ absurd (
-        let a = between_deeper t w n v hn p.inside l (let x = h.0 in omega arith) in
-        let b = inside_deeper t v n (let x = h.0 in omega arith) hn h in
-        let e = p.level in
-        omega (arith, a, b, e))
+          let a = between_deeper t w n v hn p.inside l (let x = h.0 in omega arith) in
+          let b = inside_deeper t v n (let x = h.0 in omega arith) hn h in
+          let e = p.level in
+          omega (arith, a, b, e))
       | inr g ↦ g
     ]
 
@@ -95,12 +95,12 @@ marked_more t vs v n marks is_context l m e = record {
   levels = length-set marks (level_of t n) is_context ∙ m.levels;
   marked = λ w a b apart. elim (cases_eq w n) [
     | inl same ↦ (
-      let k : level_of t n < length marks = (let x = m.levels in omega arith) in
-      subst (λ x. get_or (set marks (level_of t n) is_context) (level_of t x) false ≡ is_among vs x) (sym same) (get_or-set_same marks (level_of t n) is_context false k ∙ e))
+        let k : level_of t n < length marks = (let x = m.levels in omega arith) in
+        subst (λ x. get_or (set marks (level_of t n) is_context) (level_of t x) false ≡ is_among vs x) (sym same) (get_or-set_same marks (level_of t n) is_context false k ∙ e))
     | inr other ↦ (
-      let less : w < n = omega (arith, b, other) in
-      get_or-set_other marks (level_of t n) (level_of t w) is_context false (λ x. apart n less (omega arith) (sym x))
-      ∙ m.marked w a less (λ q c d. apart q c (omega (arith, d))))
+        let less : w < n = omega (arith, b, other) in
+        get_or-set_other marks (level_of t n) (level_of t w) is_context false (λ x. apart n less (omega arith) (sym x))
+        ∙ m.marked w a less (λ q c d. apart q c (omega (arith, d))))
   ];
 }
 
@@ -125,7 +125,7 @@ judged d t vs s n child is_context plain hit met new_met marks j hn low high l e
     let m : child ≡ is_among vs w = ec ∙ ap (λ b. b && get_or marks (level_of t n - 1) false) some ∙ mark_of_parent t vs v n w marks hn h par.is j.are_marked in
     record {
       is_right = eh ∙ ap (λ b. is_chosen d b is_context plain) m ∙ ap (λ b. is_chosen d (is_among vs w) b plain) em.0 ∙ ap (λ b. is_chosen d (is_among vs w) (is_among vs n) b) ep
-      ∙ chosen_hit d t vs n v w hn j.is_context h par.is;
+          ∙ chosen_hit d t vs n v w hn j.is_context h par.is;
       goes_on = record {
         rising = j.rising;
         reached = em.1;

@@ -69,9 +69,9 @@ below_where-none f n zero h g = (let e : n ≡ 0 = omega arith in ap (below_wher
 below_where-none f n (suc m) h g =
     elim (cases_lt n (suc m)) [
       | inl l ↦ (
-        let e = g m (omega arith) (omega arith) in
-        ap (λ b. below_where f m ++ cond b (m ∷ []) []) e ∙ append-nil (below_where f m)
-        ∙ below_where-none f n m (omega arith) (λ p a b. g p a (omega (arith, b))))
+          let e = g m (omega arith) (omega arith) in
+          ap (λ b. below_where f m ++ cond b (m ∷ []) []) e ∙ append-nil (below_where f m)
+          ∙ below_where-none f n m (omega arith) (λ p a b. g p a (omega (arith, b))))
       | inr l ↦ (let e : n ≡ suc m = omega arith in ap (below_where f) (sym e))
     ]
 
@@ -114,10 +114,10 @@ reached_past vs index n r ne up = record {
   others = λ i l k. elim (cases_lt index i) [
     | inl j ↦ (let a = r.others index (omega arith) (omega arith) in let b = up index i j k in omega (arith, a, b))
     | inr j ↦ (
-      let same : i ≡ index = omega arith in
-      let a = r.others i l k in
-      let d : get_or vs i 0 ≢ n = subst (λ x. get_or vs x 0 ≢ n) (sym same) (ne (omega arith)) in
-      omega (arith, a, d))
+        let same : i ≡ index = omega arith in
+        let a = r.others i l k in
+        let d : get_or vs i 0 ≢ n = subst (λ x. get_or vs x 0 ≢ n) (sym same) (ne (omega arith)) in
+        omega (arith, a, d))
   ];
 }
 

@@ -57,12 +57,12 @@ paths-range (node a k r) =
     let m = count k in
     let n = count r in
     let down : (i : ℕ) → i < 0 + m → step_down (path_at k i) ≡ p (1 + i) = λ i l. (
-        let s : 1 + i ≡ suc i = omega arith in
-        sym (ap (λ x. p x) s ∙ ap (λ b. cond b (step_down (path_at k i)) (step_right (path_at r (i - m)))) (le-leb (suc i) m (omega (arith, l))))) in
+    let s : 1 + i ≡ suc i = omega arith in
+    sym (ap (λ x. p x) s ∙ ap (λ b. cond b (step_down (path_at k i)) (step_right (path_at r (i - m)))) (le-leb (suc i) m (omega (arith, l))))) in
     let right : (i : ℕ) → i < 0 + n → step_right (path_at r i) ≡ p (1 + m + i) = λ i l. (
-        let s : 1 + m + i ≡ suc (m + i) = omega arith in
-        let d : m + i - m ≡ i = omega arith in
-        sym (ap (λ x. p x) s ∙ ap (λ b. cond b (step_down (path_at k (m + i))) (step_right (path_at r (m + i - m)))) (lt-leb (suc (m + i)) m (omega arith)) ∙ ap (λ x. step_right (path_at r x)) d)) in
+    let s : 1 + m + i ≡ suc (m + i) = omega arith in
+    let d : m + i - m ≡ i = omega arith in
+    sym (ap (λ x. p x) s ∙ ap (λ b. cond b (step_down (path_at k (m + i))) (step_right (path_at r (m + i - m)))) (lt-leb (suc (m + i)) m (omega arith)) ∙ ap (λ x. step_right (path_at r x)) d)) in
     let z : 0 + 1 ≡ 1 + 0 = omega arith in
     let y : 0 + 1 + m ≡ 1 + m + 0 = omega arith in
     ap (λ xs. (zero ∷ []) ∷ xs)
@@ -122,5 +122,5 @@ axis_nodes_of trees a test v h =
     ∙ ap (map at) (filter-filter (λ p. passes_at trees test (at p)) (λ p. on (path_at f p)) (range_with_len 0 (count f))
     ∙ range-filter (λ p. on (path_at f p) && passes_at trees test (at p)) (count f)
     ∙ below_where-agree (λ p. on (path_at f p) && passes_at trees test (at p)) (is_wanted a test t (v.pre ∷ [])) (count f) (λ p l.
-        ap (λ b. b && passes_at trees test (at p)) (region_is_path a t v.pre p h.node_in l ∙ sym (one_hit a t v.pre p))
-        ∙ ap (λ b. is_hit a t (v.pre ∷ []) p && b) (passes_row trees test v.tree p l)))
+    ap (λ b. b && passes_at trees test (at p)) (region_is_path a t v.pre p h.node_in l ∙ sym (one_hit a t v.pre p))
+    ∙ ap (λ b. is_hit a t (v.pre ∷ []) p && b) (passes_row trees test v.tree p l)))

@@ -70,27 +70,27 @@ pub above_some : (t : Tree) (vs : List ℕ) (met n : ℕ) → IsRising vs → Is
 above_some t vs met n up r = same_tests (is_next_within vs met (end_of t n)) (list_any (λ v. inside (rows t) n v) vs)
     (λ h. elim (cases_lt met (length vs)) [
       | inl k ↦ (
-        let e = within_some (slice_get vs met) (get_or vs met 0) (end_of t n) (slice_get-at vs met k) in
-        let a = leb-true (get_or vs met 0) (end_of t n) (sym e ∙ h) in
-        let b = r.others met (omega arith) k in
-        any_from (λ v. inside (rows t) n v) vs met 0 k (inside_true (rows t) n (get_or vs met 0) (omega (arith, b), a)))
+          let e = within_some (slice_get vs met) (get_or vs met 0) (end_of t n) (slice_get-at vs met k) in
+          let a = leb-true (get_or vs met 0) (end_of t n) (sym e ∙ h) in
+          let b = r.others met (omega arith) k in
+          any_from (λ v. inside (rows t) n v) vs met 0 k (inside_true (rows t) n (get_or vs met 0) (omega (arith, b), a)))
       | inr k ↦ absurd (let e : is_next_within vs met (end_of t n) ≡ false = ap (λ o. is_within o (end_of t n)) (slice_get-past vs met k) in let z : true ≡ false = sym h ∙ e in cc)
     ])
     (λ h. (
-        let w = any_at (λ v. inside (rows t) n v) vs 0 h in
-        let m = true_inside (rows t) n (get_or vs w.index 0) w.holds in
-        let a = m.0 in
-        let b = m.1 in
-        elim (cases_lt w.index met) [
-          | inl k ↦ (let c = r.before w.index k in absurd (omega (arith, a, c)))
-          | inr k ↦ (
-            let l : met < length vs = (let x = w.within in omega arith) in
-            let le : get_or vs met 0 ≤ end_of t n = elim (cases_lt met w.index) [
-              | inl o ↦ (let x = up met w.index o w.within in omega (arith, x, b))
-              | inr o ↦ (let same : w.index ≡ met = omega arith in subst (λ i. get_or vs i 0 ≤ end_of t n) same b)
-            ] in
-            within_some (slice_get vs met) (get_or vs met 0) (end_of t n) (slice_get-at vs met l) ∙ le-leb (get_or vs met 0) (end_of t n) le)
-        ]))
+    let w = any_at (λ v. inside (rows t) n v) vs 0 h in
+    let m = true_inside (rows t) n (get_or vs w.index 0) w.holds in
+    let a = m.0 in
+    let b = m.1 in
+    elim (cases_lt w.index met) [
+      | inl k ↦ (let c = r.before w.index k in absurd (omega (arith, a, c)))
+      | inr k ↦ (
+          let l : met < length vs = (let x = w.within in omega arith) in
+          let le : get_or vs met 0 ≤ end_of t n = elim (cases_lt met w.index) [
+            | inl o ↦ (let x = up met w.index o w.within in omega (arith, x, b))
+            | inr o ↦ (let same : w.index ≡ met = omega arith in subst (λ i. get_or vs i 0 ≤ end_of t n) same b)
+          ] in
+          within_some (slice_get vs met) (get_or vs met 0) (end_of t n) (slice_get-at vs met l) ∙ le-leb (get_or vs met 0) (end_of t n) le)
+    ]))
 
 pub above_hit : (t : Tree) (vs : List ℕ) (or_self context above : Bool) (n : ℕ) → context ≡ is_among vs n → above ≡ list_any (λ v. inside (rows t) n v) vs → ((or_self && context) || above) ≡ is_hit (axis_above or_self) t vs n
 above_hit t vs true context above n c a =
@@ -173,9 +173,9 @@ least_over t vs n least h k fits l =
         least_of = λ i g. elim (cases_lt i n) [
           | inl m ↦ subst (λ v. least ≤ end_of t v) (get_or-take n vs i 0 m ∙ sym (get_or-take (n + 1) vs i 0 (omega (arith, m)))) (w.least_of i (let a = length-take n vs in omega (arith, a, m, h)))
           | inr m ↦ (
-            let same : i ≡ n = (let b = length-take (n + 1) vs in omega (arith, b, g, m)) in
-            let e : get_or vs n 0 ≡ get_or (take (n + 1) vs) i 0 = ap (λ j. get_or vs j 0) (sym same) ∙ sym (get_or-take (n + 1) vs i 0 (omega (arith, same))) in
-            subst (λ v. least ≤ end_of t v) e (omega (arith, k)))
+              let same : i ≡ n = (let b = length-take (n + 1) vs in omega (arith, b, g, m)) in
+              let e : get_or vs n 0 ≡ get_or (take (n + 1) vs) i 0 = ap (λ j. get_or vs j 0) (sym same) ∙ sym (get_or-take (n + 1) vs i 0 (omega (arith, same))) in
+              subst (λ v. least ≤ end_of t v) e (omega (arith, k)))
         ];
       };
     }
@@ -195,39 +195,39 @@ least_more t vs n least last new h e small m l =
     let at : (i : ℕ) → i < n → get_or (take n vs) i 0 ≡ get_or (take (n + 1) vs) i 0 = λ i x. get_or-take n vs i 0 x ∙ sym (get_or-take (n + 1) vs i 0 (omega (arith, x))) in
     let each : (i : ℕ) → i < length (take (n + 1) vs) → new ≤ end_of t (get_or (take (n + 1) vs) i 0) = λ i g. elim (cases_lt i n) [
       | inl k ↦ (
-        let w = l.some (omega (arith, k)) in
-        let x = w.least_of i (omega (arith, k, old, h)) in
-        subst (λ v. new ≤ end_of t v) (at i k) (omega (arith, x, m)))
+          let w = l.some (omega (arith, k)) in
+          let x = w.least_of i (omega (arith, k, old, h)) in
+          subst (λ v. new ≤ end_of t v) (at i k) (omega (arith, x, m)))
       | inr k ↦ (
-        let same : n ≡ i = omega (arith, g, k, len) in
-        let z = e.is in
-        subst (λ j. new ≤ end_of t (get_or (take (n + 1) vs) j 0)) same (subst (λ v. new ≤ end_of t v) (sym here) (omega (arith, m, z))))
+          let same : n ≡ i = omega (arith, g, k, len) in
+          let z = e.is in
+          subst (λ j. new ≤ end_of t (get_or (take (n + 1) vs) j 0)) same (subst (λ v. new ≤ end_of t v) (sym here) (omega (arith, m, z))))
     ] in
     record {
       none = λ z. absurd (omega (arith, z));
       some = λ _. elim (cases_lt least last) [
         | inl k ↦ (
-          let some : 0 < n = elim (cases_lt 0 n) [ inl x ↦ x | inr x ↦ (let z = l.none (omega arith) in absurd (omega (arith, z, k, small))) ] in
-          let w = l.some some in
-          let same : least ≡ new = omega (arith, m, k) in
-          let inside : w.index < n = (let x = w.within in omega (arith, x, old)) in
-          record {
-            is_tree = w.is_tree;
-            is_there = (let x = w.is_there in omega (arith, x, same));
-            index = w.index;
-            within = omega (arith, inside, len, h);
-            is = ap (λ v. end_of t v) (sym (at w.index inside)) ∙ w.is ∙ same;
-            least_of = each;
-          })
+            let some : 0 < n = elim (cases_lt 0 n) [ inl x ↦ x | inr x ↦ (let z = l.none (omega arith) in absurd (omega (arith, z, k, small))) ] in
+            let w = l.some some in
+            let same : least ≡ new = omega (arith, m, k) in
+            let inside : w.index < n = (let x = w.within in omega (arith, x, old)) in
+            record {
+              is_tree = w.is_tree;
+              is_there = (let x = w.is_there in omega (arith, x, same));
+              index = w.index;
+              within = omega (arith, inside, len, h);
+              is = ap (λ v. end_of t v) (sym (at w.index inside)) ∙ w.is ∙ same;
+              least_of = each;
+            })
         | inr k ↦ (
-          let same : last ≡ new = omega (arith, m, k) in
-          record {
-            is_tree = e.is_tree;
-            is_there = (let x = e.within in omega (arith, x, same));
-            index = n;
-            within = omega (arith, len, h);
-            is = ap (λ v. end_of t v) here ∙ sym e.is ∙ same;
-            least_of = each;
-          })
+            let same : last ≡ new = omega (arith, m, k) in
+            record {
+              is_tree = e.is_tree;
+              is_there = (let x = e.within in omega (arith, x, same));
+              index = n;
+              within = omega (arith, len, h);
+              is = ap (λ v. end_of t v) here ∙ sym e.is ∙ same;
+              least_of = each;
+            })
       ];
     }

@@ -38,10 +38,10 @@ part_rows t s (suc k) zero n l e = tt
 part_rows t s (suc k) (suc m) n l e =
     elim (cases_lt n (count (nodes t))) [
       | inl h ↦ subst (λ xs. AreRowsIn t s n (take (suc k) (take (suc m) xs))) (sym (row_here t n h))
-        (record { from = l; to = omega (arith, e); is_there = h; place = refl; row = refl }, part_rows t s k m (suc n) (omega (arith, l)) (omega (arith, e)))
+          (record { from = l; to = omega (arith, e); is_there = h; place = refl; row = refl }, part_rows t s k m (suc n) (omega (arith, l)) (omega (arith, e)))
       | inr h ↦ (
-        let z : length (placed_rows t) ≤ n = (let l : length (placed_rows t) ≡ count (nodes t) = length-enumerate_from 0 (rows t) ∙ length-rows t in omega arith) in
-        subst (λ xs. AreRowsIn t s n (take (suc k) (take (suc m) xs))) (sym (drop_all n (placed_rows t) z)) tt)
+          let z : length (placed_rows t) ≤ n = (let l : length (placed_rows t) ≡ count (nodes t) = length-enumerate_from 0 (rows t) ∙ length-rows t in omega arith) in
+          subst (λ xs. AreRowsIn t s n (take (suc k) (take (suc m) xs))) (sym (drop_all n (placed_rows t) z)) tt)
     ]
 
 between_is : (t : Tree) (n high : ℕ) → rows_between t n high ≡ take (high + 1 - n) (drop n (placed_rows t))

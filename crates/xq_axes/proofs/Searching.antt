@@ -54,12 +54,12 @@ module _ (d : Downward) (test : Test) (t : Tree) (vs : List ℕ) (n v met marks 
   gap_unhit p a b = and_left (is_hit (axis_of d) t vs p) (row_passes test (row_at (rows t) p)) (unhit d t vs p (λ i l h. elim h [
     | inl e ↦ (let c = next.none_before i l (omega (arith, a, e)) in absurd (omega (arith, b, c, e)))
     | inr k ↦ (
-      let x = k.0 in
-      let y = k.1 in
-      elim (cases_lt (get_or vs i 0) n) [
-        | inl m ↦ (let c = before.closed i l m in absurd (omega (arith, y, c)))
-        | inr m ↦ (let c = next.none_before i l m in absurd (omega (arith, x, c)))
-      ])
+        let x = k.0 in
+        let y = k.1 in
+        elim (cases_lt (get_or vs i 0) n) [
+          | inl m ↦ (let c = before.closed i l m in absurd (omega (arith, y, c)))
+          | inr m ↦ (let c = next.none_before i l m in absurd (omega (arith, x, c)))
+        ])
   ]))
 
   pub found_before : found ≡ below_where (is_wanted (axis_of d) test t vs) v
@@ -99,15 +99,15 @@ module _ (d : Downward) (test : Test) (t : Tree) (vs : List ℕ) (n v met marks 
         elim (cases_lt u n) [
           | inl k ↦ (let c = before.closed i l k in omega (arith, c, after))
           | inr k ↦ (
-            let c = next.none_before i l k in
-            elim (cases_eq v u) [
-              | inl same ↦ subst (λ x. end_of t x < v + 1 + size) same (omega (arith, s))
-              | inr other ↦ (
-                let w = (node_of t v sized.is_there).ends in
-                let inner : IsInside (rows t) v u = (omega (arith, c, other), omega (arith, h, s)) in
-                let x = inside_ends t v u (omega (arith, h, s, w)) inner in
-                omega (arith, x, s))
-            ])
+              let c = next.none_before i l k in
+              elim (cases_eq v u) [
+                | inl same ↦ subst (λ x. end_of t x < v + 1 + size) same (omega (arith, s))
+                | inr other ↦ (
+                    let w = (node_of t v sized.is_there).ends in
+                    let inner : IsInside (rows t) v u = (omega (arith, c, other), omega (arith, h, s)) in
+                    let x = inside_ends t v u (omega (arith, h, s, w)) inner in
+                    omega (arith, x, s))
+              ])
         ]);
     within = (let w = (node_of t v sized.is_there).ends in let s = sized.size in omega (arith, w, s));
     levels = j.are_marked.levels;
@@ -146,12 +146,12 @@ searched_all d test t vs n met marks found s b =
     s.is_found
     ∙ sym (below_where-none (is_wanted (axis_of d) test t vs) n (count (nodes t)) s.within
     (λ p a l. and_left (is_hit (axis_of d) t vs p) (row_passes test (row_at (rows t) p)) (unhit d t vs p (λ i h k. (
-        let x = b i h in
-        let y = s.closed i h x in
-        elim k [
-          | inl e ↦ absurd (omega (arith, x, a, e))
-          | inr m ↦ (let z = m.1 in absurd (omega (arith, y, a, z)))
-        ])))))
+    let x = b i h in
+    let y = s.closed i h x in
+    elim k [
+      | inl e ↦ absurd (omega (arith, x, a, e))
+      | inr m ↦ (let z = m.1 in absurd (omega (arith, y, a, z)))
+    ])))))
 
 -- the same search under equal names
 pub move_searched : (d e : Downward) (test other : Test) (t u : Tree) (vs ws : List ℕ) (n met marks : ℕ) (found : List ℕ) → d ≡ e → test ≡ other → t ≡ u → vs ≡ ws → IsSearched d test t vs n met marks found → IsSearched e other u ws n met marks found

@@ -114,11 +114,11 @@ parent_above t v w hv e =
     let q = p.is in
     let not_after : u ≤ w = elim (cases_lt w u) [
       | inl k ↦ absurd (
-        let n = l.none_after u (omega (arith, k, same)) (let a = q.inside.0 in let r = length-rows t in omega (arith, a, r, hv)) in
-        let y : encloses v (u, row_at (rows t) u) ≡ true = and_from _ _ (le-leb (suc u) v q.inside.0) (le-leb v (u + (row_at (rows t) u).size) q.inside.1) in
-        let z : 0 + u ≡ u = omega arith in
-        let x : encloses v (u, row_at (rows t) u) ≡ false = subst (λ m. encloses v (m, row_at (rows t) u) ≡ false) z n in
-        let f : true ≡ false = sym y ∙ x in cc)
+          let n = l.none_after u (omega (arith, k, same)) (let a = q.inside.0 in let r = length-rows t in omega (arith, a, r, hv)) in
+          let y : encloses v (u, row_at (rows t) u) ≡ true = and_from _ _ (le-leb (suc u) v q.inside.0) (le-leb v (u + (row_at (rows t) u).size) q.inside.1) in
+          let z : 0 + u ≡ u = omega arith in
+          let x : encloses v (u, row_at (rows t) u) ≡ false = subst (λ m. encloses v (m, row_at (rows t) u) ≡ false) z n in
+          let f : true ≡ false = sym y ∙ x in cc)
       | inr k ↦ k
     ] in
     let one : u ≡ w = elim (cases_lt u w) [
@@ -172,15 +172,15 @@ beside_hit true t s v level n b low high hn =
     let d = b.side in
     same_tests _ _
     (λ e. (
-        let w = and_parts _ _ e in
-        let l = eqb-true (level_of t n) level w.0 in
-        let k = b.is_level in
-        let plain = (plain_kind_is (kind_of_row (rows t) n)).0 w.1 in
-        let inside : IsInside (rows t) b.parent n = (omega (arith, f, low), omega (arith, o, high)) in
-        (in_region_is axis.FollowingSibling (rows t) v n).1 ((b.parent, q.inside, inside, q.level, l ∙ k), omega (arith, d, low), b.plain, plain)))
+    let w = and_parts _ _ e in
+    let l = eqb-true (level_of t n) level w.0 in
+    let k = b.is_level in
+    let plain = (plain_kind_is (kind_of_row (rows t) n)).0 w.1 in
+    let inside : IsInside (rows t) b.parent n = (omega (arith, f, low), omega (arith, o, high)) in
+    (in_region_is axis.FollowingSibling (rows t) v n).1 ((b.parent, q.inside, inside, q.level, l ∙ k), omega (arith, d, low), b.plain, plain)))
     (λ e. (
-        let r = (in_region_is axis.FollowingSibling (rows t) v n).0 e in
-        and_from _ _ (eq-eqb (level_of t n) level (r.0.4 ∙ sym b.is_level)) ((plain_kind_is (kind_of_row (rows t) n)).1 r.3)))
+    let r = (in_region_is axis.FollowingSibling (rows t) v n).0 e in
+    and_from _ _ (eq-eqb (level_of t n) level (r.0.4 ∙ sym b.is_level)) ((plain_kind_is (kind_of_row (rows t) n)).1 r.3)))
     ∙ sym (one_hit axis.FollowingSibling t v n)
 beside_hit false t s v level n b low high hn =
     let q = b.is_parent in
@@ -188,20 +188,20 @@ beside_hit false t s v level n b low high hn =
     let d = b.side in
     same_tests _ _
     (λ e. (
-        let w = and_parts _ _ e in
-        let l = eqb-true (level_of t n) level w.0 in
-        let k = b.is_level in
-        let plain = (plain_kind_is (kind_of_row (rows t) n)).0 w.1 in
-        let inner = q.inside in
-        let inside : IsInside (rows t) b.parent n = (omega (arith, f, low), (let x = inner.1 in omega (arith, x, d, high))) in
-        let ends : end_of t n < v = elim (cases_lt (end_of t n) v) [
-          | inl x ↦ x
-          | inr x ↦ absurd (let y = inside_deeper t n v hn b.is_there (omega (arith, d, high), x) in omega (arith, y, l, k))
-        ] in
-        (in_region_is axis.PrecedingSibling (rows t) v n).1 ((b.parent, q.inside, inside, q.level, l ∙ k), ends, b.plain, plain)))
+    let w = and_parts _ _ e in
+    let l = eqb-true (level_of t n) level w.0 in
+    let k = b.is_level in
+    let plain = (plain_kind_is (kind_of_row (rows t) n)).0 w.1 in
+    let inner = q.inside in
+    let inside : IsInside (rows t) b.parent n = (omega (arith, f, low), (let x = inner.1 in omega (arith, x, d, high))) in
+    let ends : end_of t n < v = elim (cases_lt (end_of t n) v) [
+      | inl x ↦ x
+      | inr x ↦ absurd (let y = inside_deeper t n v hn b.is_there (omega (arith, d, high), x) in omega (arith, y, l, k))
+    ] in
+    (in_region_is axis.PrecedingSibling (rows t) v n).1 ((b.parent, q.inside, inside, q.level, l ∙ k), ends, b.plain, plain)))
     (λ e. (
-        let r = (in_region_is axis.PrecedingSibling (rows t) v n).0 e in
-        and_from _ _ (eq-eqb (level_of t n) level (r.0.4 ∙ sym b.is_level)) ((plain_kind_is (kind_of_row (rows t) n)).1 r.3)))
+    let r = (in_region_is axis.PrecedingSibling (rows t) v n).0 e in
+    and_from _ _ (eq-eqb (level_of t n) level (r.0.4 ∙ sym b.is_level)) ((plain_kind_is (kind_of_row (rows t) n)).1 r.3)))
     ∙ sym (one_hit axis.PrecedingSibling t v n)
 
 -- no sibling is on the other side, or beyond the parent's rows

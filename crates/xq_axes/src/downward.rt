@@ -76,7 +76,10 @@ impl Judge for Below<'_> {
         let is_child = self.is_below_mark(level);
         let is_context = self.contexts.meets(row.pre);
         self.marks[level] = is_context;
-        Ok(self.direction.is_chosen(is_child, is_context, is_plain(row.kind)))
+        Ok(
+            self.direction
+                .is_chosen(is_child, is_context, is_plain(row.kind)),
+        )
     }
 }
 

@@ -1,8 +1,8 @@
 //! Steps along the axes, string values and copies of nodes, read from a lender of rows.
 #![tactic(auto)]
 
-mod copies;
 mod contexts;
+mod copies;
 mod downward;
 mod kin;
 mod passing;

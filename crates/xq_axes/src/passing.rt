@@ -199,7 +199,15 @@ pub fn search_before<L: RowLender>(
             if last == 0 {
                 return Ok(Vec::new(alloc));
             }
-            search_rows(alloc, source, tree, 0, last - 1, Preceding { places, last }, test)
+            search_rows(
+                alloc,
+                source,
+                tree,
+                0,
+                last - 1,
+                Preceding { places, last },
+                test,
+            )
         }
     }
 }
@@ -225,7 +233,15 @@ pub fn search_above<L: RowLender>(
         None => Ok(Vec::new(alloc)),
         Some(last) => {
             let contexts = Contexts::new(places);
-            search_rows(alloc, source, tree, 0, last, Above { contexts, or_self }, test)
+            search_rows(
+                alloc,
+                source,
+                tree,
+                0,
+                last,
+                Above { contexts, or_self },
+                test,
+            )
         }
     }
 }
@@ -275,5 +291,13 @@ pub fn search_after<L: RowLender>(
         return Err(Want::Store);
     }
     let low = least as u32 + 1;
-    search_rows(alloc, source, tree, low, u32::MAX, Following { places, least }, test)
+    search_rows(
+        alloc,
+        source,
+        tree,
+        low,
+        u32::MAX,
+        Following { places, least },
+        test,
+    )
 }

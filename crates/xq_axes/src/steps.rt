@@ -38,7 +38,14 @@ fn search<L: RowLender>(
         Axis::Child => search_below(alloc, source, tree, Downward::Child, &places, test),
         Axis::Descendant => search_below(alloc, source, tree, Downward::Descendant, &places, test),
         Axis::DescendantOrSelf => {
-            search_below(alloc, source, tree, Downward::DescendantOrSelf, &places, test)
+            search_below(
+                alloc,
+                source,
+                tree,
+                Downward::DescendantOrSelf,
+                &places,
+                test,
+            )
         }
         Axis::SelfNode => search_selves(alloc, source, tree, &places, test),
         Axis::Attributes => search_below(alloc, source, tree, Downward::Attribute, &places, test),

@@ -65,11 +65,7 @@ fn texts_below<L: RowLender>(
 ///
 /// `Want::Store` where the source has no such node, or refuses to read it; `Want::Memory` where a
 /// growth was refused.
-pub fn string_value<L: RowLender>(
-    alloc: Global,
-    source: &mut L,
-    node: Node,
-) -> Result<String, Want>
+pub fn string_value<L: RowLender>(alloc: Global, source: &mut L, node: Node) -> Result<String, Want>
     ensures exists { L.is_clean source.new
         → OnOk result (HasNode (L.forest source.old) node.tree node.pre) }
     ensures value { L.is_clean source.new → IfOk result (λ text. string_bytes text

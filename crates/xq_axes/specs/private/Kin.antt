@@ -37,6 +37,5 @@ pub record IsBeside (after : Bool) (t : Tree) (s : Span) (v level : ℕ) : Type 
   pub to : s.high ≤ end_of t parent
   pub side : IsSide after t s v
 
-
 abbrev pub plain_kind : Kind → Bool
 plain_kind kind = not (is_attribute kind)

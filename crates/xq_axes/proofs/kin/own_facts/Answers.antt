@@ -14,9 +14,12 @@ returns-clause-own g c = λ k. (
     let read = one_row c.lent.result.now x (v, row_at (rows t) v) (c.lent.ensures ∙ c.in_ok-fetch_row.ensures.found k) c.row-item.is in
     let pre = ap (λ (p : ℕ × Row). p.0) read in
     let size = ap (λ (p : ℕ × Row). p.1.size) read in
-    let e = c.end_of_row.ensures.end in
-    (record {
-      is_tree = c.in_ok-fetch_row.ensures.is_tree k;
-      is = omega (arith, e, pre, size);
-      within = (let w = (node_of t v there).ends in omega (arith, e, pre, size, w));
-    }, ap (λ (p : ℕ × Row). p.1.level) read, c.is_plain.ensures ∙ ap (λ (p : ℕ × Row). not (is_attribute p.1.label.kind)) read))
+    let e = c.end_of_row.ensures.end in (
+      record {
+        is_tree = c.in_ok-fetch_row.ensures.is_tree k;
+        is = omega (arith, e, pre, size);
+        within = (let w = (node_of t v there).ends in omega (arith, e, pre, size, w));
+      },
+      ap (λ (p : ℕ × Row). p.1.level) read,
+      c.is_plain.ensures ∙ ap (λ (p : ℕ × Row). not (is_attribute p.1.label.kind)) read,
+    ))

@@ -99,4 +99,3 @@ returns-in_ok-last-in-Some-clause-found g c = λ k there. (
     subst (λ b. IfOk c.search_rows-in-Some.result (λ (found : Vec ℕ Global). found.items ≡ below_where (is_wanted (axis_beside b) test t (v ∷ [])) (count (nodes t)))) (sym c.if-not-is_after.false)
     (OnOk-if c.search_rows-in-Some.result (λ (found : Vec ℕ Global). found.items ≡ below_where (is_wanted (axis_beside j.is_after) test x j.places.now) (span_end x (span low high))) (λ (found : Vec ℕ Global). found.items ≡ below_where (is_wanted (axis_beside true) test t (v ∷ [])) (count (nodes t)))
     (λ found e. e ∙ same (span_end x (span low high)) ∙ ap (λ w. below_where (is_wanted (axis_beside true) test t (v ∷ [])) (span_end w (span low high))) same_tree ∙ s.rest) found))
-

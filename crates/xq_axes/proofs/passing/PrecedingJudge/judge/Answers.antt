@@ -10,6 +10,8 @@ pub returns : goal.returns
 returns c = λ start t s n r h. (
     let x = c.args.row.now in
     let last : c.end_of_row.result ≡ end_of t n = c.end_of_row.ensures.end ∙ ap (λ m. m + x.size) r.place ∙ ap (λ (y : Row). n + y.size) r.row in
-    let plain : c.is_plain.result ≡ plain_row (rows t) n = c.is_plain.ensures ∙ ap (λ (y : Row). not (is_attribute y.label.kind)) r.row in
-    (c.is_before.ensures ∙ ap (λ e. nat_lt e c.args.self.now.last && c.is_plain.result) last ∙ ap (λ l. nat_lt (end_of t n) l && c.is_plain.result) h.0 ∙ ap (λ p. nat_lt (end_of t n) start.last && p) plain
-    ∙ preceding_hit t start.places.now start.last n h.1, h))
+    let plain : c.is_plain.result ≡ plain_row (rows t) n = c.is_plain.ensures ∙ ap (λ (y : Row). not (is_attribute y.label.kind)) r.row in (
+      c.is_before.ensures ∙ ap (λ e. nat_lt e c.args.self.now.last && c.is_plain.result) last ∙ ap (λ l. nat_lt (end_of t n) l && c.is_plain.result) h.0 ∙ ap (λ p. nat_lt (end_of t n) start.last && p) plain
+          ∙ preceding_hit t start.places.now start.last n h.1,
+      h,
+    ))

@@ -20,8 +20,8 @@ returns g c = λ start t s n r h. (
     OnOk-then c.pick.result (new.found.items ≡ old.found.items ++ cond b (x.pre ∷ []) [])
     (g.J.Judge.has_judged start.judge new.judge t s (n + 1) × (new.test.now ≡ start.test.now) × (new.found.items ≡ below_where (is_wanted axis start.test.now t vs) (n + 1)))
     (λ e. (
-        subst (λ k. g.J.Judge.has_judged start.judge k t s (n + 1)) (sym c.pick.ensures.judge) j.1,
-        c.pick.ensures.test ∙ h.1,
-        e ∙ ap (λ p. old.found.items ++ cond b (p ∷ []) []) r.place ∙ picked (is_wanted axis start.test.now t vs) n old.found.items b h.2 w,
+      subst (λ k. g.J.Judge.has_judged start.judge k t s (n + 1)) (sym c.pick.ensures.judge) j.1,
+      c.pick.ensures.test ∙ h.1,
+      e ∙ ap (λ p. old.found.items ++ cond b (p ∷ []) []) r.place ∙ picked (is_wanted axis start.test.now t vs) n old.found.items b h.2 w,
     ))
     c.pick.ensures.found)
