@@ -1,0 +1,15 @@
+pub mod Runs
+pub mod Below
+pub mod Texts
+pub mod RunBounds
+pub mod Sizes
+pub mod Copying
+pub mod Trees
+pub mod Lists
+pub mod Picking
+pub mod Clusters
+pub mod Searching
+pub mod Ranges
+pub mod OwnNodes
+pub mod Siblings
+pub mod OnPaths

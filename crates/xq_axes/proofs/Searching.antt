@@ -1,0 +1,162 @@
+-- From one context that stands in no other to the next.
+use Rattle.std.proofs.Common.{◌≡◌, ◌≢◌, ℕ, zero, suc, ◌+◌, ◌-◌, ◌<◌, ◌≤◌, List, [], ◌∷◌, length, get_or, set, min, Bool, true, false, not, ◌&&◌, ◌||◌, nat_eq, ◌⊎◌, inl, inr, refl, sym, ◌∙◌, ap, subst, arith, get_or-set_same}
+use Rattle.std.specs.List.{list_any}
+use Rattle.std.proofs.lemmas.List.{length-set, get_or_default}
+use Rattle.std.proofs.lemmas.Bool.{cases_lt, cases_eq, cases_order, eqb-true, and_parts, and_left, or_cases, or_left}
+use Rattle.xq_regions.specs.Forest.{count}
+use Rattle.xq_regions.specs.Tree.{Tree, nodes}
+use Rattle.xq_regions.specs.Rows.{Row, rows, row_at}
+use Rattle.xq_regions.specs.Regions.{IsInside}
+use Rattle.xq_regions.specs.RegionTests.{inside, plain_row, in_region}
+use Rattle.xq_values.specs.declared.node_tests.Test.{Test}
+use Rattle.xq_axes.specs.private.Reads.{Span, span, span_end, IsSized}
+use Rattle.xq_axes.specs.private.Hits.{is_among, is_hit, is_wanted, row_passes, below_where, IsRising, IsReached}
+use Rattle.xq_axes.specs.private.Downward.{axis_of, is_chosen, is_own, level_of, end_of, IsCluster, AreMarked, IsJudged, IsSearched, IsNext}
+use Rattle.xq_axes.specs.declared.downward.Downward.{Downward}
+use Rattle.xq_axes.specs.declared.downward.Downward.TheVariants.{Child, Attribute, Descendant, DescendantOrSelf}
+use Rattle.xq_axes.proofs.Lists.{any_none, any_or, among_at, below_where-none, reached_none, reached_over}
+use Rattle.xq_axes.proofs.Sizes.{node_of}
+use Rattle.xq_axes.proofs.Trees.{inside_ends}
+use Rattle.xq_axes.proofs.Clusters.{true_inside}
+
+-- what is on a downward axis is the node itself or below it
+hit_inside : (d : Downward) (rs : List Row) (u p : ℕ) → in_region (axis_of d) rs u p ≡ true → (u ≡ p) ⊎ IsInside rs u p
+hit_inside Child rs u p e = inr (true_inside rs u p (and_parts _ _ e).0)
+hit_inside Attribute rs u p e = inr (true_inside rs u p (and_parts _ _ e).0)
+hit_inside Descendant rs u p e = inr (true_inside rs u p (and_parts _ _ e).0)
+hit_inside DescendantOrSelf rs u p e = elim (or_cases _ _ e) [
+  | inl h ↦ inl (eqb-true u p h)
+  | inr h ↦ inr (true_inside rs u p (and_parts _ _ h).0)
+]
+
+-- no row is hit where none of the contexts is or holds it
+unhit : (d : Downward) (t : Tree) (vs : List ℕ) (p : ℕ) → ((i : ℕ) → i < length vs → (get_or vs i 0 ≡ p) ⊎ IsInside (rows t) (get_or vs i 0) p → ⊥) → is_hit (axis_of d) t vs p ≡ false
+unhit d t vs p h = any_none (λ u. in_region (axis_of d) (rows t) u p) vs 0 (λ i l e. h i l (hit_inside d (rows t) (get_or vs i 0) p e))
+
+own_hit : (d : Downward) (t : Tree) (vs : List ℕ) (v : ℕ) → is_among vs v ≡ true → ((i : ℕ) → i < length vs → IsInside (rows t) (get_or vs i 0) v → ⊥) → is_own d ≡ is_hit (axis_of d) t vs v
+own_hit Child t vs v m top = sym (any_none (λ u. in_region (axis_of Child) (rows t) u v) vs 0 (λ i l e. top i l (true_inside (rows t) (get_or vs i 0) v (and_parts _ _ e).0)))
+own_hit Attribute t vs v m top = sym (any_none (λ u. in_region (axis_of Attribute) (rows t) u v) vs 0 (λ i l e. top i l (true_inside (rows t) (get_or vs i 0) v (and_parts _ _ e).0)))
+own_hit Descendant t vs v m top = sym (any_none (λ u. in_region (axis_of Descendant) (rows t) u v) vs 0 (λ i l e. top i l (true_inside (rows t) (get_or vs i 0) v (and_parts _ _ e).0)))
+own_hit DescendantOrSelf t vs v m top =
+    sym (any_or (λ u. nat_eq u v) (λ u. inside (rows t) u v && plain_row (rows t) v) vs ∙ or_left (is_among vs v) (list_any (λ u. inside (rows t) u v && plain_row (rows t) v) vs) m)
+
+module _ (d : Downward) (test : Test) (t : Tree) (vs : List ℕ) (n v met marks : ℕ) (found : List ℕ) (before : IsSearched d test t vs n met marks found) (after : n ≤ v) (next : IsNext vs n v) where
+  pub stands_in_none : (i : ℕ) → i < length vs → IsInside (rows t) (get_or vs i 0) v → ⊥
+  stands_in_none i l h =
+      let a = h.0 in
+      let b = h.1 in
+      elim (cases_lt (get_or vs i 0) n) [
+        | inl k ↦ (let c = before.closed i l k in absurd (omega (arith, b, c)))
+        | inr k ↦ (let c = next.none_before i l k in absurd (omega (arith, a, c)))
+      ]
+
+  gap_unhit : (p : ℕ) → n ≤ p → p < v → is_wanted (axis_of d) test t vs p ≡ false
+  gap_unhit p a b = and_left (is_hit (axis_of d) t vs p) (row_passes test (row_at (rows t) p)) (unhit d t vs p (λ i l h. elim h [
+    | inl e ↦ (let c = next.none_before i l (omega (arith, a, e)) in absurd (omega (arith, b, c, e)))
+    | inr k ↦ (
+        let x = k.0 in
+        let y = k.1 in
+        elim (cases_lt (get_or vs i 0) n) [
+          | inl m ↦ (let c = before.closed i l m in absurd (omega (arith, y, c)))
+          | inr m ↦ (let c = next.none_before i l m in absurd (omega (arith, x, c)))
+        ])
+  ]))
+
+  pub found_before : found ≡ below_where (is_wanted (axis_of d) test t vs) v
+  found_before = before.is_found ∙ sym (below_where-none (is_wanted (axis_of d) test t vs) n v after gap_unhit)
+
+  pub reached_before : IsReached vs met v
+  reached_before = reached_over vs met n v before.reached after (λ h. next.none_before met h (before.reached.others met (omega arith) h)) before.rising
+
+  pub own_is_hit : is_own d ≡ is_hit (axis_of d) t vs v
+  own_is_hit = own_hit d t vs v next.is_context stands_in_none
+
+  pub entered : (new_met level size : ℕ) (old_marks : List Bool) → length old_marks ≡ marks → IsSized t v size → level ≡ level_of t v → level < 101 → IsReached vs new_met (v + 1) → IsJudged t vs (span (v + 1) (v + size)) (v + 1) new_met (set old_marks level true)
+  entered new_met level size old_marks k sized e l r = record {
+    rising = before.rising;
+    reached = r;
+    top = v;
+    cluster = record { low = omega arith; high = ap (λ x. v + x) sized.size; is_there = sized.is_there; is_top = stands_in_none };
+    is_context = next.is_context;
+    from = omega arith;
+    are_marked = record {
+      levels = length-set old_marks level true ∙ k ∙ before.levels;
+      marked = λ w a b apart. (
+          let same : w ≡ v = omega (arith, a, b) in
+          let m : level < length old_marks = (let x = before.levels in omega arith) in
+          subst (λ x. get_or (set old_marks level true) (level_of t x) false ≡ is_among vs x) (sym same)
+          (ap (λ x. get_or (set old_marks level true) x false) (sym e) ∙ get_or-set_same old_marks level true false m ∙ sym next.is_context));
+    };
+  }
+
+  pub searched : (size last_met : ℕ) (last_marks : List Bool) (last_found : List ℕ) → IsSized t v size → IsJudged t vs (span (v + 1) (v + size)) (v + 1 + size) last_met last_marks → last_found ≡ below_where (is_wanted (axis_of d) test t vs) (v + 1 + size) → IsSearched d test t vs (v + 1 + size) last_met (length last_marks) last_found
+  searched size last_met last_marks last_found sized j e = record {
+    rising = before.rising;
+    reached = j.reached;
+    closed = λ i l h. (
+        let u = get_or vs i 0 in
+        let s = sized.size in
+        elim (cases_lt u n) [
+          | inl k ↦ (let c = before.closed i l k in omega (arith, c, after))
+          | inr k ↦ (
+              let c = next.none_before i l k in
+              elim (cases_eq v u) [
+                | inl same ↦ subst (λ x. end_of t x < v + 1 + size) same (omega (arith, s))
+                | inr other ↦ (
+                    let w = (node_of t v sized.is_there).ends in
+                    let inner : IsInside (rows t) v u = (omega (arith, c, other), omega (arith, h, s)) in
+                    let x = inside_ends t v u (omega (arith, h, s, w)) inner in
+                    omega (arith, x, s))
+              ])
+        ]);
+    within = (let w = (node_of t v sized.is_there).ends in let s = sized.size in omega (arith, w, s));
+    levels = j.are_marked.levels;
+    is_found = e;
+  }
+
+-- nothing is searched yet
+pub searched_none : (d : Downward) (test : Test) (t : Tree) (vs : List ℕ) (marks : ℕ) → IsRising vs → marks ≡ 101 → IsSearched d test t vs 0 0 marks []
+searched_none d test t vs marks up e = record {
+  rising = up;
+  reached = reached_none vs;
+  closed = λ i l h. absurd (omega (arith, h));
+  within = omega arith;
+  levels = e;
+  is_found = refl;
+}
+
+-- the place that comes next
+pub next_place : (vs : List ℕ) (i n place : ℕ) → IsRising vs → i < length vs → place ≡ get_or vs i place → ((j : ℕ) → j < i → get_or vs j 0 < n) → IsNext vs n place
+next_place vs i n place up h e b =
+    let same : get_or vs i 0 ≡ place = get_or_default vs i 0 place h ∙ sym e in
+    record {
+      is_context = among_at vs i place h same;
+      none_before = λ j l k. elim (cases_lt j i) [
+        | inl m ↦ (let x = b j m in absurd (omega (arith, x, k)))
+        | inr m ↦ elim (cases_lt i j) [
+          | inl o ↦ (let x = up i j o l in omega (arith, x, same))
+          | inr o ↦ (let ij : i ≡ j = omega arith in let z = sym (ap (λ y. get_or vs y 0) ij) ∙ same in omega (arith, z))
+        ]
+      ];
+    }
+
+-- all contexts were searched
+pub searched_all : (d : Downward) (test : Test) (t : Tree) (vs : List ℕ) (n met marks : ℕ) (found : List ℕ) → IsSearched d test t vs n met marks found → ((j : ℕ) → j < length vs → get_or vs j 0 < n) → found ≡ below_where (is_wanted (axis_of d) test t vs) (count (nodes t))
+searched_all d test t vs n met marks found s b =
+    s.is_found
+    ∙ sym (below_where-none (is_wanted (axis_of d) test t vs) n (count (nodes t)) s.within
+    (λ p a l. and_left (is_hit (axis_of d) t vs p) (row_passes test (row_at (rows t) p)) (unhit d t vs p (λ i h k. (
+    let x = b i h in
+    let y = s.closed i h x in
+    elim k [
+      | inl e ↦ absurd (omega (arith, x, a, e))
+      | inr m ↦ (let z = m.1 in absurd (omega (arith, y, a, z)))
+    ])))))
+
+-- the same search under equal names
+pub move_searched : (d e : Downward) (test other : Test) (t u : Tree) (vs ws : List ℕ) (n met marks : ℕ) (found : List ℕ) → d ≡ e → test ≡ other → t ≡ u → vs ≡ ws → IsSearched d test t vs n met marks found → IsSearched e other u ws n met marks found
+move_searched d e test other t u vs ws n met marks found a b c f s =
+    subst (λ x. IsSearched x other u ws n met marks found) a
+    (subst (λ x. IsSearched d x u ws n met marks found) b
+    (subst (λ x. IsSearched d test x ws n met marks found) c
+    (subst (λ x. IsSearched d test t x n met marks found) f s)))

@@ -1,0 +1,23 @@
+use Rattle.std.proofs.Common.{ℕ, sym, ap, subst, ◌∙◌}
+use Rattle.xq_regions.specs.Rows.{Row, rows, row_at}
+use Rattle.xq_sources.specs.Sources.{tree_at}
+use Rattle.xq_axes.specs.private.Reads.{span, span_end, AreCopied}
+use Rattle.xq_axes.proofs.Sizes.{one_row, size_read}
+use Rattle.xq_axes.proofs.Copying.{copied_none, copied_tree}
+use Rattle.xq_axes.proofs.copies.copy.Goals as goal
+
+pub returns-in-Ok-clause-copied : goal.returns-in-Ok-clause-copied
+returns-in-Ok-clause-copied g c = λ k. (
+    let trees = g.L.TreeSource.forest c.args.source.now in
+    let node = c.args.node in
+    let t = tree_at trees node.tree in
+    let was = c.in_ok-walk.ensures.was_clean k in
+    let there = c.in_ok-fetch_row.ensures.exists was in
+    let x = c.row-item.result in
+    let read = one_row c.lent.result.now x (node.pre, row_at (rows t) node.pre) (c.lent.ensures ∙ c.in_ok-fetch_row.ensures.found was) c.row-item.is in
+    let sized = size_read trees node x there read (c.in_ok-fetch_row.ensures.is_tree was) in
+    let high = c.saturating_add-high.result in
+    let start = subst (AreCopied t (span node.pre high) node.pre node.pre x.level) (sym c.in_ok-with_capacity.ensures.items)
+    (copied_none t (span node.pre high) x.level (ap (λ (p : ℕ × Row). p.1.level) read)) in
+    let w = subst (λ f. AreCopied (tree_at f node.tree) (span node.pre high) node.pre node.pre x.level c.in_ok-with_capacity.field-0.items → AreCopied (tree_at f node.tree) (span node.pre high) (span_end (tree_at f node.tree) (span node.pre high)) c.walk.new.visitor.place c.walk.new.visitor.level c.walk.new.visitor.rows.items) c.in_ok-fetch_row.ensures.keeps (c.in_ok-walk.ensures.read k c.walk.new.visitor) start in
+    copied_tree t c.in-Ok.copy node.pre x.size _ _ high _ sized c.saturating_add-high.ensures w c.in-Ok.ensures.ok)

@@ -1,0 +1,45 @@
+use Rattle.std.proofs.Common.{◌≡◌, ℕ, ◌<◌, get_or, length, sym, ap, subst, ◌∙◌, inl, inr, arith}
+use Rattle.std.proofs.lemmas.Bool.{cases_lt}
+use Rattle.std.proofs.lemmas.List.{get_or_default}
+use Rattle.xq_sources.specs.Sources.{tree_at}
+use Rattle.xq_axes.specs.private.Downward.{IsNext}
+use Rattle.xq_axes.proofs.Searching.{next_place, move_searched, searched_all}
+use Rattle.xq_axes.proofs.downward.search_below.Goals as goal
+
+pub loop-place-preserved : goal.loop-place-preserved
+loop-place-preserved g c =
+    let inv = c.loop-place.invariant in
+    let vs = c.args.places.now in
+    let i = c.loop-place.place-index in
+    let place = get_or vs i 0 in
+    let old = c.loop-place.picker in
+    let new = c.search_one.new.picker in
+    let u = tree_at (g.L.TreeSource.forest c.loop-place.source) c.args.tree in
+    let t = tree_at (g.L.TreeSource.forest c.args.source.now) c.args.tree in
+    let same = ap (λ f. tree_at f c.args.tree) inv.forest in
+    record {
+      forest = c.in_ok-next.ensures.keeps ∙ inv.forest;
+      clean = λ k. inv.clean (c.in_ok-next.ensures.was_clean k);
+      searched = λ k up. (
+          let s = inv.searched (c.in_ok-next.ensures.was_clean k) up in
+          let next = next_place vs i c.loop-place.next place up (omega arith) (get_or_default vs i 0 place (omega arith)) s.before in
+          let from = move_searched c.args.direction old.judge.direction c.args.test.now old.test.now t u vs old.judge.contexts.places.now c.loop-place.next old.judge.contexts.met (length old.judge.marks) old.found.items (sym s.direction) (sym s.test) (sym same) (sym s.places) s.found in
+          let r = c.in_ok-next.ensures.searched k c.loop-place.next (omega arith) (subst (λ ws. IsNext ws c.loop-place.next place) (sym s.places) next) from in
+          record {
+            direction = r.1 ∙ s.direction;
+            places = r.2 ∙ s.places;
+            test = r.3 ∙ s.test;
+            before = λ j h. elim (cases_lt j i) [
+              | inl l ↦ (let b = s.before j l in let a = r.0 in omega (arith, a, b))
+              | inr l ↦ (let ij : i ≡ j = omega arith in let a = r.0 in subst (λ x. get_or vs x 0 < c.in_ok-next.next) ij a)
+            ];
+            found = move_searched old.judge.direction c.args.direction old.test.now c.args.test.now u t old.judge.contexts.places.now vs c.in_ok-next.next new.judge.contexts.met (length new.judge.marks) new.found.items s.direction s.test same s.places r.4;
+          });
+    }
+
+pub returns-clause-found : goal.returns-clause-found
+returns-clause-found g c = λ k up. (
+    let s = c.loop-place.invariant.searched k up in
+    let p = c.loop-place.picker in
+    let t = tree_at (g.L.TreeSource.forest c.args.source.now) c.args.tree in
+    searched_all c.args.direction c.args.test.now t c.args.places.now c.loop-place.next p.judge.contexts.met (length p.judge.marks) p.found.items s.found (λ j h. s.before j (omega arith)))

@@ -1,0 +1,35 @@
+use Rattle.std.proofs.Common.{◌≡◌, ℕ, ◌+◌, ◌-◌, Vec, Global, length, refl, ◌<◌, sym, ap, subst, eqb-true, ◌∙◌, arith}
+use Rattle.std.proofs.lemmas.Bool.{eqb-false}
+use Rattle.xq_regions.specs.Forest.{count}
+use Rattle.xq_regions.specs.Tree.{nodes}
+use Rattle.xq_regions.specs.declared.Axis.TheVariants as axis
+use Rattle.xq_sources.specs.Sources.{tree_at}
+use Rattle.xq_axes.specs.private.Reads.{span, span_end}
+use Rattle.xq_axes.specs.private.Hits.{is_wanted, below_where}
+use Rattle.xq_axes.specs.private.Passing.{IsLeastEnd}
+use Rattle.xq_axes.proofs.Sizes.{OnOk-if}
+use Rattle.xq_axes.proofs.Ranges.{empty_step, following_start, following_all}
+use Rattle.xq_axes.proofs.passing.search_after.Goals as goal
+
+pub returns-then-is_empty-clause-found : goal.returns-then-is_empty-clause-found
+returns-then-is_empty-clause-found g c = λ k. (
+    let vs = c.args.places.now in
+    let t = tree_at (g.L.TreeSource.forest c.args.source.now) c.args.tree in
+    c.new.ensures.items ∙ empty_step axis.Following c.args.test.now t vs (count (nodes t)) (eqb-true (length vs) 0 (sym c.is_empty.ensures ∙ c.if-is_empty.true)))
+
+pub returns-clause-found : goal.returns-clause-found
+returns-clause-found g c = λ k. (
+    let vs = c.args.places.now in
+    let old = tree_at (g.L.TreeSource.forest c.least_end.new.source) c.args.tree in
+    let t = tree_at (g.L.TreeSource.forest c.args.source.now) c.args.tree in
+    let test = c.args.test.now in
+    let least = c.in_ok-least.least in
+    let none = eqb-false (length vs) 0 (sym c.is_empty.ensures ∙ c.if-is_empty.false) in
+    let some : 0 < length vs = omega (arith, none) in
+    let same = ap (λ f. tree_at f c.args.tree) c.in_ok-least.ensures.keeps in
+    let was = c.search_rows.ensures.was_clean k in
+    let l = c.in_ok-least.ensures.least was some in
+    let l_old = subst (λ u. IsLeastEnd u vs least) (sym same) l in
+    let w = c.search_rows.ensures.found k (omega arith, l_old) (following_start test old vs least l_old) in
+    OnOk-if c.search_rows.result (λ (found : Vec ℕ Global). found.items ≡ below_where (is_wanted axis.Following test old vs) (span_end old (span (least + 1) 4294967295))) (λ (found : Vec ℕ Global). found.items ≡ below_where (is_wanted axis.Following test t vs) (count (nodes t)))
+    (λ found e. e ∙ following_all test old vs least l_old ∙ ap (λ u. below_where (is_wanted axis.Following test u vs) (count (nodes u))) same) w)

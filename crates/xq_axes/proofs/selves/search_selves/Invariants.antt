@@ -1,0 +1,15 @@
+use Rattle.std.proofs.Common.{◌≡◌, ℕ, ◌≤◌}
+use Rattle.xq_regions.specs.Forest.{count}
+use Rattle.xq_regions.specs.Tree.{nodes}
+use Rattle.xq_sources.specs.Sources.{tree_at}
+use Rattle.xq_axes.specs.private.Hits.{IsRising}
+use Rattle.xq_axes.proofs.OwnNodes.{IsSoFar}
+use Rattle.xq_axes.proofs.selves.search_selves.Given as goal
+
+-- of the places so far those that pass were found
+abbrev pub invariant-loop-place : goal.invariant-loop-place
+invariant-loop-place g l = record {
+  forest : g.L.TreeSource.forest l.source ≡ g.L.TreeSource.forest l.initial.source;
+  clean : g.L.TreeSource.is_clean l.source → g.L.TreeSource.is_clean l.initial.source;
+  so_far : g.L.TreeSource.is_clean l.source → IsRising l.places → IsSoFar l.test (tree_at (g.L.TreeSource.forest l.initial.source) l.tree) l.places l.place-index l.found.items;
+}

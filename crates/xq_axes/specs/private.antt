@@ -1,0 +1,5 @@
+pub mod Reads
+pub mod Hits
+pub mod Downward
+pub mod Passing
+pub mod Kin

@@ -1,0 +1,74 @@
+-- Axes to what is below the context nodes, judged row by row.
+use Rattle.std.proofs.Common.{suc}
+use Rattle.std.specs.Prelude.{ℕ, ◌+◌, ◌<◌, ◌≤◌, ◌≡◌, ◌≢◌, List, length, Bool, true, false, not, ◌&&◌, ◌||◌, slice_index, slice_index_or}
+use Rattle.xq_regions.specs.Forest.{count}
+use Rattle.xq_regions.specs.Tree.{Tree, nodes}
+use Rattle.xq_regions.specs.Rows.{row_at, rows}
+use Rattle.xq_regions.specs.Regions.{IsInside}
+use Rattle.xq_regions.specs.declared.Axis.{Axis}
+use Rattle.xq_regions.specs.declared.Axis.TheVariants as axis
+use Rattle.xq_values.specs.declared.node_tests.Test.{Test}
+use Rattle.xq_axes.specs.private.Reads.{Span}
+use Rattle.xq_axes.specs.private.Hits.{is_among, is_wanted, below_where, IsRising, IsReached}
+use Rattle.xq_axes.specs.declared.downward.Downward.{Downward}
+use Rattle.xq_axes.specs.declared.downward.Downward.TheVariants.{Child, Attribute, Descendant, DescendantOrSelf}
+
+abbrev pub axis_of : Downward → Axis
+axis_of Child = axis.Child
+axis_of Attribute = axis.Attributes
+axis_of Descendant = axis.Descendant
+axis_of DescendantOrSelf = axis.DescendantOrSelf
+
+-- whether a row below a context is on the axis: by whether its parent is a context, it is one, and it is no attribute
+abbrev pub is_chosen : Downward → Bool → Bool → Bool → Bool
+is_chosen Child child context plain = child && plain
+is_chosen Attribute child context plain = child && not plain
+is_chosen Descendant child context plain = plain
+is_chosen DescendantOrSelf child context plain = context || plain
+
+-- a context that stands in no other is on its own axis
+abbrev pub is_own : Downward → Bool
+is_own DescendantOrSelf = true
+is_own direction = false
+
+abbrev pub level_of : Tree → ℕ → ℕ
+level_of t p = (row_at (rows t) p).level
+
+abbrev pub end_of : Tree → ℕ → ℕ
+end_of t p = p + (row_at (rows t) p).size
+
+-- the span is that of the rows below a context that stands in no other
+pub record IsCluster (t : Tree) (vs : List ℕ) (s : Span) (v : ℕ) : Type 0 where
+  pub low : s.low ≡ suc v
+  pub high : s.high ≡ end_of t v
+  pub is_there : v < count (nodes t)
+  pub is_top : (i : ℕ) → i < length vs → IsInside (rows t) (slice_index vs i) v → ⊥
+
+-- by level, whether the last row there is that of a context
+pub record AreMarked (t : Tree) (vs : List ℕ) (v n : ℕ) (marks : List Bool) : Type 0 where
+  pub levels : length marks ≡ 101
+  pub marked : (w : ℕ) → v ≤ w → w < n → ((q : ℕ) → w < q → q < n → level_of t q ≢ level_of t w) → slice_index_or marks (level_of t w) false ≡ is_among vs w
+
+-- the rows below a context were judged to before n
+pub record IsJudged (t : Tree) (vs : List ℕ) (s : Span) (n met : ℕ) (marks : List Bool) : Type 0 where
+  pub rising : IsRising vs
+  pub reached : IsReached vs met n
+  pub top : ℕ
+  pub cluster : IsCluster t vs s top
+  pub is_context : is_among vs top ≡ true
+  pub from : top < n
+  pub are_marked : AreMarked t vs top n marks
+
+-- all was found to before n, and no context before n holds a row from there on
+pub record IsSearched (direction : Downward) (test : Test) (t : Tree) (vs : List ℕ) (n met : ℕ) (marks : ℕ) (found : List ℕ) : Type 0 where
+  pub rising : IsRising vs
+  pub reached : IsReached vs met n
+  pub closed : (i : ℕ) → i < length vs → slice_index vs i < n → end_of t (slice_index vs i) < n
+  pub within : n ≤ count (nodes t)
+  pub levels : marks ≡ 101
+  pub is_found : found ≡ below_where (is_wanted (axis_of direction) test t vs) n
+
+-- the place is a context, and no other is between n and it
+pub record IsNext (vs : List ℕ) (n place : ℕ) : Type 0 where
+  pub is_context : is_among vs place ≡ true
+  pub none_before : (i : ℕ) → i < length vs → n ≤ slice_index vs i → place ≤ slice_index vs i

@@ -1,0 +1,46 @@
+//! The places of context nodes, met in turn.
+ghost use Rattle.std.specs.Prelude.{◌≡◌, ◌+◌, slice_get};
+ghost use Rattle.xq_axes.specs.private.Hits.{is_among, IsRising, IsReached};
+
+/// Places in document order, of which those before an index were met.
+#[derive(Clone, Copy)]
+pub struct Contexts<'a> {
+    places: &'a [u32],
+    met: usize,
+}
+
+impl<'a> Contexts<'a> {
+    /// The places, none of them met.
+    pub fn new(places: &'a [u32]) -> Contexts<'a>
+        ensures places { result.places.now ≡ places.now }
+        ensures met { result.met ≡ 0 }
+    {
+        Contexts { places, met: 0 }
+    }
+
+    /// Whether the place, which comes after all that were asked for, is one of them.
+    pub fn meets(&mut self, place: u32) -> bool
+        ensures places { self.new.places.now ≡ self.old.places.now }
+        ensures met { IsRising self.old.places.now → IsReached self.old.places.now self.old.met place
+            → (result ≡ is_among self.old.places.now place)
+            × IsReached self.old.places.now self.new.met (place + 1) }
+    {
+        match self.next() {
+            None => false,
+            Some(next) => {
+                if next != place {
+                    return false;
+                }
+                self.met += 1;
+                true
+            }
+        }
+    }
+
+    /// The next of the places that were not met yet.
+    pub fn next(&self) -> Option<u32>
+        ensures { result ≡ slice_get self.now.places.now self.now.met }
+    {
+        self.places.get(self.met).copied()
+    }
+}

@@ -1,0 +1,68 @@
+//! A copy of a node with all that is below it.
+ghost use Rattle.std.specs.Prelude.{◌≡◌, IfOk, OnOk};
+ghost use Rattle.xq_sources.specs.Sources.{HasNode};
+ghost use Rattle.xq_values.specs.Items.{tree_below};
+ghost use Rattle.xq_values.specs.Readings.{node_at};
+ghost use Rattle.xq_axes.specs.private.Reads.{AreCopied};
+
+use crate::walks::{Visitor, walk};
+use std::alloc::Global;
+use xq_atoms::Want;
+use xq_regions::{Fragment, Node, NodeRow};
+use xq_sources::RowLender;
+
+/// Copies of rows, the first of which is at the place and the level, as rows of a tree of their own.
+#[derive(Drop)]
+struct Copied {
+    alloc: Global,
+    place: u32,
+    level: u32,
+    rows: Vec<NodeRow>,
+}
+
+impl Visitor for Copied {
+    ghost has_read = { λ _ v t s n. AreCopied t s n v.place v.level v.rows.items };
+
+    fn visit(&mut self, row: &NodeRow) -> Result<(), Want> {
+        self.rows.push(NodeRow {
+            pre: row.pre.saturating_sub(self.place),
+            size: row.size,
+            level: row.level.saturating_sub(self.level),
+            kind: row.kind,
+            name: String::from_str(self.alloc, row.name.as_str())?,
+            value: String::from_str(self.alloc, row.value.as_str())?,
+        })?;
+        Ok(())
+    }
+}
+
+/// The node with all that is below it, as a tree of its own.
+///
+/// `Want::Store` where the source has no such node, or refuses to read it; `Want::Memory` where a
+/// growth was refused.
+pub fn copy<L: RowLender>(alloc: Global, source: &mut L, node: Node) -> Result<Fragment, Want>
+    ensures exists { L.is_clean source.new
+        → OnOk result (HasNode (L.forest source.old) node.tree node.pre) }
+    ensures copied { L.is_clean source.new → IfOk result (λ copied.
+        copied ≡ tree_below (L.forest source.old) (node_at (L.forest source.old) node)) }
+    ensures keeps { L.forest source.new ≡ L.forest source.old }
+    ensures was_clean { L.is_clean source.new → L.is_clean source.old }
+{
+    source.fetch_row(alloc, node.tree, node.pre)?;
+    let [row] = source.lent() else {
+        return Err(Want::Store);
+    };
+    let size = row.size;
+    let mut copied = Copied {
+        alloc,
+        place: node.pre,
+        level: row.level,
+        rows: Vec::with_capacity(alloc, size as usize + 1)?,
+    };
+    let high = node.pre.saturating_add(size);
+    walk(alloc, source, node.tree, node.pre, high, &mut copied)?;
+    match Fragment::from_rows(copied.rows) {
+        Ok(copy) => Ok(copy),
+        Err(_) => Err(Want::Store),
+    }
+}

@@ -1,0 +1,195 @@
+//! Axes to what is below the context nodes: child, attribute, descendant and descendant-or-self.
+ghost use Rattle.std.specs.Prelude.{◌≡◌, ◌+◌, ◌-◌, ◌<◌, ◌≤◌, ◌&&◌, ℕ, length, true, false, nat_lt, slice_set, slice_index_or, IfOk, OnOk};
+ghost use Rattle.xq_regions.specs.Forest.{count};
+ghost use Rattle.xq_regions.specs.Tree.{nodes};
+ghost use Rattle.xq_sources.specs.Sources.{tree_at};
+ghost use Rattle.xq_axes.specs.private.Hits.{is_wanted, below_where, IsRising, IsReached};
+ghost use Rattle.xq_axes.specs.private.Downward.{axis_of, is_chosen as is_chosen_lem, is_own as is_own_lem, IsJudged, IsSearched, IsNext};
+
+use crate::contexts::Contexts;
+use crate::picks::{Judge, Picker};
+use crate::tests::is_plain;
+use crate::walks::walk;
+use std::alloc::Global;
+use xq_atoms::Want;
+use xq_regions::NodeRow;
+use xq_sources::RowLender;
+use xq_values::Test;
+
+/// How many levels a tree may have.
+const LEVELS: usize = 101;
+
+/// An axis to what is below the context nodes.
+#[derive(Clone, Copy)]
+pub enum Downward {
+    Child,
+    Attribute,
+    Descendant,
+    DescendantOrSelf,
+}
+
+impl Downward {
+    /// Whether a row below a context is on the axis, by whether its parent is a context, whether
+    /// it is one itself, and whether it is no attribute.
+    fn is_chosen(self, is_child: bool, is_context: bool, is_plain: bool) -> bool
+        ensures { result ≡ is_chosen_lem self is_child is_context is_plain }
+    {
+        match self {
+            Downward::Child => is_child && is_plain,
+            Downward::Attribute => is_child && !is_plain,
+            Downward::Descendant => is_plain,
+            Downward::DescendantOrSelf => is_context || is_plain,
+        }
+    }
+
+    /// Whether a context that stands in no other is on the axis from itself.
+    fn is_own(self) -> bool
+        ensures { result ≡ is_own_lem self }
+    {
+        matches!(self, Downward::DescendantOrSelf)
+    }
+}
+
+/// What is known of the rows so far, one context's rows after another's.
+#[derive(Clone, Copy)]
+pub struct Below<'a> {
+    direction: Downward,
+    contexts: Contexts<'a>,
+    /// By level, whether the last row there is that of a context.
+    marks: [bool; LEVELS],
+}
+
+impl Judge for Below<'_> {
+    ghost axis = { λ b. axis_of b.direction };
+
+    ghost contexts = { λ b. b.contexts.places.now };
+
+    ghost has_judged = { λ start now t s n. (now.direction ≡ start.direction)
+        × (now.contexts.places.now ≡ start.contexts.places.now)
+        × IsJudged t start.contexts.places.now s n now.contexts.met now.marks };
+
+    fn judge(&mut self, row: &NodeRow) -> Result<bool, Want> {
+        let level = row.level as usize;
+        if level >= LEVELS {
+            return Err(Want::Store);
+        }
+        let is_child = self.is_below_mark(level);
+        let is_context = self.contexts.meets(row.pre);
+        self.marks[level] = is_context;
+        Ok(
+            self.direction
+                .is_chosen(is_child, is_context, is_plain(row.kind)),
+        )
+    }
+}
+
+impl<'a> Below<'a> {
+    /// Whether the level above is marked.
+    fn is_below_mark(&self, level: usize) -> bool
+        requires { level ≤ length self.now.marks }
+        ensures { result ≡ (nat_lt 0 level && slice_index_or self.now.marks (level - 1) false) }
+    {
+        level > 0 && self.marks[level - 1]
+    }
+
+    /// Nothing known yet.
+    fn new(direction: Downward, places: &'a [u32]) -> Below<'a>
+        ensures direction { result.direction ≡ direction }
+        ensures places { result.contexts.places.now ≡ places.now }
+        ensures met { result.contexts.met ≡ 0 }
+        ensures marks { length result.marks ≡ 101 }
+    {
+        Below {
+            direction,
+            contexts: Contexts::new(places),
+            marks: [false; LEVELS],
+        }
+    }
+
+    /// Takes the row of a context that stands in no other, and tells whether it is on its own axis.
+    fn enter(&mut self, row: &NodeRow) -> Result<bool, Want>
+        ensures own { IfOk result (λ own. own ≡ is_own_lem self.old.direction) }
+        ensures direction { self.new.direction ≡ self.old.direction }
+        ensures places { self.new.contexts.places.now ≡ self.old.contexts.places.now }
+        ensures marks { OnOk result ((row.now.level < 101)
+            × (self.new.marks ≡ slice_set self.old.marks row.now.level true)) }
+        ensures met { IsRising self.old.contexts.places.now
+            → IsReached self.old.contexts.places.now self.old.contexts.met row.now.pre
+            → OnOk result (IsReached self.old.contexts.places.now self.new.contexts.met (row.now.pre + 1)) }
+    {
+        let level = row.level as usize;
+        if level >= LEVELS {
+            return Err(Want::Store);
+        }
+        self.marks[level] = true;
+        let _ = self.contexts.meets(row.pre);
+        Ok(self.direction.is_own())
+    }
+}
+
+/// Finds what is on the axis in the rows of a context that stands in no other, and gives the place
+/// after them.
+fn search_one<L: RowLender>(
+    alloc: Global,
+    source: &mut L,
+    tree: usize,
+    place: u32,
+    picker: &mut Picker<'_, Below<'_>>,
+) -> Result<u64, Want>
+    ensures keeps { L.forest source.new ≡ L.forest source.old }
+    ensures was_clean { L.is_clean source.new → L.is_clean source.old }
+    ensures searched { L.is_clean source.new
+        → let t = tree_at (L.forest source.old) tree in
+        let vs = picker.old.judge.contexts.places.now in
+        let direction = picker.old.judge.direction in
+        let test = picker.old.test.now in
+        (n : ℕ) → n ≤ place → IsNext vs n place
+        → IsSearched direction test t vs n picker.old.judge.contexts.met (length picker.old.judge.marks) picker.old.found.items
+        → IfOk result (λ next. (place < next) × (picker.new.judge.direction ≡ direction)
+        × (picker.new.judge.contexts.places.now ≡ vs) × (picker.new.test.now ≡ test)
+        × IsSearched direction test t vs next picker.new.judge.contexts.met (length picker.new.judge.marks) picker.new.found.items) }
+{
+    source.fetch_row(alloc, tree, place)?;
+    let [row] = source.lent() else {
+        return Err(Want::Store);
+    };
+    let size = row.size;
+    let is_own = picker.judge.enter(row)?;
+    picker.pick(is_own, row)?;
+    let low = place.saturating_add(1);
+    let high = place.saturating_add(size);
+    walk(alloc, source, tree, low, high, picker)?;
+    Ok(u64::from(high) + 1)
+}
+
+/// The places of the nodes that are on the axis from one of the places, which rise, and pass the
+/// test: in document order, each once.
+pub fn search_below<L: RowLender>(
+    alloc: Global,
+    source: &mut L,
+    tree: usize,
+    direction: Downward,
+    places: &[u32],
+    test: &Test,
+) -> Result<Vec<u32>, Want>
+    ensures found { L.is_clean source.new
+        → let t = tree_at (L.forest source.old) tree in
+        IsRising places.now → IfOk result (λ found. found.items
+        ≡ below_where (is_wanted (axis_of direction) test.now t places.now) (count (nodes t))) }
+    ensures keeps { L.forest source.new ≡ L.forest source.old }
+    ensures was_clean { L.is_clean source.new → L.is_clean source.old }
+{
+    let mut picker = Picker {
+        judge: Below::new(direction, places),
+        test,
+        found: Vec::new(alloc),
+    };
+    let mut next = 0u64;
+    for place in places {
+        if u64::from(*place) < next {
+            continue;
+        }
+        next = search_one(alloc, source, tree, *place, &mut picker)?;
+    }
+    Ok(picker.found)
+}

@@ -1,0 +1,18 @@
+//! Steps along the axes, string values and copies of nodes, read from a lender of rows.
+#![tactic(auto)]
+
+mod contexts;
+mod copies;
+mod downward;
+mod kin;
+mod passing;
+mod picks;
+mod selves;
+mod steps;
+mod tests;
+mod values;
+mod walks;
+
+pub use copies::copy;
+pub use steps::axis;
+pub use values::string_value;

@@ -1,0 +1,77 @@
+//! Picking rows by how they stand to context nodes.
+ghost use Rattle.std.specs.Prelude.{◌≡◌, ◌+◌, ◌∷◌, [], ◌++◌, ◌&&◌, if◌then◌else◌, ℕ, List, IfOk, OnOk};
+ghost use Rattle.xq_regions.specs.Tree.{Tree};
+ghost use Rattle.xq_regions.specs.Rows.{placed, row_of};
+ghost use Rattle.xq_regions.specs.declared.Axis.{Axis as AxisLem};
+ghost use Rattle.xq_axes.specs.private.Reads.{Span, IsRowIn};
+ghost use Rattle.xq_axes.specs.private.Hits.{is_hit as is_hit_lem, is_wanted, row_passes, below_where};
+
+use crate::tests::passes;
+use crate::walks::Visitor;
+use xq_atoms::Want;
+use xq_regions::NodeRow;
+use xq_values::Test;
+
+/// Adds the place to those found, if it is told that it is wanted.
+pub fn push_if(found: &mut Vec<u32>, is_wanted: bool, place: u32) -> Result<(), Want>
+    ensures { OnOk result (found.new.items
+        ≡ found.old.items ++ (if is_wanted then place ∷ [] else [])) }
+{
+    if is_wanted {
+        found.push(place)?;
+    }
+    Ok(())
+}
+
+/// Tells of rows, one after another, whether they are on an axis from one of the context nodes.
+pub trait Judge {
+    /// The axis.
+    ghost axis: { Self → AxisLem };
+
+    /// The places of the context nodes.
+    ghost contexts: { Self → List ℕ };
+
+    /// From the first state on, the rows of the tree in the span before the place were judged.
+    ghost has_judged: { Self → Self → Tree → Span → ℕ → Type 0 };
+
+    /// Whether the row, the next one, is on the axis.
+    fn judge(&mut self, row: &NodeRow) -> Result<bool, Want>
+        ensures { (start : Self) (t : Tree) (s : Span) (n : ℕ)
+            → IsRowIn t s n (placed row.now) → has_judged start self.old t s n
+            → IfOk result (λ hit. (hit ≡ is_hit_lem (axis start) t (contexts start) n)
+            × has_judged start self.new t s (n + 1)) };
+}
+
+/// Picks the rows that are on an axis and pass a test.
+#[derive(Drop)]
+pub struct Picker<'a, J> {
+    pub judge: J,
+    pub test: &'a Test,
+    pub found: Vec<u32>,
+}
+
+impl<J> Picker<'_, J> {
+    /// Takes the row if it is on the axis, as it is told, and passes the test.
+    pub fn pick(&mut self, is_hit: bool, row: &NodeRow) -> Result<(), Want>
+        ensures judge { self.new.judge ≡ self.old.judge }
+        ensures test { self.new.test.now ≡ self.old.test.now }
+        ensures found { OnOk result (self.new.found.items ≡ self.old.found.items
+            ++ (if is_hit && row_passes self.old.test.now (row_of row.now) then row.now.pre ∷ [] else [])) }
+    {
+        if is_hit && passes(self.test, row) {
+            self.found.push(row.pre)?;
+        }
+        Ok(())
+    }
+}
+
+impl<J: Judge> Visitor for Picker<'_, J> {
+    ghost has_read = { λ start now t s n. J.has_judged start.judge now.judge t s n
+        × (now.test.now ≡ start.test.now)
+        × (now.found.items ≡ below_where (is_wanted (J.axis start.judge) start.test.now t (J.contexts start.judge)) n) };
+
+    fn visit(&mut self, row: &NodeRow) -> Result<(), Want> {
+        let is_hit = self.judge.judge(row)?;
+        self.pick(is_hit, row)
+    }
+}

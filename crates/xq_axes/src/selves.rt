@@ -1,0 +1,40 @@
+//! The self axis.
+ghost use Rattle.std.specs.Prelude.{◌≡◌, IfOk};
+ghost use Rattle.xq_regions.specs.Forest.{count};
+ghost use Rattle.xq_regions.specs.Tree.{nodes};
+ghost use Rattle.xq_regions.specs.declared.Axis.TheVariants as axes;
+ghost use Rattle.xq_sources.specs.Sources.{tree_at};
+ghost use Rattle.xq_axes.specs.private.Hits.{is_wanted, below_where, IsRising};
+
+use crate::picks::push_if;
+use crate::tests::passes;
+use std::alloc::Global;
+use xq_atoms::Want;
+use xq_sources::RowLender;
+use xq_values::Test;
+
+/// Those of the places, which rise, whose nodes pass the test.
+pub fn search_selves<L: RowLender>(
+    alloc: Global,
+    source: &mut L,
+    tree: usize,
+    places: &[u32],
+    test: &Test,
+) -> Result<Vec<u32>, Want>
+    ensures found { L.is_clean source.new
+        → let t = tree_at (L.forest source.old) tree in
+        IsRising places.now → IfOk result (λ found. found.items
+        ≡ below_where (is_wanted axes.SelfNode test.now t places.now) (count (nodes t))) }
+    ensures keeps { L.forest source.new ≡ L.forest source.old }
+    ensures was_clean { L.is_clean source.new → L.is_clean source.old }
+{
+    let mut found = Vec::new(alloc);
+    for place in places {
+        source.fetch_row(alloc, tree, *place)?;
+        let [row] = source.lent() else {
+            return Err(Want::Store);
+        };
+        push_if(&mut found, passes(test, row), *place)?;
+    }
+    Ok(found)
+}

@@ -1,0 +1,86 @@
+//! The string value of a node.
+ghost use Rattle.std.specs.Prelude.{◌≡◌, ◌+◌, string_bytes, IfOk, OnOk};
+ghost use Rattle.xq_regions.specs.Rows.{rows, row_at};
+ghost use Rattle.xq_regions.specs.Value.{texts, string_value as string_value_lem};
+ghost use Rattle.xq_sources.specs.Sources.{tree_at, HasNode};
+ghost use Rattle.xq_values.specs.Items.{tree_below};
+ghost use Rattle.xq_values.specs.Readings.{node_at};
+ghost use Rattle.xq_axes.specs.private.Reads.{rows_to, joined_texts, IsSized, is_parent as is_parent_lem};
+
+use crate::walks::{Visitor, walk};
+use std::alloc::Global;
+use xq_atoms::Want;
+use xq_regions::{Kind, Node, NodeRow};
+use xq_sources::RowLender;
+
+/// The texts among the rows, joined.
+#[derive(Drop)]
+struct Texts {
+    joined: String,
+}
+
+impl Visitor for Texts {
+    ghost has_read = { λ _ v t s n. string_bytes v.joined ≡ joined_texts (rows_to (rows t) s.low n) };
+
+    fn visit(&mut self, row: &NodeRow) -> Result<(), Want> {
+        if let Kind::Text = row.kind {
+            self.joined.push_str(row.value.as_str())?;
+        }
+        Ok(())
+    }
+}
+
+/// Whether the string value of a node of this kind is that of the texts below it.
+fn is_parent(kind: Kind) -> bool
+    ensures { result ≡ is_parent_lem kind }
+{
+    matches!(kind, Kind::Document | Kind::Element)
+}
+
+/// The texts below the node, which has so many rows below it.
+fn texts_below<L: RowLender>(
+    alloc: Global,
+    source: &mut L,
+    node: Node,
+    size: u32,
+) -> Result<String, Want>
+    ensures value { L.is_clean source.new
+        → IsSized (tree_at (L.forest source.old) node.tree) node.pre size
+        → IfOk result (λ text. string_bytes text
+        ≡ texts (tree_below (L.forest source.old) (node_at (L.forest source.old) node)).below) }
+    ensures keeps { L.forest source.new ≡ L.forest source.old }
+    ensures was_clean { L.is_clean source.new → L.is_clean source.old }
+{
+    let mut texts = Texts {
+        joined: String::new(alloc),
+    };
+    let low = node.pre.saturating_add(1);
+    let high = node.pre.saturating_add(size);
+    walk(alloc, source, node.tree, low, high, &mut texts)?;
+    Ok(texts.joined)
+}
+
+/// The string value of the node: the texts below a document or an element, joined, and the value
+/// of another node (XDM 3.1, section 6; `dm:string-value`).
+///
+/// `Want::Store` where the source has no such node, or refuses to read it; `Want::Memory` where a
+/// growth was refused.
+pub fn string_value<L: RowLender>(alloc: Global, source: &mut L, node: Node) -> Result<String, Want>
+    ensures exists { L.is_clean source.new
+        → OnOk result (HasNode (L.forest source.old) node.tree node.pre) }
+    ensures value { L.is_clean source.new → IfOk result (λ text. string_bytes text
+        ≡ string_value_lem (tree_below (L.forest source.old) (node_at (L.forest source.old) node))) }
+    ensures keeps { L.forest source.new ≡ L.forest source.old }
+    ensures was_clean { L.is_clean source.new → L.is_clean source.old }
+{
+    source.fetch_row(alloc, node.tree, node.pre)?;
+    let [row] = source.lent() else {
+        return Err(Want::Store);
+    };
+    if is_parent(row.kind) {
+        let size = row.size;
+        texts_below(alloc, source, node, size)
+    } else {
+        Ok(String::from_str(alloc, row.value.as_str())?)
+    }
+}
