@@ -1,4 +1,4 @@
-"""Builds, copies and prints elements of 10^5 and 10^6 items, and prints times, ratios and MB/s.
+"""Builds, copies and prints elements of some 10^5 and 10^6 items, and prints times, ratios and MB/s.
 
 usage: build.py
 
@@ -18,8 +18,9 @@ from workspace import built
 CRATES = ("xq_atoms", "xq_expressions", "xq_signatures", "xq_regions", "xq_sources", "xq_values", "xq_build")
 USES = ("xq_atoms", "xq_expressions", "xq_signatures", "xq_regions", "xq_sources", "xq_values", "xq_build",
         "sqlite_items", "indexmap")
-KINDS = ("atoms", "texts", "elements", "attributes")
-SIZES = (99_999, 999_990)
+# as many attributes as a reply of 16 MB has room for
+KINDS = (("atoms", (99_999, 999_990)), ("texts", (99_999, 999_990)), ("elements", (99_999, 999_990)),
+         ("attributes", (60_000, 600_000)))
 PROGRAM = """\
 //! Builds an element of many items, copies it into a document and prints it: from standard input
 //! `KIND COUNT`; prints `ROWS BYTES BUILD COPY PRINT`, the times in microseconds, or `refused`.
@@ -144,9 +145,9 @@ def main():
     try:
         program = built(folder, CRATES, USES, PROGRAM)
         print("%-11s %8s %8s %9s %9s %9s %9s   ratios" % ("items", "count", "rows", "build ms", "copy ms", "print ms", "MB/s"))
-        for kind in KINDS:
+        for kind, sizes in KINDS:
             before = None
-            for size in SIZES:
+            for size in sizes:
                 rows, length, times = timed(program, kind, size)
                 ratios = " ".join("%5.1f" % (now / then) for now, then in zip(times, before)) if before else ""
                 print("%-11s %8d %8d %9.1f %9.1f %9.1f %9.1f   %s"

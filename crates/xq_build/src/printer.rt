@@ -231,7 +231,9 @@ fn append_node<L: RowLender>(
     };
     let depth = append_row(text, limit, 0, root.level, root)?;
     let first = node.pre as usize + 1;
-    append_nodes(alloc, source, text, limit, depth, root.level, node.tree, first, last)
+    append_nodes(
+        alloc, source, text, limit, depth, root.level, node.tree, first, last,
+    )
 }
 
 /// Writes an atom.
