@@ -1,7 +1,6 @@
 -- The order of places is the order of paths.
-use Rattle.std.proofs.Common.{◌≡◌, ℕ, suc, ◌<◌, List, [], ◌∷◌, map, Bool, true, false, not, ◌&&◌, ◌||◌, ◌==◌, ltb, nat_eq, ◌↔◌, Ok, Err, refl, sym, ap, ◌∙◌, subst, inl, inr, ⊎_elim, arith}
-use Rattle.std.proofs.lemmas.Bool.{eqb-true, eq-eqb, ltb-true, lt-ltb, false_from_ne_true, false≢true, and_parts, and_from, or_cases, or_left, or_right}
-use Rattle.xq_atoms.specs.Judged.{Judged, ◌>>=◌}
+use Rattle.std.proofs.Common.{◌≡◌, ℕ, ◌<◌, List, [], ◌∷◌, Bool, true, false, ◌&&◌, ◌||◌, ◌==◌, ltb, nat_eq, ◌↔◌, Ok, refl, sym, ap, ◌∙◌, subst, inl, inr, ⊎_elim}
+use Rattle.std.proofs.lemmas.Bool.{eqb-true, eq-eqb, ltb-true, lt-ltb, false≢true, and_parts, and_from, or_cases, or_left, or_right}
 use Rattle.xq_expressions.specs.declared.operators.NodeComparison.{NodeComparison}
 use Rattle.xq_expressions.specs.declared.operators.NodeComparison.TheVariants.{Is, Precedes, Follows}
 use Rattle.xq_regions.specs.declared.items.Node.{Node as Spot}
@@ -13,10 +12,10 @@ use Rattle.xq_regions.specs.Items.{ItemView, Place, Value}
 use Rattle.xq_regions.proofs.Paths.{at_place}
 use Rattle.xq_regions.proofs.RegionTable.{order_is_places}
 use Rattle.xq_sources.specs.Sources.{HasNode, tree_at}
-use Rattle.xq_values.specs.Items.{Item, comes_first, is_before, nodes_at}
+use Rattle.xq_values.specs.Items.{comes_first, nodes_at}
 use Rattle.xq_values.specs.Readings.{items_at, node_at, AreIn}
 use Rattle.xq_values.specs.Arguments.{boolean}
-use Rattle.xq_values.specs.Operators.{by_nodes, stand, one_node}
+use Rattle.xq_values.specs.Operators.{by_nodes, stand}
 use Rattle.xq_functions.specs.private.Nodes as places
 
 first_is : (p q : List ℕ) → (comes_first p q ≡ true) ↔ IsBefore p q
