@@ -3,7 +3,7 @@ use Rattle.std.proofs.Common.{◌≡◌, ℕ, ◌+◌, ◌<◌, ◌≤◌, List,
 use Rattle.std.proofs.lemmas.List.{map-append, take_all}
 use Rattle.xq_regions.specs.Tree.{Tree}
 use Rattle.xq_meaning.specs.Doing.{Doing, Outcome, go_on, give, in_turn}
-use Rattle.xq_meaning.specs.Meaning.{Frame, Stream, ClauseMeaning, next_clause, clauses}
+use Rattle.xq_meaning.specs.Meaning.{ClauseMeaning, next_clause, clauses}
 use Rattle.xq_meaning.proofs.SameForms.{go_on_same}
 use Rattle.xq_normal.proofs.Lists.{take_next}
 

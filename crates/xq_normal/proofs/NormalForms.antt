@@ -1,5 +1,5 @@
 -- Each form in its normal form means what it means: one lemma a form that is not the same in both.
-use Rattle.std.proofs.Common.{◌≡◌, ℕ, List, [], ◌∷◌, ◌++◌, map, Option, refl, sym, ap, ◌∙◌}
+use Rattle.std.proofs.Common.{◌≡◌, List, [], ◌∷◌, ◌++◌, map, Option, refl, sym, ap, ◌∙◌}
 use Rattle.std.proofs.lemmas.Simd.{map-map}
 use Rattle.std.specs.List.{flat_map}
 use Rattle.std.proofs.lemmas.List.{map-append}
@@ -18,14 +18,13 @@ use Rattle.xq_expressions.specs.declared.operators.PathStart.TheVariants.{Relati
 use Rattle.xq_expressions.specs.declared.operators.Separator.{Separator}
 use Rattle.xq_atoms.specs.Text.{Text}
 use Rattle.xq_values.specs.declared.operators.Operator.{Operator}
-use Rattle.xq_values.specs.declared.operators.Operator.TheVariants as operator
 use Rattle.xq_meaning.specs.declared.normal_forms.Core.{Core}
 use Rattle.xq_meaning.specs.declared.normal_forms.Core.TheVariants as n
 use Rattle.xq_meaning.specs.declared.normal_forms.CoreClause.{CoreClause}
 use Rattle.xq_meaning.specs.declared.normal_forms.CoreClause.TheVariants as k
 use Rattle.xq_meaning.specs.Doing.{go_on}
 use Rattle.xq_meaning.specs.Forms
-use Rattle.xq_meaning.specs.Meaning.{Environment, Meaning, ClauseMeaning, bind, first_stream, at_tuple, clauses, for_clause, let_clause, order_clause, group_clause, group_by, local_name, later_parts, path_from, joined_by, mean, clause_mean, group_mean, step_mean}
+use Rattle.xq_meaning.specs.Meaning.{Meaning, ClauseMeaning, bind, first_stream, at_tuple, clauses, for_clause, let_clause, order_clause, group_clause, group_by, local_name, later_parts, path_from, joined_by, mean, clause_mean, group_mean, step_mean}
 use Rattle.xq_meaning.specs.CoreMeaning.{core_mean, core_clause_mean}
 use Rattle.xq_meaning.proofs.Equations as mean
 use Rattle.xq_meaning.proofs.CoreEquations as core

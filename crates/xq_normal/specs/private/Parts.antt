@@ -1,5 +1,5 @@
 -- What the parts of an expression mean, as the functions of the walk take them.
-use Rattle.std.specs.Prelude.{ℕ, List, [], ◌∷◌, ◌++◌, map, Option}
+use Rattle.std.specs.Prelude.{List, [], ◌∷◌, ◌++◌, map, Option}
 use Rattle.xq_expressions.specs.declared.expressions.Expr.{Expr}
 use Rattle.xq_expressions.specs.declared.expressions.GroupSpec.{GroupSpec}
 use Rattle.xq_expressions.specs.declared.expressions.Step.{Step}

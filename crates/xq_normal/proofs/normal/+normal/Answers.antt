@@ -3,7 +3,7 @@ use Rattle.std.specs.List.{flat_map}
 use Rattle.std.proofs.lemmas.List.{take_all}
 use Rattle.xq_values.specs.declared.operators.Operator.TheVariants as operator
 use Rattle.xq_meaning.specs.Meaning.{clauses, later_parts, joined_by, mean, clause_mean, group_mean}
-use Rattle.xq_meaning.specs.CoreMeaning.{core_mean, core_clause_mean}
+use Rattle.xq_meaning.specs.CoreMeaning.{core_clause_mean}
 use Rattle.xq_meaning.proofs.Equations as mean
 use Rattle.xq_normal.specs.private.Parts as parts
 use Rattle.xq_normal.proofs.Lists.{if_ok, first_and_rest, rest_is}
