@@ -40,8 +40,11 @@ same_item : {A B : Type 0} (act : A → Doing (List B)) (y : B) →
     in_turn (more act) done ts trees ≡ (Ok (done ++ repeated (length ts) y), trees)
 same_item act y gives [] done trees = rw (append-nil done)
 same_item act y gives (t ∷ ts) done trees =
-    rw (gives t trees, same_item act y gives ts (done ++ y ∷ []) trees,
-    append_assoc done (y ∷ []) (repeated (length ts) y))
+    rw (
+      gives t trees,
+      same_item act y gives ts (done ++ y ∷ []) trees,
+      append_assoc done (y ∷ []) (repeated (length ts) y),
+    )
 
 -- # The tuples of `for $i in 1 to m`
 
@@ -136,7 +139,7 @@ planted_each act gives (t ∷ ts) done trees =
       gives t trees,
       planted_each act gives ts (done ++ Node (root_of (length trees)) ∷ []) (trees ++ empty ∷ []),
       append_assoc done (Node (root_of (length trees)) ∷ [])
-      (roots_from (length (trees ++ empty ∷ [])) (length ts)),
+          (roots_from (length (trees ++ empty ∷ [])) (length ts)),
       append_assoc trees (empty ∷ []) (repeated (length ts) empty),
       length_after trees empty,
     )
@@ -156,9 +159,9 @@ flat zero f trees is = refl
 flat (suc n) f trees is =
     let others : ℕ → Forest Label = λ k. flattened trees (roots_from k n) in
     let found : tree_at trees (length f) ≡ empty =
-        ap (λ ts. tree_at ts (length f)) is ∙ at_length f (repeated n empty) empty no_tree in
+    ap (λ ts. tree_at ts (length f)) is ∙ at_length f (repeated n empty) empty no_tree in
     let after : trees ≡ (f ++ empty ∷ []) ++ repeated n empty =
-        is ∙ sym (append_assoc f (empty ∷ []) (repeated n empty)) in
+    is ∙ sym (append_assoc f (empty ∷ []) (repeated n empty)) in
     ap (λ t. join (copied (subtree t (0 ∷ []))) (others (suc (length f)))) found
     ∙ ap (λ k. node leaf end (others k)) (sym (length_after f empty))
     ∙ ap (node leaf end) (flat n (f ++ empty ∷ []) trees after)
