@@ -35,6 +35,7 @@ pub const REPLACING: [Call; 11] = [
     Call::List(&["a/1", "b"]),
     Call::Drop("a/1", true),
     Call::Load("a/1", None),
+    Call::List(&["b"]),
     Call::Put("B", Named::Empty, Put::Stored),
     Call::List(&["B", "b"]),
 ];
