@@ -1,14 +1,15 @@
 -- Set operations by places.
 use Rattle.std.proofs.Common.{◌≡◌, ℕ, zero, suc, ◌+◌, ◌<◌, ◌≤◌, List, [], ◌∷◌, ◌++◌, map, length, Bool, true, false, ◌&&◌, ◌||◌, not, cond, Ok, Err, refl, sym, ap, ◌∙◌, subst, arith, ⊎_elim}
 use Rattle.std.specs.Prelude.{filter}
-use Rattle.std.specs.List.{AllByRecursion, range_with_len, list_any}
+use Rattle.std.specs.List.{AllByRecursion, range_with_len}
 use Rattle.std.specs.List.Sorted.{IsStrictlySortedBy}
 use Rattle.std.specs.declared.cmp.Ordering.TheVariants.{Less}
 use Rattle.std.proofs.lemmas.List.{map-append}
 use Rattle.std.proofs.lemmas.List.Folds.{list_any-append}
 use Rattle.std.proofs.lemmas.List.Kept.{IsStrictlySortedBy-filter}
 use Rattle.std.proofs.lemmas.Bool.{false≢true, or_cases, or_left, or_right, and_from, and_right}
-use Rattle.xq_atoms.specs.declared.refusals.Code.TheVariants.{XPTY0004}
+use Rattle.xq_atoms.specs.declared.refusals.Code.{Code}
+use Rattle.xq_atoms.specs.declared.refusals.Code.TheVariants.{XPTY0004, XPTY0018}
 use Rattle.xq_atoms.specs.Judged.{Judged, ◌>>=◌}
 use Rattle.xq_expressions.specs.declared.operators.NodeComparison.TheVariants.{Is}
 use Rattle.xq_expressions.specs.declared.operators.SetOperator.{SetOperator}
@@ -19,10 +20,10 @@ use Rattle.xq_regions.specs.Tree.{Tree, nodes}
 use Rattle.xq_regions.specs.Order.{path_at}
 use Rattle.xq_regions.specs.Items.{ItemView, Place as NodeAt, Value}
 use Rattle.xq_sources.specs.Sources.{HasNode, tree_at}
-use Rattle.xq_values.specs.Items.{Place, Node, place, paths, nodes_at, places_from, is_among as has_place, in_document_order}
+use Rattle.xq_values.specs.Items.{Place, Node, place, paths, places_from, is_among as has_place, in_document_order}
 use Rattle.xq_values.specs.Readings.{item_at, items_at, AreIn}
 use Rattle.xq_values.specs.Arguments.{all_nodes}
-use Rattle.xq_values.specs.Operators.{from_nodes, in_order, set_of}
+use Rattle.xq_values.specs.Operators.{from_nodes, in_order, set_of, gathered, nodes_or_atoms, are_atoms, all_atoms}
 use Rattle.xq_functions.specs.declared.spots.Spot.{Spot}
 use Rattle.xq_functions.specs.private.Places.{view, place_at, all_spots, SpotsAreIn, spot_cmp, same_spot, is_among, IsRising, IsInOrder, takes, united, selected}
 use Rattle.xq_functions.proofs.NodeLemmas.{stands-same}
@@ -157,35 +158,44 @@ in_order-spots trees spots sorted inside ordered =
 
 -- # Operands
 
-nodes-spots : (trees : List Tree) (views : List ItemView) → all_nodes XPTY0004 (items_at trees views) ≡ (all_spots views >>= λ s. Ok (map (place_at trees) s))
-nodes-spots trees [] = refl
-nodes-spots trees (Value a ∷ views) = refl
-nodes-spots trees (NodeAt n ∷ views) =
+nodes-spots : (code : Code) (trees : List Tree) (views : List ItemView) → all_nodes code (items_at trees views) ≡ (all_spots code views >>= λ s. Ok (map (place_at trees) s))
+nodes-spots code trees [] = refl
+nodes-spots code trees (Value a ∷ views) = refl
+nodes-spots code trees (NodeAt n ∷ views) =
     let p = spot n.tree n.pre in
-    ap (λ r. r >>= λ ps. Ok (place_at trees p ∷ ps)) (nodes-spots trees views) ∙ by p (all_spots views)
+    ap (λ r. r >>= λ ps. Ok (place_at trees p ∷ ps)) (nodes-spots code trees views) ∙ by p (all_spots code views)
   where
     by : (p : Spot) (r : Judged (List Spot)) → ((r >>= λ s. Ok (map (place_at trees) s)) >>= λ ps. Ok (place_at trees p ∷ ps)) ≡ ((r >>= λ s. Ok (p ∷ s)) >>= λ s. Ok (map (place_at trees) s))
     by p (Ok s) = refl
-    by p (Err code) = refl
+    by p (Err other) = refl
+
+pub gathered-nodes : (trees : List Tree) (views : List ItemView) (s : List Spot) → all_spots XPTY0018 views ≡ Ok s → gathered trees (items_at trees views) ≡ Ok (in_order trees (map (place_at trees) s))
+gathered-nodes trees views s e = ap (nodes_or_atoms trees (items_at trees views)) (nodes-spots XPTY0018 trees views ∙ ap (λ r. r >>= λ s. Ok (map (place_at trees) s)) e)
+
+pub gathered-others : (trees : List Tree) (views : List ItemView) (code : Code) → all_spots XPTY0018 views ≡ Err code → (b : Bool) → b ≡ are_atoms (items_at trees views) → gathered trees (items_at trees views) ≡ all_atoms b (items_at trees views)
+gathered-others trees views code e b is = ap (nodes_or_atoms trees (items_at trees views)) (nodes-spots XPTY0018 trees views ∙ ap (λ r. r >>= λ s. Ok (map (place_at trees) s)) e) ∙ ap (λ b. all_atoms b (items_at trees views)) (sym is)
 
 -- the places, if there are any, are those of nodes
 abbrev pub InResult : List Tree → Judged (List Spot) → Type 0
 InResult trees (Ok s) = SpotsAreIn trees s
 InResult trees (Err code) = Unit {0}
 
-spots-in : (trees : List Tree) (views : List ItemView) → AreIn trees views → InResult trees (all_spots views)
-spots-in trees [] h = tt
-spots-in trees (Value a ∷ views) h = tt
-spots-in trees (NodeAt n ∷ views) h = by (all_spots views) (spots-in trees views h.1)
+spots-in : (code : Code) (trees : List Tree) (views : List ItemView) → AreIn trees views → InResult trees (all_spots code views)
+spots-in code trees [] h = tt
+spots-in code trees (Value a ∷ views) h = tt
+spots-in code trees (NodeAt n ∷ views) h = by (all_spots code views) (spots-in code trees views h.1)
   where
     by : (r : Judged (List Spot)) → InResult trees r → InResult trees (r >>= λ s. Ok (spot n.tree n.pre ∷ s))
     by (Ok s) inside = (h.0, inside)
-    by (Err code) inside = tt
+    by (Err other) inside = tt
 
 -- # Operators
 
+pub nodes-in : (code : Code) (trees : List Tree) (views : List ItemView) (s : List Spot) → AreIn trees views → all_spots code views ≡ Ok s → SpotsAreIn trees s
+nodes-in code trees views s h e = subst (InResult trees) e (spots-in code trees views h)
+
 pub united-in : (trees : List Tree) (xs ys : List ItemView) → AreIn trees xs → AreIn trees ys → InResult trees (united xs ys)
-united-in trees xs ys hx hy = by (all_spots xs) (all_spots ys) (spots-in trees xs hx) (spots-in trees ys hy)
+united-in trees xs ys hx hy = by (all_spots XPTY0004 xs) (all_spots XPTY0004 ys) (spots-in XPTY0004 trees xs hx) (spots-in XPTY0004 trees ys hy)
   where
     by : (r q : Judged (List Spot)) → InResult trees r → InResult trees q → InResult trees (r >>= λ s. q >>= λ o. Ok (s ++ o))
     by (Ok s) (Ok o) hr hq = all-append (λ (u : Spot). HasNode trees u.tree u.pre) s o hr hq
@@ -201,18 +211,18 @@ all-filter P f (x ∷ xs) h = by (f x) (all-filter P f xs h.1)
     by false later = later
 
 pub selected-in : (trees : List Tree) (op : SetOperator) (xs ys : List ItemView) → AreIn trees xs → InResult trees (selected op xs ys)
-selected-in trees op xs ys hx = by (all_spots xs) (all_spots ys) (spots-in trees xs hx)
+selected-in trees op xs ys hx = by (all_spots XPTY0004 xs) (all_spots XPTY0004 ys) (spots-in XPTY0004 trees xs hx)
   where
     by : (r q : Judged (List Spot)) → InResult trees r → InResult trees (r >>= λ s. q >>= λ o. Ok (filter (takes op o) s))
     by (Ok s) (Ok o) hr = all-filter (λ (u : Spot). HasNode trees u.tree u.pre) (takes op o) s hr
     by (Ok s) (Err code) hr = tt
     by (Err code) q hr = tt
 
-from_nodes-spots : (trees : List Tree) (result : List Place → List Place → List Place) (xs ys : List ItemView) → from_nodes result trees (items_at trees xs) (items_at trees ys) ≡ ((all_spots xs >>= λ s. Ok (map (place_at trees) s)) >>= λ ps. (all_spots ys >>= λ s. Ok (map (place_at trees) s)) >>= λ qs. Ok (in_order trees (result ps qs)))
-from_nodes-spots trees result xs ys = λ i. nodes-spots trees xs i >>= λ ps. nodes-spots trees ys i >>= λ qs. Ok (in_order trees (result ps qs))
+from_nodes-spots : (trees : List Tree) (result : List Place → List Place → List Place) (xs ys : List ItemView) → from_nodes result trees (items_at trees xs) (items_at trees ys) ≡ ((all_spots XPTY0004 xs >>= λ s. Ok (map (place_at trees) s)) >>= λ ps. (all_spots XPTY0004 ys >>= λ s. Ok (map (place_at trees) s)) >>= λ qs. Ok (in_order trees (result ps qs)))
+from_nodes-spots trees result xs ys = λ i. nodes-spots XPTY0004 trees xs i >>= λ ps. nodes-spots XPTY0004 trees ys i >>= λ qs. Ok (in_order trees (result ps qs))
 
 pub unite-spots : (trees : List Tree) (xs ys : List ItemView) → from_nodes (λ ps qs. ps ++ qs) trees (items_at trees xs) (items_at trees ys) ≡ (united xs ys >>= λ s. Ok (in_order trees (map (place_at trees) s)))
-unite-spots trees xs ys = from_nodes-spots trees (λ ps qs. ps ++ qs) xs ys ∙ by (all_spots xs) (all_spots ys)
+unite-spots trees xs ys = from_nodes-spots trees (λ ps qs. ps ++ qs) xs ys ∙ by (all_spots XPTY0004 xs) (all_spots XPTY0004 ys)
   where
     by : (r q : Judged (List Spot)) → ((r >>= λ s. Ok (map (place_at trees) s)) >>= λ ps. (q >>= λ s. Ok (map (place_at trees) s)) >>= λ qs. Ok (in_order trees (ps ++ qs))) ≡ ((r >>= λ s. q >>= λ o. Ok (s ++ o)) >>= λ s. Ok (in_order trees (map (place_at trees) s)))
     by (Ok s) (Ok o) = ap (λ ps. Ok (in_order trees ps)) (sym (map-append (place_at trees) s o))
@@ -228,7 +238,7 @@ set_of-spots trees Except s o hs ho =
     filter-map (λ p. not (test p)) (place_at trees) s ∙ ap (map (place_at trees)) (filter-same (λ u. not (test (place_at trees u))) (λ u. not (is_among o u)) s (all-map (λ (u : Spot). HasNode trees u.tree u.pre) (λ u. not (test (place_at trees u)) ≡ not (is_among o u)) (λ u h. ap not (among-places trees o ho u h)) s hs))
 
 pub select-spots : (trees : List Tree) (op : SetOperator) (xs ys : List ItemView) → AreIn trees xs → AreIn trees ys → from_nodes (set_of op) trees (items_at trees xs) (items_at trees ys) ≡ (selected op xs ys >>= λ s. Ok (in_order trees (map (place_at trees) s)))
-select-spots trees op xs ys hx hy = from_nodes-spots trees (set_of op) xs ys ∙ by (all_spots xs) (all_spots ys) (spots-in trees xs hx) (spots-in trees ys hy)
+select-spots trees op xs ys hx hy = from_nodes-spots trees (set_of op) xs ys ∙ by (all_spots XPTY0004 xs) (all_spots XPTY0004 ys) (spots-in XPTY0004 trees xs hx) (spots-in XPTY0004 trees ys hy)
   where
     by : (r q : Judged (List Spot)) → InResult trees r → InResult trees q → ((r >>= λ s. Ok (map (place_at trees) s)) >>= λ ps. (q >>= λ s. Ok (map (place_at trees) s)) >>= λ qs. Ok (in_order trees (set_of op ps qs))) ≡ ((r >>= λ s. q >>= λ o. Ok (filter (takes op o) s)) >>= λ s. Ok (in_order trees (map (place_at trees) s)))
     by (Ok s) (Ok o) hr hq = ap (λ ps. Ok (in_order trees ps)) (set_of-spots trees op s o hr hq)

@@ -1,9 +1,10 @@
 -- Nodes by their numbers of tree and their places there, in document order.
-use Rattle.std.specs.Prelude.{◌≡◌, List, ◌++◌, map, filter, Bool, not, ◌&&◌, ◌==◌, Ok, Err}
+use Rattle.std.specs.Prelude.{◌≡◌, List, ◌++◌, filter, Bool, not, ◌&&◌, ◌==◌, Ok, Err}
 use Rattle.std.specs.List.{AllByRecursion, list_any}
 use Rattle.std.specs.List.Sorted.{IsStrictlySortedBy}
 use Rattle.std.specs.Ordering.{nat_cmp, ordering_then}
 use Rattle.std.specs.declared.cmp.Ordering.{Ordering}
+use Rattle.xq_atoms.specs.declared.refusals.Code.{Code}
 use Rattle.xq_atoms.specs.declared.refusals.Code.TheVariants.{XPTY0004}
 use Rattle.xq_atoms.specs.Judged.{Judged, ◌>>=◌}
 use Rattle.xq_expressions.specs.declared.operators.SetOperator.{SetOperator}
@@ -24,16 +25,16 @@ abbrev pub place_at : List Tree → Spot → Place
 place_at trees s = place s.tree (path_at (nodes_at trees s.tree) s.pre)
 
 -- the places of items that are all nodes
-abbrev pub spot_of : ItemView → Judged Spot
-spot_of (NodeAt n) = Ok (record { tree = n.tree; pre = n.pre })
-spot_of (Value a) = Err XPTY0004
+abbrev pub spot_of : Code → ItemView → Judged Spot
+spot_of code (NodeAt n) = Ok (record { tree = n.tree; pre = n.pre })
+spot_of code (Value a) = Err code
 
-abbrev pub all_spots : List ItemView → Judged (List Spot)
-all_spots views = each spot_of views
+abbrev pub all_spots : Code → List ItemView → Judged (List Spot)
+all_spots code views = each (spot_of code) views
 
 -- places, and then those of more items
-abbrev pub after : List Spot → List ItemView → Judged (List Spot)
-after spots views = do more ← all_spots views; Ok (spots ++ more)
+abbrev pub after : List Spot → Code → List ItemView → Judged (List Spot)
+after spots code views = do more ← all_spots code views; Ok (spots ++ more)
 
 abbrev pub SpotsAreIn : List Tree → List Spot → Type 0
 SpotsAreIn trees spots = AllByRecursion (λ s. HasNode trees s.tree s.pre) spots
@@ -65,12 +66,12 @@ takes Except others s = not (is_among others s)
 
 abbrev pub united : List ItemView → List ItemView → Judged (List Spot)
 united xs ys = do
-  spots ← all_spots xs
-  others ← all_spots ys
+  spots ← all_spots XPTY0004 xs
+  others ← all_spots XPTY0004 ys
   Ok (spots ++ others)
 
 abbrev pub selected : SetOperator → List ItemView → List ItemView → Judged (List Spot)
 selected op xs ys = do
-  spots ← all_spots xs
-  others ← all_spots ys
+  spots ← all_spots XPTY0004 xs
+  others ← all_spots XPTY0004 ys
   Ok (filter (takes op others) spots)

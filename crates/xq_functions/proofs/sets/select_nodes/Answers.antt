@@ -1,4 +1,4 @@
-use Rattle.std.proofs.Common.{◌≡◌, Ok, Err, List, map, ap, sym, ◌∙◌, subst, rules}
+use Rattle.std.proofs.Common.{◌≡◌, Ok, Err, map, ap, sym, ◌∙◌, subst, rules}
 use Rattle.std.specs.Global.{Vec}
 use Rattle.xq_atoms.specs.Judged.{◌>>=◌}
 use Rattle.xq_regions.specs.Items.{item_view}

@@ -1,5 +1,5 @@
-use Rattle.std.proofs.Common.{◌≡◌, not, ap, sym, ◌∙◌}
-use Rattle.xq_functions.specs.private.Places.{is_among, takes}
+use Rattle.std.proofs.Common.{not, ap, sym, ◌∙◌}
+use Rattle.xq_functions.specs.private.Places.{takes}
 use Rattle.xq_functions.proofs.PlaceLemmas.{among-search, rising-sorted}
 use Rattle.xq_functions.proofs.sets.takes.Goals as goal
 
