@@ -15,4 +15,6 @@ mod samples;
 #[cfg(test)]
 mod sequences;
 #[cfg(test)]
+mod sets;
+#[cfg(test)]
 mod strings;
