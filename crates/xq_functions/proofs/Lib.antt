@@ -7,3 +7,6 @@ pub mod NodeLemmas
 pub mod NumberLemmas
 pub mod ChoiceLemmas
 pub mod DistinctLemmas
+pub mod PathLemmas
+pub mod PlaceLemmas
+pub mod SetLemmas

@@ -77,7 +77,7 @@ in_one_tree trees test by_place law m n p q hp hq true e =
     let same = eqb-true m n e in
     ap (λ k. test (path_at (nodes_at trees m) p) (path_at (nodes_at trees k) q)) (sym same) ∙ law (tree_at trees m) p q hp.node_in (subst (λ k. HasNode trees k q) (sym same) hq).node_in
 
-stands-same : (trees : List Tree) (op : NodeComparison) (p q : Spot) → HasNode trees p.tree p.pre → HasNode trees q.tree q.pre → stand op (node_at trees p) (node_at trees q) ≡ places.stands op p q
+pub stands-same : (trees : List Tree) (op : NodeComparison) (p q : Spot) → HasNode trees p.tree p.pre → HasNode trees q.tree q.pre → stand op (node_at trees p) (node_at trees q) ≡ places.stands op p q
 stands-same trees Is p q hp hq = in_one_tree trees is_same nat_eq same_places p.tree q.tree p.pre q.pre hp hq (p.tree == q.tree) refl
 stands-same trees Precedes p q hp hq = ap (λ b. ltb p.tree q.tree || b) (in_one_tree trees comes_first ltb before_places p.tree q.tree p.pre q.pre hp hq (p.tree == q.tree) refl)
 stands-same trees Follows p q hp hq = ap (λ b. ltb q.tree p.tree || b) (in_one_tree trees comes_first ltb before_places q.tree p.tree q.pre p.pre hq hp (q.tree == p.tree) refl)

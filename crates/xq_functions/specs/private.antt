@@ -2,3 +2,4 @@ pub mod Calls
 pub mod Running
 pub mod Documents
 pub mod Nodes
+pub mod Places

@@ -13,6 +13,8 @@ mod kinds;
 mod nodes;
 mod results;
 mod sequences;
+mod sets;
+mod spots;
 mod texts;
 mod truths;
 
@@ -21,4 +23,5 @@ pub use calls::{call_on_atoms, call_on_items, call_on_lists, operate_on_atoms};
 pub use documents::{collection, doc, doc_available, root};
 pub use kinds::{Argument, argument_of, is_on_atoms};
 pub use nodes::compare_nodes;
+pub use sets::{gather, select_nodes, unite_nodes};
 pub use truths::{effective, keeps};
