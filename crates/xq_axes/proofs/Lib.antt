@@ -13,3 +13,5 @@ pub mod Ranges
 pub mod OwnNodes
 pub mod Siblings
 pub mod OnPaths
+pub mod Orders
+pub mod Merging

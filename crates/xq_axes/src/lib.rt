@@ -5,6 +5,7 @@ mod contexts;
 mod copies;
 mod downward;
 mod kin;
+mod merges;
 mod passing;
 mod picks;
 mod selves;
@@ -14,5 +15,6 @@ mod values;
 mod walks;
 
 pub use copies::copy;
+pub use merges::merge;
 pub use steps::axis;
 pub use values::string_value;
