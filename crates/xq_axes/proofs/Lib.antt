@@ -15,3 +15,4 @@ pub mod Siblings
 pub mod OnPaths
 pub mod Orders
 pub mod Merging
+pub mod Many

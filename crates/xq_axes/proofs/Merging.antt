@@ -20,15 +20,13 @@ use Rattle.xq_sources.specs.Sources.{tree_at, HasNode}
 use Rattle.xq_values.specs.Items.{Place, place, paths, nodes_at, places_from, same_node, is_among, in_document_order}
 use Rattle.xq_values.specs.Readings.{node_at}
 use Rattle.xq_axes.specs.Nodes.{document_order, AreRising, HaveAll}
+use Rattle.xq_axes.specs.private.Many.{spot}
 use Rattle.xq_axes.proofs.Lists.{same_tests}
 use Rattle.xq_axes.proofs.Orders.{same_fields, order_less, same_any, same_rising, from_contains, rising_append}
 use Rattle.xq_axes.proofs.OnPaths.{map-map, filter-map, paths-range}
 use Rattle.xq_axes.proofs.Sizes.{node_of}
 
 -- # All nodes of trees
-
-abbrev pub spot : ℕ → ℕ → Node
-spot n p = record { tree = n; pre = p }
 
 -- those of trees with numbers from n on
 abbrev pub all_nodes : ℕ → List Tree → List Node
@@ -104,8 +102,8 @@ unfolding IsStrictlySortedBy
 rising_range n a zero = tt
 rising_range n a (suc c) = (
   from_contains (λ y. document_order (spot n a) y ≡ Less) (map (spot n) (range_with_len (a + 1) c)) (λ y m. (
-  let w = from_range n (a + 1) c y m in
-  order_less (spot n a) y (inr (sym w.tree, omega (arith, w.low))))),
+      let w = from_range n (a + 1) c y m in
+      order_less (spot n a) y (inr (sym w.tree, omega (arith, w.low))))),
   rising_range n (a + 1) c,
 )
 

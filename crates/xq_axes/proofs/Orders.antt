@@ -104,10 +104,10 @@ rising_seen xs false h e = absurd (cc)
 abbrev pub is_one_node : Node → Node → Bool
 is_one_node x y = nat_eq x.tree y.tree && nat_eq x.pre y.pre
 
-one_node : (x y : Node) → is_one_node x y ≡ true → x ≡ y
+pub one_node : (x y : Node) → is_one_node x y ≡ true → x ≡ y
 one_node x y e = let w = and_parts _ _ e in same_fields x y (eqb-true x.tree y.tree w.0) (eqb-true x.pre y.pre w.1)
 
-node_itself : (x : Node) → is_one_node x x ≡ true
+pub node_itself : (x : Node) → is_one_node x x ≡ true
 node_itself x = and_from _ _ (eq-eqb x.tree x.tree refl) (eq-eqb x.pre x.pre refl)
 
 one_node_equivalence : IsEquivalence is_one_node

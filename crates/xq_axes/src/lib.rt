@@ -4,6 +4,7 @@
 mod contexts;
 mod copies;
 mod downward;
+mod families;
 mod kin;
 mod merges;
 mod passing;
@@ -16,5 +17,5 @@ mod walks;
 
 pub use copies::copy;
 pub use merges::merge;
-pub use steps::axis;
+pub use steps::{axis, step};
 pub use values::string_value;
