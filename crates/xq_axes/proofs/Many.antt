@@ -29,7 +29,7 @@ use Rattle.xq_values.specs.declared.node_tests.Test.{Test}
 use Rattle.xq_values.specs.Items.{Place, place, nodes_at, places_from as places_of, same_node, is_among as is_among_places, in_document_order}
 use Rattle.xq_values.specs.Steps.{axis_nodes}
 use Rattle.xq_values.specs.Readings.{node_at}
-use Rattle.xq_axes.specs.Nodes.{document_order, AreRising, HaveAll}
+use Rattle.xq_axes.specs.Nodes.{document_order, HaveAll}
 use Rattle.xq_axes.specs.private.Hits.{is_hit, is_wanted, row_passes, below_where, IsRising}
 use Rattle.xq_axes.specs.private.Many.{spot, AreThere, places_from, is_found_from, IsNext, IsGathered}
 use Rattle.xq_axes.proofs.Lists.{any_and, any_or}

@@ -1,5 +1,5 @@
 -- Lists of nodes, merged.
-use Rattle.std.proofs.Common.{◌≡◌, ◌↔◌, ℕ, zero, suc, ◌+◌, ◌<◌, ◌≤◌, List, [], ◌∷◌, ◌++◌, length, map, Bool, true, false, ◌&&◌, ◌||◌, cond, ◌⊎◌, inl, inr, refl, sym, ◌∙◌, ap, subst, arith}
+use Rattle.std.proofs.Common.{◌≡◌, ◌↔◌, ℕ, zero, suc, ◌+◌, ◌<◌, ◌≤◌, List, [], ◌∷◌, ◌++◌, length, map, Bool, true, false, ◌&&◌, ◌||◌, cond, inl, inr, refl, sym, ◌∙◌, ap, subst, arith}
 use Rattle.std.specs.Prelude.{filter}
 use Rattle.std.specs.List.{list_any, range_with_len, Contains}
 use Rattle.std.specs.List.Sorted.{IsStrictlySortedBy}
@@ -11,13 +11,12 @@ use Rattle.std.proofs.lemmas.List.Folds.{Any-from_list_any, list_any-from_Any}
 use Rattle.std.proofs.lemmas.List.Kept.{IsStrictlySortedBy-filter}
 use Rattle.xq_regions.specs.declared.Axis.TheVariants as axis
 use Rattle.xq_regions.specs.declared.items.Node.{Node}
-use Rattle.xq_regions.specs.AxisTests.{is_same}
-use Rattle.xq_regions.specs.Forest.{Forest, end, count}
+use Rattle.xq_regions.specs.Forest.{end, count}
 use Rattle.xq_regions.specs.Order.{place_of, path_at}
-use Rattle.xq_regions.specs.Tree.{Tree, Label, nodes}
+use Rattle.xq_regions.specs.Tree.{Tree, nodes}
 use Rattle.xq_regions.proofs.AxisTable.{on_axis_is}
 use Rattle.xq_sources.specs.Sources.{tree_at, HasNode}
-use Rattle.xq_values.specs.Items.{Place, place, paths, nodes_at, places_from, same_node, is_among, in_document_order}
+use Rattle.xq_values.specs.Items.{Place, place, places_from, same_node, is_among, in_document_order}
 use Rattle.xq_values.specs.Readings.{node_at}
 use Rattle.xq_axes.specs.Nodes.{document_order, AreRising, HaveAll}
 use Rattle.xq_axes.specs.private.Many.{spot}

@@ -1,5 +1,4 @@
 use Rattle.std.proofs.Common.{◌≡◌, ℕ, ◌++◌, map, take}
-use Rattle.xq_regions.specs.declared.items.Node.{Node}
 use Rattle.xq_axes.proofs.steps.add_nodes.Given as goal
 
 -- the nodes at the places so far were added

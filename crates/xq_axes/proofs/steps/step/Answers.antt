@@ -1,4 +1,4 @@
-use Rattle.std.proofs.Common.{◌≡◌, ◌↔◌, ℕ, ◌+◌, ◌++◌, ◌||◌, [], Bool, List, map, refl, sym, ap, subst, ◌∙◌, arith, get_or}
+use Rattle.std.proofs.Common.{◌≡◌, ◌↔◌, ◌+◌, ◌++◌, ◌||◌, [], Bool, map, refl, sym, ap, subst, ◌∙◌, arith, get_or}
 use Rattle.std.specs.List.{list_any, Contains}
 use Rattle.xq_regions.specs.declared.items.Node.{Node}
 use Rattle.xq_axes.specs.Nodes.{AreRising}
