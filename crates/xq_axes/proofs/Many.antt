@@ -285,3 +285,7 @@ module _ (trees : List Tree) (a : Axis) (test : Test) (ns found : List Node) (ha
 
   pub step_nodes : in_document_order trees (map (node_at trees) found) ≡ in_document_order trees (flat_map (axis_nodes trees a test) (map (node_at trees) ns))
   step_nodes = filter_same (is_among_places (map (node_at trees) found)) (is_among_places (flat_map (axis_nodes trees a test) (map (node_at trees) ns))) (places_of 0 trees) same_places
+
+-- the nodes on an axis from one node are there
+pub axis_there : (trees : List Tree) (a : Axis) (test : Test) (n : Node) (found : List Node) → HasNode trees n.tree n.pre → found ≡ map (spot n.tree) (places_from a test (tree_at trees n.tree) n.pre) → HaveAll trees found
+axis_there trees a test n found h e = step_there trees a test (n ∷ []) found (h, tt) (λ p. ap (list_any p) e ∙ sym (or_none (is_found_from trees a test p n)))

@@ -94,6 +94,9 @@ pub fn axis<L: RowLender>(
         → HasNode (L.forest source.old) node.tree node.pre
         → IfOk result (λ found. map (node_at (L.forest source.old)) found.items
         ≡ axis_nodes (L.forest source.old) axis test.now (node_at (L.forest source.old) node)) }
+    ensures there { L.is_clean source.new
+        → HasNode (L.forest source.old) node.tree node.pre
+        → IfOk result (λ found. HaveAll (L.forest source.old) found.items) }
     ensures keeps { L.forest source.new ≡ L.forest source.old }
     ensures was_clean { L.is_clean source.new → L.is_clean source.old }
 {
