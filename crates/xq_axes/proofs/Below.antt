@@ -1,15 +1,15 @@
 -- The rows below a row are those of the nodes below its node.
-use Rattle.std.proofs.Common.{◌≡◌, ℕ, zero, suc, ◌+◌, ◌-◌, ◌<◌, ◌≤◌, List, [], ◌∷◌, ◌++◌, length, take, drop, refl, sym, ◌∙◌, ap, arith, append_assoc}
+use Rattle.std.proofs.Common.{◌≡◌, ℕ, zero, suc, ◌+◌, ◌≤◌, List, [], ◌∷◌, ◌++◌, length, take, drop, refl, sym, ◌∙◌, ap, arith, append_assoc}
 use Rattle.std.specs.List.{flat_map}
 use Rattle.std.proofs.lemmas.List.{take-append-le, take_at}
 use Rattle.xq_regions.specs.Forest.{Forest, end, node, count, labels}
 use Rattle.xq_regions.specs.Tree.{Label}
 use Rattle.xq_regions.specs.Node.{HasPath, below_at}
 use Rattle.xq_regions.specs.Order.{place_of}
-use Rattle.xq_regions.specs.Rows.{Row, measured}
+use Rattle.xq_regions.specs.Rows.{measured}
 use Rattle.xq_regions.specs.Nesting.{count-measured}
 use Rattle.xq_regions.specs.Value.{text_of, texts}
-use Rattle.xq_regions.proofs.Paths.{place_lt, within}
+use Rattle.xq_regions.proofs.Paths.{within}
 use Rattle.xq_regions.proofs.Regions.{length-labels}
 use Rattle.xq_axes.specs.private.Reads.{joined_texts}
 

@@ -1,21 +1,21 @@
 -- The rows below a context.
-use Rattle.std.proofs.Common.{◌≡◌, ◌≢◌, ℕ, zero, suc, ◌+◌, ◌-◌, ◌<◌, ◌≤◌, List, [], ◌∷◌, length, get_or, set, Bool, true, false, not, ◌&&◌, ◌||◌, nat_eq, nat_lt, inl, inr, refl, sym, ◌∙◌, ap, subst, arith, get_or-set_same, get_or-set_other}
+use Rattle.std.proofs.Common.{◌≡◌, ℕ, suc, ◌+◌, ◌-◌, ◌<◌, ◌≤◌, List, length, get_or, set, Bool, true, false, not, ◌&&◌, ◌||◌, nat_eq, nat_lt, inl, inr, refl, sym, ◌∙◌, ap, subst, arith, get_or-set_same, get_or-set_other}
 use Rattle.std.specs.List.{list_any}
 use Rattle.std.proofs.lemmas.List.{length-set}
-use Rattle.std.proofs.lemmas.Bool.{cases_lt, cases_eq, eqb-true, eq-eqb, and_from, and_parts, le-leb, leb-true, or_right}
+use Rattle.std.proofs.lemmas.Bool.{cases_lt, cases_eq, eqb-true, eq-eqb, and_from, and_parts, le-leb, leb-true}
 use Rattle.xq_regions.specs.Forest.{count}
 use Rattle.xq_regions.specs.Tree.{Tree, nodes}
 use Rattle.xq_regions.specs.Rows.{Row, rows, row_at}
 use Rattle.xq_regions.specs.Regions.{IsInside}
 use Rattle.xq_regions.specs.RegionTests.{inside, one_below, plain_row, in_region}
 use Rattle.xq_axes.specs.private.Reads.{Span}
-use Rattle.xq_axes.specs.private.Hits.{is_among, is_hit, IsRising, IsReached}
-use Rattle.xq_axes.specs.private.Downward.{axis_of, is_chosen, is_own, level_of, end_of, IsCluster, AreMarked, IsJudged}
+use Rattle.xq_axes.specs.private.Hits.{is_among, is_hit, IsReached}
+use Rattle.xq_axes.specs.private.Downward.{axis_of, is_chosen, level_of, AreMarked, IsJudged}
 use Rattle.xq_axes.specs.declared.downward.Downward.{Downward}
 use Rattle.xq_axes.specs.declared.downward.Downward.TheVariants.{Child, Attribute, Descendant, DescendantOrSelf}
 use Rattle.xq_axes.specs.private.Kin.{IsParent}
-use Rattle.xq_axes.proofs.Lists.{any_from, any_at, any_agree, any_and, any_or, any_none, same_tests, among_at, among_index}
-use Rattle.xq_axes.proofs.Trees.{inside_deeper, inside_trans, inside_ends, between_deeper, HasParent, parent_of, one_parent}
+use Rattle.xq_axes.proofs.Lists.{any_from, any_at, any_agree, any_and, any_or, same_tests, among_at, among_index}
+use Rattle.xq_axes.proofs.Trees.{inside_deeper, between_deeper, parent_of, one_parent}
 
 pub inside_true : (rs : List Row) (v p : ℕ) → IsInside rs v p → inside rs v p ≡ true
 inside_true rs v p h = and_from _ _ (le-leb (suc v) p h.0) (le-leb p (v + (row_at rs v).size) h.1)

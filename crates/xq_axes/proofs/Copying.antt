@@ -1,10 +1,9 @@
 -- Copied rows are those of the subtree.
-use Rattle.std.proofs.Common.{◌≡◌, ℕ, zero, suc, ◌+◌, ◌-◌, ◌<◌, ◌≤◌, List, [], ◌∷◌, ◌++◌, length, map, take, drop, min, string_bytes, refl, sym, ◌∙◌, ap, subst, arith}
+use Rattle.std.proofs.Common.{◌≡◌, ℕ, suc, ◌+◌, ◌-◌, ◌<◌, ◌≤◌, List, [], ◌∷◌, ◌++◌, length, map, take, drop, min, refl, sym, ◌∙◌, ap, arith}
 use Rattle.std.proofs.Math.Seq.{drop-cons}
-use Rattle.std.proofs.lemmas.List.{append-nil, map-append, map_push, length-take, length-append, length-drop, get_or-take}
+use Rattle.std.proofs.lemmas.List.{append-nil, map-append, map_push, length-take, length-drop, get_or-take}
 use Rattle.xq_regions.specs.declared.NodeRow.{NodeRow}
 use Rattle.xq_regions.specs.declared.Kind.{Kind}
-use Rattle.xq_regions.specs.declared.items.Node.{Node as Spot}
 use Rattle.xq_regions.specs.Forest.{Forest, end, node, count, labels}
 use Rattle.xq_regions.specs.Tree.{Label, Tree, nodes}
 use Rattle.xq_regions.specs.Node.{below_at, subtree}
@@ -15,7 +14,7 @@ use Rattle.xq_regions.proofs.Encoding.{length-rows}
 use Rattle.xq_regions.proofs.Walks.{length-map}
 use Rattle.xq_axes.specs.private.Reads.{Span, span, span_end, IsRowIn, rows_to, lowered, AreCopied, IsSized}
 use Rattle.xq_axes.proofs.Runs.{rows_to-more}
-use Rattle.xq_axes.proofs.Sizes.{node_of, rows_to-none, rows_below, span_end-below}
+use Rattle.xq_axes.proofs.Sizes.{node_of, rows_to-none, rows_below}
 
 pub AreNumbered-push : (n : ℕ) (xs : List NodeRow) (x : NodeRow) → AreNumbered n xs → x.pre ≡ n + length xs → AreNumbered n (xs ++ x ∷ [])
 AreNumbered-push n [] x h e = (omega (arith, e), tt)

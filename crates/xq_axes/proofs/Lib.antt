@@ -13,3 +13,6 @@ pub mod Ranges
 pub mod OwnNodes
 pub mod Siblings
 pub mod OnPaths
+pub mod Orders
+pub mod Merging
+pub mod Many

@@ -1,12 +1,10 @@
 -- One row more, picked or not.
-use Rattle.std.proofs.Common.{◌≡◌, ℕ, ◌+◌, List, [], ◌∷◌, ◌++◌, Bool, true, false, ◌&&◌, cond, suc, refl, sym, ◌∙◌, ap, arith}
-use Rattle.std.proofs.lemmas.List.{append-nil}
-use Rattle.std.proofs.lemmas.Bool.{and_from, and_right}
+use Rattle.std.proofs.Common.{◌≡◌, ℕ, ◌+◌, List, [], ◌∷◌, ◌++◌, Bool, ◌&&◌, cond, suc, ◌∙◌, ap, arith}
 use Rattle.xq_regions.specs.declared.NodeRow.{NodeRow}
 use Rattle.xq_regions.specs.declared.Axis.{Axis}
 use Rattle.xq_values.specs.declared.node_tests.Test.{Test}
 use Rattle.xq_regions.specs.Tree.{Tree}
-use Rattle.xq_regions.specs.Rows.{Row, rows, row_at, row_of}
+use Rattle.xq_regions.specs.Rows.{rows, row_at, row_of}
 use Rattle.xq_axes.specs.private.Hits.{is_hit, is_wanted, row_passes, below_where}
 
 pub picked : (f : ℕ → Bool) (n : ℕ) (xs : List ℕ) (b : Bool) → xs ≡ below_where f n → b ≡ f n → xs ++ cond b (n ∷ []) [] ≡ below_where f (n + 1)

@@ -1,17 +1,17 @@
 -- From one context that stands in no other to the next.
-use Rattle.std.proofs.Common.{◌≡◌, ◌≢◌, ℕ, zero, suc, ◌+◌, ◌-◌, ◌<◌, ◌≤◌, List, [], ◌∷◌, length, get_or, set, min, Bool, true, false, not, ◌&&◌, ◌||◌, nat_eq, ◌⊎◌, inl, inr, refl, sym, ◌∙◌, ap, subst, arith, get_or-set_same}
+use Rattle.std.proofs.Common.{◌≡◌, ℕ, ◌+◌, ◌<◌, ◌≤◌, List, [], length, get_or, set, Bool, true, false, ◌&&◌, nat_eq, ◌⊎◌, inl, inr, refl, sym, ◌∙◌, ap, subst, arith, get_or-set_same}
 use Rattle.std.specs.List.{list_any}
 use Rattle.std.proofs.lemmas.List.{length-set, get_or_default}
-use Rattle.std.proofs.lemmas.Bool.{cases_lt, cases_eq, cases_order, eqb-true, and_parts, and_left, or_cases, or_left}
+use Rattle.std.proofs.lemmas.Bool.{cases_lt, cases_eq, eqb-true, and_parts, and_left, or_cases, or_left}
 use Rattle.xq_regions.specs.Forest.{count}
 use Rattle.xq_regions.specs.Tree.{Tree, nodes}
 use Rattle.xq_regions.specs.Rows.{Row, rows, row_at}
 use Rattle.xq_regions.specs.Regions.{IsInside}
 use Rattle.xq_regions.specs.RegionTests.{inside, plain_row, in_region}
 use Rattle.xq_values.specs.declared.node_tests.Test.{Test}
-use Rattle.xq_axes.specs.private.Reads.{Span, span, span_end, IsSized}
+use Rattle.xq_axes.specs.private.Reads.{span, IsSized}
 use Rattle.xq_axes.specs.private.Hits.{is_among, is_hit, is_wanted, row_passes, below_where, IsRising, IsReached}
-use Rattle.xq_axes.specs.private.Downward.{axis_of, is_chosen, is_own, level_of, end_of, IsCluster, AreMarked, IsJudged, IsSearched, IsNext}
+use Rattle.xq_axes.specs.private.Downward.{axis_of, is_own, level_of, end_of, IsJudged, IsSearched, IsNext}
 use Rattle.xq_axes.specs.declared.downward.Downward.{Downward}
 use Rattle.xq_axes.specs.declared.downward.Downward.TheVariants.{Child, Attribute, Descendant, DescendantOrSelf}
 use Rattle.xq_axes.proofs.Lists.{any_none, any_or, among_at, below_where-none, reached_none, reached_over}

@@ -1,29 +1,28 @@
 -- The parent and the siblings of one node.
-use Rattle.std.proofs.Common.{◌≡◌, ◌≢◌, ℕ, zero, suc, ◌+◌, ◌-◌, ◌<◌, ◌≤◌, List, [], ◌∷◌, length, get_or, map, min, Bool, true, false, not, ◌&&◌, ◌||◌, nat_eq, cond, ◌⊎◌, inl, inr, refl, sym, ◌∙◌, ap, subst, arith}
+use Rattle.std.proofs.Common.{◌≡◌, ℕ, zero, suc, ◌+◌, ◌-◌, ◌<◌, ◌≤◌, List, [], ◌∷◌, length, map, min, Bool, true, false, ◌&&◌, ◌||◌, nat_eq, cond, ◌⊎◌, inl, inr, refl, sym, ◌∙◌, ap, subst, arith}
 use Rattle.std.specs.Prelude.{filter, slice_get, Some, None}
 use Rattle.std.specs.List.{enumerate_from}
 use Rattle.std.proofs.lemmas.List.{nil_from_length}
-use Rattle.std.proofs.lemmas.Bool.{cases_lt, cases_eq, cases_Bool, eqb-true, eq-eqb, and_from, and_parts, or_cases, leb-true, le-leb, false_from_ne_true}
+use Rattle.std.proofs.lemmas.Bool.{cases_lt, eqb-true, eq-eqb, and_from, and_parts, leb-true, le-leb, false_from_ne_true}
 use Rattle.xq_regions.specs.Forest.{count}
 use Rattle.xq_regions.specs.Tree.{Tree, nodes}
-use Rattle.xq_regions.specs.Rows.{Row, rows, row_at, no_row}
+use Rattle.xq_regions.specs.Rows.{Row, rows, row_at}
 use Rattle.xq_regions.specs.Regions.{IsInside, ShareParent, IsInRegion, kind_of_row}
 use Rattle.xq_regions.specs.RegionTests.{plain_row, in_region}
 use Rattle.xq_regions.specs.declared.Axis.{Axis}
 use Rattle.xq_regions.specs.declared.Axis.TheVariants as axis
-use Rattle.xq_regions.specs.declared.Kind.TheVariants.{Attribute}
 use Rattle.xq_regions.proofs.RegionTable.{in_region_is}
 use Rattle.xq_regions.proofs.AxisTable.{plain_kind_is}
 use Rattle.xq_regions.proofs.Encoding.{length-rows}
-use Rattle.xq_sources.specs.Sources.{encloses, rows_enclosing}
+use Rattle.xq_sources.specs.Sources.{encloses}
 use Rattle.xq_sources.specs.Lenders.{places_above}
 use Rattle.xq_values.specs.declared.node_tests.Test.{Test}
 use Rattle.xq_axes.specs.private.Reads.{Span, span, span_end}
 use Rattle.xq_axes.specs.private.Hits.{is_hit, is_wanted, row_passes, below_where, IsRising}
 use Rattle.xq_axes.specs.private.Downward.{level_of, end_of}
-use Rattle.xq_axes.specs.private.Kin.{IsParent, IsBeside, IsSide, axis_beside}
+use Rattle.xq_axes.specs.private.Kin.{IsParent, IsBeside, axis_beside}
 use Rattle.xq_axes.proofs.Lists.{same_tests, got_none, below_where-agree}
-use Rattle.xq_axes.proofs.Trees.{inside_deeper, inside_ends, between_deeper, HasParent, parent_of, one_parent}
+use Rattle.xq_axes.proofs.Trees.{inside_deeper, inside_ends, between_deeper, parent_of, one_parent}
 use Rattle.xq_axes.proofs.Ranges.{unwanted}
 
 -- # The last of the rows that hold v is its parent

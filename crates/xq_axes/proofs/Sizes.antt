@@ -1,16 +1,16 @@
 -- What the row of a node says of the rows and nodes below it.
-use Rattle.std.proofs.Common.{◌≡◌, ℕ, zero, suc, ◌+◌, ◌-◌, ◌<◌, ◌≤◌, List, [], ◌∷◌, length, get_or, map, take, drop, min, max, Result, Ok, Err, Bool, true, false, string_bytes, refl, sym, ◌∙◌, ap, subst, arith}
+use Rattle.std.proofs.Common.{◌≡◌, ℕ, suc, ◌+◌, ◌<◌, List, [], ◌∷◌, length, get_or, map, take, min, Result, Ok, Err, true, false, string_bytes, refl, sym, ◌∙◌, ap, subst, arith}
 use Rattle.std.specs.Prelude.{IfOk, OnOk}
 use Rattle.std.proofs.lemmas.List.{drop_all, length-take}
 use Rattle.xq_regions.specs.declared.Kind.{Kind}
 use Rattle.xq_regions.specs.declared.Kind.TheVariants.{Document, Element, Attribute, Text, Comment, ProcessingInstruction}
 use Rattle.xq_regions.specs.Forest.{count, labels}
 use Rattle.xq_regions.specs.Tree.{Label, Tree, IsTree, nodes}
-use Rattle.xq_regions.specs.Node.{HasPath, below_at, label_at, subtree}
+use Rattle.xq_regions.specs.Node.{HasPath, below_at, subtree}
 use Rattle.xq_regions.specs.Order.{place_of, path_at}
 use Rattle.xq_regions.specs.Rows.{Row, row_at, row_of, rows, placed, measured}
 use Rattle.xq_regions.specs.Value.{texts, string_value, string_value_by}
-use Rattle.xq_regions.proofs.Paths.{IsAt, at_place, within}
+use Rattle.xq_regions.proofs.Paths.{at_place, within}
 use Rattle.xq_regions.proofs.Regions.{Describes, row_at-place_of}
 use Rattle.xq_regions.specs.declared.NodeRow.{NodeRow}
 use Rattle.xq_regions.specs.declared.items.Node.{Node as Spot}

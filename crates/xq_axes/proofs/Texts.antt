@@ -1,13 +1,11 @@
 -- Joining the texts of rows in turn.
-use Rattle.std.proofs.Common.{◌≡◌, ℕ, ◌+◌, List, [], ◌∷◌, ◌++◌, length, string_bytes, refl, sym, ◌∙◌, ap, arith}
-use Rattle.std.specs.List.{flat_map}
-use Rattle.std.proofs.lemmas.List.{append-nil, flat_map_more}
+use Rattle.std.proofs.Common.{◌≡◌, ℕ, ◌+◌, List, [], ◌++◌, string_bytes, refl, sym, ◌∙◌, ap, arith}
+use Rattle.std.proofs.lemmas.List.{flat_map_more}
 use Rattle.xq_regions.specs.declared.NodeRow.{NodeRow}
 use Rattle.xq_regions.specs.declared.Kind.{Kind}
 use Rattle.xq_regions.specs.declared.Kind.TheVariants.{Document, Element, Attribute, Text, Comment, ProcessingInstruction}
-use Rattle.xq_regions.specs.Forest.{count}
-use Rattle.xq_regions.specs.Tree.{Tree, nodes}
-use Rattle.xq_regions.specs.Rows.{Row, row_at, row_of, rows, placed}
+use Rattle.xq_regions.specs.Tree.{Tree}
+use Rattle.xq_regions.specs.Rows.{Row, row_at, rows, placed}
 use Rattle.xq_regions.specs.Value.{text_of}
 use Rattle.xq_regions.proofs.Encoding.{length-rows}
 use Rattle.xq_axes.specs.private.Reads.{Span, IsRowIn, rows_to, joined_texts}

@@ -1,17 +1,16 @@
 -- Rows that hold each other.
-use Rattle.std.proofs.Common.{◌≡◌, ◌≢◌, ℕ, zero, suc, ◌+◌, ◌-◌, ◌<◌, ◌≤◌, List, [], ◌∷◌, length, inl, inr, refl, sym, ◌∙◌, ap, subst, arith}
+use Rattle.std.proofs.Common.{◌≡◌, ℕ, zero, suc, ◌<◌, ◌≤◌, List, [], ◌∷◌, length, inl, inr, refl, sym, ◌∙◌, ap, subst, arith}
 use Rattle.std.proofs.lemmas.Bool.{cases_lt, cases_order}
 use Rattle.xq_regions.specs.Forest.{Forest, end, node, count}
 use Rattle.xq_regions.specs.Tree.{Tree, nodes}
 use Rattle.xq_regions.specs.Node.{HasPath}
 use Rattle.xq_regions.specs.Order.{place_of, path_at, IsAbove}
-use Rattle.xq_regions.specs.Rows.{Row, rows, row_at}
+use Rattle.xq_regions.specs.Rows.{rows, row_at}
 use Rattle.xq_regions.specs.Regions.{IsInside}
-use Rattle.xq_regions.proofs.Paths.{IsAt, at_place, place_lt}
-use Rattle.xq_regions.proofs.AxisRegions.{Located, located}
+use Rattle.xq_regions.proofs.AxisRegions.{located}
 use Rattle.xq_axes.specs.private.Downward.{level_of, end_of}
 use Rattle.xq_axes.specs.private.Kin.{IsParent}
-use Rattle.xq_axes.proofs.Sizes.{Node, node_of}
+use Rattle.xq_axes.proofs.Sizes.{node_of}
 
 above_longer : (p q : List ℕ) → IsAbove p q → length p < length q
 above_longer p [] h = absurd h

@@ -3,3 +3,4 @@ pub mod Hits
 pub mod Downward
 pub mod Passing
 pub mod Kin
+pub mod Many

@@ -4,7 +4,9 @@
 mod contexts;
 mod copies;
 mod downward;
+mod families;
 mod kin;
+mod merges;
 mod passing;
 mod picks;
 mod selves;
@@ -14,5 +16,6 @@ mod values;
 mod walks;
 
 pub use copies::copy;
-pub use steps::axis;
+pub use merges::merge;
+pub use steps::{axis, step};
 pub use values::string_value;

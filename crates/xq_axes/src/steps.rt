@@ -1,14 +1,20 @@
 //! Steps along the axes.
-ghost use Rattle.std.specs.Prelude.{◌≡◌, ◌∷◌, [], map, IfOk};
+ghost use Rattle.std.specs.Prelude.{◌≡◌, ◌∷◌, ◌++◌, ◌+◌, ◌||◌, [], ℕ, Bool, List, map, IfOk, OnOk};
+ghost use Rattle.std.specs.List.{flat_map, list_any};
 ghost use Rattle.xq_regions.specs.Forest.{count};
 ghost use Rattle.xq_regions.specs.Tree.{nodes};
+ghost use Rattle.xq_regions.specs.declared.items.Node.{Node as NodeLem};
 ghost use Rattle.xq_sources.specs.Sources.{tree_at, HasNode};
+ghost use Rattle.xq_values.specs.Items.{in_document_order};
 ghost use Rattle.xq_values.specs.Steps.{axis_nodes};
 ghost use Rattle.xq_values.specs.Readings.{node_at};
-ghost use Rattle.xq_axes.specs.private.Hits.{is_wanted, below_where};
+ghost use Rattle.xq_axes.specs.Nodes.{AreRising, HaveAll};
+ghost use Rattle.xq_axes.specs.private.Hits.{is_wanted, below_where, IsRising};
+ghost use Rattle.xq_axes.specs.private.Many.{spot, is_found_from, AreThere, IsNext, IsGathered};
 
 use crate::downward::{Downward, search_below};
-use crate::kin::{search_parent, search_siblings};
+use crate::families::{Kin, search_each};
+use crate::merges::merge;
 use crate::passing::{search_above, search_after, search_before};
 use crate::selves::search_selves;
 use std::alloc::Global;
@@ -17,58 +23,60 @@ use xq_regions::{Axis, Node};
 use xq_sources::RowLender;
 use xq_values::Test;
 
-/// The places of the nodes on the axis from the node that pass the test.
+/// The places of the nodes on the axis from one of the places, which rise, that pass the test.
 fn search<L: RowLender>(
     alloc: Global,
     source: &mut L,
     tree: usize,
     axis: Axis,
-    place: u32,
+    places: &[u32],
     test: &Test,
 ) -> Result<Vec<u32>, Want>
-    ensures found { L.is_clean source.new → HasNode (L.forest source.old) tree place
+    ensures found { L.is_clean source.new → AreThere (L.forest source.old) tree places.now
         → let t = tree_at (L.forest source.old) tree in
-        IfOk result (λ found. found.items
-        ≡ below_where (is_wanted axis test.now t (place ∷ [])) (count (nodes t))) }
+        IsRising places.now → IfOk result (λ found. found.items
+        ≡ below_where (is_wanted axis test.now t places.now) (count (nodes t))) }
     ensures keeps { L.forest source.new ≡ L.forest source.old }
     ensures was_clean { L.is_clean source.new → L.is_clean source.old }
 {
-    let places = [place];
     match axis {
-        Axis::Child => search_below(alloc, source, tree, Downward::Child, &places, test),
-        Axis::Descendant => search_below(alloc, source, tree, Downward::Descendant, &places, test),
+        Axis::Child => search_below(alloc, source, tree, Downward::Child, places, test),
+        Axis::Descendant => search_below(alloc, source, tree, Downward::Descendant, places, test),
         Axis::DescendantOrSelf => {
             search_below(
                 alloc,
                 source,
                 tree,
                 Downward::DescendantOrSelf,
-                &places,
+                places,
                 test,
             )
         }
-        Axis::SelfNode => search_selves(alloc, source, tree, &places, test),
-        Axis::Attributes => search_below(alloc, source, tree, Downward::Attribute, &places, test),
-        Axis::Parent => search_parent(alloc, source, tree, place, test),
-        Axis::Ancestor => search_above(alloc, source, tree, false, &places, test),
-        Axis::AncestorOrSelf => search_above(alloc, source, tree, true, &places, test),
-        Axis::Following => search_after(alloc, source, tree, &places, test),
-        Axis::FollowingSibling => search_siblings(alloc, source, tree, true, place, test),
-        Axis::Preceding => search_before(alloc, source, tree, &places, test),
-        Axis::PrecedingSibling => search_siblings(alloc, source, tree, false, place, test),
+        Axis::SelfNode => search_selves(alloc, source, tree, places, test),
+        Axis::Attributes => search_below(alloc, source, tree, Downward::Attribute, places, test),
+        Axis::Parent => search_each(alloc, source, tree, Kin::Parent, places, test),
+        Axis::Ancestor => search_above(alloc, source, tree, false, places, test),
+        Axis::AncestorOrSelf => search_above(alloc, source, tree, true, places, test),
+        Axis::Following => search_after(alloc, source, tree, places, test),
+        Axis::FollowingSibling => {
+            search_each(alloc, source, tree, Kin::FollowingSibling, places, test)
+        }
+        Axis::Preceding => search_before(alloc, source, tree, places, test),
+        Axis::PrecedingSibling => {
+            search_each(alloc, source, tree, Kin::PrecedingSibling, places, test)
+        }
     }
 }
 
-/// The nodes of the tree at the places.
-fn nodes_of(alloc: Global, tree: usize, places: &[u32]) -> Result<Vec<Node>, Want>
-    ensures { IfOk result (λ found. found.items
-        ≡ map (λ p. record { tree = tree; pre = p }) places.now) }
+/// Adds the nodes of the tree at the places.
+fn add_nodes(found: &mut Vec<Node>, tree: usize, places: &[u32]) -> Result<(), Want>
+    ensures { OnOk result (found.new.items
+        ≡ found.old.items ++ map (λ p. record { tree = tree; pre = p }) places.now) }
 {
-    let mut found = Vec::with_capacity(alloc, places.len())?;
     for place in places {
         found.push(Node { tree, pre: *place })?;
     }
-    Ok(found)
+    Ok(())
 }
 
 /// The nodes on the axis from the node that pass the test, in document order (XPath 3.1, section
@@ -86,9 +94,115 @@ pub fn axis<L: RowLender>(
         → HasNode (L.forest source.old) node.tree node.pre
         → IfOk result (λ found. map (node_at (L.forest source.old)) found.items
         ≡ axis_nodes (L.forest source.old) axis test.now (node_at (L.forest source.old) node)) }
+    ensures there { L.is_clean source.new
+        → HasNode (L.forest source.old) node.tree node.pre
+        → IfOk result (λ found. HaveAll (L.forest source.old) found.items) }
     ensures keeps { L.forest source.new ≡ L.forest source.old }
     ensures was_clean { L.is_clean source.new → L.is_clean source.old }
 {
-    let places = search(alloc, source, node.tree, axis, node.pre, test)?;
-    nodes_of(alloc, node.tree, &places)
+    let places = search(alloc, source, node.tree, axis, &[node.pre], test)?;
+    let mut found = Vec::with_capacity(alloc, places.len())?;
+    add_nodes(&mut found, node.tree, &places)?;
+    Ok(found)
+}
+
+/// Adds the nodes on the axis from the nodes of one tree, whose places rise, that pass the test.
+fn add_step<L: RowLender>(
+    alloc: Global,
+    source: &mut L,
+    contexts: &Gathered,
+    axis: Axis,
+    test: &Test,
+    found: &mut Vec<Node>,
+) -> Result<(), Want>
+    ensures found { L.is_clean source.new → IsRising contexts.now.places.items
+        → AreThere (L.forest source.old) contexts.now.tree contexts.now.places.items
+        → OnOk result ((p : NodeLem → Bool) → list_any p found.new.items
+        ≡ (list_any p found.old.items || list_any (is_found_from (L.forest source.old) axis test.now p)
+        (map (spot contexts.now.tree) contexts.now.places.items))) }
+    ensures keeps { L.forest source.new ≡ L.forest source.old }
+    ensures was_clean { L.is_clean source.new → L.is_clean source.old }
+{
+    let places = search(alloc, source, contexts.tree, axis, &contexts.places, test)?;
+    add_nodes(found, contexts.tree, &places)
+}
+
+/// Places in one tree.
+#[derive(Drop)]
+struct Gathered {
+    tree: usize,
+    places: Vec<u32>,
+}
+
+/// Gathers one more context: where it is of another tree, what is on the axis from those that were
+/// gathered is found first.
+fn gather<L: RowLender>(
+    alloc: Global,
+    source: &mut L,
+    context: Node,
+    axis: Axis,
+    test: &Test,
+    gathered: &mut Gathered,
+    found: &mut Vec<Node>,
+) -> Result<(), Want>
+    ensures gathered { L.is_clean source.new → let trees = L.forest source.old in
+        (contexts : List NodeLem) (index : ℕ) → IsNext trees contexts index context
+        → IsGathered trees axis test.now contexts index gathered.old.tree gathered.old.places.items found.old.items
+        → OnOk result (IsGathered trees axis test.now contexts (index + 1) gathered.new.tree gathered.new.places.items found.new.items) }
+    ensures keeps { L.forest source.new ≡ L.forest source.old }
+    ensures was_clean { L.is_clean source.new → L.is_clean source.old }
+{
+    if context.tree == gathered.tree {
+        gathered.places.push(context.pre)?;
+        return Ok(());
+    }
+    add_step(alloc, source, gathered, axis, test, found)?;
+    gathered.tree = context.tree;
+    gathered.places.clear();
+    gathered.places.push(context.pre)?;
+    Ok(())
+}
+
+/// The nodes that are on the axis from one of the nodes and pass the test, in document order, each
+/// once (XPath 3.1, section 3.3), where the source has the nodes: in any order, of any trees.
+///
+/// `Want::Store` where the source refuses to read a row; `Want::Memory` where a growth was refused.
+pub fn step<L: RowLender>(
+    alloc: Global,
+    source: &mut L,
+    nodes: &[Node],
+    axis: Axis,
+    test: &Test,
+) -> Result<Vec<Node>, Want>
+    ensures nodes { L.is_clean source.new → HaveAll (L.forest source.old) nodes.now
+        → let trees = L.forest source.old in
+        IfOk result (λ found. map (node_at trees) found.items ≡ in_document_order trees
+        (flat_map (axis_nodes trees axis test.now) (map (node_at trees) nodes.now))) }
+    ensures there { L.is_clean source.new → HaveAll (L.forest source.old) nodes.now
+        → IfOk result (λ found. HaveAll (L.forest source.old) found.items) }
+    ensures rising { IfOk result (λ found. AreRising found.items) }
+    ensures keeps { L.forest source.new ≡ L.forest source.old }
+    ensures was_clean { L.is_clean source.new → L.is_clean source.old }
+{
+    let mut copies = Vec::with_capacity(alloc, nodes.len())?;
+    copies.extend_from_slice(nodes)?;
+    let contexts = merge(copies);
+    let mut found = Vec::new(alloc);
+    let mut gathered = Gathered {
+        tree: 0,
+        places: Vec::new(alloc),
+    };
+    for context in &contexts {
+        gather(
+            alloc,
+            source,
+            *context,
+            axis,
+            test,
+            &mut gathered,
+            &mut found,
+        )?;
+    }
+    add_step(alloc, source, &gathered, axis, test, &mut found)?;
+    Ok(merge(found))
 }

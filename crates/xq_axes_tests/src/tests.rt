@@ -3,7 +3,7 @@
 use std::alloc::{AllocError, Global};
 use std::process::Abort;
 use xq_atoms::Want;
-use xq_axes::{axis, copy, string_value};
+use xq_axes::{axis, copy, merge, step, string_value};
 use xq_expressions::Text;
 use xq_regions::{Axis, Fragment, Kind, Node, NodeRow};
 use xq_sources::{Buffered, Fragments, RowLender};
@@ -72,64 +72,193 @@ fn from_place<L: RowLender>(
     Ok(places_of(alloc, &nodes)?)
 }
 
-/// The axes from the second book, from the first book's attribute, and from the first book.
-const TABLE: [(Axis, &str, &str, &str); 12] = [
-    (Axis::Child, "0.7 ", "", "0.4 "),
-    (Axis::Descendant, "0.7 ", "", "0.4 "),
-    (Axis::DescendantOrSelf, "0.5 0.7 ", "0.3 ", "0.2 0.4 "),
-    (Axis::SelfNode, "0.5 ", "0.3 ", "0.2 "),
-    (Axis::Attributes, "0.6 ", "", "0.3 "),
-    (Axis::Parent, "0.1 ", "0.2 ", "0.1 "),
-    (Axis::Ancestor, "0.0 0.1 ", "0.0 0.1 0.2 ", "0.0 0.1 "),
-    (
-        Axis::AncestorOrSelf,
-        "0.0 0.1 0.5 ",
-        "0.0 0.1 0.2 0.3 ",
-        "0.0 0.1 0.2 ",
-    ),
-    (Axis::Following, "", "0.4 0.5 0.7 ", "0.5 0.7 "),
-    (Axis::FollowingSibling, "", "", "0.5 "),
-    (Axis::Preceding, "0.2 0.4 ", "", ""),
-    (Axis::PrecedingSibling, "0.2 ", "", ""),
-];
+/// What is on the axis from the node at the place is as wanted.
+fn is_axis<L: RowLender>(
+    rt: &impl Abort,
+    alloc: Global,
+    source: &mut L,
+    pre: u32,
+    direction: Axis,
+    wanted: &str,
+) -> Result<(), Want> {
+    let found = from_place(alloc, source, pre, direction, &Test::Any)?;
+    assert_eq!(rt; found.as_str(), wanted);
+    Ok(())
+}
 
-fn gives_axes<L: RowLender>(rt: &impl Abort, alloc: Global, source: &mut L) -> Result<(), Want> {
-    for (direction, book, id, first) in TABLE {
-        for (pre, wanted) in [(5, book), (3, id), (2, first)] {
-            let found = from_place(alloc, source, pre, direction, &Test::Any)?;
-            assert_eq!(rt; found.as_str(), wanted, "{direction:?} from {pre}");
-        }
-    }
-    let before = from_place(alloc, source, 7, Axis::Preceding, &Test::Any)?;
-    assert_eq!(rt; before.as_str(), "0.2 0.4 ");
+/// The axes from the second book.
+fn from_book<L: RowLender>(rt: &impl Abort, alloc: Global, source: &mut L) -> Result<(), Want> {
+    is_axis(rt, alloc, source, 5, Axis::Child, "0.7 ")?;
+    is_axis(rt, alloc, source, 5, Axis::Descendant, "0.7 ")?;
+    is_axis(rt, alloc, source, 5, Axis::DescendantOrSelf, "0.5 0.7 ")?;
+    is_axis(rt, alloc, source, 5, Axis::SelfNode, "0.5 ")?;
+    is_axis(rt, alloc, source, 5, Axis::Attributes, "0.6 ")?;
+    is_axis(rt, alloc, source, 5, Axis::Parent, "0.1 ")?;
+    is_axis(rt, alloc, source, 5, Axis::Ancestor, "0.0 0.1 ")?;
+    is_axis(rt, alloc, source, 5, Axis::AncestorOrSelf, "0.0 0.1 0.5 ")?;
+    is_axis(rt, alloc, source, 5, Axis::Following, "")?;
+    is_axis(rt, alloc, source, 5, Axis::FollowingSibling, "")?;
+    is_axis(rt, alloc, source, 5, Axis::Preceding, "0.2 0.4 ")?;
+    is_axis(rt, alloc, source, 5, Axis::PrecedingSibling, "0.2 ")
+}
+
+/// The axes from the first book's attribute.
+fn from_attribute<L: RowLender>(
+    rt: &impl Abort,
+    alloc: Global,
+    source: &mut L,
+) -> Result<(), Want> {
+    is_axis(rt, alloc, source, 3, Axis::Child, "")?;
+    is_axis(rt, alloc, source, 3, Axis::Descendant, "")?;
+    is_axis(rt, alloc, source, 3, Axis::DescendantOrSelf, "0.3 ")?;
+    is_axis(rt, alloc, source, 3, Axis::SelfNode, "0.3 ")?;
+    is_axis(rt, alloc, source, 3, Axis::Attributes, "")?;
+    is_axis(rt, alloc, source, 3, Axis::Parent, "0.2 ")?;
+    is_axis(rt, alloc, source, 3, Axis::Ancestor, "0.0 0.1 0.2 ")?;
+    is_axis(
+        rt,
+        alloc,
+        source,
+        3,
+        Axis::AncestorOrSelf,
+        "0.0 0.1 0.2 0.3 ",
+    )?;
+    is_axis(rt, alloc, source, 3, Axis::Following, "0.4 0.5 0.7 ")?;
+    is_axis(rt, alloc, source, 3, Axis::FollowingSibling, "")?;
+    is_axis(rt, alloc, source, 3, Axis::Preceding, "")?;
+    is_axis(rt, alloc, source, 3, Axis::PrecedingSibling, "")
+}
+
+/// Some axes from other nodes.
+fn from_others<L: RowLender>(rt: &impl Abort, alloc: Global, source: &mut L) -> Result<(), Want> {
+    is_axis(rt, alloc, source, 2, Axis::Child, "0.4 ")?;
+    is_axis(rt, alloc, source, 2, Axis::Following, "0.5 0.7 ")?;
+    is_axis(rt, alloc, source, 2, Axis::FollowingSibling, "0.5 ")?;
+    is_axis(rt, alloc, source, 7, Axis::Preceding, "0.2 0.4 ")
+}
+
+/// What passes the test on the axis from the node at the place is as wanted.
+fn is_tested<L: RowLender>(
+    rt: &impl Abort,
+    alloc: Global,
+    source: &mut L,
+    pre: u32,
+    test: &Test,
+    wanted: &str,
+) -> Result<(), Want> {
+    let found = from_place(alloc, source, pre, Axis::DescendantOrSelf, test)?;
+    assert_eq!(rt; found.as_str(), wanted);
     Ok(())
 }
 
 fn passes_tests<L: RowLender>(rt: &impl Abort, alloc: Global, source: &mut L) -> Result<(), Want> {
-    let descendant = Axis::Descendant;
     let book = Test::Element(Some(Text::copy_of(alloc, "book")?));
     let other = Test::Element(Some(Text::copy_of(alloc, "boo")?));
-    let id = Test::Attribute(Some(Text::copy_of(alloc, "id")?));
-    let texts = from_place(alloc, source, 0, descendant, &Test::Text)?;
-    assert_eq!(rt; texts.as_str(), "0.4 0.7 ");
-    let books = from_place(alloc, source, 0, descendant, &book)?;
-    assert_eq!(rt; books.as_str(), "0.2 0.5 ");
-    let none = from_place(alloc, source, 0, descendant, &other)?;
-    assert_eq!(rt; none.as_str(), "");
-    let elements = from_place(alloc, source, 0, descendant, &Test::Element(None))?;
-    assert_eq!(rt; elements.as_str(), "0.1 0.2 0.5 ");
-    let named = from_place(alloc, source, 5, Axis::Attributes, &id)?;
-    assert_eq!(rt; named.as_str(), "0.6 ");
-    let root = from_place(alloc, source, 7, Axis::Ancestor, &Test::Document)?;
-    assert_eq!(rt; root.as_str(), "0.0 ");
+    is_tested(rt, alloc, source, 0, &Test::Text, "0.4 0.7 ")?;
+    is_tested(rt, alloc, source, 0, &book, "0.2 0.5 ")?;
+    is_tested(rt, alloc, source, 0, &other, "")?;
+    is_tested(rt, alloc, source, 0, &Test::Element(None), "0.1 0.2 0.5 ")?;
+    is_tested(rt, alloc, source, 3, &Test::Attribute(None), "0.3 ")?;
+    is_tested(rt, alloc, source, 0, &Test::Document, "0.0 ")
+}
+
+/// The nodes of the first tree at the places.
+fn nodes_at(alloc: Global, places: &[u32]) -> Result<Vec<Node>, AllocError> {
+    let mut nodes = Vec::new(alloc);
+    for pre in places {
+        nodes.push(Node { tree: 0, pre: *pre })?;
+    }
+    Ok(nodes)
+}
+
+/// What is on the axis from the nodes at the places, and passes the test, is as wanted.
+fn is_step<L: RowLender>(
+    rt: &impl Abort,
+    alloc: Global,
+    source: &mut L,
+    places: &[u32],
+    direction: Axis,
+    wanted: &str,
+) -> Result<(), Want> {
+    let nodes = nodes_at(alloc, places)?;
+    let found = step(alloc, source, &nodes, direction, &Test::Any)?;
+    let text = places_of(alloc, &found)?;
+    assert_eq!(rt; text.as_str(), wanted);
+    Ok(())
+}
+
+/// Steps from many nodes: in any order, doubled and nested.
+fn steps<L: RowLender>(rt: &impl Abort, alloc: Global, source: &mut L) -> Result<(), Want> {
+    is_step(rt, alloc, source, &[2, 5, 2], Axis::Child, "0.4 0.7 ")?;
+    is_step(
+        rt,
+        alloc,
+        source,
+        &[5, 0, 2, 1],
+        Axis::Descendant,
+        "0.1 0.2 0.4 0.5 0.7 ",
+    )?;
+    is_step(rt, alloc, source, &[5, 2], Axis::Attributes, "0.3 0.6 ")?;
+    is_step(rt, alloc, source, &[7, 4, 3], Axis::Parent, "0.2 0.5 ")?;
+    is_step(
+        rt,
+        alloc,
+        source,
+        &[7, 4],
+        Axis::Ancestor,
+        "0.0 0.1 0.2 0.5 ",
+    )?;
+    is_step(
+        rt,
+        alloc,
+        source,
+        &[5, 2, 3],
+        Axis::Following,
+        "0.4 0.5 0.7 ",
+    )?;
+    is_step(rt, alloc, source, &[5, 2], Axis::FollowingSibling, "0.5 ")?;
+    is_step(rt, alloc, source, &[5, 2, 7], Axis::Preceding, "0.2 0.4 ")?;
+    is_step(rt, alloc, source, &[], Axis::SelfNode, "")
+}
+
+/// The rows below nested nodes are read once.
+fn reads_rows_once<L: RowLender>(
+    rt: &impl Abort,
+    alloc: Global,
+    source: &mut L,
+) -> Result<(), Want> {
+    let before = source.meter().rows();
+    is_step(
+        rt,
+        alloc,
+        source,
+        &[5, 0, 2, 1, 0],
+        Axis::DescendantOrSelf,
+        "0.0 0.1 0.2 0.4 0.5 0.7 ",
+    )?;
+    let after = source.meter().rows();
+    assert!(rt; after.saturating_sub(before) <= 8);
+    Ok(())
+}
+
+/// The string value of the node at the place is as wanted.
+fn is_value<L: RowLender>(
+    rt: &impl Abort,
+    alloc: Global,
+    source: &mut L,
+    pre: u32,
+    wanted: &str,
+) -> Result<(), Want> {
+    let value = string_value(alloc, source, Node { tree: 0, pre })?;
+    assert_eq!(rt; value.as_str(), wanted);
     Ok(())
 }
 
 fn gives_values<L: RowLender>(rt: &impl Abort, alloc: Global, source: &mut L) -> Result<(), Want> {
-    for (pre, wanted) in [(0, "AB"), (2, "A"), (3, "1"), (7, "B")] {
-        let value = string_value(alloc, source, Node { tree: 0, pre })?;
-        assert_eq!(rt; value.as_str(), wanted);
-    }
+    is_value(rt, alloc, source, 0, "AB")?;
+    is_value(rt, alloc, source, 2, "A")?;
+    is_value(rt, alloc, source, 3, "1")?;
+    is_value(rt, alloc, source, 7, "B")?;
     let absent = string_value(alloc, source, Node { tree: 0, pre: 8 });
     assert!(rt; matches!(absent, Err(Want::Store)));
     Ok(())
@@ -148,7 +277,11 @@ fn copies_nodes<L: RowLender>(rt: &impl Abort, alloc: Global, source: &mut L) ->
 
 /// All of these.
 fn reads<L: RowLender>(rt: &impl Abort, alloc: Global, source: &mut L) -> Result<(), Want> {
-    gives_axes(rt, alloc, source)?;
+    from_book(rt, alloc, source)?;
+    from_attribute(rt, alloc, source)?;
+    from_others(rt, alloc, source)?;
+    steps(rt, alloc, source)?;
+    reads_rows_once(rt, alloc, source)?;
     passes_tests(rt, alloc, source)?;
     gives_values(rt, alloc, source)?;
     copies_nodes(rt, alloc, source)
@@ -165,4 +298,33 @@ fn buffered_fragments_are_read(rt: HostRuntime) -> Result<(), Want> {
     let alloc = rt.alloc();
     let mut buffered = Buffered::new(alloc, one_library(alloc)?);
     reads(&rt, alloc, &mut buffered)
+}
+
+#[test]
+fn nodes_are_merged(rt: HostRuntime) -> Result<(), Want> {
+    let alloc = rt.alloc();
+    let merged = merge(nodes_at(alloc, &[5, 2, 5])?);
+    let text = places_of(alloc, &merged)?;
+    assert_eq!(rt; text.as_str(), "0.2 0.5 ");
+    let risen = merge(nodes_at(alloc, &[1, 4])?);
+    let same = places_of(alloc, &risen)?;
+    assert_eq!(rt; same.as_str(), "0.1 0.4 ");
+    Ok(())
+}
+
+#[test]
+fn steps_go_through_several_trees(rt: HostRuntime) -> Result<(), Want> {
+    let alloc = rt.alloc();
+    let mut fragments = one_library(alloc)?;
+    if let Ok(tree) = Fragment::from_rows(library(alloc)?) {
+        fragments.push(tree)?;
+    }
+    let mut nodes = Vec::new(alloc);
+    nodes.push(Node { tree: 1, pre: 5 })?;
+    nodes.push(Node { tree: 0, pre: 2 })?;
+    nodes.push(Node { tree: 1, pre: 2 })?;
+    let found = step(alloc, &mut fragments, &nodes, Axis::Child, &Test::Text)?;
+    let text = places_of(alloc, &found)?;
+    assert_eq!(rt; text.as_str(), "0.4 1.4 1.7 ");
+    Ok(())
 }

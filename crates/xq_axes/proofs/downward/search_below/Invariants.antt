@@ -1,4 +1,4 @@
-use Rattle.std.proofs.Common.{◌≡◌, ℕ, ◌<◌, ◌≤◌, length, get_or}
+use Rattle.std.proofs.Common.{◌≡◌, ℕ, ◌<◌, length, get_or}
 use Rattle.xq_sources.specs.Sources.{tree_at}
 use Rattle.xq_axes.specs.private.Hits.{IsRising}
 use Rattle.xq_axes.specs.private.Downward.{IsSearched}

@@ -1,4 +1,4 @@
-use Rattle.std.proofs.Common.{ℕ, ◌+◌, not, ap, ◌∙◌, arith}
+use Rattle.std.proofs.Common.{ℕ, not, ap, ◌∙◌, arith}
 use Rattle.xq_regions.specs.Rows.{Row, rows, row_at}
 use Rattle.xq_regions.specs.Tree.{is_attribute}
 use Rattle.xq_sources.specs.Sources.{tree_at}

@@ -1,6 +1,5 @@
-use Rattle.std.proofs.Common.{◌≡◌, ℕ, min, ◌<◌, ◌∷◌, [], ◌-◌, length, true, false, Vec, Global, refl, sym, ap, subst, ◌∙◌, arith}
-use Rattle.std.specs.Prelude.{slice_get, Some, None, IfOk}
-use Rattle.std.proofs.lemmas.Bool.{not-true, not-false}
+use Rattle.std.proofs.Common.{◌≡◌, ℕ, min, ◌∷◌, [], ◌-◌, length, true, false, Vec, Global, refl, sym, ap, subst, ◌∙◌}
+use Rattle.std.specs.Prelude.{slice_get, IfOk}
 use Rattle.xq_regions.specs.Forest.{count}
 use Rattle.xq_regions.specs.Tree.{nodes}
 use Rattle.xq_sources.specs.Sources.{tree_at}

@@ -1,4 +1,4 @@
-use Rattle.std.proofs.Common.{sym, ap, subst, ◌∙◌, arith, get_or}
+use Rattle.std.proofs.Common.{subst, ◌∙◌, arith, get_or}
 use Rattle.xq_sources.specs.Sources.{tree_at}
 use Rattle.xq_axes.specs.private.Passing.{IsEnd}
 use Rattle.xq_axes.proofs.Ranges.{least_of_all, least_over, least_more}

@@ -1,4 +1,4 @@
-use Rattle.std.proofs.Common.{◌≡◌, ℕ, ◌∷◌, [], ◌++◌, cond, get_or, sym, ap, subst, refl, ◌∙◌, arith}
+use Rattle.std.proofs.Common.{ℕ, ◌∷◌, [], ◌++◌, cond, get_or, ap, subst, refl, ◌∙◌, arith}
 use Rattle.xq_regions.specs.Rows.{Row, rows, row_at}
 use Rattle.xq_sources.specs.Sources.{tree_at, HasNode}
 use Rattle.xq_axes.proofs.Sizes.{one_row}

@@ -1,10 +1,9 @@
-use Rattle.std.proofs.Common.{◌≡◌, ℕ, ◌∷◌, [], List, map, Vec, Global, sym, ap, ◌∙◌}
+use Rattle.std.proofs.Common.{ℕ, ◌++◌, map, sym, ap, ◌∙◌}
 use Rattle.xq_regions.specs.declared.items.Node.{Node}
 use Rattle.xq_regions.specs.Order.{path_at}
 use Rattle.xq_values.specs.Items.{place, nodes_at}
-use Rattle.xq_values.specs.Steps.{axis_nodes}
 use Rattle.xq_values.specs.Readings.{node_at}
-use Rattle.xq_axes.proofs.Sizes.{OnOk-if}
+use Rattle.xq_axes.proofs.Many.{one_there, one_rises, axis_there}
 use Rattle.xq_axes.proofs.OnPaths.{map-map, axis_nodes_of}
 use Rattle.xq_axes.proofs.steps.axis.Goals as goal
 
@@ -14,5 +13,15 @@ returns-clause-nodes g c = λ k there. (
     let v = c.args.node in
     let make : ℕ → Node = λ p. record { tree = v.tree; pre = p } in
     let ps = c.deref.result.now in
-    OnOk-if c.nodes_of.result (λ (found : Vec Node Global). found.items ≡ map make ps) (λ (found : Vec Node Global). map (node_at trees) found.items ≡ axis_nodes trees c.args.axis c.args.test.now (node_at trees v))
-    (λ found e. ap (map (node_at trees)) e ∙ map-map (node_at trees) make ps ∙ ap (map (λ p. place v.tree (path_at (nodes_at trees v.tree) p))) (c.deref.ensures.value ∙ c.in_ok-places.ensures.found k there) ∙ sym (axis_nodes_of trees c.args.axis c.args.test.now v there)) c.nodes_of.ensures)
+    ap (map (node_at trees)) (c.in_ok-add_nodes.ensures ∙ ap (λ xs. xs ++ map make ps) c.in_ok-found.ensures.items) ∙ map-map (node_at trees) make ps
+    ∙ ap (map (λ p. place v.tree (path_at (nodes_at trees v.tree) p))) (c.deref.ensures.value ∙ c.in_ok-places.ensures.found k (one_there trees v.tree v.pre there) (one_rises v.pre))
+    ∙ sym (axis_nodes_of trees c.args.axis c.args.test.now v there))
+
+pub returns-clause-there : goal.returns-clause-there
+returns-clause-there g c = λ k there. (
+    let trees = g.L.TreeSource.forest c.args.source.now in
+    let v = c.args.node in
+    let make : ℕ → Node = λ p. record { tree = v.tree; pre = p } in
+    let ps = c.deref.result.now in
+    axis_there trees c.args.axis c.args.test.now v c.add_nodes.new.found.items there (c.in_ok-add_nodes.ensures ∙ ap (λ xs. xs ++ map make ps) c.in_ok-found.ensures.items
+    ∙ ap (map make) (c.deref.ensures.value ∙ c.in_ok-places.ensures.found k (one_there trees v.tree v.pre there) (one_rises v.pre))))

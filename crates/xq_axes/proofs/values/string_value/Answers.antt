@@ -1,4 +1,4 @@
-use Rattle.std.proofs.Common.{◌≡◌, ◌∷◌, [], ◌∙◌, sym, ap, subst, Global, String, string_bytes}
+use Rattle.std.proofs.Common.{◌≡◌, ◌∙◌, sym, subst, Global, String, string_bytes}
 use Rattle.std.specs.Prelude.{IfOk}
 use Rattle.xq_regions.specs.Value.{texts, string_value}
 use Rattle.xq_regions.specs.Rows.{rows, row_at}

@@ -1,5 +1,5 @@
-use Rattle.std.proofs.Common.{◌≡◌, ℕ, ◌+◌, ◌-◌, ◌≤◌, List, length, map, sym, ap, ◌∙◌, subst, eqb-true, arith}
-use Rattle.xq_regions.specs.Rows.{Row, placed}
+use Rattle.std.proofs.Common.{◌≡◌, ◌+◌, ◌≤◌, length, map, sym, ap, ◌∙◌, subst, eqb-true, arith}
+use Rattle.xq_regions.specs.Rows.{placed}
 use Rattle.xq_regions.proofs.Walks.{length-map}
 use Rattle.xq_sources.specs.Sources.{tree_at, rows_between}
 use Rattle.xq_sources.specs.Lenders.{IsRun}

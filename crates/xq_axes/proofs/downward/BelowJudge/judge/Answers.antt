@@ -1,9 +1,9 @@
-use Rattle.std.proofs.Common.{◌≡◌, ℕ, ◌+◌, ◌-◌, ◌<◌, ◌&&◌, Bool, false, get_or, set, nat_lt, not, sym, ap, ◌∙◌, subst, arith}
-use Rattle.xq_regions.specs.Rows.{Row, rows, row_at}
+use Rattle.std.proofs.Common.{◌≡◌, ◌+◌, ◌-◌, ◌&&◌, false, get_or, set, nat_lt, not, sym, ap, ◌∙◌, subst, arith}
+use Rattle.xq_regions.specs.Rows.{Row, rows}
 use Rattle.xq_regions.specs.Tree.{is_attribute}
 use Rattle.xq_regions.specs.RegionTests.{plain_row}
-use Rattle.xq_axes.specs.private.Hits.{is_hit, is_among, IsRising, IsReached}
-use Rattle.xq_axes.specs.private.Downward.{axis_of, is_chosen, level_of, IsJudged}
+use Rattle.xq_axes.specs.private.Hits.{is_among, IsRising, IsReached}
+use Rattle.xq_axes.specs.private.Downward.{is_chosen, level_of, IsJudged}
 use Rattle.xq_axes.proofs.Clusters.{judged}
 use Rattle.xq_axes.proofs.downward.BelowJudge.judge.Goals as goal
 

@@ -1,4 +1,4 @@
-use Rattle.std.proofs.Common.{◌&&◌, not, nat_eq, sym, ap, ◌∙◌}
+use Rattle.std.proofs.Common.{◌&&◌, nat_eq, sym, ap, ◌∙◌}
 use Rattle.xq_regions.specs.Rows.{Row}
 use Rattle.xq_axes.specs.private.Hits.{is_hit}
 use Rattle.xq_axes.specs.private.Kin.{axis_beside, plain_kind}

@@ -1,8 +1,8 @@
 use Rattle.std.proofs.Common.{◌≡◌, ◌+◌, ◌&&◌, ◌||◌, sym, ap, subst, ◌∙◌}
 use Rattle.xq_regions.specs.Rows.{Row}
-use Rattle.xq_axes.specs.private.Hits.{is_among, is_hit, IsRising, IsReached}
+use Rattle.xq_axes.specs.private.Hits.{is_among, IsRising, IsReached}
 use Rattle.xq_axes.specs.private.Downward.{end_of}
-use Rattle.xq_axes.specs.private.Passing.{axis_above, is_next_within}
+use Rattle.xq_axes.specs.private.Passing.{is_next_within}
 use Rattle.xq_axes.proofs.Ranges.{above_some, above_hit}
 use Rattle.xq_axes.proofs.passing.AboveJudge.judge.Goals as goal
 

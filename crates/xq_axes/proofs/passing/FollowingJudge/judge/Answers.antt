@@ -1,4 +1,4 @@
-use Rattle.std.proofs.Common.{not, sym, ap, ◌∙◌, arith}
+use Rattle.std.proofs.Common.{not, ap, ◌∙◌, arith}
 use Rattle.xq_regions.specs.Rows.{Row}
 use Rattle.xq_regions.specs.Tree.{is_attribute}
 use Rattle.xq_axes.proofs.Ranges.{following_hit}

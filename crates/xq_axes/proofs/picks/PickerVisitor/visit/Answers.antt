@@ -1,5 +1,4 @@
-use Rattle.std.proofs.Common.{◌≡◌, ℕ, ◌+◌, ◌∷◌, [], ◌++◌, ◌&&◌, cond, sym, ap, subst, ◌∙◌}
-use Rattle.std.specs.Prelude.{OnOk}
+use Rattle.std.proofs.Common.{◌≡◌, ◌+◌, ◌∷◌, [], ◌++◌, ◌&&◌, cond, sym, ap, subst, ◌∙◌}
 use Rattle.xq_regions.specs.Rows.{row_of}
 use Rattle.xq_axes.specs.private.Hits.{is_wanted, row_passes, below_where}
 use Rattle.xq_axes.proofs.Sizes.{OnOk-then}

@@ -1,0 +1,28 @@
+use Rattle.std.proofs.Common.{◌≡◌, ◌++◌, ◌||◌, Bool, map, sym, subst, ◌∙◌}
+use Rattle.std.specs.List.{list_any}
+use Rattle.xq_regions.specs.declared.items.Node.{Node}
+use Rattle.xq_regions.specs.Forest.{count}
+use Rattle.xq_regions.specs.Tree.{nodes}
+use Rattle.xq_sources.specs.Sources.{tree_at}
+use Rattle.xq_axes.specs.private.Hits.{is_wanted, below_where, IsRising}
+use Rattle.xq_axes.specs.private.Many.{spot, is_found_from, AreThere}
+use Rattle.xq_axes.proofs.Many.{added}
+use Rattle.xq_axes.proofs.Sizes.{OnOk-then}
+use Rattle.xq_axes.proofs.steps.add_step.Goals as goal
+
+pub returns-clause-found : goal.returns-clause-found
+returns-clause-found g c = λ k up there. (
+    let trees = g.L.TreeSource.forest c.args.source.now in
+    let tree = c.args.contexts.now.tree in
+    let t = tree_at trees tree in
+    let vs = c.args.contexts.now.places.items in
+    let axis = c.args.axis in
+    let test = c.args.test.now in
+    let old = c.args.found.now.items in
+    let new = c.add_nodes.new.found.items in
+    let ps = c.deref-2.result.now in
+    let v = c.deref.ensures.value in
+    let e = c.in_ok-places.ensures.found k (subst (AreThere trees tree) (sym v) there) (subst (λ ws. IsRising ws) (sym v) up) in
+    let e_vs = subst (λ ws. c.in_ok-places.places.items ≡ below_where (is_wanted axis test t ws) (count (nodes t))) v e in
+    OnOk-then c.add_nodes.result (new ≡ old ++ map (spot tree) ps) ((p : Node → Bool) → list_any p new ≡ (list_any p old || list_any (is_found_from trees axis test p) (map (spot tree) vs)))
+    (λ m. added trees axis test tree vs ps old new (c.deref-2.ensures.value ∙ e_vs) m) c.add_nodes.ensures)

@@ -1,0 +1,43 @@
+//! Nodes in document order, each once.
+ghost use Rattle.std.specs.Prelude.{◌≡◌, ◌↔◌, List, map};
+ghost use Rattle.std.specs.List.{Contains, IsAllAdjacentAnswer};
+ghost use Rattle.std.specs.Ordering.{is_lt};
+ghost use Rattle.xq_regions.specs.Tree.{Tree};
+ghost use Rattle.xq_regions.specs.declared.items.Node.{Node as NodeLem};
+ghost use Rattle.xq_values.specs.Items.{in_document_order};
+ghost use Rattle.xq_values.specs.Readings.{node_at};
+ghost use Rattle.xq_axes.specs.Nodes.{document_order, AreRising, HaveAll};
+
+use std::cmp::Ordering;
+use xq_regions::Node;
+
+/// Document order: by the number of the tree, then by the place in it.
+fn compare(first: &Node, second: &Node) -> Ordering
+    ensures { result ≡ document_order first.now second.now }
+{
+    let trees = first.tree.cmp(&second.tree);
+    trees.then_with(|| first.pre.cmp(&second.pre))
+}
+
+/// Whether each node comes before the next.
+fn rises(nodes: &[Node]) -> bool
+    ensures { IsAllAdjacentAnswer (λ x y b. b ≡ is_lt (document_order x y)) nodes.now result }
+{
+    nodes.is_sorted_by(|first, second| compare(first, second).is_lt())
+}
+
+/// The nodes in document order (XDM 3.1, section 2.4), each once: found out by one look where they
+/// rise already. It takes no memory.
+pub fn merge(mut nodes: Vec<Node>) -> Vec<Node>
+    ensures rising { AreRising result.items }
+    ensures members { (n : NodeLem) → Contains result.items n ↔ Contains nodes.items n }
+    ensures nodes { (trees : List Tree) → HaveAll trees nodes.items
+        → map (node_at trees) result.items
+        ≡ in_document_order trees (map (node_at trees) nodes.items) }
+{
+    if !rises(&nodes) {
+        nodes.sort_unstable_by(compare);
+        nodes.dedup();
+    }
+    nodes
+}
