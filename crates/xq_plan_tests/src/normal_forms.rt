@@ -12,7 +12,7 @@ use xq_regions::Axis;
 use xq_values::{Operator, Test};
 
 /// The normal form of a text.
-fn normal_form_of(alloc: Global, text: &str) -> Result<Core, Fault> {
+pub fn normal_form_of(alloc: Global, text: &str) -> Result<Core, Fault> {
     let tokens = lex(alloc, text)?;
     Ok(normalise(alloc, &parse(alloc, &tokens)?)?)
 }

@@ -1,21 +1,19 @@
 //! What plans have in place of names and steps.
 
+use crate::normal_forms::normal_form_of;
 use sqlite_items::{Boxed, Items};
 use std::alloc::Global;
 use xq_atoms::{Code, Fault};
 use xq_expressions::{Sign, Text};
-use xq_lexer::lex;
 use xq_meaning::{Core, CoreClause, Plan, PlanClause, PlanStep};
-use xq_normal::normalise;
-use xq_parser::parse;
 use xq_plan::plan;
 use xq_regions::Axis;
 use xq_values::{Operator, Test};
 
 /// The plan of a text.
 fn plan_of(alloc: Global, text: &str) -> Result<Plan, Fault> {
-    let tokens = lex(alloc, text)?;
-    Ok(plan(alloc, &normalise(alloc, &parse(alloc, &tokens)?)?)?)
+    let core = normal_form_of(alloc, text)?;
+    Ok(plan(alloc, &core)?)
 }
 
 #[test]
