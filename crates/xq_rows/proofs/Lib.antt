@@ -10,6 +10,7 @@ pub mod Maps
 pub mod Keys
 pub mod Loads
 pub mod Calls
+pub mod ViewLaws
 pub mod MemoryFiles
 pub mod MapLaws
 pub mod AdoptReads
