@@ -9,6 +9,7 @@ pub mod Creates
 pub mod Maps
 pub mod Keys
 pub mod Loads
+pub mod Ranges
 pub mod Calls
 pub mod ViewLaws
 pub mod MemoryFiles

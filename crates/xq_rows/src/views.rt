@@ -90,7 +90,16 @@ impl<S: Alter> Store<S> {
             → IsOpen S.Store self) }
         ensures was_clean { IfErr result (λ e. IsClean S.Store e.1 → IsClean S.Store self) }
     {
-        Err((Want::Store, self))
+        let mut store = self;
+        match store.addresses() {
+            Ok(addresses) => Ok(View {
+                store,
+                addresses,
+                meter: Meter::new(),
+                origin: PhantomData,
+            }),
+            Err(want) => Err((want, store)),
+        }
     }
 }
 
@@ -139,19 +148,37 @@ impl<S: Alter, O: Origin> TreeSource for View<S, O> {
 impl<S: Alter, O: Origin> RowSource for View<S, O> {
     fn range(
         &mut self,
-        _: Global,
-        _: usize,
-        _: u32,
-        _: u32,
+        alloc: Global,
+        tree: usize,
+        low: u32,
+        high: u32,
     ) -> Result<Vec<NodeRow>, Want> {
-        Err(Want::Store)
+        let Some(address) = self.addresses.get(tree) else {
+            return Err(Want::Store);
+        };
+        let found = self.store.read_between(alloc, address.as_str(), low, high)?;
+        self.meter = self.meter.with_rows(found.len());
+        Ok(found)
     }
 
-    fn enclosing(&mut self, _: Global, _: usize, _: u32) -> Result<Vec<NodeRow>, Want> {
-        Err(Want::Store)
+    fn enclosing(&mut self, alloc: Global, tree: usize, node: u32) -> Result<Vec<NodeRow>, Want> {
+        let Some(address) = self.addresses.get(tree) else {
+            return Err(Want::Store);
+        };
+        let found = self.store.read_above(alloc, address.as_str(), node)?;
+        self.meter = self.meter.with_singles(found.len());
+        Ok(found)
     }
 
-    fn row(&mut self, _: Global, _: usize, _: u32) -> Result<NodeRow, Want> {
-        Err(Want::Store)
+    fn row(&mut self, alloc: Global, tree: usize, node: u32) -> Result<NodeRow, Want> {
+        let Some(address) = self.addresses.get(tree) else {
+            return Err(Want::Store);
+        };
+        let mut found = self.store.read_between(alloc, address.as_str(), node, node)?;
+        let Some(row) = found.pop() else {
+            return Err(Want::Store);
+        };
+        self.meter = self.meter.with_singles(1);
+        Ok(row)
     }
 }
