@@ -1,5 +1,5 @@
 -- What a view gives, and what it gives back.
-use Rattle.std.proofs.Common.{◌≡◌, ◌×◌, ◌+◌, ◌-◌, ◌≤◌, ◌<◌, ℕ, zero, suc, Bool, true, false, List, [], ◌∷◌, ◌++◌, length, map, take, drop, Some, None, IsTrue, nat_lt, refl, sym, ap, subst, ◌∙◌, arith}
+use Rattle.std.proofs.Common.{◌≡◌, ◌+◌, ◌-◌, ◌≤◌, ◌<◌, ℕ, zero, suc, Bool, true, false, List, [], ◌∷◌, ◌++◌, length, map, take, drop, Some, None, IsTrue, nat_lt, refl, sym, ap, subst, ◌∙◌, arith, String, Global, string_bytes}
 use Rattle.std.specs.Prelude.{slice_get, slice_index_or}
 use Rattle.std.specs.FinMap.{get, keys, values}
 use Rattle.std.specs.List.{enumerate_from}
@@ -73,6 +73,12 @@ pub nth_in : (f : List ℕ → Tree) (list : List (List ℕ)) (i : ℕ) (a : Lis
 nth_in f [] i a e = absurd cc
 nth_in f (x ∷ list) zero a e = omega arith
 nth_in f (x ∷ list) (suc i) a e = let more = nth_in f list i a e in omega (arith, more)
+
+-- the address that was looked up
+pub looked_up : (items : List (String Global)) (i : ℕ) (s : String Global) → i < length items → s ≡ slice_index_or items i s → slice_get (map string_bytes items) i ≡ Some (string_bytes s)
+looked_up [] i s h e = absurd (omega arith)
+looked_up (x ∷ items) zero s h e = ap (λ z. Some (string_bytes z)) (sym e)
+looked_up (x ∷ items) (suc i) s h e = looked_up items i s (omega arith) e
 
 abbrev pub began_map : Beginning → Map
 began_map b = documents_in (b.database.trees 1)
