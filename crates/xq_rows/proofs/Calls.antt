@@ -92,24 +92,24 @@ module _ {S : Type 0} (g : Ghosts S) (conn old new : Held S) (same : conn ≡ ol
       unfolding IsClean
       ranged low high range clean m stands t has = elim r as (λ q. (HasCleanDisk (state g new) → OnOk q (IsTrue (state g new).is_open))
           → (IsReady (state g new) → IfOk q (λ x. IsRange a low high (state g conn).now (map cells (map placed (list x))))) → IfOk q (λ x. map placed (list x) ≡ rows_between t low high)) [
-        | Ok x ↦ λ ends range.
-            let ready : IsReady (state g new) = (clean, ends clean) in
-            let held = before m stands (opens ready) in
-            range_is (state g conn).now a low high t (map placed (list x)) held.0 (ap (λ d. get d a) held.1 ∙ has) (range ready)
-        | Err e ↦ λ _ _. tt
-      ] ends range
+            | Ok x ↦ λ ends range.
+                let ready : IsReady (state g new) = (clean, ends clean) in
+                let held = before m stands (opens ready) in
+                range_is (state g conn).now a low high t (map placed (list x)) held.0 (ap (λ d. get d a) held.1 ∙ has) (range ready)
+            | Err e ↦ λ _ _. tt
+          ] ends range
 
       pub raised : (node : ℕ) → (IsReady (state g new) → IfOk r (λ x. AreAbove a node (state g conn).now (map cells (map placed (list x)))))
           → IsClean g new → (m : Map) → StandsFor g old m → (t : Tree) → get m a ≡ Some t → IfOk r (λ x. map placed (list x) ≡ rows_enclosing t node)
       unfolding IsClean
       raised node above clean m stands t has = elim r as (λ q. (HasCleanDisk (state g new) → OnOk q (IsTrue (state g new).is_open))
           → (IsReady (state g new) → IfOk q (λ x. AreAbove a node (state g conn).now (map cells (map placed (list x))))) → IfOk q (λ x. map placed (list x) ≡ rows_enclosing t node)) [
-        | Ok x ↦ λ ends above.
-            let ready : IsReady (state g new) = (clean, ends clean) in
-            let held = before m stands (opens ready) in
-            above_is (state g conn).now a node t (map placed (list x)) held.0 (ap (λ d. get d a) held.1 ∙ has) (above ready)
-        | Err e ↦ λ _ _. tt
-      ] ends above
+            | Ok x ↦ λ ends above.
+                let ready : IsReady (state g new) = (clean, ends clean) in
+                let held = before m stands (opens ready) in
+                above_is (state g conn).now a node t (map placed (list x)) held.0 (ap (λ d. get d a) held.1 ∙ has) (above ready)
+            | Err e ↦ λ _ _. tt
+          ] ends above
 
     pub all_listed : {X E : Type 0} (bytes : X → List (List ℕ)) (r : Result X E) → (IsReady (state g new) → IfOk r (λ all. AreAddresses (state g conn).now (map (λ a. Text a ∷ []) (bytes all))))
         → (HasCleanDisk (state g new) → OnOk r (IsTrue (state g new).is_open)) → IsClean g new → (m : Map) → StandsFor g old m → IfOk r (λ all. bytes all ≡ keys m)

@@ -1,21 +1,20 @@
 -- What a view gives, and what it gives back.
-use Rattle.std.proofs.Common.{◌≡◌, ◌+◌, ◌-◌, ◌≤◌, ◌<◌, ℕ, zero, suc, Bool, true, false, List, [], ◌∷◌, ◌++◌, length, map, take, drop, Some, None, IsTrue, nat_lt, refl, sym, ap, subst, ◌∙◌, arith, String, Global, string_bytes}
+use Rattle.std.proofs.Common.{◌≡◌, ◌+◌, ◌-◌, ◌≤◌, ◌<◌, ℕ, zero, suc, Bool, true, false, List, [], ◌∷◌, ◌++◌, length, map, take, drop, Some, nat_lt, refl, sym, ap, subst, ◌∙◌, arith, String, Global, string_bytes}
 use Rattle.std.specs.Prelude.{slice_get, slice_index_or}
 use Rattle.std.specs.FinMap.{get, keys, values}
 use Rattle.std.specs.List.{enumerate_from}
 use Rattle.std.proofs.lemmas.Bool.{ltb-true, ltb-false}
 use Rattle.sqlite_trees.specs.declared.store.Store.{Ghosts}
-use Rattle.sqlite_value.specs.Order.{Row as Columns}
-use Rattle.sqlite.specs.Held.{Held, state}
+use Rattle.sqlite.specs.Held.{Held}
 use Rattle.xq_regions.specs.Forest.{count}
 use Rattle.xq_regions.specs.Tree.{Tree, IsTree, nodes}
 use Rattle.xq_regions.specs.Rows.{Row, rows, row_at, measured, placed, placed_rows}
 use Rattle.xq_regions.specs.Nesting.{count-measured}
 use Rattle.xq_regions.specs.declared.NodeRow.{NodeRow}
 use Rattle.xq_sources.specs.Meters.{Readings}
-use Rattle.xq_sources.specs.Sources.{no_tree, rows_between, HasTree, HasNode, tree_at as nth_tree}
+use Rattle.xq_sources.specs.Sources.{rows_between, tree_at as nth_tree}
 use Rattle.xq_sources.proofs.Intervals.{between-places}
-use Rattle.xq_rows.specs.Documents.{Map, IsClean, IsOpen, IsStore, StandsFor, documents_in, tree_at}
+use Rattle.xq_rows.specs.Documents.{Map, IsClean, IsOpen, StandsFor, documents_in, tree_at}
 use Rattle.xq_rows.specs.Views.{Beginning, HeldDocuments, StoodFor, Viewed, IsView, WasClean, WasOpen, beginning, trees_under}
 use Rattle.xq_rows.proofs.Keys.{values_are, get_at}
 use Rattle.xq_rows.proofs.Loads.{length-labels}

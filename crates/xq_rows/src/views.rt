@@ -25,9 +25,9 @@ impl Origin for Brand {
     ghost use Rattle.std.specs.Prelude.{[], false};
 
     ghost beginning = { record {
-        database = record { schema = no_schema; trees = λ _. [] };
-        is_open = false;
-        is_clean = false;
+      database = record { schema = no_schema; trees = λ _. [] };
+      is_open = false;
+      is_clean = false;
     } };
 }
 
@@ -54,15 +54,15 @@ impl<S: Alter, O: Origin> Model for View<S, O> {
     ghost coded = { viewed_code S.code };
 
     ghost view = { λ v. record {
-        store = v.store;
-        addresses = map string_bytes v.addresses.items;
-        meter = v.meter;
+      store = v.store;
+      addresses = map string_bytes v.addresses.items;
+      meter = v.meter;
     } };
 
     ghost invariant = { λ v. IsView S.Store O.beginning (record {
-        store = v.store;
-        addresses = map string_bytes v.addresses.items;
-        meter = v.meter;
+      store = v.store;
+      addresses = map string_bytes v.addresses.items;
+      meter = v.meter;
     }) };
 }
 
@@ -174,7 +174,9 @@ impl<S: Alter, O: Origin> RowSource for View<S, O> {
         let Some(address) = self.addresses.get(tree) else {
             return Err(Want::Store);
         };
-        let mut found = self.store.read_between(alloc, address.as_str(), node, node)?;
+        let mut found = self
+            .store
+            .read_between(alloc, address.as_str(), node, node)?;
         let Some(row) = found.pop() else {
             return Err(Want::Store);
         };
