@@ -1,7 +1,7 @@
 -- How many rows are in a region.
-use Rattle.std.proofs.Common.{◌≡◌, ◌≢◌, ◌↔◌, ◌⊎◌, ◌||◌, ◌&&◌, ℕ, zero, suc, ◌+◌, ◌-◌, ◌<◌, ◌≤◌, List, [], ◌∷◌, ◌++◌, length, map, take, get_or, min, Bool, true, false, cond, nat_eq, nat_le, inl, inr, refl, sym, ◌∙◌, ap, subst, arith}
+use Rattle.std.proofs.Common.{◌≡◌, ◌≢◌, ◌↔◌, ℕ, zero, suc, ◌+◌, ◌-◌, ◌<◌, ◌≤◌, List, [], ◌∷◌, ◌++◌, length, map, take, get_or, min, Bool, true, false, cond, nat_eq, nat_le, inl, inr, refl, sym, ◌∙◌, ap, subst, arith}
 use Rattle.std.specs.Prelude.{filter}
-use Rattle.std.specs.List.{list_any, range_with_len, Contains, AllByRecursion}
+use Rattle.std.specs.List.{list_any, range_with_len, Contains}
 use Rattle.std.specs.declared.cmp.Ordering.TheVariants.{Less}
 use Rattle.std.proofs.lemmas.Bool.{le-leb, lt-ltb, cases_lt, or_right}
 use Rattle.std.proofs.lemmas.List.{length-append, length-map, length-take, get_or-map, get_or-take, map-append, take_more, take_all}
@@ -231,8 +231,8 @@ module _ (contexts : List Node) (index tree : ℕ) (kept : List ℕ) (are : AreK
         let first : tree ≡ one = ap (λ (n : Node). n.tree) (each 0 l) ∙ one_tree one contexts 0 none (still_one one ns contexts all (λ n. (m n).0)) (omega (arith, s, l)) in
         let whole : map (spot tree) kept ≡ contexts = are ∙ take_all index contexts done in
         let same : (p : ℕ → Bool) → list_any p kept ≡ list_any p (places_of ns) = λ p. (
-          let at : Node → Bool = λ n. p n.pre in
-          sym (any_map at (spot tree) kept) ∙ ap (list_any at) whole ∙ same_any at contexts ns m ∙ sym (any_map p (λ (n : Node). n.pre) ns)) in
+        let at : Node → Bool = λ n. p n.pre in
+        sym (any_map at (spot tree) kept) ∙ ap (list_any at) whole ∙ same_any at contexts ns m ∙ sym (any_map p (λ (n : Node). n.pre) ns)) in
         let e : length (region a (tree_at trees tree) kept) ≡ length (region a (tree_at trees one) (places_of ns)) = ap (λ n. length (region a (tree_at trees n) kept)) first ∙ ap length (region_same a (tree_at trees one) kept (places_of ns) same) in
         omega (arith, e))
     | inr l ↦ (let e = region_none a (tree_at trees tree) kept (omega (arith, l)) in omega (arith, e))
@@ -245,3 +245,10 @@ kept_first contexts index x tree kept new are empty at e =
     let zero_is : index ≡ 0 = omega (arith, s, empty, within) in
     let begin : AreKept contexts index x.tree [] = ap (λ i. take i contexts) (sym zero_is) in
     kept_more contexts index x.tree [] begin x new at refl e
+
+pub none_rises : (kept : List ℕ) → length kept ≡ 0 → IsRising kept
+none_rises kept e i j h l = absurd (omega (arith, e, h, l))
+
+-- nothing is read from no context
+pub none_read : (a : Axis) (t : Tree) (kept : List ℕ) (old new : ℕ) → length kept ≡ 0 → new ≤ old + length (region a t kept) → new ≤ old
+none_read a t kept old new e h = let z = region_none a t kept e in omega (arith, h, z)

@@ -1,5 +1,5 @@
 -- The rows of ranges that a step has to read, on each axis but those to parents and siblings.
-use Rattle.std.specs.Prelude.{ℕ, ◌≡◌, List, length, map, filter, Bool, true, false, ◌||◌, nat_eq, nat_lt, nat_le}
+use Rattle.std.specs.Prelude.{ℕ, ◌≡◌, List, map, filter, Bool, true, false, ◌||◌, nat_eq, nat_lt, nat_le}
 use Rattle.std.specs.List.{list_any, range_with_len, AllByRecursion}
 use Rattle.xq_regions.specs.Forest.{count}
 use Rattle.xq_regions.specs.Tree.{Tree, nodes}
