@@ -1,5 +1,5 @@
 -- What a call of a store comes to, from what it does to the connection.
-use Rattle.std.proofs.Common.{Option, Bool, IfOk, ◌≡◌, ◌+◌, ◌≤◌, ℕ, suc, List, [], ◌∷◌, map, IsTrue, refl, sym, ap, subst, ◌∙◌, arith, nat_lt, Result, Ok, Err, OnOk, OnErr}
+use Rattle.std.proofs.Common.{Option, Some, Bool, IfOk, ◌≡◌, ◌+◌, ◌≤◌, ℕ, suc, List, [], ◌∷◌, map, IsTrue, refl, sym, ap, subst, ◌∙◌, arith, nat_lt, Result, Ok, Err, OnOk, OnErr}
 use Rattle.std.specs.List.{enumerate_from}
 use Rattle.std.specs.FinMap.{get, insert, remove, contains_key, keys, empty}
 use Rattle.sqlite_trees.specs.View.{doubt}
@@ -13,11 +13,13 @@ use Rattle.xq_regions.specs.declared.NodeRow.{NodeRow}
 use Rattle.xq_regions.specs.declared.Kind.TheVariants.{Document}
 use Rattle.xq_rows.specs.Nodes.{cells}
 use Rattle.xq_rows.specs.Documents.{Map, IsReady, IsClean, IsOpen, StandsFor, documents_in, is_at, IsStore, IsEmptyStore}
-use Rattle.xq_rows.specs.Statements.{AreAddresses, Deletes, Finds, IsRange, Puts}
+use Rattle.xq_rows.specs.Statements.{AreAbove, AreAddresses, Deletes, Finds, IsRange, Puts}
 use Rattle.xq_rows.specs.Tables.{store_schema}
 use Rattle.sqlite_value.specs.declared.value.Value.TheVariants.{Text}
 use Rattle.xq_rows.proofs.Loads.{most, found_is}
 use Rattle.xq_rows.proofs.Keys.{keys_are}
+use Rattle.xq_rows.proofs.Ranges.{range_is, above_is}
+use Rattle.xq_sources.specs.Sources.{rows_between, rows_enclosing}
 use Rattle.xq_rows.proofs.Maps.{store_drops, store_puts, dropped_map, put_map, was_there, no_documents}
 
 pub on_err : {A B : Type 0} (P : Type 0) (r : Result A B) → P → OnErr r P
@@ -82,6 +84,32 @@ module _ {S : Type 0} (g : Ghosts S) (conn old new : Held S) (same : conn ≡ ol
         let ready : IsReady (state g new) = (clean, ends clean) in
         let held = before m stands (opens ready) in
         found_is (state g conn).now a nodes found held.0 (range ready) finds ∙ ap (λ d. get d a) held.1
+
+    -- the rows of a document that were read
+    module _ {X E : Type 0} (list : X → List NodeRow) (r : Result X E) (a : List ℕ) (ends : HasCleanDisk (state g new) → OnOk r (IsTrue (state g new).is_open)) where
+      pub ranged : (low high : ℕ) → (IsReady (state g new) → IfOk r (λ x. IsRange a low high (state g conn).now (map cells (map placed (list x)))))
+          → IsClean g new → (m : Map) → StandsFor g old m → (t : Tree) → get m a ≡ Some t → IfOk r (λ x. map placed (list x) ≡ rows_between t low high)
+      unfolding IsClean
+      ranged low high range clean m stands t has = elim r as (λ q. (HasCleanDisk (state g new) → OnOk q (IsTrue (state g new).is_open))
+          → (IsReady (state g new) → IfOk q (λ x. IsRange a low high (state g conn).now (map cells (map placed (list x))))) → IfOk q (λ x. map placed (list x) ≡ rows_between t low high)) [
+            | Ok x ↦ λ ends range.
+                let ready : IsReady (state g new) = (clean, ends clean) in
+                let held = before m stands (opens ready) in
+                range_is (state g conn).now a low high t (map placed (list x)) held.0 (ap (λ d. get d a) held.1 ∙ has) (range ready)
+            | Err e ↦ λ _ _. tt
+          ] ends range
+
+      pub raised : (node : ℕ) → (IsReady (state g new) → IfOk r (λ x. AreAbove a node (state g conn).now (map cells (map placed (list x)))))
+          → IsClean g new → (m : Map) → StandsFor g old m → (t : Tree) → get m a ≡ Some t → IfOk r (λ x. map placed (list x) ≡ rows_enclosing t node)
+      unfolding IsClean
+      raised node above clean m stands t has = elim r as (λ q. (HasCleanDisk (state g new) → OnOk q (IsTrue (state g new).is_open))
+          → (IsReady (state g new) → IfOk q (λ x. AreAbove a node (state g conn).now (map cells (map placed (list x))))) → IfOk q (λ x. map placed (list x) ≡ rows_enclosing t node)) [
+            | Ok x ↦ λ ends above.
+                let ready : IsReady (state g new) = (clean, ends clean) in
+                let held = before m stands (opens ready) in
+                above_is (state g conn).now a node t (map placed (list x)) held.0 (ap (λ d. get d a) held.1 ∙ has) (above ready)
+            | Err e ↦ λ _ _. tt
+          ] ends above
 
     pub all_listed : {X E : Type 0} (bytes : X → List (List ℕ)) (r : Result X E) → (IsReady (state g new) → IfOk r (λ all. AreAddresses (state g conn).now (map (λ a. Text a ∷ []) (bytes all))))
         → (HasCleanDisk (state g new) → OnOk r (IsTrue (state g new).is_open)) → IsClean g new → (m : Map) → StandsFor g old m → IfOk r (λ all. bytes all ≡ keys m)

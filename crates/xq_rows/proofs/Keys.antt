@@ -1,7 +1,8 @@
 -- The addresses that a SELECT gives are the keys of the map.
-use Rattle.std.proofs.Common.{◌≡◌, ◌⊎◌, ◌+◌, ◌<◌, ◌≤◌, ◌||◌, inl, inr, ℕ, suc, pos, Bool, true, false, cond, List, [], ◌∷◌, map, filter, length, refl, sym, ap, subst, ◌∙◌, arith, Less, Some, None, T, Result, Ok, Err, IfOk}
+use Rattle.std.proofs.Common.{◌≡◌, ◌⊎◌, ◌+◌, ◌<◌, ◌≤◌, ◌||◌, inl, inr, ℕ, zero, suc, pos, Bool, true, false, cond, List, [], ◌∷◌, map, filter, length, refl, sym, ap, subst, ◌∙◌, arith, Less, Some, None, T, Result, Ok, Err, IfOk}
 use Rattle.std.specs.Ordering.{is_eq, eq_by_cmp}
-use Rattle.std.specs.FinMap.{keys, from_entries, from_sorted, is_sorted, same_map, get-from_entries, get-from_sorted, entries-from_sorted}
+use Rattle.std.specs.Prelude.{slice_get}
+use Rattle.std.specs.FinMap.{entries, find, get, get-entries, keys, values, from_entries, from_sorted, is_sorted, same_map, get-from_entries, get-from_sorted, entries-from_sorted}
 use Rattle.std.specs.FinMap.Entries.{below_all}
 use Rattle.std.specs.List.{AllByRecursion, list_any, enumerate_from}
 use Rattle.std.specs.List.Sorted.{IsPermutation}
@@ -16,6 +17,7 @@ use Rattle.sqlite_trees.proofs.ListLemmas.{map-map, IsPermutation-filter}
 use Rattle.sqlite_keyed.specs.Lists.{sort_by}
 use Rattle.sqlite_keyed.proofs.SortLemmas.{sorted_is-sort_by, sort_by-map, IsPermutation-sort_by}
 use Rattle.xq_regions.specs.Rows.{Row as Node, rows}
+use Rattle.xq_regions.specs.Tree.{Tree}
 use Rattle.xq_rows.specs.Nodes.{cells, bytes_in}
 use Rattle.xq_rows.specs.Documents.{is_at, is_first, kept, rows_at, by_first, tree_at, addresses_in, documents_in, HasAddress, IsWhole}
 use Rattle.xq_rows.specs.Statements.{IsPicked, AreAddresses}
@@ -116,21 +118,53 @@ in_order : {X : Type 0} (f : List ℕ → X) (list : List (List ℕ)) → IsAsce
 in_order f [] up = refl
 in_order f (a ∷ more) up = rw (below_rest f a more up.0, in_order f more up.1) refl
 
--- the map of entries whose keys are some addresses, each once, has these for its keys, in order
-keys_sorted : {X : Type 0} (f : List ℕ → X) (list : List (List ℕ)) → IsAscending (λ a b. is_eq (order a b) ≡ false) list
-    → keys (from_entries {R = order} (map (λ a. (a, f a)) list)) ≡ sort_by order list
-keys_sorted {X} f list apart =
+-- the map of entries whose keys are some addresses, each once, has these in their order
+entries_sorted : {X : Type 0} (f : List ℕ → X) (list : List (List ℕ)) → IsAscending (λ a b. is_eq (order a b) ≡ false) list
+    → entries (from_entries {R = order} (map (λ a. (a, f a)) list)) ≡ map (λ a. (a, f a)) (sort_by order list)
+entries_sorted {X} f list apart =
     let up = sort_rises order order_total list apart in
     let es : List (List ℕ × X) = map (λ a. (a, f a)) (sort_by order list) in
     let good : T (is_sorted order es) = subst T (sym (in_order f (sort_by order list) up)) tt in
     let same : from_entries {R = order} (map (λ a. (a, f a)) list) ≡ from_sorted es = same_map order_total order_exact _ _ (λ q.
     get-from_entries order_total _ q ∙ find_by f q list ∙ ap (λ b. cond b (Some (f q)) None) (sym (list_any-IsPermutation (eq_by_cmp order q) _ _ (IsPermutation-sort_by order order_total list)))
     ∙ sym (get-from_sorted order es q good ∙ find_by f q (sort_by order list))) in
-    ap keys same ∙ ap (map (λ (e : List ℕ × X). e.0)) (entries-from_sorted order es good) ∙ map-map _ _ _ ∙ unchanged (sort_by order list)
+    ap entries same ∙ entries-from_sorted order es good
+
+unchanged : (l : List (List ℕ)) → map (λ a. a) l ≡ l
+unchanged [] = refl
+unchanged (a ∷ more) = ap (λ l. a ∷ l) (unchanged more)
+
+keys_sorted : {X : Type 0} (f : List ℕ → X) (list : List (List ℕ)) → IsAscending (λ a b. is_eq (order a b) ≡ false) list
+    → keys (from_entries {R = order} (map (λ a. (a, f a)) list)) ≡ sort_by order list
+keys_sorted {X} f list apart = ap (map (λ (e : List ℕ × X). e.0)) (entries_sorted f list apart) ∙ map-map _ _ _ ∙ unchanged (sort_by order list)
+
+-- the map has under each of its keys the tree at this address
+pub entries_are : (table : List Row) → AllByRecursion HasAddress table → ((a : List ℕ) → (rows_at a table ≡ []) ⊎ IsWhole (rows_at a table))
+    → entries (documents_in table) ≡ map (λ a. (a, tree_at table a)) (keys (documents_in table))
+unfolding documents_in
+entries_are table named whole =
+    let apart = listed_once table named (λ a. whole_root (rows_at a table) (whole a)) in
+    let own : List ℕ → List ℕ × Tree = λ a. (a, tree_at table a) in
+    entries_sorted (tree_at table) (addresses_in table) apart ∙ ap (map own) (sym (keys_sorted (tree_at table) (addresses_in table) apart))
+
+pub values_are : (table : List Row) → AllByRecursion HasAddress table → ((a : List ℕ) → (rows_at a table ≡ []) ⊎ IsWhole (rows_at a table))
+    → values (documents_in table) ≡ map (tree_at table) (keys (documents_in table))
+values_are table named whole = ap (map (λ (e : List ℕ × Tree). e.1)) (entries_are table named whole) ∙ map-map _ _ _
+
+listed_at : (list : List (List ℕ)) (i : ℕ) (a : List ℕ) → slice_get list i ≡ Some a → list_any (eq_by_cmp order a) list ≡ true
+listed_at [] i a e = absurd cc
+listed_at (k ∷ list) zero a e = let same : k ≡ a = cc in ap (λ x. eq_by_cmp order a x || list_any (eq_by_cmp order a) list) same ∙ ap (λ o. is_eq o || list_any (eq_by_cmp order a) list) (tied_itself order_total a)
+listed_at (k ∷ list) (suc i) a e = ap (λ b. eq_by_cmp order a k || b) (listed_at list i a e) ∙ always (eq_by_cmp order a k)
   where
-    unchanged : (l : List (List ℕ)) → map (λ a. a) l ≡ l
-    unchanged [] = refl
-    unchanged (a ∷ more) = ap (λ l. a ∷ l) (unchanged more)
+    always : (b : Bool) → (b || true) ≡ true
+    always true = refl
+    always false = refl
+
+pub get_at : (table : List Row) → AllByRecursion HasAddress table → ((a : List ℕ) → (rows_at a table ≡ []) ⊎ IsWhole (rows_at a table)) → (i : ℕ) (a : List ℕ)
+    → slice_get (keys (documents_in table)) i ≡ Some a → get (documents_in table) a ≡ Some (tree_at table a)
+get_at table named whole i a e =
+    get-entries (documents_in table) a ∙ ap (find order a) (entries_are table named whole) ∙ find_by (tree_at table) a (keys (documents_in table))
+    ∙ ap (λ b. cond b (Some (tree_at table a)) None) (listed_at (keys (documents_in table)) i a e)
 
 -- # What the SELECT gives
 

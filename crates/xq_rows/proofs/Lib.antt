@@ -9,7 +9,9 @@ pub mod Creates
 pub mod Maps
 pub mod Keys
 pub mod Loads
+pub mod Ranges
 pub mod Calls
+pub mod ViewLaws
 pub mod MemoryFiles
 pub mod MapLaws
 pub mod AdoptReads

@@ -21,7 +21,7 @@ use Rattle.xq_regions.specs.Nesting.{count-measured, rows-injective}
 use Rattle.xq_regions.specs.declared.NodeRow.{NodeRow}
 use Rattle.xq_rows.specs.Nodes.{cells, node_in, node_of}
 use Rattle.xq_rows.specs.Documents.{is_at, kept, rows_at, by_first, documents_in, IsWhole, IsStore}
-use Rattle.xq_rows.specs.Statements.{is_within, Finds, IsPicked, IsRange}
+use Rattle.xq_rows.specs.Statements.{is_above, is_within, AreAbove, Finds, IsPicked, IsRange}
 use Rattle.xq_rows.proofs.Maps.{get-whole, get-none, node_back, nodes_back}
 use Rattle.xq_rows.proofs.Orders.{first_total, numbers_rise}
 
@@ -130,3 +130,15 @@ pub nodes_read : {X E : Type 0} (db : Database) (a : List ℕ) (low high : ℕ) 
     → IfOk r (λ nodes. map cells (map placed (list nodes)) ≡ map node_of given) → IfOk r (λ nodes. IsRange a low high db (map cells (map placed (list nodes))))
 nodes_read db a low high given list (Err e) range read = tt
 nodes_read db a low high given list (Ok nodes) range read = read_range_is db a low high given (list nodes) range read
+
+pub above_read_is : (db : Database) (a : List ℕ) (v : ℕ) (given : List Row) (list : List NodeRow) → AreAbove a v db given
+    → map cells (map placed list) ≡ map node_of given → AreAbove a v db (map cells (map placed list))
+above_read_is db a v given list shown read store =
+    let it = shown store in
+    let same = read ∙ all_six (filter (λ r. is_at a r && is_above v r) (db.trees 1)) given it.same in
+    subst (IsPicked (λ r. is_at a r && is_above v r) kept (db.trees 1)) (sym same) it
+
+pub above_read : {X E : Type 0} (db : Database) (a : List ℕ) (v : ℕ) (given : List Row) (list : X → List NodeRow) (r : Result X E) → AreAbove a v db given
+    → IfOk r (λ nodes. map cells (map placed (list nodes)) ≡ map node_of given) → IfOk r (λ nodes. AreAbove a v db (map cells (map placed (list nodes))))
+above_read db a v given list (Err e) shown read = tt
+above_read db a v given list (Ok some) shown read = above_read_is db a v given (list some) shown read

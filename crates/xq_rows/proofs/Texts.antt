@@ -9,7 +9,8 @@ use Rattle.sqlite.specs.Collation.TheVariants.{Binary}
 use Rattle.sqlite.specs.declared.types.Value.TheVariants.{Null, Int}
 use Rattle.sqlite_value.specs.declared.keys.Key.{Key}
 use Rattle.sqlite_schema.specs.declared.program.Program.{Program}
-use Rattle.sqlite_sql.specs.declared.ops.BinaryOp.TheVariants.{Compare}
+use Rattle.sqlite_sql.specs.declared.ops.BinaryOp.TheVariants.{Arith, Compare}
+use Rattle.sqlite_sql.specs.declared.ops.ArithOp.TheVariants.{Add}
 use Rattle.sqlite_sql.specs.declared.ops.CompareOp.TheVariants.{Eq, Lt, Ge, Le}
 use Rattle.sqlite.specs.Compile.{table_defined_by}
 use Rattle.sqlite_tied.specs.Compute.{everything}
@@ -151,6 +152,23 @@ range_is = (refl, refl)
 pub range_plain : IsPlain (understood store_schema range_text)
 unfolding understood everything
 range_plain = (refl, refl)
+
+abbrev pub above_text : List ℕ
+above_text = codes "SELECT pre, size, level, kind, name, value FROM node WHERE address = ?1 AND pre < ?2 AND pre + size >= ?2 ORDER BY pre"
+
+abbrev pub above_tests : List Term
+above_tests = op2 (Compare Eq Binary) (col 1 1) (col 0 0) ∷ op2 (Compare Lt Binary) (col 1 2) (col 0 1) ∷ op2 (Compare Ge Binary) (op2 (Arith Add) (col 1 2) (col 1 3)) (col 0 1) ∷ []
+
+abbrev pub above_command : Command
+above_command = Select (record { lets = []; body = body above_tests kept_terms ((col 1 2, key) ∷ []) }) kept_names
+
+pub above_is : (command_of (understood store_schema above_text) ≡ above_command) × (reads_listing store_schema above_text ≡ false)
+unfolding understood everything
+above_is = (refl, refl)
+
+pub above_plain : IsPlain (understood store_schema above_text)
+unfolding understood everything
+above_plain = (refl, refl)
 
 abbrev pub insert_text : List ℕ
 insert_text = codes "INSERT INTO node (address, pre, size, level, kind, name, value) VALUES (?1, ?2, ?3, ?4, ?5, ?6, ?7)"

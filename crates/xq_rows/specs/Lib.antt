@@ -3,4 +3,5 @@ pub mod Nodes
 pub mod Documents
 pub mod Refusals
 pub mod Statements
+pub mod Views
 pub mod Adopt

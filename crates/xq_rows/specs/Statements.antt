@@ -1,5 +1,5 @@
 -- What each statement of the store does to the tables, or gives of them.
-use Rattle.std.specs.Prelude.{◌≡◌, ◌≢◌, ◌++◌, ◌&&◌, ℕ, pos, Bool, true, List, [], ◌∷◌, map, filter, length, Option, Some, None, IsPermutation, IsSorted, nat_lt}
+use Rattle.std.specs.Prelude.{◌≡◌, ◌≢◌, ◌+◌, ◌++◌, ◌&&◌, ℕ, pos, Bool, true, List, [], ◌∷◌, map, filter, length, Option, Some, None, IsPermutation, IsSorted, nat_lt, nat_le}
 use Rattle.std.specs.Ordering.{is_ge, is_le, is_lt}
 use Rattle.std.specs.List.{AllByRecursion}
 use Rattle.sqlite_value.specs.Order.{Row, column, value_cmp}
@@ -12,6 +12,7 @@ use Rattle.xq_regions.specs.Tree.{Tree}
 use Rattle.xq_regions.specs.Rows.{Encodes}
 use Rattle.xq_regions.specs.declared.NodeRow.{NodeRow}
 use Rattle.xq_rows.specs.Documents.{is_at, is_first, kept, rows_at, by_first, AreApart, HasAddress, HaveInts, IsEmptyStore, IsStore}
+use Rattle.xq_rows.specs.Nodes.{number_in}
 use Rattle.xq_rows.specs.Tables.{no_schema, layout_schema, node_schema, turned_schema, store_schema}
 
 -- the rows that pass a test are gone, and nothing else is
@@ -71,6 +72,14 @@ is_within low high row = is_ge (value_cmp (column row 2) (Int (pos low))) && is_
 -- the rows of an address with numbers from low to high
 abbrev pub IsRange : List ℕ → ℕ → ℕ → Database → List Row → Type 0
 IsRange address low high db rows = db.schema ≡ store_schema → IsPicked (λ r. is_at address r && is_within low high r) kept (db.trees 1) rows
+
+-- the row's number is below that of a node, and at least that with its size
+abbrev pub is_above : ℕ → Row → Bool
+is_above node row = nat_lt (number_in (column row 2)) node && nat_le node (number_in (column row 2) + number_in (column row 3))
+
+-- the rows of an address that are those of nodes above a node
+abbrev pub AreAbove : List ℕ → ℕ → Database → List Row → Type 0
+AreAbove address node db rows = IsStore db → IsPicked (λ r. is_at address r && is_above node r) kept (db.trees 1) rows
 
 -- the addresses, one for each first row
 abbrev pub AreAddresses : Database → List Row → Type 0

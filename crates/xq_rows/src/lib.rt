@@ -16,7 +16,9 @@ mod statements;
 mod stores;
 mod tables;
 mod transactions;
+mod views;
 
 pub use faults::OpenFault;
 pub use laws::{memory_disks_are_clean, memory_is_clean};
 pub use stores::{Put, Store};
+pub use views::{Origin, View};

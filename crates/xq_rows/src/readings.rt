@@ -4,7 +4,7 @@ ghost use Rattle.sqlite.specs.State.{HasCleanDisk};
 ghost use Rattle.sqlite.specs.Held.{state};
 ghost use Rattle.sqlite_trees.specs.View.{doubt};
 ghost use Rattle.xq_rows.specs.Documents.{IsReady};
-ghost use Rattle.xq_rows.specs.Statements.{AreAddresses, Finds, IsRange};
+ghost use Rattle.xq_rows.specs.Statements.{AreAbove, AreAddresses, Finds, IsRange};
 ghost use Rattle.xq_rows.specs.Refusals.{want_of};
 ghost use Rattle.xq_rows.specs.Tables.{store_schema};
 ghost use Rattle.sqlite_value.specs.Order.{column};
@@ -14,7 +14,7 @@ ghost use Rattle.xq_regions.specs.Tree.{IsDocument};
 ghost use Rattle.xq_rows.specs.Nodes.{IsReadable, cells, node_of, number_of};
 
 use crate::refusals::Refusal;
-use crate::statements::{read_addresses, read_range};
+use crate::statements::{read_addresses, read_enclosing, read_range};
 use sqlite::{Alter, Connection, Error, ErrorCode, Row};
 use std::alloc::Global;
 use xq_atoms::Want;
@@ -90,24 +90,32 @@ fn texts(alloc: Global, rows: &[Row]) -> Result<Vec<String>, Want>
     Ok(texts)
 }
 
-/// The rows of an address in the order of their numbers.
-fn rows_of<S: Alter>(conn: &mut Connection<S>, address: &str) -> Result<Vec<Row>, Refusal>
+/// The rows of an address whose numbers are from `low` to `high`, in the order of their numbers.
+fn rows_between<S: Alter>(
+    conn: &mut Connection<S>,
+    address: &str,
+    low: u32,
+    high: u32,
+) -> Result<Vec<Row>, Refusal>
     requires { conn.old.in_transaction ≡ false }
     ensures mode { conn.new.in_transaction ≡ false }
     ensures clean { doubt (state S.Store conn.old).is_clean ≤ doubt (state S.Store conn.new).is_clean }
     ensures open { IsReady (state S.Store conn.new) → IsTrue (state S.Store conn.old).is_open }
     ensures ends_open { HasCleanDisk (state S.Store conn.new) → OnOk result (IsTrue (state S.Store conn.new).is_open) }
     ensures same { IsReady (state S.Store conn.new) → (state S.Store conn.old).now.schema ≡ store_schema → (state S.Store conn.new).now ≡ (state S.Store conn.old).now }
-    ensures rows { IsReady (state S.Store conn.new) → IfOk result (λ rows. IsRange address.now 0 u32.MAX (state S.Store conn.old).now rows.items) }
+    ensures rows { IsReady (state S.Store conn.new) → IfOk result (λ rows. IsRange address.now low high (state S.Store conn.old).now rows.items) }
 {
-    Ok(read_range(conn, address, 0, u32::MAX)?)
+    Ok(read_range(conn, address, low, high)?)
 }
 
-/// The nodes of an address in document order; there are none where it is absent.
-pub fn load_nodes<S: Alter>(
+/// The nodes of an address from `low` to `high`, in document order; there are none where it is
+/// absent.
+pub fn nodes_between<S: Alter>(
     alloc: Global,
     conn: &mut Connection<S>,
     address: &str,
+    low: u32,
+    high: u32,
 ) -> Result<Vec<NodeRow>, Want>
     requires { conn.old.in_transaction ≡ false }
     ensures mode { conn.new.in_transaction ≡ false }
@@ -115,9 +123,45 @@ pub fn load_nodes<S: Alter>(
     ensures open { IsReady (state S.Store conn.new) → IsTrue (state S.Store conn.old).is_open }
     ensures ends_open { HasCleanDisk (state S.Store conn.new) → OnOk result (IsTrue (state S.Store conn.new).is_open) }
     ensures same { IsReady (state S.Store conn.new) → (state S.Store conn.old).now.schema ≡ store_schema → (state S.Store conn.new).now ≡ (state S.Store conn.old).now }
-    ensures nodes { IsReady (state S.Store conn.new) → IfOk result (λ nodes. IsRange address.now 0 u32.MAX (state S.Store conn.old).now (map cells (map placed nodes.items))) }
+    ensures nodes { IsReady (state S.Store conn.new) → IfOk result (λ nodes. IsRange address.now low high (state S.Store conn.old).now (map cells (map placed nodes.items))) }
 {
-    let rows = rows_of(conn, address)?;
+    let rows = rows_between(conn, address, low, high)?;
+    node_rows(alloc, &rows)
+}
+
+/// The rows of an address that are those of nodes above a node.
+fn rows_above<S: Alter>(
+    conn: &mut Connection<S>,
+    address: &str,
+    node: u32,
+) -> Result<Vec<Row>, Refusal>
+    requires { conn.old.in_transaction ≡ false }
+    ensures mode { conn.new.in_transaction ≡ false }
+    ensures clean { doubt (state S.Store conn.old).is_clean ≤ doubt (state S.Store conn.new).is_clean }
+    ensures open { IsReady (state S.Store conn.new) → IsTrue (state S.Store conn.old).is_open }
+    ensures ends_open { HasCleanDisk (state S.Store conn.new) → OnOk result (IsTrue (state S.Store conn.new).is_open) }
+    ensures same { IsReady (state S.Store conn.new) → (state S.Store conn.old).now.schema ≡ store_schema → (state S.Store conn.new).now ≡ (state S.Store conn.old).now }
+    ensures rows { IsReady (state S.Store conn.new) → IfOk result (λ rows. AreAbove address.now node (state S.Store conn.old).now rows.items) }
+{
+    Ok(read_enclosing(conn, address, node)?)
+}
+
+/// The nodes of an address above a node, the root first.
+pub fn nodes_above<S: Alter>(
+    alloc: Global,
+    conn: &mut Connection<S>,
+    address: &str,
+    node: u32,
+) -> Result<Vec<NodeRow>, Want>
+    requires { conn.old.in_transaction ≡ false }
+    ensures mode { conn.new.in_transaction ≡ false }
+    ensures clean { doubt (state S.Store conn.old).is_clean ≤ doubt (state S.Store conn.new).is_clean }
+    ensures open { IsReady (state S.Store conn.new) → IsTrue (state S.Store conn.old).is_open }
+    ensures ends_open { HasCleanDisk (state S.Store conn.new) → OnOk result (IsTrue (state S.Store conn.new).is_open) }
+    ensures same { IsReady (state S.Store conn.new) → (state S.Store conn.old).now.schema ≡ store_schema → (state S.Store conn.new).now ≡ (state S.Store conn.old).now }
+    ensures nodes { IsReady (state S.Store conn.new) → IfOk result (λ nodes. AreAbove address.now node (state S.Store conn.old).now (map cells (map placed nodes.items))) }
+{
+    let rows = rows_above(conn, address, node)?;
     node_rows(alloc, &rows)
 }
 

@@ -9,7 +9,7 @@ ghost use Rattle.sqlite_trees.specs.View.{doubt};
 ghost use Rattle.xq_regions.specs.Rows.{placed};
 ghost use Rattle.xq_rows.specs.Documents.{IsReady, is_at};
 ghost use Rattle.xq_rows.specs.Nodes.{cells, number_of as number_of_lem};
-ghost use Rattle.xq_rows.specs.Statements.{Adds, AreAddresses, Drops, IsRange, is_part};
+ghost use Rattle.xq_rows.specs.Statements.{Adds, AreAbove, AreAddresses, Drops, IsRange, is_part};
 ghost use Rattle.xq_rows.specs.Tables.{store_schema};
 
 use sqlite::{Alter, Connection, Error, Row, Transaction, params};
@@ -118,6 +118,28 @@ pub fn read_range<S: Alter>(
     conn.query_all(
         "SELECT pre, size, level, kind, name, value FROM node WHERE address = ?1 AND pre >= ?2 AND pre <= ?3 ORDER BY pre",
         params![address, low, high],
+    )
+}
+
+/// Reads the rows of an address whose numbers are less than that of a node, and at least that with
+/// their sizes, in the order of their numbers: the columns as [`read_range`] gives them.
+pub fn read_enclosing<S: Alter>(
+    conn: &mut Connection<S>,
+    address: &str,
+    node: u32,
+) -> Result<Vec<Row>, Error>
+    requires { conn.old.in_transaction ≡ false }
+    ensures mode { conn.new.in_transaction ≡ false }
+    ensures clean { doubt (state S.Store conn.old).is_clean ≤ doubt (state S.Store conn.new).is_clean }
+    ensures open { IsReady (state S.Store conn.new) → IsTrue (state S.Store conn.old).is_open }
+    ensures ends_open { HasCleanDisk (state S.Store conn.new) → OnOk result (IsTrue (state S.Store conn.new).is_open) }
+    ensures same { IsReady (state S.Store conn.new) → (state S.Store conn.old).now.schema ≡ store_schema → (state S.Store conn.new).now ≡ (state S.Store conn.old).now }
+    ensures rows { IsReady (state S.Store conn.new) → IfOk result (λ rows. AreAbove address.now node (state S.Store conn.old).now rows.items) }
+{
+    let _settled = conn.is_autocommit();
+    conn.query_all(
+        "SELECT pre, size, level, kind, name, value FROM node WHERE address = ?1 AND pre < ?2 AND pre + size >= ?2 ORDER BY pre",
+        params![address, node],
     )
 }
 

@@ -4,7 +4,7 @@
 //! written), which `was_clean` takes back to the call before, and speaks of whichever map the store
 //! stands for as the call begins. A store that has shut, after a fault or where memory ran out in a
 //! commit, stands for the map that it stood for then: each later call is refused, by `answered`.
-ghost use Rattle.std.specs.Prelude.{◌≡◌, IfErr, IfOk, IfSome, OnErr, OnOk, map, string_bytes, if◌then◌else◌, false};
+ghost use Rattle.std.specs.Prelude.{◌≡◌, IfErr, IfOk, IfSome, OnErr, OnOk, Some, map, string_bytes, if◌then◌else◌, false};
 ghost use Rattle.std.specs.FinMap.{get, insert, remove, keys, contains_key, empty};
 ghost use Rattle.sqlite.specs.Files.{over_files};
 ghost use Rattle.sqlite.specs.Held.{state};
@@ -12,13 +12,15 @@ ghost use Rattle.sqlite.specs.Steps.{over_memory};
 ghost use Rattle.xq_atoms.specs.Address.{IsAddress};
 ghost use Rattle.xq_regions.specs.declared.Kind.TheVariants.{Document};
 ghost use Rattle.xq_rows.specs.Adopt.{IsBlank, HasTables, HasOneTable};
-ghost use Rattle.xq_regions.specs.Tree.{IsDocument};
+ghost use Rattle.xq_regions.specs.Rows.{placed};
+ghost use Rattle.xq_regions.specs.Tree.{IsDocument, Tree};
 ghost use Rattle.xq_rows.specs.Documents.{IsClean, IsOpen, IsUp, Holds, Map, StandsFor, documents};
+ghost use Rattle.xq_sources.specs.Sources.{rows_between, rows_enclosing};
 
 use crate::adopt::adopt_tables;
 use crate::faults::OpenFault;
 use crate::memory_files::open_empty;
-use crate::readings::{document_of, list_addresses, load_nodes};
+use crate::readings::{document_of, list_addresses, nodes_above, nodes_between};
 use crate::tables::make_tables;
 use crate::transactions::{drop_rows, put_rows};
 use sqlite::{Alter, Connection, FileStore, MemStore};
@@ -26,7 +28,7 @@ use std::alloc::Global;
 use std::marker::Model;
 use xq_atoms::Want;
 use xq_memory_disk::MemoryDisk;
-use xq_regions::Fragment;
+use xq_regions::{Fragment, NodeRow};
 
 /// Documents under addresses, in the tables of a database. Contracts see the store's connection,
 /// which is in no transaction, and speak of it by `IsClean`, `IsOpen` and `StandsFor`.
@@ -152,8 +154,47 @@ impl<S: Alter> Store<S> {
             → IsOpen S.Store self.old }
         ensures was_clean { IsClean S.Store self.new → IsClean S.Store self.old }
     {
-        let nodes = load_nodes(self.alloc, &mut self.conn, address)?;
+        let nodes = nodes_between(self.alloc, &mut self.conn, address, 0, u32::MAX)?;
         document_of(nodes)
+    }
+
+    /// The rows of the address from `low` to `high`, in document order.
+    pub(crate) fn read_between(
+        &mut self,
+        alloc: Global,
+        address: &str,
+        low: u32,
+        high: u32,
+    ) -> Result<Vec<NodeRow>, Want>
+        ensures found { IsClean S.Store self.new → (m : Map) → StandsFor S.Store self.old m
+            → (t : Tree) → get m address.now ≡ Some t
+            → IfOk result (λ found. map placed found.items ≡ rows_between t low high) }
+        ensures same { IsClean S.Store self.new → (m : Map) → StandsFor S.Store self.old m
+            → StandsFor S.Store self.new m }
+        ensures was_open { IsClean S.Store self.new → IsOpen S.Store self.new
+            → IsOpen S.Store self.old }
+        ensures was_clean { IsClean S.Store self.new → IsClean S.Store self.old }
+    {
+        nodes_between(alloc, &mut self.conn, address, low, high)
+    }
+
+    /// The rows of the nodes of the address that are above a node, the root first.
+    pub(crate) fn read_above(
+        &mut self,
+        alloc: Global,
+        address: &str,
+        node: u32,
+    ) -> Result<Vec<NodeRow>, Want>
+        ensures found { IsClean S.Store self.new → (m : Map) → StandsFor S.Store self.old m
+            → (t : Tree) → get m address.now ≡ Some t
+            → IfOk result (λ found. map placed found.items ≡ rows_enclosing t node) }
+        ensures same { IsClean S.Store self.new → (m : Map) → StandsFor S.Store self.old m
+            → StandsFor S.Store self.new m }
+        ensures was_open { IsClean S.Store self.new → IsOpen S.Store self.new
+            → IsOpen S.Store self.old }
+        ensures was_clean { IsClean S.Store self.new → IsClean S.Store self.old }
+    {
+        nodes_above(alloc, &mut self.conn, address, node)
     }
 
     /// Sets the document of the address, and changes no other. A refusal leaves each document as

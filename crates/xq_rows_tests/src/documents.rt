@@ -46,6 +46,16 @@ impl Named {
                 .zip(wanted)
                 .all(|(row, want)| is_row(row, *want))
     }
+
+    /// Whether the rows are those of this document at these places.
+    pub fn has(self, places: &[usize], rows: &[NodeRow]) -> bool {
+        let all = self.rows();
+        rows.len() == places.len()
+            && rows
+                .iter()
+                .zip(places)
+                .all(|(row, place)| all.get(*place).is_some_and(|want| is_row(row, *want)))
+    }
 }
 
 fn is_row(row: &NodeRow, (pre, size, level, kind, name, value): Row) -> bool {

@@ -14,3 +14,5 @@ mod part_tests;
 mod refusals;
 #[cfg(test)]
 mod tests;
+#[cfg(test)]
+mod view_tests;

@@ -3,25 +3,25 @@ use Rattle.xq_rows.proofs.stores.Store.load.Goals as goal
 
 pub returns-clause-found : goal.returns-clause-found
 returns-clause-found g c =
-    loaded g.S.Store c.self.inside.conn c.args.self.now c.load_nodes.new.conn c.self.view_is c.load_nodes.ensures.open c.args.address.now c.in_ok-nodes.nodes.items c.document_of.result c.in_ok-nodes.ensures.nodes c.document_of.ensures.found c.in_ok-nodes.ensures.ends_open
+    loaded g.S.Store c.self.inside.conn c.args.self.now c.nodes_between.new.conn c.self.view_is c.nodes_between.ensures.open c.args.address.now c.in_ok-nodes.nodes.items c.document_of.result c.in_ok-nodes.ensures.nodes c.document_of.ensures.found c.in_ok-nodes.ensures.ends_open
 
 pub returns-clause-answered : goal.returns-clause-answered
-returns-clause-answered g c = is_left_open g.S.Store c.load_nodes.new.conn c.document_of.result c.in_ok-nodes.ensures.ends_open
+returns-clause-answered g c = is_left_open g.S.Store c.nodes_between.new.conn c.document_of.result c.in_ok-nodes.ensures.ends_open
 
 pub returns-in_err-nodes-clause-same : goal.returns-in_err-nodes-clause-same
-returns-in_err-nodes-clause-same g c = read_stands g.S.Store c.self.inside.conn c.args.self.now c.load_nodes.new.conn c.self.view_is c.load_nodes.ensures.open c.load_nodes.ensures.same
+returns-in_err-nodes-clause-same g c = read_stands g.S.Store c.self.inside.conn c.args.self.now c.nodes_between.new.conn c.self.view_is c.nodes_between.ensures.open c.nodes_between.ensures.same
 
 pub returns-in_err-nodes-clause-was_open : goal.returns-in_err-nodes-clause-was_open
-returns-in_err-nodes-clause-was_open g c = was_open g.S.Store c.self.inside.conn c.args.self.now c.load_nodes.new.conn c.self.view_is c.load_nodes.ensures.open
+returns-in_err-nodes-clause-was_open g c = was_open g.S.Store c.self.inside.conn c.args.self.now c.nodes_between.new.conn c.self.view_is c.nodes_between.ensures.open
 
 pub returns-in_err-nodes-clause-was_clean : goal.returns-in_err-nodes-clause-was_clean
-returns-in_err-nodes-clause-was_clean g c = was_clean g.S.Store c.self.inside.conn c.args.self.now c.load_nodes.new.conn c.self.view_is c.load_nodes.ensures.clean
+returns-in_err-nodes-clause-was_clean g c = was_clean g.S.Store c.self.inside.conn c.args.self.now c.nodes_between.new.conn c.self.view_is c.nodes_between.ensures.clean
 
 pub returns-clause-same : goal.returns-clause-same
-returns-clause-same g c = read_stands g.S.Store c.self.inside.conn c.args.self.now c.load_nodes.new.conn c.self.view_is c.load_nodes.ensures.open c.load_nodes.ensures.same
+returns-clause-same g c = read_stands g.S.Store c.self.inside.conn c.args.self.now c.nodes_between.new.conn c.self.view_is c.nodes_between.ensures.open c.nodes_between.ensures.same
 
 pub returns-clause-was_open : goal.returns-clause-was_open
-returns-clause-was_open g c = was_open g.S.Store c.self.inside.conn c.args.self.now c.load_nodes.new.conn c.self.view_is c.load_nodes.ensures.open
+returns-clause-was_open g c = was_open g.S.Store c.self.inside.conn c.args.self.now c.nodes_between.new.conn c.self.view_is c.nodes_between.ensures.open
 
 pub returns-clause-was_clean : goal.returns-clause-was_clean
-returns-clause-was_clean g c = was_clean g.S.Store c.self.inside.conn c.args.self.now c.load_nodes.new.conn c.self.view_is c.load_nodes.ensures.clean
+returns-clause-was_clean g c = was_clean g.S.Store c.self.inside.conn c.args.self.now c.nodes_between.new.conn c.self.view_is c.nodes_between.ensures.clean

@@ -1,0 +1,68 @@
+-- What a view of a store is, and which trees it gives.
+use Rattle.std.specs.Prelude.{◌≡◌, ℕ, Bool, List, map, IsTrue, refl}
+use Rattle.std.specs.Coded.{Coded, code_by, coded×, coded_ℕ, coded_list}
+use Rattle.std.specs.FinMap.{keys}
+use Rattle.sqlite_trees.specs.View.{doubt}
+use Rattle.sqlite_trees.specs.declared.store.Store.{Ghosts}
+use Rattle.sqlite.specs.Effect.{Database}
+use Rattle.sqlite.specs.Held.{Held, held_code, state}
+use Rattle.xq_regions.specs.Tree.{Tree}
+use Rattle.xq_sources.specs.Meters.{Readings}
+use Rattle.xq_rows.specs.Documents.{Map, IsStore, IsClean, IsOpen, StandsFor, tree_at, documents_in}
+
+-- # What contracts see of a view
+
+-- the store that it reads, the addresses of its trees, and what its meter shows
+pub record Viewed (S : Type 0) : Type 0 where
+  pub store : Held S
+  pub addresses : List (List ℕ)
+  pub meter : Readings
+
+abbrev pub viewed_code : {S : Type 0} → Coded S → Coded (Viewed S)
+viewed_code {S} store =
+    code_by (Held S × (List (List ℕ) × (ℕ × ℕ)))
+    (coded× (held_code store) (coded× (coded_list (coded_list coded_ℕ)) (coded× coded_ℕ coded_ℕ)))
+    (λ v. (v.store, (v.addresses, (v.meter.rows, v.meter.singles))))
+    (λ p. record { store = p.0; addresses = p.1.0; meter = record { rows = p.1.1.0; singles = p.1.1.1 } })
+    (λ _. refl)
+
+-- # The store as a view of it begins
+
+-- its database, whether it is open, and whether its disk has returned what was written
+pub record Beginning : Type 0 where
+  pub database : Database
+  pub is_open : Bool
+  pub is_clean : Bool
+
+-- A store, of which a contract sees its connection: `g` are the ghosts of what it keeps its database in.
+module _ {S : Type 0} (g : Ghosts S) (store : Held S) where
+  unfoldable pub beginning : Beginning
+  beginning = record { database = (state g store).now; is_open = (state g store).is_open; is_clean = (state g store).is_clean }
+
+-- The tables held documents as the view began.
+unfoldable pub HeldDocuments : Beginning → Type 0
+HeldDocuments b = IsStore b.database
+
+-- They stood for this map.
+unfoldable pub StoodFor : Beginning → Map → Type 0
+StoodFor b m = IsStore b.database × (documents_in (b.database.trees 1) ≡ m)
+
+-- It was open, and its disk had returned what was written.
+unfoldable pub WasOpen : Beginning → Type 0
+WasOpen b = IsTrue b.is_open
+
+unfoldable pub WasClean : Beginning → Type 0
+WasClean b = doubt b.is_clean ≡ 0
+
+-- # The trees of a view
+
+-- the documents of the addresses, as the view began
+abbrev pub trees_under : Beginning → List (List ℕ) → List Tree
+trees_under b addresses = map (tree_at (b.database.trees 1)) addresses
+
+-- What a view keeps true: its store stands for the map that it stood for as the view began, and its addresses are the map's.
+pub record IsView {S : Type 0} (g : Ghosts S) (b : Beginning) (v : Viewed S) : Type 0 where
+  pub was_clean : IsClean g v.store → WasClean b
+  pub was_open : IsClean g v.store → IsOpen g v.store → WasOpen b
+  pub stands : IsClean g v.store → (m : Map) → StoodFor b m → StandsFor g v.store m
+  pub listed : IsClean g v.store → (m : Map) → StoodFor b m → v.addresses ≡ keys m

@@ -1,0 +1,186 @@
+//! Views: the documents of a store as trees whose rows are read where they lie.
+ghost use Rattle.std.specs.Prelude.{◌≡◌, IfErr, IfOk, map, string_bytes};
+ghost use Rattle.std.specs.FinMap.{keys, values};
+ghost use Rattle.xq_rows.specs.Documents.{IsClean, IsOpen, Map, StandsFor};
+ghost use Rattle.xq_rows.specs.Tables.{no_schema};
+ghost use Rattle.xq_rows.specs.Views.{Beginning, HeldDocuments, StoodFor, WasClean, WasOpen, beginning, trees_under};
+ghost use Rattle.xq_sources.specs.Meters.{no_readings};
+
+use crate::stores::Store;
+use sqlite::Alter;
+use std::alloc::Global;
+use std::marker::{Brand, Model, PhantomData};
+use xq_atoms::Want;
+use xq_regions::NodeRow;
+use xq_sources::{Meter, RowSource, TreeSource};
+
+/// Where a view began. A function that reads a store through a view has a parameter of this kind;
+/// its caller passes `Brand`, and picks for it the store as that call begins, by `beginning`.
+pub trait Origin {
+    /// The store as the view began.
+    ghost beginning: { Beginning };
+}
+
+impl Origin for Brand {
+    ghost use Rattle.std.specs.Prelude.{[], false};
+
+    ghost beginning = { record {
+      database = record { schema = no_schema; trees = λ _. [] };
+      is_open = false;
+      is_clean = false;
+    } };
+}
+
+/// The documents of a store: tree n is the document of the n-th address, in the order of their
+/// bytes. Its rows are read where they lie, by a statement for each call, and counted; nothing
+/// else of them is kept. It has the store until [`View::into_store`] gives it back, so nothing
+/// changes a document meanwhile.
+///
+/// Contracts see the store, the addresses and what the meter shows.
+#[derive(Drop)]
+pub struct View<S: Alter, O: Origin> {
+    store: Store<S>,
+    addresses: Vec<String>,
+    meter: Meter,
+    origin: PhantomData<O>,
+}
+
+impl<S: Alter, O: Origin> Model for View<S, O> {
+    ghost use Rattle.std.specs.Prelude.{map, string_bytes};
+    ghost use Rattle.xq_rows.specs.Views.{IsView, Viewed, viewed_code};
+
+    ghost Value = { Viewed S };
+
+    ghost coded = { viewed_code S.code };
+
+    ghost view = { λ v. record {
+      store = v.store;
+      addresses = map string_bytes v.addresses.items;
+      meter = v.meter;
+    } };
+
+    ghost invariant = { λ v. IsView S.Store O.beginning (record {
+      store = v.store;
+      addresses = map string_bytes v.addresses.items;
+      meter = v.meter;
+    }) };
+}
+
+impl<S: Alter> Store<S> {
+    /// The documents to be read where they lie. A refusal gives the store back, with each document
+    /// as it was.
+    pub fn view<O: Origin>(self) -> Result<View<S, O>, (Want, Store<S>)>
+        requires { beginning S.Store self ≡ O.beginning }
+        ensures began { IfOk result (λ view. IsClean S.Store view.store
+            → (m : Map) → StandsFor S.Store self m → StoodFor O.beginning m) }
+        ensures addresses { IfOk result (λ view. IsClean S.Store view.store
+            → (m : Map) → StoodFor O.beginning m → view.addresses ≡ keys m) }
+        ensures trees { IfOk result (λ view. IsClean S.Store view.store
+            → (m : Map) → StoodFor O.beginning m
+            → ⟦<View<S, O> as TreeSource>⟧.forest view ≡ values m) }
+        ensures clean { IfOk result (λ view. IsClean S.Store view.store
+            → (m : Map) → StoodFor O.beginning m
+            → ⟦<View<S, O> as TreeSource>⟧.is_clean view) }
+        ensures open { IfOk result (λ view. IsClean S.Store view.store
+            → IsOpen S.Store view.store) }
+        ensures unread { IfOk result (λ view. view.meter ≡ no_readings) }
+        ensures kept { IfErr result (λ e. IsClean S.Store e.1
+            → (m : Map) → StandsFor S.Store self m → StandsFor S.Store e.1 m) }
+        ensures was_open { IfErr result (λ e. IsClean S.Store e.1 → IsOpen S.Store e.1
+            → IsOpen S.Store self) }
+        ensures was_clean { IfErr result (λ e. IsClean S.Store e.1 → IsClean S.Store self) }
+    {
+        let mut store = self;
+        match store.addresses() {
+            Ok(addresses) => Ok(View {
+                store,
+                addresses,
+                meter: Meter::new(),
+                origin: PhantomData,
+            }),
+            Err(want) => Err((want, store)),
+        }
+    }
+}
+
+impl<S: Alter, O: Origin> View<S, O> {
+    /// The addresses of the documents, each once, in the order of their bytes.
+    pub fn addresses(&self) -> &[String]
+        ensures { map string_bytes result.now ≡ self.now.addresses }
+    {
+        &self.addresses
+    }
+
+    /// Gives the store back, which stands for the map that it stood for as the view began.
+    pub fn into_store(self) -> Store<S>
+        ensures store { result ≡ self.store }
+        ensures same { IsClean S.Store result
+            → (m : Map) → StoodFor O.beginning m → StandsFor S.Store result m }
+        ensures was_open { IsClean S.Store result → IsOpen S.Store result → WasOpen O.beginning }
+        ensures was_clean { IsClean S.Store result → WasClean O.beginning }
+    {
+        let View {
+            store,
+            addresses: _,
+            meter: _,
+            origin: _,
+        } = self;
+        store
+    }
+}
+
+impl<S: Alter, O: Origin> TreeSource for View<S, O> {
+    ghost forest = { λ v. trees_under O.beginning v.addresses };
+
+    ghost meter = { λ v. v.meter };
+
+    ghost is_clean = { λ v. IsClean S.Store v.store × HeldDocuments O.beginning };
+
+    fn trees(&self) -> usize {
+        self.addresses.len()
+    }
+
+    fn meter(&self) -> Meter {
+        self.meter
+    }
+}
+
+impl<S: Alter, O: Origin> RowSource for View<S, O> {
+    fn range(
+        &mut self,
+        alloc: Global,
+        tree: usize,
+        low: u32,
+        high: u32,
+    ) -> Result<Vec<NodeRow>, Want> {
+        let Some(address) = self.addresses.get(tree) else {
+            return Err(Want::Store);
+        };
+        let found = self.store.read_between(alloc, address.as_str(), low, high)?;
+        self.meter = self.meter.with_rows(found.len());
+        Ok(found)
+    }
+
+    fn enclosing(&mut self, alloc: Global, tree: usize, node: u32) -> Result<Vec<NodeRow>, Want> {
+        let Some(address) = self.addresses.get(tree) else {
+            return Err(Want::Store);
+        };
+        let found = self.store.read_above(alloc, address.as_str(), node)?;
+        self.meter = self.meter.with_singles(found.len());
+        Ok(found)
+    }
+
+    fn row(&mut self, alloc: Global, tree: usize, node: u32) -> Result<NodeRow, Want> {
+        let Some(address) = self.addresses.get(tree) else {
+            return Err(Want::Store);
+        };
+        let mut found = self
+            .store
+            .read_between(alloc, address.as_str(), node, node)?;
+        let Some(row) = found.pop() else {
+            return Err(Want::Store);
+        };
+        self.meter = self.meter.with_singles(1);
+        Ok(row)
+    }
+}
