@@ -41,12 +41,12 @@ module _ {S : Type 0} (g : Ghosts S) (b : Beginning) (store : Held S) (same : be
   stands_stood opened m stands = subst (λ b. StoodFor b m) same (stands opened)
 
   -- the addresses were read
-  module _ (new : Held S) (addresses : List (List ℕ)) (meter : Readings) (clean : IsClean g new → IsClean g store) (opens : IsClean g new → IsOpen g new → IsOpen g store)
+  module _ (new : Held S) (addresses : List (List ℕ)) (meter : Readings) (clean : IsClean g new → IsClean g store) (opens : IsClean g new → IsOpen g store)
       (stays : IsClean g new → (m : Map) → StandsFor g store m → StandsFor g new m) (all : IsClean g new → (m : Map) → StandsFor g store m → addresses ≡ keys m) where
     pub new_view : IsView g b (record { store = new; addresses = addresses; meter = meter })
     new_view = record {
       was_clean = λ now. began_clean (clean now);
-      was_open = λ now opened. began_open (opens now opened);
+      was_open = λ now. began_open (opens now);
       stands = λ now m stood. stays now m (stood_stands m stood);
       listed = λ now m stood. all now m (stood_stands m stood);
     }
@@ -104,11 +104,11 @@ module _ {S : Type 0} (g : Ghosts S) (b : Beginning) (v : Viewed S) (is : IsView
     is_its_tree = own_document b.database a (nth_tree (trees_under b v.addresses) i) held its_tree
 
   -- after a read it is a view as before
-  pub still_view : (new : Held S) (meter : Readings) → (IsClean g new → IsClean g v.store) → (IsClean g new → IsOpen g new → IsOpen g v.store)
+  pub still_view : (new : Held S) (meter : Readings) → (IsClean g new → IsClean g v.store)
       → (IsClean g new → (m : Map) → StandsFor g v.store m → StandsFor g new m) → IsView g b (record { store = new; addresses = v.addresses; meter = meter })
-  still_view new meter clean opens stays = record {
+  still_view new meter clean stays = record {
     was_clean = λ now. is.was_clean (clean now);
-    was_open = λ now opened. is.was_open (clean now) (opens now opened);
+    was_open = λ now. is.was_open (clean now);
     stands = λ now m stood. stays now m (is.stands (clean now) m stood);
     listed = λ now m stood. is.listed (clean now) m stood;
   }

@@ -8,7 +8,7 @@ use Rattle.sqlite.specs.Effect.{Database}
 use Rattle.sqlite.specs.Held.{Held, held_code, state}
 use Rattle.xq_regions.specs.Tree.{Tree}
 use Rattle.xq_sources.specs.Meters.{Readings}
-use Rattle.xq_rows.specs.Documents.{Map, IsStore, IsClean, IsOpen, StandsFor, tree_at, documents_in}
+use Rattle.xq_rows.specs.Documents.{Map, IsStore, IsClean, StandsFor, tree_at, documents_in}
 
 -- # What contracts see of a view
 
@@ -63,6 +63,6 @@ trees_under b addresses = map (tree_at (b.database.trees 1)) addresses
 -- What a view keeps true: its store stands for the map that it stood for as the view began, and its addresses are the map's.
 pub record IsView {S : Type 0} (g : Ghosts S) (b : Beginning) (v : Viewed S) : Type 0 where
   pub was_clean : IsClean g v.store → WasClean b
-  pub was_open : IsClean g v.store → IsOpen g v.store → WasOpen b
+  pub was_open : IsClean g v.store → WasOpen b
   pub stands : IsClean g v.store → (m : Map) → StoodFor b m → StandsFor g v.store m
   pub listed : IsClean g v.store → (m : Map) → StoodFor b m → v.addresses ≡ keys m

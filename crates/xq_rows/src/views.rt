@@ -116,7 +116,7 @@ impl<S: Alter, O: Origin> View<S, O> {
         ensures store { result ≡ self.store }
         ensures same { IsClean S.Store result
             → (m : Map) → StoodFor O.beginning m → StandsFor S.Store result m }
-        ensures was_open { IsClean S.Store result → IsOpen S.Store result → WasOpen O.beginning }
+        ensures was_open { IsClean S.Store result → WasOpen O.beginning }
         ensures was_clean { IsClean S.Store result → WasClean O.beginning }
     {
         let View {

@@ -2,7 +2,7 @@ use Rattle.xq_rows.proofs.ViewLaws.{new_view, stands_stood, stood_stands, stood_
 use Rattle.xq_rows.proofs.stores.Store.view.Goals as goal
 
 pub invariant_of-result : goal.invariant_of-result
-invariant_of-result g c = new_view g.S.Store g.O.Origin.beginning c.args.self c.requires c.addresses.new.self _ c.new.result c.addresses.ensures.was_clean c.addresses.ensures.was_open c.addresses.ensures.same c.in-Ok.ensures.all
+invariant_of-result g c = new_view g.S.Store g.O.Origin.beginning c.args.self c.requires c.addresses.new.self _ c.new.result c.addresses.ensures.was_clean (λ clean. c.addresses.ensures.was_open clean (c.in-Ok.ensures.answered clean)) c.addresses.ensures.same c.in-Ok.ensures.all
 
 pub returns-in-Ok-clause-began : goal.returns-in-Ok-clause-began
 returns-in-Ok-clause-began g c clean =
