@@ -1,30 +1,58 @@
 -- What the parts of a step ensure, before the reply is written.
-use Rattle.std.specs.Prelude.{◌≡◌, ℕ, ◌<◌, ◌≤◌, List, ◌∷◌, ◌++◌, length, Result, Ok, Err, codes, string_bytes, ◌⊎◌, ⊤}
+use Rattle.std.specs.Prelude.{◌≡◌, ℕ, ◌<◌, ◌≤◌, List, ◌∷◌, ◌++◌, length, Result, Ok, Err, String, codes, string_bytes, string_len, ◌⊎◌, ⊤}
+use Rattle.std.specs.Global.{Global}
 use Rattle.xq_atoms.specs.Code.{code_text, want_text}
+use Rattle.xq_atoms.specs.declared.refusals.Code.{Code}
 use Rattle.xq_atoms.specs.declared.refusals.Code.TheVariants.{ProfReply}
 use Rattle.xq_atoms.specs.declared.refusals.Fault.{Fault}
 use Rattle.xq_atoms.specs.declared.refusals.Fault.TheVariants.{Code as OfCode, Want as OfWant}
 use Rattle.xq_atoms.specs.declared.refusals.Want.TheVariants.{Memory}
+use Rattle.xq_atoms.specs.Judged.{Judged}
+use Rattle.xq_meaning.specs.declared.plans.Plan.{Plan}
 use Rattle.xq_regions.specs.Tree.{Tree}
+use Rattle.xq_regions.specs.declared.Kind.TheVariants.{Document}
 use Rattle.xq_rows.specs.Documents.{Map}
 use Rattle.xq_frame.specs.Reply.{reply_bytes}
 use Rattle.xq_frame.specs.Request.{Asked, query}
-use Rattle.xq_service.specs.Meaning.{Query, Reads, value, with_line_feeds}
+use Rattle.xq_queries.specs.Values.{IsPlanOf, Value, told, made}
+use Rattle.xq_service.specs.Meaning.{Query, Reads}
 use Rattle.xq_service.specs.Answer.{Answers, done, refused, longest_text}
 use Rattle.xq_service.specs.Step.{MayWant}
 use Rattle.xq_service.specs.declared.answers.Answer.{Answer}
 use Rattle.xq_service.specs.declared.answers.Answer.TheVariants.{Text, Stored, Replaced, Dropped}
 
--- with its line ends read, the text is this line, a line feed, and what follows
-abbrev pub IsFirstLine : List ℕ → List ℕ → List ℕ → Type 0
-IsFirstLine text line others =
-    (with_line_feeds text ≡ line ++ 10 ∷ with_line_feeds others) × (length others < length text)
+-- a text reads as a query that has this plan, and then it has no fault; or it is refused
+abbrev pub Understands : List ℕ → Result Plan Fault → Type 0
+Understands text (Ok plan) = (q : Query) × Reads text (Ok q) × IsPlanOf q plan × ((code : Code) → ¬ (Reads text (Err code)))
+Understands text (Err (OfCode code)) = Reads text (Err code)
+Understands text (Err (OfWant want)) = MayWant (query text) want
 
--- a query text gives this tree, or is refused
-abbrev pub Evaluates : Map → List ℕ → Result Tree Fault → Type 0
-Evaluates m text (Ok tree) = (q : Query) × Reads text (Ok q) × (value q m ≡ Ok tree)
-Evaluates m text (Err (OfCode code)) = Reads text (Err code) ⊎ ((q : Query) × Reads text (Ok q) × (value q m ≡ Err code))
-Evaluates m text (Err (OfWant want)) = MayWant (query text) want
+-- the value of a query makes a product, or is refused, by what it is to make; of a want nothing is said
+abbrev pub Makes : {P : Type 0} → (Judged Value → Judged P → Type 0) → Judged Value → Result P Fault → Type 0
+Makes makes v (Ok product) = makes v (Ok product)
+Makes makes v (Err (OfCode code)) = makes v (Err code)
+Makes makes v (Err (OfWant want)) = ⊤
+
+-- the text of the reply, or the code
+abbrev pub MakesText : Judged Value → Judged (String Global) → Type 0
+MakesText v (Ok text) = told v ≡ Ok (string_bytes text)
+MakesText v (Err code) = told v ≡ Err code
+
+-- the document, or the code
+abbrev pub MakesDocument : Judged Value → Judged Tree → Type 0
+MakesDocument v result = made v ≡ result
+
+-- what a product is, whatever the documents are
+abbrev pub IsShortText : String Global → Type 0
+IsShortText text = string_len text ≤ longest_text
+
+abbrev pub HasDocumentRoot : Tree → Type 0
+HasDocumentRoot tree = tree.root.kind ≡ Document
+
+-- the fault is want of memory, or it is this code, and then the cause holds
+abbrev pub IsRefusal : Code → Type 0 → Fault → Type 0
+IsRefusal code cause (OfCode c) = (c ≡ code) × cause
+IsRefusal code cause (OfWant want) = want ≡ Memory
 
 -- a request is answered, or refused; memory may still be wanting for a text, which changes nothing
 abbrev pub Tells : Map → Asked → Map → Result Answer Fault → Type 0
