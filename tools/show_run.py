@@ -1,6 +1,9 @@
-"""Sends a file of request frames to a server, and prints each request with its reply, then the end.
+"""Sends requests to a server, and prints each with its reply, then the end.
 
-usage: show_run.py SERVER FRAMES
+usage: show_run.py SERVER FILE     of request frames, or with the ending .txt of requests as text
+
+A text has an empty line after each request. Its first line is `store ADDRESS`, `drop ADDRESS`, `query` or
+`list`, and the lines below are the query.
 """
 
 import struct
@@ -17,6 +20,24 @@ def frames(data):
         (length,) = struct.unpack_from(">I", data, at)
         yield data[at + 4 : at + 4 + length]
         at += 4 + length
+
+
+def body_of(request):
+    """The kind and the body of a request that is written as text."""
+    first, _, query = request.partition("\n")
+    word, _, address = first.partition(" ")
+    if word == "store":
+        return b"S" + bytes([len(address)]) + address.encode() + query.encode()
+    if word == "drop":
+        return b"D" + address.encode()
+    return b"Q" + query.encode() if word == "query" else b"L"
+
+
+def frames_of(text):
+    """The frames of the requests that are written as text."""
+    requests = text.strip().split("\n\n")
+    bodies = [struct.pack(">I", tag) + body_of(request) for tag, request in enumerate(requests, 1)]
+    return b"".join(struct.pack(">I", len(body)) + body for body in bodies)
 
 
 def shown_request(body):
@@ -42,11 +63,13 @@ def main():
     server, path = sys.argv[1:3]
     with open(path, "rb") as file:
         data = file.read()
+    if path.endswith(".txt"):
+        data = frames_of(data.decode())
     done = subprocess.run([server], input=data, stdout=subprocess.PIPE)
     replies = [shown_reply(body) for body in frames(done.stdout)]
     for number, body in enumerate(frames(data)):
         tag, request = shown_request(body)
-        print("request %d  %s" % (tag, request))
+        print("request %d  %s" % (tag, request.replace("\n", "\n           ")))
         if number < len(replies):
             print("  reply %d  %s" % replies[number])
         else:

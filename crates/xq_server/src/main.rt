@@ -90,7 +90,7 @@ fn serve_file(rt: &HostRuntime, path: &str) -> (u8, &'static str) {
 }
 
 /// Answers the frames of standard input.
-fn serve<R: Input + Print + AllocGlobal, S: Alter>(rt: &R, server: &mut Server<S>) -> End {
+fn serve<R: Input + Print + AllocGlobal, S: Alter + Drop>(rt: &R, server: &mut Server<S>) -> End {
     match BufReader::new(rt.alloc(), rt.reader()) {
         Ok(mut reader) => server.serve(&mut reader, &mut io::writer(rt), MAX_FRAMES),
         Err(_) => End::NoRoom,

@@ -1,6 +1,7 @@
 //! Stores in files: a service, its end, and the next over the same file.
 
-use crate::tests::{LIBRARY, PUT_B, is_answered};
+use crate::rows::{LIBRARY, PUT_B};
+use crate::tests::is_answered;
 use std::fs;
 use std::test::Fail;
 use xq_servers::FileServer;

@@ -7,6 +7,10 @@ mod edge_tests;
 #[cfg(test)]
 mod file_tests;
 #[cfg(test)]
+mod refusal_rows;
+#[cfg(test)]
+mod rows;
+#[cfg(test)]
 mod scripts;
 #[cfg(test)]
 mod serving_tests;

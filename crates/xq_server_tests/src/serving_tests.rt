@@ -1,7 +1,8 @@
 //! Services by scripted readers and writers: the worked rows in pieces, and each end.
 
 use crate::scripts::{Sink, Source};
-use crate::tests::{frame, inputs, worked_requests};
+use crate::rows::{Row, dropping_rows, first_rows, last_rows, node_rows, path_rows};
+use crate::tests::{frame, inputs};
 use std::process::Abort;
 use std::test::Fail;
 use xq_servers::MemoryServer;
@@ -26,16 +27,31 @@ fn serve_as_run(
     assert_eq!(rt; sink.taken.as_slice(), replies.as_slice());
 }
 
+/// The same for each of the requests.
+fn serve_rows_as_run(
+    rt: &(impl Abort + AllocGlobal),
+    (served, ran): (&mut MemoryServer, &mut MemoryServer),
+    rows: &[Row],
+    piece: usize,
+) -> Result<(), Fail> {
+    for row in rows {
+        let input = frame(rt.alloc(), 5, row.kind, row.body)?;
+        serve_as_run(rt, (&mut *served, &mut *ran), &input, piece);
+    }
+    Ok(())
+}
+
 /// Bytes in pieces of 1, 2, 3 and 7 are served as a run answers them.
 #[test]
 fn in_pieces(rt: HostRuntime) -> Result<(), Fail> {
     for piece in [1, 2, 3, 7] {
         let mut served = MemoryServer::new(rt.alloc())?;
         let mut ran = MemoryServer::new(rt.alloc())?;
-        for ((kind, body), _) in worked_requests() {
-            let input = frame(rt.alloc(), 5, kind, body)?;
-            serve_as_run(&rt, (&mut served, &mut ran), &input, piece);
-        }
+        serve_rows_as_run(&rt, (&mut served, &mut ran), &first_rows(), piece)?;
+        serve_rows_as_run(&rt, (&mut served, &mut ran), &path_rows(), piece)?;
+        serve_rows_as_run(&rt, (&mut served, &mut ran), &node_rows(), piece)?;
+        serve_rows_as_run(&rt, (&mut served, &mut ran), &dropping_rows(), piece)?;
+        serve_rows_as_run(&rt, (&mut served, &mut ran), &last_rows(), piece)?;
         for (input, _, _) in inputs() {
             serve_as_run(&rt, (&mut served, &mut ran), input, piece);
         }

@@ -1,21 +1,19 @@
-//! The worked rows of the protocol on one server, byte for byte, and runs under refused memory.
+//! The worked rows of the protocol on one server, byte for byte, and every refusal.
 
+use crate::refusal_rows::{
+    cast_refusals, constructor_refusals, operator_refusals, path_refusals, text_refusals,
+};
+use crate::rows::{
+    DOC_B, LIBRARY, PUT_B, Row, answers, content_rows, dropping_rows, first_rows, function_rows,
+    gives, last_rows, limit_rows, node_rows, number_rows, path_rows, range_rows, refuses,
+    static_rows, tuple_rows,
+};
 use sqlite::Alter;
 use std::alloc::{AllocError, Global};
 use std::process::Abort;
 use std::test::Fail;
 use xq_servers::MemoryServer;
 use xq_service::{End, Server};
-
-/// A library of two books, as a query and as it is printed.
-pub const LIBRARY: &[u8] =
-    b"document {element lib {element book {attribute id {\"1\"}, text {\"A\"}}, element book {attribute id {\"2\"}, text {\"B\"}}}}";
-
-/// The store of the library under `b`.
-pub const PUT_B: &[u8] =
-    b"\x01bdocument {element lib {element book {attribute id {\"1\"}, text {\"A\"}}, element book {attribute id {\"2\"}, text {\"B\"}}}}";
-
-const DOC_B: &[u8] = b"doc(\"b\")";
 
 /// The frame of a request.
 pub fn frame(alloc: Global, tag: u32, kind: u8, body: &[u8]) -> Result<Vec<u8>, AllocError> {
@@ -35,7 +33,7 @@ fn reply(alloc: Global, tag: u32, status: u8, text: &[u8]) -> Result<Vec<u8>, Al
 
 /// Sends one request, and says whether its reply is the one that is wanted, and the run ends after
 /// it.
-pub fn is_answered<S: Alter>(
+pub fn is_answered<S: Alter + Drop>(
     alloc: Global,
     server: &mut Server<S>,
     tag: u32,
@@ -49,66 +47,107 @@ pub fn is_answered<S: Alter>(
 }
 
 /// Sends the requests in turn, and gives the place of the first whose reply is another.
-fn first_wrong<S: Alter>(
+fn first_wrong<S: Alter + Drop>(
     alloc: Global,
     server: &mut Server<S>,
     tag: u32,
-    rows: &[((u8, &[u8]), (u8, &[u8]))],
+    rows: &[Row],
 ) -> Result<Option<usize>, AllocError> {
-    for (at, (request, wanted)) in rows.iter().enumerate() {
-        if !is_answered(alloc, server, tag, *request, *wanted)? {
+    for (at, row) in rows.iter().enumerate() {
+        let request = (row.kind, row.body);
+        if !is_answered(alloc, server, tag, request, (row.status, row.text))? {
             return Ok(Some(at));
         }
     }
     Ok(None)
 }
 
-/// Sends the requests to one new server, so many times one after the other, and checks each reply.
-fn check_all(
+/// Sends the requests to the server, and checks each reply.
+fn check_rows(
     rt: &(impl Abort + AllocGlobal),
-    rounds: u32,
-    rows: &[((u8, &[u8]), (u8, &[u8]))],
+    memory: &mut MemoryServer,
+    tag: u32,
+    rows: &[Row],
 ) -> Result<(), Fail> {
-    let mut memory = MemoryServer::new(rt.alloc())?;
-    for tag in 0..rounds {
-        let wrong = first_wrong(rt.alloc(), &mut memory.server, tag, rows)?;
-        assert!(rt; wrong.is_none(), "request {wrong:?} of round {tag}");
-    }
+    let wrong = first_wrong(rt.alloc(), &mut memory.server, tag, rows)?;
+    assert!(rt; wrong.is_none(), "request {wrong:?} of round {tag}");
     Ok(())
 }
 
-/// The requests of the worked rows, kind and body, and their replies, status and text.
-pub fn worked_requests() -> [((u8, &'static [u8]), (u8, &'static [u8])); 15] {
-    [
-        ((b'L', b""), (0, b"()")),
-        ((b'S', PUT_B), (0, b"stored")),
-        ((b'S', PUT_B), (0, b"replaced")),
-        ((b'L', b""), (0, b"\"b\"")),
-        ((b'Q', DOC_B), (0, LIBRARY)),
-        ((b'S', b"\x01adocument {}"), (0, b"stored")),
-        ((b'L', b""), (0, b"\"a\", \"b\"")),
-        ((b'D', b"b"), (0, b"dropped")),
-        ((b'D', b"b"), (1, b"prof:ABSENT")),
-        ((b'D', b""), (1, b"prof:ADDRESS")),
-        ((b'Q', DOC_B), (1, b"FODC0002")),
-        ((b'Q', b"\xff"), (1, b"prof:UTF8")),
-        ((b'Q', b""), (1, b"XPST0003")),
-        ((b'X', b""), (1, b"prof:FRAME")),
-        ((b'L', b"x"), (1, b"prof:FRAME")),
-    ]
+/// Sends the worked rows from a stored library to its replacement, but for those of long results.
+fn check_queries(
+    rt: &(impl Abort + AllocGlobal),
+    memory: &mut MemoryServer,
+    tag: u32,
+) -> Result<(), Fail> {
+    check_rows(rt, memory, tag, &path_rows())?;
+    check_rows(rt, memory, tag, &tuple_rows())?;
+    check_rows(rt, memory, tag, &number_rows())?;
+    check_rows(rt, memory, tag, &content_rows())?;
+    check_rows(rt, memory, tag, &node_rows())?;
+    check_rows(rt, memory, tag, &function_rows())
 }
 
+/// All worked rows in order on one server, and then whole inputs.
 #[test]
 fn worked_rows(rt: HostRuntime) -> Result<(), Fail> {
     let mut memory = MemoryServer::new(rt.alloc())?;
-    let wrong = first_wrong(rt.alloc(), &mut memory.server, 1, &worked_requests())?;
-    assert!(rt; wrong.is_none(), "request {wrong:?}");
+    check_rows(&rt, &mut memory, 1, &first_rows())?;
+    check_queries(&rt, &mut memory, 1)?;
+    check_depths(&rt, &mut memory)?;
+    check_rows(&rt, &mut memory, 1, &range_rows())?;
+    check_rows(&rt, &mut memory, 1, &limit_rows())?;
+    check_rows(&rt, &mut memory, 1, &static_rows())?;
+    check_rows(&rt, &mut memory, 1, &dropping_rows())?;
     for (bytes, replies, end) in inputs() {
         let mut out = Vec::new(rt.alloc());
         assert_eq!(rt; memory.server.run(bytes, &mut out), end);
         assert_eq!(rt; out.as_slice(), replies);
     }
+    check_rows(&rt, &mut memory, 1, &last_rows())
+}
+
+/// So many times this text, then the middle, then the other.
+fn nested(
+    alloc: Global,
+    count: u32,
+    (before, middle, after): (&str, &str, &str),
+) -> Result<String, AllocError> {
+    let mut text = String::new(alloc);
+    for _opening in 0..count {
+        text.push_str(before)?;
+    }
+    text.push_str(middle)?;
+    for _closing in 0..count {
+        text.push_str(after)?;
+    }
+    Ok(text)
+}
+
+/// Sends a query, and checks its reply.
+fn check_query(
+    rt: &(impl Abort + AllocGlobal),
+    memory: &mut MemoryServer,
+    query: &String,
+    wanted: (u8, &[u8]),
+) -> Result<(), Fail> {
+    let request = (b'Q', query.as_bytes());
+    assert!(rt; is_answered(rt.alloc(), &mut memory.server, 1, request, wanted)?);
     Ok(())
+}
+
+/// 128 brackets are read, and 129 are not; 101 elements stand in one another, and 102 do not.
+fn check_depths(rt: &(impl Abort + AllocGlobal), memory: &mut MemoryServer) -> Result<(), Fail> {
+    let brackets = ("(", "1", ")");
+    let deep = nested(rt.alloc(), 128, brackets)?;
+    check_query(rt, memory, &deep, (0, b"1"))?;
+    let too_deep = nested(rt.alloc(), 129, brackets)?;
+    check_query(rt, memory, &too_deep, (1, b"prof:DEPTH"))?;
+    let elements = ("element a {", "element a {}", "}");
+    let high = nested(rt.alloc(), 100, elements)?;
+    check_query(rt, memory, &high, (0, high.as_bytes()))?;
+    let too_high = nested(rt.alloc(), 101, elements)?;
+    check_query(rt, memory, &too_high, (1, b"prof:LEVEL"))
 }
 
 /// Whole inputs after the rows, over a map with `a` alone: what they give, and how they end.
@@ -129,64 +168,81 @@ pub fn inputs() -> [(&'static [u8], &'static [u8], End); 4] {
     ]
 }
 
+/// Each code that a query can be refused with.
+#[test]
+fn refused_queries(rt: HostRuntime) -> Result<(), Fail> {
+    let mut memory = MemoryServer::new(rt.alloc())?;
+    check_rows(&rt, &mut memory, 1, &first_rows())?;
+    check_rows(&rt, &mut memory, 1, &text_refusals())?;
+    check_rows(&rt, &mut memory, 1, &path_refusals())?;
+    check_rows(&rt, &mut memory, 1, &operator_refusals())?;
+    check_rows(&rt, &mut memory, 1, &cast_refusals())?;
+    check_rows(&rt, &mut memory, 1, &constructor_refusals())
+}
+
 /// Malformed frames, and the order in which the faults of one request are judged.
 #[test]
 fn refusals(rt: HostRuntime) -> Result<(), Fail> {
-    let rows: [((u8, &[u8]), (u8, &[u8])); 14] = [
-        ((b'S', b""), (1, b"prof:FRAME")),
-        ((b'S', b"\x02a"), (1, b"prof:FRAME")),
-        ((b'S', b"\x00\xff"), (1, b"prof:ADDRESS")),
-        ((b'S', b"\x01 \xff"), (1, b"prof:ADDRESS")),
-        ((b'S', b"\x01a\xff("), (1, b"prof:UTF8")),
-        ((b'S', b"\x01adoc(\"a\""), (1, b"XPST0003")),
-        ((b'S', b"\x01adoc(\"a\")"), (1, b"FODC0002")),
-        ((b'S', b"\x01a"), (1, b"XPST0003")),
-        ((b'D', b"a/b c"), (1, b"prof:ADDRESS")),
-        ((b'D', b"a/b"), (1, b"prof:ABSENT")),
-        ((b'Q', b"doc(\"a b\")"), (1, b"XPST0003")),
-        ((b'Q', b"doc(\"\")"), (1, b"XPST0003")),
-        ((b'Q', b"document { }"), (1, b"XPST0003")),
-        ((b'L', b""), (0, b"()")),
+    let rows = [
+        refuses(b'S', b"", b"prof:FRAME"),
+        refuses(b'S', b"\x02a", b"prof:FRAME"),
+        refuses(b'S', b"\x00\xff", b"prof:ADDRESS"),
+        refuses(b'S', b"\x01 \xff", b"prof:ADDRESS"),
+        refuses(b'S', b"\x01a\xff(", b"prof:UTF8"),
+        refuses(b'S', b"\x01adoc(\"a\"", b"XPST0003"),
+        refuses(b'S', b"\x01a(1 div 0, $q)", b"XPST0008"),
+        refuses(b'S', b"\x01adoc(\"a\")", b"FODC0002"),
+        refuses(b'S', b"\x01a1 div 0", b"FOAR0001"),
+        refuses(b'S', b"\x01adocument {}, 1", b"prof:NOTDOC"),
+        refuses(b'S', b"\x01a", b"XPST0003"),
+        refuses(b'D', b"a/b c", b"prof:ADDRESS"),
+        refuses(b'D', b"a/b", b"prof:ABSENT"),
+        answers(b'L', b"", b"()"),
     ];
-    check_all(&rt, 1, &rows)
+    check_rows(&rt, &mut MemoryServer::new(rt.alloc())?, 1, &rows)
 }
 
-/// A document is copied under a second address; line ends are read as line feeds.
+/// A document is copied under a second address; a store sees the documents as they were; line ends
+/// are read as line feeds.
 #[test]
 fn copies_and_line_ends(rt: HostRuntime) -> Result<(), Fail> {
-    let rows: [((u8, &[u8]), (u8, &[u8])); 5] = [
-        ((b'S', PUT_B), (0, b"stored")),
-        ((b'S', b"\x03x/ydoc(\"b\")"), (0, b"stored")),
-        ((b'D', b"b"), (0, b"dropped")),
-        ((b'Q', b"doc(\"x/y\")"), (0, LIBRARY)),
-        (
-            (b'Q', b"document {text {\"1\r\n2\r3\n4\r\r\n5&#xD;6\"}}"),
-            (0, b"document {text {\"1\n2\n3\n4\n\n5&#xD;6\"}}"),
+    let rows = [
+        answers(b'S', PUT_B, b"stored"),
+        answers(b'S', b"\x03x/ydoc(\"b\")", b"stored"),
+        answers(
+            b'S',
+            b"\x01bdocument {doc(\"b\")/lib/book[1], collection()/lib}",
+            b"replaced",
+        ),
+        gives("count(doc(\"b\")/*), count(collection())", "3, 2"),
+        answers(b'D', b"b", b"dropped"),
+        answers(b'Q', b"doc(\"x/y\")", LIBRARY),
+        gives(
+            "document {text {\"1\r\n2\r3\n4\r\r\n5&#xD;6\"}}",
+            "document {text {\"1\n2\n3\n4\n\n5&#xD;6\"}}",
         ),
     ];
-    check_all(&rt, 1, &rows)
+    check_rows(&rt, &mut MemoryServer::new(rt.alloc())?, 1, &rows)
 }
 
 /// Storing, replacing, asking and dropping again and again never wants for anything.
 #[test]
 fn fifty_rounds(rt: HostRuntime) -> Result<(), Fail> {
-    let rows: [((u8, &[u8]), (u8, &[u8])); 4] = [
-        ((b'S', PUT_B), (0, b"stored")),
-        ((b'S', PUT_B), (0, b"replaced")),
-        ((b'Q', DOC_B), (0, LIBRARY)),
-        ((b'D', b"b"), (0, b"dropped")),
-    ];
-    check_all(&rt, 50, &rows)
+    let mut memory = MemoryServer::new(rt.alloc())?;
+    for tag in 0..50 {
+        check_rows(&rt, &mut memory, tag, &first_rows())?;
+        check_queries(&rt, &mut memory, tag)?;
+        check_rows(&rt, &mut memory, tag, &static_rows())?;
+        check_rows(&rt, &mut memory, tag, &[answers(b'D', b"b", b"dropped")])?;
+    }
+    Ok(())
 }
 
 /// The store outlives its server, and another server goes on with it.
 #[test]
 fn gives_the_store_back(rt: HostRuntime) -> Result<(), Fail> {
     let mut memory = MemoryServer::new(rt.alloc())?;
-    let put = ((b'S', PUT_B), (0, b"stored".as_slice()));
-    assert!(rt; first_wrong(rt.alloc(), &mut memory.server, 1, &[put])?.is_none());
+    check_rows(&rt, &mut memory, 1, &[answers(b'S', PUT_B, b"stored")])?;
     let mut next = memory.restarted(rt.alloc());
-    let asked = ((b'Q', DOC_B), (0, LIBRARY));
-    assert!(rt; first_wrong(rt.alloc(), &mut next.server, 2, &[asked])?.is_none());
-    Ok(())
+    check_rows(&rt, &mut next, 2, &[answers(b'Q', DOC_B, LIBRARY)])
 }

@@ -1,5 +1,5 @@
-pub mod LineEnds
 pub mod Telling
 pub mod Running
 pub mod Serving
 pub mod Once
+pub mod Evaluating

@@ -12,7 +12,7 @@ use Rattle.xq_rows.specs.Documents.{Map}
 use Rattle.xq_atoms.specs.Code.{code_text, want_text}
 use Rattle.xq_service.specs.Answer.{longest_text}
 use Rattle.xq_service.specs.Step.{Step}
-use Rattle.xq_service.specs.Work.{Tells, Writes, IsShort}
+use Rattle.xq_service.specs.private.Work.{Tells, Writes, IsShort}
 use Rattle.xq_service.specs.Run.{Reply, bytes_of, written, IsReplyTo, AreReplies, Run, Ran, RanOver, Answered}
 use Rattle.xq_atoms.specs.declared.refusals.Fault.{Fault}
 use Rattle.xq_atoms.specs.declared.refusals.Fault.TheVariants.{Code as OfCode, Want as OfWant}

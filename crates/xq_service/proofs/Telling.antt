@@ -1,6 +1,6 @@
 -- Each way to tell a request its answer is one of those of a step.
-use Rattle.std.proofs.Common.{◌≡◌, ℕ, ◌<◌, ◌≤◌, List, length, refl, sym, ◌∙◌, ap, subst, rules, None, Some, Ok, Err, Result, inl, inr, nat_le, cond, true, false, Bool, IsTrue, IsErrAnd, IfOk, IfErr, MatchResult, IsOk, arith, zero, suc, [], ◌∷◌, get_or, All, nat_cmp, Option, is_some, codes, if◌then◌else◌}
-use Rattle.std.specs.FinMap.{get, insert, remove, contains_key, get-remove, same_map, slice_cmp-IsAntisymmetric, nat_cmp-IsAntisymmetric}
+use Rattle.std.proofs.Common.{◌≡◌, ℕ, ◌<◌, ◌≤◌, List, length, refl, sym, ◌∙◌, ap, subst, rules, None, Some, Ok, Err, Result, inl, inr, nat_le, cond, true, false, Bool, IsTrue, IsErrAnd, MatchResult, IsOk, arith, zero, suc, [], ◌∷◌, get_or, All, nat_cmp, Option, is_some, String, Global, string_bytes, codes, if◌then◌else◌}
+use Rattle.std.specs.FinMap.{get, insert, remove, contains_key, keys, values, get-remove, same_map, slice_cmp-IsAntisymmetric, nat_cmp-IsAntisymmetric}
 use Rattle.std.specs.Cmp.Lexicographic.{slice_cmp, nat_list_cmp_total}
 use Rattle.std.specs.Ordering.{is_eq, eq_by_cmp}
 use Rattle.std.specs.declared.cmp.Ordering.{Ordering}
@@ -9,31 +9,27 @@ use Rattle.std.proofs.lemmas.Bool.{cases_lt}
 use Rattle.std.proofs.lemmas.Str.{IsUtf8-from_ascii}
 use Rattle.std.specs.Str.{IsUtf8}
 use Rattle.xq_atoms.specs.Address.{IsAddress, is_address_byte}
+use Rattle.xq_atoms.specs.Judged.{Judged, only_if}
 use Rattle.xq_atoms.specs.declared.refusals.Code.{Code}
-use Rattle.xq_atoms.specs.declared.refusals.Code.TheVariants.{XPST0003, FODC0002, ProfNotdoc, ProfAbsent, ProfReply}
+use Rattle.xq_atoms.specs.declared.refusals.Code.TheVariants.{ProfAbsent, ProfReply}
 use Rattle.xq_atoms.specs.declared.refusals.Fault.{Fault}
 use Rattle.xq_atoms.specs.declared.refusals.Fault.TheVariants.{Code as OfCode, Want as OfWant}
 use Rattle.xq_atoms.specs.declared.refusals.Want.{Want}
 use Rattle.xq_atoms.specs.declared.refusals.Want.TheVariants.{Memory, Store}
-use Rattle.xq_regions.specs.Tree.{Tree, IsDocument}
+use Rattle.xq_regions.specs.Tree.{Tree}
+use Rattle.xq_meaning.specs.declared.plans.Plan.{Plan}
+use Rattle.xq_queries.specs.Reading.{ReadsAtMostOnce, FaultsComeLater}
+use Rattle.xq_queries.specs.Values.{Plans, Value, plan_value, printed, told as text_of, document, or_no_document, made}
 use Rattle.xq_rows.specs.Documents.{Map}
 use Rattle.xq_rows.specs.declared.stores.Put.TheVariants.{Stored as Fresh, Replaced as Other}
-use Rattle.xq_regions.specs.declared.Kind.{Kind}
-use Rattle.xq_regions.specs.declared.Kind.TheVariants.{Document, Element, Attribute, Text as TextNode, Comment, ProcessingInstruction}
-use Rattle.xq_printed.specs.Documents.{IsNoPrint}
-use Rattle.xq_regions.specs.Print.{print}
-use Rattle.xq_printed.specs.Refusals.{IsRefusal}
 use Rattle.xq_frame.specs.Request.{Asked, query, put, remove as remove_one}
-use Rattle.xq_service.specs.Meaning.{Query, Reads, Spells, document_under, literal, found, doc_call, with_line_feeds, document_of_kind}
-use Rattle.xq_service.specs.Answer.{Answers, CarriesOut, Refuses, told, done, refused, longest_text, queried, stored, set_to, put_word, removed_if}
+use Rattle.xq_service.specs.Meaning.{value}
+use Rattle.xq_service.specs.Answer.{Outcome, Answers, CarriesOut, Refuses, told, done, refused, longest_text, queried, stored, set_to, put_word, removed_if}
 use Rattle.xq_service.specs.Step.{MayWant}
-use Rattle.xq_service.specs.Work.{Tells, IsTold, Evaluates}
+use Rattle.xq_service.specs.private.Work.{Tells, IsTold, Understands, Makes, MakesText, MakesDocument}
 use Rattle.xq_service.specs.declared.answers.Answer.{Answer}
 use Rattle.xq_service.specs.declared.answers.Answer.TheVariants.{Text, Stored, Replaced, Dropped}
-
--- a text that reads as a query has no fault
-pub not_both : (text : List ℕ) (q : Query) (code : Code) → Reads text (Ok q) → Reads text (Err code) → ⊥
-not_both text q code reads fault = elim fault [ inl bytes ↦ bytes.0 reads.0 | inr none ↦ none.1 q reads.1 ]
+use Rattle.xq_service.proofs.Once.{not_both}
 
 short_text : (m : Map) (text : List ℕ) → length text ≤ longest_text → told m text ≡ done m text
 short_text m text short = let h : nat_le (length text) longest_text ≡ true = search rules in ap (λ b. cond b (done m text) (refused m ProfReply)) h
@@ -57,59 +53,25 @@ tells_text m asked text (Ok Stored) carries want is = absurd is
 tells_text m asked text (Ok Replaced) carries want is = absurd is
 tells_text m asked text (Ok Dropped) carries want is = absurd is
 
--- Reading and evaluating the text of a query.
-
-pub query_wants : (text : List ℕ) (q : Query) → Reads text (Ok q) → (want : Want) → MayWant (query text) want
-query_wants text q reads = any_want (query text) (λ code fault. not_both text q code reads fault)
-
--- a text of UTF-8 is never refused by a code that needs no memory
-pub utf8_wants : (text : List ℕ) → IsUtf8 text → MayWant (query text) Memory
-utf8_wants text good code fault free = elim fault [
-  | inl bytes ↦ bytes.0 good
-  | inr none ↦ elim free [
-    | inl e ↦ cc
-    | inr more ↦ elim more [ inl e ↦ cc | inr e ↦ cc ]
-  ]
-]
+-- Reading the text of a query.
 
 -- what `?` hands on
 pub handed_on : {T E : Type 0} (result : Result T E) (e : E) → IsErrAnd result (λ f. f ≡ e) → result ≡ Err e
 handed_on (Ok x) e is = absurd is
 handed_on (Err f) e is = ap Err is
 
--- the text as it is read: UTF-8, with line feeds
-abbrev pub IsReadAs : List ℕ → List ℕ → Type 0
-IsReadAs text read = IsUtf8 text × (read ≡ with_line_feeds text)
+-- a text of UTF-8 is never refused by a code that needs no memory
+utf8_wants : FaultsComeLater → (text : List ℕ) → IsUtf8 text → MayWant (query text) Memory
+utf8_wants later text good code fault free = later text code good fault free
 
-pub call_reads : (text read address : List ℕ) → IsReadAs text read → IsAddress address × (read ≡ doc_call address) → Reads text (Ok (document_under address))
-call_reads text read address is call = (is.0, (call.0, sym is.1 ∙ call.1))
+pub understood : ReadsAtMostOnce → FaultsComeLater → (text : List ℕ) (result : Result Plan Fault) → Plans text result → Understands text result
+understood once later text (Ok plan) plans = (plans.0, plans.1, plans.2, λ code fault. not_both once text plans.0 code plans.1 fault)
+understood once later text (Err (OfCode code)) plans = plans
+understood once later text (Err (OfWant want)) plans = subst (MayWant (query text)) (sym plans.0) (utf8_wants later text plans.1)
 
-pub call_wanted : (m : Map) (text read address : List ℕ) (want : Want) → IsReadAs text read → IsAddress address × (read ≡ doc_call address)
-    → Evaluates m text (Err (OfWant want))
-call_wanted m text read address want is call = query_wants text (document_under address) (call_reads text read address is call) want
-
-pub call_found : (m : Map) (text read address : List ℕ) (tree : Tree) → IsReadAs text read → IsAddress address × (read ≡ doc_call address)
-    → Some tree ≡ get m address → Evaluates m text (Ok tree)
-call_found m text read address tree is call there = (document_under address, call_reads text read address is call, ap found (sym there))
-
-pub call_absent : (m : Map) (text read address : List ℕ) → IsReadAs text read → IsAddress address × (read ≡ doc_call address)
-    → None ≡ get m address → Evaluates m text (Err (OfCode FODC0002))
-call_absent m text read address is call none = inr (document_under address, call_reads text read address is call, ap found (sym none))
-
-no_query : (text read : List ℕ) → IsReadAs text read → ((address : List ℕ) → IsAddress address → ¬ (read ≡ doc_call address)) → IsNoPrint read
-    → (q : Query) → ¬ (Spells (with_line_feeds text) q)
-no_query text read is no_call no_print (document_under address) spells = no_call address spells.0 (is.1 ∙ spells.1)
-no_query text read is no_call no_print (literal tree) spells = no_print tree spells.0 (spells.1 ∙ sym is.1)
-
--- a text that is no call of `doc` is read as a printed document
-pub literal_evaluates : (m : Map) (text read : List ℕ) (result : Result Tree Fault) → IsReadAs text read
-    → ((address : List ℕ) → IsAddress address → ¬ (read ≡ doc_call address))
-    → IfOk result IsDocument → IfOk result (λ tree. print tree ≡ read) → IfErr result (IsRefusal XPST0003 (IsNoPrint read)) → Evaluates m text result
-literal_evaluates m text read (Ok tree) is no_call document printed refused' = (literal tree, (is.0, (document, printed ∙ is.1)), refl)
-literal_evaluates m text read (Err (OfCode code)) is no_call document printed refused' =
-    inl (inr (is.0, no_query text read is no_call refused'.1, refused'.0))
-literal_evaluates m text read (Err (OfWant want)) is no_call document printed refused' =
-    subst (MayWant (query text)) (sym refused') (utf8_wants text is.0)
+-- any want may come once a text was understood
+query_wants : (text : List ℕ) (plan : Plan) → Understands text (Ok plan) → (want : Want) → MayWant (query text) want
+query_wants text plan understands = any_want (query text) understands.3
 
 -- Addresses.
 
@@ -174,18 +136,45 @@ remove_wanted address want good = any_want (remove_one address) (λ code refuses
 
 -- Queries.
 
-pub query_refused : (m : Map) (text : List ℕ) (fault : Fault) → Evaluates m text (Err fault) → Tells m (query text) m (Err fault)
-query_refused m text (OfWant want) evaluates = (evaluates, refl)
-query_refused m text (OfCode code) evaluates = elim evaluates [
-  | inl fault ↦ inl (code, fault, refl)
-  | inr value' ↦ inr (value'.0, value'.1, sym (ap (queried m) value'.2))
-]
+pub query_unread : (m : Map) (text : List ℕ) (fault : Fault) → Understands text (Err fault) → Tells m (query text) m (Err fault)
+query_unread m text (OfWant want) understands = (understands, refl)
+query_unread m text (OfCode code) understands = inl (code, understands, refl)
 
-pub query_told : (m : Map) (text printed' : List ℕ) (tree : Tree) (result : Result Answer Fault) → Evaluates m text (Ok tree)
-    → queried m (Ok tree) ≡ told m printed' → IsTold printed' result → Tells m (query text) m result
-query_told m text printed' tree result evaluates prints is =
-    tells_text m (query text) printed' result (evaluates.0, evaluates.1, sym (ap (queried m) evaluates.2 ∙ prints))
-    (query_wants text evaluates.0 evaluates.1 Memory) is
+-- what is told where the text, or its code, is this
+told_as : Map → Judged (List ℕ) → Outcome
+told_as m (Ok text) = done m text
+told_as m (Err code) = refused m code
+
+told_within : (m : Map) (text : List ℕ) (fits : Bool) → cond fits (done m text) (refused m ProfReply) ≡ told_as m (only_if fits ProfReply text)
+unfolding told_as
+told_within m text true = refl
+told_within m text false = refl
+
+queried_as : (m : Map) (v : Judged Value) → queried m v ≡ told_as m (text_of v)
+unfolding told_as
+queried_as m (Ok v) = told_within m (printed v) (nat_le (length (printed v)) longest_text)
+queried_as m (Err code) = refl
+
+-- the plan's value is the query's, over the documents
+carries_query : (m : Map) (text : List ℕ) (plan : Plan) (said : Judged (List ℕ)) → Understands text (Ok plan)
+    → text_of (plan_value plan (keys m) (values m)) ≡ said → CarriesOut m (query text) (told_as m said)
+carries_query m text plan said understands is = (
+  understands.0,
+  understands.1,
+  sym (queried_as m (value understands.0 m) ∙ ap (λ v. told_as m (text_of v)) (sym (understands.2 (keys m) (values m))) ∙ ap (told_as m) is),
+)
+
+pub query_told : (m : Map) (text : List ℕ) (plan : Plan) (printed' : String Global) → Understands text (Ok plan)
+    → Makes MakesText (plan_value plan (keys m) (values m)) (Ok printed') → Tells m (query text) m (Ok (Text printed'))
+unfolding told_as
+query_told m text plan printed' understands makes =
+    (inr (carries_query m text plan (Ok (string_bytes printed')) understands makes), query_wants text plan understands Memory, refl)
+
+pub query_refused : (m : Map) (text : List ℕ) (plan : Plan) (fault : Fault) → Understands text (Ok plan)
+    → Makes MakesText (plan_value plan (keys m) (values m)) (Err fault) → Tells m (query text) m (Err fault)
+unfolding told_as
+query_refused m text plan (OfCode code) understands makes = inr (carries_query m text plan (Err code) understands makes)
+query_refused m text plan (OfWant want) understands makes = (query_wants text plan understands want, refl)
 
 -- Puts.
 
@@ -193,50 +182,56 @@ put_wants : (address text : List ℕ) → IsAddress address → (want : Want) �
 put_wants address text good Memory may = λ code refuses free. elim refuses [ inl bad ↦ bad.0 good | inr fault ↦ may code fault.1 free ]
 put_wants address text good Store may = λ code refuses. elim refuses [ inl bad ↦ bad.0 good | inr fault ↦ may code fault.1 ]
 
-pub put_refused : (m : Map) (address text : List ℕ) (fault : Fault) → IsAddress address → Evaluates m text (Err fault) → Tells m (put address text) m (Err fault)
-put_refused m address text (OfWant want) good evaluates = (put_wants address text good want evaluates, refl)
-put_refused m address text (OfCode code) good evaluates = elim evaluates [
-  | inl fault ↦ inl (code, inr (good, fault), refl)
-  | inr value' ↦ inr (good, (value'.0, value'.1, sym (ap (stored m address) value'.2)))
-]
+pub put_unread : (m : Map) (address text : List ℕ) (fault : Fault) → IsAddress address → Understands text (Err fault)
+    → Tells m (put address text) m (Err fault)
+put_unread m address text (OfWant want) good understands = (put_wants address text good want understands, refl)
+put_unread m address text (OfCode code) good understands = inl (code, inr (good, understands), refl)
 
--- the value is a tree, whose root is a document or is none
-pub put_no_document : (m : Map) (address text : List ℕ) (tree : Tree) → IsAddress address → Evaluates m text (Ok tree)
-    → stored m address (Ok tree) ≡ refused m ProfNotdoc → Answers m (put address text) (refused m ProfNotdoc)
-put_no_document m address text tree good evaluates none =
-    inr (good, (evaluates.0, evaluates.1, sym (ap (stored m address) evaluates.2 ∙ none)))
+-- what is stored where the document, or its code, is this
+stored_as : Map → List ℕ → Judged Tree → Outcome
+stored_as m address (Ok tree) = done (insert m address tree) (put_word (contains_key m address))
+stored_as m address (Err code) = refused m code
 
-pub put_done : (m : Map) (address text : List ℕ) (tree : Tree) (was : Bool) → IsAddress address → Evaluates m text (Ok tree)
-    → stored m address (Ok tree) ≡ set_to m address (Some tree) → contains_key m address ≡ was
-    → Answers m (put address text) (done (insert m address tree) (put_word was))
-put_done m address text tree was good evaluates is_document had =
-    inr (
-      good,
-      (
-        evaluates.0,
-        evaluates.1,
-        ap (λ w. done (insert m address tree) (put_word w)) (sym had) ∙ sym (ap (stored m address) evaluates.2 ∙ is_document),
-      ),
-    )
+set_as : (m : Map) (address : List ℕ) (tree : Option Tree) → set_to m address tree ≡ stored_as m address (or_no_document tree)
+unfolding stored_as
+set_as m address (Some tree) = refl
+set_as m address None = refl
 
-no_document_kind : (kind : Kind) (tree : Tree) → (kind ≡ Document → ⊥) → document_of_kind kind tree ≡ None
-no_document_kind Document tree none = absurd (none refl)
-no_document_kind Element tree none = refl
-no_document_kind Attribute tree none = refl
-no_document_kind TextNode tree none = refl
-no_document_kind Comment tree none = refl
-no_document_kind ProcessingInstruction tree none = refl
+value_stored : (m : Map) (address : List ℕ) (v : Judged Value) → stored m address v ≡ stored_as m address (made v)
+unfolding stored_as
+value_stored m address (Ok v) = set_as m address (document v)
+value_stored m address (Err code) = refl
 
-pub put_not_document : (m : Map) (address text : List ℕ) (tree : Tree) → IsAddress address → Evaluates m text (Ok tree) → (tree.root.kind ≡ Document → ⊥)
-    → Answers m (put address text) (refused m ProfNotdoc)
-put_not_document m address text tree good evaluates none =
-    put_no_document m address text tree good evaluates (ap (set_to m address) (no_document_kind tree.root.kind tree none))
+carries_put : (m : Map) (address text : List ℕ) (plan : Plan) (tree : Judged Tree) → IsAddress address → Understands text (Ok plan)
+    → made (plan_value plan (keys m) (values m)) ≡ tree → CarriesOut m (put address text) (stored_as m address tree)
+carries_put m address text plan tree good understands is = (
+  good,
+  (
+    understands.0,
+    understands.1,
+    sym (value_stored m address (value understands.0 m) ∙ ap (λ v. stored_as m address (made v)) (sym (understands.2 (keys m) (values m))) ∙ ap (stored_as m address) is),
+  ),
+)
 
-pub put_told : (m : Map) (address text given : List ℕ) (tree : Tree) (was : Bool) → (given ≡ address) × IsAddress address → Evaluates m text (Ok tree)
-    → tree.root.kind ≡ Document → contains_key m given ≡ was → Answers m (put address text) (done (insert m given tree) (put_word was))
-put_told m address text given tree was good evaluates root had =
+pub put_refused : (m : Map) (address text : List ℕ) (plan : Plan) (fault : Fault) → IsAddress address → Understands text (Ok plan)
+    → Makes MakesDocument (plan_value plan (keys m) (values m)) (Err fault) → Tells m (put address text) m (Err fault)
+unfolding stored_as
+put_refused m address text plan (OfCode code) good understands makes = inr (carries_put m address text plan (Err code) good understands makes)
+put_refused m address text plan (OfWant want) good understands makes =
+    (put_wants address text good want (query_wants text plan understands want), refl)
+
+pub put_wanted : (m : Map) (address text : List ℕ) (plan : Plan) (want : Want) → IsAddress address → Understands text (Ok plan)
+    → Tells m (put address text) m (Err (OfWant want))
+put_wanted m address text plan want good understands = (put_wants address text good want (query_wants text plan understands want), refl)
+
+pub put_told : (m : Map) (address text given : List ℕ) (plan : Plan) (tree : Tree) (was : Bool) → (given ≡ address) × IsAddress address
+    → Understands text (Ok plan) → Makes MakesDocument (plan_value plan (keys m) (values m)) (Ok tree) → contains_key m given ≡ was
+    → Answers m (put address text) (done (insert m given tree) (put_word was))
+unfolding stored_as
+put_told m address text given plan tree was good understands makes had =
     subst (λ a. Answers m (put address text) (done (insert m a tree) (put_word was))) (sym good.0)
-    (put_done m address text tree was good.1 evaluates (ap (λ k. set_to m address (document_of_kind k tree)) root) (ap (contains_key m) (sym good.0) ∙ had))
+    (subst (λ w. Answers m (put address text) (done (insert m address tree) (put_word w))) (ap (contains_key m) (sym good.0) ∙ had)
+    (inr (carries_put m address text plan (Ok tree) good.1 understands makes)))
 
 pub was_stored : (there : Bool) → Fresh ≡ (if there then Other else Fresh) → there ≡ false
 was_stored true e = absurd (cc)
@@ -245,8 +240,3 @@ was_stored false e = refl
 pub was_replaced : (there : Bool) → Other ≡ (if there then Other else Fresh) → there ≡ true
 was_replaced true e = refl
 was_replaced false e = absurd (cc)
-
-pub put_wanted : (m : Map) (address text : List ℕ) (tree : Tree) (want : Want) → IsAddress address → Evaluates m text (Ok tree)
-    → Tells m (put address text) m (Err (OfWant want))
-put_wanted m address text tree want good evaluates =
-    (put_wants address text good want (query_wants text evaluates.0 evaluates.1 want), refl)

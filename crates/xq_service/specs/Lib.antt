@@ -3,4 +3,4 @@ pub mod Answer
 pub mod Step
 pub mod Run
 pub mod Service
-pub mod Work
+pub mod private

@@ -4,15 +4,16 @@ ghost use Rattle.xq_atoms.specs.Address.{IsAddress};
 ghost use Rattle.xq_atoms.specs.declared.refusals.Code.TheVariants.{ProfAddress};
 ghost use Rattle.xq_rows.specs.Documents.{IsClean, IsOpen, Map, StandsFor};
 ghost use Rattle.xq_frame.specs.Request.{asked, query, put, remove as remove_one, list};
-ghost use Rattle.xq_service.specs.Work.{Tells, IsShort};
+ghost use Rattle.xq_service.specs.private.Work.{Tells, IsShort};
 
+use crate::evaluations::evaluate;
 use crate::listings::listing;
-use crate::queries::evaluate;
+use crate::queries::understand;
 use sqlite::Alter;
 use std::alloc::Global;
 use xq_atoms::{Code, Fault, address_ok};
 use xq_frame::Request;
-use xq_printed::print_document;
+use xq_regions::Fragment;
 use xq_rows::{Put, Store};
 
 /// What a request is told that isn't refused.
@@ -29,8 +30,8 @@ pub(crate) enum Answer {
 }
 
 /// Carries the request out. Refusals come in this order: frame, address, the text of a query,
-/// its value, and last a text that is too long for a reply.
-pub(crate) fn carry_out<S: Alter>(
+/// its value, and last a value that is no document, or too long for a reply.
+pub(crate) fn carry_out<S: Alter + Drop>(
     alloc: Global,
     store: &mut Store<S>,
     request: Request<'_>,
@@ -51,7 +52,11 @@ pub(crate) fn carry_out<S: Alter>(
     }
 }
 
-fn answer_query<S: Alter>(alloc: Global, store: &mut Store<S>, text: &[u8]) -> Result<Answer, Fault>
+fn answer_query<S: Alter + Drop>(
+    alloc: Global,
+    store: &mut Store<S>,
+    text: &[u8],
+) -> Result<Answer, Fault>
     ensures tells { IsClean S.Store store.new → (m : Map) → StandsFor S.Store store.old m
         → Tells m (query text.now) m result }
     ensures same { IsClean S.Store store.new → (m : Map) → StandsFor S.Store store.old m
@@ -61,11 +66,12 @@ fn answer_query<S: Alter>(alloc: Global, store: &mut Store<S>, text: &[u8]) -> R
         → IsOpen S.Store store.old }
     ensures short { IsShort result }
 {
-    let value = evaluate(alloc, store, text)?;
-    Ok(Answer::Text(print_document(alloc, &value)?))
+    let plan = understand(alloc, text)?;
+    let printed: String = evaluate(alloc, store, &plan)?;
+    Ok(Answer::Text(printed))
 }
 
-fn answer_put<S: Alter>(
+fn answer_put<S: Alter + Drop>(
     alloc: Global,
     store: &mut Store<S>,
     address: &[u8],
@@ -79,17 +85,15 @@ fn answer_put<S: Alter>(
     ensures short { IsShort result }
 {
     let address = good_address(address)?;
-    let tree = evaluate(alloc, store, text)?;
-    if !tree.is_document() {
-        return Err(Fault::Code(Code::ProfNotdoc));
-    }
-    match store.put(address, &tree)? {
+    let plan = understand(alloc, text)?;
+    let document: Fragment = evaluate(alloc, store, &plan)?;
+    match store.put(address, &document)? {
         Put::Stored => Ok(Answer::Stored),
         Put::Replaced => Ok(Answer::Replaced),
     }
 }
 
-fn answer_remove<S: Alter>(store: &mut Store<S>, address: &[u8]) -> Result<Answer, Fault>
+fn answer_remove<S: Alter + Drop>(store: &mut Store<S>, address: &[u8]) -> Result<Answer, Fault>
     ensures tells { IsClean S.Store store.new → (m : Map) → StandsFor S.Store store.old m
         → (later : Map) × Tells m (remove_one address.now) later result × StandsFor S.Store store.new later }
     ensures was_clean { IsClean S.Store store.new → IsClean S.Store store.old }
@@ -105,7 +109,7 @@ fn answer_remove<S: Alter>(store: &mut Store<S>, address: &[u8]) -> Result<Answe
     }
 }
 
-fn answer_list<S: Alter>(alloc: Global, store: &mut Store<S>) -> Result<Answer, Fault>
+fn answer_list<S: Alter + Drop>(alloc: Global, store: &mut Store<S>) -> Result<Answer, Fault>
     ensures tells { IsClean S.Store store.new → (m : Map) → StandsFor S.Store store.old m
         → Tells m (list) m result }
     ensures same { IsClean S.Store store.new → (m : Map) → StandsFor S.Store store.old m

@@ -7,8 +7,10 @@
 
 mod answers;
 mod ends;
+mod evaluations;
 mod laws;
 mod listings;
+mod products;
 mod queries;
 mod replies;
 mod servers;

@@ -1,8 +1,8 @@
 //! The text of a list of addresses.
 ghost use Rattle.std.specs.Prelude.{◌≡◌, ◌++◌, IfOk, OnOk, map, string_bytes, string_len, ◌≤◌, IfErr, length, ◌<◌};
 ghost use Rattle.xq_atoms.specs.declared.refusals.Code.TheVariants.{ProfReply};
-ghost use Rattle.xq_printed.specs.Refusals.{IsRefusal};
 ghost use Rattle.xq_service.specs.Answer.{listing as listing_lem, literal_of};
+ghost use Rattle.xq_service.specs.private.Work.{IsRefusal};
 
 use std::alloc::{AllocError, Global};
 use xq_atoms::{Code, Fault};

@@ -3,7 +3,7 @@ ghost use Rattle.std.specs.Prelude.{◌≡◌, ◌+◌, ◌≤◌, ◌++◌, ◌
 ghost use Rattle.xq_atoms.specs.Code.{want_text};
 ghost use Rattle.xq_atoms.specs.declared.refusals.Want.TheVariants.{Memory};
 ghost use Rattle.xq_frame.specs.Reply.{reply_bytes};
-ghost use Rattle.xq_service.specs.Work.{IsShort, Writes};
+ghost use Rattle.xq_service.specs.private.Work.{IsShort, Writes};
 
 use crate::answers::Answer;
 use xq_atoms::{Fault, Want};

@@ -51,7 +51,9 @@ impl<S: Alter> Server<S> {
         let Server { alloc: _, store } = self;
         store
     }
+}
 
+impl<S: Alter + Drop> Server<S> {
     /// Carries one frame out, and adds its reply to the output. It fails only where the output
     /// has no room for 32 more bytes, and then nothing has changed.
     pub fn answer(&mut self, frame: &Frame<'_>, out: &mut Vec<u8>) -> Result<(), Want>

@@ -1,5 +1,5 @@
 //! The trees of a source, and those that were constructed.
-ghost use Rattle.std.specs.Prelude.{◌≡◌, ◌+◌, ◌<◌, ◌^◌, ◌↔◌, ◌++◌, length, if◌then◌else◌};
+ghost use Rattle.std.specs.Prelude.{◌≡◌, ◌+◌, ◌<◌, ◌^◌, ◌↔◌, ◌++◌, drop, length, if◌then◌else◌};
 ghost use Rattle.xq_sources.specs.Meters.{no_readings};
 ghost use Rattle.xq_worlds.specs.Sums.{sum};
 
@@ -37,6 +37,16 @@ impl<S: TreeSource + Drop> Trees<S> {
             constructed: Fragments::new(alloc),
             is_stored: true,
         }
+    }
+
+    /// Gives the source back, without the trees that were constructed.
+    pub fn into_source(self) -> S
+        ensures forest { ⟦<Trees<S> as TreeSource>⟧.forest self
+            ≡ S.forest result ++ drop (length (S.forest result))
+            (⟦<Trees<S> as TreeSource>⟧.forest self) }
+        ensures clean { S.is_clean result ↔ ⟦<Trees<S> as TreeSource>⟧.is_clean self }
+    {
+        self.source
     }
 }
 

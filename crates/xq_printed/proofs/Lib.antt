@@ -1,9 +1,0 @@
-pub mod Written
-pub mod Worked
-pub mod Loops
-pub mod Stripping
-pub mod ReadBack
-pub mod Legal
-pub mod Sized
-pub mod RowsRead
-pub mod ReadDocument

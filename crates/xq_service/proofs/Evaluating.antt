@@ -1,0 +1,59 @@
+-- From a view of a store to what is made of a query's value over its documents.
+use Rattle.std.proofs.Common.{◌≡◌, ◌≤◌, List, [], ◌∷◌, map, length, Result, refl, sym, ◌∙◌, ap, subst, arith, String, Global, string_bytes}
+use Rattle.std.proofs.lemmas.List.{length-map}
+use Rattle.std.specs.FinMap.{keys, values, entries}
+use Rattle.std.specs.List.{AllZip}
+use Rattle.sqlite_trees.specs.declared.store.Store.{Ghosts}
+use Rattle.sqlite.specs.Held.{Held}
+use Rattle.xq_atoms.specs.Judged.{Judged}
+use Rattle.xq_atoms.specs.declared.refusals.Fault.{Fault}
+use Rattle.xq_regions.specs.Tree.{Tree}
+use Rattle.xq_meaning.specs.declared.plans.Plan.{Plan}
+use Rattle.xq_queries.specs.Values.{Value, plan_value}
+use Rattle.xq_rows.specs.Documents.{Map, IsClean, IsOpen, StandsFor}
+use Rattle.xq_rows.specs.Views.{Beginning, HeldDocuments, StoodFor, WasClean, WasOpen, beginning}
+use Rattle.xq_service.specs.private.Work.{Makes}
+
+-- a copy of each text has its bytes
+pub same_texts : (xs ys : List (String Global)) → AllZip (λ s t. string_bytes t ≡ string_bytes s) xs ys → map string_bytes ys ≡ map string_bytes xs
+same_texts [] [] e = refl
+same_texts [] (y ∷ ys) e = absurd e
+same_texts (x ∷ xs) [] e = absurd e
+same_texts (x ∷ xs) (y ∷ ys) e = ap (λ t. t ∷ map string_bytes ys) e.0 ∙ ap (λ ts. string_bytes x ∷ ts) (same_texts xs ys e.1)
+
+same_lengths : {A B : Type 0} (es : List (A × B)) → length (map (λ e. e.0) es) ≡ length (map (λ e. e.1) es)
+same_lengths [] = refl
+same_lengths (e ∷ es) = let more = same_lengths es in omega (arith, more)
+
+-- there are as many documents as addresses
+as_many : (m : Map) (addresses : List (String Global)) (trees : List Tree) → map string_bytes addresses ≡ keys m → trees ≡ values m
+    → length addresses ≤ length trees
+as_many m addresses trees at are =
+    let n = sym (length-map addresses string_bytes) ∙ ap length at ∙ same_lengths (entries m) ∙ sym (ap length are) in omega (arith, n)
+
+-- what a plan's value makes over the documents of a map
+pub made_over : {P : Type 0} (makes : Judged Value → Judged P → Type 0) (plan : Plan) (m : Map) (addresses : List (String Global)) (trees : List Tree)
+    (result : Result P Fault) → map string_bytes addresses ≡ keys m → trees ≡ values m
+    → (length addresses ≤ length trees → Makes makes (plan_value plan (map string_bytes addresses) trees) result)
+    → Makes makes (plan_value plan (keys m) (values m)) result
+made_over makes plan m addresses trees result at are made =
+    subst (λ ts. Makes makes (plan_value plan (keys m) ts) result) are
+    (subst (λ names. Makes makes (plan_value plan names trees) result) at (made (as_many m addresses trees at are)))
+
+-- A store, as it was when a view of it began.
+module _ {S : Type 0} (g : Ghosts S) (b : Beginning) (store : Held S) (same : beginning g store ≡ b) where
+  pub was_clean : WasClean b → IsClean g store
+  unfolding WasClean IsClean beginning
+  was_clean clean = subst WasClean (sym same) clean
+
+  pub was_open : WasOpen b → IsOpen g store
+  unfolding WasOpen IsOpen beginning
+  was_open opened = subst WasOpen (sym same) opened
+
+  pub stood : WasOpen b → (m : Map) → StandsFor g store m → StoodFor b m
+  unfolding WasOpen StandsFor StoodFor beginning
+  stood opened m stands = subst (λ c. StoodFor c m) same (stands (subst WasOpen (sym same) opened))
+
+pub held : (b : Beginning) (m : Map) → StoodFor b m → HeldDocuments b
+unfolding StoodFor HeldDocuments
+held b m stood_for = stood_for.0
