@@ -16,3 +16,5 @@ pub mod OnPaths
 pub mod Orders
 pub mod Merging
 pub mod Many
+pub mod Counts
+pub mod Scans

@@ -1,2 +1,3 @@
 pub mod private
 pub mod Nodes
+pub mod Scans

@@ -3,8 +3,9 @@ ghost use Rattle.std.specs.Prelude.{◌≡◌, ◌+◌, ◌-◌, ◌<◌, ◌≤
 ghost use Rattle.xq_regions.specs.Forest.{count};
 ghost use Rattle.xq_regions.specs.Tree.{nodes};
 ghost use Rattle.xq_sources.specs.Sources.{tree_at};
+ghost use Rattle.xq_axes.specs.Scans.{region};
 ghost use Rattle.xq_axes.specs.private.Hits.{is_wanted, below_where, IsRising, IsReached};
-ghost use Rattle.xq_axes.specs.private.Downward.{axis_of, is_chosen as is_chosen_lem, is_own as is_own_lem, IsJudged, IsSearched, IsNext};
+ghost use Rattle.xq_axes.specs.private.Downward.{axis_of, is_chosen as is_chosen_lem, is_own as is_own_lem, end_of, IsJudged, IsSearched, IsNext, ReadsBelow};
 
 use crate::contexts::Contexts;
 use crate::picks::{Judge, Picker};
@@ -148,6 +149,11 @@ fn search_one<L: RowLender>(
         → IfOk result (λ next. (place < next) × (picker.new.judge.direction ≡ direction)
         × (picker.new.judge.contexts.places.now ≡ vs) × (picker.new.test.now ≡ test)
         × IsSearched direction test t vs next picker.new.judge.contexts.met (length picker.new.judge.marks) picker.new.found.items) }
+    ensures ends { L.is_clean source.new → let t = tree_at (L.forest source.old) tree in
+        IfOk result (λ next. (next ≡ end_of t place + 1) × (end_of t place < count (nodes t))) }
+    ensures rows { L.is_clean source.new → let t = tree_at (L.forest source.old) tree in
+        ReadsBelow t place (L.meter source.old).rows (L.meter source.new).rows }
+    ensures singles { (L.meter source.new).singles ≤ (L.meter source.old).singles + 1 }
 {
     source.fetch_row(alloc, tree, place)?;
     let [row] = source.lent() else {
@@ -176,6 +182,11 @@ pub fn search_below<L: RowLender>(
         → let t = tree_at (L.forest source.old) tree in
         IsRising places.now → IfOk result (λ found. found.items
         ≡ below_where (is_wanted (axis_of direction) test.now t places.now) (count (nodes t))) }
+    ensures rows { L.is_clean source.new
+        → (L.meter source.new).rows ≤ (L.meter source.old).rows
+        + length (region (axis_of direction) (tree_at (L.forest source.old) tree) places.now) }
+    ensures singles { (L.meter source.new).singles
+        ≤ (L.meter source.old).singles + length places.now }
     ensures keeps { L.forest source.new ≡ L.forest source.old }
     ensures was_clean { L.is_clean source.new → L.is_clean source.old }
 {

@@ -1,5 +1,5 @@
 //! Nodes in document order, each once.
-ghost use Rattle.std.specs.Prelude.{◌≡◌, ◌↔◌, List, map};
+ghost use Rattle.std.specs.Prelude.{◌≡◌, ◌≤◌, ◌↔◌, List, length, map};
 ghost use Rattle.std.specs.List.{Contains, IsAllAdjacentAnswer};
 ghost use Rattle.std.specs.Ordering.{is_lt};
 ghost use Rattle.xq_regions.specs.Tree.{Tree};
@@ -31,6 +31,7 @@ fn rises(nodes: &[Node]) -> bool
 pub fn merge(mut nodes: Vec<Node>) -> Vec<Node>
     ensures rising { AreRising result.items }
     ensures members { (n : NodeLem) → Contains result.items n ↔ Contains nodes.items n }
+    ensures fewer { length result.items ≤ length nodes.items }
     ensures nodes { (trees : List Tree) → HaveAll trees nodes.items
         → map (node_at trees) result.items
         ≡ in_document_order trees (map (node_at trees) nodes.items) }

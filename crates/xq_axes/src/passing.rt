@@ -4,6 +4,7 @@ ghost use Rattle.std.specs.Prelude.{◌≡◌, ◌+◌, ◌-◌, ◌<◌, ◌≤
 ghost use Rattle.xq_regions.specs.Forest.{count};
 ghost use Rattle.xq_regions.specs.Tree.{nodes};
 ghost use Rattle.xq_regions.specs.declared.Axis.TheVariants as axes;
+ghost use Rattle.xq_axes.specs.Scans.{region};
 ghost use Rattle.xq_sources.specs.Sources.{tree_at};
 ghost use Rattle.xq_axes.specs.private.Reads.{span, span_end};
 ghost use Rattle.xq_axes.specs.private.Hits.{is_wanted, below_where, IsRising, IsReached};
@@ -190,6 +191,10 @@ pub fn search_before<L: RowLender>(
         → let t = tree_at (L.forest source.old) tree in
         IsRising places.now → IfOk result (λ found. found.items
         ≡ below_where (is_wanted axes.Preceding test.now t places.now) (count (nodes t))) }
+    ensures rows { L.is_clean source.new → IsRising places.now
+        → (L.meter source.new).rows ≤ (L.meter source.old).rows
+        + length (region axes.Preceding (tree_at (L.forest source.old) tree) places.now) }
+    ensures singles { (L.meter source.new).singles ≡ (L.meter source.old).singles }
     ensures keeps { L.forest source.new ≡ L.forest source.old }
     ensures was_clean { L.is_clean source.new → L.is_clean source.old }
 {
@@ -226,6 +231,10 @@ pub fn search_above<L: RowLender>(
         → let t = tree_at (L.forest source.old) tree in
         IsRising places.now → IfOk result (λ found. found.items
         ≡ below_where (is_wanted (axis_above or_self) test.now t places.now) (count (nodes t))) }
+    ensures rows { L.is_clean source.new → IsRising places.now
+        → (L.meter source.new).rows ≤ (L.meter source.old).rows
+        + length (region (axis_above or_self) (tree_at (L.forest source.old) tree) places.now) }
+    ensures singles { (L.meter source.new).singles ≡ (L.meter source.old).singles }
     ensures keeps { L.forest source.new ≡ L.forest source.old }
     ensures was_clean { L.is_clean source.new → L.is_clean source.old }
 {
@@ -255,6 +264,9 @@ fn least_end<L: RowLender>(
 ) -> Result<u64, Want>
     ensures least { L.is_clean source.new → 0 < length places.now
         → IfOk result (IsLeastEnd (tree_at (L.forest source.old) tree) places.now) }
+    ensures rows { (L.meter source.new).rows ≡ (L.meter source.old).rows }
+    ensures singles { (L.meter source.new).singles
+        ≤ (L.meter source.old).singles + length places.now }
     ensures keeps { L.forest source.new ≡ L.forest source.old }
     ensures was_clean { L.is_clean source.new → L.is_clean source.old }
 {
@@ -280,6 +292,11 @@ pub fn search_after<L: RowLender>(
         → let t = tree_at (L.forest source.old) tree in
         IfOk result (λ found. found.items
         ≡ below_where (is_wanted axes.Following test.now t places.now) (count (nodes t))) }
+    ensures rows { L.is_clean source.new
+        → (L.meter source.new).rows ≤ (L.meter source.old).rows
+        + length (region axes.Following (tree_at (L.forest source.old) tree) places.now) }
+    ensures singles { (L.meter source.new).singles
+        ≤ (L.meter source.old).singles + length places.now }
     ensures keeps { L.forest source.new ≡ L.forest source.old }
     ensures was_clean { L.is_clean source.new → L.is_clean source.old }
 {

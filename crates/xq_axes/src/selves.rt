@@ -1,5 +1,5 @@
 //! The self axis.
-ghost use Rattle.std.specs.Prelude.{◌≡◌, IfOk};
+ghost use Rattle.std.specs.Prelude.{◌≡◌, ◌+◌, ◌≤◌, length, IfOk};
 ghost use Rattle.xq_regions.specs.Forest.{count};
 ghost use Rattle.xq_regions.specs.Tree.{nodes};
 ghost use Rattle.xq_regions.specs.declared.Axis.TheVariants as axes;
@@ -25,6 +25,9 @@ pub fn search_selves<L: RowLender>(
         → let t = tree_at (L.forest source.old) tree in
         IsRising places.now → IfOk result (λ found. found.items
         ≡ below_where (is_wanted axes.SelfNode test.now t places.now) (count (nodes t))) }
+    ensures rows { (L.meter source.new).rows ≡ (L.meter source.old).rows }
+    ensures singles { (L.meter source.new).singles
+        ≤ (L.meter source.old).singles + length places.now }
     ensures keeps { L.forest source.new ≡ L.forest source.old }
     ensures was_clean { L.is_clean source.new → L.is_clean source.old }
 {

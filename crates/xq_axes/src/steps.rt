@@ -1,5 +1,5 @@
 //! Steps along the axes.
-ghost use Rattle.std.specs.Prelude.{◌≡◌, ◌∷◌, ◌++◌, ◌+◌, ◌||◌, [], ℕ, Bool, List, map, IfOk, OnOk};
+ghost use Rattle.std.specs.Prelude.{◌≡◌, ◌≤◌, ◌∷◌, ◌++◌, ◌+◌, ◌||◌, [], ℕ, Bool, true, List, length, map, IfOk, OnOk};
 ghost use Rattle.std.specs.List.{flat_map, list_any};
 ghost use Rattle.xq_regions.specs.Forest.{count};
 ghost use Rattle.xq_regions.specs.Tree.{nodes};
@@ -9,8 +9,9 @@ ghost use Rattle.xq_values.specs.Items.{in_document_order};
 ghost use Rattle.xq_values.specs.Steps.{axis_nodes};
 ghost use Rattle.xq_values.specs.Readings.{node_at};
 ghost use Rattle.xq_axes.specs.Nodes.{AreRising, HaveAll};
+ghost use Rattle.xq_axes.specs.Scans.{is_scanned, region, places_of, AreOf};
 ghost use Rattle.xq_axes.specs.private.Hits.{is_wanted, below_where, IsRising};
-ghost use Rattle.xq_axes.specs.private.Many.{spot, is_found_from, AreThere, IsNext, IsGathered};
+ghost use Rattle.xq_axes.specs.private.Many.{spot, is_found_from, AreThere, IsNext, IsGathered, IsAt, AreKept};
 
 use crate::downward::{Downward, search_below};
 use crate::families::{Kin, search_each};
@@ -36,6 +37,11 @@ fn search<L: RowLender>(
         → let t = tree_at (L.forest source.old) tree in
         IsRising places.now → IfOk result (λ found. found.items
         ≡ below_where (is_wanted axis test.now t places.now) (count (nodes t))) }
+    ensures rows { L.is_clean source.new → is_scanned axis ≡ true → IsRising places.now
+        → (L.meter source.new).rows ≤ (L.meter source.old).rows
+        + length (region axis (tree_at (L.forest source.old) tree) places.now) }
+    ensures singles { is_scanned axis ≡ true → (L.meter source.new).singles
+        ≤ (L.meter source.old).singles + length places.now }
     ensures keeps { L.forest source.new ≡ L.forest source.old }
     ensures was_clean { L.is_clean source.new → L.is_clean source.old }
 {
@@ -120,6 +126,12 @@ fn add_step<L: RowLender>(
         → OnOk result ((p : NodeLem → Bool) → list_any p found.new.items
         ≡ (list_any p found.old.items || list_any (is_found_from (L.forest source.old) axis test.now p)
         (map (spot contexts.now.tree) contexts.now.places.items))) }
+    ensures rows { L.is_clean source.new → is_scanned axis ≡ true
+        → IsRising contexts.now.places.items
+        → (L.meter source.new).rows ≤ (L.meter source.old).rows
+        + length (region axis (tree_at (L.forest source.old) contexts.now.tree) contexts.now.places.items) }
+    ensures singles { is_scanned axis ≡ true → (L.meter source.new).singles
+        ≤ (L.meter source.old).singles + length contexts.now.places.items }
     ensures keeps { L.forest source.new ≡ L.forest source.old }
     ensures was_clean { L.is_clean source.new → L.is_clean source.old }
 {
@@ -149,6 +161,18 @@ fn gather<L: RowLender>(
         (contexts : List NodeLem) (index : ℕ) → IsNext trees contexts index context
         → IsGathered trees axis test.now contexts index gathered.old.tree gathered.old.places.items found.old.items
         → OnOk result (IsGathered trees axis test.now contexts (index + 1) gathered.new.tree gathered.new.places.items found.new.items) }
+    ensures kept { (contexts : List NodeLem) (index one : ℕ) → AreOf one contexts
+        → IsAt contexts index context → AreKept contexts index gathered.old.tree gathered.old.places.items
+        → OnOk result (AreKept contexts (index + 1) gathered.new.tree gathered.new.places.items) }
+    ensures rows { L.is_clean source.new → is_scanned axis ≡ true
+        → (contexts : List NodeLem) (index one : ℕ) → AreOf one contexts
+        → IsAt contexts index context → AreKept contexts index gathered.old.tree gathered.old.places.items
+        → (L.meter source.new).rows ≤ (L.meter source.old).rows }
+    ensures singles { is_scanned axis ≡ true → (L.meter source.new).singles
+        ≤ (L.meter source.old).singles + length gathered.old.places.items }
+    ensures gathers { is_scanned axis ≡ true → OnOk result (
+        (L.meter source.new).singles + length gathered.new.places.items
+        ≤ (L.meter source.old).singles + length gathered.old.places.items + 1) }
     ensures keeps { L.forest source.new ≡ L.forest source.old }
     ensures was_clean { L.is_clean source.new → L.is_clean source.old }
 {
@@ -166,6 +190,9 @@ fn gather<L: RowLender>(
 /// The nodes that are on the axis from one of the nodes and pass the test, in document order, each
 /// once (XPath 3.1, section 3.3), where the source has the nodes: in any order, of any trees.
 ///
+/// From nodes of one tree, on each axis but those to parents and siblings, it reads each row of the
+/// axis' region once at most, and for each node at most one row besides.
+///
 /// `Want::Store` where the source refuses to read a row; `Want::Memory` where a growth was refused.
 pub fn step<L: RowLender>(
     alloc: Global,
@@ -181,6 +208,12 @@ pub fn step<L: RowLender>(
     ensures there { L.is_clean source.new → HaveAll (L.forest source.old) nodes.now
         → IfOk result (λ found. HaveAll (L.forest source.old) found.items) }
     ensures rising { IfOk result (λ found. AreRising found.items) }
+    ensures rows { L.is_clean source.new → is_scanned axis ≡ true
+        → (tree : ℕ) → AreOf tree nodes.now
+        → (L.meter source.new).rows ≤ (L.meter source.old).rows
+        + length (region axis (tree_at (L.forest source.old) tree) (places_of nodes.now)) }
+    ensures singles { is_scanned axis ≡ true → (L.meter source.new).singles
+        ≤ (L.meter source.old).singles + length nodes.now }
     ensures keeps { L.forest source.new ≡ L.forest source.old }
     ensures was_clean { L.is_clean source.new → L.is_clean source.old }
 {

@@ -221,24 +221,56 @@ fn steps<L: RowLender>(rt: &impl Abort, alloc: Global, source: &mut L) -> Result
     is_step(rt, alloc, source, &[], Axis::SelfNode, "")
 }
 
-/// The rows below nested nodes are read once.
+/// The step gives these nodes, and reads so many rows of ranges at most, and singly one for each
+/// context at most.
+fn is_scan<L: RowLender>(
+    rt: &impl Abort,
+    alloc: Global,
+    source: &mut L,
+    places: &[u32],
+    direction: Axis,
+    wanted: &str,
+    most: u64,
+) -> Result<(), Want> {
+    let before = source.meter();
+    is_step(rt, alloc, source, places, direction, wanted)?;
+    let after = source.meter();
+    assert!(rt; after.rows().saturating_sub(before.rows()) <= most);
+    assert!(rt; after.singles().saturating_sub(before.singles()) <= places.len() as u64);
+    Ok(())
+}
+
+/// Each row is read once, from nested and doubled nodes too.
 fn reads_rows_once<L: RowLender>(
     rt: &impl Abort,
     alloc: Global,
     source: &mut L,
 ) -> Result<(), Want> {
-    let before = source.meter().rows();
-    is_step(
+    let or_self = Axis::DescendantOrSelf;
+    is_scan(
         rt,
         alloc,
         source,
-        &[5, 0, 2, 1, 0],
-        Axis::DescendantOrSelf,
-        "0.0 0.1 0.2 0.4 0.5 0.7 ",
+        &[1, 2, 5],
+        Axis::Descendant,
+        "0.2 0.4 0.5 0.7 ",
+        6,
     )?;
-    let after = source.meter().rows();
-    assert!(rt; after.saturating_sub(before) <= 8);
-    Ok(())
+    is_scan(
+        rt,
+        alloc,
+        source,
+        &[2, 3, 5, 2],
+        or_self,
+        "0.2 0.3 0.4 0.5 0.7 ",
+        6,
+    )?;
+    is_scan(rt, alloc, source, &[2, 5], Axis::Following, "0.5 0.7 ", 3)?;
+    is_scan(rt, alloc, source, &[2, 7], Axis::Preceding, "0.2 0.4 ", 7)?;
+    is_scan(rt, alloc, source, &[3], or_self, "0.3 ", 1)?;
+    is_scan(rt, alloc, source, &[], Axis::Following, "", 0)?;
+    is_scan(rt, alloc, source, &[2, 5], Axis::Child, "0.4 0.7 ", 4)?;
+    is_scan(rt, alloc, source, &[2, 5], Axis::Ancestor, "0.0 0.1 ", 6)
 }
 
 /// The string value of the node at the place is as wanted.

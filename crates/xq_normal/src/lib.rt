@@ -2,7 +2,8 @@
 //! slots in place of names and scans in place of steps. Each means what the expression means.
 #![tactic(auto)]
 
-ghost use Rattle.std.specs.Prelude.{IfOk};
+ghost use Rattle.std.specs.Prelude.{◌≡◌, IfErr, IfOk};
+ghost use Rattle.xq_atoms.specs.declared.refusals.Want.TheVariants.{Memory};
 ghost use Rattle.xq_meaning.specs.Same.{IsNormalForm};
 
 mod names;
@@ -18,7 +19,8 @@ use xq_meaning::Core;
 /// trees. `//`, `..`, `@`, a leading `/`, axes that are not named and clauses with several bindings
 /// are written out (XQuery 3.1, sections 3.3.5 and 3.12). It refuses only for want of memory.
 pub fn normalise(alloc: Global, expr: &Expr) -> Result<Core, Want>
-    ensures { IfOk result (λ core. IsNormalForm expr.now core) }
+    ensures same { IfOk result (λ core. IsNormalForm expr.now core) }
+    ensures want { IfErr result (λ want. want ≡ Memory) }
 {
     Ok(normal::expression(alloc, expr)?)
 }

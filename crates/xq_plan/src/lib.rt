@@ -1,7 +1,8 @@
 //! Plans: normal forms with numbered slots in place of names, and with scans in place of steps.
 #![tactic(auto)]
 
-ghost use Rattle.std.specs.Prelude.{IfOk, []};
+ghost use Rattle.std.specs.Prelude.{◌≡◌, [], IfErr, IfOk};
+ghost use Rattle.xq_atoms.specs.declared.refusals.Want.TheVariants.{Memory};
 ghost use Rattle.xq_meaning.specs.Same.{IsPlan};
 
 mod copies;
@@ -18,7 +19,8 @@ use xq_meaning::{Core, Plan};
 /// trees. A variable that is not in scope is the empty sequence (XQuery 3.1, sections 3.1.2, 3.3,
 /// 3.12 and 3.16). It refuses only for want of memory.
 pub fn plan(alloc: Global, core: &Core) -> Result<Plan, Want>
-    ensures { IfOk result (λ plan. IsPlan [] core.now plan) }
+    ensures same { IfOk result (λ plan. IsPlan [] core.now plan) }
+    ensures want { IfErr result (λ want. want ≡ Memory) }
 {
     Ok(walk::expression(alloc, &mut Scope::new(alloc), core)?)
 }

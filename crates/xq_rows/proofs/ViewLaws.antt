@@ -103,16 +103,6 @@ module _ {S : Type 0} (g : Ghosts S) (b : Beginning) (v : Viewed S) (is : IsView
     unfolding HeldDocuments
     is_its_tree = own_document b.database a (nth_tree (trees_under b v.addresses) i) held its_tree
 
-  -- after a read it is a view as before
-  pub still_view : (new : Held S) (meter : Readings) → (IsClean g new → IsClean g v.store)
-      → (IsClean g new → (m : Map) → StandsFor g v.store m → StandsFor g new m) → IsView g b (record { store = new; addresses = v.addresses; meter = meter })
-  still_view new meter clean stays = record {
-    was_clean = λ now. is.was_clean (clean now);
-    was_open = λ now. is.was_open (clean now);
-    stands = λ now m stood. stays now m (is.stands (clean now) m stood);
-    listed = λ now m stood. is.listed (clean now) m stood;
-  }
-
 -- # One row
 
 one_placed : (n v : ℕ) (rs : List Row) → v < length rs → take 1 (drop v (enumerate_from n rs)) ≡ (n + v, row_at rs v) ∷ []

@@ -51,10 +51,9 @@ impl Named {
     pub fn has(self, places: &[usize], rows: &[NodeRow]) -> bool {
         let all = self.rows();
         rows.len() == places.len()
-            && rows
-                .iter()
-                .zip(places)
-                .all(|(row, place)| all.get(*place).is_some_and(|want| is_row(row, *want)))
+            && rows.iter().zip(places).all(|(row, place)| all
+                .get(*place)
+                .is_some_and(|want| is_row(row, *want)))
     }
 }
 

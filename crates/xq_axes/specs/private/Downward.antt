@@ -1,6 +1,6 @@
 -- Axes to what is below the context nodes, judged row by row.
 use Rattle.std.proofs.Common.{suc}
-use Rattle.std.specs.Prelude.{ℕ, ◌+◌, ◌<◌, ◌≤◌, ◌≡◌, ◌≢◌, List, length, Bool, true, false, not, ◌&&◌, ◌||◌, slice_index, slice_index_or}
+use Rattle.std.specs.Prelude.{ℕ, ◌+◌, ◌<◌, ◌≤◌, ◌≡◌, ◌≢◌, ◌⊎◌, List, length, Bool, true, false, not, ◌&&◌, ◌||◌, slice_index, slice_index_or}
 use Rattle.xq_regions.specs.Forest.{count}
 use Rattle.xq_regions.specs.Tree.{Tree, nodes}
 use Rattle.xq_regions.specs.Rows.{row_at, rows}
@@ -72,3 +72,7 @@ pub record IsSearched (direction : Downward) (test : Test) (t : Tree) (vs : List
 pub record IsNext (vs : List ℕ) (n place : ℕ) : Type 0 where
   pub is_context : is_among vs place ≡ true
   pub none_before : (i : ℕ) → i < length vs → n ≤ slice_index vs i → place ≤ slice_index vs i
+
+-- nothing was read, or of a node that is there the rows below it at most, each once
+abbrev pub ReadsBelow : Tree → ℕ → ℕ → ℕ → Type 0
+ReadsBelow t v old new = (new ≤ old) ⊎ ((v < count (nodes t)) × (new ≤ old + (row_at (rows t) v).size))

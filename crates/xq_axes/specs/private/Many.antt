@@ -47,3 +47,12 @@ pub record IsGathered (trees : List Tree) (axis : Axis) (test : Test) (contexts 
   pub there : AreThere trees tree places
   pub later : (j : ℕ) (n : Node) → index ≤ j → j < length contexts → (slice_index_or contexts j n).tree ≡ tree → (i : ℕ) → i < length places → slice_index places i < (slice_index_or contexts j n).pre
   pub is_found : (p : Node → Bool) → (list_any p found || list_any (is_found_from trees axis test p) (map (spot tree) places)) ≡ list_any (is_found_from trees axis test p) (take index contexts)
+
+-- the node is the one at the index
+pub record IsAt (contexts : List Node) (index : ℕ) (n : Node) : Type 0 where
+  pub within : index < length contexts
+  pub is : n ≡ slice_index_or contexts index n
+
+-- the contexts before the index, which are of one tree, were gathered
+abbrev pub AreKept : List Node → ℕ → ℕ → List ℕ → Type 0
+AreKept contexts index tree places = map (spot tree) places ≡ take index contexts

@@ -1,10 +1,13 @@
-use Rattle.std.proofs.Common.{◌≡◌, ℕ, ◌<◌, length, get_or}
+use Rattle.std.proofs.Common.{◌≡◌, ℕ, ◌+◌, ◌<◌, ◌≤◌, length, get_or}
+use Rattle.xq_regions.specs.Forest.{count}
+use Rattle.xq_regions.specs.Tree.{nodes}
 use Rattle.xq_sources.specs.Sources.{tree_at}
-use Rattle.xq_axes.specs.private.Hits.{IsRising}
-use Rattle.xq_axes.specs.private.Downward.{IsSearched}
+use Rattle.xq_axes.specs.private.Hits.{below_where, IsRising}
+use Rattle.xq_axes.specs.private.Downward.{axis_of, IsSearched}
+use Rattle.xq_axes.proofs.Scans.{in_some}
 use Rattle.xq_axes.proofs.downward.search_below.Given as goal
 
--- what is in the rows before the next was found, and the places so far are before it
+-- what is in the rows before the next was found, of which each was read once at most, and the places so far are before it
 abbrev pub invariant-loop-place : goal.invariant-loop-place
 invariant-loop-place g l =
     let t = tree_at (g.L.TreeSource.forest l.initial.source) l.tree in
@@ -12,6 +15,9 @@ invariant-loop-place g l =
     record {
       forest : g.L.TreeSource.forest l.source ≡ g.L.TreeSource.forest l.initial.source;
       clean : g.L.TreeSource.is_clean l.source → g.L.TreeSource.is_clean l.initial.source;
+      rows : g.L.TreeSource.is_clean l.source → (g.L.TreeSource.meter l.source).rows ≤ (g.L.TreeSource.meter l.initial.source).rows + length (below_where (in_some (axis_of l.fn.direction) t l.places) l.next);
+      within : g.L.TreeSource.is_clean l.source → l.next ≤ count (nodes t);
+      singles : (g.L.TreeSource.meter l.source).singles ≤ (g.L.TreeSource.meter l.initial.source).singles + l.place-index;
       searched :
           g.L.TreeSource.is_clean l.source → IsRising l.places
           → record {

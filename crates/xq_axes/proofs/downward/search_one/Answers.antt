@@ -1,4 +1,4 @@
-use Rattle.std.proofs.Common.{◌≡◌, ℕ, ◌+◌, ◌∷◌, [], ◌++◌, ◌&&◌, cond, length, set, true, refl, sym, ap, subst, ◌∙◌, arith}
+use Rattle.std.proofs.Common.{◌≡◌, ◌≤◌, ◌-◌, inr, ℕ, ◌+◌, ◌∷◌, [], ◌++◌, ◌&&◌, cond, length, set, true, refl, sym, ap, subst, ◌∙◌, arith}
 use Rattle.xq_regions.specs.Tree.{Tree}
 use Rattle.xq_regions.specs.Rows.{Row, rows, row_at, row_of}
 use Rattle.xq_sources.specs.Sources.{tree_at}
@@ -6,7 +6,8 @@ use Rattle.xq_axes.specs.private.Reads.{span, span_end, IsSized}
 use Rattle.xq_axes.specs.private.Hits.{is_wanted, row_passes, below_where, IsReached}
 use Rattle.xq_axes.specs.private.Downward.{axis_of, level_of, IsJudged, IsSearched}
 use Rattle.xq_axes.specs.declared.downward.Below.{Below}
-use Rattle.xq_axes.proofs.Sizes.{one_row, exact_span}
+use Rattle.xq_sources.specs.Meters.{Readings}
+use Rattle.xq_axes.proofs.Sizes.{one_row, exact_span, node_of}
 use Rattle.xq_axes.proofs.Picking.{picked, wanted_is}
 use Rattle.xq_axes.proofs.Searching.{found_before, reached_before, own_is_hit, entered, searched}
 use Rattle.xq_axes.proofs.downward.search_one.Goals as goal
@@ -64,3 +65,66 @@ returns-clause-searched g c = λ k n after next before. (
     let h = ex.high_is in
     let last : v + 1 + x.size ≡ c.from.result + 1 = omega (arith, h) in
     (omega (arith, h), ended.0.0, ended.0.1, ended.1, subst (λ m. IsSearched d test t vs m q.judge.contexts.met (length q.judge.marks) q.found.items) last done))
+
+pub returns-clause-ends : goal.returns-clause-ends
+returns-clause-ends g c = λ k. (
+    let trees = g.L.TreeSource.forest c.args.source.now in
+    let t = tree_at trees c.args.tree in
+    let v = c.args.place in
+    let was = c.in_ok-walk.ensures.was_clean k in
+    let there = c.in_ok-fetch_row.ensures.exists was in
+    let x = c.row-item.result in
+    let read = one_row c.lent.result.now x (v, row_at (rows t) v) (c.lent.ensures ∙ c.in_ok-fetch_row.ensures.found was) c.row-item.is in
+    let rx : row_of x ≡ row_at (rows t) v = ap (λ (p : ℕ × Row). p.1) read in
+    let sized : IsSized t v x.size = record { is_tree = c.in_ok-fetch_row.ensures.is_tree was; is_there = there.node_in; size = ap (λ (r : Row). r.size) rx } in
+    let low = c.saturating_add-low.result in
+    let high = c.saturating_add-high.result in
+    let ex = exact_span t v x.size low high sized c.saturating_add-low.ensures c.saturating_add-high.ensures in
+    let h = ex.high_is in
+    let s = sized.size in
+    let w = (node_of t v there.node_in).ends in
+    (omega (arith, h, s), w))
+
+pub returns-clause-rows : goal.returns-clause-rows
+returns-clause-rows g c = λ k. (
+    let trees = g.L.TreeSource.forest c.args.source.now in
+    let t = tree_at trees c.args.tree in
+    let v = c.args.place in
+    let was = c.in_ok-walk.ensures.was_clean k in
+    let there = c.in_ok-fetch_row.ensures.exists was in
+    let x = c.row-item.result in
+    let read = one_row c.lent.result.now x (v, row_at (rows t) v) (c.lent.ensures ∙ c.in_ok-fetch_row.ensures.found was) c.row-item.is in
+    let rx : row_of x ≡ row_at (rows t) v = ap (λ (p : ℕ × Row). p.1) read in
+    let sized : IsSized t v x.size = record { is_tree = c.in_ok-fetch_row.ensures.is_tree was; is_there = there.node_in; size = ap (λ (r : Row). r.size) rx } in
+    let low = c.saturating_add-low.result in
+    let high = c.saturating_add-high.result in
+    let ex = exact_span t v x.size low high sized c.saturating_add-low.ensures c.saturating_add-high.ensures in
+    let same : tree_at (g.L.TreeSource.forest c.fetch_row.new.self) c.args.tree ≡ t = ap (λ f. tree_at f c.args.tree) c.in_ok-fetch_row.ensures.keeps in
+    let counted = ap (λ (r : Readings). r.rows) c.in_ok-fetch_row.ensures.counts in
+    let more = subst (λ u. (g.L.TreeSource.meter c.walk.new.source).rows ≤ (g.L.TreeSource.meter c.fetch_row.new.self).rows + (span_end u (span low high) - low)) same (c.in_ok-walk.ensures.rows k) in
+    let e = ex.end_is in
+    let l = ex.low_is in
+    let s = sized.size in
+    inr (there.node_in, omega (arith, counted, more, e, l, s)))
+
+pub returns-in_err-walk-clause-rows : goal.returns-in_err-walk-clause-rows
+returns-in_err-walk-clause-rows g c = λ k. (
+    let trees = g.L.TreeSource.forest c.args.source.now in
+    let t = tree_at trees c.args.tree in
+    let v = c.args.place in
+    let was = c.in_err-walk.ensures.was_clean k in
+    let there = c.in_ok-fetch_row.ensures.exists was in
+    let x = c.row-item.result in
+    let read = one_row c.lent.result.now x (v, row_at (rows t) v) (c.lent.ensures ∙ c.in_ok-fetch_row.ensures.found was) c.row-item.is in
+    let rx : row_of x ≡ row_at (rows t) v = ap (λ (p : ℕ × Row). p.1) read in
+    let sized : IsSized t v x.size = record { is_tree = c.in_ok-fetch_row.ensures.is_tree was; is_there = there.node_in; size = ap (λ (r : Row). r.size) rx } in
+    let low = c.saturating_add-low.result in
+    let high = c.saturating_add-high.result in
+    let ex = exact_span t v x.size low high sized c.saturating_add-low.ensures c.saturating_add-high.ensures in
+    let same : tree_at (g.L.TreeSource.forest c.fetch_row.new.self) c.args.tree ≡ t = ap (λ f. tree_at f c.args.tree) c.in_ok-fetch_row.ensures.keeps in
+    let counted = ap (λ (r : Readings). r.rows) c.in_ok-fetch_row.ensures.counts in
+    let more = subst (λ u. (g.L.TreeSource.meter c.walk.new.source).rows ≤ (g.L.TreeSource.meter c.fetch_row.new.self).rows + (span_end u (span low high) - low)) same (c.in_err-walk.ensures.rows k) in
+    let e = ex.end_is in
+    let l = ex.low_is in
+    let s = sized.size in
+    inr (there.node_in, omega (arith, counted, more, e, l, s)))

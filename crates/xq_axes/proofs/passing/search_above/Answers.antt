@@ -8,6 +8,7 @@ use Rattle.xq_axes.specs.private.Passing.{axis_above}
 use Rattle.xq_axes.proofs.Lists.{got_none, reached_none}
 use Rattle.xq_axes.proofs.Sizes.{OnOk-if}
 use Rattle.xq_axes.proofs.Ranges.{empty_step, last_is, above_all}
+use Rattle.xq_axes.proofs.Scans.{above_bound}
 use Rattle.xq_axes.proofs.passing.search_above.Goals as goal
 
 pub returns-in-None-clause-found : goal.returns-in-None-clause-found
@@ -32,3 +33,12 @@ returns-in-Some-clause-found g c = λ k up. (
     let w = c.search_rows.ensures.found k (refl, refl, subst (λ ws. IsRising ws) (sym same) up, reached) refl in
     OnOk-if c.search_rows.result (λ (found : Vec ℕ Global). found.items ≡ below_where (is_wanted a test t us) m) (λ (found : Vec ℕ Global). found.items ≡ below_where (is_wanted a test t vs) (count (nodes t)))
     (λ found e. e ∙ ap (λ ws. below_where (is_wanted a test t ws) m) same ∙ above_all c.args.or_self test t vs last l) w)
+
+pub returns-in-Some-clause-rows : goal.returns-in-Some-clause-rows
+returns-in-Some-clause-rows g c = λ k up. (
+    let vs = c.args.places.now in
+    let t = tree_at (g.L.TreeSource.forest c.args.source.now) c.args.tree in
+    let l = last_is vs c.in-Some.last up (sym c.in-Some.ensures) in
+    let b = above_bound c.args.or_self t vs c.in-Some.last l in
+    let r = c.search_rows.ensures.rows k in
+    omega (arith, b, r))

@@ -8,6 +8,7 @@ use Rattle.xq_axes.specs.private.Hits.{is_wanted, below_where}
 use Rattle.xq_axes.proofs.Lists.{got_none}
 use Rattle.xq_axes.proofs.Sizes.{OnOk-if}
 use Rattle.xq_axes.proofs.Ranges.{empty_step, last_is, preceding_all, preceding_none, unwanted}
+use Rattle.xq_axes.proofs.Scans.{before_bound}
 use Rattle.xq_axes.proofs.passing.search_before.Goals as goal
 
 pub returns-in-None-clause-found : goal.returns-in-None-clause-found
@@ -34,3 +35,12 @@ returns-else-last-eq0-clause-found g c = λ k up. (
     let w = c.search_rows.ensures.found k (refl, l) refl in
     OnOk-if c.search_rows.result (λ (found : Vec ℕ Global). found.items ≡ below_where (is_wanted axis.Preceding test t vs) (span_end t (span 0 (last - 1)))) (λ (found : Vec ℕ Global). found.items ≡ below_where (is_wanted axis.Preceding test t vs) (count (nodes t)))
     (λ found e. e ∙ preceding_all test t vs last l (omega arith)) w)
+
+pub returns-else-last-eq0-clause-rows : goal.returns-else-last-eq0-clause-rows
+returns-else-last-eq0-clause-rows g c = λ k up. (
+    let vs = c.args.places.now in
+    let t = tree_at (g.L.TreeSource.forest c.args.source.now) c.args.tree in
+    let l = last_is vs c.in-Some.last up (sym c.in-Some.ensures) in
+    let b = before_bound t vs c.in-Some.last l (omega arith) in
+    let r = c.search_rows.ensures.rows k in
+    omega (arith, b, r))

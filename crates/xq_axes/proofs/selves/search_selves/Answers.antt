@@ -1,6 +1,8 @@
 use Rattle.std.proofs.Common.{ℕ, ◌∷◌, [], ◌++◌, cond, get_or, ap, subst, refl, ◌∙◌, arith}
 use Rattle.xq_regions.specs.Rows.{Row, rows, row_at}
 use Rattle.xq_sources.specs.Sources.{tree_at, HasNode}
+use Rattle.xq_sources.specs.Meters.{Readings}
+use Rattle.xq_axes.proofs.Counts.{one_single}
 use Rattle.xq_axes.proofs.Sizes.{one_row}
 use Rattle.xq_axes.proofs.OwnNodes.{one_more, all_so_far}
 use Rattle.xq_axes.proofs.selves.search_selves.Goals as goal
@@ -16,6 +18,8 @@ loop-place-preserved g c =
     record {
       forest = c.in_ok-fetch_row.ensures.keeps ∙ inv.forest;
       clean = λ k. inv.clean (c.in_ok-fetch_row.ensures.was_clean k);
+      rows = ap (λ (r : Readings). r.rows) c.in_ok-fetch_row.ensures.counts ∙ inv.rows;
+      singles = (let s = inv.singles in let n = one_single _ _ c.in_ok-fetch_row.ensures.counts in omega (arith, s, n));
       so_far = λ k up. (
           let there = subst (λ f. HasNode f c.args.tree v) inv.forest (c.in_ok-fetch_row.ensures.exists k) in
           let x = c.row-item.result in

@@ -1,4 +1,4 @@
-use Rattle.std.proofs.Common.{◌≡◌, ◌++◌, ◌||◌, Bool, map, sym, subst, ◌∙◌}
+use Rattle.std.proofs.Common.{◌≡◌, ◌≤◌, ◌+◌, length, ◌++◌, ◌||◌, Bool, map, sym, subst, ◌∙◌}
 use Rattle.std.specs.List.{list_any}
 use Rattle.xq_regions.specs.declared.items.Node.{Node}
 use Rattle.xq_regions.specs.Forest.{count}
@@ -6,6 +6,7 @@ use Rattle.xq_regions.specs.Tree.{nodes}
 use Rattle.xq_sources.specs.Sources.{tree_at}
 use Rattle.xq_axes.specs.private.Hits.{is_wanted, below_where, IsRising}
 use Rattle.xq_axes.specs.private.Many.{spot, is_found_from, AreThere}
+use Rattle.xq_axes.specs.Scans.{region}
 use Rattle.xq_axes.proofs.Many.{added}
 use Rattle.xq_axes.proofs.Sizes.{OnOk-then}
 use Rattle.xq_axes.proofs.steps.add_step.Goals as goal
@@ -26,3 +27,21 @@ returns-clause-found g c = λ k up there. (
     let e_vs = subst (λ ws. c.in_ok-places.places.items ≡ below_where (is_wanted axis test t ws) (count (nodes t))) v e in
     OnOk-then c.add_nodes.result (new ≡ old ++ map (spot tree) ps) ((p : Node → Bool) → list_any p new ≡ (list_any p old || list_any (is_found_from trees axis test p) (map (spot tree) vs)))
     (λ m. added trees axis test tree vs ps old new (c.deref-2.ensures.value ∙ e_vs) m) c.add_nodes.ensures)
+
+pub returns-clause-rows : goal.returns-clause-rows
+returns-clause-rows g c = λ k scanned up. (
+    let t = tree_at (g.L.TreeSource.forest c.args.source.now) c.args.contexts.now.tree in
+    let v = c.deref.ensures.value in
+    subst (λ ws. (g.L.TreeSource.meter c.search.new.source).rows ≤ (g.L.TreeSource.meter c.args.source.now).rows + length (region c.args.axis t ws)) v (c.in_ok-places.ensures.rows k scanned (subst (λ ws. IsRising ws) (sym v) up)))
+
+pub returns-clause-singles : goal.returns-clause-singles
+returns-clause-singles g c = λ scanned. subst (λ ws. (g.L.TreeSource.meter c.search.new.source).singles ≤ (g.L.TreeSource.meter c.args.source.now).singles + length ws) c.deref.ensures.value (c.in_ok-places.ensures.singles scanned)
+
+pub returns-in_err-places-clause-rows : goal.returns-in_err-places-clause-rows
+returns-in_err-places-clause-rows g c = λ k scanned up. (
+    let t = tree_at (g.L.TreeSource.forest c.args.source.now) c.args.contexts.now.tree in
+    let v = c.deref.ensures.value in
+    subst (λ ws. (g.L.TreeSource.meter c.search.new.source).rows ≤ (g.L.TreeSource.meter c.args.source.now).rows + length (region c.args.axis t ws)) v (c.in_err-places.ensures.rows k scanned (subst (λ ws. IsRising ws) (sym v) up)))
+
+pub returns-in_err-places-clause-singles : goal.returns-in_err-places-clause-singles
+returns-in_err-places-clause-singles g c = λ scanned. subst (λ ws. (g.L.TreeSource.meter c.search.new.source).singles ≤ (g.L.TreeSource.meter c.args.source.now).singles + length ws) c.deref.ensures.value (c.in_err-places.ensures.singles scanned)

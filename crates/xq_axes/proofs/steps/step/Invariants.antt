@@ -1,14 +1,20 @@
-use Rattle.std.proofs.Common.{◌≡◌}
+use Rattle.std.proofs.Common.{◌≡◌, ◌≤◌, ◌+◌, ℕ, true, length}
 use Rattle.xq_axes.specs.Nodes.{HaveAll}
-use Rattle.xq_axes.specs.private.Many.{IsGathered}
+use Rattle.xq_axes.specs.Scans.{is_scanned, AreOf}
+use Rattle.xq_axes.specs.private.Many.{IsGathered, AreKept}
 use Rattle.xq_axes.proofs.steps.step.Given as goal
 
--- the contexts so far were gathered
+-- the contexts so far were gathered, and where they are of one tree nothing was read yet
 abbrev pub invariant-loop-context : goal.invariant-loop-context
 invariant-loop-context g l =
     let trees = g.L.TreeSource.forest l.initial.source in
     record {
       forest : g.L.TreeSource.forest l.source ≡ trees;
       clean : g.L.TreeSource.is_clean l.source → g.L.TreeSource.is_clean l.initial.source;
+      rows :
+          g.L.TreeSource.is_clean l.source → is_scanned l.axis ≡ true → (one : ℕ) → AreOf one l.context-items
+          → (g.L.TreeSource.meter l.source).rows ≤ (g.L.TreeSource.meter l.initial.source).rows;
+      kept : (one : ℕ) → AreOf one l.context-items → AreKept l.context-items l.context-index l.gathered.tree l.gathered.places.items;
+      singles : is_scanned l.axis ≡ true → (g.L.TreeSource.meter l.source).singles + length l.gathered.places.items ≤ (g.L.TreeSource.meter l.initial.source).singles + l.context-index;
       gathered : g.L.TreeSource.is_clean l.source → HaveAll trees l.context-items → IsGathered trees l.axis l.test l.context-items l.context-index l.gathered.tree l.gathered.places.items l.found.items;
     }

@@ -1,0 +1,11 @@
+pub mod Growth
+pub mod Lists
+pub mod Natural
+pub mod AtomResults
+pub mod Existing
+pub mod CallResults
+pub mod NodeLemmas
+pub mod Streams
+pub mod Giving
+pub mod Columns
+pub mod CallForms

@@ -1,0 +1,162 @@
+-- What the values of an evaluation stand for over a list of trees, and what its calls give.
+use Rattle.std.specs.Prelude.{◌≡◌, ◌≤◌, ℕ, length, List, [], ◌∷◌, map, Option, Some, None, Result, Ok, Err, String, string_bytes}
+use Rattle.std.specs.List.{AllByRecursion}
+use Rattle.std.specs.Global.{Global, Vec}
+use Rattle.xq_atoms.specs.declared.refusals.Fault.{Fault}
+use Rattle.xq_atoms.specs.declared.refusals.Fault.TheVariants.{Code as OfCode, Want as OfWant}
+use Rattle.xq_atoms.specs.Judged.{Judged}
+use Rattle.xq_regions.specs.declared.items.Item.{Item as Held}
+use Rattle.xq_regions.specs.Items.{ItemView, item_view, item_views}
+use Rattle.xq_regions.specs.Tree.{Tree}
+use Rattle.xq_regions.specs.Tuples.{Tuple}
+use Rattle.xq_signatures.specs.declared.Function.{Function}
+use Rattle.xq_atoms.specs.declared.atoms.Atom.{Atom as HeldAtom}
+use Rattle.xq_atoms.specs.Atom.{Atomic}
+use Rattle.xq_expressions.specs.declared.operators.OrderModifier.{OrderModifier}
+use Rattle.xq_regions.specs.Tuples.{ordered}
+use Rattle.xq_tuples.specs.Keys.{column_of, columns_of}
+use Rattle.xq_tuples.specs.Views.{values_of}
+use Rattle.xq_values.specs.Items.{Item, Node}
+use Rattle.xq_values.specs.Functions.{Focus as Spot, called}
+use Rattle.xq_values.specs.Readings.{item_at, items_at, IsIn, AreIn, Extends}
+use Rattle.xq_atoms.specs.Text.{Text}
+use Rattle.xq_expressions.specs.declared.operators.NamedNode.{NamedNode}
+use Rattle.xq_expressions.specs.declared.operators.UnnamedNode.{UnnamedNode}
+use Rattle.xq_regions.specs.declared.Axis.{Axis}
+use Rattle.xq_values.specs.declared.node_tests.Test.{Test}
+use Rattle.xq_values.specs.Content.{named_tree, unnamed_tree}
+use Rattle.xq_values.specs.Steps.{context_node, axis_nodes, in_axis_order}
+use Rattle.xq_meaning.specs.Doing.{Doing, Outcome, ◌>>=◌, judged, on_trees}
+use Rattle.xq_meaning.specs.Forms as Forms
+use Rattle.xq_meaning.specs.declared.plans.Plan.{Plan}
+use Rattle.xq_meaning.specs.PlanMeaning.{Frame as Meant, Meaning, plan_mean}
+use Rattle.xq_operations.specs.declared.frames.Focus.{Focus}
+use Rattle.xq_operations.specs.declared.frames.Frame.{Frame}
+
+abbrev pub tuple_at : List Tree → Tuple ItemView → Tuple Item
+tuple_at trees tuple = map (items_at trees) tuple
+
+abbrev pub tuples_at : List Tree → List (Tuple ItemView) → List (Tuple Item)
+tuples_at trees tuples = map (tuple_at trees) tuples
+
+abbrev pub lists_of : Vec (Vec Held) → Tuple ItemView
+lists_of lists = map item_views lists.items
+
+abbrev pub spot_at : List Tree → Focus → Spot
+spot_at trees f =
+    record { item = item_at trees (item_view f.item.now); position = f.position; last = f.last }
+
+abbrev pub focus_at : List Tree → Option Focus → Option Spot
+focus_at trees None = None
+focus_at trees (Some f) = Some (spot_at trees f)
+
+abbrev pub frame_at : List Tree → Frame → Meant
+frame_at trees f = record {
+  env = tuple_at trees (values_of f.slots.now);
+  focus = focus_at trees f.focus;
+  addresses = map string_bytes f.addresses.now;
+}
+
+-- # Nodes are those of the trees
+
+abbrev pub TupleIn : List Tree → Tuple ItemView → Type 0
+TupleIn trees tuple = AllByRecursion (AreIn trees) tuple
+
+abbrev pub TuplesIn : List Tree → List (Tuple ItemView) → Type 0
+TuplesIn trees tuples = AllByRecursion (TupleIn trees) tuples
+
+abbrev pub FocusIn : List Tree → Option Focus → Type 0
+FocusIn trees None = Unit {0}
+FocusIn trees (Some f) = IsIn trees (item_view f.item.now)
+
+pub record FrameIn (trees : List Tree) (frame : Frame) : Type 0 where
+  pub slots_in : TupleIn trees (values_of frame.slots.now)
+  pub focus_in : FocusIn trees frame.focus
+  -- the documents are the first trees
+  pub addresses_in : length frame.addresses.now ≤ length trees
+
+-- # What a call does and gives
+
+-- what any call does to a world: trees are added, and what is clean now was clean before
+pub record Goes (old new : List Tree) (old_clean new_clean : Type 0) : Type 0 where
+  pub grows : Extends old new
+  pub was_clean : new_clean → old_clean
+
+-- the result is what the outcome says: a value over the trees that are left, or a code
+abbrev pub GivesAs : {R S B : Type 0} → (R → S) → (List Tree → S → B) →
+    (List Tree → S → Type 0) → Outcome B → List Tree → Result R Fault → Type 0
+GivesAs view read In outcome trees (Ok r) =
+    In trees (view r) × (outcome ≡ (Ok (read trees (view r)), trees))
+GivesAs view read In outcome trees (Err (OfCode code)) = outcome.0 ≡ Err code
+GivesAs view read In outcome trees (Err (OfWant want)) = Unit {0}
+
+abbrev pub Gives : Outcome (List Item) → List Tree → Result (Vec Held) Fault → Type 0
+Gives = GivesAs item_views items_at AreIn
+
+abbrev pub GivesTuples : Outcome (List (Tuple Item)) → List Tree →
+    Result (List (Tuple ItemView)) Fault → Type 0
+GivesTuples = GivesAs (λ ts. ts) tuples_at TuplesIn
+
+abbrev pub GivesLists : Outcome (List (List Item)) → List Tree → Result (Vec (Vec Held)) Fault →
+    Type 0
+GivesLists = GivesAs lists_of tuple_at TupleIn
+
+-- values that no tree has a part in
+abbrev pub GivesTests : {B : Type 0} → Outcome (List B) → List Tree → Result (Vec B) Fault → Type 0
+GivesTests = GivesAs (λ v. v.items) (λ trees bs. bs) (λ trees bs. Unit {0})
+
+abbrev pub GivesPlain : {B : Type 0} → Outcome B → List Tree → Result B Fault → Type 0
+GivesPlain = GivesAs (λ b. b) (λ trees b. b) (λ trees b. Unit {0})
+
+-- whether a judgement refuses
+abbrev pub forget : {A : Type 0} → Judged A → Judged (Unit {0})
+forget (Ok x) = Ok tt
+forget (Err code) = Err code
+
+abbrev pub GivesText : Outcome (List ℕ) → List Tree → Result (String Global) Fault → Type 0
+GivesText = GivesAs string_bytes (λ trees t. t) (λ trees t. Unit {0})
+
+-- the keys of one tuple, and those of each
+abbrev pub GivesKeys : Outcome (List (List Atomic)) → List Tree →
+    Result (Vec (Vec HeldAtom)) Fault → Type 0
+GivesKeys = GivesAs column_of (λ trees keys. keys) (λ trees keys. Unit {0})
+
+abbrev pub GivesRows : Outcome (List (List (List Atomic))) → List Tree →
+    Result (Vec (Vec (Vec HeldAtom))) Fault → Type 0
+GivesRows = GivesAs columns_of (λ trees rows. rows) (λ trees rows. Unit {0})
+
+-- # Parts of forms, from values
+
+-- a call from the values of its arguments
+abbrev pub calling : Function → Meant → List (List Item) → Doing (List Item)
+calling function frame values =
+    on_trees (λ trees. called function trees frame.addresses frame.focus values)
+
+-- the specifications of an order by clause
+abbrev pub order_specs : List (Plan × OrderModifier) → List (Meaning × OrderModifier)
+order_specs specs = map (λ (part, modifier). (plan_mean part, modifier)) specs
+
+-- an order by clause from the keys of each tuple
+abbrev pub ordering : List (Plan × OrderModifier) → List (Tuple Item) →
+    List (List (List Atomic)) → Doing (List (Tuple Item))
+ordering specs tuples rows =
+    judged (ordered
+    (Forms.rules_of (order_specs specs))
+    tuples
+    (Forms.key_columns (length (order_specs specs)) rows))
+
+-- the nodes of a step, before its predicates
+abbrev pub on_axis : Axis → Test → Option Spot → Doing (List Item)
+on_axis axis test focus = do
+  p ← judged (context_node focus)
+  on_trees (λ trees. Ok (map Node (in_axis_order axis (axis_nodes trees axis test p))))
+
+abbrev pub plant_named : NamedNode → Text → List Item → Doing (List Item)
+plant_named kind name xs = do
+  tree ← on_trees (λ trees. named_tree kind name trees xs)
+  Forms.planted tree
+
+abbrev pub plant_unnamed : UnnamedNode → List Item → Doing (List Item)
+plant_unnamed kind xs = do
+  tree ← on_trees (λ trees. unnamed_tree kind trees xs)
+  Forms.planted_if tree

@@ -1,0 +1,39 @@
+//! What a part of a plan is evaluated in.
+ghost use Rattle.std.specs.Prelude.{◌≡◌, ◌<◌, ◌^◌, None};
+
+use std::rc::Rc;
+use xq_regions::{Item, Items};
+
+/// An item with its position, from 1, and how many there are (XQuery 3.1, section 2.1.2): no more
+/// than a list can hold.
+#[derive(Clone, Copy)]
+pub struct Focus<'a> {
+    pub item: &'a Item,
+    pub position: usize,
+    pub last: usize,
+    pub ghost position_fits: { position < 2 ^ 63 },
+    pub ghost last_fits: { last < 2 ^ 63 },
+}
+
+/// The values of the slots that are open, the focus, and the addresses of the documents, which are
+/// the first trees.
+#[derive(Clone, Copy)]
+pub struct Frame<'a> {
+    pub slots: &'a [Rc<Items>],
+    pub focus: Option<Focus<'a>>,
+    pub addresses: &'a [String],
+}
+
+impl<'a> Frame<'a> {
+    /// That of a whole query: no focus.
+    pub fn outermost(slots: &'a [Rc<Items>], addresses: &'a [String]) -> Frame<'a>
+        ensures { result
+            ≡ record { slots = slots.entry; focus = None; addresses = addresses.entry } }
+    {
+        Frame {
+            slots,
+            focus: None,
+            addresses,
+        }
+    }
+}

@@ -1,0 +1,25 @@
+//! What an evaluation does with values: all of it but going down a plan.
+#![tactic(auto)]
+
+mod atoms;
+mod calls;
+mod clauses;
+mod constructors;
+mod frames;
+mod node_functions;
+mod nodes;
+mod operators;
+mod steps;
+mod values;
+
+pub use atoms::atomized;
+pub use calls::call;
+pub use clauses::{group, order};
+pub use constructors::{named, node_name, unnamed};
+pub use frames::{Focus, Frame};
+pub use nodes::{gather, only_nodes, root};
+pub use operators::{operate, sign};
+pub use steps::{axis_items, in_axis_order, scan};
+pub use values::{
+    concatenated, context_item, copied, copy, deciding, joined, opened, push_copy, single, slot,
+};

@@ -1,0 +1,5 @@
+pub mod LineEnds
+pub mod Asked
+pub mod Later
+pub mod Once
+pub mod Steps

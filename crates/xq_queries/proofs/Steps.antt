@@ -1,0 +1,81 @@
+-- The steps of reading, one after another.
+use Rattle.std.proofs.Common.{◌≡◌, ◌≤◌, ℕ, List, [], ◌∷◌, map, refl, sym, ◌∙◌, ap, ap₂, subst, Some, None, Ok, Err, Result, inl, inr}
+use Rattle.std.specs.Str.{IsUtf8}
+use Rattle.xq_atoms.specs.declared.refusals.Code.TheVariants.{XPST0003, ProfDepth}
+use Rattle.xq_atoms.specs.declared.refusals.Fault.{Fault}
+use Rattle.xq_atoms.specs.declared.refusals.Fault.TheVariants.{Code as OfCode, Want as OfWant}
+use Rattle.xq_atoms.specs.declared.refusals.Want.TheVariants.{Memory, Store}
+use Rattle.xq_regions.specs.Tree.{Tree}
+use Rattle.xq_atoms.specs.Text.{Text}
+use Rattle.xq_lexer.specs.declared.tokens.Token.{Token}
+use Rattle.xq_lexer.specs.Lexeme.{Lex, Placed, placed, place_of, lex_of, lexemes as token_lexemes}
+use Rattle.xq_lexer.specs.Nesting.{nesting}
+use Rattle.xq_lexer.specs.Spelling.{Spells}
+use Rattle.xq_lexer.specs.TokenFaults.{Refuses}
+use Rattle.xq_expressions.specs.declared.expressions.Expr.{Expr}
+use Rattle.xq_grammar.specs.Answers.{IsRefusal}
+use Rattle.xq_grammar.specs.Grammar.{Derives}
+use Rattle.xq_statics.specs.Gives.{Judges}
+use Rattle.xq_statics.specs.Statics.{static_fault}
+use Rattle.xq_meaning.specs.declared.normal_forms.Core.{Core}
+use Rattle.xq_meaning.specs.declared.plans.Plan.{Plan}
+use Rattle.xq_meaning.specs.Meaning.{first_frame}
+use Rattle.xq_meaning.specs.Same.{IsNormalForm, IsPlan}
+use Rattle.xq_queries.specs.Texts.{characters}
+use Rattle.xq_queries.specs.Reading.{lexemes, CharactersFault, TokensFault, TokensRead}
+use Rattle.xq_queries.specs.Values.{IsPlanOf, Plans, value_of}
+use Rattle.xq_queries.specs.private.Plans.{Checks, Parses}
+
+-- ---- tokens without their places
+
+pub lexemes_placed : (ts : List Token) → lexemes (placed ts) ≡ token_lexemes ts
+lexemes_placed [] = refl
+lexemes_placed (t ∷ ts) = ap (λ rest. lex_of t.lexeme ∷ rest) (lexemes_placed ts)
+
+-- ---- characters
+
+pub lex_refused : (text : List ℕ) (fault : Fault) → Refuses text fault → Parses text (Err fault)
+lex_refused text (OfCode code) refused = inl refused.0
+lex_refused text (OfWant want) refused = refused
+
+pub parses_by : (text : List ℕ) (ts : List Token) (r : Result Expr Fault) → Spells text (placed ts)
+    → Checks (token_lexemes ts) r → Parses text r
+parses_by text ts (Ok e) spelled checks =
+    (placed ts, spelled, subst (λ l. TokensRead l e) (sym (lexemes_placed ts)) checks)
+parses_by text ts (Err (OfCode code)) spelled checks =
+    inr (placed ts, spelled, subst (λ l. TokensFault l code) (sym (lexemes_placed ts)) checks)
+parses_by text ts (Err (OfWant want)) spelled checks = checks
+
+-- ---- tokens
+
+pub parse_refused : (ts : List Lex) (fault : Fault) → IsRefusal fault ts → Checks ts (Err fault)
+parse_refused ts (OfWant Memory) refused = refl
+parse_refused ts (OfWant Store) refused = absurd refused
+parse_refused ts (OfCode ProfDepth) refused = inl (refused, refl)
+parse_refused ts (OfCode XPST0003) refused = inr (refused.0, inl (refused.1, refl))
+parse_refused ts (OfCode _) refused = absurd refused
+
+pub check_refused : (ts : List Lex) (e : Expr) (fault : Fault) → nesting ts ≤ 128 → Derives ts e
+    → Judges (Err fault) (static_fault e) → Checks ts (Err fault)
+check_refused ts e (OfCode code) shallow derived judged = inr (shallow, inr (e, derived, judged))
+check_refused ts e (OfWant Memory) shallow derived judged = refl
+check_refused ts e (OfWant Store) shallow derived judged = absurd judged
+
+-- ---- bytes
+
+pub read_refused : (text spelled : List ℕ) (fault : Fault) → IsUtf8 text → spelled ≡ characters text
+    → Parses spelled (Err fault) → Plans text (Err fault)
+read_refused text spelled (OfCode code) utf8 same parsed =
+    inr (utf8, subst (λ s. CharactersFault s code) same parsed)
+read_refused text spelled (OfWant want) utf8 same parsed = (parsed, utf8)
+
+pub read_as : (text spelled : List ℕ) (e : Expr) (plan : Plan) → IsUtf8 text → spelled ≡ characters text
+    → Parses spelled (Ok e) → IsPlanOf e plan → Plans text (Ok plan)
+read_as text spelled e plan utf8 same parsed is =
+    (e, (utf8, subst (λ s. Parses s (Ok e)) same parsed), is)
+
+-- ---- plans
+
+pub plan_of : (e : Expr) (core : Core) (plan : Plan) → IsNormalForm e core → IsPlan [] core plan → IsPlanOf e plan
+plan_of e core plan normal is =
+    λ addresses trees. ap value_of (is [] None addresses trees refl ∙ normal (first_frame addresses) trees)

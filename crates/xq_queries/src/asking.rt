@@ -1,0 +1,91 @@
+//! A plan asked over trees.
+ghost use Rattle.std.specs.Prelude.{◌≡◌, ◌≤◌, IfOk, length, map, string_bytes, string_len};
+ghost use Rattle.xq_build.specs.Gives.{Gives};
+ghost use Rattle.xq_regions.specs.Items.{item_view};
+ghost use Rattle.xq_values.specs.Readings.{items_at, AreIn, Extends};
+ghost use Rattle.xq_queries.specs.Values.{document, made, or_no_document, plan_value, told};
+
+use std::alloc::Global;
+use xq_atoms::{Code, Fault, Want};
+use xq_axes::copy;
+use xq_build::{MAX_REPLY, print_items};
+use xq_eval::eval;
+use xq_meaning::Plan;
+use xq_regions::{Fragment, Item};
+use xq_sources::RowLender;
+use xq_worlds::Growing;
+
+/// The text of the plan's value over the trees of `world`, of which the first are the documents at
+/// `addresses`: its items as expressions that give them. It is refused with the code of the
+/// plan's error, or as `prof:REPLY` where the text is over 16,777,216 bytes.
+///
+/// `Want::Memory` where a growth was refused; `Want::Store` where the trees could not be read. What
+/// was constructed stays in `world`. What is promised holds where `world` is clean as the call
+/// ends.
+pub fn ask<W: Growing>(
+    alloc: Global,
+    plan: &Plan,
+    world: &mut W,
+    addresses: &[String],
+) -> Result<String, Fault>
+    ensures gives { W.is_clean world.new → length addresses.now ≤ length (W.forest world.old)
+        → Gives string_bytes (told (plan_value plan.now (map string_bytes addresses.now)
+        (W.forest world.old))) result }
+    ensures short { IfOk result (λ text. string_len text ≤ 16777216) }
+    ensures grows { Extends (W.forest world.old) (W.forest world.new) }
+    ensures was_clean { W.is_clean world.new → W.is_clean world.old }
+{
+    let items = eval(alloc, plan, world, addresses)?;
+    let text = print_items(alloc, world, &items)?;
+    if text.len() > MAX_REPLY {
+        return Err(Fault::Code(Code::ProfReply));
+    }
+    Ok(text)
+}
+
+/// The tree of the one document node that the plan's value is, over the trees of `world`, as for
+/// [`ask`]. It is refused with the code of the plan's error, or as `prof:NOTDOC` where the value is
+/// anything else.
+pub fn make<W: Growing>(
+    alloc: Global,
+    plan: &Plan,
+    world: &mut W,
+    addresses: &[String],
+) -> Result<Fragment, Fault>
+    ensures gives { W.is_clean world.new → length addresses.now ≤ length (W.forest world.old)
+        → Gives (λ tree. tree) (made (plan_value plan.now (map string_bytes addresses.now)
+        (W.forest world.old))) result }
+    ensures grows { Extends (W.forest world.old) (W.forest world.new) }
+    ensures was_clean { W.is_clean world.new → W.is_clean world.old }
+{
+    let items = eval(alloc, plan, world, addresses)?;
+    match document_of(alloc, world, &items)? {
+        Some(tree) => Ok(tree),
+        None => Err(Fault::Code(Code::ProfNotdoc)),
+    }
+}
+
+/// The tree of the one document node that the items are; None for others.
+fn document_of<L: RowLender>(
+    alloc: Global,
+    source: &mut L,
+    items: &[Item],
+) -> Result<Option<Fragment>, Want>
+    ensures found { L.is_clean source.new → IfOk result (λ found.
+        found ≡ document (items_at (L.forest source.old) (map item_view items.now),
+        L.forest source.old)) }
+    ensures keeps { L.forest source.new ≡ L.forest source.old }
+    ensures was_clean { L.is_clean source.new → L.is_clean source.old }
+{
+    match items {
+        [Item::Node(node)] => {
+            let tree = copy(alloc, source, *node)?;
+            if tree.is_document() {
+                Ok(Some(tree))
+            } else {
+                Ok(None)
+            }
+        }
+        [] | [Item::Atom(_)] | [_, _, ..] => Ok(None),
+    }
+}

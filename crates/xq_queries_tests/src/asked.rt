@@ -1,0 +1,46 @@
+//! Queries asked over one stored document.
+
+use std::alloc::Global;
+use std::process::Abort;
+use xq_atoms::{Fault, Want};
+use xq_queries::{ask, make, read};
+use xq_sources::Fragments;
+use xq_worlds::Trees;
+
+/// The query that makes the document under the address `b`.
+const LIBRARY: &str = "document {element lib {element book {attribute id {\"1\"}, text {\"A\"}}, \
+element book {attribute id {\"2\"}, text {\"B\"}}}}";
+
+/// The library as a source of one tree.
+fn library(alloc: Global) -> Result<Fragments, Fault> {
+    let mut fragments = Fragments::new(alloc);
+    let plan = read(alloc, LIBRARY.as_bytes())?;
+    let tree = make(alloc, &plan, &mut Trees::new(alloc, Fragments::new(alloc)), &[])?;
+    fragments.push(tree)?;
+    Ok(fragments)
+}
+
+/// The text of the reply to the query over the library.
+fn asked(alloc: Global, query: &str) -> Result<String, Fault> {
+    let plan = read(alloc, query.as_bytes())?;
+    let mut addresses = Vec::new(alloc);
+    addresses.push(String::from_str(alloc, "b")?)?;
+    ask(alloc, &plan, &mut Trees::new(alloc, library(alloc)?), &addresses)
+}
+
+/// The text of the reply, or of the refusal. A test has ample memory, so nothing is wanting.
+fn answer(alloc: Global, query: &str) -> Result<String, Want> {
+    match asked(alloc, query) {
+        Ok(text) => Ok(text),
+        Err(Fault::Code(code)) => Ok(String::from_str(alloc, code.text())?),
+        Err(Fault::Want(want)) => Err(want),
+    }
+}
+
+/// Asserts that each query has its answer.
+pub fn assert_answers(rt: &(impl Abort + AllocGlobal), rows: &[(&str, &str)]) {
+    for (query, wanted) in rows {
+        let found = answer(rt.alloc(), query).expect(rt, wanted);
+        assert_eq!(rt; found.as_str(), *wanted, "{query}");
+    }
+}

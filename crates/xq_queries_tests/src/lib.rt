@@ -1,0 +1,7 @@
+//! Tests of queries through their public calls: rows with the text of the reply, or the code.
+#![tactic(auto)]
+
+#[cfg(test)]
+mod asked;
+#[cfg(test)]
+mod rows;
