@@ -1,7 +1,8 @@
 //! A plan asked over trees.
-ghost use Rattle.std.specs.Prelude.{◌≡◌, ◌≤◌, IfOk, length, map, string_bytes, string_len};
+ghost use Rattle.std.specs.Prelude.{◌≡◌, ◌≤◌, IfOk, IfSome, length, map, string_bytes, string_len};
 ghost use Rattle.xq_build.specs.Gives.{Gives};
 ghost use Rattle.xq_regions.specs.Items.{item_view};
+ghost use Rattle.xq_regions.specs.declared.Kind.TheVariants.{Document};
 ghost use Rattle.xq_values.specs.Readings.{items_at, AreIn, Extends};
 ghost use Rattle.xq_queries.specs.Values.{document, made, or_no_document, plan_value, told};
 
@@ -55,6 +56,7 @@ pub fn make<W: Growing>(
     ensures gives { W.is_clean world.new → length addresses.now ≤ length (W.forest world.old)
         → Gives (λ tree. tree) (made (plan_value plan.now (map string_bytes addresses.now)
         (W.forest world.old))) result }
+    ensures document { IfOk result (λ tree. tree.root.kind ≡ Document) }
     ensures grows { Extends (W.forest world.old) (W.forest world.new) }
     ensures was_clean { W.is_clean world.new → W.is_clean world.old }
 {
@@ -74,6 +76,7 @@ fn document_of<L: RowLender>(
     ensures found { L.is_clean source.new → IfOk result (λ found.
         found ≡ document (items_at (L.forest source.old) (map item_view items.now),
         L.forest source.old)) }
+    ensures kind { IfOk result (λ found. IfSome found (λ tree. tree.root.kind ≡ Document)) }
     ensures keeps { L.forest source.new ≡ L.forest source.old }
     ensures was_clean { L.is_clean source.new → L.is_clean source.old }
 {
