@@ -55,7 +55,8 @@ pub const DOC_B: &[u8] = b"doc(\"b\")";
 
 const BOOK_1: &str = "element book {attribute id {\"1\"}, text {\"A\"}}";
 
-const BOOKS: &str = "element book {attribute id {\"1\"}, text {\"A\"}}, element book {attribute id {\"2\"}, text {\"B\"}}";
+const BOOKS: &str =
+    "element book {attribute id {\"1\"}, text {\"A\"}}, element book {attribute id {\"2\"}, text {\"B\"}}";
 
 /// The library is stored twice.
 pub fn first_rows() -> [Row; 4] {
@@ -73,7 +74,10 @@ pub fn path_rows() -> [Row; 10] {
         answers(b'Q', b"root((doc(\"b\")//text())[1])", LIBRARY),
         gives("name(doc(\"b\")/*)", "\"lib\""),
         gives("doc(\"b\")//book[1]", BOOK_1),
-        gives("(doc(\"b\")//text())[2]/preceding::node()[1]", "text {\"A\"}"),
+        gives(
+            "(doc(\"b\")//text())[2]/preceding::node()[1]",
+            "text {\"A\"}",
+        ),
         gives(
             "doc(\"b\")//book[2]/preceding-sibling::*[1]/@id",
             "attribute id {\"1\"}",
@@ -112,14 +116,8 @@ pub fn tuple_rows() -> [Row; 5] {
 
 pub fn number_rows() -> [Row; 4] {
     [
-        gives(
-            "4 div 2, string(4 div 2), 1 div 3",
-            "2.0, \"2\", 0.333333",
-        ),
-        gives(
-            "7 idiv 2, -7 idiv 2, -7 mod 2, 7.5 mod 2",
-            "3, -3, -1, 1.5",
-        ),
+        gives("4 div 2, string(4 div 2), 1 div 3", "2.0, \"2\", 0.333333"),
+        gives("7 idiv 2, -7 idiv 2, -7 mod 2, 7.5 mod 2", "3, -3, -1, 1.5"),
         fails("9223372036854775807 + 1", "FOAR0002"),
         gives(
             "-9223372036854775807 - 1",
@@ -160,7 +158,10 @@ pub fn node_rows() -> [Row; 8] {
     [
         refuses(b'S', b"\x01belement x {}", b"prof:NOTDOC"),
         answers(b'Q', DOC_B, LIBRARY),
-        gives("let $b := doc(\"b\")//book return ($b[2], $b[1]) | $b[1]", BOOKS),
+        gives(
+            "let $b := doc(\"b\")//book return ($b[2], $b[1]) | $b[1]",
+            BOOKS,
+        ),
         gives(
             "let $x := element x {}, $y := element y {} return ($y | $x)",
             "element x {}, element y {}",
@@ -220,7 +221,10 @@ pub fn range_rows() -> [Row; 3] {
 /// Long results: the text of a reply, and the nodes of a tree.
 pub fn limit_rows() -> [Row; 2] {
     [
-        fails("for $i in 1 to 1000000 return \"0123456789abcdef\"", "prof:REPLY"),
+        fails(
+            "for $i in 1 to 1000000 return \"0123456789abcdef\"",
+            "prof:REPLY",
+        ),
         fails(
             "element a {for $i in 1 to 1000000 return element b {}}",
             "prof:NODES",
@@ -235,11 +239,7 @@ pub fn static_rows() -> [Row; 6] {
         fails("count(1, 2), $q", "XPST0017"),
         fails("$q, count(1, 2)", "XPST0008"),
         gives("count(doc(\"b\")//node())", "5"),
-        answers(
-            b'S',
-            b"\x01bdocument {doc(\"b\")/lib/book[2]}",
-            b"replaced",
-        ),
+        answers(b'S', b"\x01bdocument {doc(\"b\")/lib/book[2]}", b"replaced"),
         gives("count(doc(\"b\")//node())", "2"),
     ]
 }

@@ -1,7 +1,7 @@
 //! Services by scripted readers and writers: the worked rows in pieces, and each end.
 
-use crate::scripts::{Sink, Source};
 use crate::rows::{Row, dropping_rows, first_rows, last_rows, node_rows, path_rows};
+use crate::scripts::{Sink, Source};
 use crate::tests::{frame, inputs};
 use std::process::Abort;
 use std::test::Fail;
