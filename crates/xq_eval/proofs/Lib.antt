@@ -1,3 +1,4 @@
+pub mod Counted
 pub mod Loops
 pub mod NextValues
 pub mod Quantifying

@@ -8,6 +8,7 @@ ghost use Rattle.xq_meaning.specs.PlanMeaning.{plan_mean};
 ghost use Rattle.xq_operations.specs.Views.{tuple_at, lists_of, spot_at, frame_at, FrameIn, TupleIn, Goes, Gives, GivesLists, GivesPlain};
 
 use crate::clauses::{clause_list, values};
+use crate::counting::counted_variable;
 use crate::paths::step_list;
 use crate::quantified::satisfied;
 use std::alloc::Global;
@@ -19,6 +20,7 @@ use xq_operations::{
     node_name, operate, push_copy, root, sign, single, slot, unnamed,
 };
 use xq_regions::{Item, Items};
+use xq_signatures::Function;
 use xq_values::Operator;
 use xq_worlds::Growing;
 
@@ -99,10 +101,7 @@ pub fn evaluate<W: Growing>(
             let content = evaluate(alloc, world, frame, part.get())?;
             unnamed(alloc, world, *kind, &content)
         }
-        Plan::Call(function, parts) => {
-            let values = arguments(alloc, world, frame, parts.as_slice())?;
-            call(alloc, world, frame, *function, values)
-        }
+        Plan::Call(function, parts) => called(alloc, world, frame, *function, parts.as_slice()),
         Plan::Quantified(which, ranges, test) => {
             let wanted = deciding(*which);
             let ranges = ranges.as_slice();
@@ -324,6 +323,28 @@ fn pass<W: Growing>(
     let value = evaluate(alloc, world, inner, predicate)?;
     let keeps = keeps(spot.position, &value)?;
     Ok(push_copy(alloc, done, spot.item, keeps)?)
+}
+
+/// The value of a call. That of a variable which is only counted is not copied.
+#[cycle(eval)]
+fn called<W: Growing>(
+    alloc: Global,
+    world: &mut W,
+    frame: Frame<'_>,
+    function: Function,
+    parts: &[Plan],
+) -> Result<Items, Fault>
+    ensures goes { Goes (W.forest world.old) (W.forest world.new) (W.is_clean world.old)
+        (W.is_clean world.new) }
+    ensures gives { W.is_clean world.new → FrameIn (W.forest world.old) frame.entry
+        → Gives (Forms.call function (map plan_mean parts.now) (frame_at (W.forest world.old)
+        frame.entry) (W.forest world.old)) (W.forest world.new) result }
+{
+    if let Some(items) = counted_variable(alloc, frame.slots, function, parts)? {
+        return Ok(items);
+    }
+    let values = arguments(alloc, world, frame, parts)?;
+    call(alloc, world, frame, function, values)
 }
 
 /// The value of each argument.

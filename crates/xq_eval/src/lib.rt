@@ -3,6 +3,7 @@
 
 mod bindings;
 mod clauses;
+mod counting;
 mod evaluation;
 mod paths;
 mod quantified;

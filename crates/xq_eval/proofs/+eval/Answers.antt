@@ -1553,39 +1553,6 @@ evaluation::evaluate-returns-in_err-content-in-Unnamed-clause-goes g t c = c.in_
 pub evaluation::evaluate-returns-in-Unnamed-clause-goes : goal.evaluation::evaluate-returns-in-Unnamed-clause-goes
 evaluation::evaluate-returns-in-Unnamed-clause-goes g t c = goes_on_to c.in_ok-content-in-Unnamed.ensures.goes c.unnamed.ensures.goes
 
-pub evaluation::evaluate-returns-in_err-values-in-Call-clause-gives : goal.evaluation::evaluate-returns-in_err-values-in-Call-clause-gives
-evaluation::evaluate-returns-in_err-values-in-Call-clause-gives g t c = λ clean inside.
-    let f = g.W.TreeSource.forest c.args.world.now in
-    let frame = frame_at f c.args.frame in
-    let f' = g.W.TreeSource.forest c.arguments.new.world in
-    let lists = λ (parts : List Plan). for_each (λ (part : Meaning). part frame) (map plan_mean parts) f in
-    let next = λ (values : List (List Item)). calling c.in-Call.function frame values in
-    cut lists_of tuple_at TupleIn item_views items_at AreIn (plan_mean c.args.plan.now frame f) (lists c.as_slice-in-Call.result.now) next f' c.in_err-values-in-Call.field-0.0 c.from_residual-in_err-values-in-Call.result
-    (ap (λ p. plan_mean p frame f) c.in-Call.is ∙ ap (λ m. m frame f) (plan-Call c.in-Call.function c.in-Call.parts) ∙ ap (λ ps. go_on (lists ps) next) (sym c.as_slice-in-Call.ensures)) c.from_residual-in_err-values-in-Call.ensures.1
-    (c.in_err-values-in-Call.ensures.gives clean inside)
-
-pub evaluation::evaluate-returns-in-Call-clause-gives : goal.evaluation::evaluate-returns-in-Call-clause-gives
-evaluation::evaluate-returns-in-Call-clause-gives g t c = λ clean inside.
-    let f = g.W.TreeSource.forest c.args.world.now in
-    let held = c.args.frame in
-    let frame = frame_at f held in
-    let f' = g.W.TreeSource.forest c.arguments.new.world in
-    let f'' = g.W.TreeSource.forest c.call.new.world in
-    let grows = c.in_ok-values-in-Call.ensures.goes.grows in
-    let lists = λ (parts : List Plan). for_each (λ (part : Meaning). part frame) (map plan_mean parts) f in
-    let function = c.in-Call.function in
-    let values = c.in_ok-values-in-Call.ensures.gives (c.call.ensures.goes.was_clean clean) inside in
-    let meant : plan_mean c.args.plan.now frame f ≡ calling function (frame_at f' held) (tuple_at f' (lists_of c.in_ok-values-in-Call.values)) f' =
-    ap (λ p. plan_mean p frame f) c.in-Call.is ∙ ap (λ m. m frame f) (plan-Call function c.in-Call.parts) ∙ ap (λ ps. go_on (lists ps) (λ values. calling function frame values)) (sym c.as_slice-in-Call.ensures)
-    ∙ ap (λ o. go_on o (λ values. calling function frame values)) values.1 ∙ ap (λ fr. calling function fr (tuple_at f' (lists_of c.in_ok-values-in-Call.values)) f') (sym (frame_grown grows held inside)) in
-    subst (λ o. Gives o f'' c.call.result) (sym meant) (c.call.ensures.gives clean (frame_in_grown grows held inside) values.0)
-
-pub evaluation::evaluate-returns-in_err-values-in-Call-clause-goes : goal.evaluation::evaluate-returns-in_err-values-in-Call-clause-goes
-evaluation::evaluate-returns-in_err-values-in-Call-clause-goes g t c = c.in_err-values-in-Call.ensures.goes
-
-pub evaluation::evaluate-returns-in-Call-clause-goes : goal.evaluation::evaluate-returns-in-Call-clause-goes
-evaluation::evaluate-returns-in-Call-clause-goes g t c = goes_on_to c.in_ok-values-in-Call.ensures.goes c.call.ensures.goes
-
 pub evaluation::evaluate-returns-in_err-answer-in-Quantified-clause-gives : goal.evaluation::evaluate-returns-in_err-answer-in-Quantified-clause-gives
 evaluation::evaluate-returns-in_err-answer-in-Quantified-clause-gives g t c = λ clean inside.
     let f = g.W.TreeSource.forest c.args.world.now in
@@ -2277,3 +2244,52 @@ quantified::turn-returns-clause-goes g t c = c.in_ok-truth.ensures.goes
 
 pub quantified::satisfied-returns-in_err-slots-clause-goes : goal.quantified::satisfied-returns-in_err-slots-clause-goes
 quantified::satisfied-returns-in_err-slots-clause-goes g t c = stays _ _
+
+pub evaluation::called-returns-in-Some-clause-gives : goal.evaluation::called-returns-in-Some-clause-gives
+evaluation::called-returns-in-Some-clause-gives g t c = λ clean inside.
+    let f = g.W.TreeSource.forest c.args.world.now in
+    let frame = frame_at f c.args.frame in
+    subst (λ r. IfSome r (λ given. AreIn f (item_views given) × (Forms.call c.args.function (map plan_mean c.args.parts.now) frame f ≡ (Ok (items_at f (item_views given)), f)))) c.in-Some.is (c.in_ok-items.ensures f frame refl)
+
+pub evaluation::called-returns-in_err-values-clause-gives : goal.evaluation::called-returns-in_err-values-clause-gives
+evaluation::called-returns-in_err-values-clause-gives g t c = λ clean inside.
+    let f = g.W.TreeSource.forest c.args.world.now in
+    let frame = frame_at f c.args.frame in
+    let f' = g.W.TreeSource.forest c.arguments.new.world in
+    let lists = for_each (λ (part : Meaning). part frame) (map plan_mean c.args.parts.now) f in
+    cut lists_of tuple_at TupleIn item_views items_at AreIn _ lists (λ (values : List (List Item)). calling c.args.function frame values) f' c.in_err-values.field-0.0 c.from_residual-in_err-values.result refl c.from_residual-in_err-values.ensures.1
+    (c.in_err-values.ensures.gives clean inside)
+
+pub evaluation::called-returns-clause-gives : goal.evaluation::called-returns-clause-gives
+evaluation::called-returns-clause-gives g t c = λ clean inside.
+    let f = g.W.TreeSource.forest c.args.world.now in
+    let held = c.args.frame in
+    let frame = frame_at f held in
+    let f' = g.W.TreeSource.forest c.arguments.new.world in
+    let f'' = g.W.TreeSource.forest c.call.new.world in
+    let grows = c.in_ok-values.ensures.goes.grows in
+    let function = c.args.function in
+    let lists = tuple_at f' (lists_of c.in_ok-values.values) in
+    let values = c.in_ok-values.ensures.gives (c.call.ensures.goes.was_clean clean) inside in
+    let meant : Forms.call function (map plan_mean c.args.parts.now) frame f ≡ calling function (frame_at f' held) lists f' =
+    ap (λ o. go_on o (λ values. calling function frame values)) values.1 ∙ ap (λ fr. calling function fr lists f') (sym (frame_grown grows held inside)) in
+    subst (λ o. Gives o f'' c.call.result) (sym meant) (c.call.ensures.gives clean (frame_in_grown grows held inside) values.0)
+
+pub evaluation::called-returns-in_err-items-clause-goes : goal.evaluation::called-returns-in_err-items-clause-goes
+evaluation::called-returns-in_err-items-clause-goes g t c = stays _ _
+
+pub evaluation::called-returns-in-Some-clause-goes : goal.evaluation::called-returns-in-Some-clause-goes
+evaluation::called-returns-in-Some-clause-goes g t c = stays _ _
+
+pub evaluation::called-returns-in_err-values-clause-goes : goal.evaluation::called-returns-in_err-values-clause-goes
+evaluation::called-returns-in_err-values-clause-goes g t c = c.in_err-values.ensures.goes
+
+pub evaluation::called-returns-clause-goes : goal.evaluation::called-returns-clause-goes
+evaluation::called-returns-clause-goes g t c = goes_on_to c.in_ok-values.ensures.goes c.call.ensures.goes
+
+pub evaluation::evaluate-returns-in-Call-clause-gives : goal.evaluation::evaluate-returns-in-Call-clause-gives
+evaluation::evaluate-returns-in-Call-clause-gives g t c = λ clean inside.
+    rw (c.in-Call.is, plan-Call c.in-Call.function c.in-Call.parts, ← c.as_slice-in-Call.ensures) (c.called.ensures.gives clean inside)
+
+pub evaluation::evaluate-returns-in-Call-clause-goes : goal.evaluation::evaluate-returns-in-Call-clause-goes
+evaluation::evaluate-returns-in-Call-clause-goes g t c = c.called.ensures.goes

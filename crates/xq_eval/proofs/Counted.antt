@@ -1,0 +1,28 @@
+-- The value of one variable, as the argument of a call.
+use Rattle.std.proofs.Common.{◌≡◌, ℕ, zero, suc, ◌<◌, List, [], ◌∷◌, length, map, get_or, refl, sym, ap, ◌∙◌, arith, Ok, Err, Result, Option, Some, None}
+use Rattle.std.specs.Prelude.{IfOk, IfSome}
+use Rattle.std.specs.Global.{Vec, Global}
+use Rattle.std.specs.declared.rc.Rc.{Rc}
+use Rattle.xq_regions.specs.declared.items.Item.{Item as Held}
+use Rattle.xq_regions.specs.Items.{item_views}
+use Rattle.xq_regions.specs.Tree.{Tree}
+use Rattle.xq_regions.specs.Tuples.{value_at}
+use Rattle.xq_tuples.specs.Views.{values_of}
+use Rattle.xq_values.specs.Readings.{items_at}
+use Rattle.xq_operations.specs.Views.{tuple_at}
+
+pub only_one : {A : Type 0} (xs : List A) (x : A) → length xs ≡ 1 → x ≡ get_or xs 0 x → xs ≡ x ∷ []
+only_one [] x h e = absurd (omega arith)
+only_one (y ∷ []) x h e = ap (λ z. z ∷ []) (sym e)
+only_one (y ∷ z ∷ xs) x h e = absurd (omega arith)
+
+pub slot_value : (trees : List Tree) (slots : List (Rc (Vec Held) Global)) (n : ℕ) (slot : Rc (Vec Held) Global) → n < length slots → slot ≡ get_or slots n slot
+    → value_at n (tuple_at trees (values_of slots)) ≡ items_at trees (item_views slot.value)
+slot_value trees [] n slot h e = absurd (omega arith)
+slot_value trees (s ∷ slots) zero slot h e = ap (λ r. items_at trees (item_views r.value)) (sym e)
+slot_value trees (s ∷ slots) (suc n) slot h e = slot_value trees slots n slot (omega arith) e
+
+pub given_so : {X E : Type 0} (r : Result (Option X) E) (P Q : X → Type 0) → ((x : X) → P x → Q x) → IfOk r (λ o. IfSome o P) → IfOk r (λ o. IfSome o Q)
+given_so (Ok (Some x)) P Q k h = k x h
+given_so (Ok None) P Q k h = h
+given_so (Err e) P Q k h = h
