@@ -22,8 +22,8 @@ not_both_of_tokens tokens e code p q = elim q [
   | inr shallow ↦ elim shallow.1 [
     | inl none ↦ none.0 e p.1
     | inr fault ↦
-      let same : None ≡ Some code = sym p.2 ∙ ap static_fault (derives_one tokens e fault.0 p.1 fault.1) ∙ fault.2 in
-      absurd cc
+        let same : None ≡ Some code = sym p.2 ∙ ap static_fault (derives_one tokens e fault.0 p.1 fault.1) ∙ fault.2 in
+        absurd cc
   ]
 ]
 
@@ -43,7 +43,7 @@ one_fault_of_tokens tokens c d p q = elim p [
       | inr fault ↦ elim other.1 [
         | inl none ↦ absurd (none.0 fault.0 fault.1)
         | inr second ↦
-          let same : Some c ≡ Some d = sym fault.2 ∙ ap static_fault (derives_one tokens fault.0 second.0 fault.1 second.1) ∙ second.2 in cc
+            let same : Some c ≡ Some d = sym fault.2 ∙ ap static_fault (derives_one tokens fault.0 second.0 fault.1 second.1) ∙ second.2 in cc
       ]
     ]
   ]

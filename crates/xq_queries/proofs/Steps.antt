@@ -1,5 +1,5 @@
 -- The steps of reading, one after another.
-use Rattle.std.proofs.Common.{◌≡◌, ◌≤◌, ℕ, List, [], ◌∷◌, map, refl, sym, ◌∙◌, ap, ap₂, subst, Some, None, Ok, Err, Result, inl, inr}
+use Rattle.std.proofs.Common.{◌≡◌, ◌≤◌, ℕ, List, [], ◌∷◌, map, refl, sym, ◌∙◌, ap, ap₂, subst, Some, None, Ok, Err, Result, inl, inr, IsErrAnd}
 use Rattle.std.specs.Str.{IsUtf8}
 use Rattle.xq_atoms.specs.declared.refusals.Code.TheVariants.{XPST0003, ProfDepth}
 use Rattle.xq_atoms.specs.declared.refusals.Fault.{Fault}
@@ -24,7 +24,7 @@ use Rattle.xq_meaning.specs.Same.{IsNormalForm, IsPlan}
 use Rattle.xq_queries.specs.Texts.{characters}
 use Rattle.xq_queries.specs.Reading.{lexemes, CharactersFault, TokensFault, TokensRead}
 use Rattle.xq_queries.specs.Values.{IsPlanOf, Plans, value_of}
-use Rattle.xq_queries.specs.private.Plans.{Checks, Parses}
+use Rattle.xq_queries.specs.private.Plans.{Checks, Parses, Understands}
 
 -- ---- tokens without their places
 
@@ -63,19 +63,26 @@ check_refused ts e (OfWant Store) shallow derived judged = absurd judged
 
 -- ---- bytes
 
-pub read_refused : (text spelled : List ℕ) (fault : Fault) → IsUtf8 text → spelled ≡ characters text
-    → Parses spelled (Err fault) → Plans text (Err fault)
-read_refused text spelled (OfCode code) utf8 same parsed =
-    inr (utf8, subst (λ s. CharactersFault s code) same parsed)
-read_refused text spelled (OfWant want) utf8 same parsed = (parsed, utf8)
-
-pub read_as : (text spelled : List ℕ) (e : Expr) (plan : Plan) → IsUtf8 text → spelled ≡ characters text
-    → Parses spelled (Ok e) → IsPlanOf e plan → Plans text (Ok plan)
-read_as text spelled e plan utf8 same parsed is =
-    (e, (utf8, subst (λ s. Parses s (Ok e)) same parsed), is)
+pub read_by : (text spelled : List ℕ) (r : Result Plan Fault) → IsUtf8 text → spelled ≡ characters text
+    → Understands spelled r → Plans text r
+read_by text spelled (Ok plan) utf8 same understood =
+    (understood.0, (utf8, subst (λ s. Parses s (Ok understood.0)) same understood.1), understood.2)
+read_by text spelled (Err (OfCode code)) utf8 same understood =
+    inr (utf8, subst (λ s. CharactersFault s code) same understood)
+read_by text spelled (Err (OfWant want)) utf8 same understood = (understood, utf8)
 
 -- ---- plans
 
 pub plan_of : (e : Expr) (core : Core) (plan : Plan) → IsNormalForm e core → IsPlan [] core plan → IsPlanOf e plan
 plan_of e core plan normal is =
     λ addresses trees. ap value_of (is [] None addresses trees refl ∙ normal (first_frame addresses) trees)
+
+-- ---- what is handed on
+
+pub handed_on : {T E : Type 0} (result : Result T E) (e : E) → IsErrAnd result (λ f. f ≡ e) → result ≡ Err e
+handed_on (Ok x) e is = absurd is
+handed_on (Err f) e is = ap Err is
+
+pub not_parsed : (text : List ℕ) (fault : Fault) → Parses text (Err fault) → Understands text (Err fault)
+not_parsed text (OfCode code) fault = fault
+not_parsed text (OfWant want) fault = fault

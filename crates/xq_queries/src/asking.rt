@@ -74,8 +74,10 @@ fn document_of<L: RowLender>(
     items: &[Item],
 ) -> Result<Option<Fragment>, Want>
     ensures found { L.is_clean source.new → IfOk result (λ found.
-        found ≡ document (items_at (L.forest source.old) (map item_view items.now),
-        L.forest source.old)) }
+        found ≡ document (
+          items_at (L.forest source.old) (map item_view items.now),
+          L.forest source.old,
+        )) }
     ensures kind { IfOk result (λ found. IfSome found (λ tree. tree.root.kind ≡ Document)) }
     ensures keeps { L.forest source.new ≡ L.forest source.old }
     ensures was_clean { L.is_clean source.new → L.is_clean source.old }

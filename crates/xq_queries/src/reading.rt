@@ -1,17 +1,18 @@
 //! From the bytes of a query to its plan.
-ghost use Rattle.std.specs.Prelude.{◌≡◌, IfErr, IfOk};
+ghost use Rattle.std.specs.Prelude.{◌≡◌, [], IfErr, IfOk};
 ghost use Rattle.std.specs.Str.{chars};
 ghost use Rattle.xq_atoms.specs.declared.refusals.Want.TheVariants.{Memory};
 ghost use Rattle.xq_lexer.specs.Lexeme.{lexemes};
-ghost use Rattle.xq_queries.specs.Values.{IsPlanOf, Plans};
-ghost use Rattle.xq_queries.specs.private.Plans.{Checks, Parses};
+ghost use Rattle.xq_meaning.specs.Same.{IsNormalForm, IsPlan};
+ghost use Rattle.xq_queries.specs.Values.{Plans};
+ghost use Rattle.xq_queries.specs.private.Plans.{Checks, Parses, Understands};
 
 use crate::lines::with_line_feeds;
 use std::alloc::Global;
 use xq_atoms::{Code, Fault, Want};
 use xq_expressions::Expr;
 use xq_lexer::{Token, lex};
-use xq_meaning::Plan;
+use xq_meaning::{Core, Plan};
 use xq_normal::normalise;
 use xq_parser::parse;
 use xq_plan::plan;
@@ -29,8 +30,16 @@ pub fn read(alloc: Global, text: &[u8]) -> Result<Plan, Fault>
         return Err(Fault::Code(Code::ProfUtf8));
     };
     let read = with_line_feeds(alloc, text)?;
-    let query = parsed(alloc, read.as_str())?;
-    Ok(planned(alloc, &query)?)
+    understood(alloc, read.as_str())
+}
+
+/// A plan of the query that the characters are.
+fn understood(alloc: Global, text: &str) -> Result<Plan, Fault>
+    ensures { Understands (chars text.now) result }
+{
+    let query = parsed(alloc, text)?;
+    let core = normal_form(alloc, query)?;
+    Ok(planned(alloc, core)?)
 }
 
 /// The expression that the characters are, which passes the static checks.
@@ -50,11 +59,18 @@ fn checked(alloc: Global, tokens: &[Token]) -> Result<Expr, Fault>
     Ok(query)
 }
 
-/// A plan of the expression.
-fn planned(alloc: Global, query: &Expr) -> Result<Plan, Want>
-    ensures same { IfOk result (λ plan. IsPlanOf query.now plan) }
+/// The normal form of the expression, which is let go here: its parts are dropped in one place.
+fn normal_form(alloc: Global, query: Expr) -> Result<Core, Want>
+    ensures same { IfOk result (λ core. IsNormalForm query core) }
     ensures want { IfErr result (λ want. want ≡ Memory) }
 {
-    let core = normalise(alloc, query)?;
+    normalise(alloc, &query)
+}
+
+/// The plan of the normal form, which is let go here.
+fn planned(alloc: Global, core: Core) -> Result<Plan, Want>
+    ensures same { IfOk result (λ plan. IsPlan [] core plan) }
+    ensures want { IfErr result (λ want. want ≡ Memory) }
+{
     plan(alloc, &core)
 }

@@ -22,3 +22,9 @@ abbrev pub Checks : List Lex → Result Expr Fault → Type 0
 Checks tokens (Ok e) = TokensRead tokens e
 Checks tokens (Err (OfCode code)) = TokensFault tokens code
 Checks tokens (Err (OfWant want)) = want ≡ Memory
+
+-- the characters give a plan of their expression, or a fault
+abbrev pub Understands : List ℕ → Result Plan Fault → Type 0
+Understands text (Ok plan) = (e : Expr) × Parses text (Ok e) × IsPlanOf e plan
+Understands text (Err (OfCode code)) = CharactersFault text code
+Understands text (Err (OfWant want)) = want ≡ Memory
