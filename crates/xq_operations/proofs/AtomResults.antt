@@ -1,5 +1,5 @@
 -- Results of atoms alone are values over any trees.
-use Rattle.std.proofs.Common.{◌≡◌, ℕ, zero, suc, ℤ, pos, ◌+ℤ◌, nat_le, List, [], ◌∷◌, map, Ok, Err, Result, Bool, true, false, refl, sym, ◌∙◌, ap, subst}
+use Rattle.std.proofs.Common.{◌≡◌, ℕ, zero, suc, ℤ, pos, ◌+ℤ◌, nat_le, List, [], ◌∷◌, Ok, Err, Result, Bool, true, false, sym, ◌∙◌, ap, subst}
 use Rattle.std.specs.Global.{Vec}
 use Rattle.std.specs.List.{AllByRecursion}
 use Rattle.xq_atoms.specs.Atom.{Atomic}
@@ -17,7 +17,7 @@ use Rattle.xq_values.specs.declared.operators.Operator.TheVariants as operator
 use Rattle.xq_values.specs.Arguments.{atomic, boolean, as_items, as_boolean, single}
 use Rattle.xq_values.specs.Functions.{piece}
 use Rattle.xq_values.specs.Items.{Item, Node, Atom, atomized}
-use Rattle.xq_values.specs.Operators.{of_both, number_operand, calculated, sum_of, product_of, with_signs, signed, integers_from, integers_within, how_many, integers, one_bound, related_by, some_pair, operated}
+use Rattle.xq_values.specs.Operators.{of_both, number_operand, sum_of, product_of, with_signs, signed, integers_from, integers_within, how_many, integers, one_bound, related_by, some_pair, operated}
 use Rattle.xq_values.specs.Readings.{items_at, AreIn}
 use Rattle.xq_functions.specs.Answers as Answers
 use Rattle.xq_functions.specs.Kinds.{is_on_atoms}

@@ -1,7 +1,6 @@
 -- What calls are by the kind of their function, and what they give.
-use Rattle.std.proofs.Common.{◌≡◌, ℕ, suc, ◌+◌, ◌<◌, ◌≤◌, ◌++◌, List, [], ◌∷◌, length, map, Option, Some, None, Ok, Err, Result, string_bytes, refl, sym, ◌∙◌, ap, subst, arith}
+use Rattle.std.proofs.Common.{◌≡◌, ◌<◌, ◌≤◌, ◌++◌, List, [], ◌∷◌, length, map, Option, Some, None, Ok, Err, Result, string_bytes, refl, ap, arith}
 use Rattle.std.specs.Global.{Vec}
-use Rattle.std.specs.List.{AllByRecursion}
 use Rattle.std.proofs.lemmas.List.{length-map, length-append}
 use Rattle.xq_atoms.specs.declared.refusals.Code.TheVariants.{XPST0017}
 use Rattle.xq_atoms.specs.declared.refusals.Fault.{Fault}

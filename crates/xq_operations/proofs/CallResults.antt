@@ -1,15 +1,15 @@
 -- A call of a function gives atoms, or nodes of the trees.
-use Rattle.std.proofs.Common.{◌≡◌, ℕ, zero, suc, ◌+◌, ◌<◌, ◌≤◌, List, [], ◌∷◌, ◌++◌, length, map, reverse, Bool, true, false, Option, Some, None, Ok, Err, Result, refl, sym, ◌∙◌, ap, subst, arith}
+use Rattle.std.proofs.Common.{◌≡◌, ℕ, zero, suc, ◌+◌, ◌≤◌, List, [], ◌∷◌, ◌++◌, length, map, reverse, Bool, true, false, Option, Some, None, Ok, Err, refl, sym, subst, arith}
 use Rattle.std.specs.List.{AllByRecursion, range_with_len}
 use Rattle.std.proofs.lemmas.Grind.{reverse_onto}
-use Rattle.xq_atoms.specs.Judged.{Judged, ◌>>=◌, only_if}
+use Rattle.xq_atoms.specs.Judged.{Judged, ◌>>=◌}
 use Rattle.xq_atoms.specs.Text.{Text, text_eq}
 use Rattle.xq_atoms.specs.Atom.{Atomic}
 use Rattle.xq_regions.specs.Tree.{Tree}
 use Rattle.xq_signatures.specs.declared.Function.{Function}
 use Rattle.xq_signatures.specs.declared.Function.TheVariants as f
 use Rattle.xq_values.specs.Items.{Item, Node, Atom, root_of, atomized}
-use Rattle.xq_values.specs.Arguments.{optional, if_given, on_optional, text_argument, node_argument, effective, boolean, as_items, as_boolean, each, one_text, one_count, optional_text, whole, text}
+use Rattle.xq_values.specs.Arguments.{optional, if_given, on_optional, text_argument, node_argument, effective, boolean, each, one_text, one_count, optional_text, whole, text}
 use Rattle.xq_values.specs.Functions as fn
 use Rattle.xq_operations.proofs.AtomResults.{IsAtom, OnlyAtoms, then_atoms, as_items_atoms, as_boolean_atoms}
 use Rattle.xq_operations.proofs.Existing.{Exists, Exist}

@@ -1,13 +1,13 @@
 -- From the keys of each tuple, those of each specification.
 use Rattle.std.proofs.Common.{◌≡◌, ℕ, zero, suc, ◌+◌, ◌-◌, ◌<◌, ◌≤◌, ◌++◌, List, [], ◌∷◌, length, map, replicate, slice_index_or, refl, sym, ◌∙◌, ap, arith}
 use Rattle.std.specs.Global.{Vec}
-use Rattle.std.specs.List.{All, AllByRecursion, range_with_len, zip}
+use Rattle.std.specs.List.{All, AllByRecursion, range_with_len}
 use Rattle.std.proofs.lemmas.List.{append_assoc, map-append, length-map, length-append, replicate-append-replicate}
 use Rattle.xq_atoms.specs.declared.atoms.Atom.{Atom}
 use Rattle.xq_atoms.specs.Atom.{Atomic}
 use Rattle.xq_regions.specs.Tuples.{extended}
 use Rattle.xq_meaning.specs.Forms as Forms
-use Rattle.xq_tuples.specs.Keys.{atomics_of, column_of, columns_of}
+use Rattle.xq_tuples.specs.Keys.{atomics_of, column_of}
 
 replicated : {A : Type 0} (x : A) (m : ℕ) → length (replicate m x) ≡ m
 replicated x zero = refl

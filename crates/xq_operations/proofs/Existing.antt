@@ -1,9 +1,8 @@
 -- Items whose nodes are those of the trees: which items of code stand for one, and which of the
 -- definitions give only such.
-use Rattle.std.proofs.Common.{◌≡◌, ℕ, zero, suc, ◌+◌, ◌-◌, ◌<◌, ◌≤◌, ◌⊎◌, inl, inr, List, [], ◌∷◌, ◌++◌, length, map, filter, reverse, Bool, true, false, cond, Option, Some, None, Ok, Err, Result, refl, sym, ◌∙◌, ap, subst, arith, ⊎_elim}
+use Rattle.std.proofs.Common.{◌≡◌, ℕ, zero, suc, ◌+◌, ◌-◌, ◌<◌, ◌≤◌, List, [], ◌∷◌, length, map, filter, Bool, true, false, cond, refl, sym, ◌∙◌, ap, subst, arith, ⊎_elim}
 use Rattle.std.specs.List.{AllByRecursion}
 use Rattle.std.proofs.lemmas.Bool.{lt-leb, cases_lt}
-use Rattle.xq_atoms.specs.Judged.{Judged}
 use Rattle.xq_regions.specs.Forest.{Forest, end, node, count}
 use Rattle.xq_regions.specs.Node.{HasPath}
 use Rattle.xq_regions.specs.Order.{path_at, step_down, step_right}

@@ -1,7 +1,6 @@
 -- From what a call of a lower crate gives to what an operation gives.
-use Rattle.std.proofs.Common.{◌≡◌, ◌<◌, ◌≤◌, ◌++◌, List, [], ◌∷◌, length, map, Bool, true, false, Ok, Err, Result, refl, sym, ◌∙◌, ap, subst}
+use Rattle.std.proofs.Common.{◌≡◌, List, Bool, true, false, Ok, Err, Result, refl, sym, ◌∙◌, ap, subst}
 use Rattle.std.specs.Global.{Vec}
-use Rattle.std.specs.List.{AllByRecursion}
 use Rattle.xq_atoms.specs.declared.refusals.Fault.{Fault}
 use Rattle.xq_atoms.specs.declared.refusals.Fault.TheVariants.{Code as OfCode, Want as OfWant}
 use Rattle.xq_atoms.specs.declared.refusals.Code.TheVariants.{XPTY0018}
@@ -14,13 +13,13 @@ use Rattle.xq_regions.specs.Items.{item_views}
 use Rattle.xq_regions.specs.Tree.{Tree}
 use Rattle.xq_values.specs.declared.operators.Operator.{Operator}
 use Rattle.xq_values.specs.declared.operators.Operator.TheVariants as operator
-use Rattle.xq_values.specs.Items.{Place, Item, Node, Atom}
+use Rattle.xq_values.specs.Items.{Place, Item}
 use Rattle.xq_values.specs.Arguments.{all_nodes, boolean}
-use Rattle.xq_values.specs.Operators.{nodes_or_atoms, all_atoms, are_atoms, gathered, operated, from_nodes, set_of, one_node, stand, by_nodes, of_both}
-use Rattle.xq_values.specs.Readings.{items_at, AreIn, Extends}
+use Rattle.xq_values.specs.Operators.{nodes_or_atoms, all_atoms, are_atoms, gathered, operated, from_nodes, set_of, one_node, stand}
+use Rattle.xq_values.specs.Readings.{items_at, AreIn}
 use Rattle.xq_functions.specs.Kinds.{is_on_atoms}
-use Rattle.xq_operations.specs.Views.{Gives, Goes, GivesAs}
-use Rattle.xq_operations.proofs.AtomResults.{OnlyAtoms, both_atoms, operated_atoms}
+use Rattle.xq_operations.specs.Views.{Gives, Goes}
+use Rattle.xq_operations.proofs.AtomResults.{both_atoms}
 use Rattle.xq_operations.proofs.Existing.{Exist, are_in, ordered_exist}
 use Rattle.xq_operations.proofs.CallResults.{ExistIn, then_exist, atoms_exist}
 use Rattle.xq_operations.proofs.Growth.{extends_itself}

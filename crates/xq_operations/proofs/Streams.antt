@@ -1,5 +1,5 @@
 -- Grouping and ordering are the same whatever stands for the items, and keep their nodes.
-use Rattle.std.proofs.Common.{◌≡◌, ℕ, zero, suc, ◌+◌, ◌-◌, ◌<◌, ◌≤◌, ◌++◌, List, [], ◌∷◌, length, map, filter, fold, Bool, true, false, not, Option, Some, None, Ok, Err, Result, refl, sym, ◌∙◌, ap, subst, arith}
+use Rattle.std.proofs.Common.{◌≡◌, ℕ, zero, suc, ◌++◌, List, [], ◌∷◌, length, map, filter, fold, Bool, true, false, not, Option, Some, None, Ok, Err, Result, refl, sym, ◌∙◌, ap, subst}
 use Rattle.std.specs.Prelude.{if◌then◌else◌, IfOk, IfErr, flat_map}
 use Rattle.std.specs.List.{AllByRecursion, list_all, zip, range_with_len}
 use Rattle.std.specs.declared.cmp.Ordering.{Ordering}

@@ -1,7 +1,6 @@
 use Rattle.std.proofs.Common.{◌≡◌, ◌++◌, ◌∷◌, [], ◌∙◌, ap, sym, subst, arith, map, take}
 use Rattle.std.proofs.lemmas.List.{map-append, take_all}
 use Rattle.xq_atoms.specs.Atom.{atomic_of}
-use Rattle.xq_atoms.specs.declared.atoms.Atom.{Atom}
 use Rattle.xq_regions.specs.declared.items.Item.{Item as Held}
 use Rattle.xq_regions.specs.Items.{item_view}
 use Rattle.xq_values.specs.Items.{atom_of}

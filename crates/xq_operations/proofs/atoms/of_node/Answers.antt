@@ -1,5 +1,5 @@
-use Rattle.std.proofs.Common.{◌≡◌, ◌∷◌, [], ◌∙◌, ap, subst, ℕ, List, string_bytes}
-use Rattle.xq_regions.specs.Rows.{Row, rows, row_at}
+use Rattle.std.proofs.Common.{◌≡◌, ◌∙◌, ap, subst, string_bytes}
+use Rattle.xq_regions.specs.Rows.{rows, row_at}
 use Rattle.xq_regions.specs.Tree.{Label}
 use Rattle.xq_regions.specs.Value.{string_value, typed_by}
 use Rattle.xq_sources.specs.Sources.{tree_at}

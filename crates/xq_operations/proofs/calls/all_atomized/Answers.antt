@@ -1,7 +1,5 @@
-use Rattle.std.proofs.Common.{◌≡◌, ◌+◌, ◌++◌, ◌∷◌, [], ◌∙◌, ap, sym, subst, arith, map, take}
+use Rattle.std.proofs.Common.{◌≡◌, ◌++◌, ◌∷◌, [], ◌∙◌, ap, sym, subst, arith, map, take}
 use Rattle.std.proofs.lemmas.List.{map-append}
-use Rattle.std.specs.Global.{Vec}
-use Rattle.xq_regions.specs.declared.items.Item.{Item as Held}
 use Rattle.xq_regions.specs.Items.{item_view, item_views}
 use Rattle.xq_tuples.specs.Keys.{atomics_of}
 use Rattle.xq_values.specs.Items.{atomized}

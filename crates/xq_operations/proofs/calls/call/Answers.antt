@@ -1,4 +1,4 @@
-use Rattle.std.proofs.Common.{◌≡◌, ◌≤◌, ◌<◌, ◌∷◌, [], ◌∙◌, ap, sym, subst, map, length, string_bytes, arith}
+use Rattle.std.proofs.Common.{◌≡◌, ◌≤◌, ◌<◌, ◌∷◌, [], ap, sym, subst, map, length, string_bytes, arith}
 use Rattle.xq_build.specs.Gives.{Gives as GivesBuilt}
 use Rattle.xq_functions.specs.Answers.{items_of}
 use Rattle.xq_regions.specs.Items.{item_views}

@@ -1,4 +1,4 @@
-use Rattle.std.proofs.Common.{◌≡◌, ◌∙◌, ap, sym, subst, map, string_bytes}
+use Rattle.std.proofs.Common.{◌∙◌, ap, sym, subst, map, string_bytes}
 use Rattle.xq_atoms.specs.Judged.{◌>>=◌}
 use Rattle.xq_build.specs.Gives.{Gives}
 use Rattle.xq_functions.specs.Answers.{items_of}

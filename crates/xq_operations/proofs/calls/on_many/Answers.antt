@@ -1,4 +1,4 @@
-use Rattle.std.proofs.Common.{◌≡◌, ◌≤◌, ◌∙◌, ap, sym, arith, length, map}
+use Rattle.std.proofs.Common.{◌≤◌, ◌∙◌, ap, sym, arith, length, map}
 use Rattle.std.proofs.lemmas.List.{length-map}
 use Rattle.xq_regions.specs.Items.{item_views}
 use Rattle.xq_tuples.specs.Keys.{atomics_of}

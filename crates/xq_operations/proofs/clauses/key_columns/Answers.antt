@@ -1,8 +1,8 @@
-use Rattle.std.proofs.Common.{◌≡◌, ◌++◌, ◌∷◌, ◌-◌, [], length, map, replicate, ap, sym, ◌∙◌}
+use Rattle.std.proofs.Common.{◌++◌, ◌∷◌, ◌-◌, [], map, replicate, ap, sym, ◌∙◌}
 use Rattle.std.proofs.lemmas.List.{map-append, length-map}
 use Rattle.xq_regions.specs.Tuples.{extended}
 use Rattle.xq_meaning.specs.Forms as Forms
-use Rattle.xq_tuples.specs.Keys.{atomics_of, column_of, columns_of}
+use Rattle.xq_tuples.specs.Keys.{atomics_of, column_of}
 use Rattle.xq_operations.proofs.Columns.{no_columns, columns_next}
 use Rattle.xq_operations.proofs.clauses.key_columns.Goals as goal
 

@@ -1,4 +1,4 @@
-use Rattle.std.proofs.Common.{◌≡◌, ◌+◌, ◌<◌, ◌++◌, ◌∷◌, [], ◌∙◌, ap, sym, subst, arith, length, map, take, slice_index_or, List}
+use Rattle.std.proofs.Common.{◌≡◌, ◌<◌, ◌++◌, ◌∷◌, [], ◌∙◌, ap, sym, subst, arith, length, map, take, slice_index_or}
 use Rattle.std.proofs.lemmas.List.{map-append, take_more, length-append}
 use Rattle.xq_regions.specs.Tuples.{Tuple, value_at}
 use Rattle.xq_meaning.specs.Forms as Forms

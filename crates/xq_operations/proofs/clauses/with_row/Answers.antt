@@ -1,11 +1,9 @@
 use Rattle.std.proofs.Common.{List, [], ◌∷◌, ◌++◌, map, ap, sym, ◌∙◌}
-use Rattle.std.specs.Global.{Vec}
-use Rattle.std.specs.List.{zip}
 use Rattle.std.proofs.lemmas.Iterator.{YieldsList-from_zip}
 use Rattle.std.proofs.lemmas.Iterator.Adapters.{YieldsList-from_vec}
 use Rattle.std.proofs.lemmas.Iterator.Consumers.{YieldsList-end}
 use Rattle.xq_atoms.specs.Atom.{Atomic}
-use Rattle.xq_tuples.specs.Keys.{atomics_of, column_of, columns_of}
+use Rattle.xq_tuples.specs.Keys.{atomics_of, column_of}
 use Rattle.xq_tuples.proofs.Lists.{map-map, zip-yielded}
 use Rattle.xq_operations.proofs.clauses.with_row.Goals as goal
 

@@ -1,4 +1,4 @@
-use Rattle.std.proofs.Common.{◌≡◌, ◌∙◌, ap, sym, subst, map, Ok}
+use Rattle.std.proofs.Common.{◌∙◌, ap, sym, subst, map, Ok}
 use Rattle.xq_atoms.specs.Atom.{atomic_of}
 use Rattle.xq_build.specs.Gives.{Gives}
 use Rattle.xq_functions.specs.Answers.{items_of, lent_items}

@@ -1,10 +1,10 @@
-use Rattle.std.proofs.Common.{◌≡◌, ◌∙◌, ap, sym, map, subst}
+use Rattle.std.proofs.Common.{◌≡◌, ◌∙◌, ap, sym, map}
 use Rattle.xq_atoms.specs.Atom.{atomic_of}
 use Rattle.xq_regions.specs.Items.{item_view}
 use Rattle.xq_values.specs.Items.{atomized}
 use Rattle.xq_values.specs.Operators.{operated}
 use Rattle.xq_values.specs.Readings.{items_at}
-use Rattle.std.proofs.Common.{Bool, true, false, rules}
+use Rattle.std.proofs.Common.{true, false, rules}
 use Rattle.xq_functions.specs.Kinds.{is_on_atoms}
 use Rattle.std.proofs.Common.{refl}
 use Rattle.xq_functions.specs.Answers.{items_of}

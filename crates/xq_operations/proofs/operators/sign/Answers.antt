@@ -1,4 +1,4 @@
-use Rattle.std.proofs.Common.{◌≡◌, ◌∙◌, ap, sym, map, subst}
+use Rattle.std.proofs.Common.{◌≡◌, ◌∙◌, ap, map, subst}
 use Rattle.xq_atoms.specs.Atom.{atomic_of}
 use Rattle.xq_regions.specs.Items.{item_view}
 use Rattle.xq_values.specs.Items.{atomized}

@@ -8,7 +8,6 @@ use Rattle.xq_values.specs.Readings.{node_at, items_at, AreIn}
 use Rattle.xq_values.specs.Steps.{axis_nodes}
 use Rattle.xq_meaning.specs.Forms as Forms
 use Rattle.xq_operations.specs.Views.{Gives}
-use Rattle.xq_operations.specs.private.Nodes.{nodes_among}
 use Rattle.xq_operations.proofs.NodeLemmas.{among_in, scan_gives, scan_stops}
 use Rattle.xq_operations.proofs.steps.scan.Goals as goal
 

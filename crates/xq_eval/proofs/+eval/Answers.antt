@@ -1,0 +1,2279 @@
+use Rattle.std.proofs.Common.{rules, ◌≡◌, ◌++◌, ◌+◌, List, [], ◌∷◌, map, subst, sym, ap, ◌∙◌, Ok, Err, arith, length, suc, add-one, refl, Bool, true, false, ℕ, ◌<◌, ◌≤◌, ◌^◌, take, drop, not, Option, Some, None}
+use Rattle.std.specs.Global.{Vec, Global}
+use Rattle.std.proofs.lemmas.List.{map-append, drop_all, length-map, length-append, append-nil, drop-map}
+use Rattle.xq_operations.specs.declared.frames.Frame.{Frame as Held}
+use Rattle.std.proofs.lemmas.List.Folds.{flat_map-map}
+use Rattle.xq_atoms.specs.Atom.{Atomic}
+use Rattle.xq_atoms.specs.declared.refusals.Code.TheVariants.{XPTY0019}
+use Rattle.xq_atoms.specs.declared.refusals.Fault.TheVariants.{Code as OfCode}
+use Rattle.xq_regions.specs.Tuples.{Tuple, expanded, bound, kept}
+use Rattle.xq_regions.specs.Items.{ItemView, Value, item_view, item_views}
+use Rattle.xq_tuples.specs.Views.{values_of}
+use Rattle.xq_values.specs.Items.{Item, Atom, atomized}
+use Rattle.xq_values.specs.Arguments.{boolean, effective, all_nodes}
+use Rattle.xq_values.specs.Functions.{Focus as Spot}
+use Rattle.xq_values.specs.Operators.{keeps, operated, signed, gathered}
+use Rattle.xq_values.specs.Steps.{focuses, focuses_from, in_axis_order}
+use Rattle.xq_values.specs.Readings.{item_at, items_at, IsIn, AreIn}
+use Rattle.xq_meaning.specs.declared.plans.Plan.{Plan, size-Plan}
+use Rattle.xq_meaning.specs.declared.plans.Plan.TheVariants as plan
+use Rattle.xq_meaning.specs.declared.plans.Plan.TheViews.{sized-Quantified}
+use denote.Param.Weighed.{at_most, most}
+use Rattle.xq_meaning.specs.declared.plans.PlanClause.{PlanClause}
+use Rattle.xq_meaning.specs.Doing.{◌>>=◌, go_on, give, judged, on_trees, collected, in_turn, more, one_more, for_each, first_that}
+use Rattle.xq_meaning.specs.PlanMeaning.{Frame, Meaning, plan_mean, plan_clause_mean, plan_step_mean, at_tuple, next_clause, next_step}
+use Rattle.xq_meaning.proofs.PlanEquations.{plan-Root, plan-Step, plan-Named, plan-Unnamed, plan-Call, plan-Quantified, clause-Group, clause-Order, clause-Refused, step-Scan, plan-Dec, plan-Slot, plan-ContextItem, plan-Sequence, plan-Chain, plan-Unary, plan-If, plan-Or, plan-And, plan-Filter, plan-Path, plan-Flwor, step-Each, clause-For, clause-Let, clause-Where}
+use Rattle.xq_operations.specs.Views.{order_specs, GivesKeys, GivesRows, calling, ordering, on_axis, plant_named, plant_unnamed, tuple_at, tuples_at, lists_of, spot_at, forget, frame_at, TupleIn, TuplesIn, Gives, GivesLists, GivesTuples, GivesTests, GivesPlain, FrameIn}
+use Rattle.xq_operations.proofs.Growth.{extends_more, stays, value_in, frame_grown, frame_in_grown, items_grown, are_in_grown, item_at_grown, in_grown, tuple_grown, tuple_in_grown, tuples_grown, tuples_in_grown, goes_on_to}
+use Rattle.xq_eval.proofs.Loops.{left_over, turns_next, turns_stop, turns_end, tries_next, tries_found, tries_stop, handed_on, stops, cut}
+use Rattle.xq_atoms.specs.Text.{Text}
+use Rattle.xq_expressions.specs.declared.operators.OrderModifier.{OrderModifier}
+use Rattle.xq_tuples.specs.Keys.{atomics_of, column_of, columns_of}
+use Rattle.xq_values.specs.Content.{name_of}
+use Rattle.xq_eval.specs.private.Keys.{keys_at}
+use Rattle.xq_eval.specs.private.Quantifying.{holds, at_top, turn, resumed, weigh, all_weigh, unless_wanted}
+use Rattle.std.specs.Prelude.{string_bytes, IfSome}
+use Rattle.xq_eval.proofs.Steps.{axis_order_read, axis_order_in, step_is, named_is, same_goes, more_next, tested_ok, tested_err, go_on_stop, list_next, passed_ok, passed_err, kept_read, concat, concat_read, concat_in, flwor_is, spots_left, all_at, element, left_at, frame_inner, frame_inner_in, bound_in, kept_in, expanded_in, slash_ok, slash_err, same_tests, any_tests}
+use Rattle.xq_operations.proofs.Natural.{bound_natural, kept_natural, expanded_natural}
+use Rattle.xq_tuples.proofs.Copies.{values_of-clones}
+use Rattle.xq_eval.specs.private.Bindings.{values_left, stack_of, Falls, Moved, MovesOn}
+use Rattle.xq_eval.specs.private.Turns.{GivesTurn, values_found, found_at, FoundIn}
+use Rattle.xq_eval.proofs.QuantifiedTurns.{At, moved_slots, moved_within, moved_lighter, turn_moves, turn_ends, turn_decides, turn_stops, frame_open, frame_open_in, some_found, none_found, turn_value, turn_tested, is_wanted, not_wanted}
+use Rattle.xq_eval.proofs.NextValues.{next_left}
+use Rattle.xq_meaning.specs.Forms as Forms
+use Rattle.xq_eval.proofs.+eval.Goals as goal
+
+pub evaluation::evaluate-returns-in-ContextItem-clause-gives : goal.evaluation::evaluate-returns-in-ContextItem-clause-gives
+evaluation::evaluate-returns-in-ContextItem-clause-gives g t c = λ clean inside.
+    let f = g.W.TreeSource.forest c.args.world.now in
+    rw (c.in-ContextItem.is, plan-ContextItem) (c.context_item.ensures f inside.focus_in)
+
+pub evaluation::evaluate-returns-in-Sequence-clause-gives : goal.evaluation::evaluate-returns-in-Sequence-clause-gives
+evaluation::evaluate-returns-in-Sequence-clause-gives g t c = λ clean inside.
+    rw (c.in-Sequence.is, plan-Sequence c.in-Sequence.parts, ← c.as_slice.ensures) (c.sequence.ensures.gives clean inside)
+
+pub evaluation::evaluate-returns-in-Chain-clause-gives : goal.evaluation::evaluate-returns-in-Chain-clause-gives
+evaluation::evaluate-returns-in-Chain-clause-gives g t c = λ clean inside.
+    let f = g.W.TreeSource.forest c.args.world.now in
+    let f' = g.W.TreeSource.forest c.evaluate.new.world in
+    let held = c.args.frame in
+    let frame = frame_at f held in
+    let grows = c.in_ok-left-in-Chain.ensures.goes.grows in
+    let first = c.in_ok-left-in-Chain.ensures.gives (c.chain.ensures.goes.was_clean clean) inside in
+    let second = c.chain.ensures.gives clean (frame_in_grown grows held inside) first.0 in
+    let value : plan_mean c.in-Chain.first frame f ≡ (Ok (items_at f' (item_views c.in_ok-left-in-Chain.left)), f') = ap (λ p. plan_mean p frame f) (sym c.get.ensures) ∙ first.1 in
+    rw (c.in-Chain.is, plan-Chain c.in-Chain.first c.in-Chain.rest, value, ← frame_grown grows held inside, ← c.as_slice-in-Chain.ensures) second
+
+pub evaluation::evaluate-returns-in_err-effective-in-If-clause-gives : goal.evaluation::evaluate-returns-in_err-effective-in-If-clause-gives
+evaluation::evaluate-returns-in_err-effective-in-If-clause-gives g t c = λ clean inside.
+    let f = g.W.TreeSource.forest c.args.world.now in
+    let held = c.args.frame in
+    let frame = frame_at f held in
+    let f' = g.W.TreeSource.forest c.evaluate-in-If.new.world in
+    let value = c.in_ok-value-in-If.ensures.gives clean inside in
+    let code = c.in_err-effective-in-If.field-0.0 in
+    let test = plan_mean c.in-If.test in
+    let failed = tested_err test frame _ code f f' (ap (λ p. plan_mean p frame f) (sym c.get-in-If.ensures) ∙ value.1)
+    (ap (λ xs. effective (items_at f' (map item_view xs))) (sym c.deref-in-If.ensures.value) ∙ sym (c.in_err-effective-in-If.ensures f')) in
+    let next = λ (answer : Bool). Forms.chosen answer (plan_mean c.in-If.yes) (plan_mean c.in-If.no) frame in
+    cut (λ (b : Bool). b) (λ trees b. b) (λ trees b. Unit {0}) item_views items_at AreIn (plan_mean c.args.plan.now frame f) (Forms.tested test frame f) next f' (OfCode code) c.from_residual-in_err-effective-in-If.result
+    (ap (λ p. plan_mean p frame f) c.in-If.is ∙ ap (λ m. m frame f) (plan-If c.in-If.test c.in-If.yes c.in-If.no)) c.from_residual-in_err-effective-in-If.ensures.1 failed
+
+pub evaluation::evaluate-returns-then-branch-clause-gives : goal.evaluation::evaluate-returns-then-branch-clause-gives
+evaluation::evaluate-returns-then-branch-clause-gives g t c = λ clean inside.
+    let f = g.W.TreeSource.forest c.args.world.now in
+    let f' = g.W.TreeSource.forest c.evaluate-in-If.new.world in
+    let held = c.args.frame in
+    let frame = frame_at f held in
+    let grows = c.in_ok-value-in-If.ensures.goes.grows in
+    let value = c.in_ok-value-in-If.ensures.gives (c.evaluate-then-branch.ensures.goes.was_clean clean) inside in
+    let tested = tested_ok (plan_mean c.in-If.test) frame _ true f f' (ap (λ p. plan_mean p frame f) (sym c.get-in-If.ensures) ∙ value.1)
+    (ap (λ xs. effective (items_at f' (map item_view xs))) (sym c.deref-in-If.ensures.value) ∙ sym (c.in_ok-effective-in-If.ensures f') ∙ ap Ok c.if-branch.true) in
+    rw (c.in-If.is, plan-If c.in-If.test c.in-If.yes c.in-If.no, tested, ← frame_grown grows held inside, ← c.get-then-branch.ensures)
+    (c.evaluate-then-branch.ensures.gives clean (frame_in_grown grows held inside))
+
+pub evaluation::evaluate-returns-in-If-clause-gives : goal.evaluation::evaluate-returns-in-If-clause-gives
+evaluation::evaluate-returns-in-If-clause-gives g t c = λ clean inside.
+    let f = g.W.TreeSource.forest c.args.world.now in
+    let f' = g.W.TreeSource.forest c.evaluate-in-If.new.world in
+    let held = c.args.frame in
+    let frame = frame_at f held in
+    let grows = c.in_ok-value-in-If.ensures.goes.grows in
+    let value = c.in_ok-value-in-If.ensures.gives (c.evaluate-else-branch.ensures.goes.was_clean clean) inside in
+    let tested = tested_ok (plan_mean c.in-If.test) frame _ false f f' (ap (λ p. plan_mean p frame f) (sym c.get-in-If.ensures) ∙ value.1)
+    (ap (λ xs. effective (items_at f' (map item_view xs))) (sym c.deref-in-If.ensures.value) ∙ sym (c.in_ok-effective-in-If.ensures f') ∙ ap Ok c.if-branch.false) in
+    rw (c.in-If.is, plan-If c.in-If.test c.in-If.yes c.in-If.no, tested, ← frame_grown grows held inside, ← c.get-else-branch.ensures)
+    (c.evaluate-else-branch.ensures.gives clean (frame_in_grown grows held inside))
+
+pub evaluation::evaluate-returns-in-Filter-clause-gives : goal.evaluation::evaluate-returns-in-Filter-clause-gives
+evaluation::evaluate-returns-in-Filter-clause-gives g t c = λ clean inside.
+    let f = g.W.TreeSource.forest c.args.world.now in
+    let held = c.args.frame in
+    let frame = frame_at f held in
+    let f' = g.W.TreeSource.forest c.evaluate-in-Filter.new.world in
+    let grows = c.in_ok-items-in-Filter.ensures.goes.grows in
+    let first = c.in_ok-items-in-Filter.ensures.gives (c.filter.ensures.goes.was_clean clean) inside in
+    let second = c.filter.ensures.gives clean (frame_in_grown grows held inside) first.0 in
+    let value : plan_mean c.in-Filter.start frame f ≡ (Ok (items_at f' (item_views c.in_ok-items-in-Filter.items)), f') = ap (λ p. plan_mean p frame f) (sym c.get-in-Filter.ensures) ∙ first.1 in
+    rw (c.in-Filter.is, plan-Filter c.in-Filter.start c.in-Filter.predicates, value, ← frame_grown grows held inside, ← c.as_slice-in-Filter.ensures) second
+
+pub evaluation::evaluate-returns-in_err-lists-in-Flwor-clause-gives : goal.evaluation::evaluate-returns-in_err-lists-in-Flwor-clause-gives
+evaluation::evaluate-returns-in_err-lists-in-Flwor-clause-gives g t c = λ clean inside.
+    let f = g.W.TreeSource.forest c.args.world.now in
+    let held = c.args.frame in
+    let frame = frame_at f held in
+    let f' = g.W.TreeSource.forest c.clause_list.new.world in
+    let f'' = g.W.TreeSource.forest c.values.new.world in
+    let grows = c.in_ok-tuples-in-Flwor.ensures.goes.grows in
+    let stream = c.in_ok-tuples-in-Flwor.ensures.gives (c.values.ensures.goes.was_clean clean) inside in
+    let tuples = c.in_ok-tuples-in-Flwor.tuples in
+    let e = c.in_err-lists-in-Flwor.field-0.0 in
+    let refused = c.in_err-lists-in-Flwor.ensures.gives clean (frame_in_grown grows held inside) stream.0 in
+    let part = plan_mean c.get-in-Flwor.result.now in
+    let meant : plan_mean c.args.plan.now frame f ≡ go_on (for_each (λ t. part (at_tuple (frame_at f' held) t)) (tuples_at f' tuples) f') (λ ls. give (concat ls)) =
+    ap (λ p. plan_mean p frame f) c.in-Flwor.is ∙ ap (λ m. m frame f) (plan-Flwor c.in-Flwor.clauses c.in-Flwor.part)
+    ∙ flwor_is (map plan_clause_mean c.in-Flwor.clauses) (plan_mean c.in-Flwor.part) frame f (tuples_at f' tuples) f' (ap (λ cs. in_turn (next_clause frame) ([] ∷ []) (map plan_clause_mean cs) f) (sym c.as_slice-in-Flwor.ensures) ∙ stream.1)
+    ∙ ap (λ fr. go_on (for_each (λ t. plan_mean c.in-Flwor.part (at_tuple fr t)) (tuples_at f' tuples) f') (λ ls. give (concat ls))) (sym (frame_grown grows held inside))
+    ∙ ap (λ p. go_on (for_each (λ t. plan_mean p (at_tuple (frame_at f' held) t)) (tuples_at f' tuples) f') (λ ls. give (concat ls))) (sym c.get-in-Flwor.ensures) in
+    subst (λ o. Gives o f'' c.from_residual-in_err-lists-in-Flwor.result) (sym meant)
+    (handed_on item_views items_at AreIn _ f'' e c.from_residual-in_err-lists-in-Flwor.result c.from_residual-in_err-lists-in-Flwor.ensures.1
+    (go_on_stop lists_of tuple_at TupleIn item_views items_at AreIn _ (λ ls. give (concat ls)) f'' e refused))
+
+pub evaluation::evaluate-returns-in-Flwor-clause-gives : goal.evaluation::evaluate-returns-in-Flwor-clause-gives
+evaluation::evaluate-returns-in-Flwor-clause-gives g t c = λ clean inside.
+    let f = g.W.TreeSource.forest c.args.world.now in
+    let held = c.args.frame in
+    let frame = frame_at f held in
+    let f' = g.W.TreeSource.forest c.clause_list.new.world in
+    let f'' = g.W.TreeSource.forest c.values.new.world in
+    let grows = c.in_ok-tuples-in-Flwor.ensures.goes.grows in
+    let stream = c.in_ok-tuples-in-Flwor.ensures.gives (c.values.ensures.goes.was_clean clean) inside in
+    let tuples = c.in_ok-tuples-in-Flwor.tuples in
+    let lists = lists_of c.in_ok-lists-in-Flwor.lists in
+    let values = c.in_ok-lists-in-Flwor.ensures.gives clean (frame_in_grown grows held inside) stream.0 in
+    let part = plan_mean c.get-in-Flwor.result.now in
+    let meant : plan_mean c.args.plan.now frame f ≡ go_on (for_each (λ t. part (at_tuple (frame_at f' held) t)) (tuples_at f' tuples) f') (λ ls. give (concat ls)) =
+    ap (λ p. plan_mean p frame f) c.in-Flwor.is ∙ ap (λ m. m frame f) (plan-Flwor c.in-Flwor.clauses c.in-Flwor.part)
+    ∙ flwor_is (map plan_clause_mean c.in-Flwor.clauses) (plan_mean c.in-Flwor.part) frame f (tuples_at f' tuples) f' (ap (λ cs. in_turn (next_clause frame) ([] ∷ []) (map plan_clause_mean cs) f) (sym c.as_slice-in-Flwor.ensures) ∙ stream.1)
+    ∙ ap (λ fr. go_on (for_each (λ t. plan_mean c.in-Flwor.part (at_tuple fr t)) (tuples_at f' tuples) f') (λ ls. give (concat ls))) (sym (frame_grown grows held inside))
+    ∙ ap (λ p. go_on (for_each (λ t. plan_mean p (at_tuple (frame_at f' held) t)) (tuples_at f' tuples) f') (λ ls. give (concat ls))) (sym c.get-in-Flwor.ensures) in
+    let all : item_views c.in_ok-concatenated-in-Flwor.field-0 ≡ concat lists = c.in_ok-concatenated-in-Flwor.ensures ∙ sym (flat_map-map (λ l. l) item_views c.in_ok-lists-in-Flwor.lists.items) in (
+      subst (AreIn f'') (sym all) (concat_in f'' lists values.0),
+      meant ∙ ap (λ o. go_on o (λ ls. give (concat ls))) values.1 ∙ ap (λ xs. (Ok xs, f'')) (concat_read f'' lists ∙ ap (items_at f'') (sym all)),
+    )
+
+pub evaluation::evaluate-returns-in-Path-clause-gives : goal.evaluation::evaluate-returns-in-Path-clause-gives
+evaluation::evaluate-returns-in-Path-clause-gives g t c = λ clean inside.
+    let f = g.W.TreeSource.forest c.args.world.now in
+    let held = c.args.frame in
+    let frame = frame_at f held in
+    let f' = g.W.TreeSource.forest c.evaluate-in-Path.new.world in
+    let grows = c.in_ok-items-in-Path.ensures.goes.grows in
+    let first = c.in_ok-items-in-Path.ensures.gives (c.step_list.ensures.goes.was_clean clean) inside in
+    let second = c.step_list.ensures.gives clean (frame_in_grown grows held inside) first.0 in
+    let value : plan_mean c.in-Path.start frame f ≡ (Ok (items_at f' (item_views c.in_ok-items-in-Path.items)), f') = ap (λ p. plan_mean p frame f) (sym c.get-in-Path.ensures) ∙ first.1 in
+    rw (c.in-Path.is, plan-Path c.in-Path.start c.in-Path.steps, value, ← frame_grown grows held inside, ← c.as_slice-in-Path.ensures) second
+
+pub evaluation::evaluate-returns-in_err-left-in-Chain-clause-gives : goal.evaluation::evaluate-returns-in_err-left-in-Chain-clause-gives
+evaluation::evaluate-returns-in_err-left-in-Chain-clause-gives g t c = λ clean inside.
+    let f = g.W.TreeSource.forest c.args.world.now in
+    let held = c.args.frame in
+    let frame = frame_at f held in
+    let f' = g.W.TreeSource.forest c.evaluate.new.world in
+    let e = c.in_err-left-in-Chain.field-0.0 in
+    let next = λ (xs : List Item). in_turn (Forms.next_operand frame) xs (map (λ (op, p). (op, plan_mean p)) c.in-Chain.rest) in
+    cut item_views items_at AreIn item_views items_at AreIn (plan_mean c.args.plan.now frame f) (plan_mean c.get.result.now frame f) next f' e c.from_residual-in_err-left-in-Chain.result
+    (ap (λ p. plan_mean p frame f) c.in-Chain.is ∙ ap (λ m. m frame f) (plan-Chain c.in-Chain.first c.in-Chain.rest) ∙ ap (λ p. go_on (plan_mean p frame f) next) (sym c.get.ensures)) c.from_residual-in_err-left-in-Chain.ensures.1 (c.in_err-left-in-Chain.ensures.gives clean inside)
+
+pub evaluation::evaluate-returns-in_err-items-in-Filter-clause-gives : goal.evaluation::evaluate-returns-in_err-items-in-Filter-clause-gives
+evaluation::evaluate-returns-in_err-items-in-Filter-clause-gives g t c = λ clean inside.
+    let f = g.W.TreeSource.forest c.args.world.now in
+    let held = c.args.frame in
+    let frame = frame_at f held in
+    let f' = g.W.TreeSource.forest c.evaluate-in-Filter.new.world in
+    let e = c.in_err-items-in-Filter.field-0.0 in
+    let next = λ (xs : List Item). in_turn (Forms.filtered frame) xs (map plan_mean c.in-Filter.predicates) in
+    cut item_views items_at AreIn item_views items_at AreIn (plan_mean c.args.plan.now frame f) (plan_mean c.get-in-Filter.result.now frame f) next f' e c.from_residual-in_err-items-in-Filter.result
+    (ap (λ p. plan_mean p frame f) c.in-Filter.is ∙ ap (λ m. m frame f) (plan-Filter c.in-Filter.start c.in-Filter.predicates) ∙ ap (λ p. go_on (plan_mean p frame f) next) (sym c.get-in-Filter.ensures)) c.from_residual-in_err-items-in-Filter.ensures.1 (c.in_err-items-in-Filter.ensures.gives clean inside)
+
+pub evaluation::evaluate-returns-in_err-items-in-Path-clause-gives : goal.evaluation::evaluate-returns-in_err-items-in-Path-clause-gives
+evaluation::evaluate-returns-in_err-items-in-Path-clause-gives g t c = λ clean inside.
+    let f = g.W.TreeSource.forest c.args.world.now in
+    let held = c.args.frame in
+    let frame = frame_at f held in
+    let f' = g.W.TreeSource.forest c.evaluate-in-Path.new.world in
+    let e = c.in_err-items-in-Path.field-0.0 in
+    let next = λ (xs : List Item). in_turn (next_step frame) xs (map plan_step_mean c.in-Path.steps) in
+    cut item_views items_at AreIn item_views items_at AreIn (plan_mean c.args.plan.now frame f) (plan_mean c.get-in-Path.result.now frame f) next f' e c.from_residual-in_err-items-in-Path.result
+    (ap (λ p. plan_mean p frame f) c.in-Path.is ∙ ap (λ m. m frame f) (plan-Path c.in-Path.start c.in-Path.steps) ∙ ap (λ p. go_on (plan_mean p frame f) next) (sym c.get-in-Path.ensures)) c.from_residual-in_err-items-in-Path.ensures.1 (c.in_err-items-in-Path.ensures.gives clean inside)
+
+pub evaluation::evaluate-returns-in_err-value-in-If-clause-gives : goal.evaluation::evaluate-returns-in_err-value-in-If-clause-gives
+evaluation::evaluate-returns-in_err-value-in-If-clause-gives g t c = λ clean inside.
+    let f = g.W.TreeSource.forest c.args.world.now in
+    let held = c.args.frame in
+    let frame = frame_at f held in
+    let f' = g.W.TreeSource.forest c.evaluate-in-If.new.world in
+    let e = c.in_err-value-in-If.field-0.0 in
+    let first = λ (xs : List Item). judged (effective xs) in
+    let next = λ (answer : Bool). Forms.chosen answer (plan_mean c.in-If.yes) (plan_mean c.in-If.no) frame in
+    cut (λ (b : Bool). b) (λ trees b. b) (λ trees b. Unit {0}) item_views items_at AreIn (plan_mean c.args.plan.now frame f) (go_on (plan_mean c.get-in-If.result.now frame f) first) next f' e c.from_residual-in_err-value-in-If.result
+    (ap (λ p. plan_mean p frame f) c.in-If.is ∙ ap (λ m. m frame f) (plan-If c.in-If.test c.in-If.yes c.in-If.no) ∙ ap (λ p. go_on (go_on (plan_mean p frame f) first) next) (sym c.get-in-If.ensures)) c.from_residual-in_err-value-in-If.ensures.1
+    (go_on_stop item_views items_at AreIn (λ (b : Bool). b) (λ trees b. b) (λ trees b. Unit {0}) (plan_mean c.get-in-If.result.now frame f) first f' e (c.in_err-value-in-If.ensures.gives clean inside))
+
+pub evaluation::evaluate-returns-in_err-items-in-Unary-clause-gives : goal.evaluation::evaluate-returns-in_err-items-in-Unary-clause-gives
+evaluation::evaluate-returns-in_err-items-in-Unary-clause-gives g t c = λ clean inside.
+    let f = g.W.TreeSource.forest c.args.world.now in
+    let held = c.args.frame in
+    let frame = frame_at f held in
+    let f' = g.W.TreeSource.forest c.evaluate-in-Unary.new.world in
+    let e = c.in_err-items-in-Unary.field-0.0 in
+    let first = λ (xs : List Item). on_trees (λ trees. Ok (atomized trees xs)) in
+    let next = λ (as' : List Atomic). judged (signed c.in-Unary.signs as') in
+    cut (λ (as' : List Atomic). as') (λ trees as'. as') (λ trees as'. Unit {0}) item_views items_at AreIn (plan_mean c.args.plan.now frame f) (go_on (plan_mean c.get-in-Unary.result.now frame f) first) next f' e c.from_residual-in_err-items-in-Unary.result
+    (ap (λ p. plan_mean p frame f) c.in-Unary.is ∙ ap (λ m. m frame f) (plan-Unary c.in-Unary.signs c.in-Unary.part) ∙ ap (λ p. go_on (go_on (plan_mean p frame f) first) next) (sym c.get-in-Unary.ensures)) c.from_residual-in_err-items-in-Unary.ensures.1
+    (go_on_stop item_views items_at AreIn (λ (as' : List Atomic). as') (λ trees as'. as') (λ trees as'. Unit {0}) (plan_mean c.get-in-Unary.result.now frame f) first f' e (c.in_err-items-in-Unary.ensures.gives clean inside))
+
+pub evaluation::evaluate-returns-in-Unary-clause-gives : goal.evaluation::evaluate-returns-in-Unary-clause-gives
+evaluation::evaluate-returns-in-Unary-clause-gives g t c = λ clean inside.
+    let f = g.W.TreeSource.forest c.args.world.now in
+    let held = c.args.frame in
+    let frame = frame_at f held in
+    let f' = g.W.TreeSource.forest c.evaluate-in-Unary.new.world in
+    let f'' = g.W.TreeSource.forest c.sign.new.world in
+    let items = item_views c.in_ok-items-in-Unary.items in
+    let value = c.in_ok-items-in-Unary.ensures.gives (c.sign.ensures.goes.was_clean clean) inside in
+    let d : map item_view c.deref.result.now ≡ items = ap (map item_view) c.deref.ensures.value in
+    let found = c.sign.ensures.gives clean (subst (AreIn f') (sym d) value.0) in
+    let first = λ (xs : List Item). on_trees (λ trees. Ok (atomized trees xs)) in
+    let next = λ (as' : List Atomic). judged (signed c.in-Unary.signs as') in
+    let meant : plan_mean c.args.plan.now frame f ≡ on_trees (λ trees. signed c.as_slice-in-Unary.result.now (atomized trees (items_at f' (map item_view c.deref.result.now)))) f' =
+    ap (λ p. plan_mean p frame f) c.in-Unary.is ∙ ap (λ m. m frame f) (plan-Unary c.in-Unary.signs c.in-Unary.part)
+    ∙ ap (λ p. go_on (go_on (plan_mean p frame f) first) next) (sym c.get-in-Unary.ensures)
+    ∙ ap (λ o. go_on (go_on o first) next) value.1
+    ∙ ap (λ xs. on_trees (λ trees. signed c.in-Unary.signs (atomized trees (items_at f' xs))) f') (sym d)
+    ∙ ap (λ ss. on_trees (λ trees. signed ss (atomized trees (items_at f' (map item_view c.deref.result.now)))) f') (sym c.as_slice-in-Unary.ensures) in
+    subst (λ o. Gives o f'' c.sign.result) (sym meant) found
+
+pub evaluation::evaluate-returns-in_err-answer-in-Or-clause-gives : goal.evaluation::evaluate-returns-in_err-answer-in-Or-clause-gives
+evaluation::evaluate-returns-in_err-answer-in-Or-clause-gives g t c = λ clean inside.
+    let f = g.W.TreeSource.forest c.args.world.now in
+    let held = c.args.frame in
+    let frame = frame_at f held in
+    let f' = g.W.TreeSource.forest c.decided.new.world in
+    let search = λ (parts : List Plan). first_that true (λ part. Forms.tested part frame) (map plan_mean parts) f in
+    let next = λ (answer : Bool). give (boolean answer) in
+    let meant : plan_mean c.args.plan.now frame f ≡ go_on (search c.as_slice-in-Or.result.now) next =
+    ap (λ p. plan_mean p frame f) c.in-Or.is ∙ ap (λ m. m frame f) (plan-Or c.in-Or.parts) ∙ ap (λ ps. go_on (search ps) next) (sym c.as_slice-in-Or.ensures) in
+    cut (λ (b : Bool). b) (λ trees b. b) (λ trees b. Unit {0}) item_views items_at AreIn (plan_mean c.args.plan.now frame f) (search c.as_slice-in-Or.result.now) next f' c.in_err-answer-in-Or.field-0.0 c.from_residual-in_err-answer-in-Or.result
+    meant c.from_residual-in_err-answer-in-Or.ensures.1 (c.in_err-answer-in-Or.ensures.gives clean inside)
+
+pub evaluation::evaluate-returns-in-Or-clause-gives : goal.evaluation::evaluate-returns-in-Or-clause-gives
+evaluation::evaluate-returns-in-Or-clause-gives g t c = λ clean inside.
+    let f = g.W.TreeSource.forest c.args.world.now in
+    let held = c.args.frame in
+    let frame = frame_at f held in
+    let f' = g.W.TreeSource.forest c.decided.new.world in
+    let search = λ (parts : List Plan). first_that true (λ part. Forms.tested part frame) (map plan_mean parts) f in
+    let next = λ (answer : Bool). give (boolean answer) in
+    let meant : plan_mean c.args.plan.now frame f ≡ go_on (search c.as_slice-in-Or.result.now) next =
+    ap (λ p. plan_mean p frame f) c.in-Or.is ∙ ap (λ m. m frame f) (plan-Or c.in-Or.parts) ∙ ap (λ ps. go_on (search ps) next) (sym c.as_slice-in-Or.ensures) in
+    let answer = c.in_ok-answer-in-Or.ensures.gives clean inside in
+    let items = c.in_ok-single-in-Or.ensures in (
+      subst (AreIn f') (sym items) (tt, tt),
+      meant ∙ ap (λ o. go_on o next) answer.1 ∙ ap (λ xs. (Ok (items_at f' xs), f')) (sym items),
+    )
+
+pub evaluation::evaluate-returns-in_err-answer-in-And-clause-gives : goal.evaluation::evaluate-returns-in_err-answer-in-And-clause-gives
+evaluation::evaluate-returns-in_err-answer-in-And-clause-gives g t c = λ clean inside.
+    let f = g.W.TreeSource.forest c.args.world.now in
+    let held = c.args.frame in
+    let frame = frame_at f held in
+    let f' = g.W.TreeSource.forest c.decided-in-And.new.world in
+    let search = λ (parts : List Plan). first_that false (λ part. Forms.tested part frame) (map plan_mean parts) f in
+    let next = λ (answer : Bool). give (boolean answer) in
+    let meant : plan_mean c.args.plan.now frame f ≡ go_on (search c.as_slice-in-And.result.now) next =
+    ap (λ p. plan_mean p frame f) c.in-And.is ∙ ap (λ m. m frame f) (plan-And c.in-And.parts) ∙ ap (λ ps. go_on (search ps) next) (sym c.as_slice-in-And.ensures) in
+    cut (λ (b : Bool). b) (λ trees b. b) (λ trees b. Unit {0}) item_views items_at AreIn (plan_mean c.args.plan.now frame f) (search c.as_slice-in-And.result.now) next f' c.in_err-answer-in-And.field-0.0 c.from_residual-in_err-answer-in-And.result
+    meant c.from_residual-in_err-answer-in-And.ensures.1 (c.in_err-answer-in-And.ensures.gives clean inside)
+
+pub evaluation::evaluate-returns-in-And-clause-gives : goal.evaluation::evaluate-returns-in-And-clause-gives
+evaluation::evaluate-returns-in-And-clause-gives g t c = λ clean inside.
+    let f = g.W.TreeSource.forest c.args.world.now in
+    let held = c.args.frame in
+    let frame = frame_at f held in
+    let f' = g.W.TreeSource.forest c.decided-in-And.new.world in
+    let search = λ (parts : List Plan). first_that false (λ part. Forms.tested part frame) (map plan_mean parts) f in
+    let next = λ (answer : Bool). give (boolean answer) in
+    let meant : plan_mean c.args.plan.now frame f ≡ go_on (search c.as_slice-in-And.result.now) next =
+    ap (λ p. plan_mean p frame f) c.in-And.is ∙ ap (λ m. m frame f) (plan-And c.in-And.parts) ∙ ap (λ ps. go_on (search ps) next) (sym c.as_slice-in-And.ensures) in
+    let answer = c.in_ok-answer-in-And.ensures.gives clean inside in
+    let items = c.in_ok-single-in-And.ensures in (
+      subst (AreIn f') (sym items) (tt, tt),
+      meant ∙ ap (λ o. go_on o next) answer.1 ∙ ap (λ xs. (Ok (items_at f' xs), f')) (sym items),
+    )
+
+pub evaluation::evaluate-returns-in_err-tuples-in-Flwor-clause-gives : goal.evaluation::evaluate-returns-in_err-tuples-in-Flwor-clause-gives
+evaluation::evaluate-returns-in_err-tuples-in-Flwor-clause-gives g t c = λ clean inside.
+    let f = g.W.TreeSource.forest c.args.world.now in
+    let held = c.args.frame in
+    let frame = frame_at f held in
+    let f' = g.W.TreeSource.forest c.clause_list.new.world in
+    let stream = λ (clauses : List PlanClause). in_turn (next_clause frame) ([] ∷ []) (map plan_clause_mean clauses) f in
+    let next = λ (tuples : List (Tuple Item)). Forms.return_of (plan_mean c.in-Flwor.part) (at_tuple frame) tuples in
+    cut (λ (ts : List (Tuple ItemView)). ts) tuples_at TuplesIn item_views items_at AreIn (plan_mean c.args.plan.now frame f) (stream c.as_slice-in-Flwor.result.now) next f' c.in_err-tuples-in-Flwor.field-0.0 c.from_residual-in_err-tuples-in-Flwor.result
+    (ap (λ p. plan_mean p frame f) c.in-Flwor.is ∙ ap (λ m. m frame f) (plan-Flwor c.in-Flwor.clauses c.in-Flwor.part) ∙ ap (λ cs. go_on (stream cs) next) (sym c.as_slice-in-Flwor.ensures)) c.from_residual-in_err-tuples-in-Flwor.ensures.1
+    (c.in_err-tuples-in-Flwor.ensures.gives clean inside)
+
+pub evaluation::evaluate-returns-in-Dec-clause-gives : goal.evaluation::evaluate-returns-in-Dec-clause-gives
+evaluation::evaluate-returns-in-Dec-clause-gives g t c = λ clean inside.
+    let f = g.W.TreeSource.forest c.args.world.now in
+    let held = c.args.frame in
+    let frame = frame_at f held in
+    let items = c.in_ok-single-in-Dec.ensures in
+    (subst (AreIn f) (sym items) (tt, tt), ap (λ p. plan_mean p frame f) c.in-Dec.is ∙ ap (λ m. m frame f) (plan-Dec _) ∙ ap (λ xs. (Ok (items_at f xs), f)) (sym items))
+
+pub evaluation::evaluate-returns-in-Slot-clause-gives : goal.evaluation::evaluate-returns-in-Slot-clause-gives
+evaluation::evaluate-returns-in-Slot-clause-gives g t c = λ clean inside.
+    let f = g.W.TreeSource.forest c.args.world.now in
+    let held = c.args.frame in
+    let frame = frame_at f held in
+    let items = c.in_ok-slot-in-Slot.ensures in
+    let v = value_in f c.in-Slot.number (values_of held.slots.now) inside.slots_in in
+    (subst (AreIn f) (sym items) v.0, ap (λ p. plan_mean p frame f) c.in-Slot.is ∙ ap (λ m. m frame f) (plan-Slot c.in-Slot.number) ∙ ap (λ xs. (Ok xs, f)) (v.1 ∙ ap (items_at f) (sym items)))
+
+pub evaluation::evaluate-returns-in_err-single-in-Int-clause-goes : goal.evaluation::evaluate-returns-in_err-single-in-Int-clause-goes
+evaluation::evaluate-returns-in_err-single-in-Int-clause-goes g t c = stays _ _
+
+pub evaluation::evaluate-returns-in-Int-clause-goes : goal.evaluation::evaluate-returns-in-Int-clause-goes
+evaluation::evaluate-returns-in-Int-clause-goes g t c = stays _ _
+
+pub evaluation::evaluate-returns-in_err-single-in-Dec-clause-goes : goal.evaluation::evaluate-returns-in_err-single-in-Dec-clause-goes
+evaluation::evaluate-returns-in_err-single-in-Dec-clause-goes g t c = stays _ _
+
+pub evaluation::evaluate-returns-in-Dec-clause-goes : goal.evaluation::evaluate-returns-in-Dec-clause-goes
+evaluation::evaluate-returns-in-Dec-clause-goes g t c = stays _ _
+
+pub evaluation::evaluate-returns-in_err-text-in-Str-clause-goes : goal.evaluation::evaluate-returns-in_err-text-in-Str-clause-goes
+evaluation::evaluate-returns-in_err-text-in-Str-clause-goes g t c = stays _ _
+
+pub evaluation::evaluate-returns-in_err-single-in-Str-clause-goes : goal.evaluation::evaluate-returns-in_err-single-in-Str-clause-goes
+evaluation::evaluate-returns-in_err-single-in-Str-clause-goes g t c = stays _ _
+
+pub evaluation::evaluate-returns-in-Str-clause-goes : goal.evaluation::evaluate-returns-in-Str-clause-goes
+evaluation::evaluate-returns-in-Str-clause-goes g t c = stays _ _
+
+pub evaluation::evaluate-returns-in_err-slot-in-Slot-clause-goes : goal.evaluation::evaluate-returns-in_err-slot-in-Slot-clause-goes
+evaluation::evaluate-returns-in_err-slot-in-Slot-clause-goes g t c = stays _ _
+
+pub evaluation::evaluate-returns-in-Slot-clause-goes : goal.evaluation::evaluate-returns-in-Slot-clause-goes
+evaluation::evaluate-returns-in-Slot-clause-goes g t c = stays _ _
+
+pub evaluation::evaluate-returns-in-ContextItem-clause-goes : goal.evaluation::evaluate-returns-in-ContextItem-clause-goes
+evaluation::evaluate-returns-in-ContextItem-clause-goes g t c = stays _ _
+
+pub evaluation::evaluate-returns-in-Sequence-clause-goes : goal.evaluation::evaluate-returns-in-Sequence-clause-goes
+evaluation::evaluate-returns-in-Sequence-clause-goes g t c = c.sequence.ensures.goes
+
+pub evaluation::evaluate-returns-in_err-left-in-Chain-clause-goes : goal.evaluation::evaluate-returns-in_err-left-in-Chain-clause-goes
+evaluation::evaluate-returns-in_err-left-in-Chain-clause-goes g t c = c.in_err-left-in-Chain.ensures.goes
+
+pub evaluation::evaluate-returns-in-Chain-clause-goes : goal.evaluation::evaluate-returns-in-Chain-clause-goes
+evaluation::evaluate-returns-in-Chain-clause-goes g t c = goes_on_to c.in_ok-left-in-Chain.ensures.goes c.chain.ensures.goes
+
+pub evaluation::evaluate-returns-in_err-items-in-Unary-clause-goes : goal.evaluation::evaluate-returns-in_err-items-in-Unary-clause-goes
+evaluation::evaluate-returns-in_err-items-in-Unary-clause-goes g t c = c.in_err-items-in-Unary.ensures.goes
+
+pub evaluation::evaluate-returns-in-Unary-clause-goes : goal.evaluation::evaluate-returns-in-Unary-clause-goes
+evaluation::evaluate-returns-in-Unary-clause-goes g t c = goes_on_to c.in_ok-items-in-Unary.ensures.goes c.sign.ensures.goes
+
+pub evaluation::evaluate-returns-in_err-items-in-Filter-clause-goes : goal.evaluation::evaluate-returns-in_err-items-in-Filter-clause-goes
+evaluation::evaluate-returns-in_err-items-in-Filter-clause-goes g t c = c.in_err-items-in-Filter.ensures.goes
+
+pub evaluation::evaluate-returns-in-Filter-clause-goes : goal.evaluation::evaluate-returns-in-Filter-clause-goes
+evaluation::evaluate-returns-in-Filter-clause-goes g t c = goes_on_to c.in_ok-items-in-Filter.ensures.goes c.filter.ensures.goes
+
+pub evaluation::evaluate-returns-in_err-items-in-Path-clause-goes : goal.evaluation::evaluate-returns-in_err-items-in-Path-clause-goes
+evaluation::evaluate-returns-in_err-items-in-Path-clause-goes g t c = c.in_err-items-in-Path.ensures.goes
+
+pub evaluation::evaluate-returns-in-Path-clause-goes : goal.evaluation::evaluate-returns-in-Path-clause-goes
+evaluation::evaluate-returns-in-Path-clause-goes g t c = goes_on_to c.in_ok-items-in-Path.ensures.goes c.step_list.ensures.goes
+
+pub evaluation::evaluate-returns-in_err-value-in-If-clause-goes : goal.evaluation::evaluate-returns-in_err-value-in-If-clause-goes
+evaluation::evaluate-returns-in_err-value-in-If-clause-goes g t c = c.in_err-value-in-If.ensures.goes
+
+pub evaluation::evaluate-returns-in_err-effective-in-If-clause-goes : goal.evaluation::evaluate-returns-in_err-effective-in-If-clause-goes
+evaluation::evaluate-returns-in_err-effective-in-If-clause-goes g t c = c.in_ok-value-in-If.ensures.goes
+
+pub evaluation::evaluate-returns-then-branch-clause-goes : goal.evaluation::evaluate-returns-then-branch-clause-goes
+evaluation::evaluate-returns-then-branch-clause-goes g t c = goes_on_to c.in_ok-value-in-If.ensures.goes c.evaluate-then-branch.ensures.goes
+
+pub evaluation::evaluate-returns-in-If-clause-goes : goal.evaluation::evaluate-returns-in-If-clause-goes
+evaluation::evaluate-returns-in-If-clause-goes g t c = goes_on_to c.in_ok-value-in-If.ensures.goes c.evaluate-else-branch.ensures.goes
+
+pub evaluation::evaluate-returns-in_err-answer-in-Or-clause-goes : goal.evaluation::evaluate-returns-in_err-answer-in-Or-clause-goes
+evaluation::evaluate-returns-in_err-answer-in-Or-clause-goes g t c = c.in_err-answer-in-Or.ensures.goes
+
+pub evaluation::evaluate-returns-in_err-single-in-Or-clause-goes : goal.evaluation::evaluate-returns-in_err-single-in-Or-clause-goes
+evaluation::evaluate-returns-in_err-single-in-Or-clause-goes g t c = c.in_ok-answer-in-Or.ensures.goes
+
+pub evaluation::evaluate-returns-in-Or-clause-goes : goal.evaluation::evaluate-returns-in-Or-clause-goes
+evaluation::evaluate-returns-in-Or-clause-goes g t c = c.in_ok-answer-in-Or.ensures.goes
+
+pub evaluation::evaluate-returns-in_err-answer-in-And-clause-goes : goal.evaluation::evaluate-returns-in_err-answer-in-And-clause-goes
+evaluation::evaluate-returns-in_err-answer-in-And-clause-goes g t c = c.in_err-answer-in-And.ensures.goes
+
+pub evaluation::evaluate-returns-in_err-single-in-And-clause-goes : goal.evaluation::evaluate-returns-in_err-single-in-And-clause-goes
+evaluation::evaluate-returns-in_err-single-in-And-clause-goes g t c = c.in_ok-answer-in-And.ensures.goes
+
+pub evaluation::evaluate-returns-in-And-clause-goes : goal.evaluation::evaluate-returns-in-And-clause-goes
+evaluation::evaluate-returns-in-And-clause-goes g t c = c.in_ok-answer-in-And.ensures.goes
+
+pub evaluation::evaluate-returns-in_err-tuples-in-Flwor-clause-goes : goal.evaluation::evaluate-returns-in_err-tuples-in-Flwor-clause-goes
+evaluation::evaluate-returns-in_err-tuples-in-Flwor-clause-goes g t c = c.in_err-tuples-in-Flwor.ensures.goes
+
+pub evaluation::evaluate-returns-in_err-lists-in-Flwor-clause-goes : goal.evaluation::evaluate-returns-in_err-lists-in-Flwor-clause-goes
+evaluation::evaluate-returns-in_err-lists-in-Flwor-clause-goes g t c = goes_on_to c.in_ok-tuples-in-Flwor.ensures.goes c.in_err-lists-in-Flwor.ensures.goes
+
+pub evaluation::evaluate-returns-in_err-concatenated-in-Flwor-clause-goes : goal.evaluation::evaluate-returns-in_err-concatenated-in-Flwor-clause-goes
+evaluation::evaluate-returns-in_err-concatenated-in-Flwor-clause-goes g t c = goes_on_to c.in_ok-tuples-in-Flwor.ensures.goes c.in_ok-lists-in-Flwor.ensures.goes
+
+pub evaluation::evaluate-returns-in-Flwor-clause-goes : goal.evaluation::evaluate-returns-in-Flwor-clause-goes
+evaluation::evaluate-returns-in-Flwor-clause-goes g t c = goes_on_to c.in_ok-tuples-in-Flwor.ensures.goes c.in_ok-lists-in-Flwor.ensures.goes
+
+pub evaluation::sequence-loop-part-preserved : goal.evaluation::sequence-loop-part-preserved
+evaluation::sequence-loop-part-preserved g t c =
+    let i = c.loop-part.invariant in
+    let part = c.part-item.result in
+    let held = c.args.frame in
+    let f = g.W.TreeSource.forest c.loop-part.world in
+    record {
+      goes = goes_on_to i.goes c.next_part.ensures.goes;
+      turns = turns_next _ _ _ (item_views c.in_ok-items.items) (plan_mean part) _ _ i.turns (left_over plan_mean c.args.parts.now c.loop-part.part-index part (omega arith) c.part-item.is) c.next_part.ensures.goes.was_clean
+          (λ clean inside is_in.
+          let s = c.in_ok-items.ensures.gives clean (frame_in_grown i.goes.grows held inside) is_in in
+          (s.0, ap (λ fr. more (λ (m : Meaning). m fr) (items_at f (item_views c.loop-part.items)) (plan_mean part) f) (sym (frame_grown i.goes.grows held inside)) ∙ s.1));
+    }
+
+pub evaluation::sequence-returns-in_err-items-clause-gives : goal.evaluation::sequence-returns-in_err-items-clause-gives
+evaluation::sequence-returns-in_err-items-clause-gives g t c = λ clean inside.
+    let i = c.loop-part.invariant in
+    let part = c.part-item.result in
+    let held = c.args.frame in
+    let f = g.W.TreeSource.forest c.loop-part.world in
+    let f' = g.W.TreeSource.forest c.next_part.new.world in
+    let e = c.in_err-items.field-0.0 in
+    handed_on item_views items_at AreIn _ f' e c.from_residual.result c.from_residual.ensures.1
+    (turns_stop _ _ _ item_views items_at AreIn (plan_mean part) _ f' e i.turns (left_over plan_mean c.args.parts.now c.loop-part.part-index part (omega arith) c.part-item.is) c.next_part.ensures.goes.was_clean
+    (λ clean inside is_in. subst (λ fr. Gives (more (λ (m : Meaning). m fr) (items_at f (item_views c.loop-part.items)) (plan_mean part) f) f' (Err e)) (frame_grown i.goes.grows held inside) (c.in_err-items.ensures.gives clean (frame_in_grown i.goes.grows held inside) is_in)) clean inside)
+
+pub evaluation::sequence-returns-in_err-items-clause-goes : goal.evaluation::sequence-returns-in_err-items-clause-goes
+evaluation::sequence-returns-in_err-items-clause-goes g t c = goes_on_to c.loop-part.invariant.goes c.in_err-items.ensures.goes
+
+pub evaluation::sequence-returns-clause-goes : goal.evaluation::sequence-returns-clause-goes
+evaluation::sequence-returns-clause-goes g t c = c.loop-part.invariant.goes
+
+pub evaluation::sequence-returns-clause-gives : goal.evaluation::sequence-returns-clause-gives
+evaluation::sequence-returns-clause-gives g t c = λ clean inside.
+    let old = g.W.TreeSource.forest c.args.world.now in
+    turns_end _ _ _ c.loop-part.invariant.turns (ap (map plan_mean) (drop_all c.loop-part.part-index c.args.parts.now (omega arith))) clean inside
+
+pub evaluation::next_part-returns-clause-gives : goal.evaluation::next_part-returns-clause-gives
+evaluation::next_part-returns-clause-gives g t c = λ clean inside done_in.
+    more_next (λ (part : Meaning). part (frame_at (g.W.TreeSource.forest c.args.world.now) c.args.frame)) (item_views c.args.done) (item_views c.in_ok-added.added) (item_views c.append.new.self) (plan_mean c.args.part.now) _ _
+    c.in_ok-added.ensures.goes.grows done_in (c.in_ok-added.ensures.gives clean inside) (ap (map item_view) c.in_ok-append.ensures.items ∙ map-append item_view c.args.done.items c.in_ok-added.added.items)
+
+pub evaluation::next_part-returns-in_err-added-clause-gives : goal.evaluation::next_part-returns-in_err-added-clause-gives
+evaluation::next_part-returns-in_err-added-clause-gives g t c = λ clean inside done_in.
+    let f = g.W.TreeSource.forest c.args.world.now in
+    let held = c.args.frame in
+    let frame = frame_at f held in
+    let f' = g.W.TreeSource.forest c.evaluate.new.world in
+    let next = λ (ys : List Item). give (items_at f (item_views c.args.done) ++ ys) in
+    cut item_views items_at AreIn item_views items_at AreIn _ (plan_mean c.args.part.now frame f) next f' c.in_err-added.field-0.0 c.from_residual.result
+    refl c.from_residual.ensures.1 (c.in_err-added.ensures.gives clean inside)
+
+pub evaluation::next_part-returns-in_err-added-clause-goes : goal.evaluation::next_part-returns-in_err-added-clause-goes
+evaluation::next_part-returns-in_err-added-clause-goes g t c = c.in_err-added.ensures.goes
+
+pub evaluation::next_part-returns-in_err-append-clause-goes : goal.evaluation::next_part-returns-in_err-append-clause-goes
+evaluation::next_part-returns-in_err-append-clause-goes g t c = c.in_ok-added.ensures.goes
+
+pub evaluation::next_part-returns-clause-goes : goal.evaluation::next_part-returns-clause-goes
+evaluation::next_part-returns-clause-goes g t c = c.in_ok-added.ensures.goes
+
+pub evaluation::chain-loop-operator-preserved : goal.evaluation::chain-loop-operator-preserved
+evaluation::chain-loop-operator-preserved g t c =
+    let i = c.loop-operator.invariant in
+    let operand = c.loop-operator-item.result in
+    let held = c.args.frame in
+    let f = g.W.TreeSource.forest c.loop-operator.world in
+    record {
+      goes = goes_on_to i.goes c.next_operand.ensures.goes;
+      turns = turns_next _ _ _ (item_views c.in_ok-total.total) (operand.0, plan_mean operand.1) _ _ i.turns (left_over (λ (op, p). (op, plan_mean p)) c.args.rest.now c.loop-operator.operator-index operand (omega arith) c.loop-operator-item.is) c.next_operand.ensures.goes.was_clean
+          (λ clean inside is_in.
+          let s = c.in_ok-total.ensures.gives clean (frame_in_grown i.goes.grows held inside.0) is_in in
+          (s.0, ap (λ fr. Forms.next_operand fr (items_at f (item_views c.loop-operator.total)) (operand.0, plan_mean operand.1) f) (sym (frame_grown i.goes.grows held inside.0)) ∙ s.1));
+    }
+
+pub evaluation::chain-returns-in_err-total-clause-gives : goal.evaluation::chain-returns-in_err-total-clause-gives
+evaluation::chain-returns-in_err-total-clause-gives g t c = λ clean inside first_in.
+    let i = c.loop-operator.invariant in
+    let operand = c.loop-operator-item.result in
+    let held = c.args.frame in
+    let f = g.W.TreeSource.forest c.loop-operator.world in
+    let f' = g.W.TreeSource.forest c.next_operand.new.world in
+    let e = c.in_err-total.field-0.0 in
+    handed_on item_views items_at AreIn _ f' e c.from_residual.result c.from_residual.ensures.1
+    (turns_stop _ _ _ item_views items_at AreIn (operand.0, plan_mean operand.1) _ f' e i.turns (left_over (λ (op, p). (op, plan_mean p)) c.args.rest.now c.loop-operator.operator-index operand (omega arith) c.loop-operator-item.is) c.next_operand.ensures.goes.was_clean
+    (λ clean inside is_in. subst (λ fr. Gives (Forms.next_operand fr (items_at f (item_views c.loop-operator.total)) (operand.0, plan_mean operand.1) f) f' (Err e)) (frame_grown i.goes.grows held inside.0) (c.in_err-total.ensures.gives clean (frame_in_grown i.goes.grows held inside.0) is_in)) clean (inside, first_in))
+
+pub evaluation::chain-returns-in_err-total-clause-goes : goal.evaluation::chain-returns-in_err-total-clause-goes
+evaluation::chain-returns-in_err-total-clause-goes g t c = goes_on_to c.loop-operator.invariant.goes c.in_err-total.ensures.goes
+
+pub evaluation::chain-returns-clause-goes : goal.evaluation::chain-returns-clause-goes
+evaluation::chain-returns-clause-goes g t c = c.loop-operator.invariant.goes
+
+pub evaluation::chain-returns-clause-gives : goal.evaluation::chain-returns-clause-gives
+evaluation::chain-returns-clause-gives g t c = λ clean inside rest_in.
+    let old = g.W.TreeSource.forest c.args.world.now in
+    turns_end _ _ _ c.loop-operator.invariant.turns (ap (map (λ (op, p). (op, plan_mean p))) (drop_all c.loop-operator.operator-index c.args.rest.now (omega arith))) clean (inside, rest_in)
+
+pub evaluation::next_operand-returns-clause-gives : goal.evaluation::next_operand-returns-clause-gives
+evaluation::next_operand-returns-clause-gives g t c = λ clean inside left_in.
+    let f' = g.W.TreeSource.forest c.evaluate.new.world in
+    let left = item_views c.args.left in
+    let grows = c.in_ok-right.ensures.goes.grows in
+    let right = c.in_ok-right.ensures.gives (c.operate.ensures.goes.was_clean clean) inside in
+    let d : map item_view c.deref.result.now ≡ left = ap (map item_view) c.deref.ensures.value in
+    let d' : map item_view c.deref-2.result.now ≡ item_views c.in_ok-right.right = ap (map item_view) c.deref-2.ensures.value in
+    let judged = c.operate.ensures.gives clean (subst (AreIn f') (sym d) (are_in_grown grows left left_in)) (subst (AreIn f') (sym d') right.0) in
+    rw (right.1, ← items_grown grows left left_in, ← d, ← d') judged
+
+pub evaluation::next_operand-returns-in_err-right-clause-gives : goal.evaluation::next_operand-returns-in_err-right-clause-gives
+evaluation::next_operand-returns-in_err-right-clause-gives g t c = λ clean inside left_in.
+    let f = g.W.TreeSource.forest c.args.world.now in
+    let held = c.args.frame in
+    let frame = frame_at f held in
+    let f' = g.W.TreeSource.forest c.evaluate.new.world in
+    let next = λ (ys : List Item). on_trees (λ trees. operated c.args.operator trees (items_at f (item_views c.args.left)) ys) in
+    cut item_views items_at AreIn item_views items_at AreIn _ (plan_mean c.args.part.now frame f) next f' c.in_err-right.field-0.0 c.from_residual.result
+    refl c.from_residual.ensures.1 (c.in_err-right.ensures.gives clean inside)
+
+pub evaluation::next_operand-returns-in_err-right-clause-goes : goal.evaluation::next_operand-returns-in_err-right-clause-goes
+evaluation::next_operand-returns-in_err-right-clause-goes g t c = c.in_err-right.ensures.goes
+
+pub evaluation::next_operand-returns-clause-goes : goal.evaluation::next_operand-returns-clause-goes
+evaluation::next_operand-returns-clause-goes g t c = goes_on_to c.in_ok-right.ensures.goes c.operate.ensures.goes
+
+pub evaluation::decided-loop-part-preserved : goal.evaluation::decided-loop-part-preserved
+evaluation::decided-loop-part-preserved g t c =
+    let i = c.loop-part.invariant in
+    let part = c.part-item.result in
+    let held = c.args.frame in
+    let f = g.W.TreeSource.forest c.loop-part.world in
+    let f' = g.W.TreeSource.forest c.tested.new.world in
+    let left = left_over plan_mean c.args.parts.now c.loop-part.part-index part (omega arith) c.part-item.is in
+    record {
+      goes = goes_on_to i.goes c.tested.ensures.goes;
+      tries = tries_next _ _ (plan_mean part) _ c.in_ok-truth.truth f' i.tries left c.tested.ensures.goes.was_clean (search rules)
+          (λ clean inside. ap (λ fr. Forms.tested (plan_mean part) fr f) (sym (frame_grown i.goes.grows held inside)) ∙ (c.in_ok-truth.ensures.gives clean (frame_in_grown i.goes.grows held inside)).1);
+    }
+
+pub evaluation::decided-returns-then-truth-wanted-clause-gives : goal.evaluation::decided-returns-then-truth-wanted-clause-gives
+evaluation::decided-returns-then-truth-wanted-clause-gives g t c = λ clean inside.
+    let i = c.loop-part.invariant in
+    let part = c.part-item.result in
+    let held = c.args.frame in
+    let f = g.W.TreeSource.forest c.loop-part.world in
+    let f' = g.W.TreeSource.forest c.tested.new.world in
+    let left = left_over plan_mean c.args.parts.now c.loop-part.part-index part (omega arith) c.part-item.is in
+    let same : c.in_ok-truth.truth ≡ c.args.wanted = search rules in (
+      tt,
+      tries_found _ _ (plan_mean part) _ f' i.tries left c.tested.ensures.goes.was_clean
+          (λ clean inside. ap (λ fr. Forms.tested (plan_mean part) fr f) (sym (frame_grown i.goes.grows held inside)) ∙ (c.in_ok-truth.ensures.gives clean (frame_in_grown i.goes.grows held inside)).1 ∙ ap (λ b. (Ok b, f')) same) clean inside,
+    )
+
+pub evaluation::decided-returns-in_err-truth-clause-gives : goal.evaluation::decided-returns-in_err-truth-clause-gives
+evaluation::decided-returns-in_err-truth-clause-gives g t c = λ clean inside.
+    let i = c.loop-part.invariant in
+    let part = c.part-item.result in
+    let held = c.args.frame in
+    let f = g.W.TreeSource.forest c.loop-part.world in
+    let f' = g.W.TreeSource.forest c.tested.new.world in
+    let left = left_over plan_mean c.args.parts.now c.loop-part.part-index part (omega arith) c.part-item.is in
+    let e = c.in_err-truth.field-0.0 in
+    handed_on (λ (b : Bool). b) (λ trees b. b) (λ trees b. Unit {0}) _ f' e c.from_residual.result c.from_residual.ensures.1
+    (tries_stop _ _ (plan_mean part) _ f' e i.tries left c.tested.ensures.goes.was_clean
+    (λ clean inside. subst (λ fr. GivesPlain (Forms.tested (plan_mean part) fr f) f' (Err e)) (frame_grown i.goes.grows held inside) (c.in_err-truth.ensures.gives clean (frame_in_grown i.goes.grows held inside))) clean inside)
+
+pub evaluation::decided-returns-clause-gives : goal.evaluation::decided-returns-clause-gives
+evaluation::decided-returns-clause-gives g t c = λ clean inside.
+    let i = c.loop-part.invariant in
+    let f = g.W.TreeSource.forest c.loop-part.world in
+    let frame = frame_at (g.W.TreeSource.forest c.args.world.now) c.args.frame in
+    (tt, sym (i.tries.rest clean inside) ∙ ap (λ ps. first_that c.args.wanted (λ part. Forms.tested part frame) (map plan_mean ps) f) (drop_all c.loop-part.part-index c.args.parts.now (omega arith)))
+
+pub evaluation::decided-returns-in_err-truth-clause-goes : goal.evaluation::decided-returns-in_err-truth-clause-goes
+evaluation::decided-returns-in_err-truth-clause-goes g t c = goes_on_to c.loop-part.invariant.goes c.in_err-truth.ensures.goes
+
+pub evaluation::decided-returns-clause-goes : goal.evaluation::decided-returns-clause-goes
+evaluation::decided-returns-clause-goes g t c = c.loop-part.invariant.goes
+
+pub evaluation::decided-returns-then-truth-wanted-clause-goes : goal.evaluation::decided-returns-then-truth-wanted-clause-goes
+evaluation::decided-returns-then-truth-wanted-clause-goes g t c = goes_on_to c.loop-part.invariant.goes c.in_ok-truth.ensures.goes
+
+pub evaluation::tested-returns-in_err-value-clause-gives : goal.evaluation::tested-returns-in_err-value-clause-gives
+evaluation::tested-returns-in_err-value-clause-gives g t c = λ clean inside.
+    let f = g.W.TreeSource.forest c.args.world.now in
+    let held = c.args.frame in
+    let frame = frame_at f held in
+    let f' = g.W.TreeSource.forest c.evaluate.new.world in
+    let next = λ (xs : List Item). judged (effective xs) in
+    cut item_views items_at AreIn (λ (b : Bool). b) (λ trees b. b) (λ trees b. Unit {0}) _ (plan_mean c.args.part.now frame f) next f' c.in_err-value.field-0.0 c.from_residual.result
+    refl c.from_residual.ensures.1 (c.in_err-value.ensures.gives clean inside)
+
+pub evaluation::tested-returns-in_err-effective-clause-gives : goal.evaluation::tested-returns-in_err-effective-clause-gives
+evaluation::tested-returns-in_err-effective-clause-gives g t c = λ clean inside.
+    let f = g.W.TreeSource.forest c.args.world.now in
+    let held = c.args.frame in
+    let frame = frame_at f held in
+    let f' = g.W.TreeSource.forest c.evaluate.new.world in
+    let code = c.in_err-effective.field-0.0 in
+    let value = c.in_ok-value.ensures.gives clean inside in
+    let failed = tested_err (plan_mean c.args.part.now) frame _ code f f' value.1 (ap (λ xs. effective (items_at f' (map item_view xs))) (sym c.deref.ensures.value) ∙ sym (c.in_err-effective.ensures f')) in
+    handed_on (λ (b : Bool). b) (λ trees b. b) (λ trees b. Unit {0}) _ f' (OfCode code) c.from_residual-in_err-effective.result c.from_residual-in_err-effective.ensures.1 failed
+
+pub evaluation::tested-returns-clause-gives : goal.evaluation::tested-returns-clause-gives
+evaluation::tested-returns-clause-gives g t c = λ clean inside.
+    let f = g.W.TreeSource.forest c.args.world.now in
+    let held = c.args.frame in
+    let frame = frame_at f held in
+    let f' = g.W.TreeSource.forest c.evaluate.new.world in
+    let value = c.in_ok-value.ensures.gives clean inside in
+    (tt, tested_ok (plan_mean c.args.part.now) frame _ c.in_ok-effective.field-0 f f' value.1 (ap (λ xs. effective (items_at f' (map item_view xs))) (sym c.deref.ensures.value) ∙ sym (c.in_ok-effective.ensures f')))
+
+pub evaluation::tested-returns-in_err-value-clause-goes : goal.evaluation::tested-returns-in_err-value-clause-goes
+evaluation::tested-returns-in_err-value-clause-goes g t c = c.in_err-value.ensures.goes
+
+pub evaluation::tested-returns-in_err-effective-clause-goes : goal.evaluation::tested-returns-in_err-effective-clause-goes
+evaluation::tested-returns-in_err-effective-clause-goes g t c = c.in_ok-value.ensures.goes
+
+pub evaluation::tested-returns-clause-goes : goal.evaluation::tested-returns-clause-goes
+evaluation::tested-returns-clause-goes g t c = c.in_ok-value.ensures.goes
+
+pub evaluation::filter-loop-predicate-preserved : goal.evaluation::filter-loop-predicate-preserved
+evaluation::filter-loop-predicate-preserved g t c =
+    let i = c.loop-predicate.invariant in
+    let old = g.W.TreeSource.forest c.args.world.now in
+    let f = g.W.TreeSource.forest c.loop-predicate.world in
+    let f' = g.W.TreeSource.forest c.keep.new.world in
+    let held = c.args.frame in
+    let p = c.predicate-item.result in
+    let left = item_views c.loop-predicate.left in
+    let d : map item_view c.deref.result.now ≡ left = ap (map item_view) c.deref.ensures.value in
+    record {
+      goes = goes_on_to i.goes c.keep.ensures.goes;
+      turns = turns_next _ _ _ (item_views c.in_ok-left.left) (plan_mean p) _ _ i.turns (left_over plan_mean c.args.predicates.now c.loop-predicate.predicate-index p (omega arith) c.predicate-item.is) c.keep.ensures.goes.was_clean
+          (λ clean inside is_in.
+          let s = c.in_ok-left.ensures.gives clean (frame_in_grown i.goes.grows held inside.0) (subst (AreIn f) (sym d) is_in) in
+          (s.0, ap (λ fr. Forms.filtered fr (items_at f left) (plan_mean p) f) (sym (frame_grown i.goes.grows held inside.0)) ∙ ap (λ xs. Forms.filtered (frame_at f held) (items_at f xs) (plan_mean p) f) (sym d) ∙ s.1));
+    }
+
+pub evaluation::filter-returns-in_err-left-clause-gives : goal.evaluation::filter-returns-in_err-left-clause-gives
+evaluation::filter-returns-in_err-left-clause-gives g t c = λ clean inside items_in.
+    let i = c.loop-predicate.invariant in
+    let old = g.W.TreeSource.forest c.args.world.now in
+    let f = g.W.TreeSource.forest c.loop-predicate.world in
+    let f' = g.W.TreeSource.forest c.keep.new.world in
+    let held = c.args.frame in
+    let p = c.predicate-item.result in
+    let left = item_views c.loop-predicate.left in
+    let d : map item_view c.deref.result.now ≡ left = ap (map item_view) c.deref.ensures.value in
+    let e = c.in_err-left.field-0.0 in
+    handed_on item_views items_at AreIn _ f' e c.from_residual.result c.from_residual.ensures.1
+    (turns_stop _ _ _ item_views items_at AreIn (plan_mean p) _ f' e i.turns (left_over plan_mean c.args.predicates.now c.loop-predicate.predicate-index p (omega arith) c.predicate-item.is) c.keep.ensures.goes.was_clean
+    (λ clean inside is_in. subst (λ fr. Gives (Forms.filtered fr (items_at f left) (plan_mean p) f) f' (Err e)) (frame_grown i.goes.grows held inside.0)
+    (subst (λ xs. Gives (Forms.filtered (frame_at f held) (items_at f xs) (plan_mean p) f) f' (Err e)) d
+    (c.in_err-left.ensures.gives clean (frame_in_grown i.goes.grows held inside.0) (subst (AreIn f) (sym d) is_in)))) clean (inside, items_in))
+
+pub evaluation::filter-returns-in_err-left-clause-goes : goal.evaluation::filter-returns-in_err-left-clause-goes
+evaluation::filter-returns-in_err-left-clause-goes g t c = goes_on_to c.loop-predicate.invariant.goes c.in_err-left.ensures.goes
+
+pub evaluation::filter-returns-clause-goes : goal.evaluation::filter-returns-clause-goes
+evaluation::filter-returns-clause-goes g t c = c.loop-predicate.invariant.goes
+
+pub evaluation::filter-returns-clause-gives : goal.evaluation::filter-returns-clause-gives
+evaluation::filter-returns-clause-gives g t c = λ clean inside rest_in.
+    let old = g.W.TreeSource.forest c.args.world.now in
+    turns_end _ _ _ c.loop-predicate.invariant.turns (ap (map plan_mean) (drop_all c.loop-predicate.predicate-index c.args.predicates.now (omega arith))) clean (inside, rest_in)
+
+pub evaluation::keep-loop-index-preserved : goal.evaluation::keep-loop-index-preserved
+evaluation::keep-loop-index-preserved g t c =
+    let i = c.loop-index.invariant in
+    let old = g.W.TreeSource.forest c.args.world.now in
+    let f = g.W.TreeSource.forest c.loop-index.world in
+    let f' = g.W.TreeSource.forest c.pass.new.world in
+    let held = c.args.frame in
+    let n = c.loop-index.index in
+    let items = c.args.items.now in
+    let x = c.index-items-index.result in
+    let p = plan_mean c.args.predicate.now in
+    let kept = item_views c.loop-index.kept in
+    let spot : Item → Spot = λ it. record { item = it; position = n + 1; last = length items } in
+    record {
+      goes = goes_on_to i.goes c.pass.ensures.goes;
+      turns = turns_next _ _ _ (item_views c.in_ok-kept.kept) (spot (item_at old (item_view x))) _ _ i.turns (spots_left old items n x (length items) (omega arith) c.index-items-index.is) c.pass.ensures.goes.was_clean
+          (λ clean inside is_in.
+          let x_in = all_at (IsIn old) item_view items n x inside.1 (omega arith) c.index-items-index.is in
+          let s = c.in_ok-kept.ensures.gives clean (frame_in_grown i.goes.grows held inside.0) is_in (in_grown i.goes.grows (item_view x) x_in) in (
+            s.0,
+            ap (λ fr. more (Forms.passed p fr) (items_at f kept) (spot (item_at old (item_view x))) f) (sym (frame_grown i.goes.grows held inside.0))
+                ∙ ap (λ it. more (Forms.passed p (frame_at f held)) (items_at f kept) (spot it) f) (sym (item_at_grown i.goes.grows (item_view x) x_in)) ∙ s.1,
+          ));
+    }
+
+pub evaluation::keep-returns-in_err-kept-clause-gives : goal.evaluation::keep-returns-in_err-kept-clause-gives
+evaluation::keep-returns-in_err-kept-clause-gives g t c = λ clean inside items_in.
+    let i = c.loop-index.invariant in
+    let old = g.W.TreeSource.forest c.args.world.now in
+    let f = g.W.TreeSource.forest c.loop-index.world in
+    let f' = g.W.TreeSource.forest c.pass.new.world in
+    let held = c.args.frame in
+    let n = c.loop-index.index in
+    let items = c.args.items.now in
+    let x = c.index-items-index.result in
+    let p = plan_mean c.args.predicate.now in
+    let kept = item_views c.loop-index.kept in
+    let spot : Item → Spot = λ it. record { item = it; position = n + 1; last = length items } in
+    let e = c.in_err-kept.field-0.0 in
+    handed_on item_views items_at AreIn _ f' e c.from_residual.result c.from_residual.ensures.1
+    (turns_stop _ _ _ item_views items_at AreIn (spot (item_at old (item_view x))) _ f' e i.turns (spots_left old items n x (length items) (omega arith) c.index-items-index.is) c.pass.ensures.goes.was_clean
+    (λ clean inside is_in.
+    let x_in = all_at (IsIn old) item_view items n x inside.1 (omega arith) c.index-items-index.is in
+    subst (λ fr. Gives (more (Forms.passed p fr) (items_at f kept) (spot (item_at old (item_view x))) f) f' (Err e)) (frame_grown i.goes.grows held inside.0)
+    (subst (λ it. Gives (more (Forms.passed p (frame_at f held)) (items_at f kept) (spot it) f) f' (Err e)) (item_at_grown i.goes.grows (item_view x) x_in)
+    (c.in_err-kept.ensures.gives clean (frame_in_grown i.goes.grows held inside.0) is_in (in_grown i.goes.grows (item_view x) x_in)))) clean (inside, items_in))
+
+pub evaluation::keep-returns-in_err-kept-clause-goes : goal.evaluation::keep-returns-in_err-kept-clause-goes
+evaluation::keep-returns-in_err-kept-clause-goes g t c = goes_on_to c.loop-index.invariant.goes c.in_err-kept.ensures.goes
+
+pub evaluation::keep-returns-clause-goes : goal.evaluation::keep-returns-clause-goes
+evaluation::keep-returns-clause-goes g t c = c.loop-index.invariant.goes
+
+pub evaluation::keep-returns-clause-gives : goal.evaluation::keep-returns-clause-gives
+evaluation::keep-returns-clause-gives g t c = λ clean inside rest_in.
+    let old = g.W.TreeSource.forest c.args.world.now in
+    turns_end _ _ _ c.loop-index.invariant.turns (ap (λ xs. focuses_from (suc c.loop-index.index) (length c.args.items.now) (items_at old (map item_view xs))) (drop_all c.loop-index.index c.args.items.now (omega arith))) clean (inside, rest_in)
+
+pub evaluation::pass-returns-clause-gives : goal.evaluation::pass-returns-clause-gives
+evaluation::pass-returns-clause-gives g t c = λ clean inside done_in item_in.
+    let f = g.W.TreeSource.forest c.args.world.now in
+    let held = c.args.frame in
+    let frame = frame_at f held in
+    let f' = g.W.TreeSource.forest c.evaluate.new.world in
+    let p = plan_mean c.args.predicate.now in
+    let x = item_view c.args.spot.item.now in
+    let keeps' = c.in_ok-keeps.keeps in
+    let grows = c.in_ok-value.ensures.goes.grows in
+    let value = c.in_ok-value.ensures.gives clean (record { slots_in = inside.slots_in; focus_in = item_in; addresses_in = inside.addresses_in }) in
+    let step = passed_ok p frame (spot_at f c.args.spot) _ keeps' f f' value.1 (ap (λ xs. keeps c.args.spot.position (items_at f' (map item_view xs))) (sym c.deref.ensures.value) ∙ sym (c.in_ok-keeps.ensures f')) in
+    let k = kept_read f f' x keeps' grows item_in in
+    more_next (Forms.passed p frame) (item_views c.args.done) (Forms.kept_if x keeps') (item_views c.in_ok-push_copy.field-0) (spot_at f c.args.spot) f f' grows done_in (k.0, step ∙ ap (λ xs. (Ok xs, f')) k.1) c.in_ok-push_copy.ensures
+
+pub evaluation::pass-returns-in_err-keeps-clause-gives : goal.evaluation::pass-returns-in_err-keeps-clause-gives
+evaluation::pass-returns-in_err-keeps-clause-gives g t c = λ clean inside done_in item_in.
+    let f = g.W.TreeSource.forest c.args.world.now in
+    let held = c.args.frame in
+    let frame = frame_at f held in
+    let f' = g.W.TreeSource.forest c.evaluate.new.world in
+    let p = plan_mean c.args.predicate.now in
+    let code = c.in_err-keeps.field-0.0 in
+    let value = c.in_ok-value.ensures.gives clean (record { slots_in = inside.slots_in; focus_in = item_in; addresses_in = inside.addresses_in }) in
+    let step = passed_err p frame (spot_at f c.args.spot) _ code f f' value.1 (ap (λ xs. keeps c.args.spot.position (items_at f' (map item_view xs))) (sym c.deref.ensures.value) ∙ sym (c.in_err-keeps.ensures f')) in
+    handed_on item_views items_at AreIn _ f' (OfCode code) c.from_residual-in_err-keeps.result c.from_residual-in_err-keeps.ensures.1
+    (stops (Forms.passed p frame (spot_at f c.args.spot) f) (λ ys. give (items_at f (item_views c.args.done) ++ ys)) code step)
+
+pub evaluation::pass-returns-in_err-value-clause-gives : goal.evaluation::pass-returns-in_err-value-clause-gives
+evaluation::pass-returns-in_err-value-clause-gives g t c = λ clean inside done_in item_in.
+    let f = g.W.TreeSource.forest c.args.world.now in
+    let held = c.args.frame in
+    let frame = frame_at f held in
+    let f' = g.W.TreeSource.forest c.evaluate.new.world in
+    let spot = spot_at f c.args.spot in
+    let e = c.in_err-value.field-0.0 in
+    let first = λ (v : List Item). judged (keeps c.args.spot.position v) >>= (λ k. give (Forms.kept_if spot.item k)) in
+    let next = λ (ys : List Item). give (items_at f (item_views c.args.done) ++ ys) in
+    let o = plan_mean c.args.predicate.now (Forms.in_focus frame spot) f in
+    cut item_views items_at AreIn item_views items_at AreIn _ (go_on o first) next f' e c.from_residual.result
+    refl c.from_residual.ensures.1
+    (go_on_stop item_views items_at AreIn item_views items_at AreIn o first f' e (c.in_err-value.ensures.gives clean (record { slots_in = inside.slots_in; focus_in = item_in; addresses_in = inside.addresses_in })))
+
+pub evaluation::pass-returns-in_err-value-clause-goes : goal.evaluation::pass-returns-in_err-value-clause-goes
+evaluation::pass-returns-in_err-value-clause-goes g t c = c.in_err-value.ensures.goes
+
+pub evaluation::pass-returns-in_err-keeps-clause-goes : goal.evaluation::pass-returns-in_err-keeps-clause-goes
+evaluation::pass-returns-in_err-keeps-clause-goes g t c = c.in_ok-value.ensures.goes
+
+pub evaluation::pass-returns-in_err-push_copy-clause-goes : goal.evaluation::pass-returns-in_err-push_copy-clause-goes
+evaluation::pass-returns-in_err-push_copy-clause-goes g t c = c.in_ok-value.ensures.goes
+
+pub evaluation::pass-returns-clause-goes : goal.evaluation::pass-returns-clause-goes
+evaluation::pass-returns-clause-goes g t c = c.in_ok-value.ensures.goes
+
+pub clauses::clause_list-loop-clause-preserved : goal.clauses::clause_list-loop-clause-preserved
+clauses::clause_list-loop-clause-preserved g t c =
+    let i = c.loop-clause.invariant in
+    let old = g.W.TreeSource.forest c.args.world.now in
+    let f = g.W.TreeSource.forest c.loop-clause.world in
+    let f' = g.W.TreeSource.forest c.next_tuples.new.world in
+    let held = c.args.frame in
+    let clause = c.clause-item.result in
+    record {
+      goes = goes_on_to i.goes c.next_tuples.ensures.goes;
+      turns = turns_next _ _ _ c.in_ok-tuples-2.tuples (plan_clause_mean clause) _ _ i.turns (left_over plan_clause_mean c.args.clauses.now c.loop-clause.clause-index clause (omega arith) c.clause-item.is) c.next_tuples.ensures.goes.was_clean
+          (λ clean inside is_in.
+          let s = c.in_ok-tuples-2.ensures.gives clean (frame_in_grown i.goes.grows held inside) is_in in
+          (s.0, ap (λ fr. plan_clause_mean clause fr (tuples_at f c.loop-clause.tuples) f) (sym (frame_grown i.goes.grows held inside)) ∙ s.1));
+    }
+
+pub clauses::clause_list-returns-in_err-tuples-2-clause-gives : goal.clauses::clause_list-returns-in_err-tuples-2-clause-gives
+clauses::clause_list-returns-in_err-tuples-2-clause-gives g t c = λ clean inside.
+    let i = c.loop-clause.invariant in
+    let old = g.W.TreeSource.forest c.args.world.now in
+    let f = g.W.TreeSource.forest c.loop-clause.world in
+    let f' = g.W.TreeSource.forest c.next_tuples.new.world in
+    let held = c.args.frame in
+    let clause = c.clause-item.result in
+    let e = c.in_err-tuples-2.field-0.0 in
+    handed_on (λ (ts : List (Tuple ItemView)). ts) tuples_at TuplesIn _ f' e c.from_residual-in_err-tuples-2.result c.from_residual-in_err-tuples-2.ensures.1
+    (turns_stop _ _ _ (λ (ts : List (Tuple ItemView)). ts) tuples_at TuplesIn (plan_clause_mean clause) _ f' e i.turns (left_over plan_clause_mean c.args.clauses.now c.loop-clause.clause-index clause (omega arith) c.clause-item.is) c.next_tuples.ensures.goes.was_clean
+    (λ clean inside is_in. subst (λ fr. GivesTuples (plan_clause_mean clause fr (tuples_at f c.loop-clause.tuples) f) f' (Err e)) (frame_grown i.goes.grows held inside) (c.in_err-tuples-2.ensures.gives clean (frame_in_grown i.goes.grows held inside) is_in)) clean inside)
+
+pub clauses::clause_list-returns-in_err-tuples-2-clause-goes : goal.clauses::clause_list-returns-in_err-tuples-2-clause-goes
+clauses::clause_list-returns-in_err-tuples-2-clause-goes g t c = goes_on_to c.loop-clause.invariant.goes c.in_err-tuples-2.ensures.goes
+
+pub clauses::clause_list-returns-clause-goes : goal.clauses::clause_list-returns-clause-goes
+clauses::clause_list-returns-clause-goes g t c = c.loop-clause.invariant.goes
+
+pub clauses::clause_list-returns-in_err-tuples-clause-goes : goal.clauses::clause_list-returns-in_err-tuples-clause-goes
+clauses::clause_list-returns-in_err-tuples-clause-goes g t c = stays _ _
+
+pub clauses::clause_list-returns-clause-gives : goal.clauses::clause_list-returns-clause-gives
+clauses::clause_list-returns-clause-gives g t c = λ clean inside.
+    let old = g.W.TreeSource.forest c.args.world.now in
+    turns_end _ _ _ c.loop-clause.invariant.turns (ap (map plan_clause_mean) (drop_all c.loop-clause.clause-index c.args.clauses.now (omega arith))) clean inside
+
+pub clauses::next_tuples-returns-in_err-lists-in-For-clause-gives : goal.clauses::next_tuples-returns-in_err-lists-in-For-clause-gives
+clauses::next_tuples-returns-in_err-lists-in-For-clause-gives g t c = λ clean inside tuples_in.
+    let f = g.W.TreeSource.forest c.args.world.now in
+    let held = c.args.frame in
+    let frame = frame_at f held in
+    let tuples = c.args.tuples in
+    let f' = g.W.TreeSource.forest c.values.new.world in
+    let e = c.in_err-lists-in-For.field-0.0 in
+    let at = c.in-For.at in
+    let meant : plan_clause_mean c.args.clause.now frame (tuples_at f tuples) f ≡ go_on (for_each (λ t. plan_mean c.in-For.part (at_tuple frame t)) (tuples_at f tuples) f) (λ ls. give (expanded Atom at (tuples_at f tuples) ls)) =
+    ap (λ k. plan_clause_mean k frame (tuples_at f tuples) f) c.in-For.is ∙ ap (λ m. m frame (tuples_at f tuples) f) (clause-For at c.in-For.part) in
+    subst (λ o. GivesTuples o f' c.from_residual.result) (sym meant)
+    (handed_on (λ (ts : List (Tuple ItemView)). ts) tuples_at TuplesIn _ f' e c.from_residual.result c.from_residual.ensures.1
+    (go_on_stop lists_of tuple_at TupleIn (λ (ts : List (Tuple ItemView)). ts) tuples_at TuplesIn _ (λ ls. give (expanded Atom at (tuples_at f tuples) ls)) f' e (c.in_err-lists-in-For.ensures.gives clean inside tuples_in)))
+
+pub clauses::next_tuples-returns-in_ok-expand-in-For-clause-gives : goal.clauses::next_tuples-returns-in_ok-expand-in-For-clause-gives
+clauses::next_tuples-returns-in_ok-expand-in-For-clause-gives g t c = λ clean inside tuples_in.
+    let f = g.W.TreeSource.forest c.args.world.now in
+    let held = c.args.frame in
+    let frame = frame_at f held in
+    let tuples = c.args.tuples in
+    let f' = g.W.TreeSource.forest c.values.new.world in
+    let grows = c.in_ok-lists-in-For.ensures.goes.grows in
+    let lists = lists_of c.in_ok-lists-in-For.lists in
+    let at = c.in-For.at in
+    let values = c.in_ok-lists-in-For.ensures.gives clean inside tuples_in in
+    let stream : c.in_ok-expand-in-For.field-0 ≡ expanded Value at tuples lists = c.in_ok-expand-in-For.ensures.stream in
+    let same : tuples_at f' c.in_ok-expand-in-For.field-0 ≡ expanded Atom at (tuples_at f tuples) (tuple_at f' lists) =
+    ap (tuples_at f') stream ∙ expanded_natural (item_at f') Value Atom (λ a. refl) at tuples lists ∙ ap (λ ts. expanded Atom at ts (tuple_at f' lists)) (tuples_grown grows tuples tuples_in) in (
+      subst (TuplesIn f') (sym stream) (expanded_in f' at tuples lists (tuples_in_grown grows tuples tuples_in) values.0),
+      ap (λ k. plan_clause_mean k frame (tuples_at f tuples) f) c.in-For.is ∙ ap (λ m. m frame (tuples_at f tuples) f) (clause-For at c.in-For.part)
+          ∙ ap (λ o. go_on o (λ ls. give (expanded Atom at (tuples_at f tuples) ls))) values.1 ∙ ap (λ ts. (Ok ts, f')) (sym same),
+    )
+
+pub clauses::next_tuples-returns-in_ok-bind-in-Let-clause-gives : goal.clauses::next_tuples-returns-in_ok-bind-in-Let-clause-gives
+clauses::next_tuples-returns-in_ok-bind-in-Let-clause-gives g t c = λ clean inside tuples_in.
+    let f = g.W.TreeSource.forest c.args.world.now in
+    let held = c.args.frame in
+    let frame = frame_at f held in
+    let tuples = c.args.tuples in
+    let f' = g.W.TreeSource.forest c.values-in-Let.new.world in
+    let grows = c.in_ok-lists-in-Let.ensures.goes.grows in
+    let lists = lists_of c.in_ok-lists-in-Let.lists in
+    let values = c.in_ok-lists-in-Let.ensures.gives clean inside tuples_in in
+    let stream : c.in_ok-bind-in-Let.field-0 ≡ bound tuples lists = c.in_ok-bind-in-Let.ensures.stream in
+    let same : tuples_at f' c.in_ok-bind-in-Let.field-0 ≡ bound (tuples_at f tuples) (tuple_at f' lists) =
+    ap (tuples_at f') stream ∙ bound_natural (item_at f') tuples lists ∙ ap (λ ts. bound ts (tuple_at f' lists)) (tuples_grown grows tuples tuples_in) in (
+      subst (TuplesIn f') (sym stream) (bound_in f' tuples lists (tuples_in_grown grows tuples tuples_in) values.0),
+      ap (λ k. plan_clause_mean k frame (tuples_at f tuples) f) c.in-Let.is ∙ ap (λ m. m frame (tuples_at f tuples) f) (clause-Let c.in-Let.part)
+          ∙ ap (λ o. go_on o (λ ls. give (bound (tuples_at f tuples) ls))) values.1 ∙ ap (λ ts. (Ok ts, f')) (sym same),
+    )
+
+pub clauses::next_tuples-returns-in_ok-tests-in-Where-clause-gives : goal.clauses::next_tuples-returns-in_ok-tests-in-Where-clause-gives
+clauses::next_tuples-returns-in_ok-tests-in-Where-clause-gives g t c = λ clean inside tuples_in.
+    let f = g.W.TreeSource.forest c.args.world.now in
+    let held = c.args.frame in
+    let frame = frame_at f held in
+    let tuples = c.args.tuples in
+    let f' = g.W.TreeSource.forest c.tests.new.world in
+    let grows = c.in_ok-tests-in-Where.ensures.goes.grows in
+    let tests = c.in_ok-tests-in-Where.tests.items in
+    let values = c.in_ok-tests-in-Where.ensures.gives clean inside tuples_in in
+    let stream : c.keep.result ≡ kept tuples tests = c.keep.ensures ∙ ap (kept tuples) c.deref.ensures.value in
+    let same : tuples_at f' c.keep.result ≡ kept (tuples_at f tuples) tests =
+    ap (tuples_at f') stream ∙ kept_natural (tuple_at f') tuples tests ∙ ap (λ ts. kept ts tests) (tuples_grown grows tuples tuples_in) in (
+      subst (TuplesIn f') (sym stream) (kept_in f' tuples tests (tuples_in_grown grows tuples tuples_in)),
+      ap (λ k. plan_clause_mean k frame (tuples_at f tuples) f) c.in-Where.is ∙ ap (λ m. m frame (tuples_at f tuples) f) (clause-Where c.in-Where.part)
+          ∙ ap (λ o. go_on o (λ bs. give (kept (tuples_at f tuples) bs))) values.1 ∙ ap (λ ts. (Ok ts, f')) (sym same),
+    )
+
+pub clauses::next_tuples-returns-in_err-lists-in-Let-clause-gives : goal.clauses::next_tuples-returns-in_err-lists-in-Let-clause-gives
+clauses::next_tuples-returns-in_err-lists-in-Let-clause-gives g t c = λ clean inside tuples_in.
+    let f = g.W.TreeSource.forest c.args.world.now in
+    let held = c.args.frame in
+    let frame = frame_at f held in
+    let tuples = c.args.tuples in
+    let f' = g.W.TreeSource.forest c.values-in-Let.new.world in
+    let e = c.in_err-lists-in-Let.field-0.0 in
+    let next = λ (values : List (List Item)). give (bound (tuples_at f tuples) values) in
+    cut lists_of tuple_at TupleIn (λ (ts : List (Tuple ItemView)). ts) tuples_at TuplesIn (plan_clause_mean c.args.clause.now frame (tuples_at f tuples) f) (for_each (λ t. plan_mean c.in-Let.part (at_tuple frame t)) (tuples_at f tuples) f) next f' e c.from_residual-in_err-lists-in-Let.result
+    (ap (λ k. plan_clause_mean k frame (tuples_at f tuples) f) c.in-Let.is ∙ ap (λ m. m frame (tuples_at f tuples) f) (clause-Let c.in-Let.part)) c.from_residual-in_err-lists-in-Let.ensures.1
+    (c.in_err-lists-in-Let.ensures.gives clean inside tuples_in)
+
+pub clauses::next_tuples-returns-in_err-tests-in-Where-clause-gives : goal.clauses::next_tuples-returns-in_err-tests-in-Where-clause-gives
+clauses::next_tuples-returns-in_err-tests-in-Where-clause-gives g t c = λ clean inside tuples_in.
+    let f = g.W.TreeSource.forest c.args.world.now in
+    let held = c.args.frame in
+    let frame = frame_at f held in
+    let tuples = c.args.tuples in
+    let f' = g.W.TreeSource.forest c.tests.new.world in
+    let e = c.in_err-tests-in-Where.field-0.0 in
+    let next = λ (tests : List Bool). give (kept (tuples_at f tuples) tests) in
+    cut (λ (v : Vec Bool). v.items) same_tests any_tests (λ (ts : List (Tuple ItemView)). ts) tuples_at TuplesIn (plan_clause_mean c.args.clause.now frame (tuples_at f tuples) f) (for_each (λ t. Forms.tested (plan_mean c.in-Where.part) (at_tuple frame t)) (tuples_at f tuples) f) next f' e c.from_residual-in_err-tests-in-Where.result
+    (ap (λ k. plan_clause_mean k frame (tuples_at f tuples) f) c.in-Where.is ∙ ap (λ m. m frame (tuples_at f tuples) f) (clause-Where c.in-Where.part)) c.from_residual-in_err-tests-in-Where.ensures.1
+    (c.in_err-tests-in-Where.ensures.gives clean inside tuples_in)
+
+pub clauses::next_tuples-returns-in_err-lists-in-For-clause-goes : goal.clauses::next_tuples-returns-in_err-lists-in-For-clause-goes
+clauses::next_tuples-returns-in_err-lists-in-For-clause-goes g t c = c.in_err-lists-in-For.ensures.goes
+
+pub clauses::next_tuples-returns-in_err-expand-in-For-clause-goes : goal.clauses::next_tuples-returns-in_err-expand-in-For-clause-goes
+clauses::next_tuples-returns-in_err-expand-in-For-clause-goes g t c = c.in_ok-lists-in-For.ensures.goes
+
+pub clauses::next_tuples-returns-in_ok-expand-in-For-clause-goes : goal.clauses::next_tuples-returns-in_ok-expand-in-For-clause-goes
+clauses::next_tuples-returns-in_ok-expand-in-For-clause-goes g t c = c.in_ok-lists-in-For.ensures.goes
+
+pub clauses::next_tuples-returns-in_err-lists-in-Let-clause-goes : goal.clauses::next_tuples-returns-in_err-lists-in-Let-clause-goes
+clauses::next_tuples-returns-in_err-lists-in-Let-clause-goes g t c = c.in_err-lists-in-Let.ensures.goes
+
+pub clauses::next_tuples-returns-in_err-bind-in-Let-clause-goes : goal.clauses::next_tuples-returns-in_err-bind-in-Let-clause-goes
+clauses::next_tuples-returns-in_err-bind-in-Let-clause-goes g t c = c.in_ok-lists-in-Let.ensures.goes
+
+pub clauses::next_tuples-returns-in_ok-bind-in-Let-clause-goes : goal.clauses::next_tuples-returns-in_ok-bind-in-Let-clause-goes
+clauses::next_tuples-returns-in_ok-bind-in-Let-clause-goes g t c = c.in_ok-lists-in-Let.ensures.goes
+
+pub clauses::next_tuples-returns-in_err-tests-in-Where-clause-goes : goal.clauses::next_tuples-returns-in_err-tests-in-Where-clause-goes
+clauses::next_tuples-returns-in_err-tests-in-Where-clause-goes g t c = c.in_err-tests-in-Where.ensures.goes
+
+pub clauses::next_tuples-returns-in_ok-tests-in-Where-clause-goes : goal.clauses::next_tuples-returns-in_ok-tests-in-Where-clause-goes
+clauses::next_tuples-returns-in_ok-tests-in-Where-clause-goes g t c = c.in_ok-tests-in-Where.ensures.goes
+
+pub clauses::values-loop-index-preserved : goal.clauses::values-loop-index-preserved
+clauses::values-loop-index-preserved g t c =
+    let i = c.loop-index.invariant in
+    let old = g.W.TreeSource.forest c.args.world.now in
+    let f = g.W.TreeSource.forest c.loop-index.world in
+    let f' = g.W.TreeSource.forest c.next_value.new.world in
+    let held = c.args.frame in
+    let n = c.loop-index.index in
+    let tuples = c.args.tuples.now in
+    let x = values_of c.tuple.result.now in
+    let p = plan_mean c.args.part.now in
+    let act = λ (fr : Frame). one_more (λ t. p (at_tuple fr t)) in
+    record {
+      goes = goes_on_to i.goes c.next_value.ensures.goes;
+      turns = turns_next _ _ _ (lists_of c.in_ok-lists.lists) (tuple_at old x) _ _ i.turns (left_at (tuple_at old) tuples n x [] (omega arith) c.tuple.ensures) c.next_value.ensures.goes.was_clean
+          (λ clean inside is_in.
+          let x_in = element (TupleIn old) tuples n x [] inside.1 (omega arith) c.tuple.ensures in
+          let s = c.in_ok-lists.ensures.gives clean (frame_in_grown i.goes.grows held inside.0) is_in (tuple_in_grown i.goes.grows x x_in) in
+          (s.0, ap (λ fr. act fr (tuple_at f (lists_of c.loop-index.lists)) (tuple_at old x) f) (sym (frame_grown i.goes.grows held inside.0)) ∙ ap (λ y. act (frame_at f held) (tuple_at f (lists_of c.loop-index.lists)) y f) (sym (tuple_grown i.goes.grows x x_in)) ∙ s.1));
+      long = c.in_ok-lists.ensures.long ∙ ap suc i.long ∙ sym (add-one n);
+    }
+
+pub clauses::values-returns-in_err-lists-clause-gives : goal.clauses::values-returns-in_err-lists-clause-gives
+clauses::values-returns-in_err-lists-clause-gives g t c = λ clean inside tuples_in.
+    let i = c.loop-index.invariant in
+    let old = g.W.TreeSource.forest c.args.world.now in
+    let f = g.W.TreeSource.forest c.loop-index.world in
+    let f' = g.W.TreeSource.forest c.next_value.new.world in
+    let held = c.args.frame in
+    let n = c.loop-index.index in
+    let tuples = c.args.tuples.now in
+    let x = values_of c.tuple.result.now in
+    let p = plan_mean c.args.part.now in
+    let act = λ (fr : Frame). one_more (λ t. p (at_tuple fr t)) in
+    let e = c.in_err-lists.field-0.0 in
+    handed_on lists_of tuple_at TupleIn _ f' e c.from_residual.result c.from_residual.ensures.1
+    (turns_stop _ _ _ lists_of tuple_at TupleIn (tuple_at old x) _ f' e i.turns (left_at (tuple_at old) tuples n x [] (omega arith) c.tuple.ensures) c.next_value.ensures.goes.was_clean
+    (λ clean inside is_in.
+    let x_in = element (TupleIn old) tuples n x [] inside.1 (omega arith) c.tuple.ensures in
+    subst (λ fr. GivesLists (act fr (tuple_at f (lists_of c.loop-index.lists)) (tuple_at old x) f) f' (Err e)) (frame_grown i.goes.grows held inside.0)
+    (subst (λ y. GivesLists (act (frame_at f held) (tuple_at f (lists_of c.loop-index.lists)) y f) f' (Err e)) (tuple_grown i.goes.grows x x_in)
+    (c.in_err-lists.ensures.gives clean (frame_in_grown i.goes.grows held inside.0) is_in (tuple_in_grown i.goes.grows x x_in)))) clean (inside, tuples_in))
+
+pub clauses::values-returns-in_err-lists-clause-goes : goal.clauses::values-returns-in_err-lists-clause-goes
+clauses::values-returns-in_err-lists-clause-goes g t c = goes_on_to c.loop-index.invariant.goes c.in_err-lists.ensures.goes
+
+pub clauses::values-returns-clause-goes : goal.clauses::values-returns-clause-goes
+clauses::values-returns-clause-goes g t c = c.loop-index.invariant.goes
+
+pub clauses::values-returns-clause-gives : goal.clauses::values-returns-clause-gives
+clauses::values-returns-clause-gives g t c = λ clean inside rest_in.
+    let old = g.W.TreeSource.forest c.args.world.now in
+    turns_end _ _ _ c.loop-index.invariant.turns (ap (map (tuple_at old)) (drop_all c.loop-index.index c.args.tuples.now (omega arith))) clean (inside, rest_in)
+
+pub clauses::next_value-returns-clause-gives : goal.clauses::next_value-returns-clause-gives
+clauses::next_value-returns-clause-gives g t c = λ clean inside done_in tuple_in.
+    let f = g.W.TreeSource.forest c.args.world.now in
+    let held = c.args.frame in
+    let frame = frame_at f held in
+    let p = plan_mean c.args.part.now in
+    list_next (λ t. p (at_tuple frame t)) (lists_of c.args.done) (item_views c.in_ok-list.list) (lists_of c.push.new.self) (tuple_at f (values_of c.args.tuple.now)) _ _
+    c.in_ok-list.ensures.goes.grows done_in (c.in_ok-list.ensures.gives clean inside tuple_in) (ap (map item_views) c.in_ok-push.ensures.items ∙ map-append item_views c.args.done.items (c.in_ok-list.list ∷ []))
+
+pub clauses::next_value-returns-in_err-list-clause-gives : goal.clauses::next_value-returns-in_err-list-clause-gives
+clauses::next_value-returns-in_err-list-clause-gives g t c = λ clean inside done_in tuple_in.
+    let f = g.W.TreeSource.forest c.args.world.now in
+    let held = c.args.frame in
+    let frame = frame_at f held in
+    let f' = g.W.TreeSource.forest c.at_tuple.new.world in
+    let e = c.in_err-list.field-0.0 in
+    handed_on lists_of tuple_at TupleIn _ f' e c.from_residual.result c.from_residual.ensures.1
+    (go_on_stop item_views items_at AreIn lists_of tuple_at TupleIn _ (λ y. give (tuple_at f (lists_of c.args.done) ++ y ∷ [])) f' e (c.in_err-list.ensures.gives clean inside tuple_in))
+
+pub clauses::next_value-returns-in_err-list-clause-goes : goal.clauses::next_value-returns-in_err-list-clause-goes
+clauses::next_value-returns-in_err-list-clause-goes g t c = c.in_err-list.ensures.goes
+
+pub clauses::next_value-returns-in_err-push-clause-goes : goal.clauses::next_value-returns-in_err-push-clause-goes
+clauses::next_value-returns-in_err-push-clause-goes g t c = c.in_ok-list.ensures.goes
+
+pub clauses::next_value-returns-clause-goes : goal.clauses::next_value-returns-clause-goes
+clauses::next_value-returns-clause-goes g t c = c.in_ok-list.ensures.goes
+
+pub clauses::tests-loop-index-preserved : goal.clauses::tests-loop-index-preserved
+clauses::tests-loop-index-preserved g t c =
+    let i = c.loop-index.invariant in
+    let old = g.W.TreeSource.forest c.args.world.now in
+    let f = g.W.TreeSource.forest c.loop-index.world in
+    let f' = g.W.TreeSource.forest c.next_test.new.world in
+    let held = c.args.frame in
+    let n = c.loop-index.index in
+    let tuples = c.args.tuples.now in
+    let x = values_of c.tuple.result.now in
+    let p = plan_mean c.args.part.now in
+    let act = λ (fr : Frame). one_more (λ t. Forms.tested p (at_tuple fr t)) in
+    record {
+      goes = goes_on_to i.goes c.next_test.ensures.goes;
+      turns = turns_next _ _ _ (c.in_ok-tests.tests.items) (tuple_at old x) _ _ i.turns (left_at (tuple_at old) tuples n x [] (omega arith) c.tuple.ensures) c.next_test.ensures.goes.was_clean
+          (λ clean inside is_in.
+          let x_in = element (TupleIn old) tuples n x [] inside.1 (omega arith) c.tuple.ensures in
+          let s = c.in_ok-tests.ensures.gives clean (frame_in_grown i.goes.grows held inside.0) (tuple_in_grown i.goes.grows x x_in) in
+          (s.0, ap (λ fr. act fr (same_tests f (c.loop-index.tests.items)) (tuple_at old x) f) (sym (frame_grown i.goes.grows held inside.0)) ∙ ap (λ y. act (frame_at f held) (same_tests f (c.loop-index.tests.items)) y f) (sym (tuple_grown i.goes.grows x x_in)) ∙ s.1));
+      long = c.in_ok-tests.ensures.long ∙ ap suc i.long ∙ sym (add-one n);
+    }
+
+pub clauses::tests-returns-in_err-tests-clause-gives : goal.clauses::tests-returns-in_err-tests-clause-gives
+clauses::tests-returns-in_err-tests-clause-gives g t c = λ clean inside tuples_in.
+    let i = c.loop-index.invariant in
+    let old = g.W.TreeSource.forest c.args.world.now in
+    let f = g.W.TreeSource.forest c.loop-index.world in
+    let f' = g.W.TreeSource.forest c.next_test.new.world in
+    let held = c.args.frame in
+    let n = c.loop-index.index in
+    let tuples = c.args.tuples.now in
+    let x = values_of c.tuple.result.now in
+    let p = plan_mean c.args.part.now in
+    let act = λ (fr : Frame). one_more (λ t. Forms.tested p (at_tuple fr t)) in
+    let e = c.in_err-tests.field-0.0 in
+    handed_on (λ (v : Vec Bool). v.items) same_tests any_tests _ f' e c.from_residual.result c.from_residual.ensures.1
+    (turns_stop _ _ _ (λ (v : Vec Bool). v.items) same_tests any_tests (tuple_at old x) _ f' e i.turns (left_at (tuple_at old) tuples n x [] (omega arith) c.tuple.ensures) c.next_test.ensures.goes.was_clean
+    (λ clean inside is_in.
+    let x_in = element (TupleIn old) tuples n x [] inside.1 (omega arith) c.tuple.ensures in
+    subst (λ fr. GivesTests (act fr (same_tests f (c.loop-index.tests.items)) (tuple_at old x) f) f' (Err e)) (frame_grown i.goes.grows held inside.0)
+    (subst (λ y. GivesTests (act (frame_at f held) (same_tests f (c.loop-index.tests.items)) y f) f' (Err e)) (tuple_grown i.goes.grows x x_in)
+    (c.in_err-tests.ensures.gives clean (frame_in_grown i.goes.grows held inside.0) (tuple_in_grown i.goes.grows x x_in)))) clean (inside, tuples_in))
+
+pub clauses::tests-returns-in_err-tests-clause-goes : goal.clauses::tests-returns-in_err-tests-clause-goes
+clauses::tests-returns-in_err-tests-clause-goes g t c = goes_on_to c.loop-index.invariant.goes c.in_err-tests.ensures.goes
+
+pub clauses::tests-returns-clause-goes : goal.clauses::tests-returns-clause-goes
+clauses::tests-returns-clause-goes g t c = c.loop-index.invariant.goes
+
+pub clauses::tests-returns-clause-gives : goal.clauses::tests-returns-clause-gives
+clauses::tests-returns-clause-gives g t c = λ clean inside rest_in.
+    let old = g.W.TreeSource.forest c.args.world.now in
+    turns_end _ _ _ c.loop-index.invariant.turns (ap (map (tuple_at old)) (drop_all c.loop-index.index c.args.tuples.now (omega arith))) clean (inside, rest_in)
+
+pub clauses::next_test-returns-clause-gives : goal.clauses::next_test-returns-clause-gives
+clauses::next_test-returns-clause-gives g t c = λ clean inside tuple_in.
+    let f = g.W.TreeSource.forest c.args.world.now in
+    let held = c.args.frame in
+    let frame = frame_at f held in
+    let f' = g.W.TreeSource.forest c.at_tuple.new.world in
+    let p = plan_mean c.args.part.now in
+    let value = c.in_ok-value.ensures.gives clean inside tuple_in in
+    let tested = tested_ok p (at_tuple frame (tuple_at f (values_of c.args.tuple.now))) _ c.in_ok-holds.holds f f' value.1 (ap (λ xs. effective (items_at f' (map item_view xs))) (sym c.deref.ensures.value) ∙ sym (c.in_ok-holds.ensures f')) in
+    (tt, ap (λ o. go_on o (λ y. give (c.args.done.items ++ y ∷ []))) tested ∙ ap (λ bs. (Ok bs, f')) (sym c.in_ok-push.ensures.items))
+
+pub clauses::next_test-returns-in_err-value-clause-gives : goal.clauses::next_test-returns-in_err-value-clause-gives
+clauses::next_test-returns-in_err-value-clause-gives g t c = λ clean inside tuple_in.
+    let f = g.W.TreeSource.forest c.args.world.now in
+    let held = c.args.frame in
+    let frame = frame_at f held in
+    let f' = g.W.TreeSource.forest c.at_tuple.new.world in
+    let e = c.in_err-value.field-0.0 in
+    handed_on (λ (v : Vec Bool). v.items) same_tests any_tests _ f' e c.from_residual.result c.from_residual.ensures.1
+    (go_on_stop (λ (b : Bool). b) (λ trees b. b) (λ trees b. Unit {0}) (λ (v : Vec Bool). v.items) same_tests any_tests _ (λ y. give (c.args.done.items ++ y ∷ [])) f' e
+    (go_on_stop item_views items_at AreIn (λ (b : Bool). b) (λ trees b. b) (λ trees b. Unit {0}) _ (λ xs. judged (effective xs)) f' e (c.in_err-value.ensures.gives clean inside tuple_in)))
+
+pub clauses::next_test-returns-in_err-holds-clause-gives : goal.clauses::next_test-returns-in_err-holds-clause-gives
+clauses::next_test-returns-in_err-holds-clause-gives g t c = λ clean inside tuple_in.
+    let f = g.W.TreeSource.forest c.args.world.now in
+    let held = c.args.frame in
+    let frame = frame_at f held in
+    let f' = g.W.TreeSource.forest c.at_tuple.new.world in
+    let p = plan_mean c.args.part.now in
+    let code = c.in_err-holds.field-0.0 in
+    let value = c.in_ok-value.ensures.gives clean inside tuple_in in
+    let tested = tested_err p (at_tuple frame (tuple_at f (values_of c.args.tuple.now))) _ code f f' value.1 (ap (λ xs. effective (items_at f' (map item_view xs))) (sym c.deref.ensures.value) ∙ sym (c.in_err-holds.ensures f')) in
+    handed_on (λ (v : Vec Bool). v.items) same_tests any_tests _ f' (OfCode code) c.from_residual-in_err-holds.result c.from_residual-in_err-holds.ensures.1
+    (stops (Forms.tested p (at_tuple frame (tuple_at f (values_of c.args.tuple.now))) f) (λ y. give (c.args.done.items ++ y ∷ [])) code tested)
+
+pub clauses::next_test-returns-in_err-value-clause-goes : goal.clauses::next_test-returns-in_err-value-clause-goes
+clauses::next_test-returns-in_err-value-clause-goes g t c = c.in_err-value.ensures.goes
+
+pub clauses::next_test-returns-in_err-holds-clause-goes : goal.clauses::next_test-returns-in_err-holds-clause-goes
+clauses::next_test-returns-in_err-holds-clause-goes g t c = c.in_ok-value.ensures.goes
+
+pub clauses::next_test-returns-in_err-push-clause-goes : goal.clauses::next_test-returns-in_err-push-clause-goes
+clauses::next_test-returns-in_err-push-clause-goes g t c = c.in_ok-value.ensures.goes
+
+pub clauses::next_test-returns-clause-goes : goal.clauses::next_test-returns-clause-goes
+clauses::next_test-returns-clause-goes g t c = c.in_ok-value.ensures.goes
+
+pub clauses::at_tuple-returns-clause-gives : goal.clauses::at_tuple-returns-clause-gives
+clauses::at_tuple-returns-clause-gives g t c = λ clean inside tuple_in.
+    let f = g.W.TreeSource.forest c.args.world.now in
+    let held = c.args.frame in
+    let inner : Held = record { slots = c.deref.result; focus = held.focus; addresses = held.addresses } in
+    let e : values_of inner.slots.now ≡ values_of held.slots.now ++ values_of c.args.tuple.now = ap values_of c.deref.ensures.value ∙ c.in_ok-slots.ensures in
+    subst (λ fr. Gives (plan_mean c.args.part.now fr f) (g.W.TreeSource.forest c.evaluate.new.world) c.evaluate.result) (frame_inner f held inner c.args.tuple.now e refl refl)
+    (c.evaluate.ensures.gives clean (frame_inner_in f held inner c.args.tuple.now e refl refl inside tuple_in))
+
+pub clauses::at_tuple-returns-in_err-slots-clause-goes : goal.clauses::at_tuple-returns-in_err-slots-clause-goes
+clauses::at_tuple-returns-in_err-slots-clause-goes g t c = stays _ _
+
+pub clauses::at_tuple-returns-clause-goes : goal.clauses::at_tuple-returns-clause-goes
+clauses::at_tuple-returns-clause-goes g t c = c.evaluate.ensures.goes
+
+pub paths::step_list-loop-step-preserved : goal.paths::step_list-loop-step-preserved
+paths::step_list-loop-step-preserved g t c =
+    let i = c.loop-step.invariant in
+    let old = g.W.TreeSource.forest c.args.world.now in
+    let f = g.W.TreeSource.forest c.loop-step.world in
+    let f' = g.W.TreeSource.forest c.next_items.new.world in
+    let held = c.args.frame in
+    let p = c.step-item.result in
+    let left = item_views c.loop-step.left in
+    record {
+      goes = goes_on_to i.goes c.next_items.ensures.goes;
+      turns = turns_next _ _ _ (item_views c.in_ok-left.left) (plan_step_mean p) _ _ i.turns (left_over plan_step_mean c.args.steps.now c.loop-step.step-index p (omega arith) c.step-item.is) c.next_items.ensures.goes.was_clean
+          (λ clean inside is_in.
+          let s = c.in_ok-left.ensures.gives clean (frame_in_grown i.goes.grows held inside.0) is_in in
+          (s.0, ap (λ fr. plan_step_mean p fr (items_at f left) f) (sym (frame_grown i.goes.grows held inside.0)) ∙ s.1));
+    }
+
+pub paths::step_list-returns-in_err-left-clause-gives : goal.paths::step_list-returns-in_err-left-clause-gives
+paths::step_list-returns-in_err-left-clause-gives g t c = λ clean inside items_in.
+    let i = c.loop-step.invariant in
+    let old = g.W.TreeSource.forest c.args.world.now in
+    let f = g.W.TreeSource.forest c.loop-step.world in
+    let f' = g.W.TreeSource.forest c.next_items.new.world in
+    let held = c.args.frame in
+    let p = c.step-item.result in
+    let left = item_views c.loop-step.left in
+    let e = c.in_err-left.field-0.0 in
+    handed_on item_views items_at AreIn _ f' e c.from_residual.result c.from_residual.ensures.1
+    (turns_stop _ _ _ item_views items_at AreIn (plan_step_mean p) _ f' e i.turns (left_over plan_step_mean c.args.steps.now c.loop-step.step-index p (omega arith) c.step-item.is) c.next_items.ensures.goes.was_clean
+    (λ clean inside is_in. subst (λ fr. Gives (plan_step_mean p fr (items_at f left) f) f' (Err e)) (frame_grown i.goes.grows held inside.0)
+    (c.in_err-left.ensures.gives clean (frame_in_grown i.goes.grows held inside.0) is_in)) clean (inside, items_in))
+
+pub paths::step_list-returns-in_err-left-clause-goes : goal.paths::step_list-returns-in_err-left-clause-goes
+paths::step_list-returns-in_err-left-clause-goes g t c = goes_on_to c.loop-step.invariant.goes c.in_err-left.ensures.goes
+
+pub paths::step_list-returns-clause-goes : goal.paths::step_list-returns-clause-goes
+paths::step_list-returns-clause-goes g t c = c.loop-step.invariant.goes
+
+pub paths::step_list-returns-clause-gives : goal.paths::step_list-returns-clause-gives
+paths::step_list-returns-clause-gives g t c = λ clean inside rest_in.
+    let old = g.W.TreeSource.forest c.args.world.now in
+    turns_end _ _ _ c.loop-step.invariant.turns (ap (map plan_step_mean) (drop_all c.loop-step.step-index c.args.steps.now (omega arith))) clean (inside, rest_in)
+
+pub paths::next_items-returns-in_err-only_nodes-in-Each-clause-gives : goal.paths::next_items-returns-in_err-only_nodes-in-Each-clause-gives
+paths::next_items-returns-in_err-only_nodes-in-Each-clause-gives g t c = λ clean inside items_in.
+    let f = g.W.TreeSource.forest c.args.world.now in
+    let held = c.args.frame in
+    let frame = frame_at f held in
+    let items = item_views c.args.items in
+    let code = c.in_err-only_nodes-in-Each.field-0.0 in
+    let d : map item_view c.deref.result.now ≡ items = ap (map item_view) c.deref.ensures.value in
+    handed_on item_views items_at AreIn _ f (OfCode code) c.from_residual.result c.from_residual.ensures.1
+    (ap (λ k. (plan_step_mean k frame (items_at f items) f).0) c.in-Each.is ∙ ap (λ m. (m frame (items_at f items) f).0) (step-Each c.in-Each.part)
+    ∙ slash_err frame (items_at f items) (plan_mean c.in-Each.part) f code (ap (λ xs. forget (all_nodes XPTY0019 (items_at f xs))) (sym d) ∙ c.in_err-only_nodes-in-Each.ensures f))
+
+pub paths::next_items-returns-in_err-found-in-Each-clause-gives : goal.paths::next_items-returns-in_err-found-in-Each-clause-gives
+paths::next_items-returns-in_err-found-in-Each-clause-gives g t c = λ clean inside items_in.
+    let f = g.W.TreeSource.forest c.args.world.now in
+    let held = c.args.frame in
+    let frame = frame_at f held in
+    let items = item_views c.args.items in
+    let f' = g.W.TreeSource.forest c.each.new.world in
+    let e = c.in_err-found-in-Each.field-0.0 in
+    let d : map item_view c.deref.result.now ≡ items = ap (map item_view) c.deref.ensures.value in
+    let d' : map item_view c.deref-in-Each.result.now ≡ items = ap (map item_view) c.deref-in-Each.ensures.value in
+    let p = plan_mean c.in-Each.part in
+    let meant : plan_step_mean c.args.step.now frame (items_at f items) f ≡ go_on (collected (λ focus. p (Forms.in_focus frame focus)) (focuses (items_at f (map item_view c.deref-in-Each.result.now))) f) (λ ys. on_trees (λ trees. gathered trees ys)) =
+    ap (λ k. plan_step_mean k frame (items_at f items) f) c.in-Each.is ∙ ap (λ m. m frame (items_at f items) f) (step-Each c.in-Each.part)
+    ∙ slash_ok frame (items_at f items) p f (ap (λ xs. forget (all_nodes XPTY0019 (items_at f xs))) (sym d) ∙ c.in_ok-only_nodes-in-Each.ensures f)
+    ∙ ap (λ xs. go_on (collected (λ focus. p (Forms.in_focus frame focus)) (focuses (items_at f xs)) f) (λ ys. on_trees (λ trees. gathered trees ys))) (sym d') in
+    subst (λ o. Gives o f' c.from_residual-in_err-found-in-Each.result) (sym meant)
+    (handed_on item_views items_at AreIn _ f' e c.from_residual-in_err-found-in-Each.result c.from_residual-in_err-found-in-Each.ensures.1
+    (go_on_stop item_views items_at AreIn item_views items_at AreIn _ (λ ys. on_trees (λ trees. gathered trees ys)) f' e (c.in_err-found-in-Each.ensures.gives clean inside (subst (AreIn f) (sym d') items_in))))
+
+pub paths::next_items-returns-in_err-only_nodes-in-Each-clause-goes : goal.paths::next_items-returns-in_err-only_nodes-in-Each-clause-goes
+paths::next_items-returns-in_err-only_nodes-in-Each-clause-goes g t c = stays _ _
+
+pub paths::next_items-returns-in_err-found-in-Each-clause-goes : goal.paths::next_items-returns-in_err-found-in-Each-clause-goes
+paths::next_items-returns-in_err-found-in-Each-clause-goes g t c = c.in_err-found-in-Each.ensures.goes
+
+pub paths::each-loop-index-preserved : goal.paths::each-loop-index-preserved
+paths::each-loop-index-preserved g t c =
+    let i = c.loop-index.invariant in
+    let old = g.W.TreeSource.forest c.args.world.now in
+    let f = g.W.TreeSource.forest c.loop-index.world in
+    let f' = g.W.TreeSource.forest c.at_spot.new.world in
+    let held = c.args.frame in
+    let n = c.loop-index.index in
+    let items = c.args.items.now in
+    let x = c.index-items-index.result in
+    let p = plan_mean c.args.part.now in
+    let found = item_views c.loop-index.found in
+    let spot : Item → Spot = λ it. record { item = it; position = n + 1; last = length items } in
+    record {
+      goes = goes_on_to i.goes c.at_spot.ensures.goes;
+      turns = turns_next _ _ _ (item_views c.in_ok-found.found) (spot (item_at old (item_view x))) _ _ i.turns (spots_left old items n x (length items) (omega arith) c.index-items-index.is) c.at_spot.ensures.goes.was_clean
+          (λ clean inside is_in.
+          let x_in = all_at (IsIn old) item_view items n x inside.1 (omega arith) c.index-items-index.is in
+          let s = c.in_ok-found.ensures.gives clean (frame_in_grown i.goes.grows held inside.0) is_in (in_grown i.goes.grows (item_view x) x_in) in (
+            s.0,
+            ap (λ fr. more (λ (s : Spot). p (Forms.in_focus fr s)) (items_at f found) (spot (item_at old (item_view x))) f) (sym (frame_grown i.goes.grows held inside.0))
+                ∙ ap (λ it. more (λ (s : Spot). p (Forms.in_focus (frame_at f held) s)) (items_at f found) (spot it) f) (sym (item_at_grown i.goes.grows (item_view x) x_in)) ∙ s.1,
+          ));
+    }
+
+pub paths::each-returns-in_err-found-clause-gives : goal.paths::each-returns-in_err-found-clause-gives
+paths::each-returns-in_err-found-clause-gives g t c = λ clean inside items_in.
+    let i = c.loop-index.invariant in
+    let old = g.W.TreeSource.forest c.args.world.now in
+    let f = g.W.TreeSource.forest c.loop-index.world in
+    let f' = g.W.TreeSource.forest c.at_spot.new.world in
+    let held = c.args.frame in
+    let n = c.loop-index.index in
+    let items = c.args.items.now in
+    let x = c.index-items-index.result in
+    let p = plan_mean c.args.part.now in
+    let found = item_views c.loop-index.found in
+    let spot : Item → Spot = λ it. record { item = it; position = n + 1; last = length items } in
+    let e = c.in_err-found.field-0.0 in
+    handed_on item_views items_at AreIn _ f' e c.from_residual.result c.from_residual.ensures.1
+    (turns_stop _ _ _ item_views items_at AreIn (spot (item_at old (item_view x))) _ f' e i.turns (spots_left old items n x (length items) (omega arith) c.index-items-index.is) c.at_spot.ensures.goes.was_clean
+    (λ clean inside is_in.
+    let x_in = all_at (IsIn old) item_view items n x inside.1 (omega arith) c.index-items-index.is in
+    subst (λ fr. Gives (more (λ (s : Spot). p (Forms.in_focus fr s)) (items_at f found) (spot (item_at old (item_view x))) f) f' (Err e)) (frame_grown i.goes.grows held inside.0)
+    (subst (λ it. Gives (more (λ (s : Spot). p (Forms.in_focus (frame_at f held) s)) (items_at f found) (spot it) f) f' (Err e)) (item_at_grown i.goes.grows (item_view x) x_in)
+    (c.in_err-found.ensures.gives clean (frame_in_grown i.goes.grows held inside.0) is_in (in_grown i.goes.grows (item_view x) x_in)))) clean (inside, items_in))
+
+pub paths::each-returns-in_err-found-clause-goes : goal.paths::each-returns-in_err-found-clause-goes
+paths::each-returns-in_err-found-clause-goes g t c = goes_on_to c.loop-index.invariant.goes c.in_err-found.ensures.goes
+
+pub paths::each-returns-clause-goes : goal.paths::each-returns-clause-goes
+paths::each-returns-clause-goes g t c = c.loop-index.invariant.goes
+
+pub paths::each-returns-clause-gives : goal.paths::each-returns-clause-gives
+paths::each-returns-clause-gives g t c = λ clean inside rest_in.
+    let old = g.W.TreeSource.forest c.args.world.now in
+    turns_end _ _ _ c.loop-index.invariant.turns (ap (λ xs. focuses_from (suc c.loop-index.index) (length c.args.items.now) (items_at old (map item_view xs))) (drop_all c.loop-index.index c.args.items.now (omega arith))) clean (inside, rest_in)
+
+pub paths::at_spot-returns-clause-gives : goal.paths::at_spot-returns-clause-gives
+paths::at_spot-returns-clause-gives g t c = λ clean inside done_in item_in.
+    let f = g.W.TreeSource.forest c.args.world.now in
+    let held = c.args.frame in
+    let frame = frame_at f held in
+    let p = plan_mean c.args.part.now in
+    let value = c.in_ok-added.ensures.gives clean (record { slots_in = inside.slots_in; focus_in = item_in; addresses_in = inside.addresses_in }) in
+    more_next (λ (s : Spot). p (Forms.in_focus frame s)) (item_views c.args.done) (item_views c.in_ok-added.added) (item_views c.append.new.self) (spot_at f c.args.spot) _ _
+    c.in_ok-added.ensures.goes.grows done_in value (ap (map item_view) c.in_ok-append.ensures.items ∙ map-append item_view c.args.done.items c.in_ok-added.added.items)
+
+pub paths::at_spot-returns-in_err-added-clause-gives : goal.paths::at_spot-returns-in_err-added-clause-gives
+paths::at_spot-returns-in_err-added-clause-gives g t c = λ clean inside done_in item_in.
+    let f = g.W.TreeSource.forest c.args.world.now in
+    let held = c.args.frame in
+    let frame = frame_at f held in
+    let f' = g.W.TreeSource.forest c.evaluate.new.world in
+    let next = λ (ys : List Item). give (items_at f (item_views c.args.done) ++ ys) in
+    cut item_views items_at AreIn item_views items_at AreIn _ (plan_mean c.args.part.now (Forms.in_focus frame (spot_at f c.args.spot)) f) next f' c.in_err-added.field-0.0 c.from_residual.result
+    refl c.from_residual.ensures.1 (c.in_err-added.ensures.gives clean (record { slots_in = inside.slots_in; focus_in = item_in; addresses_in = inside.addresses_in }))
+
+pub paths::at_spot-returns-in_err-added-clause-goes : goal.paths::at_spot-returns-in_err-added-clause-goes
+paths::at_spot-returns-in_err-added-clause-goes g t c = c.in_err-added.ensures.goes
+
+pub paths::at_spot-returns-in_err-append-clause-goes : goal.paths::at_spot-returns-in_err-append-clause-goes
+paths::at_spot-returns-in_err-append-clause-goes g t c = c.in_ok-added.ensures.goes
+
+pub paths::at_spot-returns-clause-goes : goal.paths::at_spot-returns-clause-goes
+paths::at_spot-returns-clause-goes g t c = c.in_ok-added.ensures.goes
+
+pub evaluation::evaluate-returns-in-Root-clause-gives : goal.evaluation::evaluate-returns-in-Root-clause-gives
+evaluation::evaluate-returns-in-Root-clause-gives g t c = λ clean inside. rw (c.in-Root.is, plan-Root) (c.root.ensures.gives clean inside)
+
+pub evaluation::evaluate-returns-in-Root-clause-goes : goal.evaluation::evaluate-returns-in-Root-clause-goes
+evaluation::evaluate-returns-in-Root-clause-goes g t c = c.root.ensures.goes
+
+pub evaluation::evaluate-returns-in_err-nodes-in-Step-clause-gives : goal.evaluation::evaluate-returns-in_err-nodes-in-Step-clause-gives
+evaluation::evaluate-returns-in_err-nodes-in-Step-clause-gives g t c = λ clean inside.
+    let f = g.W.TreeSource.forest c.args.world.now in
+    let frame = frame_at f c.args.frame in
+    let f' = g.W.TreeSource.forest c.axis_items.new.world in
+    let axis = c.in-Step.axis in
+    let predicates = map plan_mean c.in-Step.predicates in
+    let next = λ (xs : List Item). in_turn (Forms.filtered frame) xs predicates >>= (λ ys. give (in_axis_order axis ys)) in
+    cut item_views items_at AreIn item_views items_at AreIn (plan_mean c.args.plan.now frame f) (on_axis axis c.in-Step.test frame.focus f) next f' c.in_err-nodes-in-Step.field-0.0 c.from_residual-in_err-nodes-in-Step.result
+    (ap (λ p. plan_mean p frame f) c.in-Step.is ∙ ap (λ m. m frame f) (plan-Step axis c.in-Step.test c.in-Step.predicates) ∙ step_is axis c.in-Step.test predicates frame f) c.from_residual-in_err-nodes-in-Step.ensures.1
+    (c.in_err-nodes-in-Step.ensures.gives clean inside)
+
+pub evaluation::evaluate-returns-in_err-kept-in-Step-clause-gives : goal.evaluation::evaluate-returns-in_err-kept-in-Step-clause-gives
+evaluation::evaluate-returns-in_err-kept-in-Step-clause-gives g t c = λ clean inside.
+    let f = g.W.TreeSource.forest c.args.world.now in
+    let held = c.args.frame in
+    let frame = frame_at f held in
+    let f' = g.W.TreeSource.forest c.axis_items.new.world in
+    let f'' = g.W.TreeSource.forest c.filter-in-Step.new.world in
+    let grows = c.in_ok-nodes-in-Step.ensures.goes.grows in
+    let axis = c.in-Step.axis in
+    let nodes = item_views c.in_ok-nodes-in-Step.nodes in
+    let first = c.in_ok-nodes-in-Step.ensures.gives (c.filter-in-Step.ensures.goes.was_clean clean) inside in
+    let filtering = λ (fr : Frame) (ps : List Plan). in_turn (Forms.filtered fr) (items_at f' nodes) (map plan_mean ps) f' in
+    let next = λ (ys : List Item). give (in_axis_order axis ys) in
+    cut item_views items_at AreIn item_views items_at AreIn (plan_mean c.args.plan.now frame f) (filtering (frame_at f' held) c.as_slice-in-Step.result.now) next f'' c.in_err-kept-in-Step.field-0.0 c.from_residual-in_err-kept-in-Step.result
+    (ap (λ p. plan_mean p frame f) c.in-Step.is ∙ ap (λ m. m frame f) (plan-Step axis c.in-Step.test c.in-Step.predicates) ∙ step_is axis c.in-Step.test (map plan_mean c.in-Step.predicates) frame f
+    ∙ ap (λ o. go_on o (λ xs. in_turn (Forms.filtered frame) xs (map plan_mean c.in-Step.predicates) >>= next)) first.1
+    ∙ ap (λ fr. go_on (filtering fr c.in-Step.predicates) next) (sym (frame_grown grows held inside)) ∙ ap (λ ps. go_on (filtering (frame_at f' held) ps) next) (sym c.as_slice-in-Step.ensures)) c.from_residual-in_err-kept-in-Step.ensures.1
+    (c.in_err-kept-in-Step.ensures.gives clean (frame_in_grown grows held inside) first.0)
+
+pub evaluation::evaluate-returns-in-Step-clause-gives : goal.evaluation::evaluate-returns-in-Step-clause-gives
+evaluation::evaluate-returns-in-Step-clause-gives g t c = λ clean inside.
+    let f = g.W.TreeSource.forest c.args.world.now in
+    let held = c.args.frame in
+    let frame = frame_at f held in
+    let f' = g.W.TreeSource.forest c.axis_items.new.world in
+    let f'' = g.W.TreeSource.forest c.filter-in-Step.new.world in
+    let grows = c.in_ok-nodes-in-Step.ensures.goes.grows in
+    let axis = c.in-Step.axis in
+    let nodes = item_views c.in_ok-nodes-in-Step.nodes in
+    let kept = item_views c.in_ok-kept-in-Step.kept in
+    let first = c.in_ok-nodes-in-Step.ensures.gives (c.filter-in-Step.ensures.goes.was_clean clean) inside in
+    let second = c.in_ok-kept-in-Step.ensures.gives clean (frame_in_grown grows held inside) first.0 in
+    let filtering = λ (fr : Frame) (ps : List Plan). in_turn (Forms.filtered fr) (items_at f' nodes) (map plan_mean ps) f' in
+    let next = λ (ys : List Item). give (in_axis_order axis ys) in
+    let ordered : item_views c.in_axis_order.result ≡ in_axis_order axis kept = c.in_axis_order.ensures in (
+      subst (AreIn f'') (sym ordered) (axis_order_in f'' axis kept second.0),
+      ap (λ p. plan_mean p frame f) c.in-Step.is ∙ ap (λ m. m frame f) (plan-Step axis c.in-Step.test c.in-Step.predicates) ∙ step_is axis c.in-Step.test (map plan_mean c.in-Step.predicates) frame f
+          ∙ ap (λ o. go_on o (λ xs. in_turn (Forms.filtered frame) xs (map plan_mean c.in-Step.predicates) >>= next)) first.1
+          ∙ ap (λ fr. go_on (filtering fr c.in-Step.predicates) next) (sym (frame_grown grows held inside)) ∙ ap (λ ps. go_on (filtering (frame_at f' held) ps) next) (sym c.as_slice-in-Step.ensures)
+          ∙ ap (λ o. go_on o next) second.1 ∙ ap (λ xs. (Ok xs, f'')) (axis_order_read f'' axis kept ∙ ap (items_at f'') (sym ordered)),
+    )
+
+pub evaluation::evaluate-returns-in_err-nodes-in-Step-clause-goes : goal.evaluation::evaluate-returns-in_err-nodes-in-Step-clause-goes
+evaluation::evaluate-returns-in_err-nodes-in-Step-clause-goes g t c = c.in_err-nodes-in-Step.ensures.goes
+
+pub evaluation::evaluate-returns-in_err-kept-in-Step-clause-goes : goal.evaluation::evaluate-returns-in_err-kept-in-Step-clause-goes
+evaluation::evaluate-returns-in_err-kept-in-Step-clause-goes g t c = goes_on_to c.in_ok-nodes-in-Step.ensures.goes c.in_err-kept-in-Step.ensures.goes
+
+pub evaluation::evaluate-returns-in-Step-clause-goes : goal.evaluation::evaluate-returns-in-Step-clause-goes
+evaluation::evaluate-returns-in-Step-clause-goes g t c = goes_on_to c.in_ok-nodes-in-Step.ensures.goes c.in_ok-kept-in-Step.ensures.goes
+
+pub evaluation::evaluate-returns-in_err-value-in-Named-clause-gives : goal.evaluation::evaluate-returns-in_err-value-in-Named-clause-gives
+evaluation::evaluate-returns-in_err-value-in-Named-clause-gives g t c = λ clean inside.
+    let f = g.W.TreeSource.forest c.args.world.now in
+    let frame = frame_at f c.args.frame in
+    let f' = g.W.TreeSource.forest c.evaluate-in-Named.new.world in
+    let kind = c.in-Named.kind in
+    let part = plan_mean c.in-Named.part in
+    let next = λ (xs : List Item). on_trees (λ trees. name_of kind (atomized trees xs)) >>= (λ good. part frame >>= (λ ys. plant_named kind good ys)) in
+    cut item_views items_at AreIn item_views items_at AreIn (plan_mean c.args.plan.now frame f) (plan_mean c.get-in-Named.result.now frame f) next f' c.in_err-value-in-Named.field-0.0 c.from_residual-in_err-value-in-Named.result
+    (ap (λ p. plan_mean p frame f) c.in-Named.is ∙ ap (λ m. m frame f) (plan-Named kind c.in-Named.name c.in-Named.part) ∙ named_is kind (plan_mean c.in-Named.name) part frame f ∙ ap (λ p. go_on (plan_mean p frame f) next) (sym c.get-in-Named.ensures)) c.from_residual-in_err-value-in-Named.ensures.1
+    (c.in_err-value-in-Named.ensures.gives clean inside)
+
+pub evaluation::evaluate-returns-in_err-name-in-Named-clause-gives : goal.evaluation::evaluate-returns-in_err-name-in-Named-clause-gives
+evaluation::evaluate-returns-in_err-name-in-Named-clause-gives g t c = λ clean inside.
+    let f = g.W.TreeSource.forest c.args.world.now in
+    let frame = frame_at f c.args.frame in
+    let f' = g.W.TreeSource.forest c.evaluate-in-Named.new.world in
+    let f'' = g.W.TreeSource.forest c.node_name.new.world in
+    let kind = c.in-Named.kind in
+    let part = plan_mean c.in-Named.part in
+    let value = item_views c.in_ok-value-in-Named.value in
+    let found = c.in_ok-value-in-Named.ensures.gives (c.node_name.ensures.goes.was_clean clean) inside in
+    let d : map item_view c.deref-in-Named.result.now ≡ value = ap (map item_view) c.deref-in-Named.ensures.value in
+    let naming = λ (xs : List ItemView). on_trees (λ trees. name_of kind (atomized trees (items_at f' xs))) f' in
+    let next = λ (good : Text). part frame >>= (λ ys. plant_named kind good ys) in
+    let meant : plan_mean c.args.plan.now frame f ≡ go_on (naming (map item_view c.deref-in-Named.result.now)) next =
+    ap (λ p. plan_mean p frame f) c.in-Named.is ∙ ap (λ m. m frame f) (plan-Named kind c.in-Named.name c.in-Named.part) ∙ named_is kind (plan_mean c.in-Named.name) part frame f
+    ∙ ap (λ p. go_on (plan_mean p frame f) (λ xs. on_trees (λ trees. name_of kind (atomized trees xs)) >>= next)) (sym c.get-in-Named.ensures)
+    ∙ ap (λ o. go_on o (λ xs. on_trees (λ trees. name_of kind (atomized trees xs)) >>= next)) found.1 ∙ ap (λ xs. go_on (naming xs) next) (sym d) in
+    cut (string_bytes {Z = Global}) (λ trees t. t) (λ trees t. Unit {0}) item_views items_at AreIn (plan_mean c.args.plan.now frame f) (naming (map item_view c.deref-in-Named.result.now)) next f'' c.in_err-name-in-Named.field-0.0 c.from_residual-in_err-name-in-Named.result
+    meant c.from_residual-in_err-name-in-Named.ensures.1 (c.in_err-name-in-Named.ensures.gives clean (subst (AreIn f') (sym d) found.0))
+
+pub evaluation::evaluate-returns-in_err-content-in-Named-clause-gives : goal.evaluation::evaluate-returns-in_err-content-in-Named-clause-gives
+evaluation::evaluate-returns-in_err-content-in-Named-clause-gives g t c = λ clean inside.
+    let f = g.W.TreeSource.forest c.args.world.now in
+    let held = c.args.frame in
+    let frame = frame_at f held in
+    let f' = g.W.TreeSource.forest c.evaluate-in-Named.new.world in
+    let f'' = g.W.TreeSource.forest c.node_name.new.world in
+    let f3 = g.W.TreeSource.forest c.evaluate-in-Named-2.new.world in
+    let kind = c.in-Named.kind in
+    let part = plan_mean c.in-Named.part in
+    let value = item_views c.in_ok-value-in-Named.value in
+    let was = c.evaluate-in-Named-2.ensures.goes.was_clean clean in
+    let found = c.in_ok-value-in-Named.ensures.gives (c.node_name.ensures.goes.was_clean was) inside in
+    let d : map item_view c.deref-in-Named.result.now ≡ value = ap (map item_view) c.deref-in-Named.ensures.value in
+    let name = c.in_ok-name-in-Named.ensures.gives was (subst (AreIn f') (sym d) found.0) in
+    let good = string_bytes c.in_ok-name-in-Named.name in
+    let grows = extends_more c.in_ok-value-in-Named.ensures.goes.grows c.in_ok-name-in-Named.ensures.goes.grows in
+    let naming = λ (xs : List ItemView). on_trees (λ trees. name_of kind (atomized trees (items_at f' xs))) f' in
+    let next = λ (good : Text). part frame >>= (λ ys. plant_named kind good ys) in
+    let last = λ (ys : List Item). plant_named kind good ys in
+    let meant : plan_mean c.args.plan.now frame f ≡ go_on (plan_mean c.get-in-Named-2.result.now (frame_at f'' held) f'') last =
+    ap (λ p. plan_mean p frame f) c.in-Named.is ∙ ap (λ m. m frame f) (plan-Named kind c.in-Named.name c.in-Named.part) ∙ named_is kind (plan_mean c.in-Named.name) part frame f
+    ∙ ap (λ p. go_on (plan_mean p frame f) (λ xs. on_trees (λ trees. name_of kind (atomized trees xs)) >>= next)) (sym c.get-in-Named.ensures)
+    ∙ ap (λ o. go_on o (λ xs. on_trees (λ trees. name_of kind (atomized trees xs)) >>= next)) found.1 ∙ ap (λ xs. go_on (naming xs) next) (sym d)
+    ∙ ap (λ o. go_on o next) name.1 ∙ ap (λ fr. go_on (part fr f'') last) (sym (frame_grown grows held inside)) ∙ ap (λ p. go_on (plan_mean p (frame_at f'' held) f'') last) (sym c.get-in-Named-2.ensures) in
+    cut item_views items_at AreIn item_views items_at AreIn (plan_mean c.args.plan.now frame f) (plan_mean c.get-in-Named-2.result.now (frame_at f'' held) f'') last f3 c.in_err-content-in-Named.field-0.0 c.from_residual-in_err-content-in-Named.result
+    meant c.from_residual-in_err-content-in-Named.ensures.1 (c.in_err-content-in-Named.ensures.gives clean (frame_in_grown grows held inside))
+
+pub evaluation::evaluate-returns-in-Named-clause-gives : goal.evaluation::evaluate-returns-in-Named-clause-gives
+evaluation::evaluate-returns-in-Named-clause-gives g t c = λ clean inside.
+    let f = g.W.TreeSource.forest c.args.world.now in
+    let held = c.args.frame in
+    let frame = frame_at f held in
+    let f' = g.W.TreeSource.forest c.evaluate-in-Named.new.world in
+    let f'' = g.W.TreeSource.forest c.node_name.new.world in
+    let f3 = g.W.TreeSource.forest c.evaluate-in-Named-2.new.world in
+    let f4 = g.W.TreeSource.forest c.named.new.world in
+    let kind = c.in-Named.kind in
+    let part = plan_mean c.in-Named.part in
+    let value = item_views c.in_ok-value-in-Named.value in
+    let content = item_views c.in_ok-content-in-Named.content in
+    let was = c.named.ensures.goes.was_clean clean in
+    let before = c.in_ok-content-in-Named.ensures.goes.was_clean was in
+    let found = c.in_ok-value-in-Named.ensures.gives (c.node_name.ensures.goes.was_clean before) inside in
+    let d : map item_view c.deref-in-Named.result.now ≡ value = ap (map item_view) c.deref-in-Named.ensures.value in
+    let d' : map item_view c.deref-in-Named-2.result.now ≡ content = ap (map item_view) c.deref-in-Named-2.ensures.value in
+    let name = c.in_ok-name-in-Named.ensures.gives before (subst (AreIn f') (sym d) found.0) in
+    let good = string_bytes c.in_ok-name-in-Named.name in
+    let grows = extends_more c.in_ok-value-in-Named.ensures.goes.grows c.in_ok-name-in-Named.ensures.goes.grows in
+    let inner = c.in_ok-content-in-Named.ensures.gives was (frame_in_grown grows held inside) in
+    let naming = λ (xs : List ItemView). on_trees (λ trees. name_of kind (atomized trees (items_at f' xs))) f' in
+    let next = λ (good : Text). part frame >>= (λ ys. plant_named kind good ys) in
+    let last = λ (ys : List Item). plant_named kind good ys in
+    let meant : plan_mean c.args.plan.now frame f ≡ plant_named kind good (items_at f3 (map item_view c.deref-in-Named-2.result.now)) f3 =
+    ap (λ p. plan_mean p frame f) c.in-Named.is ∙ ap (λ m. m frame f) (plan-Named kind c.in-Named.name c.in-Named.part) ∙ named_is kind (plan_mean c.in-Named.name) part frame f
+    ∙ ap (λ p. go_on (plan_mean p frame f) (λ xs. on_trees (λ trees. name_of kind (atomized trees xs)) >>= next)) (sym c.get-in-Named.ensures)
+    ∙ ap (λ o. go_on o (λ xs. on_trees (λ trees. name_of kind (atomized trees xs)) >>= next)) found.1 ∙ ap (λ xs. go_on (naming xs) next) (sym d)
+    ∙ ap (λ o. go_on o next) name.1 ∙ ap (λ fr. go_on (part fr f'') last) (sym (frame_grown grows held inside)) ∙ ap (λ p. go_on (plan_mean p (frame_at f'' held) f'') last) (sym c.get-in-Named-2.ensures)
+    ∙ ap (λ o. go_on o last) inner.1 ∙ ap (λ xs. plant_named kind good (items_at f3 xs) f3) (sym d') in
+    subst (λ o. Gives o f4 c.named.result) (sym meant) (c.named.ensures.gives clean (subst (AreIn f3) (sym d') inner.0))
+
+pub evaluation::evaluate-returns-in_err-value-in-Named-clause-goes : goal.evaluation::evaluate-returns-in_err-value-in-Named-clause-goes
+evaluation::evaluate-returns-in_err-value-in-Named-clause-goes g t c = c.in_err-value-in-Named.ensures.goes
+
+pub evaluation::evaluate-returns-in_err-name-in-Named-clause-goes : goal.evaluation::evaluate-returns-in_err-name-in-Named-clause-goes
+evaluation::evaluate-returns-in_err-name-in-Named-clause-goes g t c = goes_on_to c.in_ok-value-in-Named.ensures.goes c.in_err-name-in-Named.ensures.goes
+
+pub evaluation::evaluate-returns-in_err-content-in-Named-clause-goes : goal.evaluation::evaluate-returns-in_err-content-in-Named-clause-goes
+evaluation::evaluate-returns-in_err-content-in-Named-clause-goes g t c = goes_on_to (goes_on_to c.in_ok-value-in-Named.ensures.goes c.in_ok-name-in-Named.ensures.goes) c.in_err-content-in-Named.ensures.goes
+
+pub evaluation::evaluate-returns-in-Named-clause-goes : goal.evaluation::evaluate-returns-in-Named-clause-goes
+evaluation::evaluate-returns-in-Named-clause-goes g t c = goes_on_to (goes_on_to (goes_on_to c.in_ok-value-in-Named.ensures.goes c.in_ok-name-in-Named.ensures.goes) c.in_ok-content-in-Named.ensures.goes) c.named.ensures.goes
+
+pub evaluation::evaluate-returns-in_err-content-in-Unnamed-clause-gives : goal.evaluation::evaluate-returns-in_err-content-in-Unnamed-clause-gives
+evaluation::evaluate-returns-in_err-content-in-Unnamed-clause-gives g t c = λ clean inside.
+    let f = g.W.TreeSource.forest c.args.world.now in
+    let frame = frame_at f c.args.frame in
+    let f' = g.W.TreeSource.forest c.evaluate-in-Unnamed.new.world in
+    let next = λ (xs : List Item). plant_unnamed c.in-Unnamed.kind xs in
+    cut item_views items_at AreIn item_views items_at AreIn (plan_mean c.args.plan.now frame f) (plan_mean c.get-in-Unnamed.result.now frame f) next f' c.in_err-content-in-Unnamed.field-0.0 c.from_residual-in_err-content-in-Unnamed.result
+    (ap (λ p. plan_mean p frame f) c.in-Unnamed.is ∙ ap (λ m. m frame f) (plan-Unnamed c.in-Unnamed.kind c.in-Unnamed.part) ∙ ap (λ p. go_on (plan_mean p frame f) next) (sym c.get-in-Unnamed.ensures)) c.from_residual-in_err-content-in-Unnamed.ensures.1
+    (c.in_err-content-in-Unnamed.ensures.gives clean inside)
+
+pub evaluation::evaluate-returns-in-Unnamed-clause-gives : goal.evaluation::evaluate-returns-in-Unnamed-clause-gives
+evaluation::evaluate-returns-in-Unnamed-clause-gives g t c = λ clean inside.
+    let f = g.W.TreeSource.forest c.args.world.now in
+    let frame = frame_at f c.args.frame in
+    let f' = g.W.TreeSource.forest c.evaluate-in-Unnamed.new.world in
+    let f'' = g.W.TreeSource.forest c.unnamed.new.world in
+    let kind = c.in-Unnamed.kind in
+    let content = item_views c.in_ok-content-in-Unnamed.content in
+    let value = c.in_ok-content-in-Unnamed.ensures.gives (c.unnamed.ensures.goes.was_clean clean) inside in
+    let d : map item_view c.deref-in-Unnamed.result.now ≡ content = ap (map item_view) c.deref-in-Unnamed.ensures.value in
+    let meant : plan_mean c.args.plan.now frame f ≡ plant_unnamed kind (items_at f' (map item_view c.deref-in-Unnamed.result.now)) f' =
+    ap (λ p. plan_mean p frame f) c.in-Unnamed.is ∙ ap (λ m. m frame f) (plan-Unnamed kind c.in-Unnamed.part) ∙ ap (λ p. go_on (plan_mean p frame f) (λ xs. plant_unnamed kind xs)) (sym c.get-in-Unnamed.ensures)
+    ∙ ap (λ o. go_on o (λ xs. plant_unnamed kind xs)) value.1 ∙ ap (λ xs. plant_unnamed kind (items_at f' xs) f') (sym d) in
+    subst (λ o. Gives o f'' c.unnamed.result) (sym meant) (c.unnamed.ensures.gives clean (subst (AreIn f') (sym d) value.0))
+
+pub evaluation::evaluate-returns-in_err-content-in-Unnamed-clause-goes : goal.evaluation::evaluate-returns-in_err-content-in-Unnamed-clause-goes
+evaluation::evaluate-returns-in_err-content-in-Unnamed-clause-goes g t c = c.in_err-content-in-Unnamed.ensures.goes
+
+pub evaluation::evaluate-returns-in-Unnamed-clause-goes : goal.evaluation::evaluate-returns-in-Unnamed-clause-goes
+evaluation::evaluate-returns-in-Unnamed-clause-goes g t c = goes_on_to c.in_ok-content-in-Unnamed.ensures.goes c.unnamed.ensures.goes
+
+pub evaluation::evaluate-returns-in_err-values-in-Call-clause-gives : goal.evaluation::evaluate-returns-in_err-values-in-Call-clause-gives
+evaluation::evaluate-returns-in_err-values-in-Call-clause-gives g t c = λ clean inside.
+    let f = g.W.TreeSource.forest c.args.world.now in
+    let frame = frame_at f c.args.frame in
+    let f' = g.W.TreeSource.forest c.arguments.new.world in
+    let lists = λ (parts : List Plan). for_each (λ (part : Meaning). part frame) (map plan_mean parts) f in
+    let next = λ (values : List (List Item)). calling c.in-Call.function frame values in
+    cut lists_of tuple_at TupleIn item_views items_at AreIn (plan_mean c.args.plan.now frame f) (lists c.as_slice-in-Call.result.now) next f' c.in_err-values-in-Call.field-0.0 c.from_residual-in_err-values-in-Call.result
+    (ap (λ p. plan_mean p frame f) c.in-Call.is ∙ ap (λ m. m frame f) (plan-Call c.in-Call.function c.in-Call.parts) ∙ ap (λ ps. go_on (lists ps) next) (sym c.as_slice-in-Call.ensures)) c.from_residual-in_err-values-in-Call.ensures.1
+    (c.in_err-values-in-Call.ensures.gives clean inside)
+
+pub evaluation::evaluate-returns-in-Call-clause-gives : goal.evaluation::evaluate-returns-in-Call-clause-gives
+evaluation::evaluate-returns-in-Call-clause-gives g t c = λ clean inside.
+    let f = g.W.TreeSource.forest c.args.world.now in
+    let held = c.args.frame in
+    let frame = frame_at f held in
+    let f' = g.W.TreeSource.forest c.arguments.new.world in
+    let f'' = g.W.TreeSource.forest c.call.new.world in
+    let grows = c.in_ok-values-in-Call.ensures.goes.grows in
+    let lists = λ (parts : List Plan). for_each (λ (part : Meaning). part frame) (map plan_mean parts) f in
+    let function = c.in-Call.function in
+    let values = c.in_ok-values-in-Call.ensures.gives (c.call.ensures.goes.was_clean clean) inside in
+    let meant : plan_mean c.args.plan.now frame f ≡ calling function (frame_at f' held) (tuple_at f' (lists_of c.in_ok-values-in-Call.values)) f' =
+    ap (λ p. plan_mean p frame f) c.in-Call.is ∙ ap (λ m. m frame f) (plan-Call function c.in-Call.parts) ∙ ap (λ ps. go_on (lists ps) (λ values. calling function frame values)) (sym c.as_slice-in-Call.ensures)
+    ∙ ap (λ o. go_on o (λ values. calling function frame values)) values.1 ∙ ap (λ fr. calling function fr (tuple_at f' (lists_of c.in_ok-values-in-Call.values)) f') (sym (frame_grown grows held inside)) in
+    subst (λ o. Gives o f'' c.call.result) (sym meant) (c.call.ensures.gives clean (frame_in_grown grows held inside) values.0)
+
+pub evaluation::evaluate-returns-in_err-values-in-Call-clause-goes : goal.evaluation::evaluate-returns-in_err-values-in-Call-clause-goes
+evaluation::evaluate-returns-in_err-values-in-Call-clause-goes g t c = c.in_err-values-in-Call.ensures.goes
+
+pub evaluation::evaluate-returns-in-Call-clause-goes : goal.evaluation::evaluate-returns-in-Call-clause-goes
+evaluation::evaluate-returns-in-Call-clause-goes g t c = goes_on_to c.in_ok-values-in-Call.ensures.goes c.call.ensures.goes
+
+pub evaluation::evaluate-returns-in_err-answer-in-Quantified-clause-gives : goal.evaluation::evaluate-returns-in_err-answer-in-Quantified-clause-gives
+evaluation::evaluate-returns-in_err-answer-in-Quantified-clause-gives g t c = λ clean inside.
+    let f = g.W.TreeSource.forest c.args.world.now in
+    let frame = frame_at f c.args.frame in
+    let f' = g.W.TreeSource.forest c.satisfied.new.world in
+    let search = λ (wanted : Bool) (ranges : List Plan) (test : Plan). holds wanted (plan_mean test) (map plan_mean ranges) frame f in
+    let next = λ (answer : Bool). give (boolean answer) in
+    let ranges = c.as_slice-ranges.result.now in
+    let test = c.get-in-Quantified.result.now in
+    let meant : plan_mean c.args.plan.now frame f ≡ go_on (search c.deciding-wanted.result ranges test) next =
+    ap (λ p. plan_mean p frame f) c.in-Quantified.is ∙ ap (λ m. m frame f) (plan-Quantified c.in-Quantified.which c.in-Quantified.ranges c.in-Quantified.test)
+    ∙ ap (λ b. go_on (search b c.in-Quantified.ranges c.in-Quantified.test) next) (sym c.deciding-wanted.ensures) ∙ ap (λ rs. go_on (search c.deciding-wanted.result rs c.in-Quantified.test) next) (sym c.as_slice-ranges.ensures)
+    ∙ ap (λ p. go_on (search c.deciding-wanted.result ranges p) next) (sym c.get-in-Quantified.ensures) in
+    cut (λ (b : Bool). b) (λ trees b. b) (λ trees b. Unit {0}) item_views items_at AreIn (plan_mean c.args.plan.now frame f) (search c.deciding-wanted.result ranges test) next f' c.in_err-answer-in-Quantified.field-0.0 c.from_residual-in_err-answer-in-Quantified.result
+    meant c.from_residual-in_err-answer-in-Quantified.ensures.1 (c.in_err-answer-in-Quantified.ensures.gives clean inside)
+
+pub evaluation::evaluate-returns-clause-gives : goal.evaluation::evaluate-returns-clause-gives
+evaluation::evaluate-returns-clause-gives g t c = λ clean inside.
+    let f = g.W.TreeSource.forest c.args.world.now in
+    let frame = frame_at f c.args.frame in
+    let f' = g.W.TreeSource.forest c.satisfied.new.world in
+    let search = λ (wanted : Bool) (ranges : List Plan) (test : Plan). holds wanted (plan_mean test) (map plan_mean ranges) frame f in
+    let next = λ (answer : Bool). give (boolean answer) in
+    let ranges = c.as_slice-ranges.result.now in
+    let test = c.get-in-Quantified.result.now in
+    let meant : plan_mean c.args.plan.now frame f ≡ go_on (search c.deciding-wanted.result ranges test) next =
+    ap (λ p. plan_mean p frame f) c.in-Quantified.is ∙ ap (λ m. m frame f) (plan-Quantified c.in-Quantified.which c.in-Quantified.ranges c.in-Quantified.test)
+    ∙ ap (λ b. go_on (search b c.in-Quantified.ranges c.in-Quantified.test) next) (sym c.deciding-wanted.ensures) ∙ ap (λ rs. go_on (search c.deciding-wanted.result rs c.in-Quantified.test) next) (sym c.as_slice-ranges.ensures)
+    ∙ ap (λ p. go_on (search c.deciding-wanted.result ranges p) next) (sym c.get-in-Quantified.ensures) in
+    let answer = c.in_ok-answer-in-Quantified.ensures.gives clean inside in
+    let items = c.in_ok-single-in-Quantified.ensures in (
+      subst (AreIn f') (sym items) (tt, tt),
+      meant ∙ ap (λ o. go_on o next) answer.1 ∙ ap (λ xs. (Ok (items_at f' xs), f')) (sym items),
+    )
+
+pub evaluation::evaluate-returns-in_err-answer-in-Quantified-clause-goes : goal.evaluation::evaluate-returns-in_err-answer-in-Quantified-clause-goes
+evaluation::evaluate-returns-in_err-answer-in-Quantified-clause-goes g t c = c.in_err-answer-in-Quantified.ensures.goes
+
+pub evaluation::evaluate-returns-in_err-single-in-Quantified-clause-goes : goal.evaluation::evaluate-returns-in_err-single-in-Quantified-clause-goes
+evaluation::evaluate-returns-in_err-single-in-Quantified-clause-goes g t c = c.in_ok-answer-in-Quantified.ensures.goes
+
+pub evaluation::evaluate-returns-clause-goes : goal.evaluation::evaluate-returns-clause-goes
+evaluation::evaluate-returns-clause-goes g t c = c.in_ok-answer-in-Quantified.ensures.goes
+
+pub evaluation::arguments-loop-part-preserved : goal.evaluation::arguments-loop-part-preserved
+evaluation::arguments-loop-part-preserved g t c =
+    let i = c.loop-part.invariant in
+    let part = c.part-item.result in
+    let held = c.args.frame in
+    let f = g.W.TreeSource.forest c.loop-part.world in
+    record {
+      goes = goes_on_to i.goes c.next_argument.ensures.goes;
+      turns = turns_next _ _ _ (lists_of c.in_ok-lists.lists) (plan_mean part) _ _ i.turns (left_over plan_mean c.args.parts.now c.loop-part.part-index part (omega arith) c.part-item.is) c.next_argument.ensures.goes.was_clean
+          (λ clean inside is_in.
+          let s = c.in_ok-lists.ensures.gives clean (frame_in_grown i.goes.grows held inside) is_in in
+          (s.0, ap (λ fr. one_more (λ (m : Meaning). m fr) (tuple_at f (lists_of c.loop-part.lists)) (plan_mean part) f) (sym (frame_grown i.goes.grows held inside)) ∙ s.1));
+    }
+
+pub evaluation::arguments-returns-in_err-lists-clause-gives : goal.evaluation::arguments-returns-in_err-lists-clause-gives
+evaluation::arguments-returns-in_err-lists-clause-gives g t c = λ clean inside.
+    let i = c.loop-part.invariant in
+    let part = c.part-item.result in
+    let held = c.args.frame in
+    let f = g.W.TreeSource.forest c.loop-part.world in
+    let f' = g.W.TreeSource.forest c.next_argument.new.world in
+    let e = c.in_err-lists.field-0.0 in
+    handed_on lists_of tuple_at TupleIn _ f' e c.from_residual.result c.from_residual.ensures.1
+    (turns_stop _ _ _ lists_of tuple_at TupleIn (plan_mean part) _ f' e i.turns (left_over plan_mean c.args.parts.now c.loop-part.part-index part (omega arith) c.part-item.is) c.next_argument.ensures.goes.was_clean
+    (λ clean inside is_in. subst (λ fr. GivesLists (one_more (λ (m : Meaning). m fr) (tuple_at f (lists_of c.loop-part.lists)) (plan_mean part) f) f' (Err e)) (frame_grown i.goes.grows held inside) (c.in_err-lists.ensures.gives clean (frame_in_grown i.goes.grows held inside) is_in)) clean inside)
+
+pub evaluation::arguments-returns-in_err-lists-clause-goes : goal.evaluation::arguments-returns-in_err-lists-clause-goes
+evaluation::arguments-returns-in_err-lists-clause-goes g t c = goes_on_to c.loop-part.invariant.goes c.in_err-lists.ensures.goes
+
+pub evaluation::arguments-returns-clause-goes : goal.evaluation::arguments-returns-clause-goes
+evaluation::arguments-returns-clause-goes g t c = c.loop-part.invariant.goes
+
+pub evaluation::arguments-returns-clause-gives : goal.evaluation::arguments-returns-clause-gives
+evaluation::arguments-returns-clause-gives g t c = λ clean inside.
+    turns_end _ _ _ c.loop-part.invariant.turns (ap (map plan_mean) (drop_all c.loop-part.part-index c.args.parts.now (omega arith))) clean inside
+
+pub evaluation::next_argument-returns-clause-gives : goal.evaluation::next_argument-returns-clause-gives
+evaluation::next_argument-returns-clause-gives g t c = λ clean inside done_in.
+    let f = g.W.TreeSource.forest c.args.world.now in
+    list_next (λ (part : Meaning). part (frame_at f c.args.frame)) (lists_of c.args.done) (item_views c.in_ok-list.list) (lists_of c.push.new.self) (plan_mean c.args.part.now) _ _
+    c.in_ok-list.ensures.goes.grows done_in (c.in_ok-list.ensures.gives clean inside) (ap (map item_views) c.in_ok-push.ensures.items ∙ map-append item_views c.args.done.items (c.in_ok-list.list ∷ []))
+
+pub evaluation::next_argument-returns-in_err-list-clause-gives : goal.evaluation::next_argument-returns-in_err-list-clause-gives
+evaluation::next_argument-returns-in_err-list-clause-gives g t c = λ clean inside done_in.
+    let f = g.W.TreeSource.forest c.args.world.now in
+    let f' = g.W.TreeSource.forest c.evaluate.new.world in
+    handed_on lists_of tuple_at TupleIn _ f' c.in_err-list.field-0.0 c.from_residual.result c.from_residual.ensures.1
+    (go_on_stop item_views items_at AreIn lists_of tuple_at TupleIn _ (λ y. give (tuple_at f (lists_of c.args.done) ++ y ∷ [])) f' c.in_err-list.field-0.0 (c.in_err-list.ensures.gives clean inside))
+
+pub evaluation::next_argument-returns-in_err-list-clause-goes : goal.evaluation::next_argument-returns-in_err-list-clause-goes
+evaluation::next_argument-returns-in_err-list-clause-goes g t c = c.in_err-list.ensures.goes
+
+pub evaluation::next_argument-returns-in_err-push-clause-goes : goal.evaluation::next_argument-returns-in_err-push-clause-goes
+evaluation::next_argument-returns-in_err-push-clause-goes g t c = c.in_ok-list.ensures.goes
+
+pub evaluation::next_argument-returns-clause-goes : goal.evaluation::next_argument-returns-clause-goes
+evaluation::next_argument-returns-clause-goes g t c = c.in_ok-list.ensures.goes
+
+pub clauses::next_tuples-returns-in-Group-clause-gives : goal.clauses::next_tuples-returns-in-Group-clause-gives
+clauses::next_tuples-returns-in-Group-clause-gives g t c = λ clean inside tuples_in.
+    let f = g.W.TreeSource.forest c.args.world.now in
+    let frame = frame_at f c.args.frame in
+    let tuples = tuples_at f c.args.tuples in
+    subst (λ o. GivesTuples o (g.W.TreeSource.forest c.group.new.world) c.group.result)
+    (sym (ap (λ k. plan_clause_mean k frame tuples f) c.in-Group.is ∙ ap (λ m. m frame tuples f) (clause-Group c.in-Group.slots) ∙ ap (λ ss. Forms.group_tuples ss tuples f) (sym c.as_slice.ensures)))
+    (c.group.ensures.gives clean tuples_in)
+
+pub clauses::next_tuples-returns-in-Group-clause-goes : goal.clauses::next_tuples-returns-in-Group-clause-goes
+clauses::next_tuples-returns-in-Group-clause-goes g t c = c.group.ensures.goes
+
+pub clauses::next_tuples-returns-in_err-rows-in-Order-clause-gives : goal.clauses::next_tuples-returns-in_err-rows-in-Order-clause-gives
+clauses::next_tuples-returns-in_err-rows-in-Order-clause-gives g t c = λ clean inside tuples_in.
+    let f = g.W.TreeSource.forest c.args.world.now in
+    let frame = frame_at f c.args.frame in
+    let tuples = tuples_at f c.args.tuples in
+    let f' = g.W.TreeSource.forest c.key_rows.new.world in
+    let keys = λ (specs : List (Plan × OrderModifier)). for_each (λ t. keys_at (order_specs specs) (at_tuple frame t)) tuples f in
+    let next = λ (rows : List (List (List Atomic))). ordering c.in-Order.specs tuples rows in
+    cut columns_of (λ trees rows. rows) (λ trees rows. Unit {0}) (λ (ts : List (Tuple ItemView)). ts) tuples_at TuplesIn (plan_clause_mean c.args.clause.now frame tuples f) (keys c.as_slice-specs.result.now) next f' c.in_err-rows-in-Order.field-0.0 c.from_residual-in_err-rows-in-Order.result
+    (ap (λ k. plan_clause_mean k frame tuples f) c.in-Order.is ∙ ap (λ m. m frame tuples f) (clause-Order c.in-Order.specs) ∙ ap (λ ss. go_on (keys ss) next) (sym c.as_slice-specs.ensures)) c.from_residual-in_err-rows-in-Order.ensures.1
+    (c.in_err-rows-in-Order.ensures.gives clean inside tuples_in)
+
+pub clauses::next_tuples-returns-in_ok-rows-in-Order-clause-gives : goal.clauses::next_tuples-returns-in_ok-rows-in-Order-clause-gives
+clauses::next_tuples-returns-in_ok-rows-in-Order-clause-gives g t c = λ clean inside tuples_in.
+    let f = g.W.TreeSource.forest c.args.world.now in
+    let frame = frame_at f c.args.frame in
+    let held = c.args.tuples in
+    let tuples = tuples_at f held in
+    let f' = g.W.TreeSource.forest c.key_rows.new.world in
+    let grows = c.in_ok-rows-in-Order.ensures.goes.grows in
+    let keys = λ (specs : List (Plan × OrderModifier)). for_each (λ t. keys_at (order_specs specs) (at_tuple frame t)) tuples f in
+    let rows = columns_of c.in_ok-rows-in-Order.rows in
+    let values = c.in_ok-rows-in-Order.ensures.gives clean inside tuples_in in
+    let meant : plan_clause_mean c.args.clause.now frame tuples f ≡ ordering c.as_slice-specs.result.now (tuples_at f' held) rows f' =
+    ap (λ k. plan_clause_mean k frame tuples f) c.in-Order.is ∙ ap (λ m. m frame tuples f) (clause-Order c.in-Order.specs) ∙ ap (λ ss. go_on (keys ss) (λ rows. ordering c.in-Order.specs tuples rows)) (sym c.as_slice-specs.ensures)
+    ∙ ap (λ o. go_on o (λ rows. ordering c.in-Order.specs tuples rows)) values.1
+    ∙ ap (λ ss. ordering ss tuples rows f') (sym c.as_slice-specs.ensures) ∙ ap (λ ts. ordering c.as_slice-specs.result.now ts rows f') (sym (tuples_grown grows held tuples_in)) in
+    subst (λ o. GivesTuples o f' c.order.result) (sym meant) (c.order.ensures f' (tuples_in_grown grows held tuples_in))
+
+pub clauses::next_tuples-returns-in_err-rows-in-Order-clause-goes : goal.clauses::next_tuples-returns-in_err-rows-in-Order-clause-goes
+clauses::next_tuples-returns-in_err-rows-in-Order-clause-goes g t c = c.in_err-rows-in-Order.ensures.goes
+
+pub clauses::next_tuples-returns-in_ok-rows-in-Order-clause-goes : goal.clauses::next_tuples-returns-in_ok-rows-in-Order-clause-goes
+clauses::next_tuples-returns-in_ok-rows-in-Order-clause-goes g t c = c.in_ok-rows-in-Order.ensures.goes
+
+pub clauses::next_tuples-returns-in-Refused-clause-gives : goal.clauses::next_tuples-returns-in-Refused-clause-gives
+clauses::next_tuples-returns-in-Refused-clause-gives g t c = λ clean inside tuples_in.
+    let f = g.W.TreeSource.forest c.args.world.now in
+    let frame = frame_at f c.args.frame in
+    let tuples = tuples_at f c.args.tuples in
+    ap (λ k. (plan_clause_mean k frame tuples f).0) c.in-Refused.is ∙ ap (λ m. (m frame tuples f).0) (clause-Refused c.in-Refused.code)
+
+pub clauses::next_tuples-returns-in-Refused-clause-goes : goal.clauses::next_tuples-returns-in-Refused-clause-goes
+clauses::next_tuples-returns-in-Refused-clause-goes g t c = stays _ _
+
+pub clauses::key_rows-loop-index-preserved : goal.clauses::key_rows-loop-index-preserved
+clauses::key_rows-loop-index-preserved g t c =
+    let i = c.loop-index.invariant in
+    let old = g.W.TreeSource.forest c.args.world.now in
+    let f = g.W.TreeSource.forest c.loop-index.world in
+    let held = c.args.frame in
+    let n = c.loop-index.index in
+    let tuples = c.args.tuples.now in
+    let x = values_of c.tuple.result.now in
+    let specs = order_specs c.args.specs.now in
+    let done = columns_of c.loop-index.rows in
+    let act = λ (fr : Frame). one_more (λ t. keys_at specs (at_tuple fr t)) in
+    record {
+      goes = goes_on_to i.goes c.next_row.ensures.goes;
+      turns = turns_next _ _ _ (columns_of c.in_ok-rows.rows) (tuple_at old x) _ _ i.turns (left_at (tuple_at old) tuples n x [] (omega arith) c.tuple.ensures) c.next_row.ensures.goes.was_clean
+          (λ clean inside is_in.
+          let x_in = element (TupleIn old) tuples n x [] inside.1 (omega arith) c.tuple.ensures in
+          let s = c.in_ok-rows.ensures.gives clean (frame_in_grown i.goes.grows held inside.0) (tuple_in_grown i.goes.grows x x_in) in
+          (s.0, ap (λ fr. act fr done (tuple_at old x) f) (sym (frame_grown i.goes.grows held inside.0)) ∙ ap (λ y. act (frame_at f held) done y f) (sym (tuple_grown i.goes.grows x x_in)) ∙ s.1));
+      long = c.in_ok-rows.ensures.long ∙ ap suc i.long ∙ sym (add-one n);
+    }
+
+pub clauses::key_rows-returns-in_err-rows-clause-gives : goal.clauses::key_rows-returns-in_err-rows-clause-gives
+clauses::key_rows-returns-in_err-rows-clause-gives g t c = λ clean inside tuples_in.
+    let i = c.loop-index.invariant in
+    let old = g.W.TreeSource.forest c.args.world.now in
+    let f = g.W.TreeSource.forest c.loop-index.world in
+    let f' = g.W.TreeSource.forest c.next_row.new.world in
+    let held = c.args.frame in
+    let n = c.loop-index.index in
+    let tuples = c.args.tuples.now in
+    let x = values_of c.tuple.result.now in
+    let specs = order_specs c.args.specs.now in
+    let done = columns_of c.loop-index.rows in
+    let act = λ (fr : Frame). one_more (λ t. keys_at specs (at_tuple fr t)) in
+    let e = c.in_err-rows.field-0.0 in
+    handed_on columns_of same_tests any_tests _ f' e c.from_residual.result c.from_residual.ensures.1
+    (turns_stop _ _ _ columns_of same_tests any_tests (tuple_at old x) _ f' e i.turns (left_at (tuple_at old) tuples n x [] (omega arith) c.tuple.ensures) c.next_row.ensures.goes.was_clean
+    (λ clean inside is_in.
+    let x_in = element (TupleIn old) tuples n x [] inside.1 (omega arith) c.tuple.ensures in
+    subst (λ fr. GivesRows (act fr done (tuple_at old x) f) f' (Err e)) (frame_grown i.goes.grows held inside.0)
+    (subst (λ y. GivesRows (act (frame_at f held) done y f) f' (Err e)) (tuple_grown i.goes.grows x x_in)
+    (c.in_err-rows.ensures.gives clean (frame_in_grown i.goes.grows held inside.0) (tuple_in_grown i.goes.grows x x_in)))) clean (inside, tuples_in))
+
+pub clauses::key_rows-returns-in_err-rows-clause-goes : goal.clauses::key_rows-returns-in_err-rows-clause-goes
+clauses::key_rows-returns-in_err-rows-clause-goes g t c = goes_on_to c.loop-index.invariant.goes c.in_err-rows.ensures.goes
+
+pub clauses::key_rows-returns-clause-goes : goal.clauses::key_rows-returns-clause-goes
+clauses::key_rows-returns-clause-goes g t c = c.loop-index.invariant.goes
+
+pub clauses::key_rows-returns-clause-gives : goal.clauses::key_rows-returns-clause-gives
+clauses::key_rows-returns-clause-gives g t c = λ clean inside rest_in.
+    let old = g.W.TreeSource.forest c.args.world.now in
+    turns_end _ _ _ c.loop-index.invariant.turns (ap (map (tuple_at old)) (drop_all c.loop-index.index c.args.tuples.now (omega arith))) clean (inside, rest_in)
+
+pub clauses::next_row-returns-clause-gives : goal.clauses::next_row-returns-clause-gives
+clauses::next_row-returns-clause-gives g t c = λ clean inside tuple_in.
+    let f = g.W.TreeSource.forest c.args.world.now in
+    let held = c.args.frame in
+    let f' = g.W.TreeSource.forest c.keys.new.world in
+    let specs = order_specs c.args.specs.now in
+    let e : values_of c.in_ok-slots.slots.items ≡ values_of held.slots.now ++ values_of c.args.tuple.now = c.in_ok-slots.ensures in
+    let inner : Held = record { slots = c.deref.result; focus = held.focus; addresses = held.addresses } in
+    let same : values_of inner.slots.now ≡ values_of held.slots.now ++ values_of c.args.tuple.now = ap values_of c.deref.ensures.value ∙ e in
+    let row = c.in_ok-row.ensures.gives clean (frame_inner_in f held inner c.args.tuple.now same refl refl inside tuple_in) in
+    let made : keys_at specs (at_tuple (frame_at f held) (tuple_at f (values_of c.args.tuple.now))) f ≡ (Ok (column_of c.in_ok-row.row), f') = ap (λ fr. keys_at specs fr f) (sym (frame_inner f held inner c.args.tuple.now same refl refl)) ∙ row.1 in
+    (tt, ap (λ o. go_on o (λ y. give (columns_of c.args.done ++ y ∷ []))) made ∙ ap (λ rs. (Ok rs, f')) (sym (ap (map column_of) c.in_ok-push.ensures.items ∙ map-append column_of c.args.done.items (c.in_ok-row.row ∷ []))))
+
+pub clauses::next_row-returns-in_err-row-clause-gives : goal.clauses::next_row-returns-in_err-row-clause-gives
+clauses::next_row-returns-in_err-row-clause-gives g t c = λ clean inside tuple_in.
+    let f = g.W.TreeSource.forest c.args.world.now in
+    let held = c.args.frame in
+    let f' = g.W.TreeSource.forest c.keys.new.world in
+    let specs = order_specs c.args.specs.now in
+    let e : values_of c.in_ok-slots.slots.items ≡ values_of held.slots.now ++ values_of c.args.tuple.now = c.in_ok-slots.ensures in
+    let inner : Held = record { slots = c.deref.result; focus = held.focus; addresses = held.addresses } in
+    let same : values_of inner.slots.now ≡ values_of held.slots.now ++ values_of c.args.tuple.now = ap values_of c.deref.ensures.value ∙ e in
+    let meant = at_tuple (frame_at f held) (tuple_at f (values_of c.args.tuple.now)) in
+    let next = λ (y : List (List Atomic)). give (columns_of c.args.done ++ y ∷ []) in
+    cut column_of (λ trees keys. keys) (λ trees keys. Unit {0}) columns_of (λ trees rows. rows) (λ trees rows. Unit {0}) _ (keys_at specs meant f) next f' c.in_err-row.field-0.0 c.from_residual-in_err-row.result refl c.from_residual-in_err-row.ensures.1
+    (subst (λ fr. GivesKeys (keys_at specs fr f) f' (Err c.in_err-row.field-0.0)) (frame_inner f held inner c.args.tuple.now same refl refl)
+    (c.in_err-row.ensures.gives clean (frame_inner_in f held inner c.args.tuple.now same refl refl inside tuple_in)))
+
+pub clauses::next_row-returns-in_err-slots-clause-goes : goal.clauses::next_row-returns-in_err-slots-clause-goes
+clauses::next_row-returns-in_err-slots-clause-goes g t c = stays _ _
+
+pub clauses::next_row-returns-in_err-row-clause-goes : goal.clauses::next_row-returns-in_err-row-clause-goes
+clauses::next_row-returns-in_err-row-clause-goes g t c = c.in_err-row.ensures.goes
+
+pub clauses::next_row-returns-in_err-push-clause-goes : goal.clauses::next_row-returns-in_err-push-clause-goes
+clauses::next_row-returns-in_err-push-clause-goes g t c = c.in_ok-row.ensures.goes
+
+pub clauses::next_row-returns-clause-goes : goal.clauses::next_row-returns-clause-goes
+clauses::next_row-returns-clause-goes g t c = c.in_ok-row.ensures.goes
+
+pub clauses::keys-loop-part-preserved : goal.clauses::keys-loop-part-preserved
+clauses::keys-loop-part-preserved g t c =
+    let i = c.loop-part.invariant in
+    let spec = c.loop-part-item.result in
+    let held = c.args.frame in
+    let f = g.W.TreeSource.forest c.loop-part.world in
+    let done = column_of c.loop-part.keys in
+    let act = λ (fr : Frame). one_more (λ (part : Meaning). Forms.atoms_of part fr) in
+    record {
+      goes = goes_on_to i.goes c.next_key.ensures.goes;
+      turns = turns_next _ _ _ (column_of c.in_ok-keys.keys) (plan_mean spec.0, spec.1) _ _ i.turns (left_over (λ (part, modifier). (plan_mean part, modifier)) c.args.specs.now c.loop-part.part-index spec (omega arith) c.loop-part-item.is) c.next_key.ensures.goes.was_clean
+          (λ clean inside is_in.
+          let s = c.in_ok-keys.ensures.gives clean (frame_in_grown i.goes.grows held inside) in
+          (s.0, ap (λ fr. act fr done (plan_mean spec.0) f) (sym (frame_grown i.goes.grows held inside)) ∙ s.1));
+    }
+
+pub clauses::keys-returns-in_err-keys-clause-gives : goal.clauses::keys-returns-in_err-keys-clause-gives
+clauses::keys-returns-in_err-keys-clause-gives g t c = λ clean inside.
+    let i = c.loop-part.invariant in
+    let spec = c.loop-part-item.result in
+    let held = c.args.frame in
+    let f = g.W.TreeSource.forest c.loop-part.world in
+    let f' = g.W.TreeSource.forest c.next_key.new.world in
+    let done = column_of c.loop-part.keys in
+    let act = λ (fr : Frame). one_more (λ (part : Meaning). Forms.atoms_of part fr) in
+    let e = c.in_err-keys.field-0.0 in
+    handed_on column_of same_tests any_tests _ f' e c.from_residual.result c.from_residual.ensures.1
+    (turns_stop _ _ _ column_of same_tests any_tests (plan_mean spec.0, spec.1) _ f' e i.turns (left_over (λ (part, modifier). (plan_mean part, modifier)) c.args.specs.now c.loop-part.part-index spec (omega arith) c.loop-part-item.is) c.next_key.ensures.goes.was_clean
+    (λ clean inside is_in. subst (λ fr. GivesKeys (act fr done (plan_mean spec.0) f) f' (Err e)) (frame_grown i.goes.grows held inside) (c.in_err-keys.ensures.gives clean (frame_in_grown i.goes.grows held inside))) clean inside)
+
+pub clauses::keys-returns-in_err-keys-clause-goes : goal.clauses::keys-returns-in_err-keys-clause-goes
+clauses::keys-returns-in_err-keys-clause-goes g t c = goes_on_to c.loop-part.invariant.goes c.in_err-keys.ensures.goes
+
+pub clauses::keys-returns-clause-goes : goal.clauses::keys-returns-clause-goes
+clauses::keys-returns-clause-goes g t c = c.loop-part.invariant.goes
+
+pub clauses::keys-returns-clause-gives : goal.clauses::keys-returns-clause-gives
+clauses::keys-returns-clause-gives g t c = λ clean inside.
+    turns_end _ _ _ c.loop-part.invariant.turns (ap order_specs (drop_all c.loop-part.part-index c.args.specs.now (omega arith))) clean inside
+
+pub clauses::next_key-returns-clause-gives : goal.clauses::next_key-returns-clause-gives
+clauses::next_key-returns-clause-gives g t c = λ clean inside.
+    let f = g.W.TreeSource.forest c.args.world.now in
+    let frame = frame_at f c.args.frame in
+    let f' = g.W.TreeSource.forest c.evaluate.new.world in
+    let f'' = g.W.TreeSource.forest c.atomized.new.source in
+    let value = item_views c.in_ok-value.value in
+    let was = c.atomized.ensures.was_clean clean in
+    let found = c.in_ok-value.ensures.gives was inside in
+    let d : map item_view c.deref.result.now ≡ value = ap (map item_view) c.deref.ensures.value in
+    let atoms : atomics_of c.in_ok-key.key ≡ atomized f' (items_at f' value) = c.in_ok-key.ensures.value clean ∙ ap (λ xs. atomized f' (items_at f' xs)) d in
+    let same : f'' ≡ f' = c.atomized.ensures.keeps in
+    let made : column_of c.args.done ++ atomized f' (items_at f' value) ∷ [] ≡ column_of c.push.new.self =
+    ap (λ a. column_of c.args.done ++ a ∷ []) (sym atoms) ∙ sym (ap (map atomics_of) c.in_ok-push.ensures.items ∙ map-append atomics_of c.args.done.items (c.in_ok-key.key ∷ [])) in
+    (tt, ap (λ o. go_on (go_on o (λ xs. on_trees (λ trees. Ok (atomized trees xs)))) (λ y. give (column_of c.args.done ++ y ∷ []))) found.1 ∙ ap (λ ks. (Ok ks, f')) made ∙ ap (λ h. (Ok (column_of c.push.new.self), h)) (sym same))
+
+pub clauses::next_key-returns-in_err-value-clause-gives : goal.clauses::next_key-returns-in_err-value-clause-gives
+clauses::next_key-returns-in_err-value-clause-gives g t c = λ clean inside.
+    let f = g.W.TreeSource.forest c.args.world.now in
+    let frame = frame_at f c.args.frame in
+    let f' = g.W.TreeSource.forest c.evaluate.new.world in
+    let e = c.in_err-value.field-0.0 in
+    let first = λ (xs : List Item). on_trees (λ trees. Ok (atomized trees xs)) in
+    let next = λ (y : List Atomic). give (column_of c.args.done ++ y ∷ []) in
+    cut (λ (as' : List Atomic). as') (λ trees as'. as') (λ trees as'. Unit {0}) column_of (λ trees keys. keys) (λ trees keys. Unit {0}) _ (go_on (plan_mean c.args.part.now frame f) first) next f' e c.from_residual.result refl c.from_residual.ensures.1
+    (go_on_stop item_views items_at AreIn (λ (as' : List Atomic). as') (λ trees as'. as') (λ trees as'. Unit {0}) (plan_mean c.args.part.now frame f) first f' e (c.in_err-value.ensures.gives clean inside))
+
+pub clauses::next_key-returns-in_err-value-clause-goes : goal.clauses::next_key-returns-in_err-value-clause-goes
+clauses::next_key-returns-in_err-value-clause-goes g t c = c.in_err-value.ensures.goes
+
+pub clauses::next_key-returns-in_err-key-clause-goes : goal.clauses::next_key-returns-in_err-key-clause-goes
+clauses::next_key-returns-in_err-key-clause-goes g t c = goes_on_to c.in_ok-value.ensures.goes (same_goes c.atomized.ensures.keeps c.atomized.ensures.was_clean)
+
+pub clauses::next_key-returns-in_err-push-clause-goes : goal.clauses::next_key-returns-in_err-push-clause-goes
+clauses::next_key-returns-in_err-push-clause-goes g t c = goes_on_to c.in_ok-value.ensures.goes (same_goes c.atomized.ensures.keeps c.atomized.ensures.was_clean)
+
+pub clauses::next_key-returns-clause-goes : goal.clauses::next_key-returns-clause-goes
+clauses::next_key-returns-clause-goes g t c = goes_on_to c.in_ok-value.ensures.goes (same_goes c.atomized.ensures.keeps c.atomized.ensures.was_clean)
+
+pub paths::next_items-returns-in-Each-clause-gives : goal.paths::next_items-returns-in-Each-clause-gives
+paths::next_items-returns-in-Each-clause-gives g t c = λ clean inside items_in.
+    let f = g.W.TreeSource.forest c.args.world.now in
+    let held = c.args.frame in
+    let frame = frame_at f held in
+    let items = item_views c.args.items in
+    let f' = g.W.TreeSource.forest c.each.new.world in
+    let d : map item_view c.deref.result.now ≡ items = ap (map item_view) c.deref.ensures.value in
+    let d' : map item_view c.deref-in-Each.result.now ≡ items = ap (map item_view) c.deref-in-Each.ensures.value in
+    let p = plan_mean c.in-Each.part in
+    let found = c.in_ok-found-in-Each.ensures.gives clean inside (subst (AreIn f) (sym d') items_in) in
+    let meant : plan_step_mean c.args.step.now frame (items_at f items) f ≡ on_trees (λ trees. gathered trees (items_at f' (item_views c.in_ok-found-in-Each.found))) f' =
+    ap (λ k. plan_step_mean k frame (items_at f items) f) c.in-Each.is ∙ ap (λ m. m frame (items_at f items) f) (step-Each c.in-Each.part)
+    ∙ slash_ok frame (items_at f items) p f (ap (λ xs. forget (all_nodes XPTY0019 (items_at f xs))) (sym d) ∙ c.in_ok-only_nodes-in-Each.ensures f)
+    ∙ ap (λ xs. go_on (collected (λ focus. p (Forms.in_focus frame focus)) (focuses (items_at f xs)) f) (λ ys. on_trees (λ trees. gathered trees ys))) (sym d')
+    ∙ ap (λ o. go_on o (λ ys. on_trees (λ trees. gathered trees ys))) found.1 in
+    subst (λ o. Gives o f' c.gather.result) (sym meant) (c.gather.ensures f' found.0)
+
+pub paths::next_items-returns-in-Each-clause-goes : goal.paths::next_items-returns-in-Each-clause-goes
+paths::next_items-returns-in-Each-clause-goes g t c = c.in_ok-found-in-Each.ensures.goes
+
+pub paths::next_items-returns-clause-gives : goal.paths::next_items-returns-clause-gives
+paths::next_items-returns-clause-gives g t c = λ clean inside items_in.
+    let f = g.W.TreeSource.forest c.args.world.now in
+    let frame = frame_at f c.args.frame in
+    let items = item_views c.args.items in
+    let f' = g.W.TreeSource.forest c.scan.new.world in
+    let d : map item_view c.deref-in-Scan.result.now ≡ items = ap (map item_view) c.deref-in-Scan.ensures.value in
+    subst (λ o. Gives o f' c.scan.result)
+    (sym (ap (λ k. plan_step_mean k frame (items_at f items) f) c.in-Scan.is ∙ ap (λ m. m frame (items_at f items) f) (step-Scan c.in-Scan.axis c.in-Scan.test) ∙ ap (λ xs. Forms.scan c.in-Scan.axis c.in-Scan.test (items_at f xs) f) (sym d)))
+    (c.scan.ensures.gives clean (subst (AreIn f) (sym d) items_in))
+
+pub paths::next_items-returns-clause-goes : goal.paths::next_items-returns-clause-goes
+paths::next_items-returns-clause-goes g t c = c.scan.ensures.goes
+
+pub quantified::satisfied-turn-requires : goal.quantified::satisfied-turn-requires
+quantified::satisfied-turn-requires g t c = λ κs live. (omega (arith, c.decreases), (live, c.requires))
+
+pub quantified::turn-evaluate-requires : goal.quantified::turn-evaluate-requires
+quantified::turn-evaluate-requires g t c = λ κs live.
+    let ranges = c.args.ranges.now in
+    let part = c.index-ranges-opened.result in
+    let among = at_most size-Plan ranges c.args.opened part (omega arith) in
+    let this = ap size-Plan c.index-ranges-opened.is in
+    let whole = ap size-Plan c.requires.is ∙ sized-Quantified c.requires.which ranges c.args.test.now in
+    (omega (arith, whole, among, this, c.decreases), live)
+
+pub quantified::turn-tested-requires : goal.quantified::turn-tested-requires
+quantified::turn-tested-requires g t c = λ κs live.
+    let whole = ap size-Plan c.requires.is ∙ sized-Quantified c.requires.which c.args.ranges.now c.args.test.now in
+    (omega (arith, whole, c.decreases), live)
+
+pub evaluation::evaluate-satisfied-requires : goal.evaluation::evaluate-satisfied-requires
+evaluation::evaluate-satisfied-requires g t c = λ κs live.
+    let is = c.in-Quantified.is ∙ ap (λ rs. plan.Quantified c.in-Quantified.which rs c.in-Quantified.test) (sym c.as_slice-ranges.ensures) ∙ ap (λ p. plan.Quantified c.in-Quantified.which c.as_slice-ranges.result.now p) (sym c.get-in-Quantified.ensures) in
+    (omega (arith, c.decreases), (live, record { which = c.in-Quantified.which; is = is }))
+
+pub quantified::satisfied-turns-init : goal.quantified::satisfied-turns-init
+quantified::satisfied-turns-init g t c =
+    let none = c.new-stack.ensures.items in
+    let empty : stack_of c.new-stack.result ≡ [] = ap (map values_left) none in
+    let old = g.W.TreeSource.forest c.args.world.now in
+    let held = c.args.frame in
+    record {
+      goes = stays _ _;
+      within = (let long = ap length none in omega arith);
+      in_slots = values_of-clones held.slots.now c.in_ok-slots.slots.items c.in_ok-slots.ensures.ok ∙ sym (append-nil (values_of held.slots.now)) ∙ ap (λ s. values_of held.slots.now ++ map (take 1) s) (sym empty);
+      rest = λ clean inside. subst (λ s. TupleIn old s × (resumed c.args.wanted (plan_mean c.args.test.now) (holds c.args.wanted (plan_mean c.args.test.now)) (map plan_mean c.args.ranges.now) (frame_at old held) (tuple_at old s) old ≡ holds c.args.wanted (plan_mean c.args.test.now) (map plan_mean c.args.ranges.now) (frame_at old held) old)) (sym empty) (tt, refl);
+    }
+
+pub quantified::satisfied-turns-preserved : goal.quantified::satisfied-turns-preserved
+quantified::satisfied-turns-preserved g t c =
+    let i = c.turns.invariant in
+    let old = g.W.TreeSource.forest c.args.world.now in
+    let f = g.W.TreeSource.forest c.turns.world in
+    let f' = g.W.TreeSource.forest c.turn.new.world in
+    let held = c.args.frame in
+    let frame = frame_at old held in
+    let inner : Held = record { slots = c.deref.result; focus = held.focus; addresses = held.addresses } in
+    let stack = stack_of c.turns.stack in
+    let wanted = c.args.wanted in
+    let test = plan_mean c.args.test.now in
+    let parts = map plan_mean c.args.ranges.now in
+    let whole = holds wanted test parts frame old in
+    let n = c.len-opened.result in
+    let high : length stack ≡ length c.turns.stack.items = length-map c.turns.stack.items values_left in
+    let opened : n ≡ length stack = omega arith in
+    let many : length parts ≡ length c.args.ranges.now = length-map c.args.ranges.now plan_mean in
+    let within : length stack ≤ length parts = (let w = i.within in omega arith) in
+    let slots_are : values_of inner.slots.now ≡ values_of held.slots.now ++ map (take 1) stack = ap values_of c.deref.ensures.value ∙ i.in_slots in
+    let top : FrameIn old held → frame_at f inner ≡ at_top frame (tuple_at f stack) = λ inside. frame_open f held inner stack slots_are refl refl ∙ ap (λ fr. at_top fr (tuple_at f stack)) (frame_grown i.goes.grows held inside) in
+    let at : (clean : g.W.TreeSource.is_clean c.turns.world) → FrameIn old held → At wanted test parts frame whole f stack = λ clean inside. record { within = within; is_in = (i.rest clean inside).0; rest = (i.rest clean inside).1 } in
+    let inner_in : (clean : g.W.TreeSource.is_clean c.turns.world) → FrameIn old held → FrameIn f inner = λ clean inside. frame_open_in f held inner stack slots_are refl refl (frame_in_grown i.goes.grows held inside) (i.rest clean inside).0 in
+    let items = item_views c.in-Some.items.value in
+    let spent : length c.args.ranges.now ≤ n → items ≡ [] = λ full. subst (λ r. IfSome r (λ its. item_views its.value ≡ [])) c.in-Some.is (c.in_ok-found.ensures.spent full) in
+    let outer = length held.slots.now in
+    let slots = values_of c.turns.slots.items in
+    let slots' = values_of c.advance.new.slots.items in
+    let stack' = stack_of c.advance.new.stack in
+    let moved : Moved outer slots stack items slots' stack' = subst (MovesOn outer slots stack items slots' stack') c.if-not-branch.false c.in_ok-advance.ensures in
+    let after : length stack' ≡ length c.advance.new.stack.items = length-map c.advance.new.stack.items values_left in
+    let few : length stack' ≤ length parts = moved_within (length parts) outer slots stack slots' stack' items within (λ full. spent (omega arith)) moved in
+    record {
+      goes = goes_on_to i.goes c.turn.ensures.goes;
+      within = omega arith;
+      in_slots = moved_slots outer (values_of held.slots.now) slots stack slots' stack' items (sym (length-map held.slots.now (λ slot. item_views slot.value))) i.in_slots moved;
+      rest = λ clean inside.
+          let was = c.turn.ensures.goes.was_clean clean in
+          let gives = c.in_ok-found.ensures.gives clean (inner_in was inside) in
+          let step = some_found wanted test (drop n parts) (frame_at f inner) f f' c.in_ok-found.found c.in-Some.items c.in-Some.is gives in
+          let next = turn_moves wanted test parts frame whole f f' stack stack' slots slots' items outer n (at was inside) c.turn.ensures.goes.grows opened (step.0, ap (λ fr. turn wanted test (drop n parts) fr f) (sym (top inside)) ∙ step.1) (λ full. spent (omega arith)) moved in
+          (next.is_in, next.rest);
+    }
+
+pub quantified::satisfied-turns-smaller : goal.quantified::satisfied-turns-smaller
+quantified::satisfied-turns-smaller g t c =
+    let i = c.turns.invariant in
+    let old = g.W.TreeSource.forest c.args.world.now in
+    let f = g.W.TreeSource.forest c.turns.world in
+    let f' = g.W.TreeSource.forest c.turn.new.world in
+    let held = c.args.frame in
+    let frame = frame_at old held in
+    let inner : Held = record { slots = c.deref.result; focus = held.focus; addresses = held.addresses } in
+    let stack = stack_of c.turns.stack in
+    let wanted = c.args.wanted in
+    let test = plan_mean c.args.test.now in
+    let parts = map plan_mean c.args.ranges.now in
+    let whole = holds wanted test parts frame old in
+    let n = c.len-opened.result in
+    let high : length stack ≡ length c.turns.stack.items = length-map c.turns.stack.items values_left in
+    let opened : n ≡ length stack = omega arith in
+    let many : length parts ≡ length c.args.ranges.now = length-map c.args.ranges.now plan_mean in
+    let within : length stack ≤ length parts = (let w = i.within in omega arith) in
+    let slots_are : values_of inner.slots.now ≡ values_of held.slots.now ++ map (take 1) stack = ap values_of c.deref.ensures.value ∙ i.in_slots in
+    let top : FrameIn old held → frame_at f inner ≡ at_top frame (tuple_at f stack) = λ inside. frame_open f held inner stack slots_are refl refl ∙ ap (λ fr. at_top fr (tuple_at f stack)) (frame_grown i.goes.grows held inside) in
+    let at : (clean : g.W.TreeSource.is_clean c.turns.world) → FrameIn old held → At wanted test parts frame whole f stack = λ clean inside. record { within = within; is_in = (i.rest clean inside).0; rest = (i.rest clean inside).1 } in
+    let inner_in : (clean : g.W.TreeSource.is_clean c.turns.world) → FrameIn old held → FrameIn f inner = λ clean inside. frame_open_in f held inner stack slots_are refl refl (frame_in_grown i.goes.grows held inside) (i.rest clean inside).0 in
+    let items = item_views c.in-Some.items.value in
+    let spent : length c.args.ranges.now ≤ n → items ≡ [] = λ full. subst (λ r. IfSome r (λ its. item_views its.value ≡ [])) c.in-Some.is (c.in_ok-found.ensures.spent full) in
+    let outer = length held.slots.now in
+    let slots = values_of c.turns.slots.items in
+    let slots' = values_of c.advance.new.slots.items in
+    let stack' = stack_of c.advance.new.stack in
+    let moved : Moved outer slots stack items slots' stack' = subst (MovesOn outer slots stack items slots' stack') c.if-not-branch.false c.in_ok-advance.ensures in
+    let after : length stack' ≡ length c.advance.new.stack.items = length-map c.advance.new.stack.items values_left in
+    let values : length items ≡ length c.in-Some.items.value.items = length-map c.in-Some.items.value.items item_view in
+    let lighter = moved_lighter (2 ^ 64) (length parts) outer slots stack slots' stack' items within (omega arith) (λ full. spent (omega arith)) moved in
+    subst (λ k. weigh (2 ^ 64) (all_weigh (2 ^ 64)) k stack' < weigh (2 ^ 64) (all_weigh (2 ^ 64)) k stack) many lighter
+
+pub quantified::satisfied-advance-requires : goal.quantified::satisfied-advance-requires
+quantified::satisfied-advance-requires g t c =
+    let i = c.turns.invariant in
+    let held = c.args.frame in
+    let a = length-map c.turns.slots.items (λ slot. item_views slot.value) in
+    let b = length-map held.slots.now (λ slot. item_views slot.value) in
+    let d = length-map (stack_of c.turns.stack) (take 1) in
+    let h = length-map c.turns.stack.items values_left in
+    let long = ap length i.in_slots ∙ length-append (values_of held.slots.now) (map (take 1) (stack_of c.turns.stack)) in
+    omega arith
+
+pub quantified::satisfied-returns-in_err-found-clause-gives : goal.quantified::satisfied-returns-in_err-found-clause-gives
+quantified::satisfied-returns-in_err-found-clause-gives g t c = λ clean inside.
+    let i = c.turns.invariant in
+    let old = g.W.TreeSource.forest c.args.world.now in
+    let f = g.W.TreeSource.forest c.turns.world in
+    let f' = g.W.TreeSource.forest c.turn.new.world in
+    let held = c.args.frame in
+    let frame = frame_at old held in
+    let inner : Held = record { slots = c.deref.result; focus = held.focus; addresses = held.addresses } in
+    let stack = stack_of c.turns.stack in
+    let wanted = c.args.wanted in
+    let test = plan_mean c.args.test.now in
+    let parts = map plan_mean c.args.ranges.now in
+    let whole = holds wanted test parts frame old in
+    let n = c.len-opened.result in
+    let high : length stack ≡ length c.turns.stack.items = length-map c.turns.stack.items values_left in
+    let opened : n ≡ length stack = omega arith in
+    let many : length parts ≡ length c.args.ranges.now = length-map c.args.ranges.now plan_mean in
+    let within : length stack ≤ length parts = (let w = i.within in omega arith) in
+    let slots_are : values_of inner.slots.now ≡ values_of held.slots.now ++ map (take 1) stack = ap values_of c.deref.ensures.value ∙ i.in_slots in
+    let top : FrameIn old held → frame_at f inner ≡ at_top frame (tuple_at f stack) = λ inside. frame_open f held inner stack slots_are refl refl ∙ ap (λ fr. at_top fr (tuple_at f stack)) (frame_grown i.goes.grows held inside) in
+    let at : (clean : g.W.TreeSource.is_clean c.turns.world) → FrameIn old held → At wanted test parts frame whole f stack = λ clean inside. record { within = within; is_in = (i.rest clean inside).0; rest = (i.rest clean inside).1 } in
+    let inner_in : (clean : g.W.TreeSource.is_clean c.turns.world) → FrameIn old held → FrameIn f inner = λ clean inside. frame_open_in f held inner stack slots_are refl refl (frame_in_grown i.goes.grows held inside) (i.rest clean inside).0 in
+    let e = c.in_err-found.field-0.0 in
+    let was = c.turn.ensures.goes.was_clean clean in
+    let step = subst (λ fr. GivesTurn (turn wanted test (drop n parts) fr f) f' (Err e)) (top inside) (c.in_err-found.ensures.gives clean (inner_in was inside)) in
+    handed_on (λ (b : Bool). b) (λ trees b. b) (λ trees b. Unit {0}) whole f' e c.from_residual-in_err-found.result c.from_residual-in_err-found.ensures.1
+    (turn_stops wanted test parts frame whole f f' stack n e (at was inside) opened step)
+
+pub quantified::satisfied-returns-in_default-clause-gives : goal.quantified::satisfied-returns-in_default-clause-gives
+quantified::satisfied-returns-in_default-clause-gives g t c = λ clean inside.
+    let i = c.turns.invariant in
+    let old = g.W.TreeSource.forest c.args.world.now in
+    let f = g.W.TreeSource.forest c.turns.world in
+    let f' = g.W.TreeSource.forest c.turn.new.world in
+    let held = c.args.frame in
+    let frame = frame_at old held in
+    let inner : Held = record { slots = c.deref.result; focus = held.focus; addresses = held.addresses } in
+    let stack = stack_of c.turns.stack in
+    let wanted = c.args.wanted in
+    let test = plan_mean c.args.test.now in
+    let parts = map plan_mean c.args.ranges.now in
+    let whole = holds wanted test parts frame old in
+    let n = c.len-opened.result in
+    let high : length stack ≡ length c.turns.stack.items = length-map c.turns.stack.items values_left in
+    let opened : n ≡ length stack = omega arith in
+    let many : length parts ≡ length c.args.ranges.now = length-map c.args.ranges.now plan_mean in
+    let within : length stack ≤ length parts = (let w = i.within in omega arith) in
+    let slots_are : values_of inner.slots.now ≡ values_of held.slots.now ++ map (take 1) stack = ap values_of c.deref.ensures.value ∙ i.in_slots in
+    let top : FrameIn old held → frame_at f inner ≡ at_top frame (tuple_at f stack) = λ inside. frame_open f held inner stack slots_are refl refl ∙ ap (λ fr. at_top fr (tuple_at f stack)) (frame_grown i.goes.grows held inside) in
+    let at : (clean : g.W.TreeSource.is_clean c.turns.world) → FrameIn old held → At wanted test parts frame whole f stack = λ clean inside. record { within = within; is_in = (i.rest clean inside).0; rest = (i.rest clean inside).1 } in
+    let inner_in : (clean : g.W.TreeSource.is_clean c.turns.world) → FrameIn old held → FrameIn f inner = λ clean inside. frame_open_in f held inner stack slots_are refl refl (frame_in_grown i.goes.grows held inside) (i.rest clean inside).0 in
+    let was = c.turn.ensures.goes.was_clean clean in
+    let gives = c.in_ok-found.ensures.gives clean (inner_in was inside) in
+    let step = none_found wanted test (drop n parts) (frame_at f inner) f f' c.in_ok-found.found c.in_default.is gives in
+    (tt, turn_decides wanted test parts frame whole f f' stack n (at was inside) opened (ap (λ fr. turn wanted test (drop n parts) fr f) (sym (top inside)) ∙ step))
+
+pub quantified::satisfied-returns-then-not-branch-clause-gives : goal.quantified::satisfied-returns-then-not-branch-clause-gives
+quantified::satisfied-returns-then-not-branch-clause-gives g t c = λ clean inside.
+    let i = c.turns.invariant in
+    let old = g.W.TreeSource.forest c.args.world.now in
+    let f = g.W.TreeSource.forest c.turns.world in
+    let f' = g.W.TreeSource.forest c.turn.new.world in
+    let held = c.args.frame in
+    let frame = frame_at old held in
+    let inner : Held = record { slots = c.deref.result; focus = held.focus; addresses = held.addresses } in
+    let stack = stack_of c.turns.stack in
+    let wanted = c.args.wanted in
+    let test = plan_mean c.args.test.now in
+    let parts = map plan_mean c.args.ranges.now in
+    let whole = holds wanted test parts frame old in
+    let n = c.len-opened.result in
+    let high : length stack ≡ length c.turns.stack.items = length-map c.turns.stack.items values_left in
+    let opened : n ≡ length stack = omega arith in
+    let many : length parts ≡ length c.args.ranges.now = length-map c.args.ranges.now plan_mean in
+    let within : length stack ≤ length parts = (let w = i.within in omega arith) in
+    let slots_are : values_of inner.slots.now ≡ values_of held.slots.now ++ map (take 1) stack = ap values_of c.deref.ensures.value ∙ i.in_slots in
+    let top : FrameIn old held → frame_at f inner ≡ at_top frame (tuple_at f stack) = λ inside. frame_open f held inner stack slots_are refl refl ∙ ap (λ fr. at_top fr (tuple_at f stack)) (frame_grown i.goes.grows held inside) in
+    let at : (clean : g.W.TreeSource.is_clean c.turns.world) → FrameIn old held → At wanted test parts frame whole f stack = λ clean inside. record { within = within; is_in = (i.rest clean inside).0; rest = (i.rest clean inside).1 } in
+    let inner_in : (clean : g.W.TreeSource.is_clean c.turns.world) → FrameIn old held → FrameIn f inner = λ clean inside. frame_open_in f held inner stack slots_are refl refl (frame_in_grown i.goes.grows held inside) (i.rest clean inside).0 in
+    let items = item_views c.in-Some.items.value in
+    let spent : length c.args.ranges.now ≤ n → items ≡ [] = λ full. subst (λ r. IfSome r (λ its. item_views its.value ≡ [])) c.in-Some.is (c.in_ok-found.ensures.spent full) in
+    let outer = length held.slots.now in
+    let slots = values_of c.turns.slots.items in
+    let slots' = values_of c.advance.new.slots.items in
+    let stack' = stack_of c.advance.new.stack in
+    let ended : Falls stack items [] [] = subst (MovesOn outer slots stack items slots' stack') c.if-not-branch.true c.in_ok-advance.ensures in
+    let was = c.turn.ensures.goes.was_clean clean in
+    let gives = c.in_ok-found.ensures.gives clean (inner_in was inside) in
+    let step = some_found wanted test (drop n parts) (frame_at f inner) f f' c.in_ok-found.found c.in-Some.items c.in-Some.is gives in
+    (tt, turn_ends wanted test parts frame whole f f' stack items n (at was inside) c.turn.ensures.goes.grows opened (ap (λ fr. turn wanted test (drop n parts) fr f) (sym (top inside)) ∙ step.1) ended)
+
+pub quantified::satisfied-returns-in_err-found-clause-goes : goal.quantified::satisfied-returns-in_err-found-clause-goes
+quantified::satisfied-returns-in_err-found-clause-goes g t c = goes_on_to c.turns.invariant.goes c.turn.ensures.goes
+
+pub quantified::satisfied-returns-in_default-clause-goes : goal.quantified::satisfied-returns-in_default-clause-goes
+quantified::satisfied-returns-in_default-clause-goes g t c = goes_on_to c.turns.invariant.goes c.turn.ensures.goes
+
+pub quantified::satisfied-returns-then-not-branch-clause-goes : goal.quantified::satisfied-returns-then-not-branch-clause-goes
+quantified::satisfied-returns-then-not-branch-clause-goes g t c = goes_on_to c.turns.invariant.goes c.turn.ensures.goes
+
+pub quantified::satisfied-returns-in_err-advance-clause-goes : goal.quantified::satisfied-returns-in_err-advance-clause-goes
+quantified::satisfied-returns-in_err-advance-clause-goes g t c = goes_on_to c.turns.invariant.goes c.turn.ensures.goes
+
+pub quantified::turn-returns-then-opened-ranges-clause-gives : goal.quantified::turn-returns-then-opened-ranges-clause-gives
+quantified::turn-returns-then-opened-ranges-clause-gives g t c = λ clean inside.
+    let f = g.W.TreeSource.forest c.args.world.now in
+    let f' = g.W.TreeSource.forest c.evaluate.new.world in
+    let frame = frame_at f c.args.frame in
+    let n = c.args.opened in
+    let ranges = c.args.ranges.now in
+    let part = c.index-ranges-opened.result in
+    let test = plan_mean c.args.test.now in
+    let parts = drop n (map plan_mean ranges) in
+    let split : parts ≡ plan_mean part ∷ map plan_mean (drop (n + 1) ranges) = next_left plan_mean ranges n part (omega arith) c.index-ranges-opened.is in
+    let value = c.in_ok-items.ensures.gives clean inside in
+    let held : item_views c.in_ok-new.field-0.value ≡ item_views c.in_ok-items.items = ap item_views c.in_ok-new.ensures.ok in
+    (subst (AreIn f') (sym held) value.0, turn_value c.args.wanted test parts frame (plan_mean part) (map plan_mean (drop (n + 1) ranges)) _ f f' split value.1 ∙ ap (λ xs. (Ok (Some (items_at f' xs)), f')) (sym held))
+
+pub quantified::turn-returns-in_err-items-clause-gives : goal.quantified::turn-returns-in_err-items-clause-gives
+quantified::turn-returns-in_err-items-clause-gives g t c = λ clean inside.
+    let f = g.W.TreeSource.forest c.args.world.now in
+    let f' = g.W.TreeSource.forest c.evaluate.new.world in
+    let frame = frame_at f c.args.frame in
+    let n = c.args.opened in
+    let ranges = c.args.ranges.now in
+    let part = c.index-ranges-opened.result in
+    let test = plan_mean c.args.test.now in
+    let parts = drop n (map plan_mean ranges) in
+    let split : parts ≡ plan_mean part ∷ map plan_mean (drop (n + 1) ranges) = next_left plan_mean ranges n part (omega arith) c.index-ranges-opened.is in
+    cut item_views items_at AreIn values_found found_at FoundIn _ (plan_mean part frame f) (λ (ys : List Item). give (Some ys)) f' c.in_err-items.field-0.0 c.from_residual.result
+    (ap (λ ps. turn c.args.wanted test ps frame f) split) c.from_residual.ensures.1 (c.in_err-items.ensures.gives clean inside)
+
+pub quantified::turn-returns-in_err-truth-clause-gives : goal.quantified::turn-returns-in_err-truth-clause-gives
+quantified::turn-returns-in_err-truth-clause-gives g t c = λ clean inside.
+    let f = g.W.TreeSource.forest c.args.world.now in
+    let f' = g.W.TreeSource.forest c.tested.new.world in
+    let frame = frame_at f c.args.frame in
+    let ranges = c.args.ranges.now in
+    let test = plan_mean c.args.test.now in
+    let parts = drop c.args.opened (map plan_mean ranges) in
+    let many = length-map ranges plan_mean in
+    let none : parts ≡ [] = drop_all c.args.opened (map plan_mean ranges) (omega arith) in
+    cut (λ (b : Bool). b) (λ trees b. b) (λ trees b. Unit {0}) values_found found_at FoundIn _ (Forms.tested test frame f) (λ (b : Bool). give (unless_wanted c.args.wanted b)) f' c.in_err-truth.field-0.0 c.from_residual-in_err-truth.result
+    (ap (λ ps. turn c.args.wanted test ps frame f) none) c.from_residual-in_err-truth.ensures.1 (c.in_err-truth.ensures.gives clean inside)
+
+pub quantified::turn-returns-then-truth-wanted-clause-gives : goal.quantified::turn-returns-then-truth-wanted-clause-gives
+quantified::turn-returns-then-truth-wanted-clause-gives g t c = λ clean inside.
+    let f = g.W.TreeSource.forest c.args.world.now in
+    let f' = g.W.TreeSource.forest c.tested.new.world in
+    let frame = frame_at f c.args.frame in
+    let ranges = c.args.ranges.now in
+    let test = plan_mean c.args.test.now in
+    let parts = drop c.args.opened (map plan_mean ranges) in
+    let many = length-map ranges plan_mean in
+    let none : parts ≡ [] = drop_all c.args.opened (map plan_mean ranges) (omega arith) in
+    let answer = c.in_ok-truth.truth in
+    let same : answer ≡ c.args.wanted = search rules in
+    (tt, turn_tested c.args.wanted test parts frame answer f f' none (c.in_ok-truth.ensures.gives clean inside).1 ∙ ap (λ r. (Ok r, f')) (is_wanted c.args.wanted answer same))
+
+pub quantified::turn-returns-clause-gives : goal.quantified::turn-returns-clause-gives
+quantified::turn-returns-clause-gives g t c = λ clean inside.
+    let f = g.W.TreeSource.forest c.args.world.now in
+    let f' = g.W.TreeSource.forest c.tested.new.world in
+    let frame = frame_at f c.args.frame in
+    let ranges = c.args.ranges.now in
+    let test = plan_mean c.args.test.now in
+    let parts = drop c.args.opened (map plan_mean ranges) in
+    let many = length-map ranges plan_mean in
+    let none : parts ≡ [] = drop_all c.args.opened (map plan_mean ranges) (omega arith) in
+    let answer = c.in_ok-truth.truth in
+    let other : answer ≡ not c.args.wanted = search rules in
+    let held : item_views c.in_ok-new-2.field-0.value ≡ [] = ap item_views c.in_ok-new-2.ensures.ok ∙ ap (map item_view) c.new-2.ensures.items in
+    (subst (AreIn f') (sym held) tt, turn_tested c.args.wanted test parts frame answer f f' none (c.in_ok-truth.ensures.gives clean inside).1 ∙ ap (λ r. (Ok r, f')) (not_wanted c.args.wanted answer other) ∙ ap (λ xs. (Ok (Some (items_at f' xs)), f')) (sym held))
+
+pub quantified::turn-returns-then-opened-ranges-clause-goes : goal.quantified::turn-returns-then-opened-ranges-clause-goes
+quantified::turn-returns-then-opened-ranges-clause-goes g t c = c.in_ok-items.ensures.goes
+
+pub quantified::turn-returns-in_err-items-clause-goes : goal.quantified::turn-returns-in_err-items-clause-goes
+quantified::turn-returns-in_err-items-clause-goes g t c = c.in_err-items.ensures.goes
+
+pub quantified::turn-returns-in_err-new-clause-goes : goal.quantified::turn-returns-in_err-new-clause-goes
+quantified::turn-returns-in_err-new-clause-goes g t c = c.in_ok-items.ensures.goes
+
+pub quantified::turn-returns-in_err-truth-clause-goes : goal.quantified::turn-returns-in_err-truth-clause-goes
+quantified::turn-returns-in_err-truth-clause-goes g t c = c.in_err-truth.ensures.goes
+
+pub quantified::turn-returns-then-truth-wanted-clause-goes : goal.quantified::turn-returns-then-truth-wanted-clause-goes
+quantified::turn-returns-then-truth-wanted-clause-goes g t c = c.in_ok-truth.ensures.goes
+
+pub quantified::turn-returns-in_err-new-2-clause-goes : goal.quantified::turn-returns-in_err-new-2-clause-goes
+quantified::turn-returns-in_err-new-2-clause-goes g t c = c.in_ok-truth.ensures.goes
+
+pub quantified::turn-returns-clause-goes : goal.quantified::turn-returns-clause-goes
+quantified::turn-returns-clause-goes g t c = c.in_ok-truth.ensures.goes
+
+pub quantified::satisfied-returns-in_err-slots-clause-goes : goal.quantified::satisfied-returns-in_err-slots-clause-goes
+quantified::satisfied-returns-in_err-slots-clause-goes g t c = stays _ _

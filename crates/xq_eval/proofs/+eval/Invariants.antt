@@ -1,0 +1,190 @@
+use Rattle.std.proofs.Common.{◌≡◌, ◌≤◌, ◌^◌, [], ◌∷◌, ◌++◌, map, take, drop, suc, length}
+use Rattle.xq_regions.specs.Items.{item_view, item_views}
+use Rattle.xq_meaning.specs.Doing.{in_turn, more, one_more, for_each, collected, first_that}
+use Rattle.xq_meaning.specs.Forms as Forms
+use Rattle.xq_meaning.specs.PlanMeaning.{Meaning, plan_mean, plan_clause_mean, plan_step_mean, at_tuple as meant_at, next_clause, next_step}
+use Rattle.xq_values.specs.Functions.{Focus as Spot}
+use Rattle.xq_values.specs.Steps.{focuses, focuses_from}
+use Rattle.xq_values.specs.Readings.{items_at, AreIn}
+use Rattle.xq_operations.specs.Views.{tuple_at, tuples_at, lists_of, order_specs, frame_at, FrameIn, TupleIn, TuplesIn, Goes}
+use Rattle.xq_tuples.specs.Keys.{column_of, columns_of}
+use Rattle.xq_tuples.specs.Views.{values_of}
+use Rattle.xq_eval.specs.private.Bindings.{stack_of}
+use Rattle.xq_eval.specs.private.Keys.{keys_at}
+use Rattle.xq_eval.specs.private.Quantifying.{holds, resumed, weigh, all_weigh}
+use Rattle.xq_eval.proofs.Loops.{Turns, Tries}
+use Rattle.xq_eval.proofs.Steps.{same_tests, any_tests}
+use Rattle.xq_eval.proofs.+eval.Given as goal
+
+abbrev pub invariant-evaluation::sequence-loop-part : goal.invariant-evaluation::sequence-loop-part
+invariant-evaluation::sequence-loop-part g l =
+    let old = g.W.TreeSource.forest l.fn.world in
+    let now = g.W.TreeSource.forest l.world in
+    let frame = frame_at old l.frame in
+    record {
+      goes : Goes old now (g.W.TreeSource.is_clean l.fn.world) (g.W.TreeSource.is_clean l.world);
+      turns : Turns items_at AreIn (more (λ (part : Meaning). part frame)) (FrameIn old l.frame) (g.W.TreeSource.is_clean l.world) (item_views l.items) (map plan_mean (drop l.part-index l.parts)) now (Forms.sequence (map plan_mean l.parts) frame old);
+    }
+
+abbrev pub invariant-evaluation::chain-loop-operator : goal.invariant-evaluation::chain-loop-operator
+invariant-evaluation::chain-loop-operator g l =
+    let old = g.W.TreeSource.forest l.fn.world in
+    let now = g.W.TreeSource.forest l.world in
+    let frame = frame_at old l.frame in
+    let read = map (λ (op, p). (op, plan_mean p)) in
+    record {
+      goes : Goes old now (g.W.TreeSource.is_clean l.fn.world) (g.W.TreeSource.is_clean l.world);
+      turns : Turns items_at AreIn (Forms.next_operand frame) (FrameIn old l.frame × AreIn old (item_views l.fn.first)) (g.W.TreeSource.is_clean l.world) (item_views l.total) (read (drop l.operator-index l.rest)) now (in_turn (Forms.next_operand frame) (items_at old (item_views l.fn.first)) (read l.rest) old);
+    }
+
+abbrev pub invariant-evaluation::filter-loop-predicate : goal.invariant-evaluation::filter-loop-predicate
+invariant-evaluation::filter-loop-predicate g l =
+    let old = g.W.TreeSource.forest l.fn.world in
+    let now = g.W.TreeSource.forest l.world in
+    let frame = frame_at old l.frame in
+    let inside = FrameIn old l.frame in
+    let clean = g.W.TreeSource.is_clean l.world in
+    record {
+      goes : Goes old now (g.W.TreeSource.is_clean l.fn.world) clean;
+      turns : Turns items_at AreIn (Forms.filtered frame) (inside × AreIn old (item_views l.fn.items)) clean (item_views l.left) (map plan_mean (drop l.predicate-index l.predicates)) now (in_turn (Forms.filtered frame) (items_at old (item_views l.fn.items)) (map plan_mean l.predicates) old);
+    }
+
+abbrev pub invariant-evaluation::keep-loop-index : goal.invariant-evaluation::keep-loop-index
+invariant-evaluation::keep-loop-index g l =
+    let old = g.W.TreeSource.forest l.fn.world in
+    let now = g.W.TreeSource.forest l.world in
+    let frame = frame_at old l.frame in
+    let inside = FrameIn old l.frame in
+    let clean = g.W.TreeSource.is_clean l.world in
+    record {
+      goes : Goes old now (g.W.TreeSource.is_clean l.fn.world) clean;
+      turns : Turns items_at AreIn (more (Forms.passed (plan_mean l.predicate) frame)) (inside × AreIn old (map item_view l.items)) clean (item_views l.kept) (focuses_from (suc l.index) (length l.items) (items_at old (map item_view (drop l.index l.items)))) now (Forms.filtered frame (items_at old (map item_view l.items)) (plan_mean l.predicate) old);
+    }
+
+abbrev pub invariant-clauses::clause_list-loop-clause : goal.invariant-clauses::clause_list-loop-clause
+invariant-clauses::clause_list-loop-clause g l =
+    let old = g.W.TreeSource.forest l.fn.world in
+    let now = g.W.TreeSource.forest l.world in
+    let frame = frame_at old l.frame in
+    let inside = FrameIn old l.frame in
+    let clean = g.W.TreeSource.is_clean l.world in
+    record {
+      goes : Goes old now (g.W.TreeSource.is_clean l.fn.world) clean;
+      turns : Turns tuples_at TuplesIn (next_clause frame) inside clean l.tuples (map plan_clause_mean (drop l.clause-index l.clauses)) now (in_turn (next_clause frame) ([] ∷ []) (map plan_clause_mean l.clauses) old);
+    }
+
+abbrev pub invariant-clauses::values-loop-index : goal.invariant-clauses::values-loop-index
+invariant-clauses::values-loop-index g l =
+    let old = g.W.TreeSource.forest l.fn.world in
+    let now = g.W.TreeSource.forest l.world in
+    let frame = frame_at old l.frame in
+    let inside = FrameIn old l.frame in
+    let clean = g.W.TreeSource.is_clean l.world in
+    record {
+      goes : Goes old now (g.W.TreeSource.is_clean l.fn.world) clean;
+      turns : Turns tuple_at TupleIn (one_more (λ t. plan_mean l.part (meant_at frame t))) (inside × TuplesIn old l.tuples) clean (lists_of l.lists) (map (tuple_at old) (drop l.index l.tuples)) now (for_each (λ t. plan_mean l.part (meant_at frame t)) (tuples_at old l.tuples) old);
+      long : length l.lists.items ≡ l.index;
+    }
+
+abbrev pub invariant-clauses::tests-loop-index : goal.invariant-clauses::tests-loop-index
+invariant-clauses::tests-loop-index g l =
+    let old = g.W.TreeSource.forest l.fn.world in
+    let now = g.W.TreeSource.forest l.world in
+    let frame = frame_at old l.frame in
+    let inside = FrameIn old l.frame in
+    let clean = g.W.TreeSource.is_clean l.world in
+    record {
+      goes : Goes old now (g.W.TreeSource.is_clean l.fn.world) clean;
+      turns : Turns same_tests any_tests (one_more (λ t. Forms.tested (plan_mean l.part) (meant_at frame t))) (inside × TuplesIn old l.tuples) clean l.tests.items (map (tuple_at old) (drop l.index l.tuples)) now (for_each (λ t. Forms.tested (plan_mean l.part) (meant_at frame t)) (tuples_at old l.tuples) old);
+      long : length l.tests.items ≡ l.index;
+    }
+
+abbrev pub invariant-paths::step_list-loop-step : goal.invariant-paths::step_list-loop-step
+invariant-paths::step_list-loop-step g l =
+    let old = g.W.TreeSource.forest l.fn.world in
+    let now = g.W.TreeSource.forest l.world in
+    let frame = frame_at old l.frame in
+    let inside = FrameIn old l.frame in
+    let clean = g.W.TreeSource.is_clean l.world in
+    record {
+      goes : Goes old now (g.W.TreeSource.is_clean l.fn.world) clean;
+      turns : Turns items_at AreIn (next_step frame) (inside × AreIn old (item_views l.fn.items)) clean (item_views l.left) (map plan_step_mean (drop l.step-index l.steps)) now (in_turn (next_step frame) (items_at old (item_views l.fn.items)) (map plan_step_mean l.steps) old);
+    }
+
+abbrev pub invariant-paths::each-loop-index : goal.invariant-paths::each-loop-index
+invariant-paths::each-loop-index g l =
+    let old = g.W.TreeSource.forest l.fn.world in
+    let now = g.W.TreeSource.forest l.world in
+    let frame = frame_at old l.frame in
+    let inside = FrameIn old l.frame in
+    let clean = g.W.TreeSource.is_clean l.world in
+    record {
+      goes : Goes old now (g.W.TreeSource.is_clean l.fn.world) clean;
+      turns : Turns items_at AreIn (more (λ (spot : Spot). plan_mean l.part (Forms.in_focus frame spot))) (inside × AreIn old (map item_view l.items)) clean (item_views l.found) (focuses_from (suc l.index) (length l.items) (items_at old (map item_view (drop l.index l.items)))) now (collected (λ spot. plan_mean l.part (Forms.in_focus frame spot)) (focuses (items_at old (map item_view l.items))) old);
+    }
+
+abbrev pub invariant-evaluation::decided-loop-part : goal.invariant-evaluation::decided-loop-part
+invariant-evaluation::decided-loop-part g l =
+    let old = g.W.TreeSource.forest l.fn.world in
+    let now = g.W.TreeSource.forest l.world in
+    let frame = frame_at old l.frame in
+    let clean = g.W.TreeSource.is_clean l.world in
+    let act = λ (part : Meaning). Forms.tested part frame in
+    record {
+      goes : Goes old now (g.W.TreeSource.is_clean l.fn.world) clean;
+      tries : Tries l.wanted act (FrameIn old l.frame) clean (map plan_mean (drop l.part-index l.parts)) now (first_that l.wanted act (map plan_mean l.parts) old);
+    }
+
+abbrev pub invariant-evaluation::arguments-loop-part : goal.invariant-evaluation::arguments-loop-part
+invariant-evaluation::arguments-loop-part g l =
+    let old = g.W.TreeSource.forest l.fn.world in
+    let now = g.W.TreeSource.forest l.world in
+    let frame = frame_at old l.frame in
+    record {
+      goes : Goes old now (g.W.TreeSource.is_clean l.fn.world) (g.W.TreeSource.is_clean l.world);
+      turns : Turns tuple_at TupleIn (one_more (λ (part : Meaning). part frame)) (FrameIn old l.frame) (g.W.TreeSource.is_clean l.world) (lists_of l.lists) (map plan_mean (drop l.part-index l.parts)) now (for_each (λ (part : Meaning). part frame) (map plan_mean l.parts) old);
+    }
+
+abbrev pub invariant-clauses::key_rows-loop-index : goal.invariant-clauses::key_rows-loop-index
+invariant-clauses::key_rows-loop-index g l =
+    let old = g.W.TreeSource.forest l.fn.world in
+    let now = g.W.TreeSource.forest l.world in
+    let frame = frame_at old l.frame in
+    let inside = FrameIn old l.frame in
+    let clean = g.W.TreeSource.is_clean l.world in
+    let specs = order_specs l.specs in
+    record {
+      goes : Goes old now (g.W.TreeSource.is_clean l.fn.world) clean;
+      turns : Turns same_tests any_tests (one_more (λ t. keys_at specs (meant_at frame t))) (inside × TuplesIn old l.tuples) clean (columns_of l.rows) (map (tuple_at old) (drop l.index l.tuples)) now (for_each (λ t. keys_at specs (meant_at frame t)) (tuples_at old l.tuples) old);
+      long : length l.rows.items ≡ l.index;
+    }
+
+abbrev pub invariant-clauses::keys-loop-part : goal.invariant-clauses::keys-loop-part
+invariant-clauses::keys-loop-part g l =
+    let old = g.W.TreeSource.forest l.fn.world in
+    let now = g.W.TreeSource.forest l.world in
+    let frame = frame_at old l.frame in
+    let clean = g.W.TreeSource.is_clean l.world in
+    record {
+      goes : Goes old now (g.W.TreeSource.is_clean l.fn.world) clean;
+      turns : Turns same_tests any_tests (one_more (λ (part, modifier). Forms.atoms_of part frame)) (FrameIn old l.frame) clean (column_of l.keys) (order_specs (drop l.part-index l.specs)) now (keys_at (order_specs l.specs) frame old);
+    }
+
+abbrev pub invariant-quantified::satisfied-turns : goal.invariant-quantified::satisfied-turns
+invariant-quantified::satisfied-turns g l =
+    let old = g.W.TreeSource.forest l.fn.world in
+    let now = g.W.TreeSource.forest l.world in
+    let frame = frame_at old l.frame in
+    let clean = g.W.TreeSource.is_clean l.world in
+    let stack = stack_of l.stack in
+    let test = plan_mean l.test in
+    let parts = map plan_mean l.ranges in
+    record {
+      goes : Goes old now (g.W.TreeSource.is_clean l.fn.world) clean;
+      within : length l.stack.items ≤ length l.ranges;
+      in_slots : values_of l.slots.items ≡ values_of l.frame.slots.now ++ map (take 1) stack;
+      rest : clean → FrameIn old l.frame → TupleIn now stack × (resumed l.wanted test (holds l.wanted test) parts frame (tuple_at now stack) now ≡ holds l.wanted test parts frame old);
+    }
+
+abbrev pub decreases-quantified::satisfied-turns : goal.decreases-quantified::satisfied-turns
+decreases-quantified::satisfied-turns g l = weigh (2 ^ 64) (all_weigh (2 ^ 64)) (length l.ranges) (stack_of l.stack)

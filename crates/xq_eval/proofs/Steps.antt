@@ -1,0 +1,268 @@
+-- One turn of a loop from what its part gave.
+use Rattle.std.proofs.Common.{◌≡◌, ℕ, zero, suc, ◌<◌, ◌≤◌, ◌+◌, ◌++◌, List, [], ◌∷◌, map, drop, length, get_or, slice_index_or, refl, sym, ◌∙◌, ap, subst, arith, add-one, Ok, Err, Bool, true, false}
+use Rattle.std.specs.Prelude.{flat_map, string_bytes, reverse, if◌then◌else◌}
+use Rattle.std.specs.List.{AllByRecursion, enumerate_from, zip}
+use Rattle.std.proofs.Math.Seq.{drop-cons}
+use Rattle.std.proofs.lemmas.List.{map-append, append-nil, reverse-append}
+use Rattle.std.proofs.lemmas.List.Concat.{flat_map-cons}
+use Rattle.std.proofs.lemmas.Grind.{flat_map-append}
+use Rattle.std.specs.Global.{Vec, Global}
+use Rattle.std.specs.declared.rc.Rc.{Rc}
+use Rattle.xq_atoms.specs.declared.refusals.Code.{Code}
+use Rattle.xq_atoms.specs.declared.refusals.Code.TheVariants.{XPTY0019}
+use Rattle.xq_atoms.specs.declared.refusals.Fault.{Fault}
+use Rattle.xq_atoms.specs.declared.refusals.Fault.TheVariants.{Code as OfCode, Want as OfWant}
+use Rattle.xq_regions.specs.declared.items.Item.{Item as Held}
+use Rattle.xq_regions.specs.Tree.{Tree}
+use Rattle.xq_regions.specs.Tuples.{Tuple, item_values, with_each, expanded, bound, kept}
+use Rattle.xq_tuples.specs.Views.{values_of}
+use Rattle.xq_regions.specs.Items.{ItemView, Value, item_view}
+use Rattle.xq_atoms.specs.Judged.{Judged, ◌>>=◌ as ◌>>>=◌}
+use Rattle.xq_values.specs.Items.{Place, Item, Node, atomized}
+use Rattle.xq_values.specs.Arguments.{effective, all_nodes}
+use Rattle.xq_values.specs.Operators.{keeps, gathered}
+use Rattle.xq_values.specs.Functions.{Focus as Spot}
+use Rattle.xq_values.specs.Steps.{focuses, focuses_from, in_axis_order, is_reverse, axis_nodes, context_node}
+use Rattle.xq_values.specs.Content.{name_of}
+use Rattle.xq_values.specs.declared.node_tests.Test.{Test}
+use Rattle.xq_regions.specs.declared.Axis.{Axis}
+use Rattle.xq_expressions.specs.declared.operators.NamedNode.{NamedNode}
+use Rattle.xq_values.specs.Readings.{item_at, items_at, IsIn, AreIn, Extends}
+use Rattle.xq_meaning.specs.Doing.{Doing, Outcome, go_on, ◌>>=◌, give, judged, on_trees, in_turn, more, one_more, collected, for_each}
+use Rattle.xq_meaning.specs.Forms as Forms
+use Rattle.xq_meaning.specs.PlanMeaning.{Frame, Meaning, ClauseMeaning, at_tuple, next_clause, flwor}
+use Rattle.xq_operations.specs.declared.frames.Frame.{Frame as Held_frame}
+use Rattle.xq_operations.specs.Views.{tuple_at, focus_at, frame_at, TupleIn, TuplesIn, FocusIn, FrameIn, Goes, GivesAs, forget, on_axis, plant_named}
+use Rattle.xq_eval.proofs.Loops.{stops}
+use Rattle.xq_operations.proofs.Growth.{items_grown, are_in_grown, tuple_grown, tuple_in_grown, item_at_grown, in_grown, all-append}
+
+-- the results of one more, at the end of those so far
+pub more_next : {A : Type 0} (act : A → Doing (List Item)) (done added done' : List ItemView) (x : A) (f f' : List Tree) → Extends f f' → AreIn f done
+    → AreIn f' added × (act x f ≡ (Ok (items_at f' added), f')) → done' ≡ done ++ added
+    → AreIn f' done' × (more act (items_at f done) x f ≡ (Ok (items_at f' done'), f'))
+more_next act done added done' x f f' grows inside step e = (
+  subst (AreIn f') (sym e) (all-append (IsIn f') done added (are_in_grown grows done inside) step.0),
+  ap (λ o. go_on o (λ ys. give (items_at f done ++ ys))) step.1 ∙ ap (λ zs. (Ok zs, f')) (ap (λ zs. zs ++ items_at f' added) (sym (items_grown grows done inside)) ∙ sym (map-append (item_at f') done added) ∙ ap (items_at f') (sym e)),
+)
+
+pub tested_ok : {E : Type 0} (part : Forms.Meaning E) (frame : Forms.Frame E) (xs : List Item) (b : Bool) (f f' : List Tree) → part frame f ≡ (Ok xs, f') → effective xs ≡ Ok b → Forms.tested part frame f ≡ (Ok b, f')
+tested_ok part frame xs b f f' step answer = ap (λ o. go_on o (λ ys. judged (effective ys))) step ∙ ap (λ r. judged r f') answer
+
+pub tested_err : {E : Type 0} (part : Forms.Meaning E) (frame : Forms.Frame E) (xs : List Item) (code : Code) (f f' : List Tree) → part frame f ≡ (Ok xs, f') → effective xs ≡ Err code → (Forms.tested part frame f).0 ≡ Err code
+tested_err part frame xs code f f' step answer = ap (λ o. o.0) (ap (λ o. go_on o (λ ys. judged (effective ys))) step) ∙ answer
+
+-- a refusal of the first is that of all that goes on from it
+pub go_on_stop : {R R' S S' B C : Type 0} (view : R → S) (read : List Tree → S → B) (In : List Tree → S → Type 0) (view' : R' → S') (read' : List Tree → S' → C) (In' : List Tree → S' → Type 0) (o : Outcome B) (next : B → Doing C) (f : List Tree) (e : Fault)
+    → GivesAs view read In o f (Err e) → GivesAs view' read' In' (go_on o next) f (Err e)
+go_on_stop view read In view' read' In' o next f (OfWant want) h = tt
+go_on_stop view read In view' read' In' o next f (OfCode code) h = stops o next code h
+
+pub list_next : {A : Type 0} (act : A → Doing (List Item)) (done : Tuple ItemView) (added : List ItemView) (done' : Tuple ItemView) (x : A) (f f' : List Tree) → Extends f f' → TupleIn f done
+    → AreIn f' added × (act x f ≡ (Ok (items_at f' added), f')) → done' ≡ done ++ added ∷ []
+    → TupleIn f' done' × (one_more act (tuple_at f done) x f ≡ (Ok (tuple_at f' done'), f'))
+list_next act done added done' x f f' grows inside step e = (
+  subst (TupleIn f') (sym e) (all-append (AreIn f') done (added ∷ []) (tuple_in_grown grows done inside) (step.0, tt)),
+  ap (λ o. go_on o (λ y. give (tuple_at f done ++ y ∷ []))) step.1 ∙ ap (λ zs. (Ok zs, f')) (ap (λ zs. zs ++ items_at f' added ∷ []) (sym (tuple_grown grows done inside)) ∙ sym (map-append (items_at f') done (added ∷ [])) ∙ ap (tuple_at f') (sym e)),
+)
+
+pub passed_ok : {E : Type 0} (part : Forms.Meaning E) (frame : Forms.Frame E) (focus : Spot) (xs : List Item) (b : Bool) (f f' : List Tree) → part (Forms.in_focus frame focus) f ≡ (Ok xs, f') → keeps focus.position xs ≡ Ok b → Forms.passed part frame focus f ≡ (Ok (Forms.kept_if focus.item b), f')
+passed_ok part frame focus xs b f f' step answer =
+    ap (λ o. go_on o (λ v. judged (keeps focus.position v) >>= (λ k. give (Forms.kept_if focus.item k)))) step ∙ ap (λ r. go_on (judged r f') (λ k. give (Forms.kept_if focus.item k))) answer
+
+pub passed_err : {E : Type 0} (part : Forms.Meaning E) (frame : Forms.Frame E) (focus : Spot) (xs : List Item) (code : Code) (f f' : List Tree) → part (Forms.in_focus frame focus) f ≡ (Ok xs, f') → keeps focus.position xs ≡ Err code → (Forms.passed part frame focus f).0 ≡ Err code
+passed_err part frame focus xs code f f' step answer =
+    ap (λ o. o.0) (ap (λ o. go_on o (λ v. judged (keeps focus.position v) >>= (λ k. give (Forms.kept_if focus.item k)))) step ∙ ap (λ r. go_on (judged r f') (λ k. give (Forms.kept_if focus.item k))) answer)
+
+pub kept_read : (f f' : List Tree) (x : ItemView) (b : Bool) → Extends f f' → IsIn f x → AreIn f' (Forms.kept_if x b) × (Forms.kept_if (item_at f x) b ≡ items_at f' (Forms.kept_if x b))
+kept_read f f' x true grows h = ((in_grown grows x h, tt), ap (λ y. y ∷ []) (sym (item_at_grown grows x h)))
+kept_read f f' x false grows h = (tt, refl)
+
+-- the items of all lists
+
+abbrev pub concat : {A : Type 0} → List (List A) → List A
+concat ls = flat_map (λ l. l) ls
+
+pub concat_read : (f : List Tree) (ls : Tuple ItemView) → concat (tuple_at f ls) ≡ items_at f (concat ls)
+concat_read f [] = refl
+concat_read f (l ∷ ls) =
+    flat_map-cons (λ l. l) (items_at f l) (tuple_at f ls) ∙ ap (λ v. items_at f l ++ v) (concat_read f ls) ∙ sym (map-append (item_at f) l (concat ls)) ∙ ap (items_at f) (sym (flat_map-cons (λ l. l) l ls))
+
+pub concat_in : (f : List Tree) (ls : Tuple ItemView) → TupleIn f ls → AreIn f (concat ls)
+concat_in f [] h = tt
+concat_in f (l ∷ ls) h = subst (AreIn f) (sym (flat_map-cons (λ l. l) l ls)) (all-append (IsIn f) l (concat ls) h.0 (concat_in f ls h.1))
+
+concat-end : {A : Type 0} (ls : List (List A)) (l : List A) → concat (ls ++ l ∷ []) ≡ concat ls ++ l
+concat-end ls l = flat_map-append (λ l. l) ls (l ∷ []) ∙ ap (λ v. concat ls ++ v) (flat_map-cons (λ l. l) l [] ∙ append-nil l)
+
+gathers_from : {A B : Type 0} (act : A → Doing (List B)) (done : List (List B)) (xs : List A) (after : (done' : List (List B)) (g : List Tree) → in_turn (more act) (concat done') xs g ≡ go_on (in_turn (one_more act) done' xs g) (λ ls. give (concat ls))) (o : Outcome (List B))
+    → go_on (go_on o (λ ys. give (concat done ++ ys))) (λ next. in_turn (more act) next xs) ≡ go_on (go_on (go_on o (λ y. give (done ++ y ∷ []))) (λ next. in_turn (one_more act) next xs)) (λ ls. give (concat ls))
+gathers_from act done xs after (Err code, g) = refl
+gathers_from act done xs after (Ok p, g) = ap (λ ls. in_turn (more act) ls xs g) (sym (concat-end done p)) ∙ after (done ++ p ∷ []) g
+
+gathers : {A B : Type 0} (act : A → Doing (List B)) (done : List (List B)) (xs : List A) (f : List Tree) → in_turn (more act) (concat done) xs f ≡ go_on (in_turn (one_more act) done xs f) (λ ls. give (concat ls))
+gathers act done [] f = refl
+gathers act done (x ∷ xs) f = gathers_from act done xs (λ d g. gathers act d xs g) (act x f)
+
+-- one list after another is what each gives, put together
+pub collected_is : {A B : Type 0} (act : A → Doing (List B)) (xs : List A) (f : List Tree) → collected act xs f ≡ go_on (for_each act xs f) (λ ls. give (concat ls))
+collected_is act xs f = gathers act [] xs f
+
+pub flwor_is : (clauses : List ClauseMeaning) (part : Meaning) (frame : Frame) (f : List Tree) (ts : List (Tuple Item)) (f' : List Tree) → in_turn (next_clause frame) ([] ∷ []) clauses f ≡ (Ok ts, f') → flwor clauses part frame f ≡ go_on (for_each (λ t. part (at_tuple frame t)) ts f') (λ ls. give (concat ls))
+flwor_is clauses part frame f ts f' e = ap (λ o. go_on o (λ tuples. Forms.return_of part (at_tuple frame) tuples)) e ∙ collected_is (λ t. part (at_tuple frame t)) ts f'
+
+-- focuses
+
+pub spots_left : (f : List Tree) (items : List Held) (i : ℕ) (x : Held) (n : ℕ) → i < length items → x ≡ get_or items i x
+    → focuses_from (suc i) n (items_at f (map item_view (drop i items))) ≡ record { item = item_at f (item_view x); position = i + 1; last = n } ∷ focuses_from (suc (i + 1)) n (items_at f (map item_view (drop (i + 1) items)))
+spots_left f items i x n h is = rw add-one (ap (λ xs. focuses_from (suc i) n (items_at f (map item_view xs))) (drop-cons items i x h ∙ ap (λ y. y ∷ drop (suc i) items) (sym is)))
+
+pub all_at : {X A : Type 0} (P : A → Type 0) (view : X → A) (xs : List X) (i : ℕ) (x : X) → AllByRecursion P (map view xs) → i < length xs → x ≡ get_or xs i x → P (view x)
+all_at P view [] i x h k is = absurd (omega arith)
+all_at P view (y ∷ ys) zero x h k is = subst (λ z. P (view z)) (sym is) h.0
+all_at P view (y ∷ ys) (suc i) x h k is = all_at P view ys i x h.1 (omega arith) is
+
+pub element : {A : Type 0} (P : A → Type 0) (xs : List A) (i : ℕ) (x d : A) → AllByRecursion P xs → i < length xs → x ≡ slice_index_or xs i d → P x
+element P [] i x d h k is = absurd (omega arith)
+element P (y ∷ ys) zero x d h k is = subst P (sym is) h.0
+element P (y ∷ ys) (suc i) x d h k is = element P ys i x d h.1 (omega arith) is
+
+pub left_at : {X A : Type 0} (view : X → A) (xs : List X) (i : ℕ) (x d : X) → i < length xs → x ≡ slice_index_or xs i d → map view (drop i xs) ≡ view x ∷ map view (drop (i + 1) xs)
+left_at view [] i x d h is = absurd (omega arith)
+left_at view (y ∷ ys) zero x d h is = ap (λ z. view z ∷ map view ys) (sym is)
+left_at view (y ∷ ys) (suc i) x d h is =
+    let e : suc i + 1 ≡ suc (i + 1) = omega arith in
+    let k : map view (drop i ys) ≡ view x ∷ map view (drop (i + 1) ys) = left_at view ys i x d (omega arith) is in
+    rw e k
+
+-- the frame of a tuple
+
+pub frame_inner : (f : List Tree) (frame inner : Held_frame) (tuple : List (Rc (Vec Held) Global)) → values_of inner.slots.now ≡ values_of frame.slots.now ++ values_of tuple
+    → inner.focus ≡ frame.focus → inner.addresses.now ≡ frame.addresses.now
+    → frame_at f inner ≡ at_tuple (frame_at f frame) (tuple_at f (values_of tuple))
+frame_inner f frame inner tuple e focus addresses =
+    let env = ap (tuple_at f) e ∙ map-append (items_at f) (values_of frame.slots.now) (values_of tuple) in
+    λ i. record { env = env i; focus = focus_at f (focus i); addresses = map string_bytes (addresses i) }
+
+pub frame_inner_in : (f : List Tree) (frame inner : Held_frame) (tuple : List (Rc (Vec Held) Global)) → values_of inner.slots.now ≡ values_of frame.slots.now ++ values_of tuple
+    → inner.focus ≡ frame.focus → inner.addresses.now ≡ frame.addresses.now → FrameIn f frame → TupleIn f (values_of tuple) → FrameIn f inner
+frame_inner_in f frame inner tuple e focus addresses h k = record {
+  slots_in = subst (TupleIn f) (sym e) (all-append (AreIn f) (values_of frame.slots.now) (values_of tuple) h.slots_in k);
+  focus_in = subst (FocusIn f) (sym focus) h.focus_in;
+  addresses_in = subst (λ xs. length xs ≤ length f) (sym addresses) h.addresses_in;
+}
+
+-- what the clauses make of tuples of nodes that exist
+
+pub bound_in : (f : List Tree) (tuples : List (Tuple ItemView)) (values : List (List ItemView)) → TuplesIn f tuples → TupleIn f values → TuplesIn f (bound tuples values)
+bound_in f [] values h k = tt
+bound_in f (t ∷ ts) [] h k = tt
+bound_in f (t ∷ ts) (v ∷ vs) h k = (all-append (AreIn f) t (v ∷ []) h.0 (k.0, tt), bound_in f ts vs h.1 k.1)
+
+pub kept_in : (f : List Tree) (tuples : List (Tuple ItemView)) (tests : List Bool) → TuplesIn f tuples → TuplesIn f (kept tuples tests)
+kept_in f [] tests h = tt
+kept_in f (t ∷ ts) [] h = tt
+kept_in f (t ∷ ts) (true ∷ bs) h = (h.0, kept_in f ts bs h.1)
+kept_in f (t ∷ ts) (false ∷ bs) h = kept_in f ts bs h.1
+
+item_in : (f : List Tree) (at : Bool) (n : ℕ) (x : ItemView) → IsIn f x → TupleIn f (item_values Value at n x)
+item_in f true n x h = ((h, tt), ((tt, tt), tt))
+item_in f false n x h = ((h, tt), tt)
+
+each_in : (f : List Tree) (at : Bool) (tuple : Tuple ItemView) (n : ℕ) (xs : List ItemView) → TupleIn f tuple → AreIn f xs → TuplesIn f (map (λ p. tuple ++ item_values Value at p.0 p.1) (enumerate_from n xs))
+each_in f at tuple n [] h k = tt
+each_in f at tuple n (x ∷ xs) h k = (all-append (AreIn f) tuple (item_values Value at n x) h (item_in f at n x k.0), each_in f at tuple (n + 1) xs h k.1)
+
+pub expanded_in : (f : List Tree) (at : Bool) (tuples : List (Tuple ItemView)) (lists : List (List ItemView)) → TuplesIn f tuples → TupleIn f lists → TuplesIn f (expanded Value at tuples lists)
+expanded_in f at [] lists h k = tt
+expanded_in f at (t ∷ ts) [] h k = tt
+expanded_in f at (t ∷ ts) (l ∷ ls) h k =
+    subst (TuplesIn f) (sym (flat_map-cons (λ p. with_each Value at p.0 p.1) (t, l) (zip ts ls)))
+    (all-append (TupleIn f) (with_each Value at t l) (expanded Value at ts ls) (each_in f at t 1 l h.0 k.0) (expanded_in f at ts ls h.1 k.1))
+
+abbrev pub same_tests : {A : Type 0} → List Tree → List A → List A
+same_tests trees tests = tests
+
+abbrev pub any_tests : {A : Type 0} → List Tree → List A → Type 0
+any_tests trees tests = Unit {0}
+
+-- items that have to be nodes, one by one
+
+pub nodes_next : (trees : List Tree) (code : Code) (p : Place) (xs : List Item) → forget (all_nodes code (Node p ∷ xs)) ≡ forget (all_nodes code xs)
+nodes_next trees code p xs = after (all_nodes code xs)
+  where
+    after : (r : Judged (List Place)) → forget (r >>>= (λ ps. Ok (p ∷ ps))) ≡ forget r
+    after (Ok ps) = refl
+    after (Err other) = refl
+
+abbrev refused : {A : Type 0} → Judged A → Type 0
+refused (Ok x) = ⊥
+refused (Err code) = Unit {0}
+
+then_ok : {A B : Type 0} (r : Judged A) (k : Doing B) (f : List Tree) → forget r ≡ Ok tt → go_on (judged r f) (λ _. k) ≡ k f
+then_ok (Ok x) k f h = refl
+then_ok (Err code) k f h = absurd (subst (λ (o : Judged (Unit {0})). refused o) h tt)
+
+then_err : {A B : Type 0} (r : Judged A) (k : Doing B) (f : List Tree) (code : Code) → forget r ≡ Err code → (go_on (judged r f) (λ _. k)).0 ≡ Err code
+then_err (Ok x) k f code h = absurd (subst (λ (o : Judged (Unit {0})). refused o) (sym h) tt)
+then_err (Err other) k f code h = ap (λ (o : Judged (Unit {0})). (go_on (judged o f) (λ _. k)).0) h
+
+pub slash_ok : {E : Type 0} (frame : Forms.Frame E) (xs : List Item) (part : Forms.Meaning E) (f : List Tree) → forget (all_nodes XPTY0019 xs) ≡ Ok tt
+    → Forms.slash frame xs part f ≡ go_on (collected (λ focus. part (Forms.in_focus frame focus)) (focuses xs) f) (λ ys. on_trees (λ trees. gathered trees ys))
+slash_ok frame xs part f h = then_ok (all_nodes XPTY0019 xs) (collected (λ focus. part (Forms.in_focus frame focus)) (focuses xs) >>= (λ ys. on_trees (λ trees. gathered trees ys))) f h
+
+pub slash_err : {E : Type 0} (frame : Forms.Frame E) (xs : List Item) (part : Forms.Meaning E) (f : List Tree) (code : Code) → forget (all_nodes XPTY0019 xs) ≡ Err code → (Forms.slash frame xs part f).0 ≡ Err code
+slash_err frame xs part f code h = then_err (all_nodes XPTY0019 xs) (collected (λ focus. part (Forms.in_focus frame focus)) (focuses xs) >>= (λ ys. on_trees (λ trees. gathered trees ys))) f code h
+
+-- one thing after another, grouped to the right
+pub then_after : {A B C : Type 0} (o : Outcome A) (a : A → Doing B) (b : B → Doing C) → go_on (go_on o a) b ≡ go_on o (λ x. a x >>= b)
+then_after (Ok x, f) a b = refl
+then_after (Err code, f) a b = refl
+
+-- # Steps and constructors
+
+all_reverse : {A : Type 0} (P : A → Type 0) (xs : List A) → AllByRecursion P xs → AllByRecursion P (reverse xs)
+all_reverse P [] h = tt
+all_reverse P (x ∷ xs) h = subst (AllByRecursion P) (sym (reverse-append (x ∷ []) xs)) (all-append P (reverse xs) (x ∷ []) (all_reverse P xs h.1) (h.0, tt))
+
+map_reverse : {A B : Type 0} (f : A → B) (xs : List A) → map f (reverse xs) ≡ reverse (map f xs)
+map_reverse f [] = refl
+map_reverse f (x ∷ xs) =
+    ap (map f) (reverse-append (x ∷ []) xs) ∙ map-append f (reverse xs) (x ∷ []) ∙ ap (λ ys. ys ++ f x ∷ []) (map_reverse f xs) ∙ sym (reverse-append (f x ∷ []) (map f xs))
+
+abbrev reversed_if : {A : Type 0} → Bool → List A → List A
+reversed_if b xs = if b then reverse xs else xs
+
+reversed_read : {A B : Type 0} (f : A → B) (b : Bool) (xs : List A) → map f (reversed_if b xs) ≡ reversed_if b (map f xs)
+reversed_read f true xs = map_reverse f xs
+reversed_read f false xs = refl
+
+reversed_in : {A : Type 0} (P : A → Type 0) (b : Bool) (xs : List A) → AllByRecursion P xs → AllByRecursion P (reversed_if b xs)
+reversed_in P true xs h = all_reverse P xs h
+reversed_in P false xs h = h
+
+pub axis_order_read : (f : List Tree) (axis : Axis) (xs : List ItemView) → in_axis_order axis (items_at f xs) ≡ items_at f (in_axis_order axis xs)
+axis_order_read f axis xs = sym (reversed_read (item_at f) (is_reverse axis) xs)
+
+pub axis_order_in : (f : List Tree) (axis : Axis) (xs : List ItemView) → AreIn f xs → AreIn f (in_axis_order axis xs)
+axis_order_in f axis xs h = reversed_in (IsIn f) (is_reverse axis) xs h
+
+-- a step, from the nodes on its axis
+pub step_is : (axis : Axis) (test : Test) (predicates : List Meaning) (frame : Frame) (f : List Tree)
+    → Forms.step axis test predicates frame f ≡ go_on (on_axis axis test frame.focus f) (λ xs. in_turn (Forms.filtered frame) xs predicates >>= (λ ys. give (in_axis_order axis ys)))
+step_is axis test predicates frame f =
+    sym (then_after (judged (context_node frame.focus) f) (λ p. on_trees (λ trees. Ok (map Node (in_axis_order axis (axis_nodes trees axis test p))))) (λ xs. in_turn (Forms.filtered frame) xs predicates >>= (λ ys. give (in_axis_order axis ys))))
+
+-- a named node, from the value that computes its name
+pub named_is : (kind : NamedNode) (name part : Meaning) (frame : Frame) (f : List Tree)
+    → Forms.named_node kind name part frame f ≡ go_on (name frame f) (λ xs. on_trees (λ trees. name_of kind (atomized trees xs)) >>= (λ good. part frame >>= (λ ys. plant_named kind good ys)))
+named_is kind name part frame f = by_value (name frame f)
+  where
+    by_value : (o : Outcome (List Item))
+        → go_on (go_on o (λ xs. on_trees (λ trees. Ok (atomized trees xs)))) (λ values. judged (name_of kind values) >>= (λ good. part frame >>= (λ ys. plant_named kind good ys)))
+        ≡ go_on o (λ xs. on_trees (λ trees. name_of kind (atomized trees xs)) >>= (λ good. part frame >>= (λ ys. plant_named kind good ys)))
+    by_value (Ok xs, g) = refl
+    by_value (Err code, g) = refl
+
+-- what leaves the trees as they are
+pub same_goes : {old new : List Tree} {old_clean new_clean : Type 0} → new ≡ old → (new_clean → old_clean) → Goes old new old_clean new_clean
+same_goes {old} same was = record { grows = record { added = []; is = same ∙ sym (append-nil old) }; was_clean = was }

@@ -1,0 +1,4 @@
+pub mod Bindings
+pub mod Keys
+pub mod Quantifying
+pub mod Turns

@@ -1,0 +1,312 @@
+//! The clauses of a FLWOR expression, each for all tuples before the next (XQuery 3.1, section
+//! 3.12).
+ghost use Rattle.std.specs.Prelude.{◌≡◌, List, [], ◌∷◌, map, length, IfOk};
+ghost use Rattle.std.proofs.Common.{suc};
+ghost use Rattle.xq_tuples.specs.Keys.{column_of, columns_of};
+ghost use Rattle.xq_tuples.specs.Views.{values_of};
+ghost use Rattle.xq_meaning.specs.Doing.{in_turn, one_more, for_each};
+ghost use Rattle.xq_meaning.specs.Forms as Forms;
+ghost use Rattle.xq_meaning.specs.PlanMeaning.{plan_mean, plan_clause_mean, at_tuple as meant_at, next_clause};
+ghost use Rattle.xq_eval.specs.private.Keys.{keys_at};
+ghost use Rattle.xq_operations.specs.Views.{tuple_at, tuples_at, lists_of, order_specs, frame_at, FrameIn, TupleIn, TuplesIn, Goes, Gives, GivesLists, GivesTests, GivesTuples, GivesKeys, GivesRows};
+
+use crate::evaluation::evaluate;
+use std::alloc::Global;
+use std::rc::Rc;
+use xq_atoms::{Atom, Fault};
+use xq_expressions::OrderModifier;
+use xq_functions::effective;
+use xq_meaning::{Plan, PlanClause};
+use xq_operations::{Frame, atomized, group, joined, order};
+use xq_regions::Items;
+use xq_tuples::Tuples;
+use xq_worlds::Growing;
+
+/// The tuples after all clauses.
+#[cycle(eval)]
+pub fn clause_list<W: Growing>(
+    alloc: Global,
+    world: &mut W,
+    frame: Frame<'_>,
+    clauses: &[PlanClause],
+) -> Result<Tuples, Fault>
+    ensures goes { Goes (W.forest world.old) (W.forest world.new) (W.is_clean world.old)
+        (W.is_clean world.new) }
+    ensures gives { W.is_clean world.new → FrameIn (W.forest world.old) frame.entry
+        → GivesTuples (in_turn (next_clause (frame_at (W.forest world.old) frame.entry)) ([] ∷ [])
+        (map plan_clause_mean clauses.now) (W.forest world.old)) (W.forest world.new) result }
+{
+    let mut tuples = Tuples::one(alloc)?;
+    for clause in clauses {
+        tuples = next_tuples(alloc, world, frame, tuples, clause)?;
+    }
+    Ok(tuples)
+}
+
+/// The tuples after one clause more.
+#[cycle(eval)]
+fn next_tuples<W: Growing>(
+    alloc: Global,
+    world: &mut W,
+    frame: Frame<'_>,
+    tuples: Tuples,
+    clause: &PlanClause,
+) -> Result<Tuples, Fault>
+    ensures goes { Goes (W.forest world.old) (W.forest world.new) (W.is_clean world.old)
+        (W.is_clean world.new) }
+    ensures gives { W.is_clean world.new → FrameIn (W.forest world.old) frame.entry
+        → TuplesIn (W.forest world.old) tuples
+        → GivesTuples (plan_clause_mean clause.now (frame_at (W.forest world.old) frame.entry)
+        (tuples_at (W.forest world.old) tuples) (W.forest world.old)) (W.forest world.new) result }
+{
+    match clause {
+        PlanClause::For(at, part) => {
+            let lists = values(alloc, world, frame, &tuples, part)?;
+            Ok(tuples.expand(lists, *at)?)
+        }
+        PlanClause::Let(part) => {
+            let lists = values(alloc, world, frame, &tuples, part)?;
+            Ok(tuples.bind(lists)?)
+        }
+        PlanClause::Where(part) => {
+            let tests = tests(alloc, world, frame, &tuples, part)?;
+            Ok(tuples.keep(&tests))
+        }
+        PlanClause::Group(slots) => group(alloc, world, tuples, slots.as_slice()),
+        PlanClause::Order(specs) => {
+            let specs = specs.as_slice();
+            let rows = key_rows(alloc, world, frame, &tuples, specs)?;
+            order(alloc, tuples, specs, rows)
+        }
+        PlanClause::Refused(code) => Err(Fault::Code(*code)),
+    }
+}
+
+/// The value of a part at each tuple.
+#[cycle(eval)]
+pub fn values<W: Growing>(
+    alloc: Global,
+    world: &mut W,
+    frame: Frame<'_>,
+    tuples: &Tuples,
+    part: &Plan,
+) -> Result<Vec<Items>, Fault>
+    ensures goes { Goes (W.forest world.old) (W.forest world.new) (W.is_clean world.old)
+        (W.is_clean world.new) }
+    ensures gives { W.is_clean world.new → FrameIn (W.forest world.old) frame.entry
+        → TuplesIn (W.forest world.old) tuples.now
+        → GivesLists (for_each (λ t. plan_mean part.now (meant_at (frame_at (W.forest world.old)
+        frame.entry) t)) (tuples_at (W.forest world.old) tuples.now) (W.forest world.old))
+        (W.forest world.new) result }
+    ensures long { IfOk result (λ lists. length lists.items ≡ length tuples.now) }
+{
+    let mut lists = Vec::new(alloc);
+    for index in 0..tuples.len() {
+        lists = next_value(alloc, world, frame, lists, tuples.tuple(index), part)?;
+    }
+    Ok(lists)
+}
+
+/// The value of a part at one tuple more.
+#[cycle(eval)]
+fn next_value<W: Growing>(
+    alloc: Global,
+    world: &mut W,
+    frame: Frame<'_>,
+    done: Vec<Items>,
+    tuple: &[Rc<Items>],
+    part: &Plan,
+) -> Result<Vec<Items>, Fault>
+    ensures goes { Goes (W.forest world.old) (W.forest world.new) (W.is_clean world.old)
+        (W.is_clean world.new) }
+    ensures gives { W.is_clean world.new → FrameIn (W.forest world.old) frame.entry
+        → TupleIn (W.forest world.old) (lists_of done)
+        → TupleIn (W.forest world.old) (values_of tuple.now)
+        → GivesLists (one_more (λ t. plan_mean part.now (meant_at (frame_at (W.forest world.old)
+        frame.entry) t)) (tuple_at (W.forest world.old) (lists_of done)) (tuple_at
+        (W.forest world.old) (values_of tuple.now)) (W.forest world.old)) (W.forest world.new)
+        result }
+    ensures long { IfOk result (λ lists. length lists.items ≡ suc (length done.items)) }
+{
+    let mut lists = done;
+    let list = at_tuple(alloc, world, frame, tuple, part)?;
+    lists.push(list)?;
+    Ok(lists)
+}
+
+/// Whether a part holds, at each tuple.
+#[cycle(eval)]
+fn tests<W: Growing>(
+    alloc: Global,
+    world: &mut W,
+    frame: Frame<'_>,
+    tuples: &Tuples,
+    part: &Plan,
+) -> Result<Vec<bool>, Fault>
+    ensures goes { Goes (W.forest world.old) (W.forest world.new) (W.is_clean world.old)
+        (W.is_clean world.new) }
+    ensures gives { W.is_clean world.new → FrameIn (W.forest world.old) frame.entry
+        → TuplesIn (W.forest world.old) tuples.now
+        → GivesTests (for_each (λ t. Forms.tested (plan_mean part.now) (meant_at (frame_at
+        (W.forest world.old) frame.entry) t)) (tuples_at (W.forest world.old) tuples.now)
+        (W.forest world.old)) (W.forest world.new) result }
+    ensures long { IfOk result (λ tests. length tests.items ≡ length tuples.now) }
+{
+    let mut tests = Vec::new(alloc);
+    for index in 0..tuples.len() {
+        tests = next_test(alloc, world, frame, tests, tuples.tuple(index), part)?;
+    }
+    Ok(tests)
+}
+
+/// Whether a part holds, at one tuple more.
+#[cycle(eval)]
+fn next_test<W: Growing>(
+    alloc: Global,
+    world: &mut W,
+    frame: Frame<'_>,
+    done: Vec<bool>,
+    tuple: &[Rc<Items>],
+    part: &Plan,
+) -> Result<Vec<bool>, Fault>
+    ensures goes { Goes (W.forest world.old) (W.forest world.new) (W.is_clean world.old)
+        (W.is_clean world.new) }
+    ensures gives { W.is_clean world.new → FrameIn (W.forest world.old) frame.entry
+        → TupleIn (W.forest world.old) (values_of tuple.now)
+        → GivesTests (one_more (λ t. Forms.tested (plan_mean part.now) (meant_at (frame_at
+        (W.forest world.old) frame.entry) t)) done.items (tuple_at (W.forest world.old) (values_of
+        tuple.now)) (W.forest world.old)) (W.forest world.new) result }
+    ensures long { IfOk result (λ tests. length tests.items ≡ suc (length done.items)) }
+{
+    let mut tests = done;
+    let value = at_tuple(alloc, world, frame, tuple, part)?;
+    let holds = effective(&value)?;
+    tests.push(holds)?;
+    Ok(tests)
+}
+
+/// The value of a part at one tuple.
+#[cycle(eval)]
+fn at_tuple<W: Growing>(
+    alloc: Global,
+    world: &mut W,
+    frame: Frame<'_>,
+    tuple: &[Rc<Items>],
+    part: &Plan,
+) -> Result<Items, Fault>
+    ensures goes { Goes (W.forest world.old) (W.forest world.new) (W.is_clean world.old)
+        (W.is_clean world.new) }
+    ensures gives { W.is_clean world.new → FrameIn (W.forest world.old) frame.entry
+        → TupleIn (W.forest world.old) (values_of tuple.now)
+        → Gives (plan_mean part.now (meant_at (frame_at (W.forest world.old) frame.entry)
+        (tuple_at (W.forest world.old) (values_of tuple.now))) (W.forest world.old))
+        (W.forest world.new) result }
+{
+    let slots = joined(alloc, frame.slots, tuple)?;
+    let inner = Frame {
+        slots: &slots,
+        focus: frame.focus,
+        addresses: frame.addresses,
+    };
+    evaluate(alloc, world, inner, part)
+}
+
+/// The keys of each tuple.
+#[cycle(eval)]
+fn key_rows<W: Growing>(
+    alloc: Global,
+    world: &mut W,
+    frame: Frame<'_>,
+    tuples: &Tuples,
+    specs: &[(Plan, OrderModifier)],
+) -> Result<Vec<Vec<Vec<Atom>>>, Fault>
+    ensures goes { Goes (W.forest world.old) (W.forest world.new) (W.is_clean world.old)
+        (W.is_clean world.new) }
+    ensures gives { W.is_clean world.new → FrameIn (W.forest world.old) frame.entry
+        → TuplesIn (W.forest world.old) tuples.now
+        → GivesRows (for_each (λ t. keys_at (order_specs specs.now) (meant_at (frame_at
+        (W.forest world.old) frame.entry) t)) (tuples_at (W.forest world.old) tuples.now)
+        (W.forest world.old)) (W.forest world.new) result }
+    ensures long { IfOk result (λ rows. length rows.items ≡ length tuples.now) }
+{
+    let mut rows = Vec::new(alloc);
+    for index in 0..tuples.len() {
+        rows = next_row(alloc, world, frame, rows, tuples.tuple(index), specs)?;
+    }
+    Ok(rows)
+}
+
+/// The keys so far, and those of one tuple more.
+#[cycle(eval)]
+fn next_row<W: Growing>(
+    alloc: Global,
+    world: &mut W,
+    frame: Frame<'_>,
+    done: Vec<Vec<Vec<Atom>>>,
+    tuple: &[Rc<Items>],
+    specs: &[(Plan, OrderModifier)],
+) -> Result<Vec<Vec<Vec<Atom>>>, Fault>
+    ensures goes { Goes (W.forest world.old) (W.forest world.new) (W.is_clean world.old)
+        (W.is_clean world.new) }
+    ensures gives { W.is_clean world.new → FrameIn (W.forest world.old) frame.entry
+        → TupleIn (W.forest world.old) (values_of tuple.now)
+        → GivesRows (one_more (λ t. keys_at (order_specs specs.now) (meant_at (frame_at
+        (W.forest world.old) frame.entry) t)) (columns_of done) (tuple_at (W.forest world.old)
+        (values_of tuple.now)) (W.forest world.old)) (W.forest world.new) result }
+    ensures long { IfOk result (λ rows. length rows.items ≡ suc (length done.items)) }
+{
+    let mut rows = done;
+    let slots = joined(alloc, frame.slots, tuple)?;
+    let inner = Frame {
+        slots: &slots,
+        focus: frame.focus,
+        addresses: frame.addresses,
+    };
+    let row = keys(alloc, world, inner, specs)?;
+    rows.push(row)?;
+    Ok(rows)
+}
+
+/// The keys of one tuple, in its frame.
+#[cycle(eval)]
+fn keys<W: Growing>(
+    alloc: Global,
+    world: &mut W,
+    frame: Frame<'_>,
+    specs: &[(Plan, OrderModifier)],
+) -> Result<Vec<Vec<Atom>>, Fault>
+    ensures goes { Goes (W.forest world.old) (W.forest world.new) (W.is_clean world.old)
+        (W.is_clean world.new) }
+    ensures gives { W.is_clean world.new → FrameIn (W.forest world.old) frame.entry
+        → GivesKeys (keys_at (order_specs specs.now) (frame_at (W.forest world.old) frame.entry)
+        (W.forest world.old)) (W.forest world.new) result }
+{
+    let mut keys = Vec::new(alloc);
+    for (part, _modifier) in specs {
+        keys = next_key(alloc, world, frame, keys, part)?;
+    }
+    Ok(keys)
+}
+
+/// The keys so far, and one more.
+#[cycle(eval)]
+fn next_key<W: Growing>(
+    alloc: Global,
+    world: &mut W,
+    frame: Frame<'_>,
+    done: Vec<Vec<Atom>>,
+    part: &Plan,
+) -> Result<Vec<Vec<Atom>>, Fault>
+    ensures goes { Goes (W.forest world.old) (W.forest world.new) (W.is_clean world.old)
+        (W.is_clean world.new) }
+    ensures gives { W.is_clean world.new → FrameIn (W.forest world.old) frame.entry
+        → GivesKeys (one_more (λ part. Forms.atoms_of part (frame_at (W.forest world.old)
+        frame.entry)) (column_of done) (plan_mean part.now) (W.forest world.old))
+        (W.forest world.new) result }
+{
+    let mut keys = done;
+    let value = evaluate(alloc, world, frame, part)?;
+    let key = atomized(alloc, world, &value)?;
+    keys.push(key)?;
+    Ok(keys)
+}

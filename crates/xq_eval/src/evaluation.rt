@@ -1,0 +1,371 @@
+//! The evaluator: the value of a plan.
+ghost use Rattle.std.specs.Prelude.{◌≡◌, List, [], ◌∷◌, map};
+ghost use Rattle.xq_regions.specs.Items.{item_view, item_views};
+ghost use Rattle.xq_values.specs.Readings.{items_at, IsIn, AreIn};
+ghost use Rattle.xq_meaning.specs.Doing.{in_turn, more, one_more, for_each, first_that};
+ghost use Rattle.xq_meaning.specs.Forms as Forms;
+ghost use Rattle.xq_meaning.specs.PlanMeaning.{plan_mean};
+ghost use Rattle.xq_operations.specs.Views.{tuple_at, lists_of, spot_at, frame_at, FrameIn, TupleIn, Goes, Gives, GivesLists, GivesPlain};
+
+use crate::clauses::{clause_list, values};
+use crate::paths::step_list;
+use crate::quantified::satisfied;
+use std::alloc::Global;
+use xq_atoms::{Atom, Fault};
+use xq_functions::{effective, keeps};
+use xq_meaning::Plan;
+use xq_operations::{
+    Focus, Frame, axis_items, call, concatenated, context_item, deciding, in_axis_order, named,
+    node_name, operate, push_copy, root, sign, single, slot, unnamed,
+};
+use xq_regions::{Item, Items};
+use xq_values::Operator;
+use xq_worlds::Growing;
+
+/// The value of a plan.
+#[cycle(eval)]
+pub fn evaluate<W: Growing>(
+    alloc: Global,
+    world: &mut W,
+    frame: Frame<'_>,
+    plan: &Plan,
+) -> Result<Items, Fault>
+    ensures goes { Goes (W.forest world.old) (W.forest world.new) (W.is_clean world.old)
+        (W.is_clean world.new) }
+    ensures gives { W.is_clean world.new → FrameIn (W.forest world.old) frame.entry
+        → Gives (plan_mean plan.now (frame_at (W.forest world.old) frame.entry)
+        (W.forest world.old)) (W.forest world.new) result }
+{
+    match plan {
+        Plan::Int(value) => Ok(single(alloc, Item::Atom(Atom::Int(*value)))?),
+        Plan::Dec(value) => Ok(single(alloc, Item::Atom(Atom::Dec(*value)))?),
+        Plan::Str(text) => {
+            let text = String::from_str(alloc, text.as_str())?;
+            Ok(single(alloc, Item::Atom(Atom::Str(text)))?)
+        }
+        Plan::Slot(number) => Ok(slot(alloc, frame.slots, *number)?),
+        Plan::ContextItem => context_item(alloc, frame.focus),
+        Plan::Sequence(parts) => sequence(alloc, world, frame, parts.as_slice()),
+        Plan::Chain(first, rest) => {
+            let left = evaluate(alloc, world, frame, first.get())?;
+            chain(alloc, world, frame, left, rest.as_slice())
+        }
+        Plan::Unary(signs, part) => {
+            let items = evaluate(alloc, world, frame, part.get())?;
+            sign(alloc, world, signs.as_slice(), &items)
+        }
+        Plan::If(test, yes, no) => {
+            let value = evaluate(alloc, world, frame, test.get())?;
+            if effective(&value)? {
+                evaluate(alloc, world, frame, yes.get())
+            } else {
+                evaluate(alloc, world, frame, no.get())
+            }
+        }
+        Plan::Or(parts) => {
+            let answer = decided(alloc, world, frame, parts.as_slice(), true)?;
+            Ok(single(alloc, Item::Atom(Atom::Bool(answer)))?)
+        }
+        Plan::And(parts) => {
+            let answer = decided(alloc, world, frame, parts.as_slice(), false)?;
+            Ok(single(alloc, Item::Atom(Atom::Bool(answer)))?)
+        }
+        Plan::Filter(start, predicates) => {
+            let items = evaluate(alloc, world, frame, start.get())?;
+            filter(alloc, world, frame, items, predicates.as_slice())
+        }
+        Plan::Flwor(clauses, part) => {
+            let tuples = clause_list(alloc, world, frame, clauses.as_slice())?;
+            let lists = values(alloc, world, frame, &tuples, part.get())?;
+            Ok(concatenated(alloc, lists)?)
+        }
+        Plan::Path(start, steps) => {
+            let items = evaluate(alloc, world, frame, start.get())?;
+            step_list(alloc, world, frame, items, steps.as_slice())
+        }
+        Plan::Root => root(alloc, world, frame),
+        Plan::Step(axis, test, predicates) => {
+            let nodes = axis_items(alloc, world, frame, *axis, test)?;
+            let kept = filter(alloc, world, frame, nodes, predicates.as_slice())?;
+            Ok(in_axis_order(*axis, kept))
+        }
+        Plan::Named(kind, name, part) => {
+            let value = evaluate(alloc, world, frame, name.get())?;
+            let name = node_name(alloc, world, *kind, &value)?;
+            let content = evaluate(alloc, world, frame, part.get())?;
+            named(alloc, world, *kind, name, &content)
+        }
+        Plan::Unnamed(kind, part) => {
+            let content = evaluate(alloc, world, frame, part.get())?;
+            unnamed(alloc, world, *kind, &content)
+        }
+        Plan::Call(function, parts) => {
+            let values = arguments(alloc, world, frame, parts.as_slice())?;
+            call(alloc, world, frame, *function, values)
+        }
+        Plan::Quantified(which, ranges, test) => {
+            let wanted = deciding(*which);
+            let ranges = ranges.as_slice();
+            let answer = satisfied(alloc, world, frame, plan, ranges, test.get(), wanted)?;
+            Ok(single(alloc, Item::Atom(Atom::Bool(answer)))?)
+        }
+    }
+}
+
+/// The items of each part.
+#[cycle(eval)]
+fn sequence<W: Growing>(
+    alloc: Global,
+    world: &mut W,
+    frame: Frame<'_>,
+    parts: &[Plan],
+) -> Result<Items, Fault>
+    ensures goes { Goes (W.forest world.old) (W.forest world.new) (W.is_clean world.old)
+        (W.is_clean world.new) }
+    ensures gives { W.is_clean world.new → FrameIn (W.forest world.old) frame.entry
+        → Gives (Forms.sequence (map plan_mean parts.now) (frame_at (W.forest world.old)
+        frame.entry) (W.forest world.old)) (W.forest world.new) result }
+{
+    let mut items = Vec::new(alloc);
+    for part in parts {
+        items = next_part(alloc, world, frame, items, part)?;
+    }
+    Ok(items)
+}
+
+/// The items of one part, after those before it.
+#[cycle(eval)]
+fn next_part<W: Growing>(
+    alloc: Global,
+    world: &mut W,
+    frame: Frame<'_>,
+    done: Items,
+    part: &Plan,
+) -> Result<Items, Fault>
+    ensures goes { Goes (W.forest world.old) (W.forest world.new) (W.is_clean world.old)
+        (W.is_clean world.new) }
+    ensures gives { W.is_clean world.new → FrameIn (W.forest world.old) frame.entry
+        → AreIn (W.forest world.old) (item_views done)
+        → Gives (more (λ part. part (frame_at (W.forest world.old) frame.entry)) (items_at
+        (W.forest world.old) (item_views done)) (plan_mean part.now) (W.forest world.old))
+        (W.forest world.new) result }
+{
+    let mut items = done;
+    let mut added = evaluate(alloc, world, frame, part)?;
+    items.append(&mut added)?;
+    Ok(items)
+}
+
+/// What the operators give, one after another.
+#[cycle(eval)]
+fn chain<W: Growing>(
+    alloc: Global,
+    world: &mut W,
+    frame: Frame<'_>,
+    first: Items,
+    rest: &[(Operator, Plan)],
+) -> Result<Items, Fault>
+    ensures goes { Goes (W.forest world.old) (W.forest world.new) (W.is_clean world.old)
+        (W.is_clean world.new) }
+    ensures gives { W.is_clean world.new → FrameIn (W.forest world.old) frame.entry
+        → AreIn (W.forest world.old) (item_views first)
+        → Gives (in_turn (Forms.next_operand (frame_at (W.forest world.old) frame.entry))
+        (items_at (W.forest world.old) (item_views first)) (map (λ (op, p). (op, plan_mean p))
+        rest.now) (W.forest world.old)) (W.forest world.new) result }
+{
+    let mut total = first;
+    for (operator, part) in rest {
+        total = next_operand(alloc, world, frame, total, *operator, part)?;
+    }
+    Ok(total)
+}
+
+/// What one operator gives.
+#[cycle(eval)]
+fn next_operand<W: Growing>(
+    alloc: Global,
+    world: &mut W,
+    frame: Frame<'_>,
+    left: Items,
+    operator: Operator,
+    part: &Plan,
+) -> Result<Items, Fault>
+    ensures goes { Goes (W.forest world.old) (W.forest world.new) (W.is_clean world.old)
+        (W.is_clean world.new) }
+    ensures gives { W.is_clean world.new → FrameIn (W.forest world.old) frame.entry
+        → AreIn (W.forest world.old) (item_views left)
+        → Gives (Forms.next_operand (frame_at (W.forest world.old) frame.entry) (items_at
+        (W.forest world.old) (item_views left)) (operator, plan_mean part.now)
+        (W.forest world.old)) (W.forest world.new) result }
+{
+    let right = evaluate(alloc, world, frame, part)?;
+    operate(alloc, world, operator, &left, &right)
+}
+
+/// Whether one of the parts has the wanted truth; those after the first that has are not evaluated.
+#[cycle(eval)]
+fn decided<W: Growing>(
+    alloc: Global,
+    world: &mut W,
+    frame: Frame<'_>,
+    parts: &[Plan],
+    wanted: bool,
+) -> Result<bool, Fault>
+    ensures goes { Goes (W.forest world.old) (W.forest world.new) (W.is_clean world.old)
+        (W.is_clean world.new) }
+    ensures gives { W.is_clean world.new → FrameIn (W.forest world.old) frame.entry
+        → GivesPlain (first_that wanted (λ part. Forms.tested part (frame_at (W.forest world.old)
+        frame.entry)) (map plan_mean parts.now) (W.forest world.old)) (W.forest world.new) result }
+{
+    for part in parts {
+        let truth = tested(alloc, world, frame, part)?;
+        if truth == wanted {
+            return Ok(wanted);
+        }
+    }
+    Ok(!wanted)
+}
+
+/// The truth of a part.
+#[cycle(eval)]
+pub fn tested<W: Growing>(
+    alloc: Global,
+    world: &mut W,
+    frame: Frame<'_>,
+    part: &Plan,
+) -> Result<bool, Fault>
+    ensures goes { Goes (W.forest world.old) (W.forest world.new) (W.is_clean world.old)
+        (W.is_clean world.new) }
+    ensures gives { W.is_clean world.new → FrameIn (W.forest world.old) frame.entry
+        → GivesPlain (Forms.tested (plan_mean part.now) (frame_at (W.forest world.old)
+        frame.entry) (W.forest world.old)) (W.forest world.new) result }
+{
+    let value = evaluate(alloc, world, frame, part)?;
+    Ok(effective(&value)?)
+}
+
+/// The items that all predicates keep.
+#[cycle(eval)]
+fn filter<W: Growing>(
+    alloc: Global,
+    world: &mut W,
+    frame: Frame<'_>,
+    items: Items,
+    predicates: &[Plan],
+) -> Result<Items, Fault>
+    ensures goes { Goes (W.forest world.old) (W.forest world.new) (W.is_clean world.old)
+        (W.is_clean world.new) }
+    ensures gives { W.is_clean world.new → FrameIn (W.forest world.old) frame.entry
+        → AreIn (W.forest world.old) (item_views items)
+        → Gives (in_turn (Forms.filtered (frame_at (W.forest world.old) frame.entry)) (items_at
+        (W.forest world.old) (item_views items)) (map plan_mean predicates.now)
+        (W.forest world.old)) (W.forest world.new) result }
+{
+    let mut left = items;
+    for predicate in predicates {
+        left = keep(alloc, world, frame, &left, predicate)?;
+    }
+    Ok(left)
+}
+
+/// The items that one predicate keeps.
+#[cycle(eval)]
+fn keep<W: Growing>(
+    alloc: Global,
+    world: &mut W,
+    frame: Frame<'_>,
+    items: &[Item],
+    predicate: &Plan,
+) -> Result<Items, Fault>
+    ensures goes { Goes (W.forest world.old) (W.forest world.new) (W.is_clean world.old)
+        (W.is_clean world.new) }
+    ensures gives { W.is_clean world.new → FrameIn (W.forest world.old) frame.entry
+        → AreIn (W.forest world.old) (map item_view items.now)
+        → Gives (Forms.filtered (frame_at (W.forest world.old) frame.entry) (items_at
+        (W.forest world.old) (map item_view items.now)) (plan_mean predicate.now)
+        (W.forest world.old)) (W.forest world.new) result }
+{
+    let last = items.len();
+    let mut kept = Vec::new(alloc);
+    for (index, item) in items.iter().enumerate() {
+        let spot = Focus {
+            item,
+            position: index + 1,
+            last,
+        };
+        kept = pass(alloc, world, frame, kept, spot, predicate)?;
+    }
+    Ok(kept)
+}
+
+/// The items kept so far, and the one in focus where the predicate keeps it.
+#[cycle(eval)]
+fn pass<W: Growing>(
+    alloc: Global,
+    world: &mut W,
+    frame: Frame<'_>,
+    done: Items,
+    spot: Focus<'_>,
+    predicate: &Plan,
+) -> Result<Items, Fault>
+    ensures goes { Goes (W.forest world.old) (W.forest world.new) (W.is_clean world.old)
+        (W.is_clean world.new) }
+    ensures gives { W.is_clean world.new → FrameIn (W.forest world.old) frame.entry
+        → AreIn (W.forest world.old) (item_views done)
+        → IsIn (W.forest world.old) (item_view spot.entry.item.now)
+        → Gives (more (Forms.passed (plan_mean predicate.now) (frame_at (W.forest world.old)
+        frame.entry)) (items_at (W.forest world.old) (item_views done)) (spot_at
+        (W.forest world.old) spot.entry) (W.forest world.old)) (W.forest world.new) result }
+{
+    let inner = Frame {
+        focus: Some(spot),
+        ..frame
+    };
+    let value = evaluate(alloc, world, inner, predicate)?;
+    let keeps = keeps(spot.position, &value)?;
+    Ok(push_copy(alloc, done, spot.item, keeps)?)
+}
+
+/// The value of each argument.
+#[cycle(eval)]
+fn arguments<W: Growing>(
+    alloc: Global,
+    world: &mut W,
+    frame: Frame<'_>,
+    parts: &[Plan],
+) -> Result<Vec<Items>, Fault>
+    ensures goes { Goes (W.forest world.old) (W.forest world.new) (W.is_clean world.old)
+        (W.is_clean world.new) }
+    ensures gives { W.is_clean world.new → FrameIn (W.forest world.old) frame.entry
+        → GivesLists (for_each (λ part. part (frame_at (W.forest world.old) frame.entry)) (map
+        plan_mean parts.now) (W.forest world.old)) (W.forest world.new) result }
+{
+    let mut lists = Vec::new(alloc);
+    for part in parts {
+        lists = next_argument(alloc, world, frame, lists, part)?;
+    }
+    Ok(lists)
+}
+
+/// The values so far, and that of one argument more.
+#[cycle(eval)]
+fn next_argument<W: Growing>(
+    alloc: Global,
+    world: &mut W,
+    frame: Frame<'_>,
+    done: Vec<Items>,
+    part: &Plan,
+) -> Result<Vec<Items>, Fault>
+    ensures goes { Goes (W.forest world.old) (W.forest world.new) (W.is_clean world.old)
+        (W.is_clean world.new) }
+    ensures gives { W.is_clean world.new → FrameIn (W.forest world.old) frame.entry
+        → TupleIn (W.forest world.old) (lists_of done)
+        → GivesLists (one_more (λ part. part (frame_at (W.forest world.old) frame.entry)) (tuple_at
+        (W.forest world.old) (lists_of done)) (plan_mean part.now) (W.forest world.old))
+        (W.forest world.new) result }
+{
+    let mut lists = done;
+    let list = evaluate(alloc, world, frame, part)?;
+    lists.push(list)?;
+    Ok(lists)
+}

@@ -1,0 +1,126 @@
+//! What follows the slashes of a path (XQuery 3.1, section 3.3).
+ghost use Rattle.std.specs.Prelude.{◌≡◌, List, map};
+ghost use Rattle.xq_regions.specs.Items.{item_view, item_views};
+ghost use Rattle.xq_values.specs.Readings.{items_at, IsIn, AreIn};
+ghost use Rattle.xq_values.specs.Steps.{focuses};
+ghost use Rattle.xq_meaning.specs.Doing.{in_turn, more, collected};
+ghost use Rattle.xq_meaning.specs.Forms as Forms;
+ghost use Rattle.xq_meaning.specs.PlanMeaning.{plan_mean, plan_step_mean, next_step};
+ghost use Rattle.xq_operations.specs.Views.{spot_at, frame_at, FrameIn, Goes, Gives};
+
+use crate::evaluation::evaluate;
+use std::alloc::Global;
+use xq_atoms::Fault;
+use xq_meaning::{Plan, PlanStep};
+use xq_operations::{Focus, Frame, gather, only_nodes, scan};
+use xq_regions::{Item, Items};
+use xq_worlds::Growing;
+
+/// The items after all steps.
+#[cycle(eval)]
+pub fn step_list<W: Growing>(
+    alloc: Global,
+    world: &mut W,
+    frame: Frame<'_>,
+    items: Items,
+    steps: &[PlanStep],
+) -> Result<Items, Fault>
+    ensures goes { Goes (W.forest world.old) (W.forest world.new) (W.is_clean world.old)
+        (W.is_clean world.new) }
+    ensures gives { W.is_clean world.new → FrameIn (W.forest world.old) frame.entry
+        → AreIn (W.forest world.old) (item_views items)
+        → Gives (in_turn (next_step (frame_at (W.forest world.old) frame.entry)) (items_at
+        (W.forest world.old) (item_views items)) (map plan_step_mean steps.now)
+        (W.forest world.old)) (W.forest world.new) result }
+{
+    let mut left = items;
+    for step in steps {
+        left = next_items(alloc, world, frame, left, step)?;
+    }
+    Ok(left)
+}
+
+/// The items after one step more.
+#[cycle(eval)]
+fn next_items<W: Growing>(
+    alloc: Global,
+    world: &mut W,
+    frame: Frame<'_>,
+    items: Items,
+    step: &PlanStep,
+) -> Result<Items, Fault>
+    ensures goes { Goes (W.forest world.old) (W.forest world.new) (W.is_clean world.old)
+        (W.is_clean world.new) }
+    ensures gives { W.is_clean world.new → FrameIn (W.forest world.old) frame.entry
+        → AreIn (W.forest world.old) (item_views items)
+        → Gives (plan_step_mean step.now (frame_at (W.forest world.old) frame.entry) (items_at
+        (W.forest world.old) (item_views items)) (W.forest world.old)) (W.forest world.new) result }
+{
+    match step {
+        PlanStep::Each(part) => {
+            only_nodes(&items)?;
+            let found = each(alloc, world, frame, &items, part)?;
+            gather(alloc, found)
+        }
+        PlanStep::Scan(axis, test) => scan(alloc, world, &items, *axis, test),
+    }
+}
+
+/// The items of a part at each item.
+#[cycle(eval)]
+fn each<W: Growing>(
+    alloc: Global,
+    world: &mut W,
+    frame: Frame<'_>,
+    items: &[Item],
+    part: &Plan,
+) -> Result<Items, Fault>
+    ensures goes { Goes (W.forest world.old) (W.forest world.new) (W.is_clean world.old)
+        (W.is_clean world.new) }
+    ensures gives { W.is_clean world.new → FrameIn (W.forest world.old) frame.entry
+        → AreIn (W.forest world.old) (map item_view items.now)
+        → Gives (collected (λ spot. plan_mean part.now (Forms.in_focus (frame_at
+        (W.forest world.old) frame.entry) spot)) (focuses (items_at (W.forest world.old) (map
+        item_view items.now))) (W.forest world.old)) (W.forest world.new) result }
+{
+    let last = items.len();
+    let mut found = Vec::new(alloc);
+    for (index, item) in items.iter().enumerate() {
+        let spot = Focus {
+            item,
+            position: index + 1,
+            last,
+        };
+        found = at_spot(alloc, world, frame, found, spot, part)?;
+    }
+    Ok(found)
+}
+
+/// The items found so far, and those of a part at one item more.
+#[cycle(eval)]
+fn at_spot<W: Growing>(
+    alloc: Global,
+    world: &mut W,
+    frame: Frame<'_>,
+    done: Items,
+    spot: Focus<'_>,
+    part: &Plan,
+) -> Result<Items, Fault>
+    ensures goes { Goes (W.forest world.old) (W.forest world.new) (W.is_clean world.old)
+        (W.is_clean world.new) }
+    ensures gives { W.is_clean world.new → FrameIn (W.forest world.old) frame.entry
+        → AreIn (W.forest world.old) (item_views done)
+        → IsIn (W.forest world.old) (item_view spot.entry.item.now)
+        → Gives (more (λ spot. plan_mean part.now (Forms.in_focus (frame_at (W.forest world.old)
+        frame.entry) spot)) (items_at (W.forest world.old) (item_views done)) (spot_at
+        (W.forest world.old) spot.entry) (W.forest world.old)) (W.forest world.new) result }
+{
+    let mut found = done;
+    let inner = Frame {
+        focus: Some(spot),
+        ..frame
+    };
+    let mut added = evaluate(alloc, world, inner, part)?;
+    found.append(&mut added)?;
+    Ok(found)
+}

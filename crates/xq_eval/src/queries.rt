@@ -1,0 +1,41 @@
+//! A query's plan.
+ghost use Rattle.std.specs.Prelude.{◌≤◌, [], None, length, map, string_bytes};
+ghost use Rattle.xq_meaning.specs.PlanMeaning.{Frame as Meant, plan_mean};
+ghost use Rattle.xq_operations.specs.Views.{Goes, Gives};
+
+use crate::evaluation::evaluate;
+use std::alloc::Global;
+use std::rc::Rc;
+use xq_atoms::Fault;
+use xq_meaning::Plan;
+use xq_operations::Frame;
+use xq_regions::Items;
+use xq_worlds::Growing;
+
+/// The value of a query's plan, and beside it, in `world`, the trees that it constructed, after
+/// those that were there (XQuery 3.1, sections 2.1 and 3). `addresses` are those of the documents,
+/// which are the first trees.
+///
+/// An error is the code of the query's error, `Want::Memory` where a growth was refused, or
+/// `Want::Store` where the trees could not be read. What was constructed up to then stays.
+pub fn eval<W: Growing>(
+    alloc: Global,
+    plan: &Plan,
+    world: &mut W,
+    addresses: &[String],
+) -> Result<Items, Fault>
+    ensures goes { Goes (W.forest world.old) (W.forest world.new) (W.is_clean world.old)
+        (W.is_clean world.new) }
+    ensures gives { W.is_clean world.new
+        → length addresses.now ≤ length (W.forest world.old)
+        → let frame : Meant = record {
+          env = [];
+          focus = None;
+          addresses = map string_bytes
+              addresses.now;
+        } in
+        Gives (plan_mean plan.now frame (W.forest world.old)) (W.forest world.new) result }
+{
+    let slots: Vec<Rc<Items>> = Vec::new(alloc);
+    evaluate(alloc, world, Frame::outermost(&slots, addresses), plan)
+}
