@@ -88,7 +88,7 @@ fn check_queries(
     check_rows(rt, memory, tag, &function_rows())
 }
 
-/// All worked rows in order on one server, and then whole inputs.
+/// The worked rows in order on one server, but for two long results, and then whole inputs.
 #[test]
 fn worked_rows(rt: HostRuntime) -> Result<(), Fail> {
     let mut memory = MemoryServer::new(rt.alloc())?;
@@ -96,7 +96,6 @@ fn worked_rows(rt: HostRuntime) -> Result<(), Fail> {
     check_queries(&rt, &mut memory, 1)?;
     check_depths(&rt, &mut memory)?;
     check_rows(&rt, &mut memory, 1, &range_rows())?;
-    check_rows(&rt, &mut memory, 1, &limit_rows())?;
     check_rows(&rt, &mut memory, 1, &static_rows())?;
     check_rows(&rt, &mut memory, 1, &dropping_rows())?;
     for (bytes, replies, end) in inputs() {
@@ -105,6 +104,15 @@ fn worked_rows(rt: HostRuntime) -> Result<(), Fail> {
         assert_eq!(rt; out.as_slice(), replies);
     }
     check_rows(&rt, &mut memory, 1, &last_rows())
+}
+
+/// Results of a million items, over the stored library. Before any proof they take minutes.
+#[test]
+fn long_results(rt: HostRuntime) -> Result<(), Fail> {
+    let mut memory = MemoryServer::new(rt.alloc())?;
+    check_rows(&rt, &mut memory, 1, &first_rows())?;
+    check_rows(&rt, &mut memory, 1, &limit_rows())?;
+    check_rows(&rt, &mut memory, 1, &static_rows())
 }
 
 /// So many times this text, then the middle, then the other.

@@ -26,32 +26,15 @@ use Rattle.xq_frame.specs.Request.{Asked, query, put, remove as remove_one}
 use Rattle.xq_service.specs.Meaning.{value}
 use Rattle.xq_service.specs.Answer.{Outcome, Answers, CarriesOut, Refuses, told, done, refused, longest_text, queried, stored, set_to, put_word, removed_if}
 use Rattle.xq_service.specs.Step.{MayWant}
-use Rattle.xq_service.specs.private.Work.{Tells, IsTold, Understands, Makes, MakesText, MakesDocument}
+use Rattle.xq_service.specs.private.Work.{Tells, Understands, Makes, MakesText, MakesDocument}
 use Rattle.xq_service.specs.declared.answers.Answer.{Answer}
 use Rattle.xq_service.specs.declared.answers.Answer.TheVariants.{Text, Stored, Replaced, Dropped}
 use Rattle.xq_service.proofs.Once.{not_both}
-
-short_text : (m : Map) (text : List ℕ) → length text ≤ longest_text → told m text ≡ done m text
-short_text m text short = let h : nat_le (length text) longest_text ≡ true = search rules in ap (λ b. cond b (done m text) (refused m ProfReply)) h
-
-long_text : (m : Map) (text : List ℕ) → longest_text < length text → told m text ≡ refused m ProfReply
-long_text m text long = let h : nat_le (length text) longest_text ≡ false = search rules in ap (λ b. cond b (done m text) (refused m ProfReply)) h
 
 -- any want may come where nothing is refused before the documents matter
 pub any_want : (asked : Asked) → ((code : Code) → Refuses asked code → ⊥) → (want : Want) → MayWant asked want
 any_want asked none Memory = λ code refuses free. none code refuses
 any_want asked none Store = none
-
-pub tells_text : (m : Map) (asked : Asked) (text : List ℕ) (result : Result Answer Fault) → CarriesOut m asked (told m text)
-    → MayWant asked Memory → IsTold text result → Tells m asked m result
-tells_text m asked text (Ok (Text t)) carries want is =
-    (inr (subst (CarriesOut m asked) (short_text m text is.1 ∙ sym (ap (done m) is.0)) carries), want, refl)
-tells_text m asked text (Err (OfCode code)) carries want is =
-    inr (subst (CarriesOut m asked) (long_text m text is.1 ∙ sym (ap (refused m) is.0)) carries)
-tells_text m asked text (Err (OfWant w)) carries want is = (subst (MayWant asked) (sym is) want, refl)
-tells_text m asked text (Ok Stored) carries want is = absurd is
-tells_text m asked text (Ok Replaced) carries want is = absurd is
-tells_text m asked text (Ok Dropped) carries want is = absurd is
 
 -- Reading the text of a query.
 

@@ -1,5 +1,6 @@
--- What the text of a query means. This module alone changes as the language grows: what a query is, which texts read as one,
--- its value over the documents, the value's printed form, and the one document node that the value is.
+-- What the text of a query means. This module alone changes as the language grows: what a query is,
+-- which texts read as one, its value over the documents, the value's printed form, and the one
+-- document node that the value is.
 use Rattle.std.specs.Prelude.{ℕ, List, Option, Result}
 use Rattle.std.specs.FinMap.{keys, values}
 use Rattle.xq_atoms.specs.declared.refusals.Code.{Code}

@@ -37,7 +37,8 @@ pub(crate) fn carry_out<S: Alter + Drop>(
     request: Request<'_>,
 ) -> Result<Answer, Fault>
     ensures tells { IsClean S.Store store.new → (m : Map) → StandsFor S.Store store.old m
-        → (later : Map) × Tells m (asked request.entry) later result × StandsFor S.Store store.new later }
+        → (later : Map) × Tells m (asked request.entry) later result
+        × StandsFor S.Store store.new later }
     ensures was_clean { IsClean S.Store store.new → IsClean S.Store store.old }
     ensures was_open { IsClean S.Store store.new → IsOpen S.Store store.new
         → IsOpen S.Store store.old }
@@ -78,7 +79,8 @@ fn answer_put<S: Alter + Drop>(
     text: &[u8],
 ) -> Result<Answer, Fault>
     ensures tells { IsClean S.Store store.new → (m : Map) → StandsFor S.Store store.old m
-        → (later : Map) × Tells m (put address.now text.now) later result × StandsFor S.Store store.new later }
+        → (later : Map) × Tells m (put address.now text.now) later result
+        × StandsFor S.Store store.new later }
     ensures was_clean { IsClean S.Store store.new → IsClean S.Store store.old }
     ensures was_open { IsClean S.Store store.new → IsOpen S.Store store.new
         → IsOpen S.Store store.old }
@@ -95,7 +97,8 @@ fn answer_put<S: Alter + Drop>(
 
 fn answer_remove<S: Alter + Drop>(store: &mut Store<S>, address: &[u8]) -> Result<Answer, Fault>
     ensures tells { IsClean S.Store store.new → (m : Map) → StandsFor S.Store store.old m
-        → (later : Map) × Tells m (remove_one address.now) later result × StandsFor S.Store store.new later }
+        → (later : Map) × Tells m (remove_one address.now) later result
+        × StandsFor S.Store store.new later }
     ensures was_clean { IsClean S.Store store.new → IsClean S.Store store.old }
     ensures was_open { IsClean S.Store store.new → IsOpen S.Store store.new
         → IsOpen S.Store store.old }

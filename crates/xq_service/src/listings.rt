@@ -11,7 +11,8 @@ use xq_frame::MAX_TEXT;
 /// The addresses as string literals, joined by commas; `()` where there are none. A text too
 /// long for a reply is refused as `prof:REPLY`, and every other one only for want of memory.
 pub(crate) fn listing(alloc: Global, addresses: &[String]) -> Result<String, Fault>
-    ensures value { IfOk result (λ text. string_bytes text ≡ listing_lem (map string_bytes addresses.now)) }
+    ensures value { IfOk result (λ text. string_bytes text
+        ≡ listing_lem (map string_bytes addresses.now)) }
     ensures short { IfOk result (λ text. string_len text ≤ MAX_TEXT) }
     ensures refused { IfErr result (IsRefusal ProfReply
         (MAX_TEXT < length (listing_lem (map string_bytes addresses.now)))) }
@@ -24,7 +25,8 @@ pub(crate) fn listing(alloc: Global, addresses: &[String]) -> Result<String, Fau
 }
 
 fn joined(alloc: Global, addresses: &[String]) -> Result<String, AllocError>
-    ensures { IfOk result (λ text. string_bytes text ≡ listing_lem (map string_bytes addresses.now)) }
+    ensures { IfOk result (λ text. string_bytes text
+        ≡ listing_lem (map string_bytes addresses.now)) }
 {
     let mut text = String::new(alloc);
     let [first, others @ ..] = addresses else {
@@ -41,7 +43,8 @@ fn joined(alloc: Global, addresses: &[String]) -> Result<String, AllocError>
 
 /// An address holds no character that a string literal would write otherwise.
 fn push_literal(text: &mut String, address: &str) -> Result<(), AllocError>
-    ensures { OnOk result (string_bytes text.new ≡ string_bytes text.old ++ literal_of address.now) }
+    ensures { OnOk result (string_bytes text.new
+        ≡ string_bytes text.old ++ literal_of address.now) }
 {
     text.push_str("\"")?;
     text.push_str(address)?;

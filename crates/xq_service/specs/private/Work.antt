@@ -23,12 +23,15 @@ use Rattle.xq_service.specs.declared.answers.Answer.TheVariants.{Text, Stored, R
 
 -- a text reads as a query that has this plan, and then it has no fault; or it is refused
 abbrev pub Understands : List ℕ → Result Plan Fault → Type 0
-Understands text (Ok plan) = (q : Query) × Reads text (Ok q) × IsPlanOf q plan × ((code : Code) → ¬ (Reads text (Err code)))
+Understands text (Ok plan) =
+    (q : Query) × Reads text (Ok q) × IsPlanOf q plan × ((code : Code) → ¬ (Reads text (Err code)))
 Understands text (Err (OfCode code)) = Reads text (Err code)
 Understands text (Err (OfWant want)) = MayWant (query text) want
 
--- the value of a query makes a product, or is refused, by what it is to make; of a want nothing is said
-abbrev pub Makes : {P : Type 0} → (Judged Value → Judged P → Type 0) → Judged Value → Result P Fault → Type 0
+-- the value of a query makes a product, or is refused, by what it is to make; of a want nothing
+-- is said
+abbrev pub Makes : {P : Type 0} → (Judged Value → Judged P → Type 0) → Judged Value →
+    Result P Fault → Type 0
 Makes makes v (Ok product) = makes v (Ok product)
 Makes makes v (Err (OfCode code)) = makes v (Err code)
 Makes makes v (Err (OfWant want)) = ⊤
@@ -56,7 +59,8 @@ IsRefusal code cause (OfWant want) = want ≡ Memory
 
 -- a request is answered, or refused; memory may still be wanting for a text, which changes nothing
 abbrev pub Tells : Map → Asked → Map → Result Answer Fault → Type 0
-Tells m asked new (Ok (Text text)) = Answers m asked (done new (string_bytes text)) × MayWant asked Memory × (new ≡ m)
+Tells m asked new (Ok (Text text)) =
+    Answers m asked (done new (string_bytes text)) × MayWant asked Memory × (new ≡ m)
 Tells m asked new (Ok Stored) = Answers m asked (done new (codes "stored"))
 Tells m asked new (Ok Replaced) = Answers m asked (done new (codes "replaced"))
 Tells m asked new (Ok Dropped) = Answers m asked (done new (codes "dropped"))
@@ -71,21 +75,14 @@ IsShort (Ok Replaced) = ⊤
 IsShort (Ok Dropped) = ⊤
 IsShort (Err fault) = ⊤
 
--- this text, or its refusal where it is over the limit, or want of memory
-abbrev pub IsTold : List ℕ → Result Answer Fault → Type 0
-IsTold text (Ok (Text told)) = (string_bytes told ≡ text) × (length text ≤ longest_text)
-IsTold text (Ok Stored) = ⊥
-IsTold text (Ok Replaced) = ⊥
-IsTold text (Ok Dropped) = ⊥
-IsTold text (Err (OfCode code)) = (code ≡ ProfReply) × (longest_text < length text)
-IsTold text (Err (OfWant want)) = want ≡ Memory
-
 -- one reply is added; for a text it may be that memory is wanting
 abbrev pub Writes : List ℕ → List ℕ → ℕ → Result Answer Fault → Type 0
 Writes old new tag (Ok (Text text)) =
-    (new ≡ old ++ reply_bytes tag 0 (string_bytes text)) ⊎ (new ≡ old ++ reply_bytes tag 2 (want_text Memory))
+    (new ≡ old ++ reply_bytes tag 0 (string_bytes text))
+    ⊎ (new ≡ old ++ reply_bytes tag 2 (want_text Memory))
 Writes old new tag (Ok Stored) = new ≡ old ++ reply_bytes tag 0 (codes "stored")
 Writes old new tag (Ok Replaced) = new ≡ old ++ reply_bytes tag 0 (codes "replaced")
 Writes old new tag (Ok Dropped) = new ≡ old ++ reply_bytes tag 0 (codes "dropped")
-Writes old new tag (Err (OfCode code)) = (new ≡ old ++ reply_bytes tag 1 (code_text code)) × (length (code_text code) ≤ longest_text)
+Writes old new tag (Err (OfCode code)) =
+    (new ≡ old ++ reply_bytes tag 1 (code_text code)) × (length (code_text code) ≤ longest_text)
 Writes old new tag (Err (OfWant want)) = new ≡ old ++ reply_bytes tag 2 (want_text want)
