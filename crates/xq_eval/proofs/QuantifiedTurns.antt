@@ -1,7 +1,7 @@
 -- A turn of a quantified expression, over the trees that it leaves.
 use Rattle.std.proofs.Common.{◌≡◌, ℕ, zero, suc, ◌+◌, ◌<◌, ◌≤◌, ◌++◌, List, [], ◌∷◌, map, take, drop, length, refl, sym, ◌∙◌, ap, subst, arith, Ok, Err, Bool, true, false, not, Option, Some, None, append_assoc, inl, inr}
 use Rattle.std.specs.List.{AllByRecursion}
-use Rattle.std.specs.Prelude.{string_bytes, IfSome, Result}
+use Rattle.std.specs.Prelude.{string_bytes, IfSome}
 use Rattle.std.specs.Global.{Vec, Global}
 use Rattle.std.specs.declared.rc.Rc.{Rc}
 use Rattle.std.proofs.lemmas.Bool.{cases_lt}
@@ -9,7 +9,7 @@ use Rattle.xq_regions.specs.declared.items.Item.{Item as HeldItem}
 use Rattle.xq_tuples.specs.Views.{values_of}
 use Rattle.xq_regions.specs.Items.{item_views}
 use Rattle.xq_operations.specs.declared.frames.Frame.{Frame as Held}
-use Rattle.std.proofs.lemmas.List.{append-nil, length-append, length-map, map-append, drop_all}
+use Rattle.std.proofs.lemmas.List.{append-nil, length-append, length-map, map-append}
 use Rattle.xq_atoms.specs.declared.refusals.Fault.{Fault}
 use Rattle.xq_atoms.specs.declared.refusals.Fault.TheVariants.{Code as OfCode, Want as OfWant}
 use Rattle.xq_regions.specs.Tree.{Tree}
@@ -17,7 +17,7 @@ use Rattle.xq_regions.specs.Items.{ItemView}
 use Rattle.xq_regions.specs.Tuples.{Tuple}
 use Rattle.xq_values.specs.Items.{Item}
 use Rattle.xq_values.specs.Readings.{item_at, items_at, IsIn, AreIn, Extends}
-use Rattle.xq_meaning.specs.Doing.{Doing, Outcome, go_on, give, ◌>>=◌, first_that, unless_found}
+use Rattle.xq_meaning.specs.Doing.{Outcome, go_on, give}
 use Rattle.xq_meaning.specs.Forms as Forms
 use Rattle.xq_meaning.specs.PlanMeaning.{Frame, Meaning}
 use Rattle.xq_operations.specs.Views.{tuple_at, focus_at, frame_at, TupleIn, FocusIn, FrameIn, GivesPlain}

@@ -7,13 +7,13 @@ use Rattle.xq_regions.specs.Tree.{Tree}
 use Rattle.xq_regions.specs.Items.{ItemView}
 use Rattle.xq_regions.specs.Tuples.{Tuple}
 use Rattle.xq_values.specs.Items.{Item}
-use Rattle.xq_meaning.specs.Doing.{Doing, Outcome, go_on, give, ◌>>=◌, first_that, unless_found}
+use Rattle.xq_meaning.specs.Doing.{Doing, Outcome, go_on, give, first_that, unless_found}
 use Rattle.std.proofs.Math.Nat.{mul-lt-mul_of_pos_right}
 use Rattle.xq_meaning.specs.Forms as Forms
 use Rattle.xq_meaning.specs.PlanMeaning.{Frame, Meaning}
 use Rattle.xq_eval.proofs.Loops.{found_is, stops}
 use Rattle.xq_eval.specs.private.Bindings.{Falls, stays, falls}
-use Rattle.xq_eval.specs.private.Quantifying.{bindings, opened_at, at_top, holds, tried, resumed, unless_wanted, turn, weigh, all_weigh, some_weigh}
+use Rattle.xq_eval.specs.private.Quantifying.{opened_at, at_top, holds, tried, resumed, unless_wanted, turn, weigh, all_weigh, some_weigh}
 
 missed : (wanted : Bool) (rest : Doing Bool) (f : List Tree) → unless_found wanted (not wanted) rest f ≡ rest f
 missed true rest f = refl

@@ -1,6 +1,6 @@
-use Rattle.std.proofs.Common.{rules, ◌≡◌, ◌++◌, ◌+◌, List, [], ◌∷◌, map, subst, sym, ap, ◌∙◌, Ok, Err, arith, length, suc, add-one, refl, Bool, true, false, ℕ, ◌<◌, ◌≤◌, ◌^◌, take, drop, not, Option, Some, None}
+use Rattle.std.proofs.Common.{rules, ◌≡◌, ◌++◌, ◌+◌, List, [], ◌∷◌, map, subst, sym, ap, ◌∙◌, Ok, Err, arith, length, suc, add-one, refl, Bool, true, false, ◌<◌, ◌≤◌, ◌^◌, take, drop, not, Some}
 use Rattle.std.specs.Global.{Vec, Global}
-use Rattle.std.proofs.lemmas.List.{map-append, drop_all, length-map, length-append, append-nil, drop-map}
+use Rattle.std.proofs.lemmas.List.{map-append, drop_all, length-map, length-append, append-nil}
 use Rattle.xq_operations.specs.declared.frames.Frame.{Frame as Held}
 use Rattle.std.proofs.lemmas.List.Folds.{flat_map-map}
 use Rattle.xq_atoms.specs.Atom.{Atomic}
@@ -18,7 +18,7 @@ use Rattle.xq_values.specs.Readings.{item_at, items_at, IsIn, AreIn}
 use Rattle.xq_meaning.specs.declared.plans.Plan.{Plan, size-Plan}
 use Rattle.xq_meaning.specs.declared.plans.Plan.TheVariants as plan
 use Rattle.xq_meaning.specs.declared.plans.Plan.TheViews.{sized-Quantified}
-use denote.Param.Weighed.{at_most, most}
+use denote.Param.Weighed.{at_most}
 use Rattle.xq_meaning.specs.declared.plans.PlanClause.{PlanClause}
 use Rattle.xq_meaning.specs.Doing.{◌>>=◌, go_on, give, judged, on_trees, collected, in_turn, more, one_more, for_each, first_that}
 use Rattle.xq_meaning.specs.PlanMeaning.{Frame, Meaning, plan_mean, plan_clause_mean, plan_step_mean, at_tuple, next_clause, next_step}

@@ -1,8 +1,7 @@
 -- What an evaluation of a quantified expression still has to give (XQuery 3.1, 3.16). Some of its
 -- variables have a value, and others left: a stack has both of each, the first variable's first.
-use Rattle.std.specs.Prelude.{◌≡◌, ℕ, ◌+◌, ◌*◌, List, [], ◌∷◌, ◌++◌, map, take, drop, length, Bool, true, false, not, Option, Some, None}
+use Rattle.std.specs.Prelude.{◌≡◌, ℕ, ◌+◌, ◌*◌, List, [], ◌∷◌, map, take, drop, length, Bool, true, false, not, Option, Some, None}
 use Rattle.std.proofs.Common.{suc, zero}
-use Rattle.xq_regions.specs.Tuples.{Tuple}
 use Rattle.xq_values.specs.Items.{Item}
 use Rattle.xq_expressions.specs.declared.operators.Quantifier.{Quantifier}
 use Rattle.xq_meaning.specs.declared.plans.Plan.{Plan}

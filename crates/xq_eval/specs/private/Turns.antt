@@ -1,5 +1,5 @@
 -- What a turn of a quantified expression gives.
-use Rattle.std.specs.Prelude.{◌≡◌, List, Option, Some, None, Result}
+use Rattle.std.specs.Prelude.{List, Option, Some, None, Result}
 use Rattle.std.specs.Global.{Vec, Global}
 use Rattle.std.specs.declared.rc.Rc.{Rc}
 use Rattle.xq_atoms.specs.declared.refusals.Fault.{Fault}

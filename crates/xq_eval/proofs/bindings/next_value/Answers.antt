@@ -1,4 +1,4 @@
-use Rattle.std.proofs.Common.{◌≡◌, ◌++◌, ◌+◌, ◌∷◌, [], drop, length, map, ap, ◌∙◌, sym, subst, arith}
+use Rattle.std.proofs.Common.{◌≡◌, ◌++◌, ◌+◌, ◌∷◌, [], drop, length, map, ap, ◌∙◌, subst, arith}
 use Rattle.std.proofs.lemmas.List.{map-append, length-map, drop_all, drop-drop}
 use Rattle.xq_regions.specs.Items.{item_view, item_views}
 use Rattle.xq_eval.specs.private.Bindings.{values_left, stack_of, Falls, stays, falls}

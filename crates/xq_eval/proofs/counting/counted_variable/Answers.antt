@@ -1,15 +1,12 @@
-use Rattle.std.proofs.Common.{◌≡◌, List, [], ◌∷◌, map, ap, sym, ◌∙◌, arith, Ok}
-use Rattle.xq_regions.specs.Items.{item_view, item_views}
+use Rattle.std.proofs.Common.{◌≡◌, [], ◌∷◌, map, ap, sym, ◌∙◌, arith}
+use Rattle.xq_regions.specs.Items.{item_view}
 use Rattle.xq_regions.specs.Tuples.{value_at}
-use Rattle.xq_tuples.specs.Views.{values_of}
 use Rattle.xq_values.specs.Functions.{of_one}
-use Rattle.xq_values.specs.Readings.{items_at, AreIn}
+use Rattle.xq_values.specs.Readings.{items_at}
 use Rattle.xq_meaning.specs.Forms as Forms
 use Rattle.xq_meaning.specs.PlanMeaning.{plan_mean}
-use Rattle.xq_meaning.specs.declared.plans.Plan.{Plan}
 use Rattle.xq_meaning.specs.declared.plans.Plan.TheVariants as plan
 use Rattle.xq_meaning.proofs.PlanEquations.{plan-Slot}
-use Rattle.xq_operations.specs.Views.{tuple_at}
 use Rattle.xq_eval.proofs.Counted.{only_one, slot_value, given_so}
 use Rattle.xq_eval.proofs.counting.counted_variable.Goals as goal
 
