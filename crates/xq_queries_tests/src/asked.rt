@@ -15,7 +15,12 @@ element book {attribute id {\"2\"}, text {\"B\"}}}}";
 fn library(alloc: Global) -> Result<Fragments, Fault> {
     let mut fragments = Fragments::new(alloc);
     let plan = read(alloc, LIBRARY.as_bytes())?;
-    let tree = make(alloc, &plan, &mut Trees::new(alloc, Fragments::new(alloc)), &[])?;
+    let tree = make(
+        alloc,
+        &plan,
+        &mut Trees::new(alloc, Fragments::new(alloc)),
+        &[],
+    )?;
     fragments.push(tree)?;
     Ok(fragments)
 }
@@ -25,7 +30,12 @@ fn asked(alloc: Global, query: &str) -> Result<String, Fault> {
     let plan = read(alloc, query.as_bytes())?;
     let mut addresses = Vec::new(alloc);
     addresses.push(String::from_str(alloc, "b")?)?;
-    ask(alloc, &plan, &mut Trees::new(alloc, library(alloc)?), &addresses)
+    ask(
+        alloc,
+        &plan,
+        &mut Trees::new(alloc, library(alloc)?),
+        &addresses,
+    )
 }
 
 /// The text of the reply, or of the refusal. A test has ample memory, so nothing is wanting.

@@ -13,9 +13,18 @@ const PATHS: [(&str, &str); 12] = [
         "document {element lib {element book {attribute id {\"1\"}, text {\"A\"}}, element book {attribute id {\"2\"}, text {\"B\"}}}}",
     ),
     ("name(doc(\"b\")/*)", "\"lib\""),
-    ("doc(\"b\")//book[1]", "element book {attribute id {\"1\"}, text {\"A\"}}"),
-    ("(doc(\"b\")//text())[2]/preceding::node()[1]", "text {\"A\"}"),
-    ("doc(\"b\")//book[2]/preceding-sibling::*[1]/@id", "attribute id {\"1\"}"),
+    (
+        "doc(\"b\")//book[1]",
+        "element book {attribute id {\"1\"}, text {\"A\"}}",
+    ),
+    (
+        "(doc(\"b\")//text())[2]/preceding::node()[1]",
+        "text {\"A\"}",
+    ),
+    (
+        "doc(\"b\")//book[2]/preceding-sibling::*[1]/@id",
+        "attribute id {\"1\"}",
+    ),
     (
         "doc(\"b\")//@id[. = \"1\"]/following::node()",
         "text {\"A\"}, element book {attribute id {\"2\"}, text {\"B\"}}, text {\"B\"}",
@@ -29,7 +38,10 @@ const PATHS: [(&str, &str); 12] = [
         "let $b := doc(\"b\")//book return ($b[2], $b[1]) | $b[1]",
         "element book {attribute id {\"1\"}, text {\"A\"}}, element book {attribute id {\"2\"}, text {\"B\"}}",
     ),
-    ("let $b := doc(\"b\")//book return ($b[1] << $b[2], () is $b[1])", "true()"),
+    (
+        "let $b := doc(\"b\")//book return ($b[1] << $b[2], () is $b[1])",
+        "true()",
+    ),
     ("element div {element for {}}/for", "element for {}"),
 ];
 
@@ -39,28 +51,67 @@ const FLWOR: [(&str, &str); 11] = [
         "for $b in doc(\"b\")//book order by xs:integer($b/@id) descending return string($b)",
         "\"B\", \"A\"",
     ),
-    ("for $b in (1, 2) order by (if ($b = 1) then () else 5) descending return $b", "2, 1"),
-    ("for $x in (1, 1.0, \"1\") let $y := $x group by $x return count($y)", "2, 1"),
+    (
+        "for $b in (1, 2) order by (if ($b = 1) then () else 5) descending return $b",
+        "2, 1",
+    ),
+    (
+        "for $x in (1, 1.0, \"1\") let $y := $x group by $x return count($y)",
+        "2, 1",
+    ),
     ("for $x in (1.0, 1) group by $x return $x", "1.0"),
-    ("for $b in doc(\"b\")//book group by $k := string-length($b) return count($b)", "2"),
-    ("for $b at $i in doc(\"b\")//book where $i = 2 return $b/@id", "attribute id {\"2\"}"),
+    (
+        "for $b in doc(\"b\")//book group by $k := string-length($b) return count($b)",
+        "2",
+    ),
+    (
+        "for $b at $i in doc(\"b\")//book where $i = 2 return $b/@id",
+        "attribute id {\"2\"}",
+    ),
     ("some $x in (1, 2) satisfies $x = 2", "true()"),
-    ("some $x in (1, 2), $y in (1 idiv (2 - $x)) satisfies $y = 1", "true()"),
-    ("some $x in (1, 2), $y in (1 idiv (2 - $x)) satisfies $y = 2", "FOAR0001"),
-    ("every $x in (1, 2), $y in ($x, 3) satisfies $y >= $x", "true()"),
-    ("every $x in (1, 2), $y in ($x, 1) satisfies $y >= $x", "false()"),
+    (
+        "some $x in (1, 2), $y in (1 idiv (2 - $x)) satisfies $y = 1",
+        "true()",
+    ),
+    (
+        "some $x in (1, 2), $y in (1 idiv (2 - $x)) satisfies $y = 2",
+        "FOAR0001",
+    ),
+    (
+        "every $x in (1, 2), $y in ($x, 3) satisfies $y >= $x",
+        "true()",
+    ),
+    (
+        "every $x in (1, 2), $y in ($x, 1) satisfies $y >= $x",
+        "false()",
+    ),
 ];
 
 /// Constructors and their content (XQuery 3.1, section 3.9).
 const CONSTRUCTORS: [(&str, &str); 14] = [
-    ("element a {\"\", attribute b {\"1\"}}", "element a {attribute b {\"1\"}}"),
+    (
+        "element a {\"\", attribute b {\"1\"}}",
+        "element a {attribute b {\"1\"}}",
+    ),
     ("element a {\"x\", attribute b {\"1\"}}", "XQTY0024"),
-    ("element a {1, 2, text {\"\"}, 3, \"x\"}", "element a {text {\"1 23 x\"}}"),
-    ("text {()}, text {\"\"}, document {}", "text {\"\"}, document {}"),
+    (
+        "element a {1, 2, text {\"\"}, 3, \"x\"}",
+        "element a {text {\"1 23 x\"}}",
+    ),
+    (
+        "text {()}, text {\"\"}, document {}",
+        "text {\"\"}, document {}",
+    ),
     ("\"a\"\"&amp;&#xD;\"", "\"a\"\"&amp;&#xD;\""),
     ("\"a\r\nb\"", "\"a\nb\""),
-    ("let $x := element x {}, $y := element y {} return ($y | $x)", "element x {}, element y {}"),
-    ("element a {attribute b {\"1\"}, attribute b {\"2\"}}", "XQDY0025"),
+    (
+        "let $x := element x {}, $y := element y {} return ($y | $x)",
+        "element x {}, element y {}",
+    ),
+    (
+        "element a {attribute b {\"1\"}, attribute b {\"2\"}}",
+        "XQDY0025",
+    ),
     ("processing-instruction t {\"a?>\"}", "XQDY0026"),
     ("processing-instruction {\"1\"} {\"\"}", "XQDY0041"),
     ("attribute xmlns {\"x\"}", "XQDY0044"),
@@ -77,10 +128,22 @@ const VALUES: [(&str, &str); 17] = [
     ("4 div 2, string(4 div 2), 1 div 3", "2.0, \"2\", 0.333333"),
     ("7 idiv 2, -7 idiv 2, -7 mod 2, 7.5 mod 2", "3, -3, -1, 1.5"),
     ("9223372036854775807 + 1", "FOAR0002"),
-    ("-9223372036854775807 - 1", "xs:integer(\"-9223372036854775808\")"),
-    ("round(2.5), round(-2.5), floor(-0.5), abs(-3)", "3.0, -2.0, -1.0, 3"),
-    ("sum((1, 2.5)), sum(()), min((2, 1.0)), max((\"a\", \"B\"))", "3.5, 0, 1.0, \"a\""),
-    ("substring(\"12345\", 2, 3), substring-after(\"abc\", \"b\")", "\"234\", \"c\""),
+    (
+        "-9223372036854775807 - 1",
+        "xs:integer(\"-9223372036854775808\")",
+    ),
+    (
+        "round(2.5), round(-2.5), floor(-0.5), abs(-3)",
+        "3.0, -2.0, -1.0, 3",
+    ),
+    (
+        "sum((1, 2.5)), sum(()), min((2, 1.0)), max((\"a\", \"B\"))",
+        "3.5, 0, 1.0, \"a\"",
+    ),
+    (
+        "substring(\"12345\", 2, 3), substring-after(\"abc\", \"b\")",
+        "\"234\", \"c\"",
+    ),
     (
         "normalize-space(\"  a  b \"), string-join((\"a\", \"b\"), \"-\"), concat(\"a\", 1)",
         "\"a b\", \"a-b\", \"a1\"",
@@ -89,7 +152,10 @@ const VALUES: [(&str, &str); 17] = [
         "xs:integer(\" 7 \"), xs:integer(-1.9), xs:boolean(\"1\"), xs:decimal(\".5\")",
         "7, -1, true(), 0.5",
     ),
-    ("distinct-values((1, 1.0, \"1\", xs:untypedAtomic(\"1\")))", "1, \"1\""),
+    (
+        "distinct-values((1, 1.0, \"1\", xs:untypedAtomic(\"1\")))",
+        "1, \"1\"",
+    ),
     ("1 to 3", "1, 2, 3"),
     ("3 to 1", "()"),
     ("1 to 1000001", "prof:RANGE"),
