@@ -1,7 +1,7 @@
 #!/usr/bin/env python3
 """Times of queries through the program, over a document of 10,000 and of 100,000 elements.
 
-    bench/queries.py [--server WORDS] [ROUNDS]     7 rounds where none are named
+    bench/queries.py [--server WORDS] [ROUNDS]     7 repetitions where none are named
 
 The document is stored by its constructor, in memory and on a file. For each query: the time of its
 first reply on a fresh server, the median of the repeated ones, and how many times as long ten times
