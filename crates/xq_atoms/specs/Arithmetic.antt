@@ -25,11 +25,13 @@ operands a b = do
   y ← numeric b
   beside x y
 
-abbrev pub on_operands : (ℤ → ℤ → Judged Atomic) → (ℤ → ℤ → Judged Atomic) → Operands → Judged Atomic
+abbrev pub on_operands : (ℤ → ℤ → Judged Atomic) → (ℤ → ℤ → Judged Atomic) → Operands
+    → Judged Atomic
 on_operands integers decimals (Integers m n) = integers m n
 on_operands integers decimals (Decimals m n) = decimals m n
 
-abbrev pub arithmetic : (ℤ → ℤ → Judged Atomic) → (ℤ → ℤ → Judged Atomic) → Atomic → Atomic → Judged Atomic
+abbrev pub arithmetic : (ℤ → ℤ → Judged Atomic) → (ℤ → ℤ → Judged Atomic) → Atomic → Atomic
+    → Judged Atomic
 arithmetic integers decimals a b = operands a b >>= on_operands integers decimals
 
 abbrev pub is_zero : ℤ → Bool
@@ -68,7 +70,8 @@ idiv = arithmetic whole_quotient whole_quotient
 
 -- op:numeric-mod; the remainder has the dividend's sign
 abbrev pub modulo : Atomic → Atomic → Judged Atomic
-modulo = arithmetic (λ m n. unless_zero n (integer (int_rem m n))) (λ m n. unless_zero n (decimal (int_rem m n)))
+modulo = arithmetic (λ m n. unless_zero n (integer (int_rem m n)))
+    (λ m n. unless_zero n (decimal (int_rem m n)))
 
 -- the type stays
 abbrev pub on_number : (ℤ → ℤ) → (ℤ → ℤ) → Atomic → Judged Atomic

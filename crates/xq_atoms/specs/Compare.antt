@@ -49,7 +49,8 @@ key_eq (Characters s) (Characters t) = text_eq s t
 key_eq (Truth p) (Truth q) = is_eq (bool_cmp p q)
 key_eq j k = false
 
--- nothing is less than anything else, and false than true; of two kinds the first named above is less
+-- nothing is less than anything else, and false than true; of two kinds the first named above is
+-- less
 abbrev pub key_cmp : Key → Key → Ordering
 key_cmp Nothing Nothing = Equal
 key_cmp Nothing k = Less
@@ -78,9 +79,11 @@ holds Ge o = is_ge o
 
 -- XQuery 3.1, 3.7.1: two numbers, two strings or two booleans
 abbrev pub compare_value : CompOp → Atomic → Atomic → Judged Bool
-compare_value op a b = only_if (of_one_kind (key a) (key b)) XPTY0004 (holds op (key_cmp (key a) (key b)))
+compare_value op a b = only_if (of_one_kind (key a) (key b)) XPTY0004
+    (holds op (key_cmp (key a) (key b)))
 
--- XQuery 3.1, 3.7.2: an operand, as it is compared with the other one; the standard casts it to a double beside a number
+-- XQuery 3.1, 3.7.2: an operand, as it is compared with the other one; the standard casts it to a
+-- double beside a number
 abbrev pub beside : Atomic → Atomic → Judged Atomic
 beside (Untyped t) (Boolean b) = cast_boolean (Untyped t)
 beside (Untyped t) (Integer n) = Err ProfDouble

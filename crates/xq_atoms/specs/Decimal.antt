@@ -4,11 +4,13 @@ use Rattle.std.specs.Int.{int_rem_euclid}
 
 -- of a magnitude below 10^25
 abbrev pub IsDecimal : ℤ → Type 0
-IsDecimal m = ((pos 0 -ℤ pos 10000000000000000000000000) <ℤ m) × (m <ℤ pos 10000000000000000000000000)
+IsDecimal m = ((pos 0 -ℤ pos 10000000000000000000000000) <ℤ m)
+    × (m <ℤ pos 10000000000000000000000000)
 
 -- the same, as a test
 abbrev pub is_decimal : ℤ → Bool
-is_decimal m = int_lt (neg_ℤ (pos 10000000000000000000000000)) m && int_lt m (pos 10000000000000000000000000)
+is_decimal m = int_lt (neg_ℤ (pos 10000000000000000000000000)) m
+    && int_lt m (pos 10000000000000000000000000)
 
 -- as many millionths make one
 abbrev pub one : ℤ

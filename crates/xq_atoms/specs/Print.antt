@@ -6,10 +6,12 @@ use Rattle.xq_atoms.specs.Text.{Text}
 use Rattle.xq_atoms.specs.Atom.{Atomic, Integer, Decimal, String, Boolean, Untyped}
 use Rattle.xq_atoms.specs.Cast.{whole_text, fraction_text}
 
--- a character in a string literal: a quote, an ampersand and a carriage return are written otherwise
+-- a character in a string literal: a quote, an ampersand and a carriage return are written
+-- otherwise
 abbrev pub quoted_character : ℕ → Text
 quoted_character c =
-    if c == 34 then codes "\"\"" else if c == 38 then codes "&amp;" else if c == 13 then codes "&#xD;" else c ∷ []
+    if c == 34 then codes "\"\"" else if c == 38 then codes "&amp;" else if c == 13
+        then codes "&#xD;" else c ∷ []
 
 abbrev pub quoted : Text → Text
 quoted t = codes "\"" ++ flat_map quoted_character t ++ codes "\""
@@ -17,7 +19,8 @@ quoted t = codes "\"" ++ flat_map quoted_character t ++ codes "\""
 -- the least integer is no literal with a sign before it, since the literal is out of range
 abbrev pub print_integer : ℤ → Text
 print_integer n =
-    if int_eq n (neg_ℤ (pos (2 ^ 63))) then codes "xs:integer(\"-9223372036854775808\")" else signed_decimal n
+    if int_eq n (neg_ℤ (pos (2 ^ 63))) then codes "xs:integer(\"-9223372036854775808\")"
+        else signed_decimal n
 
 -- at least one digit after the point
 abbrev pub at_least_zero : Text → Text

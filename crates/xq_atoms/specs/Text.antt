@@ -1,4 +1,5 @@
--- Texts, as the lists of their UTF-8 bytes. White space, digits, signs and quotes are one byte each.
+-- Texts, as the lists of their UTF-8 bytes. White space, digits, signs and quotes are one byte
+-- each.
 use Rattle.std.specs.Prelude.{ℕ, ◌+◌, ◌-◌, ◌*◌, List, [], ◌∷◌, reverse, Bool, true, false, not, ◌&&◌, ◌||◌, ◌==◌, nat_le, bytes_eq, if◌then◌else◌}
 use Rattle.std.specs.declared.cmp.Ordering.{Ordering}
 use Rattle.std.specs.Ordering.{nat_cmp}
@@ -8,7 +9,8 @@ use Rattle.std.specs.List.{list_all}
 abbrev pub Text : Type 0
 Text = List ℕ
 
--- F&O 3.1, 5.3.6, with the code point collation: equal characters, and the order by the first that differ.
+-- F&O 3.1, 5.3.6, with the code point collation: equal characters, and the order by the first that
+-- differ.
 -- UTF-8 keeps the order of code points.
 abbrev pub text_eq : Text → Text → Bool
 text_eq = bytes_eq

@@ -26,7 +26,8 @@ IsTooLong bytes = (4 ≤ length bytes) × (longest_message < announced bytes)
 -- 1 to 3 bytes, or fewer than the length tells
 abbrev pub IsCut : List ℕ → Type 0
 IsCut bytes = (0 < length bytes)
-    × ((length bytes < 4) ⊎ ((announced bytes ≤ longest_message) × (length bytes < 4 + announced bytes)))
+    × ((length bytes < 4)
+        ⊎ ((announced bytes ≤ longest_message) × (length bytes < 4 + announced bytes)))
 
 -- what stands after the last whole frame: nothing, a length over the limit, or a cut frame
 pub data Ending : Type 0 where
@@ -40,7 +41,8 @@ EndsAs too_long rest = IsTooLong rest
 EndsAs cut rest = IsCut rest
 
 -- the bytes are the frames of these messages and a rest, which ends the stream so
-pub record Splits (bytes : List ℕ) (messages : List (List ℕ)) (ending : Ending) (rest : List ℕ) : Type 0 where
+pub record Splits (bytes : List ℕ) (messages : List (List ℕ)) (ending : Ending)
+    (rest : List ℕ) : Type 0 where
   pub whole : bytes ≡ flat_map frame_bytes messages ++ rest
   pub each : AllByRecursion IsMessage messages
   pub ends : EndsAs ending rest
@@ -48,5 +50,7 @@ pub record Splits (bytes : List ℕ) (messages : List (List ℕ)) (ending : Endi
 -- each list of bytes is split so, and in one way
 abbrev pub SplitsInOneWay : Type 0
 SplitsInOneWay = (bytes : List ℕ) → All (λ byte. byte < 256) bytes
-    → ((messages : List (List ℕ)) × (ending : Ending) × (rest : List ℕ) × Splits bytes messages ending rest)
-    × ((xs ys : List (List ℕ)) (a b : Ending) (r s : List ℕ) → Splits bytes xs a r → Splits bytes ys b s → (xs ≡ ys) × (a ≡ b) × (r ≡ s))
+    → ((messages : List (List ℕ)) × (ending : Ending) × (rest : List ℕ)
+        × Splits bytes messages ending rest)
+    × ((xs ys : List (List ℕ)) (a b : Ending) (r s : List ℕ) → Splits bytes xs a r
+        → Splits bytes ys b s → (xs ≡ ys) × (a ≡ b) × (r ≡ s))

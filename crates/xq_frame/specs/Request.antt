@@ -14,7 +14,8 @@ pub data Asked : Type 0 where
 -- the body of a put: a byte with the length of the address, the address, a query's text
 abbrev pub put_asked : List ℕ → Asked
 put_asked [] = bad
-put_asked (size ∷ rest) = cond (nat_le size (length rest)) (put (take size rest) (drop size rest)) bad
+put_asked (size ∷ rest) = cond (nat_le size (length rest))
+    (put (take size rest) (drop size rest)) bad
 
 -- the body of a request for all addresses is empty
 abbrev pub list_asked : List ℕ → Asked
@@ -25,11 +26,13 @@ list_asked (_ ∷ _) = bad
 abbrev pub asked_by : ℕ → List ℕ → Asked
 asked_by kind body =
     cond (kind == 81) (query body)
-    (cond (kind == 83) (put_asked body) (cond (kind == 68) (remove body) (cond (kind == 76) (list_asked body) bad)))
+    (cond (kind == 83) (put_asked body)
+    (cond (kind == 68) (remove body) (cond (kind == 76) (list_asked body) bad)))
 
 -- a message with no room for a tag and a kind asks nothing
 abbrev pub message_asks : List ℕ → Asked
-message_asks message = cond (nat_le 5 (length message)) (asked_by (slice_index message 4) (drop 5 message)) bad
+message_asks message = cond (nat_le 5 (length message))
+    (asked_by (slice_index message 4) (drop 5 message)) bad
 
 -- and its tag is 0
 abbrev pub message_tag : List ℕ → ℕ

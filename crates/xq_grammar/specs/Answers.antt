@@ -1,5 +1,5 @@
--- When tokens are refused, and why: XPST0003 where they derive no expression (XQuery 3.1, appendix F), `prof:DEPTH` where
--- they nest too deep for this profile.
+-- When tokens are refused, and why: XPST0003 where they derive no expression (XQuery 3.1, appendix
+-- F), `prof:DEPTH` where they nest too deep for this profile.
 use Rattle.std.specs.Prelude.{◌≤◌, ◌<◌, Result, Ok, Err}
 use Rattle.xq_atoms.specs.declared.refusals.Fault.{Fault}
 use Rattle.xq_atoms.specs.declared.refusals.Fault.TheVariants.{Code as OfCode, Want as OfWant}

@@ -1,7 +1,8 @@
--- The grammar: which expression tokens derive (XQuery 3.1, appendix A.1, in this profile). Each production
--- is one line, over what derives a single expression that nests deeper; the lines stand in the order of the
--- table of productions read from its end, each after those that it names. What stands before ⟨$⟩ says what a
--- phrase stands for: a level without an operator is its operand. Sections are those of XQuery 3.1.
+-- The grammar: which expression tokens derive (XQuery 3.1, appendix A.1, in this profile). Each
+-- production stands over what derives a single expression that nests deeper. They stand in the
+-- order of the table of productions read from its end, each after those that it names. What stands
+-- before ⟨$⟩ says what a phrase stands for: a level without an operator is its operand. Sections
+-- are those of XQuery 3.1.
 use Rattle.std.specs.Prelude.{◌≡◌, ℕ, zero, suc, List, [], ◌∷◌, false, Option, Some, None, ℤ}
 use Rattle.xq_lexer.specs.Lexeme.{name, prefixed, int, dec, str, symbol}
 use Rattle.xq_lexer.specs.declared.tokens.Symbol.TheVariants as s
@@ -169,10 +170,14 @@ abbrev pub comparisons : Table ComparisonOperator
 comparisons =
     (word "eq", comparison.Value relation.Equal) ∷ (word "ne", comparison.Value relation.NotEqual)
     ∷ (word "lt", comparison.Value relation.Less) ∷ (word "le", comparison.Value relation.LessEqual)
-    ∷ (word "gt", comparison.Value relation.Greater) ∷ (word "ge", comparison.Value relation.GreaterEqual)
-    ∷ (symbol s.Equal, comparison.General relation.Equal) ∷ (symbol s.NotEqual, comparison.General relation.NotEqual)
-    ∷ (symbol s.Less, comparison.General relation.Less) ∷ (symbol s.LessEqual, comparison.General relation.LessEqual)
-    ∷ (symbol s.Greater, comparison.General relation.Greater) ∷ (symbol s.GreaterEqual, comparison.General relation.GreaterEqual)
+    ∷ (word "gt", comparison.Value relation.Greater)
+    ∷ (word "ge", comparison.Value relation.GreaterEqual)
+    ∷ (symbol s.Equal, comparison.General relation.Equal)
+    ∷ (symbol s.NotEqual, comparison.General relation.NotEqual)
+    ∷ (symbol s.Less, comparison.General relation.Less)
+    ∷ (symbol s.LessEqual, comparison.General relation.LessEqual)
+    ∷ (symbol s.Greater, comparison.General relation.Greater)
+    ∷ (symbol s.GreaterEqual, comparison.General relation.GreaterEqual)
     ∷ (word "is", comparison.Node nodes.Is) ∷ (symbol s.Precedes, comparison.Node nodes.Precedes)
     ∷ (symbol s.Follows, comparison.Node nodes.Follows) ∷ []
 
@@ -183,7 +188,8 @@ signs = (symbol s.Plus, sign.Plus) ∷ (symbol s.Minus, sign.Minus) ∷ []
 -- section 3.5
 abbrev pub product_operators : Table ProductOperator
 product_operators =
-    (symbol s.Star, product.Times) ∷ (word "div", product.Div) ∷ (word "idiv", product.Idiv) ∷ (word "mod", product.Mod) ∷ []
+    (symbol s.Star, product.Times) ∷ (word "div", product.Div) ∷ (word "idiv", product.Idiv)
+    ∷ (word "mod", product.Mod) ∷ []
 
 -- section 3.4.2
 abbrev pub set_operators : Table SetOperator
@@ -195,7 +201,8 @@ separators = (symbol s.Slash, separator.Slash) ∷ (symbol s.DoubleSlash, separa
 
 -- section 3.12.8
 abbrev pub directions : Table Direction
-directions = (word "ascending", direction.Ascending) ∷ (word "descending", direction.Descending) ∷ []
+directions = (word "ascending", direction.Ascending) ∷ (word "descending", direction.Descending)
+    ∷ []
 
 -- section 3.12.8
 abbrev pub empty_orders : Table EmptyOrder
@@ -204,8 +211,10 @@ empty_orders = (word "greatest", empty_order.Greatest) ∷ (word "least", empty_
 -- section 3.3.2.1
 abbrev pub axis_names : Table AxisName
 axis_names =
-    (word "child", axis.Child) ∷ (word "descendant", axis.Descendant) ∷ (word "descendant-or-self", axis.DescendantOrSelf)
-    ∷ (word "self", axis.SelfNode) ∷ (word "attribute", axis.Attribute) ∷ (word "parent", axis.Parent)
+    (word "child", axis.Child) ∷ (word "descendant", axis.Descendant)
+    ∷ (word "descendant-or-self", axis.DescendantOrSelf)
+    ∷ (word "self", axis.SelfNode) ∷ (word "attribute", axis.Attribute)
+    ∷ (word "parent", axis.Parent)
     ∷ (word "ancestor", axis.Ancestor) ∷ (word "ancestor-or-self", axis.AncestorOrSelf)
     ∷ (word "following", axis.Following) ∷ (word "following-sibling", axis.FollowingSibling)
     ∷ (word "preceding", axis.Preceding) ∷ (word "preceding-sibling", axis.PrecedingSibling) ∷ []
@@ -213,7 +222,8 @@ axis_names =
 -- the kind tests that take no argument (section 3.3.2.2)
 abbrev pub plain_kinds : Table NodeTest
 plain_kinds =
-    (word "node", test.Node) ∷ (word "text", test.Text) ∷ (word "comment", test.Comment) ∷ (word "document-node", test.Document) ∷ []
+    (word "node", test.Node) ∷ (word "text", test.Text) ∷ (word "comment", test.Comment)
+    ∷ (word "document-node", test.Document) ∷ []
 
 -- the words of constructors with a name (section 3.9.3)
 abbrev pub named_nodes : Table NamedNode
@@ -221,15 +231,20 @@ named_nodes = (word "element", named.Element) ∷ (word "attribute", named.Attri
 
 -- the words of constructors without a name (section 3.9.3)
 abbrev pub unnamed_nodes : Table UnnamedNode
-unnamed_nodes = (word "document", unnamed.Document) ∷ (word "text", unnamed.Text) ∷ (word "comment", unnamed.Comment) ∷ []
+unnamed_nodes = (word "document", unnamed.Document) ∷ (word "text", unnamed.Text)
+    ∷ (word "comment", unnamed.Comment) ∷ []
 
 -- the names that no call has without a prefix (appendix A.3)
 abbrev pub no_calls : Table (Unit {0})
 no_calls =
-    (word "array", tt) ∷ (word "attribute", tt) ∷ (word "comment", tt) ∷ (word "document-node", tt) ∷ (word "element", tt)
-    ∷ (word "empty-sequence", tt) ∷ (word "function", tt) ∷ (word "if", tt) ∷ (word "item", tt) ∷ (word "map", tt)
-    ∷ (word "namespace-node", tt) ∷ (word "node", tt) ∷ (word "processing-instruction", tt) ∷ (word "schema-attribute", tt)
-    ∷ (word "schema-element", tt) ∷ (word "switch", tt) ∷ (word "text", tt) ∷ (word "typeswitch", tt) ∷ []
+    (word "array", tt) ∷ (word "attribute", tt) ∷ (word "comment", tt) ∷ (word "document-node", tt)
+    ∷ (word "element", tt)
+    ∷ (word "empty-sequence", tt) ∷ (word "function", tt) ∷ (word "if", tt) ∷ (word "item", tt)
+    ∷ (word "map", tt)
+    ∷ (word "namespace-node", tt) ∷ (word "node", tt) ∷ (word "processing-instruction", tt)
+    ∷ (word "schema-attribute", tt)
+    ∷ (word "schema-element", tt) ∷ (word "switch", tt) ∷ (word "text", tt)
+    ∷ (word "typeswitch", tt) ∷ []
 
 -- ---- names and literals
 
@@ -312,11 +327,13 @@ module _ (Single : Rel Expr) where
 
   -- section 3.1.3
   abbrev pub Parenthesised : Rel Expr
-  Parenthesised = symbol s.OpenParenthesis ▹ (empty (e.Sequence []) ∣ Whole) ◃ symbol s.CloseParenthesis
+  Parenthesised = symbol s.OpenParenthesis ▹ (empty (e.Sequence []) ∣ Whole)
+      ◃ symbol s.CloseParenthesis
 
   -- section 3.1
   abbrev pub Primary : Rel Expr
-  Primary = (e.Int ⟨$⟩ IntLiteral) ∣ (e.Dec ⟨$⟩ DecLiteral) ∣ (e.Str ⟨$⟩ StrLiteral) ∣ (e.Variable ⟨$⟩ Variable)
+  Primary = (e.Int ⟨$⟩ IntLiteral) ∣ (e.Dec ⟨$⟩ DecLiteral) ∣ (e.Str ⟨$⟩ StrLiteral)
+      ∣ (e.Variable ⟨$⟩ Variable)
       ∣ Parenthesised ∣ Is (symbol s.Dot) e.ContextItem ∣ Call ∣ Make
 
   -- an optional name or star
@@ -326,9 +343,12 @@ module _ (Single : Rel Expr) where
   -- section 3.3.2.2
   abbrev pub KindTest : Rel NodeTest
   KindTest = (OneOf plain_kinds ◃ symbol s.OpenParenthesis ◃ symbol s.CloseParenthesis)
-      ∣ (test.ProcessingInstruction ⟨$⟩ word "processing-instruction" ▹ symbol s.OpenParenthesis ▹ Maybe NC ◃ symbol s.CloseParenthesis)
-      ∣ (test.Element ⟨$⟩ word "element" ▹ symbol s.OpenParenthesis ▹ NameOrAny ◃ symbol s.CloseParenthesis)
-      ∣ (test.Attribute ⟨$⟩ word "attribute" ▹ symbol s.OpenParenthesis ▹ NameOrAny ◃ symbol s.CloseParenthesis)
+      ∣ (test.ProcessingInstruction ⟨$⟩ word "processing-instruction" ▹ symbol s.OpenParenthesis
+          ▹ Maybe NC ◃ symbol s.CloseParenthesis)
+      ∣ (test.Element ⟨$⟩ word "element" ▹ symbol s.OpenParenthesis ▹ NameOrAny
+          ◃ symbol s.CloseParenthesis)
+      ∣ (test.Attribute ⟨$⟩ word "attribute" ▹ symbol s.OpenParenthesis ▹ NameOrAny
+          ◃ symbol s.CloseParenthesis)
 
   -- a node test (section 3.3.2.2)
   abbrev pub Test : Rel NodeTest
@@ -336,7 +356,8 @@ module _ (Single : Rel Expr) where
 
   -- an axis step without its predicates (sections 3.3.2.1 and 3.3.5)
   abbrev pub AxisStepRel : Rel AxisStep
-  AxisStepRel = (along_axis ⟨$⟩ OneOf axis_names & symbol s.DoubleColon ▹ Test) ∣ (along.Attribute ⟨$⟩ symbol s.At ▹ Test)
+  AxisStepRel = (along_axis ⟨$⟩ OneOf axis_names & symbol s.DoubleColon ▹ Test)
+      ∣ (along.Attribute ⟨$⟩ symbol s.At ▹ Test)
       ∣ Is (symbol s.DoubleDot) along.Parent ∣ (along.Abbreviated ⟨$⟩ Test)
 
   -- section 3.3.3
@@ -345,19 +366,22 @@ module _ (Single : Rel Expr) where
 
   -- a step with its predicates (sections 3.3.2 and 3.2.1)
   abbrev pub StepRel : Rel Step
-  StepRel = (axis_step ⟨$⟩ AxisStepRel & Many Predicate) ∣ (primary_step ⟨$⟩ Primary & Many Predicate)
+  StepRel = (axis_step ⟨$⟩ AxisStepRel & Many Predicate)
+      ∣ (primary_step ⟨$⟩ Primary & Many Predicate)
 
   -- a relative path (section 3.3.1)
   abbrev pub Relative : Rel (Step × List (Separator × Step))
   Relative = StepRel & Many (OneOf separators & StepRel)
 
-  -- a slash alone, which isn't followed by what begins a step (section 3.3; appendix A.1.2, leading-lone-slash)
+  -- a slash alone, which isn't followed by what begins a step (section 3.3; appendix A.1.2,
+  -- leading-lone-slash)
   abbrev pub Lone : Rel Expr
   Lone ts a us = (ts ≡ symbol s.Slash ∷ us) × (begins_step us ≡ false) × (e.Root ≡ a)
 
   -- section 3.3
   abbrev pub Path : Rel Expr
-  Path = Lone ∣ (rooted start.Root ⟨$⟩ symbol s.Slash ▹ Relative) ∣ (rooted start.RootAndBelow ⟨$⟩ symbol s.DoubleSlash ▹ Relative)
+  Path = Lone ∣ (rooted start.Root ⟨$⟩ symbol s.Slash ▹ Relative)
+      ∣ (rooted start.RootAndBelow ⟨$⟩ symbol s.DoubleSlash ▹ Relative)
       ∣ (relative ⟨$⟩ Relative)
 
   -- section 3.5

@@ -49,7 +49,8 @@ symbol_begins_step s.At = true
 symbol_begins_step s.Star = true
 symbol_begins_step _ = false
 
--- whether a step may begin here: then a slash in front isn't alone (appendix A.1.2, leading-lone-slash)
+-- whether a step may begin here: then a slash in front isn't alone (appendix A.1.2,
+-- leading-lone-slash)
 abbrev pub begins_step : Tokens → Bool
 begins_step [] = false
 begins_step (symbol c ∷ ts) = symbol_begins_step c

@@ -1,5 +1,5 @@
--- How the lines of a grammar are written (the notation of XQuery 3.1, appendix A.1.1): each line relates the tokens
--- before a phrase, what the phrase stands for, and the tokens after it.
+-- How the lines of a grammar are written (the notation of XQuery 3.1, appendix A.1.1): each line
+-- relates the tokens before a phrase, what the phrase stands for, and the tokens after it.
 use Rattle.std.specs.Prelude.{◌≡◌, List, [], ◌∷◌, ◌⊎◌, Option, Some, None}
 use Rattle.xq_lexer.specs.Lexeme.{Lex}
 use Rattle.xq_grammar.specs.Look.{Tokens, Table, lookup}

@@ -60,7 +60,8 @@ refers o = option_map (λ x. (min 0x110000 (referred x.0), x.1)) o
 -- the character of a reference, or its fault
 abbrev pub referred_char : Option (Reference × Text) → Result (Option ℕ × Text) Code
 referred_char None = Err XPST0003
-referred_char (Some x) = if is_char (referred x.0) then Ok (Some (referred x.0), x.1) else Err XQST0090
+referred_char (Some x) = if is_char (referred x.0) then Ok (Some (referred x.0), x.1)
+    else Err XQST0090
 
 -- what is next inside a string: a character, or None at its end
 abbrev pub shown : ℕ → Inside → Result (Option ℕ × Text) Code
@@ -85,7 +86,8 @@ valued_lex false t = made int (integer_literal t)
 -- the next token, None at the end of the text, or the fault there
 abbrev pub Nexts : ℕ → Text → Result (Option (Token × Bor Text)) Fault → Type 0
 Nexts place text (Ok None) = skip 0 text ≡ Some []
-Nexts place text (Ok (Some x)) = Next (place + bytes text) text (place_of x.0) x.1.now × (length x.1.now < length text)
+Nexts place text (Ok (Some x)) = Next (place + bytes text) text (place_of x.0) x.1.now
+    × (length x.1.now < length text)
 Nexts place text (Err (OfCode c)) = FaultHere text c
 Nexts place text (Err (OfWant w)) = w ≡ Memory
 

@@ -1,4 +1,5 @@
--- Number literals, and what stands between the quotes of a string literal (XQuery 3.1, appendix A.2.1).
+-- Number literals, and what stands between the quotes of a string literal (XQuery 3.1, appendix
+-- A.2.1).
 use Rattle.std.specs.Prelude.{◌≡◌, ℕ, ◌+◌, ◌*◌, ◌-◌, ◌<◌, Bool, true, false, not, ◌&&◌, ◌||◌, if◌then◌else◌, ◌==◌, List, [], ◌∷◌, ◌++◌, length, map, fold, flat_map, codes, Option, Some, None, Result, Ok, Err}
 use Rattle.std.specs.List.{list_all}
 use Rattle.xq_atoms.specs.declared.refusals.Code.{Code}
@@ -20,13 +21,15 @@ number_text (decimal w f) = w ++ 46 ∷ f
 -- all are digits, and there is one at least
 abbrev pub IsNumber : Number → Type 0
 IsNumber (integer w) = (list_all is_digit w ≡ true) × (0 < length w)
-IsNumber (decimal w f) = (list_all is_digit w ≡ true) × (list_all is_digit f ≡ true) × (0 < length w + length f)
+IsNumber (decimal w f) = (list_all is_digit w ≡ true) × (list_all is_digit f ≡ true)
+    × (0 < length w + length f)
 
 -- an `e`, perhaps a sign, and a digit
 abbrev pub begins_exponent : Text → Bool
 begins_exponent [] = false
 begins_exponent (e ∷ []) = false
-begins_exponent (e ∷ s ∷ t) = (e == 101 || e == 69) && (is_digit s || ((s == 43 || s == 45) && begins is_digit t))
+begins_exponent (e ∷ s ∷ t) = (e == 101 || e == 69)
+    && (is_digit s || ((s == 43 || s == 45) && begins is_digit t))
 
 -- what may not follow a number: a name start, a digit or a point
 abbrev pub clings : ℕ → Bool
@@ -34,7 +37,8 @@ clings c = is_name_start c || is_digit c || c == 46
 
 -- the fault of a number by what follows it, if there is one
 abbrev pub follow_fault : Text → Option Code
-follow_fault after = if begins_exponent after then Some ProfDouble else (if begins clings after then Some XPST0003 else None)
+follow_fault after = if begins_exponent after then Some ProfDouble
+    else (if begins clings after then Some XPST0003 else None)
 
 -- the fault of a value, if there is one
 abbrev pub code_of : {A : Type 0} → Result A Code → Option Code

@@ -1,6 +1,6 @@
--- How deep tokens nest. A running number begins at 0. An opening bracket saves it and adds 1; a closing
--- bracket takes back the number saved last, if there is one. A name `for`, `let`, `some` or `every` before
--- `$`, and `if` before `(`, adds 1. The nesting is the greatest number.
+-- How deep tokens nest. A running number begins at 0. An opening bracket saves it and adds 1; a
+-- closing bracket takes back the number saved last, if there is one. A name `for`, `let`, `some` or
+-- `every` before `$`, and `if` before `(`, adds 1. The nesting is the greatest number.
 use Rattle.std.specs.Prelude.{ℕ, ◌+◌, max, List, [], ◌∷◌, Bool, ◌||◌, if◌then◌else◌, codes}
 use Rattle.std.specs.Str.{bytes_eq}
 use Rattle.xq_lexer.specs.Lexeme.{Lex, name, symbol}
@@ -12,12 +12,14 @@ use Rattle.xq_lexer.specs.declared.depth.Change.TheVariants.{Opens as opens, Clo
 -- the words that bind variables
 abbrev pub is_binder : List ℕ → Bool
 is_binder word =
-    bytes_eq word (codes "for") || bytes_eq word (codes "let") || bytes_eq word (codes "some") || bytes_eq word (codes "every")
+    bytes_eq word (codes "for") || bytes_eq word (codes "let") || bytes_eq word (codes "some")
+        || bytes_eq word (codes "every")
 
 -- what a name does, before the tokens that follow it
 abbrev pub name_change : List ℕ → List Lex → Change
 name_change word (symbol s.Dollar ∷ rest) = if is_binder word then deepens else keeps
-name_change word (symbol s.OpenParenthesis ∷ rest) = if bytes_eq word (codes "if") then deepens else keeps
+name_change word (symbol s.OpenParenthesis ∷ rest) = if bytes_eq word (codes "if") then deepens
+    else keeps
 name_change word _ = keeps
 
 abbrev pub symbol_change : Symbol → Change
@@ -51,7 +53,8 @@ changed keeps k saved = (k, saved)
 -- the greatest number from here on
 abbrev pub greatest : ℕ → List ℕ → List Lex → ℕ
 greatest k saved [] = k
-greatest k saved (t ∷ rest) = let next = changed (change t rest) k saved in max k (greatest next.0 next.1 rest)
+greatest k saved (t ∷ rest) = let next = changed (change t rest) k saved in max k
+    (greatest next.0 next.1 rest)
 
 abbrev pub nesting : List Lex → ℕ
 nesting = greatest 0 []

@@ -32,7 +32,8 @@ skip_step depth [] = None
 skip_step depth (a ∷ []) = if passes depth a then Some (depth, []) else None
 skip_step depth (a ∷ b ∷ t) =
     if opens a b then Some (depth + 1, t)
-    else (if nat_lt 0 depth && closes a b then Some (depth - 1, t) else (if passes depth a then Some (depth, b ∷ t) else None))
+    else (if nat_lt 0 depth && closes a b then Some (depth - 1, t)
+        else (if passes depth a then Some (depth, b ∷ t) else None))
 
 -- what is left at the end of the separators, where no comment is open
 abbrev pub unless_open : ℕ → Text → Option Text
@@ -45,7 +46,8 @@ unfoldable pub after_name : Text → Text → Form × Text
 after_name w [] = (name w, [])
 after_name w (a ∷ []) = (name w, a ∷ [])
 after_name w (a ∷ b ∷ t) =
-    if a == 58 && is_name_start b then (let x = span is_name_char (b ∷ t) in (prefixed w x.0, x.1)) else (name w, a ∷ b ∷ t)
+    if a == 58 && is_name_start b then (let x = span is_name_char (b ∷ t) in (prefixed w x.0, x.1))
+        else (name w, a ∷ b ∷ t)
 
 unfoldable pub read_name : Text → Form × Text
 read_name z = let x = span is_name_char z in after_name x.0 x.1
@@ -55,7 +57,8 @@ read_name z = let x = span is_name_char z in after_name x.0 x.1
 -- a number's digits behind its point, if there is one
 unfoldable pub after_digits : Text → Text → Number × Text
 after_digits w [] = (integer w, [])
-after_digits w (a ∷ t) = if a == 46 then (let x = span is_digit t in (decimal w x.0, x.1)) else (integer w, a ∷ t)
+after_digits w (a ∷ t) = if a == 46 then (let x = span is_digit t in (decimal w x.0, x.1))
+    else (integer w, a ∷ t)
 
 unfoldable pub read_number : Text → Number × Text
 read_number z = let x = span is_digit z in after_digits x.0 x.1
@@ -77,7 +80,8 @@ ended make (c ∷ w, d ∷ rest) = if d == 59 then Some (make (c ∷ w), rest) e
 
 unfoldable pub read_numbered : Text → Option (Reference × Text)
 read_numbered [] = None
-read_numbered (a ∷ t) = if a == 120 then ended hexadecimal (span is_hex t) else ended numbered (span is_digit (a ∷ t))
+read_numbered (a ∷ t) = if a == 120 then ended hexadecimal (span is_hex t)
+    else ended numbered (span is_digit (a ∷ t))
 
 abbrev pub or_else : Reference → Option Text → Option (Reference × Text) → Option (Reference × Text)
 or_else r (Some rest) other = Some (r, rest)
@@ -109,19 +113,22 @@ after_quote quote (b ∷ t) = if b == quote then one doubled t else closed (b �
 
 abbrev pub after_ampersand : Option (Reference × Text) → Inside
 after_ampersand None = wrong XPST0003
-after_ampersand (Some x) = if is_char (referred x.0) then one (reference x.0) x.1 else wrong XQST0090
+after_ampersand (Some x) = if is_char (referred x.0) then one (reference x.0) x.1
+    else wrong XQST0090
 
 unfoldable pub inside : ℕ → Text → Inside
 inside quote [] = wrong XPST0003
 inside quote (c ∷ t) =
     if c == quote then after_quote quote t
-    else (if c == 38 then after_ampersand (read_reference t) else (if is_char c then one (plain c) t else wrong XPST0003))
+    else (if c == 38 then after_ampersand (read_reference t)
+        else (if is_char c then one (plain c) t else wrong XPST0003))
 
 abbrev pub with_piece : Piece → Result (List Piece × Text) Code → Result (List Piece × Text) Code
 with_piece p (Ok x) = Ok (p ∷ x.0, x.1)
 with_piece p (Err c) = Err c
 
-abbrev pub content_step : (Text → Result (List Piece × Text) Code) → Inside → Result (List Piece × Text) Code
+abbrev pub content_step : (Text → Result (List Piece × Text) Code) → Inside
+    → Result (List Piece × Text) Code
 content_step more (closed rest) = Ok ([], rest)
 content_step more (one p rest) = with_piece p (more rest)
 content_step more (wrong c) = Err c
@@ -148,9 +155,12 @@ look_up c (row ∷ rows) = if c == row.0 then Some row.1 else look_up c rows
 -- the symbols of one character
 abbrev pub singles : List (ℕ × Symbol)
 singles =
-    (40, s.OpenParenthesis) ∷ (41, s.CloseParenthesis) ∷ (91, s.OpenBracket) ∷ (93, s.CloseBracket) ∷ (123, s.OpenBrace)
-    ∷ (125, s.CloseBrace) ∷ (44, s.Comma) ∷ (36, s.Dollar) ∷ (47, s.Slash) ∷ (46, s.Dot) ∷ (64, s.At) ∷ (42, s.Star)
-    ∷ (43, s.Plus) ∷ (45, s.Minus) ∷ (61, s.Equal) ∷ (60, s.Less) ∷ (62, s.Greater) ∷ (124, s.Bar) ∷ []
+    (40, s.OpenParenthesis) ∷ (41, s.CloseParenthesis) ∷ (91, s.OpenBracket) ∷ (93, s.CloseBracket)
+    ∷ (123, s.OpenBrace)
+    ∷ (125, s.CloseBrace) ∷ (44, s.Comma) ∷ (36, s.Dollar) ∷ (47, s.Slash) ∷ (46, s.Dot)
+    ∷ (64, s.At) ∷ (42, s.Star)
+    ∷ (43, s.Plus) ∷ (45, s.Minus) ∷ (61, s.Equal) ∷ (60, s.Less) ∷ (62, s.Greater) ∷ (124, s.Bar)
+    ∷ []
 
 abbrev pub single_symbol : ℕ → Option Symbol
 single_symbol c = look_up c singles
@@ -162,8 +172,10 @@ look_up_two a b (row ∷ rows) = if a == row.0 && b == row.1 then Some row.2 els
 -- the symbols of two characters
 abbrev pub doubles : List (ℕ × ℕ × Symbol)
 doubles =
-    (58, 61, s.Assign) ∷ (58, 58, s.DoubleColon) ∷ (47, 47, s.DoubleSlash) ∷ (46, 46, s.DoubleDot) ∷ (33, 61, s.NotEqual)
-    ∷ (60, 61, s.LessEqual) ∷ (62, 61, s.GreaterEqual) ∷ (60, 60, s.Precedes) ∷ (62, 62, s.Follows) ∷ (124, 124, s.DoubleBar) ∷ []
+    (58, 61, s.Assign) ∷ (58, 58, s.DoubleColon) ∷ (47, 47, s.DoubleSlash) ∷ (46, 46, s.DoubleDot)
+    ∷ (33, 61, s.NotEqual)
+    ∷ (60, 61, s.LessEqual) ∷ (62, 61, s.GreaterEqual) ∷ (60, 60, s.Precedes) ∷ (62, 62, s.Follows)
+    ∷ (124, 124, s.DoubleBar) ∷ []
 
 abbrev pub double_symbol : ℕ → ℕ → Option Symbol
 double_symbol a b = look_up_two a b doubles

@@ -82,7 +82,9 @@ form_lex (symbol s) = l.symbol s
 
 -- no token that begins here is longer
 abbrev pub IsLongest : Form → Text → Type 0
-IsLongest f after = (other : Form) (rest : Text) → IsForm other → form_text other ++ rest ≡ form_text f ++ after → length (form_text other) ≤ length (form_text f)
+IsLongest f after = (other : Form) (rest : Text) → IsForm other
+    → form_text other ++ rest ≡ form_text f ++ after
+    → length (form_text other) ≤ length (form_text f)
 
 -- a number is without fault, and a string isn't followed by its own quote
 abbrev pub MayStand : Form → Text → Type 0
@@ -94,8 +96,9 @@ MayStand _ after = Unit {0}
 abbrev pub bytes : Text → ℕ
 bytes w = length (encode_utf8_all w)
 
--- From text, of whose whole so many bytes are left where it ends, the token t is next, and after is what follows it: the
--- bytes before t.start, those of the token and those after t.end are all bytes of the whole.
+-- From text, of whose whole so many bytes are left where it ends, the token t is next, and after is
+-- what follows it: the bytes before t.start, those of the token and those after t.end are all bytes
+-- of the whole.
 pub record Next (total : ℕ) (text : Text) (t : Placed) (after : Text) : Type 0 where
   pub form : Form
   pub skipped : skip 0 text ≡ Some (form_text form ++ after)
@@ -109,7 +112,8 @@ pub record Next (total : ℕ) (text : Text) (t : Placed) (after : Text) : Type 0
 -- the tokens up to some place, and the text that is left there
 abbrev pub Before : ℕ → Text → List Placed → Text → Type 0
 Before total text [] rest = text ≡ rest
-Before total text (t ∷ ts) rest = (after : Text) × Next total text t after × Before total after ts rest
+Before total text (t ∷ ts) rest = (after : Text) × Next total text t after
+    × Before total after ts rest
 
 -- these tokens, in their places, and separators between them, are the text
 abbrev pub Spells : Text → List Placed → Type 0

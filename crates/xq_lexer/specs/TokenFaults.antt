@@ -22,10 +22,11 @@ pub record RefersToNone (rest : Text) : Type 0 where
 -- an `&` that begins no reference
 pub record RefersNot (rest : Text) : Type 0 where
   pub ampersand : begins (λ c. c == 38) rest ≡ true
-  pub no_reference : (r : Reference) (after : Text) → IsReference r → 38 ∷ reference_text r ++ after ≡ rest → ⊥
+  pub no_reference : (r : Reference) (after : Text) → IsReference r
+      → 38 ∷ reference_text r ++ after ≡ rest → ⊥
 
--- inside a string, whose pieces up to here are without fault: the text ends, holds what is no character, refers to none, or
--- has another `&`
+-- inside a string, whose pieces up to here are without fault: the text ends, holds what is no
+-- character, refers to none, or has another `&`
 abbrev pub ContentFault : Text → Code → Type 0
 ContentFault rest code =
     ((rest ≡ []) × (code ≡ XPST0003))
@@ -63,13 +64,17 @@ TokenFault z code = NumberFault z code ⊎ (StringFault z code ⊎ (NoToken z ×
 -- the separators here, or the token after them, are at fault
 abbrev pub FaultHere : Text → Code → Type 0
 FaultHere text code =
-    ((skip 0 text ≡ None) × (code ≡ XPST0003)) ⊎ ((z : Text) × (skip 0 text ≡ Some z) × TokenFault z code)
+    ((skip 0 text ≡ None) × (code ≡ XPST0003))
+    ⊎ ((z : Text) × (skip 0 text ≡ Some z) × TokenFault z code)
 
 -- after some tokens there is a fault, the first one of the text
 abbrev pub HasFault : Text → Code → Type 0
-HasFault text code = (ts : List Placed) × (rest : Text) × Before (bytes text) text ts rest × FaultHere rest code
+HasFault text code = (ts : List Placed) × (rest : Text) × Before (bytes text) text ts rest
+    × FaultHere rest code
 
--- the text is refused: for its fault, and then no list is spelled and no fault has another code; or for want of memory
+-- the text is refused: for its fault, and then no list is spelled and no fault has another code; or
+-- for want of memory
 abbrev pub Refuses : Text → Fault → Type 0
-Refuses text (OfCode code) = HasFault text code × ((ts : List Placed) → Spells text ts → ⊥) × ((other : Code) → HasFault text other → other ≡ code)
+Refuses text (OfCode code) = HasFault text code × ((ts : List Placed) → Spells text ts → ⊥)
+    × ((other : Code) → HasFault text other → other ≡ code)
 Refuses text (OfWant want) = want ≡ Memory

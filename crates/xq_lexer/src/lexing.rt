@@ -27,7 +27,8 @@ use xq_atoms::{Code, Fault};
 /// of memory.
 pub fn lex(alloc: Global, text: &str) -> Result<Vec<Token>, Fault>
     ensures spelled { IfOk result (λ tokens. Spells (chars_of text.now) (placed tokens.items)) }
-    ensures only { IfOk result (λ tokens. (other : List Placed) → Spells (chars_of text.now) other → other ≡ placed tokens.items) }
+    ensures only { IfOk result (λ tokens. (other : List Placed) → Spells (chars_of text.now) other
+        → other ≡ placed tokens.items) }
     ensures sound { IfOk result (λ _. (code : FaultCode) → HasFault (chars_of text.now) code → ⊥) }
     ensures refused { IfErr result (λ fault. Refuses (chars_of text.now) fault) }
 {

@@ -29,7 +29,8 @@ pub fn begins_number(chars: &[char]) -> bool
 /// may not follow a number, then prof:DIGITS and FOAR0002 by its value.
 pub fn number<'a>(alloc: Global, chars: &'a [char]) -> Result<(Lexeme, &'a [char]), Fault>
     requires { spec.begins_number chars.now ≡ true }
-    ensures { Gives (λ x. (lex_of x.0, x.1.now)) result (lexed (spec.judged (spec.read_number chars.now))) }
+    ensures { Gives (λ x. (lex_of x.0, x.1.now)) result
+        (lexed (spec.judged (spec.read_number chars.now))) }
 {
     let (has_point, rest) = digits(chars);
     if let Some(code) = follow_fault(rest) {

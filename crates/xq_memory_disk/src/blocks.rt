@@ -69,7 +69,8 @@ impl Blocks {
     /// Cuts the list, or lets it grow by bytes of 0.
     pub fn resize(&mut self, len: usize) -> Result<(), AllocError>
         ensures len { OnOk result (length self.new ≡ len) }
-        ensures bytes { OnOk result ((i : ℕ) → i < len → slice_index self.new i ≡ slice_index self.old i) }
+        ensures bytes { OnOk result ((i : ℕ) → i < len
+            → slice_index self.new i ≡ slice_index self.old i) }
         ensures kept { OnErr result (self.new ≡ self.old) }
         ensures others { Cut len self.old self.new }
     {
@@ -118,7 +119,8 @@ impl Blocks {
         requires { at + length bytes.now ≤ length self.old }
         ensures len { length self.new ≡ length self.old }
         ensures written { Holds self.new at bytes.now }
-        ensures others { (i : ℕ) → (i < at) ⊎ (at + length bytes.now ≤ i) → slice_index self.new i ≡ slice_index self.old i }
+        ensures others { (i : ℕ) → (i < at) ⊎ (at + length bytes.now ≤ i)
+            → slice_index self.new i ≡ slice_index self.old i }
     {
         write_blocks(&mut self.blocks, at, bytes);
     }
@@ -130,7 +132,8 @@ fn add_blocks(blocks: &mut Vec<Vec<u8>>, count: usize) -> Result<(), AllocError>
     ensures full { AreFull blocks.new.items }
     ensures more { length blocks.old.items ≤ length blocks.new.items }
     ensures enough { OnOk result (count ≤ length blocks.new.items) }
-    ensures same { (i : ℕ) → slice_index (joined blocks.new.items) i ≡ slice_index (joined blocks.old.items) i }
+    ensures same { (i : ℕ)
+        → slice_index (joined blocks.new.items) i ≡ slice_index (joined blocks.old.items) i }
 {
     for _ in blocks.len()..count {
         add_block(blocks)?;
@@ -144,7 +147,8 @@ fn add_block(blocks: &mut Vec<Vec<u8>>) -> Result<(), AllocError>
     ensures full { AreFull blocks.new.items }
     ensures more { OnOk result (length blocks.new.items ≡ length blocks.old.items + 1) }
     ensures kept { OnErr result (blocks.new.items ≡ blocks.old.items) }
-    ensures same { (i : ℕ) → slice_index (joined blocks.new.items) i ≡ slice_index (joined blocks.old.items) i }
+    ensures same { (i : ℕ)
+        → slice_index (joined blocks.new.items) i ≡ slice_index (joined blocks.old.items) i }
 {
     let block = zeros(*blocks.allocator(), BLOCK)?;
     blocks.push(block)?;
@@ -164,7 +168,8 @@ fn cut_blocks(blocks: &mut Vec<Vec<u8>>, len: usize)
     requires within { len ≤ 65536 * length blocks.old.items }
     ensures full { AreFull blocks.new.items }
     ensures within { len ≤ 65536 * length blocks.new.items }
-    ensures below { (i : ℕ) → i < len → slice_index (joined blocks.new.items) i ≡ slice_index (joined blocks.old.items) i }
+    ensures below { (i : ℕ) → i < len
+        → slice_index (joined blocks.new.items) i ≡ slice_index (joined blocks.old.items) i }
     ensures clear { (i : ℕ) → len ≤ i → slice_index (joined blocks.new.items) i ≡ 0 }
 {
     blocks.truncate(len.div_ceil(BLOCK));
@@ -177,7 +182,8 @@ fn cut_blocks(blocks: &mut Vec<Vec<u8>>, len: usize)
 fn clear_end(block: &mut Vec<u8>, from: usize)
     requires { from ≤ length block.old.items }
     ensures len { length block.new.items ≡ length block.old.items }
-    ensures below { (r : ℕ) → r < from → slice_index block.new.items r ≡ slice_index block.old.items r }
+    ensures below { (r : ℕ) → r < from
+        → slice_index block.new.items r ≡ slice_index block.old.items r }
     ensures clear { (r : ℕ) → from ≤ r → slice_index block.new.items r ≡ 0 }
 {
     clear(&mut block[from..]);
@@ -195,7 +201,8 @@ fn read_blocks(blocks: &[Vec<u8>], at: usize, buf: &mut [u8])
     requires full { AreFull blocks.now }
     requires within { at + length buf.old ≤ 65536 * length blocks.now }
     requires fits { at + length buf.old < 2 ^ 64 }
-    ensures { (k : ℕ) → k < length buf.new → slice_index buf.new k ≡ slice_index (joined blocks.now) (at + k) }
+    ensures { (k : ℕ) → k < length buf.new
+        → slice_index buf.new k ≡ slice_index (joined blocks.now) (at + k) }
 {
     let mut done = 0;
     while done < buf.len() {
@@ -211,7 +218,8 @@ fn read_piece(blocks: &[Vec<u8>], at: usize, buf: &mut [u8]) -> usize
     ensures some { 0 < result }
     ensures bound { result ≤ length buf.old }
     ensures len { length buf.new ≡ length buf.old }
-    ensures read { (k : ℕ) → k < result → slice_index buf.new k ≡ slice_index (joined blocks.now) (at + k) }
+    ensures read { (k : ℕ) → k < result
+        → slice_index buf.new k ≡ slice_index (joined blocks.now) (at + k) }
 {
     let from = at % BLOCK;
     let n = buf.len().min(BLOCK - from);
@@ -222,7 +230,8 @@ fn read_piece(blocks: &[Vec<u8>], at: usize, buf: &mut [u8]) -> usize
 fn copy_part(block: &[u8], from: usize, buf: &mut [u8])
     requires { from + length buf.old ≤ length block.now }
     ensures len { length buf.new ≡ length buf.old }
-    ensures copied { (k : ℕ) → k < length buf.new → slice_index buf.new k ≡ slice_index block.now (from + k) }
+    ensures copied { (k : ℕ) → k < length buf.new
+        → slice_index buf.new k ≡ slice_index block.now (from + k) }
 {
     buf.copy_from_slice(&block[from..from + buf.len()]);
 }
@@ -234,8 +243,10 @@ fn write_blocks(blocks: &mut [Vec<u8>], at: usize, bytes: &[u8])
     requires fits { at + length bytes.now < 2 ^ 64 }
     ensures full { AreFull blocks.new }
     ensures len { length blocks.new ≡ length blocks.old }
-    ensures written { (k : ℕ) → k < length bytes.now → slice_index (joined blocks.new) (at + k) ≡ slice_index bytes.now k }
-    ensures others { (i : ℕ) → (i < at) ⊎ (at + length bytes.now ≤ i) → slice_index (joined blocks.new) i ≡ slice_index (joined blocks.old) i }
+    ensures written { (k : ℕ) → k < length bytes.now
+        → slice_index (joined blocks.new) (at + k) ≡ slice_index bytes.now k }
+    ensures others { (i : ℕ) → (i < at) ⊎ (at + length bytes.now ≤ i)
+        → slice_index (joined blocks.new) i ≡ slice_index (joined blocks.old) i }
 {
     let mut done = 0;
     while done < bytes.len() {
@@ -252,8 +263,10 @@ fn write_piece(blocks: &mut [Vec<u8>], at: usize, bytes: &[u8]) -> usize
     ensures bound { result ≤ length bytes.now }
     ensures full { AreFull blocks.new }
     ensures len { length blocks.new ≡ length blocks.old }
-    ensures written { (k : ℕ) → k < result → slice_index (joined blocks.new) (at + k) ≡ slice_index bytes.now k }
-    ensures others { (i : ℕ) → (i < at) ⊎ (at + result ≤ i) → slice_index (joined blocks.new) i ≡ slice_index (joined blocks.old) i }
+    ensures written { (k : ℕ) → k < result
+        → slice_index (joined blocks.new) (at + k) ≡ slice_index bytes.now k }
+    ensures others { (i : ℕ) → (i < at) ⊎ (at + result ≤ i)
+        → slice_index (joined blocks.new) i ≡ slice_index (joined blocks.old) i }
 {
     let from = at % BLOCK;
     let n = bytes.len().min(BLOCK - from);
@@ -264,8 +277,10 @@ fn write_piece(blocks: &mut [Vec<u8>], at: usize, bytes: &[u8]) -> usize
 fn write_part(block: &mut Vec<u8>, from: usize, bytes: &[u8])
     requires { from + length bytes.now ≤ length block.old.items }
     ensures len { length block.new.items ≡ length block.old.items }
-    ensures written { (k : ℕ) → k < length bytes.now → slice_index block.new.items (from + k) ≡ slice_index bytes.now k }
-    ensures others { (r : ℕ) → (r < from) ⊎ (from + length bytes.now ≤ r) → slice_index block.new.items r ≡ slice_index block.old.items r }
+    ensures written { (k : ℕ) → k < length bytes.now
+        → slice_index block.new.items (from + k) ≡ slice_index bytes.now k }
+    ensures others { (r : ℕ) → (r < from) ⊎ (from + length bytes.now ≤ r)
+        → slice_index block.new.items r ≡ slice_index block.old.items r }
 {
     block[from..from + bytes.len()].copy_from_slice(bytes);
 }

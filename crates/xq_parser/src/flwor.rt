@@ -75,7 +75,8 @@ impl<'a, F: Fn(Global, usize, &'a [Token]) -> Result<(Boxed<Expr>, &'a [Token]),
         tokens: &'a [Token],
     ) -> Result<(Boxed<Expr>, &'a [Token]), Fault>
         requires { Nests self.now.depth (F.pre self.now.single) (F.post self.now.single) }
-        ensures { Parses result (spec.conditional (spec.single self.now.depth) (lexemes tokens.now)) }
+        ensures { Parses result
+            (spec.conditional (spec.single self.now.depth) (lexemes tokens.now)) }
     {
         let rest = expect_word("if", tokens)?;
         let (test, rest) = self.tested(rest)?;
@@ -90,7 +91,8 @@ impl<'a, F: Fn(Global, usize, &'a [Token]) -> Result<(Boxed<Expr>, &'a [Token]),
         tokens: &'a [Token],
     ) -> Result<(Boxed<Expr>, &'a [Token]), Fault>
         requires { Nests self.now.depth (F.pre self.now.single) (F.post self.now.single) }
-        ensures { Parses result (spec.quantified (spec.single self.now.depth) (lexemes tokens.now)) }
+        ensures { Parses result
+            (spec.quantified (spec.single self.now.depth) (lexemes tokens.now)) }
     {
         let (quantifier, rest) = one_of::<Quantifier>(tokens)?;
         let (bindings, rest) = commas(self.alloc, &QuantifierBinding(self), rest)?;
@@ -115,7 +117,8 @@ impl<'a, F: Fn(Global, usize, &'a [Token]) -> Result<(Boxed<Expr>, &'a [Token]),
     #[tactic(auto, unfolding(xq_grammar::specs::private::Reading::order_clause))]
     fn order_clause(&self, tokens: &'a [Token]) -> Result<(Clause, &'a [Token]), Fault>
         requires { Nests self.now.depth (F.pre self.now.single) (F.post self.now.single) }
-        ensures { Parses result (spec.order_clause (spec.single self.now.depth) (lexemes tokens.now)) }
+        ensures { Parses result
+            (spec.order_clause (spec.single self.now.depth) (lexemes tokens.now)) }
     {
         if is_word("stable", tokens) {
             let rest = expect_word("stable", tokens)?;
@@ -127,7 +130,10 @@ impl<'a, F: Fn(Global, usize, &'a [Token]) -> Result<(Boxed<Expr>, &'a [Token]),
 
     fn assigned(&self, tokens: &'a [Token]) -> Result<(Option<Boxed<Expr>>, &'a [Token]), Fault>
         requires { Nests self.now.depth (F.pre self.now.single) (F.post self.now.single) }
-        ensures { Parses result (spec.maybe (spec.is (symbol_lex s.Assign)) (spec.governed (spec.single self.now.depth) (symbol_lex s.Assign)) (lexemes tokens.now)) }
+        ensures { Parses result
+            (spec.maybe (spec.is (symbol_lex s.Assign))
+            (spec.governed (spec.single self.now.depth) (symbol_lex s.Assign))
+            (lexemes tokens.now)) }
     {
         if is_symbol(Symbol::Assign, tokens) {
             let (item, rest) = self.after_symbol(Symbol::Assign, tokens)?;
@@ -140,7 +146,8 @@ impl<'a, F: Fn(Global, usize, &'a [Token]) -> Result<(Boxed<Expr>, &'a [Token]),
     #[tactic(auto, unfolding(xq_grammar::specs::private::Reading::group_clause))]
     fn group_clause(&self, tokens: &'a [Token]) -> Result<(Clause, &'a [Token]), Fault>
         requires { Nests self.now.depth (F.pre self.now.single) (F.post self.now.single) }
-        ensures { Parses result (spec.group_clause (spec.single self.now.depth) (lexemes tokens.now)) }
+        ensures { Parses result
+            (spec.group_clause (spec.single self.now.depth) (lexemes tokens.now)) }
     {
         let rest = expect_word("group", tokens)?;
         let rest = expect_word("by", rest)?;
@@ -151,7 +158,8 @@ impl<'a, F: Fn(Global, usize, &'a [Token]) -> Result<(Boxed<Expr>, &'a [Token]),
     #[tactic(auto, unfolding(xq_grammar::specs::private::Reading::filter_clause))]
     fn filter_clause(&self, tokens: &'a [Token]) -> Result<(Clause, &'a [Token]), Fault>
         requires { Nests self.now.depth (F.pre self.now.single) (F.post self.now.single) }
-        ensures { Parses result (spec.filter_clause (spec.single self.now.depth) (lexemes tokens.now)) }
+        ensures { Parses result
+            (spec.filter_clause (spec.single self.now.depth) (lexemes tokens.now)) }
     {
         let (condition, rest) = self.after_word("where", tokens)?;
         Ok((Clause::Filter(condition.into_inner()), rest))
@@ -160,7 +168,8 @@ impl<'a, F: Fn(Global, usize, &'a [Token]) -> Result<(Boxed<Expr>, &'a [Token]),
     #[tactic(auto, unfolding(xq_grammar::specs::private::Reading::let_clause))]
     fn let_clause(&self, tokens: &'a [Token]) -> Result<(Clause, &'a [Token]), Fault>
         requires { Nests self.now.depth (F.pre self.now.single) (F.post self.now.single) }
-        ensures { Parses result (spec.let_clause (spec.single self.now.depth) (lexemes tokens.now)) }
+        ensures { Parses result
+            (spec.let_clause (spec.single self.now.depth) (lexemes tokens.now)) }
     {
         let rest = expect_word("let", tokens)?;
         let (bindings, rest) = commas(self.alloc, &LetBinding(self), rest)?;
@@ -170,7 +179,8 @@ impl<'a, F: Fn(Global, usize, &'a [Token]) -> Result<(Boxed<Expr>, &'a [Token]),
     #[tactic(auto, unfolding(xq_grammar::specs::private::Reading::for_clause))]
     fn for_clause(&self, tokens: &'a [Token]) -> Result<(Clause, &'a [Token]), Fault>
         requires { Nests self.now.depth (F.pre self.now.single) (F.post self.now.single) }
-        ensures { Parses result (spec.for_clause (spec.single self.now.depth) (lexemes tokens.now)) }
+        ensures { Parses result
+            (spec.for_clause (spec.single self.now.depth) (lexemes tokens.now)) }
     {
         let rest = expect_word("for", tokens)?;
         let (bindings, rest) = commas(self.alloc, &ForBinding(self), rest)?;
@@ -180,7 +190,8 @@ impl<'a, F: Fn(Global, usize, &'a [Token]) -> Result<(Boxed<Expr>, &'a [Token]),
     #[tactic(auto, unfolding(xq_grammar::specs::private::Reading::later_clause))]
     fn later_clause(&self, tokens: &'a [Token]) -> Result<(Clause, &'a [Token]), Fault>
         requires { Nests self.now.depth (F.pre self.now.single) (F.post self.now.single) }
-        ensures { Parses result (spec.later_clause (spec.single self.now.depth) (lexemes tokens.now)) }
+        ensures { Parses result
+            (spec.later_clause (spec.single self.now.depth) (lexemes tokens.now)) }
     {
         if is_word("where", tokens) {
             self.filter_clause(tokens)
@@ -194,7 +205,8 @@ impl<'a, F: Fn(Global, usize, &'a [Token]) -> Result<(Boxed<Expr>, &'a [Token]),
     #[tactic(auto, unfolding(xq_grammar::specs::private::Reading::first_clause))]
     fn first_clause(&self, tokens: &'a [Token]) -> Result<(Boxed<Clause>, &'a [Token]), Fault>
         requires { Nests self.now.depth (F.pre self.now.single) (F.post self.now.single) }
-        ensures { Parses result (spec.first_clause (spec.single self.now.depth) (lexemes tokens.now)) }
+        ensures { Parses result
+            (spec.first_clause (spec.single self.now.depth) (lexemes tokens.now)) }
     {
         if is_word("for", tokens) {
             let (clause, rest) = self.for_clause(tokens)?;

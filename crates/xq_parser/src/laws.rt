@@ -8,7 +8,8 @@ use xq_lexer::Token;
 
 /// No tokens derive two expressions, however deep these nest.
 pub fn derives_at_most_one(tokens: &[Token])
-    ensures { (left right : Expr_) → Derives (lexemes tokens.now) left → Derives (lexemes tokens.now) right → left ≡ right }
+    ensures { (left right : Expr_) → Derives (lexemes tokens.now) left
+        → Derives (lexemes tokens.now) right → left ≡ right }
 {
     let _ = tokens;
 }

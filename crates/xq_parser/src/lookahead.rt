@@ -59,7 +59,8 @@ pub(crate) fn is_word(word: &str, tokens: &[Token]) -> bool
 /// The tokens after the symbol, which is the next token.
 #[tactic(auto, unfolding(xq_grammar::specs::private::Reading::one_of, xq_grammar::specs::Look::lookup, xq_grammar::specs::Look::same))]
 pub(crate) fn expect_symbol(symbol: Symbol, tokens: &[Token]) -> Result<&[Token], Fault>
-    ensures { Gives (λ x. (tt, lexemes x.now)) result (spec.expect (symbol_lex symbol) (lexemes tokens.now)) }
+    ensures { Gives (λ x. (tt, lexemes x.now)) result
+        (spec.expect (symbol_lex symbol) (lexemes tokens.now)) }
 {
     match tokens {
         [
@@ -82,7 +83,8 @@ pub(crate) fn expect_symbol(symbol: Symbol, tokens: &[Token]) -> Result<&[Token]
 /// The tokens after the word, which is the next token.
 #[tactic(auto, unfolding(xq_grammar::specs::private::Reading::one_of, xq_grammar::specs::Look::lookup, xq_grammar::specs::Look::same))]
 pub(crate) fn expect_word<'a>(word: &str, tokens: &'a [Token]) -> Result<&'a [Token], Fault>
-    ensures { Gives (λ x. (tt, lexemes x.now)) result (spec.expect (name_lex word.now) (lexemes tokens.now)) }
+    ensures { Gives (λ x. (tt, lexemes x.now)) result
+        (spec.expect (name_lex word.now) (lexemes tokens.now)) }
 {
     match tokens {
         [

@@ -64,7 +64,10 @@ fn instruction_name(alloc: Global, tokens: &[Token]) -> Result<(Option<Text>, &[
 
 /// The name of a processing instruction or none, in parentheses.
 fn instruction_argument(alloc: Global, tokens: &[Token]) -> Result<(Option<Text>, &[Token]), Fault>
-    ensures { Parses result (spec.after (symbol_lex s.OpenParenthesis) (spec.before (spec.maybe spec.begins_nc spec.nc) (symbol_lex s.CloseParenthesis)) (lexemes tokens.now)) }
+    ensures { Parses result
+        (spec.after (symbol_lex s.OpenParenthesis)
+        (spec.before (spec.maybe spec.begins_nc spec.nc) (symbol_lex s.CloseParenthesis))
+        (lexemes tokens.now)) }
 {
     let rest = expect_symbol(Symbol::OpenParenthesis, tokens)?;
     let (name, rest) = instruction_name(alloc, rest)?;
@@ -115,7 +118,9 @@ fn attribute_kind(alloc: Global, tokens: &[Token]) -> Result<(NodeTest, &[Token]
 
 /// The kind test of an element or an attribute.
 fn named_kind(alloc: Global, tokens: &[Token]) -> Result<(NodeTest, &[Token]), Fault>
-    ensures { Parses result (spec.choose (spec.is (name_lex (codes "element"))) spec.element_kind spec.attribute_kind (lexemes tokens.now)) }
+    ensures { Parses result
+        (spec.choose (spec.is (name_lex (codes "element"))) spec.element_kind spec.attribute_kind
+        (lexemes tokens.now)) }
 {
     if is_word("element", tokens) {
         element_kind(alloc, tokens)
@@ -141,7 +146,8 @@ fn kind_test(alloc: Global, tokens: &[Token]) -> Result<(NodeTest, &[Token]), Fa
 /// `*`, the test that any name passes.
 #[tactic(auto, unfolding(xq_grammar::specs::private::Reading::one_of, xq_grammar::specs::Look::lookup, xq_grammar::specs::Look::same, xq_grammar::specs::Look::same_symbol))]
 fn any_name(tokens: &[Token]) -> Result<(NodeTest, &[Token]), Fault>
-    ensures { Parses result (spec.one_of ((symbol_lex s.Star, test.AnyName) ∷ []) (lexemes tokens.now)) }
+    ensures { Parses result
+        (spec.one_of ((symbol_lex s.Star, test.AnyName) ∷ []) (lexemes tokens.now)) }
 {
     match tokens {
         [
@@ -194,7 +200,8 @@ fn along_attributes(alloc: Global, tokens: &[Token]) -> Result<(AxisStep, &[Toke
 /// `..`
 #[tactic(auto, unfolding(xq_grammar::specs::private::Reading::one_of, xq_grammar::specs::Look::lookup, xq_grammar::specs::Look::same, xq_grammar::specs::Look::same_symbol))]
 fn parent(tokens: &[Token]) -> Result<(AxisStep, &[Token]), Fault>
-    ensures { Parses result (spec.one_of ((symbol_lex s.DoubleDot, along.Parent) ∷ []) (lexemes tokens.now)) }
+    ensures { Parses result
+        (spec.one_of ((symbol_lex s.DoubleDot, along.Parent) ∷ []) (lexemes tokens.now)) }
 {
     match tokens {
         [

@@ -81,7 +81,8 @@ impl<'a, F: Fn(Global, usize, &'a [Token]) -> Result<(Boxed<Expr>, &'a [Token]),
     #[tactic(auto, unfolding(xq_grammar::specs::private::Reading::range_item))]
     fn range_item(&self, tokens: &'a [Token]) -> Result<(Boxed<Expr>, &'a [Token]), Fault>
         requires { Nests self.now.depth (F.pre self.now.single) (F.post self.now.single) }
-        ensures { Parses result (spec.range_item (spec.single self.now.depth) (lexemes tokens.now)) }
+        ensures { Parses result
+            (spec.range_item (spec.single self.now.depth) (lexemes tokens.now)) }
     {
         let rest = expect_word("to", tokens)?;
         self.sum(rest)
@@ -89,7 +90,9 @@ impl<'a, F: Fn(Global, usize, &'a [Token]) -> Result<(Boxed<Expr>, &'a [Token]),
 
     fn range_end(&self, tokens: &'a [Token]) -> Result<(Option<Boxed<Expr>>, &'a [Token]), Fault>
         requires { Nests self.now.depth (F.pre self.now.single) (F.post self.now.single) }
-        ensures { Parses result (spec.maybe (spec.is (look.word "to")) (spec.range_item (spec.single self.now.depth)) (lexemes tokens.now)) }
+        ensures { Parses result
+            (spec.maybe (spec.is (look.word "to")) (spec.range_item (spec.single self.now.depth))
+            (lexemes tokens.now)) }
     {
         if is_word("to", tokens) {
             let (item, rest) = self.range_item(tokens)?;
@@ -127,7 +130,8 @@ impl<'a, F: Fn(Global, usize, &'a [Token]) -> Result<(Boxed<Expr>, &'a [Token]),
         tokens: &'a [Token],
     ) -> Result<((ComparisonOperator, Boxed<Expr>), &'a [Token]), Fault>
         requires { Nests self.now.depth (F.pre self.now.single) (F.post self.now.single) }
-        ensures { Parses result (spec.comparison_item (spec.single self.now.depth) (lexemes tokens.now)) }
+        ensures { Parses result
+            (spec.comparison_item (spec.single self.now.depth) (lexemes tokens.now)) }
     {
         let (operator, rest) = one_of::<ComparisonOperator>(tokens)?;
         let (operand, rest) = self.concat(rest)?;
@@ -139,7 +143,9 @@ impl<'a, F: Fn(Global, usize, &'a [Token]) -> Result<(Boxed<Expr>, &'a [Token]),
         tokens: &'a [Token],
     ) -> Result<(Option<(ComparisonOperator, Boxed<Expr>)>, &'a [Token]), Fault>
         requires { Nests self.now.depth (F.pre self.now.single) (F.post self.now.single) }
-        ensures { Parses result (spec.maybe (spec.begins g.comparisons) (spec.comparison_item (spec.single self.now.depth)) (lexemes tokens.now)) }
+        ensures { Parses result
+            (spec.maybe (spec.begins g.comparisons)
+            (spec.comparison_item (spec.single self.now.depth)) (lexemes tokens.now)) }
     {
         if begins::<ComparisonOperator>(tokens) {
             let (item, rest) = self.comparison_item(tokens)?;
@@ -153,7 +159,8 @@ impl<'a, F: Fn(Global, usize, &'a [Token]) -> Result<(Boxed<Expr>, &'a [Token]),
     #[tactic(auto, unfolding(xq_grammar::specs::private::Reading::comparison))]
     fn comparison(&self, tokens: &'a [Token]) -> Result<(Boxed<Expr>, &'a [Token]), Fault>
         requires { Nests self.now.depth (F.pre self.now.single) (F.post self.now.single) }
-        ensures { Parses result (spec.comparison (spec.single self.now.depth) (lexemes tokens.now)) }
+        ensures { Parses result
+            (spec.comparison (spec.single self.now.depth) (lexemes tokens.now)) }
     {
         let (first, rest) = self.concat(tokens)?;
         let (more, rest) = self.comparison_end(rest)?;
@@ -164,7 +171,8 @@ impl<'a, F: Fn(Global, usize, &'a [Token]) -> Result<(Boxed<Expr>, &'a [Token]),
     #[tactic(auto, unfolding(xq_grammar::specs::private::Reading::conjunction))]
     fn conjunction(&self, tokens: &'a [Token]) -> Result<(Boxed<Expr>, &'a [Token]), Fault>
         requires { Nests self.now.depth (F.pre self.now.single) (F.post self.now.single) }
-        ensures { Parses result (spec.conjunction (spec.single self.now.depth) (lexemes tokens.now)) }
+        ensures { Parses result
+            (spec.conjunction (spec.single self.now.depth) (lexemes tokens.now)) }
     {
         let (first, rest) = self.comparison(tokens)?;
         let (more, rest) = many(self.alloc, &AndItem(self), rest)?;
@@ -178,7 +186,8 @@ impl<'a, F: Fn(Global, usize, &'a [Token]) -> Result<(Boxed<Expr>, &'a [Token]),
         tokens: &'a [Token],
     ) -> Result<(Boxed<Expr>, &'a [Token]), Fault>
         requires { Nests self.now.depth (F.pre self.now.single) (F.post self.now.single) }
-        ensures { Parses result (spec.disjunction (spec.single self.now.depth) (lexemes tokens.now)) }
+        ensures { Parses result
+            (spec.disjunction (spec.single self.now.depth) (lexemes tokens.now)) }
     {
         let (first, rest) = self.conjunction(tokens)?;
         let (more, rest) = many(self.alloc, &OrItem(self), rest)?;

@@ -83,7 +83,8 @@ fn query(alloc: Global, tokens: &[Token]) -> Result<Expr, Fault>
 /// refuses only for want of memory.
 pub fn parse(alloc: Global, tokens: &[Token]) -> Result<Expr, Fault>
     ensures found { IfOk result (λ e. Derives (lexemes tokens.now) e) }
-    ensures only { IfOk result (λ e. (other : Expr_) → Derives (lexemes tokens.now) other → other ≡ e) }
+    ensures only { IfOk result (λ e. (other : Expr_) → Derives (lexemes tokens.now) other
+        → other ≡ e) }
     ensures shallow { IfOk result (λ _. nesting_of (lexemes tokens.now) ≤ 128) }
     ensures refused { Refuses result (lexemes tokens.now) }
 {

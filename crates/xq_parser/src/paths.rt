@@ -25,7 +25,8 @@ impl<'a, F: Fn(Global, usize, &'a [Token]) -> Result<(Boxed<Expr>, &'a [Token]),
     #[tactic(auto, unfolding(xq_grammar::specs::private::Reading::predicates))]
     fn predicates(&self, tokens: &'a [Token]) -> Result<(Items<Expr>, &'a [Token]), Fault>
         requires { Nests self.now.depth (F.pre self.now.single) (F.post self.now.single) }
-        ensures { Parses result (spec.predicates (spec.single self.now.depth) (lexemes tokens.now)) }
+        ensures { Parses result
+            (spec.predicates (spec.single self.now.depth) (lexemes tokens.now)) }
     {
         many(self.alloc, &Predicate(self), tokens)
     }
@@ -33,7 +34,8 @@ impl<'a, F: Fn(Global, usize, &'a [Token]) -> Result<(Boxed<Expr>, &'a [Token]),
     #[tactic(auto, unfolding(xq_grammar::specs::private::Reading::primary_step))]
     fn primary_step(&self, tokens: &'a [Token]) -> Result<(Step, &'a [Token]), Fault>
         requires { Nests self.now.depth (F.pre self.now.single) (F.post self.now.single) }
-        ensures { Parses result (spec.primary_step (spec.single self.now.depth) (lexemes tokens.now)) }
+        ensures { Parses result
+            (spec.primary_step (spec.single self.now.depth) (lexemes tokens.now)) }
     {
         let (value, rest) = self.primary(tokens)?;
         let (predicates, rest) = self.predicates(rest)?;
@@ -43,7 +45,8 @@ impl<'a, F: Fn(Global, usize, &'a [Token]) -> Result<(Boxed<Expr>, &'a [Token]),
     #[tactic(auto, unfolding(xq_grammar::specs::private::Reading::predicated))]
     fn predicated(&self, tokens: &'a [Token]) -> Result<(Step, &'a [Token]), Fault>
         requires { Nests self.now.depth (F.pre self.now.single) (F.post self.now.single) }
-        ensures { Parses result (spec.predicated (spec.single self.now.depth) (lexemes tokens.now)) }
+        ensures { Parses result
+            (spec.predicated (spec.single self.now.depth) (lexemes tokens.now)) }
     {
         let (step, rest) = axis_step(self.alloc, tokens)?;
         let (predicates, rest) = self.predicates(rest)?;
@@ -89,7 +92,8 @@ impl<'a, F: Fn(Global, usize, &'a [Token]) -> Result<(Boxed<Expr>, &'a [Token]),
     #[tactic(auto, unfolding(xq_grammar::specs::private::Reading::from_below))]
     fn from_below(&self, tokens: &'a [Token]) -> Result<(Boxed<Expr>, &'a [Token]), Fault>
         requires { Nests self.now.depth (F.pre self.now.single) (F.post self.now.single) }
-        ensures { Parses result (spec.from_below (spec.single self.now.depth) (lexemes tokens.now)) }
+        ensures { Parses result
+            (spec.from_below (spec.single self.now.depth) (lexemes tokens.now)) }
     {
         let rest = expect_symbol(Symbol::DoubleSlash, tokens)?;
         let ((first, more), rest) = self.steps(rest)?;
@@ -102,7 +106,8 @@ impl<'a, F: Fn(Global, usize, &'a [Token]) -> Result<(Boxed<Expr>, &'a [Token]),
     /// A `/` alone.
     #[tactic(auto, unfolding(xq_grammar::specs::private::Reading::one_of, xq_grammar::specs::Look::lookup, xq_grammar::specs::Look::same, xq_grammar::specs::Look::same_symbol))]
     fn lone(&self, tokens: &'a [Token]) -> Result<(Boxed<Expr>, &'a [Token]), Fault>
-        ensures { Parses result (spec.one_of ((symbol_lex s.Slash, e.Root) ∷ []) (lexemes tokens.now)) }
+        ensures { Parses result
+            (spec.one_of ((symbol_lex s.Slash, e.Root) ∷ []) (lexemes tokens.now)) }
     {
         match tokens {
             [
@@ -118,7 +123,9 @@ impl<'a, F: Fn(Global, usize, &'a [Token]) -> Result<(Boxed<Expr>, &'a [Token]),
 
     fn relative_path(&self, tokens: &'a [Token]) -> Result<(Boxed<Expr>, &'a [Token]), Fault>
         requires { Nests self.now.depth (F.pre self.now.single) (F.post self.now.single) }
-        ensures { Parses result (spec.mapped g.relative (spec.relative (spec.single self.now.depth)) (lexemes tokens.now)) }
+        ensures { Parses result
+            (spec.mapped g.relative (spec.relative (spec.single self.now.depth))
+            (lexemes tokens.now)) }
     {
         let ((first, more), rest) = self.steps(tokens)?;
         Ok((relative(self.alloc, first, more)?, rest))

@@ -58,7 +58,8 @@ impl<'a, F: Fn(Global, usize, &'a [Token]) -> Result<(Boxed<Expr>, &'a [Token]),
         tokens: &'a [Token],
     ) -> Result<(Boxed<Expr>, &'a [Token]), Fault>
         requires { Nests self.now.depth (F.pre self.now.single) (F.post self.now.single) }
-        ensures { Parses result (spec.governed (spec.single self.now.depth) (name_lex word.now) (lexemes tokens.now)) }
+        ensures { Parses result
+            (spec.governed (spec.single self.now.depth) (name_lex word.now) (lexemes tokens.now)) }
     {
         let rest = expect_word(word, tokens)?;
         self.single(rest)
@@ -72,7 +73,8 @@ impl<'a, F: Fn(Global, usize, &'a [Token]) -> Result<(Boxed<Expr>, &'a [Token]),
         tokens: &'a [Token],
     ) -> Result<(Boxed<Expr>, &'a [Token]), Fault>
         requires { Nests self.now.depth (F.pre self.now.single) (F.post self.now.single) }
-        ensures { Parses result (spec.governed (spec.single self.now.depth) (symbol_lex symbol) (lexemes tokens.now)) }
+        ensures { Parses result
+            (spec.governed (spec.single self.now.depth) (symbol_lex symbol) (lexemes tokens.now)) }
     {
         let rest = expect_symbol(symbol, tokens)?;
         self.single(rest)
@@ -86,7 +88,8 @@ impl<'a, F: Fn(Global, usize, &'a [Token]) -> Result<(Boxed<Expr>, &'a [Token]),
         tokens: &'a [Token],
     ) -> Result<(Boxed<Expr>, &'a [Token]), Fault>
         requires { Nests self.now.depth (F.pre self.now.single) (F.post self.now.single) }
-        ensures { Parses result (spec.inside (spec.single self.now.depth) (symbol_lex close) (lexemes tokens.now)) }
+        ensures { Parses result
+            (spec.inside (spec.single self.now.depth) (symbol_lex close) (lexemes tokens.now)) }
     {
         if is_symbol(close, tokens) {
             let nothing = Expr::Sequence(Items::new(self.alloc));
@@ -121,7 +124,8 @@ impl<'a, F: Fn(Global, usize, &'a [Token]) -> Result<(Boxed<Expr>, &'a [Token]),
     #[tactic(auto, unfolding(xq_grammar::specs::private::Reading::name_of_node))]
     fn name_of_node(&self, tokens: &'a [Token]) -> Result<(ConstructorName, &'a [Token]), Fault>
         requires { Nests self.now.depth (F.pre self.now.single) (F.post self.now.single) }
-        ensures { Parses result (spec.name_of_node (spec.single self.now.depth) (lexemes tokens.now)) }
+        ensures { Parses result
+            (spec.name_of_node (spec.single self.now.depth) (lexemes tokens.now)) }
     {
         if begins_name(tokens) {
             let (name, rest) = qname(self.alloc, tokens)?;
@@ -137,7 +141,8 @@ impl<'a, F: Fn(Global, usize, &'a [Token]) -> Result<(Boxed<Expr>, &'a [Token]),
         tokens: &'a [Token],
     ) -> Result<(ConstructorName, &'a [Token]), Fault>
         requires { Nests self.now.depth (F.pre self.now.single) (F.post self.now.single) }
-        ensures { Parses result (spec.name_of_instruction (spec.single self.now.depth) (lexemes tokens.now)) }
+        ensures { Parses result
+            (spec.name_of_instruction (spec.single self.now.depth) (lexemes tokens.now)) }
     {
         if begins_nc(tokens) {
             let (local, rest) = ncname(self.alloc, tokens)?;
@@ -156,7 +161,8 @@ impl<'a, F: Fn(Global, usize, &'a [Token]) -> Result<(Boxed<Expr>, &'a [Token]),
     #[tactic(auto, unfolding(xq_grammar::specs::private::Reading::make_named))]
     fn make_named(&self, tokens: &'a [Token]) -> Result<(Boxed<Expr>, &'a [Token]), Fault>
         requires { Nests self.now.depth (F.pre self.now.single) (F.post self.now.single) }
-        ensures { Parses result (spec.make_named (spec.single self.now.depth) (lexemes tokens.now)) }
+        ensures { Parses result
+            (spec.make_named (spec.single self.now.depth) (lexemes tokens.now)) }
     {
         let (node, rest) = one_of::<NamedNode>(tokens)?;
         let (name, rest) = self.name_of_node(rest)?;
@@ -169,7 +175,9 @@ impl<'a, F: Fn(Global, usize, &'a [Token]) -> Result<(Boxed<Expr>, &'a [Token]),
         tokens: &'a [Token],
     ) -> Result<((ConstructorName, Boxed<Expr>), &'a [Token]), Fault>
         requires { Nests self.now.depth (F.pre self.now.single) (F.post self.now.single) }
-        ensures { Parses result (spec.both (spec.name_of_instruction (spec.single self.now.depth)) (spec.body (spec.single self.now.depth)) (lexemes tokens.now)) }
+        ensures { Parses result
+            (spec.both (spec.name_of_instruction (spec.single self.now.depth))
+            (spec.body (spec.single self.now.depth)) (lexemes tokens.now)) }
     {
         let (name, rest) = self.name_of_instruction(tokens)?;
         let (content, rest) = self.body(rest)?;
@@ -182,7 +190,11 @@ impl<'a, F: Fn(Global, usize, &'a [Token]) -> Result<(Boxed<Expr>, &'a [Token]),
         tokens: &'a [Token],
     ) -> Result<(Boxed<Expr>, &'a [Token]), Fault>
         requires { Nests self.now.depth (F.pre self.now.single) (F.post self.now.single) }
-        ensures { Parses result (spec.mapped g.instruction (spec.after (name_lex word.now) (spec.both (spec.name_of_instruction (spec.single self.now.depth)) (spec.body (spec.single self.now.depth)))) (lexemes tokens.now)) }
+        ensures { Parses result
+            (spec.mapped g.instruction
+            (spec.after (name_lex word.now)
+            (spec.both (spec.name_of_instruction (spec.single self.now.depth))
+            (spec.body (spec.single self.now.depth)))) (lexemes tokens.now)) }
     {
         let rest = expect_word(word, tokens)?;
         let ((name, content), rest) = self.instruction_parts(rest)?;
@@ -193,7 +205,8 @@ impl<'a, F: Fn(Global, usize, &'a [Token]) -> Result<(Boxed<Expr>, &'a [Token]),
     #[tactic(auto, unfolding(xq_grammar::specs::private::Reading::make_instruction))]
     fn make_instruction(&self, tokens: &'a [Token]) -> Result<(Boxed<Expr>, &'a [Token]), Fault>
         requires { Nests self.now.depth (F.pre self.now.single) (F.post self.now.single) }
-        ensures { Parses result (spec.make_instruction (spec.single self.now.depth) (lexemes tokens.now)) }
+        ensures { Parses result
+            (spec.make_instruction (spec.single self.now.depth) (lexemes tokens.now)) }
     {
         self.instruction_after("processing-instruction", tokens)
     }
@@ -201,7 +214,8 @@ impl<'a, F: Fn(Global, usize, &'a [Token]) -> Result<(Boxed<Expr>, &'a [Token]),
     #[tactic(auto, unfolding(xq_grammar::specs::private::Reading::make_unnamed))]
     fn make_unnamed(&self, tokens: &'a [Token]) -> Result<(Boxed<Expr>, &'a [Token]), Fault>
         requires { Nests self.now.depth (F.pre self.now.single) (F.post self.now.single) }
-        ensures { Parses result (spec.make_unnamed (spec.single self.now.depth) (lexemes tokens.now)) }
+        ensures { Parses result
+            (spec.make_unnamed (spec.single self.now.depth) (lexemes tokens.now)) }
     {
         let (node, rest) = one_of::<UnnamedNode>(tokens)?;
         let (content, rest) = self.body(rest)?;
@@ -211,7 +225,10 @@ impl<'a, F: Fn(Global, usize, &'a [Token]) -> Result<(Boxed<Expr>, &'a [Token]),
     /// A constructor of a processing instruction, or of a node without a name.
     fn make_other(&self, tokens: &'a [Token]) -> Result<(Boxed<Expr>, &'a [Token]), Fault>
         requires { Nests self.now.depth (F.pre self.now.single) (F.post self.now.single) }
-        ensures { Parses result (spec.choose (spec.is (look.word "processing-instruction")) (spec.make_instruction (spec.single self.now.depth)) (spec.make_unnamed (spec.single self.now.depth)) (lexemes tokens.now)) }
+        ensures { Parses result
+            (spec.choose (spec.is (look.word "processing-instruction"))
+            (spec.make_instruction (spec.single self.now.depth))
+            (spec.make_unnamed (spec.single self.now.depth)) (lexemes tokens.now)) }
     {
         if is_word("processing-instruction", tokens) {
             self.make_instruction(tokens)
@@ -236,7 +253,8 @@ impl<'a, F: Fn(Global, usize, &'a [Token]) -> Result<(Boxed<Expr>, &'a [Token]),
     #[tactic(auto, unfolding(xq_grammar::specs::private::Reading::argument_list))]
     fn argument_list(&self, tokens: &'a [Token]) -> Result<(Items<Expr>, &'a [Token]), Fault>
         requires { Nests self.now.depth (F.pre self.now.single) (F.post self.now.single) }
-        ensures { Parses result (spec.argument_list (spec.single self.now.depth) (lexemes tokens.now)) }
+        ensures { Parses result
+            (spec.argument_list (spec.single self.now.depth) (lexemes tokens.now)) }
     {
         if is_symbol(Symbol::CloseParenthesis, tokens) {
             Ok((Items::new(self.alloc), tokens))
@@ -271,7 +289,8 @@ impl<'a, F: Fn(Global, usize, &'a [Token]) -> Result<(Boxed<Expr>, &'a [Token]),
     #[tactic(auto, unfolding(xq_grammar::specs::private::Reading::parenthesised))]
     fn parenthesised(&self, tokens: &'a [Token]) -> Result<(Boxed<Expr>, &'a [Token]), Fault>
         requires { Nests self.now.depth (F.pre self.now.single) (F.post self.now.single) }
-        ensures { Parses result (spec.parenthesised (spec.single self.now.depth) (lexemes tokens.now)) }
+        ensures { Parses result
+            (spec.parenthesised (spec.single self.now.depth) (lexemes tokens.now)) }
     {
         let rest = expect_symbol(Symbol::OpenParenthesis, tokens)?;
         let (value, rest) = self.inside(Symbol::CloseParenthesis, rest)?;
@@ -282,7 +301,8 @@ impl<'a, F: Fn(Global, usize, &'a [Token]) -> Result<(Boxed<Expr>, &'a [Token]),
     #[tactic(auto, unfolding(xq_grammar::specs::private::Reading::call_or_make))]
     fn call_or_make(&self, tokens: &'a [Token]) -> Result<(Boxed<Expr>, &'a [Token]), Fault>
         requires { Nests self.now.depth (F.pre self.now.single) (F.post self.now.single) }
-        ensures { Parses result (spec.call_or_make (spec.single self.now.depth) (lexemes tokens.now)) }
+        ensures { Parses result
+            (spec.call_or_make (spec.single self.now.depth) (lexemes tokens.now)) }
     {
         if begins_call(tokens) {
             self.call(tokens)

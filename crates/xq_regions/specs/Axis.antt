@@ -1,4 +1,5 @@
--- The twelve axes, as relations between the paths of two nodes of a tree: XPath 3.1, section 3.3.2.1.
+-- The twelve axes, as relations between the paths of two nodes of a tree: XPath 3.1, section
+-- 3.3.2.1.
 use Rattle.std.proofs.Common.{suc}
 use Rattle.std.specs.Prelude.{ℕ, ◌≡◌, ◌≢◌, ◌⊎◌, List, length}
 use Rattle.xq_regions.specs.Forest.{Forest}
@@ -20,6 +21,8 @@ IsOnAxis Parent f v w = IsAbove w v × (length v ≡ suc (length w))
 IsOnAxis Ancestor f v w = IsAbove w v
 IsOnAxis AncestorOrSelf f v w = (v ≡ w) ⊎ IsAbove w v
 IsOnAxis Following f v w = IsLeftOf v w × (kind_at f w ≢ Attribute)
-IsOnAxis FollowingSibling f v w = IsBeside v w × IsLeftOf v w × (kind_at f v ≢ Attribute) × (kind_at f w ≢ Attribute)
+IsOnAxis FollowingSibling f v w = IsBeside v w × IsLeftOf v w × (kind_at f v ≢ Attribute)
+    × (kind_at f w ≢ Attribute)
 IsOnAxis Preceding f v w = IsLeftOf w v × (kind_at f w ≢ Attribute)
-IsOnAxis PrecedingSibling f v w = IsBeside v w × IsLeftOf w v × (kind_at f v ≢ Attribute) × (kind_at f w ≢ Attribute)
+IsOnAxis PrecedingSibling f v w = IsBeside v w × IsLeftOf w v × (kind_at f v ≢ Attribute)
+    × (kind_at f w ≢ Attribute)

@@ -41,7 +41,8 @@ on_axis Child f v w = is_above v w && (nat_eq (length w) (suc (length v)) && pla
 on_axis Descendant f v w = is_above v w && plain f w
 on_axis DescendantOrSelf f v w = is_same v w || (is_above v w && plain f w)
 on_axis SelfNode f v w = is_same v w
-on_axis Attributes f v w = is_above v w && (nat_eq (length w) (suc (length v)) && is_attribute (kind_at f w))
+on_axis Attributes f v w = is_above v w
+    && (nat_eq (length w) (suc (length v)) && is_attribute (kind_at f w))
 on_axis Parent f v w = is_above w v && nat_eq (length v) (suc (length w))
 on_axis Ancestor f v w = is_above w v
 on_axis AncestorOrSelf f v w = is_same v w || is_above w v
@@ -52,4 +53,6 @@ on_axis PrecedingSibling f v w = is_beside v w && (is_left_of w v && (plain f v 
 
 -- the places of the nodes that are on the axis from the node at the place v, in document order
 abbrev pub axis_places : Axis → Tree → ℕ → List ℕ
-axis_places axis t v = filter (λ p. on_axis axis (nodes t) (path_at (nodes t) v) (path_at (nodes t) p)) (range_with_len 0 (count (nodes t)))
+axis_places axis t v = filter
+    (λ p. on_axis axis (nodes t) (path_at (nodes t) v) (path_at (nodes t) p))
+    (range_with_len 0 (count (nodes t)))

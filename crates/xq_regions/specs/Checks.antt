@@ -21,7 +21,8 @@ rank_of r = length (name_of r) ∷ name_of r
 abbrev pub pre_of : NodeRow → ℕ
 pre_of r = r.pre
 
--- a row may be the next child of the parent, where n rows are left below the parent and the labels come after it
+-- a row may be the next child of the parent, where n rows are left below the parent and the labels
+-- come after it
 abbrev pub child_ok : Row → ℕ → Row → List Label → Bool
 child_ok parent n r labels =
     nat_eq r.level (suc parent.level)
@@ -32,10 +33,12 @@ child_ok parent n r labels =
 -- these are all children of the parent
 abbrev pub is_run : Row → ℕ → List Row → Bool
 is_run parent n [] = nat_eq n 0
-is_run parent n (r ∷ rs) = child_ok parent n r (map label_of rs) && is_run parent (n - suc r.size) rs
+is_run parent n (r ∷ rs) = child_ok parent n r (map label_of rs)
+    && is_run parent (n - suc r.size) rs
 
 abbrev pub row_ok : Row → List Row → Bool
-row_ok r below = is_legal r.label.kind r.label.name r.label.value && (nat_le r.level 100 && is_run r r.size below)
+row_ok r below = is_legal r.label.kind r.label.name r.label.value
+    && (nat_le r.level 100 && is_run r r.size below)
 
 abbrev pub RowOk : Row → List Row → Type 0
 RowOk r below = row_ok r below ≡ true
@@ -75,17 +78,20 @@ roots rs c stop = tops (front (stop - c) (nest (drop c rs)))
 -- the row c may be the next child of the parent, whose rows end before the row `stop`
 abbrev pub may_be_child : Row → List Row → ℕ → ℕ → Bool
 may_be_child parent rs c stop =
-    child_ok parent (stop - c) (row_at rs c) (map label_of (roots rs (suc c + (row_at rs c).size) stop))
+    child_ok parent (stop - c) (row_at rs c)
+        (map label_of (roots rs (suc c + (row_at rs c).size) stop))
 
 -- the rows after the row p are, as far as its size says, those of its children
 abbrev pub are_children_after : List Row → ℕ → Bool
-are_children_after rs p = is_run (row_at rs p) (row_at rs p).size (roots rs (suc p) (suc p + (row_at rs p).size))
+are_children_after rs p = is_run (row_at rs p) (row_at rs p).size
+    (roots rs (suc p) (suc p + (row_at rs p).size))
 
 -- the row at the place i is right, where those after it are
 abbrev pub IsSoundAt : List NodeRow → ℕ → Type 0
 IsSoundAt rs i =
     (slice_index (map (λ (r : NodeRow). r.pre) rs) i ≡ i)
-    × RowOk (row_at (map row_of rs) i) (roots (map row_of rs) (suc i) (suc i + (row_at (map row_of rs) i).size))
+    × RowOk (row_at (map row_of rs) i)
+        (roots (map row_of rs) (suc i) (suc i + (row_at (map row_of rs) i).size))
 
 -- the attributes of the row at the place i have distinct names
 abbrev pub IsNamedAt : List Row → ℕ → Type 0

@@ -37,13 +37,16 @@ kind_code = code_by ℕ coded_ℕ kind_number kind_from kind_from-kind_number
 
 abbrev pub label_code : Coded Label
 label_code =
-    code_by (Kind × (List ℕ × List ℕ)) (coded× kind_code (coded× (coded_list coded_ℕ) (coded_list coded_ℕ)))
-    (λ l. (l.kind, (l.name, l.value))) (λ p. record { kind = p.0; name = p.1.0; value = p.1.1 }) (λ _. refl)
+    code_by (Kind × (List ℕ × List ℕ))
+        (coded× kind_code (coded× (coded_list coded_ℕ) (coded_list coded_ℕ)))
+    (λ l. (l.kind, (l.name, l.value))) (λ p. record { kind = p.0; name = p.1.0; value = p.1.1 })
+    (λ _. refl)
 
 abbrev pub row_code : Coded Row
 row_code =
     code_by (ℕ × (ℕ × Label)) (coded× coded_ℕ (coded× coded_ℕ label_code))
-    (λ r. (r.size, (r.level, r.label))) (λ p. record { size = p.0; level = p.1.0; label = p.1.1 }) (λ _. refl)
+    (λ r. (r.size, (r.level, r.label))) (λ p. record { size = p.0; level = p.1.0; label = p.1.1 })
+    (λ _. refl)
 
 abbrev pub tree_code : Coded Tree
 tree_code = code_by (List Row) (coded_list row_code) rows tree_of tree_of-rows

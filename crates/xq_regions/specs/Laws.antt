@@ -15,18 +15,22 @@ RowsTellTrees = (t u : Tree) → rows t ≡ rows u → t ≡ u
 
 -- each path of a node has a place, and leads back from it
 abbrev pub PathsHavePlaces : Type 0
-PathsHavePlaces = (t : Tree) (p : List ℕ) → HasPath (nodes t) p → (place_of (nodes t) p < count (nodes t)) × (path_at (nodes t) (place_of (nodes t) p) ≡ p)
+PathsHavePlaces = (t : Tree) (p : List ℕ) → HasPath (nodes t) p
+    → (place_of (nodes t) p < count (nodes t)) × (path_at (nodes t) (place_of (nodes t) p) ≡ p)
 
 -- each place of a node has a path, and leads back from it
 abbrev pub PlacesHavePaths : Type 0
-PlacesHavePaths = (t : Tree) (n : ℕ) → n < count (nodes t) → HasPath (nodes t) (path_at (nodes t) n) × (place_of (nodes t) (path_at (nodes t) n) ≡ n)
+PlacesHavePaths = (t : Tree) (n : ℕ) → n < count (nodes t)
+    → HasPath (nodes t) (path_at (nodes t) n) × (place_of (nodes t) (path_at (nodes t) n) ≡ n)
 
 -- document order is the order of the places
 abbrev pub OrderIsThatOfPlaces : Type 0
-OrderIsThatOfPlaces = (t : Tree) (p q : List ℕ) → HasPath (nodes t) p → HasPath (nodes t) q → IsBefore p q ↔ (place_of (nodes t) p < place_of (nodes t) q)
+OrderIsThatOfPlaces = (t : Tree) (p q : List ℕ) → HasPath (nodes t) p → HasPath (nodes t) q
+    → IsBefore p q ↔ (place_of (nodes t) p < place_of (nodes t) q)
 
 -- a node is on an axis where its row is in the region of the axis
 abbrev pub AxesAreRegions : Type 0
 AxesAreRegions =
     (axis : Axis) (t : Tree) (v w : List ℕ) → HasPath (nodes t) v → HasPath (nodes t) w
-    → IsOnAxis axis (nodes t) v w ↔ IsInRegion axis (rows t) (place_of (nodes t) v) (place_of (nodes t) w)
+    → IsOnAxis axis (nodes t) v w
+        ↔ IsInRegion axis (rows t) (place_of (nodes t) v) (place_of (nodes t) w)

@@ -16,11 +16,13 @@ back-join (node a below beside) g =
     let e : count below + count beside - count below ≡ count beside = omega arith in
     ap (λ n. back n (join beside g)) e ∙ back-join beside g
 
-pub labels-front-back : {A : Type 0} (n : ℕ) (f : Forest A) → labels (front n f) ++ labels (back n f) ≡ labels f
+pub labels-front-back : {A : Type 0} (n : ℕ) (f : Forest A)
+    → labels (front n f) ++ labels (back n f) ≡ labels f
 labels-front-back zero f = refl
 labels-front-back (suc n) end = refl
 labels-front-back (suc n) (node a below beside) =
-    ap (λ l. a ∷ l) (append_assoc (labels below) _ _ ∙ ap (λ l. labels below ++ l) (labels-front-back (n - count below) beside))
+    ap (λ l. a ∷ l) (append_assoc (labels below) _ _
+        ∙ ap (λ l. labels below ++ l) (labels-front-back (n - count below) beside))
 
 -- whatever their sizes, rows are kept
 pub labels-nest : (rs : List Row) → labels (nest rs) ≡ rs
@@ -29,19 +31,22 @@ labels-nest (r ∷ rs) = ap (λ l. r ∷ l) (labels-front-back r.size (nest rs) 
 
 pub count-measured : (l : ℕ) (f : Forest Label) → count (measured l f) ≡ count f
 count-measured l end = refl
-count-measured l (node a below beside) = ap suc (rw (count-measured (suc l) below, count-measured l beside))
+count-measured l (node a below beside) = ap suc
+    (rw (count-measured (suc l) below, count-measured l beside))
 
 pub join-end : {A : Type 0} (f : Forest A) → join f end ≡ f
 join-end end = refl
 join-end (node a below beside) = ap (node a below) (join-end beside)
 
-pub nest-measured : (l : ℕ) (f : Forest Label) (rs : List Row) → nest (labels (measured l f) ++ rs) ≡ join (measured l f) (nest rs)
+pub nest-measured : (l : ℕ) (f : Forest Label) (rs : List Row)
+    → nest (labels (measured l f) ++ rs) ≡ join (measured l f) (nest rs)
 nest-measured l end rs = refl
 nest-measured l (node a below beside) rs =
     let k = measured (suc l) below in
     let g = measured l beside in
     let e : nest ((labels k ++ labels g) ++ rs) ≡ join k (join g (nest rs)) =
-    ap nest (append_assoc (labels k) (labels g) rs) ∙ nest-measured (suc l) below (labels g ++ rs) ∙ ap (join k) (nest-measured l beside rs) in
+    ap nest (append_assoc (labels k) (labels g) rs) ∙ nest-measured (suc l) below (labels g ++ rs)
+        ∙ ap (join k) (nest-measured l beside rs) in
     let c : count k ≡ count below = count-measured (suc l) below in
     rw (e, ← c) (rw (front-join k (join g (nest rs)), back-join k (join g (nest rs))))
 
@@ -57,7 +62,8 @@ map-measured l end = refl
 map-measured l (node a below beside) = rw (map-measured (suc l) below, map-measured l beside)
 
 pub tree_of-rows : (t : Tree) → tree_of (rows t) ≡ t
-tree_of-rows t = ap first_tree (nest-rows t) ∙ ap (λ (f : Forest Label). record { root = t.root; below = f }) (map-measured 1 t.below)
+tree_of-rows t = ap first_tree (nest-rows t)
+    ∙ ap (λ (f : Forest Label). record { root = t.root; below = f }) (map-measured 1 t.below)
 
 -- two trees with equal rows are equal
 pub rows-injective : (t u : Tree) → rows t ≡ rows u → t ≡ u

@@ -1,4 +1,5 @@
--- Nodes, named by their paths: XDM 3.1, section 2.4 (document order), section 6 (attributes and children).
+-- Nodes, named by their paths: XDM 3.1, section 2.4 (document order), section 6 (attributes and
+-- children).
 use Rattle.std.proofs.Common.{zero, suc}
 use Rattle.std.specs.Prelude.{ℕ, ◌-◌, List, [], ◌∷◌, drop, Option, Some, None, if◌then◌else◌, nat_lt}
 use Rattle.std.specs.List.{prefix_len}
@@ -6,8 +7,8 @@ use Rattle.xq_regions.specs.Forest.{Forest, end, node, tops}
 use Rattle.xq_regions.specs.Tree.{Label, Tree, nodes, no_label, is_attribute}
 use Rattle.xq_regions.specs.declared.Kind.{Kind}
 
--- A path gives the number of a node at the top, then that of one of its attributes and children, which
--- are numbered as one run from 0, and so on. The root of a tree is `0 ∷ []`.
+-- A path gives the number of a node at the top, then that of one of its attributes and children,
+-- which are numbered as one run from 0, and so on. The root of a tree is `0 ∷ []`.
 
 -- the path leads to a node
 abbrev pub HasPath : {A : Type 0} → Forest A → List ℕ → Type 0
@@ -48,7 +49,8 @@ kind_at f path = (label_at no_label f path).kind
 abbrev pub subtree : Tree → List ℕ → Tree
 subtree t path = record { root = label_at no_label (nodes t) path; below = below_at (nodes t) path }
 
--- A path of a tree, read as steps from its root: to an attribute or a child, by its number among its like.
+-- A path of a tree, read as steps from its root: to an attribute or a child, by its number among
+-- its like.
 pub data Step : Type 0 where
   attribute : ℕ → Step
   child : ℕ → Step
@@ -59,7 +61,8 @@ attribute_count labels = prefix_len (λ (a : Label). is_attribute a.kind) labels
 
 -- the step to the node with this number among the attributes and children
 abbrev pub step_to : List Label → ℕ → Step
-step_to labels i = if nat_lt i (attribute_count labels) then attribute i else child (i - attribute_count labels)
+step_to labels i = if nat_lt i (attribute_count labels) then attribute i
+    else child (i - attribute_count labels)
 
 -- what is below the node with this number at the top
 abbrev pub below_top : {A : Type 0} → Forest A → ℕ → Forest A

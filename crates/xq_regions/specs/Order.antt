@@ -53,4 +53,5 @@ abbrev pub path_at : {A : Type 0} → Forest A → ℕ → List ℕ
 path_at end n = []
 path_at (node a below beside) zero = zero ∷ []
 path_at (node a below beside) (suc n) =
-    cond (nat_le (suc n) (count below)) (step_down (path_at below n)) (step_right (path_at beside (n - count below)))
+    cond (nat_le (suc n) (count below)) (step_down (path_at below n))
+        (step_right (path_at beside (n - count below)))

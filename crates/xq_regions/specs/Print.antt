@@ -8,7 +8,8 @@ use Rattle.xq_regions.specs.declared.NodeRow.{NodeRow}
 use Rattle.xq_regions.specs.declared.Kind.{Kind}
 use Rattle.xq_regions.specs.declared.Kind.TheVariants.{Document, Element, Attribute, Text, Comment, ProcessingInstruction}
 
--- how a byte of a value stands in a string: a quote is doubled, `&` is `&amp;`, a carriage return is `&#xD;`
+-- how a byte of a value stands in a string: a quote is doubled, `&` is `&amp;`, a carriage return
+-- is `&#xD;`
 abbrev pub escape : ℕ → List ℕ
 escape b =
     if b == 34 then 34 ∷ 34 ∷ []
@@ -57,12 +58,14 @@ comma = codes ", "
 -- the nodes, with `before` in front of the first and a comma in front of each other
 abbrev pub listed : List ℕ → Forest Label → List ℕ
 listed before end = []
-listed before (node a below beside) = before ++ (opening a ++ (listed [] below ++ 125 ∷ listed comma beside))
+listed before (node a below beside) = before
+    ++ (opening a ++ (listed [] below ++ 125 ∷ listed comma beside))
 
 abbrev pub print : Tree → List ℕ
 print t = listed [] (nodes t)
 
--- # The same from levels and labels in document order: a node is closed where the next one is not below it
+-- # The same from levels and labels in document order: a node is closed where the next one is not
+-- below it
 
 abbrev pub closing : ℕ → List ℕ
 closing n = replicate n 125

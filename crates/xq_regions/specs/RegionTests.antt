@@ -25,7 +25,8 @@ abbrev pub common_parent : List Row → ℕ → ℕ → ℕ → Bool
 common_parent rs v p u = inside rs u v && (inside rs u p && one_below rs u v)
 
 abbrev pub shares_parent : List Row → ℕ → ℕ → Bool
-shares_parent rs v p = nat_eq (row_at rs p).level (row_at rs v).level && any_below (common_parent rs v p) v
+shares_parent rs v p = nat_eq (row_at rs p).level (row_at rs v).level
+    && any_below (common_parent rs v p) v
 
 -- p comes after the rows of v
 abbrev pub after : List Row → ℕ → ℕ → Bool

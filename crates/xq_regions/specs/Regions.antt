@@ -22,15 +22,19 @@ kind_of_row rs p = (row_at rs p).label.kind
 
 -- the row p is in the axis's region of the row v
 abbrev pub IsInRegion : Axis → List Row → ℕ → ℕ → Type 0
-IsInRegion Child rs v p = IsInside rs v p × ((row_at rs p).level ≡ suc (row_at rs v).level) × (kind_of_row rs p ≢ Attribute)
+IsInRegion Child rs v p = IsInside rs v p × ((row_at rs p).level ≡ suc (row_at rs v).level)
+    × (kind_of_row rs p ≢ Attribute)
 IsInRegion Descendant rs v p = IsInside rs v p × (kind_of_row rs p ≢ Attribute)
 IsInRegion DescendantOrSelf rs v p = (v ≡ p) ⊎ (IsInside rs v p × (kind_of_row rs p ≢ Attribute))
 IsInRegion SelfNode rs v p = v ≡ p
-IsInRegion Attributes rs v p = IsInside rs v p × ((row_at rs p).level ≡ suc (row_at rs v).level) × (kind_of_row rs p ≡ Attribute)
+IsInRegion Attributes rs v p = IsInside rs v p × ((row_at rs p).level ≡ suc (row_at rs v).level)
+    × (kind_of_row rs p ≡ Attribute)
 IsInRegion Parent rs v p = IsInside rs p v × ((row_at rs v).level ≡ suc (row_at rs p).level)
 IsInRegion Ancestor rs v p = IsInside rs p v
 IsInRegion AncestorOrSelf rs v p = (v ≡ p) ⊎ IsInside rs p v
 IsInRegion Following rs v p = (v + (row_at rs v).size < p) × (kind_of_row rs p ≢ Attribute)
-IsInRegion FollowingSibling rs v p = ShareParent rs v p × (v + (row_at rs v).size < p) × (kind_of_row rs v ≢ Attribute) × (kind_of_row rs p ≢ Attribute)
+IsInRegion FollowingSibling rs v p = ShareParent rs v p × (v + (row_at rs v).size < p)
+    × (kind_of_row rs v ≢ Attribute) × (kind_of_row rs p ≢ Attribute)
 IsInRegion Preceding rs v p = (p + (row_at rs p).size < v) × (kind_of_row rs p ≢ Attribute)
-IsInRegion PrecedingSibling rs v p = ShareParent rs v p × (p + (row_at rs p).size < v) × (kind_of_row rs v ≢ Attribute) × (kind_of_row rs p ≢ Attribute)
+IsInRegion PrecedingSibling rs v p = ShareParent rs v p × (p + (row_at rs p).size < v)
+    × (kind_of_row rs v ≢ Attribute) × (kind_of_row rs p ≢ Attribute)

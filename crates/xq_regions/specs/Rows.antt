@@ -1,4 +1,5 @@
--- The rows of a tree: its nodes in document order, each with the number of nodes below it and its level.
+-- The rows of a tree: its nodes in document order, each with the number of nodes below it and its
+-- level.
 use Rattle.std.proofs.Common.{zero, suc}
 use Rattle.std.specs.Prelude.{ℕ, ◌-◌, ◌≡◌, List, [], ◌∷◌, map, string_bytes, slice_index_or}
 use Rattle.std.specs.List.{enumerate_from}
@@ -6,7 +7,8 @@ use Rattle.xq_regions.specs.Forest.{Forest, end, node, count, labels, map_forest
 use Rattle.xq_regions.specs.Tree.{Label, Tree, IsTree, nodes, no_label}
 use Rattle.xq_regions.specs.declared.NodeRow.{NodeRow}
 
--- attributes count among the nodes below; the root has level 0; a row's place in the list is its `pre`
+-- attributes count among the nodes below; the root has level 0; a row's place in the list is its
+-- `pre`
 pub record Row : Type 0 where
   pub size : ℕ
   pub level : ℕ
@@ -16,7 +18,8 @@ pub record Row : Type 0 where
 abbrev pub measured : ℕ → Forest Label → Forest Row
 measured level end = end
 measured level (node a below beside) =
-    node (record { size = count below; level = level; label = a }) (measured (suc level) below) (measured level beside)
+    node (record { size = count below; level = level; label = a }) (measured (suc level) below)
+        (measured level beside)
 
 abbrev pub rows : Tree → List Row
 rows t = labels (measured 0 (nodes t))
@@ -31,7 +34,8 @@ row_at rs n = slice_index_or rs n no_row
 -- # The rows that code holds
 
 abbrev pub row_of : NodeRow → Row
-row_of r = record { size = r.size; level = r.level; label = record { kind = r.kind; name = string_bytes r.name; value = string_bytes r.value } }
+row_of r = record { size = r.size; level = r.level; label =
+    record { kind = r.kind; name = string_bytes r.name; value = string_bytes r.value } }
 
 -- the rows are numbered from n on
 abbrev pub AreNumbered : ℕ → List NodeRow → Type 0
@@ -77,7 +81,8 @@ nest (row ∷ rows) = node row (front row.size (nest rows)) (back row.size (nest
 -- the first of the nodes, where there is one
 abbrev pub first_tree : Forest Row → Tree
 first_tree end = record { root = no_label; below = end }
-first_tree (node row below beside) = record { root = row.label; below = map_forest (λ r. r.label) below }
+first_tree (node row below beside) =
+    record { root = row.label; below = map_forest (λ r. r.label) below }
 
 -- the tree that has these rows, where there is one
 abbrev pub tree_of : List Row → Tree

@@ -39,7 +39,8 @@ may_stand Document Attribute = false
 may_stand Document child = true
 may_stand parent child = false
 
--- a node of the second kind may stand right beside one of the first: attributes come first, and no text comes after a text
+-- a node of the second kind may stand right beside one of the first: attributes come first, and no
+-- text comes after a text
 abbrev pub may_follow : Kind → Kind → Bool
 may_follow Text Text = false
 may_follow Attribute second = true
@@ -59,11 +60,13 @@ has_text kind value = true
 abbrev pub is_content : Label → List Label → Bool
 is_content parent [] = true
 is_content parent (a ∷ labels) =
-    may_stand parent.kind a.kind && (has_text a.kind a.value && (may_precede a.kind labels && is_content parent labels))
+    may_stand parent.kind a.kind
+        && (has_text a.kind a.value && (may_precede a.kind labels && is_content parent labels))
 
 -- the names of the attributes among these
 abbrev pub attribute_names : List Label → List (List ℕ)
-attribute_names labels = map (λ (a : Label). a.name) (filter (λ (a : Label). is_attribute a.kind) labels)
+attribute_names labels = map (λ (a : Label). a.name)
+    (filter (λ (a : Label). is_attribute a.kind) labels)
 
 -- a node of the kind may have the name and the value
 abbrev pub is_legal : Kind → List ℕ → List ℕ → Bool

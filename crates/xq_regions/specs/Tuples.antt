@@ -1,6 +1,7 @@
 -- Tuple streams, the meaning of the clauses of a FLWOR expression (XQuery 3.1, 3.12).
--- A tuple binds the variables of one FLWOR expression: it has their values, one to a slot, in the order in which its
--- clauses bind them. A stream is a list of tuples. Items are of any type X, in which `atom` gives the atomic values.
+-- A tuple binds the variables of one FLWOR expression: it has their values, one to a slot, in the
+-- order in which its clauses bind them. A stream is a list of tuples. Items are of any type X, in
+-- which `atom` gives the atomic values.
 use Rattle.std.specs.Prelude.{ℕ, pos, List, [], ◌∷◌, ◌++◌, map, filter, fold, Bool, true, false, not, ◌&&◌, ◌||◌, ◌==◌, Option, Some, None, Result, Ok, Err, if◌then◌else◌, length, slice_index_or, slice_get, position, option_and_then}
 use Rattle.std.specs.List.{flat_map, list_all, enumerate_from, range_with_len, zip}
 use Rattle.std.specs.declared.cmp.Ordering.{Ordering}
@@ -45,7 +46,8 @@ module _ {X : Type 0} (atom : Atomic → X) where
   abbrev pub expanded : Bool → List (Tuple X) → List (List X) → List (Tuple X)
   expanded at tuples lists = flat_map (λ p. with_each at p.0 p.1) (zip tuples lists)
 
--- Keys of groups and orders (3.12.7 and 3.12.8): at most one atomic value, and an untyped one is taken as a string
+-- Keys of groups and orders (3.12.7 and 3.12.8): at most one atomic value, and an untyped one is
+-- taken as a string
 
 abbrev pub is_key : List Atomic → Bool
 is_key [] = true
@@ -112,13 +114,17 @@ module _ {X : Type 0} (atom : Atomic → X) where
   -- the tuple of a group, whose keys are those of its first tuple
   abbrev pub grouped_tuple : List ℕ → List (Keyed X) → Tuple X
   grouped_tuple slots [] = []
-  grouped_tuple slots (first ∷ others) = map (λ slot. grouped_value (slot_key slots first.1 slot) slot (first ∷ others)) (range_with_len 0 (length first.0))
+  grouped_tuple slots (first ∷ others) = map
+      (λ slot. grouped_value (slot_key slots first.1 slot) slot (first ∷ others))
+      (range_with_len 0 (length first.0))
 
   -- a tuple for each group, where these slots are those of the grouping variables
-  abbrev pub grouped : List ℕ → List (Tuple X) → List (List (List Atomic)) → Result (List (Tuple X)) Code
+  abbrev pub grouped : List ℕ → List (Tuple X) → List (List (List Atomic))
+      → Result (List (Tuple X)) Code
   grouped slots tuples columns =
       if are_keys columns
-      then Ok (map (grouped_tuple slots) (groups same_keys (zip tuples (key_rows tuples (map (map key_value) columns)))))
+      then Ok (map (grouped_tuple slots)
+          (groups same_keys (zip tuples (key_rows tuples (map (map key_value) columns)))))
       else Err XPTY0004
 
 -- 3.12.8, order by
@@ -139,7 +145,8 @@ placed_cmp true j k = ordering_then (bool_cmp (is_nothing j) (is_nothing k)) (ke
 
 -- descending is the reverse
 abbrev pub rule_cmp : OrderRule → Key → Key → Ordering
-rule_cmp rule j k = if rule.descending then placed_cmp rule.greatest k j else placed_cmp rule.greatest j k
+rule_cmp rule j k = if rule.descending then placed_cmp rule.greatest k j
+    else placed_cmp rule.greatest j k
 
 abbrev pub first_key : List Key → Key
 first_key [] = Nothing
@@ -152,7 +159,8 @@ later_keys (k ∷ ks) = ks
 -- by the first specification that tells them apart
 abbrev pub keys_cmp : List OrderRule → List Key → List Key → Ordering
 keys_cmp [] js ks = Equal
-keys_cmp (rule ∷ rules) js ks = ordering_then (rule_cmp rule (first_key js) (first_key ks)) (keys_cmp rules (later_keys js) (later_keys ks))
+keys_cmp (rule ∷ rules) js ks = ordering_then (rule_cmp rule (first_key js) (first_key ks))
+    (keys_cmp rules (later_keys js) (later_keys ks))
 
 -- before the elements that are not less
 abbrev pub inserted : {A : Type 0} → (A → A → Ordering) → A → List A → List A
@@ -178,8 +186,11 @@ abbrev pub can_order : List (List Atomic) → Bool
 can_order column = list_all is_key column && are_of_one_kind (sort_keys column)
 
 -- the stream in the order of its keys, left to right
-abbrev pub ordered : {X : Type 0} → List OrderRule → List (Tuple X) → List (List (List Atomic)) → Result (List (Tuple X)) Code
+abbrev pub ordered : {X : Type 0} → List OrderRule → List (Tuple X) → List (List (List Atomic))
+    → Result (List (Tuple X)) Code
 ordered rules tuples columns =
     if list_all can_order columns
-    then Ok (map (λ p. p.0) (sorted (λ p q. keys_cmp rules p.1 q.1) (zip tuples (key_rows tuples (map sort_keys columns)))))
+    then Ok (map (λ p. p.0)
+        (sorted (λ p q. keys_cmp rules p.1 q.1)
+        (zip tuples (key_rows tuples (map sort_keys columns)))))
     else Err XPTY0004

@@ -10,7 +10,8 @@ ghost use Rattle.xq_regions.specs.Checks.{name_of, pre_of, rank_of};
 use crate::NodeRow;
 use std::cmp::Ordering;
 
-/// The order of names: a shorter one comes first, and of two of one length that with the lesser bytes.
+/// The order of names: a shorter one comes first, and of two of one length that with the lesser
+/// bytes.
 /// Names that are numbered, as `n1` to `n10`, ascend in it.
 fn compare_names(first: &NodeRow, second: &NodeRow) -> Ordering
     ensures { result ≡ slice_cmp nat_cmp (rank_of first.now) (rank_of second.now) }
@@ -37,7 +38,8 @@ fn sort_by_place(run: &mut [NodeRow])
 
 /// Whether each name comes before the next.
 fn names_ascend(run: &[NodeRow]) -> bool
-    ensures { IsAllAdjacentAnswer (λ x y b. b ≡ is_lt (slice_cmp nat_cmp (rank_of x) (rank_of y))) run.now result }
+    ensures { IsAllAdjacentAnswer (λ x y b. b
+        ≡ is_lt (slice_cmp nat_cmp (rank_of x) (rank_of y))) run.now result }
 {
     run.is_sorted_by(|first, second| compare_names(first, second).is_lt())
 }

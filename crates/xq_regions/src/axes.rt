@@ -129,7 +129,9 @@ impl Fragment {
     pub fn is_on_axis(&self, axis: Axis, node: usize, other: usize) -> bool
         requires node_in { node < count (nodes self.now) }
         requires other_in { other < count (nodes self.now) }
-        ensures { IsTrue result ↔ IsOnAxis axis (nodes self.now) (path_at (nodes self.now) node) (path_at (nodes self.now) other) }
+        ensures { IsTrue result
+            ↔ IsOnAxis axis (nodes self.now) (path_at (nodes self.now) node)
+            (path_at (nodes self.now) other) }
     {
         is_in_region(self.rows(), axis, node, other)
     }
@@ -139,7 +141,8 @@ impl Fragment {
     pub fn is_before(&self, node: usize, other: usize) -> bool
         requires node_in { node < count (nodes self.now) }
         requires other_in { other < count (nodes self.now) }
-        ensures { IsTrue result ↔ IsBefore (path_at (nodes self.now) node) (path_at (nodes self.now) other) }
+        ensures { IsTrue result
+            ↔ IsBefore (path_at (nodes self.now) node) (path_at (nodes self.now) other) }
     {
         node < other
     }

@@ -37,7 +37,8 @@ fn may_follow(kind: Kind, next: Kind) -> bool
 
 /// Whether the row's kind may have its name and its value.
 fn is_legal(row: &NodeRow) -> bool
-    ensures { result ≡ is_legal_lem row.now.kind (string_bytes row.now.name) (string_bytes row.now.value) }
+    ensures { result ≡ is_legal_lem row.now.kind (string_bytes row.now.name)
+        (string_bytes row.now.value) }
 {
     match row.kind {
         Kind::Document => row.name.is_empty() && row.value.is_empty(),
@@ -68,7 +69,8 @@ fn is_attribute(kind: Kind) -> bool
     }
 }
 
-/// Whether a node of the kind may stand before the node at the row `next`, where that is before `stop`.
+/// Whether a node of the kind may stand before the node at the row `next`, where that is before
+/// `stop`.
 fn may_precede(rows: &[NodeRow], kind: Kind, next: usize, stop: usize) -> bool
     requires within { stop ≤ length rows.now }
     requires checked { IsChecked (drop next (map row_of rows.now)) }
@@ -87,7 +89,8 @@ fn is_child(rows: &[NodeRow], parent: usize, at: usize, stop: usize) -> bool
     requires at_in { at < stop }
     requires within { stop ≤ length rows.now }
     requires checked { IsChecked (drop at (map row_of rows.now)) }
-    ensures { result ≡ may_be_child (row_at (map row_of rows.now) parent) (map row_of rows.now) at stop }
+    ensures { result ≡ may_be_child (row_at (map row_of rows.now) parent)
+        (map row_of rows.now) at stop }
 {
     let above = &rows[parent];
     let row = &rows[at];
@@ -142,10 +145,12 @@ fn attributes_end(rows: &[NodeRow], from: usize, stop: usize) -> usize
     requires forward { from ≤ stop }
     requires within { stop ≤ length rows.now }
     requires checked { IsChecked (drop from (map row_of rows.now)) }
-    requires in_front { IsTrue (are_attributes_first (map label_of (roots (map row_of rows.now) from stop))) }
+    requires in_front { IsTrue
+        (are_attributes_first (map label_of (roots (map row_of rows.now) from stop))) }
     ensures after { from ≤ result }
     ensures before { result ≤ stop }
-    ensures names { attribute_names (map label_of (roots (map row_of rows.now) from stop)) ≡ map name_of (slice_range rows.now from result) }
+    ensures names { attribute_names (map label_of (roots (map row_of rows.now) from stop))
+        ≡ map name_of (slice_range rows.now from result) }
 {
     let mut at = from;
     while at < stop {

@@ -12,7 +12,8 @@ use crate::{Fragment, MAX_NODES, NodeRow};
 fn size_at(rows: &[NodeRow], at: usize) -> usize
     requires at_in { at < length rows.now }
     requires after { IsSized (drop (at + 1) rows.now) }
-    ensures value { result ≡ deeper (slice_index (map level_of rows.now) at) (drop (at + 1) rows.now) }
+    ensures value { result
+        ≡ deeper (slice_index (map level_of rows.now) at) (drop (at + 1) rows.now) }
     ensures bound { at + result < length rows.now }
 {
     let level = rows[at].level;

@@ -1,4 +1,5 @@
--- One request over the documents: the documents after it, a status, and the text that the client is told.
+-- One request over the documents: the documents after it, a status, and the text that the client is
+-- told.
 use Rattle.std.specs.Prelude.{◌≡◌, ℕ, List, [], ◌∷◌, ◌++◌, length, cond, nat_le, Option, None, Some, Result, Ok, Err, codes, ◌⊎◌, Bool, true, false}
 use Rattle.std.specs.FinMap.{insert, remove, keys, contains_key}
 use Rattle.xq_atoms.specs.Address.{IsAddress}
@@ -66,7 +67,8 @@ removed_if false m address = refused m ProfAbsent
 -- refused by this code before the documents matter
 abbrev pub Refuses : Asked → Code → Type 0
 Refuses (query text) code = Reads text (Err code)
-Refuses (put address text) code = ((¬ (IsAddress address)) × (code ≡ ProfAddress)) ⊎ (IsAddress address × Reads text (Err code))
+Refuses (put address text) code = ((¬ (IsAddress address)) × (code ≡ ProfAddress))
+    ⊎ (IsAddress address × Reads text (Err code))
 Refuses (remove_one address) code = (¬ (IsAddress address)) × (code ≡ ProfAddress)
 Refuses list code = ⊥
 Refuses bad code = code ≡ ProfFrame
@@ -74,14 +76,18 @@ Refuses bad code = code ≡ ProfFrame
 -- carried out over the documents
 abbrev pub CarriesOut : Map → Asked → Outcome → Type 0
 CarriesOut m (query text) out = (q : Query) × Reads text (Ok q) × (out ≡ queried m (value q m))
-CarriesOut m (put address text) out = IsAddress address × ((q : Query) × Reads text (Ok q) × (out ≡ stored m address (value q m)))
-CarriesOut m (remove_one address) out = IsAddress address × (out ≡ removed_if (contains_key m address) m address)
+CarriesOut m (put address text) out = IsAddress address
+    × ((q : Query) × Reads text (Ok q) × (out ≡ stored m address (value q m)))
+CarriesOut m (remove_one address) out = IsAddress address
+    × (out ≡ removed_if (contains_key m address) m address)
 CarriesOut m list out = out ≡ told m (listing (keys m))
 CarriesOut m bad out = ⊥
 
 abbrev pub Answers : Map → Asked → Outcome → Type 0
-Answers m asked out = ((code : Code) × Refuses asked code × (out ≡ refused m code)) ⊎ CarriesOut m asked out
+Answers m asked out = ((code : Code) × Refuses asked code × (out ≡ refused m code))
+    ⊎ CarriesOut m asked out
 
 -- A request has one answer over the same documents.
 abbrev pub AnswersOnce : Type 0
-AnswersOnce = (m : Map) (asked : Asked) (x y : Outcome) → Answers m asked x → Answers m asked y → x ≡ y
+AnswersOnce = (m : Map) (asked : Asked) (x y : Outcome) → Answers m asked x → Answers m asked y
+    → x ≡ y

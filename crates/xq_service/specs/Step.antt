@@ -13,12 +13,14 @@ use Rattle.xq_service.specs.Answer.{Refuses, Answers}
 abbrev pub IsFree : Code → Type 0
 IsFree code = (code ≡ ProfFrame) ⊎ (code ≡ ProfAddress) ⊎ (code ≡ ProfUtf8)
 
--- memory is never wanted in place of one of these codes, and the store in place of none that comes before the documents matter
+-- memory is never wanted in place of one of these codes, and the store in place of none that comes
+-- before the documents matter
 abbrev pub MayWant : Asked → Want → Type 0
 MayWant asked Memory = (code : Code) → Refuses asked code → ¬ (IsFree code)
 MayWant asked Store = (code : Code) → ¬ (Refuses asked code)
 
 -- over the documents m the request may have this outcome: documents, status, text
 abbrev pub Step : Map → Asked → Map → ℕ → List ℕ → Type 0
-Step m asked new status text = Answers m asked (record { documents = new; status = status; text = text })
+Step m asked new status text = Answers m asked
+    (record { documents = new; status = status; text = text })
     ⊎ ((want : Want) × MayWant asked want × (status ≡ 2) × (text ≡ want_text want) × (new ≡ m))

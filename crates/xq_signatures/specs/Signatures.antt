@@ -1,4 +1,5 @@
--- The functions that a query may call (F&O 3.1; XQuery 3.1, 3.18.5): one table of names and numbers of arguments.
+-- The functions that a query may call (F&O 3.1; XQuery 3.1, 3.18.5): one table of names and numbers
+-- of arguments.
 use Rattle.std.specs.Prelude.{ℕ, List, [], ◌∷◌, Bool, true, ◌&&◌, nat_le, Option, Some, None, codes, if◌then◌else◌}
 use Rattle.std.specs.List.{find}
 use Rattle.xq_atoms.specs.Text.{Text, text_eq}
@@ -90,9 +91,12 @@ arity function = (signature function).1
 -- those of the library, called by a bare name or after `fn:`
 abbrev pub library : List Function
 library =
-    f.Doc ∷ f.DocAvailable ∷ f.Collection ∷ f.Root ∷ f.Name ∷ f.LocalName ∷ f.String ∷ f.Data ∷ f.StringLength ∷ f.NormalizeSpace ∷ f.Concat ∷
-    f.StringJoin ∷ f.Contains ∷ f.StartsWith ∷ f.EndsWith ∷ f.Substring ∷ f.SubstringBefore ∷ f.SubstringAfter ∷ f.Count ∷ f.Empty ∷ f.Exists ∷ f.Head
-    ∷ f.Tail ∷ f.Reverse ∷ f.DistinctValues ∷ f.ZeroOrOne ∷ f.OneOrMore ∷ f.ExactlyOne ∷ f.Not ∷ f.Boolean ∷ f.True ∷ f.False ∷ f.Position ∷ f.Last ∷
+    f.Doc ∷ f.DocAvailable ∷ f.Collection ∷ f.Root ∷ f.Name ∷ f.LocalName ∷ f.String ∷ f.Data
+        ∷ f.StringLength ∷ f.NormalizeSpace ∷ f.Concat ∷
+    f.StringJoin ∷ f.Contains ∷ f.StartsWith ∷ f.EndsWith ∷ f.Substring ∷ f.SubstringBefore
+        ∷ f.SubstringAfter ∷ f.Count ∷ f.Empty ∷ f.Exists ∷ f.Head
+    ∷ f.Tail ∷ f.Reverse ∷ f.DistinctValues ∷ f.ZeroOrOne ∷ f.OneOrMore ∷ f.ExactlyOne ∷ f.Not
+    ∷ f.Boolean ∷ f.True ∷ f.False ∷ f.Position ∷ f.Last ∷
     f.Sum ∷ f.Min ∷ f.Max ∷ f.Abs ∷ f.Floor ∷ f.Ceiling ∷ f.Round ∷ []
 
 -- those that construct a value of a type, called after `xs:`
@@ -112,4 +116,5 @@ of_type = named constructors
 abbrev pub function_named : Option Text → Text → Option Function
 function_named None local = in_library local
 function_named (Some prefix) local =
-    if text_eq prefix (codes "fn") then in_library local else (if text_eq prefix (codes "xs") then of_type local else None)
+    if text_eq prefix (codes "fn") then in_library local
+        else (if text_eq prefix (codes "xs") then of_type local else None)

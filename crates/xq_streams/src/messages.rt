@@ -27,7 +27,8 @@ pub enum Taken {
 
 /// Takes the message of the next frame, in as many pieces as the reader gives it.
 pub fn take_message<R: Read>(alloc: Global, reader: &mut R, tries: &mut Tries) -> Taken
-    ensures taken { (taken : List ℕ) × Consumes (R.remaining reader.old) (R.remaining reader.new) taken
+    ensures taken { (taken : List ℕ)
+        × Consumes (R.remaining reader.old) (R.remaining reader.new) taken
         × Takes result taken (R.remaining reader.new) }
     ensures tries { tries.new.left ≤ tries.old.left }
 {

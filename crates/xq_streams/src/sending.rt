@@ -10,7 +10,8 @@ use std::io::{Error, ErrorKind, Result, Write};
 /// 0 bytes is an error.
 pub fn send<W: Write>(writer: &mut W, bytes: &[u8], tries: &mut Tries) -> Result<()>
     ensures all { OnOk result (Appends (W.contents writer.old) (W.contents writer.new) bytes.now) }
-    ensures front { OnErr result (GivesFront (W.contents writer.old) (W.contents writer.new) bytes.now) }
+    ensures front { OnErr result
+        (GivesFront (W.contents writer.old) (W.contents writer.new) bytes.now) }
     ensures tries { tries.new.left ≤ tries.old.left }
 {
     let mut rest = bytes;

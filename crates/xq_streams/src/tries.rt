@@ -4,7 +4,8 @@ ghost use Rattle.std.specs.IoError.{error_kind};
 
 use std::io::{Error, ErrorKind};
 
-/// So many interruptions of one frame are borne, its reads and writes counted together; the next is a fault.
+/// So many interruptions of one frame are borne, its reads and writes counted together; the next is
+/// a fault.
 const BORNE: u32 = 999;
 
 /// How many interruptions are still borne.
@@ -25,7 +26,8 @@ impl Tries {
     pub(crate) fn allows(&mut self, error: &Error) -> bool
         ensures interrupted { result ≡ true → error_kind error.now ≡ ErrorKind.Interrupted }
         ensures counted { result ≡ true → self.new.left + 1 ≡ self.old.left }
-        ensures fault { result ≡ false → (error_kind error.now ≢ ErrorKind.Interrupted) ⊎ (self.old.left ≡ 0) }
+        ensures fault { result ≡ false → (error_kind error.now ≢ ErrorKind.Interrupted)
+            ⊎ (self.old.left ≡ 0) }
         ensures kept { result ≡ false → self.new.left ≡ self.old.left }
     {
         if error.kind() != ErrorKind::Interrupted || self.left == 0 {

@@ -19,6 +19,7 @@ abbrev pub compared_of : Vec GroupKey → List Key
 compared_of keys = map key_of keys.items
 
 -- the tuples that are done, the keys that were seen, each once, and the groups
-pub record Gathers (done : List (KeyedTuple ItemView)) (seen : List (Vec GroupKey)) (gathered : List (Vec Keyed)) : Type 0 where
+pub record Gathers (done : List (KeyedTuple ItemView)) (seen : List (Vec GroupKey))
+    (gathered : List (Vec Keyed)) : Type 0 where
   pub keys : map compared_of seen ≡ map (λ row. comparison_keys row.1) (firsts same_keys done)
   pub groups : map group_of gathered ≡ groups_by same_keys done

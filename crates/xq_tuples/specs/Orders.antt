@@ -16,5 +16,6 @@ abbrev pub ranked_of : Ranked → Tuple ItemView × List Key
 ranked_of row = (tuple_of row.tuple, compared_of row.keys)
 
 -- the order of two tuples with their keys
-abbrev pub by_keys : List OrderSpec → Tuple ItemView × List Key → Tuple ItemView × List Key → Ordering
+abbrev pub by_keys : List OrderSpec → Tuple ItemView × List Key → Tuple ItemView × List Key
+    → Ordering
 by_keys specs p q = keys_cmp (map rule_of specs) p.1 q.1

@@ -58,7 +58,8 @@ pub fn gather(
 
 /// The key of a slot, where it is a grouping variable's.
 fn slot_key<'a>(slots: &[usize], keys: &'a [Option<Atom>], slot: usize) -> Option<&'a Option<Atom>>
-    ensures { option_map (λ key. key_view key.now) result ≡ slot_key slots.now (map key_view keys.now) slot }
+    ensures { option_map (λ key. key_view key.now) result
+        ≡ slot_key slots.now (map key_view keys.now) slot }
 {
     match slots.iter().position(|grouping| *grouping == slot) {
         Some(place) => keys.get(place),
@@ -68,7 +69,8 @@ fn slot_key<'a>(slots: &[usize], keys: &'a [Option<Atom>], slot: usize) -> Optio
 
 /// The value that a key is.
 fn key_value(alloc: Global, key: &Option<Atom>) -> Result<Items, Want>
-    ensures value { IfOk result (λ value. item_views value ≡ key_items AtomView (key_view key.now)) }
+    ensures value { IfOk result (λ value. item_views value
+        ≡ key_items AtomView (key_view key.now)) }
     ensures want { IfErr result (λ want. want ≡ Want.Memory) }
 {
     let mut value = Vec::new(alloc);

@@ -23,7 +23,8 @@ fn as_string(atom: Atom) -> Atom
 fn single_key(mut values: Vec<Atom>) -> Result<Option<Atom>, Code>
     ensures is_key { IfOk result (λ _. is_key (atomics_of values) ≡ true) }
     ensures key { IfOk result (λ key. key_view key ≡ key_value (atomics_of values)) }
-    ensures refused { IfErr result (λ code. (code ≡ Code.XPTY0004) × (is_key (atomics_of values) ≡ false)) }
+    ensures refused { IfErr result (λ code. (code ≡ Code.XPTY0004)
+        × (is_key (atomics_of values) ≡ false)) }
 {
     let last = values.pop();
     if values.is_empty() {
@@ -52,7 +53,8 @@ pub fn key_columns(
     columns: Vec<Vec<Vec<Atom>>>,
 ) -> Result<Vec<Vec<Option<Atom>>>, Fault>
     ensures are_keys { IfOk result (λ _. are_keys (columns_of columns) ≡ true) }
-    ensures keys { IfOk result (λ keys. map keys_of keys.items ≡ map (map key_value) (columns_of columns)) }
+    ensures keys { IfOk result (λ keys. map keys_of keys.items
+        ≡ map (map key_value) (columns_of columns)) }
     ensures refused { IfErr result (Refuses (are_keys (columns_of columns) ≡ false)) }
 {
     let mut keys = Vec::with_capacity(alloc, columns.len())?;
@@ -85,7 +87,8 @@ pub fn key_rows<K: Drop>(
     count: usize,
     columns: Vec<Vec<K>>,
 ) -> Result<Vec<Vec<K>>, Want>
-    ensures rows { IfOk result (λ rows. rows_of rows ≡ fold extended (replicate count []) (rows_of columns)) }
+    ensures rows { IfOk result (λ rows. rows_of rows
+        ≡ fold extended (replicate count []) (rows_of columns)) }
     ensures want { IfErr result (λ want. want ≡ Want.Memory) }
 {
     let mut rows = empty_rows(alloc, count)?;
@@ -109,7 +112,8 @@ fn empty_rows<K: Drop>(alloc: Global, count: usize) -> Result<Vec<Vec<K>>, Want>
 
 /// What the keys are compared by.
 pub fn compared_keys(alloc: Global, keys: &[Option<Atom>]) -> Result<Vec<GroupKey>, Want>
-    ensures keys { IfOk result (λ made. map key_of made.items ≡ comparison_keys (map key_view keys.now)) }
+    ensures keys { IfOk result (λ made. map key_of made.items
+        ≡ comparison_keys (map key_view keys.now)) }
     ensures want { IfErr result (λ want. want ≡ Want.Memory) }
 {
     let mut made = Vec::with_capacity(alloc, keys.len())?;

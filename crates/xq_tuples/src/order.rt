@@ -36,7 +36,8 @@ fn is_like(first: &GroupKey, second: &GroupKey) -> bool
 
 /// Whether those of the keys that are not empty are of the kind of the first.
 fn are_like(first: &GroupKey, keys: &[GroupKey]) -> bool
-    ensures { result ≡ list_all (λ key. is_nothing (key_of key) || of_one_kind (key_of first.now) (key_of key)) keys.now }
+    ensures { result ≡ list_all (λ key. is_nothing (key_of key)
+        || of_one_kind (key_of first.now) (key_of key)) keys.now }
 {
     keys.iter().all(|key| is_empty(key) || is_like(first, key))
 }
@@ -73,7 +74,8 @@ pub fn sort_columns(
     columns: Vec<Vec<Vec<Atom>>>,
 ) -> Result<Vec<Vec<GroupKey>>, Fault>
     ensures can_order { IfOk result (λ _. list_all can_order (columns_of columns) ≡ true) }
-    ensures keys { IfOk result (λ keys. map compared_of keys.items ≡ map sort_keys (columns_of columns)) }
+    ensures keys { IfOk result (λ keys. map compared_of keys.items
+        ≡ map sort_keys (columns_of columns)) }
     ensures refused { IfErr result (Refuses (list_all can_order (columns_of columns) ≡ false)) }
 {
     let mut keys = Vec::with_capacity(alloc, columns.len())?;
@@ -115,7 +117,8 @@ fn key_at<'a>(keys: &'a [GroupKey], index: usize, empty: &'a GroupKey) -> &'a Gr
 
 /// The order of two tuples' keys: that of the first specification that tells them apart.
 fn compare(specs: &[OrderSpec], first: &[GroupKey], second: &[GroupKey]) -> Ordering
-    ensures { result ≡ keys_cmp (map rule_of specs.now) (map key_of first.now) (map key_of second.now) }
+    ensures { result ≡ keys_cmp (map rule_of specs.now) (map key_of first.now)
+        (map key_of second.now) }
 {
     let empty = GroupKey::Empty;
     for (index, spec) in specs.iter().enumerate() {
@@ -166,7 +169,8 @@ pub fn sorted(
     keys: Vec<Vec<GroupKey>>,
 ) -> Result<Vec<Tuple>, Want>
     ensures tuples { IfOk result (λ sorted_tuples. map tuple_of sorted_tuples.items ≡ map (λ p. p.0)
-        (sorted (by_keys specs.now) (zip (map tuple_of tuples.items) (map compared_of keys.items)))) }
+        (sorted (by_keys specs.now)
+        (zip (map tuple_of tuples.items) (map compared_of keys.items)))) }
     ensures want { IfErr result (λ want. want ≡ Want.Memory) }
 {
     let mut rows = ranked(alloc, tuples, keys)?;

@@ -63,7 +63,8 @@ impl Tuples {
     /// The value of the slot in each tuple.
     pub fn column(&self, slot: usize) -> Result<Vec<Items>, Want>
         requires { All (λ tuple. slot < length tuple) self.now }
-        ensures values { IfOk result (λ column. map item_views column.items ≡ map (value_at slot) self.now) }
+        ensures values { IfOk result (λ column. map item_views column.items
+            ≡ map (value_at slot) self.now) }
         ensures want { IfErr result (λ want. want ≡ Want.Memory) }
     {
         let alloc = self.alloc;
@@ -98,7 +99,8 @@ impl Tuples {
     /// position, from 1.
     pub fn expand(self, lists: Vec<Items>, at: bool) -> Result<Tuples, Want>
         requires { length lists.items ≡ length self }
-        ensures stream { IfOk result (λ stream. stream ≡ expanded AtomView at self (map item_views lists.items)) }
+        ensures stream { IfOk result (λ stream. stream
+            ≡ expanded AtomView at self (map item_views lists.items)) }
         ensures want { IfErr result (λ want. want ≡ Want.Memory) }
     {
         let alloc = self.alloc;
@@ -109,7 +111,8 @@ impl Tuples {
         Ok(Tuples { alloc, tuples })
     }
 
-    /// `let`: the stream where each tuple has one slot more, with the value at its place in `values`.
+    /// `let`: the stream where each tuple has one slot more, with the value at its place in
+    /// `values`.
     pub fn bind(self, values: Vec<Items>) -> Result<Tuples, Want>
         requires { length values.items ≡ length self }
         ensures stream { IfOk result (λ stream. stream ≡ bound self (map item_views values.items)) }
@@ -144,16 +147,18 @@ impl Tuples {
         }
     }
 
-    /// `group by`: the stream of one tuple for each group of tuples whose keys are equal, the groups
-    /// by their first tuples. Of the slots, those of the grouping variables, which stand in `slots`
-    /// in the order of their keys, hold the first tuple's key, and each other the values of all its
-    /// tuples. `keys` has for each grouping variable the atomized value at each tuple. XPTY0004
-    /// where one of them is more than one value.
+    /// `group by`: the stream of one tuple for each group of tuples whose keys are equal, the
+    /// groups by their first tuples. Of the slots, those of the grouping variables, which stand in
+    /// `slots` in the order of their keys, hold the first tuple's key, and each other the values of
+    /// all its tuples. `keys` has for each grouping variable the atomized value at each tuple.
+    /// XPTY0004 where one of them is more than one value.
     pub fn group(self, slots: &[usize], keys: Vec<Vec<Vec<Atom>>>) -> Result<Tuples, Fault>
         requires slots { length slots.now ≡ length keys.items }
         requires keys { All (λ column. length column.items ≡ length self) keys.items }
-        ensures stream { IfOk result (λ stream. grouped AtomView slots.now self (columns_of keys) ≡ Ok stream) }
-        ensures refused { IfErr result (IsRefusal (grouped AtomView slots.now self (columns_of keys))) }
+        ensures stream { IfOk result (λ stream. grouped AtomView slots.now self (columns_of keys)
+            ≡ Ok stream) }
+        ensures refused { IfErr result
+            (IsRefusal (grouped AtomView slots.now self (columns_of keys))) }
     {
         let alloc = self.alloc;
         let columns = key_columns(alloc, keys)?;
@@ -173,8 +178,10 @@ impl Tuples {
     pub fn order(self, keys: Vec<Vec<Vec<Atom>>>, specs: &[OrderSpec]) -> Result<Tuples, Fault>
         requires specs { length specs.now ≡ length keys.items }
         requires keys { All (λ column. length column.items ≡ length self) keys.items }
-        ensures stream { IfOk result (λ stream. ordered (map rule_of specs.now) self (columns_of keys) ≡ Ok stream) }
-        ensures refused { IfErr result (IsRefusal (ordered (map rule_of specs.now) self (columns_of keys))) }
+        ensures stream { IfOk result
+            (λ stream. ordered (map rule_of specs.now) self (columns_of keys) ≡ Ok stream) }
+        ensures refused { IfErr result
+            (IsRefusal (ordered (map rule_of specs.now) self (columns_of keys))) }
     {
         let alloc = self.alloc;
         let columns = sort_columns(alloc, keys)?;

@@ -26,7 +26,8 @@ fn copy(alloc: Global, item: &Item) -> Result<Item, Want>
 
 /// Adds the same items to `copies`.
 pub fn push_copies(alloc: Global, copies: &mut Items, items: &[Item]) -> Result<(), Want>
-    ensures items { OnOk result (item_views copies.new ≡ item_views copies.old ++ map item_view items.now) }
+    ensures items { OnOk result (item_views copies.new ≡ item_views copies.old
+        ++ map item_view items.now) }
     ensures want { IfErr result (λ want. want ≡ Want.Memory) }
 {
     for item in items {
@@ -75,7 +76,8 @@ pub fn push_each(
     at: bool,
 ) -> Result<(), Want>
     ensures tuples { OnOk result (map tuple_of tuples.new.items
-        ≡ map tuple_of tuples.old.items ++ with_each AtomView at (values_of tuple.now) (item_views items)) }
+        ≡ map tuple_of tuples.old.items
+            ++ with_each AtomView at (values_of tuple.now) (item_views items)) }
     ensures want { IfErr result (λ want. want ≡ Want.Memory) }
 {
     for (index, item) in items.into_iter().enumerate() {

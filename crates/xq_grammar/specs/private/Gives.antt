@@ -31,7 +31,9 @@ Parses {A} r read = Gives (seen {A = A}) r read
 
 -- a function value that reads singles to a depth
 pub record Nests (depth : ℕ) (pre : Global → ℕ → Bor (List Token) → Type 0)
-    (post : Global → ℕ → Bor (List Token) → Result (Expr × Bor (List Token)) Fault → Type 0) : Type 0 where
+    (post : Global → ℕ → Bor (List Token) → Result (Expr × Bor (List Token)) Fault
+    → Type 0) : Type 0 where
   pub callable : (alloc : Global) (tokens : Bor (List Token)) → pre alloc depth tokens
-  pub reads : (alloc : Global) (tokens : Bor (List Token)) (r : Result (Expr × Bor (List Token)) Fault) → post alloc depth tokens r
+  pub reads : (alloc : Global) (tokens : Bor (List Token))
+      (r : Result (Expr × Bor (List Token)) Fault) → post alloc depth tokens r
       → Parses r (single depth (lexemes tokens.now))

@@ -1,5 +1,5 @@
--- The functional reader, which the parser's private functions follow: reading an expression, line by line, with one
--- token of lookahead and up to three at a name.
+-- The functional reader, which the parser's private functions follow: reading an expression, line
+-- by line, with one token of lookahead and up to three at a name.
 use Rattle.std.specs.Prelude.{ℕ, zero, suc, ℤ, List, [], ◌∷◌, length, Bool, true, false, not, ◌||◌, ◌&&◌, if◌then◌else◌, Option, Some, None, codes}
 use Rattle.std.specs.Str.{bytes_eq}
 use Rattle.xq_lexer.specs.Lexeme.{Lex, name, prefixed, int, dec, str, symbol}
@@ -96,7 +96,9 @@ maybe test p ts = if test ts then and_then (p ts) (λ a us. Some (Some a, us)) e
 module _ {A : Type 0} (test : Tokens → Bool) (item : Parser A) where
   unfoldable pub many_from : ℕ → Parser (List A)
   many_from zero = λ ts. Some ([], ts)
-  many_from (suc n) = λ ts. if test ts then and_then (item ts) (λ a us. and_then (many_from n us) (λ more vs. Some (a ∷ more, vs))) else Some ([], ts)
+  many_from (suc n) = λ ts. if test ts
+      then and_then (item ts) (λ a us. and_then (many_from n us) (λ more vs. Some (a ∷ more, vs)))
+      else Some ([], ts)
 
   unfoldable pub many : Parser (List A)
   many ts = many_from (length ts) ts
@@ -152,7 +154,8 @@ makers =
 
 -- of those, the words that a name may follow
 abbrev pub name_makers : Table (Unit {0})
-name_makers = (word "element", tt) ∷ (word "attribute", tt) ∷ (word "processing-instruction", tt) ∷ []
+name_makers = (word "element", tt) ∷ (word "attribute", tt) ∷ (word "processing-instruction", tt)
+    ∷ []
 
 -- whether the tokens after the name make it the word of a constructor
 abbrev pub makes : List ℕ → Tokens → Bool
@@ -197,7 +200,8 @@ begins_if _ = false
 -- the words that begin a clause
 abbrev pub clause_words : Table (Unit {0})
 clause_words =
-    (word "for", tt) ∷ (word "let", tt) ∷ (word "where", tt) ∷ (word "group", tt) ∷ (word "order", tt) ∷ (word "stable", tt) ∷ []
+    (word "for", tt) ∷ (word "let", tt) ∷ (word "where", tt) ∷ (word "group", tt)
+    ∷ (word "order", tt) ∷ (word "stable", tt) ∷ []
 
 -- ---- names and literals
 
@@ -245,7 +249,8 @@ module _ {A : Type 0} (p : Parser A) where
 
 module _ (single : Parser Expr) where
   unfoldable pub whole : Parser Expr
-  whole = mapped (g.several e.Sequence) (both single (many (is (symbol s.Comma)) (after_comma single)))
+  whole = mapped (g.several e.Sequence)
+      (both single (many (is (symbol s.Comma)) (after_comma single)))
 
   -- what a word or symbol governs
   unfoldable pub governed : Lex → Parser Expr
@@ -259,25 +264,29 @@ module _ (single : Parser Expr) where
   body = after (symbol s.OpenBrace) (before (inside (symbol s.CloseBrace)) (symbol s.CloseBrace))
 
   unfoldable pub computed : Parser ConstructorName
-  computed = mapped constructor_name.Computed (after (symbol s.OpenBrace) (before whole (symbol s.CloseBrace)))
+  computed = mapped constructor_name.Computed
+      (after (symbol s.OpenBrace) (before whole (symbol s.CloseBrace)))
 
   unfoldable pub name_of_node : Parser ConstructorName
   name_of_node = choose begins_name (mapped constructor_name.Literal qname) computed
 
   unfoldable pub name_of_instruction : Parser ConstructorName
-  name_of_instruction = choose begins_nc (mapped constructor_name.Literal (mapped g.unprefixed nc)) computed
+  name_of_instruction = choose begins_nc
+      (mapped constructor_name.Literal (mapped g.unprefixed nc)) computed
 
   unfoldable pub make_named : Parser Expr
   make_named = mapped g.named_node (both (one_of g.named_nodes) (both name_of_node body))
 
   unfoldable pub make_instruction : Parser Expr
-  make_instruction = mapped g.instruction (after (word "processing-instruction") (both name_of_instruction body))
+  make_instruction = mapped g.instruction
+      (after (word "processing-instruction") (both name_of_instruction body))
 
   unfoldable pub make_unnamed : Parser Expr
   make_unnamed = mapped g.unnamed_node (both (one_of g.unnamed_nodes) body)
 
   unfoldable pub make : Parser Expr
-  make = choose (begins g.named_nodes) make_named (choose (is (word "processing-instruction")) make_instruction make_unnamed)
+  make = choose (begins g.named_nodes) make_named
+      (choose (is (word "processing-instruction")) make_instruction make_unnamed)
 
   unfoldable pub argument_list : Parser (List Expr)
   argument_list = choose (is (symbol s.CloseParenthesis)) (pure []) (commas single)
@@ -289,7 +298,8 @@ module _ (single : Parser Expr) where
   call = mapped g.call (both call_name arguments)
 
   unfoldable pub parenthesised : Parser Expr
-  parenthesised = after (symbol s.OpenParenthesis) (before (inside (symbol s.CloseParenthesis)) (symbol s.CloseParenthesis))
+  parenthesised = after (symbol s.OpenParenthesis)
+      (before (inside (symbol s.CloseParenthesis)) (symbol s.CloseParenthesis))
 
   unfoldable pub call_or_make : Parser Expr
   call_or_make = choose begins_call call make
@@ -306,14 +316,19 @@ module _ (single : Parser Expr) where
 -- ---- tests and axes
 
 unfoldable pub name_or_any : Parser (Option QName)
-name_or_any = choose begins_name (mapped Some qname) (choose (is (symbol s.Star)) (one_of ((symbol s.Star, None) ∷ [])) (pure None))
+name_or_any = choose begins_name (mapped Some qname)
+    (choose (is (symbol s.Star)) (one_of ((symbol s.Star, None) ∷ [])) (pure None))
 
 unfoldable pub plain_kind : Parser NodeTest
-plain_kind = before (before (one_of g.plain_kinds) (symbol s.OpenParenthesis)) (symbol s.CloseParenthesis)
+plain_kind = before (before (one_of g.plain_kinds) (symbol s.OpenParenthesis))
+    (symbol s.CloseParenthesis)
 
 unfoldable pub instruction_kind : Parser NodeTest
 instruction_kind =
-    mapped nodetest.ProcessingInstruction (after (word "processing-instruction") (after (symbol s.OpenParenthesis) (before (maybe begins_nc nc) (symbol s.CloseParenthesis))))
+    mapped nodetest.ProcessingInstruction
+        (after (word "processing-instruction")
+        (after (symbol s.OpenParenthesis)
+        (before (maybe begins_nc nc) (symbol s.CloseParenthesis))))
 
 unfoldable pub kind_argument : Parser (Option QName)
 kind_argument = after (symbol s.OpenParenthesis) (before name_or_any (symbol s.CloseParenthesis))
@@ -327,7 +342,8 @@ attribute_kind = mapped nodetest.Attribute (after (word "attribute") kind_argume
 unfoldable pub kind_test : Parser NodeTest
 kind_test =
     choose (begins g.plain_kinds) plain_kind
-    (choose (is (word "processing-instruction")) instruction_kind (choose (is (word "element")) element_kind attribute_kind))
+    (choose (is (word "processing-instruction")) instruction_kind
+    (choose (is (word "element")) element_kind attribute_kind))
 
 unfoldable pub node_test : Parser NodeTest
 node_test =
@@ -335,7 +351,8 @@ node_test =
     (choose (is (symbol s.Star)) (one_of ((symbol s.Star, nodetest.AnyName) ∷ [])) kind_test)
 
 unfoldable pub along_axis : Parser AxisStep
-along_axis = mapped g.along_axis (both (one_of g.axis_names) (after (symbol s.DoubleColon) node_test))
+along_axis = mapped g.along_axis
+    (both (one_of g.axis_names) (after (symbol s.DoubleColon) node_test))
 
 unfoldable pub along_attributes : Parser AxisStep
 along_attributes = mapped along.Attribute (after (symbol s.At) node_test)
@@ -344,7 +361,8 @@ unfoldable pub axis_step : Parser AxisStep
 axis_step =
     choose begins_axis along_axis
     (choose (is (symbol s.At)) along_attributes
-    (choose (is (symbol s.DoubleDot)) (one_of ((symbol s.DoubleDot, along.Parent) ∷ [])) (mapped along.Abbreviated node_test)))
+    (choose (is (symbol s.DoubleDot)) (one_of ((symbol s.DoubleDot, along.Parent) ∷ []))
+    (mapped along.Abbreviated node_test)))
 
 -- ---- words between phrases
 
@@ -352,7 +370,8 @@ unfoldable pub begins_union : Tokens → Bool
 begins_union ts = is (word "union") ts || is (symbol s.Bar) ts
 
 unfoldable pub empty_words : Parser EmptyOrder
-empty_words = choose (is (word "empty")) (after (word "empty") (one_of g.empty_orders)) (pure empty_order.Least)
+empty_words = choose (is (word "empty")) (after (word "empty") (one_of g.empty_orders))
+    (pure empty_order.Least)
 
 unfoldable pub direction_word : Parser Direction
 direction_word = choose (begins g.directions) (one_of g.directions) (pure direction.Ascending)
@@ -393,7 +412,8 @@ module _ (single : Parser Expr) where
   unfoldable pub path : Parser Expr
   path =
       choose begins_lone (one_of ((symbol s.Slash, e.Root) ∷ []))
-      (choose (is (symbol s.Slash)) from_root (choose (is (symbol s.DoubleSlash)) from_below (mapped g.relative relative)))
+      (choose (is (symbol s.Slash)) from_root
+      (choose (is (symbol s.DoubleSlash)) from_below (mapped g.relative relative)))
 
   unfoldable pub unary : Parser Expr
   unary = mapped g.signed (both (many (begins g.signs) (one_of g.signs)) path)
@@ -465,7 +485,9 @@ module _ (single : Parser Expr) where
   quantifier_binding = both variable (governed single (word "in"))
 
   unfoldable pub quantified : Parser Expr
-  quantified = mapped g.quantified (both (one_of g.quantifiers) (both (commas quantifier_binding) (governed single (word "satisfies"))))
+  quantified = mapped g.quantified
+      (both (one_of g.quantifiers)
+      (both (commas quantifier_binding) (governed single (word "satisfies"))))
 
   unfoldable pub order_spec : Parser (Expr × OrderModifier)
   order_spec = mapped g.order_spec (both single (both direction_word empty_words))
@@ -477,7 +499,8 @@ module _ (single : Parser Expr) where
   order_clause = choose (is (word "stable")) (after (word "stable") order_by) order_by
 
   unfoldable pub group_spec : Parser GroupSpec
-  group_spec = mapped g.group_spec (both variable (maybe (is (symbol s.Assign)) (governed single (symbol s.Assign))))
+  group_spec = mapped g.group_spec
+      (both variable (maybe (is (symbol s.Assign)) (governed single (symbol s.Assign))))
 
   unfoldable pub group_clause : Parser Clause
   group_clause = mapped clause.Group (after (word "group") (after (word "by") (commas group_spec)))
@@ -498,7 +521,8 @@ module _ (single : Parser Expr) where
   for_clause = mapped clause.For (after (word "for") (commas for_binding))
 
   unfoldable pub later_clause : Parser Clause
-  later_clause = choose (is (word "where")) filter_clause (choose (is (word "group")) group_clause order_clause)
+  later_clause = choose (is (word "where")) filter_clause
+      (choose (is (word "group")) group_clause order_clause)
 
   unfoldable pub clause_ : Parser Clause
   clause_ = choose (is (word "for")) for_clause (choose (is (word "let")) let_clause later_clause)
@@ -513,7 +537,8 @@ module _ (single : Parser Expr) where
   flwor = mapped g.flwor (both first_clause (both clauses (governed single (word "return"))))
 
   unfoldable pub any : Parser Expr
-  any = choose begins_flwor flwor (choose begins_quantified quantified (choose begins_if conditional disjunction))
+  any = choose begins_flwor flwor
+      (choose begins_quantified quantified (choose begins_if conditional disjunction))
 
 -- with singles nested at most so deep
 unfoldable pub single : ℕ → Parser Expr
