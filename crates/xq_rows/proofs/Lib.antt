@@ -12,6 +12,8 @@ pub mod Loads
 pub mod Ranges
 pub mod Calls
 pub mod ViewLaws
+pub mod FrontLaws
+pub mod Lends
 pub mod MemoryFiles
 pub mod MapLaws
 pub mod AdoptReads

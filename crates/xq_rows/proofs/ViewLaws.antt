@@ -41,9 +41,9 @@ module _ {S : Type 0} (g : Ghosts S) (b : Beginning) (store : Held S) (same : be
   stands_stood opened m stands = subst (λ b. StoodFor b m) same (stands opened)
 
   -- the addresses were read
-  module _ (new : Held S) (addresses : List (List ℕ)) (meter : Readings) (clean : IsClean g new → IsClean g store) (opens : IsClean g new → IsOpen g store)
+  module _ (new : Held S) (addresses : List (List ℕ)) (meter : Readings) (lent : List (ℕ × Row)) (clean : IsClean g new → IsClean g store) (opens : IsClean g new → IsOpen g store)
       (stays : IsClean g new → (m : Map) → StandsFor g store m → StandsFor g new m) (all : IsClean g new → (m : Map) → StandsFor g store m → addresses ≡ keys m) where
-    pub new_view : IsView g b (record { store = new; addresses = addresses; meter = meter })
+    pub new_view : IsView g b (record { store = new; addresses = addresses; meter = meter; lent = lent })
     new_view = record {
       was_clean = λ now. began_clean (clean now);
       was_open = λ now. began_open (opens now);
@@ -56,6 +56,11 @@ unfolding StoodFor
 trees_stood b addresses m stood listed =
     let table = b.database.trees 1 in
     ap (map (tree_at table)) (listed ∙ ap keys (sym stood.1)) ∙ sym (values_are table stood.0.named stood.0.whole) ∙ ap values stood.1
+
+-- as many trees as addresses
+pub under_length : (b : Beginning) (addresses : List (String Global)) → length (trees_under b (map string_bytes addresses)) ≡ length addresses
+under_length b [] = refl
+under_length b (a ∷ addresses) = ap suc (under_length b addresses)
 
 pub stood_held : (b : Beginning) (m : Map) → StoodFor b m → HeldDocuments b
 unfolding StoodFor HeldDocuments
@@ -83,6 +88,10 @@ abbrev pub began_map : Beginning → Map
 began_map b = documents_in (b.database.trees 1)
 
 module _ {S : Type 0} (g : Ghosts S) (b : Beginning) (v : Viewed S) (is : IsView g b v) where
+  pub stands_held : IsClean g v.store → HeldDocuments b → StandsFor g v.store (began_map b)
+  unfolding StoodFor HeldDocuments
+  stands_held clean held = is.stands clean (began_map b) (held, refl)
+
   -- what a view knows of the tree of an address
   module _ (clean : IsClean g v.store) (held : HeldDocuments b) (i : ℕ) (a : List ℕ) (here : slice_get v.addresses i ≡ Some a) where
     stood : StoodFor b (began_map b)
@@ -105,7 +114,7 @@ module _ {S : Type 0} (g : Ghosts S) (b : Beginning) (v : Viewed S) (is : IsView
 
 -- # One row
 
-one_placed : (n v : ℕ) (rs : List Row) → v < length rs → take 1 (drop v (enumerate_from n rs)) ≡ (n + v, row_at rs v) ∷ []
+pub one_placed : (n v : ℕ) (rs : List Row) → v < length rs → take 1 (drop v (enumerate_from n rs)) ≡ (n + v, row_at rs v) ∷ []
 one_placed n v [] h = absurd (omega arith)
 one_placed n zero (r ∷ rs) h = let e : n ≡ n + 0 = omega arith in ap (λ k. (k, r) ∷ []) e
 one_placed n (suc v) (r ∷ rs) h = let e : n + 1 + v ≡ n + suc v = omega arith in one_placed (n + 1) v rs (omega arith) ∙ ap (λ k. (k, row_at rs v) ∷ []) e

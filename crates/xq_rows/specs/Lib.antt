@@ -5,3 +5,4 @@ pub mod Refusals
 pub mod Statements
 pub mod Views
 pub mod Adopt
+pub mod private

@@ -1,6 +1,8 @@
 -- What a view of a store is, and which trees it gives.
 use Rattle.std.specs.Prelude.{◌≡◌, ℕ, Bool, List, map, IsTrue, refl}
 use Rattle.std.specs.Coded.{Coded, code_by, coded×, coded_ℕ, coded_list}
+use Rattle.xq_regions.specs.Codes.{row_code}
+use Rattle.xq_regions.specs.Rows.{Row}
 use Rattle.std.specs.FinMap.{keys}
 use Rattle.sqlite_trees.specs.View.{doubt}
 use Rattle.sqlite_trees.specs.declared.store.Store.{Ghosts}
@@ -12,18 +14,25 @@ use Rattle.xq_rows.specs.Documents.{Map, IsStore, IsClean, StandsFor, tree_at, d
 
 -- # What contracts see of a view
 
--- the store that it reads, the addresses of its trees, and what its meter shows
+-- the store that it reads, the addresses of its trees, what its meter shows, and the rows that it lends
 pub record Viewed (S : Type 0) : Type 0 where
   pub store : Held S
   pub addresses : List (List ℕ)
   pub meter : Readings
+  pub lent : List (ℕ × Row)
 
 abbrev pub viewed_code : {S : Type 0} → Coded S → Coded (Viewed S)
 viewed_code {S} store =
-    code_by (Held S × (List (List ℕ) × (ℕ × ℕ)))
-    (coded× (held_code store) (coded× (coded_list (coded_list coded_ℕ)) (coded× coded_ℕ coded_ℕ)))
-    (λ v. (v.store, (v.addresses, (v.meter.rows, v.meter.singles))))
-    (λ p. record { store = p.0; addresses = p.1.0; meter = record { rows = p.1.1.0; singles = p.1.1.1 } })
+    code_by (Held S × (List (List ℕ) × ((ℕ × ℕ) × List (ℕ × Row))))
+    (coded× (held_code store) (coded× (coded_list (coded_list coded_ℕ))
+    (coded× (coded× coded_ℕ coded_ℕ) (coded_list (coded× coded_ℕ row_code)))))
+    (λ v. (v.store, (v.addresses, ((v.meter.rows, v.meter.singles), v.lent))))
+    (λ p. record {
+      store = p.0;
+      addresses = p.1.0;
+      meter = record { rows = p.1.1.0.0; singles = p.1.1.0.1 };
+      lent = p.1.1.1;
+    })
     (λ _. refl)
 
 -- # The store as a view of it begins

@@ -7,7 +7,9 @@
 
 mod adopt;
 mod faults;
+mod fronts;
 mod laws;
+mod lending;
 mod memory_files;
 mod readings;
 mod refusals;

@@ -4,7 +4,7 @@
 //! written), which `was_clean` takes back to the call before, and speaks of whichever map the store
 //! stands for as the call begins. A store that has shut, after a fault or where memory ran out in a
 //! commit, stands for the map that it stood for then: each later call is refused, by `answered`.
-ghost use Rattle.std.specs.Prelude.{◌≡◌, IfErr, IfOk, IfSome, OnErr, OnOk, Some, map, string_bytes, if◌then◌else◌, false};
+ghost use Rattle.std.specs.Prelude.{◌≡◌, IfErr, IfOk, IfSome, OnErr, OnOk, List, Some, length, map, string_bytes, if◌then◌else◌, false};
 ghost use Rattle.std.specs.FinMap.{get, insert, remove, keys, contains_key, empty};
 ghost use Rattle.sqlite.specs.Files.{over_files};
 ghost use Rattle.sqlite.specs.Held.{state};
@@ -15,10 +15,12 @@ ghost use Rattle.xq_rows.specs.Adopt.{IsBlank, HasTables, HasOneTable};
 ghost use Rattle.xq_regions.specs.Rows.{placed};
 ghost use Rattle.xq_regions.specs.Tree.{IsDocument, Tree};
 ghost use Rattle.xq_rows.specs.Documents.{IsClean, IsOpen, IsUp, Holds, Map, StandsFor, documents};
+ghost use Rattle.xq_rows.specs.private.Shelves.{AreFronts};
 ghost use Rattle.xq_sources.specs.Sources.{rows_between, rows_enclosing};
 
 use crate::adopt::adopt_tables;
 use crate::faults::OpenFault;
+use crate::fronts::{Shelf, no_rows};
 use crate::memory_files::open_empty;
 use crate::readings::{document_of, list_addresses, nodes_above, nodes_between};
 use crate::tables::make_tables;
@@ -156,6 +158,28 @@ impl<S: Alter> Store<S> {
     {
         let nodes = nodes_between(self.alloc, &mut self.conn, address, 0, u32::MAX)?;
         document_of(nodes)
+    }
+
+    /// The addresses, with no row of a document.
+    pub(crate) fn shelf(&mut self) -> Result<Shelf, Want>
+        ensures listed { IsClean S.Store self.new → (m : Map) → StandsFor S.Store self.old m
+            → IfOk result (λ shelf. map string_bytes shelf.addresses.items ≡ keys m) }
+        ensures fronts { IfOk result (λ shelf. (trees : List Tree)
+            → length trees ≡ length shelf.addresses.items → AreFronts trees shelf.fronts.items) }
+        ensures same { IsClean S.Store self.new → (m : Map) → StandsFor S.Store self.old m
+            → StandsFor S.Store self.new m }
+        ensures answered { IsClean S.Store self.new → OnOk result (IsOpen S.Store self.new) }
+        ensures was_open { IsClean S.Store self.new → IsOpen S.Store self.new
+            → IsOpen S.Store self.old }
+        ensures was_clean { IsClean S.Store self.new → IsClean S.Store self.old }
+    {
+        let addresses = self.addresses()?;
+        let fronts = no_rows(self.alloc, addresses.len())?;
+        Ok(Shelf {
+            addresses,
+            fronts,
+            kept: 0,
+        })
     }
 
     /// The rows of the address from `low` to `high`, in document order.

@@ -6,6 +6,7 @@ ghost use Rattle.xq_rows.specs.Tables.{no_schema};
 ghost use Rattle.xq_rows.specs.Views.{Beginning, HeldDocuments, StoodFor, WasClean, WasOpen, beginning, trees_under};
 ghost use Rattle.xq_sources.specs.Meters.{no_readings};
 
+use crate::fronts::{Run, Shelf};
 use crate::stores::Store;
 use sqlite::Alter;
 use std::alloc::Global;
@@ -39,15 +40,19 @@ impl Origin for Brand {
 /// Contracts see the store, the addresses and what the meter shows.
 #[derive(Drop)]
 pub struct View<S: Alter, O: Origin> {
-    store: Store<S>,
-    addresses: Vec<String>,
-    meter: Meter,
+    pub(crate) store: Store<S>,
+    pub(crate) shelf: Shelf,
+    pub(crate) meter: Meter,
+    /// What the last fetch made ready.
+    pub(crate) run: Run,
     origin: PhantomData<O>,
 }
 
 impl<S: Alter, O: Origin> Model for View<S, O> {
     ghost use Rattle.std.specs.Prelude.{map, string_bytes};
-    ghost use Rattle.xq_rows.specs.Views.{IsView, Viewed, viewed_code};
+    ghost use Rattle.xq_regions.specs.Rows.{placed};
+    ghost use Rattle.xq_rows.specs.Views.{Viewed, viewed_code};
+    ghost use Rattle.xq_rows.specs.private.Shelves.{IsShelved, front_at, run_of};
 
     ghost Value = { Viewed S };
 
@@ -55,15 +60,17 @@ impl<S: Alter, O: Origin> Model for View<S, O> {
 
     ghost view = { λ v. record {
       store = v.store;
-      addresses = map string_bytes v.addresses.items;
+      addresses = map string_bytes v.shelf.addresses.items;
       meter = v.meter;
+      lent = map placed (run_of (front_at v.shelf.fronts.items v.run.tree) v.run.low v.run.high);
     } };
 
-    ghost invariant = { λ v. IsView S.Store O.beginning (record {
+    ghost invariant = { λ v. IsShelved S.Store O.beginning (record {
       store = v.store;
-      addresses = map string_bytes v.addresses.items;
+      addresses = map string_bytes v.shelf.addresses.items;
       meter = v.meter;
-    }) };
+      lent = map placed (run_of (front_at v.shelf.fronts.items v.run.tree) v.run.low v.run.high);
+    }) v.shelf.fronts.items };
 }
 
 impl<S: Alter> Store<S> {
@@ -91,11 +98,16 @@ impl<S: Alter> Store<S> {
         ensures was_clean { IfErr result (λ e. IsClean S.Store e.1 → IsClean S.Store self) }
     {
         let mut store = self;
-        match store.addresses() {
-            Ok(addresses) => Ok(View {
+        match store.shelf() {
+            Ok(shelf) => Ok(View {
                 store,
-                addresses,
+                shelf,
                 meter: Meter::new(),
+                run: Run {
+                    tree: 0,
+                    low: 1,
+                    high: 0,
+                },
                 origin: PhantomData,
             }),
             Err(want) => Err((want, store)),
@@ -108,7 +120,7 @@ impl<S: Alter, O: Origin> View<S, O> {
     pub fn addresses(&self) -> &[String]
         ensures { map string_bytes result.now ≡ self.now.addresses }
     {
-        &self.addresses
+        &self.shelf.addresses
     }
 
     /// Gives the store back, which stands for the map that it stood for as the view began.
@@ -121,8 +133,9 @@ impl<S: Alter, O: Origin> View<S, O> {
     {
         let View {
             store,
-            addresses: _,
+            shelf: _,
             meter: _,
+            run: _,
             origin: _,
         } = self;
         store
@@ -137,7 +150,7 @@ impl<S: Alter, O: Origin> TreeSource for View<S, O> {
     ghost is_clean = { λ v. IsClean S.Store v.store × HeldDocuments O.beginning };
 
     fn trees(&self) -> usize {
-        self.addresses.len()
+        self.shelf.addresses.len()
     }
 
     fn meter(&self) -> Meter {
@@ -153,7 +166,7 @@ impl<S: Alter, O: Origin> RowSource for View<S, O> {
         low: u32,
         high: u32,
     ) -> Result<Vec<NodeRow>, Want> {
-        let Some(address) = self.addresses.get(tree) else {
+        let Some(address) = self.shelf.addresses.get(tree) else {
             return Err(Want::Store);
         };
         let found = self.store.read_between(alloc, address.as_str(), low, high)?;
@@ -162,7 +175,7 @@ impl<S: Alter, O: Origin> RowSource for View<S, O> {
     }
 
     fn enclosing(&mut self, alloc: Global, tree: usize, node: u32) -> Result<Vec<NodeRow>, Want> {
-        let Some(address) = self.addresses.get(tree) else {
+        let Some(address) = self.shelf.addresses.get(tree) else {
             return Err(Want::Store);
         };
         let found = self.store.read_above(alloc, address.as_str(), node)?;
@@ -171,7 +184,7 @@ impl<S: Alter, O: Origin> RowSource for View<S, O> {
     }
 
     fn row(&mut self, alloc: Global, tree: usize, node: u32) -> Result<NodeRow, Want> {
-        let Some(address) = self.addresses.get(tree) else {
+        let Some(address) = self.shelf.addresses.get(tree) else {
             return Err(Want::Store);
         };
         let mut found = self

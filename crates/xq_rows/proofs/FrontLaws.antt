@@ -1,0 +1,238 @@
+-- The first rows of a tree: what they lend, and what is read on.
+use Rattle.std.proofs.Common.{◌≡◌, ◌+◌, ◌-◌, ◌≤◌, ◌<◌, ℕ, zero, suc, Bool, true, false, List, [], ◌∷◌, ◌++◌, length, map, take, drop, Some, None, inl, inr, get_or, set, length-append, Result, Ok, Err, OnOk, refl, sym, ap, subst, ◌∙◌, arith, Vec, Global}
+use Rattle.std.specs.Prelude.{filter, cond, slice_get, nat_lt, nat_le, ◌&&◌}
+use Rattle.std.specs.List.{enumerate_from, AllByRecursion}
+use Rattle.std.proofs.lemmas.Bool.{and_left, lt-leb}
+use Rattle.std.proofs.lemmas.List.{take-map, drop-map, length-map}
+use Rattle.xq_regions.specs.Forest.{count}
+use Rattle.xq_regions.specs.Tree.{Tree, nodes}
+use Rattle.xq_regions.specs.Rows.{Row, rows, row_at, measured, placed, placed_rows}
+use Rattle.xq_regions.specs.Nesting.{count-measured}
+use Rattle.xq_regions.specs.declared.NodeRow.{NodeRow}
+use Rattle.xq_sources.specs.Lenders.{IsRun}
+use Rattle.xq_sources.specs.Sources.{encloses, rows_between, rows_enclosing, tree_at}
+use Rattle.xq_sources.proofs.Intervals.{between-places}
+use Rattle.xq_rows.proofs.Loads.{length-labels}
+use Rattle.xq_rows.proofs.ViewLaws.{one_placed}
+use Rattle.xq_rows.specs.private.Shelves.{AreFronts, IsFront, Reaches, front_at, run_of}
+
+-- # Lists
+
+-- none of nothing
+nothing : {X : Type 0} (k : ℕ) → ◌≡◌ {A = List X} [] (take k [])
+nothing zero = refl
+nothing (suc k) = refl
+
+-- a part of the first elements
+drop-first : {X : Type 0} (l n k : ℕ) (xs : List X) → k ≡ n - l → drop l (take n xs) ≡ take k (drop l xs)
+drop-first zero n k xs e = let same : n ≡ k = omega (arith, e) in ap (λ j. take j xs) same
+drop-first (suc l) zero k [] e = nothing k
+drop-first (suc l) zero zero (x ∷ xs) e = refl
+drop-first (suc l) zero (suc k) (x ∷ xs) e = absurd (omega (arith, e))
+drop-first (suc l) (suc n) k [] e = nothing k
+drop-first (suc l) (suc n) k (x ∷ xs) e = drop-first l n k xs (omega (arith, e))
+
+-- the first of the first are some of the first
+first-first : {X : Type 0} (k j : ℕ) (xs : List X) → take k (take j xs) ≡ take (length (take k (take j xs))) (take k xs)
+first-first zero j xs = refl
+first-first (suc k) zero [] = refl
+first-first (suc k) zero (x ∷ xs) = refl
+first-first (suc k) (suc j) [] = refl
+first-first (suc k) (suc j) (x ∷ xs) = ap (λ ys. x ∷ ys) (first-first k j xs)
+
+some-first : {X : Type 0} (k j : ℕ) (xs : List X) → 0 < length (take k xs) → 0 < j → 0 < length (take k (take j xs))
+some-first zero j xs h more = h
+some-first (suc k) zero xs h more = absurd (omega (arith, more))
+some-first (suc k) (suc j) [] h more = h
+some-first (suc k) (suc j) (x ∷ xs) h more = omega arith
+
+-- there is one past so many
+some-past : {X : Type 0} (k l : ℕ) (xs : List X) → 0 < length (take k (drop l xs)) → l < length xs
+some-past zero l xs h = absurd (omega (arith, h))
+some-past (suc k) zero [] h = h
+some-past (suc k) (suc l) [] h = absurd (omega (arith, h))
+some-past (suc k) zero (x ∷ xs) h = omega arith
+some-past (suc k) (suc l) (x ∷ xs) h = let more = some-past (suc k) l xs h in omega (arith, more)
+
+none-past : {X : Type 0} (k l : ℕ) (xs : List X) → take (suc k) (drop l xs) ≡ [] → length xs ≤ l
+none-past k l [] h = omega arith
+none-past k zero (x ∷ xs) h = absurd cc
+none-past k (suc l) (x ∷ xs) h = let more = none-past k l xs h in omega (arith, more)
+
+-- the first, and then some of the next
+own-length : {X : Type 0} (k : ℕ) (xs : List X) → take k xs ≡ take (length (take k xs)) xs
+own-length zero xs = refl
+own-length (suc k) [] = refl
+own-length (suc k) (x ∷ xs) = ap (λ ys. x ∷ ys) (own-length k xs)
+
+first-next : {X : Type 0} (n k m : ℕ) (xs : List X) → m ≡ n + length (take k (drop n xs)) → take n xs ++ take k (drop n xs) ≡ take m xs
+first-next zero k m xs e = let same : length (take k xs) ≡ m = omega (arith, e) in own-length k xs ∙ ap (λ j. take j xs) same
+first-next (suc n) k m [] e = sym (nothing k) ∙ nothing m
+first-next (suc n) k zero (x ∷ xs) e = absurd (omega (arith, e))
+first-next (suc n) k (suc m) (x ∷ xs) e = ap (λ ys. x ∷ ys) (first-next n k m xs (omega (arith, e)))
+
+map-both : {X Y : Type 0} (f : X → Y) (xs ys : List X) → map f (xs ++ ys) ≡ map f xs ++ map f ys
+map-both f [] ys = refl
+map-both f (x ∷ xs) ys = ap (λ zs. f x ∷ zs) (map-both f xs ys)
+
+length-first : {X : Type 0} (n : ℕ) (xs : List X) → length (take n xs) ≤ length xs
+length-first zero xs = omega arith
+length-first (suc n) [] = omega arith
+length-first (suc n) (x ∷ xs) = let more = length-first n xs in omega (arith, more)
+
+all-first : {X : Type 0} (n : ℕ) (xs : List X) → length xs ≤ n → take n xs ≡ xs
+all-first zero [] h = refl
+all-first zero (x ∷ xs) h = absurd (omega (arith, h))
+all-first (suc n) [] h = refl
+all-first (suc n) (x ∷ xs) h = ap (λ ys. x ∷ ys) (all-first n xs (omega (arith, h)))
+
+-- # The first rows of a tree
+
+between : (t : Tree) (low high : ℕ) → rows_between t low high ≡ take (high + 1 - low) (drop low (placed_rows t))
+between t low high = between-places low 0 low high (rows t) (let z : low ≡ 0 + low = omega arith in z)
+
+sized : (t : Tree) → length (placed_rows t) ≡ count (nodes t)
+sized t = numbered 0 (rows t) ∙ length-labels (measured 0 (nodes t)) ∙ count-measured 0 (nodes t)
+  where
+    numbered : (n : ℕ) (rs : List Row) → length (enumerate_from n rs) ≡ length rs
+    numbered n [] = refl
+    numbered n (r ∷ rs) = ap suc (numbered (n + 1) rs)
+
+module _ (t : Tree) (kept : List NodeRow) (front : IsFront t kept) where
+  -- what a run of them shows
+  shown : (low high : ℕ) → map placed (run_of kept low high) ≡ take (high + 1 - low) (take (length kept - low) (drop low (placed_rows t)))
+  shown low high =
+      sym (take-map placed (high + 1 - low) (drop low kept)) ∙ ap (take (high + 1 - low)) (sym (drop-map placed low kept) ∙ ap (drop low) front ∙ drop-first low (length kept) (length kept - low) (placed_rows t) refl)
+
+  pub lends : (low high : ℕ) → Reaches t low kept → IsRun (rows_between t low high) (map placed (run_of kept low high))
+  lends low high reaches =
+      let all = drop low (placed_rows t) in
+      let k = high + 1 - low in
+      let j = length kept - low in
+      let is = shown low high in
+      record {
+        first = subst (λ xs. xs ≡ take (length xs) (rows_between t low high)) (sym is) (first-first k j all ∙ ap (take (length (take k (take j all)))) (sym (between t low high)));
+        some = λ h. (
+            let some : 0 < length (take k all) = subst (λ xs. 0 < length xs) (between t low high) h in
+            let past = some-past k low (placed_rows t) some in
+            let within : 0 < j = elim reaches [ inl in_it ↦ omega (arith, in_it) | inr whole ↦ omega (arith, whole, past) ] in
+            subst (λ xs. 0 < length xs) (sym is) (some-first k j all some within));
+      }
+
+  within : length kept ≤ length (placed_rows t)
+  within = let l : length kept ≡ length (take (length kept) (placed_rows t)) = sym (length-map kept placed) ∙ ap length front in
+      let m = length-first (length kept) (placed_rows t) in omega (arith, l, m)
+
+  -- one row alone
+  pub lends_one : (v : ℕ) → v < length kept → map placed (run_of kept v v) ≡ (v, row_at (rows t) v) ∷ []
+  lends_one v h =
+      let one : v + 1 - v ≡ 1 = omega arith in
+      let more = within in
+      let low : v < length (rows t) = omega (arith, h, more, sized t, length-labels (measured 0 (nodes t)), count-measured 0 (nodes t)) in
+      let z : 0 + v ≡ v = omega arith in
+      shown v v ∙ ap (λ m. take m (take (length kept - v) (drop v (placed_rows t)))) one ∙ head (length kept - v) (drop v (placed_rows t)) (omega (arith, h)) ∙ one_placed 0 v (rows t) low ∙ ap (λ k. (k, row_at (rows t) v) ∷ []) z
+    where
+      head : {X : Type 0} (j : ℕ) (xs : List X) → 0 < j → take 1 (take j xs) ≡ take 1 xs
+      head zero xs h = absurd (omega (arith, h))
+      head (suc j) [] h = refl
+      head (suc j) (x ∷ xs) h = refl
+
+  pub has_node : (v : ℕ) → v < length kept → v < count (nodes t)
+  has_node v h = let more = within in omega (arith, h, more, sized t)
+
+  -- those of the nodes above a node
+  pub encloses_all : (v : ℕ) → Reaches t v kept → filter (encloses v) (map placed kept) ≡ rows_enclosing t v
+  encloses_all v (inl h) = ap (filter (encloses v)) front ∙ none_later (length kept) 0 v (rows t) (omega (arith, h))
+    where
+      drops : (p : ℕ × Row → Bool) (x : ℕ × Row) (xs : List (ℕ × Row)) → p x ≡ false → filter p (x ∷ xs) ≡ filter p xs
+      drops p x xs h = ap (λ b. cond b (x ∷ filter p xs) (filter p xs)) h
+
+      none_from : (s v : ℕ) (rs : List Row) → v ≤ s → [] ≡ filter (encloses v) (enumerate_from s rs)
+      none_from s v [] h = refl
+      none_from s v (r ∷ rs) h =
+          none_from (s + 1) v rs (omega (arith, h)) ∙ sym (drops (encloses v) (s, r) (enumerate_from (s + 1) rs) (and_left (nat_lt s v) (nat_le v (s + r.size)) (not_below s v h)))
+        where
+          not_below : (s v : ℕ) → v ≤ s → nat_lt s v ≡ false
+          not_below s v h = grind (arith, h)
+
+      none_later : (n s v : ℕ) (rs : List Row) → v ≤ s + n → filter (encloses v) (take n (enumerate_from s rs)) ≡ filter (encloses v) (enumerate_from s rs)
+      none_later zero s v rs h = none_from s v rs (omega (arith, h))
+      none_later (suc n) s v [] h = refl
+      none_later (suc n) s v (r ∷ rs) h = ap (λ xs. cond (encloses v (s, r)) ((s, r) ∷ xs) xs) (none_later n (s + 1) v rs (omega (arith, h)))
+  encloses_all v (inr h) = ap (filter (encloses v)) (front ∙ all-first (length kept) (placed_rows t) h)
+
+  -- a part that was read follows them
+  module _ (low high : ℕ) (found : List NodeRow) (at : low ≡ length kept) (past : low ≤ high) (are : map placed found ≡ rows_between t low high) where
+    read : map placed found ≡ take (high + 1 - low) (drop (length kept) (placed_rows t))
+    read = are ∙ between t low high ∙ ap (λ n. take (high + 1 - low) (drop n (placed_rows t))) at
+
+    pub read_more : IsFront t (kept ++ found)
+    read_more =
+        let n = length kept in
+        let rest = take (high + 1 - low) (drop n (placed_rows t)) in
+        let l : length rest ≡ length found = ap length (sym read) ∙ length-map found placed in
+        let m : length (kept ++ found) ≡ n + length rest = length-append kept found ∙ ap (λ k. n + k) (sym l) in
+        map-both placed kept found ∙ ap (λ xs. xs ++ map placed found) front ∙ ap (λ xs. take n (placed_rows t) ++ xs) read ∙ first-next n (high + 1 - low) (length (kept ++ found)) (placed_rows t) m
+
+    pub read_all : found ≡ [] → length (placed_rows t) ≤ length kept
+    read_all none =
+        let n = length kept in
+        let k : high + 1 - low ≡ suc (high - low) = omega (arith, past) in
+        none-past (high - low) n (placed_rows t) (ap (λ k. take k (drop n (placed_rows t))) (sym k) ∙ sym read ∙ ap (map placed) none)
+
+-- # The first rows of each tree
+
+pub front_is : (trees : List Tree) (fronts : List (Vec NodeRow Global)) (i : ℕ) → AreFronts trees fronts → i < length fronts → IsFront (tree_at trees i) (front_at fronts i)
+front_is [] [] i are h = absurd (omega (arith, h))
+front_is [] (f ∷ fronts) i are h = elim are [ ]
+front_is (t ∷ trees) [] i are h = elim are [ ]
+front_is (t ∷ trees) (f ∷ fronts) zero are h = are.0
+front_is (t ∷ trees) (f ∷ fronts) (suc i) are h = front_is trees fronts i are.1 (omega (arith, h))
+
+-- that of a list which was looked up
+pub its_front : (trees : List Tree) (fronts : List (Vec NodeRow Global)) (i : ℕ) (v : Vec NodeRow Global) → AreFronts trees fronts → i < length fronts → v ≡ get_or fronts i v → IsFront (tree_at trees i) v.items
+its_front [] [] i v are h e = absurd (omega (arith, h))
+its_front [] (f ∷ fronts) i v are h e = elim are [ ]
+its_front (t ∷ trees) [] i v are h e = elim are [ ]
+its_front (t ∷ trees) (f ∷ fronts) zero v are h e = subst (λ (v : Vec NodeRow Global). IsFront t v.items) (sym e) are.0
+its_front (t ∷ trees) (f ∷ fronts) (suc i) v are h e = its_front trees fronts i v are.1 (omega (arith, h)) e
+
+pub as_many : (trees : List Tree) (fronts : List (Vec NodeRow Global)) → AreFronts trees fronts → length fronts ≡ length trees
+as_many [] [] are = refl
+as_many [] (f ∷ fronts) are = elim are [ ]
+as_many (t ∷ trees) [] are = elim are [ ]
+as_many (t ∷ trees) (f ∷ fronts) are = ap suc (as_many trees fronts are.1)
+
+pub none_yet : (t : Tree) (rows : List NodeRow) → rows ≡ [] → IsFront t rows
+none_yet t rows e = subst (IsFront t) (sym e) refl
+
+pub empty_fronts : (trees : List Tree) (fronts : List (Vec NodeRow Global)) → length trees ≡ length fronts → AllByRecursion (λ (v : Vec NodeRow Global). v.items ≡ []) fronts → AreFronts trees fronts
+empty_fronts [] [] n h = tt
+empty_fronts [] (f ∷ fronts) n h = absurd (omega (arith, n))
+empty_fronts (t ∷ trees) [] n h = absurd (omega (arith, n))
+empty_fronts (t ∷ trees) (f ∷ fronts) n h = (none_yet t f.items h.0, empty_fronts trees fronts (omega (arith, n)) h.1)
+
+pub all_pushed : {X : Type 0} (P : X → Type 0) (xs : List X) (x : X) → AllByRecursion P xs → P x → AllByRecursion P (xs ++ x ∷ [])
+all_pushed P [] x all h = (h, tt)
+all_pushed P (y ∷ xs) x all h = (all.0, all_pushed P xs x all.1 h)
+
+-- one list is another
+pub fronts_set : (trees : List Tree) (fronts : List (Vec NodeRow Global)) (i : ℕ) (v : Vec NodeRow Global) → AreFronts trees fronts → IsFront (tree_at trees i) v.items → AreFronts trees (set fronts i v)
+fronts_set [] [] i v are h = are
+fronts_set [] (f ∷ fronts) i v are h = elim are [ ]
+fronts_set (t ∷ trees) [] i v are h = elim are [ ]
+fronts_set (t ∷ trees) (f ∷ fronts) zero v are h = (h, are.1)
+fronts_set (t ∷ trees) (f ∷ fronts) (suc i) v are h = (are.0, fronts_set trees fronts i v are.1 h)
+
+pub front_set : (fronts : List (Vec NodeRow Global)) (i : ℕ) (v : Vec NodeRow Global) → i < length fronts → front_at (set fronts i v) i ≡ v.items
+front_set [] i v h = absurd (omega (arith, h))
+front_set (f ∷ fronts) zero v h = refl
+front_set (f ∷ fronts) (suc i) v h = front_set fronts i v (omega (arith, h))
+
+pub on_ok_then : {A B : Type 0} (P Q : Type 0) (r : Result A B) → (P → Q) → OnOk r P → OnOk r Q
+on_ok_then P Q (Ok x) f h = f h
+on_ok_then P Q (Err e) f h = tt
+
+pub empty_items : (items : List NodeRow) → {n : ℕ} → n ≡ 0 → n ≡ length items → items ≡ []
+empty_items [] none e = refl
+empty_items (x ∷ items) none e = absurd (omega (arith, none, e))

@@ -1,0 +1,88 @@
+-- What a view lends once it has read on.
+use Rattle.std.proofs.Common.{◌≡◌, ◌<◌, ℕ, zero, suc, Some, List, [], ◌∷◌, length, map, refl, sym, ap, subst, ◌∙◌, arith, Vec, Global}
+use Rattle.std.specs.Prelude.{filter, slice_get}
+use Rattle.sqlite_trees.specs.declared.store.Store.{Ghosts}
+use Rattle.sqlite.specs.Held.{Held}
+use Rattle.xq_regions.specs.Tree.{Tree, IsTree}
+use Rattle.xq_regions.specs.Rows.{Row, rows, row_at, placed}
+use Rattle.xq_regions.specs.declared.NodeRow.{NodeRow}
+use Rattle.xq_sources.specs.Lenders.{IsRun, places_above}
+use Rattle.xq_sources.specs.Meters.{Readings}
+use Rattle.xq_sources.specs.Sources.{HasTree, HasNode, encloses, rows_between, tree_at as nth_tree}
+use Rattle.xq_rows.specs.Documents.{Map, IsClean, IsOpen, StandsFor, tree_at}
+use Rattle.xq_rows.specs.Views.{Beginning, HeldDocuments, Viewed, trees_under}
+use Rattle.xq_rows.specs.private.Shelves.{AreFronts, AreListed, HasReached, IsFront, IsShelved, front_at, run_of}
+use Rattle.xq_rows.proofs.FrontLaws.{as_many, encloses_all, front_is, has_node, lends, lends_one}
+use Rattle.xq_rows.proofs.ViewLaws.{began_map, is_its_tree, its_tree, stands_held}
+
+some_at : (xs : List (List ℕ)) (i : ℕ) → i < length xs → (a : List ℕ) × (slice_get xs i ≡ Some a)
+some_at [] i h = absurd (omega (arith, h))
+some_at (x ∷ xs) zero h = (x, refl)
+some_at (x ∷ xs) (suc i) h = some_at xs i (omega (arith, h))
+
+under_many : (b : Beginning) (addresses : List (List ℕ)) → length addresses ≡ length (trees_under b addresses)
+under_many b [] = refl
+under_many b (a ∷ addresses) = ap suc (under_many b addresses)
+
+module _ {S : Type 0} (g : Ghosts S) (b : Beginning) (v : Viewed S) (fronts : List (Vec NodeRow Global)) (is : IsShelved g b v fronts) (new : Held S)
+    (later : List (Vec NodeRow Global)) (was_clean : IsClean g new → IsClean g v.store) where
+  abbrev trees : List Tree
+  trees = trees_under b v.addresses
+
+  are_listed : IsClean g v.store → HeldDocuments b → AreListed (began_map b) v.addresses trees
+  are_listed clean held = record { count = under_many b v.addresses; found = λ i a here. its_tree g b v is.view clean held i a here }
+
+  module _ (kept : IsClean g new → (m : Map) → StandsFor g v.store m → (trees : List Tree) → AreListed m v.addresses trees → AreFronts trees fronts → AreFronts trees later) where
+    are_kept : IsClean g new → HeldDocuments b → AreFronts trees later
+    are_kept clean held =
+        let early = was_clean clean in
+        kept clean (began_map b) (stands_held g b v is.view early held) trees (are_listed early held) (is.rows early held)
+
+    -- the view is one still
+    pub shelved : (addresses : List (List ℕ)) (meter : Readings) (lent : List (ℕ × Row)) → addresses ≡ v.addresses → (IsClean g new → (m : Map) → StandsFor g v.store m → StandsFor g new m)
+        → IsShelved g b (record { store = new; addresses = addresses; meter = meter; lent = lent }) later
+    shelved addresses meter lent e same = record {
+      view = record {
+        was_clean = λ now. is.view.was_clean (was_clean now);
+        was_open = λ now. is.view.was_open (was_clean now);
+        stands = λ now m stood. same now m (is.view.stands (was_clean now) m stood);
+        listed = λ now m stood. e ∙ is.view.listed (was_clean now) m stood;
+      };
+      rows = λ clean held. subst (λ l. AreFronts (trees_under b l) later) (sym e) (are_kept clean held);
+    }
+
+    -- a tree that was reached
+    module _ (tree place : ℕ) (far : IsClean g new → (m : Map) → StandsFor g v.store m → (trees : List Tree) → AreListed m v.addresses trees → AreFronts trees fronts → HasReached trees later tree place)
+        (clean : IsClean g new) (held : HeldDocuments b) where
+      reached : HasReached trees later tree place
+      reached =
+          let early = was_clean clean in
+          far clean (began_map b) (stands_held g b v is.view early held) trees (are_listed early held) (is.rows early held)
+
+      pub has_tree : HasTree trees tree
+      has_tree = reached.tree_in
+
+      front : IsFront (nth_tree trees tree) (front_at later tree)
+      front =
+          let are = are_kept clean held in
+          let within : tree < length later = let many = as_many trees later are in let in_it = reached.tree_in in omega (arith, many, in_it) in
+          front_is trees later tree are within
+
+      pub is_run : (high : ℕ) → IsRun (rows_between (nth_tree trees tree) place high) (map placed (run_of (front_at later tree) place high))
+      is_run high = lends (nth_tree trees tree) (front_at later tree) front place high reached.reaches
+
+      pub is_one : place < length (front_at later tree) → map placed (run_of (front_at later tree) place place) ≡ (place, row_at (rows (nth_tree trees tree)) place) ∷ []
+      is_one h = lends_one (nth_tree trees tree) (front_at later tree) front place h
+
+      pub has_it : place < length (front_at later tree) → HasNode trees tree place
+      has_it h = record { tree_in = reached.tree_in; node_in = has_node (nth_tree trees tree) (front_at later tree) front place h }
+
+      pub are_above : map (λ (p : ℕ × Row). p.0) (filter (encloses place) (map placed (front_at later tree))) ≡ places_above (nth_tree trees tree) place
+      are_above = ap (map (λ (p : ℕ × Row). p.0)) (encloses_all (nth_tree trees tree) (front_at later tree) front place reached.reaches)
+
+      pub is_a_tree : IsTree (nth_tree trees tree)
+      is_a_tree =
+          let many = under_many b v.addresses in
+          let in_it = reached.tree_in in
+          let named = some_at v.addresses tree (omega (arith, many, in_it)) in
+          is_its_tree g b v is.view (was_clean clean) held tree named.0 named.1

@@ -1,0 +1,53 @@
+-- What is kept in memory of the documents of a store: their addresses, and of each the first rows.
+use Rattle.std.specs.Prelude.{◌≡◌, ◌<◌, ◌≤◌, ◌+◌, ◌-◌, ◌⊎◌, ⊤, ℕ, List, [], ◌∷◌, length, map, take, drop, slice_get, Vec, Option, Some, None}
+use Rattle.std.specs.FinMap.{get}
+use Rattle.std.specs.Global.{Global}
+use Rattle.sqlite_trees.specs.declared.store.Store.{Ghosts}
+use Rattle.xq_regions.specs.Tree.{Tree}
+use Rattle.xq_regions.specs.Rows.{placed, placed_rows}
+use Rattle.xq_regions.specs.declared.NodeRow.{NodeRow}
+use Rattle.xq_sources.specs.Sources.{tree_at}
+use Rattle.xq_rows.specs.Documents.{Map, IsClean}
+use Rattle.xq_rows.specs.Views.{Beginning, HeldDocuments, Viewed, IsView, trees_under}
+
+-- these are the first rows of a tree
+abbrev pub IsFront : Tree → List NodeRow → Type 0
+IsFront t rows = map placed rows ≡ take (length rows) (placed_rows t)
+
+-- a place lies within the rows that are kept of a tree, or these are all
+abbrev pub Reaches : Tree → ℕ → List NodeRow → Type 0
+Reaches t place rows = (place < length rows) ⊎ (length (placed_rows t) ≤ length rows)
+
+-- each list has the first rows of its tree
+abbrev pub AreFronts : List Tree → List (Vec NodeRow Global) → Type 0
+AreFronts [] [] = ⊤
+AreFronts [] (front ∷ fronts) = ⊥
+AreFronts (t ∷ trees) [] = ⊥
+AreFronts (t ∷ trees) (front ∷ fronts) = IsFront t front.items × AreFronts trees fronts
+
+-- the rows that are kept of the tree with this number
+abbrev pub items_in : Option (Vec NodeRow Global) → List NodeRow
+items_in None = []
+items_in (Some front) = front.items
+
+abbrev pub front_at : List (Vec NodeRow Global) → ℕ → List NodeRow
+front_at fronts tree = items_in (slice_get fronts tree)
+
+-- those from low to high
+abbrev pub run_of : List NodeRow → ℕ → ℕ → List NodeRow
+run_of rows low high = take (high + 1 - low) (drop low rows)
+
+-- there is a tree with this number, and its rows are kept up to a place, or all of them
+pub record HasReached (trees : List Tree) (fronts : List (Vec NodeRow Global)) (tree place : ℕ) : Type 0 where
+  pub tree_in : tree < length trees
+  pub reaches : Reaches (tree_at trees tree) place (front_at fronts tree)
+
+-- the trees are the documents of the addresses
+pub record AreListed (m : Map) (addresses : List (List ℕ)) (trees : List Tree) : Type 0 where
+  pub count : length addresses ≡ length trees
+  pub found : (i : ℕ) (a : List ℕ) → slice_get addresses i ≡ Some a → get m a ≡ Some (tree_at trees i)
+
+-- what a view keeps true of its rows, beside what it keeps true of its store
+pub record IsShelved {S : Type 0} (g : Ghosts S) (b : Beginning) (v : Viewed S) (fronts : List (Vec NodeRow Global)) : Type 0 where
+  pub view : IsView g b v
+  pub rows : IsClean g v.store → HeldDocuments b → AreFronts (trees_under b v.addresses) fronts

@@ -1,0 +1,196 @@
+//! The rows of documents that are kept in memory: of each document the first, as far as they were
+//! read.
+ghost use Rattle.std.specs.Prelude.{◌≡◌, List, Some, IfOk, OnOk, filter, length, map, string_bytes};
+ghost use Rattle.std.specs.FinMap.{get};
+ghost use Rattle.xq_regions.specs.Rows.{placed};
+ghost use Rattle.xq_regions.specs.Tree.{Tree};
+ghost use Rattle.xq_rows.specs.Documents.{IsClean, IsOpen, Map, StandsFor};
+ghost use Rattle.xq_rows.specs.private.Shelves.{AreFronts, AreListed, HasReached, IsFront, Reaches, front_at, run_of};
+ghost use Rattle.xq_sources.specs.Sources.{encloses as encloses_lem};
+
+use crate::stores::Store;
+use sqlite::Alter;
+use std::alloc::Global;
+use xq_atoms::Want;
+use xq_regions::NodeRow;
+
+/// How many rows are read at a time.
+const PART: u32 = 1_024;
+
+/// How many rows are kept of all documents together, beside those of the one that is being read.
+const MOST_KEPT: usize = 1_000_000;
+
+/// The addresses of the documents of a store, in the order of their bytes, and at the same place
+/// the first rows of each document.
+#[derive(Drop)]
+pub(crate) struct Shelf {
+    pub addresses: Vec<String>,
+    pub fronts: Vec<Vec<NodeRow>>,
+    /// How many rows were read since all but one document were last forgotten.
+    pub kept: usize,
+}
+
+/// Rows of a tree from `low` to `high`.
+#[derive(Clone, Copy)]
+pub(crate) struct Run {
+    pub tree: usize,
+    pub low: u32,
+    pub high: u32,
+}
+
+/// Lists without a row, so many.
+pub(crate) fn no_rows(alloc: Global, count: usize) -> Result<Vec<Vec<NodeRow>>, Want>
+    ensures { IfOk result (λ fronts. (trees : List Tree) → length trees ≡ count
+        → AreFronts trees fronts.items) }
+{
+    let mut fronts = Vec::with_capacity(alloc, count)?;
+    for made in 0..count {
+        fronts.push(Vec::new(alloc))?;
+    }
+    Ok(fronts)
+}
+
+/// Forgets the rows of each tree but one.
+fn forget_others(alloc: Global, fronts: &mut Vec<Vec<NodeRow>>, tree: usize)
+    ensures { (trees : List Tree) → AreFronts trees fronts.old.items
+        → AreFronts trees fronts.new.items }
+{
+    for other in 0..fronts.len() {
+        if other != tree {
+            fronts[other] = Vec::new(alloc);
+        }
+    }
+}
+
+/// Where too many rows are kept, forgets those of each tree but one.
+fn make_room(alloc: Global, shelf: &mut Shelf, tree: usize)
+    ensures addresses { shelf.new.addresses ≡ shelf.old.addresses }
+    ensures fronts { (trees : List Tree) → AreFronts trees shelf.old.fronts.items
+        → AreFronts trees shelf.new.fronts.items }
+{
+    if shelf.kept <= MOST_KEPT {
+        return;
+    }
+    shelf.kept = 0;
+    forget_others(alloc, &mut shelf.fronts, tree);
+}
+
+/// Reads the document of an address on, a part at a time, until its rows reach a place or are all
+/// there.
+fn read_front<S: Alter>(
+    alloc: Global,
+    store: &mut Store<S>,
+    address: &str,
+    rows: &mut Vec<NodeRow>,
+    place: u32,
+) -> Result<(), Want>
+    ensures front { IsClean S.Store store.new → (m : Map) → StandsFor S.Store store.old m
+        → (t : Tree) → get m address.now ≡ Some t → IsFront t rows.old.items
+        → IsFront t rows.new.items }
+    ensures reaches { IsClean S.Store store.new → (m : Map) → StandsFor S.Store store.old m
+        → (t : Tree) → get m address.now ≡ Some t → IsFront t rows.old.items
+        → OnOk result (Reaches t place rows.new.items) }
+    ensures same { IsClean S.Store store.new → (m : Map) → StandsFor S.Store store.old m
+        → StandsFor S.Store store.new m }
+    ensures was_open { IsClean S.Store store.new → IsOpen S.Store store.new
+        → IsOpen S.Store store.old }
+    ensures was_clean { IsClean S.Store store.new → IsClean S.Store store.old }
+{
+    while rows.len() <= place as usize {
+        let low = rows.len() as u32;
+        let high = low.saturating_add(PART - 1);
+        let mut found = store.read_between(alloc, address, low, high)?;
+        if found.is_empty() {
+            return Ok(());
+        }
+        rows.append(&mut found)?;
+    }
+    Ok(())
+}
+
+/// The rows of a tree that are kept.
+pub(crate) fn front_of(fronts: &[Vec<NodeRow>], tree: usize) -> &[NodeRow]
+    ensures { result.now ≡ front_at fronts.now tree }
+{
+    match fronts.get(tree) {
+        Some(front) => front,
+        None => &[],
+    }
+}
+
+/// The rows of a run that are kept.
+pub(crate) fn kept_rows(fronts: &[Vec<NodeRow>], run: Run) -> &[NodeRow]
+    ensures { result.now ≡ run_of (front_at fronts.now run.tree) run.low run.high }
+{
+    rows_between(front_of(fronts, run.tree), run.low, run.high)
+}
+
+/// The rows from `low` to `high`.
+fn rows_between(rows: &[NodeRow], low: u32, high: u32) -> &[NodeRow]
+    ensures { result.now ≡ run_of rows.now low high }
+{
+    let start = (low as usize).min(rows.len());
+    let end = (high as usize + 1).min(rows.len());
+    if start < end {
+        &rows[start..end]
+    } else {
+        &rows[..0]
+    }
+}
+
+/// Whether the row is that of a node above the node.
+fn encloses(row: &NodeRow, node: u32) -> bool
+    ensures { result ≡ encloses_lem node (placed row.now) }
+{
+    row.pre < node && node - row.pre <= row.size
+}
+
+/// The places of the rows of the nodes above the node.
+pub(crate) fn places_enclosing(alloc: Global, rows: &[NodeRow], node: u32) -> Result<Vec<u32>, Want>
+    ensures { IfOk result (λ found. found.items
+        ≡ map (λ p. p.0) (filter (encloses_lem node) (map placed rows.now))) }
+{
+    let mut found = Vec::new(alloc);
+    for row in rows {
+        if encloses(row, node) {
+            found.push(row.pre)?;
+        }
+    }
+    Ok(found)
+}
+
+/// Reads a document on until its rows reach a place, or are all there.
+pub(crate) fn read_on<S: Alter>(
+    alloc: Global,
+    store: &mut Store<S>,
+    shelf: &mut Shelf,
+    tree: usize,
+    place: u32,
+) -> Result<(), Want>
+    ensures addresses { shelf.new.addresses ≡ shelf.old.addresses }
+    ensures fronts { IsClean S.Store store.new → (m : Map) → StandsFor S.Store store.old m
+        → (trees : List Tree) → AreListed m (map string_bytes shelf.old.addresses.items) trees
+        → AreFronts trees shelf.old.fronts.items → AreFronts trees shelf.new.fronts.items }
+    ensures reached { IsClean S.Store store.new → (m : Map) → StandsFor S.Store store.old m
+        → (trees : List Tree) → AreListed m (map string_bytes shelf.old.addresses.items) trees
+        → AreFronts trees shelf.old.fronts.items
+        → OnOk result (HasReached trees shelf.new.fronts.items tree place) }
+    ensures same { IsClean S.Store store.new → (m : Map) → StandsFor S.Store store.old m
+        → StandsFor S.Store store.new m }
+    ensures was_open { IsClean S.Store store.new → IsOpen S.Store store.new
+        → IsOpen S.Store store.old }
+    ensures was_clean { IsClean S.Store store.new → IsClean S.Store store.old }
+{
+    make_room(alloc, shelf, tree);
+    let Some(address) = shelf.addresses.get(tree) else {
+        return Err(Want::Store);
+    };
+    let Some(front) = shelf.fronts.get_mut(tree) else {
+        return Err(Want::Store);
+    };
+    let before = front.len();
+    let read = read_front(alloc, store, address.as_str(), front, place);
+    let more = front.len().saturating_sub(before);
+    shelf.kept = shelf.kept.saturating_add(more);
+    read
+}
