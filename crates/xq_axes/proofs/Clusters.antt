@@ -13,7 +13,7 @@ use Rattle.xq_axes.specs.private.Hits.{is_among, is_hit, IsReached}
 use Rattle.xq_axes.specs.private.Downward.{axis_of, is_chosen, level_of, AreMarked, IsJudged}
 use Rattle.xq_axes.specs.declared.downward.Downward.{Downward}
 use Rattle.xq_axes.specs.declared.downward.Downward.TheVariants.{Child, Attribute, Descendant, DescendantOrSelf}
-use Rattle.xq_axes.specs.private.Kin.{IsParent}
+use Rattle.xq_axes.specs.private.Waiting.{IsParent}
 use Rattle.xq_axes.proofs.Lists.{any_from, any_at, any_agree, any_and, any_or, same_tests, among_at, among_index}
 use Rattle.xq_axes.proofs.Trees.{inside_deeper, between_deeper, parent_of, one_parent}
 

@@ -18,3 +18,5 @@ pub mod Merging
 pub mod Many
 pub mod Counts
 pub mod Scans
+pub mod Looking
+pub mod GoingOn

@@ -1,22 +1,13 @@
 -- What is found from many nodes.
-use Rattle.std.proofs.Common.{◌≡◌, ◌↔◌, ℕ, zero, suc, ◌+◌, ◌<◌, ◌≤◌, List, [], ◌∷◌, ◌++◌, length, get_or, map, take, Bool, true, false, ◌&&◌, ◌||◌, cond, inl, inr, refl, sym, ◌∙◌, ap, subst, arith, eqb}
+use Rattle.std.proofs.Common.{◌≡◌, ◌↔◌, ℕ, zero, suc, ◌+◌, ◌<◌, ◌≤◌, List, [], ◌∷◌, ◌++◌, length, get_or, map, take, Bool, true, false, ◌&&◌, ◌||◌, cond, inl, inr, refl, sym, ◌∙◌, ap, subst, arith}
 use Rattle.std.specs.Prelude.{filter}
-use Rattle.std.specs.List.{list_any, flat_map, range_with_len, Contains, AllByRecursion, dedup}
-use Rattle.std.specs.List.Sorted.{IsStrictlySortedBy, IsSorted, IsPermutation}
+use Rattle.std.specs.List.{list_any, flat_map, Contains}
 use Rattle.std.specs.declared.cmp.Ordering.TheVariants.{Less}
-use Rattle.std.specs.Ordering.{nat_cmp}
-use Rattle.std.specs.Cmp.{nat_cmp_is}
-use Rattle.std.specs.BTreeSet.{BTreeSet}
-use Rattle.std.specs.BTreeMap.{is_at}
-use Rattle.std.proofs.lemmas.Cmp.{nat_cmp_total}
 use Rattle.std.proofs.lemmas.Bool.{cases_lt}
 use Rattle.std.proofs.lemmas.List.{take_all, get_or_append_left, get_or-append-add, length-append}
 use Rattle.std.proofs.lemmas.List.Elements.{Contains-append_cases}
 use Rattle.std.proofs.lemmas.List.Folds.{list_any-append, list_any_more, Any-from_list_any}
-use Rattle.std.proofs.lemmas.List.Kept.{IsStrictlySortedBy-filter, Contains-dedup_nat, Contains-from_dedup}
-use Rattle.std.proofs.lemmas.List.Sorted.{Contains-permutation, IsPermutation-sym}
-use Rattle.std.proofs.lemmas.Map.Keys.{IsStrictlyIncreasing-dedup, sorted_from_strictly_increasing, Less-from_sorted}
-use Rattle.std.proofs.lemmas.Map.Lookups.{btree_set_from_contains, exact_unsigned}
+use Rattle.std.proofs.lemmas.Map.Keys.{Less-from_sorted}
 use Rattle.xq_regions.specs.declared.Axis.{Axis}
 use Rattle.xq_regions.specs.declared.items.Node.{Node}
 use Rattle.xq_regions.specs.Forest.{count}
@@ -34,7 +25,7 @@ use Rattle.xq_axes.specs.private.Hits.{is_hit, is_wanted, row_passes, below_wher
 use Rattle.xq_axes.specs.private.Many.{spot, AreThere, places_from, is_found_from, IsNext, IsGathered}
 use Rattle.xq_axes.proofs.Lists.{any_and, any_or}
 use Rattle.xq_axes.proofs.Merging.{any_map, any_here, have_one}
-use Rattle.xq_axes.proofs.OnPaths.{range-filter, axis_nodes_of}
+use Rattle.xq_axes.proofs.OnPaths.{axis_nodes_of}
 use Rattle.xq_axes.proofs.Orders.{same_any, from_contains, order_parts, is_one_node, one_node, node_itself}
 use Rattle.xq_axes.proofs.Siblings.{one_hit}
 
@@ -85,41 +76,6 @@ any_each a test t vs (suc n) p =
     ∙ ap (λ b. list_any old vs || b) (sym (any_and (λ v. is_wanted a test t (v ∷ []) n) (p n) vs))
     ∙ sym (any_or old new vs)
     ∙ any_same (λ v. old v || new v) (λ v. list_any p (below_where (is_wanted a test t (v ∷ [])) (suc n))) vs (λ v. sym (any_last p (is_wanted a test t (v ∷ [])) n))
-
--- # Numbers that rise
-
-above_numbers : (x a n : ℕ) → x < a → AllByRecursion (λ y. nat_cmp x y ≡ Less) (range_with_len a n)
-above_numbers x a zero h = tt
-above_numbers x a (suc n) h = (sym (nat_cmp_is x a Less h), above_numbers x (a + 1) n (omega (arith, h)))
-
-numbers_rise : (a n : ℕ) → IsStrictlySortedBy nat_cmp (range_with_len a n)
-unfolding IsStrictlySortedBy
-numbers_rise a zero = tt
-numbers_rise a (suc n) = (above_numbers a (a + 1) n (omega arith), numbers_rise (a + 1) n)
-
--- numbers that were put in order, each once
-pub each_found : (a : Axis) (test : Test) (t : Tree) (vs found sorted new : List ℕ) → IsPermutation found sorted → IsSorted nat_cmp sorted → new ≡ dedup eqb sorted
-    → ((p : ℕ → Bool) → list_any p found ≡ list_any (λ v. list_any p (places_from a test t v)) vs) → new ≡ below_where (is_wanted a test t vs) (count (nodes t))
-each_found a test t vs found sorted new p s e h =
-    let f = is_wanted a test t vs in
-    let n = count (nodes t) in
-    let d = dedup eqb sorted in
-    let low : BTreeSet ℕ = record { keys = d } in
-    let high : BTreeSet ℕ = record { keys = below_where f n } in
-    let rise : IsStrictlySortedBy nat_cmp (below_where f n) = subst (λ xs. IsStrictlySortedBy nat_cmp xs) (range-filter f n) (IsStrictlySortedBy-filter nat_cmp f (range_with_len 0 n) (numbers_rise 0 n)) in
-    let same : (q : ℕ → Bool) → list_any q d ≡ list_any q found = λ q. same_any q d found (λ x. (
-      λ c. Contains-permutation sorted found x (IsPermutation-sym found sorted p) (Contains-from_dedup eqb sorted x c),
-      λ c. Contains-dedup_nat sorted x (Contains-permutation found sorted x p c),
-    )) in
-    e ∙ btree_set_from_contains nat_cmp_total low high (sorted_from_strictly_increasing d (IsStrictlyIncreasing-dedup sorted s)) rise
-    (λ q. same (is_at (nat_cmp q)) ∙ h (is_at (nat_cmp q)) ∙ sym (any_each a test t vs n (is_at (nat_cmp q)))) exact_unsigned
-
--- one node more
-pub each_more : (a : Axis) (test : Test) (t : Tree) (vs found more new : List ℕ) (i : ℕ) → i < length vs → more ≡ places_from a test t (get_or vs i 0) → new ≡ found ++ more
-    → ((p : ℕ → Bool) → list_any p found ≡ list_any (λ v. list_any p (places_from a test t v)) (take i vs)) → (p : ℕ → Bool) → list_any p new ≡ list_any (λ v. list_any p (places_from a test t v)) (take (i + 1) vs)
-each_more a test t vs found more new i l m e h p =
-    let each : ℕ → Bool = λ v. list_any p (places_from a test t v) in
-    ap (list_any p) e ∙ list_any-append p found more ∙ ap (λ b. b || list_any p more) (h p) ∙ ap (λ ps. list_any each (take i vs) || list_any p ps) m ∙ sym (list_any_more each vs i 0 l)
 
 -- # The contexts of one tree
 

@@ -20,6 +20,10 @@ use Rattle.xq_axes.specs.private.Hits.{below_where, IsRising}
 use Rattle.xq_axes.specs.private.Reads.{span, span_end}
 use Rattle.xq_axes.specs.private.Downward.{axis_of, end_of, ReadsBelow}
 use Rattle.xq_axes.specs.private.Passing.{axis_above, IsLast, IsLeastEnd}
+use Rattle.xq_axes.specs.private.Waiting.{axis_back}
+use Rattle.xq_axes.specs.declared.backward.Backward.{Backward}
+use Rattle.xq_axes.specs.declared.backward.Backward.TheVariants.{PrecedingSibling}
+use Rattle.xq_axes.specs.declared.backward.Backward.TheVariants as back
 use Rattle.xq_axes.specs.private.Many.{spot, IsAt, AreKept}
 use Rattle.xq_axes.specs.declared.downward.Downward.{Downward}
 use Rattle.xq_axes.specs.declared.downward.Downward.TheVariants.{Child, Attribute, Descendant, DescendantOrSelf}
@@ -88,6 +92,27 @@ above_bound or_self t vs last l =
     let low = passing_from f 0 m (λ p x y. any_from (λ v. in_scan a (rows t) v p) vs l.index 0 l.within (above_scan or_self t (get_or vs l.index 0) p ∙ le-leb p (get_or vs l.index 0) (let e = l.is in omega (arith, y, e)))) in
     let high = passing_more f m (count (nodes t)) (omega arith) in
     omega (arith, low, high, n)
+
+back_scan : (d : Backward) (t : Tree) (v p : ℕ) → in_scan (axis_back d) (rows t) v p ≡ nat_le p v
+back_scan back.Parent t v p = refl
+back_scan PrecedingSibling t v p = refl
+
+pub back_bound : (d : Backward) (t : Tree) (vs : List ℕ) (last : ℕ) → IsLast vs last → min (suc last) (count (nodes t)) ≤ length (region (axis_back d) t vs)
+back_bound d t vs last l =
+    let m = min (suc last) (count (nodes t)) in
+    let a = axis_back d in
+    let f = in_some a t vs in
+    let n = region_length a t vs in
+    let low = passing_from f 0 m (λ p x y. any_from (λ v. in_scan a (rows t) v p) vs l.index 0 l.within (back_scan d t (get_or vs l.index 0) p ∙ le-leb p (get_or vs l.index 0) (let e = l.is in omega (arith, y, e)))) in
+    let high = passing_more f m (count (nodes t)) (omega arith) in
+    omega (arith, low, high, n)
+
+pub onward_bound : (t : Tree) (vs : List ℕ) → 0 < length vs → count (nodes t) - get_or vs 0 0 ≤ length (region axis.FollowingSibling t vs)
+onward_bound t vs some =
+    let f = in_some axis.FollowingSibling t vs in
+    let n = region_length axis.FollowingSibling t vs in
+    let a = passing_from f (get_or vs 0 0) (count (nodes t)) (λ p x y. any_from (λ v. in_scan axis.FollowingSibling (rows t) v p) vs 0 0 some (le-leb (get_or vs 0 0) p x)) in
+    omega (arith, a, n)
 
 -- # The rows below one node after another
 

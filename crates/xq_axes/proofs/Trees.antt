@@ -9,7 +9,7 @@ use Rattle.xq_regions.specs.Rows.{rows, row_at}
 use Rattle.xq_regions.specs.Regions.{IsInside}
 use Rattle.xq_regions.proofs.AxisRegions.{located}
 use Rattle.xq_axes.specs.private.Downward.{level_of, end_of}
-use Rattle.xq_axes.specs.private.Kin.{IsParent}
+use Rattle.xq_axes.specs.private.Waiting.{IsParent}
 use Rattle.xq_axes.proofs.Sizes.{node_of}
 
 above_longer : (p q : List ℕ) → IsAbove p q → length p < length q

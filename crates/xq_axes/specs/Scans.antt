@@ -1,5 +1,5 @@
--- The rows of ranges that a step has to read, on each axis but those to parents and siblings.
-use Rattle.std.specs.Prelude.{ℕ, ◌≡◌, List, map, filter, Bool, true, false, ◌||◌, nat_eq, nat_lt, nat_le}
+-- The rows of ranges that a step has to read.
+use Rattle.std.specs.Prelude.{ℕ, ◌≡◌, List, map, filter, Bool, false, ◌||◌, nat_eq, nat_lt, nat_le}
 use Rattle.std.specs.List.{list_any, range_with_len, AllByRecursion}
 use Rattle.xq_regions.specs.Forest.{count}
 use Rattle.xq_regions.specs.Tree.{Tree, nodes}
@@ -9,15 +9,9 @@ use Rattle.xq_regions.specs.declared.Axis.{Axis}
 use Rattle.xq_regions.specs.declared.Axis.TheVariants.{Child, Descendant, DescendantOrSelf, SelfNode, Attributes, Parent, Ancestor, AncestorOrSelf, Following, FollowingSibling, Preceding, PrecedingSibling}
 use Rattle.xq_regions.specs.declared.items.Node.{Node}
 
--- a step on the axis reads each row of its region once at most
-abbrev pub is_scanned : Axis → Bool
-is_scanned Parent = false
-is_scanned FollowingSibling = false
-is_scanned PrecedingSibling = false
-is_scanned axis = true
-
--- the row p is in the region of the axis from v: below it; below it or its own; after its rows; before it; before it or its own.
--- Nodes alone are read singly, so the self axis has none.
+-- the row p is in the region of the axis from v: below it; below it or its own; after its rows; before it; before it or its own; its own or after it.
+-- What is above a node, or beside it on one side, is found by levels alone, from rows before it or after it; so these regions don't end with its parent's
+-- rows. Nodes alone are read singly, so the self axis has none.
 abbrev pub in_scan : Axis → List Row → ℕ → ℕ → Bool
 in_scan Child rs v p = inside rs v p
 in_scan Attributes rs v p = inside rs v p
@@ -27,8 +21,10 @@ in_scan Following rs v p = after rs v p
 in_scan Preceding rs v p = nat_lt p v
 in_scan Ancestor rs v p = nat_le p v
 in_scan AncestorOrSelf rs v p = nat_le p v
+in_scan Parent rs v p = nat_le p v
+in_scan PrecedingSibling rs v p = nat_le p v
+in_scan FollowingSibling rs v p = nat_le v p
 in_scan SelfNode rs v p = false
-in_scan axis rs v p = true
 
 -- the rows that are in the region of the axis from one of the places, each once
 abbrev pub region : Axis → Tree → List ℕ → List ℕ

@@ -2,5 +2,5 @@ pub mod Reads
 pub mod Hits
 pub mod Downward
 pub mod Passing
-pub mod Kin
+pub mod Waiting
 pub mod Many

@@ -1,6 +1,7 @@
 //! The places of context nodes, met in turn.
-ghost use Rattle.std.specs.Prelude.{◌≡◌, ◌+◌, slice_get};
+ghost use Rattle.std.specs.Prelude.{◌≡◌, ◌≤◌, ◌+◌, length, slice_get};
 ghost use Rattle.xq_axes.specs.private.Hits.{is_among, IsRising, IsReached};
+ghost use Rattle.xq_axes.specs.private.Waiting.{latest as latest_lem};
 
 /// Places in document order, of which those before an index were met.
 #[derive(Clone, Copy)]
@@ -21,7 +22,8 @@ impl<'a> Contexts<'a> {
     /// Whether the place, which comes after all that were asked for, is one of them.
     pub fn meets(&mut self, place: u32) -> bool
         ensures places { self.new.places.now ≡ self.old.places.now }
-        ensures met { IsRising self.old.places.now → IsReached self.old.places.now self.old.met place
+        ensures met { IsRising self.old.places.now → IsReached self.old.places.now self.old.met
+            place
             → (result ≡ is_among self.old.places.now place)
             × IsReached self.old.places.now self.new.met (place + 1) }
     {
@@ -42,5 +44,56 @@ impl<'a> Contexts<'a> {
         ensures { result ≡ slice_get self.now.places.now self.now.met }
     {
         self.places.get(self.met).copied()
+    }
+}
+
+/// Places in document order, of which those from an index on were met.
+#[derive(Clone, Copy)]
+pub struct Earlier<'a> {
+    places: &'a [u32],
+    left: usize,
+}
+
+impl<'a> Earlier<'a> {
+    /// The places, none of them met.
+    pub fn new(places: &'a [u32]) -> Earlier<'a>
+        ensures places { result.places.now ≡ places.now }
+        ensures left { result.left ≡ length places.now }
+    {
+        Earlier {
+            places,
+            left: places.len(),
+        }
+    }
+
+    /// Whether the place, which comes before all that were asked for, is one of them.
+    pub fn meets(&mut self, place: u32) -> bool
+        ensures places { self.new.places.now ≡ self.old.places.now }
+        ensures met { IsRising self.old.places.now → IsReached self.old.places.now self.old.left
+            (place + 1)
+            → (result ≡ is_among self.old.places.now place)
+            × IsReached self.old.places.now self.new.left place }
+    {
+        match self.latest() {
+            None => false,
+            Some(latest) => {
+                if latest != place {
+                    return false;
+                }
+                self.left = self.left.saturating_sub(1);
+                true
+            }
+        }
+    }
+
+    /// The last of the places that were not met yet.
+    pub fn latest(&self) -> Option<u32>
+        ensures { self.now.left ≤ length self.now.places.now
+            → result ≡ latest_lem self.now.places.now self.now.left }
+    {
+        if self.left == 0 {
+            return None;
+        }
+        self.places.get(self.left - 1).copied()
     }
 }

@@ -1,12 +1,13 @@
 //! Steps along the axes, string values and copies of nodes, read from a lender of rows.
 #![tactic(auto)]
 
+mod backward;
 mod contexts;
 mod copies;
 mod downward;
-mod families;
-mod kin;
+mod levels;
 mod merges;
+mod onward;
 mod passing;
 mod picks;
 mod selves;

@@ -115,7 +115,7 @@ fn is_counted(or_self: bool, is_context: bool, is_above: bool) -> bool
 }
 
 /// The last of the places.
-fn last_of(places: &[u32]) -> Option<u32>
+pub fn last_of(places: &[u32]) -> Option<u32>
     ensures { result ≡ slice_get places.now (length places.now - 1) }
 {
     places.last().copied()
@@ -158,7 +158,7 @@ impl Judge for Above<'_> {
 }
 
 /// The place of the last row that is the node or below it.
-fn end_of_node<L: RowLender>(
+pub fn end_of_node<L: RowLender>(
     alloc: Global,
     source: &mut L,
     tree: usize,

@@ -9,13 +9,14 @@ ghost use Rattle.xq_values.specs.Items.{in_document_order};
 ghost use Rattle.xq_values.specs.Steps.{axis_nodes};
 ghost use Rattle.xq_values.specs.Readings.{node_at};
 ghost use Rattle.xq_axes.specs.Nodes.{AreRising, HaveAll};
-ghost use Rattle.xq_axes.specs.Scans.{is_scanned, region, places_of, AreOf};
+ghost use Rattle.xq_axes.specs.Scans.{region, places_of, AreOf};
 ghost use Rattle.xq_axes.specs.private.Hits.{is_wanted, below_where, IsRising};
 ghost use Rattle.xq_axes.specs.private.Many.{spot, is_found_from, AreThere, IsNext, IsGathered, IsAt, AreKept};
 
+use crate::backward::{Backward, search_back};
 use crate::downward::{Downward, search_below};
-use crate::families::{Kin, search_each};
 use crate::merges::merge;
+use crate::onward::search_on;
 use crate::passing::{search_above, search_after, search_before};
 use crate::selves::search_selves;
 use std::alloc::Global;
@@ -37,10 +38,10 @@ fn search<L: RowLender>(
         → let t = tree_at (L.forest source.old) tree in
         IsRising places.now → IfOk result (λ found. found.items
         ≡ below_where (is_wanted axis test.now t places.now) (count (nodes t))) }
-    ensures rows { L.is_clean source.new → is_scanned axis ≡ true → IsRising places.now
+    ensures rows { L.is_clean source.new → IsRising places.now
         → (L.meter source.new).rows ≤ (L.meter source.old).rows
         + length (region axis (tree_at (L.forest source.old) tree) places.now) }
-    ensures singles { is_scanned axis ≡ true → (L.meter source.new).singles
+    ensures singles { (L.meter source.new).singles
         ≤ (L.meter source.old).singles + length places.now }
     ensures keeps { L.forest source.new ≡ L.forest source.old }
     ensures was_clean { L.is_clean source.new → L.is_clean source.old }
@@ -60,16 +61,21 @@ fn search<L: RowLender>(
         }
         Axis::SelfNode => search_selves(alloc, source, tree, places, test),
         Axis::Attributes => search_below(alloc, source, tree, Downward::Attribute, places, test),
-        Axis::Parent => search_each(alloc, source, tree, Kin::Parent, places, test),
+        Axis::Parent => search_back(alloc, source, tree, Backward::Parent, places, test),
         Axis::Ancestor => search_above(alloc, source, tree, false, places, test),
         Axis::AncestorOrSelf => search_above(alloc, source, tree, true, places, test),
         Axis::Following => search_after(alloc, source, tree, places, test),
-        Axis::FollowingSibling => {
-            search_each(alloc, source, tree, Kin::FollowingSibling, places, test)
-        }
+        Axis::FollowingSibling => search_on(alloc, source, tree, places, test),
         Axis::Preceding => search_before(alloc, source, tree, places, test),
         Axis::PrecedingSibling => {
-            search_each(alloc, source, tree, Kin::PrecedingSibling, places, test)
+            search_back(
+                alloc,
+                source,
+                tree,
+                Backward::PrecedingSibling,
+                places,
+                test,
+            )
         }
     }
 }
@@ -88,7 +94,8 @@ fn add_nodes(found: &mut Vec<Node>, tree: usize, places: &[u32]) -> Result<(), W
 /// The nodes on the axis from the node that pass the test, in document order (XPath 3.1, section
 /// 3.3.2), where the source has the node.
 ///
-/// `Want::Store` where the source refuses to read a row; `Want::Memory` where a growth was refused.
+/// `Want::Store` where the source refuses to read a row; `Want::Memory` where a growth was
+/// refused.
 pub fn axis<L: RowLender>(
     alloc: Global,
     source: &mut L,
@@ -124,13 +131,14 @@ fn add_step<L: RowLender>(
     ensures found { L.is_clean source.new → IsRising contexts.now.places.items
         → AreThere (L.forest source.old) contexts.now.tree contexts.now.places.items
         → OnOk result ((p : NodeLem → Bool) → list_any p found.new.items
-        ≡ (list_any p found.old.items || list_any (is_found_from (L.forest source.old) axis test.now p)
+        ≡ (list_any p found.old.items || list_any (is_found_from (L.forest source.old) axis
+        test.now p)
         (map (spot contexts.now.tree) contexts.now.places.items))) }
-    ensures rows { L.is_clean source.new → is_scanned axis ≡ true
-        → IsRising contexts.now.places.items
+    ensures rows { L.is_clean source.new → IsRising contexts.now.places.items
         → (L.meter source.new).rows ≤ (L.meter source.old).rows
-        + length (region axis (tree_at (L.forest source.old) contexts.now.tree) contexts.now.places.items) }
-    ensures singles { is_scanned axis ≡ true → (L.meter source.new).singles
+        + length (region axis (tree_at (L.forest source.old) contexts.now.tree)
+        contexts.now.places.items) }
+    ensures singles { (L.meter source.new).singles
         ≤ (L.meter source.old).singles + length contexts.now.places.items }
     ensures keeps { L.forest source.new ≡ L.forest source.old }
     ensures was_clean { L.is_clean source.new → L.is_clean source.old }
@@ -159,18 +167,22 @@ fn gather<L: RowLender>(
 ) -> Result<(), Want>
     ensures gathered { L.is_clean source.new → let trees = L.forest source.old in
         (contexts : List NodeLem) (index : ℕ) → IsNext trees contexts index context
-        → IsGathered trees axis test.now contexts index gathered.old.tree gathered.old.places.items found.old.items
-        → OnOk result (IsGathered trees axis test.now contexts (index + 1) gathered.new.tree gathered.new.places.items found.new.items) }
+        → IsGathered trees axis test.now contexts index gathered.old.tree
+        gathered.old.places.items found.old.items
+        → OnOk result (IsGathered trees axis test.now contexts (index + 1) gathered.new.tree
+        gathered.new.places.items found.new.items) }
     ensures kept { (contexts : List NodeLem) (index one : ℕ) → AreOf one contexts
-        → IsAt contexts index context → AreKept contexts index gathered.old.tree gathered.old.places.items
+        → IsAt contexts index context → AreKept contexts index gathered.old.tree
+        gathered.old.places.items
         → OnOk result (AreKept contexts (index + 1) gathered.new.tree gathered.new.places.items) }
-    ensures rows { L.is_clean source.new → is_scanned axis ≡ true
-        → (contexts : List NodeLem) (index one : ℕ) → AreOf one contexts
-        → IsAt contexts index context → AreKept contexts index gathered.old.tree gathered.old.places.items
+    ensures rows { L.is_clean source.new → (contexts : List NodeLem) (index one : ℕ) → AreOf one
+        contexts
+        → IsAt contexts index context → AreKept contexts index gathered.old.tree
+        gathered.old.places.items
         → (L.meter source.new).rows ≤ (L.meter source.old).rows }
-    ensures singles { is_scanned axis ≡ true → (L.meter source.new).singles
+    ensures singles { (L.meter source.new).singles
         ≤ (L.meter source.old).singles + length gathered.old.places.items }
-    ensures gathers { is_scanned axis ≡ true → OnOk result (
+    ensures gathers { OnOk result (
         (L.meter source.new).singles + length gathered.new.places.items
         ≤ (L.meter source.old).singles + length gathered.old.places.items + 1) }
     ensures keeps { L.forest source.new ≡ L.forest source.old }
@@ -190,10 +202,11 @@ fn gather<L: RowLender>(
 /// The nodes that are on the axis from one of the nodes and pass the test, in document order, each
 /// once (XPath 3.1, section 3.3), where the source has the nodes: in any order, of any trees.
 ///
-/// From nodes of one tree, on each axis but those to parents and siblings, it reads each row of the
-/// axis' region once at most, and for each node at most one row besides.
+/// From nodes of one tree it reads each row of the axis' region once at most, and for each node at
+/// most one row besides.
 ///
-/// `Want::Store` where the source refuses to read a row; `Want::Memory` where a growth was refused.
+/// `Want::Store` where the source refuses to read a row; `Want::Memory` where a growth was
+/// refused.
 pub fn step<L: RowLender>(
     alloc: Global,
     source: &mut L,
@@ -208,11 +221,10 @@ pub fn step<L: RowLender>(
     ensures there { L.is_clean source.new → HaveAll (L.forest source.old) nodes.now
         → IfOk result (λ found. HaveAll (L.forest source.old) found.items) }
     ensures rising { IfOk result (λ found. AreRising found.items) }
-    ensures rows { L.is_clean source.new → is_scanned axis ≡ true
-        → (tree : ℕ) → AreOf tree nodes.now
+    ensures rows { L.is_clean source.new → (tree : ℕ) → AreOf tree nodes.now
         → (L.meter source.new).rows ≤ (L.meter source.old).rows
         + length (region axis (tree_at (L.forest source.old) tree) (places_of nodes.now)) }
-    ensures singles { is_scanned axis ≡ true → (L.meter source.new).singles
+    ensures singles { (L.meter source.new).singles
         ≤ (L.meter source.old).singles + length nodes.now }
     ensures keeps { L.forest source.new ≡ L.forest source.old }
     ensures was_clean { L.is_clean source.new → L.is_clean source.old }

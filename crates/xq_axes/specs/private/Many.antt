@@ -4,19 +4,11 @@ use Rattle.std.specs.List.{list_any}
 use Rattle.xq_regions.specs.Forest.{count}
 use Rattle.xq_regions.specs.Tree.{Tree, nodes}
 use Rattle.xq_regions.specs.declared.Axis.{Axis}
-use Rattle.xq_regions.specs.declared.Axis.TheVariants as axis
 use Rattle.xq_regions.specs.declared.items.Node.{Node}
 use Rattle.xq_sources.specs.Sources.{tree_at, HasNode}
 use Rattle.xq_values.specs.declared.node_tests.Test.{Test}
 use Rattle.xq_axes.specs.Nodes.{AreRising, HaveAll}
 use Rattle.xq_axes.specs.private.Hits.{is_wanted, below_where, IsRising}
-use Rattle.xq_axes.specs.declared.families.Kin.{Kin}
-use Rattle.xq_axes.specs.declared.families.Kin.TheVariants.{Parent, FollowingSibling, PrecedingSibling}
-
-abbrev pub axis_of_kin : Kin → Axis
-axis_of_kin Parent = axis.Parent
-axis_of_kin FollowingSibling = axis.FollowingSibling
-axis_of_kin PrecedingSibling = axis.PrecedingSibling
 
 -- the node of the tree n at the place p
 abbrev pub spot : ℕ → ℕ → Node

@@ -29,19 +29,19 @@ returns-clause-found g c = λ k up there. (
     (λ m. added trees axis test tree vs ps old new (c.deref-2.ensures.value ∙ e_vs) m) c.add_nodes.ensures)
 
 pub returns-clause-rows : goal.returns-clause-rows
-returns-clause-rows g c = λ k scanned up. (
+returns-clause-rows g c = λ k up. (
     let t = tree_at (g.L.TreeSource.forest c.args.source.now) c.args.contexts.now.tree in
     let v = c.deref.ensures.value in
-    subst (λ ws. (g.L.TreeSource.meter c.search.new.source).rows ≤ (g.L.TreeSource.meter c.args.source.now).rows + length (region c.args.axis t ws)) v (c.in_ok-places.ensures.rows k scanned (subst (λ ws. IsRising ws) (sym v) up)))
+    subst (λ ws. (g.L.TreeSource.meter c.search.new.source).rows ≤ (g.L.TreeSource.meter c.args.source.now).rows + length (region c.args.axis t ws)) v (c.in_ok-places.ensures.rows k (subst (λ ws. IsRising ws) (sym v) up)))
 
 pub returns-clause-singles : goal.returns-clause-singles
-returns-clause-singles g c = λ scanned. subst (λ ws. (g.L.TreeSource.meter c.search.new.source).singles ≤ (g.L.TreeSource.meter c.args.source.now).singles + length ws) c.deref.ensures.value (c.in_ok-places.ensures.singles scanned)
+returns-clause-singles g c = subst (λ ws. (g.L.TreeSource.meter c.search.new.source).singles ≤ (g.L.TreeSource.meter c.args.source.now).singles + length ws) c.deref.ensures.value (c.in_ok-places.ensures.singles)
 
 pub returns-in_err-places-clause-rows : goal.returns-in_err-places-clause-rows
-returns-in_err-places-clause-rows g c = λ k scanned up. (
+returns-in_err-places-clause-rows g c = λ k up. (
     let t = tree_at (g.L.TreeSource.forest c.args.source.now) c.args.contexts.now.tree in
     let v = c.deref.ensures.value in
-    subst (λ ws. (g.L.TreeSource.meter c.search.new.source).rows ≤ (g.L.TreeSource.meter c.args.source.now).rows + length (region c.args.axis t ws)) v (c.in_err-places.ensures.rows k scanned (subst (λ ws. IsRising ws) (sym v) up)))
+    subst (λ ws. (g.L.TreeSource.meter c.search.new.source).rows ≤ (g.L.TreeSource.meter c.args.source.now).rows + length (region c.args.axis t ws)) v (c.in_err-places.ensures.rows k (subst (λ ws. IsRising ws) (sym v) up)))
 
 pub returns-in_err-places-clause-singles : goal.returns-in_err-places-clause-singles
-returns-in_err-places-clause-singles g c = λ scanned. subst (λ ws. (g.L.TreeSource.meter c.search.new.source).singles ≤ (g.L.TreeSource.meter c.args.source.now).singles + length ws) c.deref.ensures.value (c.in_err-places.ensures.singles scanned)
+returns-in_err-places-clause-singles g c = subst (λ ws. (g.L.TreeSource.meter c.search.new.source).singles ≤ (g.L.TreeSource.meter c.args.source.now).singles + length ws) c.deref.ensures.value (c.in_err-places.ensures.singles)

@@ -31,22 +31,22 @@ returns-clause-kept g c = λ contexts index one all at are. (
     kept_first contexts index x was.tree was.places.items _ are empty at (c.in_ok-push-2.ensures.items ∙ ap (λ xs. xs ++ x.pre ∷ []) c.clear.ensures.items))
 
 pub returns-clause-rows : goal.returns-clause-rows
-returns-clause-rows g c = λ k scanned contexts index one all at are. (
+returns-clause-rows g c = λ k contexts index one all at are. (
     let was = c.args.gathered.now in
     let t = tree_at (g.L.TreeSource.forest c.args.source.now) was.tree in
     let empty = none_kept contexts index was.tree was.places.items are one c.args.context all at c.if-context-gathered.false in
-    none_read c.args.axis t was.places.items _ _ empty (c.in_ok-add_step.ensures.rows k scanned (none_rises was.places.items empty)))
+    none_read c.args.axis t was.places.items _ _ empty (c.in_ok-add_step.ensures.rows k (none_rises was.places.items empty)))
 
 pub returns-in_err-add_step-clause-rows : goal.returns-in_err-add_step-clause-rows
-returns-in_err-add_step-clause-rows g c = λ k scanned contexts index one all at are. (
+returns-in_err-add_step-clause-rows g c = λ k contexts index one all at are. (
     let was = c.args.gathered.now in
     let t = tree_at (g.L.TreeSource.forest c.args.source.now) was.tree in
     let empty = none_kept contexts index was.tree was.places.items are one c.args.context all at c.if-context-gathered.false in
-    none_read c.args.axis t was.places.items _ _ empty (c.in_err-add_step.ensures.rows k scanned (none_rises was.places.items empty)))
+    none_read c.args.axis t was.places.items _ _ empty (c.in_err-add_step.ensures.rows k (none_rises was.places.items empty)))
 
 pub returns-in_err-push-2-clause-rows : goal.returns-in_err-push-2-clause-rows
-returns-in_err-push-2-clause-rows g c = λ k scanned contexts index one all at are. (
+returns-in_err-push-2-clause-rows g c = λ k contexts index one all at are. (
     let was = c.args.gathered.now in
     let t = tree_at (g.L.TreeSource.forest c.args.source.now) was.tree in
     let empty = none_kept contexts index was.tree was.places.items are one c.args.context all at c.if-context-gathered.false in
-    none_read c.args.axis t was.places.items _ _ empty (c.in_ok-add_step.ensures.rows k scanned (none_rises was.places.items empty)))
+    none_read c.args.axis t was.places.items _ _ empty (c.in_ok-add_step.ensures.rows k (none_rises was.places.items empty)))

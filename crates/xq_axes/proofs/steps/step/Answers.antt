@@ -18,9 +18,9 @@ loop-context-init g c =
     record {
       forest = refl;
       clean = λ k. k;
-      rows = λ k scanned one all. omega arith;
+      rows = λ k one all. omega arith;
       kept = λ one all. ap (map (spot 0)) c.new.ensures.items;
-      singles = λ scanned. (let n = ap length c.new.ensures.items in omega (arith, n));
+      singles = (let n = ap length c.new.ensures.items in omega (arith, n));
       gathered = λ k have. subst (λ ps. IsGathered trees axis test items 0 0 ps c.new-found.result.items) (sym c.new.ensures.items) (subst (λ fs. IsGathered trees axis test items 0 0 [] fs) (sym c.new-found.ensures.items) (gathered_none trees axis test items));
     }
 
@@ -39,14 +39,14 @@ loop-context-preserved g c =
     record {
       forest = c.in_ok-gather.ensures.keeps ∙ inv.forest;
       clean = λ k. inv.clean (c.in_ok-gather.ensures.was_clean k);
-      rows = λ k scanned one all. (
-          let before = inv.rows (c.in_ok-gather.ensures.was_clean k) scanned one all in
-          let more = c.in_ok-gather.ensures.rows k scanned items index one all at (inv.kept one all) in
+      rows = λ k one all. (
+          let before = inv.rows (c.in_ok-gather.ensures.was_clean k) one all in
+          let more = c.in_ok-gather.ensures.rows k items index one all at (inv.kept one all) in
           omega (arith, before, more));
       kept = λ one all. c.in_ok-gather.ensures.kept items index one all at (inv.kept one all);
-      singles = λ scanned. (
-          let before = inv.singles scanned in
-          let more = c.in_ok-gather.ensures.gathers scanned in
+      singles = (
+          let before = inv.singles in
+          let more = c.in_ok-gather.ensures.gathers in
           omega (arith, before, more));
       gathered = λ k have. (
           let next : IsNext trees items index x = record {
@@ -94,7 +94,7 @@ returns-clause-there g c = λ k have. (
     have_same trees new c.merge.result.items (step_there trees axis test ns new have found) (λ n. (c.merge.ensures.members n).0))
 
 pub returns-clause-rows : goal.returns-clause-rows
-returns-clause-rows g c = λ k scanned one all. (
+returns-clause-rows g c = λ k one all. (
     let inv = c.loop-context.invariant in
     let trees = g.L.TreeSource.forest c.args.source.now in
     let axis = c.args.axis in
@@ -107,15 +107,15 @@ returns-clause-rows g c = λ k scanned one all. (
     let ones = still_one one ns items all (λ n. (members n).0) in
     let are = inv.kept one ones in
     let up = kept_rises items index old.tree old.places.items are (subst (λ xs. AreRising xs) (sym c.deref-context-items.ensures.value) c.merge-contexts.ensures.rising) in
-    let before = inv.rows (c.in_ok-add_step.ensures.was_clean k) scanned one ones in
-    let read = subst (λ f. (g.L.TreeSource.meter c.add_step.new.source).rows ≤ (g.L.TreeSource.meter c.loop-context.source).rows + length (region axis (tree_at f old.tree) old.places.items)) inv.forest (c.in_ok-add_step.ensures.rows k scanned up) in
+    let before = inv.rows (c.in_ok-add_step.ensures.was_clean k) one ones in
+    let read = subst (λ f. (g.L.TreeSource.meter c.add_step.new.source).rows ≤ (g.L.TreeSource.meter c.loop-context.source).rows + length (region axis (tree_at f old.tree) old.places.items)) inv.forest (c.in_ok-add_step.ensures.rows k up) in
     let most = kept_region items index old.tree old.places.items are axis trees one ns (omega arith) all members in
     omega (arith, before, read, most))
 
 pub returns-clause-singles : goal.returns-clause-singles
-returns-clause-singles g c = λ scanned. (
-    let before = c.loop-context.invariant.singles scanned in
-    let more = c.in_ok-add_step.ensures.singles scanned in
+returns-clause-singles g c = (
+    let before = c.loop-context.invariant.singles in
+    let more = c.in_ok-add_step.ensures.singles in
     let copied = c.in_ok-extend_from_slice.ensures.items ∙ ap (λ xs. xs ++ c.args.nodes.now) c.in_ok-copies.ensures.items in
     let size = ap length copied in
     let fewer = c.merge-contexts.ensures.fewer in
@@ -123,7 +123,7 @@ returns-clause-singles g c = λ scanned. (
     omega (arith, before, more, size, fewer, same))
 
 pub returns-in_err-add_step-clause-rows : goal.returns-in_err-add_step-clause-rows
-returns-in_err-add_step-clause-rows g c = λ k scanned one all. (
+returns-in_err-add_step-clause-rows g c = λ k one all. (
     let inv = c.loop-context.invariant in
     let trees = g.L.TreeSource.forest c.args.source.now in
     let axis = c.args.axis in
@@ -136,15 +136,15 @@ returns-in_err-add_step-clause-rows g c = λ k scanned one all. (
     let ones = still_one one ns items all (λ n. (members n).0) in
     let are = inv.kept one ones in
     let up = kept_rises items index old.tree old.places.items are (subst (λ xs. AreRising xs) (sym c.deref-context-items.ensures.value) c.merge-contexts.ensures.rising) in
-    let before = inv.rows (c.in_err-add_step.ensures.was_clean k) scanned one ones in
-    let read = subst (λ f. (g.L.TreeSource.meter c.add_step.new.source).rows ≤ (g.L.TreeSource.meter c.loop-context.source).rows + length (region axis (tree_at f old.tree) old.places.items)) inv.forest (c.in_err-add_step.ensures.rows k scanned up) in
+    let before = inv.rows (c.in_err-add_step.ensures.was_clean k) one ones in
+    let read = subst (λ f. (g.L.TreeSource.meter c.add_step.new.source).rows ≤ (g.L.TreeSource.meter c.loop-context.source).rows + length (region axis (tree_at f old.tree) old.places.items)) inv.forest (c.in_err-add_step.ensures.rows k up) in
     let most = kept_region items index old.tree old.places.items are axis trees one ns (omega arith) all members in
     omega (arith, before, read, most))
 
 pub returns-in_err-add_step-clause-singles : goal.returns-in_err-add_step-clause-singles
-returns-in_err-add_step-clause-singles g c = λ scanned. (
-    let before = c.loop-context.invariant.singles scanned in
-    let more = c.in_err-add_step.ensures.singles scanned in
+returns-in_err-add_step-clause-singles g c = (
+    let before = c.loop-context.invariant.singles in
+    let more = c.in_err-add_step.ensures.singles in
     let copied = c.in_ok-extend_from_slice.ensures.items ∙ ap (λ xs. xs ++ c.args.nodes.now) c.in_ok-copies.ensures.items in
     let size = ap length copied in
     let fewer = c.merge-contexts.ensures.fewer in
@@ -152,7 +152,7 @@ returns-in_err-add_step-clause-singles g c = λ scanned. (
     omega (arith, before, more, size, fewer, same))
 
 pub returns-in_err-gather-clause-rows : goal.returns-in_err-gather-clause-rows
-returns-in_err-gather-clause-rows g c = λ k scanned one all. (
+returns-in_err-gather-clause-rows g c = λ k one all. (
     let inv = c.loop-context.invariant in
     let trees = g.L.TreeSource.forest c.args.source.now in
     let axis = c.args.axis in
@@ -164,14 +164,14 @@ returns-in_err-gather-clause-rows g c = λ k scanned one all. (
     let x : Node = get_or items index (record { tree = 0; pre = 0 }) in
     let at : IsAt items index x = record { within = omega arith; is = default_at items index (record { tree = 0; pre = 0 }) x (omega arith) } in
     let ones = still_one one ns items all (λ n. (members n).0) in
-    let before = inv.rows (c.in_err-gather.ensures.was_clean k) scanned one ones in
-    let read = c.in_err-gather.ensures.rows k scanned items index one ones at (inv.kept one ones) in
+    let before = inv.rows (c.in_err-gather.ensures.was_clean k) one ones in
+    let read = c.in_err-gather.ensures.rows k items index one ones at (inv.kept one ones) in
     omega (arith, before, read))
 
 pub returns-in_err-gather-clause-singles : goal.returns-in_err-gather-clause-singles
-returns-in_err-gather-clause-singles g c = λ scanned. (
-    let before = c.loop-context.invariant.singles scanned in
-    let more = c.in_err-gather.ensures.singles scanned in
+returns-in_err-gather-clause-singles g c = (
+    let before = c.loop-context.invariant.singles in
+    let more = c.in_err-gather.ensures.singles in
     let copied = c.in_ok-extend_from_slice.ensures.items ∙ ap (λ xs. xs ++ c.args.nodes.now) c.in_ok-copies.ensures.items in
     let size = ap length copied in
     let fewer = c.merge-contexts.ensures.fewer in

@@ -1,6 +1,6 @@
-use Rattle.std.proofs.Common.{◌≡◌, ◌≤◌, ◌+◌, ℕ, true, length}
+use Rattle.std.proofs.Common.{◌≡◌, ◌≤◌, ◌+◌, ℕ, length}
 use Rattle.xq_axes.specs.Nodes.{HaveAll}
-use Rattle.xq_axes.specs.Scans.{is_scanned, AreOf}
+use Rattle.xq_axes.specs.Scans.{AreOf}
 use Rattle.xq_axes.specs.private.Many.{IsGathered, AreKept}
 use Rattle.xq_axes.proofs.steps.step.Given as goal
 
@@ -12,9 +12,9 @@ invariant-loop-context g l =
       forest : g.L.TreeSource.forest l.source ≡ trees;
       clean : g.L.TreeSource.is_clean l.source → g.L.TreeSource.is_clean l.initial.source;
       rows :
-          g.L.TreeSource.is_clean l.source → is_scanned l.axis ≡ true → (one : ℕ) → AreOf one l.context-items
+          g.L.TreeSource.is_clean l.source → (one : ℕ) → AreOf one l.context-items
           → (g.L.TreeSource.meter l.source).rows ≤ (g.L.TreeSource.meter l.initial.source).rows;
       kept : (one : ℕ) → AreOf one l.context-items → AreKept l.context-items l.context-index l.gathered.tree l.gathered.places.items;
-      singles : is_scanned l.axis ≡ true → (g.L.TreeSource.meter l.source).singles + length l.gathered.places.items ≤ (g.L.TreeSource.meter l.initial.source).singles + l.context-index;
+      singles : (g.L.TreeSource.meter l.source).singles + length l.gathered.places.items ≤ (g.L.TreeSource.meter l.initial.source).singles + l.context-index;
       gathered : g.L.TreeSource.is_clean l.source → HaveAll trees l.context-items → IsGathered trees l.axis l.test l.context-items l.context-index l.gathered.tree l.gathered.places.items l.found.items;
     }
