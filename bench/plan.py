@@ -17,7 +17,8 @@ sys.path.insert(0, os.path.join(TOP, "tools"))
 from parse_corpus import CRATES as OF_PARSER
 from workspace import built
 
-CRATES = OF_PARSER + ("xq_signatures", "xq_regions", "xq_sources", "xq_values", "xq_meaning", "xq_normal", "xq_plan")
+CRATES = OF_PARSER + (
+    "xq_signatures", "xq_scopes", "xq_regions", "xq_sources", "xq_values", "xq_meaning", "xq_normal", "xq_plan")
 MEGABYTE = 1_000_000
 # The most that a time may grow where the length doubles.
 MOST = 2.3

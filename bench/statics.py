@@ -16,7 +16,7 @@ sys.path.insert(0, os.path.join(TOP, "tools"))
 from parse_corpus import CRATES as OF_PARSER
 from workspace import built
 
-CRATES = OF_PARSER + ("xq_signatures", "xq_statics")
+CRATES = OF_PARSER + ("xq_signatures", "xq_scopes", "xq_statics")
 MEGABYTE = 1_000_000
 # The most that a time may grow where the length doubles.
 MOST = 2.3

@@ -12,7 +12,7 @@ from collections import Counter
 from lex_corpus import REPORTS, answers_of, rows_of
 from parse_corpus import CRATES as OF_PARSER
 
-CRATES = OF_PARSER + ("xq_signatures", "xq_statics")
+CRATES = OF_PARSER + ("xq_signatures", "xq_scopes", "xq_statics")
 OF_TEXT = ("XPST0003", "XQST0090")
 OF_CHECKS = ("XPST0008", "XPST0017", "XQST0089", "XQST0094", "prof:PREFIX", "prof:TYPE")
 PROGRAM = """\

@@ -10,7 +10,7 @@ use Rattle.xq_values.specs.Items.{Item}
 use Rattle.xq_meaning.specs.Meaning.{Environment, bind, bind_all, no_variable}
 use Rattle.xq_meaning.specs.PlanMeaning.{Slots}
 use Rattle.xq_meaning.specs.Same.{environment}
-use Rattle.xq_plan.specs.private.Scopes.{last_place}
+use Rattle.xq_scopes.specs.Scopes.{last_place}
 
 abbrev Late : ℕ → Option ℕ → Type 0
 Late start None = Unit {0}

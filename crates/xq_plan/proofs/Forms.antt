@@ -30,7 +30,7 @@ use Rattle.xq_meaning.specs.Same.{IsPlan, frame_of, environment}
 use Rattle.xq_meaning.proofs.CoreEquations as core_eq
 use Rattle.xq_meaning.proofs.PlanEquations as plan_eq
 use Rattle.xq_meaning.proofs.SameForms.{AreRelated, then_same, in_turn_same, Same, AllSame, SameOperand, SameBindings, call_same, sequence_same, chain_same, unary_same, or_same, and_same, conditional_same, filter_same, slash_same, step_same, named_node_same, unnamed_node_same, quantified_same}
-use Rattle.xq_plan.specs.private.Scopes.{last_place}
+use Rattle.xq_scopes.specs.Scopes.{last_place}
 use Rattle.xq_plan.specs.private.Plans.{AreAll, IsOperand, IsStep, IsScanOrPart, AreRanges}
 use Rattle.xq_plan.proofs.Environments.{slot_is, no_slot_is, open_more, as_long}
 use Rattle.xq_plan.proofs.Scans.{slash_scan}

@@ -11,10 +11,16 @@ use Rattle.xq_atoms.specs.declared.refusals.Code.{Code}
 use Rattle.xq_atoms.specs.declared.refusals.Code.TheVariants.{XQST0094}
 use Rattle.xq_values.specs.Arguments.{each}
 use Rattle.xq_meaning.specs.Meaning.{slot_from, slot_or_fault, slot_of}
-use Rattle.xq_plan.specs.private.Scopes.{last_place, from_place}
-use Rattle.xq_plan.proofs.LastPlaces.{bytes_eq-swap}
+use Rattle.xq_scopes.specs.Scopes.{last_place, from_place}
+use Rattle.std.proofs.lemmas.Bool.Decides.{same_from_decides}
+use Rattle.std.proofs.lemmas.Slice.Eq.{bytes_eq-Decides}
 
 -- # The last slot of a name
+
+bytes_eq-swap : (a b : Text) → bytes_eq a b ≡ bytes_eq b a
+bytes_eq-swap a b =
+    same_from_decides (bytes_eq a b) (bytes_eq b a) (bytes_eq-Decides a b)
+    ((λ e. sym ((bytes_eq-Decides b a).0 e)), (λ e. (bytes_eq-Decides b a).1 (sym e)))
 
 found_step : (test test' : Bool) (later found : Option ℕ) (n : ℕ) → test ≡ test' →
     option_or later (if test then Some n else found)

@@ -1,4 +1,3 @@
-pub mod LastPlaces
 pub mod Environments
 pub mod Scans
 pub mod Forms

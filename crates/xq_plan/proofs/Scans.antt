@@ -2,9 +2,8 @@
 use Rattle.std.proofs.Common.{◌≡◌, ℕ, suc, List, [], ◌∷◌, ◌++◌, map, length, Bool, true, false, Option, Some, None, Ok, Err, refl, sym, ap, ◌∙◌, append-nil, ◌⊎◌, inl, inr}
 use Rattle.std.specs.Prelude.{reverse, if◌then◌else◌}
 use Rattle.std.specs.List.{flat_map}
-use Rattle.std.proofs.lemmas.List.{reverse-reverse, map-append, append_assoc}
+use Rattle.std.proofs.lemmas.List.{reverse-append, reverse-reverse, map-append, append_assoc}
 use Rattle.std.proofs.lemmas.List.Concat.{flat_map-cons}
-use Rattle.indexmap.proofs.ReorderLemmas.{map-reverse}
 use Rattle.xq_atoms.specs.Judged.{Judged, ◌>>=◌}
 use Rattle.xq_atoms.specs.Text.{Text}
 use Rattle.xq_atoms.specs.declared.refusals.Code.{Code}
@@ -20,6 +19,12 @@ use Rattle.xq_values.specs.Steps.{focuses, focuses_from, is_reverse, in_axis_ord
 use Rattle.xq_meaning.specs.Doing.{Doing, go_on, give, in_turn, more, collected, on_trees, judged}
 use Rattle.xq_meaning.specs.Forms
 use Rattle.xq_meaning.proofs.SameForms.{go_on_same}
+
+map-reverse : {A B : Type 0} (f : A → B) (xs : List A) → map f (reverse xs) ≡ reverse (map f xs)
+map-reverse f [] = refl
+map-reverse f (x ∷ xs) =
+    ap (map f) (reverse-append (x ∷ []) xs) ∙ map-append f (reverse xs) (x ∷ [])
+    ∙ ap (λ l. l ++ f x ∷ []) (map-reverse f xs) ∙ sym (reverse-append (f x ∷ []) (map f xs))
 
 order_twice : {A : Type 0} (b : Bool) (xs : List A) →
     (if b then reverse (if b then reverse xs else xs) else (if b then reverse xs else xs)) ≡ xs

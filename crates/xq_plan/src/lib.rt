@@ -6,13 +6,12 @@ ghost use Rattle.xq_atoms.specs.declared.refusals.Want.TheVariants.{Memory};
 ghost use Rattle.xq_meaning.specs.Same.{IsPlan};
 
 mod copies;
-mod scopes;
 mod walk;
 
-use scopes::Scope;
 use std::alloc::Global;
 use xq_atoms::Want;
 use xq_meaning::{Core, Plan};
+use xq_scopes::Scope;
 
 /// The plan of a normal form: whatever the focus, the addresses and the documents are, it gives the
 /// value or the code that the normal form gives where no variable is bound, and leaves the same

@@ -7,12 +7,12 @@ ghost use Rattle.xq_meaning.specs.Same.{IsPlan};
 ghost use Rattle.xq_plan.specs.private.Plans as plans;
 
 use crate::copies::{test, text};
-use crate::scopes::Scope;
 use sqlite_items::{Boxed, Items};
 use std::alloc::{AllocError, Global};
 use xq_atoms::Code;
 use xq_expressions::{OrderModifier, Text};
 use xq_meaning::{Core, CoreClause, Plan, PlanClause, PlanStep};
+use xq_scopes::Scope;
 use xq_values::Operator;
 
 /// The plan of a normal form.

@@ -1,5 +1,4 @@
 mod Equations
 mod Judging
-mod LastPlaces
 mod Lists
 mod WorkedRows

@@ -5,13 +5,12 @@ ghost use Rattle.xq_statics.specs.Gives.{Judges};
 ghost use Rattle.xq_statics.specs.Statics.{static_fault};
 
 mod names;
-mod scopes;
 mod walk;
 
-use scopes::Scope;
 use std::alloc::Global;
 use xq_atoms::Fault;
 use xq_expressions::Expr;
+use xq_scopes::Scope;
 
 /// Whether a query may be evaluated: `Ok` where no name, variable or call of it has a static
 /// fault, and else the code of the first that has one, in the order of the text (XQuery 3.1,

@@ -5,9 +5,9 @@ ghost use Rattle.xq_statics.specs.Gives.{Judges};
 ghost use Rattle.std.specs.Prelude.{drop};
 ghost use Rattle.xq_statics.specs.Statics.{test_places, axis_places};
 
-use crate::scopes::Scope;
 use xq_atoms::{Code, Fault};
 use xq_expressions::{AxisStep, NodeTest, QName};
+use xq_scopes::Scope;
 use xq_signatures::Function;
 
 /// A name that is bound, tested, or given to a node.

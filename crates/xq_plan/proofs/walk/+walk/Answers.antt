@@ -145,7 +145,7 @@ range-returns-clause-planned t c =
 pub assignment-returns-clause-planned : goal.assignment-returns-clause-planned
 assignment-returns-clause-planned t c =
     let is : c.bind.new.self ≡ c.args.scope.now ++ c.args.variable.now ∷ [] =
-    c.in_ok-bind.ensures ∙ ap (λ v. c.expression.new.scope ++ v ∷ []) c.as_str.ensures ∙ ap (λ ns. ns ++ c.args.variable.now ∷ []) c.in_ok-value.ensures.kept in
+    c.in_ok-bind.ensures.bound ∙ ap (λ v. c.expression.new.scope ++ v ∷ []) c.as_str.ensures ∙ ap (λ ns. ns ++ c.args.variable.now ∷ []) c.in_ok-value.ensures.kept in
     let_clause c.args.start c.args.scope.now c.requires c.args.variable.now c.args.value.now c.in_ok-value.value c.bind.new.self c.in_ok-value.ensures.planned is
 
 pub expressions-loop-core-preserved : goal.expressions-loop-core-preserved
@@ -187,7 +187,7 @@ keys-returns-clause-planned t c =
 pub ranges-loop-variable-preserved : goal.ranges-loop-variable-preserved
 ranges-loop-variable-preserved t c =
     range_next c.args.bindings.now c.loop-variable.variable-index c.args.scope.now c.loop-variable.scope c.loop-variable.found c.loop-variable.invariant c.expression.new.scope c.bind.new.self c.loop-variable-item.result c.in_ok-expression.field-0 c.push.new.self
-    (omega (arith, c.loop-variable-test.true)) c.loop-variable-item.is c.in_ok-expression.ensures.planned c.in_ok-expression.ensures.kept (c.in_ok-bind.ensures ∙ ap (λ v. c.expression.new.scope ++ v ∷ []) c.as_str.ensures) c.in_ok-push.ensures.ok
+    (omega (arith, c.loop-variable-test.true)) c.loop-variable-item.is c.in_ok-expression.ensures.planned c.in_ok-expression.ensures.kept (c.in_ok-bind.ensures.bound ∙ ap (λ v. c.expression.new.scope ++ v ∷ []) c.as_str.ensures) c.in_ok-push.ensures.ok
 
 pub ranges-returns-clause-planned : goal.ranges-returns-clause-planned
 ranges-returns-clause-planned t c =

@@ -2,7 +2,7 @@ use Rattle.std.proofs.Common.{◌≡◌, take, drop, length, Some, None, Ok, ap,
 use Rattle.xq_atoms.specs.declared.refusals.Code.TheVariants.{XQST0094}
 use Rattle.xq_plan.proofs.Flwor.{group_leads, refused_leads}
 use Rattle.xq_plan.proofs.Groups.{slot_found, slot_missing, slots_done}
-use Rattle.xq_plan.specs.private.Scopes.{last_place, from_place}
+use Rattle.xq_scopes.specs.Scopes.{last_place, from_place}
 use Rattle.xq_meaning.specs.Meaning.{slot_of}
 use Rattle.xq_values.specs.Arguments.{each}
 use Rattle.xq_plan.proofs.walk.group.Goals as goal

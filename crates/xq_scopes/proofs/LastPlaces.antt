@@ -1,19 +1,26 @@
 -- The last places of names, as variables come into scope and go.
-use Rattle.std.proofs.Common.{take, ◌<◌, ◌⊎◌, inl, inr, ◌||◌, IsSome, ◌≡◌, ℕ, zero, suc, ◌+◌, ◌≤◌, List, [], ◌∷◌, ◌++◌, length, drop, Bool, true, false, Option, Some, None, refl, sym, ◌∙◌, ap, subst, arith, if◌then◌else◌}
-use Rattle.std.specs.Prelude.{bytes_eq, nat_le}
+use Rattle.std.proofs.Common.{take, ◌<◌, ◌⊎◌, inl, inr, ◌||◌, ◌≡◌, ℕ, zero, suc, ◌+◌, ◌≤◌, List, [], ◌∷◌, ◌++◌, length, drop, Bool, true, false, Option, Some, None, refl, sym, ◌∙◌, ap, subst, arith, if◌then◌else◌}
+use Rattle.std.specs.Prelude.{bytes_eq, nat_le, not, slice_get}
+use Rattle.std.specs.Cmp.{IsEquivalence}
 use Rattle.std.specs.Option.{option_or, is_some}
+use Rattle.std.specs.List.{position_or_len}
+use Rattle.std.specs.Map.{keys_of, values_of}
 use Rattle.std.proofs.lemmas.Bool.{cases_lt, le-leb, lt-leb}
 use Rattle.std.proofs.lemmas.List.{take_all, length-map, map-append, append-nil, append_assoc}
 use Rattle.std.proofs.lemmas.Bool.Decides.{same_from_decides}
 use Rattle.std.proofs.lemmas.Slice.Eq.{bytes_eq-Decides}
 use Rattle.std.proofs.lemmas.Map.Text.{hash_map_updates_str}
+use Rattle.std.proofs.lemmas.Option.{none-some, same_Some}
 use Rattle.std.specs.HashMap.{UpdatesBy}
-use Rattle.indexmap.specs.IndexMap.{IndexMap, get_by}
+use Rattle.indexmap.specs.IndexMap.{IndexMap, get_by, keys, insert_entry, with_value_at, IsUnique}
+use Rattle.indexmap.proofs.CallerLemmas.{updates-with_value_at}
 use denote.Ref.{Bor}
-use Rattle.xq_atoms.specs.Text.{Text}
-use Rattle.xq_statics.specs.declared.scopes.Bound.{Bound}
-use Rattle.xq_statics.specs.Faults.{is_among}
-use Rattle.xq_statics.specs.private.Scopes.{names_of, last_place, IsLast, AreHidden}
+use Rattle.xq_scopes.specs.declared.Bound.{Bound}
+use Rattle.xq_scopes.specs.Scopes.{is_among, last_place}
+use Rattle.xq_scopes.specs.private.Kept.{names_of, in_scope, numbered, IsLast, AreHidden, AreNumbered}
+
+abbrev Text : Type 0
+Text = List ℕ
 
 abbrev chosen : Bool → ℕ → Option ℕ
 chosen test place = if test then Some place else None
@@ -105,30 +112,106 @@ hidden-init done (x ∷ xs) b h =
     let more = hidden-init (done ++ x.name.now ∷ []) xs b h.1 in
     ((h.0, more.0), more.1 ∙ ap (last_place b.name.now 0) (append_assoc done (x.name.now ∷ []) (names_of xs)))
 
-module _ {S : Type 0} (old new : IndexMap (Bor (List ℕ)) ℕ S) (bound : List Bound) (b : Bound) where
-  abbrev Writes : Option ℕ → Type 0
-  Writes place = UpdatesBy (λ x y. bytes_eq x.now y.now) (λ k. bytes_eq b.name.now k.now) old new place
+-- what is found of one name after another was written
+written_at : (test : Bool) (place : Option ℕ) (other : Option (Option ℕ)) → in_scope (if test then Some place else other) ≡ (if test then place else in_scope other)
+written_at true place other = refl
+written_at false place other = refl
+
+module _ {S : Type 0} (old new : IndexMap (Bor (List ℕ)) (Option ℕ) S) (bound : List Bound) (b : Bound) where
+  abbrev pub Writes : Option ℕ → Type 0
+  Writes place = UpdatesBy (λ x y. bytes_eq x.now y.now) (λ k. bytes_eq b.name.now k.now) old new (Some place)
 
   pub last-bind : (place : ℕ) → place ≡ length bound → IsLast old bound → Writes (Some place) → IsLast new (bound ++ b ∷ [])
   last-bind place is last written name =
       let at : length (names_of bound) ≡ length bound = length-map bound (λ b. b.name.now) in
-      hash_map_updates_str b.name.now old new (Some place) written name
+      ap in_scope (hash_map_updates_str b.name.now old new (Some (Some place)) written name)
+      ∙ written_at (bytes_eq b.name.now name) (Some place) (get_by (λ k. bytes_eq name k.now) old)
       ∙ bind_step (bytes_eq b.name.now name) (bytes_eq name b.name.now) place (0 + length (names_of bound)) _ _ (bytes_eq-swap b.name.now name) (is ∙ sym at ∙ omega arith) (last name)
       ∙ sym (last_place_snoc name 0 (names_of bound) b.name.now) ∙ ap (last_place name 0) (sym (names-snoc bound b))
 
   pub last-unbind : IsLast old (bound ++ b ∷ []) → b.hidden ≡ last_place b.name.now 0 (names_of bound) → Writes b.hidden → IsLast new bound
   last-unbind last is written name =
-      hash_map_updates_str b.name.now old new b.hidden written name
+      ap in_scope (hash_map_updates_str b.name.now old new (Some b.hidden) written name)
+      ∙ written_at (bytes_eq b.name.now name) b.hidden (get_by (λ k. bytes_eq name k.now) old)
       ∙ unbind_step (bytes_eq b.name.now name) (bytes_eq name b.name.now) b.hidden _ _ (0 + length (names_of bound)) (bytes_eq-swap b.name.now name)
       (λ e. is ∙ ap (λ n. last_place n 0 (names_of bound)) (bytes_eq-same b.name.now name e))
       (last name ∙ ap (last_place name 0) (names-snoc bound b) ∙ last_place_snoc name 0 (names_of bound) b.name.now)
 
-  pub last-found : IsLast old (bound ++ b ∷ []) → IsSome (get_by (λ k. bytes_eq b.name.now k.now) old)
-  last-found last =
-      let same : bytes_eq b.name.now b.name.now ≡ true = (bytes_eq-Decides b.name.now b.name.now).1 refl in
-      let found : get_by (λ k. bytes_eq b.name.now k.now) old ≡ (if bytes_eq b.name.now b.name.now then Some (0 + length (names_of bound)) else last_place b.name.now 0 (names_of bound)) =
-      last b.name.now ∙ ap (last_place b.name.now 0) (names-snoc bound b) ∙ last_place_snoc b.name.now 0 (names_of bound) b.name.now in
-      subst IsSome (sym (found ∙ ap (λ v. if v then Some (0 + length (names_of bound)) else last_place b.name.now 0 (names_of bound)) same)) refl
+-- ---- numbers of names
+
+abbrev pub same_text : Bor (List ℕ) → Bor (List ℕ) → Bool
+same_text x y = bytes_eq x.now y.now
+
+same_text-equiv : IsEquivalence same_text
+same_text-equiv = record {
+  refl = λ x. (bytes_eq-Decides x.now x.now).1 refl;
+  symm = λ x y. bytes_eq-swap x.now y.now;
+  congr = λ x y z e. ap (λ t. bytes_eq t z.now) (bytes_eq-same x.now y.now e);
+}
+
+-- a name that is inserted keeps the numbers of the others
+stays_by : {X : Type 0} (test : Bool) (e : Bor (List ℕ) × X) (es more : List (Bor (List ℕ) × X)) (v : X) (number : ℕ) (name : Text) →
+    ((n : ℕ) → numbered (keys_of es) n ≡ Some name → numbered (keys_of more) n ≡ Some name) →
+    numbered (keys_of (e ∷ es)) number ≡ Some name → numbered (keys_of (if test then (e.0, v) ∷ es else e ∷ more)) number ≡ Some name
+stays_by true e es more v zero name later h = h
+stays_by true e es more v (suc n) name later h = h
+stays_by false e es more v zero name later h = h
+stays_by false e es more v (suc n) name later h = later n h
+
+pub number_stays : {X : Type 0} (es : List (Bor (List ℕ) × X)) (k : Bor (List ℕ)) (v : X) (number : ℕ) (name : Text) →
+    numbered (keys_of es) number ≡ Some name → numbered (keys_of (insert_entry same_text es k v)) number ≡ Some name
+number_stays [] k v number name h = absurd (none-some name h)
+number_stays (e ∷ es) k v number name h =
+    stays_by (same_text k e.0) e es (insert_entry same_text es k v) v number name (λ n. number_stays es k v n name) h
+
+-- and has its own
+own_by : {X : Type 0} (test : Bool) (e : Bor (List ℕ) × X) (es more : List (Bor (List ℕ) × X)) (v : X) (later : ℕ) (name : Text) →
+    (test ≡ true → name ≡ e.0.now) → numbered (keys_of more) later ≡ Some name →
+    numbered (keys_of (if test then (e.0, v) ∷ es else e ∷ more)) (if not test then 1 + later else 0) ≡ Some name
+own_by true e es more v later name same h = ap Some (sym (same refl))
+own_by false e es more v later name same h =
+    let next : 1 + later ≡ suc later = omega arith in
+    ap (numbered (keys_of (e ∷ more))) next ∙ h
+
+pub number_of_inserted : {X : Type 0} (es : List (Bor (List ℕ) × X)) (k : Bor (List ℕ)) (v : X) →
+    numbered (keys_of (insert_entry same_text es k v)) (position_or_len (same_text k) (keys_of es)) ≡ Some k.now
+number_of_inserted [] k v = refl
+number_of_inserted (e ∷ es) k v =
+    own_by (same_text k e.0) e es (insert_entry same_text es k v) v (position_or_len (same_text k) (keys_of es)) k.now (bytes_eq-same k.now e.0.now) (number_of_inserted es k v)
+
+pub numbered-stay : (old new : List (Bor (List ℕ))) → ((number : ℕ) (name : Text) → numbered old number ≡ Some name → numbered new number ≡ Some name) →
+    (bound : List Bound) → AreNumbered old bound → AreNumbered new bound
+numbered-stay old new same [] h = tt
+numbered-stay old new same (b ∷ bs) h = (same b.number b.name.now h.0, numbered-stay old new same bs h.1)
+
+pub numbered-snoc : (names : List (Bor (List ℕ))) (bound : List Bound) (b : Bound) → AreNumbered names bound → numbered names b.number ≡ Some b.name.now → AreNumbered names (bound ++ b ∷ [])
+numbered-snoc names [] b h is = (is, tt)
+numbered-snoc names (x ∷ xs) b h is = (h.0, numbered-snoc names xs b h.1 is)
+
+pub numbered-init : (names : List (Bor (List ℕ))) (bound : List Bound) (b : Bound) → AreNumbered names (bound ++ b ∷ []) → AreNumbered names bound × (numbered names b.number ≡ Some b.name.now)
+numbered-init names [] b h = (tt, h.0)
+numbered-init names (x ∷ xs) b h = let more = numbered-init names xs b h.1 in ((h.0, more.0), more.1)
+
+-- the entry with a number
+entry_at : {X : Type 0} (es : List (Bor (List ℕ) × X)) (number : ℕ) (name : Text) → numbered (keys_of es) number ≡ Some name →
+    (k : Bor (List ℕ)) × (v : X) × (slice_get es number ≡ Some (k, v)) × (k.now ≡ name)
+entry_at [] number name h = absurd (none-some name h)
+entry_at (e ∷ es) zero name h = (e.0, e.1, refl, same_Some e.0.now name h)
+entry_at (e ∷ es) (suc n) name h = entry_at es n name h
+
+pub value_at : {X : Type 0} (es : List (Bor (List ℕ) × X)) (number : ℕ) (name : Text) → numbered (keys_of es) number ≡ Some name →
+    (v : X) × (slice_get (values_of es) number ≡ Some v)
+value_at [] number name h = absurd (none-some name h)
+value_at (e ∷ es) zero name h = (e.1, refl)
+value_at (e ∷ es) (suc n) name h = value_at es n name h
+
+-- what is written at the number of a name is what is found of it
+pub written_by_number : {S : Type 0} (map : IndexMap (Bor (List ℕ)) (Option ℕ) S) (bound : List Bound) (b : Bound) → IsUnique same_text map → numbered (keys map) b.number ≡ Some b.name.now →
+    Writes map (with_value_at map b.number b.hidden) bound b b.hidden
+written_by_number map bound b unique h =
+    let e = entry_at map.entries b.number b.name.now h in
+    subst (λ name. UpdatesBy same_text (λ k. bytes_eq name k.now) map (with_value_at map b.number b.hidden) (Some b.hidden)) e.3
+    (updates-with_value_at map b.number b.hidden same_text-equiv unique e.0 e.1 e.2)
 
 -- what is left of a list, as long as a place or the list itself, is what stands before that place
 pub left_at : (place : ℕ) (whole left : List Text) → left ≡ take (length left) whole → length left ≤ place → (place ≤ length whole → place ≤ length left) → (length whole ≤ place → length whole ≤ length left) → left ≡ take place whole

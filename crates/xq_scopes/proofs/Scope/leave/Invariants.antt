@@ -1,5 +1,5 @@
 use Rattle.std.proofs.Common.{◌≡◌, ◌≤◌, length, take}
-use Rattle.xq_plan.proofs.scopes.Scope.leave.Given as goal
+use Rattle.xq_scopes.proofs.Scope.leave.Given as goal
 
 abbrev pub invariant-loop-self : goal.invariant-loop-self
 invariant-loop-self l =

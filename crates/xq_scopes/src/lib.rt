@@ -1,6 +1,8 @@
 //! The variables in scope, in the order in which they were bound.
-ghost use Rattle.std.specs.Prelude.{◌≡◌, ◌-◌, [], ◌∷◌, ◌++◌, length, take, OnOk};
-ghost use Rattle.xq_plan.specs.private.Scopes.{last_place, from_place};
+#![tactic(auto)]
+
+ghost use Rattle.std.specs.Prelude.{◌≡◌, ◌-◌, [], ◌∷◌, ◌++◌, length, take, drop, OnOk, OnErr};
+ghost use Rattle.xq_scopes.specs.Scopes.{is_among, last_place, from_place};
 
 use indexmap::IndexMap;
 use std::alloc::{AllocError, Global};
@@ -10,6 +12,8 @@ use std::marker::Model;
 #[derive(Drop)]
 struct Bound<'a> {
     name: &'a str,
+    /// The number of its name.
+    number: usize,
     /// The place of the last binding before it with the same name, which this one hides.
     hidden: Option<usize>,
 }
@@ -18,19 +22,21 @@ struct Bound<'a> {
 #[derive(Drop)]
 pub struct Scope<'a> {
     bound: Vec<Bound<'a>>,
-    /// The place of the last binding of each name.
-    last: IndexMap<&'a str, usize>,
+    /// For each name that was ever bound the place of its last binding that is in scope. A name
+    /// stays, so it keeps its number, and leaving a scope reads no name.
+    last: IndexMap<&'a str, Option<usize>>,
 }
 
 impl<'a> Model for Scope<'a> {
     ghost use Rattle.std.specs.Prelude.{ℕ, List, []};
-    ghost use Rattle.xq_plan.specs.private.Scopes.{names_of, IsLast, AreHidden};
+    ghost use Rattle.indexmap.specs.IndexMap.{keys};
+    ghost use Rattle.xq_scopes.specs.private.Kept.{names_of, IsLast, AreHidden, AreNumbered};
 
     ghost Value = { List (List ℕ) };
 
     ghost view = { λ scope. names_of scope.bound.items };
 
-    ghost invariant = { λ scope. IsLast scope.last scope.bound.items × AreHidden [] scope.bound.items };
+    ghost invariant = { λ scope. IsLast scope.last scope.bound.items × AreHidden [] scope.bound.items × AreNumbered (keys scope.last) scope.bound.items };
 }
 
 impl<'a> Scope<'a> {
@@ -55,30 +61,57 @@ impl<'a> Scope<'a> {
     pub fn slot(&self, name: &str) -> Option<usize>
         ensures { result ≡ last_place name.now 0 self.now }
     {
-        self.last.get(name).copied()
+        match self.last.get(name) {
+            Some(last) => *last,
+            None => None,
+        }
     }
 
     /// The place of the last variable of this name among those from a place on, counted from there.
     pub fn slot_from(&self, place: usize, name: &str) -> Option<usize>
         ensures { result ≡ from_place place (last_place name.now 0 self.now) }
     {
-        match self.last.get(name) {
-            Some(last) if *last >= place => Some(*last - place),
+        match self.slot(name) {
+            Some(last) if last >= place => Some(last - place),
             _ => None,
         }
     }
 
-    /// Brings a variable into scope. It refuses only for want of memory.
+    /// Whether a variable of this name is in scope.
+    pub fn sees(&self, name: &str) -> bool
+        ensures { result ≡ is_among name.now self.now }
+    {
+        self.slot(name).is_some()
+    }
+
+    /// Whether one of the variables from a place on has this name.
+    pub fn sees_from(&self, place: usize, name: &str) -> bool
+        ensures { result ≡ is_among name.now (drop place self.now) }
+    {
+        match self.slot(name) {
+            Some(last) => last >= place,
+            None => false,
+        }
+    }
+
+    /// Brings a variable into scope. It refuses only for want of memory, and then leaves the scope
+    /// as it was.
     pub fn bind(&mut self, name: &'a str) -> Result<(), AllocError>
-        ensures { OnOk result (self.new ≡ self.old ++ name.now ∷ []) }
+        ensures bound { OnOk result (self.new ≡ self.old ++ name.now ∷ []) }
+        ensures kept { OnErr result (self.new ≡ self.old) }
     {
         let place = self.bound.len();
-        let hidden = self.last.get(name).copied();
-        self.bound.push(Bound { name, hidden })?;
-        if let Err(refused) = self.last.insert(name, place) {
-            self.bound.pop();
-            return Err(refused.into());
-        }
+        self.bound.reserve(1)?;
+        let (number, before) = self.last.insert_full(name, Some(place))?;
+        let hidden = match before {
+            Some(last) => last,
+            None => None,
+        };
+        self.bound.push_reserved(Bound {
+            name,
+            number,
+            hidden,
+        });
         Ok(())
     }
 
@@ -89,15 +122,8 @@ impl<'a> Scope<'a> {
         let Some(variable) = self.bound.pop() else {
             return;
         };
-        match variable.hidden {
-            Some(place) => {
-                if let Some(last) = self.last.get_mut(variable.name) {
-                    *last = place;
-                }
-            }
-            None => {
-                self.last.swap_remove(variable.name);
-            }
+        if let Some(last) = self.last.get_index_mut(variable.number) {
+            *last = variable.hidden;
         }
     }
 
