@@ -20,7 +20,7 @@ use Rattle.xq_values.specs.Content.{is_text, text_label, copied, run, spaced, fl
 use Rattle.xq_values.specs.Items.{Item, Node, Atom, tree_below}
 use Rattle.xq_build.specs.private.Leaves.{Leaf, leaves}
 use Rattle.xq_regions.specs.Forest.{EachNode}
-use Rattle.xq_regions.specs.Tree.{no_label, is_content, may_stand}
+use Rattle.xq_regions.specs.Tree.{IsTree, no_label, is_content, may_stand}
 use Rattle.xq_regions.specs.Node.{HasPath, label_at, below_at}
 use Rattle.xq_regions.specs.Order.{path_at}
 use Rattle.xq_regions.specs.declared.NodeRow.{NodeRow}
@@ -30,10 +30,9 @@ use Rattle.xq_regions.specs.declared.Kind.TheVariants.{Document, Element, Attrib
 use Rattle.xq_regions.proofs.Paths.{at_place}
 use Rattle.xq_sources.specs.Sources.{tree_at}
 use Rattle.xq_values.specs.Content.{copied_as}
-use Rattle.xq_values.specs.Items.{Place}
 use Rattle.xq_values.specs.Readings.{node_at}
 use Rattle.xq_build.specs.private.Leaves.{IsRowOf}
-use Rattle.xq_build.specs.private.Content.{so_far, Takes, Flattens}
+use Rattle.xq_build.specs.private.Content.{so_far}
 use Rattle.std.specs.Prelude.{IsTrue}
 use Rattle.xq_build.proofs.Subtrees.{length-leveled}
 use Rattle.xq_build.specs.private.Content.{open_text, longer, flattened_with, Childless, is_top_text, glued, put, merged_leaves, may_stand_first, AreApart, is_kept, labels_if, top_labels, raised, are_low}
@@ -290,15 +289,23 @@ leaves-injective t u e =
 
 -- # Texts of trees have nothing below them
 
-IsContent : Label → List Label → Type 0
+pub IsContent : Label → List Label → Type 0
 IsContent a below = IsTrue (is_content a below)
 
-content_at : (f : Forest Label) (p : List ℕ) → HasPath f p → EachNode IsContent f → IsContent (label_at no_label f p) (tops (below_at f p)) × EachNode IsContent (below_at f p)
+pub content_at : (f : Forest Label) (p : List ℕ) → HasPath f p → EachNode IsContent f → IsContent (label_at no_label f p) (tops (below_at f p)) × EachNode IsContent (below_at f p)
 content_at end p h c = absurd h
 content_at (node a k r) [] h c = absurd h
 content_at (node a k r) (zero ∷ []) h c = (c.0, c.1.0)
 content_at (node a k r) (zero ∷ i ∷ p) h c = content_at k (i ∷ p) h c.1.0
 content_at (node a k r) (suc i ∷ p) h c = content_at r (i ∷ p) h c.1.1
+
+pub content_is : (a : Label) (labels : List Label) → IsContent a labels → is_content a labels ≡ true
+unfolding IsContent
+content_is a labels h = h
+
+pub tree_content : (t : Tree) → IsTree t → EachNode IsContent (nodes t)
+unfolding IsContent
+tree_content t is = is.content
 
 text_alone : (k : Kind) (b : Label) (rest : Bool) → is_text k ≡ true → (may_stand k b.kind && rest) ≡ true → ⊥
 text_alone Document b rest e h = absurd (cc)
@@ -335,28 +342,6 @@ childless_node trees n row is =
     copied_childless s.root.kind s w.0 w.1
 
 -- # What code does step by step
-
-pub took_node : (trees : List Tree) (p : Place) (run : Option Text) (before mid after : List Leaf)
-    → mid ≡ before ++ leaves (open_text run) → after ≡ mid ++ leaves (copied (tree_below trees p)) → Childless (copied (tree_below trees p))
-    → Takes trees (Node p) before run after None
-took_node trees p run before mid after m e c = record {
-  is = λ xs.
-      (let x = leaves (copied (tree_below trees p)) in
-      let rest = leaves (flattened_with trees None xs) in
-      ap (λ (l : List Leaf). l ++ rest) (e ∙ ap (λ (l : List Leaf). l ++ x) m)
-      ∙ append_assoc (before ++ leaves (open_text run)) x rest ∙ append_assoc before (leaves (open_text run)) (x ++ rest)
-      ∙ ap (λ (l : List Leaf). before ++ l) (ap (λ (l : List Leaf). leaves (open_text run) ++ l) (sym (leaves-join (copied (tree_below trees p)) (flattened_with trees None xs)))
-      ∙ sym (leaves-join (open_text run) (join (copied (tree_below trees p)) (flattened_with trees None xs)))));
-  childless = λ xs h. Childless-join (open_text run) _ (Childless-open run) (Childless-join (copied (tree_below trees p)) _ c h);
-}
-
-pub flattened_all : (trees : List Tree) (run : Option Text) (left xs : List Item) (before after : List Leaf)
-    → left ≡ [] → after ≡ before ++ leaves (open_text run) → so_far trees before run left ≡ so_far trees [] None xs
-    → (Childless (flattened_with trees run left) → Childless (flattened_with trees None xs)) → Flattens trees xs after
-flattened_all trees run left xs before after none e s c = record {
-  is = e ∙ ap (λ (ys : List Item). so_far trees before run ys) (sym none) ∙ s ∙ ap leaves (sym (flattened-with trees xs));
-  childless = subst Childless (sym (flattened-with trees xs)) (c (subst (λ (ys : List Item). Childless (flattened_with trees run ys)) (sym none) (Childless-open run)));
-}
 
 -- a row more
 pub merged_next : (all now rows : List NodeRow) (row : NodeRow)

@@ -3,3 +3,4 @@ pub mod Written
 pub mod Contents
 pub mod Judges
 pub mod Spelling
+pub mod Surpluses

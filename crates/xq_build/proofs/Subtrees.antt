@@ -194,7 +194,7 @@ module _ (trees : List Tree) (n : Node) (row : NodeRow) (is : IsRowOf trees n ro
   below : Below t n.pre
   below = below_node t n.pre is.has_node.node_in
 
-  label : (row_of row).label ≡ s.root
+  pub label : (row_of row).label ≡ s.root
   label = ap (λ (r : Row). r.label) is.is_row ∙ below.label
 
   below_leaves : leaves_between t (n.pre + 1) (n.pre + row.size) ≡ leveled (suc row.level) s.below

@@ -1,6 +1,6 @@
 //! Content of elements and documents (XQuery 3.1, section 3.9.1.3), as rows whose levels begin
 //! at 0.
-ghost use Rattle.std.specs.Prelude.{◌≡◌, ◌++◌, ◌∷◌, [], List, map, filter, string_bytes, IfOk, OnOk};
+ghost use Rattle.std.specs.Prelude.{◌≡◌, ◌++◌, ◌∷◌, [], List, true, map, filter, string_bytes, IfOk, OnOk};
 ghost use Rattle.std.specs.Option.{option_map};
 ghost use Rattle.xq_atoms.specs.Atom.{atomic_of};
 ghost use Rattle.xq_atoms.specs.Cast.{text_of};
@@ -9,9 +9,12 @@ ghost use Rattle.xq_regions.specs.Print.{flat_row};
 ghost use Rattle.xq_values.specs.Content.{content as content_lem};
 ghost use Rattle.xq_values.specs.Readings.{item_at, items_at};
 ghost use Rattle.xq_build.specs.private.Leaves.{Leaf, leaves};
-ghost use Rattle.xq_build.specs.private.Content.{longer, open_text, is_top_text as is_top_text_lem, glued as glued_lem, merged_leaves, AreApart, is_kept as is_kept_lem, Takes, Flattens};
+ghost use Rattle.xq_build.specs.private.Content.{longer, open_text, is_top_text as is_top_text_lem, glued as glued_lem, merged_leaves, AreApart, is_kept as is_kept_lem};
+ghost use Rattle.xq_build.specs.private.Surplus.{is_full, AreSeen, StandsFor, Takes, Flattens};
 
 use crate::copies::append_content;
+use crate::surplus::{Gauge, append_judged};
+use indexmap::IndexSet;
 use std::alloc::Global;
 use xq_atoms::{Atom, Want};
 use xq_regions::{Item, Kind, NodeRow};
@@ -50,18 +53,23 @@ fn append_run(alloc: Global, rows: &mut Vec<NodeRow>, run: Option<String>) -> Re
 }
 
 /// Adds an item's nodes, after the run of atomic values before it; an atomic value lengthens the
-/// run instead.
+/// run instead. After rows that are known to be too many a node is judged, and not copied.
 fn take_item<L: RowLender>(
     alloc: Global,
     source: &mut L,
     rows: &mut Vec<NodeRow>,
+    seen: &mut IndexSet<usize>,
+    full: bool,
     run: Option<String>,
     item: &Item,
 ) -> Result<Option<String>, Want>
-    ensures takes { L.is_clean source.new → IfOk result (λ next. Takes (L.forest source.old)
+    ensures takes { L.is_clean source.new
+        → (full ≡ true → is_full (map flat_row rows.old.items) ≡ true)
+        → AreSeen (L.forest source.old) (map flat_row rows.old.items) seen.old.keys
+        → IfOk result (λ next. Takes (L.forest source.old)
         (item_at (L.forest source.old) (item_view item.now))
         (map flat_row rows.old.items) (option_map string_bytes run)
-        (map flat_row rows.new.items) (option_map string_bytes next)) }
+        (map flat_row rows.new.items) (option_map string_bytes next) seen.new.keys) }
     ensures keeps { L.forest source.new ≡ L.forest source.old }
     ensures was_clean { L.is_clean source.new → L.is_clean source.old }
 {
@@ -69,13 +77,18 @@ fn take_item<L: RowLender>(
         Item::Atom(atom) => Ok(Some(lengthened(alloc, run, atom)?)),
         Item::Node(node) => {
             append_run(alloc, rows, run)?;
+            if full {
+                append_judged(alloc, source, rows, seen, *node)?;
+                return Ok(None);
+            }
             append_content(alloc, source, rows, *node)?;
             Ok(None)
         }
     }
 }
 
-/// The items as nodes, still with texts side by side and empty ones.
+/// The items as nodes, still with texts side by side and empty ones. Where they are too many,
+/// nodes that are judged as these are, no more than are needed for that.
 fn flattened<L: RowLender>(
     alloc: Global,
     source: &mut L,
@@ -87,16 +100,19 @@ fn flattened<L: RowLender>(
     ensures was_clean { L.is_clean source.new → L.is_clean source.old }
 {
     let mut rows = Vec::new(alloc);
+    let mut seen = IndexSet::new(alloc);
+    let mut gauge = Gauge::new();
     let mut run = None;
     for item in items {
-        run = take_item(alloc, source, &mut rows, run, item)?;
+        let full = gauge.reads(&rows);
+        run = take_item(alloc, source, &mut rows, &mut seen, full, run, item)?;
     }
     append_run(alloc, &mut rows, run)?;
     Ok(rows)
 }
 
 /// Whether the row is that of a text at the top.
-fn is_top_text(row: &NodeRow) -> bool
+pub fn is_top_text(row: &NodeRow) -> bool
     ensures { result ≡ is_top_text_lem (flat_row row.now) }
 {
     row.level == 0 && row.kind == Kind::Text
@@ -180,14 +196,15 @@ fn without_empty_texts(alloc: Global, rows: Vec<NodeRow>) -> Result<Vec<NodeRow>
     Ok(kept)
 }
 
-/// The content that the items make.
+/// The content that the items make, or where it has too many nodes to stand in a tree, nodes that
+/// are judged as it is: from where that is known on, no node is copied.
 pub fn content<L: RowLender>(
     alloc: Global,
     source: &mut L,
     items: &[Item],
 ) -> Result<Vec<NodeRow>, Want>
-    ensures content { L.is_clean source.new → IfOk result (λ rows. map flat_row rows.items
-        ≡ leaves (content_lem (L.forest source.old)
+    ensures content { L.is_clean source.new → IfOk result (λ rows. StandsFor
+        (map flat_row rows.items) (content_lem (L.forest source.old)
         (items_at (L.forest source.old) (map item_view items.now)))) }
     ensures keeps { L.forest source.new ≡ L.forest source.old }
     ensures was_clean { L.is_clean source.new → L.is_clean source.old }

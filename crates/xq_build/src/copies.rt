@@ -126,7 +126,7 @@ fn append_below<L: RowLender>(
 }
 
 /// Adds copies of the node and of all that is below it.
-fn append_whole<L: RowLender>(
+pub fn append_whole<L: RowLender>(
     alloc: Global,
     source: &mut L,
     copies: &mut Vec<NodeRow>,

@@ -5,8 +5,8 @@ ghost use Rattle.xq_regions.specs.Tree.{Label};
 ghost use Rattle.xq_regions.specs.Print.{flat_row};
 ghost use Rattle.xq_values.specs.Content.{attribute_fault, built as built_lem, label};
 ghost use Rattle.xq_build.specs.Gives.{Gives};
-ghost use Rattle.xq_build.specs.private.Leaves.{leaves};
 ghost use Rattle.xq_build.specs.private.Content.{are_low as are_low_lem, raised as raised_lem, fault_from, names_of, JudgedAs, JudgesLeaf};
+ghost use Rattle.xq_build.specs.private.Surplus.{StandsFor};
 
 use indexmap::IndexSet;
 use std::alloc::Global;
@@ -71,7 +71,7 @@ fn judge_attributes(alloc: Global, parent: Kind, rows: &[NodeRow]) -> Result<(),
 }
 
 /// Whether no level is over that of the children of the lowest nodes but one.
-fn are_low(rows: &[NodeRow]) -> bool
+pub fn are_low(rows: &[NodeRow]) -> bool
     ensures { result ≡ are_low_lem (map flat_row rows.now) }
 {
     for row in rows {
@@ -105,14 +105,15 @@ fn with_root(alloc: Global, root: NodeRow, content: Vec<NodeRow>) -> Result<Vec<
     Ok(rows)
 }
 
-/// The tree of a root with the content below it, where that may stand there.
+/// The tree of a root with the content below it, where that may stand there. Content of too many
+/// nodes may be such as is judged alike.
 pub fn built(
     alloc: Global,
     kind: Kind,
     name: String,
     content: Vec<NodeRow>,
 ) -> Result<Fragment, Fault>
-    ensures { (f : Forest Label) → map flat_row content.items ≡ leaves f
+    ensures { (f : Forest Label) → StandsFor (map flat_row content.items) f
         → Gives (λ tree. tree) (built_lem (label kind (string_bytes name) []) f) result }
 {
     judge_attributes(alloc, kind, &content)?;

@@ -9,6 +9,7 @@ mod kinds;
 mod leaves;
 mod names;
 mod printer;
+mod surplus;
 mod values;
 
 pub use elements::{document, element};

@@ -11,7 +11,7 @@ use Rattle.xq_regions.specs.Tree.{Label, Tree}
 use Rattle.xq_regions.specs.declared.Kind.{Kind}
 use Rattle.indexmap.specs.IndexSet.{IndexSet}
 use denote.Ref.{Bor}
-use Rattle.xq_values.specs.Content.{is_text, text_label, copied, flattened, first_fault}
+use Rattle.xq_values.specs.Content.{is_text, text_label, copied, first_fault}
 use Rattle.xq_values.specs.Items.{Item, Node, Atom, tree_below}
 use Rattle.xq_build.specs.private.Leaves.{Leaf, leaves}
 
@@ -92,16 +92,6 @@ JudgedAs fault (Err (OfWant want)) = Unit {0}
 -- leaves so far, and the text of a run that is open, with more items after them
 abbrev pub so_far : List Tree → List Leaf → Option Text → List Item → List Leaf
 so_far trees ps run xs = ps ++ leaves (flattened_with trees run xs)
-
--- an item was taken
-pub record Takes (trees : List Tree) (x : Item) (before : List Leaf) (run : Option Text) (after : List Leaf) (next : Option Text) : Type 0 where
-  pub is : (xs : List Item) → so_far trees after next xs ≡ so_far trees before run (x ∷ xs)
-  pub childless : (xs : List Item) → Childless (flattened_with trees next xs) → Childless (flattened_with trees run (x ∷ xs))
-
--- the leaves of the items as nodes
-pub record Flattens (trees : List Tree) (xs : List Item) (ps : List Leaf) : Type 0 where
-  pub is : ps ≡ leaves (flattened trees xs)
-  pub childless : Childless (flattened trees xs)
 
 -- # Judging nodes one after another
 

@@ -1,10 +1,18 @@
-use Rattle.std.proofs.Common.{◌∙◌, ap}
+use Rattle.std.proofs.Common.{◌∙◌, ap, sym, subst, List, map}
 use Rattle.std.specs.Prelude.{filter}
-use Rattle.xq_build.specs.private.Content.{merged_leaves, is_kept}
-use Rattle.xq_build.proofs.Contents.{content_leaves}
+use Rattle.xq_regions.specs.Items.{item_view}
+use Rattle.xq_regions.specs.Print.{flat_row}
+use Rattle.xq_values.specs.Content.{content}
+use Rattle.xq_values.specs.Readings.{items_at}
+use Rattle.xq_build.specs.private.Leaves.{Leaf}
+use Rattle.xq_build.specs.private.Content.{is_kept}
+use Rattle.xq_build.specs.private.Surplus.{StandsFor}
+use Rattle.xq_build.proofs.Surpluses.{content_stands}
 use Rattle.xq_build.proofs.content.content.Goals as goal
 
 pub returns-clause-content : goal.returns-clause-content
 returns-clause-content g c = λ h.
-    (let all = c.in_ok-rows.ensures.flattens h in
-    c.in_ok-rows-3.ensures ∙ ap (filter is_kept) (c.in_ok-rows-2.ensures ∙ ap merged_leaves all.is) ∙ content_leaves _ all.childless)
+    (let trees = g.L.TreeSource.forest c.args.source.now in
+    let xs = items_at trees (map item_view c.args.items.now) in
+    let e = c.in_ok-rows-3.ensures ∙ ap (filter is_kept) c.in_ok-rows-2.ensures in
+    subst (λ (ps : List Leaf). StandsFor ps (content trees xs)) (sym e) (content_stands trees xs (map flat_row c.in_ok-rows.rows.items) (c.in_ok-rows.ensures.flattens h)))
