@@ -18,6 +18,19 @@ def lines_of(crates):
         return [line for line in lines if line.split(":")[0] in crates]
 
 
+def crates_below(uses):
+    """These crates of the repository, and those that they stand on."""
+    with open(os.path.join(TOP, "crates.txt")) as lines:
+        below = {line.split(":")[0]: line.split(":")[1].split() for line in lines if not line.startswith("#")}
+    found, left = set(), list(uses)
+    while left:
+        crate = left.pop()
+        if crate in below and crate not in found:
+            found.add(crate)
+            left += below[crate]
+    return found
+
+
 def begin(folder, crates, leave_out=("incremental", "must-fail")):
     """Makes the folder a workspace of copies of the crates, with what is built of them."""
     for crate in crates:

@@ -54,3 +54,19 @@ pub fn assert_answers(rt: &(impl Abort + AllocGlobal), rows: &[(&str, &str)]) {
         assert_eq!(rt; found.as_str(), *wanted, "{query}");
     }
 }
+
+/// Asserts that each query has its answer, or names want of memory and has its answer when it is
+/// asked again. With ample memory that is the same; `tools/each_allocation.sh` refuses each
+/// allocation in turn.
+pub fn assert_answers_or_memory(rt: &(impl Abort + AllocGlobal), rows: &[(&str, &str)]) {
+    for (query, wanted) in rows {
+        let found = match answer(rt.alloc(), query) {
+            Ok(text) => text,
+            Err(want) => {
+                assert_eq!(rt; want, Want::Memory, "{query}");
+                answer(rt.alloc(), query).expect(rt, wanted)
+            }
+        };
+        assert_eq!(rt; found.as_str(), *wanted, "{query}");
+    }
+}

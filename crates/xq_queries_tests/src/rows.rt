@@ -1,6 +1,6 @@
 //! Rows of queries and their replies.
 
-use crate::asked::assert_answers;
+use crate::asked::{assert_answers, assert_answers_or_memory};
 
 /// Paths over a stored document (XQuery 3.1, section 3.3).
 const PATHS: [(&str, &str); 12] = [
@@ -212,4 +212,29 @@ fn values(rt: HostRuntime) {
 #[test]
 fn refusals(rt: HostRuntime) {
     assert_answers(&rt, &REFUSALS);
+}
+
+#[test]
+fn each_allocation_of_paths(rt: HostRuntime) {
+    assert_answers_or_memory(&rt, &PATHS);
+}
+
+#[test]
+fn each_allocation_of_flwor(rt: HostRuntime) {
+    assert_answers_or_memory(&rt, &FLWOR);
+}
+
+#[test]
+fn each_allocation_of_constructors(rt: HostRuntime) {
+    assert_answers_or_memory(&rt, &CONSTRUCTORS);
+}
+
+#[test]
+fn each_allocation_of_values(rt: HostRuntime) {
+    assert_answers_or_memory(&rt, &VALUES);
+}
+
+#[test]
+fn each_allocation_of_refusals(rt: HostRuntime) {
+    assert_answers_or_memory(&rt, &REFUSALS);
 }

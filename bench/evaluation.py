@@ -1,0 +1,64 @@
+#!/usr/bin/env python3
+"""Times of queries over a document in memory, with no server and no database: a source of fragments.
+
+    bench/evaluation.py [FOLDER]     builds bench/evaluation/main.rattle in the folder, unless an earlier call did
+
+The queries and the document are those of bench/queries.py, of 10,000 and of 100,000 elements. For each: the
+milliseconds for both sizes, the least of five turns, reading and planning of the query included; how many times
+as long the larger takes; the rows that it reads; and what two engines that hold their trees in memory took for
+100,000 elements on another machine.
+"""
+import os
+import subprocess
+import sys
+import tempfile
+
+TOP = os.path.join(os.path.dirname(os.path.abspath(__file__)), "..")
+sys.path[:0] = [os.path.join(TOP, "tools"), os.path.join(TOP, "bench")]
+from queries import QUERIES, document
+from workspace import built, crates_below
+
+USES = ("xq_atoms", "xq_queries", "xq_sources", "xq_worlds")
+# The most that a time may grow where the document grows tenfold.
+MOST = 13
+TURNS = 5
+
+
+def program_in(folder):
+    """The program's path; it is built if it isn't there."""
+    path = os.path.join(folder, "crates", "program", "out", "program")
+    if os.path.exists(path):
+        return path
+    with open(os.path.join(TOP, "bench", "evaluation", "main.rattle")) as source:
+        return built(folder, crates_below(USES), USES, source.read())
+
+
+def figures(program, elements):
+    """For each query the least milliseconds, the reply's bytes and the rows that were read."""
+    lines = [document(elements)] + [query for _, query, *_ in QUERIES]
+    text = "\n".join(line.replace("\n", " ") for line in lines)
+    done = subprocess.run([program], input=text.encode(), stdout=subprocess.PIPE, check=True)
+    found = [line.split() for line in done.stdout.decode().splitlines()]
+    if len(found) != TURNS * len(QUERIES) or any(len(words) != 4 for words in found):
+        sys.exit(done.stdout.decode()[-300:])
+    turns = [[int(word) for word in words] for words in found]
+    groups = [turns[n:n + TURNS] for n in range(0, len(turns), TURNS)]
+    return [(min(turn[0] for turn in group) / 1000, group[-1][1], group[-1][2]) for group in groups]
+
+
+def main():
+    with tempfile.TemporaryDirectory() as scratch:
+        program = program_in(sys.argv[1] if len(sys.argv) > 1 else scratch)
+        small, large = figures(program, 10_000), figures(program, 100_000)
+    print("| Query | 10,000 | 100,000 | growth | rows read | A | B |")
+    print("|---|---|---|---|---|---|---|")
+    within = True
+    for (name, _, *others), (before, *_), (time, _, rows) in zip(QUERIES, small, large):
+        within = within and time / before <= MOST
+        print(f"| {name} | {before:.1f} | {time:.1f} | {time / before:.1f} | {rows} | {others[0]} | {others[1]} |")
+    print(f"each at most {MOST} times for ten times the elements: {'yes' if within else 'no'}")
+    return 0 if within else 1
+
+
+if __name__ == "__main__":
+    sys.exit(main())
