@@ -17,7 +17,8 @@ use xq_regions::NodeRow;
 /// How many rows are read at a time.
 const PART: u32 = 1_024;
 
-/// How many rows are kept of all documents together, beside those of the one that is being read.
+/// How many rows are kept of all documents together. Where there are more, those of each but the
+/// one that is wanted are forgotten before it is read on.
 const MOST_KEPT: usize = 1_000_000;
 
 /// The addresses of the documents of a store, in the order of their bytes, and at the same place
@@ -26,7 +27,7 @@ const MOST_KEPT: usize = 1_000_000;
 pub(crate) struct Shelf {
     pub addresses: Vec<String>,
     pub fronts: Vec<Vec<NodeRow>>,
-    /// How many rows were read since all but one document were last forgotten.
+    /// How many rows that are in all.
     pub kept: usize,
 }
 
@@ -71,8 +72,8 @@ fn make_room(alloc: Global, shelf: &mut Shelf, tree: usize)
     if shelf.kept <= MOST_KEPT {
         return;
     }
-    shelf.kept = 0;
     forget_others(alloc, &mut shelf.fronts, tree);
+    shelf.kept = front_of(&shelf.fronts, tree).len();
 }
 
 /// Reads the document of an address on, a part at a time, until its rows reach a place or are all

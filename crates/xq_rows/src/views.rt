@@ -33,11 +33,15 @@ impl Origin for Brand {
 }
 
 /// The documents of a store: tree n is the document of the n-th address, in the order of their
-/// bytes. Its rows are read where they lie, by a statement for each call, and counted; nothing
-/// else of them is kept. It has the store until [`View::into_store`] gives it back, so nothing
-/// changes a document meanwhile.
+/// bytes. It has the store until [`View::into_store`] gives it back, so nothing changes a document
+/// meanwhile.
 ///
-/// Contracts see the store, the addresses and what the meter shows.
+/// As a source it reads rows where they lie, by a statement for each call. As a lender it keeps the
+/// first rows of each document, reads them on a part at a time where a row beyond them is wanted,
+/// and lends them without a copy. What it gives and what it lends is counted, and not what it
+/// reads.
+///
+/// Contracts see the store, the addresses, what the meter shows and what is lent.
 #[derive(Drop)]
 pub struct View<S: Alter, O: Origin> {
     pub(crate) store: Store<S>,
