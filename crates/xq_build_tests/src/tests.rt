@@ -274,3 +274,107 @@ fn names_are_judged(rt: HostRuntime) -> Result<(), Fault> {
     }
     Ok(())
 }
+
+/// An element with so many empty elements in it.
+fn wide(alloc: Global, count: u32) -> Result<Fragment, Fault> {
+    let mut rows = Vec::new(alloc);
+    push(alloc, &mut rows, 0, Kind::Element, "w", "")?;
+    for _child in 0..count {
+        push(alloc, &mut rows, 1, Kind::Element, "c", "")?;
+    }
+    Fragment::from_levels(rows).ok_or(Fault::Want(Want::Store))
+}
+
+/// Elements inside one another, the last one at the level, with an attribute one level below it.
+fn deep(alloc: Global, level: u32) -> Result<Fragment, Fault> {
+    let mut rows = Vec::new(alloc);
+    for above in 0..level {
+        push(alloc, &mut rows, above, Kind::Element, "d", "")?;
+    }
+    push(alloc, &mut rows, level, Kind::Attribute, "a", "")?;
+    Fragment::from_levels(rows).ok_or(Fault::Want(Want::Store))
+}
+
+/// The node so often, and then the last one.
+fn many(alloc: Global, item: Node, count: u32, last: Node) -> Result<Vec<Item>, Fault> {
+    let mut items = Vec::new(alloc);
+    for _copy in 0..count {
+        items.push(Item::Node(item))?;
+    }
+    items.push(Item::Node(last))?;
+    Ok(items)
+}
+
+#[test]
+fn levels_over_the_limit_are_refused(rt: HostRuntime) -> Result<(), Fault> {
+    let alloc = rt.alloc();
+    let mut trees = Fragments::new(alloc);
+    trees.push(deep(alloc, 99)?)?;
+    trees.push(deep(alloc, 100)?)?;
+    let made = element(alloc, &mut trees, owned(alloc, "e")?, &[node(0, 0)])?;
+    assert_eq!(rt; made.rows().len(), 101);
+    let made = element(alloc, &mut trees, owned(alloc, "e")?, &[node(1, 0)]);
+    assert_refused(&rt, made, Code::ProfLevel);
+    let made = element(alloc, &mut trees, owned(alloc, "e")?, &[node(1, 1)])?;
+    assert_eq!(rt; made.rows().len(), 101);
+    let made = document(alloc, &mut trees, &[node(0, 0), node(1, 0)]);
+    assert_refused(&rt, made, Code::ProfLevel);
+    Ok(())
+}
+
+/// Refuses content of a hundred million nodes, and what is worse at its end before that.
+fn refuses_far_too_many<L: RowLender>(
+    rt: &impl Abort,
+    alloc: Global,
+    lender: &mut L,
+) -> Result<(), Fault> {
+    let wide = Node { tree: 0, pre: 0 };
+    let child = Node { tree: 0, pre: 1 };
+    let high = Node { tree: 1, pre: 0 };
+    let attribute = Node { tree: 1, pre: 100 };
+    for (last, code) in [
+        (child, Code::ProfNodes),
+        (high, Code::ProfLevel),
+        (attribute, Code::XQTY0024),
+    ] {
+        let items = many(alloc, wide, 10_000, last)?;
+        let made = element(alloc, lender, owned(alloc, "e")?, &items);
+        assert_refused(rt, made, code);
+    }
+    let items = many(alloc, wide, 1_000, attribute)?;
+    assert_refused(rt, document(alloc, lender, &items), Code::XPTY0004);
+    Ok(())
+}
+
+#[test]
+fn nodes_over_the_limit_are_refused(rt: HostRuntime) -> Result<(), Fault> {
+    let alloc = rt.alloc();
+    let mut trees = Fragments::new(alloc);
+    trees.push(wide(alloc, 9_999)?)?;
+    trees.push(deep(alloc, 100)?)?;
+    let root = Node { tree: 0, pre: 0 };
+    let child = Node { tree: 0, pre: 1 };
+    let items = many(alloc, root, 100, child)?;
+    let made = element(alloc, &mut trees, owned(alloc, "e")?, &items);
+    assert_refused(&rt, made, Code::ProfNodes);
+    refuses_far_too_many(&rt, alloc, &mut trees)
+}
+
+#[test]
+fn replies_over_the_limit_are_refused(rt: HostRuntime) -> Result<(), Fault> {
+    let alloc = rt.alloc();
+    let mut value = String::new(alloc);
+    for _letter in 0..1_000_000 {
+        value.push('a')?;
+    }
+    let mut trees = Fragments::new(alloc);
+    trees.push(text(alloc, value)?)?;
+    let letters = Node { tree: 0, pre: 0 };
+    let items = many(alloc, letters, 15, letters)?;
+    let printed = print_items(alloc, &mut trees, &items)?;
+    assert_eq!(rt; printed.len(), 16_000_174);
+    let items = many(alloc, letters, 16, letters)?;
+    let refused = print_items(alloc, &mut trees, &items);
+    assert_eq!(rt; refused.err(), Some(Fault::Code(Code::ProfReply)));
+    Ok(())
+}
