@@ -5,3 +5,4 @@ pub mod Widths
 pub mod Flwor
 pub mod Groups
 pub mod Walks
+pub mod Shapes

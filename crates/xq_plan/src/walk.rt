@@ -5,6 +5,7 @@ ghost use Rattle.xq_meaning.specs.declared.plans.Plan.TheVariants as plan;
 ghost use Rattle.xq_meaning.specs.Meaning.{position_name};
 ghost use Rattle.xq_meaning.specs.Same.{IsPlan};
 ghost use Rattle.xq_plan.specs.private.Plans as plans;
+ghost use Rattle.xq_plan.specs.private.Shapes as shapes;
 
 use crate::copies::{test, text};
 use sqlite_items::{Boxed, Items};
@@ -23,6 +24,7 @@ pub fn expression<'a>(
     core: &'a Core,
 ) -> Result<Plan, AllocError>
     ensures planned { IfOk result (λ plan. IsPlan scope.old core.now plan) }
+    ensures shape { IfOk result (λ plan. shapes.HasShape core.now plan) }
     ensures kept { OnOk result (scope.new ≡ scope.old) }
 {
     match core {
@@ -102,6 +104,7 @@ fn boxed<'a>(
     core: &'a Core,
 ) -> Result<Boxed<Plan>, AllocError>
     ensures planned { IfOk result (λ plan. IsPlan scope.old core.now plan) }
+    ensures shape { IfOk result (λ plan. shapes.HasShape core.now plan) }
     ensures kept { OnOk result (scope.new ≡ scope.old) }
 {
     Boxed::new(alloc, expression(alloc, scope, core)?)
@@ -132,6 +135,7 @@ fn expressions<'a>(
     cores: &'a [Core],
 ) -> Result<Items<Plan>, AllocError>
     ensures planned { IfOk result (λ found. plans.AreAll (IsPlan scope.old) cores.now found) }
+    ensures literals { IfOk result (λ found. plans.AreAll shapes.IsLiteral cores.now found) }
     ensures kept { OnOk result (scope.new ≡ scope.old) }
 {
     let mut found = Items::new(alloc);
@@ -167,6 +171,7 @@ fn steps<'a>(
     parts: &'a [Core],
 ) -> Result<Items<PlanStep>, AllocError>
     ensures planned { IfOk result (λ found. plans.AreAll (plans.IsStep scope.old) parts.now found) }
+    ensures scans { IfOk result (λ found. plans.AreAll shapes.IsScan parts.now found) }
     ensures kept { OnOk result (scope.new ≡ scope.old) }
 {
     let mut found = Items::new(alloc);
@@ -178,7 +183,8 @@ fn steps<'a>(
 
 /// What follows a slash: a scan, where it is a step without predicates.
 fn step(part: Plan) -> PlanStep
-    ensures { plans.IsScanOrPart part result }
+    ensures same { plans.IsScanOrPart part result }
+    ensures scan { shapes.BecomesScan part result }
 {
     match part {
         Plan::Step(axis, tested, predicates) => {

@@ -6,7 +6,11 @@ use Rattle.xq_meaning.specs.declared.plans.Plan.TheVariants as plan
 use Rattle.xq_meaning.specs.declared.plans.PlanClause.TheVariants as plan_clause
 use Rattle.xq_meaning.specs.Same.{IsPlan}
 use Rattle.xq_plan.specs.private.Plans.{AreAll, AreRanges, AreClauses, IsClause, IsOperand, IsStep, IsKey}
+use Rattle.xq_meaning.specs.declared.normal_forms.Core.{out-Core}
+use Rattle.xq_meaning.specs.declared.normal_forms.Core.TheOpen.{Core-F}
+use Rattle.xq_plan.specs.private.Shapes.{IsLiteral, IsCall, IsScan, HasShape}
 use Rattle.xq_plan.proofs.Forms as forms
+use Rattle.xq_plan.proofs.Shapes.{IsPart, IsStepOrScan, shape_at, all_are, step_shape, scan_of}
 use Rattle.xq_plan.proofs.Walks.{left_next, left_done, range_next, ranges_done, clause_next, clauses_done, for_clause, let_clause, where_clause, order_clause, flwor_is, quantified_is, as_is, part_at, list_at, asked}
 use Rattle.xq_plan.proofs.walk.+walk.Goals as goal
 
@@ -150,12 +154,18 @@ assignment-returns-clause-planned t c =
 
 pub expressions-loop-core-preserved : goal.expressions-loop-core-preserved
 expressions-loop-core-preserved t c =
-    left_next IsPlan c.args.cores.now c.loop-core.core-index c.args.scope.now c.loop-core.scope c.loop-core.found c.loop-core.invariant c.expression.new.scope c.core-item.result c.in_ok-expression.field-0 c.push.new.self
-    (omega (arith, c.loop-core-test.true)) c.core-item.is c.in_ok-expression.ensures.planned c.in_ok-expression.ensures.kept c.in_ok-push.ensures.ok
+    left_next IsPart c.args.cores.now c.loop-core.core-index c.args.scope.now c.loop-core.scope c.loop-core.found c.loop-core.invariant c.expression.new.scope c.core-item.result c.in_ok-expression.field-0 c.push.new.self
+    (omega (arith, c.loop-core-test.true)) c.core-item.is (c.in_ok-expression.ensures.planned, c.in_ok-expression.ensures.shape.0) c.in_ok-expression.ensures.kept c.in_ok-push.ensures.ok
 
 pub expressions-returns-clause-planned : goal.expressions-returns-clause-planned
 expressions-returns-clause-planned t c =
-    left_done IsPlan c.args.cores.now c.loop-core.core-index c.args.scope.now c.loop-core.scope c.loop-core.found c.loop-core.invariant (omega (arith, c.loop-core-test.false))
+    all_are (IsPart c.args.scope.now) (IsPlan c.args.scope.now) (λ x y h. h.0) c.args.cores.now c.loop-core.found
+    (left_done IsPart c.args.cores.now c.loop-core.core-index c.args.scope.now c.loop-core.scope c.loop-core.found c.loop-core.invariant (omega (arith, c.loop-core-test.false)))
+
+pub expressions-returns-clause-literals : goal.expressions-returns-clause-literals
+expressions-returns-clause-literals t c =
+    all_are (IsPart c.args.scope.now) IsLiteral (λ x y h. h.1) c.args.cores.now c.loop-core.found
+    (left_done IsPart c.args.cores.now c.loop-core.core-index c.args.scope.now c.loop-core.scope c.loop-core.found c.loop-core.invariant (omega (arith, c.loop-core-test.false)))
 
 pub operands-loop-operator-preserved : goal.operands-loop-operator-preserved
 operands-loop-operator-preserved t c =
@@ -168,12 +178,18 @@ operands-returns-clause-planned t c =
 
 pub steps-loop-part-preserved : goal.steps-loop-part-preserved
 steps-loop-part-preserved t c =
-    left_next IsStep c.args.parts.now c.loop-part.part-index c.args.scope.now c.loop-part.scope c.loop-part.found c.loop-part.invariant c.expression.new.scope c.part-item.result c.step.result c.push.new.self
-    (omega (arith, c.loop-part-test.true)) c.part-item.is (forms.part_step c.loop-part.scope c.part-item.result c.in_ok-expression.field-0 c.step.result c.in_ok-expression.ensures.planned c.step.ensures) c.in_ok-expression.ensures.kept c.in_ok-push.ensures.ok
+    left_next IsStepOrScan c.args.parts.now c.loop-part.part-index c.args.scope.now c.loop-part.scope c.loop-part.found c.loop-part.invariant c.expression.new.scope c.part-item.result c.step.result c.push.new.self
+    (omega (arith, c.loop-part-test.true)) c.part-item.is (forms.part_step c.loop-part.scope c.part-item.result c.in_ok-expression.field-0 c.step.result c.in_ok-expression.ensures.planned c.step.ensures.same, scan_of c.part-item.result c.in_ok-expression.field-0 c.step.result c.in_ok-expression.ensures.shape.2 c.step.ensures.scan) c.in_ok-expression.ensures.kept c.in_ok-push.ensures.ok
 
 pub steps-returns-clause-planned : goal.steps-returns-clause-planned
 steps-returns-clause-planned t c =
-    left_done IsStep c.args.parts.now c.loop-part.part-index c.args.scope.now c.loop-part.scope c.loop-part.found c.loop-part.invariant (omega (arith, c.loop-part-test.false))
+    all_are (IsStepOrScan c.args.scope.now) (IsStep c.args.scope.now) (λ x y h. h.0) c.args.parts.now c.loop-part.found
+    (left_done IsStepOrScan c.args.parts.now c.loop-part.part-index c.args.scope.now c.loop-part.scope c.loop-part.found c.loop-part.invariant (omega (arith, c.loop-part-test.false)))
+
+pub steps-returns-clause-scans : goal.steps-returns-clause-scans
+steps-returns-clause-scans t c =
+    all_are (IsStepOrScan c.args.scope.now) IsScan (λ x y h. h.1) c.args.parts.now c.loop-part.found
+    (left_done IsStepOrScan c.args.parts.now c.loop-part.part-index c.args.scope.now c.loop-part.scope c.loop-part.found c.loop-part.invariant (omega (arith, c.loop-part-test.false)))
 
 pub keys-loop-key-preserved : goal.keys-loop-key-preserved
 keys-loop-key-preserved t c =
@@ -201,3 +217,98 @@ clauses-loop-next-preserved t c =
 pub clauses-returns-clause-planned : goal.clauses-returns-clause-planned
 clauses-returns-clause-planned t c =
     clauses_done c.args.list.now c.args.start c.loop-next.next-index c.args.scope.now c.loop-next.scope c.loop-next.found c.loop-next.invariant (omega (arith, c.loop-next-test.false))
+
+pub expression-returns-in_ok-expressions-in-Sequence-clause-shape : goal.expression-returns-in_ok-expressions-in-Sequence-clause-shape
+expression-returns-in_ok-expressions-in-Sequence-clause-shape t c =
+    shape_at c.args.core.now (Core-F.Sequence c.in-Sequence.parts) _ (ap out-Core (c.in-Sequence.is) ∙ core.outs-Sequence c.in-Sequence.parts)
+    (tt, tt, tt, tt)
+
+pub expression-returns-in_ok-expressions-in-Or-clause-shape : goal.expression-returns-in_ok-expressions-in-Or-clause-shape
+expression-returns-in_ok-expressions-in-Or-clause-shape t c =
+    shape_at c.args.core.now (Core-F.Or c.in-Or.parts) _ (ap out-Core (c.in-Or.is) ∙ core.outs-Or c.in-Or.parts)
+    (tt, tt, tt, tt)
+
+pub expression-returns-in_ok-expressions-in-And-clause-shape : goal.expression-returns-in_ok-expressions-in-And-clause-shape
+expression-returns-in_ok-expressions-in-And-clause-shape t c =
+    shape_at c.args.core.now (Core-F.And c.in-And.parts) _ (ap out-Core (c.in-And.is) ∙ core.outs-And c.in-And.parts)
+    (tt, tt, tt, tt)
+
+pub expression-returns-in_ok-expressions-in-Call-clause-shape : goal.expression-returns-in_ok-expressions-in-Call-clause-shape
+expression-returns-in_ok-expressions-in-Call-clause-shape t c =
+    shape_at c.args.core.now (Core-F.Call c.in-Call.function c.in-Call.parts) _ (ap out-Core (c.in-Call.is) ∙ core.outs-Call c.in-Call.function c.in-Call.parts)
+    (tt, (c.in_ok-expressions-in-Call.field-0, refl, subst (λ cs. AreAll IsLiteral cs c.in_ok-expressions-in-Call.field-0) c.as_slice-in-Call.ensures c.in_ok-expressions-in-Call.ensures.literals), tt, tt)
+
+pub expression-returns-in_ok-operands-in-Chain-clause-shape : goal.expression-returns-in_ok-operands-in-Chain-clause-shape
+expression-returns-in_ok-operands-in-Chain-clause-shape t c =
+    shape_at c.args.core.now (Core-F.Chain c.in-Chain.first c.in-Chain.more) _ (ap out-Core (c.in-Chain.is) ∙ core.outs-Chain c.in-Chain.first c.in-Chain.more)
+    (tt, tt, tt, tt)
+
+pub expression-returns-in_ok-boxed-in-Unary-clause-shape : goal.expression-returns-in_ok-boxed-in-Unary-clause-shape
+expression-returns-in_ok-boxed-in-Unary-clause-shape t c =
+    shape_at c.args.core.now (Core-F.Unary c.in_ok-signs-in-Unary.signs c.in-Unary.part) _ (ap out-Core (c.in-Unary.is ∙ ap (λ s. core.Unary s c.in-Unary.part) (sym (c.in_ok-signs-in-Unary.ensures ∙ c.as_slice-in-Unary.ensures))) ∙ core.outs-Unary c.in_ok-signs-in-Unary.signs c.in-Unary.part)
+    (tt, tt, tt, tt)
+
+pub expression-returns-in_ok-expressions-in-Step-clause-shape : goal.expression-returns-in_ok-expressions-in-Step-clause-shape
+expression-returns-in_ok-expressions-in-Step-clause-shape t c =
+    shape_at c.args.core.now (Core-F.Step c.in-Step.axis c.in_ok-tested-in-Step.tested c.in-Step.predicates) _ (ap out-Core (c.in-Step.is ∙ ap (λ s. core.Step c.in-Step.axis s c.in-Step.predicates) (sym c.in_ok-tested-in-Step.ensures)) ∙ core.outs-Step c.in-Step.axis c.in_ok-tested-in-Step.tested c.in-Step.predicates)
+    (tt, tt, step_shape IsLiteral c.in-Step.axis c.in_ok-tested-in-Step.tested c.in-Step.predicates c.in_ok-expressions-in-Step.field-0 (subst (λ cs. AreAll IsLiteral cs c.in_ok-expressions-in-Step.field-0) c.as_slice-in-Step.ensures c.in_ok-expressions-in-Step.ensures.literals), tt)
+
+pub expression-returns-in_ok-expressions-in-Filter-clause-shape : goal.expression-returns-in_ok-expressions-in-Filter-clause-shape
+expression-returns-in_ok-expressions-in-Filter-clause-shape t c =
+    shape_at c.args.core.now (Core-F.Filter c.in-Filter.start c.in-Filter.predicates) _ (ap out-Core (c.in-Filter.is) ∙ core.outs-Filter c.in-Filter.start c.in-Filter.predicates)
+    (tt, tt, tt, tt)
+
+pub expression-returns-in_ok-steps-in-Path-clause-shape : goal.expression-returns-in_ok-steps-in-Path-clause-shape
+expression-returns-in_ok-steps-in-Path-clause-shape t c =
+    shape_at c.args.core.now (Core-F.Path c.in-Path.start c.in-Path.parts) _ (ap out-Core (c.in-Path.is) ∙ core.outs-Path c.in-Path.start c.in-Path.parts)
+    (tt, tt, tt, (c.in_ok-start-in-Path.start, c.in_ok-steps-in-Path.field-0, refl, subst (λ k. IsCall k c.in_ok-start-in-Path.start) c.get-in-Path.ensures c.in_ok-start-in-Path.ensures.shape.1, subst (λ cs. AreAll IsScan cs c.in_ok-steps-in-Path.field-0) c.as_slice-in-Path.ensures c.in_ok-steps-in-Path.ensures.scans))
+
+pub expression-returns-in_ok-negative-in-If-clause-shape : goal.expression-returns-in_ok-negative-in-If-clause-shape
+expression-returns-in_ok-negative-in-If-clause-shape t c =
+    shape_at c.args.core.now (Core-F.If c.in-If.condition c.in-If.positive c.in-If.negative) _ (ap out-Core (c.in-If.is) ∙ core.outs-If c.in-If.condition c.in-If.positive c.in-If.negative)
+    (tt, tt, tt, tt)
+
+pub expression-returns-in_ok-boxed-in-Named-clause-shape : goal.expression-returns-in_ok-boxed-in-Named-clause-shape
+expression-returns-in_ok-boxed-in-Named-clause-shape t c =
+    shape_at c.args.core.now (Core-F.Named c.in-Named.node c.in-Named.name c.in-Named.content) _ (ap out-Core (c.in-Named.is) ∙ core.outs-Named c.in-Named.node c.in-Named.name c.in-Named.content)
+    (tt, tt, tt, tt)
+
+pub expression-returns-in_ok-boxed-in-Unnamed-clause-shape : goal.expression-returns-in_ok-boxed-in-Unnamed-clause-shape
+expression-returns-in_ok-boxed-in-Unnamed-clause-shape t c =
+    shape_at c.args.core.now (Core-F.Unnamed c.in-Unnamed.node c.in-Unnamed.content) _ (ap out-Core (c.in-Unnamed.is) ∙ core.outs-Unnamed c.in-Unnamed.node c.in-Unnamed.content)
+    (tt, tt, tt, tt)
+
+pub expression-returns-in_ok-part-in-Flwor-clause-shape : goal.expression-returns-in_ok-part-in-Flwor-clause-shape
+expression-returns-in_ok-part-in-Flwor-clause-shape t c =
+    shape_at c.args.core.now (Core-F.Flwor c.in-Flwor.list c.in-Flwor.part) _ (ap out-Core (c.in-Flwor.is) ∙ core.outs-Flwor c.in-Flwor.list c.in-Flwor.part)
+    (tt, tt, tt, tt)
+
+pub expression-returns-in_ok-part-in-Quantified-clause-shape : goal.expression-returns-in_ok-part-in-Quantified-clause-shape
+expression-returns-in_ok-part-in-Quantified-clause-shape t c =
+    shape_at c.args.core.now (Core-F.Quantified c.in-Quantified.quantifier c.in-Quantified.bindings c.in-Quantified.part) _ (ap out-Core (c.in-Quantified.is) ∙ core.outs-Quantified c.in-Quantified.quantifier c.in-Quantified.bindings c.in-Quantified.part)
+    (tt, tt, tt, tt)
+
+pub expression-returns-in-Int-clause-shape : goal.expression-returns-in-Int-clause-shape
+expression-returns-in-Int-clause-shape t c =
+    shape_at c.args.core.now (Core-F.Int c.in-Int.value) _ (ap out-Core (c.in-Int.is) ∙ core.outs-Int c.in-Int.value)
+    (tt, tt, tt, tt)
+
+pub expression-returns-in-Dec-clause-shape : goal.expression-returns-in-Dec-clause-shape
+expression-returns-in-Dec-clause-shape t c =
+    shape_at c.args.core.now (Core-F.Dec c.in-Dec.value) _ (ap out-Core (c.in-Dec.is) ∙ core.outs-Dec c.in-Dec.value)
+    (tt, tt, tt, tt)
+
+pub expression-returns-in_ok-text-in-Str-clause-shape : goal.expression-returns-in_ok-text-in-Str-clause-shape
+expression-returns-in_ok-text-in-Str-clause-shape t c =
+    shape_at c.args.core.now (Core-F.Str c.in_ok-text-in-Str.field-0) _ (ap out-Core (c.in-Str.is ∙ ap core.Str (sym c.in_ok-text-in-Str.ensures)) ∙ core.outs-Str c.in_ok-text-in-Str.field-0)
+    (refl, tt, tt, tt)
+
+pub expression-returns-in-Root-clause-shape : goal.expression-returns-in-Root-clause-shape
+expression-returns-in-Root-clause-shape t c =
+    shape_at c.args.core.now (Core-F.Root) _ (ap out-Core (c.in-Root.is) ∙ core.outs-Root)
+    (tt, tt, tt, tt)
+
+pub expression-returns-in-ContextItem-clause-shape : goal.expression-returns-in-ContextItem-clause-shape
+expression-returns-in-ContextItem-clause-shape t c =
+    shape_at c.args.core.now (Core-F.ContextItem) _ (ap out-Core (c.in-ContextItem.is) ∙ core.outs-ContextItem)
+    (tt, tt, tt, tt)
