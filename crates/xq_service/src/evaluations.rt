@@ -17,7 +17,6 @@ use std::marker::{Brand, PhantomData};
 use xq_atoms::{Fault, Want};
 use xq_meaning::Plan;
 use xq_rows::{Origin, Store};
-use xq_sources::Buffered;
 use xq_worlds::Trees;
 
 /// What the plan's value makes over the documents of the store, which stay as they are.
@@ -91,9 +90,9 @@ fn over_view<S: Alter + Drop, P: Product, O: Origin>(
     let Ok(addresses) = copied(alloc, view.addresses()) else {
         return (view.into_store(), Err(Fault::Want(Want::Memory)));
     };
-    let mut world = Trees::new(alloc, Buffered::new(alloc, view));
+    let mut world = Trees::new(alloc, view);
     let product = P::of(alloc, plan, &mut world, &addresses);
-    (world.into_source().into_source().into_store(), product)
+    (world.into_source().into_store(), product)
 }
 
 /// A list of the same texts.

@@ -17,12 +17,12 @@ returns-in_default-clause-was_open g c = λ clean opened.
 pub returns-clause-made : goal.returns-clause-made
 returns-clause-made g c = λ clean m stands.
     let stood_for = stood g.S.Store g.O.Origin.beginning c.args.store c.requires (c.into_store-2.ensures.was_open clean) m stands in
-    let view_at_end : IsClean g.S.Store c.into_source-2.result.store × HeldDocuments g.O.Origin.beginning = (subst (IsClean g.S.Store) c.into_store-2.ensures.store clean, held g.O.Origin.beginning m stood_for) in
-    let world_at_end = c.into_source.ensures.clean.0 (c.into_source-2.ensures.clean.0 view_at_end) in
-    let view_at_start = c.new.ensures.clean.0 (c.new-world.ensures.clean.0 (c.of-product.ensures.was_clean world_at_end)) in
+    let view_at_end : IsClean g.S.Store c.into_source.result.store × HeldDocuments g.O.Origin.beginning = (subst (IsClean g.S.Store) c.into_store-2.ensures.store clean, held g.O.Origin.beginning m stood_for) in
+    let world_at_end = c.into_source.ensures.clean.0 view_at_end in
+    let view_at_start = c.new-world.ensures.clean.0 (c.of-product.ensures.was_clean world_at_end) in
     made_over g.P.Product.makes c.args.plan.now m c.deref.result.now _ c.of-product.result
     (ap (map string_bytes) c.deref.ensures.value ∙ c.in-Ok-copied.ensures ∙ c.addresses.ensures ∙ c.in-Ok.ensures.addresses view_at_start.0 m stood_for)
-    (c.new-world.ensures.forest ∙ c.new.ensures.forest ∙ c.in-Ok.ensures.trees view_at_start.0 m stood_for)
+    (c.new-world.ensures.forest ∙ c.in-Ok.ensures.trees view_at_start.0 m stood_for)
     (c.of-product.ensures.made world_at_end)
 
 pub returns-clause-same : goal.returns-clause-same
