@@ -6,7 +6,7 @@ use xq_atoms::Want;
 use xq_axes::{axis, copy, merge, step, string_value};
 use xq_expressions::Text;
 use xq_regions::{Axis, Fragment, Kind, Node, NodeRow};
-use xq_sources::{Buffered, Fragments, RowLender};
+use xq_sources::{Buffered, Fragments, RowLender, TreeSource};
 use xq_values::Test;
 
 /// A row with the pre, size and level of `place`.
@@ -273,6 +273,52 @@ fn reads_rows_once<L: RowLender>(
     is_scan(rt, alloc, source, &[2, 5], Axis::Ancestor, "0.0 0.1 ", 6)
 }
 
+/// The table of the bound for what is found by levels: parents and siblings.
+fn reads_families_once<L: RowLender>(
+    rt: &impl Abort,
+    alloc: Global,
+    source: &mut L,
+) -> Result<(), Want> {
+    let following = Axis::FollowingSibling;
+    let preceding = Axis::PrecedingSibling;
+    is_scan(rt, alloc, source, &[2, 5], Axis::Parent, "0.1 ", 6)?;
+    is_scan(
+        rt,
+        alloc,
+        source,
+        &[7, 2, 7, 4],
+        Axis::Parent,
+        "0.1 0.2 0.5 ",
+        8,
+    )?;
+    is_scan(rt, alloc, source, &[3, 1, 0], Axis::Parent, "0.0 0.2 ", 4)?;
+    is_scan(rt, alloc, source, &[0], Axis::Parent, "", 1)?;
+    is_scan(rt, alloc, source, &[2, 5], following, "0.5 ", 6)?;
+    is_scan(rt, alloc, source, &[5, 4, 2], following, "0.5 ", 6)?;
+    is_scan(rt, alloc, source, &[6, 3], following, "", 5)?;
+    is_scan(rt, alloc, source, &[7], following, "", 1)?;
+    is_scan(rt, alloc, source, &[2, 5], preceding, "0.2 ", 6)?;
+    is_scan(rt, alloc, source, &[7, 6, 5], preceding, "0.2 ", 8)?;
+    is_scan(rt, alloc, source, &[3, 6], preceding, "", 7)?;
+    is_scan(rt, alloc, source, &[], preceding, "", 0)
+}
+
+/// Two steps below one another read each row twice at most.
+fn reads_twice_in_two_steps<L: RowLender>(
+    rt: &impl Abort,
+    alloc: Global,
+    source: &mut L,
+) -> Result<(), Want> {
+    let before = source.meter().rows();
+    let root = nodes_at(alloc, &[0])?;
+    let all = step(alloc, source, &root, Axis::Descendant, &Test::Any)?;
+    let below = step(alloc, source, &all, Axis::Descendant, &Test::Any)?;
+    let text = places_of(alloc, &below)?;
+    assert_eq!(rt; text.as_str(), "0.2 0.4 0.5 0.7 ");
+    assert!(rt; source.meter().rows().saturating_sub(before) <= 16);
+    Ok(())
+}
+
 /// The string value of the node at the place is as wanted.
 fn is_value<L: RowLender>(
     rt: &impl Abort,
@@ -314,6 +360,8 @@ fn reads<L: RowLender>(rt: &impl Abort, alloc: Global, source: &mut L) -> Result
     from_others(rt, alloc, source)?;
     steps(rt, alloc, source)?;
     reads_rows_once(rt, alloc, source)?;
+    reads_families_once(rt, alloc, source)?;
+    reads_twice_in_two_steps(rt, alloc, source)?;
     passes_tests(rt, alloc, source)?;
     gives_values(rt, alloc, source)?;
     copies_nodes(rt, alloc, source)
@@ -359,4 +407,114 @@ fn steps_go_through_several_trees(rt: HostRuntime) -> Result<(), Want> {
     let text = places_of(alloc, &found)?;
     assert_eq!(rt; text.as_str(), "0.4 1.4 1.7 ");
     Ok(())
+}
+
+/// How many books the great library has; each has a title and a note, so three rows.
+const BOOKS: u32 = 500;
+
+/// The rows of a document with so many books.
+fn great_library(alloc: Global) -> Result<Vec<NodeRow>, AllocError> {
+    let mut rows = Vec::new(alloc);
+    rows.push(row(alloc, (0, 3 * BOOKS + 1, 0), Kind::Document, "", "")?)?;
+    rows.push(row(alloc, (1, 3 * BOOKS, 1), Kind::Element, "lib", "")?)?;
+    for book in 0..BOOKS {
+        let place = book.wrapping_mul(3).wrapping_add(2);
+        let title = place.wrapping_add(1);
+        let note = place.wrapping_add(2);
+        rows.push(row(alloc, (place, 2, 2), Kind::Element, "book", "")?)?;
+        rows.push(row(alloc, (title, 0, 3), Kind::Element, "title", "")?)?;
+        rows.push(row(alloc, (note, 0, 3), Kind::Element, "note", "")?)?;
+    }
+    Ok(rows)
+}
+
+/// Fragments with the great library as their one tree.
+fn one_great_library(alloc: Global) -> Result<Fragments, Want> {
+    let mut fragments = Fragments::new(alloc);
+    if let Ok(tree) = Fragment::from_rows(great_library(alloc)?) {
+        fragments.push(tree)?;
+    }
+    Ok(fragments)
+}
+
+/// The place of the last row of the great library.
+const LAST: u32 = 3 * BOOKS + 1;
+
+/// How many rows it has.
+const ROWS: u32 = LAST + 1;
+
+/// How many books there are beside one.
+const OTHERS: u32 = BOOKS - 1;
+
+/// Every third node, as many as there are books: from 2 on the books, from 3 the titles, from 4
+/// the notes.
+fn each_book(alloc: Global, first: u32) -> Result<Vec<Node>, AllocError> {
+    let mut nodes = Vec::new(alloc);
+    for book in 0..BOOKS {
+        nodes.push(Node {
+            tree: 0,
+            pre: book.wrapping_mul(3).wrapping_add(first),
+        })?;
+    }
+    Ok(nodes)
+}
+
+/// The step from the nodes gives so many, of which the first and the last have these places. It
+/// reads at most so many rows of ranges, and singly one for each node at most.
+fn is_long(
+    rt: &impl Abort,
+    alloc: Global,
+    nodes: &[Node],
+    direction: Axis,
+    wanted: (u32, u32, u32),
+    most: u32,
+) -> Result<(), Want> {
+    let mut source = one_great_library(alloc)?;
+    let found = step(alloc, &mut source, nodes, direction, &Test::Any)?;
+    assert_eq!(rt; found.len(), wanted.0 as usize);
+    assert_eq!(rt; found.first().map_or(0, |node| node.pre), wanted.1);
+    assert_eq!(rt; found.last().map_or(0, |node| node.pre), wanted.2);
+    assert!(rt; source.meter().rows() <= u64::from(most));
+    assert!(rt; source.meter().singles() <= nodes.len() as u64);
+    Ok(())
+}
+
+#[test]
+fn many_families_are_read_once(rt: HostRuntime) -> Result<(), Want> {
+    let (alloc, count, all) = (rt.alloc(), BOOKS, ROWS);
+    let (following, preceding) = (Axis::FollowingSibling, Axis::PrecedingSibling);
+    let books = each_book(alloc, 2)?;
+    let titles = each_book(alloc, 3)?;
+    let notes = each_book(alloc, 4)?;
+    let (of_books, of_titles) = ((count, 2, LAST - 2), (count, 3, LAST - 1));
+    is_long(&rt, alloc, &books, Axis::Parent, (1, 1, 1), all)?;
+    is_long(&rt, alloc, &titles, Axis::Parent, of_books, all)?;
+    is_long(&rt, alloc, &notes, preceding, of_titles, all)?;
+    is_long(&rt, alloc, &titles, preceding, (0, 0, 0), all)?;
+    is_long(&rt, alloc, &titles, following, (count, 4, LAST), all)?;
+    is_long(&rt, alloc, &notes, following, (0, 0, 0), all)?;
+    let (later, earlier) = ((OTHERS, 5, LAST - 2), (OTHERS, 2, LAST - 5));
+    is_long(&rt, alloc, &books, following, later, all)?;
+    is_long(&rt, alloc, &books, preceding, earlier, all)
+}
+
+/// The rows read end soon after those of the parent, on one side.
+#[test]
+fn few_rows_are_read_for_one_node(rt: HostRuntime) -> Result<(), Want> {
+    let alloc = rt.alloc();
+    let (following, preceding) = (Axis::FollowingSibling, Axis::PrecedingSibling);
+    let title = nodes_at(alloc, &[753])?;
+    is_long(&rt, alloc, &title, Axis::Parent, (1, 752, 752), 17)?;
+    is_long(&rt, alloc, &title, following, (1, 754, 754), 17)?;
+    is_long(&rt, alloc, &title, preceding, (0, 0, 0), 17)?;
+    let books = nodes_at(alloc, &[752, 302])?;
+    is_long(&rt, alloc, &books, preceding, (250, 2, 749), 753)?;
+    is_long(
+        &rt,
+        alloc,
+        &books,
+        following,
+        (399, 305, LAST - 2),
+        LAST - 301,
+    )
 }
