@@ -1,5 +1,5 @@
--- How the language reads what atoms are printed as: numeric literals, with a minus before them or not (XQuery 3.1, 3.1.1 and
--- 3.5.1), and casts of string literals (3.14.2).
+-- How the language reads what atoms are printed as: numeric literals, with a minus before them or
+-- not (XQuery 3.1, 3.1.1 and 3.5.1), and casts of string literals (3.14.2).
 use Rattle.std.specs.Prelude.{◌++◌, codes, Ok, Err, if◌then◌else◌}
 use Rattle.xq_atoms.specs.declared.refusals.Code.TheVariants.{XPST0003}
 use Rattle.xq_atoms.specs.Judged.{Judged, ◌>>=◌}

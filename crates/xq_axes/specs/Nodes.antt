@@ -10,7 +10,8 @@ use Rattle.xq_sources.specs.Sources.{HasNode}
 
 -- document order (XDM 3.1, 2.4): trees stand by their numbers, the nodes of a tree by their places
 abbrev pub document_order : Node → Node → Ordering
-document_order first second = ordering_then (nat_cmp first.tree second.tree) (nat_cmp first.pre second.pre)
+document_order first second = ordering_then (nat_cmp first.tree second.tree)
+    (nat_cmp first.pre second.pre)
 
 -- each node comes before those after it
 abbrev pub AreRising : List Node → Type 0

@@ -9,9 +9,11 @@ use Rattle.xq_regions.specs.declared.Axis.{Axis}
 use Rattle.xq_regions.specs.declared.Axis.TheVariants.{Child, Descendant, DescendantOrSelf, SelfNode, Attributes, Parent, Ancestor, AncestorOrSelf, Following, FollowingSibling, Preceding, PrecedingSibling}
 use Rattle.xq_regions.specs.declared.items.Node.{Node}
 
--- the row p is in the region of the axis from v: below it; below it or its own; after its rows; before it; before it or its own; its own or after it.
--- What is above a node, or beside it on one side, is found by levels alone, from rows before it or after it; so these regions don't end with its parent's
--- rows. Nodes alone are read singly, so the self axis has none.
+-- the row p is in the region of the axis from v: below it; below it or its own; after its rows;
+-- before it; before it or its own; its own or after it.
+-- What is above a node, or beside it on one side, is found by levels alone, from rows before it or
+-- after it; so these regions don't end with its parent's rows. Nodes alone are read singly, so the
+-- self axis has none.
 abbrev pub in_scan : Axis → List Row → ℕ → ℕ → Bool
 in_scan Child rs v p = inside rs v p
 in_scan Attributes rs v p = inside rs v p
@@ -28,7 +30,8 @@ in_scan SelfNode rs v p = false
 
 -- the rows that are in the region of the axis from one of the places, each once
 abbrev pub region : Axis → Tree → List ℕ → List ℕ
-region axis t vs = filter (λ p. list_any (λ v. in_scan axis (rows t) v p) vs) (range_with_len 0 (count (nodes t)))
+region axis t vs = filter (λ p. list_any (λ v. in_scan axis (rows t) v p) vs)
+    (range_with_len 0 (count (nodes t)))
 
 -- the nodes are of the tree with this number
 abbrev pub AreOf : ℕ → List Node → Type 0

@@ -11,7 +11,8 @@ use xq_atoms::Want;
 use xq_regions::{Fragment, Node, NodeRow};
 use xq_sources::RowLender;
 
-/// Copies of rows, the first of which is at the place and the level, as rows of a tree of their own.
+/// Copies of rows, the first of which is at the place and the level, as rows of a tree of their
+/// own.
 #[derive(Drop)]
 struct Copied {
     alloc: Global,

@@ -131,7 +131,8 @@ struct Above<'a> {
 impl Above<'_> {
     /// Whether one of the places that come next is not after the end.
     fn is_next_within(&self, end: u64) -> bool
-        ensures { result ≡ is_next_within_lem self.now.contexts.places.now self.now.contexts.met end }
+        ensures { result ≡ is_next_within_lem self.now.contexts.places.now self.now.contexts.met
+            end }
     {
         match self.contexts.next() {
             None => false,

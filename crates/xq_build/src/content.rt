@@ -137,7 +137,8 @@ fn glued(alloc: Global, first: NodeRow, second: &NodeRow) -> Result<NodeRow, Wan
 
 /// Adds a row; a text beside a text lengthens that one.
 fn append_merged(alloc: Global, rows: &mut Vec<NodeRow>, row: NodeRow) -> Result<(), Want>
-    ensures merges { OnOk result ((others : List Leaf) → merged_leaves (map flat_row rows.new.items ++ others)
+    ensures merges { OnOk result ((others : List Leaf)
+        → merged_leaves (map flat_row rows.new.items ++ others)
         ≡ merged_leaves (map flat_row rows.old.items ++ flat_row row ∷ others)) }
     ensures apart { OnOk result (AreApart (map flat_row rows.old.items)
         → AreApart (map flat_row rows.new.items)) }
@@ -157,7 +158,8 @@ fn append_merged(alloc: Global, rows: &mut Vec<NodeRow>, row: NodeRow) -> Result
 
 /// The rows with one text for texts side by side.
 fn merged(alloc: Global, rows: Vec<NodeRow>) -> Result<Vec<NodeRow>, Want>
-    ensures { IfOk result (λ all. map flat_row all.items ≡ merged_leaves (map flat_row rows.items)) }
+    ensures { IfOk result (λ all. map flat_row all.items
+        ≡ merged_leaves (map flat_row rows.items)) }
 {
     let mut all = Vec::with_capacity(alloc, rows.len())?;
     for row in rows {

@@ -112,7 +112,8 @@ fn append_below<L: RowLender>(
 ) -> Result<(), Want>
     ensures copied { L.is_clean source.new → OnOk result (map flat_row copies.new.items
         ≡ map flat_row copies.old.items ++ map (lowered base)
-        (leaves_between (tree_at (L.forest source.old) node.tree) (node.pre + 1) (node.pre + size))) }
+        (leaves_between (tree_at (L.forest source.old) node.tree) (node.pre + 1)
+        (node.pre + size))) }
     ensures keeps { L.forest source.new ≡ L.forest source.old }
     ensures was_clean { L.is_clean source.new → L.is_clean source.old }
 {
@@ -158,7 +159,8 @@ pub fn append_content<L: RowLender>(
         → OnOk result (map flat_row copies.new.items ≡ map flat_row copies.old.items
         ++ leaves (copied (tree_below (L.forest source.old) (node_at (L.forest source.old) node)))) }
     ensures childless { L.is_clean source.new → OnOk result
-        (Childless (copied (tree_below (L.forest source.old) (node_at (L.forest source.old) node)))) }
+        (Childless (copied (tree_below (L.forest source.old)
+        (node_at (L.forest source.old) node)))) }
     ensures keeps { L.forest source.new ≡ L.forest source.old }
     ensures was_clean { L.is_clean source.new → L.is_clean source.old }
 {

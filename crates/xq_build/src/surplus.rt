@@ -181,7 +181,8 @@ pub fn append_judged<L: RowLender>(
         → OnOk result (Shortens (L.forest source.old) node (map flat_row rows.old.items)
         (map flat_row rows.new.items) seen.new.keys) }
     ensures childless { L.is_clean source.new → OnOk result
-        (Childless (copied (tree_below (L.forest source.old) (node_at (L.forest source.old) node)))) }
+        (Childless (copied (tree_below (L.forest source.old)
+        (node_at (L.forest source.old) node)))) }
     ensures keeps { L.forest source.new ≡ L.forest source.old }
     ensures was_clean { L.is_clean source.new → L.is_clean source.old }
 {

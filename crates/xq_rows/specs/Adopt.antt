@@ -30,8 +30,8 @@ use Rattle.xq_rows.specs.Tables.{no_schema, layout_schema, node_schema, store_sc
 abbrev pub HasOne : Database → Type 0
 HasOne db = (db.schema ≡ layout_schema) ⊎ (db.schema ≡ node_schema)
 
--- An adoption that succeeds makes an empty store where no table was there, and takes the two tables as they stand where they
--- hold documents. Where one of them stands alone, it never succeeds.
+-- An adoption that succeeds makes an empty store where no table was there, and takes the two tables
+-- as they stand where they hold documents. Where one of them stands alone, it never succeeds.
 pub record IsAdopted (old new : Database) : Type 0 where
   pub made : old.schema ≡ no_schema → IsEmptyStore new
   pub found : old.schema ≡ store_schema → (new ≡ old) × IsStore old
@@ -42,7 +42,8 @@ pub record IsNoStore (db : Database) : Type 0 where
   pub some : db.schema ≢ no_schema
   pub none : ¬ IsStore db
 
--- A connection whose database is to be adopted: `g` are the ghosts of what it keeps its database in.
+-- A connection whose database is to be adopted: `g` are the ghosts of what it keeps its database
+-- in.
 module _ {S : Type 0} (g : Ghosts S) (conn : Held S) where
   -- no table was made in it
   unfoldable pub IsBlank : Type 0
@@ -56,7 +57,8 @@ module _ {S : Type 0} (g : Ghosts S) (conn : Held S) where
   unfoldable pub HasOneTable : Type 0
   HasOneTable = HasOne (state g conn).now
 
--- a statement that is refused since other tables are there, or none, tells of no store; any other refusal is a want
+-- a statement that is refused since other tables are there, or none, tells of no store; any other
+-- refusal is a want
 abbrev pub fault_of : Error → OpenFault
 fault_of (SqlInputError e) = NotAStore
 fault_of (SqliteFailure NameTaken) = NotAStore
@@ -74,7 +76,8 @@ IsInputError e = (fault : CompileError) × (e ≡ SqlInputError fault)
 -- # The rows that are read: the columns pre, size, level, kind, name, value and address
 
 abbrev pub named : Row → Row
-named r = column r 2 ∷ column r 3 ∷ column r 4 ∷ column r 5 ∷ column r 6 ∷ column r 7 ∷ column r 1 ∷ []
+named r = column r 2 ∷ column r 3 ∷ column r 4 ∷ column r 5 ∷ column r 6 ∷ column r 7 ∷ column r 1
+    ∷ []
 
 -- the row is one of the address
 abbrev pub is_under : List ℕ → Row → Bool
@@ -104,7 +107,8 @@ nodes_under address rows = map node_of (filter (is_under address) rows)
 -- the rows of each address are those of one document, in document order, or there are none
 pub record AreTold (rows : List Row) : Type 0 where
   pub owned : AllByRecursion HasOwner rows
-  pub whole : (address : List ℕ) → (nodes_under address rows ≡ []) ⊎ IsRun (nodes_under address rows)
+  pub whole : (address : List ℕ) → (nodes_under address rows ≡ [])
+      ⊎ IsRun (nodes_under address rows)
 
 -- # The steps of an adoption, by the schema found
 

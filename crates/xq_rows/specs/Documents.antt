@@ -24,7 +24,8 @@ use Rattle.xq_rows.specs.Tables.{store_schema}
 abbrev pub Map : Type 0
 Map = FinMap (slice_cmp nat_cmp) Tree
 
--- A row of the table node is its rowid, and then its columns: 1 address, 2 pre, 3 size, 4 level, 5 kind, 6 name, 7 value.
+-- A row of the table node is its rowid, and then its columns: 1 address, 2 pre, 3 size, 4 level, 5
+-- kind, 6 name, 7 value.
 
 -- the row is one of the address
 abbrev pub is_at : List ℕ → Row → Bool
@@ -56,7 +57,8 @@ addresses_in table = map (λ r. bytes_in (column r 1)) (filter is_first table)
 
 -- the map that the table node stands for
 unfoldable pub documents_in : List Row → Map
-documents_in table = from_entries (map (λ address. (address, tree_at table address)) (addresses_in table))
+documents_in table = from_entries
+    (map (λ address. (address, tree_at table address)) (addresses_in table))
 
 -- the rows are those of one document, in some order
 pub record IsWhole (rows : List Row) : Type 0 where
@@ -76,8 +78,8 @@ HaveInts = AllByRecursion (λ r. IsTrue (is_int (rowid r)))
 abbrev pub HasAddress : Row → Type 0
 HasAddress r = (address : List ℕ) × IsAddress address × (column r 1 ≡ Text address)
 
--- The database holds the tables of edition 1: `layout` with its one row, 1, and `node`, in which the rows of each address are
--- those of one document, or there are none.
+-- The database holds the tables of edition 1: `layout` with its one row, 1, and `node`, in which
+-- the rows of each address are those of one document, or there are none.
 pub record IsStore (db : Database) : Type 0 where
   pub schema : db.schema ≡ store_schema
   pub layout : map (λ r. column r 1) (db.trees 0) ≡ Int (pos 1) ∷ []
@@ -85,7 +87,8 @@ pub record IsStore (db : Database) : Type 0 where
   pub apart : AreApart (db.trees 1)
   pub ints : HaveInts (db.trees 1)
   pub named : AllByRecursion HasAddress (db.trees 1)
-  pub whole : (address : List ℕ) → (rows_at address (db.trees 1) ≡ []) ⊎ IsWhole (rows_at address (db.trees 1))
+  pub whole : (address : List ℕ) → (rows_at address (db.trees 1) ≡ [])
+      ⊎ IsWhole (rows_at address (db.trees 1))
 
 -- it holds the tables and no row of a document
 abbrev pub IsEmptyStore : Database → Type 0
@@ -95,9 +98,11 @@ IsEmptyStore db = IsStore db × (db.trees 1 ≡ [])
 abbrev pub IsReady : State → Type 0
 IsReady s = HasCleanDisk s × IsTrue s.is_open
 
--- A store, of which a contract sees its connection: `g` are the ghosts of what it keeps its database in.
+-- A store, of which a contract sees its connection: `g` are the ghosts of what it keeps its
+-- database in.
 module _ {S : Type 0} (g : Ghosts S) (store : Held S) where
-  -- Its disk has returned what was written; so it had at each call before. A database in memory always has.
+  -- Its disk has returned what was written; so it had at each call before. A database in memory
+  -- always has.
   unfoldable pub IsClean : Type 0
   IsClean = HasCleanDisk (state g store)
 
@@ -117,7 +122,8 @@ module _ {S : Type 0} (g : Ghosts S) (store : Held S) where
   unfoldable pub documents : Map
   documents = documents_in ((state g store).now.trees 1)
 
-  -- It stands for this map: while it is open, its tables hold these documents. What has shut tells nothing of its tables any
-  -- more, and stands for the map that it stood for when it shut.
+  -- It stands for this map: while it is open, its tables hold these documents. What has shut tells
+  -- nothing of its tables any more, and stands for the map that it stood for when it shut.
   unfoldable pub StandsFor : Map → Type 0
-  StandsFor m = IsTrue (state g store).is_open → IsStore (state g store).now × (documents_in ((state g store).now.trees 1) ≡ m)
+  StandsFor m = IsTrue (state g store).is_open → IsStore (state g store).now
+      × (documents_in ((state g store).now.trees 1) ≡ m)

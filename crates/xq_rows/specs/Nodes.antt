@@ -27,7 +27,8 @@ kind_from (suc (suc (suc (suc (suc n))))) = ProcessingInstruction
 
 -- the columns of a node with its place in document order
 abbrev pub cells : ℕ × NodeRow → Row
-cells p = let n = p.1 in Int (pos p.0) ∷ Int (pos n.size) ∷ Int (pos n.level) ∷ Int (pos (number_of n.label.kind)) ∷ Text n.label.name ∷ Text n.label.value ∷ []
+cells p = let n = p.1 in Int (pos p.0) ∷ Int (pos n.size) ∷ Int (pos n.level)
+    ∷ Int (pos (number_of n.label.kind)) ∷ Text n.label.name ∷ Text n.label.value ∷ []
 
 -- the number and the bytes of a column
 abbrev pub number_in : Value → ℕ
@@ -43,7 +44,8 @@ abbrev pub node_in : Row → NodeRow
 node_in r = record {
   size = number_in (column r 1);
   level = number_in (column r 2);
-  label = record { kind = kind_from (number_in (column r 3)); name = bytes_in (column r 4); value = bytes_in (column r 5) };
+  label = record { kind = kind_from (number_in (column r 3)); name = bytes_in
+      (column r 4); value = bytes_in (column r 5) };
 }
 
 -- the first six columns
@@ -52,4 +54,5 @@ node_of r = column r 0 ∷ column r 1 ∷ column r 2 ∷ column r 3 ∷ column r
 
 -- these columns are those of a node whose numbers and texts code can hold
 abbrev pub IsReadable : Row → Type 0
-IsReadable r = (p : ℕ × NodeRow) × (r ≡ cells p) × (p.0 < 2 ^ 32) × (p.1.size < 2 ^ 32) × (p.1.level < 2 ^ 32) × IsUtf8 p.1.label.name × IsUtf8 p.1.label.value
+IsReadable r = (p : ℕ × NodeRow) × (r ≡ cells p) × (p.0 < 2 ^ 32) × (p.1.size < 2 ^ 32)
+    × (p.1.level < 2 ^ 32) × IsUtf8 p.1.label.name × IsUtf8 p.1.label.value

@@ -23,7 +23,9 @@ pub record HasDropped (gone : Row → Bool) (old new : Database) : Type 0 where
 
 -- the row is one of the address, and its number lies from low up to, and without, high
 abbrev pub is_part : List ℕ → ℕ → ℕ → Row → Bool
-is_part address low high row = is_at address row && (is_ge (value_cmp (column row 2) (Int (pos low))) && is_lt (value_cmp (column row 2) (Int (pos high))))
+is_part address low high row = is_at address row
+    && (is_ge (value_cmp (column row 2) (Int (pos low)))
+    && is_lt (value_cmp (column row 2) (Int (pos high))))
 
 -- an address has some rows more, and nothing else is changed
 pub record HasAdded (address : List ℕ) (added : List Row) (old new : Database) : Type 0 where
@@ -31,13 +33,15 @@ pub record HasAdded (address : List ℕ) (added : List Row) (old new : Database)
   pub layout : new.trees 0 ≡ old.trees 0
   pub apart : AreApart (old.trees 1) → AreApart (new.trees 1)
   pub ints : HaveInts (old.trees 1) → HaveInts (new.trees 1)
-  pub named : IsAddress address → AllByRecursion HasAddress (old.trees 1) → AllByRecursion HasAddress (new.trees 1)
+  pub named : IsAddress address → AllByRecursion HasAddress (old.trees 1)
+      → AllByRecursion HasAddress (new.trees 1)
   pub own : IsPermutation (rows_at address (old.trees 1) ++ added) (rows_at address (new.trees 1))
   pub others : (b : List ℕ) → b ≢ address → rows_at b (new.trees 1) ≡ rows_at b (old.trees 1)
 
 -- what a DELETE of so many rows makes of the tables of a store
 abbrev pub Deletes : (Row → Bool) → Database → Database → ℕ → Type 0
-Deletes gone old new count = old.schema ≡ store_schema → AreApart (old.trees 1) → HaveInts (old.trees 1)
+Deletes gone old new count = old.schema ≡ store_schema → AreApart (old.trees 1)
+    → HaveInts (old.trees 1)
     → HasDropped gone old new × (count ≡ length (filter gone (old.trees 1)))
 
 -- DELETE inside a transaction
@@ -50,13 +54,16 @@ pub record Adds (address : List ℕ) (added : List Row) (old new : State) : Type
   pub mode : old.in_transaction ≡ true → new.in_transaction ≡ true
   pub did : old.now.schema ≡ store_schema → HasAdded address added old.now new.now
 
--- a whole put into a store: the rows of the address are these alone, and the answer is whether there were others before
+-- a whole put into a store: the rows of the address are these alone, and the answer is whether
+-- there were others before
 abbrev pub Puts : List ℕ → List Row → Database → Database → Bool → Type 0
 Puts address rows old new replaced = IsStore old
-    → (mid : Database) × HasDropped (is_at address) old mid × HasAdded address rows mid new × (replaced ≡ nat_lt 0 (length (filter (is_at address) (old.trees 1))))
+    → (mid : Database) × HasDropped (is_at address) old mid × HasAdded address rows mid new
+        × (replaced ≡ nat_lt 0 (length (filter (is_at address) (old.trees 1))))
 
 -- the same inside a transaction
-pub record Replaces (address : List ℕ) (rows : List Row) (old new : State) (replaced : Bool) : Type 0 where
+pub record Replaces (address : List ℕ) (rows : List Row) (old new : State)
+    (replaced : Bool) : Type 0 where
   pub inside : new.in_transaction ≡ true
   pub did : Puts address rows old.now new.now replaced
 
@@ -67,25 +74,31 @@ pub record IsPicked (passes : Row → Bool) (shows : Row → Row) (table rows : 
 
 -- the row's number lies from low to high
 abbrev pub is_within : ℕ → ℕ → Row → Bool
-is_within low high row = is_ge (value_cmp (column row 2) (Int (pos low))) && is_le (value_cmp (column row 2) (Int (pos high)))
+is_within low high row = is_ge (value_cmp (column row 2) (Int (pos low)))
+    && is_le (value_cmp (column row 2) (Int (pos high)))
 
 -- the rows of an address with numbers from low to high
 abbrev pub IsRange : List ℕ → ℕ → ℕ → Database → List Row → Type 0
-IsRange address low high db rows = db.schema ≡ store_schema → IsPicked (λ r. is_at address r && is_within low high r) kept (db.trees 1) rows
+IsRange address low high db rows = db.schema ≡ store_schema
+    → IsPicked (λ r. is_at address r && is_within low high r) kept (db.trees 1) rows
 
 -- the row's number is below that of a node, and at least that with its size
 abbrev pub is_above : ℕ → Row → Bool
-is_above node row = nat_lt (number_in (column row 2)) node && nat_le node (number_in (column row 2) + number_in (column row 3))
+is_above node row = nat_lt (number_in (column row 2)) node
+    && nat_le node (number_in (column row 2) + number_in (column row 3))
 
 -- the rows of an address that are those of nodes above a node
 abbrev pub AreAbove : List ℕ → ℕ → Database → List Row → Type 0
-AreAbove address node db rows = IsStore db → IsPicked (λ r. is_at address r && is_above node r) kept (db.trees 1) rows
+AreAbove address node db rows = IsStore db
+    → IsPicked (λ r. is_at address r && is_above node r) kept (db.trees 1) rows
 
 -- the addresses, one for each first row
 abbrev pub AreAddresses : Database → List Row → Type 0
-AreAddresses db rows = db.schema ≡ store_schema → IsPicked is_first (λ r. column r 1 ∷ []) (db.trees 1) rows
+AreAddresses db rows = db.schema ≡ store_schema
+    → IsPicked is_first (λ r. column r 1 ∷ []) (db.trees 1) rows
 
--- what nodes that were read stand for: nothing where there are none, or the tree whose rows they are
+-- what nodes that were read stand for: nothing where there are none, or the tree whose rows they
+-- are
 abbrev pub Finds : List NodeRow → Option Tree → Type 0
 Finds nodes None = nodes ≡ []
 Finds nodes (Some t) = Encodes nodes t
@@ -97,16 +110,19 @@ pub record MakesLayout (old new : Database) : Type 0 where
   pub second : old.schema ≡ node_schema → new.schema ≡ turned_schema
 
 pub record MakesNode (old new : Database) : Type 0 where
-  pub second : old.schema ≡ layout_schema → (new.schema ≡ store_schema) × (new.trees 0 ≡ old.trees 0) × (new.trees 1 ≡ [])
+  pub second : old.schema ≡ layout_schema → (new.schema ≡ store_schema)
+      × (new.trees 0 ≡ old.trees 0) × (new.trees 1 ≡ [])
   pub never : old.schema ≢ turned_schema
 
 pub record MakesBoth (old new : Database) : Type 0 where
-  pub both : old.schema ≡ no_schema → (new.schema ≡ store_schema) × (new.trees 0 ≡ []) × (new.trees 1 ≡ [])
+  pub both : old.schema ≡ no_schema → (new.schema ≡ store_schema) × (new.trees 0 ≡ [])
+      × (new.trees 1 ≡ [])
   pub never : old.schema ≢ node_schema
 
 abbrev pub WritesEdition : Database → Database → Type 0
 WritesEdition old new = old.schema ≡ store_schema → old.trees 0 ≡ []
-    → (new.schema ≡ store_schema) × (new.trees 0 ≡ (Int (pos 1) ∷ Int (pos 1) ∷ []) ∷ []) × (new.trees 1 ≡ old.trees 1)
+    → (new.schema ≡ store_schema) × (new.trees 0 ≡ (Int (pos 1) ∷ Int (pos 1) ∷ []) ∷ [])
+        × (new.trees 1 ≡ old.trees 1)
 
 -- all three
 pub record MakesStore (old new : Database) : Type 0 where

@@ -14,7 +14,8 @@ use Rattle.xq_rows.specs.Documents.{Map, IsStore, IsClean, StandsFor, tree_at, d
 
 -- # What contracts see of a view
 
--- the store that it reads, the addresses of its trees, what its meter shows, and the rows that it lends
+-- the store that it reads, the addresses of its trees, what its meter shows, and the rows that it
+-- lends
 pub record Viewed (S : Type 0) : Type 0 where
   pub store : Held S
   pub addresses : List (List ℕ)
@@ -43,10 +44,12 @@ pub record Beginning : Type 0 where
   pub is_open : Bool
   pub is_clean : Bool
 
--- A store, of which a contract sees its connection: `g` are the ghosts of what it keeps its database in.
+-- A store, of which a contract sees its connection: `g` are the ghosts of what it keeps its
+-- database in.
 module _ {S : Type 0} (g : Ghosts S) (store : Held S) where
   unfoldable pub beginning : Beginning
-  beginning = record { database = (state g store).now; is_open = (state g store).is_open; is_clean = (state g store).is_clean }
+  beginning = record { database = (state g store).now; is_open =
+      (state g store).is_open; is_clean = (state g store).is_clean }
 
 -- The tables held documents as the view began.
 unfoldable pub HeldDocuments : Beginning → Type 0
@@ -69,7 +72,8 @@ WasClean b = doubt b.is_clean ≡ 0
 abbrev pub trees_under : Beginning → List (List ℕ) → List Tree
 trees_under b addresses = map (tree_at (b.database.trees 1)) addresses
 
--- What a view keeps true: its store stands for the map that it stood for as the view began, and its addresses are the map's.
+-- What a view keeps true: its store stands for the map that it stood for as the view began, and its
+-- addresses are the map's.
 pub record IsView {S : Type 0} (g : Ghosts S) (b : Beginning) (v : Viewed S) : Type 0 where
   pub was_clean : IsClean g v.store → WasClean b
   pub was_open : IsClean g v.store → WasOpen b

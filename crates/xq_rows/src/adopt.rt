@@ -27,11 +27,22 @@ use xq_regions::{Fragment, NodeRow};
 /// Reads the editions: one column for each row of the table `layout`.
 fn read_layout<S: Alter>(transaction: &mut Transaction<'_, S>) -> Result<Vec<Row>, Error>
     ensures same_reference { transaction.new.conn.ghost_name ≡ transaction.old.conn.ghost_name }
-    ensures clean { doubt (state S.Store transaction.old.conn.now).is_clean ≤ doubt (state S.Store transaction.new.conn.now).is_clean }
-    ensures kept { HasCleanDisk (state S.Store transaction.new.conn.now) → IsTrue (state S.Store transaction.old.conn.now).in_transaction → KeepsCommit (state S.Store transaction.old.conn.now) (state S.Store transaction.new.conn.now) }
-    ensures mode { HasCleanDisk (state S.Store transaction.new.conn.now) → IsTrue (state S.Store transaction.old.conn.now).in_transaction → OnOk result (IsTrue (state S.Store transaction.new.conn.now).in_transaction) }
-    ensures ok { HasCleanDisk (state S.Store transaction.new.conn.now) → IfOk result (λ rows. ReadsEdition (state S.Store transaction.old.conn.now).now (state S.Store transaction.new.conn.now).now rows.items) }
-    ensures err { HasCleanDisk (state S.Store transaction.new.conn.now) → IfErr result (λ e. IsInputError e → SeesNothing (state S.Store transaction.old.conn.now).now (state S.Store transaction.new.conn.now).now) }
+    ensures clean { doubt (state S.Store transaction.old.conn.now).is_clean
+        ≤ doubt (state S.Store transaction.new.conn.now).is_clean }
+    ensures kept { HasCleanDisk (state S.Store transaction.new.conn.now)
+        → IsTrue (state S.Store transaction.old.conn.now).in_transaction
+        → KeepsCommit (state S.Store transaction.old.conn.now)
+        (state S.Store transaction.new.conn.now) }
+    ensures mode { HasCleanDisk (state S.Store transaction.new.conn.now)
+        → IsTrue (state S.Store transaction.old.conn.now).in_transaction
+        → OnOk result (IsTrue (state S.Store transaction.new.conn.now).in_transaction) }
+    ensures ok { HasCleanDisk (state S.Store transaction.new.conn.now)
+        → IfOk result (λ rows. ReadsEdition (state S.Store transaction.old.conn.now).now
+        (state S.Store transaction.new.conn.now).now rows.items) }
+    ensures err { HasCleanDisk (state S.Store transaction.new.conn.now)
+        → IfErr result (λ e. IsInputError e
+        → SeesNothing (state S.Store transaction.old.conn.now).now
+        (state S.Store transaction.new.conn.now).now) }
 {
     transaction.query_all("SELECT edition FROM layout", &[])
 }
@@ -39,11 +50,21 @@ fn read_layout<S: Alter>(transaction: &mut Transaction<'_, S>) -> Result<Vec<Row
 /// Reads the rowids of the nodes.
 fn read_rowids<S: Alter>(transaction: &mut Transaction<'_, S>) -> Result<Vec<Row>, Error>
     ensures same_reference { transaction.new.conn.ghost_name ≡ transaction.old.conn.ghost_name }
-    ensures clean { doubt (state S.Store transaction.old.conn.now).is_clean ≤ doubt (state S.Store transaction.new.conn.now).is_clean }
-    ensures kept { HasCleanDisk (state S.Store transaction.new.conn.now) → IsTrue (state S.Store transaction.old.conn.now).in_transaction → KeepsCommit (state S.Store transaction.old.conn.now) (state S.Store transaction.new.conn.now) }
-    ensures mode { HasCleanDisk (state S.Store transaction.new.conn.now) → IsTrue (state S.Store transaction.old.conn.now).in_transaction → OnOk result (IsTrue (state S.Store transaction.new.conn.now).in_transaction) }
-    ensures ok { HasCleanDisk (state S.Store transaction.new.conn.now) → IfOk result (λ rows. ReadsRowids (state S.Store transaction.old.conn.now).now (state S.Store transaction.new.conn.now).now rows.items) }
-    ensures err { HasCleanDisk (state S.Store transaction.new.conn.now) → IfErr result (λ e. fault_of e ≡ OpenFault.NotAStore → (state S.Store transaction.old.conn.now).now.schema ≢ store_schema) }
+    ensures clean { doubt (state S.Store transaction.old.conn.now).is_clean
+        ≤ doubt (state S.Store transaction.new.conn.now).is_clean }
+    ensures kept { HasCleanDisk (state S.Store transaction.new.conn.now)
+        → IsTrue (state S.Store transaction.old.conn.now).in_transaction
+        → KeepsCommit (state S.Store transaction.old.conn.now)
+        (state S.Store transaction.new.conn.now) }
+    ensures mode { HasCleanDisk (state S.Store transaction.new.conn.now)
+        → IsTrue (state S.Store transaction.old.conn.now).in_transaction
+        → OnOk result (IsTrue (state S.Store transaction.new.conn.now).in_transaction) }
+    ensures ok { HasCleanDisk (state S.Store transaction.new.conn.now)
+        → IfOk result (λ rows. ReadsRowids (state S.Store transaction.old.conn.now).now
+        (state S.Store transaction.new.conn.now).now rows.items) }
+    ensures err { HasCleanDisk (state S.Store transaction.new.conn.now)
+        → IfErr result (λ e. fault_of e ≡ OpenFault.NotAStore
+        → (state S.Store transaction.old.conn.now).now.schema ≢ store_schema) }
 {
     transaction.query_all("SELECT rowid FROM node ORDER BY rowid", &[])
 }
@@ -52,11 +73,21 @@ fn read_rowids<S: Alter>(transaction: &mut Transaction<'_, S>) -> Result<Vec<Row
 /// level, kind, name, value and address.
 fn read_nodes<S: Alter>(transaction: &mut Transaction<'_, S>) -> Result<Vec<Row>, Error>
     ensures same_reference { transaction.new.conn.ghost_name ≡ transaction.old.conn.ghost_name }
-    ensures clean { doubt (state S.Store transaction.old.conn.now).is_clean ≤ doubt (state S.Store transaction.new.conn.now).is_clean }
-    ensures kept { HasCleanDisk (state S.Store transaction.new.conn.now) → IsTrue (state S.Store transaction.old.conn.now).in_transaction → KeepsCommit (state S.Store transaction.old.conn.now) (state S.Store transaction.new.conn.now) }
-    ensures mode { HasCleanDisk (state S.Store transaction.new.conn.now) → IsTrue (state S.Store transaction.old.conn.now).in_transaction → OnOk result (IsTrue (state S.Store transaction.new.conn.now).in_transaction) }
-    ensures ok { HasCleanDisk (state S.Store transaction.new.conn.now) → IfOk result (λ rows. ReadsNodes (state S.Store transaction.old.conn.now).now (state S.Store transaction.new.conn.now).now rows.items) }
-    ensures err { HasCleanDisk (state S.Store transaction.new.conn.now) → IfErr result (λ e. fault_of e ≡ OpenFault.NotAStore → (state S.Store transaction.old.conn.now).now.schema ≢ store_schema) }
+    ensures clean { doubt (state S.Store transaction.old.conn.now).is_clean
+        ≤ doubt (state S.Store transaction.new.conn.now).is_clean }
+    ensures kept { HasCleanDisk (state S.Store transaction.new.conn.now)
+        → IsTrue (state S.Store transaction.old.conn.now).in_transaction
+        → KeepsCommit (state S.Store transaction.old.conn.now)
+        (state S.Store transaction.new.conn.now) }
+    ensures mode { HasCleanDisk (state S.Store transaction.new.conn.now)
+        → IsTrue (state S.Store transaction.old.conn.now).in_transaction
+        → OnOk result (IsTrue (state S.Store transaction.new.conn.now).in_transaction) }
+    ensures ok { HasCleanDisk (state S.Store transaction.new.conn.now)
+        → IfOk result (λ rows. ReadsNodes (state S.Store transaction.old.conn.now).now
+        (state S.Store transaction.new.conn.now).now rows.items) }
+    ensures err { HasCleanDisk (state S.Store transaction.new.conn.now)
+        → IfErr result (λ e. fault_of e ≡ OpenFault.NotAStore
+        → (state S.Store transaction.old.conn.now).now.schema ≢ store_schema) }
 {
     transaction.query_all(
         "SELECT pre, size, level, kind, name, value, address FROM node ORDER BY address, pre",
@@ -149,7 +180,8 @@ fn row_fault(refusal: Refusal) -> OpenFault
 /// The node of a row.
 fn node_in(row: &Row) -> Result<NodeRow, OpenFault>
     ensures ok { IfOk result (λ node. cells (placed node) ≡ node_of row.now) }
-    ensures err { IfErr result (λ fault. fault ≡ OpenFault.NotAStore → ¬ (IsReadable (node_of row.now))) }
+    ensures err { IfErr result (λ fault. fault ≡ OpenFault.NotAStore
+        → ¬ (IsReadable (node_of row.now))) }
 {
     node_row(row).map_err(row_fault)
 }
@@ -157,7 +189,8 @@ fn node_in(row: &Row) -> Result<NodeRow, OpenFault>
 /// The nodes of rows.
 fn nodes_in(alloc: Global, rows: &[Row]) -> Result<Vec<NodeRow>, OpenFault>
     ensures ok { IfOk result (λ nodes. map cells (map placed nodes.items) ≡ map node_of rows.now) }
-    ensures err { IfErr result (λ fault. fault ≡ OpenFault.NotAStore → ¬ (AllByRecursion IsReadable (map node_of rows.now))) }
+    ensures err { IfErr result (λ fault. fault ≡ OpenFault.NotAStore
+        → ¬ (AllByRecursion IsReadable (map node_of rows.now))) }
 {
     let mut nodes = Vec::with_capacity(alloc, rows.len()).map_err(Want::from)?;
     for row in rows {
@@ -169,7 +202,8 @@ fn nodes_in(alloc: Global, rows: &[Row]) -> Result<Vec<NodeRow>, OpenFault>
 /// Judges the rows of one address.
 fn check_run(alloc: Global, address: &[u8], rows: &[Row]) -> Result<(), OpenFault>
     ensures ok { OnOk result (IsAddress address.now × IsRun (map node_of rows.now)) }
-    ensures err { IfErr result (λ fault. fault ≡ OpenFault.NotAStore → ¬ (IsAddress address.now × IsRun (map node_of rows.now))) }
+    ensures err { IfErr result (λ fault. fault ≡ OpenFault.NotAStore
+        → ¬ (IsAddress address.now × IsRun (map node_of rows.now))) }
 {
     if !address_ok(address) {
         return Err(OpenFault::NotAStore);
@@ -187,7 +221,8 @@ fn check_run(alloc: Global, address: &[u8], rows: &[Row]) -> Result<(), OpenFaul
 /// Judges rows in the order of address and number: one run for each address.
 fn check_rows(alloc: Global, rows: &[Row]) -> Result<(), OpenFault>
     ensures ok { OnOk result (IsSorted by_place rows.now → AreTold rows.now) }
-    ensures err { IfErr result (λ fault. fault ≡ OpenFault.NotAStore → IsSorted by_place rows.now → ¬ (AreTold rows.now)) }
+    ensures err { IfErr result (λ fault. fault ≡ OpenFault.NotAStore → IsSorted by_place rows.now
+        → ¬ (AreTold rows.now)) }
 {
     let mut rest = rows;
     while let Some(first) = rest.first() {
@@ -204,11 +239,21 @@ fn check_rows(alloc: Global, rows: &[Row]) -> Result<(), OpenFault>
 /// Judges the rowids of the nodes.
 fn check_rowids<S: Alter>(transaction: &mut Transaction<'_, S>) -> Result<(), OpenFault>
     ensures same_reference { transaction.new.conn.ghost_name ≡ transaction.old.conn.ghost_name }
-    ensures clean { doubt (state S.Store transaction.old.conn.now).is_clean ≤ doubt (state S.Store transaction.new.conn.now).is_clean }
-    ensures kept { HasCleanDisk (state S.Store transaction.new.conn.now) → IsTrue (state S.Store transaction.old.conn.now).in_transaction → KeepsCommit (state S.Store transaction.old.conn.now) (state S.Store transaction.new.conn.now) }
-    ensures mode { HasCleanDisk (state S.Store transaction.new.conn.now) → IsTrue (state S.Store transaction.old.conn.now).in_transaction → OnOk result (IsTrue (state S.Store transaction.new.conn.now).in_transaction) }
-    ensures ok { HasCleanDisk (state S.Store transaction.new.conn.now) → OnOk result (SeesRowids (state S.Store transaction.old.conn.now).now (state S.Store transaction.new.conn.now).now) }
-    ensures err { HasCleanDisk (state S.Store transaction.new.conn.now) → IfErr result (λ fault. fault ≡ OpenFault.NotAStore → (state S.Store transaction.old.conn.now).now.schema ≢ store_schema) }
+    ensures clean { doubt (state S.Store transaction.old.conn.now).is_clean
+        ≤ doubt (state S.Store transaction.new.conn.now).is_clean }
+    ensures kept { HasCleanDisk (state S.Store transaction.new.conn.now)
+        → IsTrue (state S.Store transaction.old.conn.now).in_transaction
+        → KeepsCommit (state S.Store transaction.old.conn.now)
+        (state S.Store transaction.new.conn.now) }
+    ensures mode { HasCleanDisk (state S.Store transaction.new.conn.now)
+        → IsTrue (state S.Store transaction.old.conn.now).in_transaction
+        → OnOk result (IsTrue (state S.Store transaction.new.conn.now).in_transaction) }
+    ensures ok { HasCleanDisk (state S.Store transaction.new.conn.now)
+        → OnOk result (SeesRowids (state S.Store transaction.old.conn.now).now
+        (state S.Store transaction.new.conn.now).now) }
+    ensures err { HasCleanDisk (state S.Store transaction.new.conn.now)
+        → IfErr result (λ fault. fault ≡ OpenFault.NotAStore
+        → (state S.Store transaction.old.conn.now).now.schema ≢ store_schema) }
 {
     let rows = read_rowids(transaction)?;
     if are_rising(&rows) {
@@ -224,11 +269,21 @@ fn check_nodes<S: Alter>(
     transaction: &mut Transaction<'_, S>,
 ) -> Result<(), OpenFault>
     ensures same_reference { transaction.new.conn.ghost_name ≡ transaction.old.conn.ghost_name }
-    ensures clean { doubt (state S.Store transaction.old.conn.now).is_clean ≤ doubt (state S.Store transaction.new.conn.now).is_clean }
-    ensures kept { HasCleanDisk (state S.Store transaction.new.conn.now) → IsTrue (state S.Store transaction.old.conn.now).in_transaction → KeepsCommit (state S.Store transaction.old.conn.now) (state S.Store transaction.new.conn.now) }
-    ensures mode { HasCleanDisk (state S.Store transaction.new.conn.now) → IsTrue (state S.Store transaction.old.conn.now).in_transaction → OnOk result (IsTrue (state S.Store transaction.new.conn.now).in_transaction) }
-    ensures ok { HasCleanDisk (state S.Store transaction.new.conn.now) → OnOk result (SeesDocuments (state S.Store transaction.old.conn.now).now (state S.Store transaction.new.conn.now).now) }
-    ensures err { HasCleanDisk (state S.Store transaction.new.conn.now) → IfErr result (λ fault. fault ≡ OpenFault.NotAStore → ¬ (IsStore (state S.Store transaction.old.conn.now).now)) }
+    ensures clean { doubt (state S.Store transaction.old.conn.now).is_clean
+        ≤ doubt (state S.Store transaction.new.conn.now).is_clean }
+    ensures kept { HasCleanDisk (state S.Store transaction.new.conn.now)
+        → IsTrue (state S.Store transaction.old.conn.now).in_transaction
+        → KeepsCommit (state S.Store transaction.old.conn.now)
+        (state S.Store transaction.new.conn.now) }
+    ensures mode { HasCleanDisk (state S.Store transaction.new.conn.now)
+        → IsTrue (state S.Store transaction.old.conn.now).in_transaction
+        → OnOk result (IsTrue (state S.Store transaction.new.conn.now).in_transaction) }
+    ensures ok { HasCleanDisk (state S.Store transaction.new.conn.now)
+        → OnOk result (SeesDocuments (state S.Store transaction.old.conn.now).now
+        (state S.Store transaction.new.conn.now).now) }
+    ensures err { HasCleanDisk (state S.Store transaction.new.conn.now)
+        → IfErr result (λ fault. fault ≡ OpenFault.NotAStore
+        → ¬ (IsStore (state S.Store transaction.old.conn.now).now)) }
 {
     check_rowids(transaction)?;
     let rows = read_nodes(transaction)?;
@@ -238,11 +293,22 @@ fn check_nodes<S: Alter>(
 /// Whether the tables have an edition, and it is the first.
 fn has_edition<S: Alter>(transaction: &mut Transaction<'_, S>) -> Result<bool, OpenFault>
     ensures same_reference { transaction.new.conn.ghost_name ≡ transaction.old.conn.ghost_name }
-    ensures clean { doubt (state S.Store transaction.old.conn.now).is_clean ≤ doubt (state S.Store transaction.new.conn.now).is_clean }
-    ensures kept { HasCleanDisk (state S.Store transaction.new.conn.now) → IsTrue (state S.Store transaction.old.conn.now).in_transaction → KeepsCommit (state S.Store transaction.old.conn.now) (state S.Store transaction.new.conn.now) }
-    ensures mode { HasCleanDisk (state S.Store transaction.new.conn.now) → IsTrue (state S.Store transaction.old.conn.now).in_transaction → IfOk result (λ found. IsTrue found → IsTrue (state S.Store transaction.new.conn.now).in_transaction) }
-    ensures ok { HasCleanDisk (state S.Store transaction.new.conn.now) → IfOk result (λ found. Sees found (state S.Store transaction.old.conn.now).now (state S.Store transaction.new.conn.now).now) }
-    ensures err { HasCleanDisk (state S.Store transaction.new.conn.now) → IfErr result (λ fault. fault ≡ OpenFault.NotAStore → IsNoStore (state S.Store transaction.old.conn.now).now) }
+    ensures clean { doubt (state S.Store transaction.old.conn.now).is_clean
+        ≤ doubt (state S.Store transaction.new.conn.now).is_clean }
+    ensures kept { HasCleanDisk (state S.Store transaction.new.conn.now)
+        → IsTrue (state S.Store transaction.old.conn.now).in_transaction
+        → KeepsCommit (state S.Store transaction.old.conn.now)
+        (state S.Store transaction.new.conn.now) }
+    ensures mode { HasCleanDisk (state S.Store transaction.new.conn.now)
+        → IsTrue (state S.Store transaction.old.conn.now).in_transaction
+        → IfOk result (λ found. IsTrue found
+        → IsTrue (state S.Store transaction.new.conn.now).in_transaction) }
+    ensures ok { HasCleanDisk (state S.Store transaction.new.conn.now)
+        → IfOk result (λ found. Sees found (state S.Store transaction.old.conn.now).now
+        (state S.Store transaction.new.conn.now).now) }
+    ensures err { HasCleanDisk (state S.Store transaction.new.conn.now)
+        → IfErr result (λ fault. fault ≡ OpenFault.NotAStore
+        → IsNoStore (state S.Store transaction.old.conn.now).now) }
 {
     let rows = match read_layout(transaction) {
         Ok(rows) => rows,
@@ -259,11 +325,19 @@ fn has_edition<S: Alter>(transaction: &mut Transaction<'_, S>) -> Result<bool, O
 /// Makes the tables. Where a table has a name of theirs, this is no store.
 fn make_store<S: Alter>(transaction: &mut Transaction<'_, S>) -> Result<(), OpenFault>
     ensures same_reference { transaction.new.conn.ghost_name ≡ transaction.old.conn.ghost_name }
-    ensures clean { doubt (state S.Store transaction.old.conn.now).is_clean ≤ doubt (state S.Store transaction.new.conn.now).is_clean }
-    ensures kept { HasCleanDisk (state S.Store transaction.new.conn.now) → KeepsCommit (state S.Store transaction.old.conn.now) (state S.Store transaction.new.conn.now) }
-    ensures mode { HasCleanDisk (state S.Store transaction.new.conn.now) → OnOk result (IsTrue (state S.Store transaction.new.conn.now).in_transaction) }
-    ensures ok { HasCleanDisk (state S.Store transaction.new.conn.now) → OnOk result (MakesStore (state S.Store transaction.old.conn.now).now (state S.Store transaction.new.conn.now).now) }
-    ensures err { HasCleanDisk (state S.Store transaction.new.conn.now) → IfErr result (λ fault. fault ≡ OpenFault.NotAStore → (state S.Store transaction.old.conn.now).now.schema ≢ no_schema) }
+    ensures clean { doubt (state S.Store transaction.old.conn.now).is_clean
+        ≤ doubt (state S.Store transaction.new.conn.now).is_clean }
+    ensures kept { HasCleanDisk (state S.Store transaction.new.conn.now)
+        → KeepsCommit (state S.Store transaction.old.conn.now)
+        (state S.Store transaction.new.conn.now) }
+    ensures mode { HasCleanDisk (state S.Store transaction.new.conn.now)
+        → OnOk result (IsTrue (state S.Store transaction.new.conn.now).in_transaction) }
+    ensures ok { HasCleanDisk (state S.Store transaction.new.conn.now)
+        → OnOk result (MakesStore (state S.Store transaction.old.conn.now).now
+        (state S.Store transaction.new.conn.now).now) }
+    ensures err { HasCleanDisk (state S.Store transaction.new.conn.now)
+        → IfErr result (λ fault. fault ≡ OpenFault.NotAStore
+        → (state S.Store transaction.old.conn.now).now.schema ≢ no_schema) }
 {
     make_both(transaction)?;
     match write_edition(transaction) {
@@ -278,11 +352,21 @@ fn adopt_inside<S: Alter>(
     transaction: &mut Transaction<'_, S>,
 ) -> Result<(), OpenFault>
     ensures same_reference { transaction.new.conn.ghost_name ≡ transaction.old.conn.ghost_name }
-    ensures clean { doubt (state S.Store transaction.old.conn.now).is_clean ≤ doubt (state S.Store transaction.new.conn.now).is_clean }
-    ensures kept { HasCleanDisk (state S.Store transaction.new.conn.now) → IsTrue (state S.Store transaction.old.conn.now).in_transaction → KeepsCommit (state S.Store transaction.old.conn.now) (state S.Store transaction.new.conn.now) }
-    ensures mode { HasCleanDisk (state S.Store transaction.new.conn.now) → IsTrue (state S.Store transaction.old.conn.now).in_transaction → OnOk result (IsTrue (state S.Store transaction.new.conn.now).in_transaction) }
-    ensures ok { HasCleanDisk (state S.Store transaction.new.conn.now) → OnOk result (IsAdopted (state S.Store transaction.old.conn.now).now (state S.Store transaction.new.conn.now).now) }
-    ensures err { HasCleanDisk (state S.Store transaction.new.conn.now) → IfErr result (λ fault. fault ≡ OpenFault.NotAStore → IsNoStore (state S.Store transaction.old.conn.now).now) }
+    ensures clean { doubt (state S.Store transaction.old.conn.now).is_clean
+        ≤ doubt (state S.Store transaction.new.conn.now).is_clean }
+    ensures kept { HasCleanDisk (state S.Store transaction.new.conn.now)
+        → IsTrue (state S.Store transaction.old.conn.now).in_transaction
+        → KeepsCommit (state S.Store transaction.old.conn.now)
+        (state S.Store transaction.new.conn.now) }
+    ensures mode { HasCleanDisk (state S.Store transaction.new.conn.now)
+        → IsTrue (state S.Store transaction.old.conn.now).in_transaction
+        → OnOk result (IsTrue (state S.Store transaction.new.conn.now).in_transaction) }
+    ensures ok { HasCleanDisk (state S.Store transaction.new.conn.now)
+        → OnOk result (IsAdopted (state S.Store transaction.old.conn.now).now
+        (state S.Store transaction.new.conn.now).now) }
+    ensures err { HasCleanDisk (state S.Store transaction.new.conn.now)
+        → IfErr result (λ fault. fault ≡ OpenFault.NotAStore
+        → IsNoStore (state S.Store transaction.old.conn.now).now) }
 {
     if has_edition(transaction)? {
         check_nodes(alloc, transaction)
@@ -295,12 +379,18 @@ fn adopt_inside<S: Alter>(
 pub fn adopt_tables<S: Alter>(alloc: Global, conn: &mut Connection<S>) -> Result<(), OpenFault>
     requires { conn.old.in_transaction ≡ false }
     ensures mode { conn.new.in_transaction ≡ false }
-    ensures clean { doubt (state S.Store conn.old).is_clean ≤ doubt (state S.Store conn.new).is_clean }
+    ensures clean { doubt (state S.Store conn.old).is_clean
+        ≤ doubt (state S.Store conn.new).is_clean }
     ensures open { IsReady (state S.Store conn.new) → IsTrue (state S.Store conn.old).is_open }
-    ensures ends_open { HasCleanDisk (state S.Store conn.new) → OnOk result (IsTrue (state S.Store conn.new).is_open) }
-    ensures kept { IsReady (state S.Store conn.new) → OnErr result ((state S.Store conn.new).now ≡ (state S.Store conn.old).now) }
-    ensures adopted { IsReady (state S.Store conn.new) → OnOk result (IsAdopted (state S.Store conn.old).now (state S.Store conn.new).now) }
-    ensures refused { IsReady (state S.Store conn.new) → IfErr result (λ fault. fault ≡ OpenFault.NotAStore → IsNoStore (state S.Store conn.old).now) }
+    ensures ends_open { HasCleanDisk (state S.Store conn.new)
+        → OnOk result (IsTrue (state S.Store conn.new).is_open) }
+    ensures kept { IsReady (state S.Store conn.new)
+        → OnErr result ((state S.Store conn.new).now ≡ (state S.Store conn.old).now) }
+    ensures adopted { IsReady (state S.Store conn.new)
+        → OnOk result (IsAdopted (state S.Store conn.old).now (state S.Store conn.new).now) }
+    ensures refused { IsReady (state S.Store conn.new)
+        → IfErr result (λ fault. fault ≡ OpenFault.NotAStore
+        → IsNoStore (state S.Store conn.old).now) }
 {
     let _settled = conn.is_autocommit();
     let mut transaction = conn.transaction();

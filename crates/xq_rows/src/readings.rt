@@ -40,7 +40,8 @@ fn kind_of(number: u32) -> Option<Kind>
 /// node's tells of a damaged database.
 pub fn node_row(row: &Row) -> Result<NodeRow, Refusal>
     ensures ok { IfOk result (λ node. cells (placed node) ≡ node_of row.now) }
-    ensures err { IfErr result (λ refusal. want_of refusal.0 ≡ Want.Store → ¬ (IsReadable (node_of row.now))) }
+    ensures err { IfErr result (λ refusal. want_of refusal.0 ≡ Want.Store
+        → ¬ (IsReadable (node_of row.now))) }
 {
     let pre = row.get::<u32>(0)?;
     let size = row.get::<u32>(1)?;
@@ -81,7 +82,8 @@ fn text_of(row: &Row) -> Result<String, Refusal>
 
 /// The texts of rows of one column.
 fn texts(alloc: Global, rows: &[Row]) -> Result<Vec<String>, Want>
-    ensures { IfOk result (λ texts. map Text (map string_bytes texts.items) ≡ map (λ r. column r 0) rows.now) }
+    ensures { IfOk result (λ texts. map Text (map string_bytes texts.items)
+        ≡ map (λ r. column r 0) rows.now) }
 {
     let mut texts = Vec::with_capacity(alloc, rows.len())?;
     for row in rows {
@@ -99,11 +101,17 @@ fn rows_between<S: Alter>(
 ) -> Result<Vec<Row>, Refusal>
     requires { conn.old.in_transaction ≡ false }
     ensures mode { conn.new.in_transaction ≡ false }
-    ensures clean { doubt (state S.Store conn.old).is_clean ≤ doubt (state S.Store conn.new).is_clean }
+    ensures clean { doubt (state S.Store conn.old).is_clean
+        ≤ doubt (state S.Store conn.new).is_clean }
     ensures open { IsReady (state S.Store conn.new) → IsTrue (state S.Store conn.old).is_open }
-    ensures ends_open { HasCleanDisk (state S.Store conn.new) → OnOk result (IsTrue (state S.Store conn.new).is_open) }
-    ensures same { IsReady (state S.Store conn.new) → (state S.Store conn.old).now.schema ≡ store_schema → (state S.Store conn.new).now ≡ (state S.Store conn.old).now }
-    ensures rows { IsReady (state S.Store conn.new) → IfOk result (λ rows. IsRange address.now low high (state S.Store conn.old).now rows.items) }
+    ensures ends_open { HasCleanDisk (state S.Store conn.new)
+        → OnOk result (IsTrue (state S.Store conn.new).is_open) }
+    ensures same { IsReady (state S.Store conn.new)
+        → (state S.Store conn.old).now.schema ≡ store_schema
+        → (state S.Store conn.new).now ≡ (state S.Store conn.old).now }
+    ensures rows { IsReady (state S.Store conn.new)
+        → IfOk result (λ rows. IsRange address.now low high
+        (state S.Store conn.old).now rows.items) }
 {
     Ok(read_range(conn, address, low, high)?)
 }
@@ -119,11 +127,17 @@ pub fn nodes_between<S: Alter>(
 ) -> Result<Vec<NodeRow>, Want>
     requires { conn.old.in_transaction ≡ false }
     ensures mode { conn.new.in_transaction ≡ false }
-    ensures clean { doubt (state S.Store conn.old).is_clean ≤ doubt (state S.Store conn.new).is_clean }
+    ensures clean { doubt (state S.Store conn.old).is_clean
+        ≤ doubt (state S.Store conn.new).is_clean }
     ensures open { IsReady (state S.Store conn.new) → IsTrue (state S.Store conn.old).is_open }
-    ensures ends_open { HasCleanDisk (state S.Store conn.new) → OnOk result (IsTrue (state S.Store conn.new).is_open) }
-    ensures same { IsReady (state S.Store conn.new) → (state S.Store conn.old).now.schema ≡ store_schema → (state S.Store conn.new).now ≡ (state S.Store conn.old).now }
-    ensures nodes { IsReady (state S.Store conn.new) → IfOk result (λ nodes. IsRange address.now low high (state S.Store conn.old).now (map cells (map placed nodes.items))) }
+    ensures ends_open { HasCleanDisk (state S.Store conn.new)
+        → OnOk result (IsTrue (state S.Store conn.new).is_open) }
+    ensures same { IsReady (state S.Store conn.new)
+        → (state S.Store conn.old).now.schema ≡ store_schema
+        → (state S.Store conn.new).now ≡ (state S.Store conn.old).now }
+    ensures nodes { IsReady (state S.Store conn.new)
+        → IfOk result (λ nodes. IsRange address.now low high (state S.Store conn.old).now
+        (map cells (map placed nodes.items))) }
 {
     let rows = rows_between(conn, address, low, high)?;
     node_rows(alloc, &rows)
@@ -137,11 +151,16 @@ fn rows_above<S: Alter>(
 ) -> Result<Vec<Row>, Refusal>
     requires { conn.old.in_transaction ≡ false }
     ensures mode { conn.new.in_transaction ≡ false }
-    ensures clean { doubt (state S.Store conn.old).is_clean ≤ doubt (state S.Store conn.new).is_clean }
+    ensures clean { doubt (state S.Store conn.old).is_clean
+        ≤ doubt (state S.Store conn.new).is_clean }
     ensures open { IsReady (state S.Store conn.new) → IsTrue (state S.Store conn.old).is_open }
-    ensures ends_open { HasCleanDisk (state S.Store conn.new) → OnOk result (IsTrue (state S.Store conn.new).is_open) }
-    ensures same { IsReady (state S.Store conn.new) → (state S.Store conn.old).now.schema ≡ store_schema → (state S.Store conn.new).now ≡ (state S.Store conn.old).now }
-    ensures rows { IsReady (state S.Store conn.new) → IfOk result (λ rows. AreAbove address.now node (state S.Store conn.old).now rows.items) }
+    ensures ends_open { HasCleanDisk (state S.Store conn.new)
+        → OnOk result (IsTrue (state S.Store conn.new).is_open) }
+    ensures same { IsReady (state S.Store conn.new)
+        → (state S.Store conn.old).now.schema ≡ store_schema
+        → (state S.Store conn.new).now ≡ (state S.Store conn.old).now }
+    ensures rows { IsReady (state S.Store conn.new)
+        → IfOk result (λ rows. AreAbove address.now node (state S.Store conn.old).now rows.items) }
 {
     Ok(read_enclosing(conn, address, node)?)
 }
@@ -155,11 +174,17 @@ pub fn nodes_above<S: Alter>(
 ) -> Result<Vec<NodeRow>, Want>
     requires { conn.old.in_transaction ≡ false }
     ensures mode { conn.new.in_transaction ≡ false }
-    ensures clean { doubt (state S.Store conn.old).is_clean ≤ doubt (state S.Store conn.new).is_clean }
+    ensures clean { doubt (state S.Store conn.old).is_clean
+        ≤ doubt (state S.Store conn.new).is_clean }
     ensures open { IsReady (state S.Store conn.new) → IsTrue (state S.Store conn.old).is_open }
-    ensures ends_open { HasCleanDisk (state S.Store conn.new) → OnOk result (IsTrue (state S.Store conn.new).is_open) }
-    ensures same { IsReady (state S.Store conn.new) → (state S.Store conn.old).now.schema ≡ store_schema → (state S.Store conn.new).now ≡ (state S.Store conn.old).now }
-    ensures nodes { IsReady (state S.Store conn.new) → IfOk result (λ nodes. AreAbove address.now node (state S.Store conn.old).now (map cells (map placed nodes.items))) }
+    ensures ends_open { HasCleanDisk (state S.Store conn.new)
+        → OnOk result (IsTrue (state S.Store conn.new).is_open) }
+    ensures same { IsReady (state S.Store conn.new)
+        → (state S.Store conn.old).now.schema ≡ store_schema
+        → (state S.Store conn.new).now ≡ (state S.Store conn.old).now }
+    ensures nodes { IsReady (state S.Store conn.new)
+        → IfOk result (λ nodes. AreAbove address.now node (state S.Store conn.old).now
+        (map cells (map placed nodes.items))) }
 {
     let rows = rows_above(conn, address, node)?;
     node_rows(alloc, &rows)
@@ -188,11 +213,16 @@ pub fn document_of(nodes: Vec<NodeRow>) -> Result<Option<Fragment>, Want>
 fn address_rows<S: Alter>(conn: &mut Connection<S>) -> Result<Vec<Row>, Refusal>
     requires { conn.old.in_transaction ≡ false }
     ensures mode { conn.new.in_transaction ≡ false }
-    ensures clean { doubt (state S.Store conn.old).is_clean ≤ doubt (state S.Store conn.new).is_clean }
+    ensures clean { doubt (state S.Store conn.old).is_clean
+        ≤ doubt (state S.Store conn.new).is_clean }
     ensures open { IsReady (state S.Store conn.new) → IsTrue (state S.Store conn.old).is_open }
-    ensures ends_open { HasCleanDisk (state S.Store conn.new) → OnOk result (IsTrue (state S.Store conn.new).is_open) }
-    ensures same { IsReady (state S.Store conn.new) → (state S.Store conn.old).now.schema ≡ store_schema → (state S.Store conn.new).now ≡ (state S.Store conn.old).now }
-    ensures rows { IsReady (state S.Store conn.new) → IfOk result (λ rows. AreAddresses (state S.Store conn.old).now rows.items) }
+    ensures ends_open { HasCleanDisk (state S.Store conn.new)
+        → OnOk result (IsTrue (state S.Store conn.new).is_open) }
+    ensures same { IsReady (state S.Store conn.new)
+        → (state S.Store conn.old).now.schema ≡ store_schema
+        → (state S.Store conn.new).now ≡ (state S.Store conn.old).now }
+    ensures rows { IsReady (state S.Store conn.new)
+        → IfOk result (λ rows. AreAddresses (state S.Store conn.old).now rows.items) }
 {
     Ok(read_addresses(conn)?)
 }
@@ -204,11 +234,17 @@ pub fn list_addresses<S: Alter>(
 ) -> Result<Vec<String>, Want>
     requires { conn.old.in_transaction ≡ false }
     ensures mode { conn.new.in_transaction ≡ false }
-    ensures clean { doubt (state S.Store conn.old).is_clean ≤ doubt (state S.Store conn.new).is_clean }
+    ensures clean { doubt (state S.Store conn.old).is_clean
+        ≤ doubt (state S.Store conn.new).is_clean }
     ensures open { IsReady (state S.Store conn.new) → IsTrue (state S.Store conn.old).is_open }
-    ensures ends_open { HasCleanDisk (state S.Store conn.new) → OnOk result (IsTrue (state S.Store conn.new).is_open) }
-    ensures same { IsReady (state S.Store conn.new) → (state S.Store conn.old).now.schema ≡ store_schema → (state S.Store conn.new).now ≡ (state S.Store conn.old).now }
-    ensures all { IsReady (state S.Store conn.new) → IfOk result (λ all. AreAddresses (state S.Store conn.old).now (map (λ bytes. Text bytes ∷ []) (map string_bytes all.items))) }
+    ensures ends_open { HasCleanDisk (state S.Store conn.new)
+        → OnOk result (IsTrue (state S.Store conn.new).is_open) }
+    ensures same { IsReady (state S.Store conn.new)
+        → (state S.Store conn.old).now.schema ≡ store_schema
+        → (state S.Store conn.new).now ≡ (state S.Store conn.old).now }
+    ensures all { IsReady (state S.Store conn.new)
+        → IfOk result (λ all. AreAddresses (state S.Store conn.old).now
+        (map (λ bytes. Text bytes ∷ []) (map string_bytes all.items))) }
 {
     let rows = address_rows(conn)?;
     texts(alloc, &rows)

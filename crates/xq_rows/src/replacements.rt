@@ -26,9 +26,14 @@ pub fn replace_rows<S: Alter>(
     requires numbered { AreNumbered 0 rows.now }
     requires few { length rows.now ≤ 1000000 }
     ensures same_reference { transaction.new.conn.ghost_name ≡ transaction.old.conn.ghost_name }
-    ensures replaced { HasCleanDisk (state S.Store transaction.new.conn.now) → IfOk result (Replaces address.now (map cells (map placed rows.now)) (state S.Store transaction.old.conn.now) (state S.Store transaction.new.conn.now)) }
-    ensures kept { HasCleanDisk (state S.Store transaction.new.conn.now) → KeepsCommit (state S.Store transaction.old.conn.now) (state S.Store transaction.new.conn.now) }
-    ensures clean { doubt (state S.Store transaction.old.conn.now).is_clean ≤ doubt (state S.Store transaction.new.conn.now).is_clean }
+    ensures replaced { HasCleanDisk (state S.Store transaction.new.conn.now)
+        → IfOk result (Replaces address.now (map cells (map placed rows.now))
+        (state S.Store transaction.old.conn.now) (state S.Store transaction.new.conn.now)) }
+    ensures kept { HasCleanDisk (state S.Store transaction.new.conn.now)
+        → KeepsCommit (state S.Store transaction.old.conn.now)
+        (state S.Store transaction.new.conn.now) }
+    ensures clean { doubt (state S.Store transaction.old.conn.now).is_clean
+        ≤ doubt (state S.Store transaction.new.conn.now).is_clean }
 {
     let mut replaced = false;
     let mut at = 0;

@@ -35,9 +35,14 @@ pub fn delete_rows<S: Alter>(
     address: &str,
 ) -> Result<usize, Error>
     ensures same_reference { transaction.new.conn.ghost_name ≡ transaction.old.conn.ghost_name }
-    ensures dropped { HasCleanDisk (state S.Store transaction.new.conn.now) → IfOk result (Drops (is_at address.now) (state S.Store transaction.old.conn.now) (state S.Store transaction.new.conn.now)) }
-    ensures kept { HasCleanDisk (state S.Store transaction.new.conn.now) → KeepsCommit (state S.Store transaction.old.conn.now) (state S.Store transaction.new.conn.now) }
-    ensures clean { doubt (state S.Store transaction.old.conn.now).is_clean ≤ doubt (state S.Store transaction.new.conn.now).is_clean }
+    ensures dropped { HasCleanDisk (state S.Store transaction.new.conn.now)
+        → IfOk result (Drops (is_at address.now) (state S.Store transaction.old.conn.now)
+        (state S.Store transaction.new.conn.now)) }
+    ensures kept { HasCleanDisk (state S.Store transaction.new.conn.now)
+        → KeepsCommit (state S.Store transaction.old.conn.now)
+        (state S.Store transaction.new.conn.now) }
+    ensures clean { doubt (state S.Store transaction.old.conn.now).is_clean
+        ≤ doubt (state S.Store transaction.new.conn.now).is_clean }
 {
     transaction.execute("DELETE FROM node WHERE address = ?1", params![address])
 }
@@ -51,9 +56,14 @@ pub fn delete_part<S: Alter>(
     high: u32,
 ) -> Result<usize, Error>
     ensures same_reference { transaction.new.conn.ghost_name ≡ transaction.old.conn.ghost_name }
-    ensures dropped { HasCleanDisk (state S.Store transaction.new.conn.now) → IfOk result (Drops (is_part address.now low high) (state S.Store transaction.old.conn.now) (state S.Store transaction.new.conn.now)) }
-    ensures kept { HasCleanDisk (state S.Store transaction.new.conn.now) → KeepsCommit (state S.Store transaction.old.conn.now) (state S.Store transaction.new.conn.now) }
-    ensures clean { doubt (state S.Store transaction.old.conn.now).is_clean ≤ doubt (state S.Store transaction.new.conn.now).is_clean }
+    ensures dropped { HasCleanDisk (state S.Store transaction.new.conn.now)
+        → IfOk result (Drops (is_part address.now low high)
+        (state S.Store transaction.old.conn.now) (state S.Store transaction.new.conn.now)) }
+    ensures kept { HasCleanDisk (state S.Store transaction.new.conn.now)
+        → KeepsCommit (state S.Store transaction.old.conn.now)
+        (state S.Store transaction.new.conn.now) }
+    ensures clean { doubt (state S.Store transaction.old.conn.now).is_clean
+        ≤ doubt (state S.Store transaction.new.conn.now).is_clean }
 {
     transaction.execute(
         "DELETE FROM node WHERE address = ?1 AND pre >= ?2 AND pre < ?3",
@@ -68,9 +78,14 @@ pub fn insert_row<S: Alter>(
     row: &NodeRow,
 ) -> Result<usize, Error>
     ensures same_reference { transaction.new.conn.ghost_name ≡ transaction.old.conn.ghost_name }
-    ensures added { HasCleanDisk (state S.Store transaction.new.conn.now) → OnOk result (Adds address.now (cells (placed row.now) ∷ []) (state S.Store transaction.old.conn.now) (state S.Store transaction.new.conn.now)) }
-    ensures kept { HasCleanDisk (state S.Store transaction.new.conn.now) → KeepsCommit (state S.Store transaction.old.conn.now) (state S.Store transaction.new.conn.now) }
-    ensures clean { doubt (state S.Store transaction.old.conn.now).is_clean ≤ doubt (state S.Store transaction.new.conn.now).is_clean }
+    ensures added { HasCleanDisk (state S.Store transaction.new.conn.now)
+        → OnOk result (Adds address.now (cells (placed row.now) ∷ [])
+        (state S.Store transaction.old.conn.now) (state S.Store transaction.new.conn.now)) }
+    ensures kept { HasCleanDisk (state S.Store transaction.new.conn.now)
+        → KeepsCommit (state S.Store transaction.old.conn.now)
+        (state S.Store transaction.new.conn.now) }
+    ensures clean { doubt (state S.Store transaction.old.conn.now).is_clean
+        ≤ doubt (state S.Store transaction.new.conn.now).is_clean }
 {
     let kind = number_of(row.kind);
     transaction.execute(
@@ -88,9 +103,14 @@ pub fn insert_rows<S: Alter>(
     rows: &[NodeRow],
 ) -> Result<(), Error>
     ensures same_reference { transaction.new.conn.ghost_name ≡ transaction.old.conn.ghost_name }
-    ensures added { HasCleanDisk (state S.Store transaction.new.conn.now) → OnOk result (Adds address.now (map cells (map placed rows.now)) (state S.Store transaction.old.conn.now) (state S.Store transaction.new.conn.now)) }
-    ensures kept { HasCleanDisk (state S.Store transaction.new.conn.now) → KeepsCommit (state S.Store transaction.old.conn.now) (state S.Store transaction.new.conn.now) }
-    ensures clean { doubt (state S.Store transaction.old.conn.now).is_clean ≤ doubt (state S.Store transaction.new.conn.now).is_clean }
+    ensures added { HasCleanDisk (state S.Store transaction.new.conn.now)
+        → OnOk result (Adds address.now (map cells (map placed rows.now))
+        (state S.Store transaction.old.conn.now) (state S.Store transaction.new.conn.now)) }
+    ensures kept { HasCleanDisk (state S.Store transaction.new.conn.now)
+        → KeepsCommit (state S.Store transaction.old.conn.now)
+        (state S.Store transaction.new.conn.now) }
+    ensures clean { doubt (state S.Store transaction.old.conn.now).is_clean
+        ≤ doubt (state S.Store transaction.new.conn.now).is_clean }
 {
     for row in rows {
         let _count = insert_row(transaction, address, row)?;
@@ -108,11 +128,17 @@ pub fn read_range<S: Alter>(
 ) -> Result<Vec<Row>, Error>
     requires { conn.old.in_transaction ≡ false }
     ensures mode { conn.new.in_transaction ≡ false }
-    ensures clean { doubt (state S.Store conn.old).is_clean ≤ doubt (state S.Store conn.new).is_clean }
+    ensures clean { doubt (state S.Store conn.old).is_clean
+        ≤ doubt (state S.Store conn.new).is_clean }
     ensures open { IsReady (state S.Store conn.new) → IsTrue (state S.Store conn.old).is_open }
-    ensures ends_open { HasCleanDisk (state S.Store conn.new) → OnOk result (IsTrue (state S.Store conn.new).is_open) }
-    ensures same { IsReady (state S.Store conn.new) → (state S.Store conn.old).now.schema ≡ store_schema → (state S.Store conn.new).now ≡ (state S.Store conn.old).now }
-    ensures rows { IsReady (state S.Store conn.new) → IfOk result (λ rows. IsRange address.now low high (state S.Store conn.old).now rows.items) }
+    ensures ends_open { HasCleanDisk (state S.Store conn.new)
+        → OnOk result (IsTrue (state S.Store conn.new).is_open) }
+    ensures same { IsReady (state S.Store conn.new)
+        → (state S.Store conn.old).now.schema ≡ store_schema
+        → (state S.Store conn.new).now ≡ (state S.Store conn.old).now }
+    ensures rows { IsReady (state S.Store conn.new)
+        → IfOk result (λ rows. IsRange address.now low high
+        (state S.Store conn.old).now rows.items) }
 {
     let _settled = conn.is_autocommit();
     conn.query_all(
@@ -130,11 +156,16 @@ pub fn read_enclosing<S: Alter>(
 ) -> Result<Vec<Row>, Error>
     requires { conn.old.in_transaction ≡ false }
     ensures mode { conn.new.in_transaction ≡ false }
-    ensures clean { doubt (state S.Store conn.old).is_clean ≤ doubt (state S.Store conn.new).is_clean }
+    ensures clean { doubt (state S.Store conn.old).is_clean
+        ≤ doubt (state S.Store conn.new).is_clean }
     ensures open { IsReady (state S.Store conn.new) → IsTrue (state S.Store conn.old).is_open }
-    ensures ends_open { HasCleanDisk (state S.Store conn.new) → OnOk result (IsTrue (state S.Store conn.new).is_open) }
-    ensures same { IsReady (state S.Store conn.new) → (state S.Store conn.old).now.schema ≡ store_schema → (state S.Store conn.new).now ≡ (state S.Store conn.old).now }
-    ensures rows { IsReady (state S.Store conn.new) → IfOk result (λ rows. AreAbove address.now node (state S.Store conn.old).now rows.items) }
+    ensures ends_open { HasCleanDisk (state S.Store conn.new)
+        → OnOk result (IsTrue (state S.Store conn.new).is_open) }
+    ensures same { IsReady (state S.Store conn.new)
+        → (state S.Store conn.old).now.schema ≡ store_schema
+        → (state S.Store conn.new).now ≡ (state S.Store conn.old).now }
+    ensures rows { IsReady (state S.Store conn.new)
+        → IfOk result (λ rows. AreAbove address.now node (state S.Store conn.old).now rows.items) }
 {
     let _settled = conn.is_autocommit();
     conn.query_all(
@@ -147,11 +178,16 @@ pub fn read_enclosing<S: Alter>(
 pub fn read_addresses<S: Alter>(conn: &mut Connection<S>) -> Result<Vec<Row>, Error>
     requires { conn.old.in_transaction ≡ false }
     ensures mode { conn.new.in_transaction ≡ false }
-    ensures clean { doubt (state S.Store conn.old).is_clean ≤ doubt (state S.Store conn.new).is_clean }
+    ensures clean { doubt (state S.Store conn.old).is_clean
+        ≤ doubt (state S.Store conn.new).is_clean }
     ensures open { IsReady (state S.Store conn.new) → IsTrue (state S.Store conn.old).is_open }
-    ensures ends_open { HasCleanDisk (state S.Store conn.new) → OnOk result (IsTrue (state S.Store conn.new).is_open) }
-    ensures same { IsReady (state S.Store conn.new) → (state S.Store conn.old).now.schema ≡ store_schema → (state S.Store conn.new).now ≡ (state S.Store conn.old).now }
-    ensures rows { IsReady (state S.Store conn.new) → IfOk result (λ rows. AreAddresses (state S.Store conn.old).now rows.items) }
+    ensures ends_open { HasCleanDisk (state S.Store conn.new)
+        → OnOk result (IsTrue (state S.Store conn.new).is_open) }
+    ensures same { IsReady (state S.Store conn.new)
+        → (state S.Store conn.old).now.schema ≡ store_schema
+        → (state S.Store conn.new).now ≡ (state S.Store conn.old).now }
+    ensures rows { IsReady (state S.Store conn.new)
+        → IfOk result (λ rows. AreAddresses (state S.Store conn.old).now rows.items) }
 {
     let _settled = conn.is_autocommit();
     conn.query_all(

@@ -15,11 +15,19 @@ use sqlite::{Alter, Connection, Error, Transaction};
 /// Makes the table of the edition.
 fn make_layout<S: Alter>(transaction: &mut Transaction<'_, S>) -> Result<usize, Error>
     ensures same_reference { transaction.new.conn.ghost_name ≡ transaction.old.conn.ghost_name }
-    ensures made { HasCleanDisk (state S.Store transaction.new.conn.now) → OnOk result (MakesLayout (state S.Store transaction.old.conn.now).now (state S.Store transaction.new.conn.now).now) }
-    ensures refused { HasCleanDisk (state S.Store transaction.new.conn.now) → IfErr result (λ e. fault_of e ≡ OpenFault.NotAStore → (state S.Store transaction.old.conn.now).now.schema ≢ no_schema) }
-    ensures kept { HasCleanDisk (state S.Store transaction.new.conn.now) → KeepsCommit (state S.Store transaction.old.conn.now) (state S.Store transaction.new.conn.now) }
-    ensures mode { HasCleanDisk (state S.Store transaction.new.conn.now) → OnOk result (IsTrue (state S.Store transaction.new.conn.now).in_transaction) }
-    ensures clean { doubt (state S.Store transaction.old.conn.now).is_clean ≤ doubt (state S.Store transaction.new.conn.now).is_clean }
+    ensures made { HasCleanDisk (state S.Store transaction.new.conn.now)
+        → OnOk result (MakesLayout (state S.Store transaction.old.conn.now).now
+        (state S.Store transaction.new.conn.now).now) }
+    ensures refused { HasCleanDisk (state S.Store transaction.new.conn.now)
+        → IfErr result (λ e. fault_of e ≡ OpenFault.NotAStore
+        → (state S.Store transaction.old.conn.now).now.schema ≢ no_schema) }
+    ensures kept { HasCleanDisk (state S.Store transaction.new.conn.now)
+        → KeepsCommit (state S.Store transaction.old.conn.now)
+        (state S.Store transaction.new.conn.now) }
+    ensures mode { HasCleanDisk (state S.Store transaction.new.conn.now)
+        → OnOk result (IsTrue (state S.Store transaction.new.conn.now).in_transaction) }
+    ensures clean { doubt (state S.Store transaction.old.conn.now).is_clean
+        ≤ doubt (state S.Store transaction.new.conn.now).is_clean }
 {
     transaction.execute("CREATE TABLE layout (edition INTEGER NOT NULL) STRICT", &[])
 }
@@ -27,11 +35,19 @@ fn make_layout<S: Alter>(transaction: &mut Transaction<'_, S>) -> Result<usize, 
 /// Makes the table of the nodes.
 fn make_node<S: Alter>(transaction: &mut Transaction<'_, S>) -> Result<usize, Error>
     ensures same_reference { transaction.new.conn.ghost_name ≡ transaction.old.conn.ghost_name }
-    ensures made { HasCleanDisk (state S.Store transaction.new.conn.now) → OnOk result (MakesNode (state S.Store transaction.old.conn.now).now (state S.Store transaction.new.conn.now).now) }
-    ensures refused { HasCleanDisk (state S.Store transaction.new.conn.now) → IfErr result (λ e. fault_of e ≡ OpenFault.NotAStore → (state S.Store transaction.old.conn.now).now.schema ≢ layout_schema) }
-    ensures kept { HasCleanDisk (state S.Store transaction.new.conn.now) → KeepsCommit (state S.Store transaction.old.conn.now) (state S.Store transaction.new.conn.now) }
-    ensures mode { HasCleanDisk (state S.Store transaction.new.conn.now) → OnOk result (IsTrue (state S.Store transaction.new.conn.now).in_transaction) }
-    ensures clean { doubt (state S.Store transaction.old.conn.now).is_clean ≤ doubt (state S.Store transaction.new.conn.now).is_clean }
+    ensures made { HasCleanDisk (state S.Store transaction.new.conn.now)
+        → OnOk result (MakesNode (state S.Store transaction.old.conn.now).now
+        (state S.Store transaction.new.conn.now).now) }
+    ensures refused { HasCleanDisk (state S.Store transaction.new.conn.now)
+        → IfErr result (λ e. fault_of e ≡ OpenFault.NotAStore
+        → (state S.Store transaction.old.conn.now).now.schema ≢ layout_schema) }
+    ensures kept { HasCleanDisk (state S.Store transaction.new.conn.now)
+        → KeepsCommit (state S.Store transaction.old.conn.now)
+        (state S.Store transaction.new.conn.now) }
+    ensures mode { HasCleanDisk (state S.Store transaction.new.conn.now)
+        → OnOk result (IsTrue (state S.Store transaction.new.conn.now).in_transaction) }
+    ensures clean { doubt (state S.Store transaction.old.conn.now).is_clean
+        ≤ doubt (state S.Store transaction.new.conn.now).is_clean }
 {
     transaction.execute(
         "CREATE TABLE node (address TEXT NOT NULL, pre INTEGER NOT NULL, size INTEGER NOT NULL, level INTEGER NOT NULL, kind INTEGER NOT NULL, name TEXT NOT NULL, value TEXT NOT NULL, PRIMARY KEY (address, pre)) STRICT",
@@ -42,10 +58,16 @@ fn make_node<S: Alter>(transaction: &mut Transaction<'_, S>) -> Result<usize, Er
 /// Writes the edition, 1.
 pub fn write_edition<S: Alter>(transaction: &mut Transaction<'_, S>) -> Result<usize, Error>
     ensures same_reference { transaction.new.conn.ghost_name ≡ transaction.old.conn.ghost_name }
-    ensures made { HasCleanDisk (state S.Store transaction.new.conn.now) → OnOk result (WritesEdition (state S.Store transaction.old.conn.now).now (state S.Store transaction.new.conn.now).now) }
-    ensures kept { HasCleanDisk (state S.Store transaction.new.conn.now) → KeepsCommit (state S.Store transaction.old.conn.now) (state S.Store transaction.new.conn.now) }
-    ensures mode { HasCleanDisk (state S.Store transaction.new.conn.now) → OnOk result (IsTrue (state S.Store transaction.new.conn.now).in_transaction) }
-    ensures clean { doubt (state S.Store transaction.old.conn.now).is_clean ≤ doubt (state S.Store transaction.new.conn.now).is_clean }
+    ensures made { HasCleanDisk (state S.Store transaction.new.conn.now)
+        → OnOk result (WritesEdition (state S.Store transaction.old.conn.now).now
+        (state S.Store transaction.new.conn.now).now) }
+    ensures kept { HasCleanDisk (state S.Store transaction.new.conn.now)
+        → KeepsCommit (state S.Store transaction.old.conn.now)
+        (state S.Store transaction.new.conn.now) }
+    ensures mode { HasCleanDisk (state S.Store transaction.new.conn.now)
+        → OnOk result (IsTrue (state S.Store transaction.new.conn.now).in_transaction) }
+    ensures clean { doubt (state S.Store transaction.old.conn.now).is_clean
+        ≤ doubt (state S.Store transaction.new.conn.now).is_clean }
 {
     transaction.execute("INSERT INTO layout (edition) VALUES (1)", &[])
 }
@@ -53,11 +75,19 @@ pub fn write_edition<S: Alter>(transaction: &mut Transaction<'_, S>) -> Result<u
 /// Makes both tables, inside a transaction.
 pub fn make_both<S: Alter>(transaction: &mut Transaction<'_, S>) -> Result<(), Error>
     ensures same_reference { transaction.new.conn.ghost_name ≡ transaction.old.conn.ghost_name }
-    ensures made { HasCleanDisk (state S.Store transaction.new.conn.now) → OnOk result (MakesBoth (state S.Store transaction.old.conn.now).now (state S.Store transaction.new.conn.now).now) }
-    ensures refused { HasCleanDisk (state S.Store transaction.new.conn.now) → IfErr result (λ e. fault_of e ≡ OpenFault.NotAStore → (state S.Store transaction.old.conn.now).now.schema ≢ no_schema) }
-    ensures kept { HasCleanDisk (state S.Store transaction.new.conn.now) → KeepsCommit (state S.Store transaction.old.conn.now) (state S.Store transaction.new.conn.now) }
-    ensures mode { HasCleanDisk (state S.Store transaction.new.conn.now) → OnOk result (IsTrue (state S.Store transaction.new.conn.now).in_transaction) }
-    ensures clean { doubt (state S.Store transaction.old.conn.now).is_clean ≤ doubt (state S.Store transaction.new.conn.now).is_clean }
+    ensures made { HasCleanDisk (state S.Store transaction.new.conn.now)
+        → OnOk result (MakesBoth (state S.Store transaction.old.conn.now).now
+        (state S.Store transaction.new.conn.now).now) }
+    ensures refused { HasCleanDisk (state S.Store transaction.new.conn.now)
+        → IfErr result (λ e. fault_of e ≡ OpenFault.NotAStore
+        → (state S.Store transaction.old.conn.now).now.schema ≢ no_schema) }
+    ensures kept { HasCleanDisk (state S.Store transaction.new.conn.now)
+        → KeepsCommit (state S.Store transaction.old.conn.now)
+        (state S.Store transaction.new.conn.now) }
+    ensures mode { HasCleanDisk (state S.Store transaction.new.conn.now)
+        → OnOk result (IsTrue (state S.Store transaction.new.conn.now).in_transaction) }
+    ensures clean { doubt (state S.Store transaction.old.conn.now).is_clean
+        ≤ doubt (state S.Store transaction.new.conn.now).is_clean }
 {
     let _layout = make_layout(transaction)?;
     let _node = make_node(transaction)?;
@@ -68,11 +98,16 @@ pub fn make_both<S: Alter>(transaction: &mut Transaction<'_, S>) -> Result<(), E
 pub fn make_tables<S: Alter>(conn: &mut Connection<S>) -> Result<(), Refusal>
     requires { conn.old.in_transaction ≡ false }
     ensures mode { conn.new.in_transaction ≡ false }
-    ensures clean { doubt (state S.Store conn.old).is_clean ≤ doubt (state S.Store conn.new).is_clean }
+    ensures clean { doubt (state S.Store conn.old).is_clean
+        ≤ doubt (state S.Store conn.new).is_clean }
     ensures open { IsReady (state S.Store conn.new) → IsTrue (state S.Store conn.old).is_open }
-    ensures ends_open { HasCleanDisk (state S.Store conn.new) → OnOk result (IsTrue (state S.Store conn.new).is_open) }
-    ensures kept { IsReady (state S.Store conn.new) → OnErr result ((state S.Store conn.new).now ≡ (state S.Store conn.old).now) }
-    ensures made { IsReady (state S.Store conn.new) → (state S.Store conn.old).now.schema ≡ no_schema → OnOk result (IsEmptyStore (state S.Store conn.new).now) }
+    ensures ends_open { HasCleanDisk (state S.Store conn.new)
+        → OnOk result (IsTrue (state S.Store conn.new).is_open) }
+    ensures kept { IsReady (state S.Store conn.new)
+        → OnErr result ((state S.Store conn.new).now ≡ (state S.Store conn.old).now) }
+    ensures made { IsReady (state S.Store conn.new)
+        → (state S.Store conn.old).now.schema ≡ no_schema
+        → OnOk result (IsEmptyStore (state S.Store conn.new).now) }
 {
     let _settled = conn.is_autocommit();
     let mut transaction = conn.transaction();

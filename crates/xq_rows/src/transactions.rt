@@ -18,11 +18,16 @@ use xq_regions::NodeRow;
 pub fn drop_rows<S: Alter>(conn: &mut Connection<S>, address: &str) -> Result<usize, Refusal>
     requires { conn.old.in_transaction ≡ false }
     ensures mode { conn.new.in_transaction ≡ false }
-    ensures clean { doubt (state S.Store conn.old).is_clean ≤ doubt (state S.Store conn.new).is_clean }
+    ensures clean { doubt (state S.Store conn.old).is_clean
+        ≤ doubt (state S.Store conn.new).is_clean }
     ensures open { IsReady (state S.Store conn.new) → IsTrue (state S.Store conn.old).is_open }
-    ensures ends_open { HasCleanDisk (state S.Store conn.new) → OnOk result (IsTrue (state S.Store conn.new).is_open) }
-    ensures kept { IsReady (state S.Store conn.new) → OnErr result ((state S.Store conn.new).now ≡ (state S.Store conn.old).now) }
-    ensures dropped { IsReady (state S.Store conn.new) → IfOk result (Deletes (is_at address.now) (state S.Store conn.old).now (state S.Store conn.new).now) }
+    ensures ends_open { HasCleanDisk (state S.Store conn.new)
+        → OnOk result (IsTrue (state S.Store conn.new).is_open) }
+    ensures kept { IsReady (state S.Store conn.new)
+        → OnErr result ((state S.Store conn.new).now ≡ (state S.Store conn.old).now) }
+    ensures dropped { IsReady (state S.Store conn.new)
+        → IfOk result (Deletes (is_at address.now) (state S.Store conn.old).now
+        (state S.Store conn.new).now) }
 {
     let _settled = conn.is_autocommit();
     let mut transaction = conn.transaction();
@@ -41,11 +46,16 @@ pub fn put_rows<S: Alter>(
     requires numbered { AreNumbered 0 rows.now }
     requires few { length rows.now ≤ 1000000 }
     ensures mode { conn.new.in_transaction ≡ false }
-    ensures clean { doubt (state S.Store conn.old).is_clean ≤ doubt (state S.Store conn.new).is_clean }
+    ensures clean { doubt (state S.Store conn.old).is_clean
+        ≤ doubt (state S.Store conn.new).is_clean }
     ensures open { IsReady (state S.Store conn.new) → IsTrue (state S.Store conn.old).is_open }
-    ensures ends_open { HasCleanDisk (state S.Store conn.new) → OnOk result (IsTrue (state S.Store conn.new).is_open) }
-    ensures kept { IsReady (state S.Store conn.new) → OnErr result ((state S.Store conn.new).now ≡ (state S.Store conn.old).now) }
-    ensures put { IsReady (state S.Store conn.new) → IfOk result (Puts address.now (map cells (map placed rows.now)) (state S.Store conn.old).now (state S.Store conn.new).now) }
+    ensures ends_open { HasCleanDisk (state S.Store conn.new)
+        → OnOk result (IsTrue (state S.Store conn.new).is_open) }
+    ensures kept { IsReady (state S.Store conn.new)
+        → OnErr result ((state S.Store conn.new).now ≡ (state S.Store conn.old).now) }
+    ensures put { IsReady (state S.Store conn.new)
+        → IfOk result (Puts address.now (map cells (map placed rows.now))
+        (state S.Store conn.old).now (state S.Store conn.new).now) }
 {
     let _settled = conn.is_autocommit();
     let mut transaction = conn.transaction();

@@ -44,8 +44,10 @@ call_fault (Some prefix) local count =
 abbrev pub fault_at : Place → Option Code
 fault_at (named name) = unprefixed name.prefix None
 fault_at (position name ranging) = unprefixed name.prefix (position_fault name.local ranging.local)
-fault_at (variable name in_scope) = unprefixed name.prefix (unless (is_among name.local in_scope) XPST0008)
-fault_at (grouping name bound) = unprefixed name.prefix (unless (is_among name.local bound) XQST0094)
+fault_at (variable name in_scope) = unprefixed name.prefix
+    (unless (is_among name.local in_scope) XPST0008)
+fault_at (grouping name bound) = unprefixed name.prefix
+    (unless (is_among name.local bound) XQST0094)
 fault_at (call name count) = call_fault name.prefix name.local count
 
 -- the fault of the first place that has one

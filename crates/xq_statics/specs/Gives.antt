@@ -5,7 +5,8 @@ use Rattle.xq_atoms.specs.declared.refusals.Fault.{Fault}
 use Rattle.xq_atoms.specs.declared.refusals.Fault.TheVariants.{Code as OfCode, Want as OfWant}
 use Rattle.xq_atoms.specs.declared.refusals.Want.TheVariants.{Memory, Store}
 
--- passed where there is no fault, refused with the fault that there is; a growth may be refused at any time
+-- passed where there is no fault, refused with the fault that there is; a growth may be refused at
+-- any time
 abbrev pub Judges : Result (Unit {0}) Fault → Option Code → Type 0
 Judges (Ok passed) fault = fault ≡ None
 Judges (Err (OfCode code)) fault = fault ≡ Some code

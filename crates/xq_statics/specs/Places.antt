@@ -1,4 +1,5 @@
--- The places of a query at which static faults are judged (XQuery 3.1, 2.3.1), each with what its judgement looks at.
+-- The places of a query at which static faults are judged (XQuery 3.1, 2.3.1), each with what its
+-- judgement looks at.
 use Rattle.std.specs.Prelude.{ℕ, List}
 use Rattle.xq_atoms.specs.Text.{Text}
 use Rattle.xq_expressions.specs.declared.names.QName.{QName}

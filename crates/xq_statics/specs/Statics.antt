@@ -1,4 +1,5 @@
--- The places of an expression in the order of its text, and what is in scope at each (XQuery 3.1, 2.1.1, 3.1.2, 3.12, 3.16).
+-- The places of an expression in the order of its text, and what is in scope at each (XQuery 3.1,
+-- 2.1.1, 3.1.2, 3.12, 3.16).
 use Rattle.std.specs.Prelude.{List, [], ◌∷◌, ◌++◌, map, length, Option, Some, None}
 use Rattle.xq_atoms.specs.declared.refusals.Code.{Code}
 use Rattle.xq_atoms.specs.Text.{Text}
@@ -30,7 +31,8 @@ with_operators operands = each (map (λ operand. operand.1) operands)
 
 -- ---- what binds variables: clauses, and the bindings in them
 
--- the places, where these variables are in scope and those have been bound by this FLWOR; and what is bound from here on
+-- the places, where these variables are in scope and those have been bound by this FLWOR; and what
+-- is bound from here on
 pub record Binding : Type 0 where
   pub places : List Text → List Text → List Place
   pub binds : List Text
@@ -41,7 +43,8 @@ nothing = record { places = λ names bound. []; binds = [] }
 -- a second one sees what the first binds
 abbrev pub then_binding : Binding → Binding → Binding
 then_binding first second = record {
-  places = λ names bound. first.places names bound ++ second.places (names ++ first.binds) (bound ++ first.binds);
+  places = λ names bound. first.places names bound
+      ++ second.places (names ++ first.binds) (bound ++ first.binds);
   binds = first.binds ++ second.binds;
 }
 
@@ -59,7 +62,8 @@ binds_nothing part = record { places = λ names bound. part names; binds = [] }
 
 -- `$v := E`, and `$v in E` of a quantified expression: the variable isn't in scope in E
 abbrev pub assigned : QName → Places → Binding
-assigned name part = record { places = λ names bound. named name ∷ part names; binds = name.local ∷ [] }
+assigned name part =
+    record { places = λ names bound. named name ∷ part names; binds = name.local ∷ [] }
 
 abbrev pub position_places : QName → Option QName → List Place
 position_places name None = []
@@ -101,7 +105,8 @@ Layer F = F Binding Places Places Binding Places
 abbrev pub form_places : Layer Expr-F → Places
 form_places (Expr-F.Sequence parts) = each parts
 form_places (Expr-F.Flwor clauses part) = binding_for (in_turn clauses) part
-form_places (Expr-F.Quantified quantifier bindings part) = binding_for (in_turn (map (λ b. assigned b.0 b.1) bindings)) part
+form_places (Expr-F.Quantified quantifier bindings part) = binding_for
+    (in_turn (map (λ b. assigned b.0 b.1) bindings)) part
 form_places (Expr-F.If condition positive negative) = after condition (after positive negative)
 form_places (Expr-F.Or parts) = each parts
 form_places (Expr-F.And parts) = each parts
@@ -120,7 +125,8 @@ form_places (Expr-F.Dec value) = λ names. []
 form_places (Expr-F.Str value) = λ names. []
 form_places (Expr-F.«Expr::Variable» name) = λ names. variable name names ∷ []
 form_places Expr-F.ContextItem = λ names. []
-form_places (Expr-F.Call name arguments) = λ names. call name (length arguments) ∷ each arguments names
+form_places (Expr-F.Call name arguments) = λ names. call name (length arguments)
+    ∷ each arguments names
 form_places (Expr-F.Named node name content) = after name content
 form_places (Expr-F.Unnamed node content) = content
 
@@ -145,7 +151,8 @@ step_places (Step-F.Primary part predicates) = after part (each predicates)
 
 -- the places of an expression
 abbrev pub places : Expr → Places
-places = fold-Expr Binding Places Places Binding Places clause_binding name_places form_places group_binding step_places
+places = fold-Expr Binding Places Places Binding Places clause_binding name_places form_places
+    group_binding step_places
 
 -- the static fault of a query: that of the first place which has one, where no variable is in scope
 abbrev pub static_fault : Expr → Option Code

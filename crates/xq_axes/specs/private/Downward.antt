@@ -19,7 +19,8 @@ axis_of Attribute = axis.Attributes
 axis_of Descendant = axis.Descendant
 axis_of DescendantOrSelf = axis.DescendantOrSelf
 
--- whether a row below a context is on the axis: by whether its parent is a context, it is one, and it is no attribute
+-- whether a row below a context is on the axis: by whether its parent is a context, it is one, and
+-- it is no attribute
 abbrev pub is_chosen : Downward → Bool → Bool → Bool → Bool
 is_chosen Child child context plain = child && plain
 is_chosen Attribute child context plain = child && not plain
@@ -47,10 +48,12 @@ pub record IsCluster (t : Tree) (vs : List ℕ) (s : Span) (v : ℕ) : Type 0 wh
 -- by level, whether the last row there is that of a context
 pub record AreMarked (t : Tree) (vs : List ℕ) (v n : ℕ) (marks : List Bool) : Type 0 where
   pub levels : length marks ≡ 101
-  pub marked : (w : ℕ) → v ≤ w → w < n → ((q : ℕ) → w < q → q < n → level_of t q ≢ level_of t w) → slice_index_or marks (level_of t w) false ≡ is_among vs w
+  pub marked : (w : ℕ) → v ≤ w → w < n → ((q : ℕ) → w < q → q < n → level_of t q ≢ level_of t w)
+      → slice_index_or marks (level_of t w) false ≡ is_among vs w
 
 -- the rows below a context were judged to before n
-pub record IsJudged (t : Tree) (vs : List ℕ) (s : Span) (n met : ℕ) (marks : List Bool) : Type 0 where
+pub record IsJudged (t : Tree) (vs : List ℕ) (s : Span) (n met : ℕ)
+    (marks : List Bool) : Type 0 where
   pub rising : IsRising vs
   pub reached : IsReached vs met n
   pub top : ℕ
@@ -60,7 +63,8 @@ pub record IsJudged (t : Tree) (vs : List ℕ) (s : Span) (n met : ℕ) (marks :
   pub are_marked : AreMarked t vs top n marks
 
 -- all was found to before n, and no context before n holds a row from there on
-pub record IsSearched (direction : Downward) (test : Test) (t : Tree) (vs : List ℕ) (n met : ℕ) (marks : ℕ) (found : List ℕ) : Type 0 where
+pub record IsSearched (direction : Downward) (test : Test) (t : Tree) (vs : List ℕ) (n met : ℕ)
+    (marks : ℕ) (found : List ℕ) : Type 0 where
   pub rising : IsRising vs
   pub reached : IsReached vs met n
   pub closed : (i : ℕ) → i < length vs → slice_index vs i < n → end_of t (slice_index vs i) < n
@@ -75,4 +79,5 @@ pub record IsNext (vs : List ℕ) (n place : ℕ) : Type 0 where
 
 -- nothing was read, or of a node that is there the rows below it at most, each once
 abbrev pub ReadsBelow : Tree → ℕ → ℕ → ℕ → Type 0
-ReadsBelow t v old new = (new ≤ old) ⊎ ((v < count (nodes t)) × (new ≤ old + (row_at (rows t) v).size))
+ReadsBelow t v old new = (new ≤ old)
+    ⊎ ((v < count (nodes t)) × (new ≤ old + (row_at (rows t) v).size))

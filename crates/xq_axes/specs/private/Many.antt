@@ -24,7 +24,8 @@ places_from axis test t v = below_where (is_wanted axis test t (v ∷ [])) (coun
 
 -- whether some node on the axis from the node that passes the test is such
 abbrev pub is_found_from : List Tree → Axis → Test → (Node → Bool) → Node → Bool
-is_found_from trees axis test p n = list_any p (map (spot n.tree) (places_from axis test (tree_at trees n.tree) n.pre))
+is_found_from trees axis test p n = list_any p
+    (map (spot n.tree) (places_from axis test (tree_at trees n.tree) n.pre))
 
 -- the node is the next of the contexts, which rise
 pub record IsNext (trees : List Tree) (contexts : List Node) (index : ℕ) (n : Node) : Type 0 where
@@ -33,12 +34,18 @@ pub record IsNext (trees : List Tree) (contexts : List Node) (index : ℕ) (n : 
   pub within : index < length contexts
   pub is : n ≡ slice_index_or contexts index n
 
--- of the contexts before the index those of the last tree were gathered, and what is on the axis from the others was found
-pub record IsGathered (trees : List Tree) (axis : Axis) (test : Test) (contexts : List Node) (index tree : ℕ) (places : List ℕ) (found : List Node) : Type 0 where
+-- of the contexts before the index those of the last tree were gathered, and what is on the axis
+-- from the others was found
+pub record IsGathered (trees : List Tree) (axis : Axis) (test : Test) (contexts : List Node)
+    (index tree : ℕ) (places : List ℕ) (found : List Node) : Type 0 where
   pub rising : IsRising places
   pub there : AreThere trees tree places
-  pub later : (j : ℕ) (n : Node) → index ≤ j → j < length contexts → (slice_index_or contexts j n).tree ≡ tree → (i : ℕ) → i < length places → slice_index places i < (slice_index_or contexts j n).pre
-  pub is_found : (p : Node → Bool) → (list_any p found || list_any (is_found_from trees axis test p) (map (spot tree) places)) ≡ list_any (is_found_from trees axis test p) (take index contexts)
+  pub later : (j : ℕ) (n : Node) → index ≤ j → j < length contexts
+      → (slice_index_or contexts j n).tree ≡ tree → (i : ℕ) → i < length places
+      → slice_index places i < (slice_index_or contexts j n).pre
+  pub is_found : (p : Node → Bool)
+      → (list_any p found || list_any (is_found_from trees axis test p) (map (spot tree) places))
+      ≡ list_any (is_found_from trees axis test p) (take index contexts)
 
 -- the node is the one at the index
 pub record IsAt (contexts : List Node) (index : ℕ) (n : Node) : Type 0 where

@@ -59,8 +59,10 @@ pub record IsSized (t : Tree) (v below : ℕ) : Type 0 where
 abbrev pub lowered : ℕ → Row → Row
 lowered level r = record { size = r.size; level = r.level - level; label = r.label }
 
--- copies of the rows of the span to before n, numbered from 0, their levels counted from that of the first
-pub record AreCopied (t : Tree) (s : Span) (n place level : ℕ) (copies : List NodeRow) : Type 0 where
+-- copies of the rows of the span to before n, numbered from 0, their levels counted from that of
+-- the first
+pub record AreCopied (t : Tree) (s : Span) (n place level : ℕ)
+    (copies : List NodeRow) : Type 0 where
   pub first : place ≡ s.low
   pub first_level : level ≡ (row_at (rows t) s.low).level
   pub from : s.low ≤ n

@@ -40,7 +40,8 @@ abbrev pub waits : Backward → ℕ → Bool → Bool
 waits Parent level plain = nat_lt 0 level
 waits PrecedingSibling level plain = has_siblings level plain
 
--- whether a row is on the axis: by whether rows one level deeper, and rows of its level, are awaited, and it is no attribute
+-- whether a row is on the axis: by whether rows one level deeper, and rows of its level, are
+-- awaited, and it is no attribute
 abbrev pub is_awaited : Backward → Bool → Bool → Bool → Bool
 is_awaited Parent deeper beside plain = deeper
 is_awaited PrecedingSibling deeper beside plain = beside && plain
@@ -64,17 +65,20 @@ pub record AreBack (d : Backward) (t : Tree) (vs : List ℕ) (n : ℕ) (levels :
   pub complete : (m : ℕ) → WaitsBack d t vs n m → is_among levels m ≡ true
 
 -- the rows from n on were looked at
-pub record IsLooked (d : Backward) (test : Test) (t : Tree) (vs : List ℕ) (n left : ℕ) (levels found : List ℕ) : Type 0 where
+pub record IsLooked (d : Backward) (test : Test) (t : Tree) (vs : List ℕ) (n left : ℕ)
+    (levels found : List ℕ) : Type 0 where
   pub within : n ≤ count (nodes t)
   pub rising : IsRising vs
   pub reached : IsReached vs left n
   pub there : (i : ℕ) → i < length vs → slice_index vs i < count (nodes t)
   pub levels_are : AreBack d t vs n levels
-  pub is_found : below_where (is_wanted (axis_back d) test t vs) (count (nodes t)) ≡ below_where (is_wanted (axis_back d) test t vs) n ++ reverse found
+  pub is_found : below_where (is_wanted (axis_back d) test t vs) (count (nodes t))
+      ≡ below_where (is_wanted (axis_back d) test t vs) n ++ reverse found
 
 -- what is kept of a row
 abbrev pub seen_of : Test → Row → Seen
-seen_of test r = record { level = r.level; is_plain = not (is_attribute r.label.kind); passes = row_passes test r }
+seen_of test r = record { level = r.level; is_plain = not
+    (is_attribute r.label.kind); passes = row_passes test r }
 
 -- the rows from n on
 abbrev pub AreSeen : Test → Tree → ℕ → List Seen → Type 0
@@ -98,7 +102,8 @@ pub record WaitsOn (t : Tree) (vs : List ℕ) (n level : ℕ) : Type 0 where
   pub index : ℕ
   pub within : index < length vs
   pub to : slice_index vs index < n
-  pub waits : has_siblings (level_of t (slice_index vs index)) (plain_row (rows t) (slice_index vs index)) ≡ true
+  pub waits : has_siblings (level_of t (slice_index vs index))
+      (plain_row (rows t) (slice_index vs index)) ≡ true
   pub is_level : level_of t (slice_index vs index) ≡ level
   pub clear : (q : ℕ) → slice_index vs index < q → q < n → level ≤ level_of t q
 
@@ -109,7 +114,8 @@ pub record IsOn (t : Tree) (vs : List ℕ) (n met : ℕ) (levels : List ℕ) : T
   pub sound : (m : ℕ) → is_among levels m ≡ true → WaitsOn t vs n m
   pub complete : (m : ℕ) → WaitsOn t vs n m → is_among levels m ≡ true
 
--- the place that is read next: the next row, or the next context where no row is awaited, or that after the last
+-- the place that is read next: the next row, or the next context where no row is awaited, or that
+-- after the last
 abbrev pub place_or_end : Option ℕ → ℕ → ℕ
 place_or_end None last = last + 1
 place_or_end (Some v) last = v

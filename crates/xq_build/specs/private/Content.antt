@@ -104,6 +104,8 @@ fault_from parent names late ps = first_fault parent names late (top_labels ps)
 
 -- the node is let through, or a code is given, whatever others come
 abbrev pub JudgesLeaf : Kind → List Text → Bool → Leaf → List Text → Result Bool Fault → Type 0
-JudgesLeaf parent old late p new (Ok later) = (others : List Leaf) → fault_from parent new later others ≡ fault_from parent old late (p ∷ others)
-JudgesLeaf parent old late p new (Err (OfCode code)) = (others : List Leaf) → fault_from parent old late (p ∷ others) ≡ Some code
+JudgesLeaf parent old late p new (Ok later) = (others : List Leaf)
+    → fault_from parent new later others ≡ fault_from parent old late (p ∷ others)
+JudgesLeaf parent old late p new (Err (OfCode code)) = (others : List Leaf)
+    → fault_from parent old late (p ∷ others) ≡ Some code
 JudgesLeaf parent old late p new (Err (OfWant want)) = Unit {0}

@@ -37,14 +37,16 @@ kept_fault parent names late ps = fault_from parent names late (filter is_kept p
 
 -- nodes that are judged as others are, and are those others where they are not too many
 pub record Alike (ps qs : List Leaf) : Type 0 where
-  pub fault : (parent : Kind) (names : List Text) (late : Bool) → kept_fault parent names late ps ≡ kept_fault parent names late qs
+  pub fault : (parent : Kind) (names : List Text) (late : Bool)
+      → kept_fault parent names late ps ≡ kept_fault parent names late qs
   pub low : are_low ps ≡ are_low qs
   pub few : firm_count ps < 1000000 → ps ≡ qs
   pub many : 1000000 ≤ firm_count ps → 1000000 ≤ firm_count qs
 
 -- the same of content
 pub record StandsFor (ps : List Leaf) (f : Forest Label) : Type 0 where
-  pub fault : (parent : Kind) → fault_from parent [] false ps ≡ fault_from parent [] false (leaves f)
+  pub fault : (parent : Kind)
+      → fault_from parent [] false ps ≡ fault_from parent [] false (leaves f)
   pub low : are_low ps ≡ are_low (leaves f)
   pub few : length ps < 1000000 → ps ≡ leaves f
   pub many : 1000000 ≤ length ps → 1000000 ≤ length (leaves f)
@@ -55,18 +57,23 @@ copy_of trees n = leaves (copied (tree_below trees (node_at trees n)))
 
 -- the copies of the roots of these trees are low, or the nodes are high without them
 abbrev pub AreSeen : List Tree → List Leaf → List ℕ → Type 0
-AreSeen trees ps keys = (tree : ℕ) → list_any (nat_eq tree) keys ≡ true → are_low ps ≡ true → are_low (copy_of trees (record { tree = tree; pre = 0 })) ≡ true
+AreSeen trees ps keys = (tree : ℕ) → list_any (nat_eq tree) keys ≡ true → are_low ps ≡ true
+    → are_low (copy_of trees (record { tree = tree; pre = 0 })) ≡ true
 
 -- a node was judged, after nodes that are too many
-pub record Shortens (trees : List Tree) (n : Node) (before after : List Leaf) (keys : List ℕ) : Type 0 where
-  pub is : is_full before ≡ true → (others : List Leaf) → Alike (after ++ others) (before ++ (copy_of trees n ++ others))
+pub record Shortens (trees : List Tree) (n : Node) (before after : List Leaf)
+    (keys : List ℕ) : Type 0 where
+  pub is : is_full before ≡ true → (others : List Leaf)
+      → Alike (after ++ others) (before ++ (copy_of trees n ++ others))
   pub full : is_full before ≡ true → is_full after ≡ true
   pub seen : AreSeen trees after keys
 
 -- an item was taken
-pub record Takes (trees : List Tree) (x : Item) (before : List Leaf) (run : Option Text) (after : List Leaf) (next : Option Text) (keys : List ℕ) : Type 0 where
+pub record Takes (trees : List Tree) (x : Item) (before : List Leaf) (run : Option Text)
+    (after : List Leaf) (next : Option Text) (keys : List ℕ) : Type 0 where
   pub is : (xs : List Item) → Alike (so_far trees after next xs) (so_far trees before run (x ∷ xs))
-  pub childless : (xs : List Item) → Childless (flattened_with trees next xs) → Childless (flattened_with trees run (x ∷ xs))
+  pub childless : (xs : List Item) → Childless (flattened_with trees next xs)
+      → Childless (flattened_with trees run (x ∷ xs))
   pub full : is_full before ≡ true → is_full after ≡ true
   pub seen : AreSeen trees after keys
 

@@ -17,15 +17,20 @@ IsTooLong limit text (OfWant want) = Unit {0}
 
 -- the new text is the old one with the piece, and within the limit
 abbrev pub Appends : {T Y Z : Type 0} → ℕ → List ℕ → Result T Fault → String Y → String Z → Type 0
-Appends limit piece (Ok t) old new = (string_bytes new ≡ string_bytes old ++ piece) × (length (string_bytes new) ≤ limit)
+Appends limit piece (Ok t) old new = (string_bytes new ≡ string_bytes old ++ piece)
+    × (length (string_bytes new) ≤ limit)
 Appends limit piece (Err fault) old new = IsTooLong limit (string_bytes old ++ piece) fault
 
 -- the rest of a text is the same where these nodes were written, whatever others come
-abbrev pub GoesOn : {Y Z : Type 0} → ℕ → ℕ → List Leaf → Result ℕ Fault → String Y → String Z → Type 0
+abbrev pub GoesOn : {Y Z : Type 0} → ℕ → ℕ → List Leaf → Result ℕ Fault → String Y → String Z
+    → Type 0
 GoesOn limit depth ps (Ok open_nodes) old new =
-    ((others : List Leaf) → string_bytes new ++ text_from open_nodes others ≡ string_bytes old ++ text_from depth (ps ++ others))
+    ((others : List Leaf)
+    → string_bytes new ++ text_from open_nodes others ≡ string_bytes old
+    ++ text_from depth (ps ++ others))
     × (length (string_bytes new) ≤ limit)
-GoesOn limit depth ps (Err fault) old new = (others : List Leaf) → IsTooLong limit (string_bytes old ++ text_from depth (ps ++ others)) fault
+GoesOn limit depth ps (Err fault) old new = (others : List Leaf)
+    → IsTooLong limit (string_bytes old ++ text_from depth (ps ++ others)) fault
 
 -- a character of a string literal
 abbrev pub escape_char : ℕ → List ℕ

@@ -42,8 +42,10 @@ module _ (wanted : Bool) (test : Meaning) where
   tried xs [] frame = give (not wanted)
   tried xs (part ∷ parts) frame = first_that wanted (λ x. holds parts (opened_at frame (x ∷ []))) xs
 
-  -- the first values of a stack, then what `inner` gives of the variables after them, then the others that are left
-  abbrev pub resumed : (List Meaning → Frame → Doing Bool) → List Meaning → Frame → List (List Item) → Doing Bool
+  -- the first values of a stack, then what `inner` gives of the variables after them, then the
+  -- others that are left
+  abbrev pub resumed : (List Meaning → Frame → Doing Bool) → List Meaning → Frame
+      → List (List Item) → Doing Bool
   resumed inner parts frame [] = inner parts frame
   resumed inner [] frame (e ∷ es) = give (not wanted)
   resumed inner (part ∷ parts) frame (e ∷ es) = do

@@ -54,13 +54,15 @@ of_atoms function as' = of_optional function as'
 -- # Operators on the atomic values of their operands
 
 -- both operands are judged, the left one first
-abbrev pub on_both : {B : Type 0} → (List Atomic → Judged B) → (B → B → Judged (List Item)) → List Atomic → List Atomic → Judged (List Item)
+abbrev pub on_both : {B : Type 0} → (List Atomic → Judged B) → (B → B → Judged (List Item))
+    → List Atomic → List Atomic → Judged (List Item)
 on_both judge result as' bs = do
   a ← judge as'
   b ← judge bs
   result a b
 
-abbrev pub on_numbers : (Atomic → Atomic → Judged Atomic) → List Atomic → List Atomic → Judged (List Item)
+abbrev pub on_numbers : (Atomic → Atomic → Judged Atomic) → List Atomic → List Atomic
+    → Judged (List Item)
 on_numbers op = on_both number_operand (λ a b. as_items (op a b))
 
 abbrev pub values_compared : CompOp → List Atomic → List Atomic → Judged (List Item)
@@ -95,7 +97,8 @@ unless_empty (a ∷ as') (b ∷ bs) result = result
 abbrev pub atoms_operated : Operator → List Atomic → List Atomic → Judged (List Item)
 atoms_operated operator.Concat as' bs = texts_concatenated as' bs
 atoms_operated (operator.Comparison (comparing.General op)) as' bs = by_pairs (related_by op) as' bs
-atoms_operated (operator.Comparison (comparing.Value op)) as' bs = unless_empty as' bs (values_compared (related_by op) as' bs)
+atoms_operated (operator.Comparison (comparing.Value op)) as' bs = unless_empty as' bs
+    (values_compared (related_by op) as' bs)
 atoms_operated (operator.Comparison (comparing.Node op)) as' bs = Err XPTY0004
 atoms_operated op as' bs = unless_empty as' bs (both_operated op as' bs)
 

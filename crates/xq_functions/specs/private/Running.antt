@@ -18,13 +18,15 @@ concatenating done lists = do pieces ← each piece lists; Ok (text (done ++ joi
 
 -- the best of a value and of more, which are judged beside the first
 abbrev pub choosing : (Atomic → Atomic → Bool) → Atomic → Atomic → List Atomic → Judged (List Item)
-choosing better first so_far as' = do values ← each (comparable first) as'; Ok (atomic (best better so_far as'))
+choosing better first so_far as' = do values ← each (comparable first) as'; Ok
+    (atomic (best better so_far as'))
 
 -- a value that stands before another one, in the order that the comparison asks for
 abbrev pub is_better : CompOp → Atomic → Atomic → Bool
 is_better op a b = holds op (key_cmp (key a) (key b))
 
 -- the keys that were seen, each once, and the values that they stand for
-pub record Distinct (done : List Atomic) (seen : List GroupKey) (values : List ItemView) : Type 0 where
+pub record Distinct (done : List Atomic) (seen : List GroupKey)
+    (values : List ItemView) : Type 0 where
   pub keys : map key_of seen ≡ map key (distinct_values done)
   pub items : values ≡ map Value (distinct_values done)

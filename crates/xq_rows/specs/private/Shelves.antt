@@ -38,16 +38,19 @@ abbrev pub run_of : List NodeRow → ℕ → ℕ → List NodeRow
 run_of rows low high = take (high + 1 - low) (drop low rows)
 
 -- there is a tree with this number, and its rows are kept up to a place, or all of them
-pub record HasReached (trees : List Tree) (fronts : List (Vec NodeRow Global)) (tree place : ℕ) : Type 0 where
+pub record HasReached (trees : List Tree) (fronts : List (Vec NodeRow Global))
+    (tree place : ℕ) : Type 0 where
   pub tree_in : tree < length trees
   pub reaches : Reaches (tree_at trees tree) place (front_at fronts tree)
 
 -- the trees are the documents of the addresses
 pub record AreListed (m : Map) (addresses : List (List ℕ)) (trees : List Tree) : Type 0 where
   pub count : length addresses ≡ length trees
-  pub found : (i : ℕ) (a : List ℕ) → slice_get addresses i ≡ Some a → get m a ≡ Some (tree_at trees i)
+  pub found : (i : ℕ) (a : List ℕ) → slice_get addresses i ≡ Some a
+      → get m a ≡ Some (tree_at trees i)
 
 -- what a view keeps true of its rows, beside what it keeps true of its store
-pub record IsShelved {S : Type 0} (g : Ghosts S) (b : Beginning) (v : Viewed S) (fronts : List (Vec NodeRow Global)) : Type 0 where
+pub record IsShelved {S : Type 0} (g : Ghosts S) (b : Beginning) (v : Viewed S)
+    (fronts : List (Vec NodeRow Global)) : Type 0 where
   pub view : IsView g b v
   pub rows : IsClean g v.store → HeldDocuments b → AreFronts (trees_under b v.addresses) fronts

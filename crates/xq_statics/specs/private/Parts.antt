@@ -1,4 +1,5 @@
--- The places of each part of an expression, and of lists of parts, as the functions of the walk take them.
+-- The places of each part of an expression, and of lists of parts, as the functions of the walk
+-- take them.
 use Rattle.std.specs.Prelude.{List, map, Option}
 use Rattle.xq_atoms.specs.declared.refusals.Code.{Code}
 use Rattle.xq_atoms.specs.Text.{Text}
@@ -12,16 +13,20 @@ use Rattle.xq_statics.specs.Faults.{first_fault}
 use Rattle.xq_statics.specs.Statics.{Places, Binding, places, each, in_turn, assigned, ranging, clause_binding, name_places, form_places, group_binding, step_places}
 
 abbrev pub clause : Clause → Binding
-clause = fold-Clause Binding Places Places Binding Places clause_binding name_places form_places group_binding step_places
+clause = fold-Clause Binding Places Places Binding Places clause_binding name_places form_places
+    group_binding step_places
 
 abbrev pub constructor_name : ConstructorName → Places
-constructor_name = fold-ConstructorName Binding Places Places Binding Places clause_binding name_places form_places group_binding step_places
+constructor_name = fold-ConstructorName Binding Places Places Binding Places clause_binding
+    name_places form_places group_binding step_places
 
 abbrev pub group_spec : GroupSpec → Binding
-group_spec = fold-GroupSpec Binding Places Places Binding Places clause_binding name_places form_places group_binding step_places
+group_spec = fold-GroupSpec Binding Places Places Binding Places clause_binding name_places
+    form_places group_binding step_places
 
 abbrev pub step : Step → Places
-step = fold-Step Binding Places Places Binding Places clause_binding name_places form_places group_binding step_places
+step = fold-Step Binding Places Places Binding Places clause_binding name_places form_places
+    group_binding step_places
 
 abbrev pub operands : {A : Type 0} → List (A × Expr) → Places
 operands {A} more = each (map (λ (o : A × Expr). places o.1) more)
@@ -36,7 +41,8 @@ abbrev pub assignments : List (QName × Expr) → Binding
 assignments bindings = in_turn (map (λ (b : QName × Expr). assigned b.0 (places b.1)) bindings)
 
 abbrev pub ranges : List (QName × Option QName × Expr) → Binding
-ranges bindings = in_turn (map (λ (b : QName × Option QName × Expr). ranging b.0 b.1 (places b.2)) bindings)
+ranges bindings = in_turn
+    (map (λ (b : QName × Option QName × Expr). ranging b.0 b.1 (places b.2)) bindings)
 
 abbrev pub fault : Places → List Text → Option Code
 fault part names = first_fault (part names)
