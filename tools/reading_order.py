@@ -19,8 +19,9 @@ import sys
 TOP = os.path.dirname(os.path.dirname(os.path.abspath(__file__)))
 USE = re.compile(r"(?m)^\s*(?:ghost )?use (Rattle\.[\w.+«»:-]+?)"
                  r"(?:\.\{([^}]*)\})?(?: as ([\w']+))?;?$")
-HEAD = re.compile(r" *(?:(?:abbrev|unfoldable|pub) )*(?:record |data )?"
-                  r"([^\s:(){}]+)(?: :|.* : .* where$)")
+HEAD = re.compile(r" *(?:(?:abbrev|unfoldable|pub) )*(?:(?:record|data) )"
+                  r"([^\s:(){}]+)|"
+                  r" *(?:(?:abbrev|unfoldable|pub) )*([^\s:(){}]+) :")
 CLAUSE = re.compile(r"(?s)(?:requires|ensures|ghost)\b[^{;]*\{(.*?)\}\s*(?=\n)")
 BEGIN = re.compile(r"^( *)((?:abbrev|unfoldable|pub|record|data|infix\w*) )*([^\s:(){}]+)")
 WORD = re.compile(r"[^\s(){}\[\];,.λ×]+(?:\.[^\s(){}\[\];,λ×]+)*")
@@ -71,7 +72,7 @@ def definitions_of(text):
         words = re.match(r" *(abbrev|unfoldable|pub|record|data|abstract)\b", line)
         is_head = head and words and declared and len(head.group(1)) <= 2
         if is_head and not in_record(found, name, line):
-            name = declared.group(1)
+            name = declared.group(1) or declared.group(2)
             found.setdefault(name, []).extend(comment)
         if name:
             found[name].append(line)

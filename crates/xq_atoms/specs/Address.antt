@@ -14,7 +14,7 @@ is_digit byte = nat_le 48 byte && nat_le byte 57
 abbrev pub is_address_byte : ℕ → Bool
 is_address_byte byte =
     is_upper byte || is_lower byte || is_digit byte || byte == 46 || byte == 95 || byte == 47
-        || byte == 45
+    || byte == 45
 
 abbrev pub IsAddress : List ℕ → Type 0
 IsAddress bytes = (0 < length bytes) × (length bytes ≤ 200)

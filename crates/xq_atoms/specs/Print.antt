@@ -11,7 +11,7 @@ use Rattle.xq_atoms.specs.Cast.{whole_text, fraction_text}
 abbrev pub quoted_character : ℕ → Text
 quoted_character c =
     if c == 34 then codes "\"\"" else if c == 38 then codes "&amp;" else if c == 13
-        then codes "&#xD;" else c ∷ []
+    then codes "&#xD;" else c ∷ []
 
 abbrev pub quoted : Text → Text
 quoted t = codes "\"" ++ flat_map quoted_character t ++ codes "\""
@@ -20,7 +20,7 @@ quoted t = codes "\"" ++ flat_map quoted_character t ++ codes "\""
 abbrev pub print_integer : ℤ → Text
 print_integer n =
     if int_eq n (neg_ℤ (pos (2 ^ 63))) then codes "xs:integer(\"-9223372036854775808\")"
-        else signed_decimal n
+    else signed_decimal n
 
 -- at least one digit after the point
 abbrev pub at_least_zero : Text → Text

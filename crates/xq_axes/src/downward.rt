@@ -117,7 +117,7 @@ impl<'a> Below<'a> {
         ensures met { IsRising self.old.contexts.places.now
             → IsReached self.old.contexts.places.now self.old.contexts.met row.now.pre
             → OnOk result (IsReached self.old.contexts.places.now self.new.contexts.met
-                (row.now.pre + 1)) }
+            (row.now.pre + 1)) }
     {
         let level = row.level as usize;
         if level >= LEVELS {
@@ -147,11 +147,11 @@ fn search_one<L: RowLender>(
         let test = picker.old.test.now in
         (n : ℕ) → n ≤ place → IsNext vs n place
         → IsSearched direction test t vs n picker.old.judge.contexts.met
-            (length picker.old.judge.marks) picker.old.found.items
+        (length picker.old.judge.marks) picker.old.found.items
         → IfOk result (λ next. (place < next) × (picker.new.judge.direction ≡ direction)
         × (picker.new.judge.contexts.places.now ≡ vs) × (picker.new.test.now ≡ test)
         × IsSearched direction test t vs next picker.new.judge.contexts.met
-            (length picker.new.judge.marks) picker.new.found.items) }
+        (length picker.new.judge.marks) picker.new.found.items) }
     ensures ends { L.is_clean source.new → let t = tree_at (L.forest source.old) tree in
         IfOk result (λ next. (next ≡ end_of t place + 1) × (end_of t place < count (nodes t))) }
     ensures rows { L.is_clean source.new → let t = tree_at (L.forest source.old) tree in

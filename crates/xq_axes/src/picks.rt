@@ -69,7 +69,7 @@ impl<J: Judge> Visitor for Picker<'_, J> {
     ghost has_read = { λ start now t s n. J.has_judged start.judge now.judge t s n
         × (now.test.now ≡ start.test.now)
         × (now.found.items ≡ below_where
-            (is_wanted (J.axis start.judge) start.test.now t (J.contexts start.judge)) n) };
+        (is_wanted (J.axis start.judge) start.test.now t (J.contexts start.judge)) n) };
 
     fn visit(&mut self, row: &NodeRow) -> Result<(), Want> {
         let is_hit = self.judge.judge(row)?;

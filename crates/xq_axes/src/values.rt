@@ -70,7 +70,7 @@ pub fn string_value<L: RowLender>(alloc: Global, source: &mut L, node: Node) -> 
         → OnOk result (HasNode (L.forest source.old) node.tree node.pre) }
     ensures value { L.is_clean source.new → IfOk result (λ text. string_bytes text
         ≡ string_value_lem (tree_below (L.forest source.old)
-            (node_at (L.forest source.old) node))) }
+        (node_at (L.forest source.old) node))) }
     ensures keeps { L.forest source.new ≡ L.forest source.old }
     ensures was_clean { L.is_clean source.new → L.is_clean source.old }
 {

@@ -47,7 +47,7 @@ pub fn walk<L: RowLender, V: Visitor>(
         → let t = tree_at (L.forest source.old) tree in
         (start : V) → V.has_read start visitor.old t (span low high) low
         → OnOk result (V.has_read start visitor.new t (span low high)
-            (span_end t (span low high))) }
+        (span_end t (span low high))) }
     ensures rows { L.is_clean source.new
         → (L.meter source.new).rows ≤ (L.meter source.old).rows
         + (span_end (tree_at (L.forest source.old) tree) (span low high) - low) }

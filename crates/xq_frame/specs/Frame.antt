@@ -27,7 +27,7 @@ IsTooLong bytes = (4 ≤ length bytes) × (longest_message < announced bytes)
 abbrev pub IsCut : List ℕ → Type 0
 IsCut bytes = (0 < length bytes)
     × ((length bytes < 4)
-        ⊎ ((announced bytes ≤ longest_message) × (length bytes < 4 + announced bytes)))
+    ⊎ ((announced bytes ≤ longest_message) × (length bytes < 4 + announced bytes)))
 
 -- what stands after the last whole frame: nothing, a length over the limit, or a cut frame
 pub data Ending : Type 0 where
@@ -51,6 +51,6 @@ pub record Splits (bytes : List ℕ) (messages : List (List ℕ)) (ending : Endi
 abbrev pub SplitsInOneWay : Type 0
 SplitsInOneWay = (bytes : List ℕ) → All (λ byte. byte < 256) bytes
     → ((messages : List (List ℕ)) × (ending : Ending) × (rest : List ℕ)
-        × Splits bytes messages ending rest)
+    × Splits bytes messages ending rest)
     × ((xs ys : List (List ℕ)) (a b : Ending) (r s : List ℕ) → Splits bytes xs a r
-        → Splits bytes ys b s → (xs ≡ ys) × (a ≡ b) × (r ≡ s))
+    → Splits bytes ys b s → (xs ≡ ys) × (a ≡ b) × (r ≡ s))

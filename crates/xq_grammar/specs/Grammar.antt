@@ -344,11 +344,11 @@ module _ (Single : Rel Expr) where
   abbrev pub KindTest : Rel NodeTest
   KindTest = (OneOf plain_kinds ◃ symbol s.OpenParenthesis ◃ symbol s.CloseParenthesis)
       ∣ (test.ProcessingInstruction ⟨$⟩ word "processing-instruction" ▹ symbol s.OpenParenthesis
-          ▹ Maybe NC ◃ symbol s.CloseParenthesis)
+      ▹ Maybe NC ◃ symbol s.CloseParenthesis)
       ∣ (test.Element ⟨$⟩ word "element" ▹ symbol s.OpenParenthesis ▹ NameOrAny
-          ◃ symbol s.CloseParenthesis)
+      ◃ symbol s.CloseParenthesis)
       ∣ (test.Attribute ⟨$⟩ word "attribute" ▹ symbol s.OpenParenthesis ▹ NameOrAny
-          ◃ symbol s.CloseParenthesis)
+      ◃ symbol s.CloseParenthesis)
 
   -- a node test (section 3.3.2.2)
   abbrev pub Test : Rel NodeTest

@@ -11,7 +11,7 @@ within low high c = nat_le low c && nat_le c high
 unfoldable pub is_char : ℕ → Bool
 is_char c =
     c == 0x9 || c == 0xA || c == 0xD || within 0x20 0xD7FF c || within 0xE000 0xFFFD c
-        || within 0x10000 0x10FFFF c
+    || within 0x10000 0x10FFFF c
 
 abbrev pub is_space : ℕ → Bool
 is_space c = c == 0x20 || c == 0x9 || c == 0xD || c == 0xA
@@ -26,7 +26,7 @@ is_hex c = is_digit c || within 65 70 c || within 97 102 c
 unfoldable pub is_name_start : ℕ → Bool
 is_name_start c =
     within 65 90 c || c == 95 || within 97 122 c || within 0xC0 0xD6 c || within 0xD8 0xF6 c
-        || within 0xF8 0x2FF c
+    || within 0xF8 0x2FF c
     || within 0x370 0x37D c || within 0x37F 0x1FFF c || within 0x200C 0x200D c
     || within 0x2070 0x218F c
     || within 0x2C00 0x2FEF c || within 0x3001 0xD7FF c || within 0xF900 0xFDCF c
@@ -37,7 +37,7 @@ is_name_start c =
 unfoldable pub is_name_char : ℕ → Bool
 is_name_char c =
     is_name_start c || c == 45 || c == 46 || is_digit c || c == 0xB7 || within 0x300 0x36F c
-        || within 0x203F 0x2040 c
+    || within 0x203F 0x2040 c
 
 -- `"` and `'`
 abbrev pub is_quote : ℕ → Bool

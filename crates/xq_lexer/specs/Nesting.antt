@@ -13,7 +13,7 @@ use Rattle.xq_lexer.specs.declared.depth.Change.TheVariants.{Opens as opens, Clo
 abbrev pub is_binder : List ℕ → Bool
 is_binder word =
     bytes_eq word (codes "for") || bytes_eq word (codes "let") || bytes_eq word (codes "some")
-        || bytes_eq word (codes "every")
+    || bytes_eq word (codes "every")
 
 -- what a name does, before the tokens that follow it
 abbrev pub name_change : List ℕ → List Lex → Change

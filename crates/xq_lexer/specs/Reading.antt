@@ -33,7 +33,7 @@ skip_step depth (a ∷ []) = if passes depth a then Some (depth, []) else None
 skip_step depth (a ∷ b ∷ t) =
     if opens a b then Some (depth + 1, t)
     else (if nat_lt 0 depth && closes a b then Some (depth - 1, t)
-        else (if passes depth a then Some (depth, b ∷ t) else None))
+    else (if passes depth a then Some (depth, b ∷ t) else None))
 
 -- what is left at the end of the separators, where no comment is open
 abbrev pub unless_open : ℕ → Text → Option Text
@@ -47,7 +47,7 @@ after_name w [] = (name w, [])
 after_name w (a ∷ []) = (name w, a ∷ [])
 after_name w (a ∷ b ∷ t) =
     if a == 58 && is_name_start b then (let x = span is_name_char (b ∷ t) in (prefixed w x.0, x.1))
-        else (name w, a ∷ b ∷ t)
+    else (name w, a ∷ b ∷ t)
 
 unfoldable pub read_name : Text → Form × Text
 read_name z = let x = span is_name_char z in after_name x.0 x.1
@@ -121,7 +121,7 @@ inside quote [] = wrong XPST0003
 inside quote (c ∷ t) =
     if c == quote then after_quote quote t
     else (if c == 38 then after_ampersand (read_reference t)
-        else (if is_char c then one (plain c) t else wrong XPST0003))
+    else (if is_char c then one (plain c) t else wrong XPST0003))
 
 abbrev pub with_piece : Piece → Result (List Piece × Text) Code → Result (List Piece × Text) Code
 with_piece p (Ok x) = Ok (p ∷ x.0, x.1)

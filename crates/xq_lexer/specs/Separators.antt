@@ -24,4 +24,4 @@ skip zero (a ∷ b ∷ t) =
 skip (suc depth) (a ∷ b ∷ t) =
     if opens a b then skip (suc (suc depth)) t
     else (if closes a b then skip depth t
-        else (if is_char a then skip (suc depth) (b ∷ t) else None))
+    else (if is_char a then skip (suc depth) (b ∷ t) else None))

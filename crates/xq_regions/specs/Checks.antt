@@ -79,7 +79,7 @@ roots rs c stop = tops (front (stop - c) (nest (drop c rs)))
 abbrev pub may_be_child : Row → List Row → ℕ → ℕ → Bool
 may_be_child parent rs c stop =
     child_ok parent (stop - c) (row_at rs c)
-        (map label_of (roots rs (suc c + (row_at rs c).size) stop))
+    (map label_of (roots rs (suc c + (row_at rs c).size) stop))
 
 -- the rows after the row p are, as far as its size says, those of its children
 abbrev pub are_children_after : List Row → ℕ → Bool
@@ -91,7 +91,7 @@ abbrev pub IsSoundAt : List NodeRow → ℕ → Type 0
 IsSoundAt rs i =
     (slice_index (map (λ (r : NodeRow). r.pre) rs) i ≡ i)
     × RowOk (row_at (map row_of rs) i)
-        (roots (map row_of rs) (suc i) (suc i + (row_at (map row_of rs) i).size))
+    (roots (map row_of rs) (suc i) (suc i + (row_at (map row_of rs) i).size))
 
 -- the attributes of the row at the place i have distinct names
 abbrev pub IsNamedAt : List Row → ℕ → Type 0

@@ -38,7 +38,7 @@ kind_code = code_by ℕ coded_ℕ kind_number kind_from kind_from-kind_number
 abbrev pub label_code : Coded Label
 label_code =
     code_by (Kind × (List ℕ × List ℕ))
-        (coded× kind_code (coded× (coded_list coded_ℕ) (coded_list coded_ℕ)))
+    (coded× kind_code (coded× (coded_list coded_ℕ) (coded_list coded_ℕ)))
     (λ l. (l.kind, (l.name, l.value))) (λ p. record { kind = p.0; name = p.1.0; value = p.1.1 })
     (λ _. refl)
 

@@ -33,4 +33,4 @@ abbrev pub AxesAreRegions : Type 0
 AxesAreRegions =
     (axis : Axis) (t : Tree) (v w : List ℕ) → HasPath (nodes t) v → HasPath (nodes t) w
     → IsOnAxis axis (nodes t) v w
-        ↔ IsInRegion axis (rows t) (place_of (nodes t) v) (place_of (nodes t) w)
+    ↔ IsInRegion axis (rows t) (place_of (nodes t) v) (place_of (nodes t) w)

@@ -22,7 +22,7 @@ labels-front-back zero f = refl
 labels-front-back (suc n) end = refl
 labels-front-back (suc n) (node a below beside) =
     ap (λ l. a ∷ l) (append_assoc (labels below) _ _
-        ∙ ap (λ l. labels below ++ l) (labels-front-back (n - count below) beside))
+    ∙ ap (λ l. labels below ++ l) (labels-front-back (n - count below) beside))
 
 -- whatever their sizes, rows are kept
 pub labels-nest : (rs : List Row) → labels (nest rs) ≡ rs
@@ -46,7 +46,7 @@ nest-measured l (node a below beside) rs =
     let g = measured l beside in
     let e : nest ((labels k ++ labels g) ++ rs) ≡ join k (join g (nest rs)) =
     ap nest (append_assoc (labels k) (labels g) rs) ∙ nest-measured (suc l) below (labels g ++ rs)
-        ∙ ap (join k) (nest-measured l beside rs) in
+    ∙ ap (join k) (nest-measured l beside rs) in
     let c : count k ≡ count below = count-measured (suc l) below in
     rw (e, ← c) (rw (front-join k (join g (nest rs)), back-join k (join g (nest rs))))
 

@@ -54,4 +54,4 @@ path_at end n = []
 path_at (node a below beside) zero = zero ∷ []
 path_at (node a below beside) (suc n) =
     cond (nat_le (suc n) (count below)) (step_down (path_at below n))
-        (step_right (path_at beside (n - count below)))
+    (step_right (path_at beside (n - count below)))

@@ -19,7 +19,7 @@ abbrev pub measured : ℕ → Forest Label → Forest Row
 measured level end = end
 measured level (node a below beside) =
     node (record { size = count below; level = level; label = a }) (measured (suc level) below)
-        (measured level beside)
+    (measured level beside)
 
 abbrev pub rows : Tree → List Row
 rows t = labels (measured 0 (nodes t))
@@ -34,8 +34,12 @@ row_at rs n = slice_index_or rs n no_row
 -- # The rows that code holds
 
 abbrev pub row_of : NodeRow → Row
-row_of r = record { size = r.size; level = r.level; label =
-    record { kind = r.kind; name = string_bytes r.name; value = string_bytes r.value } }
+row_of r = record {
+  size = r.size;
+  level = r.level;
+  label =
+      record { kind = r.kind; name = string_bytes r.name; value = string_bytes r.value };
+}
 
 -- the rows are numbered from n on
 abbrev pub AreNumbered : ℕ → List NodeRow → Type 0

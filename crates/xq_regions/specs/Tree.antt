@@ -61,7 +61,7 @@ abbrev pub is_content : Label → List Label → Bool
 is_content parent [] = true
 is_content parent (a ∷ labels) =
     may_stand parent.kind a.kind
-        && (has_text a.kind a.value && (may_precede a.kind labels && is_content parent labels))
+    && (has_text a.kind a.value && (may_precede a.kind labels && is_content parent labels))
 
 -- the names of the attributes among these
 abbrev pub attribute_names : List Label → List (List ℕ)

@@ -124,7 +124,7 @@ module _ {X : Type 0} (atom : Atomic → X) where
   grouped slots tuples columns =
       if are_keys columns
       then Ok (map (grouped_tuple slots)
-          (groups same_keys (zip tuples (key_rows tuples (map (map key_value) columns)))))
+      (groups same_keys (zip tuples (key_rows tuples (map (map key_value) columns)))))
       else Err XPTY0004
 
 -- 3.12.8, order by
@@ -191,6 +191,6 @@ abbrev pub ordered : {X : Type 0} → List OrderRule → List (Tuple X) → List
 ordered rules tuples columns =
     if list_all can_order columns
     then Ok (map (λ p. p.0)
-        (sorted (λ p q. keys_cmp rules p.1 q.1)
-        (zip tuples (key_rows tuples (map sort_keys columns)))))
+    (sorted (λ p q. keys_cmp rules p.1 q.1)
+    (zip tuples (key_rows tuples (map sort_keys columns)))))
     else Err XPTY0004

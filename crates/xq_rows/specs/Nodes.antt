@@ -44,8 +44,12 @@ abbrev pub node_in : Row → NodeRow
 node_in r = record {
   size = number_in (column r 1);
   level = number_in (column r 2);
-  label = record { kind = kind_from (number_in (column r 3)); name = bytes_in
-      (column r 4); value = bytes_in (column r 5) };
+  label = record {
+    kind = kind_from (number_in (column r 3));
+    name = bytes_in
+        (column r 4);
+    value = bytes_in (column r 5);
+  };
 }
 
 -- the first six columns

@@ -59,7 +59,7 @@ pub record Adds (address : List ℕ) (added : List Row) (old new : State) : Type
 abbrev pub Puts : List ℕ → List Row → Database → Database → Bool → Type 0
 Puts address rows old new replaced = IsStore old
     → (mid : Database) × HasDropped (is_at address) old mid × HasAdded address rows mid new
-        × (replaced ≡ nat_lt 0 (length (filter (is_at address) (old.trees 1))))
+    × (replaced ≡ nat_lt 0 (length (filter (is_at address) (old.trees 1))))
 
 -- the same inside a transaction
 pub record Replaces (address : List ℕ) (rows : List Row) (old new : State)
@@ -122,7 +122,7 @@ pub record MakesBoth (old new : Database) : Type 0 where
 abbrev pub WritesEdition : Database → Database → Type 0
 WritesEdition old new = old.schema ≡ store_schema → old.trees 0 ≡ []
     → (new.schema ≡ store_schema) × (new.trees 0 ≡ (Int (pos 1) ∷ Int (pos 1) ∷ []) ∷ [])
-        × (new.trees 1 ≡ old.trees 1)
+    × (new.trees 1 ≡ old.trees 1)
 
 -- all three
 pub record MakesStore (old new : Database) : Type 0 where

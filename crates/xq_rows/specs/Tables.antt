@@ -16,8 +16,15 @@ no_schema = record { tables = []; indexes = []; views = [] }
 
 -- a column of a STRICT table that is NOT NULL
 abbrev pub needed : List ℕ → Kind → Column
-needed name kind = record { name = name; kind = kind; is_strict = true; not_null = true; default =
-    Null; collation = Binary }
+needed name kind = record {
+  name = name;
+  kind = kind;
+  is_strict = true;
+  not_null = true;
+  default =
+      Null;
+  collation = Binary;
+}
 
 -- CREATE TABLE layout (edition INTEGER NOT NULL) STRICT
 abbrev pub layout_table : Table
@@ -62,20 +69,39 @@ node_table = record {
 
 -- the index that keeps the primary key
 abbrev pub node_index : Index
-node_index = record { name = codes "sqlite_autoindex_node_1"; tree = 2; table = 1; columns = 1 ∷ 2
-    ∷ []; order = plain; is_unique = true }
+node_index = record {
+  name = codes "sqlite_autoindex_node_1";
+  tree = 2;
+  table = 1;
+  columns = 1 ∷ 2
+      ∷ [];
+  order = plain;
+  is_unique = true;
+}
 
 -- the table `node` alone
 abbrev pub node_schema : Schema
-node_schema = record { tables = record node_table { tree = 0 } ∷ []; indexes =
-    record node_index { tree = 1; table = 0 } ∷ []; views = [] }
+node_schema = record {
+  tables = record node_table { tree = 0 } ∷ [];
+  indexes =
+      record node_index { tree = 1; table = 0 } ∷ [];
+  views = [];
+}
 
 -- `node`, and `layout` made after it
 abbrev pub turned_schema : Schema
-turned_schema = record { tables = record node_table { tree = 0 } ∷ record layout_table { tree = 2 }
-    ∷ []; indexes = record node_index { tree = 1; table = 0 } ∷ []; views = [] }
+turned_schema = record {
+  tables = record node_table { tree = 0 } ∷ record layout_table { tree = 2 }
+      ∷ [];
+  indexes = record node_index { tree = 1; table = 0 } ∷ [];
+  views = [];
+}
 
 -- the two tables
 abbrev pub store_schema : Schema
-store_schema = record { tables = layout_table ∷ node_table ∷ []; indexes = node_index
-    ∷ []; views = [] }
+store_schema = record {
+  tables = layout_table ∷ node_table ∷ [];
+  indexes = node_index
+      ∷ [];
+  views = [];
+}

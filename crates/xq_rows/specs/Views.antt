@@ -48,8 +48,12 @@ pub record Beginning : Type 0 where
 -- database in.
 module _ {S : Type 0} (g : Ghosts S) (store : Held S) where
   unfoldable pub beginning : Beginning
-  beginning = record { database = (state g store).now; is_open =
-      (state g store).is_open; is_clean = (state g store).is_clean }
+  beginning = record {
+    database = (state g store).now;
+    is_open =
+        (state g store).is_open;
+    is_clean = (state g store).is_clean;
+  }
 
 -- The tables held documents as the view began.
 unfoldable pub HeldDocuments : Beginning → Type 0

@@ -92,9 +92,9 @@ arity function = (signature function).1
 abbrev pub library : List Function
 library =
     f.Doc ∷ f.DocAvailable ∷ f.Collection ∷ f.Root ∷ f.Name ∷ f.LocalName ∷ f.String ∷ f.Data
-        ∷ f.StringLength ∷ f.NormalizeSpace ∷ f.Concat ∷
+    ∷ f.StringLength ∷ f.NormalizeSpace ∷ f.Concat ∷
     f.StringJoin ∷ f.Contains ∷ f.StartsWith ∷ f.EndsWith ∷ f.Substring ∷ f.SubstringBefore
-        ∷ f.SubstringAfter ∷ f.Count ∷ f.Empty ∷ f.Exists ∷ f.Head
+    ∷ f.SubstringAfter ∷ f.Count ∷ f.Empty ∷ f.Exists ∷ f.Head
     ∷ f.Tail ∷ f.Reverse ∷ f.DistinctValues ∷ f.ZeroOrOne ∷ f.OneOrMore ∷ f.ExactlyOne ∷ f.Not
     ∷ f.Boolean ∷ f.True ∷ f.False ∷ f.Position ∷ f.Last ∷
     f.Sum ∷ f.Min ∷ f.Max ∷ f.Abs ∷ f.Floor ∷ f.Ceiling ∷ f.Round ∷ []
@@ -117,4 +117,4 @@ abbrev pub function_named : Option Text → Text → Option Function
 function_named None local = in_library local
 function_named (Some prefix) local =
     if text_eq prefix (codes "fn") then in_library local
-        else (if text_eq prefix (codes "xs") then of_type local else None)
+    else (if text_eq prefix (codes "xs") then of_type local else None)

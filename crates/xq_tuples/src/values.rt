@@ -77,7 +77,7 @@ pub fn push_each(
 ) -> Result<(), Want>
     ensures tuples { OnOk result (map tuple_of tuples.new.items
         ≡ map tuple_of tuples.old.items
-            ++ with_each AtomView at (values_of tuple.now) (item_views items)) }
+        ++ with_each AtomView at (values_of tuple.now) (item_views items)) }
     ensures want { IfErr result (λ want. want ≡ Want.Memory) }
 {
     for (index, item) in items.into_iter().enumerate() {

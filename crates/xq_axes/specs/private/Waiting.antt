@@ -77,8 +77,12 @@ pub record IsLooked (d : Backward) (test : Test) (t : Tree) (vs : List ℕ) (n l
 
 -- what is kept of a row
 abbrev pub seen_of : Test → Row → Seen
-seen_of test r = record { level = r.level; is_plain = not
-    (is_attribute r.label.kind); passes = row_passes test r }
+seen_of test r = record {
+  level = r.level;
+  is_plain = not
+      (is_attribute r.label.kind);
+  passes = row_passes test r;
+}
 
 -- the rows from n on
 abbrev pub AreSeen : Test → Tree → ℕ → List Seen → Type 0

@@ -18,8 +18,8 @@ concatenating done lists = do pieces ← each piece lists; Ok (text (done ++ joi
 
 -- the best of a value and of more, which are judged beside the first
 abbrev pub choosing : (Atomic → Atomic → Bool) → Atomic → Atomic → List Atomic → Judged (List Item)
-choosing better first so_far as' = do values ← each (comparable first) as'; Ok
-    (atomic (best better so_far as'))
+choosing better first so_far as' =
+    do values ← each (comparable first) as'; Ok (atomic (best better so_far as'))
 
 -- a value that stands before another one, in the order that the comparison asks for
 abbrev pub is_better : CompOp → Atomic → Atomic → Bool

@@ -326,9 +326,9 @@ plain_kind = before (before (one_of g.plain_kinds) (symbol s.OpenParenthesis))
 unfoldable pub instruction_kind : Parser NodeTest
 instruction_kind =
     mapped nodetest.ProcessingInstruction
-        (after (word "processing-instruction")
-        (after (symbol s.OpenParenthesis)
-        (before (maybe begins_nc nc) (symbol s.CloseParenthesis))))
+    (after (word "processing-instruction")
+    (after (symbol s.OpenParenthesis)
+    (before (maybe begins_nc nc) (symbol s.CloseParenthesis))))
 
 unfoldable pub kind_argument : Parser (Option QName)
 kind_argument = after (symbol s.OpenParenthesis) (before name_or_any (symbol s.CloseParenthesis))
