@@ -1,0 +1,118 @@
+#!/usr/bin/env python3
+"""Tries to write to a store while a view has it: the compiler refuses the program, before any proof.
+
+    tools/try_view.py
+
+A program over copies of the crates puts a document, reads the addresses of a view, and puts the
+document again once the view has given the store back: that compiles and runs. With a `put`, a
+`drop_doc` or an `addresses` of the store while the view lives, or with the view used after it gave
+the store back, it doesn't. Each line says what was tried and `ok`, or what the compiler said in
+place of it. The status is 0 where all is well. It takes some five minutes and proves nothing.
+"""
+import os
+import subprocess
+import sys
+import tempfile
+
+sys.path.insert(0, os.path.dirname(os.path.abspath(__file__)))
+from workspace import begin, crates_below
+
+USES = ("xq_atoms", "xq_regions", "xq_rows")
+PROGRAM = """\
+//! What a program may do with a store and its view.
+#![tactic(auto)]
+
+use std::alloc::Global;
+use std::io;
+use std::marker::Brand;
+use xq_atoms::Want;
+use xq_regions::{Fragment, Kind, NodeRow};
+use xq_rows::Store;
+
+/// A document without children.
+fn document(alloc: Global) -> Result<Fragment, Want> {
+    let mut rows = Vec::new(alloc);
+    rows.push(NodeRow {
+        pre: 0,
+        size: 0,
+        level: 0,
+        kind: Kind::Document,
+        name: String::new(alloc),
+        value: String::new(alloc),
+    })?;
+    Fragment::from_rows(rows).map_err(|_| Want::Store)
+}
+
+/// How many addresses a view has.
+fn counted(alloc: Global) -> Result<usize, Want> {
+    let document = document(alloc)?;
+    let mut store = Store::new_in_memory(alloc)?;
+    let _first = store.put("a", &document)?;
+    let view = match store.view::<Brand>() {
+        Ok(view) => view,
+        Err((want, _store)) => return Err(want),
+    };
+    %s
+    let count = view.addresses().len();
+    let mut held = view.into_store();
+    let _last = held.put("a", &document)?;
+    %s
+    Ok(count)
+}
+
+fn main(rt: HostRuntime) -> io::Result<()> {
+    match counted(rt.alloc()) {
+        Ok(count) => println!(rt; "{}", count),
+        Err(want) => println!(rt; "{}", want.text()),
+    }
+}
+"""
+# What is tried: a line while the view lives, a line after it, and the value that was moved.
+TRIED = (
+    ("a put once the store is given back", "", "", None),
+    ("a put while the view lives", 'let _put = store.put("a", &document)?;', "", "store"),
+    ("a drop while the view lives", 'let _dropped = store.drop_doc("a")?;', "", "store"),
+    ("a list while the view lives", "let _listed = store.addresses()?;", "", "store"),
+    ("the view once the store is given back", "", "let _count = view.addresses().len();", "view"),
+)
+
+
+def said(folder, text):
+    """What the compiler says of the program, and what the program writes."""
+    with open(os.path.join(folder, "src", "main.rt"), "w") as source:
+        source.write(text)
+    done = subprocess.run(["rt", "try"], cwd=folder, stdin=subprocess.DEVNULL, capture_output=True)
+    return done.returncode, done.stdout.decode(), done.stderr.decode()
+
+
+def is_right(program, moved, answer):
+    """Whether it compiles and counts one address, or its one error names the moved value at its line."""
+    status, written, messages = answer
+    if moved is None:
+        return status == 0 and written == "1\n"
+    usual = PROGRAM.splitlines()
+    added = [at for at, line in enumerate(program.splitlines(), 1) if line.strip() and line not in usual]
+    errors = [line for line in messages.splitlines() + written.splitlines() if "error[" in line]
+    return (status == 1 and len(added) == 1 == len(errors) and errors[0].startswith("src/main.rt:%d:" % added[0])
+            and "borrow of moved value: `%s`" % moved in errors[0])
+
+
+def main():
+    wrong = 0
+    with tempfile.TemporaryDirectory() as scratch:
+        begin(scratch, crates_below(USES), ("out", "must-fail", "more-edits"))
+        with open(os.path.join(scratch, "crates.txt"), "a") as lines:
+            lines.write("program: %s\n" % " ".join(USES))
+        folder = os.path.join(scratch, "crates", "program")
+        os.makedirs(os.path.join(folder, "src"))
+        for what, within, after, moved in TRIED:
+            program = PROGRAM % (within, after)
+            answer = said(folder, program)
+            right = is_right(program, moved, answer)
+            wrong += not right
+            print("%-40s %s" % (what, "ok" if right else answer), flush=True)
+    return 1 if wrong else 0
+
+
+if __name__ == "__main__":
+    sys.exit(main())
