@@ -1,26 +1,29 @@
 -- The last places of names, as variables come into scope and go.
-use Rattle.std.proofs.Common.{take, ◌<◌, ◌⊎◌, inl, inr, ◌||◌, ◌≡◌, ℕ, zero, suc, ◌+◌, ◌≤◌, List, [], ◌∷◌, ◌++◌, length, drop, Bool, true, false, Option, Some, None, refl, sym, ◌∙◌, ap, subst, arith, if◌then◌else◌}
-use Rattle.std.specs.Prelude.{bytes_eq, nat_le, not, slice_get}
+use Rattle.std.proofs.Common.{take, ◌-◌, ◌<◌, ◌⊎◌, inl, inr, ◌||◌, ◌≡◌, ℕ, zero, suc, ◌+◌, ◌≤◌, List, [], ◌∷◌, ◌++◌, length, drop, Bool, true, false, Option, Some, None, refl, sym, ◌∙◌, ap, subst, arith, if◌then◌else◌}
+use Rattle.std.specs.Prelude.{bytes_eq, nat_le, not, slice_get, unwrap_or}
 use Rattle.std.specs.Cmp.{IsEquivalence}
 use Rattle.std.specs.Option.{option_or, is_some}
 use Rattle.std.specs.List.{position_or_len}
 use Rattle.std.specs.Map.{keys_of, values_of}
 use Rattle.std.proofs.lemmas.Bool.{cases_lt, le-leb, lt-leb}
-use Rattle.std.proofs.lemmas.List.{take_all, length-map, map-append, append-nil, append_assoc}
+use Rattle.std.proofs.lemmas.List.{take_all, take_at, length-append, length-map, map-append, append-nil, append_assoc}
 use Rattle.std.proofs.lemmas.Bool.Decides.{same_from_decides}
 use Rattle.std.proofs.lemmas.Slice.Eq.{bytes_eq-Decides}
 use Rattle.std.proofs.lemmas.Map.Text.{hash_map_updates_str}
 use Rattle.std.proofs.lemmas.Option.{none-some, same_Some}
 use Rattle.std.specs.HashMap.{UpdatesBy}
-use Rattle.indexmap.specs.IndexMap.{IndexMap, get_by, keys, insert_entry, with_value_at, IsUnique}
+use Rattle.indexmap.specs.IndexMap.{IndexMap, get_by, keys, insert_entry, insert_index, with_value_at, IsUnique}
 use Rattle.indexmap.proofs.CallerLemmas.{updates-with_value_at}
 use denote.Ref.{Bor}
 use Rattle.xq_scopes.specs.declared.Bound.{Bound}
 use Rattle.xq_scopes.specs.Scopes.{is_among, last_place}
-use Rattle.xq_scopes.specs.private.Kept.{names_of, in_scope, numbered, IsLast, AreHidden, AreNumbered}
+use Rattle.xq_scopes.specs.private.Kept.{names_of, name_at, in_scope, numbered, IsLast, AreHidden, AreNumbered}
 
 abbrev Text : Type 0
 Text = List ℕ
+
+abbrev pub Names : Type 0
+Names = List (Bor (List ℕ))
 
 abbrev chosen : Bool → ℕ → Option ℕ
 chosen test place = if test then Some place else None
@@ -98,44 +101,50 @@ unbind_step : (test test' : Bool) (hidden found before : Option ℕ) (place : �
 unbind_step true test' hidden found before place t h f = h refl
 unbind_step false test' hidden found before place t h f = f ∙ ap (λ v. if v then Some place else before) (sym t)
 
-pub names-snoc : (bound : List Bound) (b : Bound) → names_of (bound ++ b ∷ []) ≡ names_of bound ++ b.name.now ∷ []
-names-snoc bound b = map-append (λ b. b.name.now) bound (b ∷ [])
+pub names-snoc : (names : Names) (bound : List Bound) (b : Bound) → names_of names (bound ++ b ∷ []) ≡ names_of names bound ++ name_at names b.number ∷ []
+names-snoc names bound b = map-append (λ b. name_at names b.number) bound (b ∷ [])
 
-pub hidden-snoc : (done : List Text) (bound : List Bound) (b : Bound) → AreHidden done bound → b.hidden ≡ last_place b.name.now 0 (done ++ names_of bound) → AreHidden done (bound ++ b ∷ [])
-hidden-snoc done [] b h is = (is ∙ ap (last_place b.name.now 0) (append-nil done), tt)
-hidden-snoc done (x ∷ xs) b h is =
-    (h.0, hidden-snoc (done ++ x.name.now ∷ []) xs b h.1 (is ∙ ap (last_place b.name.now 0) (sym (append_assoc done (x.name.now ∷ []) (names_of xs)))))
+pub hidden-snoc : (names : Names) (done : List Text) (bound : List Bound) (b : Bound) → AreHidden names done bound → b.hidden ≡ last_place (name_at names b.number) 0 (done ++ names_of names bound) → AreHidden names done (bound ++ b ∷ [])
+hidden-snoc names done [] b h is = (is ∙ ap (last_place (name_at names b.number) 0) (append-nil done), tt)
+hidden-snoc names done (x ∷ xs) b h is =
+    let own = name_at names x.number in
+    (h.0, hidden-snoc names (done ++ own ∷ []) xs b h.1 (is ∙ ap (last_place (name_at names b.number) 0) (sym (append_assoc done (own ∷ []) (names_of names xs)))))
 
-pub hidden-init : (done : List Text) (bound : List Bound) (b : Bound) → AreHidden done (bound ++ b ∷ []) → AreHidden done bound × (b.hidden ≡ last_place b.name.now 0 (done ++ names_of bound))
-hidden-init done [] b h = (tt, h.0 ∙ ap (last_place b.name.now 0) (sym (append-nil done)))
-hidden-init done (x ∷ xs) b h =
-    let more = hidden-init (done ++ x.name.now ∷ []) xs b h.1 in
-    ((h.0, more.0), more.1 ∙ ap (last_place b.name.now 0) (append_assoc done (x.name.now ∷ []) (names_of xs)))
+pub hidden-init : (names : Names) (done : List Text) (bound : List Bound) (b : Bound) → AreHidden names done (bound ++ b ∷ []) → AreHidden names done bound × (b.hidden ≡ last_place (name_at names b.number) 0 (done ++ names_of names bound))
+hidden-init names done [] b h = (tt, h.0 ∙ ap (last_place (name_at names b.number) 0) (sym (append-nil done)))
+hidden-init names done (x ∷ xs) b h =
+    let own = name_at names x.number in
+    let more = hidden-init names (done ++ own ∷ []) xs b h.1 in
+    ((h.0, more.0), more.1 ∙ ap (last_place (name_at names b.number) 0) (append_assoc done (own ∷ []) (names_of names xs)))
 
 -- what is found of one name after another was written
 written_at : (test : Bool) (place : Option ℕ) (other : Option (Option ℕ)) → in_scope (if test then Some place else other) ≡ (if test then place else in_scope other)
 written_at true place other = refl
 written_at false place other = refl
 
-module _ {S : Type 0} (old new : IndexMap (Bor (List ℕ)) (Option ℕ) S) (bound : List Bound) (b : Bound) where
+module _ {S : Type 0} (old new : IndexMap (Bor (List ℕ)) (Option ℕ) S) (bound : List Bound) (b : Bound) (own : Text) where
   abbrev pub Writes : Option ℕ → Type 0
-  Writes place = UpdatesBy (λ x y. bytes_eq x.now y.now) (λ k. bytes_eq b.name.now k.now) old new (Some place)
+  Writes place = UpdatesBy (λ x y. bytes_eq x.now y.now) (λ k. bytes_eq own k.now) old new (Some place)
 
-  pub last-bind : (place : ℕ) → place ≡ length bound → IsLast old bound → Writes (Some place) → IsLast new (bound ++ b ∷ [])
-  last-bind place is last written name =
-      let at : length (names_of bound) ≡ length bound = length-map bound (λ b. b.name.now) in
-      ap in_scope (hash_map_updates_str b.name.now old new (Some (Some place)) written name)
-      ∙ written_at (bytes_eq b.name.now name) (Some place) (get_by (λ k. bytes_eq name k.now) old)
-      ∙ bind_step (bytes_eq b.name.now name) (bytes_eq name b.name.now) place (0 + length (names_of bound)) _ _ (bytes_eq-swap b.name.now name) (is ∙ sym at ∙ omega arith) (last name)
-      ∙ sym (last_place_snoc name 0 (names_of bound) b.name.now) ∙ ap (last_place name 0) (sym (names-snoc bound b))
+  pub last-bind : (place : ℕ) → place ≡ length bound → names_of (keys new) (bound ++ b ∷ []) ≡ names_of (keys old) bound ++ own ∷ [] →
+      IsLast old bound → Writes (Some place) → IsLast new (bound ++ b ∷ [])
+  last-bind place is now last written name =
+      let names = names_of (keys old) bound in
+      let at : length names ≡ length bound = length-map bound (λ b. name_at (keys old) b.number) in
+      ap in_scope (hash_map_updates_str own old new (Some (Some place)) written name)
+      ∙ written_at (bytes_eq own name) (Some place) (get_by (λ k. bytes_eq name k.now) old)
+      ∙ bind_step (bytes_eq own name) (bytes_eq name own) place (0 + length names) _ _ (bytes_eq-swap own name) (is ∙ sym at ∙ omega arith) (last name)
+      ∙ sym (last_place_snoc name 0 names own) ∙ ap (last_place name 0) (sym now)
 
-  pub last-unbind : IsLast old (bound ++ b ∷ []) → b.hidden ≡ last_place b.name.now 0 (names_of bound) → Writes b.hidden → IsLast new bound
-  last-unbind last is written name =
-      ap in_scope (hash_map_updates_str b.name.now old new (Some b.hidden) written name)
-      ∙ written_at (bytes_eq b.name.now name) b.hidden (get_by (λ k. bytes_eq name k.now) old)
-      ∙ unbind_step (bytes_eq b.name.now name) (bytes_eq name b.name.now) b.hidden _ _ (0 + length (names_of bound)) (bytes_eq-swap b.name.now name)
-      (λ e. is ∙ ap (λ n. last_place n 0 (names_of bound)) (bytes_eq-same b.name.now name e))
-      (last name ∙ ap (last_place name 0) (names-snoc bound b) ∙ last_place_snoc name 0 (names_of bound) b.name.now)
+  pub last-unbind : names_of (keys old) (bound ++ b ∷ []) ≡ names_of (keys new) bound ++ own ∷ [] →
+      IsLast old (bound ++ b ∷ []) → b.hidden ≡ last_place own 0 (names_of (keys new) bound) → Writes b.hidden → IsLast new bound
+  last-unbind was last is written name =
+      let names = names_of (keys new) bound in
+      ap in_scope (hash_map_updates_str own old new (Some b.hidden) written name)
+      ∙ written_at (bytes_eq own name) b.hidden (get_by (λ k. bytes_eq name k.now) old)
+      ∙ unbind_step (bytes_eq own name) (bytes_eq name own) b.hidden _ _ (0 + length names) (bytes_eq-swap own name)
+      (λ e. is ∙ ap (λ n. last_place n 0 names) (bytes_eq-same own name e))
+      (last name ∙ ap (last_place name 0) was ∙ last_place_snoc name 0 names own)
 
 -- ---- numbers of names
 
@@ -179,18 +188,49 @@ number_of_inserted [] k v = refl
 number_of_inserted (e ∷ es) k v =
     own_by (same_text k e.0) e es (insert_entry same_text es k v) v (position_or_len (same_text k) (keys_of es)) k.now (bytes_eq-same k.now e.0.now) (number_of_inserted es k v)
 
-pub numbered-stay : (old new : List (Bor (List ℕ))) → ((number : ℕ) (name : Text) → numbered old number ≡ Some name → numbered new number ≡ Some name) →
-    (bound : List Bound) → AreNumbered old bound → AreNumbered new bound
-numbered-stay old new same [] h = tt
-numbered-stay old new same (b ∷ bs) h = (same b.number b.name.now h.0, numbered-stay old new same bs h.1)
+-- where each number keeps its name, so does each variable
+pub at_number : (names : Names) (number : ℕ) (name : Text) → numbered names number ≡ Some name → name_at names number ≡ name
+at_number names number name h = ap (λ found. unwrap_or found []) h
 
-pub numbered-snoc : (names : List (Bor (List ℕ))) (bound : List Bound) (b : Bound) → AreNumbered names bound → numbered names b.number ≡ Some b.name.now → AreNumbered names (bound ++ b ∷ [])
+module _ (old new : Names) (stays : (number : ℕ) (name : Text) → numbered old number ≡ Some name → numbered new number ≡ Some name) where
+  same_name : (b : Bound) → numbered old b.number ≡ Some (name_at old b.number) → name_at new b.number ≡ name_at old b.number
+  same_name b h = at_number new b.number (name_at old b.number) (stays b.number (name_at old b.number) h)
+
+  pub names-stay : (bound : List Bound) → AreNumbered old bound → names_of new bound ≡ names_of old bound
+  names-stay [] h = refl
+  names-stay (b ∷ bs) h = rw (same_name b h.0, names-stay bs h.1) refl
+
+  pub numbered-stay : (bound : List Bound) → AreNumbered old bound → AreNumbered new bound
+  numbered-stay [] h = tt
+  numbered-stay (b ∷ bs) h = (stays b.number (name_at old b.number) h.0 ∙ ap Some (sym (same_name b h.0)), numbered-stay bs h.1)
+
+  pub hidden-stay : (done : List Text) (bound : List Bound) → AreNumbered old bound → AreHidden old done bound → AreHidden new done bound
+  hidden-stay done [] h is = tt
+  hidden-stay done (b ∷ bs) h is =
+      let same = sym (same_name b h.0) in
+      (is.0 ∙ ap (λ name. last_place name 0 done) same, subst (λ name. AreHidden new (done ++ name ∷ []) bs) same (hidden-stay (done ++ name_at old b.number ∷ []) bs h.1 is.1))
+
+pub numbered-snoc : (names : Names) (bound : List Bound) (b : Bound) → AreNumbered names bound → numbered names b.number ≡ Some (name_at names b.number) → AreNumbered names (bound ++ b ∷ [])
 numbered-snoc names [] b h is = (is, tt)
 numbered-snoc names (x ∷ xs) b h is = (h.0, numbered-snoc names xs b h.1 is)
 
-pub numbered-init : (names : List (Bor (List ℕ))) (bound : List Bound) (b : Bound) → AreNumbered names (bound ++ b ∷ []) → AreNumbered names bound × (numbered names b.number ≡ Some b.name.now)
+pub numbered-init : (names : Names) (bound : List Bound) (b : Bound) → AreNumbered names (bound ++ b ∷ []) → AreNumbered names bound × (numbered names b.number ≡ Some (name_at names b.number))
 numbered-init names [] b h = (tt, h.0)
 numbered-init names (x ∷ xs) b h = let more = numbered-init names xs b h.1 in ((h.0, more.0), more.1)
+
+-- a name that is inserted, and the variable of it
+module _ {S : Type 0} (old new : IndexMap (Bor (List ℕ)) (Option ℕ) S) (bound : List Bound) (b : Bound) (key : Bor (List ℕ)) (value : Option ℕ)
+    (inserted : new.entries ≡ insert_entry same_text old.entries key value) (index : b.number ≡ insert_index same_text old key) where
+  pub bound-stays : (number : ℕ) (name : Text) → numbered (keys old) number ≡ Some name → numbered (keys new) number ≡ Some name
+  bound-stays n name h = subst (λ es. numbered (keys_of es) n ≡ Some name) (sym inserted) (number_stays old.entries key value n name h)
+
+  pub bound-own : numbered (keys new) b.number ≡ Some key.now
+  bound-own = ap (numbered (keys new)) index ∙ ap (λ es. numbered (keys_of es) (insert_index same_text old key)) inserted ∙ number_of_inserted old.entries key value
+
+  pub bound-names : AreNumbered (keys old) bound → names_of (keys new) (bound ++ b ∷ []) ≡ names_of (keys old) bound ++ key.now ∷ []
+  bound-names h =
+      names-snoc (keys new) bound b ∙ ap (λ name. names_of (keys new) bound ++ name ∷ []) (at_number (keys new) b.number key.now bound-own)
+      ∙ ap (λ names. names ++ key.now ∷ []) (names-stay (keys old) (keys new) bound-stays bound h)
 
 -- the entry with a number
 entry_at : {X : Type 0} (es : List (Bor (List ℕ) × X)) (number : ℕ) (name : Text) → numbered (keys_of es) number ≡ Some name →
@@ -206,10 +246,10 @@ value_at (e ∷ es) zero name h = (e.1, refl)
 value_at (e ∷ es) (suc n) name h = value_at es n name h
 
 -- what is written at the number of a name is what is found of it
-pub written_by_number : {S : Type 0} (map : IndexMap (Bor (List ℕ)) (Option ℕ) S) (bound : List Bound) (b : Bound) → IsUnique same_text map → numbered (keys map) b.number ≡ Some b.name.now →
-    Writes map (with_value_at map b.number b.hidden) bound b b.hidden
-written_by_number map bound b unique h =
-    let e = entry_at map.entries b.number b.name.now h in
+pub written_by_number : {S : Type 0} (map : IndexMap (Bor (List ℕ)) (Option ℕ) S) (bound : List Bound) (b : Bound) (own : Text) → IsUnique same_text map → numbered (keys map) b.number ≡ Some own →
+    Writes map (with_value_at map b.number b.hidden) bound b own b.hidden
+written_by_number map bound b own unique h =
+    let e = entry_at map.entries b.number own h in
     subst (λ name. UpdatesBy same_text (λ k. bytes_eq name k.now) map (with_value_at map b.number b.hidden) (Some b.hidden)) e.3
     (updates-with_value_at map b.number b.hidden same_text-equiv unique e.0 e.1 e.2)
 
@@ -220,3 +260,9 @@ left_at place whole left is short long all = by_order (cases_lt place (length wh
     by_order : (place < length whole) ⊎ (length whole ≤ place) → left ≡ take place whole
     by_order (inl h) = let e : length left ≡ place = omega (arith, short, long (omega arith)) in is ∙ ap (λ n. take n whole) e
     by_order (inr h) = is ∙ take_all (length left) whole (all h) ∙ sym (take_all place whole h)
+
+-- what stands before the last
+pub before_last : (names : List Text) (name : Text) (whole : List Text) → names ++ name ∷ [] ≡ whole → names ≡ take (length whole - 1) whole
+before_last names name whole is =
+    let len : length names ≡ length (names ++ name ∷ []) - 1 = omega (arith, length-append names (name ∷ [])) in
+    sym (take_at names (name ∷ []) _ len) ∙ ap (λ w. take (length w - 1) w) is

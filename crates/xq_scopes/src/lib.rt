@@ -4,27 +4,32 @@
 ghost use Rattle.std.specs.Prelude.{◌≡◌, ◌-◌, [], ◌∷◌, ◌++◌, length, take, drop, OnOk, OnErr};
 ghost use Rattle.xq_scopes.specs.Scopes.{is_among, last_place, from_place};
 
+mod place;
+
 use indexmap::IndexMap;
+use place::Place;
 use std::alloc::{AllocError, Global};
 use std::marker::Model;
 
+/// The most variables, and the most names, of a scope: their numbers have four bytes.
+const MOST: usize = 0xFFFF_FFFF;
+
 /// A variable in scope.
 #[derive(Drop)]
-struct Bound<'a> {
-    name: &'a str,
+struct Bound {
     /// The number of its name.
-    number: usize,
+    number: u32,
     /// The place of the last binding before it with the same name, which this one hides.
-    hidden: Option<usize>,
+    hidden: Place,
 }
 
 /// The variables in scope. Each is found by its name in the same time, however many there are.
 #[derive(Drop)]
 pub struct Scope<'a> {
-    bound: Vec<Bound<'a>>,
+    bound: Vec<Bound>,
     /// For each name that was ever bound the place of its last binding that is in scope. A name
     /// stays, so it keeps its number, and leaving a scope reads no name.
-    last: IndexMap<&'a str, Option<usize>>,
+    last: IndexMap<&'a str, Place>,
 }
 
 impl<'a> Model for Scope<'a> {
@@ -34,9 +39,9 @@ impl<'a> Model for Scope<'a> {
 
     ghost Value = { List (List ℕ) };
 
-    ghost view = { λ scope. names_of scope.bound.items };
+    ghost view = { λ scope. names_of (keys scope.last) scope.bound.items };
 
-    ghost invariant = { λ scope. IsLast scope.last scope.bound.items × AreHidden [] scope.bound.items × AreNumbered (keys scope.last) scope.bound.items };
+    ghost invariant = { λ scope. IsLast scope.last scope.bound.items × AreHidden (keys scope.last) [] scope.bound.items × AreNumbered (keys scope.last) scope.bound.items };
 }
 
 impl<'a> Scope<'a> {
@@ -62,7 +67,7 @@ impl<'a> Scope<'a> {
         ensures { result ≡ last_place name.now 0 self.now }
     {
         match self.last.get(name) {
-            Some(last) => *last,
+            Some(last) => last.get(),
             None => None,
         }
     }
@@ -101,15 +106,17 @@ impl<'a> Scope<'a> {
         ensures kept { OnErr result (self.new ≡ self.old) }
     {
         let place = self.bound.len();
+        if place >= MOST || self.last.len() >= MOST {
+            return Err(AllocError);
+        }
         self.bound.reserve(1)?;
-        let (number, before) = self.last.insert_full(name, Some(place))?;
+        let (number, before) = self.last.insert_full(name, Place::at(place))?;
         let hidden = match before {
             Some(last) => last,
-            None => None,
+            None => Place::none(),
         };
         self.bound.push_reserved(Bound {
-            name,
-            number,
+            number: number as u32,
             hidden,
         });
         Ok(())
@@ -122,7 +129,7 @@ impl<'a> Scope<'a> {
         let Some(variable) = self.bound.pop() else {
             return;
         };
-        if let Some(last) = self.last.get_index_mut(variable.number) {
+        if let Some(last) = self.last.get_index_mut(variable.number as usize) {
             *last = variable.hidden;
         }
     }
