@@ -1,5 +1,6 @@
 -- The parent of one node, which is known.
-use Rattle.std.proofs.Common.{◌≡◌, ℕ, suc, ◌<◌, [], ◌∷◌, nat_eq, ◌&&◌, sym, ◌∙◌, ap, subst, arith}
+use Rattle.std.proofs.Common.{◌≡◌, ℕ, suc, ◌<◌, List, [], ◌∷◌, length, nat_eq, ◌&&◌, refl, sym, ◌∙◌, ap, subst, arith}
+use Rattle.std.specs.Prelude.{slice_index}
 use Rattle.std.proofs.lemmas.Bool.{eqb-true, eq-eqb}
 use Rattle.xq_regions.specs.Forest.{count}
 use Rattle.xq_regions.specs.Tree.{Tree, nodes}
@@ -29,3 +30,8 @@ parent_search test t u v hv q = below_where-agree (is_wanted axis.SelfNode test 
 
 pub one_rises : (v : ℕ) → IsRising (v ∷ [])
 one_rises v i j a b = absurd (omega (arith, a, b))
+
+pub only_one : (vs : List ℕ) → length vs ≡ 1 → vs ≡ slice_index vs 0 ∷ []
+only_one [] e = absurd (omega (arith, e))
+only_one (v ∷ []) e = refl
+only_one (v ∷ w ∷ vs) e = absurd (omega (arith, e))
