@@ -8,6 +8,7 @@ mod downward;
 mod levels;
 mod merges;
 mod onward;
+mod parents;
 mod passing;
 mod picks;
 mod selves;

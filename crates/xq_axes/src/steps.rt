@@ -17,6 +17,7 @@ use crate::backward::{Backward, search_back};
 use crate::downward::{Downward, search_below};
 use crate::merges::merge;
 use crate::onward::search_on;
+use crate::parents::search_parents;
 use crate::passing::{search_above, search_after, search_before};
 use crate::selves::search_selves;
 use std::alloc::Global;
@@ -61,7 +62,7 @@ fn search<L: RowLender>(
         }
         Axis::SelfNode => search_selves(alloc, source, tree, places, test),
         Axis::Attributes => search_below(alloc, source, tree, Downward::Attribute, places, test),
-        Axis::Parent => search_back(alloc, source, tree, Backward::Parent, places, test),
+        Axis::Parent => search_parents(alloc, source, tree, places, test),
         Axis::Ancestor => search_above(alloc, source, tree, false, places, test),
         Axis::AncestorOrSelf => search_above(alloc, source, tree, true, places, test),
         Axis::Following => search_after(alloc, source, tree, places, test),

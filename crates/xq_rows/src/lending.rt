@@ -42,6 +42,10 @@ impl<S: Alter, O: Origin> RowLender for View<S, O> {
         Ok(found)
     }
 
+    fn parent(&self, _: usize, _: u32) -> Option<u32> {
+        None
+    }
+
     fn lent(&self) -> &[NodeRow] {
         kept_rows(&self.shelf.fronts, self.run)
     }

@@ -1,4 +1,5 @@
 pub mod Meters
 pub mod Sources
 pub mod Lenders
+pub mod Parents
 pub mod private

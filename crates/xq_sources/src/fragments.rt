@@ -6,7 +6,7 @@ ghost use Rattle.xq_sources.specs.Sources.{tree_at, HasTree};
 ghost use Rattle.xq_sources.specs.private.Runs.{rows_of_run};
 
 use crate::rows::{copy_enclosing, copy_row, copy_rows, places_enclosing, rows_between};
-use crate::{Meter, RowLender, RowSource, TreeSource};
+use crate::{Guide, Meter, RowLender, RowSource, TreeSource};
 use std::alloc::Global;
 use xq_atoms::Want;
 use xq_regions::{Fragment, NodeRow};
@@ -24,6 +24,8 @@ struct Run {
 #[derive(Drop)]
 pub struct Fragments {
     list: Vec<Fragment>,
+    /// Where parents lie, at the same places.
+    guides: Vec<Guide>,
     meter: Meter,
     run: Run,
 }
@@ -36,6 +38,7 @@ impl Fragments {
     {
         Fragments {
             list: Vec::new(alloc),
+            guides: Vec::new(alloc),
             meter: Meter::new(),
             run: Run {
                 tree: 0,
@@ -54,6 +57,10 @@ impl Fragments {
         ensures meter { ⟦<Fragments as TreeSource>⟧.meter self.new
             ≡ ⟦<Fragments as TreeSource>⟧.meter self.old }
     {
+        let mut guide = Guide::new(*self.guides.allocator());
+        guide.read_on(tree.rows())?;
+        self.guides.truncate(self.list.len());
+        self.guides.push(guide)?;
         self.list.push(tree)?;
         Ok(())
     }
@@ -151,6 +158,12 @@ impl RowLender for Fragments {
         let found = places_enclosing(alloc, rows, node)?;
         self.meter = self.meter.with_singles(found.len());
         Ok(found)
+    }
+
+    fn parent(&self, tree: usize, node: u32) -> Option<u32> {
+        let guide = self.guides.get(tree)?;
+        let fragment = self.list.get(tree)?;
+        guide.parent(fragment.rows(), node)
     }
 
     fn lent(&self) -> &[NodeRow] {

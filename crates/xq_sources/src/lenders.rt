@@ -1,8 +1,9 @@
 //! Lenders of rows: what each of them promises, and a lender over any source.
-ghost use Rattle.std.specs.Prelude.{◌≡◌, ◌↔◌, ◌∷◌, [], ℕ, List, map, vec_len, IfOk, OnErr, OnOk};
+ghost use Rattle.std.specs.Prelude.{◌≡◌, ◌↔◌, ◌∷◌, [], ℕ, List, map, vec_len, IfOk, IfSome, OnErr, OnOk};
 ghost use Rattle.xq_regions.specs.Tree.{IsTree};
 ghost use Rattle.xq_regions.specs.Rows.{Row, placed, row_at, rows};
 ghost use Rattle.xq_sources.specs.Meters.{with_singles};
+ghost use Rattle.xq_sources.specs.Parents.{IsParentRow};
 ghost use Rattle.xq_sources.specs.Sources.{tree_at, HasTree, HasNode, rows_between, after_row};
 ghost use Rattle.xq_sources.specs.Lenders.{IsRun, places_above, after_fetch};
 
@@ -60,6 +61,12 @@ pub trait RowLender: TreeSource {
         ensures refused { OnErr result ((Self.meter self.new).rows ≡ (Self.meter self.old).rows) }
         ensures keeps { Self.forest self.new ≡ Self.forest self.old }
         ensures was_clean { Self.is_clean self.new → Self.is_clean self.old };
+
+    /// The place of the parent of the node, where the lender can tell it at once; none says
+    /// nothing. A place is no row, so nothing is counted.
+    fn parent(&self, tree: usize, node: u32) -> Option<u32>
+        ensures { Self.is_clean self.now → IfSome result (λ place.
+            IsParentRow (rows (tree_at (Self.forest self.now) tree)) place node) };
 
     /// The rows that the last fetch made ready, in document order.
     fn lent(&self) -> &[NodeRow]
@@ -133,6 +140,10 @@ impl<S: RowSource + Drop> RowLender for Buffered<S> {
     fn above(&mut self, alloc: Global, tree: usize, node: u32) -> Result<Vec<u32>, Want> {
         let rows = self.source.enclosing(alloc, tree, node)?;
         places(alloc, &rows)
+    }
+
+    fn parent(&self, _: usize, _: u32) -> Option<u32> {
+        None
     }
 
     fn lent(&self) -> &[NodeRow] {

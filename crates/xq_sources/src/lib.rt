@@ -2,12 +2,14 @@
 #![tactic(auto)]
 
 mod fragments;
+mod guides;
 mod lenders;
 mod meters;
 mod rows;
 mod sources;
 
 pub use fragments::Fragments;
+pub use guides::Guide;
 pub use lenders::{Buffered, RowLender};
 pub use meters::Meter;
 pub use sources::{RowSource, TreeSource};

@@ -107,6 +107,14 @@ impl<S: RowLender + Drop> RowLender for Trees<S> {
         }
     }
 
+    fn parent(&self, tree: usize, node: u32) -> Option<u32> {
+        if tree < self.stored {
+            self.source.parent(tree, node)
+        } else {
+            self.constructed.parent(tree - self.stored, node)
+        }
+    }
+
     fn lent(&self) -> &[NodeRow] {
         if self.is_stored {
             self.source.lent()
