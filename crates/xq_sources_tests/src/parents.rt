@@ -37,7 +37,7 @@ fn wide_and_deep(alloc: Global, children: u32, depth: u32) -> Result<Vec<NodeRow
 /// The parent that is told of each node is the last of the nodes above it, and the root has none.
 fn tells_parents(rt: &impl Abort, alloc: Global, children: u32, depth: u32) -> Result<(), Want> {
     let rows = wide_and_deep(alloc, children, depth)?;
-    let count = rows.len() as u32;
+    let count = u32::try_from(rows.len()).unwrap_or(0);
     let Some(tree) = Fragment::from_levels(rows) else {
         panic!(rt; "no tree");
     };
