@@ -15,8 +15,8 @@ const BLOCK: u32 = 64;
 /// in one another.
 const LEVELS: usize = 101;
 
-/// The places of the parents of each 64th row of a tree, so that the parent of any row is found in
-/// few looks, however many rows lie between.
+/// The places of the parents of each 64th row of a tree but the first, so that the parent of any
+/// row is found in few looks, however many rows lie between.
 ///
 /// Nothing is promised of what is kept: [`Guide::parent`] reads the rows at both places before it
 /// answers, and gives no answer where they aren't those of a node and its parent.
@@ -35,8 +35,8 @@ impl Guide {
 
     /// Goes on to the last of the rows, which are the first rows of a tree.
     pub fn read_on(&mut self, rows: &[NodeRow]) -> Result<(), Want> {
-        let blocks = rows.len() / BLOCK as usize;
-        for block in self.parents.len()..blocks {
+        let blocks = rows.len().div_ceil(BLOCK as usize);
+        for block in self.parents.len() + 1..blocks {
             let Some(first) = rows.get(block.saturating_mul(BLOCK as usize)) else {
                 return Ok(());
             };
@@ -64,11 +64,12 @@ impl Guide {
         let level = level_at(rows, node);
         let mut place = node;
         for _ in 0..LEVELS {
-            let start = place - place % BLOCK;
+            let last = place.saturating_sub(1);
+            let start = last - last % BLOCK;
             if let Some(found) = last_above(rows, start, place, level) {
                 return found;
             }
-            let Some(parent) = self.parents.get((start / BLOCK) as usize) else {
+            let Some(parent) = self.parents.get((start / BLOCK).saturating_sub(1) as usize) else {
                 return node;
             };
             place = *parent;
@@ -90,7 +91,10 @@ fn level_at(rows: &[NodeRow], place: u32) -> u32 {
 
 /// The place of the last row of a lesser level from `start` on and before `end`.
 fn last_above(rows: &[NodeRow], start: u32, end: u32, level: u32) -> Option<u32> {
-    for row in rows_between(rows, start, end.saturating_sub(1)).iter().rev() {
+    for row in rows_between(rows, start, end.saturating_sub(1))
+        .iter()
+        .rev()
+    {
         if row.level < level {
             return Some(row.pre);
         }

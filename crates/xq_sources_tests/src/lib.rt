@@ -3,4 +3,6 @@
 #![tactic(auto)]
 
 #[cfg(test)]
+mod parents;
+#[cfg(test)]
 mod tests;

@@ -1,0 +1,71 @@
+//! The parent of each node of wide and of deep trees, told at once.
+
+use std::alloc::{AllocError, Global};
+use std::process::Abort;
+use xq_atoms::Want;
+use xq_regions::{Fragment, Kind, NodeRow};
+use xq_sources::{Fragments, RowLender};
+
+/// Adds an element of this level.
+fn push(alloc: Global, rows: &mut Vec<NodeRow>, level: u32) -> Result<(), AllocError> {
+    rows.push(NodeRow {
+        pre: 0,
+        size: 0,
+        level,
+        kind: Kind::Element,
+        name: String::from_str(alloc, "a")?,
+        value: String::new(alloc),
+    })?;
+    Ok(())
+}
+
+/// The rows of a root with so many children, and so many nested nodes in each tenth of them.
+fn wide_and_deep(alloc: Global, children: u32, depth: u32) -> Result<Vec<NodeRow>, AllocError> {
+    let mut rows = Vec::new(alloc);
+    push(alloc, &mut rows, 0)?;
+    for child in 0..children {
+        push(alloc, &mut rows, 1)?;
+        if child % 10 == 0 {
+            for level in 0..depth {
+                push(alloc, &mut rows, level.saturating_add(2))?;
+            }
+        }
+    }
+    Ok(rows)
+}
+
+/// The parent that is told of each node is the last of the nodes above it, and the root has none.
+fn tells_parents(rt: &impl Abort, alloc: Global, children: u32, depth: u32) -> Result<(), Want> {
+    let rows = wide_and_deep(alloc, children, depth)?;
+    let count = u32::try_from(rows.len()).unwrap_or(0);
+    let Some(tree) = Fragment::from_levels(rows) else {
+        panic!(rt; "no tree");
+    };
+    let mut fragments = Fragments::new(alloc);
+    fragments.push(tree)?;
+    for node in 0..count {
+        let above = fragments.above(alloc, 0, node)?;
+        assert_eq!(rt; fragments.parent(0, node), above.last().copied());
+    }
+    assert_eq!(rt; fragments.parent(0, count), None);
+    assert_eq!(rt; fragments.parent(1, 0), None);
+    Ok(())
+}
+
+#[test]
+fn parents_are_told_in_wide_trees(rt: HostRuntime) -> Result<(), Want> {
+    tells_parents(&rt, rt.alloc(), 700, 0)
+}
+
+#[test]
+fn parents_are_told_in_deep_trees(rt: HostRuntime) -> Result<(), Want> {
+    tells_parents(&rt, rt.alloc(), 60, 98)
+}
+
+#[test]
+fn parents_are_told_at_the_borders_of_blocks(rt: HostRuntime) -> Result<(), Want> {
+    tells_parents(&rt, rt.alloc(), 0, 0)?;
+    tells_parents(&rt, rt.alloc(), 63, 0)?;
+    tells_parents(&rt, rt.alloc(), 64, 0)?;
+    tells_parents(&rt, rt.alloc(), 65, 62)
+}
