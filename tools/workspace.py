@@ -21,7 +21,7 @@ def lines_of(crates):
 def crates_below(uses):
     """These crates of the repository, and those that they stand on."""
     with open(os.path.join(TOP, "crates.txt")) as lines:
-        below = {line.split(":")[0]: line.split(":")[1].split() for line in lines if not line.startswith("#")}
+        below = {line.split(":")[0]: line.split(":")[1].split() for line in lines if ":" in line and line[0] != "#"}
     found, left = set(), list(uses)
     while left:
         crate = left.pop()
@@ -32,7 +32,8 @@ def crates_below(uses):
 
 
 def begin(folder, crates, leave_out=("incremental", "must-fail")):
-    """Makes the folder a workspace of copies of the crates, with what is built of them."""
+    """Makes the folder a workspace of copies of the crates and those below, with what is built."""
+    crates = crates_below(crates)
     for crate in crates:
         shutil.copytree(os.path.join(TOP, "crates", crate), os.path.join(folder, "crates", crate),
                         ignore=shutil.ignore_patterns(*leave_out))

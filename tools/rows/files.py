@@ -16,6 +16,7 @@ VARIANTS = {
     "Relation": ("Equal", "NotEqual", "Less", "LessEqual", "Greater", "GreaterEqual"),
     "ComparisonOperator": ("Value", "General", "Node"),
     "NodeComparison": ("Is", "Precedes", "Follows")}
+NAMED = {"element", "element_by", "attribute", "attribute_by", "instruction", "instruction_by"}
 ALIASES = {"Quantifier": "quantifier", "AxisName": "axis", "NodeTest": "written"}
 
 
@@ -57,6 +58,7 @@ def text_of(row, encodes=False):
     term, result = statement_of(row)
     head = f"{row.name} : answer {written(term, is_argument=True)} ≡ {written(result)}"
     unfolded = " encode_utf8" if encodes or needs_encoding(row) else ""
+    unfolded += " is_name_start is_name_char" if needs_names(row) else ""
     return "\n".join((*(f"-- {line}" for line in comment), wrapped(head),
                       f"unfolding digits chars{unfolded}", f"{row.name} = refl"))
 
@@ -65,6 +67,11 @@ def needs_encoding(row):
     """Whether characters are encoded as the row is computed, as substring does with any."""
     used = set().union(*map(words, statement_of(row)))
     return bool(used & {"txt8", "utf8"}) or "substring" in row.query
+
+
+def needs_names(row):
+    """Whether a name is judged as the row is computed: that of a node that a constructor makes."""
+    return bool(words(statement_of(row)[0]) & NAMED)
 
 
 def wrapped(line):
@@ -93,6 +100,8 @@ def imports_of(rows, answers, encodes):
     yield brought("Rattle.std.specs.Str", ["chars"])
     if encodes or any(map(needs_encoding, rows)):
         yield brought("Rattle.std.specs.Char", ["encode_utf8"])
+    if any(map(needs_names, rows)):
+        yield brought("Rattle.xq_characters.specs.Characters", ["is_name_start", "is_name_char"])
     codes = {variant_of(row.answer) for row in rows if row.is_refused}
     if codes:
         yield brought(CODES, sorted(codes))

@@ -8,7 +8,7 @@ ghost use Rattle.std.specs.Str.{chars};
 ghost use Rattle.xq_atoms.specs.Atom.{Integer, Decimal as ADecimal, String as AString, Untyped};
 ghost use Rattle.xq_atoms.specs.Cast.{cast_integer, cast_decimal, text_of};
 ghost use Rattle.xq_atoms.specs.Print.{print_atomic};
-ghost use Rattle.xq_lexer.specs.Chars.{is_char};
+ghost use Rattle.xq_characters.specs.Characters.{is_char};
 ghost use Rattle.xq_lexer.specs.Lexeme.{str};
 ghost use Rattle.xq_atom_laws.specs.Reading.{number, called};
 ghost use Rattle.xq_atom_laws.specs.Tokens.{IsToken};

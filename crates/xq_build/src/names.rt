@@ -10,8 +10,9 @@ ghost use Rattle.xq_build.specs.private.Judging.{JudgesText};
 use crate::values::trimmed;
 use std::alloc::Global;
 use xq_atoms::{Atom, Code, Fault};
+use xq_characters::is_name;
 use xq_expressions::NamedNode;
-use xq_regions::{is_name, is_target};
+use xq_regions::is_target;
 
 /// Whether the text is two names with one colon between them.
 fn is_prefixed(text: &str) -> bool

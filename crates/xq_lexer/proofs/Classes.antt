@@ -2,21 +2,14 @@
 use Rattle.std.proofs.Common.{◌≡◌, ℕ, Bool, true, false, ◌⊎◌, refl, inl, inr, arith}
 use Rattle.std.specs.Prelude.{◌==◌}
 use Rattle.std.proofs.lemmas.Bool.Decides.{nat_tests}
-use Rattle.xq_lexer.specs.Chars.{is_char, is_digit, is_name_start, is_name_char, is_quote}
+use Rattle.xq_characters.specs.Characters.{is_char, is_digit, is_name_start, is_name_char}
+use Rattle.xq_lexer.specs.Chars.{is_quote}
 
 pub eq_is : (a b : ℕ) → (a == b) ≡ true → a ≡ b
 eq_is a b h = grind (arith, nat_tests)
 
 pub eq_same : (a : ℕ) → (a == a) ≡ true
 eq_same a = grind (arith, nat_tests)
-
-pub digit_no_start : (c : ℕ) → is_digit c ≡ true → is_name_start c ≡ false
-unfolding is_name_start
-digit_no_start c h = grind (arith, nat_tests)
-
-pub start_is_char : (c : ℕ) → is_name_start c ≡ true → is_name_char c ≡ true
-unfolding is_name_char
-start_is_char c h = rw h refl
 
 pub quote_is : (c : ℕ) → is_quote c ≡ true → (c ≡ 34) ⊎ (c ≡ 39)
 quote_is c h = grind (arith, nat_tests)

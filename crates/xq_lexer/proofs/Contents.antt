@@ -4,7 +4,8 @@ use Rattle.std.specs.Prelude.{◌==◌}
 use Rattle.std.proofs.lemmas.List.{length-append}
 use Rattle.xq_atoms.specs.declared.refusals.Code.{Code}
 use Rattle.xq_atoms.specs.declared.refusals.Code.TheVariants.{XPST0003, XQST0090}
-use Rattle.xq_lexer.specs.Chars.{Text, is_char, is_quote, begins}
+use Rattle.xq_characters.specs.Characters.{is_char}
+use Rattle.xq_lexer.specs.Chars.{Text, is_quote, begins}
 use Rattle.xq_lexer.specs.Literals.{Reference, reference_text, referred, Piece, plain, doubled, reference, IsPiece, ArePieces, piece_text, content_text}
 use Rattle.xq_lexer.specs.TokenFaults.{ContentFault}
 use Rattle.xq_lexer.specs.Reading.{read_reference, Inside, closed, one, wrong, after_quote, after_ampersand, inside, with_piece, content_step, content}

@@ -3,12 +3,14 @@ use Rattle.std.proofs.Common.{◌≡◌, ℕ, suc, ◌<◌, Bool, true, false, c
 use Rattle.std.specs.Prelude.{◌&&◌, ◌==◌}
 use Rattle.std.specs.List.{list_all}
 use Rattle.std.proofs.lemmas.List.{length-append}
-use Rattle.xq_lexer.specs.Chars.{Text, is_digit, is_name_start, is_name_char, begins}
+use Rattle.xq_characters.specs.Characters.{is_digit, is_name_start, is_name_char}
+use Rattle.xq_lexer.specs.Chars.{Text, begins}
 use Rattle.xq_lexer.specs.Literals.{Number, integer, decimal, number_text, IsNumber}
 use Rattle.xq_lexer.specs.Spelling.{Form, name, prefixed, number, form_text, IsName, IsForm, IsLongest}
 use Rattle.xq_lexer.specs.Reading.{span, after_name, read_name, after_digits, read_number}
-use Rattle.xq_lexer.proofs.Spans.{span_exact, all_more}
-use Rattle.xq_lexer.proofs.Classes.{start_is_char, colon_no_char, eq_is}
+use Rattle.xq_lexer.proofs.Spans.{both, span_exact, all_more}
+use Rattle.xq_characters.proofs.Names.{is_name-all}
+use Rattle.xq_lexer.proofs.Classes.{colon_no_char, eq_is}
 
 -- where a longer token begins, the token isn't the longest
 pub longer : (f : Form) (after : Text) → IsLongest f after → (g : Form) (rest : Text) → IsForm g → form_text g ++ rest ≡ form_text f ++ after → length (form_text f) < length (form_text g) → ⊥
@@ -30,13 +32,16 @@ pub begins_none : (p : ℕ → Bool) (after : Text) → ((d : ℕ) (t : Text) �
 begins_none p [] h = refl
 begins_none p (d ∷ t) h = not_true (p d) (h d t refl)
 
-name_chars : (w : Text) → IsName w → list_all is_name_char w ≡ true
-name_chars [] h = absurd h
-name_chars (c ∷ w) h = rw (start_is_char c h.0, h.1) refl
+pub name_parts : (c : ℕ) (w : Text) → IsName (c ∷ w) → (is_name_start c ≡ true) × (list_all is_name_char w ≡ true)
+name_parts c w h = both (is_name_start c) (list_all is_name_char w) h
+
+pub name_chars : (w : Text) → IsName w → list_all is_name_char w ≡ true
+name_chars [] h = absurd cc
+name_chars (c ∷ w) h = (both (is_name_start c) _ (sym (is_name-all c w) ∙ h)).1
 
 name_more : (w : Text) (d : ℕ) → IsName w → is_name_char d ≡ true → IsName (w ++ d ∷ [])
-name_more [] d h e = absurd h
-name_more (c ∷ w) d h e = (h.0, all_more is_name_char w d h.1 e)
+name_more [] d h e = absurd cc
+name_more (c ∷ w) d h e = let p = name_parts c w h in rw (p.0, all_more is_name_char w d p.1 e) refl
 
 -- ---- names
 
@@ -49,7 +54,7 @@ module _ (w after : Text) (is : IsName w) where
   name_alone best b t e p =
       let same : (w ++ 58 ∷ b ∷ []) ++ t ≡ w ++ after = append_assoc w (58 ∷ b ∷ []) t ∙ ap (λ (y : Text). w ++ y) (sym e) in
       let m = length-append w (58 ∷ b ∷ []) in
-      longer (name w) after best (prefixed w (b ∷ [])) t (is, (p, refl)) same (omega (arith, m))
+      longer (name w) after best (prefixed w (b ∷ [])) t (is, rw p refl) same (omega (arith, m))
 
   after_name_at : (a b : ℕ) (t : Text) → ((a == 58) ≡ true → is_name_start b ≡ true → ⊥) → (p : Bool) → (a == 58) ≡ p → (q : Bool) → is_name_start b ≡ q
       → ◌≡◌ {A = Form × Text} (cond (p && q) (let x = span is_name_char (b ∷ t) in (prefixed w x.0, x.1)) (name w, a ∷ b ∷ t)) (name w, a ∷ b ∷ t)
@@ -79,8 +84,8 @@ module _ (p w after : Text) (is : IsName p) where
 
   after_colon : (w rest : Text) → IsName w → ◌≡◌ {A = Form × Text} (after_name p (58 ∷ (w ++ rest))) (let x = span is_name_char (w ++ rest) in (prefixed p x.0, x.1))
   unfolding after_name
-  after_colon [] rest is-w = absurd is-w
-  after_colon (c ∷ w) rest is-w = rw is-w.0 refl
+  after_colon [] rest is-w = absurd cc
+  after_colon (c ∷ w) rest is-w = rw (name_parts c w is-w).0 refl
 
   -- a prefix is read up to the colon
   pub prefix_read : IsName w → ◌≡◌ {A = Form × Text} (read_name ((p ++ 58 ∷ w) ++ after)) (let x = span is_name_char (w ++ after) in (prefixed p x.0, x.1))

@@ -3,12 +3,14 @@ use Rattle.std.proofs.Common.{◌≡◌, ℕ, ◌+◌, ◌<◌, ◌≤◌, Bool,
 use Rattle.std.specs.Prelude.{◌&&◌, ◌==◌}
 use Rattle.std.specs.List.{list_all}
 use Rattle.std.proofs.lemmas.List.{length-append}
-use Rattle.xq_lexer.specs.Chars.{Text, is_digit, is_name_start, is_name_char, begins}
+use Rattle.xq_characters.specs.Characters.{is_digit, is_name_start, is_name_char}
+use Rattle.xq_lexer.specs.Chars.{Text, begins}
 use Rattle.xq_lexer.specs.Literals.{Number, integer, decimal, number_text, IsNumber}
 use Rattle.xq_lexer.specs.Spelling.{Form, name, prefixed, form_text, IsName, IsForm}
 use Rattle.xq_lexer.specs.Reading.{span, after_name, read_name, after_digits, read_number, begins_number}
 use Rattle.xq_lexer.proofs.Spans.{both, parts, span_exact}
-use Rattle.xq_lexer.proofs.Classes.{start_is_char, eq_is, true_not_false}
+use Rattle.xq_characters.proofs.Classes.{start_is_char}
+use Rattle.xq_lexer.proofs.Classes.{eq_is, true_not_false}
 
 -- ---- names
 
@@ -17,7 +19,7 @@ span_start p c t e = rw e refl
 
 -- the name that a span gives
 pub name_of_span : (c : ℕ) (t : Text) → is_name_start c ≡ true → IsName (span is_name_char (c ∷ t)).0
-name_of_span c t e = rw (span_start is_name_char c t (start_is_char c e)) (e, (parts is_name_char t).all)
+name_of_span c t e = rw (span_start is_name_char c t (start_is_char c e), e, (parts is_name_char t).all) refl
 
 pub record AtFront (z : Text) (x : Form × Text) : Type 0 where
   pub whole : form_text x.0 ++ x.1 ≡ z

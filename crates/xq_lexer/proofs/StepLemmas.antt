@@ -24,7 +24,7 @@ use Rattle.xq_lexer.proofs.TokenLemmas.{Found, Means, token_means}
 use Rattle.xq_lexer.proofs.Lists.{before_more, spells_one, spells_no_fault, one_fault}
 
 form_some : (f : Form) → IsForm f → 0 < length (form_text f)
-form_some (name []) is = absurd is
+form_some (name []) is = absurd cc
 form_some (name (c ∷ w)) is = omega arith
 form_some (prefixed p w) is = let l = length-append p (58 ∷ w) in omega (arith, l)
 form_some (number n) is = number_some n is

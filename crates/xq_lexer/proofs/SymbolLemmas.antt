@@ -4,7 +4,8 @@ use Rattle.std.specs.Prelude.{◌&&◌, ◌==◌}
 use Rattle.xq_atoms.specs.declared.refusals.Code.{Code}
 use Rattle.xq_lexer.specs.declared.tokens.Symbol.{Symbol}
 use Rattle.xq_lexer.specs.declared.tokens.Symbol.TheVariants as s
-use Rattle.xq_lexer.specs.Chars.{Text, is_digit, is_name_start, is_quote, begins}
+use Rattle.xq_characters.specs.Characters.{is_digit, is_name_start}
+use Rattle.xq_lexer.specs.Chars.{Text, is_quote, begins}
 use Rattle.xq_lexer.specs.Literals.{decimal}
 use Rattle.xq_lexer.specs.Spelling.{Form, number, symbol, symbol_text, form_text, IsForm, IsLongest}
 use Rattle.xq_lexer.specs.Reading.{look_up, singles, single_symbol, look_up_two, doubles, double_symbol, or_single, read_symbol, begins_number}

@@ -6,14 +6,16 @@ use Rattle.std.proofs.lemmas.List.{length-append}
 use Rattle.xq_atoms.specs.declared.refusals.Code.{Code}
 use Rattle.xq_atoms.specs.declared.refusals.Code.TheVariants.{XPST0003}
 use Rattle.xq_lexer.specs.declared.tokens.Symbol.{Symbol}
-use Rattle.xq_lexer.specs.Chars.{Text, is_digit, is_name_start, is_name_char, is_quote, begins}
+use Rattle.xq_characters.specs.Characters.{is_digit, is_name_start, is_name_char}
+use Rattle.xq_lexer.specs.Chars.{Text, is_quote, begins}
 use Rattle.xq_lexer.specs.Literals.{Number, number_text, IsNumber, number_fault, Piece, ArePieces, content_text}
 use Rattle.xq_lexer.specs.Spelling.{Form, name, prefixed, number, string, symbol, symbol_text, form_text, IsName, IsForm, IsLongest, MayStand}
 use Rattle.xq_lexer.specs.TokenFaults.{NoToken, TokenFault}
 use Rattle.xq_lexer.specs.Reading.{span, read_name, read_number, unless_fault, judged, content, as_string, read_string, read_symbol, single_symbol, double_symbol, or_single, after_name, begins_number, read_token}
 use Rattle.xq_lexer.proofs.Spans.{parts}
-use Rattle.xq_lexer.proofs.Classes.{start_is_char, digit_no_start, point_no_start, quote_no_start, quote_no_digit, quote_no_point, true_not_false}
-use Rattle.xq_lexer.proofs.Forms.{name_read, prefix_read, prefixed_read, number_read}
+use Rattle.xq_characters.proofs.Classes.{digit_no_start}
+use Rattle.xq_lexer.proofs.Classes.{point_no_start, quote_no_start, quote_no_digit, quote_no_point, true_not_false}
+use Rattle.xq_lexer.proofs.Forms.{name_parts, name_chars, name_read, prefix_read, prefixed_read, number_read}
 use Rattle.xq_lexer.proofs.Contents.{content_read, content_fault_read, content_most, content_sound, content_wrong}
 use Rattle.xq_lexer.proofs.SymbolLemmas.{IsSign, Longer, symbol_here, SymbolThere, symbol_there, read_spelled}
 use Rattle.xq_lexer.proofs.Fronts.{name_front, read_name_longer, number_front, read_number_longer, read_number_some, number_there, NotStart}
@@ -80,12 +82,12 @@ string_bound quote ps u is all =
     (λ x e. content_most quote ps u (suc (length (content_text quote ps ++ u))) x is all (omega arith) e)
 
 name_start_of : (w : Text) → IsName w → (c : ℕ) × (t : Text) × (w ≡ c ∷ t) × (is_name_start c ≡ true) × (list_all is_name_char w ≡ true)
-name_start_of [] is = absurd is
-name_start_of (c ∷ t) is = (c, t, refl, is.0, rw (start_is_char c is.0, is.1) refl)
+name_start_of [] is = absurd cc
+name_start_of (c ∷ t) is = (c, t, refl, (name_parts c t is).0, name_chars (c ∷ t) is)
 
 name_raw : (w rest : Text) → IsName w → raw (w ++ rest) ≡ Ok (read_name (w ++ rest))
-name_raw [] rest is = absurd is
-name_raw (c ∷ w) rest is = raw_name c (w ++ rest) is.0
+name_raw [] rest is = absurd cc
+name_raw (c ∷ w) rest is = raw_name c (w ++ rest) (name_parts c w is).0
 
 bounded_symbol : (x : Symbol) (rest : Text) → AtLeast (symbol_text x ++ rest) (length (symbol_text x)) (raw (symbol_text x ++ rest))
 bounded_symbol x rest = let s = symbol_there x rest in rw s.whole (go s (begins_number (s.char ∷ s.more)) refl)
@@ -252,8 +254,8 @@ module _ (c : ℕ) (t : Text) where
   token_symbol s n = rw (s.0, n, s.2) refl
 
 name_token : (w rest : Text) → IsName w → read_token (w ++ rest) ≡ Ok (read_name (w ++ rest))
-name_token [] rest is = absurd is
-name_token (c ∷ w) rest is = token_name c (w ++ rest) is.0
+name_token [] rest is = absurd cc
+name_token (c ∷ w) rest is = token_name c (w ++ rest) (name_parts c w is).0
 
 judged_is : (n : Number) (after : Text) (o : Option Code) → number_fault n after ≡ o → judged (n, after) ≡ unless_fault o (number n, after)
 unfolding judged

@@ -1,43 +1,12 @@
--- Characters of a query (XML 1.0, sections 2.2 and 2.3), as their numbers.
-use Rattle.std.specs.Prelude.{ℕ, Bool, false, ◌&&◌, ◌||◌, ◌==◌, nat_le, List, [], ◌∷◌}
+-- Classes of characters that tokens are told by, beside those of XML.
+use Rattle.std.specs.Prelude.{ℕ, Bool, false, ◌||◌, ◌==◌, List, [], ◌∷◌}
+use Rattle.xq_characters.specs.Characters.{within, is_digit}
 
 abbrev pub Text : Type 0
 Text = List ℕ
 
-abbrev pub within : ℕ → ℕ → ℕ → Bool
-within low high c = nat_le low c && nat_le c high
-
--- what may stand in a query
-unfoldable pub is_char : ℕ → Bool
-is_char c =
-    c == 0x9 || c == 0xA || c == 0xD || within 0x20 0xD7FF c || within 0xE000 0xFFFD c
-    || within 0x10000 0x10FFFF c
-
-abbrev pub is_space : ℕ → Bool
-is_space c = c == 0x20 || c == 0x9 || c == 0xD || c == 0xA
-
-abbrev pub is_digit : ℕ → Bool
-is_digit c = within 48 57 c
-
 abbrev pub is_hex : ℕ → Bool
 is_hex c = is_digit c || within 65 70 c || within 97 102 c
-
--- what a name may begin with: a letter or `_`
-unfoldable pub is_name_start : ℕ → Bool
-is_name_start c =
-    within 65 90 c || c == 95 || within 97 122 c || within 0xC0 0xD6 c || within 0xD8 0xF6 c
-    || within 0xF8 0x2FF c
-    || within 0x370 0x37D c || within 0x37F 0x1FFF c || within 0x200C 0x200D c
-    || within 0x2070 0x218F c
-    || within 0x2C00 0x2FEF c || within 0x3001 0xD7FF c || within 0xF900 0xFDCF c
-    || within 0xFDF0 0xFFFD c
-    || within 0x10000 0xEFFFF c
-
--- what may follow in a name: also `-`, `.`, a digit and marks
-unfoldable pub is_name_char : ℕ → Bool
-is_name_char c =
-    is_name_start c || c == 45 || c == 46 || is_digit c || c == 0xB7 || within 0x300 0x36F c
-    || within 0x203F 0x2040 c
 
 -- `"` and `'`
 abbrev pub is_quote : ℕ → Bool

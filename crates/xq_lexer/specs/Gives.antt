@@ -9,7 +9,8 @@ use Rattle.xq_atoms.specs.declared.refusals.Want.TheVariants.{Memory}
 use Rattle.xq_atoms.specs.Literal.{integer_literal, decimal_literal}
 use Rattle.xq_lexer.specs.declared.runs.Class.{Class}
 use Rattle.xq_lexer.specs.declared.runs.Class.TheVariants.{Name, Digit, HexDigit}
-use Rattle.xq_lexer.specs.Chars.{Text, is_char, is_digit, is_hex, is_name_char}
+use Rattle.xq_characters.specs.Characters.{is_char, is_digit, is_name_char}
+use Rattle.xq_lexer.specs.Chars.{Text, is_hex}
 use Rattle.xq_lexer.specs.Lexeme.{Lex, int, dec, placed, place_of}
 use Rattle.xq_lexer.specs.Literals.{Number, integer, decimal, Reference, referred, piece_char}
 use Rattle.xq_lexer.specs.Spelling.{Form, form_lex, Next, Spells, bytes}

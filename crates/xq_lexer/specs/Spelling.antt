@@ -1,6 +1,5 @@
 -- What a text spells: separators and tokens in turn, each the longest that begins at its place.
 use Rattle.std.specs.Prelude.{◌≡◌, ℕ, ◌+◌, ◌≤◌, ◌==◌, pos, true, false, List, [], ◌∷◌, ◌++◌, length, codes, Some, None}
-use Rattle.std.specs.List.{list_all}
 use Rattle.std.specs.Str.{encode_utf8_all}
 use Rattle.xq_atoms.specs.Text.{value}
 use Rattle.xq_atoms.specs.Literal.{millionths}
@@ -8,7 +7,8 @@ use Rattle.xq_lexer.specs.declared.tokens.Symbol.{Symbol}
 use Rattle.xq_lexer.specs.declared.tokens.Symbol.TheVariants as s
 use Rattle.xq_lexer.specs.Lexeme as l
 use Rattle.xq_lexer.specs.Lexeme.{Lex, Placed}
-use Rattle.xq_lexer.specs.Chars.{Text, is_name_start, is_name_char, is_quote, begins}
+use Rattle.xq_characters.specs.Characters.{is_name}
+use Rattle.xq_lexer.specs.Chars.{Text, is_quote, begins}
 use Rattle.xq_lexer.specs.Separators.{skip}
 use Rattle.xq_lexer.specs.Literals.{Number, integer, decimal, number_text, IsNumber, number_fault, Piece, ArePieces, content_text, content_chars}
 
@@ -58,10 +58,8 @@ form_text (number n) = number_text n
 form_text (string quote ps) = quote ∷ content_text quote ps ++ quote ∷ []
 form_text (symbol s) = symbol_text s
 
--- a name start and what may follow in a name
 abbrev pub IsName : Text → Type 0
-IsName [] = ⊥
-IsName (c ∷ w) = (is_name_start c ≡ true) × (list_all is_name_char w ≡ true)
+IsName w = is_name w ≡ true
 
 -- the table's row
 abbrev pub IsForm : Form → Type 0

@@ -11,7 +11,7 @@ ghost use Rattle.xq_lexer.specs.Reading as spec;
 ghost use Rattle.xq_lexer.specs.Spelling.{Spells, bytes as bytes_of};
 ghost use Rattle.xq_lexer.specs.TokenFaults.{HasFault, Refuses};
 
-use crate::chars::{is_name_start, is_quote};
+use crate::chars::is_quote;
 use crate::names::name;
 use crate::numbers::{begins_number, number};
 use crate::runs::bytes;
@@ -21,6 +21,7 @@ use crate::symbols::{double_symbol, single_symbol};
 use crate::tokens::{Lexeme, Token};
 use std::alloc::Global;
 use xq_atoms::{Code, Fault};
+use xq_characters::is_name_start;
 
 /// The tokens that the text spells, with their places in bytes (XQuery 3.1, appendix A.2). Else
 /// the code of its first fault: XPST0003, XQST0090, prof:DOUBLE, prof:DIGITS or FOAR0002; or want

@@ -4,11 +4,11 @@ ghost use Rattle.xq_lexer.specs.Gives.{Gives, lexed};
 ghost use Rattle.xq_lexer.specs.Lexeme.{lex_of};
 ghost use Rattle.xq_lexer.specs.Reading as spec;
 
-use crate::chars::is_name_start;
 use crate::runs::{Class, run, text};
 use crate::tokens::Lexeme;
 use std::alloc::Global;
 use xq_atoms::Fault;
+use xq_characters::is_name_start;
 
 /// The name at the front, or the two names with a colon between them, and what is left.
 #[tactic(auto, unfolding(crate::specs::Reading::read_name, crate::specs::Reading::after_name))]

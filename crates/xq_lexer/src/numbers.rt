@@ -3,17 +3,18 @@ ghost use Rattle.std.specs.Prelude.{◌≡◌, true, IsTrue};
 ghost use Rattle.std.specs.Bool.{OnTrue, OnFalse};
 ghost use Rattle.xq_atoms.specs.Literal.{is_number};
 ghost use Rattle.xq_atoms.specs.Text.{is_whole};
+ghost use Rattle.xq_characters.specs.Characters.{is_digit as is_digit_lem};
 ghost use Rattle.xq_lexer.specs.Gives.{Answers, Gives, lexed, pointed, valued_lex};
 ghost use Rattle.xq_lexer.specs.Lexeme.{lex_of};
 ghost use Rattle.xq_lexer.specs.Literals as lit;
 ghost use Rattle.xq_lexer.specs.Chars as chars_spec;
 ghost use Rattle.xq_lexer.specs.Reading as spec;
 
-use crate::chars::{is_digit, is_name_start};
 use crate::runs::{Class, run, text};
 use crate::tokens::Lexeme;
 use std::alloc::Global;
 use xq_atoms::{Code, Fault, dec_literal, int_literal};
+use xq_characters::{is_digit, is_name_start};
 
 /// Whether a number stands at the front: a digit, or a point and a digit.
 pub fn begins_number(chars: &[char]) -> bool
@@ -105,7 +106,7 @@ fn clings(chars: &[char]) -> bool
 }
 
 fn begins_digit(chars: &[char]) -> bool
-    ensures { result ≡ chars_spec.begins chars_spec.is_digit chars.now }
+    ensures { result ≡ chars_spec.begins is_digit_lem chars.now }
 {
     match chars {
         [c, ..] => is_digit(*c),

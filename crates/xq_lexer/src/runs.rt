@@ -5,8 +5,9 @@ ghost use Rattle.xq_lexer.specs.Gives.{test};
 ghost use Rattle.xq_lexer.specs.Reading.{span};
 ghost use Rattle.xq_lexer.specs.Spelling.{bytes as bytes_of};
 
-use crate::chars::{is_digit, is_hex, is_name_char};
+use crate::chars::is_hex;
 use std::alloc::{AllocError, Global};
+use xq_characters::{is_digit, is_name_char};
 
 /// A class of characters.
 #[derive(Clone, Copy)]

@@ -4,8 +4,8 @@ ghost use Rattle.xq_lexer.specs.Gives.{Skips};
 ghost use Rattle.xq_lexer.specs.Reading as spec;
 ghost use Rattle.xq_lexer.specs.Separators as sep;
 
-use crate::chars::{is_char, is_space};
 use xq_atoms::Code;
+use xq_characters::{is_char, is_space};
 
 /// What is left behind the white space and the comments at the front. XPST0003 where a comment
 /// stays open, or holds what is no character.

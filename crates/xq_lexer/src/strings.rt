@@ -6,11 +6,11 @@ ghost use Rattle.xq_lexer.specs.Lexeme.{lex_of};
 ghost use Rattle.xq_lexer.specs.Literals as lit;
 ghost use Rattle.xq_lexer.specs.Reading as spec;
 
-use crate::chars::{is_char, is_digit};
 use crate::runs::{Class, run};
 use crate::tokens::Lexeme;
 use std::alloc::Global;
 use xq_atoms::{Code, Fault};
+use xq_characters::{is_char, is_digit};
 
 /// One more than the greatest number of a character: numbers are counted up to here.
 const PAST_CHARS: u32 = 0x11_0000;

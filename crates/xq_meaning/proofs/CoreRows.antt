@@ -2,6 +2,7 @@
 use Rattle.std.specs.Prelude.{◌≡◌, refl, [], ◌∷◌, Some, None, Ok, Err, codes}
 use Rattle.std.specs.Fmt.{digits}
 use Rattle.std.specs.Str.{chars}
+use Rattle.xq_characters.specs.Characters.{is_name_start, is_name_char}
 use Rattle.xq_atoms.specs.declared.refusals.Code.TheVariants.{FOAR0001, ProfPrefix, XPDY0002, XPTY0004, XPTY0018, XPTY0019, XPTY0020, XQDY0041}
 use Rattle.xq_expressions.specs.declared.operators.Sign.TheVariants.{Plus, Minus}
 use Rattle.xq_expressions.specs.declared.operators.ProductOperator.TheVariants.{Times, Div, Mod}
@@ -97,7 +98,7 @@ least_integer = refl
 runs_and_texts : answer (c.named_node named.Element (c.txt "a") (c.seq (c.num 1 ∷ c.num 2 ∷
     c.unnamed_node unnamed.Text (c.txt "") ∷ c.num 3 ∷ c.txt "x" ∷ []))) ≡ Ok (codes
     "element a {text {\"1 23 x\"}}")
-unfolding digits chars
+unfolding digits chars is_name_start is_name_char
 runs_and_texts = refl
 
 -- data(doc("b")//@id), true(), -1, -0.5
@@ -151,7 +152,7 @@ copied_into_content : answer (c.flwor (c.let_be "x" (c.named_node named.Element 
     [])) ∷ c.let_be "y" (c.named_node named.Element (c.txt "y") (c.var "x")) ∷ []) (c.chain (c.path
     (c.var "y") (c.step axis.Child (test.Element (Some (codes "x"))) [] ∷ [])) (c.op
     (operator.Comparison (Node Is)) (c.var "x") ∷ []))) ≡ Ok (codes "false()")
-unfolding digits chars
+unfolding digits chars is_name_start is_name_char
 copied_into_content = refl
 
 -- "a" + xs:untypedAtomic("1")
@@ -185,12 +186,12 @@ nodes_and_atoms = refl
 
 -- processing-instruction {"1"} {""}
 no_target : answer (c.named_node named.ProcessingInstruction (c.txt "1") (c.txt "")) ≡ Err XQDY0041
-unfolding digits chars
+unfolding digits chars is_name_start is_name_char
 no_target = refl
 
 -- element {"p:a"} {}
 computed_prefix : answer (c.named_node named.Element (c.txt "p:a") (c.seq [])) ≡ Err ProfPrefix
-unfolding digits chars
+unfolding digits chars is_name_start is_name_char
 computed_prefix = refl
 
 -- doc("b")//book except doc("b")//book[1], count(doc("b")//node() except doc("b")//text())
@@ -245,7 +246,7 @@ tests : answer (c.flwor (c.let_be "e" (c.named_node named.Element (c.txt "e") (c
     (Some (codes "a"))) [] ∷ []) ∷ c.path (c.var "e") (c.step axis.Child test.Any [] ∷ []) ∷ [])))
     ≡ Ok (codes
     "text {\"t\"}, comment {\"c\"}, processing-instruction p {\"q\"}, processing-instruction p {\"q\"}, element f {}, attribute a {\"1\"}, attribute a {\"1\"}, text {\"t\"}, comment {\"c\"}, processing-instruction p {\"q\"}, element f {}")
-unfolding digits chars
+unfolding digits chars is_name_start is_name_char
 tests = refl
 
 -- doc("b")//book/string(@id), doc("b")//book/position(), doc("b")//book/last()
@@ -288,7 +289,7 @@ root_in_a_path = refl
 instructions : answer (c.seq (c.named_node named.ProcessingInstruction (c.txt "a") (c.seq []) ∷
     c.named_node named.ProcessingInstruction (c.txt "a") (c.seq (c.txt " b " ∷ c.txt "c" ∷ [])) ∷
     [])) ≡ Ok (codes "processing-instruction a {\"\"}, processing-instruction a {\"b  c\"}")
-unfolding digits chars
+unfolding digits chars is_name_start is_name_char
 instructions = refl
 
 -- attribute a {}, attribute a {1, 2.0}, attribute {"a"} {"x", element b {"y"}}
@@ -297,7 +298,7 @@ attributes : answer (c.seq (c.named_node named.Attribute (c.txt "a") (c.seq []) 
     named.Attribute (c.txt "a") (c.seq (c.txt "x" ∷ c.named_node named.Element (c.txt "b") (c.txt
     "y") ∷ [])) ∷ [])) ≡ Ok (codes
     "attribute a {\"\"}, attribute a {\"1 2\"}, attribute a {\"x y\"}")
-unfolding digits chars
+unfolding digits chars is_name_start is_name_char
 attributes = refl
 
 -- comment {}, comment {"a", 1}, comment {"-a"}
@@ -377,7 +378,7 @@ trees_of_the_next_tuple : answer (c.flwor (c.let_be "s" (c.flwor (c.for_in "x" (
     "b" ∷ []))) ∷ []) (c.path (c.chain (c.var "s") (c.op (operator.Union) (c.seq []) ∷ [])) (c.step
     axis.Attributes (test.Attribute (Some (codes "n"))) [] ∷ c.call f.String [] ∷ []))) ≡ Ok (codes
     "\"1\", \"2\", \"1\", \"2\"")
-unfolding digits chars
+unfolding digits chars is_name_start is_name_char
 trees_of_the_next_tuple = refl
 
 -- every $x in (1, 2), $y in ($x, 3) satisfies $x le $y

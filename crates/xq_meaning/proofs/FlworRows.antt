@@ -2,6 +2,7 @@
 use Rattle.std.specs.Prelude.{◌≡◌, refl, [], ◌∷◌, Ok, Err, codes}
 use Rattle.std.specs.Fmt.{digits}
 use Rattle.std.specs.Str.{chars}
+use Rattle.xq_characters.specs.Characters.{is_name_start, is_name_char}
 use Rattle.xq_atoms.specs.declared.refusals.Code.TheVariants.{FOAR0001, FORG0006, XPTY0004}
 use Rattle.xq_expressions.specs.declared.operators.Relation.TheVariants.{Equal, NotEqual, LessEqual, Greater}
 use Rattle.xq_expressions.specs.declared.operators.ComparisonOperator.TheVariants.{Value, General, Node}
@@ -82,7 +83,7 @@ all_of_a_clause_first = refl
 trees_by_clauses : answer (flwor (for_in "x" (seq (num 1 ∷ num 2 ∷ [])) ∷ let_be "a" (element "a"
     none) ∷ let_be "b" (element "b" none) ∷ []) (compare (Node Precedes) (var "b") (var "a"))) ≡ Ok
     (codes "false(), false()")
-unfolding digits chars
+unfolding digits chars is_name_start is_name_char
 trees_by_clauses = refl
 
 -- let $s := (for $x in (1, 2) let $a := element a {attribute n {$x}} let $b := element b
@@ -92,7 +93,7 @@ trees_of_the_next_tuple : answer (flwor (let_be "s" (flwor (for_in "x" (seq (num
     (var "x"))) ∷ []) (seq (var "a" ∷ var "b" ∷ []))) ∷ []) (path (primary (union (var "s" ∷ none ∷
     []))) (slash (at "n") ∷ slash (primary (call "string" [])) ∷ []))) ≡ Ok (codes
     "\"1\", \"2\", \"1\", \"2\"")
-unfolding digits chars
+unfolding digits chars is_name_start is_name_char
 trees_of_the_next_tuple = refl
 
 -- for $x in (1, 2, 1.0, 2) group by $k := $x return ($k, count($x))

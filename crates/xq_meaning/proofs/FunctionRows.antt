@@ -3,6 +3,7 @@ use Rattle.std.specs.Prelude.{◌≡◌, refl, [], ◌∷◌, Ok, Err, codes}
 use Rattle.std.specs.Fmt.{digits}
 use Rattle.std.specs.Str.{chars}
 use Rattle.std.specs.Char.{encode_utf8}
+use Rattle.xq_characters.specs.Characters.{is_name_start, is_name_char}
 use Rattle.xq_atoms.specs.declared.refusals.Code.TheVariants.{FODC0002, FODC0005, ProfDouble, XPDY0002, XPTY0004}
 use Rattle.xq_expressions.specs.declared.operators.Sign.TheVariants.{Minus}
 use Rattle.xq_expressions.specs.declared.operators.Relation.TheVariants.{Equal}
@@ -78,7 +79,7 @@ root : answer (seq (compare (Node Is) (call "root" (path (primary (call "doc" (t
     (call "doc" (txt "b" ∷ []))) (below (bare_step (named "book") (num 1 ∷ [])) ∷ slash (primary
     (call "root" [])) ∷ [])) (call "doc" (txt "b" ∷ [])) ∷ [])) ≡ Ok (codes
     "true(), element a {}, true()")
-unfolding digits chars
+unfolding digits chars is_name_start is_name_char
 root = refl
 
 -- root(1)
@@ -117,7 +118,7 @@ names : answer (seq (call "name" (path (primary (call "doc" (txt "b" ∷ []))) (
     ∷ []) ∷ call "name" (call "doc" (txt "b" ∷ []) ∷ []) ∷ call "name" (text (txt "a") ∷ []) ∷ call
     "name" (comment none ∷ []) ∷ call "name" (none ∷ []) ∷ [])) ≡ Ok (codes
     "\"id\", \"p\", \"\", \"\", \"\", \"\"")
-unfolding digits chars
+unfolding digits chars is_name_start is_name_char
 names = refl
 
 -- doc("b")//*/name(), doc("b")//book[1]/@*/local-name()

@@ -2,6 +2,7 @@
 use Rattle.std.specs.Prelude.{◌≡◌, refl, [], ◌∷◌, Some, Ok, Err, codes}
 use Rattle.std.specs.Fmt.{digits}
 use Rattle.std.specs.Str.{chars}
+use Rattle.xq_characters.specs.Characters.{is_name_start, is_name_char}
 use Rattle.xq_atoms.specs.declared.refusals.Code.TheVariants.{FOAR0001, FOAR0002, FORG0006, ProfDouble, ProfPrefix, ProfRange, XPDY0002, XPDY0050, XPTY0004, XPTY0018, XPTY0019, XPTY0020, XQDY0025, XQDY0026, XQDY0041, XQDY0044, XQDY0064, XQDY0072, XQDY0074, XQTY0024}
 use Rattle.xq_expressions.specs.declared.operators.Sign.TheVariants.{Plus, Minus}
 use Rattle.xq_expressions.specs.declared.operators.Relation.TheVariants.{Equal, Less}
@@ -20,7 +21,7 @@ values_1 = refl
 -- data(element a {"x", element b {"y"}}), data(comment {"c"})
 values_2 : answer (seq (call "data" (element "a" (seq (txt "x" ∷ element "b" (txt "y") ∷ [])) ∷ [])
     ∷ call "data" (comment (txt "c") ∷ []) ∷ [])) ≡ Ok (codes "xs:untypedAtomic(\"xy\"), \"c\"")
-unfolding digits chars
+unfolding digits chars is_name_start is_name_char
 values_2 = refl
 
 -- data(doc("b")//@id)
@@ -45,7 +46,7 @@ values_5 = refl
 values_6 : answer (seq (compare (Node Precedes) (element "a" none) (element "b" none) ∷ compare
     (Node Precedes) (call "doc" (txt "b" ∷ [])) (element "a" none) ∷ [])) ≡ Ok (codes
     "true(), true()")
-unfolding digits chars
+unfolding digits chars is_name_start is_name_char
 values_6 = refl
 
 -- "it's", 'it''s', "&lt;&#65;", .5, 7.
@@ -92,7 +93,7 @@ primary_expressions_7 = refl
 -- element div {element for {}}/for
 primary_expressions_8 : answer (path (primary (element "div" (element "for" none))) (slash (child
     "for") ∷ [])) ≡ Ok (codes "element for {}")
-unfolding digits chars
+unfolding digits chars is_name_start is_name_char
 primary_expressions_8 = refl
 
 -- 4 div 2, 1 div 3, 7.5 idiv 2, -7 mod 2, 2 * 1.5
@@ -330,7 +331,7 @@ paths_11 = refl
 
 -- element a {}/(/)
 paths_12 : answer (path (primary (element "a" none)) (slash (primary root) ∷ [])) ≡ Err XPDY0050
-unfolding digits chars
+unfolding digits chars is_name_start is_name_char
 paths_12 = refl
 
 -- (5, 6, 7)[2], (5, 6)["a"], (5, 6)[last()]
@@ -440,7 +441,7 @@ tests_1 = refl
 tests_2 : answer (path (primary (element "e" (instruction "p" (txt "q")))) (slash (bare_step
     (written.ProcessingInstruction (Some (codes "p"))) []) ∷ [])) ≡ Ok (codes
     "processing-instruction p {\"q\"}")
-unfolding digits chars
+unfolding digits chars is_name_start is_name_char
 tests_2 = refl
 
 -- doc("b")//element(book)/attribute(id)
@@ -453,85 +454,85 @@ tests_3 = refl
 -- element a {}, element {" a "} {}
 constructors_1 : answer (seq (element "a" none ∷ element_by (txt " a ") none ∷ [])) ≡ Ok (codes
     "element a {}, element a {}")
-unfolding digits chars
+unfolding digits chars is_name_start is_name_char
 constructors_1 = refl
 
 -- element {()} {}
 constructors_2 : answer (element_by none none) ≡ Err XPTY0004
-unfolding digits chars
+unfolding digits chars is_name_start is_name_char
 constructors_2 = refl
 
 -- element {"1a"} {}
 constructors_3 : answer (element_by (txt "1a") none) ≡ Err XQDY0074
-unfolding digits chars
+unfolding digits chars is_name_start is_name_char
 constructors_3 = refl
 
 -- element {"p:a"} {}
 constructors_4 : answer (element_by (txt "p:a") none) ≡ Err ProfPrefix
-unfolding digits chars
+unfolding digits chars is_name_start is_name_char
 constructors_4 = refl
 
 -- attribute xmlns {"x"}
 constructors_5 : answer (attribute "xmlns" (txt "x")) ≡ Err XQDY0044
-unfolding digits chars
+unfolding digits chars is_name_start is_name_char
 constructors_5 = refl
 
 -- processing-instruction {"1"} {""}
 constructors_6 : answer (instruction_by (txt "1") (txt "")) ≡ Err XQDY0041
-unfolding digits chars
+unfolding digits chars is_name_start is_name_char
 constructors_6 = refl
 
 -- processing-instruction XML {"a"}
 constructors_7 : answer (instruction "XML" (txt "a")) ≡ Err XQDY0064
-unfolding digits chars
+unfolding digits chars is_name_start is_name_char
 constructors_7 = refl
 
 -- element a {1, 2, text {""}, 3, "x"}
 constructors_8 : answer (element "a" (seq (num 1 ∷ num 2 ∷ text (txt "") ∷ num 3 ∷ txt "x" ∷ [])))
     ≡ Ok (codes "element a {text {\"1 23 x\"}}")
-unfolding digits chars
+unfolding digits chars is_name_start is_name_char
 constructors_8 = refl
 
 -- document {element x {"y"}, document {"z"}}
 constructors_9 : answer (document (seq (element "x" (txt "y") ∷ document (txt "z") ∷ []))) ≡ Ok
     (codes "document {element x {text {\"y\"}}, text {\"z\"}}")
-unfolding digits chars
+unfolding digits chars is_name_start is_name_char
 constructors_9 = refl
 
 -- let $x := element x {} return element y {$x}/x is $x
 constructors_10 : answer (flwor (let_be "x" (element "x" none) ∷ []) (compare (Node Is) (path
     (primary (element "y" (var "x"))) (slash (child "x") ∷ [])) (var "x"))) ≡ Ok (codes "false()")
-unfolding digits chars
+unfolding digits chars is_name_start is_name_char
 constructors_10 = refl
 
 -- element a {"", attribute b {"1"}}
 constructors_11 : answer (element "a" (seq (txt "" ∷ attribute "b" (txt "1") ∷ []))) ≡ Ok (codes
     "element a {attribute b {\"1\"}}")
-unfolding digits chars
+unfolding digits chars is_name_start is_name_char
 constructors_11 = refl
 
 -- element a {"x", attribute b {"1"}}
 constructors_12 : answer (element "a" (seq (txt "x" ∷ attribute "b" (txt "1") ∷ []))) ≡ Err
     XQTY0024
-unfolding digits chars
+unfolding digits chars is_name_start is_name_char
 constructors_12 = refl
 
 -- element a {attribute b {"1"}, attribute b {"2"}}
 constructors_13 : answer (element "a" (seq (attribute "b" (txt "1") ∷ attribute "b" (txt "2") ∷
     []))) ≡ Err XQDY0025
-unfolding digits chars
+unfolding digits chars is_name_start is_name_char
 constructors_13 = refl
 
 -- document {attribute b {"1"}}
 constructors_14 : answer (document (attribute "b" (txt "1"))) ≡ Err XPTY0004
-unfolding digits chars
+unfolding digits chars is_name_start is_name_char
 constructors_14 = refl
 
 -- attribute a {1, 2.0}, text {"x", "y"}, comment {}
 constructors_15 : answer (seq (attribute "a" (seq (num 1 ∷ dec 2000000 ∷ [])) ∷ text (seq (txt "x"
     ∷ txt "y" ∷ [])) ∷ comment none ∷ [])) ≡ Ok (codes
     "attribute a {\"1 2\"}, text {\"x y\"}, comment {\"\"}")
-unfolding digits chars
+unfolding digits chars is_name_start is_name_char
 constructors_15 = refl
 
 -- text {()}, text {""}
@@ -547,10 +548,10 @@ constructors_17 = refl
 -- processing-instruction t {"  x"}
 constructors_18 : answer (instruction "t" (txt "  x")) ≡ Ok (codes
     "processing-instruction t {\"x\"}")
-unfolding digits chars
+unfolding digits chars is_name_start is_name_char
 constructors_18 = refl
 
 -- processing-instruction t {"a?>"}
 constructors_19 : answer (instruction "t" (txt "a?>")) ≡ Err XQDY0026
-unfolding digits chars
+unfolding digits chars is_name_start is_name_char
 constructors_19 = refl

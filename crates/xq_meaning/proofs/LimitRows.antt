@@ -2,6 +2,7 @@
 use Rattle.std.proofs.Common.{zero, suc}
 use Rattle.std.specs.Prelude.{◌≡◌, refl, ℕ, List, [], ◌∷◌, length, Bool, true, false, nat_le, Ok, Err, codes}
 use Rattle.std.specs.Str.{chars}
+use Rattle.xq_characters.specs.Characters.{is_name_start, is_name_char}
 use Rattle.xq_atoms.specs.declared.refusals.Code.TheVariants.{FOAR0001, ProfLevel, ProfNodes, ProfReply}
 use Rattle.xq_atoms.specs.Judged.{Judged}
 use Rattle.xq_atoms.specs.Text.{Text}
@@ -26,22 +27,22 @@ is_answered (Err code) = false
 
 -- element a {}: the root of the tree with number 1
 new_tree : (outcome (element "a" none)).0 ≡ Ok (Node (root_of 1) ∷ [])
-unfolding chars
+unfolding chars is_name_start is_name_char
 new_tree = refl
 
 two_trees : length (outcome (element "a" none)).1 ≡ 2
-unfolding chars
+unfolding chars is_name_start is_name_char
 two_trees = refl
 
 -- (element a {}, 1 div 0): the tree stays where a code is the answer
 tree_beside_a_code : length (outcome (seq (element "a" none ∷ product (num 1) (div_by (num 0) ∷
     []) ∷ []))).1 ≡ 2
-unfolding chars
+unfolding chars is_name_start is_name_char
 tree_beside_a_code = refl
 
 code_beside_a_tree : (outcome (seq (element "a" none ∷ product (num 1) (div_by (num 0) ∷ []) ∷
     []))).0 ≡ Err FOAR0001
-unfolding chars
+unfolding chars is_name_start is_name_char
 code_beside_a_tree = refl
 
 -- # Levels: 101 elements, one in another, are answered, and 102 are not
@@ -51,11 +52,11 @@ nested zero = none
 nested (suc n) = element "a" (nested n)
 
 level_100 : is_answered (answer (nested 101)) ≡ true
-unfolding chars
+unfolding chars is_name_start is_name_char
 level_100 = refl
 
 level_101 : answer (nested 102) ≡ Err ProfLevel
-unfolding chars
+unfolding chars is_name_start is_name_char
 level_101 = refl
 
 -- # Limits over a million, of any tree and any text; MillionRows has queries that pass them

@@ -5,6 +5,7 @@ use Rattle.std.proofs.lemmas.List.{length-map}
 use Rattle.std.specs.Prelude.{◌≡◌, refl, ℕ, ℤ, pos, ◌+ℤ◌, ◌+◌, ◌*◌, List, [], ◌∷◌, ◌++◌, map, length, Bool, true, false, None, Ok, Err, nat_le, codes, slice_index_or}
 use Rattle.std.specs.List.{enumerate_from}
 use Rattle.std.specs.Str.{chars}
+use Rattle.xq_characters.specs.Characters.{is_name_start, is_name_char}
 use Rattle.xq_atoms.specs.declared.refusals.Code.TheVariants.{ProfNodes, ProfReply}
 use Rattle.xq_atoms.specs.Judged.{Judged}
 use Rattle.xq_atoms.specs.Text.{Text}
@@ -194,7 +195,7 @@ nested m = element "a" (flwor (for_in "i" (to (num 1) (num m)) ∷ []) (element 
 empty_elements : (m : ℕ) → Counts m →
     flwor (for_in "i" (to (num 1) (num m)) ∷ []) (element "b" none) frame (library ∷ [])
     ≡ (Ok (roots_from 1 m), library ∷ repeated m empty)
-unfolding chars
+unfolding chars is_name_start is_name_char
 empty_elements m h = rw (h.counted, h.fits)
     (planted_each _ (λ t trees. refl) (tuples_to m) [] (library ∷ [])
     ∙ ap (λ n. (Ok (roots_from 1 n), library ∷ repeated n empty)) (count_to m))
@@ -221,7 +222,7 @@ in_element xs = on_trees (λ trees. named_tree named.Element (codes "a") trees x
 
 too_many_children : (m : ℕ) → Counts m → nat_le (suc m) 1000000 ≡ false →
     answer (nested m) ≡ Err ProfNodes
-unfolding chars
+unfolding chars is_name_start is_name_char
 too_many_children m h over =
     let plant : Judged Tree → Judged Text = λ t. answered (go_on (t, trees_after m) planted) in
     ap (λ o. answered (go_on o in_element)) (empty_elements m h)

@@ -2,6 +2,7 @@
 use Rattle.std.specs.Prelude.{◌≡◌, refl, [], ◌∷◌, Ok, Err, codes}
 use Rattle.std.specs.Fmt.{digits}
 use Rattle.std.specs.Str.{chars}
+use Rattle.xq_characters.specs.Characters.{is_name_start, is_name_char}
 use Rattle.xq_atoms.specs.declared.refusals.Code.TheVariants.{FOAR0001, FOAR0002, FORG0001, FORG0006, ProfDouble, ProfRange, XPTY0004}
 use Rattle.xq_expressions.specs.declared.operators.Sign.TheVariants.{Plus, Minus}
 use Rattle.xq_expressions.specs.declared.operators.Relation.TheVariants.{Equal, NotEqual, Less, LessEqual, Greater, GreaterEqual}
@@ -350,14 +351,14 @@ node_comparisons = refl
 -- element a {} is element a {}
 equal_nodes_are_not_one : answer (compare (Node Is) (element "a" none) (element "a" none)) ≡ Ok
     (codes "false()")
-unfolding digits chars
+unfolding digits chars is_name_start is_name_char
 equal_nodes_are_not_one = refl
 
 -- doc("b") << element a {}, element a {} << doc("b"), element a {} << element b {}
 stored_before_new : answer (seq (compare (Node Precedes) (call "doc" (txt "b" ∷ [])) (element "a"
     none) ∷ compare (Node Precedes) (element "a" none) (call "doc" (txt "b" ∷ [])) ∷ compare (Node
     Precedes) (element "a" none) (element "b" none) ∷ [])) ≡ Ok (codes "true(), false(), true()")
-unfolding digits chars
+unfolding digits chars is_name_start is_name_char
 stored_before_new = refl
 
 -- () is 1, 1 << ()

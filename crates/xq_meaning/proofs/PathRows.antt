@@ -2,6 +2,7 @@
 use Rattle.std.specs.Prelude.{◌≡◌, refl, [], ◌∷◌, Some, None, Ok, Err, codes}
 use Rattle.std.specs.Fmt.{digits}
 use Rattle.std.specs.Str.{chars}
+use Rattle.xq_characters.specs.Characters.{is_name_start, is_name_char}
 use Rattle.xq_atoms.specs.declared.refusals.Code.TheVariants.{FORG0006, XPDY0002, XPTY0019}
 use Rattle.xq_expressions.specs.declared.operators.Relation.TheVariants.{Equal, Less}
 use Rattle.xq_expressions.specs.declared.operators.ComparisonOperator.TheVariants.{General}
@@ -147,7 +148,7 @@ tests : answer (flwor (let_be "e" (element "e" (seq (attribute "a" (num 1) ∷ t
     axis.Attribute (written.Attribute (Some (bare "a"))) []) ∷ []) ∷ path (primary (var "e"))
     (slash (bare_step written.Node []) ∷ []) ∷ []))) ≡ Ok (codes
     "text {\"t\"}, comment {\"c\"}, processing-instruction p {\"q\"}, processing-instruction p {\"q\"}, element f {}, attribute a {\"1\"}, attribute a {\"1\"}, text {\"t\"}, comment {\"c\"}, processing-instruction p {\"q\"}, element f {}")
-unfolding digits chars
+unfolding digits chars is_name_start is_name_char
 tests = refl
 
 -- doc("b")//book[1]/node()/self::*, doc("b")//@id/self::*, doc("b")//@id/self::id,
@@ -333,7 +334,7 @@ axes_of_a_lone_attribute : answer (flwor (let_be "a" (attribute "a" (num 1)) ∷
     (var "a")) (slash (along axis.Preceding written.Node []) ∷ []) ∷ []) ∷ call "count" (path
     (primary (var "a")) (slash (along axis.AncestorOrSelf written.Node []) ∷ []) ∷ []) ∷ []))) ≡ Ok
     (codes "0, 0, 0, 1")
-unfolding digits chars
+unfolding digits chars is_name_start is_name_char
 axes_of_a_lone_attribute = refl
 
 -- doc("b")//book[2]/ancestor-or-self::*[2]/name(),

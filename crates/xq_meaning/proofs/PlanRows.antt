@@ -2,6 +2,7 @@
 use Rattle.std.specs.Prelude.{◌≡◌, refl, [], ◌∷◌, Some, None, Ok, Err, codes}
 use Rattle.std.specs.Fmt.{digits}
 use Rattle.std.specs.Str.{chars}
+use Rattle.xq_characters.specs.Characters.{is_name_start, is_name_char}
 use Rattle.xq_atoms.specs.declared.refusals.Code.TheVariants.{FOAR0001, ProfPrefix, XPDY0002, XPTY0004, XPTY0018, XPTY0019, XPTY0020, XQDY0041}
 use Rattle.xq_expressions.specs.declared.operators.Sign.TheVariants.{Plus, Minus}
 use Rattle.xq_expressions.specs.declared.operators.ProductOperator.TheVariants.{Times, Div, Mod}
@@ -97,7 +98,7 @@ least_integer = refl
 runs_and_texts : answer (p.named_node named.Element (p.txt "a") (p.seq (p.num 1 ∷ p.num 2 ∷
     p.unnamed_node unnamed.Text (p.txt "") ∷ p.num 3 ∷ p.txt "x" ∷ []))) ≡ Ok (codes
     "element a {text {\"1 23 x\"}}")
-unfolding digits chars
+unfolding digits chars is_name_start is_name_char
 runs_and_texts = refl
 
 -- data(doc("b")//@id), true(), -1, -0.5
@@ -151,7 +152,7 @@ copied_into_content : answer (p.flwor (p.let_be (p.named_node named.Element (p.t
     ∷ p.let_be (p.named_node named.Element (p.txt "y") (p.slot 0)) ∷ []) (p.chain (p.path (p.slot
     1) (p.scan axis.Child (test.Element (Some (codes "x"))) ∷ [])) (p.op (operator.Comparison (Node
     Is)) (p.slot 0) ∷ []))) ≡ Ok (codes "false()")
-unfolding digits chars
+unfolding digits chars is_name_start is_name_char
 copied_into_content = refl
 
 -- "a" + xs:untypedAtomic("1")
@@ -185,12 +186,12 @@ nodes_and_atoms = refl
 
 -- processing-instruction {"1"} {""}
 no_target : answer (p.named_node named.ProcessingInstruction (p.txt "1") (p.txt "")) ≡ Err XQDY0041
-unfolding digits chars
+unfolding digits chars is_name_start is_name_char
 no_target = refl
 
 -- element {"p:a"} {}
 computed_prefix : answer (p.named_node named.Element (p.txt "p:a") (p.seq [])) ≡ Err ProfPrefix
-unfolding digits chars
+unfolding digits chars is_name_start is_name_char
 computed_prefix = refl
 
 -- doc("b")//book except doc("b")//book[1], count(doc("b")//node() except doc("b")//text())
@@ -244,7 +245,7 @@ tests : answer (p.flwor (p.let_be (p.named_node named.Element (p.txt "e") (p.seq
     (test.Attribute (Some (codes "a"))) ∷ []) ∷ p.path (p.slot 0) (p.scan axis.Child test.Any ∷ [])
     ∷ []))) ≡ Ok (codes
     "text {\"t\"}, comment {\"c\"}, processing-instruction p {\"q\"}, processing-instruction p {\"q\"}, element f {}, attribute a {\"1\"}, attribute a {\"1\"}, text {\"t\"}, comment {\"c\"}, processing-instruction p {\"q\"}, element f {}")
-unfolding digits chars
+unfolding digits chars is_name_start is_name_char
 tests = refl
 
 -- doc("b")//book/string(@id), doc("b")//book/position(), doc("b")//book/last()
@@ -287,7 +288,7 @@ root_in_a_path = refl
 instructions : answer (p.seq (p.named_node named.ProcessingInstruction (p.txt "a") (p.seq []) ∷
     p.named_node named.ProcessingInstruction (p.txt "a") (p.seq (p.txt " b " ∷ p.txt "c" ∷ [])) ∷
     [])) ≡ Ok (codes "processing-instruction a {\"\"}, processing-instruction a {\"b  c\"}")
-unfolding digits chars
+unfolding digits chars is_name_start is_name_char
 instructions = refl
 
 -- attribute a {}, attribute a {1, 2.0}, attribute {"a"} {"x", element b {"y"}}
@@ -296,7 +297,7 @@ attributes : answer (p.seq (p.named_node named.Attribute (p.txt "a") (p.seq []) 
     named.Attribute (p.txt "a") (p.seq (p.txt "x" ∷ p.named_node named.Element (p.txt "b") (p.txt
     "y") ∷ [])) ∷ [])) ≡ Ok (codes
     "attribute a {\"\"}, attribute a {\"1 2\"}, attribute a {\"x y\"}")
-unfolding digits chars
+unfolding digits chars is_name_start is_name_char
 attributes = refl
 
 -- comment {}, comment {"a", 1}, comment {"-a"}
@@ -376,7 +377,7 @@ trees_of_the_next_tuple : answer (p.flwor (p.let_be (p.flwor (p.for_in (p.seq (p
     (p.path (p.chain (p.slot 0) (p.op (operator.Union) (p.seq []) ∷ [])) (p.scan axis.Attributes
     (test.Attribute (Some (codes "n"))) ∷ p.each (p.call f.String []) ∷ []))) ≡ Ok (codes
     "\"1\", \"2\", \"1\", \"2\"")
-unfolding digits chars
+unfolding digits chars is_name_start is_name_char
 trees_of_the_next_tuple = refl
 
 -- every $x in (1, 2), $y in ($x, 3) satisfies $x le $y

@@ -3,6 +3,7 @@ use Rattle.std.specs.Prelude.{◌≡◌, refl, [], ◌∷◌, Ok, Err, codes}
 use Rattle.std.specs.Fmt.{digits}
 use Rattle.std.specs.Str.{chars}
 use Rattle.std.specs.Char.{encode_utf8}
+use Rattle.xq_characters.specs.Characters.{is_name_start, is_name_char}
 use Rattle.xq_atoms.specs.declared.refusals.Code.TheVariants.{FOAR0001, FOCA0001, FOCA0003, FOCA0006, FODC0005, FORG0001, FORG0003, FORG0004, FORG0005, FORG0006, ProfDouble, ProfPrefix, XPDY0002, XPDY0050, XPTY0004, XPTY0018, XPTY0019, XPTY0020, XQDY0025, XQDY0026, XQDY0041, XQDY0044, XQDY0064, XQDY0072, XQDY0074}
 use Rattle.xq_meaning.proofs.Writing.{num, dec, txt, dot, seq, none, call, call_by, prefixed, sum, product, to, iff, root, path, primary, filtered, named, bare_step, child, at, element, element_by, attribute, instruction, instruction_by, document, comment, plus, div_by, slash, below}
 use Rattle.xq_meaning.proofs.Library.{answer}
@@ -25,7 +26,7 @@ root_of_an_atom = refl
 -- element a {}/(/)
 root_of_an_element : answer (path (primary (element "a" none)) (slash (primary root) ∷ [])) ≡ Err
     XPDY0050
-unfolding digits chars
+unfolding digits chars is_name_start is_name_char
 root_of_an_element = refl
 
 -- (1)/a
@@ -68,7 +69,7 @@ contains_a_number = refl
 
 -- document {attribute b {"1"}}
 attribute_in_a_document : answer (document (attribute "b" (txt "1"))) ≡ Err XPTY0004
-unfolding digits chars
+unfolding digits chars is_name_start is_name_char
 attribute_in_a_document = refl
 
 -- doc("b")//book[1]/@id + 1
@@ -142,27 +143,27 @@ bad_address = refl
 -- element a {attribute b {"1"}, attribute b {"2"}}
 doubled_attribute : answer (element "a" (seq (attribute "b" (txt "1") ∷ attribute "b" (txt "2") ∷
     []))) ≡ Err XQDY0025
-unfolding digits chars
+unfolding digits chars is_name_start is_name_char
 doubled_attribute = refl
 
 -- processing-instruction t {"a?>"}
 end_of_an_instruction : answer (instruction "t" (txt "a?>")) ≡ Err XQDY0026
-unfolding digits chars
+unfolding digits chars is_name_start is_name_char
 end_of_an_instruction = refl
 
 -- processing-instruction {"1"} {""}
 no_target : answer (instruction_by (txt "1") (txt "")) ≡ Err XQDY0041
-unfolding digits chars
+unfolding digits chars is_name_start is_name_char
 no_target = refl
 
 -- attribute xmlns {"x"}
 attribute_xmlns : answer (attribute "xmlns" (txt "x")) ≡ Err XQDY0044
-unfolding digits chars
+unfolding digits chars is_name_start is_name_char
 attribute_xmlns = refl
 
 -- processing-instruction XML {"a"}
 target_xml : answer (instruction "XML" (txt "a")) ≡ Err XQDY0064
-unfolding digits chars
+unfolding digits chars is_name_start is_name_char
 target_xml = refl
 
 -- comment {"a--b"}
@@ -172,10 +173,10 @@ dashes = refl
 
 -- element {"1a"} {}
 no_name : answer (element_by (txt "1a") none) ≡ Err XQDY0074
-unfolding digits chars
+unfolding digits chars is_name_start is_name_char
 no_name = refl
 
 -- element {"p:a"} {}
 computed_prefix : answer (element_by (txt "p:a") none) ≡ Err ProfPrefix
-unfolding digits chars
+unfolding digits chars is_name_start is_name_char
 computed_prefix = refl

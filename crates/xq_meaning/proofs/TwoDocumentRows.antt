@@ -2,6 +2,7 @@
 use Rattle.std.specs.Prelude.{◌≡◌, refl, [], ◌∷◌, Ok, Err, codes}
 use Rattle.std.specs.Fmt.{digits}
 use Rattle.std.specs.Str.{chars}
+use Rattle.xq_characters.specs.Characters.{is_name_start, is_name_char}
 use Rattle.xq_atoms.specs.declared.refusals.Code.TheVariants.{FODC0002}
 use Rattle.xq_expressions.specs.declared.operators.ComparisonOperator.TheVariants.{Node}
 use Rattle.xq_expressions.specs.declared.operators.NodeComparison.TheVariants.{Is, Precedes}
@@ -39,7 +40,7 @@ new_trees_come_last : answer_of_two (flwor (let_be "e" (element "e" none) ∷ []
     Precedes) (call "doc" (txt "b" ∷ [])) (var "e") ∷ compare (Node Is) (path (filtered (union (var
     "e" ∷ call "doc" (txt "b" ∷ []) ∷ call "doc" (txt "a" ∷ []) ∷ [])) (num 3 ∷ [])) []) (var "e")
     ∷ []))) ≡ Ok (codes "true(), true()")
-unfolding digits chars
+unfolding digits chars is_name_start is_name_char
 new_trees_come_last = refl
 
 -- count((doc("a"), doc("b")//book)/root()), (doc("b")//book, doc("a"))/name()

@@ -3,6 +3,7 @@ use Rattle.std.specs.Prelude.{◌≡◌, refl, [], ◌∷◌, Ok, Err, codes}
 use Rattle.std.specs.Fmt.{digits}
 use Rattle.std.specs.Str.{chars}
 use Rattle.std.specs.Char.{encode_utf8}
+use Rattle.xq_characters.specs.Characters.{is_name_start, is_name_char}
 use Rattle.xq_atoms.specs.declared.refusals.Code.TheVariants.{FOAR0001, FOAR0002, FODC0002, ProfDouble, ProfRange, XPTY0004, XQTY0024}
 use Rattle.xq_expressions.specs.declared.operators.Sign.TheVariants.{Minus}
 use Rattle.xq_expressions.specs.declared.operators.Relation.TheVariants.{Equal}
@@ -142,19 +143,19 @@ least_integer = refl
 -- element a {"", attribute b {"1"}}
 empty_text_before_attribute : answer (element "a" (seq (txt "" ∷ attribute "b" (txt "1") ∷ []))) ≡
     Ok (codes "element a {attribute b {\"1\"}}")
-unfolding digits chars
+unfolding digits chars is_name_start is_name_char
 empty_text_before_attribute = refl
 
 -- element a {"x", attribute b {"1"}}
 text_before_attribute : answer (element "a" (seq (txt "x" ∷ attribute "b" (txt "1") ∷ []))) ≡ Err
     XQTY0024
-unfolding digits chars
+unfolding digits chars is_name_start is_name_char
 text_before_attribute = refl
 
 -- element a {1, 2, text {""}, 3, "x"}
 runs_and_texts : answer (element "a" (seq (num 1 ∷ num 2 ∷ text (txt "") ∷ num 3 ∷ txt "x" ∷ [])))
     ≡ Ok (codes "element a {text {\"1 23 x\"}}")
-unfolding digits chars
+unfolding digits chars is_name_start is_name_char
 runs_and_texts = refl
 
 -- text {()}, text {""}, document {}
@@ -191,7 +192,7 @@ atoms_again = refl
 
 -- element x {}
 no_document : answer (element "x" none) ≡ Ok (codes "element x {}")
-unfolding digits chars
+unfolding digits chars is_name_start is_name_char
 no_document = refl
 
 -- let $b := doc("b")//book return ($b[2], $b[1]) | $b[1]
@@ -206,7 +207,7 @@ union_in_order = refl
 -- let $x := element x {}, $y := element y {} return ($y | $x)
 new_trees_in_order : answer (flwor (let_all (be "x" (element "x" none) ∷ be "y" (element "y" none)
     ∷ []) ∷ []) (union (var "y" ∷ var "x" ∷ []))) ≡ Ok (codes "element x {}, element y {}")
-unfolding digits chars
+unfolding digits chars is_name_start is_name_char
 new_trees_in_order = refl
 
 -- let $b := doc("b")//book return ($b[1] << $b[2], () is $b[1])
@@ -225,7 +226,7 @@ nested_comment = refl
 -- element div {element for {}}/for
 words_as_names : answer (path (primary (element "div" (element "for" none))) (slash (child "for") ∷
     [])) ≡ Ok (codes "element for {}")
-unfolding digits chars
+unfolding digits chars is_name_start is_name_char
 words_as_names = refl
 
 -- round(2.5), round(-2.5), floor(-0.5), abs(-3)
@@ -339,7 +340,7 @@ unused_let = refl
 copied_into_content : answer (flwor (let_all (be "x" (element "x" none) ∷ be "y" (element "y" (var
     "x")) ∷ []) ∷ []) (compare (Node Is) (path (primary (var "y")) (slash (child "x") ∷ [])) (var
     "x"))) ≡ Ok (codes "false()")
-unfolding digits chars
+unfolding digits chars is_name_start is_name_char
 copied_into_content = refl
 
 -- "a" + xs:untypedAtomic("1")

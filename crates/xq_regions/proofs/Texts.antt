@@ -1,4 +1,4 @@
--- Where a piece stands in a text, and how a name begins.
+-- Where a piece stands in a text.
 use Rattle.std.proofs.Common.{◌≡◌, ℕ, List, [], ◌∷◌, ◌++◌, length, Bool, true, false, ◌&&◌, ◌||◌, refl, sym, ap, nat_eq, ◌⊎◌, inl, inr, drop}
 use Rattle.std.specs.Prelude.{Some, None, slice_get}
 use Rattle.std.specs.List.{list_all, starts_with}
@@ -9,17 +9,13 @@ use Rattle.std.proofs.lemmas.Slice.Eq.{starts_is}
 use Rattle.std.proofs.lemmas.Str.Pattern.{contains_text}
 use Rattle.std.specs.Str.Pattern.{HasMatch, FindsText}
 use Rattle.std.specs.Bool.{MatchBool}
-use Rattle.xq_regions.specs.Names.{holds, is_name, is_name_start, is_name_char}
+use Rattle.xq_regions.specs.Names.{holds}
 
 -- two tests that are true alike are equal
 pub same_test : (a b : Bool) → (a ≡ true → b ≡ true) → (b ≡ true → a ≡ true) → a ≡ b
 same_test true b f g = sym (f refl)
 same_test false true f g = g refl
 same_test false false f g = refl
-
-pub is_name-first : (cs : List ℕ) (c : ℕ) → Some c ≡ slice_get cs 0 → is_name cs ≡ (is_name_start c && list_all is_name_char cs)
-is_name-first [] c e = absurd (cc)
-is_name-first (d ∷ cs) c e = let same : c ≡ d = cc in ap (λ x. is_name_start x && list_all is_name_char (d ∷ cs)) (sym same)
 
 begins : (piece text : List ℕ) → starts_with nat_eq text piece ≡ true → text ≡ piece ++ drop (length piece) text
 begins piece text h = (starts_is Decides-eqb text piece (starts_with nat_eq text piece) refl).0 h

@@ -5,6 +5,7 @@ use Rattle.std.specs.List.{IsDistinct}
 use Rattle.std.specs.Str.{chars, IsUtf8, all_scalars}
 use Rattle.std.specs.Prelude.{encode_utf8_all}
 use Rattle.std.specs.Char.{encode_utf8}
+use Rattle.xq_characters.specs.Characters.{is_char, is_name_start, is_name_char}
 use Rattle.xq_regions.specs.Forest.{Forest, end, node, EachNode}
 use Rattle.xq_regions.specs.Tree.{Label, Tree, IsText, IsTree, nodes}
 use Rattle.xq_regions.specs.Node.{steps, attribute, child, subtree}
@@ -50,7 +51,7 @@ texts_of_library =
     ((none, none), (((utf8 (codes "lib") refl refl, none), (((book, none), (((id, utf8 (codes "1") refl refl), (tt, ((none, utf8 (codes "A") refl refl), (tt, tt)))), ((book, none), (((id, utf8 (codes "2") refl refl), (tt, ((none, utf8 (codes "B") refl refl), (tt, tt)))), tt)))), tt)), tt))
 
 is_tree : IsTree library
-unfolding chars IsDistinct
+unfolding chars IsDistinct is_char is_name_start is_name_char
 is_tree = record {
   texts = texts_of_library;
   legal = (refl, ((refl, ((refl, ((refl, (tt, (refl, (tt, tt)))), (refl, ((refl, (tt, (refl, (tt, tt)))), tt)))), tt)), tt));

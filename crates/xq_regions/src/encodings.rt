@@ -6,9 +6,10 @@ ghost use Rattle.xq_regions.specs.Rows.{row_of, row_at, AreNumbered, IsEncoding}
 ghost use Rattle.xq_regions.specs.Checks.{IsSoundAt, IsChecked, IsNested, IsNamedAt, AreNamed, are_attributes_first, roots, label_of, name_of, may_be_child, are_children_after};
 
 use crate::attributes::has_distinct_names;
-use crate::names::{are_characters, is_attribute_name, is_name, is_target};
+use crate::names::{are_characters, is_attribute_name, is_target};
 use crate::values::{is_comment, is_instruction};
 use crate::{Kind, MAX_LEVEL, MAX_NODES, NodeRow};
+use xq_characters::is_name;
 
 /// Whether a node of the kind `parent` may have a child or an attribute of the kind `child`.
 fn may_stand(parent: Kind, child: Kind) -> bool

@@ -18,7 +18,7 @@ mod values;
 use encodings::is_encoding;
 pub use items::{Item, Items, Node};
 pub use laws::trees_are_their_rows;
-pub use names::{is_name, is_target};
+pub use names::is_target;
 
 /// The greatest level of a node, where the root has 0.
 pub const MAX_LEVEL: u32 = 100;

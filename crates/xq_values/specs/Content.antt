@@ -15,7 +15,8 @@ use Rattle.xq_atoms.specs.Judged.{Judged, ◌>>=◌, only_if}
 use Rattle.xq_atoms.specs.Text.{Text, is_empty, is_space, text_eq, trimmed, after_leading}
 use Rattle.xq_atoms.specs.Atom.{Atomic, String, Untyped}
 use Rattle.xq_atoms.specs.Cast.{text_of}
-use Rattle.xq_regions.specs.Names.{is_name, is_xml, holds, ends_with_dash}
+use Rattle.xq_characters.specs.Characters.{is_name}
+use Rattle.xq_regions.specs.Names.{is_xml, holds, ends_with_dash}
 use Rattle.xq_regions.specs.Forest.{Forest, end, node, count, tops, join}
 use Rattle.xq_regions.specs.Tree.{Label, Tree, nodes, is_attribute}
 use Rattle.xq_values.specs.Texts.{joined}

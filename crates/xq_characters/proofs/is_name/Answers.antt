@@ -1,9 +1,9 @@
 use Rattle.std.proofs.Common.{◌&&◌, sym, ◌∙◌, ap}
 use Rattle.std.specs.List.{list_all}
 use Rattle.std.specs.Str.{chars}
-use Rattle.xq_regions.specs.Names.{is_name_char}
-use Rattle.xq_regions.proofs.Texts.{is_name-first}
-use Rattle.xq_regions.proofs.names.is_name.Goals as goal
+use Rattle.xq_characters.specs.Characters.{is_name_char}
+use Rattle.xq_characters.proofs.Names.{is_name-first}
+use Rattle.xq_characters.proofs.is_name.Goals as goal
 
 pub returns-then-is_name_start : goal.returns-then-is_name_start
 returns-then-is_name_start c =
