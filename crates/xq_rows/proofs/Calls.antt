@@ -173,18 +173,9 @@ module _ {S : Type 0} (g : Ghosts S) (new : Held S) where
   unfolding IsClean
   clean_now clean = clean
 
-  pub is_answered : {A B : Type 0} (r : Result A B) → (HasCleanDisk (state g new) → OnOk r (IsTrue (state g new).is_open)) → IsClean g new → OnOk r (IsOpen g new)
-  unfolding IsClean IsOpen
-  is_answered (Ok x) ends clean = ends clean
-  is_answered (Err e) ends clean = tt
-
   pub leaves_open : (HasCleanDisk (state g new) → IsTrue (state g new).is_open) → IsClean g new → IsOpen g new
   unfolding IsClean IsOpen
   leaves_open ends clean = ends clean
-
-  pub is_left_open : {A B : Type 0} (r : Result A B) → (HasCleanDisk (state g new) → IsTrue (state g new).is_open) → IsClean g new → OnOk r (IsOpen g new)
-  unfolding IsClean IsOpen
-  is_left_open r ends clean = on_ok (IsTrue (state g new).is_open) r (ends clean)
 
 -- a new store
 module _ {S : Type 0} (g : Ghosts S) (store : Held S) (ready : IsReady (state g store)) (made : IsEmptyStore (state g store).now) where

@@ -1,5 +1,5 @@
 -- What a view lends once it has read on.
-use Rattle.std.proofs.Common.{◌≡◌, ◌<◌, ℕ, zero, suc, Some, List, [], ◌∷◌, length, map, refl, sym, ap, subst, ◌∙◌, arith, Vec, Global}
+use Rattle.std.proofs.Common.{◌≡◌, ◌<◌, ℕ, zero, suc, Bool, IsTrue, Some, List, [], ◌∷◌, length, map, refl, sym, ap, subst, ◌∙◌, arith, Vec, Global}
 use Rattle.std.specs.Prelude.{filter, slice_get}
 use Rattle.sqlite_trees.specs.declared.store.Store.{Ghosts}
 use Rattle.sqlite.specs.Held.{Held}
@@ -9,10 +9,12 @@ use Rattle.xq_regions.specs.declared.NodeRow.{NodeRow}
 use Rattle.xq_sources.specs.Lenders.{IsRun, places_above}
 use Rattle.xq_sources.specs.Meters.{Readings}
 use Rattle.xq_sources.specs.Sources.{HasTree, HasNode, encloses, rows_between, tree_at as nth_tree}
-use Rattle.xq_rows.specs.Documents.{Map, IsClean, IsOpen, StandsFor, tree_at}
+use Rattle.xq_rows.specs.Documents.{Map, IsClean, StandsFor}
 use Rattle.xq_rows.specs.Views.{Beginning, HeldDocuments, Viewed, trees_under}
 use Rattle.xq_rows.specs.private.Shelves.{AreFronts, AreListed, HasReached, IsFront, IsShelved, front_at, run_of}
 use Rattle.xq_rows.proofs.FrontLaws.{as_many, encloses_all, front_is, has_node, lends, lends_one}
+use Rattle.xq_rows.proofs.Keeping.{still_stays}
+use Rattle.xq_rows.specs.private.Keeps.{LeavesAlone}
 use Rattle.xq_rows.proofs.ViewLaws.{began_map, is_its_tree, its_tree, stands_held}
 
 some_at : (xs : List (List ℕ)) (i : ℕ) → i < length xs → (a : List ℕ) × (slice_get xs i ≡ Some a)
@@ -24,7 +26,7 @@ under_many : (b : Beginning) (addresses : List (List ℕ)) → length addresses 
 under_many b [] = refl
 under_many b (a ∷ addresses) = ap suc (under_many b addresses)
 
-module _ {S : Type 0} (g : Ghosts S) (b : Beginning) (v : Viewed S) (fronts : List (Vec NodeRow Global)) (is : IsShelved g b v fronts) (new : Held S)
+module _ {S : Type 0} (g : Ghosts S) (b : Beginning) (v : Viewed S) (fronts : List (Vec NodeRow Global)) (may_stay : Bool) (is : IsShelved g b v fronts may_stay) (new : Held S)
     (later : List (Vec NodeRow Global)) (was_clean : IsClean g new → IsClean g v.store) where
   abbrev trees : List Tree
   trees = trees_under b v.addresses
@@ -40,8 +42,8 @@ module _ {S : Type 0} (g : Ghosts S) (b : Beginning) (v : Viewed S) (fronts : Li
 
     -- the view is one still
     pub shelved : (addresses : List (List ℕ)) (meter : Readings) (lent : List (ℕ × Row)) → addresses ≡ v.addresses → (IsClean g new → (m : Map) → StandsFor g v.store m → StandsFor g new m)
-        → IsShelved g b (record { store = new; addresses = addresses; meter = meter; lent = lent }) later
-    shelved addresses meter lent e same = record {
+        → (stays : Bool) → (IsTrue stays → IsTrue may_stay) → LeavesAlone g v.store new → IsShelved g b (record { store = new; addresses = addresses; meter = meter; lent = lent }) later stays
+    shelved addresses meter lent e same stays so alone = record {
       view = record {
         was_clean = λ now. is.view.was_clean (was_clean now);
         was_open = λ now. is.view.was_open (was_clean now);
@@ -49,6 +51,7 @@ module _ {S : Type 0} (g : Ghosts S) (b : Beginning) (v : Viewed S) (fronts : Li
         listed = λ now m stood. e ∙ is.view.listed (was_clean now) m stood;
       };
       rows = λ clean held. subst (λ l. AreFronts (trees_under b l) later) (sym e) (are_kept clean held);
+      stays = λ it. still_stays g b v.store new alone (is.stays (so it));
     }
 
     -- a tree that was reached

@@ -1,6 +1,7 @@
 pub mod Texts
 pub mod Lists
 pub mod Selects
+pub mod Prepares
 pub mod Deletes
 pub mod Inserts
 pub mod Orders
@@ -11,6 +12,7 @@ pub mod Keys
 pub mod Loads
 pub mod Ranges
 pub mod Calls
+pub mod Keeping
 pub mod ViewLaws
 pub mod FrontLaws
 pub mod Lends

@@ -57,11 +57,6 @@ trees_stood b addresses m stood listed =
     let table = b.database.trees 1 in
     ap (map (tree_at table)) (listed ∙ ap keys (sym stood.1)) ∙ sym (values_are table stood.0.named stood.0.whole) ∙ ap values stood.1
 
--- as many trees as addresses
-pub under_length : (b : Beginning) (addresses : List (String Global)) → length (trees_under b (map string_bytes addresses)) ≡ length addresses
-under_length b [] = refl
-under_length b (a ∷ addresses) = ap suc (under_length b addresses)
-
 pub stood_held : (b : Beginning) (m : Map) → StoodFor b m → HeldDocuments b
 unfolding StoodFor HeldDocuments
 stood_held b m stood = stood.0

@@ -1,10 +1,11 @@
 //! The rows of documents that are kept in memory: of each document the first, as far as they were
 //! read.
-ghost use Rattle.std.specs.Prelude.{◌≡◌, List, Some, IfOk, OnOk, filter, length, map, string_bytes};
+ghost use Rattle.std.specs.Prelude.{◌≡◌, IsTrue, List, Some, IfOk, OnOk, filter, length, map, string_bytes};
 ghost use Rattle.std.specs.FinMap.{get};
 ghost use Rattle.xq_regions.specs.Rows.{placed};
 ghost use Rattle.xq_regions.specs.Tree.{Tree};
 ghost use Rattle.xq_rows.specs.Documents.{IsClean, IsOpen, Map, StandsFor};
+ghost use Rattle.xq_rows.specs.private.Keeps.{LeavesAlone};
 ghost use Rattle.xq_rows.specs.private.Shelves.{AreFronts, AreListed, HasReached, IsFront, Reaches, front_at, run_of};
 ghost use Rattle.xq_sources.specs.Sources.{encloses as encloses_lem};
 
@@ -29,6 +30,8 @@ pub(crate) struct Shelf {
     pub fronts: Vec<Vec<NodeRow>>,
     /// How many rows that are in all.
     pub kept: usize,
+    /// Whether the store may keep this when its view ends.
+    pub stays: bool,
 }
 
 /// Rows of a tree from `low` to `high`.
@@ -68,6 +71,7 @@ fn make_room(alloc: Global, shelf: &mut Shelf, tree: usize)
     ensures addresses { shelf.new.addresses ≡ shelf.old.addresses }
     ensures fronts { (trees : List Tree) → AreFronts trees shelf.old.fronts.items
         → AreFronts trees shelf.new.fronts.items }
+    ensures stays { shelf.new.stays ≡ shelf.old.stays }
 {
     if shelf.kept <= MOST_KEPT {
         return;
@@ -96,6 +100,7 @@ fn read_front<S: Alter>(
     ensures was_open { IsClean S.Store store.new → IsOpen S.Store store.new
         → IsOpen S.Store store.old }
     ensures was_clean { IsClean S.Store store.new → IsClean S.Store store.old }
+    ensures alone { LeavesAlone S.Store store.old store.new }
 {
     while rows.len() <= place as usize {
         let low = rows.len() as u32;
@@ -160,7 +165,8 @@ pub(crate) fn places_enclosing(alloc: Global, rows: &[NodeRow], node: u32) -> Re
     Ok(found)
 }
 
-/// Reads a document on until its rows reach a place, or are all there.
+/// Reads a document on until its rows reach a place, or are all there. Where that is refused, the
+/// store is to keep nothing.
 pub(crate) fn read_on<S: Alter>(
     alloc: Global,
     store: &mut Store<S>,
@@ -181,6 +187,8 @@ pub(crate) fn read_on<S: Alter>(
     ensures was_open { IsClean S.Store store.new → IsOpen S.Store store.new
         → IsOpen S.Store store.old }
     ensures was_clean { IsClean S.Store store.new → IsClean S.Store store.old }
+    ensures alone { LeavesAlone S.Store store.old store.new }
+    ensures stays { IsTrue shelf.new.stays → IsTrue shelf.old.stays }
 {
     make_room(alloc, shelf, tree);
     let Some(address) = shelf.addresses.get(tree) else {
@@ -193,5 +201,6 @@ pub(crate) fn read_on<S: Alter>(
     let read = read_front(alloc, store, address.as_str(), front, place);
     let more = front.len().saturating_sub(before);
     shelf.kept = shelf.kept.saturating_add(more);
+    shelf.stays &= read.is_ok();
     read
 }

@@ -14,7 +14,7 @@ ghost use Rattle.xq_regions.specs.Tree.{IsDocument};
 ghost use Rattle.xq_rows.specs.Nodes.{IsReadable, cells, node_of, number_of};
 
 use crate::refusals::Refusal;
-use crate::statements::{read_addresses, read_enclosing, read_range};
+use crate::statements::{prepare_edition, read_addresses, read_enclosing, read_range};
 use sqlite::{Alter, Connection, Error, ErrorCode, Row};
 use std::alloc::Global;
 use xq_atoms::Want;
@@ -248,4 +248,19 @@ pub fn list_addresses<S: Alter>(
 {
     let rows = address_rows(conn)?;
     texts(alloc, &rows)
+}
+
+/// Refuses where the database is shut.
+pub fn check_open<S: Alter>(conn: &mut Connection<S>) -> Result<(), Refusal>
+    requires { conn.old.in_transaction ≡ false }
+    ensures mode { conn.new.in_transaction ≡ false }
+    ensures clean { doubt (state S.Store conn.old).is_clean
+        ≤ doubt (state S.Store conn.new).is_clean }
+    ensures open { IsReady (state S.Store conn.new) → IsTrue (state S.Store conn.old).is_open }
+    ensures ends_open { HasCleanDisk (state S.Store conn.new)
+        → OnOk result (IsTrue (state S.Store conn.new).is_open) }
+    ensures same { IsReady (state S.Store conn.new)
+        → (state S.Store conn.new).now ≡ (state S.Store conn.old).now }
+{
+    Ok(prepare_edition(conn)?)
 }

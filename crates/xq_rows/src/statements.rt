@@ -195,3 +195,20 @@ pub fn read_addresses<S: Alter>(conn: &mut Connection<S>) -> Result<Vec<Row>, Er
         &[],
     )
 }
+
+/// Finds whether the database is open, by a statement that is compiled and not run.
+pub fn prepare_edition<S: Alter>(conn: &mut Connection<S>) -> Result<(), Error>
+    requires { conn.old.in_transaction ≡ false }
+    ensures mode { conn.new.in_transaction ≡ false }
+    ensures clean { doubt (state S.Store conn.old).is_clean
+        ≤ doubt (state S.Store conn.new).is_clean }
+    ensures open { IsReady (state S.Store conn.new) → IsTrue (state S.Store conn.old).is_open }
+    ensures ends_open { HasCleanDisk (state S.Store conn.new)
+        → OnOk result (IsTrue (state S.Store conn.new).is_open) }
+    ensures same { IsReady (state S.Store conn.new)
+        → (state S.Store conn.new).now ≡ (state S.Store conn.old).now }
+{
+    let _settled = conn.is_autocommit();
+    let _statement = conn.prepare("SELECT edition FROM layout")?;
+    Ok(())
+}

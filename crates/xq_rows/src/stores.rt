@@ -4,7 +4,7 @@
 //! written), which `was_clean` takes back to the call before, and speaks of whichever map the store
 //! stands for as the call begins. A store that has shut, after a fault or where memory ran out in a
 //! commit, stands for the map that it stood for then: each later call is refused, by `answered`.
-ghost use Rattle.std.specs.Prelude.{◌≡◌, IfErr, IfOk, IfSome, OnErr, OnOk, List, Some, length, map, string_bytes, if◌then◌else◌, false};
+ghost use Rattle.std.specs.Prelude.{◌≡◌, IfErr, IfOk, IfSome, IsTrue, OnErr, OnOk, Some, map, string_bytes, if◌then◌else◌, false};
 ghost use Rattle.std.specs.FinMap.{get, insert, remove, keys, contains_key, empty};
 ghost use Rattle.sqlite.specs.Files.{over_files};
 ghost use Rattle.sqlite.specs.Held.{state};
@@ -15,14 +15,16 @@ ghost use Rattle.xq_rows.specs.Adopt.{IsBlank, HasTables, HasOneTable};
 ghost use Rattle.xq_regions.specs.Rows.{placed};
 ghost use Rattle.xq_regions.specs.Tree.{IsDocument, Tree};
 ghost use Rattle.xq_rows.specs.Documents.{IsClean, IsOpen, IsUp, Holds, Map, StandsFor, documents};
-ghost use Rattle.xq_rows.specs.private.Shelves.{AreFronts};
+ghost use Rattle.xq_rows.specs.private.Keeps.{AreOf, IsKept, LeavesAlone};
+ghost use Rattle.xq_rows.specs.Tables.{store_schema};
 ghost use Rattle.xq_sources.specs.Sources.{rows_between, rows_enclosing};
 
 use crate::adopt::adopt_tables;
 use crate::faults::OpenFault;
 use crate::fronts::{Shelf, no_rows};
 use crate::memory_files::open_empty;
-use crate::readings::{document_of, list_addresses, nodes_above, nodes_between};
+use crate::readings::{check_open, document_of, list_addresses, nodes_above, nodes_between};
+use crate::schemas::is_store_schema;
 use crate::tables::make_tables;
 use crate::transactions::{drop_rows, put_rows};
 use sqlite::{Alter, Connection, FileStore, MemStore};
@@ -34,15 +36,19 @@ use xq_regions::{Fragment, NodeRow};
 
 /// Documents under addresses, in the tables of a database. Contracts see the store's connection,
 /// which is in no transaction, and speak of it by `IsClean`, `IsOpen` and `StandsFor`.
+///
+/// What a view has read is kept for the next view, until a document is put or dropped or a call is
+/// refused.
 #[derive(Drop)]
 pub struct Store<S: Alter> {
     alloc: Global,
     conn: Connection<S>,
+    shelf: Option<Shelf>,
 }
 
 impl<S: Alter> Model for Store<S> {
     ghost use Rattle.sqlite.specs.Held.{Held, held_code};
-    ghost use Rattle.std.specs.Prelude.{◌≡◌, false};
+    ghost use Rattle.xq_rows.specs.private.Keeps.{IsKeeping};
 
     ghost Value = { Held S };
 
@@ -50,7 +56,7 @@ impl<S: Alter> Model for Store<S> {
 
     ghost view = { λ s. s.conn };
 
-    ghost invariant = { λ s. s.conn.in_transaction ≡ false };
+    ghost invariant = { λ s. IsKeeping S.Store s.conn s.shelf };
 }
 
 /// Whether a document was new under its address.
@@ -71,7 +77,11 @@ impl Store<MemStore> {
     {
         let mut conn = Connection::open_in_memory(alloc)?;
         make_tables(&mut conn)?;
-        Ok(Store { alloc, conn })
+        Ok(Store {
+            alloc,
+            conn,
+            shelf: None,
+        })
     }
 }
 
@@ -89,7 +99,11 @@ impl Store<FileStore<MemoryDisk>> {
     {
         let mut conn = open_empty(alloc)?;
         make_tables(&mut conn)?;
-        Ok(Store { alloc, conn })
+        Ok(Store {
+            alloc,
+            conn,
+            shelf: None,
+        })
     }
 }
 
@@ -124,7 +138,11 @@ impl<S: Alter> Store<S> {
     {
         let mut conn = conn;
         match adopt_tables(alloc, &mut conn) {
-            Ok(()) => Ok(Store { alloc, conn }),
+            Ok(()) => Ok(Store {
+                alloc,
+                conn,
+                shelf: None,
+            }),
             Err(fault) => Err((fault, conn)),
         }
     }
@@ -140,7 +158,10 @@ impl<S: Alter> Store<S> {
             → IsOpen S.Store self.old }
         ensures was_clean { IsClean S.Store self.new → IsClean S.Store self.old }
     {
-        list_addresses(self.alloc, &mut self.conn)
+        let shelf = self.shelf.take();
+        let addresses = list_addresses(self.alloc, &mut self.conn)?;
+        self.shelf = shelf;
+        Ok(addresses)
     }
 
     /// The document of the address, or None where the address is absent. Rows that are those of no
@@ -156,30 +177,68 @@ impl<S: Alter> Store<S> {
             → IsOpen S.Store self.old }
         ensures was_clean { IsClean S.Store self.new → IsClean S.Store self.old }
     {
+        let shelf = self.shelf.take();
         let nodes = nodes_between(self.alloc, &mut self.conn, address, 0, u32::MAX)?;
-        document_of(nodes)
+        let found = document_of(nodes)?;
+        self.shelf = shelf;
+        Ok(found)
     }
 
     /// The addresses, with no row of a document.
-    pub(crate) fn shelf(&mut self) -> Result<Shelf, Want>
-        ensures listed { IsClean S.Store self.new → (m : Map) → StandsFor S.Store self.old m
-            → IfOk result (λ shelf. map string_bytes shelf.addresses.items ≡ keys m) }
-        ensures fronts { IfOk result (λ shelf. (trees : List Tree)
-            → length trees ≡ length shelf.addresses.items → AreFronts trees shelf.fronts.items) }
-        ensures same { IsClean S.Store self.new → (m : Map) → StandsFor S.Store self.old m
-            → StandsFor S.Store self.new m }
+    fn empty_shelf(&mut self) -> Result<Shelf, Want>
+        ensures shelf { IsClean S.Store self.new → Holds S.Store self.old
+            → IfOk result (λ shelf. AreOf (state S.Store self.old).now
+            (map string_bytes shelf.addresses.items) shelf.fronts.items) }
+        ensures own { IfOk result (λ shelf. IsTrue shelf.stays
+            → (state S.Store self.old).now.schema ≡ store_schema) }
         ensures answered { IsClean S.Store self.new → OnOk result (IsOpen S.Store self.new) }
-        ensures was_open { IsClean S.Store self.new → IsOpen S.Store self.new
-            → IsOpen S.Store self.old }
-        ensures was_clean { IsClean S.Store self.new → IsClean S.Store self.old }
+        ensures alone { LeavesAlone S.Store self.old self.new }
     {
-        let addresses = self.addresses()?;
+        let stays = is_store_schema(self.conn.schema());
+        let addresses = list_addresses(self.alloc, &mut self.conn)?;
         let fronts = no_rows(self.alloc, addresses.len())?;
         Ok(Shelf {
             addresses,
             fronts,
             kept: 0,
+            stays,
         })
+    }
+
+    /// What is kept of the documents, or their addresses with no row. Nothing is kept from then on.
+    pub(crate) fn take_shelf(&mut self) -> Result<Shelf, Want>
+        ensures shelf { IsClean S.Store self.new → Holds S.Store self.old
+            → IfOk result (λ shelf. AreOf (state S.Store self.old).now
+            (map string_bytes shelf.addresses.items) shelf.fronts.items) }
+        ensures own { IsUp S.Store self.new → IfOk result (λ shelf. IsTrue shelf.stays
+            → (state S.Store self.old).now.schema ≡ store_schema) }
+        ensures answered { IsClean S.Store self.new → OnOk result (IsOpen S.Store self.new) }
+        ensures alone { LeavesAlone S.Store self.old self.new }
+    {
+        match self.shelf.take() {
+            Some(shelf) => {
+                check_open(&mut self.conn)?;
+                Ok(shelf)
+            }
+            None => self.empty_shelf(),
+        }
+    }
+
+    /// Keeps what was read of the documents.
+    pub(crate) fn keep(self, shelf: Shelf) -> Store<S>
+        requires { IsKept S.Store self shelf }
+        ensures { result ≡ self }
+    {
+        let Store {
+            alloc,
+            conn,
+            shelf: _,
+        } = self;
+        Store {
+            alloc,
+            conn,
+            shelf: Some(shelf),
+        }
     }
 
     /// The rows of the address from `low` to `high`, in document order.
@@ -193,6 +252,7 @@ impl<S: Alter> Store<S> {
         ensures found { IsClean S.Store self.new → (m : Map) → StandsFor S.Store self.old m
             → (t : Tree) → get m address.now ≡ Some t
             → IfOk result (λ found. map placed found.items ≡ rows_between t low high) }
+        ensures alone { LeavesAlone S.Store self.old self.new }
         ensures same { IsClean S.Store self.new → (m : Map) → StandsFor S.Store self.old m
             → StandsFor S.Store self.new m }
         ensures was_open { IsClean S.Store self.new → IsOpen S.Store self.new
@@ -212,6 +272,7 @@ impl<S: Alter> Store<S> {
         ensures found { IsClean S.Store self.new → (m : Map) → StandsFor S.Store self.old m
             → (t : Tree) → get m address.now ≡ Some t
             → IfOk result (λ found. map placed found.items ≡ rows_enclosing t node) }
+        ensures alone { LeavesAlone S.Store self.old self.new }
         ensures same { IsClean S.Store self.new → (m : Map) → StandsFor S.Store self.old m
             → StandsFor S.Store self.new m }
         ensures was_open { IsClean S.Store self.new → IsOpen S.Store self.new
@@ -238,6 +299,7 @@ impl<S: Alter> Store<S> {
             → IsOpen S.Store self.old }
         ensures was_clean { IsClean S.Store self.new → IsClean S.Store self.old }
     {
+        self.shelf = None;
         let replaced = put_rows(&mut self.conn, address, document.rows())?;
         let put = if replaced { Put::Replaced } else { Put::Stored };
         Ok(put)
@@ -257,6 +319,7 @@ impl<S: Alter> Store<S> {
             → IsOpen S.Store self.old }
         ensures was_clean { IsClean S.Store self.new → IsClean S.Store self.old }
     {
+        self.shelf = None;
         let count = drop_rows(&mut self.conn, address)?;
         Ok(count > 0)
     }
@@ -266,7 +329,11 @@ impl<S: Alter> Store<S> {
         ensures same { result ≡ self }
         ensures outside { result.in_transaction ≡ false }
     {
-        let Store { alloc: _, conn } = self;
+        let Store {
+            alloc: _,
+            conn,
+            shelf: _,
+        } = self;
         conn
     }
 }

@@ -39,7 +39,7 @@ impl Origin for Brand {
 /// As a source it reads rows where they lie, by a statement for each call. As a lender it keeps the
 /// first rows of each document, reads them on a part at a time where a row beyond them is wanted,
 /// and lends them without a copy. What it gives and what it lends is counted, and not what it
-/// reads.
+/// reads. The store keeps them for its next view, as long as no document is put or dropped.
 ///
 /// Contracts see the store, the addresses, what the meter shows and what is lent.
 #[derive(Drop)]
@@ -74,7 +74,7 @@ impl<S: Alter, O: Origin> Model for View<S, O> {
       addresses = map string_bytes v.shelf.addresses.items;
       meter = v.meter;
       lent = map placed (run_of (front_at v.shelf.fronts.items v.run.tree) v.run.low v.run.high);
-    }) v.shelf.fronts.items };
+    }) v.shelf.fronts.items v.shelf.stays };
 }
 
 impl<S: Alter> Store<S> {
@@ -102,7 +102,7 @@ impl<S: Alter> Store<S> {
         ensures was_clean { IfErr result (λ e. IsClean S.Store e.1 → IsClean S.Store self) }
     {
         let mut store = self;
-        match store.shelf() {
+        match store.take_shelf() {
             Ok(shelf) => Ok(View {
                 store,
                 shelf,
@@ -127,7 +127,8 @@ impl<S: Alter, O: Origin> View<S, O> {
         &self.shelf.addresses
     }
 
-    /// Gives the store back, which stands for the map that it stood for as the view began.
+    /// Gives the store back, which stands for the map that it stood for as the view began. What was
+    /// read stays with it.
     pub fn into_store(self) -> Store<S>
         ensures store { result ≡ self.store }
         ensures same { IsClean S.Store result
@@ -137,12 +138,16 @@ impl<S: Alter, O: Origin> View<S, O> {
     {
         let View {
             store,
-            shelf: _,
+            shelf,
             meter: _,
             run: _,
             origin: _,
         } = self;
-        store
+        if shelf.stays {
+            store.keep(shelf)
+        } else {
+            store
+        }
     }
 }
 

@@ -1,5 +1,5 @@
 -- What is kept in memory of the documents of a store: their addresses, and of each the first rows.
-use Rattle.std.specs.Prelude.{◌≡◌, ◌<◌, ◌≤◌, ◌+◌, ◌-◌, ◌⊎◌, ⊤, ℕ, List, [], ◌∷◌, length, map, take, drop, slice_get, Vec, Option, Some, None}
+use Rattle.std.specs.Prelude.{◌≡◌, ◌<◌, ◌≤◌, ◌+◌, ◌-◌, ◌⊎◌, ⊤, ℕ, List, [], ◌∷◌, length, map, take, drop, slice_get, Vec, Option, Some, None, Bool, IsTrue}
 use Rattle.std.specs.FinMap.{get}
 use Rattle.std.specs.Global.{Global}
 use Rattle.sqlite_trees.specs.declared.store.Store.{Ghosts}
@@ -7,7 +7,9 @@ use Rattle.xq_regions.specs.Tree.{Tree}
 use Rattle.xq_regions.specs.Rows.{placed, placed_rows}
 use Rattle.xq_regions.specs.declared.NodeRow.{NodeRow}
 use Rattle.xq_sources.specs.Sources.{tree_at}
-use Rattle.xq_rows.specs.Documents.{Map, IsClean}
+use Rattle.sqlite.specs.Held.{state}
+use Rattle.xq_rows.specs.Documents.{Map, IsClean, IsReady}
+use Rattle.xq_rows.specs.Tables.{store_schema}
 use Rattle.xq_rows.specs.Views.{Beginning, HeldDocuments, Viewed, IsView, trees_under}
 
 -- these are the first rows of a tree
@@ -49,8 +51,11 @@ pub record AreListed (m : Map) (addresses : List (List ℕ)) (trees : List Tree)
   pub found : (i : ℕ) (a : List ℕ) → slice_get addresses i ≡ Some a
       → get m a ≡ Some (tree_at trees i)
 
--- what a view keeps true of its rows, beside what it keeps true of its store
+-- what a view keeps true of its rows, beside what it keeps true of its store: where they may stay,
+-- the tables are those that a store makes, and nothing changed them since the view began
 pub record IsShelved {S : Type 0} (g : Ghosts S) (b : Beginning) (v : Viewed S)
-    (fronts : List (Vec NodeRow Global)) : Type 0 where
+    (fronts : List (Vec NodeRow Global)) (may_stay : Bool) : Type 0 where
   pub view : IsView g b v
   pub rows : IsClean g v.store → HeldDocuments b → AreFronts (trees_under b v.addresses) fronts
+  pub stays : IsTrue may_stay → IsReady (state g v.store) → (b.database.schema ≡ store_schema)
+      × ((state g v.store).now ≡ b.database)

@@ -1,13 +1,24 @@
 use Rattle.std.proofs.Common.{◌≤◌, inr, eqb-true, sym, subst, ◌∙◌, arith}
 use Rattle.xq_rows.specs.private.Shelves.{IsFront}
+use Rattle.xq_rows.proofs.Keeping.{leaves_refl, leaves_then}
 use Rattle.xq_rows.proofs.FrontLaws.{read_more, read_all, empty_items}
 use Rattle.xq_rows.proofs.fronts.read_front.Goals as goal
+
+pub loop-alloc-init : goal.loop-alloc-init
+loop-alloc-init g c = record {
+  was_clean = λ clean. clean;
+  was_open = λ clean opened. opened;
+  same = λ clean m stands. stands;
+  front = λ clean m stands t has front. front;
+  alone = leaves_refl g.S.Store c.args.store.now;
+}
 
 pub loop-alloc-preserved : goal.loop-alloc-preserved
 loop-alloc-preserved g c =
     let so_far = c.loop-alloc.invariant in
     let read = c.read_between.ensures in
     record {
+      alone = leaves_then g.S.Store c.args.store.now c.loop-alloc.store c.read_between.new.self so_far.alone read.alone;
       was_clean = λ clean. so_far.was_clean (read.was_clean clean);
       was_open = λ clean opened. so_far.was_open (read.was_clean clean) (read.was_open clean opened);
       same = λ clean m stands. read.same clean m (so_far.same (read.was_clean clean) m stands);
@@ -28,3 +39,15 @@ returns-then-is_empty-clause-reaches g c = λ clean m stands t has front.
     let are = c.in_ok-found.ensures.found clean m (so_far.same early m stands) t has in
     let past : c.len-low.result ≤ c.saturating_add-high.result = omega (arith, c.saturating_add-high.ensures, c.len-low.ensures, c.loop-alloc-test.true, c.ranges.place.fits) in
     inr (read_all t c.loop-alloc.rows.items kept c.len-low.result c.saturating_add-high.result c.in_ok-found.found.items (c.len-low.ensures ∙ c.loop-alloc.rows.ok.0) past are (empty_items c.in_ok-found.found.items (eqb-true _ 0 (sym c.is_empty.ensures ∙ c.if-is_empty.true)) c.in_ok-found.found.ok.0))
+
+pub returns-in_err-found-clause-alone : goal.returns-in_err-found-clause-alone
+returns-in_err-found-clause-alone g c = leaves_then g.S.Store c.args.store.now c.loop-alloc.store c.read_between.new.self c.loop-alloc.invariant.alone c.read_between.ensures.alone
+
+pub returns-then-is_empty-clause-alone : goal.returns-then-is_empty-clause-alone
+returns-then-is_empty-clause-alone g c = leaves_then g.S.Store c.args.store.now c.loop-alloc.store c.read_between.new.self c.loop-alloc.invariant.alone c.read_between.ensures.alone
+
+pub returns-in_err-append-clause-alone : goal.returns-in_err-append-clause-alone
+returns-in_err-append-clause-alone g c = leaves_then g.S.Store c.args.store.now c.loop-alloc.store c.read_between.new.self c.loop-alloc.invariant.alone c.read_between.ensures.alone
+
+pub returns-clause-alone : goal.returns-clause-alone
+returns-clause-alone g c = c.loop-alloc.invariant.alone

@@ -2,6 +2,7 @@ use Rattle.std.proofs.Common.{◌≡◌, ◌+◌, ◌-◌, Some, length}
 use Rattle.std.specs.FinMap.{get}
 use Rattle.xq_regions.specs.Tree.{Tree}
 use Rattle.xq_rows.specs.Documents.{IsClean, IsOpen, Map, StandsFor}
+use Rattle.xq_rows.specs.private.Keeps.{LeavesAlone}
 use Rattle.xq_rows.specs.private.Shelves.{IsFront}
 use Rattle.xq_rows.proofs.fronts.read_front.Given as goal
 
@@ -11,6 +12,7 @@ invariant-loop-alloc g l = record {
   was_open : IsClean g.S.Store l.store → IsOpen g.S.Store l.store → IsOpen g.S.Store l.fn.store;
   same : IsClean g.S.Store l.store → (m : Map) → StandsFor g.S.Store l.fn.store m → StandsFor g.S.Store l.store m;
   front : IsClean g.S.Store l.store → (m : Map) → StandsFor g.S.Store l.fn.store m → (t : Tree) → get m l.address ≡ Some t → IsFront t l.fn.rows.items → IsFront t l.rows.items;
+  alone : LeavesAlone g.S.Store l.fn.store l.store;
 }
 
 abbrev pub decreases-loop-alloc : goal.decreases-loop-alloc

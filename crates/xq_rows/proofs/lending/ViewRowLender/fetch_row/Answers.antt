@@ -8,22 +8,22 @@ use Rattle.xq_rows.proofs.Lends.{shelved, has_it, is_one, is_a_tree}
 use Rattle.xq_rows.proofs.lending.ViewRowLender.fetch_row.Goals as goal
 
 pub invariant_of-self : goal.invariant_of-self
-invariant_of-self g c = shelved g.S.Store g.O.Origin.beginning _ _ c.self.invariant c.read_on.new.store c.read_on.new.shelf.fronts.items c.read_on.ensures.was_clean c.read_on.ensures.fronts _ _ _
-    (ap (λ (v : Vec (String Global) Global). map string_bytes v.items) c.read_on.ensures.addresses) c.read_on.ensures.same
+invariant_of-self g c = shelved g.S.Store g.O.Origin.beginning _ _ _ c.self.invariant c.read_on.new.store c.read_on.new.shelf.fronts.items c.read_on.ensures.was_clean c.read_on.ensures.fronts _ _ _
+    (ap (λ (v : Vec (String Global) Global). map string_bytes v.items) c.read_on.ensures.addresses) c.read_on.ensures.same _ c.read_on.ensures.stays c.read_on.ensures.alone
 
 pub invariant_of-self-then-node-front_of : goal.invariant_of-self-then-node-front_of
-invariant_of-self-then-node-front_of g c = shelved g.S.Store g.O.Origin.beginning _ _ c.self.invariant c.read_on.new.store c.read_on.new.shelf.fronts.items c.read_on.ensures.was_clean c.read_on.ensures.fronts _ _ _
-    (ap (λ (v : Vec (String Global) Global). map string_bytes v.items) c.read_on.ensures.addresses) c.read_on.ensures.same
+invariant_of-self-then-node-front_of g c = shelved g.S.Store g.O.Origin.beginning _ _ _ c.self.invariant c.read_on.new.store c.read_on.new.shelf.fronts.items c.read_on.ensures.was_clean c.read_on.ensures.fronts _ _ _
+    (ap (λ (v : Vec (String Global) Global). map string_bytes v.items) c.read_on.ensures.addresses) c.read_on.ensures.same _ c.read_on.ensures.stays c.read_on.ensures.alone
 
 pub invariant_of-self-2 : goal.invariant_of-self-2
-invariant_of-self-2 g c = shelved g.S.Store g.O.Origin.beginning _ _ c.self.invariant c.read_on.new.store c.read_on.new.shelf.fronts.items c.read_on.ensures.was_clean c.read_on.ensures.fronts _ _ _
-    (ap (λ (v : Vec (String Global) Global). map string_bytes v.items) c.read_on.ensures.addresses) c.read_on.ensures.same
+invariant_of-self-2 g c = shelved g.S.Store g.O.Origin.beginning _ _ _ c.self.invariant c.read_on.new.store c.read_on.new.shelf.fronts.items c.read_on.ensures.was_clean c.read_on.ensures.fronts _ _ _
+    (ap (λ (v : Vec (String Global) Global). map string_bytes v.items) c.read_on.ensures.addresses) c.read_on.ensures.same _ c.read_on.ensures.stays c.read_on.ensures.alone
 
 pub returns-clause-exists : goal.returns-clause-exists
 returns-clause-exists g c = λ clean.
     let b = g.O.Origin.beginning in
     let h : c.args.node < length (front_at c.read_on.new.shelf.fronts.items c.args.tree) = subst (λ xs. c.args.node < length xs) (c.front_of.ensures ∙ ap (λ fronts. front_at fronts c.args.tree) c.deref.ensures.value) c.if-node-front_of.false in
-    subst (λ (w : Viewed _). HasNode (trees_under b w.addresses) c.args.tree c.args.node) c.self.view_is (has_it g.S.Store b _ _ c.self.invariant c.read_on.new.store c.read_on.new.shelf.fronts.items c.read_on.ensures.was_clean c.read_on.ensures.fronts c.args.tree c.args.node c.in_ok-read_on.ensures.reached clean.0 clean.1 h)
+    subst (λ (w : Viewed _). HasNode (trees_under b w.addresses) c.args.tree c.args.node) c.self.view_is (has_it g.S.Store b _ _ _ c.self.invariant c.read_on.new.store c.read_on.new.shelf.fronts.items c.read_on.ensures.was_clean c.read_on.ensures.fronts c.args.tree c.args.node c.in_ok-read_on.ensures.reached clean.0 clean.1 h)
 
 pub returns-clause-found : goal.returns-clause-found
 returns-clause-found g c = λ clean.
@@ -31,9 +31,9 @@ returns-clause-found g c = λ clean.
     let h : c.args.node < length (front_at c.read_on.new.shelf.fronts.items c.args.tree) = subst (λ xs. c.args.node < length xs) (c.front_of.ensures ∙ ap (λ fronts. front_at fronts c.args.tree) c.deref.ensures.value) c.if-node-front_of.false in
     let lent = map placed (run_of (front_at c.read_on.new.shelf.fronts.items c.args.tree) c.args.node c.args.node) in
     subst (λ (w : Viewed _). lent ≡ (c.args.node, row_at (rows (nth_tree (trees_under b w.addresses) c.args.tree)) c.args.node) ∷ []) c.self.view_is
-    (is_one g.S.Store b _ _ c.self.invariant c.read_on.new.store c.read_on.new.shelf.fronts.items c.read_on.ensures.was_clean c.read_on.ensures.fronts c.args.tree c.args.node c.in_ok-read_on.ensures.reached clean.0 clean.1 h)
+    (is_one g.S.Store b _ _ _ c.self.invariant c.read_on.new.store c.read_on.new.shelf.fronts.items c.read_on.ensures.was_clean c.read_on.ensures.fronts c.args.tree c.args.node c.in_ok-read_on.ensures.reached clean.0 clean.1 h)
 
 pub returns-clause-is_tree : goal.returns-clause-is_tree
 returns-clause-is_tree g c = λ clean.
     let b = g.O.Origin.beginning in
-    subst (λ (w : Viewed _). IsTree (nth_tree (trees_under b w.addresses) c.args.tree)) c.self.view_is (is_a_tree g.S.Store b _ _ c.self.invariant c.read_on.new.store c.read_on.new.shelf.fronts.items c.read_on.ensures.was_clean c.read_on.ensures.fronts c.args.tree c.args.node c.in_ok-read_on.ensures.reached clean.0 clean.1)
+    subst (λ (w : Viewed _). IsTree (nth_tree (trees_under b w.addresses) c.args.tree)) c.self.view_is (is_a_tree g.S.Store b _ _ _ c.self.invariant c.read_on.new.store c.read_on.new.shelf.fronts.items c.read_on.ensures.was_clean c.read_on.ensures.fronts c.args.tree c.args.node c.in_ok-read_on.ensures.reached clean.0 clean.1)

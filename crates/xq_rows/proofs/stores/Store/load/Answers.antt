@@ -1,21 +1,31 @@
-use Rattle.xq_rows.proofs.Calls.{was_clean, was_open, read_stands, loaded, is_left_open}
+use Rattle.std.proofs.Common.{Ok}
+use Rattle.xq_rows.proofs.Calls.{was_clean, was_open, read_stands, loaded, leaves_open}
 use Rattle.xq_rows.proofs.stores.Store.load.Goals as goal
 
 pub returns-clause-found : goal.returns-clause-found
 returns-clause-found g c =
-    loaded g.S.Store c.self.inside.conn c.args.self.now c.nodes_between.new.conn c.self.view_is c.nodes_between.ensures.open c.args.address.now c.in_ok-nodes.nodes.items c.document_of.result c.in_ok-nodes.ensures.nodes c.document_of.ensures.found c.in_ok-nodes.ensures.ends_open
+    loaded g.S.Store c.self.inside.conn c.args.self.now c.nodes_between.new.conn c.self.view_is c.nodes_between.ensures.open {E = Unit {0}} c.args.address.now c.in_ok-nodes.nodes.items (Ok c.in_ok-found.found) c.in_ok-nodes.ensures.nodes c.in_ok-found.ensures.found c.in_ok-nodes.ensures.ends_open
 
 pub returns-clause-answered : goal.returns-clause-answered
-returns-clause-answered g c = is_left_open g.S.Store c.nodes_between.new.conn c.document_of.result c.in_ok-nodes.ensures.ends_open
+returns-clause-answered g c = leaves_open g.S.Store c.nodes_between.new.conn c.in_ok-nodes.ensures.ends_open
 
 pub returns-in_err-nodes-clause-same : goal.returns-in_err-nodes-clause-same
 returns-in_err-nodes-clause-same g c = read_stands g.S.Store c.self.inside.conn c.args.self.now c.nodes_between.new.conn c.self.view_is c.nodes_between.ensures.open c.nodes_between.ensures.same
 
+pub returns-in_err-found-clause-same : goal.returns-in_err-found-clause-same
+returns-in_err-found-clause-same g c = read_stands g.S.Store c.self.inside.conn c.args.self.now c.nodes_between.new.conn c.self.view_is c.nodes_between.ensures.open c.nodes_between.ensures.same
+
 pub returns-in_err-nodes-clause-was_open : goal.returns-in_err-nodes-clause-was_open
 returns-in_err-nodes-clause-was_open g c = was_open g.S.Store c.self.inside.conn c.args.self.now c.nodes_between.new.conn c.self.view_is c.nodes_between.ensures.open
 
+pub returns-in_err-found-clause-was_open : goal.returns-in_err-found-clause-was_open
+returns-in_err-found-clause-was_open g c = was_open g.S.Store c.self.inside.conn c.args.self.now c.nodes_between.new.conn c.self.view_is c.nodes_between.ensures.open
+
 pub returns-in_err-nodes-clause-was_clean : goal.returns-in_err-nodes-clause-was_clean
 returns-in_err-nodes-clause-was_clean g c = was_clean g.S.Store c.self.inside.conn c.args.self.now c.nodes_between.new.conn c.self.view_is c.nodes_between.ensures.clean
+
+pub returns-in_err-found-clause-was_clean : goal.returns-in_err-found-clause-was_clean
+returns-in_err-found-clause-was_clean g c = was_clean g.S.Store c.self.inside.conn c.args.self.now c.nodes_between.new.conn c.self.view_is c.nodes_between.ensures.clean
 
 pub returns-clause-same : goal.returns-clause-same
 returns-clause-same g c = read_stands g.S.Store c.self.inside.conn c.args.self.now c.nodes_between.new.conn c.self.view_is c.nodes_between.ensures.open c.nodes_between.ensures.same

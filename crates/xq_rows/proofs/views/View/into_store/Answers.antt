@@ -1,7 +1,6 @@
+use Rattle.std.proofs.Common.{refl}
+use Rattle.xq_rows.proofs.Keeping.{given_back}
 use Rattle.xq_rows.proofs.views.View.into_store.Goals as goal
 
-pub returns-clause-same : goal.returns-clause-same
-returns-clause-same g c = c.self.invariant.view.stands
-
-pub returns-clause-was_open : goal.returns-clause-was_open
-returns-clause-was_open g c = c.self.invariant.view.was_open
+pub keep-requires : goal.keep-requires
+keep-requires g c = given_back g.S.Store g.O.Origin.beginning _ c.self.inside.shelf refl c.self.invariant c.if-shelf.true

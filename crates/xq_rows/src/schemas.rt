@@ -1,0 +1,169 @@
+//! Whether the tables of a database are those that a store makes, in their order.
+//!
+//! What a statement does is known for these tables alone. An adopted database may have others, as
+//! its two tables in the other order: of such a one nothing is kept.
+ghost use Rattle.std.specs.Prelude.{◌≡◌, ◌∷◌, [], IsTrue, None, false};
+ghost use Rattle.sqlite_value.specs.Keys.{plain};
+ghost use Rattle.xq_rows.specs.Tables.{layout_table, needed, node_index, node_table, store_schema};
+
+use sqlite_items::Items;
+use sqlite_schema::code::Terms;
+use sqlite_schema::schema::{Column, Index, Kind, Schema, Stamps, Table};
+use sqlite_value::keys::{Collation, Order};
+use sqlite_value::value::{Bytes, Value};
+
+/// Whether a name is this text.
+fn is_named(name: &Bytes, text: &str) -> bool
+    ensures { IsTrue result → name.now ≡ text.now }
+{
+    name.as_slice() == text.as_bytes()
+}
+
+/// Whether this is a column of a STRICT table that is NOT NULL.
+fn is_needed(column: &Column, name: &str, kind: Kind) -> bool
+    ensures { IsTrue result → column.now ≡ needed name.now kind }
+{
+    is_named(&column.name, name)
+        && column.kind == kind
+        && column.is_strict
+        && column.not_null
+        && matches!(column.default, Value::Null)
+        && column.collation == Collation::Binary
+}
+
+/// Whether there is no expression.
+fn are_none(terms: &Terms) -> bool
+    ensures { IsTrue result → terms.now ≡ [] }
+{
+    terms.roots.is_empty()
+}
+
+/// Whether no default reads the time.
+fn are_unstamped(stamps: &Stamps) -> bool
+    ensures { IsTrue result → stamps.now ≡ record { places = []; terms = []; formats = [] } }
+{
+    stamps.places.is_empty() && are_none(&stamps.terms) && stamps.formats.is_empty()
+}
+
+/// Whether these are the places of the first two columns.
+fn are_first_two(places: &Items<usize>) -> bool
+    ensures { IsTrue result → places.now ≡ 1 ∷ 2 ∷ [] }
+{
+    matches!(places.as_slice(), [1, 2])
+}
+
+/// Whether a table has nothing beside its name, its columns and its primary key.
+fn is_bare(table: &Table) -> bool
+    ensures key { IsTrue result → table.now.key ≡ None }
+    ensures checks { IsTrue result → table.now.checks ≡ [] }
+    ensures references { IsTrue result → table.now.references ≡ [] }
+    ensures computed { IsTrue result → table.now.computed ≡ [] }
+    ensures stamps { IsTrue result
+        → table.now.stamps ≡ record { places = []; terms = []; formats = [] } }
+    ensures uncounted { IsTrue result → table.now.is_counted ≡ false }
+{
+    table.key.is_none()
+        && are_none(&table.checks)
+        && table.references.is_empty()
+        && table.computed.is_empty()
+        && are_unstamped(&table.stamps)
+        && !table.is_counted
+}
+
+/// Whether the column of the editions is the only one.
+fn are_edition(columns: &Items<Column>) -> bool
+    ensures { IsTrue result → columns.now ≡ layout_table.columns }
+{
+    match columns.as_slice() {
+        [edition] => is_needed(edition, "edition", Kind::Integer),
+        _ => false,
+    }
+}
+
+/// Whether these are the columns of the nodes.
+fn are_node_columns(columns: &Items<Column>) -> bool
+    ensures { IsTrue result → columns.now ≡ node_table.columns }
+{
+    match columns.as_slice() {
+        [address, pre, size, level, kind, name, value] => {
+            is_needed(address, "address", Kind::Text)
+                && is_needed(pre, "pre", Kind::Integer)
+                && is_needed(size, "size", Kind::Integer)
+                && is_needed(level, "level", Kind::Integer)
+                && is_needed(kind, "kind", Kind::Integer)
+                && is_needed(name, "name", Kind::Text)
+                && is_needed(value, "value", Kind::Text)
+        }
+        _ => false,
+    }
+}
+
+/// Whether this is the table of the edition.
+fn is_layout(table: &Table) -> bool
+    ensures { IsTrue result → table.now ≡ layout_table }
+{
+    is_named(&table.name, "layout")
+        && table.tree == 0
+        && are_edition(&table.columns)
+        && table.primary.is_empty()
+        && table.uniques.is_empty()
+        && table.orders.is_empty()
+        && is_bare(table)
+}
+
+/// Whether one key is unique, that of the first two columns.
+fn are_unique(uniques: &Items<Items<usize>>) -> bool
+    ensures { IsTrue result → uniques.now ≡ (1 ∷ 2 ∷ []) ∷ [] }
+{
+    match uniques.as_slice() {
+        [places] => are_first_two(places),
+        _ => false,
+    }
+}
+
+/// Whether the one key ascends.
+fn is_one_plain(orders: &Items<Order>) -> bool
+    ensures { IsTrue result → orders.now ≡ plain ∷ [] }
+{
+    match orders.as_slice() {
+        [order] => *order == Order::PLAIN,
+        _ => false,
+    }
+}
+
+/// Whether this is the table of the nodes.
+fn is_node(table: &Table) -> bool
+    ensures { IsTrue result → table.now ≡ node_table }
+{
+    is_named(&table.name, "node")
+        && table.tree == 1
+        && are_node_columns(&table.columns)
+        && are_first_two(&table.primary)
+        && are_unique(&table.uniques)
+        && is_one_plain(&table.orders)
+        && is_bare(table)
+}
+
+/// Whether this is the index that keeps the primary key of the nodes.
+fn is_node_index(index: &Index) -> bool
+    ensures { IsTrue result → index.now ≡ node_index }
+{
+    is_named(&index.name, "sqlite_autoindex_node_1")
+        && index.tree == 2
+        && index.table == 1
+        && are_first_two(&index.columns)
+        && index.order == Order::PLAIN
+        && index.is_unique
+}
+
+/// Whether the database has these two tables and their index, and nothing else.
+pub fn is_store_schema(schema: &Schema) -> bool
+    ensures { IsTrue result → schema.now ≡ store_schema }
+{
+    match (schema.tables.as_slice(), schema.indexes.as_slice()) {
+        ([layout, node], [index]) => {
+            is_layout(layout) && is_node(node) && is_node_index(index) && schema.views.is_empty()
+        }
+        _ => false,
+    }
+}
