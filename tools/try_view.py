@@ -87,7 +87,7 @@ def said(folder, text):
 
 
 def is_right(program, moved, answer):
-    """Whether it compiles and counts one address, or its one error names the moved value at its line."""
+    """Whether it compiles and counts one address, or its one error names the moved value there."""
     status, written, messages = answer
     if moved is None:
         return status == 0 and written == "1\n"
