@@ -17,11 +17,11 @@ import tempfile
 
 TOP = os.path.join(os.path.dirname(os.path.abspath(__file__)), "..")
 sys.path.insert(0, os.path.join(TOP, "tools"))
-from workspace import built
+from workspace import bench_program
 
-CRATES = (
+USES = (
     "xq_atoms", "xq_regions", "xq_sources", "xq_expressions", "xq_signatures", "xq_values",
-    "xq_axes",
+    "xq_axes", "anyhow",
 )
 SIZES = (10_000, 100_000)
 LOOP = "plain loop"
@@ -35,15 +35,6 @@ SINGLY = (
     "one parent of each tenth element", "siblings after each tenth element",
     "list: one parent of each item",
 )
-
-
-def program_in(folder):
-    """The program's path; it is built if it isn't there."""
-    path = os.path.join(folder, "crates", "program", "out", "program")
-    if os.path.exists(path):
-        return path
-    with open(os.path.join(TOP, "bench", "axes", "main.rattle")) as source:
-        return built(folder, CRATES, CRATES + ("anyhow",), source.read())
 
 
 def times(program, size):
@@ -78,7 +69,7 @@ def measure(program):
 
 def main():
     with tempfile.TemporaryDirectory() as scratch:
-        return measure(program_in(sys.argv[1] if len(sys.argv) > 1 else scratch))
+        return measure(bench_program(sys.argv[1] if len(sys.argv) > 1 else scratch, "axes", USES))
 
 
 if __name__ == "__main__":

@@ -1,138 +1,37 @@
-"""Builds, copies and prints elements of some 10^5 and 10^6 items, and prints times, ratios and MB/s.
+"""Builds, copies and prints elements of some 10^5 and 10^6 items; prints times, ratios and MB/s.
 
-usage: build.py
+usage: build.py [FOLDER]    builds bench/build/main.rattle there, unless an earlier call did
 
-The crates are copied into a workspace of their own beside the program below, since the gate
-compares what a program prints; rt proves and builds it there. A time is the least of five runs.
+A time is the least of five runs.
 """
 
 import os
-import shutil
 import subprocess
 import sys
 import tempfile
 
-sys.path.insert(0, os.path.join(os.path.dirname(os.path.abspath(__file__)), "..", "tools"))
-from workspace import built
+TOP = os.path.join(os.path.dirname(os.path.abspath(__file__)), "..")
+sys.path.insert(0, os.path.join(TOP, "tools"))
+from workspace import bench_program
 
-CRATES = ("xq_atoms", "xq_expressions", "xq_signatures", "xq_regions", "xq_sources", "xq_values", "xq_build")
-USES = ("xq_atoms", "xq_expressions", "xq_signatures", "xq_regions", "xq_sources", "xq_values", "xq_build",
-        "sqlite_items", "indexmap")
+USES = (
+    "xq_atoms", "xq_expressions", "xq_signatures", "xq_regions", "xq_sources", "xq_values",
+    "xq_build", "sqlite_items", "indexmap",
+)
 # as many attributes as a reply of 16 MB has room for
-KINDS = (("atoms", (99_999, 999_990)), ("texts", (99_999, 999_990)), ("elements", (99_999, 999_990)),
-         ("attributes", (60_000, 600_000)))
-PROGRAM = """\
-//! Builds an element of many items, copies it into a document and prints it: from standard input
-//! `KIND COUNT`; prints `ROWS BYTES BUILD COPY PRINT`, the times in microseconds, or `refused`.
-#![tactic(auto)]
-
-use std::alloc::Global;
-use std::io;
-use std::time::Instant;
-use xq_atoms::{Atom, Fault, Want};
-use xq_build::{document, element, print_items};
-use xq_regions::{Fragment, Item, Kind, Node, NodeRow};
-use xq_sources::Fragments;
-
-/// A row of the level, whose kind has the name and the value.
-fn row(alloc: Global, level: u32, kind: Kind, name: &str, value: &str) -> Result<NodeRow, Want> {
-    Ok(NodeRow {
-        pre: 0,
-        size: 0,
-        level,
-        kind,
-        name: String::from_str(alloc, name)?,
-        value: String::from_str(alloc, value)?,
-    })
-}
-
-/// The tree whose nodes are repeated: an element with attributes, and then a text and an element.
-fn sample(alloc: Global, attributes: u32) -> Result<Fragment, Fault> {
-    let mut rows = Vec::new(alloc);
-    rows.push(row(alloc, 0, Kind::Element, "s", "")?)?;
-    rows.push(row(alloc, 1, Kind::Element, "e", "")?)?;
-    rows.push(row(alloc, 1, Kind::Text, "", "text")?)?;
-    rows.push(row(alloc, 1, Kind::Element, "with", "")?)?;
-    for number in 0..attributes {
-        let name = format!(in alloc; "a{}", number)?;
-        rows.push(row(alloc, 2, Kind::Attribute, name.as_str(), "v")?)?;
-    }
-    Fragment::from_levels(rows).ok_or(Fault::Want(Want::Store))
-}
-
-/// The items of the kind.
-fn items(alloc: Global, kind: &str, count: u32) -> Result<Vec<Item>, Fault> {
-    let mut items = Vec::new(alloc);
-    for number in 0..count {
-        items.push(match kind {
-            "atoms" => Item::Atom(Atom::Int(i64::from(number))),
-            "texts" => Item::Node(Node { tree: 0, pre: 2 }),
-            "elements" => Item::Node(Node { tree: 0, pre: 1 }),
-            _ => Item::Node(Node {
-                tree: 0,
-                pre: number.saturating_add(4),
-            }),
-        })?;
-    }
-    Ok(items)
-}
-
-/// Trees with the sample, and items of the kind.
-fn prepared(alloc: Global, kind: &str, count: u32) -> Result<(Fragments, Vec<Item>), Fault> {
-    let mut trees = Fragments::new(alloc);
-    trees.push(sample(alloc, if kind == "attributes" { count } else { 0 })?)?;
-    Ok((trees, items(alloc, kind, count)?))
-}
-
-fn main(rt: HostRuntime) -> io::Result<()> {
-    let alloc = rt.alloc();
-    let text = io::read_to_string(alloc, rt.stdin())?;
-    let Some((kind, count)) = text.as_str().trim().split_once(' ') else {
-        return println!(rt; "refused");
-    };
-    let Ok(count) = count.parse::<u32>() else {
-        return println!(rt; "refused");
-    };
-    let Ok((mut trees, items)) = prepared(alloc, kind, count) else {
-        return println!(rt; "refused");
-    };
-    let start = Instant::now(&rt)?;
-    let Ok(made) = element(alloc, &mut trees, String::from_str(alloc, "x")?, &items) else {
-        return println!(rt; "refused");
-    };
-    let building = start.elapsed(&rt)?;
-    let rows = made.rows().len();
-    let Ok(()) = trees.push(made) else {
-        return println!(rt; "refused");
-    };
-    let whole = [Item::Node(Node { tree: 1, pre: 0 })];
-    let start = Instant::now(&rt)?;
-    let Ok(_) = document(alloc, &mut trees, &whole) else {
-        return println!(rt; "refused");
-    };
-    let copying = start.elapsed(&rt)?;
-    let start = Instant::now(&rt)?;
-    let Ok(printed) = print_items(alloc, &mut trees, &whole) else {
-        return println!(rt; "refused");
-    };
-    let printing = start.elapsed(&rt)?;
-    println!(rt;
-        "{} {} {} {} {}",
-        rows,
-        printed.len(),
-        building.as_micros(),
-        copying.as_micros(),
-        printing.as_micros()
-    )
-}
-"""
+KINDS = (
+    ("atoms", (99_999, 999_990)), ("texts", (99_999, 999_990)), ("elements", (99_999, 999_990)),
+    ("attributes", (60_000, 600_000)),
+)
 
 
 def timed(program, kind, size):
+    """The rows of the element, the bytes that it prints as, and the least times in milliseconds."""
     best = None
     for _ in range(5):
-        words = subprocess.run([program], input=("%s %d" % (kind, size)).encode(), stdout=subprocess.PIPE,
-                               check=True).stdout.decode().split()
+        given = ("%s %d" % (kind, size)).encode()
+        ran = subprocess.run([program], input=given, stdout=subprocess.PIPE, check=True)
+        words = ran.stdout.decode().split()
         if words[0] == "refused":
             sys.exit("%s %d: refused" % (kind, size))
         times = [int(word) / 1000 for word in words[2:]]
@@ -140,21 +39,23 @@ def timed(program, kind, size):
     return int(words[0]), int(words[1]), best
 
 
+def measure(program):
+    """Prints the table."""
+    heads = ("items", "count", "rows", "build ms", "copy ms", "print ms", "MB/s")
+    print("%-11s %8s %8s %9s %9s %9s %9s   ratios" % heads)
+    for kind, sizes in KINDS:
+        before = None
+        for size in sizes:
+            rows, length, times = timed(program, kind, size)
+            ratios = " ".join("%5.1f" % (now / then) for now, then in zip(times, before or ()))
+            print("%-11s %8d %8d %9.1f %9.1f %9.1f %9.1f   %s"
+                  % (kind, size, rows, *times, length / times[2] / 1000, ratios), flush=True)
+            before = times
+
+
 def main():
-    folder = tempfile.mkdtemp()
-    try:
-        program = built(folder, CRATES, USES, PROGRAM)
-        print("%-11s %8s %8s %9s %9s %9s %9s   ratios" % ("items", "count", "rows", "build ms", "copy ms", "print ms", "MB/s"))
-        for kind, sizes in KINDS:
-            before = None
-            for size in sizes:
-                rows, length, times = timed(program, kind, size)
-                ratios = " ".join("%5.1f" % (now / then) for now, then in zip(times, before)) if before else ""
-                print("%-11s %8d %8d %9.1f %9.1f %9.1f %9.1f   %s"
-                      % (kind, size, rows, *times, length / times[2] / 1000, ratios), flush=True)
-                before = times
-    finally:
-        shutil.rmtree(folder)
+    with tempfile.TemporaryDirectory() as scratch:
+        measure(bench_program(sys.argv[1] if len(sys.argv) > 1 else scratch, "build", USES))
 
 
 if __name__ == "__main__":

@@ -16,21 +16,12 @@ import tempfile
 TOP = os.path.join(os.path.dirname(os.path.abspath(__file__)), "..")
 sys.path[:0] = [os.path.join(TOP, "tools"), os.path.join(TOP, "bench")]
 from queries import QUERIES, document
-from workspace import built, crates_below
+from workspace import bench_program
 
 USES = ("xq_atoms", "xq_queries", "xq_sources", "xq_worlds")
 # The most that a time may grow where the document grows tenfold.
 MOST = 13
 TURNS = 5
-
-
-def program_in(folder):
-    """The program's path; it is built if it isn't there."""
-    path = os.path.join(folder, "crates", "program", "out", "program")
-    if os.path.exists(path):
-        return path
-    with open(os.path.join(TOP, "bench", "evaluation", "main.rattle")) as source:
-        return built(folder, crates_below(USES), USES, source.read())
 
 
 def figures(program, elements):
@@ -48,7 +39,7 @@ def figures(program, elements):
 
 def main():
     with tempfile.TemporaryDirectory() as scratch:
-        program = program_in(sys.argv[1] if len(sys.argv) > 1 else scratch)
+        program = bench_program(sys.argv[1] if len(sys.argv) > 1 else scratch, "evaluation", USES)
         small, large = figures(program, 10_000), figures(program, 100_000)
     print("| Query | 10,000 | 100,000 | growth | rows read | A | B |")
     print("|---|---|---|---|---|---|---|")

@@ -12,7 +12,8 @@ import subprocess
 import sys
 import tempfile
 
-from evaluation import TURNS, program_in
+from evaluation import TURNS, USES
+from workspace import bench_program
 
 SIZES = (100_000, 1_000_000)
 CALLS_EACH = 8
@@ -69,7 +70,7 @@ def times(program, size):
 
 def main():
     with tempfile.TemporaryDirectory() as scratch:
-        program = program_in(sys.argv[1] if len(sys.argv) > 1 else scratch)
+        program = bench_program(sys.argv[1] if len(sys.argv) > 1 else scratch, "evaluation", USES)
         small, large = times(program, SIZES[0]), times(program, SIZES[1])
     print("| Function | 100,000 | 1,000,000 | growth | its input |")
     print("|---|---|---|---|---|")

@@ -16,9 +16,9 @@ import tempfile
 
 TOP = os.path.join(os.path.dirname(os.path.abspath(__file__)), "..")
 sys.path.insert(0, os.path.join(TOP, "tools"))
-from workspace import built
+from workspace import bench_program
 
-CRATES = ("xq_atoms", "xq_lexer", "xq_expressions", "xq_grammar", "xq_parser")
+USES = ("xq_atoms", "xq_lexer", "xq_expressions", "xq_grammar", "xq_parser", "sqlite_items")
 CHAINS = (
     ("1+1+1 ..", 500_000, "expression", lambda count: "1" + "+1" * count),
     ("/a/a ..", 300_000, "expression", lambda count: "/a" * count),
@@ -35,15 +35,6 @@ NESTS = (
     ("1 or .. a[1]", LEVELS * 128 + "1" + "]" * 128),
     ("1[1, 1[1, 1]]", "1[1," * 128 + "1" + "]" * 128),
 )
-
-
-def program_in(folder):
-    """The program's path; it is built if it isn't there."""
-    path = os.path.join(folder, "crates", "program", "out", "program")
-    if os.path.exists(path):
-        return path
-    with open(os.path.join(TOP, "bench", "parser", "main.rattle")) as source:
-        return built(folder, CRATES, CRATES + ("sqlite_items",), source.read())
 
 
 def timed(program, text, wanted):
@@ -96,7 +87,7 @@ def measure(program):
 
 def main():
     with tempfile.TemporaryDirectory() as scratch:
-        measure(program_in(sys.argv[1] if len(sys.argv) > 1 else scratch))
+        measure(bench_program(sys.argv[1] if len(sys.argv) > 1 else scratch, "parser", USES))
 
 
 if __name__ == "__main__":

@@ -3,8 +3,9 @@
 usage: plan.py [FOLDER]     builds bench/plan/main.rattle in the folder, unless an earlier call did
 
 A time is the least of five runs, of the normal form and the plan alone. The queries are steps of one path,
-operands of one chain, clauses of one FLWOR expression, which bind ever new variables or one again and again, and
-quantified expressions side by side.
+operands of one chain, clauses of one FLWOR expression, and quantified expressions side by side. The clauses are
+the bindings of one `let`, of ever new variables or of one again and again, and those of the other kinds: each
+word that binds nests what follows, and nesting goes to 128, so most bindings come after a comma.
 """
 
 import os
@@ -14,11 +15,10 @@ import tempfile
 
 TOP = os.path.join(os.path.dirname(os.path.abspath(__file__)), "..")
 sys.path.insert(0, os.path.join(TOP, "tools"))
-from parse_corpus import CRATES as OF_PARSER
-from workspace import built
+from workspace import bench_program
 
-CRATES = OF_PARSER + (
-    "xq_signatures", "xq_scopes", "xq_regions", "xq_sources", "xq_values", "xq_meaning", "xq_normal", "xq_plan")
+USES = ("xq_atoms", "xq_lexer", "xq_expressions", "xq_grammar", "xq_parser", "xq_signatures", "xq_scopes", "xq_regions",
+        "xq_sources", "xq_values", "xq_meaning", "xq_normal", "xq_plan", "sqlite_items", "indexmap")
 MEGABYTE = 1_000_000
 # The most that a time may grow where the length doubles.
 MOST = 2.3
@@ -46,11 +46,16 @@ def operands(length):
 
 
 def new_variables(length):
-    return of_length(length, "let $v0 := 1", lambda n: " let $v%d := ($v%d, $v%d)" % (n + 1, n, n // 2), " return $v0")
+    return of_length(length, "let $v0 := 1", lambda n: ", $v%d := ($v%d, $v%d)" % (n + 1, n, n // 2), " return $v0")
 
 
 def one_variable(length):
-    return of_length(length, "let $v := 1", lambda n: " let $v := $v + 1", " return $v")
+    return of_length(length, "let $v := 1", lambda n: ", $v := $v + 1", " return $v")
+
+
+def other_clauses(length):
+    kinds = (" where $v = %d", " order by $v, $w descending", " group by $v", " stable order by $w + %d empty greatest")
+    return of_length(length, "for $v at $w in 1 to 9", lambda n: kinds[n % len(kinds)].replace("%d", str(n)), " return $v")
 
 
 def quantifiers(length):
@@ -62,17 +67,9 @@ QUERIES = (
     ("operands", operands),
     ("ever new variables", new_variables),
     ("one variable", one_variable),
+    ("other clauses", other_clauses),
     ("quantifiers", quantifiers),
 )
-
-
-def program_in(folder):
-    """The program's path; it is built if it isn't there."""
-    path = os.path.join(folder, "crates", "program", "out", "program")
-    if os.path.exists(path):
-        return path
-    with open(os.path.join(TOP, "bench", "plan", "main.rattle")) as source:
-        return built(folder, CRATES, CRATES + ("sqlite_items", "indexmap"), source.read())
 
 
 def timed(program, text):
@@ -106,7 +103,7 @@ def measure(program):
 
 def main():
     with tempfile.TemporaryDirectory() as scratch:
-        return measure(program_in(sys.argv[1] if len(sys.argv) > 1 else scratch))
+        return measure(bench_program(sys.argv[1] if len(sys.argv) > 1 else scratch, "plan", USES))
 
 
 if __name__ == "__main__":

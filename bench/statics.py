@@ -13,10 +13,10 @@ import tempfile
 
 TOP = os.path.join(os.path.dirname(os.path.abspath(__file__)), "..")
 sys.path.insert(0, os.path.join(TOP, "tools"))
-from parse_corpus import CRATES as OF_PARSER
-from workspace import built
+from workspace import bench_program
 
-CRATES = OF_PARSER + ("xq_signatures", "xq_scopes", "xq_statics")
+USES = ("xq_atoms", "xq_lexer", "xq_expressions", "xq_grammar", "xq_parser", "xq_signatures", "xq_scopes",
+        "xq_statics", "sqlite_items")
 MEGABYTE = 1_000_000
 # The most that a time may grow where the length doubles.
 MOST = 2.3
@@ -68,15 +68,6 @@ QUERIES = (
 )
 
 
-def program_in(folder):
-    """The program's path; it is built if it isn't there."""
-    path = os.path.join(folder, "crates", "program", "out", "program")
-    if os.path.exists(path):
-        return path
-    with open(os.path.join(TOP, "bench", "statics", "main.rattle")) as source:
-        return built(folder, CRATES, CRATES + ("sqlite_items",), source.read())
-
-
 def timed(program, text):
     """The least time of 25 runs in microseconds."""
     best = None
@@ -108,7 +99,7 @@ def measure(program):
 
 def main():
     with tempfile.TemporaryDirectory() as scratch:
-        return measure(program_in(sys.argv[1] if len(sys.argv) > 1 else scratch))
+        return measure(bench_program(sys.argv[1] if len(sys.argv) > 1 else scratch, "statics", USES))
 
 
 if __name__ == "__main__":

@@ -1,5 +1,5 @@
 #!/usr/bin/env python3
-"""Tries to write to a store while a view has it: the compiler refuses the program, before any proof.
+"""Tries to write to a store while a view has it: the compiler refuses that, before any proof.
 
     tools/try_view.py
 
@@ -81,19 +81,22 @@ def said(folder, text):
     """What the compiler says of the program, and what the program writes."""
     with open(os.path.join(folder, "src", "main.rt"), "w") as source:
         source.write(text)
-    done = subprocess.run(["rt", "try"], cwd=folder, stdin=subprocess.DEVNULL, capture_output=True)
+    done = subprocess.run(["rt", "try"], cwd=folder, stdin=subprocess.DEVNULL,
+                          capture_output=True)
     return done.returncode, done.stdout.decode(), done.stderr.decode()
 
 
 def is_right(program, moved, answer):
-    """Whether it compiles and counts one address, or its one error names the moved value at its line."""
+    """Whether it compiles and counts one address, or its one error names the moved value there."""
     status, written, messages = answer
     if moved is None:
         return status == 0 and written == "1\n"
     usual = PROGRAM.splitlines()
-    added = [at for at, line in enumerate(program.splitlines(), 1) if line.strip() and line not in usual]
-    errors = [line for line in messages.splitlines() + written.splitlines() if "error[" in line]
-    return (status == 1 and len(added) == 1 == len(errors) and errors[0].startswith("src/main.rt:%d:" % added[0])
+    lines = enumerate(program.splitlines(), 1)
+    added = [at for at, line in lines if line.strip() and line not in usual]
+    errors = [line for line in (messages + written).splitlines() if "error[" in line]
+    return (status == 1 and len(added) == 1 == len(errors)
+            and errors[0].startswith("src/main.rt:%d:" % added[0])
             and "borrow of moved value: `%s`" % moved in errors[0])
 
 

@@ -56,3 +56,12 @@ def built(folder, crates, uses, source):
     if done.returncode or not os.path.exists(path):
         sys.exit(done.stdout.decode() + done.stderr.decode())
     return path
+
+
+def bench_program(folder, name, uses):
+    """The path of the program of bench/NAME/main.rattle; it is built in the folder, unless an earlier call did."""
+    path = os.path.join(folder, "crates", "program", "out", "program")
+    if os.path.exists(path):
+        return path
+    with open(os.path.join(TOP, "bench", name, "main.rattle")) as source:
+        return built(folder, crates_below(uses), uses, source.read())
