@@ -23,3 +23,4 @@ pub mod CreateFaults
 pub mod Adopts
 pub mod Runs
 pub mod Adoptions
+pub mod Parents

@@ -1,12 +1,13 @@
 //! The rows of documents that are kept in memory: of each document the first, as far as they were
 //! read.
-ghost use Rattle.std.specs.Prelude.{◌≡◌, IsTrue, List, Some, IfOk, OnOk, filter, length, map, string_bytes};
+ghost use Rattle.std.specs.Prelude.{◌≡◌, IsTrue, List, Some, IfOk, IfSome, OnOk, filter, length, map, string_bytes};
 ghost use Rattle.std.specs.FinMap.{get};
-ghost use Rattle.xq_regions.specs.Rows.{placed};
+ghost use Rattle.xq_regions.specs.Rows.{placed, row_of};
 ghost use Rattle.xq_regions.specs.Tree.{Tree};
 ghost use Rattle.xq_rows.specs.Documents.{IsClean, IsOpen, Map, StandsFor};
 ghost use Rattle.xq_rows.specs.private.Keeps.{LeavesAlone};
 ghost use Rattle.xq_rows.specs.private.Shelves.{AreFronts, AreListed, HasReached, IsFront, Reaches, front_at, run_of};
+ghost use Rattle.xq_sources.specs.Parents.{IsParentRow};
 ghost use Rattle.xq_sources.specs.Sources.{encloses as encloses_lem};
 
 use crate::stores::Store;
@@ -14,6 +15,7 @@ use sqlite::Alter;
 use std::alloc::Global;
 use xq_atoms::Want;
 use xq_regions::NodeRow;
+use xq_sources::Guide;
 
 /// How many rows are read at a time.
 const PART: u32 = 1_024;
@@ -28,6 +30,8 @@ const MOST_KEPT: usize = 1_000_000;
 pub(crate) struct Shelf {
     pub addresses: Vec<String>,
     pub fronts: Vec<Vec<NodeRow>>,
+    /// Where parents lie among them, at the same places as far as there are some.
+    pub guides: Vec<Guide>,
     /// How many rows that are in all.
     pub kept: usize,
     /// Whether the store may keep this when its view ends.
@@ -112,6 +116,37 @@ fn read_front<S: Alter>(
         rows.append(&mut found)?;
     }
     Ok(())
+}
+
+/// Goes on with the guide to a tree's parents as far as its rows are kept.
+fn try_to_guide(
+    alloc: Global,
+    guides: &mut Vec<Guide>,
+    tree: usize,
+    rows: &[NodeRow],
+) -> Result<(), Want> {
+    for _ in guides.len()..tree.saturating_add(1) {
+        guides.push(Guide::new(alloc))?;
+    }
+    match guides.get_mut(tree) {
+        Some(guide) => guide.read_on(rows),
+        None => Ok(()),
+    }
+}
+
+/// Goes on with the guide to a tree's parents. Where memory is short it stays behind: the rows are
+/// read without it.
+fn guide_on(alloc: Global, guides: &mut Vec<Guide>, tree: usize, rows: &[NodeRow]) {
+    let _ = try_to_guide(alloc, guides, tree, rows);
+}
+
+/// The place of the parent of a node, where the rows that are kept tell it.
+pub(crate) fn parent_of(shelf: &Shelf, tree: usize, node: u32) -> Option<u32>
+    ensures { IfSome result (λ place.
+        IsParentRow (map row_of (front_at shelf.now.fronts.items tree)) place node) }
+{
+    let guide = shelf.guides.get(tree)?;
+    guide.parent(front_of(&shelf.fronts, tree), node)
 }
 
 /// The rows of a tree that are kept.
@@ -202,5 +237,6 @@ pub(crate) fn read_on<S: Alter>(
     let more = front.len().saturating_sub(before);
     shelf.kept = shelf.kept.saturating_add(more);
     shelf.stays &= read.is_ok();
+    guide_on(alloc, &mut shelf.guides, tree, front_of(&shelf.fronts, tree));
     read
 }

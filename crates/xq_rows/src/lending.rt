@@ -2,7 +2,7 @@
 ghost use Rattle.std.specs.Prelude.{map};
 ghost use Rattle.xq_regions.specs.Rows.{placed};
 
-use crate::fronts::{Run, front_of, kept_rows, places_enclosing, read_on};
+use crate::fronts::{Run, front_of, kept_rows, parent_of, places_enclosing, read_on};
 use crate::views::{Origin, View};
 use sqlite::Alter;
 use std::alloc::Global;
@@ -42,8 +42,8 @@ impl<S: Alter, O: Origin> RowLender for View<S, O> {
         Ok(found)
     }
 
-    fn parent(&self, _: usize, _: u32) -> Option<u32> {
-        None
+    fn parent(&self, tree: usize, node: u32) -> Option<u32> {
+        parent_of(&self.shelf, tree, node)
     }
 
     fn lent(&self) -> &[NodeRow] {

@@ -200,6 +200,7 @@ impl<S: Alter> Store<S> {
         Ok(Shelf {
             addresses,
             fronts,
+            guides: Vec::new(self.alloc),
             kept: 0,
             stays,
         })

@@ -1,0 +1,71 @@
+-- Parents, by the rows that are kept of a tree.
+use Rattle.std.proofs.Common.{◌≡◌, ◌+◌, ◌<◌, ◌≤◌, ℕ, zero, suc, Bool, List, [], ◌∷◌, length, map, take, refl, sym, ap, subst, ◌∙◌, arith, Vec, Global, Option, Some, None, IfSome}
+use Rattle.std.specs.List.{enumerate_from}
+use Rattle.std.proofs.lemmas.List.{take-map}
+use Rattle.sqlite_trees.specs.declared.store.Store.{Ghosts}
+use Rattle.xq_regions.specs.Tree.{Tree}
+use Rattle.xq_regions.specs.Rows.{Row, rows, row_at, row_of, placed}
+use Rattle.xq_regions.specs.declared.NodeRow.{NodeRow}
+use Rattle.xq_sources.specs.Parents.{IsParentRow}
+use Rattle.xq_sources.specs.Sources.{tree_at as nth_tree}
+use Rattle.xq_rows.specs.Documents.{IsClean}
+use Rattle.xq_rows.specs.Views.{Beginning, HeldDocuments, Viewed, trees_under}
+use Rattle.xq_rows.specs.private.Shelves.{AreFronts, IsFront, IsShelved, front_at}
+use Rattle.xq_rows.proofs.FrontLaws.{front_is}
+
+row-first : (n i : ℕ) (xs : List Row) → i < length (take n xs) → row_at (take n xs) i ≡ row_at xs i
+row-first zero i xs h = absurd (omega (arith, h))
+row-first (suc n) i [] h = absurd (omega (arith, h))
+row-first (suc n) zero (x ∷ xs) h = refl
+row-first (suc n) (suc i) (x ∷ xs) h = row-first n i xs (omega (arith, h))
+
+length-first : (n : ℕ) (xs : List Row) → length (take n xs) ≤ length xs
+length-first zero xs = omega arith
+length-first (suc n) [] = omega arith
+length-first (suc n) (x ∷ xs) = let more = length-first n xs in omega (arith, more)
+
+without-places : (n : ℕ) (xs : List Row) → map (λ (p : ℕ × Row). p.1) (enumerate_from n xs) ≡ xs
+without-places n [] = refl
+without-places n (x ∷ xs) = ap (λ ys. x ∷ ys) (without-places (n + 1) xs)
+
+rows-placed : (rs : List NodeRow) → map (λ (p : ℕ × Row). p.1) (map placed rs) ≡ map row_of rs
+rows-placed [] = refl
+rows-placed (r ∷ rs) = ap (λ ys. row_of r ∷ ys) (rows-placed rs)
+
+-- what the first rows of a tree tell of a parent holds in the tree
+parent-first : (n : ℕ) (xs : List Row) (u v : ℕ) → IsParentRow (take n xs) u v → IsParentRow xs u v
+parent-first n xs u v q =
+    let less = q.inside.0 in
+    let there = q.there in
+    let eu = row-first n u xs (omega (arith, less, there)) in
+    let ev = row-first n v xs there in
+    let most = length-first n xs in
+    record {
+      there = omega (arith, there, most);
+      inside = (less, subst (λ (r : Row). v ≤ u + r.size) eu q.inside.1);
+      level = sym (ap (λ (r : Row). r.level) ev) ∙ q.level ∙ ap (λ (r : Row). suc r.level) eu;
+    }
+
+parent-of-front : (t : Tree) (rs : List NodeRow) → IsFront t rs → (u v : ℕ) → IsParentRow (map row_of rs) u v → IsParentRow (rows t) u v
+parent-of-front t rs front u v q =
+    let n = length rs in
+    let e : map row_of rs ≡ take n (rows t) = sym (rows-placed rs) ∙ ap (map (λ (p : ℕ × Row). p.1)) front ∙ sym (take-map (λ (p : ℕ × Row). p.1) n (enumerate_from 0 (rows t))) ∙ ap (take n) (without-places 0 (rows t)) in
+    parent-first n (rows t) u v (subst (λ xs. IsParentRow xs u v) e q)
+
+some-front : (fronts : List (Vec NodeRow Global)) (tree v : ℕ) → v < length (map row_of (front_at fronts tree)) → tree < length fronts
+some-front [] tree v h = absurd (omega (arith, h))
+some-front (front ∷ fronts) zero v h = omega arith
+some-front (front ∷ fronts) (suc tree) v h = let more = some-front fronts tree v h in omega (arith, more)
+
+-- the parent that a view's rows tell
+pub told : {S : Type 0} (g : Ghosts S) (b : Beginning) (v : Viewed S) (fronts : List (Vec NodeRow Global)) (stays : Bool) → IsShelved g b v fronts stays → IsClean g v.store → HeldDocuments b → (tree place node : ℕ)
+    → IsParentRow (map row_of (front_at fronts tree)) place node → IsParentRow (rows (nth_tree (trees_under b v.addresses) tree)) place node
+told g b v fronts stays is clean held tree place node q =
+    let within = some-front fronts tree node q.there in
+    parent-of-front (nth_tree (trees_under b v.addresses) tree) (front_at fronts tree) (front_is (trees_under b v.addresses) fronts tree (is.rows clean held) within) place node q
+
+-- with an answer or without one
+pub told_of : {S : Type 0} (g : Ghosts S) (b : Beginning) (v : Viewed S) (fronts : List (Vec NodeRow Global)) (stays : Bool) → IsShelved g b v fronts stays → IsClean g v.store → HeldDocuments b → (tree node : ℕ) (answer : Option ℕ)
+    → IfSome answer (λ place. IsParentRow (map row_of (front_at fronts tree)) place node) → IfSome answer (λ place. IsParentRow (rows (nth_tree (trees_under b v.addresses) tree)) place node)
+told_of g b v fronts stays is clean held tree node None h = h
+told_of g b v fronts stays is clean held tree node (Some place) h = told g b v fronts stays is clean held tree place node h
