@@ -20,3 +20,4 @@ pub mod Counts
 pub mod Scans
 pub mod Looking
 pub mod GoingOn
+pub mod DoubleSlash

@@ -11,6 +11,7 @@ mod onward;
 mod passing;
 mod picks;
 mod selves;
+mod slashes;
 mod steps;
 mod tests;
 mod values;
@@ -18,5 +19,6 @@ mod walks;
 
 pub use copies::copy;
 pub use merges::merge;
+pub use slashes::double_slash;
 pub use steps::{axis, step};
 pub use values::string_value;
