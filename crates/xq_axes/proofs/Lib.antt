@@ -21,3 +21,4 @@ pub mod Scans
 pub mod Looking
 pub mod GoingOn
 pub mod OneParent
+pub mod DoubleSlash

@@ -1,3 +1,4 @@
 pub mod private
 pub mod Nodes
 pub mod Scans
+pub mod DoubleSlash

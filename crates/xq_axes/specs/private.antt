@@ -4,3 +4,4 @@ pub mod Downward
 pub mod Passing
 pub mod Waiting
 pub mod Many
+pub mod Standing

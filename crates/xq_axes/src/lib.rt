@@ -12,6 +12,7 @@ mod parents;
 mod passing;
 mod picks;
 mod selves;
+mod slashes;
 mod steps;
 mod tests;
 mod values;
@@ -19,5 +20,6 @@ mod walks;
 
 pub use copies::copy;
 pub use merges::merge;
+pub use slashes::double_slash;
 pub use steps::{axis, step};
 pub use values::string_value;

@@ -3,7 +3,7 @@
 use std::alloc::{AllocError, Global};
 use std::process::Abort;
 use xq_atoms::Want;
-use xq_axes::{axis, copy, merge, step, string_value};
+use xq_axes::{axis, copy, double_slash, merge, step, string_value};
 use xq_expressions::Text;
 use xq_regions::{Axis, Fragment, Kind, Node, NodeRow};
 use xq_sources::{Buffered, Fragments, RowLender, TreeSource};
@@ -319,6 +319,41 @@ fn reads_twice_in_two_steps<L: RowLender>(
     Ok(())
 }
 
+/// What `//` leads to from the nodes at the places is as wanted; it reads so many rows of ranges at
+/// most, and singly two for each context at most.
+fn is_below<L: RowLender>(
+    rt: &impl Abort,
+    alloc: Global,
+    source: &mut L,
+    places: &[u32],
+    wanted: &str,
+    most: u64,
+) -> Result<(), Want> {
+    let before = source.meter();
+    let nodes = nodes_at(alloc, places)?;
+    let found = double_slash(alloc, source, &nodes, &Test::Any)?;
+    let after = source.meter();
+    let text = places_of(alloc, &found)?;
+    assert_eq!(rt; text.as_str(), wanted);
+    assert!(rt; after.rows().saturating_sub(before.rows()) <= most);
+    assert!(rt; after.singles().saturating_sub(before.singles()) <= 2 * places.len() as u64);
+    Ok(())
+}
+
+/// The children of nodes and of all that is below them: attributes have none, and are none.
+fn finds_what_is_below<L: RowLender>(
+    rt: &impl Abort,
+    alloc: Global,
+    source: &mut L,
+) -> Result<(), Want> {
+    is_below(rt, alloc, source, &[0], "0.1 0.2 0.4 0.5 0.7 ", 7)?;
+    is_below(rt, alloc, source, &[5, 2, 5], "0.4 0.7 ", 4)?;
+    is_below(rt, alloc, source, &[1, 2], "0.2 0.4 0.5 0.7 ", 6)?;
+    is_below(rt, alloc, source, &[3, 6], "", 0)?;
+    is_below(rt, alloc, source, &[3, 2], "0.4 ", 2)?;
+    is_below(rt, alloc, source, &[], "", 0)
+}
+
 /// The string value of the node at the place is as wanted.
 fn is_value<L: RowLender>(
     rt: &impl Abort,
@@ -362,6 +397,7 @@ fn reads<L: RowLender>(rt: &impl Abort, alloc: Global, source: &mut L) -> Result
     reads_rows_once(rt, alloc, source)?;
     reads_families_once(rt, alloc, source)?;
     reads_twice_in_two_steps(rt, alloc, source)?;
+    finds_what_is_below(rt, alloc, source)?;
     passes_tests(rt, alloc, source)?;
     gives_values(rt, alloc, source)?;
     copies_nodes(rt, alloc, source)

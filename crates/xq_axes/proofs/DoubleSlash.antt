@@ -1,0 +1,284 @@
+-- A step to children after `//` leads to what is below: nothing is below an attribute.
+use Rattle.std.proofs.Common.{◌≡◌, ◌≢◌, ℕ, zero, suc, ◌+◌, ◌<◌, List, [], ◌∷◌, ◌++◌, length, map, Bool, true, ◌&&◌, ◌⊎◌, inl, inr, refl, sym, ◌∙◌, ap, subst, arith}
+use Rattle.std.specs.Prelude.{filter, IsTrue}
+use Rattle.std.specs.List.{list_any, flat_map, AllByRecursion}
+use Rattle.std.proofs.lemmas.Bool.{or_cases, or_left, or_right, and_from, and_parts, eq-eqb, eqb-true}
+use Rattle.std.proofs.lemmas.List.Folds.{list_any-append, Any-from_list_any}
+use Rattle.xq_regions.specs.declared.Axis.{Axis}
+use Rattle.xq_regions.specs.declared.Axis.TheVariants as axis
+use Rattle.xq_regions.specs.declared.Kind.{Kind}
+use Rattle.xq_regions.specs.declared.Kind.TheVariants.{Attribute}
+use Rattle.xq_regions.specs.Axis.{IsOnAxis}
+use Rattle.xq_regions.specs.AxisTests.{on_axis, is_same}
+use Rattle.xq_regions.specs.Forest.{Forest, end, node, tops, EachNode}
+use Rattle.xq_regions.specs.Node.{HasPath, kind_at}
+use Rattle.xq_regions.specs.Order.{IsAbove, step_down, step_right}
+use Rattle.xq_regions.specs.Tree.{Label, Tree, nodes, is_content, may_stand}
+use Rattle.xq_regions.specs.declared.items.Node.{Node}
+use Rattle.xq_regions.proofs.AxisTable.{on_axis_is}
+use Rattle.xq_regions.proofs.Paths.{down, right, at_place}
+use Rattle.xq_sources.specs.Sources.{tree_at}
+use Rattle.xq_values.specs.declared.node_tests.Test.{Test}
+use Rattle.xq_values.specs.declared.node_tests.Test.TheVariants as test
+use Rattle.xq_values.specs.Items.{Place, place, paths, nodes_at, places_from, same_node, is_among, in_document_order}
+use Rattle.xq_values.specs.Steps.{passes_at, axis_nodes}
+use Rattle.xq_values.specs.Readings.{node_at}
+use Rattle.xq_axes.specs.Nodes.{HaveAll}
+use Rattle.xq_axes.specs.DoubleSlash.{selves_and_below, after_double_slash}
+use Rattle.xq_axes.specs.private.Standing.{Stands, AreOfTrees}
+use Rattle.xq_axes.proofs.Lists.{same_tests}
+use Rattle.xq_axes.proofs.Many.{any_flat}
+use Rattle.xq_axes.proofs.Merging.{any_map, any_filter}
+
+-- # Some of a list
+
+record SomeOf {X : Type 0} (P : X → Type 0) (f : X → Bool) (xs : List X) : Type 0 where
+  item : X
+  has : P item
+  passes : f item ≡ true
+  counts : (g : X → Bool) → g item ≡ true → list_any g xs ≡ true
+
+some_of : {X : Type 0} (P : X → Type 0) (f : X → Bool) (xs : List X) → AllByRecursion P xs → list_any f xs ≡ true → SomeOf P f xs
+some_of P f [] h e = absurd (cc)
+some_of P f (x ∷ xs) h e = elim (or_cases (f x) (list_any f xs) e) [
+  | inl t ↦ record { item = x; has = h.0; passes = t; counts = λ g s. or_left (g x) (list_any g xs) s }
+  | inr t ↦ (let w = some_of P f xs h.1 t in record { item = w.item; has = w.has; passes = w.passes; counts = λ g s. or_right (g x) (list_any g xs) (w.counts g s) })
+]
+
+filter_agree : {X : Type 0} (f g : X → Bool) (xs : List X) → ((x : X) → f x ≡ g x) → filter f xs ≡ filter g xs
+filter_agree f g [] e = refl
+filter_agree f g (x ∷ xs) e = let u = e x in let v = filter_agree f g xs e in rw (u, v)
+
+-- # The paths of a forest
+
+path_of : {A : Type 0} (h : List ℕ → Bool) (f : Forest A) → list_any h (paths f) ≡ true → (w : List ℕ) × HasPath f w × (h w ≡ true)
+path_of h end e = absurd (cc)
+path_of h (node a b r) e = elim (or_cases (h (zero ∷ [])) (list_any h (map step_down (paths b) ++ map step_right (paths r))) e) [
+  | inl t ↦ (zero ∷ [], tt, t)
+  | inr t ↦ elim (or_cases (list_any h (map step_down (paths b))) (list_any h (map step_right (paths r))) (sym (list_any-append h (map step_down (paths b)) (map step_right (paths r))) ∙ t)) [
+    | inl u ↦ (let w = path_of (λ p. h (step_down p)) b (sym (any_map h step_down (paths b)) ∙ u) in (step_down w.0, (down a b r w.0 w.1).0, w.2))
+    | inr u ↦ (let w = path_of (λ p. h (step_right p)) r (sym (any_map h step_right (paths r)) ∙ u) in (step_right w.0, (right a b r w.0 w.1).0, w.2))
+  ]
+]
+
+has_path : {A : Type 0} (h : List ℕ → Bool) (f : Forest A) (w : List ℕ) → HasPath f w → h w ≡ true → list_any h (paths f) ≡ true
+has_path h end w p e = absurd p
+has_path h (node a b r) [] p e = absurd p
+has_path h (node a b r) (zero ∷ []) p e = or_left _ _ e
+has_path h (node a b r) (zero ∷ i ∷ w) p e =
+    or_right (h (zero ∷ [])) _ (list_any-append h (map step_down (paths b)) (map step_right (paths r))
+    ∙ or_left _ _ (any_map h step_down (paths b) ∙ has_path (λ p. h (step_down p)) b (i ∷ w) p e))
+has_path h (node a b r) (suc i ∷ w) p e =
+    or_right (h (zero ∷ [])) _ (list_any-append h (map step_down (paths b)) (map step_right (paths r))
+    ∙ or_right (list_any h (map step_down (paths b))) _ (any_map h step_right (paths r) ∙ has_path (λ p. h (step_right p)) r (i ∷ w) p e))
+
+has_place : (h : Place → Bool) (n : ℕ) (ts : List Tree) (k : ℕ) (w : List ℕ) → k < length ts → HasPath (nodes (tree_at ts k)) w → h (place (n + k) w) ≡ true → list_any h (places_from n ts) ≡ true
+has_place h n [] k w l p e = absurd (omega (arith, l))
+has_place h n (t ∷ ts) zero w l p e =
+    let z : n + 0 ≡ n = omega arith in
+    list_any-append h (map (place n) (paths (nodes t))) (places_from (suc n) ts)
+    ∙ or_left _ _ (any_map h (place n) (paths (nodes t)) ∙ has_path (λ w. h (place n w)) (nodes t) w p (subst (λ i. h (place i w) ≡ true) z e))
+has_place h n (t ∷ ts) (suc k) w l p e =
+    let z : n + suc k ≡ suc n + k = omega arith in
+    list_any-append h (map (place n) (paths (nodes t))) (places_from (suc n) ts)
+    ∙ or_right (list_any h (map (place n) (paths (nodes t)))) _ (has_place h (suc n) ts k w (omega (arith, l)) p (subst (λ i. h (place i w) ≡ true) z e))
+
+-- # The parent of a path
+
+parent : List ℕ → List ℕ
+parent [] = []
+parent (i ∷ []) = []
+parent (i ∷ j ∷ q) = i ∷ parent (j ∷ q)
+
+parent_length : (i : ℕ) (q : List ℕ) → length (i ∷ q) ≡ suc (length (parent (i ∷ q)))
+unfolding parent
+parent_length i [] = refl
+parent_length i (j ∷ q) = ap suc (parent_length j q)
+
+parent_above : (i : ℕ) (q : List ℕ) → IsAbove (parent (i ∷ q)) (i ∷ q)
+unfolding parent
+parent_above i [] = tt
+parent_above i (j ∷ q) = (refl, parent_above j q)
+
+parent_from : (v q : List ℕ) → IsAbove v q → (v ≡ parent q) ⊎ IsAbove v (parent q)
+unfolding parent
+parent_from v [] h = absurd h
+parent_from [] (j ∷ []) h = inl refl
+parent_from [] (j ∷ k ∷ q) h = inr tt
+parent_from (i ∷ v) (j ∷ []) h = absurd h.1
+parent_from (i ∷ v) (j ∷ k ∷ q) h = elim (parent_from v (k ∷ q) h.1) [
+  | inl e ↦ inl (ap (λ n. n ∷ v) h.0 ∙ ap (λ p. j ∷ p) e)
+  | inr e ↦ inr (h.0, e)
+]
+
+parent_there : {A : Type 0} (f : Forest A) (i j : ℕ) (q : List ℕ) → HasPath f (i ∷ j ∷ q) → HasPath f (parent (i ∷ j ∷ q))
+unfolding parent
+parent_there end i j q h = absurd h
+parent_there (node a b r) zero j [] h = tt
+parent_there (node a b r) zero j (k ∷ q) h = parent_there b j k q h
+parent_there (node a b r) (suc i) j q h = parent_there r i j q h
+
+abbrev EachContent : Forest Label → Type 0
+EachContent f = EachNode (λ (a : Label) (below : List Label). IsTrue (is_content a below)) f
+
+no_child : (k child : Kind) → k ≡ Attribute → may_stand k child ≡ true → ⊥
+no_child k child e h = let g : may_stand Attribute child ≡ true = subst (λ x. may_stand x child ≡ true) e h in cc
+
+child_stands : (a : Label) (b : Forest Label) (j : ℕ) → is_content a (tops b) ≡ true → HasPath b (j ∷ []) → a.kind ≢ Attribute
+child_stands a end j c h e = absurd h
+child_stands a (node x y z) j c h e = no_child a.kind x.kind e (and_parts _ _ c).0
+
+parent_plain : (f : Forest Label) (i j : ℕ) (q : List ℕ) → EachContent f → HasPath f (i ∷ j ∷ q) → kind_at f (parent (i ∷ j ∷ q)) ≢ Attribute
+unfolding parent
+parent_plain end i j q c h = absurd h
+parent_plain (node a b r) zero j [] c h = child_stands a b j c.0 h
+parent_plain (node a b r) zero j (k ∷ q) c h = parent_plain b j k q c.1.0 h
+parent_plain (node a b r) (suc i) j q c h = parent_plain r i j q c.1.1 h
+
+no_path : {A : Type 0} (f : Forest A) → HasPath f [] → ⊥
+no_path end h = h
+no_path (node a b r) h = h
+
+-- the node between: the parent of q, which is v or below it
+record Between (f : Forest Label) (v q : List ℕ) : Type 0 where
+  path : List ℕ
+  there : HasPath f path
+  from : IsOnAxis axis.DescendantOrSelf f v path
+  above : IsAbove path q
+  longer : length q ≡ suc (length path)
+
+between : (f : Forest Label) (v q : List ℕ) → EachContent f → HasPath f v → HasPath f q → IsAbove v q → Between f v q
+between f [] q c hv hq h = absurd (no_path f hv)
+between f (i ∷ v) [] c hv hq h = absurd h
+between f (i ∷ v) (j ∷ []) c hv hq h = absurd h.1
+between f (i ∷ v) (j ∷ k ∷ q) c hv hq h = record {
+  path = parent (j ∷ k ∷ q);
+  there = parent_there f j k q hq;
+  from = elim (parent_from (i ∷ v) (j ∷ k ∷ q) h) [ inl e ↦ inl e | inr e ↦ inr (e, parent_plain f j k q c hq) ];
+  above = parent_above j (k ∷ q);
+  longer = parent_length j (k ∷ q);
+}
+
+above_above : (u v w : List ℕ) → IsAbove u v → IsAbove v w → IsAbove u w
+above_above u v [] h g = absurd g
+above_above u [] (k ∷ w) h g = absurd h
+above_above [] (j ∷ v) (k ∷ w) h g = tt
+above_above (i ∷ u) (j ∷ v) (k ∷ w) h g = (h.0 ∙ g.0, above_above u v w h.1 g.1)
+
+below_self : (f : Forest Label) (u v w : List ℕ) → IsOnAxis axis.DescendantOrSelf f u v → IsAbove v w → IsAbove u w
+below_self f u v w (inl e) h = subst (λ x. IsAbove x w) (sym e) h
+below_self f u v w (inr g) h = above_above u v w g.0 h
+
+-- # The nodes on an axis
+
+record On (trees : List Tree) (a : Axis) (test : Test) (p q : Place) : Type 0 where
+  tree : q.tree ≡ p.tree
+  path : HasPath (nodes_at trees p.tree) q.path
+  on : IsOnAxis a (nodes_at trees p.tree) p.path q.path
+  passes : passes_at trees test q ≡ true
+
+same_place : (q : Place) (n : ℕ) (w : List ℕ) → q.tree ≡ n → q.path ≡ w → q ≡ place n w
+same_place q n w a b = λ i. record { tree = a i; path = b i }
+
+same_path : (v w : List ℕ) → is_same v w ≡ true → v ≡ w
+same_path v w = (on_axis_is axis.SelfNode end v w).0
+
+path_itself : (w : List ℕ) → is_same w w ≡ true
+path_itself w = (on_axis_is axis.SelfNode end w w).1 refl
+
+module _ (trees : List Tree) (a : Axis) (test : Test) (p q : Place) where
+  private_test : List ℕ → Bool
+  private_test w = on_axis a (nodes_at trees p.tree) p.path w && (passes_at trees test (place p.tree w) && same_node q (place p.tree w))
+
+  axis_any : is_among (axis_nodes trees a test p) q ≡ list_any private_test (paths (nodes_at trees p.tree))
+  unfolding private_test
+  axis_any =
+      let f = nodes_at trees p.tree in
+      let on : List ℕ → Bool = on_axis a f p.path in
+      any_filter (same_node q) (passes_at trees test) (map (place p.tree) (filter on (paths f)))
+      ∙ any_map (λ x. passes_at trees test x && same_node q x) (place p.tree) (filter on (paths f))
+      ∙ any_filter (λ w. passes_at trees test (place p.tree w) && same_node q (place p.tree w)) on (paths f)
+
+  from_axis : is_among (axis_nodes trees a test p) q ≡ true → On trees a test p q
+  unfolding private_test
+  from_axis e =
+      let f = nodes_at trees p.tree in
+      let w = path_of private_test f (sym axis_any ∙ e) in
+      let x = and_parts _ _ w.2 in
+      let y = and_parts _ _ x.1 in
+      let z = and_parts _ _ y.1 in
+      let tree : q.tree ≡ p.tree = eqb-true q.tree p.tree z.0 in
+      let path : q.path ≡ w.0 = same_path q.path w.0 z.1 in
+      record {
+        tree = tree;
+        path = subst (λ v. HasPath f v) (sym path) w.1;
+        on = subst (λ v. IsOnAxis a f p.path v) (sym path) ((on_axis_is a f p.path w.0).0 x.0);
+        passes = ap (passes_at trees test) (same_place q p.tree w.0 tree path) ∙ y.0;
+      }
+
+  to_axis : On trees a test p q → is_among (axis_nodes trees a test p) q ≡ true
+  unfolding private_test
+  to_axis h =
+      let f = nodes_at trees p.tree in
+      let is : q ≡ place p.tree q.path = same_place q p.tree q.path h.tree refl in
+      axis_any ∙ has_path private_test f q.path h.path
+      (and_from _ _ ((on_axis_is a f p.path q.path).1 h.on) (and_from _ _ (ap (passes_at trees test) (sym is) ∙ h.passes) (and_from _ _ (eq-eqb q.tree p.tree h.tree) (path_itself q.path))))
+
+-- # The law
+
+module _ (trees : List Tree) (of : Test) (ps : List Place) (stand : AllByRecursion (Stands trees) ps) (q : Place) where
+  selves : Place → List Place
+  selves = axis_nodes trees axis.DescendantOrSelf test.Any
+
+  children : Place → List Place
+  children = axis_nodes trees axis.Child of
+
+  below : Place → List Place
+  below = axis_nodes trees axis.Descendant of
+
+  forth : is_among (flat_map (axis_nodes trees axis.Child of) (selves_and_below trees ps)) q ≡ true → is_among (flat_map (axis_nodes trees axis.Descendant of) ps) q ≡ true
+  unfolding selves children below
+  forth e =
+      let all = is_among (flat_map selves ps) in
+      let h : Place → Bool = λ u. is_among (children u) q in
+      let some = Any-from_list_any (λ u. all u && h u) (places_from 0 trees) (sym (any_filter h all (places_from 0 trees)) ∙ sym (any_flat (same_node q) children (selves_and_below trees ps)) ∙ e) in
+      let u = some.1 in
+      let two = and_parts _ _ some.4 in
+      let w = some_of (Stands trees) (λ p. is_among (selves p) u) ps stand (sym (any_flat (same_node u) selves ps) ∙ two.0) in
+      let p = w.item in
+      let a = from_axis trees axis.DescendantOrSelf test.Any p u w.passes in
+      let b = from_axis trees axis.Child of u q two.1 in
+      let f = nodes_at trees p.tree in
+      any_flat (same_node q) below ps ∙ w.counts (λ p. is_among (below p) q) (to_axis trees axis.Descendant of p q (record {
+        tree = b.tree ∙ a.tree;
+        path = subst (λ n. HasPath (nodes_at trees n) q.path) a.tree b.path;
+        on = (below_self f p.path u.path q.path a.on b.on.0, subst (λ n. kind_at (nodes_at trees n) q.path ≢ Attribute) a.tree b.on.2);
+        passes = b.passes;
+      }))
+
+  back : is_among (flat_map (axis_nodes trees axis.Descendant of) ps) q ≡ true → is_among (flat_map (axis_nodes trees axis.Child of) (selves_and_below trees ps)) q ≡ true
+  unfolding selves children below
+  back e =
+      let w = some_of (Stands trees) (λ p. is_among (below p) q) ps stand (sym (any_flat (same_node q) below ps) ∙ e) in
+      let p = w.item in
+      let d = from_axis trees axis.Descendant of p q w.passes in
+      let m = between (nodes_at trees p.tree) p.path q.path w.has.content w.has.path d.path d.on.0 in
+      let u = place p.tree m.path in
+      let all = is_among (flat_map selves ps) in
+      let h : Place → Bool = λ u. is_among (children u) q in
+      let among : all u ≡ true = any_flat (same_node u) selves ps ∙ w.counts (λ p. is_among (selves p) u) (to_axis trees axis.DescendantOrSelf test.Any p u (record { tree = refl; path = m.there; on = m.from; passes = refl })) in
+      let child : h u ≡ true = to_axis trees axis.Child of u q (record { tree = d.tree; path = d.path; on = (m.above, m.longer, d.on.1); passes = d.passes }) in
+      let z : 0 + p.tree ≡ p.tree = omega arith in
+      any_flat (same_node q) children (selves_and_below trees ps)
+      ∙ any_filter h all (places_from 0 trees)
+      ∙ has_place (λ u. all u && h u) 0 trees p.tree m.path w.has.tree m.there (subst (λ n. (all (place n m.path) && h (place n m.path)) ≡ true) (sym z) (and_from _ _ among child))
+
+pub double_slash_is_descendant : (trees : List Tree) (of : Test) (ps : List Place) → AllByRecursion (Stands trees) ps → in_document_order trees (flat_map (axis_nodes trees axis.Descendant of) ps) ≡ after_double_slash trees of ps
+double_slash_is_descendant trees of ps stand =
+    filter_agree (is_among (flat_map (axis_nodes trees axis.Descendant of) ps)) (is_among (flat_map (axis_nodes trees axis.Child of) (selves_and_below trees ps))) (places_from 0 trees)
+    (λ q. same_tests _ _ (back trees of ps stand q) (forth trees of ps stand q))
+
+pub stand_all : (trees : List Tree) (ns : List Node) → HaveAll trees ns → AreOfTrees trees ns → AllByRecursion (Stands trees) (map (node_at trees) ns)
+stand_all trees [] h t = tt
+stand_all trees (n ∷ ns) h t =
+    (record { tree = h.0.tree_in; path = (at_place (nodes_at trees n.tree) n.pre h.0.node_in).exists; content = t.0.content }, stand_all trees ns h.1 t.1)

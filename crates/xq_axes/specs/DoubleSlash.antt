@@ -1,0 +1,19 @@
+-- What `//` and a step to children lead to: XPath 3.1, section 3.3.5.
+use Rattle.std.specs.Prelude.{List}
+use Rattle.std.specs.List.{flat_map}
+use Rattle.xq_regions.specs.Tree.{Tree}
+use Rattle.xq_regions.specs.declared.Axis.TheVariants.{Child, DescendantOrSelf}
+use Rattle.xq_values.specs.Items.{Place, in_document_order}
+use Rattle.xq_values.specs.Steps.{axis_nodes}
+use Rattle.xq_values.specs.declared.node_tests.Test.{Test}
+use Rattle.xq_values.specs.declared.node_tests.Test.TheVariants.{Any}
+
+-- these nodes and all that is below them: descendant-or-self::node()
+abbrev pub selves_and_below : List Tree → List Place → List Place
+selves_and_below trees ps =
+    in_document_order trees (flat_map (axis_nodes trees DescendantOrSelf Any) ps)
+
+-- the children of all those that pass the test, in document order, each once
+abbrev pub after_double_slash : List Tree → Test → List Place → List Place
+after_double_slash trees test ps =
+    in_document_order trees (flat_map (axis_nodes trees Child test) (selves_and_below trees ps))
