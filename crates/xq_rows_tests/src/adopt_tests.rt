@@ -20,6 +20,14 @@ const ONE: &str = "INSERT INTO layout VALUES (1)";
 
 const DOCUMENT: &str = "INSERT INTO node VALUES ('b', 0, 0, 0, 0, '', '')";
 
+/// The tables, made in the order of a store's own, and in others.
+pub const ORDERS: [[&str; 3]; 4] = [
+    [LAYOUT, NODE, ONE],
+    [NODE, LAYOUT, ONE],
+    [LAYOUT, TURNED_NODE, ONE],
+    [TURNED_NODE, LAYOUT, ONE],
+];
+
 /// How a database is answered.
 #[derive(Clone, Copy, Debug, PartialEq, Eq)]
 enum Answer {
@@ -183,7 +191,7 @@ fn judges_rows(rt: HostRuntime) -> Result<(), Fail> {
 }
 
 /// Adopts a database that is a store.
-fn adopted<S: Alter + Drop>(alloc: Global, conn: Connection<S>) -> Result<Store<S>, Fail> {
+pub fn adopted<S: Alter + Drop>(alloc: Global, conn: Connection<S>) -> Result<Store<S>, Fail> {
     if !conn.is_autocommit() {
         return Err(Fail::new("in a transaction"));
     }
@@ -215,11 +223,7 @@ fn what_was_released(rt: HostRuntime) -> Result<(), Fail> {
 #[test]
 fn other_orders(rt: HostRuntime) -> Result<(), Fail> {
     let documents = Documents::new(rt.alloc())?;
-    for made in [
-        [NODE, LAYOUT, ONE],
-        [LAYOUT, TURNED_NODE, ONE],
-        [TURNED_NODE, LAYOUT, ONE],
-    ] {
+    for made in ORDERS {
         let mut conn = Connection::open_in_memory(rt.alloc())?;
         for statement in made {
             let _count = conn.execute(statement, &[])?;

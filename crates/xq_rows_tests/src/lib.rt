@@ -9,6 +9,10 @@ mod calls;
 #[cfg(test)]
 mod documents;
 #[cfg(test)]
+mod kept_tests;
+#[cfg(test)]
+mod lending_tests;
+#[cfg(test)]
 mod part_tests;
 #[cfg(test)]
 mod refusals;

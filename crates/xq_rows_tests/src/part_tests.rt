@@ -1,5 +1,5 @@
 //! Documents of more rows than are replaced at a time.
-use sqlite::FileStore;
+use sqlite::{Alter, FileStore};
 use std::alloc::Global;
 use std::test::Fail;
 use xq_atoms::{Want, address_ok};
@@ -38,7 +38,7 @@ fn row(alloc: Global, pre: u32, rows: u32, text: &str) -> Result<NodeRow, Want> 
 }
 
 /// A document of so many rows: comments, all of the same text.
-fn comments(alloc: Global, rows: u32, text: &str) -> Result<Fragment, Want> {
+pub fn comments(alloc: Global, rows: u32, text: &str) -> Result<Fragment, Want> {
     let mut nodes = Vec::new(alloc);
     for pre in 0..rows {
         let node = row(alloc, pre, rows, text)?;
@@ -47,8 +47,9 @@ fn comments(alloc: Global, rows: u32, text: &str) -> Result<Fragment, Want> {
     Fragment::from_rows(nodes).map_err(|_rows| Want::Store)
 }
 
-fn put(
-    store: &mut Store<FileStore<MemoryDisk>>,
+/// Stores a document.
+pub fn put<S: Alter>(
+    store: &mut Store<S>,
     address: &str,
     document: &Fragment,
 ) -> Result<Put, Want> {

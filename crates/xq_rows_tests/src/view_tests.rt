@@ -55,6 +55,30 @@ fn gives_rows<S: RowSource>(rt: &impl Abort, alloc: Global, source: &mut S) -> R
     Ok(())
 }
 
+/// What a lender lends whose trees are those of `BEFORE`.
+fn lends_rows<L: RowLender>(rt: &impl Abort, alloc: Global, lender: &mut L) -> Result<(), Want> {
+    let library = Named::Library;
+    let counted = lender.meter();
+    lender.fetch(alloc, 1, 5, 7)?;
+    assert!(rt; library.has(&[5, 6, 7], lender.lent()));
+    lender.fetch(alloc, 0, 0, u32::MAX)?;
+    assert!(rt; Named::Empty.has(&[0], lender.lent()));
+    lender.fetch(alloc, 1, 8, u32::MAX)?;
+    assert!(rt; library.has(&[], lender.lent()));
+    lender.fetch_row(alloc, 1, 6)?;
+    assert!(rt; library.has(&[6], lender.lent()));
+    assert!(rt; lender.above(alloc, 1, 7)?.as_slice() == [0, 1, 5].as_slice());
+    assert!(rt; lender.above(alloc, 1, 0)?.is_empty());
+    assert!(rt; matches!(lender.fetch(alloc, 2, 0, 0), Err(Want::Store)));
+    assert!(rt; matches!(lender.fetch_row(alloc, 1, 8), Err(Want::Store)));
+    assert_eq!(rt; lender.meter().rows(), counted.rows().saturating_add(4));
+    assert_eq!(rt;
+        lender.meter().singles(),
+        counted.singles().saturating_add(4)
+    );
+    Ok(())
+}
+
 /// Reads the documents of `BEFORE` through a view, and gives the store back.
 fn viewed<S: Alter + Drop, O: Origin + Drop, R: Abort>(
     rt: &R,
@@ -69,9 +93,9 @@ fn viewed<S: Alter + Drop, O: Origin + Drop, R: Abort>(
     };
     assert_eq!(rt; view.addresses().len(), 2);
     gives_rows(rt, alloc, &mut view)?;
+    lends_rows(rt, alloc, &mut view)?;
     let mut lender = Buffered::new(alloc, view);
-    lender.fetch(alloc, 1, 5, 7)?;
-    assert!(rt; Named::Library.has(&[5, 6, 7], lender.lent()));
+    lends_rows(rt, alloc, &mut lender)?;
     Ok(lender.into_source().into_store())
 }
 
