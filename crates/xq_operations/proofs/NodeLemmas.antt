@@ -6,23 +6,26 @@ use Rattle.std.proofs.lemmas.Grind.{reverse_onto}
 use Rattle.xq_atoms.specs.declared.refusals.Code.{Code}
 use Rattle.xq_atoms.specs.declared.refusals.Code.TheVariants.{XPTY0019, XPTY0020}
 use Rattle.xq_atoms.specs.Judged.{Judged, ◌>>=◌}
+use Rattle.xq_axes.specs.DoubleSlash.{selves_and_below, after_double_slash as after_places}
 use Rattle.xq_axes.specs.Nodes.{HaveAll}
 use Rattle.xq_regions.specs.declared.Axis.{Axis}
+use Rattle.xq_regions.specs.declared.Axis.TheVariants.{Child, DescendantOrSelf}
 use Rattle.xq_regions.specs.declared.items.Node.{Node as Spot}
 use Rattle.xq_regions.specs.Items.{ItemView, Place as NodeAt, Value, item_view}
 use Rattle.xq_regions.specs.Tree.{Tree}
 use Rattle.xq_sources.specs.Sources.{HasNode}
 use Rattle.xq_values.specs.declared.node_tests.Test.{Test}
+use Rattle.xq_values.specs.declared.node_tests.Test.TheVariants.{Any}
 use Rattle.xq_values.specs.Arguments.{all_nodes, node_or}
 use Rattle.xq_values.specs.Functions.{Focus as Meant}
 use Rattle.xq_values.specs.Items.{Place, Item, Node, in_document_order}
 use Rattle.xq_values.specs.Operators.{in_order}
 use Rattle.xq_values.specs.Readings.{node_at, item_at, items_at, IsIn, AreIn}
 use Rattle.xq_values.specs.Steps.{context_node, axis_nodes, in_axis_order, is_reverse}
-use Rattle.xq_meaning.specs.Doing.{Doing, go_on, judged, on_trees}
+use Rattle.xq_meaning.specs.Doing.{Doing, Outcome, go_on, judged, on_trees}
 use Rattle.xq_meaning.specs.Forms as Forms
 use Rattle.xq_operations.specs.declared.frames.Focus.{Focus}
-use Rattle.xq_operations.specs.Views.{forget, focus_at, FocusIn, on_axis}
+use Rattle.xq_operations.specs.Views.{forget, focus_at, FocusIn, on_axis, after_double_slash}
 use Rattle.xq_operations.specs.private.Nodes.{nodes_among}
 use Rattle.xq_operations.proofs.Existing.{Exists, exists_at, is_in}
 use Rattle.xq_operations.proofs.Growth.{all-append}
@@ -127,3 +130,33 @@ stops_at (Err other) next f code h = ap (again code) h
 
 pub scan_stops : (f : List Tree) (axis : Axis) (test : Test) (xs : List Item) (code : Code) → forget (all_nodes XPTY0019 xs) ≡ Err code → (Forms.scan axis test xs f).0 ≡ Err code
 scan_stops f axis test xs code h = stops_at (all_nodes XPTY0019 xs) (λ places. on_trees (λ trees. Ok (in_order trees (flat_map (axis_nodes trees axis test) places)))) f code h
+
+-- # A step to children after `//`
+
+are_nodes : (code : Code) (ps : List Place) → all_nodes code (map Node ps) ≡ Ok ps
+are_nodes code [] = refl
+are_nodes code (p ∷ ps) = ap (λ r. r >>= (λ qs. Ok (p ∷ qs))) (are_nodes code ps)
+
+-- a scan, once its contexts are known
+abbrev scanned : List Tree → Axis → Test → Judged (List Place) → Outcome (List Item)
+scanned f axis test r = go_on (judged r f) (λ places. on_trees (λ trees. Ok (in_order trees (flat_map (axis_nodes trees axis test) places))))
+
+pub double_slash_gives : (f : List Tree) (test : Test) (views : List ItemView) (nodes : List Spot) (found : List ItemView)
+    → forget (all_nodes XPTY0019 (items_at f views)) ≡ Ok tt → map (node_at f) nodes ≡ after_places f test (map (node_at f) (nodes_among views)) → HaveAll f nodes → found ≡ map NodeAt nodes
+    → AreIn f found × (after_double_slash test (items_at f views) f ≡ (Ok (items_at f found), f))
+double_slash_gives f test views nodes found all step have is =
+    let next : Outcome (List Item) → Outcome (List Item) = λ o. go_on o (Forms.scan Child test) in
+    let below = selves_and_below f (map (node_at f) (nodes_among views)) in (
+      subst (AreIn f) (sym is) (items_in f nodes have),
+      ap (λ r. next (scanned f DescendantOrSelf Any r)) (all_among f XPTY0019 views all)
+          ∙ ap (scanned f Child test) (are_nodes XPTY0019 below)
+          ∙ ap (λ xs. (Ok xs, f)) (ap (map Node) (sym step) ∙ sym (items_read f nodes) ∙ ap (items_at f) (sym is)),
+    )
+
+stops_before : {A B C : Type 0} (r : Judged A) (next : A → Doing B) (last : B → Doing C) (f : List Tree) (code : Code) → forget r ≡ Err code → (go_on (go_on (judged r f) next) last).0 ≡ Err code
+stops_before (Ok x) next last f code h = absurd (subst (λ (o : Judged (Unit {0})). Refused o) (sym h) tt)
+stops_before (Err other) next last f code h = ap (again code) h
+
+pub double_slash_stops : (f : List Tree) (test : Test) (xs : List Item) (code : Code) → forget (all_nodes XPTY0019 xs) ≡ Err code → (after_double_slash test xs f).0 ≡ Err code
+double_slash_stops f test xs code h =
+    stops_before (all_nodes XPTY0019 xs) (λ places. on_trees (λ trees. Ok (in_order trees (flat_map (axis_nodes trees DescendantOrSelf Any) places)))) (Forms.scan Child test) f code h

@@ -23,7 +23,9 @@ use Rattle.xq_atoms.specs.Text.{Text}
 use Rattle.xq_expressions.specs.declared.operators.NamedNode.{NamedNode}
 use Rattle.xq_expressions.specs.declared.operators.UnnamedNode.{UnnamedNode}
 use Rattle.xq_regions.specs.declared.Axis.{Axis}
+use Rattle.xq_regions.specs.declared.Axis.TheVariants.{Child, DescendantOrSelf}
 use Rattle.xq_values.specs.declared.node_tests.Test.{Test}
+use Rattle.xq_values.specs.declared.node_tests.Test.TheVariants.{Any}
 use Rattle.xq_values.specs.Content.{named_tree, unnamed_tree}
 use Rattle.xq_values.specs.Steps.{context_node, axis_nodes, in_axis_order}
 use Rattle.xq_meaning.specs.Doing.{Doing, Outcome, ◌>>=◌, judged, on_trees}
@@ -150,6 +152,12 @@ abbrev pub on_axis : Axis → Test → Option Spot → Doing (List Item)
 on_axis axis test focus = do
   p ← judged (context_node focus)
   on_trees (λ trees. Ok (map Node (in_axis_order axis (axis_nodes trees axis test p))))
+
+-- `//` and a step to children: descendant-or-self::node(), and then that step
+abbrev pub after_double_slash : Test → List Item → Doing (List Item)
+after_double_slash test xs = do
+  all ← Forms.scan DescendantOrSelf Any xs
+  Forms.scan Child test all
 
 abbrev pub plant_named : NamedNode → Text → List Item → Doing (List Item)
 plant_named kind name xs = do
