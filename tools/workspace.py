@@ -21,7 +21,8 @@ def lines_of(crates):
 def crates_below(uses):
     """These crates of the repository, and those that they stand on."""
     with open(os.path.join(TOP, "crates.txt")) as lines:
-        below = {line.split(":")[0]: line.split(":")[1].split() for line in lines if ":" in line and line[0] != "#"}
+        parts = [line.split(":") for line in lines if ":" in line and line[0] != "#"]
+    below = {part[0]: part[1].split() for part in parts}
     found, left = set(), list(uses)
     while left:
         crate = left.pop()
@@ -59,7 +60,7 @@ def built(folder, crates, uses, source):
 
 
 def bench_program(folder, name, uses):
-    """The path of the program of bench/NAME/main.rattle; it is built in the folder, unless an earlier call did."""
+    """The path of the program of bench/NAME/main.rattle, built in the folder unless it is there."""
     path = os.path.join(folder, "crates", "program", "out", "program")
     if os.path.exists(path):
         return path
