@@ -3,20 +3,18 @@ ghost use Rattle.std.specs.Prelude.{◌≡◌, true, map, IfSome};
 ghost use Rattle.xq_regions.specs.Rows.{row_of};
 ghost use Rattle.xq_sources.specs.Parents.{IsParentRow};
 
-use crate::rows::rows_between;
 use std::alloc::Global;
 use xq_atoms::Want;
 use xq_regions::NodeRow;
 
-/// Of how many rows the first one's parent is kept.
-const BLOCK: u32 = 64;
+/// In a tree of so many rows, or of fewer, parents are looked for from row to row.
+const FEW: usize = 64;
 
-/// How often a look back goes from the start of a block to a node above it: as often as nodes lie
-/// in one another.
-const LEVELS: usize = 101;
+/// How far a look goes: up from a row to the root, or back over few rows.
+const LOOKS: usize = 101;
 
-/// The places of the parents of each 64th row of a tree but the first, so that the parent of any
-/// row is found in few looks, however many rows lie between.
+/// The places of the parents of the rows of a tree, four bytes a row, so that the parent of any is
+/// told at once, however many rows lie between. Of a tree of few rows nothing is kept.
 ///
 /// Nothing is promised of what is kept: [`Guide::parent`] reads the rows at both places before it
 /// answers, and gives no answer where they aren't those of a node and its parent.
@@ -35,12 +33,14 @@ impl Guide {
 
     /// Goes on to the last of the rows, which are the first rows of a tree.
     pub fn read_on(&mut self, rows: &[NodeRow]) -> Result<(), Want> {
-        let blocks = rows.len().div_ceil(BLOCK as usize);
-        for block in self.parents.len() + 1..blocks {
-            let Some(first) = rows.get(block.saturating_mul(BLOCK as usize)) else {
+        if rows.len() <= FEW {
+            return Ok(());
+        }
+        for place in self.parents.len()..rows.len() {
+            let Some(row) = rows.get(place) else {
                 return Ok(());
             };
-            let parent = self.guess(rows, first.pre);
+            let parent = self.look_back(rows, row.pre);
             self.parents.push(parent)?;
         }
         Ok(())
@@ -61,23 +61,27 @@ impl Guide {
 
     /// A place where the parent of the node may lie.
     fn guess(&self, rows: &[NodeRow], node: u32) -> u32 {
+        match self.parents.get(node as usize) {
+            Some(parent) => *parent,
+            None => self.look_back(rows, node),
+        }
+    }
+
+    /// The place of the last row of a lesser level before the node: that of the row before it, or
+    /// of a node above that one.
+    fn look_back(&self, rows: &[NodeRow], node: u32) -> u32 {
         let level = level_at(rows, node);
-        let mut place = node;
-        for _ in 0..LEVELS {
-            let last = place.saturating_sub(1);
-            let start = last - last % BLOCK;
-            if let Some(found) = last_above(rows, start, place, level) {
-                return found;
-            }
-            let Some(parent) = self.parents.get((start / BLOCK).saturating_sub(1) as usize) else {
-                return node;
-            };
-            place = *parent;
+        let mut place = node.saturating_sub(1);
+        for _ in 0..LOOKS {
             if level_at(rows, place) < level {
                 return place;
             }
+            place = match self.parents.get(place as usize) {
+                Some(parent) => *parent,
+                None => place.saturating_sub(1),
+            };
         }
-        node
+        place
     }
 }
 
@@ -87,19 +91,6 @@ fn level_at(rows: &[NodeRow], place: u32) -> u32 {
         Some(row) => row.level,
         None => 0,
     }
-}
-
-/// The place of the last row of a lesser level from `start` on and before `end`.
-fn last_above(rows: &[NodeRow], start: u32, end: u32, level: u32) -> Option<u32> {
-    for row in rows_between(rows, start, end.saturating_sub(1))
-        .iter()
-        .rev()
-    {
-        if row.level < level {
-            return Some(row.pre);
-        }
-    }
-    None
 }
 
 /// Whether the rows at both places are there and are those of a node and its parent, the parent's

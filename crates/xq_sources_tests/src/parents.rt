@@ -34,9 +34,23 @@ fn wide_and_deep(alloc: Global, children: u32, depth: u32) -> Result<Vec<NodeRow
     Ok(rows)
 }
 
+/// The rows of a root with so many shelves, in each so many books with a title and a text in it.
+fn shelves(alloc: Global, shelves: u32, books: u32) -> Result<Vec<NodeRow>, AllocError> {
+    let mut rows = Vec::new(alloc);
+    push(alloc, &mut rows, 0)?;
+    for shelf in 0..shelves {
+        push(alloc, &mut rows, 1)?;
+        for book in 0..books {
+            push(alloc, &mut rows, 2)?;
+            push(alloc, &mut rows, 3)?;
+            push(alloc, &mut rows, 4)?;
+        }
+    }
+    Ok(rows)
+}
+
 /// The parent that is told of each node is the last of the nodes above it, and the root has none.
-fn tells_parents(rt: &impl Abort, alloc: Global, children: u32, depth: u32) -> Result<(), Want> {
-    let rows = wide_and_deep(alloc, children, depth)?;
+fn tells_parents_in(rt: &impl Abort, alloc: Global, rows: Vec<NodeRow>) -> Result<(), Want> {
     let count = u32::try_from(rows.len()).unwrap_or(0);
     let Some(tree) = Fragment::from_levels(rows) else {
         panic!(rt; "no tree");
@@ -50,6 +64,12 @@ fn tells_parents(rt: &impl Abort, alloc: Global, children: u32, depth: u32) -> R
     assert_eq!(rt; fragments.parent(0, count), None);
     assert_eq!(rt; fragments.parent(1, 0), None);
     Ok(())
+}
+
+/// So it is in a tree of so many children and so deep.
+fn tells_parents(rt: &impl Abort, alloc: Global, children: u32, depth: u32) -> Result<(), Want> {
+    let rows = wide_and_deep(alloc, children, depth)?;
+    tells_parents_in(rt, alloc, rows)
 }
 
 #[test]
@@ -68,4 +88,10 @@ fn parents_are_told_at_the_borders_of_blocks(rt: HostRuntime) -> Result<(), Want
     tells_parents(&rt, rt.alloc(), 63, 0)?;
     tells_parents(&rt, rt.alloc(), 64, 0)?;
     tells_parents(&rt, rt.alloc(), 65, 62)
+}
+
+#[test]
+fn parents_are_told_far_after_them(rt: HostRuntime) -> Result<(), Want> {
+    let rows = shelves(rt.alloc(), 12, 50)?;
+    tells_parents_in(&rt, rt.alloc(), rows)
 }
