@@ -237,6 +237,11 @@ pub(crate) fn read_on<S: Alter>(
     let more = front.len().saturating_sub(before);
     shelf.kept = shelf.kept.saturating_add(more);
     shelf.stays &= read.is_ok();
-    guide_on(alloc, &mut shelf.guides, tree, front_of(&shelf.fronts, tree));
+    guide_on(
+        alloc,
+        &mut shelf.guides,
+        tree,
+        front_of(&shelf.fronts, tree),
+    );
     read
 }
