@@ -299,7 +299,7 @@ impl<S: Alter> Store<S> {
             → IsOpen S.Store self.old }
         ensures was_clean { IsClean S.Store self.new → IsClean S.Store self.old }
     {
-        self.shelf = None;
+        let _outdated = self.shelf.take();
         let replaced = put_rows(&mut self.conn, address, document.rows())?;
         let put = if replaced { Put::Replaced } else { Put::Stored };
         Ok(put)
@@ -319,7 +319,7 @@ impl<S: Alter> Store<S> {
             → IsOpen S.Store self.old }
         ensures was_clean { IsClean S.Store self.new → IsClean S.Store self.old }
     {
-        self.shelf = None;
+        let _dropped = self.shelf.take();
         let count = drop_rows(&mut self.conn, address)?;
         Ok(count > 0)
     }
