@@ -1,5 +1,5 @@
 -- What the queries of an adoption give.
-use Rattle.std.proofs.Common.{◌≡◌, ◌≢◌, ◌⊎◌, inl, inr, ◌+◌, ◌<◌, ℕ, true, false, All, List, [], ◌∷◌, map, filter, length, get_or, codes, Option, None, Some, Result, Ok, Err, IfOk, IfErr, OnOk, IsTrue, is_lt, refl, sym, ap, subst, subst₂, ◌∙◌, arith, Ordering}
+use Rattle.std.proofs.Common.{◌≡◌, ◌≢◌, ◌⊎◌, inl, inr, ◌+◌, ◌<◌, ℕ, true, false, All, List, [], ◌∷◌, map, filter, flat_map, length, get_or, codes, Option, None, Some, Result, Ok, Err, IfOk, IfErr, OnOk, IsTrue, is_lt, refl, sym, ap, subst, subst₂, ◌∙◌, arith, Ordering}
 use Rattle.std.specs.List.Sorted.{IsPermutation, IsSorted}
 use Rattle.std.specs.Ordering.{on, ordering_then}
 use Rattle.std.proofs.lemmas.List.{length-map}
@@ -16,7 +16,7 @@ use Rattle.sqlite_trees.proofs.ListLemmas.{map-map, all-map, all_of}
 use Rattle.sqlite_schema.specs.declared.program.Program.{Program}
 use Rattle.sqlite_schema.specs.declared.schema.Schema.{Schema}
 use Rattle.sqlite_schema.specs.declared.command.Returning.{Returning}
-use Rattle.sqlite_sql.specs.Query.{Query, inner, end, IsAnswer, Output, output, key_cmp}
+use Rattle.sqlite_sql.specs.Query.{Query, IsAnswer, Output, output, key_cmp}
 use Rattle.sqlite_sql.specs.Term.{col}
 use Rattle.sqlite_sql.specs.Program.{overlay, IsProgramAnswer}
 use Rattle.sqlite_tied.specs.Compute.{everything}
@@ -28,28 +28,30 @@ use Rattle.sqlite.specs.State.{State, KeepsCommit, Shown, ShowsRows, FailsToQuer
 use Rattle.sqlite.specs.declared.error.Error.{Error}
 use Rattle.sqlite.proofs.Callers.{IsPlain, command_of, reads_as}
 use Rattle.xq_rows.specs.declared.faults.OpenFault.TheVariants.{NotAStore}
-use Rattle.xq_rows.specs.Tables.{no_schema, layout_schema, node_schema, store_schema}
+use Rattle.xq_rows.specs.Tables.{no_schema, layout_schema, node_schema, IsStoreSchema, layout_rows}
+use Rattle.xq_rows.proofs.Places.{First, layout_first, node_first, schema_of, layout_tree, node_tree, which, nodes_lie, layout_lies, layout_alone, layout_not_given}
 use Rattle.xq_rows.specs.Adopt.{fault_of, IsInputError, named, by_place, AreNodes, ReadsEdition, ReadsRowids, ReadsNodes, SeesNothing}
 use Rattle.xq_rows.proofs.Texts.{IsUnread, body, key}
 use Rattle.xq_rows.proofs.Lists.{flat_map_picks}
 use Rattle.xq_rows.proofs.Creates.{undone_kept}
-use Rattle.xq_rows.proofs.Selects.{selected, selected_rows, get_or-map, shown_keeps, test, out}
+use Rattle.xq_rows.proofs.Selects.{selected, selected_rows, get_or-map, shown_keeps, plain_under, test, out}
 
 -- # What the texts mean
 
 abbrev pub edition_query : List ℕ
 edition_query = codes "SELECT edition FROM layout"
 
-abbrev pub edition_body : Query
-edition_body = record (body [] (col 1 1 ∷ []) []) { from = inner 0 end }
+-- of a table that lies there
+abbrev pub edition_body : ℕ → Query
+edition_body tree = body tree [] (col 1 1 ∷ []) []
 
-abbrev pub edition_program : Program
-edition_program = record { lets = []; body = edition_body }
+abbrev pub edition_program : ℕ → Program
+edition_program tree = record { lets = []; body = edition_body tree }
 
 abbrev pub edition_names : List (List ℕ)
 edition_names = codes "edition" ∷ []
 
-pub edition_alone : (command_of (understood layout_schema edition_query) ≡ Select edition_program edition_names) × (reads_listing layout_schema edition_query ≡ false)
+pub edition_alone : (command_of (understood layout_schema edition_query) ≡ Select (edition_program 0) edition_names) × (reads_listing layout_schema edition_query ≡ false)
 unfolding understood everything
 edition_alone = (refl, refl)
 
@@ -57,13 +59,15 @@ pub edition_alone_plain : IsPlain (understood layout_schema edition_query)
 unfolding understood everything
 edition_alone_plain = (refl, refl)
 
-pub edition_found : (command_of (understood store_schema edition_query) ≡ Select edition_program edition_names) × (reads_listing store_schema edition_query ≡ false)
+pub edition_found : (first : First) → (command_of (understood (schema_of first) edition_query) ≡ Select (edition_program (layout_tree first)) edition_names) × (reads_listing (schema_of first) edition_query ≡ false)
 unfolding understood everything
-edition_found = (refl, refl)
+edition_found layout_first = (refl, refl)
+edition_found node_first = (refl, refl)
 
-pub edition_found_plain : IsPlain (understood store_schema edition_query)
+pub edition_found_plain : (first : First) → IsPlain (understood (schema_of first) edition_query)
 unfolding understood everything
-edition_found_plain = (refl, refl)
+edition_found_plain layout_first = (refl, refl)
+edition_found_plain node_first = (refl, refl)
 
 pub edition_unread : IsUnread (understood no_schema edition_query)
 unfolding understood listing_schema everything
@@ -76,19 +80,21 @@ edition_missing = tt
 abbrev pub rowids_query : List ℕ
 rowids_query = codes "SELECT rowid FROM node ORDER BY rowid"
 
-abbrev pub rowids_program : Program
-rowids_program = record { lets = []; body = body [] (col 1 0 ∷ []) ((col 1 0, key) ∷ []) }
+abbrev pub rowids_program : ℕ → Program
+rowids_program tree = record { lets = []; body = body tree [] (col 1 0 ∷ []) ((col 1 0, key) ∷ []) }
 
 abbrev pub rowids_names : List (List ℕ)
 rowids_names = codes "rowid" ∷ []
 
-pub rowids_are : (command_of (understood store_schema rowids_query) ≡ Select rowids_program rowids_names) × (reads_listing store_schema rowids_query ≡ false)
+pub rowids_are : (first : First) → (command_of (understood (schema_of first) rowids_query) ≡ Select (rowids_program (node_tree first)) rowids_names) × (reads_listing (schema_of first) rowids_query ≡ false)
 unfolding understood everything
-rowids_are = (refl, refl)
+rowids_are layout_first = (refl, refl)
+rowids_are node_first = (refl, refl)
 
-pub rowids_plain : IsPlain (understood store_schema rowids_query)
+pub rowids_plain : (first : First) → IsPlain (understood (schema_of first) rowids_query)
 unfolding understood everything
-rowids_plain = (refl, refl)
+rowids_plain layout_first = (refl, refl)
+rowids_plain node_first = (refl, refl)
 
 pub rowids_unread : IsUnread (understood layout_schema rowids_query)
 unfolding understood listing_schema everything
@@ -97,19 +103,21 @@ rowids_unread = tt
 abbrev pub nodes_query : List ℕ
 nodes_query = codes "SELECT pre, size, level, kind, name, value, address FROM node ORDER BY address, pre"
 
-abbrev pub nodes_program : Program
-nodes_program = record { lets = []; body = body [] (col 1 2 ∷ col 1 3 ∷ col 1 4 ∷ col 1 5 ∷ col 1 6 ∷ col 1 7 ∷ col 1 1 ∷ []) ((col 1 1, key) ∷ (col 1 2, key) ∷ []) }
+abbrev pub nodes_program : ℕ → Program
+nodes_program tree = record { lets = []; body = body tree [] (col 1 2 ∷ col 1 3 ∷ col 1 4 ∷ col 1 5 ∷ col 1 6 ∷ col 1 7 ∷ col 1 1 ∷ []) ((col 1 1, key) ∷ (col 1 2, key) ∷ []) }
 
 abbrev pub nodes_names : List (List ℕ)
 nodes_names = codes "pre" ∷ codes "size" ∷ codes "level" ∷ codes "kind" ∷ codes "name" ∷ codes "value" ∷ codes "address" ∷ []
 
-pub nodes_are : (command_of (understood store_schema nodes_query) ≡ Select nodes_program nodes_names) × (reads_listing store_schema nodes_query ≡ false)
+pub nodes_are : (first : First) → (command_of (understood (schema_of first) nodes_query) ≡ Select (nodes_program (node_tree first)) nodes_names) × (reads_listing (schema_of first) nodes_query ≡ false)
 unfolding understood everything
-nodes_are = (refl, refl)
+nodes_are layout_first = (refl, refl)
+nodes_are node_first = (refl, refl)
 
-pub nodes_plain : IsPlain (understood store_schema nodes_query)
+pub nodes_plain : (first : First) → IsPlain (understood (schema_of first) nodes_query)
 unfolding understood everything
-nodes_plain = (refl, refl)
+nodes_plain layout_first = (refl, refl)
+nodes_plain node_first = (refl, refl)
 
 -- # What they give
 
@@ -117,20 +125,22 @@ every : {A : Type 0} (xs : List A) → filter (λ x. true) xs ≡ xs
 every [] = refl
 every (x ∷ xs) = ap (λ l. x ∷ l) (every xs)
 
-edition_rows : (db : Trees) (rows : List Row) → IsProgramAnswer [] edition_body db [] rows → IsPermutation (map (λ r. column r 1 ∷ []) (db 0)) rows
-edition_rows db rows got =
-    let a : IsAnswer edition_body (overlay db []) [] rows = got Null in
-    let staged : a.staged ≡ map (λ r. [] ∷ r ∷ []) (filter (λ r. true) (db 0)) = a.grouped ∙ flat_map_picks (λ r. true) (λ r. [] ∷ r ∷ []) (db 0) in
-    let kept : a.kept ≡ map (λ r. output edition_body ([] ∷ r ∷ [])) (filter (λ r. true) (db 0)) = a.distinct ∙ ap (map (output edition_body)) staged ∙ map-map _ _ _ in
+edition_rows : (tree : ℕ) (db : Trees) → overlay db [] tree ≡ db tree → (rows : List Row) → IsProgramAnswer [] (edition_body tree) db [] rows → IsPermutation (map (λ r. column r 1 ∷ []) (db tree)) rows
+edition_rows tree db own rows got =
+    let query = edition_body tree in
+    let a : IsAnswer query (overlay db []) [] rows = got Null in
+    let staged : a.staged ≡ map (λ r. [] ∷ r ∷ []) (filter (λ r. true) (db tree)) = a.grouped ∙ ap (flat_map (λ r. ([] ∷ r ∷ []) ∷ [])) own ∙ flat_map_picks (λ r. true) (λ r. [] ∷ r ∷ []) (db tree) in
+    let kept : a.kept ≡ map (λ r. output query ([] ∷ r ∷ [])) (filter (λ r. true) (db tree)) = a.distinct ∙ ap (map (output query)) staged ∙ map-map _ _ _ in
     let moved = IsPermutation-map (λ (o : Output). o.1) _ _ (subst (λ k. IsPermutation k a.ordered) kept a.same) in
-    let first : map (λ (o : Output). o.1) (map (λ r. output edition_body ([] ∷ r ∷ [])) (filter (λ r. true) (db 0))) ≡ map (λ r. column r 1 ∷ []) (db 0) =
-    map-map _ _ _ ∙ ap (map (λ r. column r 1 ∷ [])) (every (db 0)) in
+    let first : map (λ (o : Output). o.1) (map (λ r. output query ([] ∷ r ∷ [])) (filter (λ r. true) (db tree))) ≡ map (λ r. column r 1 ∷ []) (db tree) =
+    map-map _ _ _ ∙ ap (map (λ r. column r 1 ∷ [])) (every (db tree)) in
     subst₂ IsPermutation first (sym a.shown) moved
 
-rowid_rows : (db : Trees) (rows : List Row) → IsProgramAnswer [] (body [] (col 1 0 ∷ []) ((col 1 0, key) ∷ [])) db [] rows → IsPermutation (map (λ r. rowid r ∷ []) (db 1)) rows
-rowid_rows db rows got =
-    let s = selected [] (col 1 0 ∷ []) ((col 1 0, key) ∷ []) db [] rows got in
-    subst (λ l. IsPermutation (map (λ r. rowid r ∷ []) l) rows) (every (db 1)) (selected_rows [] (col 1 0 ∷ []) ((col 1 0, key) ∷ []) db [] rows s)
+rowid_rows : (first : First) (db : Trees) (rows : List Row) → IsProgramAnswer [] (body (node_tree first) [] (col 1 0 ∷ []) ((col 1 0, key) ∷ [])) db [] rows
+    → IsPermutation (map (λ r. rowid r ∷ []) (db (node_tree first))) rows
+rowid_rows first db rows got =
+    let s = selected first [] (col 1 0 ∷ []) ((col 1 0, key) ∷ []) db [] rows got in
+    subst (λ l. IsPermutation (map (λ r. rowid r ∷ []) l) rows) (every (db (node_tree first))) (selected_rows first [] (col 1 0 ∷ []) ((col 1 0, key) ∷ []) db [] rows s)
 
 -- what is sorted by its keys is sorted by what the keys are of it
 sorted_as : (by : Row → Row → Ordering) (keys : List Key) (key_of : Row → Row) → ((a b : Row) → is_lt (key_cmp 0 keys (key_of a) (key_of b)) ≡ is_lt (by a b)) → (ordered : List Output)
@@ -152,16 +162,18 @@ place_of r = column r 6 ∷ column r 0 ∷ []
 same_place : (a b : Row) → is_lt (key_cmp 0 (key ∷ key ∷ []) (place_of a) (place_of b)) ≡ is_lt (by_place a b)
 same_place a b = ap (λ o. is_lt (ordering_then (value_cmp (column a 6) (column b 6)) o)) (then-Equal (value_cmp (column a 0) (column b 0)))
 
-node_rows : (db : Trees) (rows : List Row) → IsProgramAnswer [] nodes_program.body db [] rows → AreNodes (db 1) rows
-node_rows db rows got =
-    let project = nodes_program.body.project in
-    let order = nodes_program.body.order in
-    let s = selected [] project order db [] rows got in
-    let shown = filter (test [] project order db []) (db 1) in
+nodes_given : (first : First) (db : Trees) (rows : List Row) → IsProgramAnswer [] (nodes_program (node_tree first)).body db [] rows → AreNodes (db (node_tree first)) rows
+nodes_given first db rows got =
+    let query = (nodes_program (node_tree first)).body in
+    let project = query.project in
+    let order = query.order in
+    let table = db (node_tree first) in
+    let s = selected first [] project order db [] rows got in
+    let shown = filter (test first [] project order db []) table in
     let keyed : Output → Type 0 = λ o. o.0 ≡ place_of o.1 in
-    let all : All keyed (map (out [] project order db []) shown) = All-from_recursion keyed _ (all-map keyed (out [] project order db []) shown (all_of (λ r. keyed (out [] project order db [] r)) (λ r. refl) shown)) in
+    let all : All keyed (map (out first [] project order db []) shown) = All-from_recursion keyed _ (all-map keyed (out first [] project order db []) shown (all_of (λ r. keyed (out first [] project order db [] r)) (λ r. refl) shown)) in
     record {
-      same = subst (λ l. IsPermutation (map named l) rows) (every (db 1)) (selected_rows [] project order db [] rows s);
+      same = subst (λ l. IsPermutation (map named l) rows) (every table) (selected_rows first [] project order db [] rows s);
       sorted = subst (IsSorted by_place) (sym s.shown) (sorted_as by_place (key ∷ key ∷ []) place_of same_place s.ordered (All-permutation keyed _ _ s.same all) s.sorted);
     }
 
@@ -177,6 +189,9 @@ unread_under schema old new sql params rows none h has = unread old new sql para
 as_found : (schema : Schema) (old new : State) (sql : List ℕ) (params : Row) (rows : List Row) → IsPlain (understood schema sql) → Shown sql params old new rows → old.now.schema ≡ schema → new.now ≡ old.now
 as_found schema old new sql params rows plain h has = shown_keeps old new sql params rows (subst (λ s. IsPlain (understood s sql)) (sym has) plain) h
 
+as_placed : (old new : State) (sql : List ℕ) (params : Row) (rows : List Row) → ((first : First) → IsPlain (understood (schema_of first) sql)) → Shown sql params old new rows → IsStoreSchema old.now.schema → new.now ≡ old.now
+as_placed old new sql params rows plain h has = shown_keeps old new sql params rows (plain_under old.now.schema sql plain has) h
+
 pub reads_edition : (old new : State) (rows : List Row) → Shown edition_query [] old new rows → ReadsEdition old.now new.now rows
 reads_edition old new rows h = record {
   some = λ lacks. elim lacks [
@@ -185,25 +200,43 @@ reads_edition old new rows h = record {
   ];
   same = λ layout. elim layout [
     | inl has ↦ as_found layout_schema old new edition_query [] rows edition_alone_plain h has
-    | inr has ↦ as_found store_schema old new edition_query [] rows edition_found_plain h has
+    | inr has ↦ as_placed old new edition_query [] rows edition_found_plain h has
   ];
   rows = λ layout. elim layout [
-    | inl has ↦ edition_rows old.now.trees rows (reads_as edition_query [] old new layout_schema has (Select edition_program edition_names) edition_alone.0 edition_alone_plain edition_alone.1 rows h).answer
-    | inr has ↦ edition_rows old.now.trees rows (reads_as edition_query [] old new store_schema has (Select edition_program edition_names) edition_found.0 edition_found_plain edition_found.1 rows h).answer
+    | inl has ↦
+        let it = reads_as edition_query [] old new layout_schema has (Select (edition_program 0) edition_names) edition_alone.0 edition_alone_plain edition_alone.1 rows h in
+        edition_given (sym (layout_alone old.now has)) (edition_rows 0 old.now.trees refl rows it.answer)
+    | inr has ↦
+        let place = which old.now.schema has in
+        let first = place.0 in
+        let tree = layout_tree first in
+        let it = reads_as edition_query [] old new (schema_of first) place.1 (Select (edition_program tree) edition_names) (edition_found first).0 (edition_found_plain first) (edition_found first).1 rows h in
+        edition_given (sym (layout_lies first old.now place.1)) (edition_rows tree old.now.trees (layout_not_given first old.now.trees) rows it.answer)
   ];
 }
+  where
+    edition_given : {table : List Row} → table ≡ layout_rows old.now → IsPermutation (map (λ r. column r 1 ∷ []) table) rows → IsPermutation (map (λ r. column r 1 ∷ []) (layout_rows old.now)) rows
+    edition_given is = subst (λ t. IsPermutation (map (λ r. column r 1 ∷ []) t) rows) is
 
 pub reads_rowids : (old new : State) (rows : List Row) → Shown rowids_query [] old new rows → ReadsRowids old.now new.now rows
 reads_rowids old new rows h = record {
   alone = unread_under layout_schema old new rowids_query [] rows rowids_unread h;
-  same = as_found store_schema old new rowids_query [] rows rowids_plain h;
-  rows = λ has. rowid_rows old.now.trees rows (reads_as rowids_query [] old new store_schema has (Select rowids_program rowids_names) rowids_are.0 rowids_plain rowids_are.1 rows h).answer;
+  same = as_placed old new rowids_query [] rows rowids_plain h;
+  rows = λ has.
+      let place = which old.now.schema has in
+      let first = place.0 in
+      let it = reads_as rowids_query [] old new (schema_of first) place.1 (Select (rowids_program (node_tree first)) rowids_names) (rowids_are first).0 (rowids_plain first) (rowids_are first).1 rows h in
+      subst (λ t. IsPermutation (map (λ r. rowid r ∷ []) t) rows) (sym (nodes_lie first old.now place.1)) (rowid_rows first old.now.trees rows it.answer);
 }
 
 pub reads_nodes : (old new : State) (rows : List Row) → Shown nodes_query [] old new rows → ReadsNodes old.now new.now rows
 reads_nodes old new rows h = record {
-  same = as_found store_schema old new nodes_query [] rows nodes_plain h;
-  rows = λ has. node_rows old.now.trees rows (reads_as nodes_query [] old new store_schema has (Select nodes_program nodes_names) nodes_are.0 nodes_plain nodes_are.1 rows h).answer;
+  same = as_placed old new nodes_query [] rows nodes_plain h;
+  rows = λ has.
+      let place = which old.now.schema has in
+      let first = place.0 in
+      let it = reads_as nodes_query [] old new (schema_of first) place.1 (Select (nodes_program (node_tree first)) nodes_names) (nodes_are first).0 (nodes_plain first) (nodes_are first).1 rows h in
+      subst (λ t. AreNodes t rows) (sym (nodes_lie first old.now place.1)) (nodes_given first old.now.trees rows it.answer);
 }
 
 -- # Refusals
@@ -273,13 +306,22 @@ module _ (old new : State) (sql : List ℕ) (e : Error) (n : fault_of e ≡ NotA
   unread_same none (inl (inr (c, it, h))) = absurd (subst IsUnread it.is none)
   unread_same none (inr late) = absurd (subst IsUnread late.1.is none)
 
+-- a query that has a meaning under the two tables
+pub placed_told : (old new : State) (sql : List ℕ) (e : Error) → fault_of e ≡ NotAStore → (tree : First → ℕ) (q : ℕ → Program) (names : List (List ℕ))
+    → ((first : First) → (command_of (understood (schema_of first) sql) ≡ Select (q (tree first)) names) × (reads_listing (schema_of first) sql ≡ false))
+    → ((first : First) → IsPlain (understood (schema_of first) sql)) → IsStoreSchema old.now.schema → ¬ IsQueryRefusal sql old new e
+placed_told old new sql e n tree q names are plain has =
+    let place = which old.now.schema has in
+    let first = place.0 in
+    query_told old new sql e n (schema_of first) (q (tree first)) names place.1 (are first).0 (plain first)
+
 -- the edition cannot be read
 pub nothing_read : (old new : State) (e : Error) → IsQueryRefusal edition_query old new e → IsInputError e → SeesNothing old.now new.now
 nothing_read old new e h input =
     let n : fault_of e ≡ NotAStore = ap fault_of input.1 in record {
       none = λ layout. elim layout [
-        | inl has ↦ query_told old new edition_query e n layout_schema edition_program edition_names has edition_alone.0 edition_alone_plain h
-        | inr has ↦ query_told old new edition_query e n store_schema edition_program edition_names has edition_found.0 edition_found_plain h
+        | inl has ↦ query_told old new edition_query e n layout_schema (edition_program 0) edition_names has edition_alone.0 edition_alone_plain h
+        | inr has ↦ placed_told old new edition_query e n layout_tree edition_program edition_names edition_found edition_found_plain has h
       ];
       same = λ lacks. elim lacks [
         | inl has ↦ unread_same old new edition_query e n (subst (λ s. IsUnread (understood s edition_query)) (sym has) edition_unread) h

@@ -7,6 +7,7 @@ use Rattle.sqlite.specs.State.{HasCleanDisk}
 use Rattle.xq_rows.specs.Adopt.{IsAdopted, IsNoStore, IsBlank, HasTables, HasOneTable}
 use Rattle.xq_rows.specs.Documents.{IsReady, IsClean, IsOpen, IsUp, Holds, StandsFor, documents, documents_in, IsStore}
 use Rattle.xq_rows.proofs.Maps.{no_documents}
+use Rattle.xq_rows.specs.Tables.{node_rows}
 
 module _ {S : Type 0} (g : Ghosts S) (conn new : Held S) where
   module _ (ends : HasCleanDisk (state g new) → IsTrue (state g new).is_open) where
@@ -19,7 +20,7 @@ module _ {S : Type 0} (g : Ghosts S) (conn new : Held S) where
       unfolding IsClean IsBlank StandsFor
       made_empty clean blank opened =
           let made = (did (clean, opened)).made blank in
-          (made.0, no_documents ((state g new).now.trees 1) made.1)
+          (made.0, no_documents (node_rows (state g new).now) made.1)
 
       pub found_same : IsClean g new → HasTables g conn → (state g new).now ≡ (state g conn).now
       unfolding IsClean HasTables
@@ -29,7 +30,7 @@ module _ {S : Type 0} (g : Ghosts S) (conn new : Held S) where
       unfolding IsClean HasTables Holds documents StandsFor
       found_whole clean has =
           let found = (did (clean, ends clean)).found has in
-          (found.1, λ opened. (subst IsStore (sym found.0) found.1, ap (λ db. documents_in (db.trees 1)) found.0))
+          (found.1, λ opened. (subst IsStore (sym found.0) found.1, ap (λ db. documents_in (node_rows db)) found.0))
 
       pub never_one : IsClean g new → ¬ HasOneTable g conn
       unfolding IsClean HasOneTable

@@ -17,7 +17,7 @@ use Rattle.std.specs.Int.Signed.{lt_z, lt_z_yes}
 use Rattle.std.specs.Cmp.{int_cmp_is}
 use Rattle.std.specs.Str.{bytes_eq}
 use Rattle.std.proofs.lemmas.Map.Text.{is_eq-slice_cmp}
-use Rattle.sqlite_trees.specs.Tree.{Trees, IsAscending, rowid}
+use Rattle.sqlite_trees.specs.Tree.{IsAscending, rowid}
 use Rattle.sqlite_trees.specs.View.{is_int}
 use Rattle.sqlite_trees.proofs.ListLemmas.{map-map, filter-map, IsPermutation-filter}
 use Rattle.sqlite_keyed.proofs.ListLemmas.{all_weaker, all_map, all_unmap, filter_all, filter_none, ascending-filter, ascending_weaker}
@@ -30,7 +30,7 @@ use Rattle.xq_rows.specs.Nodes.{cells, node_of, bytes_in}
 use Rattle.xq_rows.specs.Documents.{AreApart, HaveInts, HasAddress, is_at, rows_at, by_first, IsWhole, IsStore}
 use Rattle.xq_rows.specs.Adopt.{named, is_under, HasOwner, by_place, run_length, IsRun, nodes_under, AreTold, ReadsEdition, SeesEdition, IsPast, ReadsRowids, SeesRowids, AreNodes, ReadsNodes, AreDocuments, SeesNothing, SeesDocuments, IsAdopted, IsNoStore}
 use Rattle.xq_rows.specs.Statements.{MakesStore}
-use Rattle.xq_rows.specs.Tables.{no_schema, store_schema}
+use Rattle.xq_rows.specs.Tables.{no_schema, node_rows, layout_rows, IsStoreSchema}
 use Rattle.xq_rows.proofs.Lists.{tied}
 use Rattle.xq_rows.proofs.Maps.{text_is, same_address}
 use Rattle.xq_rows.proofs.Orders.{first_total, numbers_rise, sorted_from}
@@ -74,24 +74,24 @@ no_length (x ∷ xs) h = absurd (omega (arith, h))
 
 -- # The edition
 
-editions_moved : (db : Trees) (rows : List Row) → IsPermutation (map (λ r. column r 1 ∷ []) (db 0)) rows → IsPermutation (map (λ r. column r 1) (db 0)) (map (λ r. column r 0) rows)
-editions_moved db rows same =
-    subst (λ l. IsPermutation l (map (λ r. column r 0) rows)) (map-map (λ r. column r 0) (λ r. column r 1 ∷ []) (db 0)) (IsPermutation-map (λ r. column r 0) _ _ same)
+editions_moved : (table rows : List Row) → IsPermutation (map (λ r. column r 1 ∷ []) table) rows → IsPermutation (map (λ r. column r 1) table) (map (λ r. column r 0) rows)
+editions_moved table rows same =
+    subst (λ l. IsPermutation l (map (λ r. column r 0) rows)) (map-map (λ r. column r 0) (λ r. column r 1 ∷ []) table) (IsPermutation-map (λ r. column r 0) _ _ same)
 
 pub edition_seen : (old new : Database) (rows : List Row) → ReadsEdition old new rows → map (λ r. column r 0) rows ≡ Int (pos 1) ∷ [] → SeesEdition old new
 edition_seen old new rows it one = record {
   some = it.some;
   same = it.same;
   first = λ layout.
-      let moved = editions_moved old.trees rows (it.rows layout) in
-      one_permutation (Int (pos 1)) _ (IsPermutation-sym _ _ (subst (IsPermutation (map (λ r. column r 1) (old.trees 0))) one moved));
+      let moved = editions_moved (layout_rows old) rows (it.rows layout) in
+      one_permutation (Int (pos 1)) _ (IsPermutation-sym _ _ (subst (IsPermutation (map (λ r. column r 1) (layout_rows old))) one moved));
 }
 
 pub no_edition : (old new : Database) (rows : List Row) → ReadsEdition old new rows → ¬ (map (λ r. column r 0) rows ≡ Int (pos 1) ∷ []) → IsNoStore old
 no_edition old new rows it other = record {
   some = λ has. it.some (inl has);
   none = λ store.
-      let moved = editions_moved old.trees rows (it.rows (inr store.schema)) in
+      let moved = editions_moved (layout_rows old) rows (it.rows (inr store.schema)) in
       other (one_permutation (Int (pos 1)) _ (subst (λ l. IsPermutation l (map (λ r. column r 0) rows)) store.layout moved));
 }
 
@@ -154,8 +154,8 @@ pub rowids_seen : (old new : Database) (rows : List Row) → ReadsRowids old new
 rowids_seen old new rows it up ints = record {
   alone = it.alone;
   same = it.same;
-  apart = λ has. apart_shown (old.trees 1) (apart_moved rows _ (IsPermutation-sym _ _ (it.rows has)) up);
-  ints = λ has. all_unmap (λ r. IsTrue (is_int (rowid r))) (λ r. rowid r ∷ []) (old.trees 1) (all_moved (λ r. IsTrue (is_int (rowid r))) rows _ (IsPermutation-sym _ _ (it.rows has)) ints);
+  apart = λ has. apart_shown (node_rows old) (apart_moved rows _ (IsPermutation-sym _ _ (it.rows has)) up);
+  ints = λ has. all_unmap (λ r. IsTrue (is_int (rowid r))) (λ r. rowid r ∷ []) (node_rows old) (all_moved (λ r. IsTrue (is_int (rowid r))) rows _ (IsPermutation-sym _ _ (it.rows has)) ints);
 }
 
 -- each rowid is at most the last one
@@ -511,23 +511,23 @@ documents_seen old mid new rows ids nodes told = record {
   alone = ids.alone;
   same = λ has. nodes.same (schema has) ∙ ids.same has;
   documents = λ has.
-      let are : AreNodes (old.trees 1) rows = subst (λ (d : Database). AreNodes (d.trees 1) rows) (ids.same has) (nodes.rows (schema has)) in record {
+      let are : AreNodes (node_rows old) rows = subst (λ (d : Database). AreNodes (node_rows d) rows) (ids.same has) (nodes.rows (schema has)) in record {
         apart = ids.apart has;
         ints = ids.ints has;
-        named = table_named (old.trees 1) rows are (told are.sorted);
-        whole = table_whole (old.trees 1) rows are (told are.sorted);
+        named = table_named (node_rows old) rows are (told are.sorted);
+        whole = table_whole (node_rows old) rows are (told are.sorted);
       };
 }
   where
-    schema : old.schema ≡ store_schema → mid.schema ≡ store_schema
-    schema has = ap (λ (d : Database). d.schema) (ids.same has) ∙ has
+    schema : IsStoreSchema old.schema → IsStoreSchema mid.schema
+    schema has = subst (λ (d : Database). IsStoreSchema d.schema) (sym (ids.same has)) has
 
 pub no_documents_seen : (old mid new : Database) (rows : List Row) → SeesRowids old mid → ReadsNodes mid new rows → (IsSorted by_place rows → ¬ AreTold rows) → ¬ IsStore old
 no_documents_seen old mid new rows ids nodes untold store =
     let same = ids.same store.schema in
-    let has : mid.schema ≡ store_schema = ap (λ (d : Database). d.schema) same ∙ store.schema in
-    let are : AreNodes (old.trees 1) rows = subst (λ (d : Database). AreNodes (d.trees 1) rows) same (nodes.rows has) in
-    untold are.sorted (told_of (old.trees 1) rows are store.named store.whole)
+    let has : IsStoreSchema mid.schema = subst (λ (d : Database). IsStoreSchema d.schema) (sym same) store.schema in
+    let are : AreNodes (node_rows old) rows = subst (λ (d : Database). AreNodes (node_rows d) rows) same (nodes.rows has) in
+    untold are.sorted (told_of (node_rows old) rows are store.named store.whole)
 
 -- # The whole adoption
 
@@ -536,8 +536,8 @@ adopted_found old mid new edition documents = record {
   made = λ has. absurd (edition.some (inl has));
   found = λ has.
       let same = edition.same (inr has) in
-      let still : mid.schema ≡ store_schema = ap (λ (d : Database). d.schema) same ∙ has in
-      let are : AreDocuments (old.trees 1) = subst (λ (d : Database). AreDocuments (d.trees 1)) same (documents.documents still) in (
+      let still : IsStoreSchema mid.schema = subst (λ (d : Database). IsStoreSchema d.schema) (sym same) has in
+      let are : AreDocuments (node_rows old) = subst (λ (d : Database). AreDocuments (node_rows d)) same (documents.documents still) in (
         documents.same still ∙ same,
         record { schema = has; layout = edition.first (inr has); apart = are.apart; ints = are.ints; named = are.named; whole = are.whole },
       );

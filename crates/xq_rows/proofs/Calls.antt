@@ -14,7 +14,7 @@ use Rattle.xq_regions.specs.declared.Kind.TheVariants.{Document}
 use Rattle.xq_rows.specs.Nodes.{cells}
 use Rattle.xq_rows.specs.Documents.{Map, IsReady, IsClean, IsOpen, StandsFor, documents_in, is_at, IsStore, IsEmptyStore}
 use Rattle.xq_rows.specs.Statements.{AreAbove, AreAddresses, Deletes, Finds, IsRange, Puts}
-use Rattle.xq_rows.specs.Tables.{store_schema}
+use Rattle.xq_rows.specs.Tables.{node_rows, IsStoreSchema}
 use Rattle.sqlite_value.specs.declared.value.Value.TheVariants.{Text}
 use Rattle.xq_rows.proofs.Loads.{most, found_is}
 use Rattle.xq_rows.proofs.Keys.{keys_are}
@@ -49,7 +49,7 @@ module _ {S : Type 0} (g : Ghosts S) (conn old new : Held S) (same : conn ≡ ol
       subst (λ (h : Held S). HasCleanDisk (state g h)) same early
 
   -- what the store stands for as the call begins
-  before : (m : Map) → StandsFor g old m → IsTrue (state g conn).is_open → IsStore (state g conn).now × (documents_in ((state g conn).now.trees 1) ≡ m)
+  before : (m : Map) → StandsFor g old m → IsTrue (state g conn).is_open → IsStore (state g conn).now × (documents_in (node_rows (state g conn).now) ≡ m)
   unfolding StandsFor
   before m stands = subst (λ (h : Held S). StandsFor g h m) (sym same) stands
 
@@ -65,16 +65,16 @@ module _ {S : Type 0} (g : Ghosts S) (conn old new : Held S) (same : conn ≡ ol
     kept_stands kept clean m stands opened =
         let held = before m stands (opens (clean, opened)) in
         let stays = kept (clean, opened) in
-        (subst IsStore (sym stays) held.0, ap (λ db. documents_in (db.trees 1)) stays ∙ held.1)
+        (subst IsStore (sym stays) held.0, ap (λ db. documents_in (node_rows db)) stays ∙ held.1)
 
     -- a query leaves the database as it is
-    pub read_stands : (IsReady (state g new) → (state g conn).now.schema ≡ store_schema → (state g new).now ≡ (state g conn).now)
+    pub read_stands : (IsReady (state g new) → IsStoreSchema (state g conn).now.schema → (state g new).now ≡ (state g conn).now)
         → IsClean g new → (m : Map) → StandsFor g old m → StandsFor g new m
     unfolding IsClean StandsFor
     read_stands kept clean m stands opened =
         let held = before m stands (opens (clean, opened)) in
         let stays = kept (clean, opened) (held.0.schema) in
-        (subst IsStore (sym stays) held.0, ap (λ db. documents_in (db.trees 1)) stays ∙ held.1)
+        (subst IsStore (sym stays) held.0, ap (λ db. documents_in (node_rows db)) stays ∙ held.1)
 
     pub loaded : {E : Type 0} (a : List ℕ) (nodes : List NodeRow) (r : Result (Option Tree) E) → (IsReady (state g new) → IsRange a 0 most (state g conn).now (map cells (map placed nodes)))
         → IfOk r (Finds nodes) → (HasCleanDisk (state g new) → IsTrue (state g new).is_open) → IsClean g new → (m : Map) → StandsFor g old m → IfOk r (λ found. found ≡ get m a)
@@ -118,7 +118,7 @@ module _ {S : Type 0} (g : Ghosts S) (conn old new : Held S) (same : conn ≡ ol
     all_listed bytes (Ok all) shown ends clean m stands =
         let ready : IsReady (state g new) = (clean, ends clean) in
         let held = before m stands (opens ready) in
-        keys_are ((state g conn).now.trees 1) (bytes all) held.0.named held.0.whole (shown ready held.0.schema) ∙ ap keys held.1
+        keys_are (node_rows (state g conn).now) (bytes all) held.0.named held.0.whole (shown ready held.0.schema) ∙ ap keys held.1
 
     -- the rows of an address were deleted
     module _ (ends : HasCleanDisk (state g new) → IsTrue (state g new).is_open) (a : List ℕ) (count : ℕ)
@@ -189,4 +189,4 @@ module _ {S : Type 0} (g : Ghosts S) (store : Held S) (ready : IsReady (state g 
 
   pub new_empty : StandsFor g store empty
   unfolding StandsFor
-  new_empty opened = (made.0, no_documents ((state g store).now.trees 1) made.1)
+  new_empty opened = (made.0, no_documents (node_rows (state g store).now) made.1)

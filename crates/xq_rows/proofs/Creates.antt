@@ -18,12 +18,13 @@ use Rattle.std.specs.List.{AllByRecursion}
 use Rattle.xq_rows.specs.Documents.{AreApart, HasAddress, HaveInts, IsEmptyStore, IsStore, rows_at}
 use Rattle.xq_rows.specs.Statements.{MakesLayout, MakesNode, MakesBoth, WritesEdition}
 use Rattle.sqlite.proofs.Callers.{statement_of, runs_as, one_step}
-use Rattle.xq_rows.specs.Tables.{no_schema, layout_table, layout_schema, node_table, node_schema, turned_schema, store_schema}
+use Rattle.xq_rows.specs.Tables.{no_schema, layout_table, layout_schema, node_table, node_schema, turned_schema, store_schema, layout_rows, node_rows}
+use Rattle.xq_rows.proofs.Places.{layout_first, nodes_lie, layout_lies, layout_alone}
 use Rattle.xq_rows.proofs.Texts.{layout_text, layout_is, layout_plain, layout_beside, layout_beside_plain, makes_layout, makes_layout_beside, IsUnread, node_again, node_text, node_is, node_plain, makes_node, edition_text, edition_terms, edition_is, edition_plain}
 use Rattle.xq_rows.proofs.Deletes.{went, same_value}
 use Rattle.xq_rows.proofs.Inserts.{cast_null, cast_int}
 
-pub makes_first : (old new : State) (count : ℕ) → old.now.schema ≡ no_schema → Executes layout_text [] old new (Ok count) → (new.now.schema ≡ layout_schema) × (new.now.trees 0 ≡ [])
+pub makes_first : (old new : State) (count : ℕ) → old.now.schema ≡ no_schema → Executes layout_text [] old new (Ok count) → (new.now.schema ≡ layout_schema) × (layout_rows new.now ≡ [])
 makes_first old new count has h =
     let w = subst (λ t. Writes old new None CreateTable t [] count) layout_is.1 (runs_as layout_text [] old new no_schema has CreateTable layout_is.0 layout_plain count h) in
     let all = went w.changed in
@@ -34,10 +35,11 @@ makes_first old new count has h =
     let schema : first.0.schema ≡ layout_schema = made.is ∙ ap (λ s. created s made.table) has ∙ ap (created no_schema) same ∙ makes_layout in
     let plain : lacks_sequence first.0.schema ≡ false = ap lacks_sequence schema in
     let now : new.now ≡ first.0 = ap (λ (p : Tally × Database). p.1) (same_value all.2) ∙ same_value (rw plain at first.2) in
-    (ap (λ (d : Database). d.schema) now ∙ schema, ap (λ (d : Database). d.trees 0) now ∙ subst (λ s. first.0.trees (next_tree s) ≡ []) has made.empty)
+    let is : new.now.schema ≡ layout_schema = ap (λ (d : Database). d.schema) now ∙ schema in
+    (is, layout_alone new.now is ∙ ap (λ (d : Database). d.trees 0) now ∙ subst (λ s. first.0.trees (next_tree s) ≡ []) has made.empty)
 
 pub makes_second : (old new : State) (count : ℕ) → old.now.schema ≡ layout_schema → Executes node_text [] old new (Ok count)
-    → (new.now.schema ≡ store_schema) × (new.now.trees 0 ≡ old.now.trees 0) × (new.now.trees 1 ≡ [])
+    → (new.now.schema ≡ store_schema) × (layout_rows new.now ≡ layout_rows old.now) × (node_rows new.now ≡ [])
 makes_second old new count has h =
     let w = subst (λ t. Writes old new None CreateTable t [] count) node_is.1 (runs_as node_text [] old new layout_schema has CreateTable node_is.0 node_plain count h) in
     let all = went w.changed in
@@ -49,7 +51,11 @@ makes_second old new count has h =
     let plain : lacks_sequence first.0.schema ≡ false = ap lacks_sequence schema in
     let now : new.now ≡ first.0 = ap (λ (p : Tally × Database). p.1) (same_value all.2) ∙ same_value (rw plain at first.2) in
     let others = subst (λ s. KeepsRows s.tables old.now.trees first.0.trees) has made.others in
-    (ap (λ (d : Database). d.schema) now ∙ schema, ap (λ (d : Database). d.trees 0) now ∙ others.0, ap (λ (d : Database). d.trees 1) now ∙ subst (λ s. first.0.trees (next_tree s) ≡ []) has made.empty)
+    let is : new.now.schema ≡ store_schema = ap (λ (d : Database). d.schema) now ∙ schema in (
+      is,
+      layout_lies layout_first new.now is ∙ ap (λ (d : Database). d.trees 0) now ∙ others.0 ∙ sym (layout_alone old.now has),
+      nodes_lie layout_first new.now is ∙ ap (λ (d : Database). d.trees 1) now ∙ subst (λ s. first.0.trees (next_tree s) ≡ []) has made.empty,
+    )
 
 -- `layout` is made beside `node`
 pub makes_beside : (old new : State) (count : ℕ) → old.now.schema ≡ node_schema → Executes layout_text [] old new (Ok count) → new.now.schema ≡ turned_schema
@@ -70,9 +76,10 @@ pub makes_never : (old new : State) (count : ℕ) → old.now.schema ≡ turned_
 unfolding ExecutesIn
 makes_never old new count has h = subst IsUnread (ap (λ s. understood s node_text) (sym has) ∙ h.1.is) node_again
 
-pub numbers : (old new : State) (count : ℕ) → old.now.schema ≡ store_schema → old.now.trees 0 ≡ [] → Executes edition_text [] old new (Ok count)
-    → (new.now.schema ≡ store_schema) × (new.now.trees 0 ≡ (Int (pos 1) ∷ Int (pos 1) ∷ []) ∷ []) × (new.now.trees 1 ≡ old.now.trees 1)
-numbers old new count has none h =
+pub numbers : (old new : State) (count : ℕ) → old.now.schema ≡ store_schema → layout_rows old.now ≡ [] → Executes edition_text [] old new (Ok count)
+    → (new.now.schema ≡ store_schema) × (layout_rows new.now ≡ (Int (pos 1) ∷ Int (pos 1) ∷ []) ∷ []) × (node_rows new.now ≡ node_rows old.now)
+numbers old new count has empty h =
+    let none : old.now.trees 0 ≡ [] = sym (layout_lies layout_first old.now has) ∙ empty in
     let db = old.now.trees in
     let command = Insert 0 (Values edition_terms 2) in
     let w = runs_as edition_text [] old new store_schema has command edition_is edition_plain count h in
@@ -87,7 +94,11 @@ numbers old new count has none h =
     let step = one_step store_schema _ db written.0 e refl written.1 in
     let edit : edited db e ≡ (Int (pos 1) ∷ Int (pos 1) ∷ []) ∷ [] = ap (λ all. edited db (edit_of db layout_table [] Chosen 0 all)) given.1.1 ∙ rw (none, cast_null, cast_int (pos 1)) refl in
     let apart : 1 ≡ 0 → ⊥ = λ e. omega (arith, e) in
-    (ap (λ (d : Database). d.schema) now, ap (λ (d : Database). d.trees 0) now ∙ ap (λ (t : Trees). t 0) trees ∙ step.rows ∙ edit, ap (λ (d : Database). d.trees 1) now ∙ ap (λ (t : Trees). t 1) trees ∙ step.tables.1.0 apart)
+    let is : new.now.schema ≡ store_schema = ap (λ (d : Database). d.schema) now in (
+      is,
+      layout_lies layout_first new.now is ∙ ap (λ (d : Database). d.trees 0) now ∙ ap (λ (t : Trees). t 0) trees ∙ step.rows ∙ edit,
+      nodes_lie layout_first new.now is ∙ ap (λ (d : Database). d.trees 1) now ∙ ap (λ (t : Trees). t 1) trees ∙ step.tables.1.0 apart ∙ sym (nodes_lie layout_first old.now has),
+    )
 
 -- the same inside a transaction, for each of the three
 pub ran_inside : (text : List ℕ) (P : Type 0) (old new : State) (e : Error) (r : Result ℕ Error) → (old.in_transaction ≡ false → r ≡ Err e)
@@ -112,9 +123,9 @@ pub store_made : (a b c : Database) → MakesBoth a b → WritesEdition b c → 
 store_made a b d both edition has =
     let second = both.both has in
     let third = edition second.0 second.1 in
-    let none : d.trees 1 ≡ [] = third.2 ∙ second.2 in
+    let none : node_rows d ≡ [] = third.2 ∙ second.2 in
     let store : IsStore d = record {
-      schema = third.0;
+      schema = inl third.0;
       layout = ap (map (λ r. column r 1)) third.1;
       apart = subst AreApart (sym none) tt;
       ints = subst HaveInts (sym none) tt;

@@ -1,5 +1,5 @@
 -- What INSERT does to the table `node`.
-use Rattle.std.proofs.Common.{◌≡◌, ◌&&◌, ℕ, ℤ, pos, None, Ok, Err, Result, List, [], ◌∷◌, map, filter, Bool, true, false, not, cond, refl, sym, ap, subst, ◌∙◌, arith}
+use Rattle.std.proofs.Common.{◌≡◌, ◌&&◌, ℕ, ℤ, pos, None, Ok, Err, Result, List, [], ◌∷◌, map, filter, Bool, true, false, not, cond, refl, sym, ap, subst, ◌∙◌}
 use Rattle.sqlite_value.specs.Order.{Row, value_cmp}
 use Rattle.sqlite_value.specs.declared.value.Value.{Value}
 use Rattle.sqlite_value.specs.declared.value.Value.TheVariants.{Null, Int, Text}
@@ -9,15 +9,16 @@ use Rattle.sqlite.specs.Kind.TheVariants as kind
 use Rattle.sqlite.specs.Cast.{cast}
 use Rattle.sqlite.specs.Source.TheVariants.{Values}
 use Rattle.sqlite.specs.Command.TheVariants.{Insert}
-use Rattle.sqlite_rules.specs.Edit.{edit_of, edited, next_rowid, is_taken, are_fresh, put_all}
+use Rattle.sqlite_rules.specs.Edit.{edit_of, edited, taken_by, next_rowid, is_taken, are_fresh, put_all}
 use Rattle.sqlite.specs.Rowids.TheVariants.{Chosen}
-use Rattle.sqlite.specs.Does.{Tally, Does}
+use Rattle.sqlite.specs.Does.{Tally, Does, OnRows}
 use Rattle.sqlite.specs.Rows.{Written}
 use Rattle.sqlite.specs.Listing.{understood}
 use Rattle.sqlite.specs.Effect.{Database}
 use Rattle.sqlite.specs.State.{State, mode_of, Executes}
 use Rattle.sqlite.proofs.Callers.{statement_of, runs_as, one_step}
-use Rattle.xq_rows.specs.Tables.{store_schema, node_table}
+use Rattle.xq_rows.specs.Tables.{IsStoreSchema, layout_rows, node_rows}
+use Rattle.xq_rows.proofs.Places.{First, schema_of, layout_tree, node_tree, node_place, node_table_of, which, nodes_lie, layout_lies, no_works, layout_stays, on_node}
 use Rattle.xq_regions.specs.Rows.{Row as Node}
 use Rattle.xq_rows.specs.Nodes.{cells, number_of}
 use Rattle.xq_rows.proofs.Texts.{insert_text, insert_terms, insert_is, insert_plain}
@@ -61,12 +62,13 @@ new_row address n rows = Int (next_rowid rows) ∷ Text address ∷ cells n
 
 pub record IsInserted (address : List ℕ) (n : ℕ × Node) (old new : Database) : Type 0 where
   pub schema : new.schema ≡ old.schema
-  pub layout : new.trees 0 ≡ old.trees 0
-  pub nodes : new.trees 1 ≡ put_row (new_row address n (old.trees 1)) (old.trees 1)
-  pub fresh : is_taken (old.trees 1) (new_row address n (old.trees 1)) ≡ false
+  pub layout : layout_rows new ≡ layout_rows old
+  pub nodes : node_rows new ≡ put_row (new_row address n (node_rows old)) (node_rows old)
+  pub fresh : is_taken (node_rows old) (new_row address n (node_rows old)) ≡ false
 
-news_are : (address : List ℕ) (n : ℕ × Node) (db : Trees) → (edit_of db node_table [] Chosen 0 ((Null ∷ Text address ∷ cells n) ∷ [])).news ≡ new_row address n (db 1) ∷ []
-news_are address n db = rw (cast_null, cast_int (pos n.0), cast_int (pos n.1.size), cast_int (pos n.1.level), cast_int (pos (number_of n.1.label.kind))) refl
+news_are : (first : First) (address : List ℕ) (n : ℕ × Node) (db : Trees)
+    → (edit_of db (node_table_of first) [] Chosen 0 ((Null ∷ Text address ∷ cells n) ∷ [])).news ≡ new_row address n (db (node_tree first)) ∷ []
+news_are first address n db = rw (cast_null, cast_int (pos n.0), cast_int (pos n.1.size), cast_int (pos n.1.level), cast_int (pos (number_of n.1.label.kind))) refl
 
 one_fresh : (rows : List Row) (row : Row) → are_fresh rows (row ∷ []) ≡ true → is_taken rows row ≡ false
 one_fresh rows row h = go (is_taken rows row) h
@@ -75,29 +77,53 @@ one_fresh rows row h = go (is_taken rows row) h
     go true e = absurd cc
     go false e = refl
 
-pub inserts : (old new : State) (address : List ℕ) (n : ℕ × Node) (count : ℕ) → old.now.schema ≡ store_schema → Executes insert_text (Text address ∷ cells n) old new (Ok count) → IsInserted address n old.now new.now
-inserts old new address n count has h =
+-- what it makes of the trees
+record InsertsIn (first : First) (address : List ℕ) (n : ℕ × Node) (old new : Database) : Type 0 where
+  schema : new.schema ≡ old.schema
+  layout : new.trees (layout_tree first) ≡ old.trees (layout_tree first)
+  nodes : new.trees (node_tree first) ≡ put_row (new_row address n (old.trees (node_tree first))) (old.trees (node_tree first))
+  fresh : is_taken (old.trees (node_tree first)) (new_row address n (old.trees (node_tree first))) ≡ false
+
+inserts_in : (first : First) (old new : State) (address : List ℕ) (n : ℕ × Node) (count : ℕ) → old.now.schema ≡ schema_of first → Executes insert_text (Text address ∷ cells n) old new (Ok count)
+    → InsertsIn first address n old.now new.now
+inserts_in first old new address n count has h =
     let params = Text address ∷ cells n in
     let db = old.now.trees in
-    let command = Insert 1 (Values insert_terms 8) in
-    let w = runs_as insert_text params old new store_schema has command insert_is insert_plain count h in
-    let text = statement_of insert_text (understood store_schema insert_text) in
-    let done = went (subst (λ s. Does old.step_limit (mode_of old) params (record old.now { schema = s }) text None command (Ok (w.tally, new.now))) has w.changed) in
+    let tree = node_tree first in
+    let schema = schema_of first in
+    let command = Insert (node_place first) (Values insert_terms 8) in
+    let w = runs_as insert_text params old new schema has command (insert_is first) (insert_plain first) count h in
+    let text = statement_of insert_text (understood schema insert_text) in
+    let changed = subst (λ s. Does old.step_limit (mode_of old) params (record old.now { schema = s }) text None command (Ok (w.tally, new.now))) has w.changed in
+    let done = went (on_node first old.step_limit (mode_of old) params db (λ task. OnRows task (mode_of old) None command db) (Ok (w.tally, new.now)) changed) in
     let now = ap (λ (p : Tally × Database). p.1) (same_value (went (went done.2).2).2) in
     let given = went done.1 in
     let written = went (went given.2).2 in
     let counted = went written.2 in
     let trees : done.0.trees ≡ written.0 = ap (λ (it : Written). it.trees) (same_value counted.2) ∙ same_value counted.1 in
-    let step = one_step store_schema _ db written.0 (edit_of db node_table [] Chosen 0 given.0) refl written.1 in
+    let e = edit_of db (node_table_of first) [] Chosen 0 given.0 in
+    let keys = (mode_of old).keys in
+    let step = one_step schema keys db written.0 e (no_works first keys (taken_by db e) e.news) written.1 in
     let sources : given.0 ≡ (Null ∷ params) ∷ [] = given.1.1 in
-    let e = edit_of db node_table [] Chosen 0 given.0 in
-    let news : e.news ≡ new_row address n (db 1) ∷ [] = ap (λ all. (edit_of db node_table [] Chosen 0 all).news) sources ∙ news_are address n db in
-    let edit : edited db e ≡ put_row (new_row address n (db 1)) (db 1) = ap (λ rows. put_all (db 1) rows) news in
-    let apart : 0 ≡ 1 → ⊥ = λ e. omega (arith, e) in record {
+    let news : e.news ≡ new_row address n (db tree) ∷ [] = ap (λ all. (edit_of db (node_table_of first) [] Chosen 0 all).news) sources ∙ news_are first address n db in
+    let edit : edited db e ≡ put_row (new_row address n (db tree)) (db tree) = ap (λ rows. put_all (db tree) rows) news in record {
       schema = ap (λ (d : Database). d.schema) now ∙ sym has;
-      layout = ap (λ (d : Database). d.trees 0) now ∙ ap (λ (t : Trees). t 0) trees ∙ step.tables.0 apart;
-      nodes = ap (λ (d : Database). d.trees 1) now ∙ ap (λ (t : Trees). t 1) trees ∙ step.rows ∙ edit;
-      fresh = one_fresh (db 1) (new_row address n (db 1)) (ap (λ rows. are_fresh (db 1) rows) (sym news) ∙ step.fresh);
+      layout = ap (λ (d : Database). d.trees (layout_tree first)) now ∙ ap (λ (t : Trees). t (layout_tree first)) trees ∙ layout_stays first db written.0 step.tables;
+      nodes = ap (λ (d : Database). d.trees tree) now ∙ ap (λ (t : Trees). t tree) trees ∙ step.rows ∙ edit;
+      fresh = one_fresh (db tree) (new_row address n (db tree)) (ap (λ rows. are_fresh (db tree) rows) (sym news) ∙ step.fresh);
+    }
+
+pub inserts : (old new : State) (address : List ℕ) (n : ℕ × Node) (count : ℕ) → IsStoreSchema old.now.schema → Executes insert_text (Text address ∷ cells n) old new (Ok count) → IsInserted address n old.now new.now
+inserts old new address n count has h =
+    let place = which old.now.schema has in
+    let first = place.0 in
+    let nodes = sym (nodes_lie first old.now place.1) in
+    let it = inserts_in first old new address n count place.1 h in
+    let still = it.schema ∙ place.1 in record {
+      schema = it.schema;
+      layout = layout_lies first new.now still ∙ it.layout ∙ sym (layout_lies first old.now place.1);
+      nodes = nodes_lie first new.now still ∙ it.nodes ∙ ap (λ rows. put_row (new_row address n rows) rows) nodes;
+      fresh = sym (ap (λ rows. is_taken rows (new_row address n rows)) nodes) ∙ it.fresh;
     }
 
 -- a row whose rowid is free is added, wherever it comes to stand
@@ -159,7 +185,7 @@ other_address a b apart = go (value_cmp (Text a) (Text b)) refl
 
 pub adds_one : (address : List ℕ) (n : ℕ × Node) (old new : Database) → IsInserted address n old new → HasAdded address (cells n ∷ []) old new
 adds_one address n old new it =
-    let rows = old.trees 1 in
+    let rows = node_rows old in
     let row = new_row address n rows in
     let mine : is_at address row ≡ true = own_address address in
     let whole = IsPermutation-map kept _ _ (IsPermutation-filter (is_at address) _ _ (put_permutes row rows it.fresh)) in
@@ -183,7 +209,7 @@ adds_none address db = record {
   apart = λ up. up;
   ints = λ ints. ints;
   named = λ good all. all;
-  own = subst (λ l. IsPermutation l (rows_at address (db.trees 1))) (sym (append-nil (rows_at address (db.trees 1)))) (IsPermutation-refl _);
+  own = subst (λ l. IsPermutation l (rows_at address (node_rows db))) (sym (append-nil (rows_at address (node_rows db)))) (IsPermutation-refl _);
   others = λ b apart. refl;
 }
 
@@ -194,7 +220,7 @@ adds_more address xs ys first mid last p q = record {
   apart = λ up. q.apart (p.apart up);
   ints = λ ints. q.ints (p.ints ints);
   named = λ good all. q.named good (p.named good all);
-  own = subst (λ l. IsPermutation l (rows_at address (last.trees 1))) (append_assoc (rows_at address (first.trees 1)) xs ys) (IsPermutation-trans _ _ _ (IsPermutation-append_left ys _ _ p.own) q.own);
+  own = subst (λ l. IsPermutation l (rows_at address (node_rows last))) (append_assoc (rows_at address (node_rows first)) xs ys) (IsPermutation-trans _ _ _ (IsPermutation-append_left ys _ _ p.own) q.own);
   others = λ b apart. q.others b apart ∙ p.others b apart;
 }
 
@@ -213,7 +239,7 @@ added_inside old new address n e (Ok count) ended runs = go old.in_transaction r
 pub adds_then : (address : List ℕ) (xs ys : List Row) (first mid last : State) → Adds address xs first mid → Adds address ys mid last → Adds address (xs ++ ys) first last
 adds_then address xs ys first mid last p q = record {
   mode = λ inside. q.mode (p.mode inside);
-  did = λ has. let one = p.did has in adds_more address xs ys first.now mid.now last.now one (q.did (one.schema ∙ has));
+  did = λ has. let one = p.did has in adds_more address xs ys first.now mid.now last.now one (q.did (subst IsStoreSchema (sym one.schema) has));
 }
 
 pub adds_nothing : (address : List ℕ) (s : State) → Adds address [] s s

@@ -8,7 +8,7 @@ use Rattle.sqlite.specs.State.{HasCleanDisk}
 use Rattle.xq_regions.specs.Tree.{Tree}
 use Rattle.xq_rows.specs.declared.fronts.Shelf.{Shelf}
 use Rattle.xq_rows.specs.Documents.{IsReady, IsClean, IsOpen, IsUp, IsStore, Holds, Map, StandsFor, documents_in}
-use Rattle.xq_rows.specs.Tables.{store_schema}
+use Rattle.xq_rows.specs.Tables.{node_rows, IsStoreSchema}
 use Rattle.xq_rows.specs.Views.{Beginning, HeldDocuments, StoodFor, Viewed, beginning, trees_under}
 use Rattle.xq_rows.specs.private.Keeps.{AreOf, IsKept, Keeps, LeavesAlone}
 use Rattle.xq_rows.specs.private.Shelves.{AreFronts, IsShelved}
@@ -17,7 +17,7 @@ module _ {S : Type 0} (g : Ghosts S) where
   -- # Calls that leave the tables alone
 
   pub leaves : (conn old new : Held S) → conn ≡ old → doubt (state g conn).is_clean ≤ doubt (state g new).is_clean → (IsReady (state g new) → IsTrue (state g conn).is_open)
-      → (IsReady (state g new) → (state g conn).now.schema ≡ store_schema → (state g new).now ≡ (state g conn).now) → LeavesAlone g old new
+      → (IsReady (state g new) → IsStoreSchema (state g conn).now.schema → (state g new).now ≡ (state g conn).now) → LeavesAlone g old new
   leaves conn old new is clean opens same = subst (λ (h : Held S). LeavesAlone g h new) is (record {
     was_clean = λ now. (let early : HasCleanDisk (state g conn) = omega (arith, clean, now) in early);
     was_open = opens;
@@ -34,7 +34,7 @@ module _ {S : Type 0} (g : Ghosts S) where
     same = λ ready own. (
         let mid : IsReady (state g second) = (two.was_clean ready.0, two.was_open ready) in
         let e = one.same mid own in
-        two.same ready (ap (λ db. db.schema) e ∙ own) ∙ e);
+        two.same ready (subst (λ db. IsStoreSchema db.schema) (sym e) own) ∙ e);
   }
 
   module _ (old new : Held S) (alone : LeavesAlone g old new) where
@@ -55,13 +55,13 @@ module _ {S : Type 0} (g : Ghosts S) where
         let ready : IsReady (state g new) = (clean, opened) in
         let held = stands (alone.was_open ready) in
         let e = alone.same ready held.0.schema in
-        (subst IsStore (sym e) held.0, ap (λ db. documents_in (db.trees 1)) e ∙ held.1)
+        (subst IsStore (sym e) held.0, ap (λ db. documents_in (node_rows db)) e ∙ held.1)
 
     -- what is kept stays so
     pub keeps_on : (shelf : Option Shelf) → Keeps g old shelf → Keeps g new shelf
     keeps_on None keeps = tt
     keeps_on (Some shelf) keeps = record {
-      own = λ ready. (let was = was_ready ready in ap (λ db. db.schema) (alone.same ready (keeps.own was)) ∙ keeps.own was);
+      own = λ ready. (let was = was_ready ready in subst (λ db. IsStoreSchema db.schema) (sym (alone.same ready (keeps.own was))) (keeps.own was));
       holds = λ ready is. (
           let was = was_ready ready in
           let e = alone.same ready (keeps.own was) in
@@ -71,7 +71,7 @@ module _ {S : Type 0} (g : Ghosts S) where
   -- # What is taken
 
   -- the store stands for the documents that its tables hold
-  pub held_stands : (store : Held S) → Holds g store → StandsFor g store (documents_in ((state g store).now.trees 1))
+  pub held_stands : (store : Held S) → Holds g store → StandsFor g store (documents_in (node_rows (state g store).now))
   unfolding Holds StandsFor
   held_stands store holds opened = (holds, refl)
 
@@ -84,9 +84,9 @@ module _ {S : Type 0} (g : Ghosts S) where
     unfolding IsClean Holds
     taken ends now holds = subst (λ (h : Held S). IsStore (state g h).now → AreOf (state g h).now (map string_bytes shelf.addresses.items) shelf.fronts.items) is (kept.holds (early (now, ends now))) holds
 
-    pub taken_own : IsUp g new → (state g old).now.schema ≡ store_schema
+    pub taken_own : IsUp g new → IsStoreSchema (state g old).now.schema
     unfolding IsUp
-    taken_own ready = subst (λ (h : Held S). (state g h).now.schema ≡ store_schema) is (kept.own (early ready))
+    taken_own ready = subst (λ (h : Held S). IsStoreSchema (state g h).now.schema) is (kept.own (early ready))
 
   -- # A view
 
@@ -105,31 +105,31 @@ module _ {S : Type 0} (g : Ghosts S) where
         let rows : IsStore (beginning g old).database → AreFronts (trees_under (beginning g old) (map string_bytes shelf.addresses.items)) shelf.fronts.items = λ is. (of clean is).rows in
         subst (λ b. IsStore b.database → AreFronts (trees_under b (map string_bytes shelf.addresses.items)) shelf.fronts.items) same rows held
 
-    pub may_stay : (IsUp g new → IsTrue shelf.stays → (state g old).now.schema ≡ store_schema) → IsTrue shelf.stays → IsReady (state g new) → (b.database.schema ≡ store_schema) × ((state g new).now ≡ b.database)
+    pub may_stay : (IsUp g new → IsTrue shelf.stays → IsStoreSchema (state g old).now.schema) → IsTrue shelf.stays → IsReady (state g new) → IsStoreSchema b.database.schema × ((state g new).now ≡ b.database)
     unfolding IsUp beginning
-    may_stay own stays ready = let e = own ready stays in (ap (λ b. b.database.schema) (sym same) ∙ e, alone.same ready e ∙ ap (λ b. b.database) same)
+    may_stay own stays ready = let e = own ready stays in (subst (λ b. IsStoreSchema b.database.schema) same e, alone.same ready e ∙ ap (λ b. b.database) same)
 
   -- what a view gives back may be kept
   pub given_back : (b : Beginning) (v : Viewed S) (shelf : Shelf) → v.addresses ≡ map string_bytes shelf.addresses.items → IsShelved g b v shelf.fronts.items shelf.stays → IsTrue shelf.stays → IsKept g v.store shelf
   unfolding StoodFor HeldDocuments IsClean
   given_back b v shelf named is stays = record {
-    own = λ ready. (let it = is.stays stays ready in ap (λ db. db.schema) it.1 ∙ it.0);
+    own = λ ready. (let it = is.stays stays ready in subst (λ db. IsStoreSchema db.schema) (sym it.1) it.0);
     holds = λ ready held. (
         let e = (is.stays stays ready).1 in
         let began = subst IsStore e held in
         let there : AreOf b.database (map string_bytes shelf.addresses.items) shelf.fronts.items = record {
-          listed = sym named ∙ is.view.listed ready.0 (documents_in (b.database.trees 1)) (began, refl);
+          listed = sym named ∙ is.view.listed ready.0 (documents_in (node_rows b.database)) (began, refl);
           rows = subst (λ l. AreFronts (trees_under b l) shelf.fronts.items) named (is.rows ready.0 began);
         } in
         subst (λ db. AreOf db (map string_bytes shelf.addresses.items) shelf.fronts.items) (sym e) there);
   }
 
   -- reads leave what may stay
-  pub still_stays : (b : Beginning) (old new : Held S) → LeavesAlone g old new → (IsReady (state g old) → (b.database.schema ≡ store_schema) × ((state g old).now ≡ b.database))
-      → IsReady (state g new) → (b.database.schema ≡ store_schema) × ((state g new).now ≡ b.database)
+  pub still_stays : (b : Beginning) (old new : Held S) → LeavesAlone g old new → (IsReady (state g old) → IsStoreSchema b.database.schema × ((state g old).now ≡ b.database))
+      → IsReady (state g new) → IsStoreSchema b.database.schema × ((state g new).now ≡ b.database)
   still_stays b old new alone stays ready =
       let it = stays (alone.was_clean ready.0, alone.was_open ready) in
-      (it.0, alone.same ready (ap (λ db. db.schema) it.1 ∙ it.0) ∙ it.1)
+      (it.0, alone.same ready (subst (λ db. IsStoreSchema db.schema) (sym it.1) it.0) ∙ it.1)
 
 -- as many trees as addresses
 pub tree_count : (f : List ℕ → Tree) (addresses : List (String Global)) → length (map f (map string_bytes addresses)) ≡ length addresses

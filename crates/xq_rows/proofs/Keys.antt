@@ -28,6 +28,7 @@ use Rattle.std.proofs.lemmas.List.Elements.{All-from_recursion, recursion_from_A
 use Rattle.sqlite_trees.proofs.ListLemmas.{all-map, all_of}
 use Rattle.xq_rows.proofs.Maps.{order, order_total, order_exact, has_root, listed, find_by}
 use Rattle.xq_rows.proofs.Orders.{first_total, sort_rises}
+use Rattle.xq_rows.specs.Tables.{node_rows}
 
 -- # One first row for each address
 
@@ -222,8 +223,8 @@ read_addresses_is db given list shown read schema =
     let it = shown schema in
     let same : map alone list ≡ given =
     sym (map-map (λ v. v ∷ []) Text list) ∙ ap (map (λ v. v ∷ [])) read ∙ map-map (λ v. v ∷ []) (λ r. column r 0) given
-    ∙ singles (filter is_first (db.trees 1)) given (λ r. column r 1 ∷ []) (λ r. refl) it.same in
-    subst (IsPicked is_first (λ r. column r 1 ∷ []) (db.trees 1)) (sym same) it
+    ∙ singles (filter is_first (node_rows db)) given (λ r. column r 1 ∷ []) (λ r. refl) it.same in
+    subst (IsPicked is_first (λ r. column r 1 ∷ []) (node_rows db)) (sym same) it
 
 pub addresses_read : {X E : Type 0} (db : Database) (given : List Row) (list : X → List (List ℕ)) (r : Result X E) → AreAddresses db given
     → IfOk r (λ all. map Text (list all) ≡ map (λ r. column r 0) given) → IfOk r (λ all. AreAddresses db (map alone (list all)))

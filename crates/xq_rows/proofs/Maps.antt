@@ -29,6 +29,7 @@ use Rattle.xq_rows.specs.Statements.{HasDropped, HasAdded}
 use Rattle.xq_rows.proofs.Inserts.{own_address}
 use Rattle.xq_rows.proofs.Lists.{tied}
 use Rattle.xq_rows.proofs.Orders.{sorted_nodes}
+use Rattle.xq_rows.specs.Tables.{IsStoreSchema, node_rows}
 
 -- # Addresses
 
@@ -66,43 +67,43 @@ same_address a b = go (is_eq (value_cmp (Text a) (Text b))) refl
 
 -- # The rows of an address
 
-pub rows_gone : (a : List ℕ) (old new : Database) → HasDropped (is_at a) old new → rows_at a (new.trees 1) ≡ []
-rows_gone a old new h = ap (rows_at a) h.nodes ∙ ap (map kept) (none_left (is_at a) (old.trees 1))
+pub rows_gone : (a : List ℕ) (old new : Database) → HasDropped (is_at a) old new → rows_at a (node_rows new) ≡ []
+rows_gone a old new h = ap (rows_at a) h.nodes ∙ ap (map kept) (none_left (is_at a) (node_rows old))
 
-pub rows_stay : (a b : List ℕ) (old new : Database) → b ≢ a → HasDropped (is_at a) old new → rows_at b (new.trees 1) ≡ rows_at b (old.trees 1)
-rows_stay a b old new apart h = ap (rows_at b) h.nodes ∙ ap (map kept) (filter-filter (is_at b) (λ r. not (is_at a r)) (λ r here. apart_rows a b r apart here) (old.trees 1))
+pub rows_stay : (a b : List ℕ) (old new : Database) → b ≢ a → HasDropped (is_at a) old new → rows_at b (node_rows new) ≡ rows_at b (node_rows old)
+rows_stay a b old new apart h = ap (rows_at b) h.nodes ∙ ap (map kept) (filter-filter (is_at b) (λ r. not (is_at a r)) (λ r here. apart_rows a b r apart here) (node_rows old))
 
 pub store_drops : (a : List ℕ) (old new : Database) → HasDropped (is_at a) old new → IsStore old → IsStore new
 store_drops a old new h was = record {
-  schema = h.schema ∙ was.schema;
+  schema = subst IsStoreSchema (sym h.schema) was.schema;
   layout = ap (map (λ r. column r 1)) h.layout ∙ was.layout;
-  apart = subst AreApart (sym h.nodes) (ascending-filter _ (λ r. not (is_at a r)) (old.trees 1) was.apart);
-  ints = subst HaveInts (sym h.nodes) (all-filter _ (λ r. not (is_at a r)) (old.trees 1) was.ints);
-  named = subst (AllByRecursion HasAddress) (sym h.nodes) (all-filter _ (λ r. not (is_at a r)) (old.trees 1) was.named);
+  apart = subst AreApart (sym h.nodes) (ascending-filter _ (λ r. not (is_at a r)) (node_rows old) was.apart);
+  ints = subst HaveInts (sym h.nodes) (all-filter _ (λ r. not (is_at a r)) (node_rows old) was.ints);
+  named = subst (AllByRecursion HasAddress) (sym h.nodes) (all-filter _ (λ r. not (is_at a r)) (node_rows old) was.named);
   whole = λ b. elim (same_address a b) [
-    | inl e ↦ inl (ap (λ x. rows_at x (new.trees 1)) e ∙ rows_gone a old new h)
+    | inl e ↦ inl (ap (λ x. rows_at x (node_rows new)) e ∙ rows_gone a old new h)
     | inr apart ↦ subst (λ rows. (rows ≡ []) ⊎ IsWhole rows) (sym (rows_stay a b old new apart h)) (was.whole b)
   ];
 }
 
 module _ (a : List ℕ) (good : IsAddress a) (t : Tree) (is : IsDocument t) (old mid new : Database) (dropped : HasDropped (is_at a) old mid) (added : HasAdded a (map cells (placed_rows t)) mid new) where
-  pub own_rows : IsPermutation (rows_at a (new.trees 1)) (map cells (placed_rows t))
-  own_rows = IsPermutation-sym _ _ (subst (λ l. IsPermutation (l ++ map cells (placed_rows t)) (rows_at a (new.trees 1))) (rows_gone a old mid dropped) added.own)
+  pub own_rows : IsPermutation (rows_at a (node_rows new)) (map cells (placed_rows t))
+  own_rows = IsPermutation-sym _ _ (subst (λ l. IsPermutation (l ++ map cells (placed_rows t)) (rows_at a (node_rows new))) (rows_gone a old mid dropped) added.own)
 
-  pub other_rows : (b : List ℕ) → b ≢ a → rows_at b (new.trees 1) ≡ rows_at b (old.trees 1)
+  pub other_rows : (b : List ℕ) → b ≢ a → rows_at b (node_rows new) ≡ rows_at b (node_rows old)
   other_rows b apart = added.others b apart ∙ rows_stay a b old mid apart dropped
 
   pub store_puts : IsStore old → IsStore new
   store_puts was =
       let between = store_drops a old mid dropped was in
-      let own : IsWhole (rows_at a (new.trees 1)) = record { tree = t; is_document = is; same = own_rows } in record {
-        schema = added.schema ∙ between.schema;
+      let own : IsWhole (rows_at a (node_rows new)) = record { tree = t; is_document = is; same = own_rows } in record {
+        schema = subst IsStoreSchema (sym added.schema) between.schema;
         layout = ap (map (λ r. column r 1)) added.layout ∙ between.layout;
         apart = added.apart between.apart;
         ints = added.ints between.ints;
         named = added.named good between.named;
         whole = λ b. elim (same_address a b) [
-          | inl e ↦ inr (subst (λ x. IsWhole (rows_at x (new.trees 1))) (sym e) own)
+          | inl e ↦ inr (subst (λ x. IsWhole (rows_at x (node_rows new))) (sym e) own)
           | inr apart ↦ subst (λ rows. (rows ≡ []) ⊎ IsWhole rows) (sym (other_rows b apart)) (was.whole b)
         ];
       }
@@ -211,51 +212,51 @@ apart_key a q apart = go (eq_by_cmp order q a) refl
 own_key : (a q : List ℕ) → q ≡ a → eq_by_cmp order q a ≡ true
 own_key a q e = ap (λ x. eq_by_cmp order x a) e ∙ ap is_eq (tied_itself order_total a)
 
-pub dropped_map : (a : List ℕ) (old new : Database) → HasDropped (is_at a) old new → IsStore old → documents_in (new.trees 1) ≡ remove (documents_in (old.trees 1)) a
+pub dropped_map : (a : List ℕ) (old new : Database) → HasDropped (is_at a) old new → IsStore old → documents_in (node_rows new) ≡ remove (documents_in (node_rows old)) a
 dropped_map a old new h was = same_map order_total order_exact _ _ each
   where
     now : IsStore new
     now = store_drops a old new h was
 
-    each : (q : List ℕ) → get (documents_in (new.trees 1)) q ≡ get (remove (documents_in (old.trees 1)) a) q
+    each : (q : List ℕ) → get (documents_in (node_rows new)) q ≡ get (remove (documents_in (node_rows old)) a) q
     each q =
         elim (same_address a q) [
-          | inl e ↦ get-none (new.trees 1) q now.named (ap (λ x. rows_at x (new.trees 1)) e ∙ rows_gone a old new h)
-              ∙ sym (get-remove order_total (documents_in (old.trees 1)) a q ∙ ap (λ b. cond b None (get (documents_in (old.trees 1)) q)) (own_key a q e))
-          | inr apart ↦ get_same q (old.trees 1) (new.trees 1) was.named now.named (rows_stay a q old new apart h)
-              ∙ sym (get-remove order_total (documents_in (old.trees 1)) a q ∙ ap (λ b. cond b None (get (documents_in (old.trees 1)) q)) (apart_key a q apart))
+          | inl e ↦ get-none (node_rows new) q now.named (ap (λ x. rows_at x (node_rows new)) e ∙ rows_gone a old new h)
+              ∙ sym (get-remove order_total (documents_in (node_rows old)) a q ∙ ap (λ b. cond b None (get (documents_in (node_rows old)) q)) (own_key a q e))
+          | inr apart ↦ get_same q (node_rows old) (node_rows new) was.named now.named (rows_stay a q old new apart h)
+              ∙ sym (get-remove order_total (documents_in (node_rows old)) a q ∙ ap (λ b. cond b None (get (documents_in (node_rows old)) q)) (apart_key a q apart))
         ]
 
 pub put_map : (a : List ℕ) (good : IsAddress a) (t : Tree) (is : IsDocument t) (old mid new : Database) → HasDropped (is_at a) old mid → HasAdded a (map cells (placed_rows t)) mid new
-    → IsStore old → documents_in (new.trees 1) ≡ insert (documents_in (old.trees 1)) a t
+    → IsStore old → documents_in (node_rows new) ≡ insert (documents_in (node_rows old)) a t
 put_map a good t is old mid new dropped added was = same_map order_total order_exact _ _ each
   where
     now : IsStore new
     now = store_puts a good t is old mid new dropped added was
 
-    each : (q : List ℕ) → get (documents_in (new.trees 1)) q ≡ get (insert (documents_in (old.trees 1)) a t) q
+    each : (q : List ℕ) → get (documents_in (node_rows new)) q ≡ get (insert (documents_in (node_rows old)) a t) q
     each q =
         elim (same_address a q) [
-          | inl e ↦ get-whole (new.trees 1) q t now.named (subst (λ x. IsPermutation (rows_at x (new.trees 1)) (map cells (placed_rows t))) (sym e) (own_rows a good t is old mid new dropped added))
-              ∙ sym (get-insert order_total (documents_in (old.trees 1)) a t q ∙ ap (λ b. cond b (Some t) (get (documents_in (old.trees 1)) q)) (own_key a q e))
-          | inr apart ↦ get_same q (old.trees 1) (new.trees 1) was.named now.named (other_rows a good t is old mid new dropped added q apart)
-              ∙ sym (get-insert order_total (documents_in (old.trees 1)) a t q ∙ ap (λ b. cond b (Some t) (get (documents_in (old.trees 1)) q)) (apart_key a q apart))
+          | inl e ↦ get-whole (node_rows new) q t now.named (subst (λ x. IsPermutation (rows_at x (node_rows new)) (map cells (placed_rows t))) (sym e) (own_rows a good t is old mid new dropped added))
+              ∙ sym (get-insert order_total (documents_in (node_rows old)) a t q ∙ ap (λ b. cond b (Some t) (get (documents_in (node_rows old)) q)) (own_key a q e))
+          | inr apart ↦ get_same q (node_rows old) (node_rows new) was.named now.named (other_rows a good t is old mid new dropped added q apart)
+              ∙ sym (get-insert order_total (documents_in (node_rows old)) a t q ∙ ap (λ b. cond b (Some t) (get (documents_in (node_rows old)) q)) (apart_key a q apart))
         ]
 
 positive : (n : ℕ) → 0 < suc n
 positive n = omega arith
 
 -- the map has an address where it has rows
-pub was_there : (a : List ℕ) (db : Database) (count : ℕ) → IsStore db → count ≡ length (filter (is_at a) (db.trees 1)) → nat_lt 0 count ≡ contains_key (documents_in (db.trees 1)) a
+pub was_there : (a : List ℕ) (db : Database) (count : ℕ) → IsStore db → count ≡ length (filter (is_at a) (node_rows db)) → nat_lt 0 count ≡ contains_key (documents_in (node_rows db)) a
 unfolding tail_of
 was_there a db count it e = elim (it.whole a) [
   | inl none ↦
       let n : count ≡ 0 = size ∙ ap length none in
-      ap (nat_lt 0) n ∙ sym (ap is_some (get-none (db.trees 1) a it.named none))
+      ap (nat_lt 0) n ∙ sym (ap is_some (get-none (node_rows db) a it.named none))
   | inr some ↦
       let n : count ≡ length (map cells (placed_rows some.tree)) = size ∙ sym (length_permutation _ _ some.same) in
-      ap (nat_lt 0) n ∙ lt-ltb 0 _ (positive (length (map cells (enumerate_from 1 (tail_of (rows some.tree)))))) ∙ sym (ap is_some (get-whole (db.trees 1) a some.tree it.named some.same))
+      ap (nat_lt 0) n ∙ lt-ltb 0 _ (positive (length (map cells (enumerate_from 1 (tail_of (rows some.tree)))))) ∙ sym (ap is_some (get-whole (node_rows db) a some.tree it.named some.same))
 ]
   where
-    size : count ≡ length (rows_at a (db.trees 1))
-    size = e ∙ sym (length-map (filter (is_at a) (db.trees 1)) kept)
+    size : count ≡ length (rows_at a (node_rows db))
+    size = e ∙ sym (length-map (filter (is_at a) (node_rows db)) kept)

@@ -10,7 +10,7 @@ use Rattle.xq_sources.specs.Parents.{IsParentRow}
 use Rattle.xq_sources.specs.Sources.{tree_at as nth_tree}
 use Rattle.xq_rows.specs.Documents.{IsClean}
 use Rattle.xq_rows.specs.Views.{Beginning, HeldDocuments, Viewed, trees_under}
-use Rattle.xq_rows.specs.private.Shelves.{AreFronts, IsFront, IsShelved, front_at}
+use Rattle.xq_rows.specs.private.Shelves.{IsFront, IsShelved, front_at}
 use Rattle.xq_rows.proofs.FrontLaws.{front_is}
 
 row-first : (n i : ℕ) (xs : List Row) → i < length (take n xs) → row_at (take n xs) i ≡ row_at xs i

@@ -1,5 +1,5 @@
 -- What a SELECT over the table `node` gives.
-use Rattle.std.proofs.Common.{◌≡◌, ◌&&◌, ◌+◌, ◌<◌, zero, suc, get_or, length, All, arith, ℕ, List, [], ◌∷◌, map, filter, Bool, true, false, Some, ℤ, refl, sym, ap, subst, subst₂, ◌∙◌, pos}
+use Rattle.std.proofs.Common.{◌≡◌, ◌&&◌, ◌+◌, ◌<◌, zero, suc, get_or, length, All, arith, ℕ, List, [], ◌∷◌, map, filter, flat_map, cond, Bool, true, false, Some, ℤ, refl, sym, ap, subst, subst₂, ◌∙◌, pos}
 use Rattle.std.specs.List.{list_all}
 use Rattle.std.specs.List.Sorted.{IsPermutation, IsSorted}
 use Rattle.std.specs.Ordering.{on, is_eq, is_le, is_ge}
@@ -12,7 +12,7 @@ use Rattle.sqlite_value.proofs.OrderLemmas.{value_cmp-Null}
 use Rattle.sqlite_trees.specs.Tree.{Trees}
 use Rattle.sqlite_trees.proofs.ListLemmas.{map-map}
 use Rattle.sqlite_sql.specs.Term.{Term, eval_all, holds}
-use Rattle.sqlite_sql.specs.Query.{IsAnswer, Output, output, key_cmp}
+use Rattle.sqlite_sql.specs.Query.{Query, IsAnswer, Output, output, key_cmp}
 use Rattle.sqlite_sql.specs.Program.{overlay, IsProgramAnswer}
 use Rattle.sqlite_sql.specs.Ops.{binary, is_true, from_truth}
 use Rattle.sqlite_sql.specs.declared.ops.BinaryOp.TheVariants.{Compare}
@@ -34,39 +34,47 @@ use Rattle.std.proofs.Common.{Option, None}
 use Rattle.sqlite_resolve.specs.declared.compiled.Compiled.{Compiled}
 use Rattle.sqlite_schema.specs.declared.command.Returning.{Returning}
 use Rattle.sqlite.proofs.Callers.{IsPlain, reads_as}
-use Rattle.xq_rows.specs.Tables.{store_schema}
+use Rattle.sqlite.specs.Schema.{Schema}
+use Rattle.xq_rows.proofs.Places.{First, schema_of, node_tree, which, nodes_lie, not_given}
+use Rattle.xq_rows.specs.Tables.{IsStoreSchema}
 use Rattle.xq_rows.proofs.Lists.{same_test}
 use Rattle.xq_rows.proofs.Texts.{body, key, range_text, range_tests, range_command, range_is, range_plain, part_tests, addresses_text, addresses_tests, addresses_command, addresses_is, addresses_plain}
-use Rattle.xq_rows.specs.Documents.{by_first, is_at, kept}
+use Rattle.xq_rows.specs.Documents.{by_first, is_at, is_first, kept}
 use Rattle.xq_rows.specs.Statements.{is_within, is_part, IsPicked, IsRange, AreAddresses}
 use Rattle.std.proofs.lemmas.List.{length-map}
 
-module _ (tests : List Term) (project : List Term) (order : List (Term × Key)) (db : Trees) (params : Row) where
+module _ (first : First) (tests : List Term) (project : List Term) (order : List (Term × Key)) (db : Trees) (params : Row) where
+  abbrev table : List Row
+  table = db (node_tree first)
+
+  abbrev query : Query
+  query = body (node_tree first) tests project order
+
   abbrev pub test : Row → Bool
   test r = list_all (holds (params ∷ r ∷ [])) tests
 
   abbrev pub out : Row → Output
-  out r = output (body tests project order) (params ∷ r ∷ [])
+  out r = output query (params ∷ r ∷ [])
 
   -- the rows that pass the tests, in an order that ORDER BY allows
   pub record IsSelected (rows : List Row) : Type 0 where
     pub ordered : List Output
-    pub same : IsPermutation (map out (filter test (db 1))) ordered
+    pub same : IsPermutation (map out (filter test table)) ordered
     pub sorted : IsSorted (on (λ o. o.0) (key_cmp 0 (map (λ k. k.1) order))) ordered
     pub shown : rows ≡ map (λ o. o.1) ordered
 
-  pub selected : (rows : List Row) → IsProgramAnswer [] (body tests project order) db params rows → IsSelected rows
+  pub selected : (rows : List Row) → IsProgramAnswer [] query db params rows → IsSelected rows
   selected rows got =
-      let a : IsAnswer (body tests project order) (overlay db []) params rows = got Null in
-      let staged : a.staged ≡ map (λ r. params ∷ r ∷ []) (filter test (db 1)) = a.grouped ∙ flat_map_picks test (λ r. params ∷ r ∷ []) (db 1) in
-      let kept : a.kept ≡ map out (filter test (db 1)) = a.distinct ∙ ap (map (output (body tests project order))) staged ∙ map-map _ _ _ in
+      let a : IsAnswer query (overlay db []) params rows = got Null in
+      let staged : a.staged ≡ map (λ r. params ∷ r ∷ []) (filter test table) = a.grouped ∙ ap (flat_map (λ r. cond (test r) ((params ∷ r ∷ []) ∷ []) [])) (not_given first db) ∙ flat_map_picks test (λ r. params ∷ r ∷ []) table in
+      let kept : a.kept ≡ map out (filter test table) = a.distinct ∙ ap (map (output query)) staged ∙ map-map _ _ _ in
       record { ordered = a.ordered; same = subst (λ k. IsPermutation k a.ordered) kept a.same; sorted = a.sorted; shown = a.shown }
 
-  pub selected_rows : (rows : List Row) → IsSelected rows → IsPermutation (map (λ r. eval_all project (params ∷ r ∷ [])) (filter test (db 1))) rows
+  pub selected_rows : (rows : List Row) → IsSelected rows → IsPermutation (map (λ r. eval_all project (params ∷ r ∷ [])) (filter test table)) rows
   selected_rows rows s =
       let moved = IsPermutation-map (λ (o : Output). o.1) _ _ s.same in
-      let first : map (λ (o : Output). o.1) (map out (filter test (db 1))) ≡ map (λ r. eval_all project (params ∷ r ∷ [])) (filter test (db 1)) = map-map _ _ _ in
-      subst₂ IsPermutation first (sym s.shown) moved
+      let back : map (λ (o : Output). o.1) (map out (filter test table)) ≡ map (λ r. eval_all project (params ∷ r ∷ [])) (filter test table) = map-map _ _ _ in
+      subst₂ IsPermutation back (sym s.shown) moved
 
 -- a comparison with a value that is not NULL
 truth_is : (b : Bool) → is_true (from_truth (Some b)) ≡ b
@@ -140,24 +148,24 @@ sorted_shown ordered keyed sorted k d low high =
     let upper = get_or-map (λ (o : Output). o.1) ordered (k + 1) D in
     subst₂ (λ x y. is_lt (by_first x y) ≡ false) (sym upper) (sym lower) (lower_keys (get_or ordered (k + 1) D) (get_or ordered k D) next here was)
 
-module _ (tests : List Term) (first : ℕ) (more : List Term) (db : Trees) (params : Row) where
+module _ (first : First) (tests : List Term) (at : ℕ) (more : List Term) (db : Trees) (params : Row) where
   abbrev project : List Term
-  project = col 1 first ∷ more
+  project = col 1 at ∷ more
 
   abbrev order : List (Term × Key)
-  order = (col 1 first, key) ∷ []
+  order = (col 1 at, key) ∷ []
 
   abbrev keyed : Output → Type 0
   keyed o = o.0 ≡ column o.1 0 ∷ []
 
-  pub picked : (rows : List Row) → IsProgramAnswer [] (body tests project order) db params rows
-      → IsPicked (λ r. list_all (holds (params ∷ r ∷ [])) tests) (λ r. eval_all project (params ∷ r ∷ [])) (db 1) rows
+  pub picked : (rows : List Row) → IsProgramAnswer [] (body (node_tree first) tests project order) db params rows
+      → IsPicked (λ r. list_all (holds (params ∷ r ∷ [])) tests) (λ r. eval_all project (params ∷ r ∷ [])) (db (node_tree first)) rows
   picked rows got =
-      let s = selected tests project order db params rows got in
-      let shown = filter (test tests project order db params) (db 1) in
-      let all : All keyed (map (out tests project order db params) shown) = All-from_recursion keyed _ (all-map keyed (out tests project order db params) shown (all_of (λ r. keyed (out tests project order db params r)) (λ r. refl) shown)) in
+      let s = selected first tests project order db params rows got in
+      let shown = filter (test first tests project order db params) (db (node_tree first)) in
+      let all : All keyed (map (out first tests project order db params) shown) = All-from_recursion keyed _ (all-map keyed (out first tests project order db params) shown (all_of (λ r. keyed (out first tests project order db params r)) (λ r. refl) shown)) in
       record {
-        same = selected_rows tests project order db params rows s;
+        same = selected_rows first tests project order db params rows s;
         sorted = subst (IsSorted by_first) (sym s.shown) (sorted_shown s.ordered (All-permutation keyed _ _ s.same all) s.sorted);
       }
 
@@ -187,13 +195,23 @@ part_test address low high r = ap₂ ◌&&◌ (equals_text (column r 1) address)
 pub ranges : (old new : State) (address : List ℕ) (low high : ℕ) (rows : List Row) → Shown range_text (Text address ∷ Int (pos low) ∷ Int (pos high) ∷ []) old new rows → IsRange address low high old.now rows
 ranges old new address low high rows h has =
     let params = Text address ∷ Int (pos low) ∷ Int (pos high) ∷ [] in
-    let it = reads_as range_text params old new store_schema has range_command range_is.0 range_plain range_is.1 rows h in
-    same_passes _ _ kept (old.now.trees 1) rows (range_test address low high) (picked range_tests 2 (col 1 3 ∷ col 1 4 ∷ col 1 5 ∷ col 1 6 ∷ col 1 7 ∷ []) old.now.trees params rows it.answer)
+    let found = which old.now.schema has in
+    let first = found.0 in
+    let is = found.1 in
+    let table = old.now.trees (node_tree first) in
+    let it = reads_as range_text params old new (schema_of first) is (range_command (node_tree first)) (range_is first).0 (range_plain first) (range_is first).1 rows h in
+    let all = picked first range_tests 2 (col 1 3 ∷ col 1 4 ∷ col 1 5 ∷ col 1 6 ∷ col 1 7 ∷ []) old.now.trees params rows it.answer in
+    subst (λ t. IsPicked (λ r. is_at address r && is_within low high r) kept t rows) (sym (nodes_lie first old.now is)) (same_passes _ _ kept table rows (range_test address low high) all)
 
 pub lists : (old new : State) (rows : List Row) → Shown addresses_text [] old new rows → AreAddresses old.now rows
 lists old new rows h has =
-    let it = reads_as addresses_text [] old new store_schema has addresses_command addresses_is.0 addresses_plain addresses_is.1 rows h in
-    same_passes _ _ (λ r. column r 1 ∷ []) (old.now.trees 1) rows (λ r. and_true _ ∙ equals_int (column r 2) (pos 0)) (picked addresses_tests 1 [] old.now.trees [] rows it.answer)
+    let found = which old.now.schema has in
+    let first = found.0 in
+    let is = found.1 in
+    let table = old.now.trees (node_tree first) in
+    let it = reads_as addresses_text [] old new (schema_of first) is (addresses_command (node_tree first)) (addresses_is first).0 (addresses_plain first) (addresses_is first).1 rows h in
+    let all = picked first addresses_tests 1 [] old.now.trees [] rows it.answer in
+    subst (λ t. IsPicked is_first (λ r. column r 1 ∷ []) t rows) (sym (nodes_lie first old.now is)) (same_passes _ _ (λ r. column r 1 ∷ []) table rows (λ r. and_true _ ∙ equals_int (column r 2) (pos 0)) all)
 
 -- a query leaves the database
 pub shown_keeps : (old new : State) (sql : List ℕ) (params : Row) (rows : List Row) → IsPlain (understood old.now.schema sql) → Shown sql params old new rows → new.now ≡ old.now
@@ -216,11 +234,14 @@ refused_keeps old new sql params e plain settled up (inr h) =
     let it = rw none at h.2 in
     it.3.0.now_is
 
+pub plain_under : (schema : Schema) (sql : List ℕ) → ((first : First) → IsPlain (understood (schema_of first) sql)) → IsStoreSchema schema → IsPlain (understood schema sql)
+plain_under schema sql plain has = (let found = which schema has in subst (λ s. IsPlain (understood s sql)) (sym found.1) (plain found.0))
+
 -- whatever it answers
-pub query_keeps : {X : Type 0} (show : X → List Row) (old new : State) (sql : List ℕ) (params : Row) (r : Result X Error) → IsPlain (understood store_schema sql) → old.now.schema ≡ store_schema
+pub query_keeps : {X : Type 0} (show : X → List Row) (old new : State) (sql : List ℕ) (params : Row) (r : Result X Error) → ((first : First) → IsPlain (understood (schema_of first) sql)) → IsStoreSchema old.now.schema
     → (IsTrue old.is_open → old.now ≡ old.committed) → IsTrue new.is_open → IfOk r (λ x. Shown sql params old new (show x)) → IfErr r (FailsToQuery sql params old new) → new.now ≡ old.now
-query_keeps show old new sql params (Ok x) plain has settled up ok err = shown_keeps old new sql params (show x) (subst (λ s. IsPlain (understood s sql)) (sym has) plain) ok
-query_keeps show old new sql params (Err e) plain has settled up ok err = refused_keeps old new sql params e (subst (λ s. IsPlain (understood s sql)) (sym has) plain) settled up err
+query_keeps show old new sql params (Ok x) plain has settled up ok err = shown_keeps old new sql params (show x) (plain_under old.now.schema sql plain has) ok
+query_keeps show old new sql params (Err e) plain has settled up ok err = refused_keeps old new sql params e (plain_under old.now.schema sql plain has) settled up err
 
 -- a query that runs, or is refused, finds the connection open where it leaves it open
 shown_opens : (old new : State) (sql : List ℕ) (params : Row) (rows : List Row) → Shown sql params old new rows → IsTrue old.is_open

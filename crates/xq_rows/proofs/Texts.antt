@@ -20,6 +20,7 @@ use Rattle.sqlite_resolve.specs.declared.error.CompileError.{CompileError}
 use Rattle.sqlite.specs.Command.{Command}
 use Rattle.sqlite.proofs.Callers.{IsPlain, command_of, statement_of}
 use Rattle.sqlite.specs.Change.{created}
+use Rattle.xq_rows.proofs.Places.{First, layout_first, node_first, schema_of, node_tree, node_place}
 use Rattle.xq_rows.specs.Tables.{no_schema, layout_table, layout_schema, node_table, node_schema, turned_schema, store_schema}
 
 abbrev pub layout_text : List ℕ
@@ -72,9 +73,9 @@ delete_text = codes "DELETE FROM node WHERE address = ?1"
 abbrev pub term1 : Term
 term1 = op2 (Compare Eq Binary) (col 1 1) (col 0 0)
 
-abbrev pub body : List Term → List Term → List (Term × Key) → Query
-body filter project order = record {
-  from = inner 1 end;
+abbrev pub body : ℕ → List Term → List Term → List (Term × Key) → Query
+body tree filter project order = record {
+  from = inner tree end;
   filter = filter;
   group = None;
   project = project;
@@ -88,16 +89,18 @@ body filter project order = record {
 abbrev pub key : Key
 key = record { collation = Binary; descending = false }
 
-abbrev pub delete_program : List Term → Program
-delete_program tests = record { lets = []; body = body tests (col 1 0 ∷ []) [] }
+abbrev pub delete_program : ℕ → List Term → Program
+delete_program tree tests = record { lets = []; body = body tree tests (col 1 0 ∷ []) [] }
 
-pub delete_is : command_of (understood store_schema delete_text) ≡ Delete 1 (delete_program (term1 ∷ []))
+pub delete_is : (first : First) → command_of (understood (schema_of first) delete_text) ≡ Delete (node_place first) (delete_program (node_tree first) (term1 ∷ []))
 unfolding understood everything
-delete_is = refl
+delete_is layout_first = refl
+delete_is node_first = refl
 
-pub delete_plain : IsPlain (understood store_schema delete_text)
+pub delete_plain : (first : First) → IsPlain (understood (schema_of first) delete_text)
 unfolding understood everything
-delete_plain = (refl, refl)
+delete_plain layout_first = (refl, refl)
+delete_plain node_first = (refl, refl)
 
 abbrev pub part_text : List ℕ
 part_text = codes "DELETE FROM node WHERE address = ?1 AND pre >= ?2 AND pre < ?3"
@@ -105,13 +108,15 @@ part_text = codes "DELETE FROM node WHERE address = ?1 AND pre >= ?2 AND pre < ?
 abbrev pub part_tests : List Term
 part_tests = term1 ∷ op2 (Compare Ge Binary) (col 1 2) (col 0 1) ∷ op2 (Compare Lt Binary) (col 1 2) (col 0 2) ∷ []
 
-pub part_is : command_of (understood store_schema part_text) ≡ Delete 1 (delete_program part_tests)
+pub part_is : (first : First) → command_of (understood (schema_of first) part_text) ≡ Delete (node_place first) (delete_program (node_tree first) part_tests)
 unfolding understood everything
-part_is = refl
+part_is layout_first = refl
+part_is node_first = refl
 
-pub part_plain : IsPlain (understood store_schema part_text)
+pub part_plain : (first : First) → IsPlain (understood (schema_of first) part_text)
 unfolding understood everything
-part_plain = (refl, refl)
+part_plain layout_first = (refl, refl)
+part_plain node_first = (refl, refl)
 
 abbrev pub addresses_text : List ℕ
 addresses_text = codes "SELECT address FROM node WHERE pre = 0 ORDER BY address"
@@ -119,16 +124,18 @@ addresses_text = codes "SELECT address FROM node WHERE pre = 0 ORDER BY address"
 abbrev pub addresses_tests : List Term
 addresses_tests = op2 (Compare Eq Binary) (col 1 2) (lit (Int (pos 0))) ∷ []
 
-abbrev pub addresses_command : Command
-addresses_command = Select (record { lets = []; body = body addresses_tests (col 1 1 ∷ []) ((col 1 1, key) ∷ []) }) (codes "address" ∷ [])
+abbrev pub addresses_command : ℕ → Command
+addresses_command tree = Select (record { lets = []; body = body tree addresses_tests (col 1 1 ∷ []) ((col 1 1, key) ∷ []) }) (codes "address" ∷ [])
 
-pub addresses_is : (command_of (understood store_schema addresses_text) ≡ addresses_command) × (reads_listing store_schema addresses_text ≡ false)
+pub addresses_is : (first : First) → (command_of (understood (schema_of first) addresses_text) ≡ addresses_command (node_tree first)) × (reads_listing (schema_of first) addresses_text ≡ false)
 unfolding understood everything
-addresses_is = (refl, refl)
+addresses_is layout_first = (refl, refl)
+addresses_is node_first = (refl, refl)
 
-pub addresses_plain : IsPlain (understood store_schema addresses_text)
+pub addresses_plain : (first : First) → IsPlain (understood (schema_of first) addresses_text)
 unfolding understood everything
-addresses_plain = (refl, refl)
+addresses_plain layout_first = (refl, refl)
+addresses_plain node_first = (refl, refl)
 
 abbrev pub range_text : List ℕ
 range_text = codes "SELECT pre, size, level, kind, name, value FROM node WHERE address = ?1 AND pre >= ?2 AND pre <= ?3 ORDER BY pre"
@@ -142,16 +149,18 @@ kept_terms = col 1 2 ∷ col 1 3 ∷ col 1 4 ∷ col 1 5 ∷ col 1 6 ∷ col 1 7
 abbrev pub kept_names : List (List ℕ)
 kept_names = codes "pre" ∷ codes "size" ∷ codes "level" ∷ codes "kind" ∷ codes "name" ∷ codes "value" ∷ []
 
-abbrev pub range_command : Command
-range_command = Select (record { lets = []; body = body range_tests kept_terms ((col 1 2, key) ∷ []) }) kept_names
+abbrev pub range_command : ℕ → Command
+range_command tree = Select (record { lets = []; body = body tree range_tests kept_terms ((col 1 2, key) ∷ []) }) kept_names
 
-pub range_is : (command_of (understood store_schema range_text) ≡ range_command) × (reads_listing store_schema range_text ≡ false)
+pub range_is : (first : First) → (command_of (understood (schema_of first) range_text) ≡ range_command (node_tree first)) × (reads_listing (schema_of first) range_text ≡ false)
 unfolding understood everything
-range_is = (refl, refl)
+range_is layout_first = (refl, refl)
+range_is node_first = (refl, refl)
 
-pub range_plain : IsPlain (understood store_schema range_text)
+pub range_plain : (first : First) → IsPlain (understood (schema_of first) range_text)
 unfolding understood everything
-range_plain = (refl, refl)
+range_plain layout_first = (refl, refl)
+range_plain node_first = (refl, refl)
 
 abbrev pub above_text : List ℕ
 above_text = codes "SELECT pre, size, level, kind, name, value FROM node WHERE address = ?1 AND pre < ?2 AND pre + size >= ?2 ORDER BY pre"
@@ -159,16 +168,18 @@ above_text = codes "SELECT pre, size, level, kind, name, value FROM node WHERE a
 abbrev pub above_tests : List Term
 above_tests = op2 (Compare Eq Binary) (col 1 1) (col 0 0) ∷ op2 (Compare Lt Binary) (col 1 2) (col 0 1) ∷ op2 (Compare Ge Binary) (op2 (Arith Add) (col 1 2) (col 1 3)) (col 0 1) ∷ []
 
-abbrev pub above_command : Command
-above_command = Select (record { lets = []; body = body above_tests kept_terms ((col 1 2, key) ∷ []) }) kept_names
+abbrev pub above_command : ℕ → Command
+above_command tree = Select (record { lets = []; body = body tree above_tests kept_terms ((col 1 2, key) ∷ []) }) kept_names
 
-pub above_is : (command_of (understood store_schema above_text) ≡ above_command) × (reads_listing store_schema above_text ≡ false)
+pub above_is : (first : First) → (command_of (understood (schema_of first) above_text) ≡ above_command (node_tree first)) × (reads_listing (schema_of first) above_text ≡ false)
 unfolding understood everything
-above_is = (refl, refl)
+above_is layout_first = (refl, refl)
+above_is node_first = (refl, refl)
 
-pub above_plain : IsPlain (understood store_schema above_text)
+pub above_plain : (first : First) → IsPlain (understood (schema_of first) above_text)
 unfolding understood everything
-above_plain = (refl, refl)
+above_plain layout_first = (refl, refl)
+above_plain node_first = (refl, refl)
 
 abbrev pub insert_text : List ℕ
 insert_text = codes "INSERT INTO node (address, pre, size, level, kind, name, value) VALUES (?1, ?2, ?3, ?4, ?5, ?6, ?7)"
@@ -176,13 +187,15 @@ insert_text = codes "INSERT INTO node (address, pre, size, level, kind, name, va
 abbrev pub insert_terms : List Term
 insert_terms = lit Null ∷ col 0 0 ∷ col 0 1 ∷ col 0 2 ∷ col 0 3 ∷ col 0 4 ∷ col 0 5 ∷ col 0 6 ∷ []
 
-pub insert_is : command_of (understood store_schema insert_text) ≡ Insert 1 (Values insert_terms 8)
+pub insert_is : (first : First) → command_of (understood (schema_of first) insert_text) ≡ Insert (node_place first) (Values insert_terms 8)
 unfolding understood everything
-insert_is = refl
+insert_is layout_first = refl
+insert_is node_first = refl
 
-pub insert_plain : IsPlain (understood store_schema insert_text)
+pub insert_plain : (first : First) → IsPlain (understood (schema_of first) insert_text)
 unfolding understood everything
-insert_plain = (refl, refl)
+insert_plain layout_first = (refl, refl)
+insert_plain node_first = (refl, refl)
 
 pub layout_plain : IsPlain (understood no_schema layout_text)
 unfolding understood everything

@@ -24,7 +24,7 @@ use Rattle.xq_rows.specs.declared.faults.OpenFault.TheVariants.{Want, NotAStore}
 use Rattle.xq_rows.specs.Documents.{AreApart, HaveInts, HasAddress, rows_at, IsWhole, IsEmptyStore, IsStore}
 use Rattle.xq_rows.specs.Nodes.{cells, node_of}
 use Rattle.xq_rows.specs.Refusals.{want_of}
-use Rattle.xq_rows.specs.Tables.{no_schema, layout_schema, node_schema, store_schema}
+use Rattle.xq_rows.specs.Tables.{no_schema, layout_schema, node_schema, node_rows, layout_rows, IsStoreSchema}
 
 -- one of the two tables stands without the other
 abbrev pub HasOne : Database → Type 0
@@ -34,7 +34,7 @@ HasOne db = (db.schema ≡ layout_schema) ⊎ (db.schema ≡ node_schema)
 -- as they stand where they hold documents. Where one of them stands alone, it never succeeds.
 pub record IsAdopted (old new : Database) : Type 0 where
   pub made : old.schema ≡ no_schema → IsEmptyStore new
-  pub found : old.schema ≡ store_schema → (new ≡ old) × IsStore old
+  pub found : IsStoreSchema old.schema → (new ≡ old) × IsStore old
   pub alone : ¬ HasOne old
 
 -- there are tables, and they hold no documents, or are others
@@ -51,7 +51,7 @@ module _ {S : Type 0} (g : Ghosts S) (conn : Held S) where
 
   -- its tables are the two of a store, whatever rows they have
   unfoldable pub HasTables : Type 0
-  HasTables = (state g conn).now.schema ≡ store_schema
+  HasTables = IsStoreSchema (state g conn).now.schema
 
   -- it has one of the two tables and not the other
   unfoldable pub HasOneTable : Type 0
@@ -114,7 +114,7 @@ pub record AreTold (rows : List Row) : Type 0 where
 
 -- there is a table `layout`, alone or beside `node`
 abbrev pub HasLayout : Database → Type 0
-HasLayout db = (db.schema ≡ layout_schema) ⊎ (db.schema ≡ store_schema)
+HasLayout db = (db.schema ≡ layout_schema) ⊎ IsStoreSchema db.schema
 
 -- there is no table, or `node` alone
 abbrev pub LacksLayout : Database → Type 0
@@ -124,13 +124,13 @@ LacksLayout db = (db.schema ≡ no_schema) ⊎ (db.schema ≡ node_schema)
 pub record ReadsEdition (old new : Database) (given : List Row) : Type 0 where
   pub some : ¬ LacksLayout old
   pub same : HasLayout old → new ≡ old
-  pub rows : HasLayout old → IsPermutation (map (λ r. column r 1 ∷ []) (old.trees 0)) given
+  pub rows : HasLayout old → IsPermutation (map (λ r. column r 1 ∷ []) (layout_rows old)) given
 
 -- there is one, and it is 1
 pub record SeesEdition (old new : Database) : Type 0 where
   pub some : ¬ LacksLayout old
   pub same : HasLayout old → new ≡ old
-  pub first : HasLayout old → map (λ r. column r 1) (old.trees 0) ≡ Int (pos 1) ∷ []
+  pub first : HasLayout old → map (λ r. column r 1) (layout_rows old) ≡ Int (pos 1) ∷ []
 
 -- there is no table of editions
 pub record SeesNothing (old new : Database) : Type 0 where
@@ -144,8 +144,9 @@ Sees false = SeesNothing
 -- the rowids were read
 pub record ReadsRowids (old new : Database) (given : List Row) : Type 0 where
   pub alone : old.schema ≢ layout_schema
-  pub same : old.schema ≡ store_schema → new ≡ old
-  pub rows : old.schema ≡ store_schema → IsPermutation (map (λ r. rowid r ∷ []) (old.trees 1)) given
+  pub same : IsStoreSchema old.schema → new ≡ old
+  pub rows : IsStoreSchema old.schema
+      → IsPermutation (map (λ r. rowid r ∷ []) (node_rows old)) given
 
 -- the number is above the last one
 abbrev pub IsPast : Option ℤ → ℤ → Type 0
@@ -155,9 +156,9 @@ IsPast (Some m) n = value_cmp (Int m) (Int n) ≡ Less
 -- they are integers, each another one
 pub record SeesRowids (old new : Database) : Type 0 where
   pub alone : old.schema ≢ layout_schema
-  pub same : old.schema ≡ store_schema → new ≡ old
-  pub apart : old.schema ≡ store_schema → AreApart (old.trees 1)
-  pub ints : old.schema ≡ store_schema → HaveInts (old.trees 1)
+  pub same : IsStoreSchema old.schema → new ≡ old
+  pub apart : IsStoreSchema old.schema → AreApart (node_rows old)
+  pub ints : IsStoreSchema old.schema → HaveInts (node_rows old)
 
 -- the nodes are the rows of the table, by address and number
 pub record AreNodes (table rows : List Row) : Type 0 where
@@ -166,8 +167,8 @@ pub record AreNodes (table rows : List Row) : Type 0 where
 
 -- they were read
 pub record ReadsNodes (old new : Database) (given : List Row) : Type 0 where
-  pub same : old.schema ≡ store_schema → new ≡ old
-  pub rows : old.schema ≡ store_schema → AreNodes (old.trees 1) given
+  pub same : IsStoreSchema old.schema → new ≡ old
+  pub rows : IsStoreSchema old.schema → AreNodes (node_rows old) given
 
 -- the rows of a table are those of documents
 pub record AreDocuments (table : List Row) : Type 0 where
@@ -179,5 +180,5 @@ pub record AreDocuments (table : List Row) : Type 0 where
 -- the nodes were read, and are those of documents
 pub record SeesDocuments (old new : Database) : Type 0 where
   pub alone : old.schema ≢ layout_schema
-  pub same : old.schema ≡ store_schema → new ≡ old
-  pub documents : old.schema ≡ store_schema → AreDocuments (old.trees 1)
+  pub same : IsStoreSchema old.schema → new ≡ old
+  pub documents : IsStoreSchema old.schema → AreDocuments (node_rows old)

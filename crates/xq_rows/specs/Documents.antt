@@ -18,7 +18,7 @@ use Rattle.xq_regions.specs.Tree.{Tree, IsDocument}
 use Rattle.xq_regions.specs.Rows.{placed_rows, tree_of}
 use Rattle.xq_atoms.specs.Address.{IsAddress}
 use Rattle.xq_rows.specs.Nodes.{cells, node_in, bytes_in}
-use Rattle.xq_rows.specs.Tables.{store_schema}
+use Rattle.xq_rows.specs.Tables.{node_rows, layout_rows, IsStoreSchema}
 
 -- The documents by their addresses, in the order of the addresses' bytes.
 abbrev pub Map : Type 0
@@ -60,6 +60,10 @@ unfoldable pub documents_in : List Row → Map
 documents_in table = from_entries
     (map (λ address. (address, tree_at table address)) (addresses_in table))
 
+-- the map that a database stands for
+abbrev pub documents_of : Database → Map
+documents_of db = documents_in (node_rows db)
+
 -- the rows are those of one document, in some order
 pub record IsWhole (rows : List Row) : Type 0 where
   pub tree : Tree
@@ -78,21 +82,21 @@ HaveInts = AllByRecursion (λ r. IsTrue (is_int (rowid r)))
 abbrev pub HasAddress : Row → Type 0
 HasAddress r = (address : List ℕ) × IsAddress address × (column r 1 ≡ Text address)
 
--- The database holds the tables of edition 1: `layout` with its one row, 1, and `node`, in which
--- the rows of each address are those of one document, or there are none.
+-- The database holds the tables of edition 1, whichever was made first: `layout` with its one row,
+-- 1, and `node`, in which the rows of each address are those of one document, or there are none.
 pub record IsStore (db : Database) : Type 0 where
-  pub schema : db.schema ≡ store_schema
-  pub layout : map (λ r. column r 1) (db.trees 0) ≡ Int (pos 1) ∷ []
+  pub schema : IsStoreSchema db.schema
+  pub layout : map (λ r. column r 1) (layout_rows db) ≡ Int (pos 1) ∷ []
   -- the rowids are integers, each another one
-  pub apart : AreApart (db.trees 1)
-  pub ints : HaveInts (db.trees 1)
-  pub named : AllByRecursion HasAddress (db.trees 1)
-  pub whole : (address : List ℕ) → (rows_at address (db.trees 1) ≡ [])
-      ⊎ IsWhole (rows_at address (db.trees 1))
+  pub apart : AreApart (node_rows db)
+  pub ints : HaveInts (node_rows db)
+  pub named : AllByRecursion HasAddress (node_rows db)
+  pub whole : (address : List ℕ) → (rows_at address (node_rows db) ≡ [])
+      ⊎ IsWhole (rows_at address (node_rows db))
 
 -- it holds the tables and no row of a document
 abbrev pub IsEmptyStore : Database → Type 0
-IsEmptyStore db = IsStore db × (db.trees 1 ≡ [])
+IsEmptyStore db = IsStore db × (node_rows db ≡ [])
 
 -- the connection is open, and its disk has returned what was written
 abbrev pub IsReady : State → Type 0
@@ -120,10 +124,10 @@ module _ {S : Type 0} (g : Ghosts S) (store : Held S) where
 
   -- The map that its tables stand for.
   unfoldable pub documents : Map
-  documents = documents_in ((state g store).now.trees 1)
+  documents = documents_of (state g store).now
 
   -- It stands for this map: while it is open, its tables hold these documents. What has shut tells
   -- nothing of its tables any more, and stands for the map that it stood for when it shut.
   unfoldable pub StandsFor : Map → Type 0
   StandsFor m = IsTrue (state g store).is_open → IsStore (state g store).now
-      × (documents_in ((state g store).now.trees 1) ≡ m)
+      × (documents_of (state g store).now ≡ m)

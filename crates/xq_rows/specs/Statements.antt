@@ -13,13 +13,13 @@ use Rattle.xq_regions.specs.Rows.{Encodes}
 use Rattle.xq_regions.specs.declared.NodeRow.{NodeRow}
 use Rattle.xq_rows.specs.Documents.{is_at, is_first, kept, rows_at, by_first, AreApart, HasAddress, HaveInts, IsEmptyStore, IsStore}
 use Rattle.xq_rows.specs.Nodes.{number_in}
-use Rattle.xq_rows.specs.Tables.{no_schema, layout_schema, node_schema, turned_schema, store_schema}
+use Rattle.xq_rows.specs.Tables.{no_schema, layout_schema, node_schema, turned_schema, store_schema, node_rows, layout_rows, IsStoreSchema}
 
 -- the rows that pass a test are gone, and nothing else is
 pub record HasDropped (gone : Row → Bool) (old new : Database) : Type 0 where
   pub schema : new.schema ≡ old.schema
-  pub layout : new.trees 0 ≡ old.trees 0
-  pub nodes : new.trees 1 ≡ delete_where gone (old.trees 1)
+  pub layout : layout_rows new ≡ layout_rows old
+  pub nodes : node_rows new ≡ delete_where gone (node_rows old)
 
 -- the row is one of the address, and its number lies from low up to, and without, high
 abbrev pub is_part : List ℕ → ℕ → ℕ → Row → Bool
@@ -30,19 +30,20 @@ is_part address low high row = is_at address row
 -- an address has some rows more, and nothing else is changed
 pub record HasAdded (address : List ℕ) (added : List Row) (old new : Database) : Type 0 where
   pub schema : new.schema ≡ old.schema
-  pub layout : new.trees 0 ≡ old.trees 0
-  pub apart : AreApart (old.trees 1) → AreApart (new.trees 1)
-  pub ints : HaveInts (old.trees 1) → HaveInts (new.trees 1)
-  pub named : IsAddress address → AllByRecursion HasAddress (old.trees 1)
-      → AllByRecursion HasAddress (new.trees 1)
-  pub own : IsPermutation (rows_at address (old.trees 1) ++ added) (rows_at address (new.trees 1))
-  pub others : (b : List ℕ) → b ≢ address → rows_at b (new.trees 1) ≡ rows_at b (old.trees 1)
+  pub layout : layout_rows new ≡ layout_rows old
+  pub apart : AreApart (node_rows old) → AreApart (node_rows new)
+  pub ints : HaveInts (node_rows old) → HaveInts (node_rows new)
+  pub named : IsAddress address → AllByRecursion HasAddress (node_rows old)
+      → AllByRecursion HasAddress (node_rows new)
+  pub own : IsPermutation (rows_at address (node_rows old) ++ added)
+      (rows_at address (node_rows new))
+  pub others : (b : List ℕ) → b ≢ address → rows_at b (node_rows new) ≡ rows_at b (node_rows old)
 
 -- what a DELETE of so many rows makes of the tables of a store
 abbrev pub Deletes : (Row → Bool) → Database → Database → ℕ → Type 0
-Deletes gone old new count = old.schema ≡ store_schema → AreApart (old.trees 1)
-    → HaveInts (old.trees 1)
-    → HasDropped gone old new × (count ≡ length (filter gone (old.trees 1)))
+Deletes gone old new count = IsStoreSchema old.schema → AreApart (node_rows old)
+    → HaveInts (node_rows old)
+    → HasDropped gone old new × (count ≡ length (filter gone (node_rows old)))
 
 -- DELETE inside a transaction
 pub record Drops (gone : Row → Bool) (old new : State) (count : ℕ) : Type 0 where
@@ -52,14 +53,14 @@ pub record Drops (gone : Row → Bool) (old new : State) (count : ℕ) : Type 0 
 -- one or more INSERTs inside a transaction
 pub record Adds (address : List ℕ) (added : List Row) (old new : State) : Type 0 where
   pub mode : old.in_transaction ≡ true → new.in_transaction ≡ true
-  pub did : old.now.schema ≡ store_schema → HasAdded address added old.now new.now
+  pub did : IsStoreSchema old.now.schema → HasAdded address added old.now new.now
 
 -- a whole put into a store: the rows of the address are these alone, and the answer is whether
 -- there were others before
 abbrev pub Puts : List ℕ → List Row → Database → Database → Bool → Type 0
 Puts address rows old new replaced = IsStore old
     → (mid : Database) × HasDropped (is_at address) old mid × HasAdded address rows mid new
-    × (replaced ≡ nat_lt 0 (length (filter (is_at address) (old.trees 1))))
+    × (replaced ≡ nat_lt 0 (length (filter (is_at address) (node_rows old))))
 
 -- the same inside a transaction
 pub record Replaces (address : List ℕ) (rows : List Row) (old new : State)
@@ -79,8 +80,8 @@ is_within low high row = is_ge (value_cmp (column row 2) (Int (pos low)))
 
 -- the rows of an address with numbers from low to high
 abbrev pub IsRange : List ℕ → ℕ → ℕ → Database → List Row → Type 0
-IsRange address low high db rows = db.schema ≡ store_schema
-    → IsPicked (λ r. is_at address r && is_within low high r) kept (db.trees 1) rows
+IsRange address low high db rows = IsStoreSchema db.schema
+    → IsPicked (λ r. is_at address r && is_within low high r) kept (node_rows db) rows
 
 -- the row's number is below that of a node, and at least that with its size
 abbrev pub is_above : ℕ → Row → Bool
@@ -90,12 +91,12 @@ is_above node row = nat_lt (number_in (column row 2)) node
 -- the rows of an address that are those of nodes above a node
 abbrev pub AreAbove : List ℕ → ℕ → Database → List Row → Type 0
 AreAbove address node db rows = IsStore db
-    → IsPicked (λ r. is_at address r && is_above node r) kept (db.trees 1) rows
+    → IsPicked (λ r. is_at address r && is_above node r) kept (node_rows db) rows
 
 -- the addresses, one for each first row
 abbrev pub AreAddresses : Database → List Row → Type 0
-AreAddresses db rows = db.schema ≡ store_schema
-    → IsPicked is_first (λ r. column r 1 ∷ []) (db.trees 1) rows
+AreAddresses db rows = IsStoreSchema db.schema
+    → IsPicked is_first (λ r. column r 1 ∷ []) (node_rows db) rows
 
 -- what nodes that were read stand for: nothing where there are none, or the tree whose rows they
 -- are
@@ -106,23 +107,23 @@ Finds nodes (Some t) = Encodes nodes t
 -- the statements that make the tables
 
 pub record MakesLayout (old new : Database) : Type 0 where
-  pub first : old.schema ≡ no_schema → (new.schema ≡ layout_schema) × (new.trees 0 ≡ [])
+  pub first : old.schema ≡ no_schema → (new.schema ≡ layout_schema) × (layout_rows new ≡ [])
   pub second : old.schema ≡ node_schema → new.schema ≡ turned_schema
 
 pub record MakesNode (old new : Database) : Type 0 where
   pub second : old.schema ≡ layout_schema → (new.schema ≡ store_schema)
-      × (new.trees 0 ≡ old.trees 0) × (new.trees 1 ≡ [])
+      × (layout_rows new ≡ layout_rows old) × (node_rows new ≡ [])
   pub never : old.schema ≢ turned_schema
 
 pub record MakesBoth (old new : Database) : Type 0 where
-  pub both : old.schema ≡ no_schema → (new.schema ≡ store_schema) × (new.trees 0 ≡ [])
-      × (new.trees 1 ≡ [])
+  pub both : old.schema ≡ no_schema → (new.schema ≡ store_schema) × (layout_rows new ≡ [])
+      × (node_rows new ≡ [])
   pub never : old.schema ≢ node_schema
 
 abbrev pub WritesEdition : Database → Database → Type 0
-WritesEdition old new = old.schema ≡ store_schema → old.trees 0 ≡ []
-    → (new.schema ≡ store_schema) × (new.trees 0 ≡ (Int (pos 1) ∷ Int (pos 1) ∷ []) ∷ [])
-    × (new.trees 1 ≡ old.trees 1)
+WritesEdition old new = old.schema ≡ store_schema → layout_rows old ≡ []
+    → (new.schema ≡ store_schema) × (layout_rows new ≡ (Int (pos 1) ∷ Int (pos 1) ∷ []) ∷ [])
+    × (node_rows new ≡ node_rows old)
 
 -- all three
 pub record MakesStore (old new : Database) : Type 0 where

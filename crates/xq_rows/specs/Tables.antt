@@ -1,13 +1,16 @@
--- The tables of edition 1, as the schema of a database.
-use Rattle.std.specs.Prelude.{true, false, [], ◌∷◌, None, codes, ℕ, List}
+-- The tables of edition 1, as the schema of a database, and the rows of each.
+use Rattle.std.specs.Prelude.{◌≡◌, ◌⊎◌, true, false, [], ◌∷◌, Option, None, Some, codes, find, ℕ, List}
 use Rattle.sqlite.specs.Collation.TheVariants.{Binary}
 use Rattle.sqlite.specs.declared.types.Value.TheVariants.{Null}
 use Rattle.sqlite.specs.Table.{Table}
 use Rattle.sqlite.specs.Schema.{Schema}
+use Rattle.sqlite.specs.Effect.{Database}
 use Rattle.sqlite.specs.Kind.{Kind}
 use Rattle.sqlite.specs.Kind.TheVariants.{Integer, Text}
 use Rattle.sqlite_schema.specs.declared.schema.Column.{Column}
 use Rattle.sqlite_schema.specs.declared.schema.Index.{Index}
+use Rattle.sqlite_schema.specs.Names.{same_name}
+use Rattle.sqlite_value.specs.Order.{Row}
 use Rattle.sqlite_value.specs.Keys.{plain}
 
 -- a database in which no table was made
@@ -88,7 +91,7 @@ node_schema = record {
   views = [];
 }
 
--- `node`, and `layout` made after it
+-- the two tables, `node` made first
 abbrev pub turned_schema : Schema
 turned_schema = record {
   tables = record node_table { tree = 0 } ∷ record layout_table { tree = 2 }
@@ -97,7 +100,7 @@ turned_schema = record {
   views = [];
 }
 
--- the two tables
+-- the two tables, `layout` made first
 abbrev pub store_schema : Schema
 store_schema = record {
   tables = layout_table ∷ node_table ∷ [];
@@ -105,3 +108,24 @@ store_schema = record {
       ∷ [];
   views = [];
 }
+
+-- these two tables and no others, whichever was made first
+abbrev pub IsStoreSchema : Schema → Type 0
+IsStoreSchema schema = (schema ≡ store_schema) ⊎ (schema ≡ turned_schema)
+
+-- the rows of a table, where there is one
+abbrev pub rows_in : Database → Option Table → List Row
+rows_in db None = []
+rows_in db (Some table) = db.trees table.tree
+
+-- the rows of the table with this name
+abbrev pub rows_named : List ℕ → Database → List Row
+rows_named name db = rows_in db (find (λ table. same_name table.name name) db.schema.tables)
+
+-- the rows of the table `layout`
+unfoldable pub layout_rows : Database → List Row
+layout_rows = rows_named (codes "layout")
+
+-- the rows of the table `node`
+unfoldable pub node_rows : Database → List Row
+node_rows = rows_named (codes "node")

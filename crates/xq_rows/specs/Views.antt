@@ -10,7 +10,8 @@ use Rattle.sqlite.specs.Effect.{Database}
 use Rattle.sqlite.specs.Held.{Held, held_code, state}
 use Rattle.xq_regions.specs.Tree.{Tree}
 use Rattle.xq_sources.specs.Meters.{Readings}
-use Rattle.xq_rows.specs.Documents.{Map, IsStore, IsClean, StandsFor, tree_at, documents_in}
+use Rattle.xq_rows.specs.Documents.{Map, IsStore, IsClean, StandsFor, tree_at, documents_of}
+use Rattle.xq_rows.specs.Tables.{node_rows}
 
 -- # What contracts see of a view
 
@@ -61,7 +62,7 @@ HeldDocuments b = IsStore b.database
 
 -- They stood for this map.
 unfoldable pub StoodFor : Beginning → Map → Type 0
-StoodFor b m = IsStore b.database × (documents_in (b.database.trees 1) ≡ m)
+StoodFor b m = IsStore b.database × (documents_of b.database ≡ m)
 
 -- It was open, and its disk had returned what was written.
 unfoldable pub WasOpen : Beginning → Type 0
@@ -74,7 +75,7 @@ WasClean b = doubt b.is_clean ≡ 0
 
 -- the documents of the addresses, as the view began
 abbrev pub trees_under : Beginning → List (List ℕ) → List Tree
-trees_under b addresses = map (tree_at (b.database.trees 1)) addresses
+trees_under b addresses = map (tree_at (node_rows b.database)) addresses
 
 -- What a view keeps true: its store stands for the map that it stood for as the view began, and its
 -- addresses are the map's.

@@ -12,7 +12,7 @@ ghost use Rattle.xq_rows.specs.Adopt.{AreTold, IsAdopted, IsNoStore, IsRun, Read
 ghost use Rattle.xq_rows.specs.Documents.{AreApart, HaveInts, IsReady, IsStore};
 ghost use Rattle.xq_rows.specs.Nodes.{IsReadable, cells, node_of};
 ghost use Rattle.xq_rows.specs.Statements.{MakesStore};
-ghost use Rattle.xq_rows.specs.Tables.{no_schema, store_schema};
+ghost use Rattle.xq_rows.specs.Tables.{no_schema, IsStoreSchema};
 
 use crate::faults::OpenFault;
 use crate::readings::node_row;
@@ -64,7 +64,7 @@ fn read_rowids<S: Alter>(transaction: &mut Transaction<'_, S>) -> Result<Vec<Row
         (state S.Store transaction.new.conn.now).now rows.items) }
     ensures err { HasCleanDisk (state S.Store transaction.new.conn.now)
         → IfErr result (λ e. fault_of e ≡ OpenFault.NotAStore
-        → (state S.Store transaction.old.conn.now).now.schema ≢ store_schema) }
+        → ¬ (IsStoreSchema (state S.Store transaction.old.conn.now).now.schema)) }
 {
     transaction.query_all("SELECT rowid FROM node ORDER BY rowid", &[])
 }
@@ -87,7 +87,7 @@ fn read_nodes<S: Alter>(transaction: &mut Transaction<'_, S>) -> Result<Vec<Row>
         (state S.Store transaction.new.conn.now).now rows.items) }
     ensures err { HasCleanDisk (state S.Store transaction.new.conn.now)
         → IfErr result (λ e. fault_of e ≡ OpenFault.NotAStore
-        → (state S.Store transaction.old.conn.now).now.schema ≢ store_schema) }
+        → ¬ (IsStoreSchema (state S.Store transaction.old.conn.now).now.schema)) }
 {
     transaction.query_all(
         "SELECT pre, size, level, kind, name, value, address FROM node ORDER BY address, pre",
@@ -253,7 +253,7 @@ fn check_rowids<S: Alter>(transaction: &mut Transaction<'_, S>) -> Result<(), Op
         (state S.Store transaction.new.conn.now).now) }
     ensures err { HasCleanDisk (state S.Store transaction.new.conn.now)
         → IfErr result (λ fault. fault ≡ OpenFault.NotAStore
-        → (state S.Store transaction.old.conn.now).now.schema ≢ store_schema) }
+        → ¬ (IsStoreSchema (state S.Store transaction.old.conn.now).now.schema)) }
 {
     let rows = read_rowids(transaction)?;
     if are_rising(&rows) {

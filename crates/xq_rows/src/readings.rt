@@ -6,7 +6,7 @@ ghost use Rattle.sqlite_trees.specs.View.{doubt};
 ghost use Rattle.xq_rows.specs.Documents.{IsReady};
 ghost use Rattle.xq_rows.specs.Statements.{AreAbove, AreAddresses, Finds, IsRange};
 ghost use Rattle.xq_rows.specs.Refusals.{want_of};
-ghost use Rattle.xq_rows.specs.Tables.{store_schema};
+ghost use Rattle.xq_rows.specs.Tables.{IsStoreSchema};
 ghost use Rattle.sqlite_value.specs.Order.{column};
 ghost use Rattle.sqlite_value.specs.declared.value.Value.TheVariants.{Text};
 ghost use Rattle.xq_regions.specs.Rows.{placed};
@@ -107,7 +107,7 @@ fn rows_between<S: Alter>(
     ensures ends_open { HasCleanDisk (state S.Store conn.new)
         → OnOk result (IsTrue (state S.Store conn.new).is_open) }
     ensures same { IsReady (state S.Store conn.new)
-        → (state S.Store conn.old).now.schema ≡ store_schema
+        → IsStoreSchema (state S.Store conn.old).now.schema
         → (state S.Store conn.new).now ≡ (state S.Store conn.old).now }
     ensures rows { IsReady (state S.Store conn.new)
         → IfOk result (λ rows. IsRange address.now low high
@@ -133,7 +133,7 @@ pub fn nodes_between<S: Alter>(
     ensures ends_open { HasCleanDisk (state S.Store conn.new)
         → OnOk result (IsTrue (state S.Store conn.new).is_open) }
     ensures same { IsReady (state S.Store conn.new)
-        → (state S.Store conn.old).now.schema ≡ store_schema
+        → IsStoreSchema (state S.Store conn.old).now.schema
         → (state S.Store conn.new).now ≡ (state S.Store conn.old).now }
     ensures nodes { IsReady (state S.Store conn.new)
         → IfOk result (λ nodes. IsRange address.now low high (state S.Store conn.old).now
@@ -157,7 +157,7 @@ fn rows_above<S: Alter>(
     ensures ends_open { HasCleanDisk (state S.Store conn.new)
         → OnOk result (IsTrue (state S.Store conn.new).is_open) }
     ensures same { IsReady (state S.Store conn.new)
-        → (state S.Store conn.old).now.schema ≡ store_schema
+        → IsStoreSchema (state S.Store conn.old).now.schema
         → (state S.Store conn.new).now ≡ (state S.Store conn.old).now }
     ensures rows { IsReady (state S.Store conn.new)
         → IfOk result (λ rows. AreAbove address.now node (state S.Store conn.old).now rows.items) }
@@ -180,7 +180,7 @@ pub fn nodes_above<S: Alter>(
     ensures ends_open { HasCleanDisk (state S.Store conn.new)
         → OnOk result (IsTrue (state S.Store conn.new).is_open) }
     ensures same { IsReady (state S.Store conn.new)
-        → (state S.Store conn.old).now.schema ≡ store_schema
+        → IsStoreSchema (state S.Store conn.old).now.schema
         → (state S.Store conn.new).now ≡ (state S.Store conn.old).now }
     ensures nodes { IsReady (state S.Store conn.new)
         → IfOk result (λ nodes. AreAbove address.now node (state S.Store conn.old).now
@@ -219,7 +219,7 @@ fn address_rows<S: Alter>(conn: &mut Connection<S>) -> Result<Vec<Row>, Refusal>
     ensures ends_open { HasCleanDisk (state S.Store conn.new)
         → OnOk result (IsTrue (state S.Store conn.new).is_open) }
     ensures same { IsReady (state S.Store conn.new)
-        → (state S.Store conn.old).now.schema ≡ store_schema
+        → IsStoreSchema (state S.Store conn.old).now.schema
         → (state S.Store conn.new).now ≡ (state S.Store conn.old).now }
     ensures rows { IsReady (state S.Store conn.new)
         → IfOk result (λ rows. AreAddresses (state S.Store conn.old).now rows.items) }
@@ -240,7 +240,7 @@ pub fn list_addresses<S: Alter>(
     ensures ends_open { HasCleanDisk (state S.Store conn.new)
         → OnOk result (IsTrue (state S.Store conn.new).is_open) }
     ensures same { IsReady (state S.Store conn.new)
-        → (state S.Store conn.old).now.schema ≡ store_schema
+        → IsStoreSchema (state S.Store conn.old).now.schema
         → (state S.Store conn.new).now ≡ (state S.Store conn.old).now }
     ensures all { IsReady (state S.Store conn.new)
         → IfOk result (λ all. AreAddresses (state S.Store conn.old).now

@@ -1,10 +1,10 @@
-//! Whether the tables of a database are those that a store makes, in their order.
+//! Whether the tables of a database are the two of a store, whichever was made first.
 //!
-//! What a statement does is known for these tables alone. An adopted database may have others, as
-//! its two tables in the other order: of such a one nothing is kept.
+//! What a statement does is known for these tables alone. An adopted database may have others
+//! beside them: of such a one nothing is kept.
 ghost use Rattle.std.specs.Prelude.{◌≡◌, ◌∷◌, [], IsTrue, None, false};
 ghost use Rattle.sqlite_value.specs.Keys.{plain};
-ghost use Rattle.xq_rows.specs.Tables.{layout_table, needed, node_index, node_table, store_schema};
+ghost use Rattle.xq_rows.specs.Tables.{IsStoreSchema, layout_table, needed, node_index, node_table};
 
 use sqlite_items::Items;
 use sqlite_schema::code::Terms;
@@ -98,12 +98,12 @@ fn are_node_columns(columns: &Items<Column>) -> bool
     }
 }
 
-/// Whether this is the table of the edition.
-fn is_layout(table: &Table) -> bool
-    ensures { IsTrue result → table.now ≡ layout_table }
+/// Whether this is the table of the edition, and its rows lie in this tree.
+fn is_layout(table: &Table, tree: u32) -> bool
+    ensures { IsTrue result → table.now ≡ record layout_table { tree = tree } }
 {
     is_named(&table.name, "layout")
-        && table.tree == 0
+        && table.tree == tree
         && are_edition(&table.columns)
         && table.primary.is_empty()
         && table.uniques.is_empty()
@@ -131,12 +131,12 @@ fn is_one_plain(orders: &Items<Order>) -> bool
     }
 }
 
-/// Whether this is the table of the nodes.
-fn is_node(table: &Table) -> bool
-    ensures { IsTrue result → table.now ≡ node_table }
+/// Whether this is the table of the nodes, and its rows lie in this tree.
+fn is_node(table: &Table, tree: u32) -> bool
+    ensures { IsTrue result → table.now ≡ record node_table { tree = tree } }
 {
     is_named(&table.name, "node")
-        && table.tree == 1
+        && table.tree == tree
         && are_node_columns(&table.columns)
         && are_first_two(&table.primary)
         && are_unique(&table.uniques)
@@ -144,25 +144,46 @@ fn is_node(table: &Table) -> bool
         && is_bare(table)
 }
 
-/// Whether this is the index that keeps the primary key of the nodes.
-fn is_node_index(index: &Index) -> bool
-    ensures { IsTrue result → index.now ≡ node_index }
+/// Whether this is the index that keeps the primary key of the nodes, whose rows lie in the tree
+/// `table`, and its entries lie in this tree.
+fn is_node_index(index: &Index, tree: u32, table: u32) -> bool
+    ensures { IsTrue result → index.now ≡ record node_index { tree = tree; table = table } }
 {
     is_named(&index.name, "sqlite_autoindex_node_1")
-        && index.tree == 2
-        && index.table == 1
+        && index.tree == tree
+        && index.table == table
         && are_first_two(&index.columns)
         && index.order == Order::PLAIN
         && index.is_unique
 }
 
-/// Whether the database has these two tables and their index, and nothing else.
+/// Whether the first table is that of the edition, and the second that of the nodes.
+fn is_layout_first(first: &Table, second: &Table, index: &Index) -> bool
+    ensures layout { IsTrue result → first.now ≡ layout_table }
+    ensures node { IsTrue result → second.now ≡ node_table }
+    ensures index { IsTrue result → index.now ≡ node_index }
+{
+    is_layout(first, 0) && is_node(second, 1) && is_node_index(index, 2, 1)
+}
+
+/// Whether the first table is that of the nodes, and the second that of the edition.
+fn is_node_first(first: &Table, second: &Table, index: &Index) -> bool
+    ensures node { IsTrue result → first.now ≡ record node_table { tree = 0 } }
+    ensures layout { IsTrue result → second.now ≡ record layout_table { tree = 2 } }
+    ensures index { IsTrue result → index.now ≡ record node_index { tree = 1; table = 0 } }
+{
+    is_node(first, 0) && is_layout(second, 2) && is_node_index(index, 1, 0)
+}
+
+/// Whether the database has the two tables and their index, whichever was made first, and nothing
+/// else.
 pub fn is_store_schema(schema: &Schema) -> bool
-    ensures { IsTrue result → schema.now ≡ store_schema }
+    ensures { IsTrue result → IsStoreSchema schema.now }
 {
     match (schema.tables.as_slice(), schema.indexes.as_slice()) {
-        ([layout, node], [index]) => {
-            is_layout(layout) && is_node(node) && is_node_index(index) && schema.views.is_empty()
+        ([first, second], [index]) => {
+            schema.views.is_empty()
+                && (is_layout_first(first, second, index) || is_node_first(first, second, index))
         }
         _ => false,
     }

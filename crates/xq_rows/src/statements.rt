@@ -10,7 +10,7 @@ ghost use Rattle.xq_regions.specs.Rows.{placed};
 ghost use Rattle.xq_rows.specs.Documents.{IsReady, is_at};
 ghost use Rattle.xq_rows.specs.Nodes.{cells, number_of as number_of_lem};
 ghost use Rattle.xq_rows.specs.Statements.{Adds, AreAbove, AreAddresses, Drops, IsRange, is_part};
-ghost use Rattle.xq_rows.specs.Tables.{store_schema};
+ghost use Rattle.xq_rows.specs.Tables.{IsStoreSchema};
 
 use sqlite::{Alter, Connection, Error, Row, Transaction, params};
 use xq_regions::{Kind, NodeRow};
@@ -134,7 +134,7 @@ pub fn read_range<S: Alter>(
     ensures ends_open { HasCleanDisk (state S.Store conn.new)
         → OnOk result (IsTrue (state S.Store conn.new).is_open) }
     ensures same { IsReady (state S.Store conn.new)
-        → (state S.Store conn.old).now.schema ≡ store_schema
+        → IsStoreSchema (state S.Store conn.old).now.schema
         → (state S.Store conn.new).now ≡ (state S.Store conn.old).now }
     ensures rows { IsReady (state S.Store conn.new)
         → IfOk result (λ rows. IsRange address.now low high
@@ -162,7 +162,7 @@ pub fn read_enclosing<S: Alter>(
     ensures ends_open { HasCleanDisk (state S.Store conn.new)
         → OnOk result (IsTrue (state S.Store conn.new).is_open) }
     ensures same { IsReady (state S.Store conn.new)
-        → (state S.Store conn.old).now.schema ≡ store_schema
+        → IsStoreSchema (state S.Store conn.old).now.schema
         → (state S.Store conn.new).now ≡ (state S.Store conn.old).now }
     ensures rows { IsReady (state S.Store conn.new)
         → IfOk result (λ rows. AreAbove address.now node (state S.Store conn.old).now rows.items) }
@@ -184,7 +184,7 @@ pub fn read_addresses<S: Alter>(conn: &mut Connection<S>) -> Result<Vec<Row>, Er
     ensures ends_open { HasCleanDisk (state S.Store conn.new)
         → OnOk result (IsTrue (state S.Store conn.new).is_open) }
     ensures same { IsReady (state S.Store conn.new)
-        → (state S.Store conn.old).now.schema ≡ store_schema
+        → IsStoreSchema (state S.Store conn.old).now.schema
         → (state S.Store conn.new).now ≡ (state S.Store conn.old).now }
     ensures rows { IsReady (state S.Store conn.new)
         → IfOk result (λ rows. AreAddresses (state S.Store conn.old).now rows.items) }

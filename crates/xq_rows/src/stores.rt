@@ -16,7 +16,7 @@ ghost use Rattle.xq_regions.specs.Rows.{placed};
 ghost use Rattle.xq_regions.specs.Tree.{IsDocument, Tree};
 ghost use Rattle.xq_rows.specs.Documents.{IsClean, IsOpen, IsUp, Holds, Map, StandsFor, documents};
 ghost use Rattle.xq_rows.specs.private.Keeps.{AreOf, IsKept, LeavesAlone};
-ghost use Rattle.xq_rows.specs.Tables.{store_schema};
+ghost use Rattle.xq_rows.specs.Tables.{IsStoreSchema};
 ghost use Rattle.xq_sources.specs.Sources.{rows_between, rows_enclosing};
 
 use crate::adopt::adopt_tables;
@@ -190,7 +190,7 @@ impl<S: Alter> Store<S> {
             → IfOk result (λ shelf. AreOf (state S.Store self.old).now
             (map string_bytes shelf.addresses.items) shelf.fronts.items) }
         ensures own { IfOk result (λ shelf. IsTrue shelf.stays
-            → (state S.Store self.old).now.schema ≡ store_schema) }
+            → IsStoreSchema (state S.Store self.old).now.schema) }
         ensures answered { IsClean S.Store self.new → OnOk result (IsOpen S.Store self.new) }
         ensures alone { LeavesAlone S.Store self.old self.new }
     {
@@ -212,7 +212,7 @@ impl<S: Alter> Store<S> {
             → IfOk result (λ shelf. AreOf (state S.Store self.old).now
             (map string_bytes shelf.addresses.items) shelf.fronts.items) }
         ensures own { IsUp S.Store self.new → IfOk result (λ shelf. IsTrue shelf.stays
-            → (state S.Store self.old).now.schema ≡ store_schema) }
+            → IsStoreSchema (state S.Store self.old).now.schema) }
         ensures answered { IsClean S.Store self.new → OnOk result (IsOpen S.Store self.new) }
         ensures alone { LeavesAlone S.Store self.old self.new }
     {

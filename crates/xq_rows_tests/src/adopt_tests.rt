@@ -1,11 +1,11 @@
 //! What is adopted, and what is no store.
-use crate::calls::{CALL_ROWS, REPLACING, first_wrong};
-use crate::documents::Documents;
+use crate::calls::{CALL_ROWS, Call, REPLACING, first_wrong};
+use crate::documents::{Documents, Named};
 use crate::tests::ROWS_AS_TEXT;
 use sqlite::{Alter, Connection};
 use std::alloc::Global;
 use std::test::Fail;
-use xq_rows::{OpenFault, Store};
+use xq_rows::{OpenFault, Put, Store};
 
 const LAYOUT: &str = "CREATE TABLE layout (edition INTEGER NOT NULL) STRICT";
 
@@ -19,6 +19,10 @@ const TURNED_NODE: &str =
 const ONE: &str = "INSERT INTO layout VALUES (1)";
 
 const DOCUMENT: &str = "INSERT INTO node VALUES ('b', 0, 0, 0, 0, '', '')";
+
+/// The rows of the document of two books, under `b`.
+const LIBRARY: &str =
+    "INSERT INTO node VALUES ('b', 0, 7, 0, 0, '', ''), ('b', 1, 6, 1, 1, 'lib', ''), ('b', 2, 2, 2, 1, 'book', ''), ('b', 3, 0, 3, 2, 'id', '1'), ('b', 4, 0, 3, 3, '', 'A'), ('b', 5, 2, 2, 1, 'book', ''), ('b', 6, 0, 3, 2, 'id', '2'), ('b', 7, 0, 3, 3, '', 'B')";
 
 /// The tables, made in the order of a store's own, and in others.
 pub const ORDERS: [[&str; 3]; 4] = [
@@ -231,5 +235,41 @@ fn other_orders(rt: HostRuntime) -> Result<(), Fail> {
         let mut store = adopted(rt.alloc(), conn)?;
         assert_eq!(rt; first_wrong(&mut store, &documents, &REPLACING)?, 0);
     }
+    Ok(())
+}
+
+/// Calls of a store that was adopted with the document of two books.
+const FOUND: [Call; 6] = [
+    Call::List(&["b"]),
+    Call::Load("b", Some(Named::Library)),
+    Call::Load("a/1", None),
+    Call::Put("a/1", Named::Library, Put::Stored),
+    Call::Put("b", Named::Empty, Put::Replaced),
+    Call::List(&["a/1", "b"]),
+];
+
+/// Calls of that store as it is adopted again.
+const FOUND_AGAIN: [Call; 6] = [
+    Call::List(&["a/1", "b"]),
+    Call::Load("a/1", Some(Named::Library)),
+    Call::Load("b", Some(Named::Empty)),
+    Call::Drop("b", true),
+    Call::Drop("b", false),
+    Call::List(&["a/1"]),
+];
+
+/// A document that lies in tables of which `node` was made first is there, and what is changed
+/// there is found again.
+#[test]
+fn node_made_first(rt: HostRuntime) -> Result<(), Fail> {
+    let documents = Documents::new(rt.alloc())?;
+    let mut conn = Connection::open_in_memory(rt.alloc())?;
+    for statement in [NODE, LIBRARY, LAYOUT, ONE] {
+        let _count = conn.execute(statement, &[])?;
+    }
+    let mut store = adopted(rt.alloc(), conn)?;
+    assert_eq!(rt; first_wrong(&mut store, &documents, &FOUND)?, 0);
+    let mut store = adopted(rt.alloc(), store.release())?;
+    assert_eq!(rt; first_wrong(&mut store, &documents, &FOUND_AGAIN)?, 0);
     Ok(())
 }

@@ -8,27 +8,27 @@ use Rattle.sqlite.specs.Held.{Held, state}
 use Rattle.sqlite.specs.State.{HasCleanDisk}
 use Rattle.xq_regions.specs.declared.NodeRow.{NodeRow}
 use Rattle.xq_rows.specs.declared.fronts.Shelf.{Shelf}
-use Rattle.xq_rows.specs.Documents.{IsReady, IsStore, documents_in, tree_at}
-use Rattle.xq_rows.specs.Tables.{store_schema}
+use Rattle.xq_rows.specs.Documents.{IsReady, IsStore, documents_of, tree_at}
+use Rattle.xq_rows.specs.Tables.{node_rows, IsStoreSchema}
 use Rattle.xq_rows.specs.private.Shelves.{AreFronts}
 
 -- these are the addresses of the documents in the tables, and of each document the first rows
 pub record AreOf (db : Database) (addresses : List (List ℕ))
     (fronts : List (Vec NodeRow Global)) : Type 0 where
-  pub listed : addresses ≡ keys (documents_in (db.trees 1))
-  pub rows : AreFronts (map (tree_at (db.trees 1)) addresses) fronts
+  pub listed : addresses ≡ keys (documents_of db)
+  pub rows : AreFronts (map (tree_at (node_rows db)) addresses) fronts
 
 -- A call left the database as it was, where its tables are those that a store makes.
 pub record LeavesAlone {S : Type 0} (g : Ghosts S) (old new : Held S) : Type 0 where
   pub was_clean : HasCleanDisk (state g new) → HasCleanDisk (state g old)
   pub was_open : IsReady (state g new) → IsTrue (state g old).is_open
-  pub same : IsReady (state g new) → (state g old).now.schema ≡ store_schema
+  pub same : IsReady (state g new) → IsStoreSchema (state g old).now.schema
       → (state g new).now ≡ (state g old).now
 
 -- A shelf is that of the documents, and the tables are those that a store makes: so what is read
 -- later leaves them.
 pub record IsKept {S : Type 0} (g : Ghosts S) (conn : Held S) (shelf : Shelf) : Type 0 where
-  pub own : IsReady (state g conn) → (state g conn).now.schema ≡ store_schema
+  pub own : IsReady (state g conn) → IsStoreSchema (state g conn).now.schema
   pub holds : IsReady (state g conn) → IsStore (state g conn).now
       → AreOf (state g conn).now (map string_bytes shelf.addresses.items) shelf.fronts.items
 

@@ -9,7 +9,7 @@ use Rattle.xq_regions.specs.declared.NodeRow.{NodeRow}
 use Rattle.xq_sources.specs.Sources.{tree_at}
 use Rattle.sqlite.specs.Held.{state}
 use Rattle.xq_rows.specs.Documents.{Map, IsClean, IsReady}
-use Rattle.xq_rows.specs.Tables.{store_schema}
+use Rattle.xq_rows.specs.Tables.{IsStoreSchema}
 use Rattle.xq_rows.specs.Views.{Beginning, HeldDocuments, Viewed, IsView, trees_under}
 
 -- these are the first rows of a tree
@@ -57,5 +57,5 @@ pub record IsShelved {S : Type 0} (g : Ghosts S) (b : Beginning) (v : Viewed S)
     (fronts : List (Vec NodeRow Global)) (may_stay : Bool) : Type 0 where
   pub view : IsView g b v
   pub rows : IsClean g v.store → HeldDocuments b → AreFronts (trees_under b v.addresses) fronts
-  pub stays : IsTrue may_stay → IsReady (state g v.store) → (b.database.schema ≡ store_schema)
+  pub stays : IsTrue may_stay → IsReady (state g v.store) → IsStoreSchema b.database.schema
       × ((state g v.store).now ≡ b.database)

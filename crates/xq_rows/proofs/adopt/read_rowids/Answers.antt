@@ -1,11 +1,12 @@
-use Rattle.std.proofs.Common.{◌≡◌, ◌≢◌, [], Vec, Global}
+use Rattle.std.proofs.Common.{◌≡◌, [], Vec, Global}
 use Rattle.sqlite_value.specs.Order.{Row}
 use Rattle.sqlite.specs.Held.{state}
 use Rattle.sqlite.specs.State.{Shown}
 use Rattle.xq_rows.specs.declared.faults.OpenFault.TheVariants.{NotAStore}
 use Rattle.xq_rows.specs.Adopt.{ReadsRowids, fault_of}
-use Rattle.xq_rows.specs.Tables.{store_schema}
-use Rattle.xq_rows.proofs.AdoptReads.{rowids_query, rowids_program, rowids_names, rowids_are, rowids_plain, IsQueryRefusal, each_ok, each_err, query_kept, query_mode, query_told, reads_rowids}
+use Rattle.xq_rows.specs.Tables.{IsStoreSchema}
+use Rattle.xq_rows.proofs.Places.{node_tree}
+use Rattle.xq_rows.proofs.AdoptReads.{rowids_query, rowids_program, rowids_names, rowids_are, rowids_plain, IsQueryRefusal, each_ok, each_err, query_kept, query_mode, placed_told, reads_rowids}
 use Rattle.xq_rows.proofs.adopt.read_rowids.Goals as goal
 
 pub returns-clause-ok : goal.returns-clause-ok
@@ -18,7 +19,7 @@ pub returns-clause-err : goal.returns-clause-err
 returns-clause-err g c clean =
     let old = state g.S.Store c.args.transaction.now.conn.now in
     let new = state g.S.Store c.query_all.new.self.conn.now in
-    each_err (IsQueryRefusal rowids_query old new) (λ e. fault_of e ≡ NotAStore → old.now.schema ≢ store_schema) c.query_all.result (λ e h n has. query_told old new rowids_query e n store_schema rowids_program rowids_names has rowids_are.0 rowids_plain h) (c.query_all.ensures.err clean)
+    each_err (IsQueryRefusal rowids_query old new) (λ e. fault_of e ≡ NotAStore → ¬ IsStoreSchema old.now.schema) c.query_all.result (λ e h n has. placed_told old new rowids_query e n node_tree rowids_program rowids_names rowids_are rowids_plain has h) (c.query_all.ensures.err clean)
 
 pub returns-clause-kept : goal.returns-clause-kept
 returns-clause-kept g c clean inside =

@@ -4,10 +4,11 @@ use Rattle.xq_rows.specs.Documents.{documents_in, tree_at}
 use Rattle.xq_rows.proofs.Calls.{all_listed, leaves_open}
 use Rattle.xq_rows.proofs.Keeping.{held_stands, tree_count}
 use Rattle.xq_rows.proofs.stores.Store.empty_shelf.Goals as goal
+use Rattle.xq_rows.specs.Tables.{node_rows}
 
 pub returns-clause-shelf : goal.returns-clause-shelf
 returns-clause-shelf g c clean holds =
-    let table = (state g.S.Store c.args.self.now).now.trees 1 in
+    let table = node_rows (state g.S.Store c.args.self.now).now in
     let items = c.in_ok-addresses.addresses.items in
     record {
       listed = all_listed g.S.Store c.self.inside.conn c.args.self.now c.list_addresses.new.conn c.self.view_is c.list_addresses.ensures.open {E = Unit {0}} (λ (v : Vec (String Global) Global). map string_bytes v.items)

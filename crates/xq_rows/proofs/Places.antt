@@ -1,0 +1,92 @@
+-- Where the two tables lie, by which of them was made first.
+use Rattle.std.proofs.Common.{◌≡◌, ◌≢◌, ℕ, List, [], Option, inl, inr, refl, ap, arith}
+use Rattle.std.specs.List.{AllByRecursion}
+use Rattle.sqlite_value.specs.Order.{Row}
+use Rattle.sqlite_trees.specs.Tree.{Trees}
+use Rattle.sqlite_schema.specs.declared.schema.Keys.{Keys}
+use Rattle.sqlite_sql.specs.Program.{overlay}
+use Rattle.sqlite_tied.specs.Compute.{everything}
+use Rattle.sqlite_rules.specs.Action.{works}
+use Rattle.sqlite.specs.Does.{Tally, OnTable}
+use Rattle.sqlite.specs.Effect.{Database}
+use Rattle.sqlite.specs.Rows.{Outcome, Part, Task}
+use Rattle.sqlite.specs.declared.run.Mode.{Mode}
+use Rattle.sqlite.specs.Schema.{Schema}
+use Rattle.sqlite.specs.Table.{Table}
+use Rattle.xq_rows.specs.Tables.{layout_schema, node_table, store_schema, turned_schema, IsStoreSchema, layout_rows, node_rows}
+
+-- which of the two was made first
+pub data First : Type 0 where
+  layout_first : First
+  node_first : First
+
+abbrev pub schema_of : First → Schema
+schema_of layout_first = store_schema
+schema_of node_first = turned_schema
+
+abbrev pub layout_tree : First → ℕ
+layout_tree layout_first = 0
+layout_tree node_first = 2
+
+abbrev pub node_tree : First → ℕ
+node_tree layout_first = 1
+node_tree node_first = 0
+
+-- which of the tables it is
+abbrev pub node_place : First → ℕ
+node_place layout_first = 1
+node_place node_first = 0
+
+abbrev pub node_table_of : First → Table
+node_table_of first = record node_table { tree = node_tree first }
+
+pub is_schema : (first : First) → IsStoreSchema (schema_of first)
+is_schema layout_first = inl refl
+is_schema node_first = inr refl
+
+pub which : (schema : Schema) → IsStoreSchema schema → (first : First) × (schema ≡ schema_of first)
+which schema (inl is) = (layout_first, is)
+which schema (inr is) = (node_first, is)
+
+-- # The rows
+
+pub nodes_lie : (first : First) (db : Database) → db.schema ≡ schema_of first → node_rows db ≡ db.trees (node_tree first)
+unfolding node_rows everything
+nodes_lie layout_first db is = ap (λ s. node_rows (record db { schema = s })) is
+nodes_lie node_first db is = ap (λ s. node_rows (record db { schema = s })) is
+
+pub layout_lies : (first : First) (db : Database) → db.schema ≡ schema_of first → layout_rows db ≡ db.trees (layout_tree first)
+unfolding layout_rows everything
+layout_lies layout_first db is = ap (λ s. layout_rows (record db { schema = s })) is
+layout_lies node_first db is = ap (λ s. layout_rows (record db { schema = s })) is
+
+pub layout_alone : (db : Database) → db.schema ≡ layout_schema → layout_rows db ≡ db.trees 0
+unfolding layout_rows everything
+layout_alone db is = ap (λ s. layout_rows (record db { schema = s })) is
+
+-- # What statements find
+
+pub not_given : (first : First) (db : Trees) → overlay db [] (node_tree first) ≡ db (node_tree first)
+not_given layout_first db = refl
+not_given node_first db = refl
+
+pub layout_not_given : (first : First) (db : Trees) → overlay db [] (layout_tree first) ≡ db (layout_tree first)
+layout_not_given layout_first db = refl
+layout_not_given node_first db = refl
+
+-- a statement on the rows of the table `node` is one on these
+pub on_node : (first : First) (limit : Option ℕ) (mode : Mode) (params : Row) (db : Trees) (P : Task → Part (Tally × Database)) (out : Outcome (Tally × Database))
+    → OnTable limit mode params (record { schema = schema_of first; trees = db }) (node_place first) P out
+    → P (record { limit = limit; keys = mode.keys; schema = schema_of first; table = node_table_of first; params = params }) out
+on_node layout_first limit mode params db P out on = on
+on_node node_first limit mode params db P out on = on
+
+-- no foreign key acts
+pub no_works : (first : First) (keys : Keys) (olds news : List Row) → works (schema_of first) keys 0 (node_tree first) olds news ≡ []
+no_works layout_first keys olds news = refl
+no_works node_first keys olds news = refl
+
+-- the other table stays
+pub layout_stays : (first : First) (db next : Trees) → AllByRecursion (λ t. t.tree ≢ node_tree first → next t.tree ≡ db t.tree) (schema_of first).tables → next (layout_tree first) ≡ db (layout_tree first)
+layout_stays layout_first db next all = all.0 (λ e. omega (arith, e))
+layout_stays node_first db next all = all.1.0 (λ e. omega (arith, e))
