@@ -1,6 +1,7 @@
 -- Loops that stop at the first refusal, over a state of any kind.
-use Rattle.std.proofs.Common.{◌≡◌, ℕ, suc, ◌+◌, ◌<◌, List, [], ◌∷◌, length, map, drop, get_or, refl, sym, ◌∙◌, ap, subst, add-one, Ok, Err, Result, Bool, true, false}
-use Rattle.std.specs.Prelude.{IsErrAnd}
+use Rattle.std.proofs.Common.{◌≡◌, ℕ, suc, ◌+◌, ◌<◌, zero, ◌≤◌, List, [], ◌∷◌, length, map, drop, get_or, refl, sym, ◌∙◌, ap, subst, add-one, arith, Ok, Err, Some, Result, Bool, true, false}
+use Rattle.std.specs.Prelude.{IsErrAnd, slice_get, if◌then◌else◌}
+use Rattle.std.proofs.lemmas.Option.{none-some, same_Some}
 use Rattle.std.proofs.Math.Seq.{drop-cons}
 use Rattle.xq_atoms.specs.declared.refusals.Fault.{Fault}
 use Rattle.xq_atoms.specs.declared.refusals.Fault.TheVariants.{Code as OfCode, Want as OfWant}
@@ -16,6 +17,27 @@ pub left_over : {X A : Type 0} (view : X → A) (xs : List X) (i : ℕ) (x : X) 
 left_over view xs i x h is =
     let e : drop i xs ≡ x ∷ drop (i + 1) xs = rw add-one (drop-cons xs i x h ∙ ap (λ y. y ∷ drop (suc i) xs) (sym is)) in
     ap (map view) e
+
+got_at : {X : Type 0} (xs : List X) (i : ℕ) (x : X) → slice_get xs i ≡ Some x → (i < length xs) × (x ≡ get_or xs i x)
+got_at [] i x e = absurd (none-some x e)
+got_at (y ∷ ys) zero x e = (omega arith, sym (same_Some y x e))
+got_at (y ∷ ys) (suc i) x e = let w = got_at ys i x e in (omega (arith, w.0), w.1)
+
+-- and with the next one
+pub two_left : {X A : Type 0} (view : X → A) (xs : List X) (i : ℕ) (x y : X) → i < length xs → x ≡ get_or xs i x → slice_get xs (i + 1) ≡ Some y
+    → map view (drop i xs) ≡ view x ∷ view y ∷ map view (drop (i + 1 + 1) xs)
+two_left view xs i x y h is next =
+    let w = got_at xs (i + 1) y next in
+    left_over view xs i x h is ∙ ap (λ l. view x ∷ l) (left_over view xs (i + 1) y w.0 w.1)
+
+-- whether one more was taken
+pub none_taken : (taken : Bool) (i : ℕ) → taken ≡ false → i + (if taken then 1 else 0) ≡ i
+none_taken true i h = absurd (cc)
+none_taken false i h = omega arith
+
+pub one_taken : (taken : Bool) (i : ℕ) → taken ≡ true → i + (if taken then 1 else 0) ≡ i + 1 + 0
+one_taken true i h = omega arith
+one_taken false i h = absurd (cc)
 
 abbrev code_or : {A : Type 0} → Code → Judged A → Code
 code_or other (Ok x) = other
@@ -45,6 +67,37 @@ module _ {S B A : Type 0} (read : List Tree → S → B) (In : List Tree → S �
         let s = step c p n.0 in
         (s.0, sym (ap (λ o. go_on o (λ next. in_turn act next left')) s.1) ∙ sym (ap (λ ys. in_turn act (read f state) ys f) e) ∙ n.1);
   }
+
+  pub turns_same : {premise clean : Type 0} {state : S} {left : List A} {f : List Tree} {whole : Outcome B} (left' : List A) → Turns premise clean state left f whole → left ≡ left' → Turns premise clean state left' f whole
+  turns_same {state = state} {left} {f} left' now e = record {
+    rest = λ c p. (let n = now.rest c p in (n.0, ap (λ ys. in_turn act (read f state) ys f) (sym e) ∙ n.1));
+  }
+
+  -- two turns in one
+  both_of : (o : Outcome B) (y : A) (left' : List A) → go_on (go_on o (λ next. act next y)) (λ next. in_turn act next left') ≡ go_on o (λ next. in_turn act next (y ∷ left'))
+  both_of (Ok b, f) y left' = refl
+  both_of (Err code, f) y left' = refl
+
+  pub turns_two : {premise clean clean' : Type 0} {state : S} {left : List A} {f : List Tree} {whole : Outcome B} (state' : S) (x y : A) (left' : List A) (f' : List Tree)
+      → Turns premise clean state left f whole → left ≡ x ∷ y ∷ left' → (clean' → clean)
+      → (clean' → premise → In f state → In f' state' × (go_on (act (read f state) x f) (λ next. act next y) ≡ (Ok (read f' state'), f')))
+      → Turns premise clean' state' left' f' whole
+  turns_two {state = state} {left} {f} state' x y left' f' now e was step = record {
+    rest = λ c p.
+        let n = now.rest (was c) p in
+        let s = step c p n.0 in
+        (s.0, sym (ap (λ o. go_on o (λ next. in_turn act next left')) s.1) ∙ both_of (act (read f state) x f) y left' ∙ sym (ap (λ ys. in_turn act (read f state) ys f) e) ∙ n.1);
+  }
+
+  pub turns_stop_two : {R T : Type 0} (view : R → T) (out : List Tree → T → B) (Out : List Tree → T → Type 0) {premise clean clean' : Type 0} {state : S} {left : List A} {f : List Tree} {whole : Outcome B} (x y : A) (left' : List A) (f' : List Tree) (e : Fault)
+      → Turns premise clean state left f whole → left ≡ x ∷ y ∷ left' → (clean' → clean)
+      → (clean' → premise → In f state → GivesAs view out Out (go_on (act (read f state) x f) (λ next. act next y)) f' (Err e))
+      → clean' → premise → GivesAs view out Out whole f' (Err e)
+  turns_stop_two view out Out x y left' f' (OfWant want) now e was step c p = tt
+  turns_stop_two view out Out {state = state} {left} {f} x y left' f' (OfCode code) now e was step c p =
+      let n = now.rest (was c) p in
+      let whole_is = sym n.1 ∙ ap (λ ys. in_turn act (read f state) ys f) e ∙ sym (both_of (act (read f state) x f) y left') in
+      ap (λ o. o.0) whole_is ∙ stops (go_on (act (read f state) x f) (λ next. act next y)) (λ next. in_turn act next left') code (step c p n.0)
 
   pub turns_stop : {R T : Type 0} (view : R → T) (out : List Tree → T → B) (Out : List Tree → T → Type 0) {premise clean clean' : Type 0} {state : S} {left : List A} {f : List Tree} {whole : Outcome B} (x : A) (left' : List A) (f' : List Tree) (e : Fault)
       → Turns premise clean state left f whole → left ≡ x ∷ left' → (clean' → clean)

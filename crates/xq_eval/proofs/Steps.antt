@@ -25,14 +25,19 @@ use Rattle.xq_values.specs.Functions.{Focus as Spot}
 use Rattle.xq_values.specs.Steps.{focuses, focuses_from, in_axis_order, is_reverse, axis_nodes, context_node}
 use Rattle.xq_values.specs.Content.{name_of}
 use Rattle.xq_values.specs.declared.node_tests.Test.{Test}
+use Rattle.xq_values.specs.declared.node_tests.Test.TheVariants.{Any}
 use Rattle.xq_regions.specs.declared.Axis.{Axis}
+use Rattle.xq_regions.specs.declared.Axis.TheVariants.{Child, DescendantOrSelf}
 use Rattle.xq_expressions.specs.declared.operators.NamedNode.{NamedNode}
 use Rattle.xq_values.specs.Readings.{item_at, items_at, IsIn, AreIn, Extends}
 use Rattle.xq_meaning.specs.Doing.{Doing, Outcome, go_on, ◌>>=◌, give, judged, on_trees, in_turn, more, one_more, collected, for_each}
 use Rattle.xq_meaning.specs.Forms as Forms
-use Rattle.xq_meaning.specs.PlanMeaning.{Frame, Meaning, ClauseMeaning, at_tuple, next_clause, flwor}
+use Rattle.xq_meaning.specs.PlanMeaning.{Frame, Meaning, ClauseMeaning, at_tuple, next_clause, flwor, plan_step_mean}
+use Rattle.xq_meaning.specs.declared.plans.PlanStep.{PlanStep}
+use Rattle.xq_meaning.specs.declared.plans.PlanStep.TheVariants as plan_step
+use Rattle.xq_meaning.proofs.PlanEquations.{step-Scan}
 use Rattle.xq_operations.specs.declared.frames.Frame.{Frame as Held_frame}
-use Rattle.xq_operations.specs.Views.{tuple_at, focus_at, frame_at, TupleIn, TuplesIn, FocusIn, FrameIn, Goes, GivesAs, forget, on_axis, plant_named}
+use Rattle.xq_operations.specs.Views.{tuple_at, focus_at, frame_at, TupleIn, TuplesIn, FocusIn, FrameIn, Goes, GivesAs, forget, on_axis, after_double_slash, plant_named}
 use Rattle.xq_eval.proofs.Loops.{stops}
 use Rattle.xq_operations.proofs.Growth.{items_grown, are_in_grown, tuple_grown, tuple_in_grown, item_at_grown, in_grown, all-append}
 
@@ -266,3 +271,11 @@ named_is kind name part frame f = by_value (name frame f)
 -- what leaves the trees as they are
 pub same_goes : {old new : List Tree} {old_clean new_clean : Type 0} → new ≡ old → (new_clean → old_clean) → Goes old new old_clean new_clean
 same_goes {old} same was = record { grows = record { added = []; is = same ∙ sym (append-nil old) }; was_clean = was }
+
+-- a step to children after descendant-or-self::node()
+pub double_slash_is : (p q : PlanStep) (test : Test) (frame : Frame) (xs : List Item) (f : List Tree) → p ≡ plan_step.Scan DescendantOrSelf Any → q ≡ plan_step.Scan Child test
+    → go_on (plan_step_mean p frame xs f) (λ ys. plan_step_mean q frame ys) ≡ after_double_slash test xs f
+double_slash_is p q test frame xs f hp hq =
+    let first : plan_step_mean p frame xs f ≡ Forms.scan DescendantOrSelf Any xs f = ap (λ m. m frame xs f) (ap plan_step_mean hp ∙ step-Scan DescendantOrSelf Any) in
+    ap (λ o. go_on o (λ ys. plan_step_mean q frame ys)) first
+    ∙ ap (λ m. go_on (Forms.scan DescendantOrSelf Any xs f) (λ ys. m frame ys)) (ap plan_step_mean hq ∙ step-Scan Child test)

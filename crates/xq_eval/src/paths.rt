@@ -1,5 +1,7 @@
 //! What follows the slashes of a path (XQuery 3.1, section 3.3).
-ghost use Rattle.std.specs.Prelude.{◌≡◌, List, map};
+ghost use Rattle.std.specs.Prelude.{◌≡◌, List, map, Some, IfSome};
+ghost use Rattle.std.specs.Option.{option_copied};
+ghost use Rattle.xq_meaning.specs.declared.plans.PlanStep.TheVariants as plan_step;
 ghost use Rattle.xq_regions.specs.Items.{item_view, item_views};
 ghost use Rattle.xq_values.specs.Readings.{items_at, IsIn, AreIn};
 ghost use Rattle.xq_values.specs.Steps.{focuses};
@@ -9,14 +11,44 @@ ghost use Rattle.xq_meaning.specs.PlanMeaning.{plan_mean, plan_step_mean, next_s
 ghost use Rattle.xq_operations.specs.Views.{spot_at, frame_at, FrameIn, Goes, Gives};
 
 use crate::evaluation::evaluate;
+use sqlite_items::at;
 use std::alloc::Global;
 use xq_atoms::Fault;
 use xq_meaning::{Plan, PlanStep};
-use xq_operations::{Focus, Frame, gather, only_nodes, scan};
-use xq_regions::{Item, Items};
+use xq_operations::{Focus, Frame, double_slash, gather, only_nodes, scan};
+use xq_regions::{Axis, Item, Items};
+use xq_values::Test;
 use xq_worlds::Growing;
 
-/// The items after all steps.
+/// The test of a step to children right after `descendant-or-self::node()`, where neither of the
+/// two has predicates: together they are `//` and a step (XQuery 3.1, section 3.3.5).
+fn children_below<'a>(step: &PlanStep, next: Option<&'a PlanStep>) -> Option<&'a Test>
+    ensures { IfSome result (λ test.
+        (step.now ≡ plan_step.Scan Axis.DescendantOrSelf Test.Any)
+        × (option_copied next.entry ≡ Some (plan_step.Scan Axis.Child test.now))) }
+{
+    let PlanStep::Scan(axis, all) = step else {
+        return None;
+    };
+    let Axis::DescendantOrSelf = axis else {
+        return None;
+    };
+    let Test::Any = all else {
+        return None;
+    };
+    let Some(after) = next else {
+        return None;
+    };
+    let PlanStep::Scan(direction, test) = after else {
+        return None;
+    };
+    let Axis::Child = direction else {
+        return None;
+    };
+    Some(test)
+}
+
+/// The items after all steps. Two that are `//` and a step to children are one scan.
 #[cycle(eval)]
 pub fn step_list<W: Growing>(
     alloc: Global,
@@ -34,7 +66,19 @@ pub fn step_list<W: Growing>(
         (W.forest world.old)) (W.forest world.new) result }
 {
     let mut left = items;
-    for step in steps {
+    // Whether the step was taken with the one before it.
+    let mut is_taken = false;
+    for (index, step) in steps.iter().enumerate() {
+        if is_taken {
+            is_taken = false;
+            continue;
+        }
+        if let Some(test) = children_below(step, at(steps, index + 1)) {
+            let found = double_slash(alloc, world, &left, test)?;
+            left = found;
+            is_taken = true;
+            continue;
+        }
         left = next_items(alloc, world, frame, left, step)?;
     }
     Ok(left)

@@ -23,17 +23,19 @@ use Rattle.xq_meaning.specs.declared.plans.PlanClause.{PlanClause}
 use Rattle.xq_meaning.specs.Doing.{◌>>=◌, go_on, give, judged, on_trees, collected, in_turn, more, one_more, for_each, first_that}
 use Rattle.xq_meaning.specs.PlanMeaning.{Frame, Meaning, plan_mean, plan_clause_mean, plan_step_mean, at_tuple, next_clause, next_step}
 use Rattle.xq_meaning.proofs.PlanEquations.{plan-Root, plan-Step, plan-Named, plan-Unnamed, plan-Call, plan-Quantified, clause-Group, clause-Order, clause-Refused, step-Scan, plan-Dec, plan-Slot, plan-ContextItem, plan-Sequence, plan-Chain, plan-Unary, plan-If, plan-Or, plan-And, plan-Filter, plan-Path, plan-Flwor, step-Each, clause-For, clause-Let, clause-Where}
-use Rattle.xq_operations.specs.Views.{order_specs, GivesKeys, GivesRows, calling, ordering, on_axis, plant_named, plant_unnamed, tuple_at, tuples_at, lists_of, spot_at, forget, frame_at, TupleIn, TuplesIn, Gives, GivesLists, GivesTuples, GivesTests, GivesPlain, FrameIn}
+use Rattle.xq_operations.specs.Views.{order_specs, GivesKeys, GivesRows, calling, ordering, on_axis, after_double_slash, plant_named, plant_unnamed, tuple_at, tuples_at, lists_of, spot_at, forget, frame_at, TupleIn, TuplesIn, Gives, GivesLists, GivesTuples, GivesTests, GivesPlain, FrameIn}
 use Rattle.xq_operations.proofs.Growth.{extends_more, stays, value_in, frame_grown, frame_in_grown, items_grown, are_in_grown, item_at_grown, in_grown, tuple_grown, tuple_in_grown, tuples_grown, tuples_in_grown, goes_on_to}
-use Rattle.xq_eval.proofs.Loops.{left_over, turns_next, turns_stop, turns_end, tries_next, tries_found, tries_stop, handed_on, stops, cut}
+use Rattle.xq_regions.specs.declared.Axis.TheVariants.{Child}
+use Rattle.xq_meaning.specs.declared.plans.PlanStep.TheVariants as plan_step
+use Rattle.xq_eval.proofs.Loops.{left_over, two_left, none_taken, one_taken, turns_same, turns_two, turns_stop_two, turns_next, turns_stop, turns_end, tries_next, tries_found, tries_stop, handed_on, stops, cut}
 use Rattle.xq_atoms.specs.Text.{Text}
 use Rattle.xq_expressions.specs.declared.operators.OrderModifier.{OrderModifier}
 use Rattle.xq_tuples.specs.Keys.{atomics_of, column_of, columns_of}
 use Rattle.xq_values.specs.Content.{name_of}
 use Rattle.xq_eval.specs.private.Keys.{keys_at}
 use Rattle.xq_eval.specs.private.Quantifying.{holds, at_top, turn, resumed, weigh, all_weigh, unless_wanted}
-use Rattle.std.specs.Prelude.{string_bytes, IfSome}
-use Rattle.xq_eval.proofs.Steps.{axis_order_read, axis_order_in, step_is, named_is, same_goes, more_next, tested_ok, tested_err, go_on_stop, list_next, passed_ok, passed_err, kept_read, concat, concat_read, concat_in, flwor_is, spots_left, all_at, element, left_at, frame_inner, frame_inner_in, bound_in, kept_in, expanded_in, slash_ok, slash_err, same_tests, any_tests}
+use Rattle.std.specs.Prelude.{string_bytes, IfSome, if◌then◌else◌}
+use Rattle.xq_eval.proofs.Steps.{double_slash_is, axis_order_read, axis_order_in, step_is, named_is, same_goes, more_next, tested_ok, tested_err, go_on_stop, list_next, passed_ok, passed_err, kept_read, concat, concat_read, concat_in, flwor_is, spots_left, all_at, element, left_at, frame_inner, frame_inner_in, bound_in, kept_in, expanded_in, slash_ok, slash_err, same_tests, any_tests}
 use Rattle.xq_operations.proofs.Natural.{bound_natural, kept_natural, expanded_natural}
 use Rattle.xq_tuples.proofs.Copies.{values_of-clones}
 use Rattle.xq_eval.specs.private.Bindings.{values_left, stack_of, Falls, Moved, MovesOn}
@@ -1181,48 +1183,104 @@ clauses::at_tuple-returns-in_err-slots-clause-goes g t c = stays _ _
 pub clauses::at_tuple-returns-clause-goes : goal.clauses::at_tuple-returns-clause-goes
 clauses::at_tuple-returns-clause-goes g t c = c.evaluate.ensures.goes
 
-pub paths::step_list-loop-step-preserved : goal.paths::step_list-loop-step-preserved
-paths::step_list-loop-step-preserved g t c =
-    let i = c.loop-step.invariant in
+pub paths::step_list-loop-index-preserved-then-is_taken : goal.paths::step_list-loop-index-preserved-then-is_taken
+paths::step_list-loop-index-preserved-then-is_taken g t c =
+    let i = c.loop-index.invariant in
+    record {
+      goes = i.goes;
+      turns = turns_same _ _ _ _ i.turns (ap (λ n. map plan_step_mean (drop n c.args.steps.now)) (one_taken c.loop-index.is_taken c.loop-index.index c.if-is_taken.true));
+    }
+
+pub paths::step_list-loop-index-preserved-in-Some : goal.paths::step_list-loop-index-preserved-in-Some
+paths::step_list-loop-index-preserved-in-Some g t c =
+    let i = c.loop-index.invariant in
     let old = g.W.TreeSource.forest c.args.world.now in
-    let f = g.W.TreeSource.forest c.loop-step.world in
+    let f = g.W.TreeSource.forest c.loop-index.world in
+    let held = c.args.frame in
+    let n = c.loop-index.index in
+    let p = c.index-steps-index.result in
+    let test = c.in-Some.test.now in
+    let q = plan_step.Scan Child test in
+    let left = item_views c.loop-index.left in
+    let d : map item_view c.deref.result.now ≡ left = ap (map item_view) c.deref.ensures.value in
+    let next = sym c.at.ensures ∙ c.in-Some.ensures.1 in
+    let are = ap (λ k. map plan_step_mean (drop k c.args.steps.now)) (none_taken c.loop-index.is_taken n c.if-is_taken.false) ∙ two_left plan_step_mean c.args.steps.now n p q (omega arith) c.index-steps-index.is next in
+    record {
+      goes = goes_on_to i.goes c.in_ok-found.ensures.goes;
+      turns = turns_two _ _ _ (item_views c.in_ok-found.found) (plan_step_mean p) (plan_step_mean q) _ _ i.turns are c.in_ok-found.ensures.goes.was_clean
+          (λ clean inside is_in.
+          let s = c.in_ok-found.ensures.gives clean (subst (AreIn f) (sym d) is_in) in
+          (s.0, double_slash_is p q test (frame_at old held) (items_at f left) f c.in-Some.ensures.0 refl ∙ ap (λ xs. after_double_slash test (items_at f xs) f) (sym d) ∙ s.1));
+    }
+
+pub paths::step_list-returns-in_err-found-clause-gives : goal.paths::step_list-returns-in_err-found-clause-gives
+paths::step_list-returns-in_err-found-clause-gives g t c = λ clean inside items_in.
+    let i = c.loop-index.invariant in
+    let old = g.W.TreeSource.forest c.args.world.now in
+    let f = g.W.TreeSource.forest c.loop-index.world in
+    let f' = g.W.TreeSource.forest c.double_slash.new.world in
+    let held = c.args.frame in
+    let n = c.loop-index.index in
+    let p = c.index-steps-index.result in
+    let test = c.in-Some.test.now in
+    let q = plan_step.Scan Child test in
+    let left = item_views c.loop-index.left in
+    let e = c.in_err-found.field-0.0 in
+    let d : map item_view c.deref.result.now ≡ left = ap (map item_view) c.deref.ensures.value in
+    let next = sym c.at.ensures ∙ c.in-Some.ensures.1 in
+    let are = ap (λ k. map plan_step_mean (drop k c.args.steps.now)) (none_taken c.loop-index.is_taken n c.if-is_taken.false) ∙ two_left plan_step_mean c.args.steps.now n p q (omega arith) c.index-steps-index.is next in
+    handed_on item_views items_at AreIn _ f' e c.from_residual.result c.from_residual.ensures.1
+    (turns_stop_two _ _ _ item_views items_at AreIn (plan_step_mean p) (plan_step_mean q) _ f' e i.turns are c.double_slash.ensures.goes.was_clean
+    (λ clean inside is_in.
+    subst (λ o. Gives o f' (Err e)) (sym (double_slash_is p q test (frame_at old held) (items_at f left) f c.in-Some.ensures.0 refl ∙ ap (λ xs. after_double_slash test (items_at f xs) f) (sym d)))
+    (c.in_err-found.ensures.gives clean (subst (AreIn f) (sym d) is_in))) clean (inside, items_in))
+
+pub paths::step_list-returns-in_err-found-clause-goes : goal.paths::step_list-returns-in_err-found-clause-goes
+paths::step_list-returns-in_err-found-clause-goes g t c = goes_on_to c.loop-index.invariant.goes c.in_err-found.ensures.goes
+
+pub paths::step_list-loop-index-preserved : goal.paths::step_list-loop-index-preserved
+paths::step_list-loop-index-preserved g t c =
+    let i = c.loop-index.invariant in
+    let old = g.W.TreeSource.forest c.args.world.now in
+    let f = g.W.TreeSource.forest c.loop-index.world in
     let f' = g.W.TreeSource.forest c.next_items.new.world in
     let held = c.args.frame in
-    let p = c.step-item.result in
-    let left = item_views c.loop-step.left in
+    let p = c.index-steps-index.result in
+    let left = item_views c.loop-index.left in
+    let one = sym (none_taken c.loop-index.is_taken (c.loop-index.index + 1) c.if-is_taken.false) in
     record {
       goes = goes_on_to i.goes c.next_items.ensures.goes;
-      turns = turns_next _ _ _ (item_views c.in_ok-left.left) (plan_step_mean p) _ _ i.turns (left_over plan_step_mean c.args.steps.now c.loop-step.step-index p (omega arith) c.step-item.is) c.next_items.ensures.goes.was_clean
+      turns = turns_same _ _ _ _ (turns_next _ _ _ (item_views c.in_ok-left.left) (plan_step_mean p) _ _ i.turns (ap (λ k. map plan_step_mean (drop k c.args.steps.now)) (none_taken c.loop-index.is_taken c.loop-index.index c.if-is_taken.false) ∙ left_over plan_step_mean c.args.steps.now c.loop-index.index p (omega arith) c.index-steps-index.is) c.next_items.ensures.goes.was_clean
           (λ clean inside is_in.
           let s = c.in_ok-left.ensures.gives clean (frame_in_grown i.goes.grows held inside.0) is_in in
-          (s.0, ap (λ fr. plan_step_mean p fr (items_at f left) f) (sym (frame_grown i.goes.grows held inside.0)) ∙ s.1));
+          (s.0, ap (λ fr. plan_step_mean p fr (items_at f left) f) (sym (frame_grown i.goes.grows held inside.0)) ∙ s.1))) (ap (λ k. map plan_step_mean (drop k c.args.steps.now)) one);
     }
 
 pub paths::step_list-returns-in_err-left-clause-gives : goal.paths::step_list-returns-in_err-left-clause-gives
 paths::step_list-returns-in_err-left-clause-gives g t c = λ clean inside items_in.
-    let i = c.loop-step.invariant in
+    let i = c.loop-index.invariant in
     let old = g.W.TreeSource.forest c.args.world.now in
-    let f = g.W.TreeSource.forest c.loop-step.world in
+    let f = g.W.TreeSource.forest c.loop-index.world in
     let f' = g.W.TreeSource.forest c.next_items.new.world in
     let held = c.args.frame in
-    let p = c.step-item.result in
-    let left = item_views c.loop-step.left in
+    let p = c.index-steps-index.result in
+    let left = item_views c.loop-index.left in
     let e = c.in_err-left.field-0.0 in
-    handed_on item_views items_at AreIn _ f' e c.from_residual.result c.from_residual.ensures.1
-    (turns_stop _ _ _ item_views items_at AreIn (plan_step_mean p) _ f' e i.turns (left_over plan_step_mean c.args.steps.now c.loop-step.step-index p (omega arith) c.step-item.is) c.next_items.ensures.goes.was_clean
+    handed_on item_views items_at AreIn _ f' e c.from_residual-in_err-left.result c.from_residual-in_err-left.ensures.1
+    (turns_stop _ _ _ item_views items_at AreIn (plan_step_mean p) _ f' e i.turns (ap (λ k. map plan_step_mean (drop k c.args.steps.now)) (none_taken c.loop-index.is_taken c.loop-index.index c.if-is_taken.false) ∙ left_over plan_step_mean c.args.steps.now c.loop-index.index p (omega arith) c.index-steps-index.is) c.next_items.ensures.goes.was_clean
     (λ clean inside is_in. subst (λ fr. Gives (plan_step_mean p fr (items_at f left) f) f' (Err e)) (frame_grown i.goes.grows held inside.0)
     (c.in_err-left.ensures.gives clean (frame_in_grown i.goes.grows held inside.0) is_in)) clean (inside, items_in))
 
 pub paths::step_list-returns-in_err-left-clause-goes : goal.paths::step_list-returns-in_err-left-clause-goes
-paths::step_list-returns-in_err-left-clause-goes g t c = goes_on_to c.loop-step.invariant.goes c.in_err-left.ensures.goes
+paths::step_list-returns-in_err-left-clause-goes g t c = goes_on_to c.loop-index.invariant.goes c.in_err-left.ensures.goes
 
 pub paths::step_list-returns-clause-goes : goal.paths::step_list-returns-clause-goes
-paths::step_list-returns-clause-goes g t c = c.loop-step.invariant.goes
+paths::step_list-returns-clause-goes g t c = c.loop-index.invariant.goes
 
 pub paths::step_list-returns-clause-gives : goal.paths::step_list-returns-clause-gives
 paths::step_list-returns-clause-gives g t c = λ clean inside rest_in.
     let old = g.W.TreeSource.forest c.args.world.now in
-    turns_end _ _ _ c.loop-step.invariant.turns (ap (map plan_step_mean) (drop_all c.loop-step.step-index c.args.steps.now (omega arith))) clean (inside, rest_in)
+    turns_end _ _ _ c.loop-index.invariant.turns (ap (map plan_step_mean) (drop_all (c.loop-index.index + (if c.loop-index.is_taken then 1 else 0)) c.args.steps.now (omega arith))) clean (inside, rest_in)
 
 pub paths::next_items-returns-in_err-only_nodes-in-Each-clause-gives : goal.paths::next_items-returns-in_err-only_nodes-in-Each-clause-gives
 paths::next_items-returns-in_err-only_nodes-in-Each-clause-gives g t c = λ clean inside items_in.

@@ -1,4 +1,5 @@
-use Rattle.std.proofs.Common.{◌≡◌, ◌≤◌, ◌^◌, [], ◌∷◌, ◌++◌, map, take, drop, suc, length}
+use Rattle.std.proofs.Common.{◌≡◌, ◌≤◌, ◌^◌, [], ◌∷◌, ◌++◌, map, take, drop, suc, length, ◌+◌}
+use Rattle.std.specs.Prelude.{if◌then◌else◌}
 use Rattle.xq_regions.specs.Items.{item_view, item_views}
 use Rattle.xq_meaning.specs.Doing.{in_turn, more, one_more, for_each, collected, first_that}
 use Rattle.xq_meaning.specs.Forms as Forms
@@ -99,8 +100,9 @@ invariant-clauses::tests-loop-index g l =
       long : length l.tests.items ≡ l.index;
     }
 
-abbrev pub invariant-paths::step_list-loop-step : goal.invariant-paths::step_list-loop-step
-invariant-paths::step_list-loop-step g l =
+-- where the step was taken with the one before it, one fewer is left
+abbrev pub invariant-paths::step_list-loop-index : goal.invariant-paths::step_list-loop-index
+invariant-paths::step_list-loop-index g l =
     let old = g.W.TreeSource.forest l.fn.world in
     let now = g.W.TreeSource.forest l.world in
     let frame = frame_at old l.frame in
@@ -108,7 +110,7 @@ invariant-paths::step_list-loop-step g l =
     let clean = g.W.TreeSource.is_clean l.world in
     record {
       goes : Goes old now (g.W.TreeSource.is_clean l.fn.world) clean;
-      turns : Turns items_at AreIn (next_step frame) (inside × AreIn old (item_views l.fn.items)) clean (item_views l.left) (map plan_step_mean (drop l.step-index l.steps)) now (in_turn (next_step frame) (items_at old (item_views l.fn.items)) (map plan_step_mean l.steps) old);
+      turns : Turns items_at AreIn (next_step frame) (inside × AreIn old (item_views l.fn.items)) clean (item_views l.left) (map plan_step_mean (drop (l.index + (if l.is_taken then 1 else 0)) l.steps)) now (in_turn (next_step frame) (items_at old (item_views l.fn.items)) (map plan_step_mean l.steps) old);
     }
 
 abbrev pub invariant-paths::each-loop-index : goal.invariant-paths::each-loop-index
