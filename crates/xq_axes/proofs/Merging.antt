@@ -22,7 +22,7 @@ use Rattle.xq_axes.specs.Nodes.{document_order, AreRising, HaveAll}
 use Rattle.xq_axes.specs.private.Many.{spot}
 use Rattle.xq_axes.proofs.Lists.{same_tests}
 use Rattle.xq_axes.proofs.Orders.{same_fields, order_less, same_any, same_rising, from_contains, rising_append}
-use Rattle.xq_axes.proofs.OnPaths.{map-map, filter-map, paths-range}
+use Rattle.xq_values.proofs.PathLemmas.{map-map, filter-map, paths-range}
 use Rattle.xq_axes.proofs.Sizes.{node_of}
 
 -- # All nodes of trees

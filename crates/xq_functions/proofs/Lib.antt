@@ -7,6 +7,5 @@ pub mod NodeLemmas
 pub mod NumberLemmas
 pub mod ChoiceLemmas
 pub mod DistinctLemmas
-pub mod PathLemmas
 pub mod PlaceLemmas
 pub mod SetLemmas

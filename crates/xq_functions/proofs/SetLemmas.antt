@@ -27,7 +27,7 @@ use Rattle.xq_values.specs.Operators.{from_nodes, in_order, set_of, gathered, no
 use Rattle.xq_functions.specs.declared.spots.Spot.{Spot}
 use Rattle.xq_functions.specs.private.Places.{view, place_at, all_spots, SpotsAreIn, spot_cmp, same_spot, is_among, IsRising, IsInOrder, takes, united, selected}
 use Rattle.xq_functions.proofs.NodeLemmas.{stands-same}
-use Rattle.xq_functions.proofs.PathLemmas.{map-map, filter-map, paths-range}
+use Rattle.xq_values.proofs.PathLemmas.{map-map, filter-map, paths-range}
 use Rattle.xq_functions.proofs.PlaceLemmas.{spot, run, unique, among-filter, all-append, run-beyond, run-rises, run-among, same-from}
 
 -- # All places

@@ -2,6 +2,7 @@
 use Rattle.std.proofs.Common.{◌≡◌, ℕ, ◌+◌, ◌≤◌, max, Bool, true, false, List, [], ◌∷◌, length, Some, None, refl, ap, subst, arith, inl, inr, ◌⊎◌}
 use Rattle.std.specs.Prelude.{codes}
 use Rattle.std.specs.Str.{bytes_eq}
+use Rattle.std.proofs.lemmas.Bool.{cases_Bool}
 use Rattle.xq_lexer.specs.Lexeme.{Lex, name, prefixed, int, dec, str, symbol}
 use Rattle.xq_lexer.specs.declared.tokens.Symbol.TheVariants as s
 use Rattle.xq_lexer.specs.Nesting.{change, changed, greatest, is_binder}
@@ -76,14 +77,10 @@ brackets first last ts us o c m = record {
 
 -- ---- tokens that open and close nothing
 
-either : (b : Bool) → (b ≡ true) ⊎ (b ≡ false)
-either true = inl refl
-either false = inr refl
-
 pub plain-name : (n : List ℕ) → IsPlain (name n)
 plain-name n [] = inl (λ k saved. refl)
-plain-name n (symbol s.Dollar ∷ ts) = elim (either (is_binder n)) [ inl e ↦ inr (λ k saved. rw e refl) | inr e ↦ inl (λ k saved. rw e refl) ]
-plain-name n (symbol s.OpenParenthesis ∷ ts) = elim (either (bytes_eq n (codes "if"))) [ inl e ↦ inr (λ k saved. rw e refl) | inr e ↦ inl (λ k saved. rw e refl) ]
+plain-name n (symbol s.Dollar ∷ ts) = elim (cases_Bool (is_binder n)) [ inl e ↦ inr (λ k saved. rw e refl) | inr e ↦ inl (λ k saved. rw e refl) ]
+plain-name n (symbol s.OpenParenthesis ∷ ts) = elim (cases_Bool (bytes_eq n (codes "if"))) [ inl e ↦ inr (λ k saved. rw e refl) | inr e ↦ inl (λ k saved. rw e refl) ]
 plain-name n (symbol _ ∷ ts) = inl (λ k saved. refl)
 plain-name n (name m ∷ ts) = inl (λ k saved. refl)
 plain-name n (prefixed p m ∷ ts) = inl (λ k saved. refl)

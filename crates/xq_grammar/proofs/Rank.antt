@@ -4,7 +4,7 @@ use Rattle.std.specs.Prelude.{codes, not, ◌&&◌}
 use Rattle.std.specs.Str.{bytes_eq}
 use Rattle.std.proofs.lemmas.Slice.Eq.{bytes_eq-Decides}
 use Rattle.std.proofs.Math.Dec.{eqb}
-use Rattle.std.proofs.lemmas.Bool.{eqb-true}
+use Rattle.std.proofs.lemmas.Bool.{eqb-true, cases_Bool}
 use Rattle.xq_lexer.specs.Lexeme.{Lex, name, prefixed, int, dec, str, symbol}
 use Rattle.xq_lexer.specs.declared.tokens.Symbol.{Symbol}
 use Rattle.xq_lexer.specs.declared.tokens.Symbol.TheVariants as s
@@ -65,10 +65,6 @@ is_word _ = false
 unfoldable pub rank : Tokens → ℕ
 rank [] = 0
 rank (t ∷ ts) = cond (is_word t && begins_brace ts) 200 (rank_of t)
-
-either : (b : Bool) → (b ≡ true) ⊎ (b ≡ false)
-either true = inl refl
-either false = inr refl
 
 pub rank-plain : (t : Lex) (ts : Tokens) → begins_brace ts ≡ false → rank (t ∷ ts) ≡ rank_of t
 unfolding rank
@@ -226,7 +222,7 @@ too_high ts e h = absurd (omega (arith, e, h))
 pub name_alone : (n : List ℕ) (ts : Tokens) → rank ts < 200 → NameAlone n ts
 unfolding begins_flwor begins_quantified begins_if begins_primary begins_literal begins_call begins_make rank rank_of
 name_alone n [] h = record { plain = record { no_flwor = refl; no_quantified = refl; no_if = refl }; no_primary = refl; no_axis = refl; test = refl }
-name_alone n (name m ∷ ts) h = elim (either (begins_brace ts)) [
+name_alone n (name m ∷ ts) h = elim (cases_Bool (begins_brace ts)) [
   | inl b ↦ too_high (name m ∷ ts) (rw b refl) h
   | inr b ↦ record { plain = record { no_flwor = refl; no_quantified = refl; no_if = refl }; no_primary = rw b refl; no_axis = refl; test = refl }
 ]

@@ -2,6 +2,7 @@
 use Rattle.std.proofs.Common.{◌≡◌, ℕ, Bool, true, false, cond, List, [], ◌∷◌, Option, Some, None, refl, sym, ap, subst, rules, inl, inr, ◌⊎◌}
 use Rattle.std.specs.Prelude.{◌&&◌}
 use Rattle.std.proofs.lemmas.Slice.Eq.{bytes_eq-Decides}
+use Rattle.std.proofs.lemmas.Bool.{and_parts}
 use denote.Enum.Bare.{same_true}
 use Rattle.xq_lexer.specs.contracts.tokens.Symbol.{the_type}
 use Rattle.xq_lexer.specs.Lexeme.{Lex, name, prefixed, int, dec, str, symbol}
@@ -41,16 +42,11 @@ abbrev pub every : {A : Type 0} → (Lex → Bool) → Table A → Bool
 every test [] = true
 every test (entry ∷ more) = test entry.0 && every test more
 
-both_true : (b c : Bool) → (b && c) ≡ true → (b ≡ true) × (c ≡ true)
-both_true true true h = (refl, refl)
-both_true true false h = absurd cc
-both_true false c h = absurd cc
-
 pub every_found : {A : Type 0} (test : Lex → Bool) (table : Table A) (t : Lex) (a : A) → every test table ≡ true → lookup table t ≡ Some a → test t ≡ true
 unfolding lookup
 every_found test [] t a all h = absurd (none_some h)
 every_found test (entry ∷ more) t a all h =
-    let each = both_true (test entry.0) (every test more) all in
+    let each = and_parts (test entry.0) (every test more) all in
     elim (chosen (same entry.0 t) _ _ _ h) [
       | inl p ↦ subst (λ (u : Lex). test u ≡ true) (same_is entry.0 t p.0) each.0
       | inr p ↦ every_found test more t a each.1 p.1

@@ -48,6 +48,3 @@ digit_no_x c h = grind (arith, nat_tests)
 
 pub digit_no_point : (c : ℕ) → is_digit c ≡ true → (c == 46) ≡ false
 digit_no_point c h = grind (arith, nat_tests)
-
-pub true_not_false : {A : Type 0} → (b : Bool) → b ≡ true → b ≡ false → A
-true_not_false b t f = absurd cc

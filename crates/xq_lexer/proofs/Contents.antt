@@ -2,6 +2,7 @@
 use Rattle.std.proofs.Common.{◌≡◌, ℕ, zero, suc, ◌<◌, ◌≤◌, Bool, true, false, cond, List, [], ◌∷◌, ◌++◌, length, Option, Some, None, Result, Ok, Err, refl, sym, ap, subst, ◌∙◌, arith, append_assoc, inl, inr}
 use Rattle.std.specs.Prelude.{◌==◌}
 use Rattle.std.proofs.lemmas.List.{length-append}
+use borrow.Author.Clash.{clash}
 use Rattle.xq_atoms.specs.declared.refusals.Code.{Code}
 use Rattle.xq_atoms.specs.declared.refusals.Code.TheVariants.{XPST0003, XQST0090}
 use Rattle.xq_characters.specs.Characters.{is_char}
@@ -9,7 +10,7 @@ use Rattle.xq_lexer.specs.Chars.{Text, is_quote, begins}
 use Rattle.xq_lexer.specs.Literals.{Reference, reference_text, referred, Piece, plain, doubled, reference, IsPiece, ArePieces, piece_text, content_text}
 use Rattle.xq_lexer.specs.TokenFaults.{ContentFault}
 use Rattle.xq_lexer.specs.Reading.{read_reference, Inside, closed, one, wrong, after_quote, after_ampersand, inside, with_piece, content_step, content}
-use Rattle.xq_lexer.proofs.Classes.{true_not_false, eq_is, quote_no_ampersand, quote_is_char, ampersand_is_char}
+use Rattle.xq_lexer.proofs.Classes.{eq_is, quote_no_ampersand, quote_is_char, ampersand_is_char}
 use Rattle.xq_lexer.proofs.References.{reference_read, piece_read, end_read, ReadReference, reference_sound}
 
 -- ---- what is next was written
@@ -72,11 +73,11 @@ fault_read quote rest code is (inr (inl h)) =
     rw (h.2, h.4, no_quote, no_and, h.3) refl
   where
     go : (b : Bool) → (h.0 == quote) ≡ b → (h.0 == quote) ≡ false
-    go true e = true_not_false (is_char quote) (quote_is_char quote is) (ap is_char (sym (eq_is h.0 quote e)) ∙ h.3)
+    go true e = clash (is_char quote) (quote_is_char quote is) (ap is_char (sym (eq_is h.0 quote e)) ∙ h.3)
     go false e = e
 
     also : (b : Bool) → (h.0 == 38) ≡ b → (h.0 == 38) ≡ false
-    also true e = true_not_false (is_char 38) ampersand_is_char (ap is_char (sym (eq_is h.0 38 e)) ∙ h.3)
+    also true e = clash (is_char 38) ampersand_is_char (ap is_char (sym (eq_is h.0 38 e)) ∙ h.3)
     also false e = e
 fault_read quote rest code is (inr (inr (inl h))) =
     let r = h.0 in

@@ -3,12 +3,13 @@ use Rattle.std.proofs.Common.{◌≡◌, ℕ, suc, ◌<◌, Bool, true, false, c
 use Rattle.std.specs.Prelude.{◌&&◌, ◌==◌}
 use Rattle.std.specs.List.{list_all}
 use Rattle.std.proofs.lemmas.List.{length-append}
+use Rattle.std.proofs.lemmas.Bool.{and_parts, false_from_ne_true}
 use Rattle.xq_characters.specs.Characters.{is_digit, is_name_start, is_name_char}
 use Rattle.xq_lexer.specs.Chars.{Text, begins}
 use Rattle.xq_lexer.specs.Literals.{Number, integer, decimal, number_text, IsNumber}
 use Rattle.xq_lexer.specs.Spelling.{Form, name, prefixed, number, form_text, IsName, IsForm, IsLongest}
 use Rattle.xq_lexer.specs.Reading.{span, after_name, read_name, after_digits, read_number}
-use Rattle.xq_lexer.proofs.Spans.{both, span_exact, all_more}
+use Rattle.xq_lexer.proofs.Spans.{span_exact, all_more}
 use Rattle.xq_characters.proofs.Names.{is_name-all}
 use Rattle.xq_lexer.proofs.Classes.{colon_no_char, eq_is}
 
@@ -23,21 +24,17 @@ append_one : (w : Text) (d : ℕ) (t : Text) → (w ++ d ∷ []) ++ t ≡ w ++ d
 append_one w d t = append_assoc w (d ∷ []) t
 
 -- from a refutation of the true case
-pub not_true : (b : Bool) → (b ≡ true → ⊥) → b ≡ false
-not_true true h = absurd (h refl)
-not_true false h = refl
-
 -- what doesn't begin with a character that passes
 pub begins_none : (p : ℕ → Bool) (after : Text) → ((d : ℕ) (t : Text) → after ≡ d ∷ t → p d ≡ true → ⊥) → begins p after ≡ false
 begins_none p [] h = refl
-begins_none p (d ∷ t) h = not_true (p d) (h d t refl)
+begins_none p (d ∷ t) h = false_from_ne_true (p d) (h d t refl)
 
 pub name_parts : (c : ℕ) (w : Text) → IsName (c ∷ w) → (is_name_start c ≡ true) × (list_all is_name_char w ≡ true)
-name_parts c w h = both (is_name_start c) (list_all is_name_char w) h
+name_parts c w h = and_parts (is_name_start c) (list_all is_name_char w) h
 
 pub name_chars : (w : Text) → IsName w → list_all is_name_char w ≡ true
 name_chars [] h = absurd cc
-name_chars (c ∷ w) h = (both (is_name_start c) _ (sym (is_name-all c w) ∙ h)).1
+name_chars (c ∷ w) h = (and_parts (is_name_start c) _ (sym (is_name-all c w) ∙ h)).1
 
 name_more : (w : Text) (d : ℕ) → IsName w → is_name_char d ≡ true → IsName (w ++ d ∷ [])
 name_more [] d h e = absurd cc

@@ -3,14 +3,16 @@ use Rattle.std.proofs.Common.{◌≡◌, ℕ, ◌+◌, ◌<◌, ◌≤◌, Bool,
 use Rattle.std.specs.Prelude.{◌&&◌, ◌==◌}
 use Rattle.std.specs.List.{list_all}
 use Rattle.std.proofs.lemmas.List.{length-append}
+use Rattle.std.proofs.lemmas.Bool.{and_parts}
+use borrow.Author.Clash.{clash}
 use Rattle.xq_characters.specs.Characters.{is_digit, is_name_start, is_name_char}
 use Rattle.xq_lexer.specs.Chars.{Text, begins}
 use Rattle.xq_lexer.specs.Literals.{Number, integer, decimal, number_text, IsNumber}
 use Rattle.xq_lexer.specs.Spelling.{Form, name, prefixed, form_text, IsName, IsForm}
 use Rattle.xq_lexer.specs.Reading.{span, after_name, read_name, after_digits, read_number, begins_number}
-use Rattle.xq_lexer.proofs.Spans.{both, parts, span_exact}
+use Rattle.xq_lexer.proofs.Spans.{parts, span_exact}
 use Rattle.xq_characters.proofs.Classes.{start_is_char}
-use Rattle.xq_lexer.proofs.Classes.{eq_is, true_not_false}
+use Rattle.xq_lexer.proofs.Classes.{eq_is}
 
 -- ---- names
 
@@ -88,7 +90,7 @@ after_digits_at w (a ∷ t) all h = go (a == 46) refl h
       is = (all, (parts is_digit t).all, digits h);
     }
     go false e (inl some) = record { whole = refl; is = (all, some) }
-    go false e (inr k) = let same : a ≡ 46 = cc (k.1) in true_not_false (a == 46) (ap (λ x. x == 46) same) e
+    go false e (inr k) = let same : a ≡ 46 = cc (k.1) in clash (a == 46) (ap (λ x. x == 46) same) e
 
 -- how a number begins
 number_start : (c : ℕ) (t : Text) → begins_number (c ∷ t) ≡ true → (is_digit c ≡ true) ⊎ ((c ≡ 46) × (begins is_digit t ≡ true) × (is_digit c ≡ false))
@@ -158,12 +160,12 @@ NotStart c = (is_digit c ≡ true) ⊎ (c ≡ 46)
 pub number_there : (n : Number) (rest : Text) → IsNumber n → (x : NumberThere n rest) × NotStart x.char
 number_there (integer []) rest is = absurd (omega (arith, is.1))
 number_there (integer (c ∷ w)) rest is =
-    let d = (both (is_digit c) (list_all is_digit w) is.0).0 in
+    let d = (and_parts (is_digit c) (list_all is_digit w) is.0).0 in
     (record { char = c; more = w ++ rest; whole = refl; begins_so = rw d refl }, inl d)
 number_there (decimal (c ∷ w) f) rest is =
-    let d = (both (is_digit c) (list_all is_digit w) is.0).0 in
+    let d = (and_parts (is_digit c) (list_all is_digit w) is.0).0 in
     (record { char = c; more = (w ++ 46 ∷ f) ++ rest; whole = refl; begins_so = rw d refl }, inl d)
 number_there (decimal [] []) rest is = absurd (omega (arith, is.2))
 number_there (decimal [] (c ∷ f)) rest is =
-    let d = (both (is_digit c) (list_all is_digit f) is.1).0 in
+    let d = (and_parts (is_digit c) (list_all is_digit f) is.1).0 in
     (record { char = 46; more = c ∷ f ++ rest; whole = refl; begins_so = rw d refl }, inr refl)

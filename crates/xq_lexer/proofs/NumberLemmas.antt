@@ -6,6 +6,7 @@ use Rattle.std.specs.List.{list_all, position_or_len}
 use Rattle.std.proofs.lemmas.List.{take_at, drop_at, length-append}
 use Rattle.std.proofs.lemmas.Str.{encode_ascii, encodes-append}
 use Rattle.std.proofs.lemmas.Bool.Decides.{nat_tests}
+use Rattle.std.proofs.lemmas.Bool.{and_parts}
 use Rattle.xq_atoms.specs.declared.refusals.Code.{Code}
 use Rattle.xq_atoms.specs.declared.refusals.Code.TheVariants.{ProfDigits, FOAR0002}
 use Rattle.xq_atoms.specs.Text.{is_whole}
@@ -19,7 +20,6 @@ use Rattle.xq_lexer.specs.Literals.{Number, integer, decimal, number_text, IsNum
 use Rattle.xq_lexer.specs.Spelling.{number}
 use Rattle.xq_lexer.specs.Reading.{unless_fault, judged, read_number, begins_number}
 use Rattle.xq_lexer.specs.Gives.{lexed, pointed, is_decimal, made, valued_lex}
-use Rattle.xq_lexer.proofs.Spans.{both}
 use Rattle.xq_lexer.proofs.Classes.{digit_no_point}
 use Rattle.xq_lexer.proofs.Fronts.{number_front}
 
@@ -31,7 +31,7 @@ digit_small c h = grind (arith, nat_tests)
 digits_encoded : (w : Text) → list_all is_digit w ≡ true → encode_utf8_all w ≡ w
 digits_encoded [] all = refl
 digits_encoded (c ∷ w) all =
-    let h = both (is_digit c) (list_all is_digit w) all in
+    let h = and_parts (is_digit c) (list_all is_digit w) all in
     rw (encode_ascii c (digit_small c h.0), digits_encoded w h.1) refl
 
 pub number_encoded : (n : Number) → IsNumber n → encode_utf8_all (number_text n) ≡ number_text n
@@ -47,12 +47,12 @@ whole_is (c ∷ w) all some = all
 point_place : (w f : Text) → list_all is_digit w ≡ true → position_or_len is_point (w ++ 46 ∷ f) ≡ length w
 point_place [] f all = refl
 point_place (c ∷ w) f all =
-    let h = both (is_digit c) (list_all is_digit w) all in
+    let h = and_parts (is_digit c) (list_all is_digit w) all in
     rw (digit_no_point c h.0, point_place w f h.1) (omega arith)
 
 all_both : (w f : Text) → list_all is_digit w ≡ true → list_all is_digit f ≡ true → list_all is_digit (w ++ f) ≡ true
 all_both [] f a b = b
-all_both (c ∷ w) f a b = let h = both (is_digit c) (list_all is_digit w) a in rw (h.0, all_both w f h.1 b) refl
+all_both (c ∷ w) f a b = let h = and_parts (is_digit c) (list_all is_digit w) a in rw (h.0, all_both w f h.1 b) refl
 
 drop_point : (w f : Text) → drop (length w + 1) (w ++ 46 ∷ f) ≡ f
 drop_point w f = ap (drop (length w + 1)) (sym (append_assoc w (46 ∷ []) f)) ∙ drop_at (w ++ 46 ∷ []) f (length w + 1) (length-append w (46 ∷ []))

@@ -2,11 +2,12 @@
 use Rattle.std.proofs.Common.{◌≡◌, ℕ, ◌<◌, Bool, true, false, cond, [], ◌∷◌, ◌++◌, length, Option, Some, None, refl, sym, ap, subst, ◌∙◌, arith, append_assoc, codes}
 use Rattle.std.specs.Prelude.{◌==◌}
 use Rattle.std.specs.List.{list_all}
+use Rattle.std.proofs.lemmas.Bool.{and_parts}
 use Rattle.xq_characters.specs.Characters.{is_char, is_digit}
 use Rattle.xq_lexer.specs.Chars.{Text, is_hex, is_quote, begins}
 use Rattle.xq_lexer.specs.Literals.{Reference, less, greater, ampersand, quotation, apostrophe, numbered, hexadecimal, reference_text, IsReference, Piece, plain, doubled, reference, is_plain, IsPiece, piece_text}
 use Rattle.xq_lexer.specs.Reading.{span, strip, ended, read_numbered, or_else, then_numbered, read_reference, Inside, closed, one, after_quote, after_ampersand, inside}
-use Rattle.xq_lexer.proofs.Spans.{both, parts, span_exact}
+use Rattle.xq_lexer.proofs.Spans.{parts, span_exact}
 use Rattle.xq_lexer.proofs.Classes.{digit_no_x, eq_is, eq_same, quote_no_ampersand}
 
 -- ---- what is written is read
@@ -18,7 +19,7 @@ ended_digits make (c ∷ w) rest some = refl
 numbered_at : (w rest : Text) (p : Bool) → list_all is_digit w ≡ true → 0 < length w → ◌≡◌ {A = Option (Reference × Text)} (read_numbered (w ++ 59 ∷ rest)) (Some (numbered w, rest))
 unfolding read_numbered
 numbered_at [] rest p all some = absurd (omega (arith, some))
-numbered_at (c ∷ w) rest p all some = rw (digit_no_x c (both (is_digit c) (list_all is_digit w) all).0) (ap (ended numbered) (span_exact is_digit (c ∷ w) (59 ∷ rest) all refl))
+numbered_at (c ∷ w) rest p all some = rw (digit_no_x c (and_parts (is_digit c) (list_all is_digit w) all).0) (ap (ended numbered) (span_exact is_digit (c ∷ w) (59 ∷ rest) all refl))
 
 hexadecimal_at : (w rest : Text) → list_all is_hex w ≡ true → 0 < length w → ◌≡◌ {A = Option (Reference × Text)} (read_numbered (120 ∷ (w ++ 59 ∷ rest))) (Some (hexadecimal w, rest))
 unfolding read_numbered

@@ -2,12 +2,9 @@
 use Rattle.std.proofs.Common.{◌≡◌, ℕ, suc, ◌≤◌, Bool, true, false, cond, [], ◌∷◌, ◌++◌, length, refl, ap, ◌∙◌, arith, inl, inr, ◌⊎◌}
 use Rattle.std.specs.Prelude.{◌&&◌}
 use Rattle.std.specs.List.{list_all}
+use Rattle.std.proofs.lemmas.Bool.{and_parts}
 use Rattle.xq_lexer.specs.Chars.{Text, begins}
 use Rattle.xq_lexer.specs.Reading.{span}
-
-pub both : (a b : Bool) → (a && b) ≡ true → (a ≡ true) × (b ≡ true)
-both true b h = (refl, h)
-both false b h = absurd cc
 
 pub record Parts (p : ℕ → Bool) (t : Text) (x : Text × Text) : Type 0 where
   pub whole : x.0 ++ x.1 ≡ t
@@ -25,7 +22,7 @@ module _ (p : ℕ → Bool) where
       | [] ↦ λ same all. omega arith
       | (d ∷ v') ↦ λ same all.
           let tail : v' ++ rest ≡ t = cc in
-          let m = h.most v' rest tail (both (p d) (list_all p v') all).1 in
+          let m = h.most v' rest tail (and_parts (p d) (list_all p v') all).1 in
           omega (arith, m)
     ];
   }
@@ -37,7 +34,7 @@ module _ (p : ℕ → Bool) where
       | [] ↦ λ same all. omega arith
       | (d ∷ v') ↦ λ same all.
           let head : d ≡ c = cc in
-          let passes : p d ≡ true = (both (p d) (list_all p v') all).0 in
+          let passes : p d ≡ true = (and_parts (p d) (list_all p v') all).0 in
           let fails : p d ≡ false = ap p head ∙ e in
           let no : ⊥ = cc in
           absurd no
@@ -71,7 +68,7 @@ same_cut (c ∷ v) rest (d ∷ w) after e n =
 module _ (p : ℕ → Bool) where
   exact_at : (c : ℕ) (w after : Text) (b : Bool) → p c ≡ b → list_all p (c ∷ w) ≡ true → ◌≡◌ {A = Text × Text} (span p (w ++ after)) (w, after) → ◌≡◌ {A = Text × Text} (cond b (let x = span p (w ++ after) in (c ∷ x.0, x.1)) ([], c ∷ (w ++ after))) (c ∷ w, after)
   exact_at c w after true e all h = ap (λ (x : Text × Text). (c ∷ x.0, x.1)) h
-  exact_at c w after false e all h = let t : p c ≡ true = (both (p c) (list_all p w) all).0 in absurd cc
+  exact_at c w after false e all h = let t : p c ≡ true = (and_parts (p c) (list_all p w) all).0 in absurd cc
 
   stop_at : (c : ℕ) (t : Text) (b : Bool) → p c ≡ b → b ≡ false → ◌≡◌ {A = Text × Text} (cond b (let x = span p t in (c ∷ x.0, x.1)) ([], c ∷ t)) ([], c ∷ t)
   stop_at c t true e f = absurd cc
@@ -84,17 +81,12 @@ module _ (p : ℕ → Bool) where
   -- a front that passes, before what doesn't
   pub span_exact : (w after : Text) → list_all p w ≡ true → begins p after ≡ false → ◌≡◌ {A = Text × Text} (span p (w ++ after)) (w, after)
   span_exact [] after all h = span_stop after h
-  span_exact (c ∷ w) after all h = exact_at c w after (p c) refl all (span_exact w after (both (p c) (list_all p w) all).1 h)
+  span_exact (c ∷ w) after all h = exact_at c w after (p c) refl all (span_exact w after (and_parts (p c) (list_all p w) all).1 h)
 
   pub all_more : (w : Text) (d : ℕ) → list_all p w ≡ true → p d ≡ true → list_all p (w ++ d ∷ []) ≡ true
   all_more [] d all e = rw e refl
-  all_more (c ∷ w) d all e = let h = both (p c) (list_all p w) all in rw (h.0, all_more w d h.1 e) refl
+  all_more (c ∷ w) d all e = let h = and_parts (p c) (list_all p w) all in rw (h.0, all_more w d h.1 e) refl
 
   pub all_weaker : (q : ℕ → Bool) → ((c : ℕ) → p c ≡ true → q c ≡ true) → (w : Text) → list_all p w ≡ true → list_all q w ≡ true
   all_weaker q weaker [] all = refl
-  all_weaker q weaker (c ∷ w) all = let h = both (p c) (list_all p w) all in rw (weaker c h.0, all_weaker q weaker w h.1) refl
-
--- an equation of Bools by what each of them says
-pub true_or_false : (b : Bool) → (b ≡ true) ⊎ (b ≡ false)
-true_or_false true = inl refl
-true_or_false false = inr refl
+  all_weaker q weaker (c ∷ w) all = let h = and_parts (p c) (list_all p w) all in rw (weaker c h.0, all_weaker q weaker w h.1) refl

@@ -1,6 +1,8 @@
 -- Symbols: the longest is read, and what is read is one.
 use Rattle.std.proofs.Common.{◌≡◌, ℕ, ◌≤◌, Bool, true, false, cond, List, [], ◌∷◌, ◌++◌, length, Option, Some, None, Result, Ok, Err, refl, sym, ap, subst, ◌∙◌, arith, ◌⊎◌, inl, inr}
 use Rattle.std.specs.Prelude.{◌&&◌, ◌==◌}
+use Rattle.std.proofs.lemmas.Bool.{and_parts}
+use borrow.Author.Clash.{clash}
 use Rattle.xq_atoms.specs.declared.refusals.Code.{Code}
 use Rattle.xq_lexer.specs.declared.tokens.Symbol.{Symbol}
 use Rattle.xq_lexer.specs.declared.tokens.Symbol.TheVariants as s
@@ -9,8 +11,7 @@ use Rattle.xq_lexer.specs.Chars.{Text, is_quote, begins}
 use Rattle.xq_lexer.specs.Literals.{decimal}
 use Rattle.xq_lexer.specs.Spelling.{Form, number, symbol, symbol_text, form_text, IsForm, IsLongest}
 use Rattle.xq_lexer.specs.Reading.{look_up, singles, single_symbol, look_up_two, doubles, double_symbol, or_single, read_symbol, begins_number}
-use Rattle.xq_lexer.proofs.Spans.{both}
-use Rattle.xq_lexer.proofs.Classes.{eq_is, true_not_false}
+use Rattle.xq_lexer.proofs.Classes.{eq_is}
 use Rattle.xq_lexer.proofs.Forms.{longer, begins_none}
 
 -- what begins a symbol begins no other token, but for a point before a digit
@@ -89,7 +90,7 @@ look_up_two_at : (a b : ℕ) (row : ℕ × ℕ × Symbol) (rows : List (ℕ × �
     → (x : Symbol) → cond p (Some row.2) (look_up_two a b rows) ≡ Some x → symbol_text x ≡ a ∷ b ∷ []
 look_up_two_at a b row rows true e text more x h =
     let same : row.2 ≡ x = cc in
-    let t = both (a == row.0) (b == row.1) e in
+    let t = and_parts (a == row.0) (b == row.1) e in
     ap symbol_text (sym same) ∙ text ∙ ap (λ c. c ∷ row.1 ∷ []) (sym (eq_is a row.0 t.0)) ∙ ap (λ c. a ∷ c ∷ []) (sym (eq_is b row.1 t.1))
 look_up_two_at a b row rows false e text more x h = more x h
 
@@ -231,7 +232,7 @@ symbol_there x rest = elim (row_of x) [
     more = r.next ∷ rest;
     whole = ap (λ (u : Text). u ++ rest) r.text;
     sign = r.sign;
-    short = λ e. true_not_false (begins_number (r.char ∷ r.next ∷ rest)) e (no_number_at r.char (r.next ∷ rest) r.sign.1 (λ e. r.no_digit));
+    short = λ e. clash (begins_number (r.char ∷ r.next ∷ rest)) e (no_number_at r.char (r.next ∷ rest) r.sign.1 (λ e. r.no_digit));
     read = rw (double_at x r rest) (omega arith);
   }
 ]

@@ -3,6 +3,7 @@ use Rattle.std.proofs.Common.{◌≡◌, ℕ, suc, ◌≤◌, Bool, true, false,
 use Rattle.std.specs.Prelude.{◌&&◌, ◌==◌}
 use Rattle.std.specs.List.{list_all}
 use Rattle.std.proofs.lemmas.List.{length-append}
+use borrow.Author.Clash.{clash}
 use Rattle.xq_atoms.specs.declared.refusals.Code.{Code}
 use Rattle.xq_atoms.specs.declared.refusals.Code.TheVariants.{XPST0003}
 use Rattle.xq_lexer.specs.declared.tokens.Symbol.{Symbol}
@@ -14,7 +15,7 @@ use Rattle.xq_lexer.specs.TokenFaults.{NoToken, TokenFault}
 use Rattle.xq_lexer.specs.Reading.{span, read_name, read_number, unless_fault, judged, content, as_string, read_string, read_symbol, single_symbol, double_symbol, or_single, after_name, begins_number, read_token}
 use Rattle.xq_lexer.proofs.Spans.{parts}
 use Rattle.xq_characters.proofs.Classes.{digit_no_start}
-use Rattle.xq_lexer.proofs.Classes.{point_no_start, quote_no_start, quote_no_digit, quote_no_point, true_not_false}
+use Rattle.xq_lexer.proofs.Classes.{point_no_start, quote_no_start, quote_no_digit, quote_no_point}
 use Rattle.xq_lexer.proofs.Forms.{name_parts, name_chars, name_read, prefix_read, prefixed_read, number_read}
 use Rattle.xq_lexer.proofs.Contents.{content_read, content_fault_read, content_most, content_sound, content_wrong}
 use Rattle.xq_lexer.proofs.SymbolLemmas.{IsSign, Longer, symbol_here, SymbolThere, symbol_there, read_spelled}
@@ -204,7 +205,7 @@ module _ (c : ℕ) (t : Text) where
       let b = bounded f after is in
       let r : raw (form_text f ++ after) ≡ Err code = ap raw whole ∙ raw_symbol c t s n ∙ e in
       let q : begins is_quote (form_text f ++ after) ≡ true = subst (λ (r : Read). AtLeast (form_text f ++ after) (length (form_text f)) r) r b in
-      true_not_false (is_quote c) (ap (begins is_quote) (sym whole) ∙ q) s.2
+      clash (is_quote c) (ap (begins is_quote) (sym whole) ∙ q) s.2
 
   symbol_means : IsSign c → begins_number (c ∷ t) ≡ false → Means (c ∷ t) (read_symbol (c ∷ t))
   symbol_means s n = go (read_symbol (c ∷ t)) refl
@@ -227,7 +228,7 @@ module _ (c : ℕ) (t : Text) where
   token_means_at false s true n r k d e = number_means s n
   token_means_at false s false n true k d e = string_means k
   token_means_at false s false n false k false e = symbol_means (s, e, k) n
-  token_means_at false s false n false k true e = let yes : begins_number (c ∷ t) ≡ true = rw e refl in true_not_false (begins_number (c ∷ t)) yes n
+  token_means_at false s false n false k true e = let yes : begins_number (c ∷ t) ≡ true = rw e refl in clash (begins_number (c ∷ t)) yes n
 
 -- what the reader says of the token at the front is so
 pub token_means : (c : ℕ) (t : Text) → Means (c ∷ t) (read_token (c ∷ t))
@@ -293,7 +294,7 @@ no_token (c ∷ t) h (Err code) e = go (subst (Means (c ∷ t)) e (token_means c
   where
     go : TokenFault (c ∷ t) code → ◌≡◌ {A = Read} (Err code) (Err XPST0003)
     go (inl k) = absurd (h.no_form (number k.written) k.after k.is_number k.whole)
-    go (inr (inl k)) = let first : begins is_quote (c ∷ t) ≡ true = ap (begins is_quote) (sym k.whole) ∙ k.is_quote in true_not_false (begins is_quote (c ∷ t)) first h.no_string
+    go (inr (inl k)) = let first : begins is_quote (c ∷ t) ≡ true = ap (begins is_quote) (sym k.whole) ∙ k.is_quote in clash (begins is_quote (c ∷ t)) first h.no_string
     go (inr (inr k)) = ap (λ (c : Code). Err c) k.1
 
 pub fault_token : (z : Text) (code : Code) → TokenFault z code → read_token z ≡ Err code

@@ -19,10 +19,6 @@ pub joined-first : (separator : Text) (ts : List Text) (u : Text) → (length ts
 joined-first separator [] u none = refl
 joined-first separator (t ∷ ts) u none = absurd (omega (arith, eqb-true (length (t ∷ ts)) 0 none))
 
-pub map-map : {A B C : Type 0} (g : B → C) (f : A → B) (xs : List A) → map g (map f xs) ≡ map (λ x. g (f x)) xs
-map-map g f [] = refl
-map-map g f (x ∷ xs) = ap (λ ys. g (f x) ∷ ys) (map-map g f xs)
-
 -- without a separator
 pub joined-nothing : (ts : List Text) → joined [] ts ≡ flat_map (λ t. t) ts
 joined-nothing [] = refl

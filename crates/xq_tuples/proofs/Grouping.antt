@@ -4,7 +4,7 @@ use Rattle.std.specs.List.{list_any, filter, position_or_len}
 use Rattle.std.specs.Cmp.{IsEquivalence}
 use Rattle.std.proofs.lemmas.List.{append-nil, map-append}
 use Rattle.std.proofs.lemmas.List.Elements.{filter-append}
-use Rattle.std.proofs.lemmas.Bool.{false≢true}
+use Rattle.std.proofs.lemmas.Bool.{false≢true, or_parts}
 use Rattle.xq_regions.specs.Tuples.{firsts, groups}
 
 pub list_any-map : {A B : Type 0} (p : B → Bool) (f : A → B) (xs : List A) → list_any p (map f xs) ≡ list_any (λ x. p (f x)) xs
@@ -14,10 +14,6 @@ list_any-map p f (x ∷ xs) = ap (λ b. p (f x) || b) (list_any-map p f xs)
 pub position_or_len-map : {A B : Type 0} (p : B → Bool) (f : A → B) (xs : List A) → position_or_len p (map f xs) ≡ position_or_len (λ x. p (f x)) xs
 position_or_len-map p f [] = refl
 position_or_len-map p f (x ∷ xs) = ap (λ n. cond (not (p (f x))) (1 + n) 0) (position_or_len-map p f xs)
-
-pub neither : (a b : Bool) → (a || b) ≡ false → (a ≡ false) × (b ≡ false)
-neither true b e = absurd (false≢true (sym e))
-neither false b e = (refl, e)
 
 module _ {X : Type 0} {same : X → X → Bool} (laws : IsEquivalence same) where
   abbrev others : X → List X → List X
@@ -55,7 +51,7 @@ module _ {X : Type 0} {same : X → X → Bool} (laws : IsEquivalence same) wher
   none_same : (xs : List X) (x : X) → list_any (same x) (firsts same xs) ≡ false → filter (same x) xs ≡ []
   none_same [] x h = refl
   none_same (y ∷ xs) x h =
-      let both = neither (same x y) (list_any (same x) (others y (firsts same xs))) h in
+      let both = or_parts (same x y) (list_any (same x) (others y (firsts same xs))) h in
       ap (λ b. cond b (y ∷ filter (same x) xs) (filter (same x) xs)) both.0 ∙ none_same xs x (sym (any_other x y both.0 (firsts same xs)) ∙ both.1)
 
   one_more : (f x : X) (xs : List X) (b : Bool) → same x f ≡ b → filter (same f) (xs ++ x ∷ []) ≡ filter (same f) xs ++ cond b (x ∷ []) []
@@ -65,7 +61,7 @@ module _ {X : Type 0} {same : X → X → Bool} (laws : IsEquivalence same) wher
   others_stay : (xs : List X) (x : X) (fs : List X) → list_any (same x) fs ≡ false → map (λ f. filter (same f) (xs ++ x ∷ [])) fs ≡ map (λ f. filter (same f) xs) fs
   others_stay xs x [] h = refl
   others_stay xs x (f ∷ fs) h =
-      let both = neither (same x f) (list_any (same x) fs) h in
+      let both = or_parts (same x f) (list_any (same x) fs) h in
       λ i. (one_more f x xs false both.0 ∙ append-nil (filter (same f) xs)) i ∷ others_stay xs x fs both.1 i
 
   -- a group more
@@ -87,7 +83,7 @@ module _ {X : Type 0} {same : X → X → Bool} (laws : IsEquivalence same) wher
   none_filtered : (p q : X → Bool) (fs : List X) → list_any p fs ≡ false → list_any p (filter q fs) ≡ false
   none_filtered p q [] h = refl
   none_filtered p q (f ∷ fs) h =
-      let both = neither (p f) (list_any p fs) h in
+      let both = or_parts (p f) (list_any p fs) h in
       none_filtered_step p q f fs (q f) both.0 (none_filtered p q fs both.1)
 
   none_of_others_step : (y f : X) (fs : List X) (b : Bool) → same y f ≡ b → list_any (same y) (others y fs) ≡ false → list_any (same y) (cond (not b) (f ∷ others y fs) (others y fs)) ≡ false
@@ -117,7 +113,7 @@ module _ {X : Type 0} {same : X → X → Bool} (laws : IsEquivalence same) wher
   none_last : (x : X) (g : X → List X) (fs : List X) → list_any (same x) fs ≡ false → map (λ f. g f ++ cond (same x f) (x ∷ []) []) fs ≡ map g fs
   none_last x g [] h = refl
   none_last x g (f ∷ fs) h =
-      let both = neither (same x f) (list_any (same x) fs) h in
+      let both = or_parts (same x f) (list_any (same x) fs) h in
       λ i. (ap (λ b. g f ++ cond b (x ∷ []) []) both.0 ∙ append-nil (g f)) i ∷ none_last x g fs both.1 i
 
   at_place_step : (x : X) (g : X → List X) (f : X) (fs : List X) (b : Bool) → same x f ≡ b → IsApart (f ∷ fs) → (b || list_any (same x) fs) ≡ true → (n : ℕ) → n ≡ cond (not b) (1 + position_or_len (same x) fs) 0

@@ -5,7 +5,7 @@ use Rattle.std.specs.List.{list_any, position_or_len}
 use Rattle.std.specs.Cmp.{IsEquivalence, on_equiv}
 use Rattle.std.specs.Cmp.Lexicographic.{pointwise, lists_equiv}
 use Rattle.std.proofs.lemmas.List.{map_push, map-set, get_or-map}
-use Rattle.std.proofs.lemmas.Bool.{false≢true}
+use Rattle.std.proofs.lemmas.Bool.{false≢true, or_parts}
 use Rattle.xq_atoms.specs.declared.atoms.GroupKey.{GroupKey}
 use Rattle.xq_atoms.specs.Compare.{Key, key_of, key_eq}
 use Rattle.xq_atoms.specs.Derived.{group_key_eq}
@@ -15,7 +15,7 @@ use Rattle.xq_tuples.specs.declared.rows.Keyed.{Keyed}
 use Rattle.xq_regions.specs.Items.{ItemView}
 use Rattle.xq_tuples.specs.Keys.{keys_of}
 use Rattle.xq_tuples.specs.Groups.{Gathers, keyed_of, group_of, compared_of}
-use Rattle.xq_tuples.proofs.Grouping.{list_any-map, position_or_len-map, neither, firsts-push, groups-push_new, groups-push_old}
+use Rattle.xq_tuples.proofs.Grouping.{list_any-map, position_or_len-map, firsts-push, groups-push_new, groups-push_old}
 use Rattle.xq_tuples.proofs.KeyOrder.{key_eq_equiv}
 
 -- the test of the set of keys
@@ -48,7 +48,7 @@ module _ (key : Vec GroupKey) (seen : List (Vec GroupKey)) (row : KeyedTuple Ite
 pub position_or_len-none : {X : Type 0} (p : X → Bool) (xs : List X) → list_any p xs ≡ false → position_or_len p xs ≡ length xs
 position_or_len-none p [] h = refl
 position_or_len-none p (x ∷ xs) h =
-    let both = neither (p x) (list_any p xs) h in
+    let both = or_parts (p x) (list_any p xs) h in
     ap (λ b. cond (not b) (1 + position_or_len p xs) 0) both.0 ∙ omega (arith, position_or_len-none p xs both.1)
 
 position_or_len-some_step : (b : Bool) (m n : ℕ) → (b ≡ false → m < n) → cond (not b) (1 + m) 0 < suc n

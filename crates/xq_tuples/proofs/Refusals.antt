@@ -7,16 +7,6 @@ use Rattle.std.specs.Prelude.{if◌then◌else◌}
 use Rattle.xq_atoms.specs.declared.refusals.Code.TheVariants.{XPTY0004}
 use Rattle.xq_tuples.specs.Keys.{Refuses, IsRefusal}
 
-fails : (b c : Bool) → c ≡ false → (b && c) ≡ false
-fails true c e = e
-fails false c e = refl
-
--- an element that fails
-pub list_all-fails : {A : Type 0} (p : A → Bool) (xs : List A) (i : ℕ) (d : A) → i < length xs → p (get_or xs i d) ≡ false → list_all p xs ≡ false
-list_all-fails p [] i d within e = absurd (omega arith)
-list_all-fails p (x ∷ xs) zero d within e = ap (λ b. b && list_all p xs) e
-list_all-fails p (x ∷ xs) (suc i) d within e = fails (p x) (list_all p xs) (list_all-fails p xs i d (omega arith) e)
-
 pub Refuses-weaker : {P Q : Type 0} (fault : Fault) → Refuses P fault → (P → Q) → Refuses Q fault
 Refuses-weaker (OfCode code) h f = (h.0, f h.1)
 Refuses-weaker (OfWant want) h f = h

@@ -1,12 +1,13 @@
 use Rattle.std.proofs.Common.{◌≡◌, ◌==◌, ◌++◌, ◌∷◌, [], ◌+◌, map, take, length, string_bytes, sym, ap, ◌∙◌, arith}
 use Rattle.std.proofs.lemmas.List.{map_more, length-map, length-take-le, take_all}
 use Rattle.std.proofs.lemmas.Bool.{ne_eqb}
+use mathlib.Core.List.{map-map}
 use Rattle.xq_atoms.specs.declared.atoms.Atom.{Atom}
 use Rattle.xq_atoms.specs.Text.{Text}
 use Rattle.xq_atoms.specs.Atom.{atomic_of}
 use Rattle.xq_atoms.specs.Cast.{text_of}
 use Rattle.xq_values.specs.Texts as Texts
-use Rattle.xq_texts.proofs.JoinLemmas.{joined-more, joined-first, map-map}
+use Rattle.xq_texts.proofs.JoinLemmas.{joined-more, joined-first}
 use Rattle.xq_texts.proofs.parts.joined.Goals as goal
 use Rattle.xq_texts.proofs.parts.joined.Goals.{then-not-is_first+in_ok-push_str, else-not-is_first}
 

@@ -3,9 +3,9 @@ use Rattle.std.proofs.lemmas.List.{length-map, get_or-map}
 use Rattle.std.proofs.lemmas.Result.{err_from_is_err_and}
 use Rattle.std.proofs.lemmas.Iterator.Adapters.{YieldsList-from_vec}
 use Rattle.std.proofs.lemmas.Iterator.Consumers.{YieldsList-turn}
+use Rattle.std.proofs.lemmas.List.Folds.{list_all_at}
 use Rattle.xq_regions.specs.Tuples.{is_key}
 use Rattle.xq_tuples.specs.Keys.{atomics_of}
-use Rattle.xq_tuples.proofs.Refusals.{list_all-fails}
 use Rattle.xq_tuples.proofs.keys.key_column.Goals as goal
 
 pub returns-in_err-single_key-clause-refused : goal.returns-in_err-single_key-clause-refused
@@ -17,4 +17,4 @@ returns-in_err-single_key-clause-refused c =
     let p = err_from_is_err_and c.from_residual-in_err-single_key.result c.from_residual-in_err-single_key.ensures.1 in
     let refused = c.in_err-single_key.ensures.refused in
     let here = get_or-map atomics_of xs i x (atomics_of x) turn.0 ∙ ap atomics_of (sym turn.1) in
-    rw (p.1, p.2) (refused.0, list_all-fails is_key (map atomics_of xs) i (atomics_of x) (omega (arith, turn.0, length-map xs atomics_of)) (ap is_key here ∙ refused.1))
+    rw (p.1, p.2) (refused.0, list_all_at is_key (map atomics_of xs) i (atomics_of x) (omega (arith, turn.0, length-map xs atomics_of)) (ap is_key here ∙ refused.1))
