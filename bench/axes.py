@@ -1,15 +1,25 @@
-"""Times the axes over documents in memory of ten thousand and of a hundred thousand elements.
+"""Times the axes over documents of ten thousand and of a hundred thousand elements, from each
+source of rows.
 
-usage: axes.py [FOLDER]     builds bench/axes/main.rattle in the folder, unless an earlier call did
+usage: axes.py [--runs N] [FOLDER]
 
-The documents have the shape of the library that queries are measured on, made as rows. Steps go
-from every second element. Each time is the least of five; beside it stand how many nodes were
-given, how many rows of ranges were read, how many times the plain loop over all rows it took, and
-how many times as long ten times the elements take. A list of a tenth as many items below one
-element shows steps from all of its items, and one parent of each, which takes the square of them:
-the rows right before an item tell nothing of where its parent is.
+Builds bench/axes/main.rattle in the folder, unless an earlier call did.
+
+The documents have the shape of the library that queries are measured on, made as rows. They are
+read from trees in memory ("memory"), from a view of a store that has read nothing of them ("first")
+and from a view whose rows the store kept from the one before ("kept"); the stores lie on disks in
+memory. Steps go from every second element. Each time is the least of five, and of N runs of the
+program; beside it stand how many nodes were given, how many rows of ranges were read, how many
+times the plain loop over all rows it took, and how many times as long ten times the elements take.
+A list of a tenth as many items below one element shows steps from all of its items, and one parent
+of each.
+
+Below that stands the first reading of all rows by a view, as a multiple of the statement by which
+it reads them alone: run once for all rows, and once for each 1,024 rows, as the view runs it; the
+rows that it gives are dropped. These three are timed in turn, five times.
 """
 
+import argparse
 import os
 import subprocess
 import sys
@@ -20,56 +30,97 @@ sys.path.insert(0, os.path.join(TOP, "tools"))
 from workspace import bench_program
 
 USES = (
-    "xq_atoms", "xq_regions", "xq_sources", "xq_expressions", "xq_signatures", "xq_values",
-    "xq_axes", "anyhow",
+    "xq_atoms", "xq_regions", "xq_sources", "xq_memory_disk", "xq_rows", "xq_expressions",
+    "xq_values", "xq_axes", "sqlite", "anyhow",
 )
 SIZES = (10_000, 100_000)
-LOOP = "plain loop"
+SOURCES = ("memory", "first", "kept")
+LOOP, WHOLE, PARTS, FIRST = (
+    "plain loop", "statement", "statements for 1,024 rows", "first reading")
 # The most that a time may grow for ten times the elements.
 MOST = 13
+# The most that the first reading may take, in times of the bare statement.
+MOST_FIRST = 1.3
 # Microseconds too few for a ratio.
 SHORT = 50
 # Steps from one node after another, which the bound leaves out: from the children of an element
 # with many they take the square.
-SINGLY = (
-    "one parent of each tenth element", "siblings after each tenth element",
-    "list: one parent of each item",
-)
+SINGLY = ("one parent of each tenth element", "siblings after each tenth element")
 
 
-def times(program, size):
-    """By the name of each task: nodes given, microseconds, rows read."""
+def once(program, size):
+    """By the source and the name of each task: nodes given, microseconds, rows read."""
     done = subprocess.run([program], input=b"%d" % size, stdout=subprocess.PIPE, check=True)
     table = {}
     for line in done.stdout.decode().splitlines():
-        name, *numbers = line.split("\t")
+        source, name, *numbers = line.split("\t")
         if len(numbers) != 3:
             sys.exit(line)
-        table[name] = tuple(int(number) for number in numbers)
+        table[source, name] = tuple(int(number) for number in numbers)
     return table
 
 
-def measure(program):
-    """Prints the table, and whether each growth is within the bound."""
-    few, many = (times(program, size) for size in SIZES)
+def times(program, size, runs):
+    """The same, the least microseconds of so many runs."""
+    tables = [once(program, size) for _ in range(runs)]
+    least = {}
+    for key, (given, _, read) in tables[0].items():
+        least[key] = (given, min(table[key][1] for table in tables), read)
+    return least
+
+
+def table_of(source, few, many):
+    """Prints the table of a source, and tells whether each growth is within the bound."""
     within = True
     print("%-34s %8s %8s %9s %9s %7s %7s" %
-          ("task", "nodes", "rows", "ms", "ms", "loops", "growth"))
-    plain = many[LOOP][1]
-    for name, (given, time, read) in many.items():
-        before = few[name][1]
+          (source, "nodes", "rows", "ms", "ms", "loops", "growth"))
+    plain = many["bare", LOOP][1]
+    for (one, name), (given, time, read) in many.items():
+        if one != source:
+            continue
+        before = few[one, name][1]
         growth = time / before if before > SHORT else None
-        within = within and (growth is None or growth <= MOST or name in SINGLY or name == LOOP)
+        within = within and (growth is None or growth <= MOST or name in SINGLY)
         print("%-34s %8d %8d %9.2f %9.2f %7.1f %7s" %
               (name, given, read, before / 1000, time / 1000, time / max(plain, 1),
                "" if growth is None else "%.1f" % growth))
-    print("each growth at most %d times: %s" % (MOST, "yes" if within else "no"))
-    return 0 if within else 1
+    return within
+
+
+def first_reading(table):
+    """Prints what the first reading takes beside the bare statement, and whether that is within
+    the bound."""
+    given, time, _ = table["bare", FIRST]
+    whole, parts = table["bare", WHOLE][1], table["bare", PARTS][1]
+    ratio = time / whole
+    print("first reading of %d rows: %.1f ms; the statement alone %.1f ms, %.2f times; "
+          "for each 1,024 rows %.1f ms, %.2f times" %
+          (given, time / 1000, whole / 1000, ratio, parts / 1000, time / parts))
+    return ratio <= MOST_FIRST
+
+
+def report(few, many):
+    """Prints the tables, and whether each growth and the first reading are within the bounds."""
+    print("plain loop over %d rows: %.2f ms, %d: %.2f ms" %
+          (few["bare", LOOP][2], few["bare", LOOP][1] / 1000,
+           many["bare", LOOP][2], many["bare", LOOP][1] / 1000))
+    grown = [table_of(source, few, many) for source in SOURCES]
+    print("each growth at most %d times: %s" % (MOST, "yes" if all(grown) else "no"))
+    first = [first_reading(table) for table in (few, many)]
+    print("the first reading at most %.1f times the statement: %s" %
+          (MOST_FIRST, "yes" if first[-1] else "no"))
+    return 0 if all(grown) and first[-1] else 1
 
 
 def main():
+    parser = argparse.ArgumentParser(
+        description=__doc__, formatter_class=argparse.RawTextHelpFormatter)
+    parser.add_argument("--runs", type=int, default=1)
+    parser.add_argument("folder", nargs="?")
+    arguments = parser.parse_args()
     with tempfile.TemporaryDirectory() as scratch:
-        return measure(bench_program(sys.argv[1] if len(sys.argv) > 1 else scratch, "axes", USES))
+        program = bench_program(arguments.folder or scratch, "axes", USES)
+        return report(*(times(program, size, arguments.runs) for size in SIZES))
 
 
 if __name__ == "__main__":

@@ -2,7 +2,7 @@
 
 usage: statics.py [FOLDER]     builds bench/statics/main.rattle in the folder, unless an earlier call did
 
-A time is the least of 25 runs, of the checks alone. The queries are bindings and uses of ever new variables, of
+A time is the least of 75 runs, of the checks alone. The queries are bindings and uses of ever new variables, of
 one variable that is bound again and again, of calls, and one FLWOR expression of up to 20,000 clauses of all kinds.
 """
 
@@ -18,6 +18,7 @@ from workspace import bench_program
 USES = ("xq_atoms", "xq_lexer", "xq_expressions", "xq_grammar", "xq_parser", "xq_signatures", "xq_scopes",
         "xq_statics", "sqlite_items")
 MEGABYTE = 1_000_000
+RUNS = 75
 # The most that a time may grow where the length doubles.
 MOST = 2.3
 # Microseconds too few for a ratio.
@@ -69,9 +70,9 @@ QUERIES = (
 
 
 def timed(program, text):
-    """The least time of 25 runs in microseconds."""
+    """The least time of the runs in microseconds."""
     best = None
-    for _ in range(25):
+    for _ in range(RUNS):
         words = subprocess.run([program], input=text.encode(), stdout=subprocess.PIPE, check=True).stdout.decode().split()
         if words[0] != "passed":
             sys.exit("%s, not passed" % words[0])

@@ -10,6 +10,8 @@ import subprocess
 import sys
 
 TOP = os.path.dirname(os.path.dirname(os.path.abspath(__file__)))
+# What is timed runs as ./serve runs the program: with huge pages where the system lends them.
+os.environ.setdefault("GLIBC_TUNABLES", "glibc.malloc.hugetlb=1")
 
 
 def lines_of(crates):
@@ -43,11 +45,26 @@ def begin(folder, crates, leave_out=("incremental", "must-fail")):
         lines.writelines(lines_of(crates))
 
 
-def built(folder, crates, uses, source):
-    """Proves and builds the program over copies of the crates in the folder; gives its path."""
+def copy_proofs(source, target):
+    """Copies a folder of proofs, each FILE.txt as FILE.antt."""
+    for folder, _, names in os.walk(source):
+        into = os.path.join(target, os.path.relpath(folder, source))
+        os.makedirs(into, exist_ok=True)
+        for name in names:
+            shutil.copy(os.path.join(folder, name),
+                        os.path.join(into, os.path.splitext(name)[0] + ".antt"))
+
+
+def built(folder, crates, uses, source, proofs=None):
+    """Proves and builds the program over copies of the crates in the folder; gives its path.
+
+    The folder of proofs, where there is one, holds those of the program, in files that end in .txt:
+    the gate reads each .antt file outside of a crate as one that was left there."""
     begin(folder, crates)
     program = os.path.join(folder, "crates", "program")
     os.makedirs(os.path.join(program, "src"))
+    if proofs and os.path.isdir(proofs):
+        copy_proofs(proofs, os.path.join(program, "proofs"))
     with open(os.path.join(program, "src", "main.rt"), "w") as main:
         main.write(source)
     with open(os.path.join(folder, "crates.txt"), "a") as lines:
@@ -64,5 +81,6 @@ def bench_program(folder, name, uses):
     path = os.path.join(folder, "crates", "program", "out", "program")
     if os.path.exists(path):
         return path
-    with open(os.path.join(TOP, "bench", name, "main.rattle")) as source:
-        return built(folder, crates_below(uses), uses, source.read())
+    bench = os.path.join(TOP, "bench", name)
+    with open(os.path.join(bench, "main.rattle")) as source:
+        return built(folder, crates_below(uses), uses, source.read(), os.path.join(bench, "proofs"))

@@ -1,5 +1,5 @@
-/* Counts the bytes that the process holds of the heap, the most so far, and those in blocks of 64 KiB (the disks in
-   memory), and prints them each time that it writes a line. */
+/* Counts the bytes that the process holds of the heap, the most since it wrote a line before, and those in blocks of
+   64 KiB (the disks in memory), and prints them each time that it writes a line. */
 #define _GNU_SOURCE
 #include <dlfcn.h>
 #include <malloc.h>
@@ -59,6 +59,7 @@ ssize_t write(int file, const void *bytes, size_t count) {
         char line[80];
         int length = snprintf(line, sizeof line, "held %zu most %zu blocks %zu ", held, most, blocks);
         if (length > 0) real(1, line, (size_t)length);
+        most = held;
     }
     return real(file, bytes, count);
 }

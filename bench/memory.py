@@ -1,0 +1,90 @@
+"""Measures what a view holds of a document of a million rows, and what the store keeps of it.
+
+usage: memory.py [FOLDER]    builds bench/axes/main.rattle in the folder, unless an earlier call did
+
+One process stores the document in a file, another opens it and reads all rows through a view, and
+again through a second one; then the rows are let go. For each stage: the megabytes that the process
+has resident as it ends, and the most since the stage before; and with a C compiler the megabytes
+that are allocated and not freed, the most since the stage before, and how many bytes a row that is
+above the opened store. What opening the store frees stays resident, and the rows take its place.
+"""
+
+import os
+import subprocess
+import sys
+import tempfile
+
+HERE = os.path.dirname(os.path.abspath(__file__))
+sys.path.insert(0, HERE)
+sys.path.insert(0, os.path.join(HERE, "..", "tools"))
+from axes import USES
+from workspace import bench_program
+
+# The library of so many elements has a million rows.
+ELEMENTS = 414_491
+
+
+def counter(folder):
+    """The library that counts what is allocated, if there is a C compiler."""
+    path = os.path.join(folder, "held.so")
+    source = os.path.join(HERE, "store", "held.c")
+    words = ["cc", "-shared", "-fPIC", "-O1", "-o", path, source, "-ldl"]
+    try:
+        subprocess.run(words, check=True)
+    except (OSError, subprocess.CalledProcessError):
+        return None
+    return path
+
+
+def answer(program, words, library=None):
+    """What the program writes."""
+    added = {"LD_PRELOAD": library} if library else {}
+    done = subprocess.run([program], input=words.encode(), stdout=subprocess.PIPE, check=True,
+                          env={**os.environ, **added})
+    return done.stdout.decode()
+
+
+def stages(text):
+    """Each stage with the bytes that are resident as it ends, the most since the one before, and
+    the same of what is allocated, or nothing of it where it isn't counted."""
+    found = []
+    for line in text.splitlines():
+        words = line.split()
+        if "stage" in words:
+            held = (int(words[1]), int(words[3])) if words[0] == "held" else None
+            found.append([" ".join(words[words.index("stage") + 1:]), 0, 0, held])
+        elif "VmRSS:" in words:
+            found[-1][1] = int(words[words.index("VmRSS:") + 1]) * 1024
+        elif "VmHWM:" in words:
+            found[-1][2] = int(words[words.index("VmHWM:") + 1]) * 1024
+    return found
+
+
+def report(rows, found):
+    """Prints the stages."""
+    opened = next(held for stage, _, _, held in found if stage == "opened")
+    for stage, resident, most, held in found:
+        line = "%-8s resident %7.1f MB, at most %7.1f MB" % (stage, resident / 1e6, most / 1e6)
+        if held:
+            line += "   allocated %7.1f MB, at most %7.1f MB; a row %6.1f and %6.1f" % (
+                held[0] / 1e6, held[1] / 1e6,
+                (held[0] - opened[0]) / rows, (held[1] - opened[0]) / rows)
+        print(line)
+
+
+def measure(program):
+    with tempfile.TemporaryDirectory() as folder:
+        path = os.path.join(folder, "rows.db")
+        rows = int(answer(program, "fill %d %s" % (ELEMENTS, path)))
+        size = sum(os.path.getsize(os.path.join(folder, name)) for name in os.listdir(folder))
+        print("%d rows in a database of %.1f MB, its log counted" % (rows, size / 1e6), flush=True)
+        report(rows, stages(answer(program, "scan %s" % path, counter(folder))))
+
+
+def main():
+    with tempfile.TemporaryDirectory() as scratch:
+        measure(bench_program(sys.argv[1] if len(sys.argv) > 1 else scratch, "axes", USES))
+
+
+if __name__ == "__main__":
+    sys.exit(main())
