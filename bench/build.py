@@ -2,7 +2,7 @@
 
 usage: build.py [FOLDER]    builds bench/build/main.rattle there, unless an earlier call did
 
-A time is the least of five runs.
+A time is the least of five runs, and begins with empty caches.
 """
 
 import os

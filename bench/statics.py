@@ -2,7 +2,7 @@
 
 usage: statics.py [FOLDER]     builds bench/statics/main.rattle in the folder, unless an earlier call did
 
-A time is the least of 75 runs, of the checks alone. The queries are bindings and uses of ever new variables, of
+A time is the least of 75 runs, of the checks alone, and begins with empty caches. The queries are bindings and uses of ever new variables, of
 one variable that is bound again and again, of calls, and one FLWOR expression of up to 20,000 clauses of all kinds.
 """
 

@@ -67,6 +67,9 @@ def built(folder, crates, uses, source, proofs=None):
         copy_proofs(proofs, os.path.join(program, "proofs"))
     with open(os.path.join(program, "src", "main.rt"), "w") as main:
         main.write(source)
+    if "\nmod caches;\n" in source:
+        shutil.copy(os.path.join(TOP, "bench", "caches.rattle"),
+                    os.path.join(program, "src", "caches.rt"))
     with open(os.path.join(folder, "crates.txt"), "a") as lines:
         lines.write("program: %s\n" % " ".join(uses))
     done = subprocess.run(["rt", "run"], cwd=program, input=b"", capture_output=True)
