@@ -1,0 +1,152 @@
+//! The tables over the documents of a store: over a view that reads their rows for the first time,
+//! and over one whose rows the store kept.
+ghost use Rattle.std.specs.Prelude.{◌≡◌};
+ghost use Rattle.xq_rows.specs.Views.{beginning};
+
+use crate::documents::{great_library, held, library};
+use crate::scans::{From, GREAT_SCANS, SCANS, Scan, To, read_by, reads_twice_in_two_steps};
+use crate::tables::reads;
+use sqlite::Alter;
+use std::alloc::Global;
+use std::marker::Brand;
+use std::process::Abort;
+use xq_atoms::{Want, address_ok};
+use xq_regions::{Axis, Fragment};
+use xq_rows::{Origin, Store};
+use xq_sources::RowSource;
+
+/// What is done over a view.
+#[derive(Clone, Copy)]
+pub enum Task {
+    /// The tables of what is found.
+    Tables,
+    /// One step.
+    Step(Scan),
+    /// The rows are given as copies, by a statement.
+    Statement,
+}
+
+/// A store, and how many rows of ranges and single rows a task read of it.
+pub type Done<S> = (Store<S>, (u64, u64));
+
+/// Does the task over a view of the store, and gives the store back.
+fn viewed<S: Alter + Drop, O: Origin + Drop, R: Abort>(
+    rt: &R,
+    alloc: Global,
+    store: Store<S>,
+    task: Task,
+) -> Result<Done<S>, Want>
+    requires { beginning S.Store store ≡ O.beginning }
+{
+    let mut view = match store.view::<O>() {
+        Ok(view) => view,
+        Err((want, _store)) => return Err(want),
+    };
+    let counts = match task {
+        Task::Tables => {
+            reads(rt, alloc, &mut view)?;
+            reads_twice_in_two_steps(rt, alloc, &mut view)?;
+            (0, 0)
+        }
+        Task::Step(scan) => read_by(rt, alloc, &mut view, scan)?,
+        Task::Statement => {
+            let copies = view.range(alloc, 0, 0, u32::MAX)?;
+            (copies.len() as u64, 0)
+        }
+    };
+    Ok((view.into_store(), counts))
+}
+
+/// The same over any view.
+pub fn seen<S: Alter + Drop, R: Abort>(
+    rt: &R,
+    alloc: Global,
+    store: Store<S>,
+    task: Task,
+) -> Result<Done<S>, Want> {
+    viewed::<S, Brand, R>(rt, alloc, store, task)
+}
+
+/// Puts the one document of the store.
+pub fn put<S: Alter>(store: &mut Store<S>, document: &Fragment) -> Result<(), Want> {
+    if !address_ok(b"b".as_slice()) || !document.is_document() {
+        return Err(Want::Store);
+    }
+    let _put = store.put("b", document)?;
+    Ok(())
+}
+
+/// The tables hold over a view whose rows are read meanwhile, and over the next, which reads none.
+fn tables_hold<S: Alter + Drop, R: Abort>(
+    rt: &R,
+    alloc: Global,
+    store: Store<S>,
+) -> Result<(), Want> {
+    let mut store = store;
+    put(&mut store, &library(alloc)?)?;
+    let (store, _counts) = seen(rt, alloc, store, Task::Tables)?;
+    let (_store, _counts) = seen(rt, alloc, store, Task::Tables)?;
+    Ok(())
+}
+
+/// Each step reads as many rows of a view as of fragments: what a view lends is counted, and not
+/// that it reads a document on in parts. The one difference is the parent of a single node. Fragments
+/// and kept rows tell it at once, and its row alone is read; a view that has read nothing of the
+/// document can't tell it, and looks back for it over the rows before the node.
+fn steps_read_as_many<S: Alter + Drop, R: Abort>(
+    rt: &R,
+    alloc: Global,
+    store: Store<S>,
+    scans: &[Scan],
+    document: Fragment,
+) -> Result<(), Want> {
+    let mut store = store;
+    put(&mut store, &document)?;
+    let mut fragments = held(alloc, document)?;
+    for scan in scans {
+        let counts = read_by(rt, alloc, &mut fragments, *scan)?;
+        // Where a document is dropped, also one that isn't there, no row stays.
+        let _was = store.drop_doc("absent")?;
+        let (after, unread) = seen(rt, alloc, store, Task::Step(*scan))?;
+        let (last, kept) = seen(rt, alloc, after, Task::Step(*scan))?;
+        store = last;
+        assert_eq!(rt; kept, counts);
+        match scan {
+            (From::At([_]), Axis::Parent, To::At([_]), _) => {
+                assert_eq!(rt; counts, (0, 1));
+                assert_eq!(rt; unread.1, 0);
+            }
+            _ => assert_eq!(rt; unread, counts),
+        }
+    }
+    Ok(())
+}
+
+#[test]
+fn tables_in_memory(rt: HostRuntime) -> Result<(), Want> {
+    tables_hold(&rt, rt.alloc(), Store::new_in_memory(rt.alloc())?)
+}
+
+#[test]
+fn tables_on_memory_disks(rt: HostRuntime) -> Result<(), Want> {
+    tables_hold(&rt, rt.alloc(), Store::new_on_memory_disks(rt.alloc())?)
+}
+
+#[test]
+fn steps_in_memory(rt: HostRuntime) -> Result<(), Want> {
+    let alloc = rt.alloc();
+    steps_read_as_many(
+        &rt,
+        alloc,
+        Store::new_in_memory(alloc)?,
+        &SCANS,
+        library(alloc)?,
+    )
+}
+
+#[test]
+fn great_steps_on_memory_disks(rt: HostRuntime) -> Result<(), Want> {
+    let alloc = rt.alloc();
+    let store = Store::new_on_memory_disks(alloc)?;
+    steps_read_as_many(&rt, alloc, store, &GREAT_SCANS, great_library(alloc)?)
+}
