@@ -1,9 +1,8 @@
 //! The adoption of a database: its tables are made where there are none, and else read and judged.
-ghost use Rattle.std.specs.Prelude.{◌≡◌, ◌≢◌, ◌≤◌, ◌↔◌, ℕ, List, [], ◌∷◌, map, None, false, pos, IfOk, IfErr, IfSome, OnErr, OnOk, IsTrue, IsSorted};
+ghost use Rattle.std.specs.Prelude.{◌≡◌, ◌≢◌, ◌↔◌, ℕ, List, [], ◌∷◌, map, None, false, pos, IfOk, IfErr, IfSome, OnErr, OnOk, IsTrue, IsSorted};
 ghost use Rattle.std.specs.List.{AllByRecursion};
-ghost use Rattle.sqlite.specs.State.{HasCleanDisk, KeepsCommit};
+ghost use Rattle.sqlite.specs.State.{HasCleanDisk};
 ghost use Rattle.sqlite.specs.Held.{state};
-ghost use Rattle.sqlite_trees.specs.View.{doubt};
 ghost use Rattle.sqlite_value.specs.Order.{column};
 ghost use Rattle.sqlite_value.specs.declared.value.Value.TheVariants.{Int, Text};
 ghost use Rattle.xq_atoms.specs.Address.{IsAddress};
@@ -12,6 +11,7 @@ ghost use Rattle.xq_rows.specs.Adopt.{AreTold, IsAdopted, IsNoStore, IsRun, Read
 ghost use Rattle.xq_rows.specs.Documents.{AreApart, HaveInts, IsReady, IsStore};
 ghost use Rattle.xq_rows.specs.Nodes.{IsReadable, cells, node_of};
 ghost use Rattle.xq_rows.specs.Statements.{MakesStore};
+ghost use Rattle.xq_rows.specs.private.Keeps.{ReadsInside, StaysInside, StaysOutside};
 ghost use Rattle.xq_rows.specs.Tables.{no_schema, IsStoreSchema};
 
 use crate::faults::OpenFault;
@@ -26,13 +26,7 @@ use xq_regions::{Fragment, NodeRow};
 
 /// Reads the editions: one column for each row of the table `layout`.
 fn read_layout<S: Alter>(transaction: &mut Transaction<'_, S>) -> Result<Vec<Row>, Error>
-    ensures same_reference { transaction.new.conn.ghost_name ≡ transaction.old.conn.ghost_name }
-    ensures clean { doubt (state S.Store transaction.old.conn.now).is_clean
-        ≤ doubt (state S.Store transaction.new.conn.now).is_clean }
-    ensures kept { HasCleanDisk (state S.Store transaction.new.conn.now)
-        → IsTrue (state S.Store transaction.old.conn.now).in_transaction
-        → KeepsCommit (state S.Store transaction.old.conn.now)
-        (state S.Store transaction.new.conn.now) }
+    ensures inside { ReadsInside S.Store transaction.old transaction.new }
     ensures mode { HasCleanDisk (state S.Store transaction.new.conn.now)
         → IsTrue (state S.Store transaction.old.conn.now).in_transaction
         → OnOk result (IsTrue (state S.Store transaction.new.conn.now).in_transaction) }
@@ -49,13 +43,7 @@ fn read_layout<S: Alter>(transaction: &mut Transaction<'_, S>) -> Result<Vec<Row
 
 /// Reads the rowids of the nodes.
 fn read_rowids<S: Alter>(transaction: &mut Transaction<'_, S>) -> Result<Vec<Row>, Error>
-    ensures same_reference { transaction.new.conn.ghost_name ≡ transaction.old.conn.ghost_name }
-    ensures clean { doubt (state S.Store transaction.old.conn.now).is_clean
-        ≤ doubt (state S.Store transaction.new.conn.now).is_clean }
-    ensures kept { HasCleanDisk (state S.Store transaction.new.conn.now)
-        → IsTrue (state S.Store transaction.old.conn.now).in_transaction
-        → KeepsCommit (state S.Store transaction.old.conn.now)
-        (state S.Store transaction.new.conn.now) }
+    ensures inside { ReadsInside S.Store transaction.old transaction.new }
     ensures mode { HasCleanDisk (state S.Store transaction.new.conn.now)
         → IsTrue (state S.Store transaction.old.conn.now).in_transaction
         → OnOk result (IsTrue (state S.Store transaction.new.conn.now).in_transaction) }
@@ -72,13 +60,7 @@ fn read_rowids<S: Alter>(transaction: &mut Transaction<'_, S>) -> Result<Vec<Row
 /// Reads the nodes of all addresses, in the order of address and number: the columns pre, size,
 /// level, kind, name, value and address.
 fn read_nodes<S: Alter>(transaction: &mut Transaction<'_, S>) -> Result<Vec<Row>, Error>
-    ensures same_reference { transaction.new.conn.ghost_name ≡ transaction.old.conn.ghost_name }
-    ensures clean { doubt (state S.Store transaction.old.conn.now).is_clean
-        ≤ doubt (state S.Store transaction.new.conn.now).is_clean }
-    ensures kept { HasCleanDisk (state S.Store transaction.new.conn.now)
-        → IsTrue (state S.Store transaction.old.conn.now).in_transaction
-        → KeepsCommit (state S.Store transaction.old.conn.now)
-        (state S.Store transaction.new.conn.now) }
+    ensures inside { ReadsInside S.Store transaction.old transaction.new }
     ensures mode { HasCleanDisk (state S.Store transaction.new.conn.now)
         → IsTrue (state S.Store transaction.old.conn.now).in_transaction
         → OnOk result (IsTrue (state S.Store transaction.new.conn.now).in_transaction) }
@@ -238,13 +220,7 @@ fn check_rows(alloc: Global, rows: &[Row]) -> Result<(), OpenFault>
 
 /// Judges the rowids of the nodes.
 fn check_rowids<S: Alter>(transaction: &mut Transaction<'_, S>) -> Result<(), OpenFault>
-    ensures same_reference { transaction.new.conn.ghost_name ≡ transaction.old.conn.ghost_name }
-    ensures clean { doubt (state S.Store transaction.old.conn.now).is_clean
-        ≤ doubt (state S.Store transaction.new.conn.now).is_clean }
-    ensures kept { HasCleanDisk (state S.Store transaction.new.conn.now)
-        → IsTrue (state S.Store transaction.old.conn.now).in_transaction
-        → KeepsCommit (state S.Store transaction.old.conn.now)
-        (state S.Store transaction.new.conn.now) }
+    ensures inside { ReadsInside S.Store transaction.old transaction.new }
     ensures mode { HasCleanDisk (state S.Store transaction.new.conn.now)
         → IsTrue (state S.Store transaction.old.conn.now).in_transaction
         → OnOk result (IsTrue (state S.Store transaction.new.conn.now).in_transaction) }
@@ -268,13 +244,7 @@ fn check_nodes<S: Alter>(
     alloc: Global,
     transaction: &mut Transaction<'_, S>,
 ) -> Result<(), OpenFault>
-    ensures same_reference { transaction.new.conn.ghost_name ≡ transaction.old.conn.ghost_name }
-    ensures clean { doubt (state S.Store transaction.old.conn.now).is_clean
-        ≤ doubt (state S.Store transaction.new.conn.now).is_clean }
-    ensures kept { HasCleanDisk (state S.Store transaction.new.conn.now)
-        → IsTrue (state S.Store transaction.old.conn.now).in_transaction
-        → KeepsCommit (state S.Store transaction.old.conn.now)
-        (state S.Store transaction.new.conn.now) }
+    ensures inside { ReadsInside S.Store transaction.old transaction.new }
     ensures mode { HasCleanDisk (state S.Store transaction.new.conn.now)
         → IsTrue (state S.Store transaction.old.conn.now).in_transaction
         → OnOk result (IsTrue (state S.Store transaction.new.conn.now).in_transaction) }
@@ -292,13 +262,7 @@ fn check_nodes<S: Alter>(
 
 /// Whether the tables have an edition, and it is the first.
 fn has_edition<S: Alter>(transaction: &mut Transaction<'_, S>) -> Result<bool, OpenFault>
-    ensures same_reference { transaction.new.conn.ghost_name ≡ transaction.old.conn.ghost_name }
-    ensures clean { doubt (state S.Store transaction.old.conn.now).is_clean
-        ≤ doubt (state S.Store transaction.new.conn.now).is_clean }
-    ensures kept { HasCleanDisk (state S.Store transaction.new.conn.now)
-        → IsTrue (state S.Store transaction.old.conn.now).in_transaction
-        → KeepsCommit (state S.Store transaction.old.conn.now)
-        (state S.Store transaction.new.conn.now) }
+    ensures inside { ReadsInside S.Store transaction.old transaction.new }
     ensures mode { HasCleanDisk (state S.Store transaction.new.conn.now)
         → IsTrue (state S.Store transaction.old.conn.now).in_transaction
         → IfOk result (λ found. IsTrue found
@@ -324,12 +288,7 @@ fn has_edition<S: Alter>(transaction: &mut Transaction<'_, S>) -> Result<bool, O
 
 /// Makes the tables. Where a table has a name of theirs, this is no store.
 fn make_store<S: Alter>(transaction: &mut Transaction<'_, S>) -> Result<(), OpenFault>
-    ensures same_reference { transaction.new.conn.ghost_name ≡ transaction.old.conn.ghost_name }
-    ensures clean { doubt (state S.Store transaction.old.conn.now).is_clean
-        ≤ doubt (state S.Store transaction.new.conn.now).is_clean }
-    ensures kept { HasCleanDisk (state S.Store transaction.new.conn.now)
-        → KeepsCommit (state S.Store transaction.old.conn.now)
-        (state S.Store transaction.new.conn.now) }
+    ensures inside { StaysInside S.Store transaction.old transaction.new }
     ensures mode { HasCleanDisk (state S.Store transaction.new.conn.now)
         → OnOk result (IsTrue (state S.Store transaction.new.conn.now).in_transaction) }
     ensures ok { HasCleanDisk (state S.Store transaction.new.conn.now)
@@ -351,13 +310,7 @@ fn adopt_inside<S: Alter>(
     alloc: Global,
     transaction: &mut Transaction<'_, S>,
 ) -> Result<(), OpenFault>
-    ensures same_reference { transaction.new.conn.ghost_name ≡ transaction.old.conn.ghost_name }
-    ensures clean { doubt (state S.Store transaction.old.conn.now).is_clean
-        ≤ doubt (state S.Store transaction.new.conn.now).is_clean }
-    ensures kept { HasCleanDisk (state S.Store transaction.new.conn.now)
-        → IsTrue (state S.Store transaction.old.conn.now).in_transaction
-        → KeepsCommit (state S.Store transaction.old.conn.now)
-        (state S.Store transaction.new.conn.now) }
+    ensures inside { ReadsInside S.Store transaction.old transaction.new }
     ensures mode { HasCleanDisk (state S.Store transaction.new.conn.now)
         → IsTrue (state S.Store transaction.old.conn.now).in_transaction
         → OnOk result (IsTrue (state S.Store transaction.new.conn.now).in_transaction) }
@@ -378,10 +331,7 @@ fn adopt_inside<S: Alter>(
 /// Makes the tables, or judges those that are there, in one transaction.
 pub fn adopt_tables<S: Alter>(alloc: Global, conn: &mut Connection<S>) -> Result<(), OpenFault>
     requires { conn.old.in_transaction ≡ false }
-    ensures mode { conn.new.in_transaction ≡ false }
-    ensures clean { doubt (state S.Store conn.old).is_clean
-        ≤ doubt (state S.Store conn.new).is_clean }
-    ensures open { IsReady (state S.Store conn.new) → IsTrue (state S.Store conn.old).is_open }
+    ensures outside { StaysOutside S.Store conn.old conn.new }
     ensures ends_open { HasCleanDisk (state S.Store conn.new)
         → OnOk result (IsTrue (state S.Store conn.new).is_open) }
     ensures kept { IsReady (state S.Store conn.new)

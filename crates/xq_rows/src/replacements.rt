@@ -1,11 +1,11 @@
 //! The rows of one document in the place of those of another.
-ghost use Rattle.std.specs.Prelude.{◌≤◌, ◌≡◌, IfOk, length, map};
-ghost use Rattle.sqlite.specs.State.{HasCleanDisk, KeepsCommit};
+ghost use Rattle.std.specs.Prelude.{◌≤◌, IfOk, length, map};
+ghost use Rattle.sqlite.specs.State.{HasCleanDisk};
 ghost use Rattle.sqlite.specs.Held.{state};
-ghost use Rattle.sqlite_trees.specs.View.{doubt};
 ghost use Rattle.xq_regions.specs.Rows.{AreNumbered, placed};
 ghost use Rattle.xq_rows.specs.Nodes.{cells};
 ghost use Rattle.xq_rows.specs.Statements.{Replaces};
+ghost use Rattle.xq_rows.specs.private.Keeps.{StaysInside};
 
 use crate::statements::{delete_part, insert_rows};
 use sqlite::{Alter, Error, Transaction};
@@ -25,15 +25,10 @@ pub fn replace_rows<S: Alter>(
 ) -> Result<bool, Error>
     requires numbered { AreNumbered 0 rows.now }
     requires few { length rows.now ≤ 1000000 }
-    ensures same_reference { transaction.new.conn.ghost_name ≡ transaction.old.conn.ghost_name }
+    ensures inside { StaysInside S.Store transaction.old transaction.new }
     ensures replaced { HasCleanDisk (state S.Store transaction.new.conn.now)
         → IfOk result (Replaces address.now (map cells (map placed rows.now))
         (state S.Store transaction.old.conn.now) (state S.Store transaction.new.conn.now)) }
-    ensures kept { HasCleanDisk (state S.Store transaction.new.conn.now)
-        → KeepsCommit (state S.Store transaction.old.conn.now)
-        (state S.Store transaction.new.conn.now) }
-    ensures clean { doubt (state S.Store transaction.old.conn.now).is_clean
-        ≤ doubt (state S.Store transaction.new.conn.now).is_clean }
 {
     let mut replaced = false;
     let mut at = 0;

@@ -2,14 +2,14 @@
 //!
 //! Nothing above this file knows a text of SQL. A write runs inside a transaction, and a query
 //! outside one.
-ghost use Rattle.std.specs.Prelude.{◌≡◌, ◌≤◌, [], ◌∷◌, map, false, IfOk, OnOk, IsTrue};
-ghost use Rattle.sqlite.specs.State.{HasCleanDisk, KeepsCommit};
+ghost use Rattle.std.specs.Prelude.{◌≡◌, [], ◌∷◌, map, false, IfOk, OnOk, IsTrue};
+ghost use Rattle.sqlite.specs.State.{HasCleanDisk};
 ghost use Rattle.sqlite.specs.Held.{state};
-ghost use Rattle.sqlite_trees.specs.View.{doubt};
 ghost use Rattle.xq_regions.specs.Rows.{placed};
 ghost use Rattle.xq_rows.specs.Documents.{IsReady, is_at};
 ghost use Rattle.xq_rows.specs.Nodes.{cells, number_of as number_of_lem};
 ghost use Rattle.xq_rows.specs.Statements.{Adds, AreAbove, AreAddresses, Drops, IsRange, is_part};
+ghost use Rattle.xq_rows.specs.private.Keeps.{StaysInside, StaysOutside};
 ghost use Rattle.xq_rows.specs.Tables.{IsStoreSchema};
 
 use sqlite::{Alter, Connection, Error, Row, Transaction, params};
@@ -34,15 +34,10 @@ pub fn delete_rows<S: Alter>(
     transaction: &mut Transaction<'_, S>,
     address: &str,
 ) -> Result<usize, Error>
-    ensures same_reference { transaction.new.conn.ghost_name ≡ transaction.old.conn.ghost_name }
+    ensures inside { StaysInside S.Store transaction.old transaction.new }
     ensures dropped { HasCleanDisk (state S.Store transaction.new.conn.now)
         → IfOk result (Drops (is_at address.now) (state S.Store transaction.old.conn.now)
         (state S.Store transaction.new.conn.now)) }
-    ensures kept { HasCleanDisk (state S.Store transaction.new.conn.now)
-        → KeepsCommit (state S.Store transaction.old.conn.now)
-        (state S.Store transaction.new.conn.now) }
-    ensures clean { doubt (state S.Store transaction.old.conn.now).is_clean
-        ≤ doubt (state S.Store transaction.new.conn.now).is_clean }
 {
     transaction.execute("DELETE FROM node WHERE address = ?1", params![address])
 }
@@ -55,15 +50,10 @@ pub fn delete_part<S: Alter>(
     low: u32,
     high: u32,
 ) -> Result<usize, Error>
-    ensures same_reference { transaction.new.conn.ghost_name ≡ transaction.old.conn.ghost_name }
+    ensures inside { StaysInside S.Store transaction.old transaction.new }
     ensures dropped { HasCleanDisk (state S.Store transaction.new.conn.now)
         → IfOk result (Drops (is_part address.now low high)
         (state S.Store transaction.old.conn.now) (state S.Store transaction.new.conn.now)) }
-    ensures kept { HasCleanDisk (state S.Store transaction.new.conn.now)
-        → KeepsCommit (state S.Store transaction.old.conn.now)
-        (state S.Store transaction.new.conn.now) }
-    ensures clean { doubt (state S.Store transaction.old.conn.now).is_clean
-        ≤ doubt (state S.Store transaction.new.conn.now).is_clean }
 {
     transaction.execute(
         "DELETE FROM node WHERE address = ?1 AND pre >= ?2 AND pre < ?3",
@@ -77,15 +67,10 @@ pub fn insert_row<S: Alter>(
     address: &str,
     row: &NodeRow,
 ) -> Result<usize, Error>
-    ensures same_reference { transaction.new.conn.ghost_name ≡ transaction.old.conn.ghost_name }
+    ensures inside { StaysInside S.Store transaction.old transaction.new }
     ensures added { HasCleanDisk (state S.Store transaction.new.conn.now)
         → OnOk result (Adds address.now (cells (placed row.now) ∷ [])
         (state S.Store transaction.old.conn.now) (state S.Store transaction.new.conn.now)) }
-    ensures kept { HasCleanDisk (state S.Store transaction.new.conn.now)
-        → KeepsCommit (state S.Store transaction.old.conn.now)
-        (state S.Store transaction.new.conn.now) }
-    ensures clean { doubt (state S.Store transaction.old.conn.now).is_clean
-        ≤ doubt (state S.Store transaction.new.conn.now).is_clean }
 {
     let kind = number_of(row.kind);
     transaction.execute(
@@ -102,15 +87,10 @@ pub fn insert_rows<S: Alter>(
     address: &str,
     rows: &[NodeRow],
 ) -> Result<(), Error>
-    ensures same_reference { transaction.new.conn.ghost_name ≡ transaction.old.conn.ghost_name }
+    ensures inside { StaysInside S.Store transaction.old transaction.new }
     ensures added { HasCleanDisk (state S.Store transaction.new.conn.now)
         → OnOk result (Adds address.now (map cells (map placed rows.now))
         (state S.Store transaction.old.conn.now) (state S.Store transaction.new.conn.now)) }
-    ensures kept { HasCleanDisk (state S.Store transaction.new.conn.now)
-        → KeepsCommit (state S.Store transaction.old.conn.now)
-        (state S.Store transaction.new.conn.now) }
-    ensures clean { doubt (state S.Store transaction.old.conn.now).is_clean
-        ≤ doubt (state S.Store transaction.new.conn.now).is_clean }
 {
     for row in rows {
         let _count = insert_row(transaction, address, row)?;
@@ -127,10 +107,7 @@ pub fn read_range<S: Alter>(
     high: u32,
 ) -> Result<Vec<Row>, Error>
     requires { conn.old.in_transaction ≡ false }
-    ensures mode { conn.new.in_transaction ≡ false }
-    ensures clean { doubt (state S.Store conn.old).is_clean
-        ≤ doubt (state S.Store conn.new).is_clean }
-    ensures open { IsReady (state S.Store conn.new) → IsTrue (state S.Store conn.old).is_open }
+    ensures outside { StaysOutside S.Store conn.old conn.new }
     ensures ends_open { HasCleanDisk (state S.Store conn.new)
         → OnOk result (IsTrue (state S.Store conn.new).is_open) }
     ensures same { IsReady (state S.Store conn.new)
@@ -155,10 +132,7 @@ pub fn read_enclosing<S: Alter>(
     node: u32,
 ) -> Result<Vec<Row>, Error>
     requires { conn.old.in_transaction ≡ false }
-    ensures mode { conn.new.in_transaction ≡ false }
-    ensures clean { doubt (state S.Store conn.old).is_clean
-        ≤ doubt (state S.Store conn.new).is_clean }
-    ensures open { IsReady (state S.Store conn.new) → IsTrue (state S.Store conn.old).is_open }
+    ensures outside { StaysOutside S.Store conn.old conn.new }
     ensures ends_open { HasCleanDisk (state S.Store conn.new)
         → OnOk result (IsTrue (state S.Store conn.new).is_open) }
     ensures same { IsReady (state S.Store conn.new)
@@ -177,10 +151,7 @@ pub fn read_enclosing<S: Alter>(
 /// Reads the addresses in the order of their bytes: one row of one column for each document.
 pub fn read_addresses<S: Alter>(conn: &mut Connection<S>) -> Result<Vec<Row>, Error>
     requires { conn.old.in_transaction ≡ false }
-    ensures mode { conn.new.in_transaction ≡ false }
-    ensures clean { doubt (state S.Store conn.old).is_clean
-        ≤ doubt (state S.Store conn.new).is_clean }
-    ensures open { IsReady (state S.Store conn.new) → IsTrue (state S.Store conn.old).is_open }
+    ensures outside { StaysOutside S.Store conn.old conn.new }
     ensures ends_open { HasCleanDisk (state S.Store conn.new)
         → OnOk result (IsTrue (state S.Store conn.new).is_open) }
     ensures same { IsReady (state S.Store conn.new)
@@ -199,10 +170,7 @@ pub fn read_addresses<S: Alter>(conn: &mut Connection<S>) -> Result<Vec<Row>, Er
 /// Finds whether the database is open, by a statement that is compiled and not run.
 pub fn prepare_edition<S: Alter>(conn: &mut Connection<S>) -> Result<(), Error>
     requires { conn.old.in_transaction ≡ false }
-    ensures mode { conn.new.in_transaction ≡ false }
-    ensures clean { doubt (state S.Store conn.old).is_clean
-        ≤ doubt (state S.Store conn.new).is_clean }
-    ensures open { IsReady (state S.Store conn.new) → IsTrue (state S.Store conn.old).is_open }
+    ensures outside { StaysOutside S.Store conn.old conn.new }
     ensures ends_open { HasCleanDisk (state S.Store conn.new)
         → OnOk result (IsTrue (state S.Store conn.new).is_open) }
     ensures same { IsReady (state S.Store conn.new)

@@ -2,11 +2,11 @@
 ghost use Rattle.std.specs.Prelude.{◌≡◌, ◌≤◌, length, map, false, IfOk, OnErr, OnOk, IsTrue};
 ghost use Rattle.sqlite.specs.State.{HasCleanDisk};
 ghost use Rattle.sqlite.specs.Held.{state};
-ghost use Rattle.sqlite_trees.specs.View.{doubt};
 ghost use Rattle.xq_regions.specs.Rows.{AreNumbered, placed};
 ghost use Rattle.xq_rows.specs.Documents.{IsReady, is_at};
 ghost use Rattle.xq_rows.specs.Nodes.{cells};
 ghost use Rattle.xq_rows.specs.Statements.{Deletes, Puts};
+ghost use Rattle.xq_rows.specs.private.Keeps.{StaysOutside};
 
 use crate::refusals::Refusal;
 use crate::replacements::replace_rows;
@@ -17,10 +17,7 @@ use xq_regions::NodeRow;
 /// Takes the rows of an address out, and says how many there were.
 pub fn drop_rows<S: Alter>(conn: &mut Connection<S>, address: &str) -> Result<usize, Refusal>
     requires { conn.old.in_transaction ≡ false }
-    ensures mode { conn.new.in_transaction ≡ false }
-    ensures clean { doubt (state S.Store conn.old).is_clean
-        ≤ doubt (state S.Store conn.new).is_clean }
-    ensures open { IsReady (state S.Store conn.new) → IsTrue (state S.Store conn.old).is_open }
+    ensures outside { StaysOutside S.Store conn.old conn.new }
     ensures ends_open { HasCleanDisk (state S.Store conn.new)
         → OnOk result (IsTrue (state S.Store conn.new).is_open) }
     ensures kept { IsReady (state S.Store conn.new)
@@ -45,10 +42,7 @@ pub fn put_rows<S: Alter>(
     requires outside { conn.old.in_transaction ≡ false }
     requires numbered { AreNumbered 0 rows.now }
     requires few { length rows.now ≤ 1000000 }
-    ensures mode { conn.new.in_transaction ≡ false }
-    ensures clean { doubt (state S.Store conn.old).is_clean
-        ≤ doubt (state S.Store conn.new).is_clean }
-    ensures open { IsReady (state S.Store conn.new) → IsTrue (state S.Store conn.old).is_open }
+    ensures outside { StaysOutside S.Store conn.old conn.new }
     ensures ends_open { HasCleanDisk (state S.Store conn.new)
         → OnOk result (IsTrue (state S.Store conn.new).is_open) }
     ensures kept { IsReady (state S.Store conn.new)

@@ -15,7 +15,7 @@ returns-then-branch-clause-ok g c clean =
     let old = state g.S.Store c.args.transaction.now.conn.now in
     let mid = state g.S.Store c.has_edition.new.transaction.conn.now in
     let new = state g.S.Store c.check_nodes.new.transaction.conn.now in
-    let early : HasCleanDisk mid = omega (arith, c.check_nodes.ensures.clean, clean) in
+    let early : HasCleanDisk mid = omega (arith, c.check_nodes.ensures.inside.clean, clean) in
     let edition : SeesEdition old.now mid.now = subst (λ b. Sees b old.now mid.now) c.if-branch.true (c.in_ok-has_edition.ensures.ok early) in
     on_ok (SeesDocuments mid.now new.now) (IsAdopted old.now new.now) c.check_nodes.result (adopted_found old.now mid.now new.now edition) (c.check_nodes.ensures.ok clean)
 
@@ -23,7 +23,7 @@ pub returns-then-branch-clause-err : goal.returns-then-branch-clause-err
 returns-then-branch-clause-err g c clean =
     let old = state g.S.Store c.args.transaction.now.conn.now in
     let mid = state g.S.Store c.has_edition.new.transaction.conn.now in
-    let early : HasCleanDisk mid = omega (arith, c.check_nodes.ensures.clean, clean) in
+    let early : HasCleanDisk mid = omega (arith, c.check_nodes.ensures.inside.clean, clean) in
     let edition : SeesEdition old.now mid.now = subst (λ b. Sees b old.now mid.now) c.if-branch.true (c.in_ok-has_edition.ensures.ok early) in
     each_err (λ fault. fault ≡ NotAStore → ¬ IsStore mid.now) (λ fault. fault ≡ NotAStore → IsNoStore old.now) c.check_nodes.result (λ fault bad none. refused_found old.now mid.now edition (bad none)) (c.check_nodes.ensures.err clean)
 
@@ -32,7 +32,7 @@ returns-else-branch-clause-ok g c clean =
     let old = state g.S.Store c.args.transaction.now.conn.now in
     let mid = state g.S.Store c.has_edition.new.transaction.conn.now in
     let new = state g.S.Store c.make_store.new.transaction.conn.now in
-    let early : HasCleanDisk mid = omega (arith, c.make_store.ensures.clean, clean) in
+    let early : HasCleanDisk mid = omega (arith, c.make_store.ensures.inside.clean, clean) in
     let nothing : SeesNothing old.now mid.now = subst (λ b. Sees b old.now mid.now) c.if-branch.false (c.in_ok-has_edition.ensures.ok early) in
     on_ok (MakesStore mid.now new.now) (IsAdopted old.now new.now) c.make_store.result (adopted_made old.now mid.now new.now nothing) (c.make_store.ensures.ok clean)
 
@@ -40,11 +40,11 @@ pub returns-else-branch-clause-err : goal.returns-else-branch-clause-err
 returns-else-branch-clause-err g c clean =
     let old = state g.S.Store c.args.transaction.now.conn.now in
     let mid = state g.S.Store c.has_edition.new.transaction.conn.now in
-    let early : HasCleanDisk mid = omega (arith, c.make_store.ensures.clean, clean) in
+    let early : HasCleanDisk mid = omega (arith, c.make_store.ensures.inside.clean, clean) in
     let nothing : SeesNothing old.now mid.now = subst (λ b. Sees b old.now mid.now) c.if-branch.false (c.in_ok-has_edition.ensures.ok early) in
     each_err (λ fault. fault ≡ NotAStore → mid.now.schema ≢ no_schema) (λ fault. fault ≡ NotAStore → IsNoStore old.now) c.make_store.result (λ fault some none. refused_made old.now mid.now nothing (some none)) (c.make_store.ensures.err clean)
 
 pub returns-then-branch-clause-mode : goal.returns-then-branch-clause-mode
 returns-then-branch-clause-mode g c clean inside =
-    let early : HasCleanDisk (state g.S.Store c.has_edition.new.transaction.conn.now) = omega (arith, c.check_nodes.ensures.clean, clean) in
+    let early : HasCleanDisk (state g.S.Store c.has_edition.new.transaction.conn.now) = omega (arith, c.check_nodes.ensures.inside.clean, clean) in
     c.check_nodes.ensures.mode clean (c.in_ok-has_edition.ensures.mode early inside c.if-branch.true)

@@ -13,7 +13,7 @@ returns-clause-ok g c clean =
     let old = state g.S.Store c.args.transaction.now.conn.now in
     let mid = state g.S.Store c.check_rowids.new.transaction.conn.now in
     let new = state g.S.Store c.read_nodes.new.transaction.conn.now in
-    let early : HasCleanDisk mid = omega (arith, c.read_nodes.ensures.clean, clean) in
+    let early : HasCleanDisk mid = omega (arith, c.read_nodes.ensures.inside.clean, clean) in
     let rows = c.in_ok-rows.rows.items in
     on_ok (IsSorted by_place rows → AreTold rows) (SeesDocuments old.now new.now) c.check_rows.result
     (λ told. documents_seen old.now mid.now new.now rows (c.in_ok-check_rowids.ensures.ok early) (c.in_ok-rows.ensures.ok clean) told) (rw c.deref.ensures.value at c.check_rows.ensures.ok)
@@ -23,13 +23,13 @@ returns-clause-err g c clean =
     let old = state g.S.Store c.args.transaction.now.conn.now in
     let mid = state g.S.Store c.check_rowids.new.transaction.conn.now in
     let new = state g.S.Store c.read_nodes.new.transaction.conn.now in
-    let early : HasCleanDisk mid = omega (arith, c.read_nodes.ensures.clean, clean) in
+    let early : HasCleanDisk mid = omega (arith, c.read_nodes.ensures.inside.clean, clean) in
     let rows = c.in_ok-rows.rows.items in
     each_err (λ fault. fault ≡ NotAStore → IsSorted by_place rows → ¬ AreTold rows) (λ fault. fault ≡ NotAStore → ¬ IsStore old.now) c.check_rows.result
     (λ fault untold none. no_documents_seen old.now mid.now new.now rows (c.in_ok-check_rowids.ensures.ok early) (c.in_ok-rows.ensures.ok clean) (untold none)) (rw c.deref.ensures.value at c.check_rows.ensures.err)
 
 pub returns-clause-mode : goal.returns-clause-mode
 returns-clause-mode g c clean inside =
-    let early : HasCleanDisk (state g.S.Store c.check_rowids.new.transaction.conn.now) = omega (arith, c.read_nodes.ensures.clean, clean) in
+    let early : HasCleanDisk (state g.S.Store c.check_rowids.new.transaction.conn.now) = omega (arith, c.read_nodes.ensures.inside.clean, clean) in
     let still = c.in_ok-check_rowids.ensures.mode early inside in
     any_ok (IsTrue (state g.S.Store c.read_nodes.new.transaction.conn.now).in_transaction) c.check_rows.result (c.in_ok-rows.ensures.mode clean still)

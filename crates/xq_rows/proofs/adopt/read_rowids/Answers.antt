@@ -21,11 +21,15 @@ returns-clause-err g c clean =
     let new = state g.S.Store c.query_all.new.self.conn.now in
     each_err (IsQueryRefusal rowids_query old new) (λ e. fault_of e ≡ NotAStore → ¬ IsStoreSchema old.now.schema) c.query_all.result (λ e h n has. placed_told old new rowids_query e n node_tree rowids_program rowids_names rowids_are rowids_plain has h) (c.query_all.ensures.err clean)
 
-pub returns-clause-kept : goal.returns-clause-kept
-returns-clause-kept g c clean inside =
+pub returns-clause-inside : goal.returns-clause-inside
+returns-clause-inside g c =
     let old = state g.S.Store c.args.transaction.now.conn.now in
     let new = state g.S.Store c.query_all.new.self.conn.now in
-    query_kept old new rowids_query inside (λ (v : Vec Row Global). v.items) c.query_all.result (c.query_all.ensures.ok clean) (c.query_all.ensures.err clean)
+    record {
+      same_reference = c.query_all.ensures.same_reference;
+      clean = c.query_all.ensures.survives.clean;
+      kept = λ clean inside. query_kept old new rowids_query inside (λ (v : Vec Row Global). v.items) c.query_all.result (c.query_all.ensures.ok clean) (c.query_all.ensures.err clean);
+    }
 
 pub returns-clause-mode : goal.returns-clause-mode
 returns-clause-mode g c clean inside =

@@ -22,8 +22,8 @@ loop-at-preserved g c =
     let mid = state g.S.Store c.delete_part.new.transaction.conn.now in
     let last = state g.S.Store c.insert_rows.new.transaction.conn.now in
     let held = c.loop-at.invariant in
-    let cut = c.delete_part.ensures in
-    let put = c.insert_rows.ensures in
+    let cut = c.delete_part.ensures.inside in
+    let put = c.insert_rows.ensures.inside in
     record {
       same_reference = put.same_reference ∙ cut.same_reference ∙ held.same_reference;
       clean = omega (arith, held.clean, cut.clean, put.clean);
@@ -44,7 +44,7 @@ returns-clause-replaced g c clean =
     let first = state g.S.Store c.args.transaction.now.conn.now in
     let now = state g.S.Store c.loop-at.transaction.conn.now in
     let last = state g.S.Store c.delete_part-2.new.transaction.conn.now in
-    let early : HasCleanDisk now = omega (arith, c.delete_part-2.ensures.clean) in
+    let early : HasCleanDisk now = omega (arith, c.delete_part-2.ensures.inside.clean) in
     let done = c.in_ok-beyond.ensures.dropped clean in
     record {
       inside = done.inside.mode;

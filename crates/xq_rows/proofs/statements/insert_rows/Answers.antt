@@ -15,7 +15,7 @@ loop-row-preserved g c =
     let mid = state g.S.Store c.loop-row.transaction.conn.now in
     let last = state g.S.Store c.insert_row.new.transaction.conn.now in
     let held = c.loop-row.invariant in
-    let step = c.insert_row.ensures in
+    let step = c.insert_row.ensures.inside in
     record {
       same_reference = step.same_reference ∙ held.same_reference;
       clean = omega (arith, held.clean, step.clean);

@@ -15,9 +15,13 @@ returns-clause-same g c up has =
 pub returns-clause-rows : goal.returns-clause-rows
 returns-clause-rows g c up = all_ranges (λ (v : Vec Row Global). v.items) (state g.S.Store c.args.conn.now) (state g.S.Store c.query_all.new.self) c.args.address.now c.args.low c.args.high c.query_all.result (rw (c.params-to_sql.ensures, c.params-to_sql-2.ensures, c.params-to_sql-3.ensures) at (c.query_all.ensures.ok up.0))
 
-pub returns-clause-open : goal.returns-clause-open
-returns-clause-open g c up =
-    query_opens (λ (v : Vec Row Global). v.items) (state g.S.Store c.args.conn.now) (state g.S.Store c.query_all.new.self) range_text (Text c.args.address.now ∷ Int (pos c.args.low) ∷ Int (pos c.args.high) ∷ []) c.query_all.result up.1 (rw (c.params-to_sql.ensures, c.params-to_sql-2.ensures, c.params-to_sql-3.ensures) at (c.query_all.ensures.ok up.0)) (rw (c.params-to_sql.ensures, c.params-to_sql-2.ensures, c.params-to_sql-3.ensures) at (c.query_all.ensures.err up.0))
+pub returns-clause-outside : goal.returns-clause-outside
+returns-clause-outside g c =
+    record {
+      mode = c.query_all.ensures.mode c.requires;
+      clean = c.query_all.ensures.survives.clean;
+      was_open = λ up. query_opens (λ (v : Vec Row Global). v.items) (state g.S.Store c.args.conn.now) (state g.S.Store c.query_all.new.self) range_text (Text c.args.address.now ∷ Int (pos c.args.low) ∷ Int (pos c.args.high) ∷ []) c.query_all.result up.1 (rw (c.params-to_sql.ensures, c.params-to_sql-2.ensures, c.params-to_sql-3.ensures) at (c.query_all.ensures.ok up.0)) (rw (c.params-to_sql.ensures, c.params-to_sql-2.ensures, c.params-to_sql-3.ensures) at (c.query_all.ensures.err up.0));
+    }
 
 pub returns-clause-ends_open : goal.returns-clause-ends_open
 returns-clause-ends_open g c clean =

@@ -13,11 +13,15 @@ returns-clause-made g c clean =
     let new = state g.S.Store c.execute.new.self.conn.now in
     ran_inside node_text (MakesNode old.now new.now) old new _ c.execute.result (λ out. (c.execute.ensures.ended out).0) (c.execute.ensures.runs clean) (λ count h. record { second = λ has. makes_second old new count has h; never = λ has. makes_never old new count has h })
 
-pub returns-clause-kept : goal.returns-clause-kept
-returns-clause-kept g c clean =
+pub returns-clause-inside : goal.returns-clause-inside
+returns-clause-inside g c =
     let old = state g.S.Store c.args.transaction.now.conn.now in
     let new = state g.S.Store c.execute.new.self.conn.now in
-    kept_inside node_text old new c.execute.result (λ out. subst (λ (h : Held _). KeepsCommit old (state g.S.Store h)) (sym (c.execute.ensures.ended out).1) (kept_same old)) (c.execute.ensures.runs clean)
+    record {
+      same_reference = c.execute.ensures.same_reference;
+      clean = c.execute.ensures.survives.clean;
+      kept = λ clean. kept_inside node_text old new c.execute.result (λ out. subst (λ (h : Held _). KeepsCommit old (state g.S.Store h)) (sym (c.execute.ensures.ended out).1) (kept_same old)) (c.execute.ensures.runs clean);
+    }
 
 pub returns-clause-refused : goal.returns-clause-refused
 returns-clause-refused g c clean =

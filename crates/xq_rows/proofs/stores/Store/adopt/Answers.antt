@@ -16,16 +16,16 @@ pub returns-in-Ok-clause-both : goal.returns-in-Ok-clause-both
 returns-in-Ok-clause-both g c = never_one g.S.Store c.args.conn c.adopt_tables.new.conn c.in-Ok.ensures.ends_open c.in-Ok.ensures.adopted
 
 pub returns-in-Ok-clause-open : goal.returns-in-Ok-clause-open
-returns-in-Ok-clause-open g c = both_open g.S.Store c.args.conn c.adopt_tables.new.conn c.in-Ok.ensures.ends_open c.adopt_tables.ensures.open
+returns-in-Ok-clause-open g c = both_open g.S.Store c.args.conn c.adopt_tables.new.conn c.in-Ok.ensures.ends_open c.adopt_tables.ensures.outside.was_open
 
 pub returns-in-Ok-clause-was_clean : goal.returns-in-Ok-clause-was_clean
-returns-in-Ok-clause-was_clean g c = was_clean g.S.Store c.args.conn c.args.conn c.adopt_tables.new.conn refl c.adopt_tables.ensures.clean
+returns-in-Ok-clause-was_clean g c = was_clean g.S.Store c.args.conn c.args.conn c.adopt_tables.new.conn refl c.adopt_tables.ensures.outside.clean
 
 pub returns-in-Err-clause-still_clean : goal.returns-in-Err-clause-still_clean
-returns-in-Err-clause-still_clean g c = was_clean g.S.Store c.args.conn c.args.conn c.adopt_tables.new.conn refl c.adopt_tables.ensures.clean
+returns-in-Err-clause-still_clean g c = was_clean g.S.Store c.args.conn c.args.conn c.adopt_tables.new.conn refl c.adopt_tables.ensures.outside.clean
 
 pub returns-in-Err-clause-still_open : goal.returns-in-Err-clause-still_open
-returns-in-Err-clause-still_open g c = was_open g.S.Store c.args.conn c.args.conn c.adopt_tables.new.conn refl c.adopt_tables.ensures.open
+returns-in-Err-clause-still_open g c = was_open g.S.Store c.args.conn c.args.conn c.adopt_tables.new.conn refl c.adopt_tables.ensures.outside.was_open
 
 pub returns-in-Err-clause-no_store : goal.returns-in-Err-clause-no_store
 returns-in-Err-clause-no_store g c up none = told_none g.S.Store c.args.conn c.adopt_tables.new.conn c.in-Err.ensures.refused up none

@@ -4,25 +4,25 @@ use Rattle.xq_rows.proofs.stores.Store.drop_doc.Goals as goal
 
 pub returns-in_err-count-clause-kept : goal.returns-in_err-count-clause-kept
 returns-in_err-count-clause-kept g c clean m stands =
-    on_err (StandsFor g.S.Store c.drop_rows.new.conn m) _ (kept_stands g.S.Store c.self.inside.conn c.args.self.now c.drop_rows.new.conn c.self.view_is c.drop_rows.ensures.open c.in_err-count.ensures.kept clean m stands)
+    on_err (StandsFor g.S.Store c.drop_rows.new.conn m) _ (kept_stands g.S.Store c.self.inside.conn c.args.self.now c.drop_rows.new.conn c.self.view_is c.drop_rows.ensures.outside.was_open c.in_err-count.ensures.kept clean m stands)
 
 pub returns-clause-dropped : goal.returns-clause-dropped
-returns-clause-dropped g c = drop_stands g.S.Store c.self.inside.conn c.args.self.now c.drop_rows.new.conn c.self.view_is c.drop_rows.ensures.open c.in_ok-count.ensures.ends_open c.args.address.now c.in_ok-count.count c.in_ok-count.ensures.dropped
+returns-clause-dropped g c = drop_stands g.S.Store c.self.inside.conn c.args.self.now c.drop_rows.new.conn c.self.view_is c.drop_rows.ensures.outside.was_open c.in_ok-count.ensures.ends_open c.args.address.now c.in_ok-count.count c.in_ok-count.ensures.dropped
 
 pub returns-clause-answer : goal.returns-clause-answer
-returns-clause-answer g c = drop_answer g.S.Store c.self.inside.conn c.args.self.now c.drop_rows.new.conn c.self.view_is c.drop_rows.ensures.open c.in_ok-count.ensures.ends_open c.args.address.now c.in_ok-count.count c.in_ok-count.ensures.dropped
+returns-clause-answer g c = drop_answer g.S.Store c.self.inside.conn c.args.self.now c.drop_rows.new.conn c.self.view_is c.drop_rows.ensures.outside.was_open c.in_ok-count.ensures.ends_open c.args.address.now c.in_ok-count.count c.in_ok-count.ensures.dropped
 
 pub returns-clause-answered : goal.returns-clause-answered
 returns-clause-answered g c = leaves_open g.S.Store c.drop_rows.new.conn c.in_ok-count.ensures.ends_open
 
 pub returns-in_err-count-clause-was_open : goal.returns-in_err-count-clause-was_open
-returns-in_err-count-clause-was_open g c = was_open g.S.Store c.self.inside.conn c.args.self.now c.drop_rows.new.conn c.self.view_is c.drop_rows.ensures.open
+returns-in_err-count-clause-was_open g c = was_open g.S.Store c.self.inside.conn c.args.self.now c.drop_rows.new.conn c.self.view_is c.drop_rows.ensures.outside.was_open
 
 pub returns-in_err-count-clause-was_clean : goal.returns-in_err-count-clause-was_clean
-returns-in_err-count-clause-was_clean g c = was_clean g.S.Store c.self.inside.conn c.args.self.now c.drop_rows.new.conn c.self.view_is c.drop_rows.ensures.clean
+returns-in_err-count-clause-was_clean g c = was_clean g.S.Store c.self.inside.conn c.args.self.now c.drop_rows.new.conn c.self.view_is c.drop_rows.ensures.outside.clean
 
 pub returns-clause-was_open : goal.returns-clause-was_open
-returns-clause-was_open g c = was_open g.S.Store c.self.inside.conn c.args.self.now c.drop_rows.new.conn c.self.view_is c.drop_rows.ensures.open
+returns-clause-was_open g c = was_open g.S.Store c.self.inside.conn c.args.self.now c.drop_rows.new.conn c.self.view_is c.drop_rows.ensures.outside.was_open
 
 pub returns-clause-was_clean : goal.returns-clause-was_clean
-returns-clause-was_clean g c = was_clean g.S.Store c.self.inside.conn c.args.self.now c.drop_rows.new.conn c.self.view_is c.drop_rows.ensures.clean
+returns-clause-was_clean g c = was_clean g.S.Store c.self.inside.conn c.args.self.now c.drop_rows.new.conn c.self.view_is c.drop_rows.ensures.outside.clean

@@ -8,14 +8,14 @@ use Rattle.xq_rows.proofs.stores.Store.put.Goals as goal
 
 pub returns-in_err-replaced-clause-kept : goal.returns-in_err-replaced-clause-kept
 returns-in_err-replaced-clause-kept g c clean m stands =
-    on_err (StandsFor g.S.Store c.put_rows.new.conn m) _ (kept_stands g.S.Store c.self.inside.conn c.args.self.now c.put_rows.new.conn c.self.view_is c.put_rows.ensures.open c.in_err-replaced.ensures.kept clean m stands)
+    on_err (StandsFor g.S.Store c.put_rows.new.conn m) _ (kept_stands g.S.Store c.self.inside.conn c.args.self.now c.put_rows.new.conn c.self.view_is c.put_rows.ensures.outside.was_open c.in_err-replaced.ensures.kept clean m stands)
 
 pub returns-clause-put : goal.returns-clause-put
-returns-clause-put g c = put_stands g.S.Store c.self.inside.conn c.args.self.now c.put_rows.new.conn c.self.view_is c.put_rows.ensures.open c.in_ok-replaced.ensures.ends_open c.args.address.now c.requires.address c.args.document.now c.rows.result.now c.rows.ensures c.requires.document c.in_ok-replaced.replaced c.in_ok-replaced.ensures.put
+returns-clause-put g c = put_stands g.S.Store c.self.inside.conn c.args.self.now c.put_rows.new.conn c.self.view_is c.put_rows.ensures.outside.was_open c.in_ok-replaced.ensures.ends_open c.args.address.now c.requires.address c.args.document.now c.rows.result.now c.rows.ensures c.requires.document c.in_ok-replaced.replaced c.in_ok-replaced.ensures.put
 
 pub returns-clause-answer : goal.returns-clause-answer
 returns-clause-answer g c clean m stands =
-    let there = put_answer g.S.Store c.self.inside.conn c.args.self.now c.put_rows.new.conn c.self.view_is c.put_rows.ensures.open c.in_ok-replaced.ensures.ends_open c.args.address.now c.requires.address c.args.document.now c.rows.result.now c.rows.ensures c.requires.document c.in_ok-replaced.replaced c.in_ok-replaced.ensures.put clean m stands in
+    let there = put_answer g.S.Store c.self.inside.conn c.args.self.now c.put_rows.new.conn c.self.view_is c.put_rows.ensures.outside.was_open c.in_ok-replaced.ensures.ends_open c.args.address.now c.requires.address c.args.document.now c.rows.result.now c.rows.ensures c.requires.document c.in_ok-replaced.replaced c.in_ok-replaced.ensures.put clean m stands in
     elim c.if-replaced.branch [
       | then-replaced w ↦ w.put-is ∙ ap (λ b. if b then Replaced else Stored) (sym w.if-replaced.true ∙ there)
       | else-replaced w ↦ w.put-is ∙ ap (λ b. if b then Replaced else Stored) (sym w.if-replaced.false ∙ there)
@@ -28,13 +28,13 @@ pub returns-clause-answered : goal.returns-clause-answered
 returns-clause-answered g c = leaves_open g.S.Store c.put_rows.new.conn c.in_ok-replaced.ensures.ends_open
 
 pub returns-in_err-replaced-clause-was_open : goal.returns-in_err-replaced-clause-was_open
-returns-in_err-replaced-clause-was_open g c = was_open g.S.Store c.self.inside.conn c.args.self.now c.put_rows.new.conn c.self.view_is c.put_rows.ensures.open
+returns-in_err-replaced-clause-was_open g c = was_open g.S.Store c.self.inside.conn c.args.self.now c.put_rows.new.conn c.self.view_is c.put_rows.ensures.outside.was_open
 
 pub returns-in_err-replaced-clause-was_clean : goal.returns-in_err-replaced-clause-was_clean
-returns-in_err-replaced-clause-was_clean g c = was_clean g.S.Store c.self.inside.conn c.args.self.now c.put_rows.new.conn c.self.view_is c.put_rows.ensures.clean
+returns-in_err-replaced-clause-was_clean g c = was_clean g.S.Store c.self.inside.conn c.args.self.now c.put_rows.new.conn c.self.view_is c.put_rows.ensures.outside.clean
 
 pub returns-clause-was_open : goal.returns-clause-was_open
-returns-clause-was_open g c = was_open g.S.Store c.self.inside.conn c.args.self.now c.put_rows.new.conn c.self.view_is c.put_rows.ensures.open
+returns-clause-was_open g c = was_open g.S.Store c.self.inside.conn c.args.self.now c.put_rows.new.conn c.self.view_is c.put_rows.ensures.outside.was_open
 
 pub returns-clause-was_clean : goal.returns-clause-was_clean
-returns-clause-was_clean g c = was_clean g.S.Store c.self.inside.conn c.args.self.now c.put_rows.new.conn c.self.view_is c.put_rows.ensures.clean
+returns-clause-was_clean g c = was_clean g.S.Store c.self.inside.conn c.args.self.now c.put_rows.new.conn c.self.view_is c.put_rows.ensures.outside.clean

@@ -7,12 +7,12 @@ use Rattle.xq_rows.proofs.stores.Store.take_shelf.Goals as goal
 pub returns-in_ok-check_open-in-Some-clause-shelf : goal.returns-in_ok-check_open-in-Some-clause-shelf
 returns-in_ok-check_open-in-Some-clause-shelf g c =
     let kept = subst (Keeps g.S.Store c.self.inside.conn) (sym c.in-Some.ensures.value) c.self.invariant.keeps in
-    taken g.S.Store c.self.inside.conn c.args.self.now c.check_open.new.conn c.self.view_is c.check_open.ensures.clean c.check_open.ensures.open c.in-Some.shelf kept c.in_ok-check_open-in-Some.ensures.ends_open
+    taken g.S.Store c.self.inside.conn c.args.self.now c.check_open.new.conn c.self.view_is c.check_open.ensures.outside.clean c.check_open.ensures.outside.was_open c.in-Some.shelf kept c.in_ok-check_open-in-Some.ensures.ends_open
 
 pub returns-in_ok-check_open-in-Some-clause-own : goal.returns-in_ok-check_open-in-Some-clause-own
 returns-in_ok-check_open-in-Some-clause-own g c up stays =
     let kept = subst (Keeps g.S.Store c.self.inside.conn) (sym c.in-Some.ensures.value) c.self.invariant.keeps in
-    taken_own g.S.Store c.self.inside.conn c.args.self.now c.check_open.new.conn c.self.view_is c.check_open.ensures.clean c.check_open.ensures.open c.in-Some.shelf kept up
+    taken_own g.S.Store c.self.inside.conn c.args.self.now c.check_open.new.conn c.self.view_is c.check_open.ensures.outside.clean c.check_open.ensures.outside.was_open c.in-Some.shelf kept up
 
 pub returns-in_ok-check_open-in-Some-clause-answered : goal.returns-in_ok-check_open-in-Some-clause-answered
 returns-in_ok-check_open-in-Some-clause-answered g c = leaves_open g.S.Store c.check_open.new.conn c.in_ok-check_open-in-Some.ensures.ends_open
