@@ -7,7 +7,7 @@ program="$work/crates/timings"
 mkdir -p "$program/src"
 for crate in xq_atoms xq_characters xq_regions xq_tuples; do
     rm -rf "$work/crates/$crate"
-    cp -r "$top/crates/$crate" "$work/crates/"
+    cp -a "$top/crates/$crate" "$work/crates/"
 done
 cp "$top/bench/tuples/main.rattle" "$program/src/main.rt"
 { grep -E '^(xq_atoms|xq_characters|xq_regions|xq_tuples):' "$top/crates.txt"; echo 'timings: xq_atoms xq_regions xq_tuples anyhow'; } > "$work/crates.txt"

@@ -4,8 +4,7 @@
 #   bench/store/build.sh FOLDER
 #
 # The program cannot stand among the crates, since what it prints is another each time. So it is built in a
-# workspace of its own: copies of the crates, the program, and in the copy of xq_rows a public constructor of a
-# store in an empty file.
+# workspace of its own, over copies of the crates with what is built of them.
 set -eu
 here=$(cd "$(dirname "$0")" && pwd)
 top=$(cd "$here/../.." && pwd)
@@ -15,28 +14,12 @@ for name in xq_atoms xq_characters xq_regions xq_sources xq_memory_disk xq_rows;
     mkdir -p "$work/crates/$name"
     for part in src specs proofs out; do
         rm -rf "${work:?}/crates/$name/$part"
-        if [ -d "$top/crates/$name/$part" ]; then cp -r "$top/crates/$name/$part" "$work/crates/$name/"; fi
+        if [ -d "$top/crates/$name/$part" ]; then cp -a "$top/crates/$name/$part" "$work/crates/$name/"; fi
     done
     grep "^$name:" "$top/crates.txt"
 done > "$work/crates.txt"
 echo "bench: xq_atoms xq_regions xq_rows sqlite" >> "$work/crates.txt"
 cp "$here/main.rattle" "$work/crates/bench/src/main.rt"
-# Only the program is wanted here: the crate's tests are run by the gate.
-sed -i '/^#\[cfg(test)\]$/d; /^mod tests;$/d' "$work/crates/xq_rows/src/stores.rt"
-rm -rf "$work/crates/xq_rows/src/stores"
-cat >> "$work/crates/xq_rows/src/stores.rt" <<'RATTLE'
-
-impl<S: Alter + Drop> Store<S> {
-    /// A store in an empty database.
-    pub fn create(alloc: Global, mut conn: Connection<S>) -> Result<Store<S>, Want>
-        requires { conn.in_transaction ≡ false }
-    {
-        make_tables(&mut conn)?;
-        Ok(Store { alloc, conn, shelf: None })
-    }
-}
-RATTLE
-
 cd "$work/crates/bench"
 ${RT:-rt} run -- memory 10 > "$work/build.log" 2>&1 || { tail -20 "$work/build.log" >&2; exit 1; }
 find "$PWD/out" -maxdepth 1 -type f -perm -u+x | head -1
