@@ -62,9 +62,11 @@ def times(program, size):
     text = "\n".join(lines)
     done = subprocess.run([program], input=text.encode(), stdout=subprocess.PIPE, check=True)
     found = [line.split() for line in done.stdout.decode().splitlines()]
-    if len(found) != TURNS * 2 * len(CALLS) or any(len(words) != 4 for words in found):
+    if len(found) != 2 * TURNS * 2 * len(CALLS) or any(len(words) != 4 for words in found):
         sys.exit(done.stdout.decode()[-300:])
-    least = [min(int(words[0]) for words in found[n:n + TURNS]) / 1000 for n in range(0, len(found), TURNS)]
+    # (a query makes its input, so turns that begin with empty caches are as the others)
+    groups = [found[n:n + 2 * TURNS] for n in range(0, len(found), 2 * TURNS)]
+    least = [min(int(words[0]) for words in group) / 1000 for group in groups]
     return [(max(0.0, whole - given) / CALLS_EACH, given) for given, whole in zip(least[::2], least[1::2])]
 
 
