@@ -15,7 +15,7 @@ ghost use Rattle.xq_rows.specs.Statements.{MakesStore};
 ghost use Rattle.xq_rows.specs.Tables.{no_schema, IsStoreSchema};
 
 use crate::faults::OpenFault;
-use crate::readings::node_row;
+use crate::rows::node_row;
 use crate::refusals::Refusal;
 use crate::tables::{make_both, write_edition};
 use sqlite::types::ValueRef;
