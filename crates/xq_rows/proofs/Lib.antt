@@ -25,3 +25,4 @@ pub mod Adopts
 pub mod Runs
 pub mod Adoptions
 pub mod Parents
+pub mod Streams

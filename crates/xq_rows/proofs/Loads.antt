@@ -127,11 +127,6 @@ read_range_is db a low high given list range read schema =
     let same = read ∙ all_six (filter (λ r. is_at a r && is_within low high r) (node_rows db)) given it.same in
     subst (IsPicked (λ r. is_at a r && is_within low high r) kept (node_rows db)) (sym same) it
 
-pub nodes_read : {X E : Type 0} (db : Database) (a : List ℕ) (low high : ℕ) (given : List Row) (list : X → List NodeRow) (r : Result X E) → IsRange a low high db given
-    → IfOk r (λ nodes. map cells (map placed (list nodes)) ≡ map node_of given) → IfOk r (λ nodes. IsRange a low high db (map cells (map placed (list nodes))))
-nodes_read db a low high given list (Err e) range read = tt
-nodes_read db a low high given list (Ok nodes) range read = read_range_is db a low high given (list nodes) range read
-
 pub above_read_is : (db : Database) (a : List ℕ) (v : ℕ) (given : List Row) (list : List NodeRow) → AreAbove a v db given
     → map cells (map placed list) ≡ map node_of given → AreAbove a v db (map cells (map placed list))
 above_read_is db a v given list shown read store =

@@ -244,7 +244,7 @@ query_keeps show old new sql params (Ok x) plain has settled up ok err = shown_k
 query_keeps show old new sql params (Err e) plain has settled up ok err = refused_keeps old new sql params e (plain_under old.now.schema sql plain has) settled up err
 
 -- a query that runs, or is refused, finds the connection open where it leaves it open
-shown_opens : (old new : State) (sql : List ℕ) (params : Row) (rows : List Row) → Shown sql params old new rows → IsTrue old.is_open
+pub shown_opens : (old new : State) (sql : List ℕ) (params : Row) (rows : List Row) → Shown sql params old new rows → IsTrue old.is_open
 unfolding Shown
 shown_opens old new sql params rows (c, it, h) = go c.returning h
   where
@@ -256,7 +256,7 @@ command_opens : (old new : State) (sql : List ℕ) (c : Compiled) (params : Row)
 command_opens old new sql c params e up (inl h) = h.1.0.was_open
 command_opens old new sql c params e up (inr h) = h.3.was_open up
 
-refused_opens : (old new : State) (sql : List ℕ) (params : Row) (e : Error) → IsTrue new.is_open → FailsToQuery sql params old new e → IsTrue old.is_open
+pub refused_opens : (old new : State) (sql : List ℕ) (params : Row) (e : Error) → IsTrue new.is_open → FailsToQuery sql params old new e → IsTrue old.is_open
 unfolding FailsToQuery IsNotRun
 refused_opens old new sql params e up (inl (inl h)) = h.1.0.was_open
 refused_opens old new sql params e up (inl (inr h)) = h.3.was_open up
@@ -270,11 +270,6 @@ pub query_opens : {X : Type 0} (show : X → List Row) (old new : State) (sql : 
     → IfOk r (λ x. Shown sql params old new (show x)) → IfErr r (FailsToQuery sql params old new) → IsTrue old.is_open
 query_opens show old new sql params (Ok x) up ok err = shown_opens old new sql params (show x) ok
 query_opens show old new sql params (Err e) up ok err = refused_opens old new sql params e up err
-
-pub all_ranges : {X : Type 0} (show : X → List Row) (old new : State) (address : List ℕ) (low high : ℕ) (r : Result X Error) → IfOk r (λ x. Shown range_text (Text address ∷ Int (pos low) ∷ Int (pos high) ∷ []) old new (show x))
-    → IfOk r (λ x. IsRange address low high old.now (show x))
-all_ranges show old new address low high (Ok x) h = ranges old new address low high (show x) h
-all_ranges show old new address low high (Err e) h = tt
 
 pub all_lists : {X : Type 0} (show : X → List Row) (old new : State) (r : Result X Error) → IfOk r (λ x. Shown addresses_text [] old new (show x)) → IfOk r (λ x. AreAddresses old.now (show x))
 all_lists show old new (Ok x) h = lists old new (show x) h

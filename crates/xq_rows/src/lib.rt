@@ -14,6 +14,7 @@ mod memory_files;
 mod readings;
 mod refusals;
 mod replacements;
+mod rows;
 mod schemas;
 mod statements;
 mod stores;

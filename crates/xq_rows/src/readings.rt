@@ -1,66 +1,24 @@
 //! What a store reads of its database: the nodes of an address, and the addresses.
-ghost use Rattle.std.specs.Prelude.{◌≡◌, ◌≢◌, [], ◌∷◌, None, IfErr, IfOk, IfSome, IsTrue, OnOk, false, map, string_bytes};
+ghost use Rattle.std.specs.Prelude.{◌≡◌, [], ◌∷◌, IfOk, IfSome, IsTrue, OnOk, false, map, string_bytes};
 ghost use Rattle.sqlite.specs.State.{HasCleanDisk};
 ghost use Rattle.sqlite.specs.Held.{state};
 ghost use Rattle.xq_rows.specs.Documents.{IsReady};
 ghost use Rattle.xq_rows.specs.Statements.{AreAbove, AreAddresses, Finds, IsRange};
-ghost use Rattle.xq_rows.specs.Refusals.{want_of};
 ghost use Rattle.xq_rows.specs.private.Keeps.{StaysOutside};
 ghost use Rattle.xq_rows.specs.Tables.{IsStoreSchema};
 ghost use Rattle.sqlite_value.specs.Order.{column};
 ghost use Rattle.sqlite_value.specs.declared.value.Value.TheVariants.{Text};
 ghost use Rattle.xq_regions.specs.Rows.{placed};
 ghost use Rattle.xq_regions.specs.Tree.{IsDocument};
-ghost use Rattle.xq_rows.specs.Nodes.{IsReadable, cells, node_of, number_of};
+ghost use Rattle.xq_rows.specs.Nodes.{cells, node_of};
 
 use crate::refusals::Refusal;
+use crate::rows::node_row;
 use crate::statements::{prepare_edition, read_addresses, read_enclosing, read_range};
-use sqlite::{Alter, Connection, Error, ErrorCode, Row};
+use sqlite::{Alter, Connection, Row};
 use std::alloc::Global;
 use xq_atoms::Want;
-use xq_regions::{Fragment, Kind, NodeRow};
-
-/// The kind that a number stands for in the tables.
-fn kind_of(number: u32) -> Option<Kind>
-    ensures some { IfSome result (λ kind. number ≡ number_of kind) }
-    ensures none { result ≡ None → (kind : _) → number ≢ number_of kind }
-{
-    match number {
-        0 => Some(Kind::Document),
-        1 => Some(Kind::Element),
-        2 => Some(Kind::Attribute),
-        3 => Some(Kind::Text),
-        4 => Some(Kind::Comment),
-        5 => Some(Kind::ProcessingInstruction),
-        _ => None,
-    }
-}
-
-/// The node of a row with the columns pre, size, level, kind, name and value. A row that is no
-/// node's tells of a damaged database.
-pub fn node_row(row: &Row) -> Result<NodeRow, Refusal>
-    ensures ok { IfOk result (λ node. cells (placed node) ≡ node_of row.now) }
-    ensures err { IfErr result (λ refusal. want_of refusal.0 ≡ Want.Store
-        → ¬ (IsReadable (node_of row.now))) }
-{
-    let pre = row.get::<u32>(0)?;
-    let size = row.get::<u32>(1)?;
-    let level = row.get::<u32>(2)?;
-    let number = row.get::<u32>(3)?;
-    let name = row.get::<String>(4)?;
-    let value = row.get::<String>(5)?;
-    let Some(kind) = kind_of(number) else {
-        return Err(Refusal(Error::SqliteFailure(ErrorCode::DatabaseCorrupt)));
-    };
-    Ok(NodeRow {
-        pre,
-        size,
-        level,
-        kind,
-        name,
-        value,
-    })
-}
+use xq_regions::{Fragment, NodeRow};
 
 /// The nodes of rows.
 fn node_rows(alloc: Global, rows: &[Row]) -> Result<Vec<NodeRow>, Want>
@@ -92,27 +50,6 @@ fn texts(alloc: Global, rows: &[Row]) -> Result<Vec<String>, Want>
     Ok(texts)
 }
 
-/// The rows of an address whose numbers are from `low` to `high`, in the order of their numbers.
-fn rows_between<S: Alter>(
-    conn: &mut Connection<S>,
-    address: &str,
-    low: u32,
-    high: u32,
-) -> Result<Vec<Row>, Refusal>
-    requires { conn.old.in_transaction ≡ false }
-    ensures outside { StaysOutside S.Store conn.old conn.new }
-    ensures ends_open { HasCleanDisk (state S.Store conn.new)
-        → OnOk result (IsTrue (state S.Store conn.new).is_open) }
-    ensures same { IsReady (state S.Store conn.new)
-        → IsStoreSchema (state S.Store conn.old).now.schema
-        → (state S.Store conn.new).now ≡ (state S.Store conn.old).now }
-    ensures rows { IsReady (state S.Store conn.new)
-        → IfOk result (λ rows. IsRange address.now low high
-        (state S.Store conn.old).now rows.items) }
-{
-    Ok(read_range(conn, address, low, high)?)
-}
-
 /// The nodes of an address from `low` to `high`, in document order; there are none where it is
 /// absent.
 pub fn nodes_between<S: Alter>(
@@ -133,8 +70,7 @@ pub fn nodes_between<S: Alter>(
         → IfOk result (λ nodes. IsRange address.now low high (state S.Store conn.old).now
         (map cells (map placed nodes.items))) }
 {
-    let rows = rows_between(conn, address, low, high)?;
-    node_rows(alloc, &rows)
+    Ok(read_range(alloc, conn, address, low, high)?)
 }
 
 /// The rows of an address that are those of nodes above a node.

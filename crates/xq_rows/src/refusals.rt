@@ -3,6 +3,7 @@
 ghost use Rattle.std.specs.Prelude.{◌≡◌};
 
 use sqlite::{Error, ErrorCode};
+use std::alloc::AllocFailed;
 use xq_atoms::Want;
 
 /// A refusal of the database, on its way to the caller of a store.
@@ -14,6 +15,18 @@ impl From<Error> for Refusal {
 
     fn from(error: Error) -> Self {
         Refusal(error)
+    }
+}
+
+/// What is refused for memory is refused as the database refuses it.
+impl<T: Drop> From<AllocFailed<T>> for Refusal {
+    ghost use Rattle.sqlite.specs.declared.error.ErrorCode.TheVariants.{OutOfMemory};
+    ghost use Rattle.sqlite.specs.declared.error.Error.TheVariants.{SqliteFailure};
+
+    ghost from_gives = { λ _ refusal. refusal.0 ≡ SqliteFailure OutOfMemory };
+
+    fn from(failed: AllocFailed<T>) -> Self {
+        Refusal(Error::from(failed))
     }
 }
 

@@ -12,7 +12,10 @@ ghost use Rattle.xq_rows.specs.Statements.{Adds, AreAbove, AreAddresses, Drops, 
 ghost use Rattle.xq_rows.specs.private.Keeps.{StaysInside, StaysOutside};
 ghost use Rattle.xq_rows.specs.Tables.{IsStoreSchema};
 
+use crate::refusals::Refusal;
+use crate::rows::rest_as_nodes;
 use sqlite::{Alter, Connection, Error, Row, Transaction, params};
+use std::alloc::Global;
 use xq_regions::{Kind, NodeRow};
 
 /// The number that stands for a kind in the tables.
@@ -99,13 +102,14 @@ pub fn insert_rows<S: Alter>(
 }
 
 /// Reads the rows of an address whose numbers are from `low` to `high`, in the order of their
-/// numbers: the columns pre, size, level, kind, name and value.
+/// numbers, as nodes.
 pub fn read_range<S: Alter>(
+    alloc: Global,
     conn: &mut Connection<S>,
     address: &str,
     low: u32,
     high: u32,
-) -> Result<Vec<Row>, Error>
+) -> Result<Vec<NodeRow>, Refusal>
     requires { conn.old.in_transaction ≡ false }
     ensures outside { StaysOutside S.Store conn.old conn.new }
     ensures ends_open { HasCleanDisk (state S.Store conn.new)
@@ -113,19 +117,20 @@ pub fn read_range<S: Alter>(
     ensures same { IsReady (state S.Store conn.new)
         → IsStoreSchema (state S.Store conn.old).now.schema
         → (state S.Store conn.new).now ≡ (state S.Store conn.old).now }
-    ensures rows { IsReady (state S.Store conn.new)
-        → IfOk result (λ rows. IsRange address.now low high
-        (state S.Store conn.old).now rows.items) }
+    ensures nodes { IsReady (state S.Store conn.new)
+        → IfOk result (λ nodes. IsRange address.now low high (state S.Store conn.old).now
+        (map cells (map placed nodes.items))) }
 {
     let _settled = conn.is_autocommit();
-    conn.query_all(
+    let mut rows = conn.query(
         "SELECT pre, size, level, kind, name, value FROM node WHERE address = ?1 AND pre >= ?2 AND pre <= ?3 ORDER BY pre",
         params![address, low, high],
-    )
+    )?;
+    rest_as_nodes(alloc, &mut rows)
 }
 
 /// Reads the rows of an address whose numbers are less than that of a node, and at least that with
-/// their sizes, in the order of their numbers: the columns as [`read_range`] gives them.
+/// their sizes, in the order of their numbers: the columns pre, size, level, kind, name and value.
 pub fn read_enclosing<S: Alter>(
     conn: &mut Connection<S>,
     address: &str,

@@ -1,0 +1,86 @@
+//! What rows of the tables are read as, and the reading of an answer to its end.
+ghost use Rattle.std.specs.Prelude.{◌≡◌, ◌≢◌, ◌≤◌, false, None, IfErr, IfOk, IfSome, IsTrue, OnOk, map};
+ghost use Rattle.sqlite.specs.State.{HasCleanDisk};
+ghost use Rattle.sqlite.specs.Held.{state};
+ghost use Rattle.sqlite_trees.specs.View.{doubt};
+ghost use Rattle.xq_regions.specs.Rows.{placed};
+ghost use Rattle.xq_rows.specs.Documents.{IsReady};
+ghost use Rattle.xq_rows.specs.Nodes.{IsReadable, cells, node_of, number_of};
+ghost use Rattle.xq_rows.specs.Refusals.{want_of};
+ghost use Rattle.xq_rows.specs.private.Streams.{Gives, Stays};
+
+use crate::refusals::Refusal;
+use sqlite::{Alter, Error, ErrorCode, Row, Rows};
+use std::alloc::Global;
+use xq_atoms::Want;
+use xq_regions::{Kind, NodeRow};
+
+/// The kind that a number stands for in the tables.
+fn kind_of(number: u32) -> Option<Kind>
+    ensures some { IfSome result (λ kind. number ≡ number_of kind) }
+    ensures none { result ≡ None → (kind : _) → number ≢ number_of kind }
+{
+    match number {
+        0 => Some(Kind::Document),
+        1 => Some(Kind::Element),
+        2 => Some(Kind::Attribute),
+        3 => Some(Kind::Text),
+        4 => Some(Kind::Comment),
+        5 => Some(Kind::ProcessingInstruction),
+        _ => None,
+    }
+}
+
+/// The node of a row with the columns pre, size, level, kind, name and value. A row that is no
+/// node's tells of a damaged database.
+pub fn node_row(row: &Row) -> Result<NodeRow, Refusal>
+    ensures ok { IfOk result (λ node. cells (placed node) ≡ node_of row.now) }
+    ensures err { IfErr result (λ refusal. want_of refusal.0 ≡ Want.Store
+        → ¬ (IsReadable (node_of row.now))) }
+{
+    let pre = row.get::<u32>(0)?;
+    let size = row.get::<u32>(1)?;
+    let level = row.get::<u32>(2)?;
+    let number = row.get::<u32>(3)?;
+    let name = row.get::<String>(4)?;
+    let value = row.get::<String>(5)?;
+    let Some(kind) = kind_of(number) else {
+        return Err(Refusal(Error::SqliteFailure(ErrorCode::DatabaseCorrupt)));
+    };
+    Ok(NodeRow {
+        pre,
+        size,
+        level,
+        kind,
+        name,
+        value,
+    })
+}
+
+/// The nodes of the rows that an answer gives from here on. One that would not end is refused.
+pub fn rest_as_nodes<S: Alter>(
+    alloc: Global,
+    rows: &mut Rows<'_, S>,
+) -> Result<Vec<NodeRow>, Refusal>
+    ensures same_reference { rows.new.conn.ghost_name ≡ rows.old.conn.ghost_name }
+    ensures mode { rows.old.conn.now.in_transaction ≡ false
+        → rows.new.conn.now.in_transaction ≡ false }
+    ensures clean { doubt (state S.Store rows.old.conn.now).is_clean
+        ≤ doubt (state S.Store rows.new.conn.now).is_clean }
+    ensures stays { IsReady (state S.Store rows.new.conn.now)
+        → Stays (state S.Store rows.old.conn.now) (state S.Store rows.new.conn.now) }
+    ensures ends_open { HasCleanDisk (state S.Store rows.new.conn.now)
+        → OnOk result (IsTrue (state S.Store rows.new.conn.now).is_open) }
+    ensures nodes { HasCleanDisk (state S.Store rows.new.conn.now)
+        → IfOk result (λ nodes. Gives S.Store rows.old.conn.now rows.new.conn.now
+        (λ given. map cells (map placed nodes.items) ≡ map node_of given)) }
+{
+    let mut nodes = Vec::new(alloc);
+    for _ in 0..u64::MAX {
+        let Some(row) = rows.next()? else {
+            return Ok(nodes);
+        };
+        nodes.push(node_row(row)?)?;
+    }
+    Err(Refusal(Error::SqliteFailure(ErrorCode::TooBig)))
+}
