@@ -225,8 +225,3 @@ read_addresses_is db given list shown read schema =
     sym (map-map (λ v. v ∷ []) Text list) ∙ ap (map (λ v. v ∷ [])) read ∙ map-map (λ v. v ∷ []) (λ r. column r 0) given
     ∙ singles (filter is_first (node_rows db)) given (λ r. column r 1 ∷ []) (λ r. refl) it.same in
     subst (IsPicked is_first (λ r. column r 1 ∷ []) (node_rows db)) (sym same) it
-
-pub addresses_read : {X E : Type 0} (db : Database) (given : List Row) (list : X → List (List ℕ)) (r : Result X E) → AreAddresses db given
-    → IfOk r (λ all. map Text (list all) ≡ map (λ r. column r 0) given) → IfOk r (λ all. AreAddresses db (map alone (list all)))
-addresses_read db given list (Err e) shown read = tt
-addresses_read db given list (Ok all) shown read = read_addresses_is db given (list all) shown read

@@ -24,8 +24,7 @@ shown_since sql params old mid new rows plain same h =
     let now : mid.now ≡ old.now = same.0.now_is in
     let is = subst (λ (d : Database). understood d.schema sql ≡ Ok h.0) now h.1.is in
     let none = (subst IsPlain is plain).0 in
-    let it = rw none at h.2 in
-    (
+    let it = rw none at h.2 in (
       h.0,
       record { is = is; whole = h.1.whole; given = h.1.given; now = h.1.now },
       subst (ShowsRows old new sql h.0 (timed params h.0.formats h.1.now) rows) (sym none) (it.0, subst (λ (d : Database). IsSourceOf (reads_listing d.schema sql) d it.0) now it.1, it.2, unchanged_then old mid new same it.3),

@@ -15,8 +15,8 @@ ghost use Rattle.xq_rows.specs.Statements.{MakesStore};
 ghost use Rattle.xq_rows.specs.Tables.{no_schema, IsStoreSchema};
 
 use crate::faults::OpenFault;
-use crate::rows::node_row;
 use crate::refusals::Refusal;
+use crate::rows::node_row;
 use crate::tables::{make_both, write_edition};
 use sqlite::types::ValueRef;
 use sqlite::{Alter, Connection, Error, ErrorCode, Row, Transaction};

@@ -21,9 +21,8 @@ loop-preserved g c =
     let node = c.in_ok-node_row.field-0 in
     let before = c.loop.nodes.items in
     let wider : map cells (map placed c.push.new.self.items) ≡ map cells (map placed before) ++ cells (placed node) ∷ [] =
-    ap (λ l. map cells (map placed l)) c.in_ok-push.ensures.items ∙ ap (map cells) (map-append placed before (node ∷ [])) ∙ map-append cells (map placed before) (placed node ∷ []) in
-    (
+    ap (λ l. map cells (map placed l)) c.in_ok-push.ensures.items ∙ ap (map cells) (map-append placed before (node ∷ [])) ∙ map-append cells (map placed before) (placed node ∷ []) in (
       moved.same_reference ∙ c.loop.invariant.0,
       one_more g.S.Store c.args.rows.now.conn.now mid now _ c.loop.invariant.1 moved.survives.clean (λ clean. rw c.in_ok-row.was at (moved.same clean)) row _ moved.mode (λ clean. rw (c.in_ok-row.was, c.in-Some.is) at (moved.ok clean))
-      (λ rows same. wider ∙ ap₂ (λ l x. l ++ x ∷ []) same c.in_ok-node_row.ensures.ok ∙ sym (map-append node_of rows (row ∷ []))),
+          (λ rows same. wider ∙ ap₂ (λ l x. l ++ x ∷ []) same c.in_ok-node_row.ensures.ok ∙ sym (map-append node_of rows (row ∷ []))),
     )

@@ -55,7 +55,7 @@ returns-clause-nodes g c up =
     IfOk-weaker c.rest_as_nodes.result (λ (nodes : Vec NodeRow Global). Gives g.S.Store c.in_ok-rows.rows.conn.now c.rest_as_nodes.new.rows.conn.now (λ given. map cells (map placed nodes.items) ≡ map node_of given))
     (λ (nodes : Vec NodeRow Global). IsRange c.args.address.now c.args.low c.args.high db (map cells (map placed nodes.items)))
     (λ nodes gives has.
-        let all = gives_shown g.S.Store range_text params c.args.conn.now c.in_ok-rows.rows.conn.now begun (plain has) c.rest_as_nodes.new.rows.conn.now _ gives in
-        let range = ranges (state g.S.Store c.args.conn.now) (state g.S.Store c.rest_as_nodes.new.rows.conn.now) c.args.address.now c.args.low c.args.high all.0 all.1 in
-        read_range_is db c.args.address.now c.args.low c.args.high all.0 nodes.items range all.2 has)
+    let all = gives_shown g.S.Store range_text params c.args.conn.now c.in_ok-rows.rows.conn.now begun (plain has) c.rest_as_nodes.new.rows.conn.now _ gives in
+    let range = ranges (state g.S.Store c.args.conn.now) (state g.S.Store c.rest_as_nodes.new.rows.conn.now) c.args.address.now c.args.low c.args.high all.0 all.1 in
+    read_range_is db c.args.address.now c.args.low c.args.high all.0 nodes.items range all.2 has)
     (c.rest_as_nodes.ensures.nodes late.0)
