@@ -1,5 +1,5 @@
 -- The addresses that a SELECT gives are the keys of the map.
-use Rattle.std.proofs.Common.{◌≡◌, ◌⊎◌, ◌+◌, ◌<◌, ◌≤◌, ◌||◌, inl, inr, ℕ, zero, suc, pos, Bool, true, false, cond, List, [], ◌∷◌, map, filter, length, refl, sym, ap, subst, ◌∙◌, arith, Less, Some, None, T, Result, Ok, Err, IfOk}
+use Rattle.std.proofs.Common.{◌≡◌, ◌⊎◌, ◌+◌, ◌<◌, ◌≤◌, ◌||◌, inl, inr, ℕ, zero, suc, pos, Bool, true, false, cond, List, [], ◌∷◌, map, filter, length, refl, sym, ap, subst, ◌∙◌, arith, Less, Some, None, T}
 use Rattle.std.specs.Ordering.{is_eq, eq_by_cmp}
 use Rattle.std.specs.Prelude.{slice_get}
 use Rattle.std.specs.FinMap.{entries, find, get, get-entries, keys, values, from_entries, from_sorted, is_sorted, same_map, get-from_entries, get-from_sorted, entries-from_sorted}
@@ -225,8 +225,3 @@ read_addresses_is db given list shown read schema =
     sym (map-map (λ v. v ∷ []) Text list) ∙ ap (map (λ v. v ∷ [])) read ∙ map-map (λ v. v ∷ []) (λ r. column r 0) given
     ∙ singles (filter is_first (node_rows db)) given (λ r. column r 1 ∷ []) (λ r. refl) it.same in
     subst (IsPicked is_first (λ r. column r 1 ∷ []) (node_rows db)) (sym same) it
-
-pub addresses_read : {X E : Type 0} (db : Database) (given : List Row) (list : X → List (List ℕ)) (r : Result X E) → AreAddresses db given
-    → IfOk r (λ all. map Text (list all) ≡ map (λ r. column r 0) given) → IfOk r (λ all. AreAddresses db (map alone (list all)))
-addresses_read db given list (Err e) shown read = tt
-addresses_read db given list (Ok all) shown read = read_addresses_is db given (list all) shown read

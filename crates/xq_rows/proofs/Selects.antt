@@ -271,10 +271,6 @@ pub query_opens : {X : Type 0} (show : X → List Row) (old new : State) (sql : 
 query_opens show old new sql params (Ok x) up ok err = shown_opens old new sql params (show x) ok
 query_opens show old new sql params (Err e) up ok err = refused_opens old new sql params e up err
 
-pub all_lists : {X : Type 0} (show : X → List Row) (old new : State) (r : Result X Error) → IfOk r (λ x. Shown addresses_text [] old new (show x)) → IfOk r (λ x. AreAddresses old.now (show x))
-all_lists show old new (Ok x) h = lists old new (show x) h
-all_lists show old new (Err e) h = tt
-
 -- a query that answers leaves the connection open
 shown_ends : (old new : State) (sql : List ℕ) (params : Row) (rows : List Row) → Shown sql params old new rows → IsTrue new.is_open
 unfolding Shown

@@ -6,7 +6,6 @@ ghost use Rattle.xq_rows.specs.Documents.{IsReady};
 ghost use Rattle.xq_rows.specs.Statements.{AreAbove, AreAddresses, Finds, IsRange};
 ghost use Rattle.xq_rows.specs.private.Keeps.{StaysOutside};
 ghost use Rattle.xq_rows.specs.Tables.{IsStoreSchema};
-ghost use Rattle.sqlite_value.specs.Order.{column};
 ghost use Rattle.sqlite_value.specs.declared.value.Value.TheVariants.{Text};
 ghost use Rattle.xq_regions.specs.Rows.{placed};
 ghost use Rattle.xq_regions.specs.Tree.{IsDocument};
@@ -29,25 +28,6 @@ fn node_rows(alloc: Global, rows: &[Row]) -> Result<Vec<NodeRow>, Want>
         nodes.push(node_row(row)?)?;
     }
     Ok(nodes)
-}
-
-/// The text of a row's one column.
-fn text_of(row: &Row) -> Result<String, Refusal>
-    ensures { IfOk result (λ text. Text (string_bytes text) ≡ column row.now 0) }
-{
-    Ok(row.get::<String>(0)?)
-}
-
-/// The texts of rows of one column.
-fn texts(alloc: Global, rows: &[Row]) -> Result<Vec<String>, Want>
-    ensures { IfOk result (λ texts. map Text (map string_bytes texts.items)
-        ≡ map (λ r. column r 0) rows.now) }
-{
-    let mut texts = Vec::with_capacity(alloc, rows.len())?;
-    for row in rows {
-        texts.push(text_of(row)?)?;
-    }
-    Ok(texts)
 }
 
 /// The nodes of an address from `low` to `high`, in document order; there are none where it is
@@ -133,21 +113,6 @@ pub fn document_of(nodes: Vec<NodeRow>) -> Result<Option<Fragment>, Want>
     }
 }
 
-/// The rows of the addresses.
-fn address_rows<S: Alter>(conn: &mut Connection<S>) -> Result<Vec<Row>, Refusal>
-    requires { conn.old.in_transaction ≡ false }
-    ensures outside { StaysOutside S.Store conn.old conn.new }
-    ensures ends_open { HasCleanDisk (state S.Store conn.new)
-        → OnOk result (IsTrue (state S.Store conn.new).is_open) }
-    ensures same { IsReady (state S.Store conn.new)
-        → IsStoreSchema (state S.Store conn.old).now.schema
-        → (state S.Store conn.new).now ≡ (state S.Store conn.old).now }
-    ensures rows { IsReady (state S.Store conn.new)
-        → IfOk result (λ rows. AreAddresses (state S.Store conn.old).now rows.items) }
-{
-    Ok(read_addresses(conn)?)
-}
-
 /// The addresses in the order of their bytes.
 pub fn list_addresses<S: Alter>(
     alloc: Global,
@@ -164,8 +129,7 @@ pub fn list_addresses<S: Alter>(
         → IfOk result (λ all. AreAddresses (state S.Store conn.old).now
         (map (λ bytes. Text bytes ∷ []) (map string_bytes all.items))) }
 {
-    let rows = address_rows(conn)?;
-    texts(alloc, &rows)
+    Ok(read_addresses(alloc, conn)?)
 }
 
 /// Refuses where the database is shut.

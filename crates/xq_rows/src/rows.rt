@@ -1,8 +1,10 @@
 //! What rows of the tables are read as, and the reading of an answer to its end.
-ghost use Rattle.std.specs.Prelude.{◌≡◌, ◌≢◌, ◌≤◌, false, None, IfErr, IfOk, IfSome, IsTrue, OnOk, map};
+ghost use Rattle.std.specs.Prelude.{◌≡◌, ◌≢◌, ◌≤◌, false, None, IfErr, IfOk, IfSome, IsTrue, OnOk, map, string_bytes};
 ghost use Rattle.sqlite.specs.State.{HasCleanDisk};
 ghost use Rattle.sqlite.specs.Held.{state};
 ghost use Rattle.sqlite_trees.specs.View.{doubt};
+ghost use Rattle.sqlite_value.specs.Order.{column};
+ghost use Rattle.sqlite_value.specs.declared.value.Value.TheVariants.{Text};
 ghost use Rattle.xq_regions.specs.Rows.{placed};
 ghost use Rattle.xq_rows.specs.Documents.{IsReady};
 ghost use Rattle.xq_rows.specs.Nodes.{IsReadable, cells, node_of, number_of};
@@ -57,6 +59,13 @@ pub fn node_row(row: &Row) -> Result<NodeRow, Refusal>
     })
 }
 
+/// The text of a row's one column.
+fn text_of(row: &Row) -> Result<String, Refusal>
+    ensures { IfOk result (λ text. Text (string_bytes text) ≡ column row.now 0) }
+{
+    Ok(row.get::<String>(0)?)
+}
+
 /// The nodes of the rows that an answer gives from here on. One that would not end is refused.
 pub fn rest_as_nodes<S: Alter>(
     alloc: Global,
@@ -81,6 +90,35 @@ pub fn rest_as_nodes<S: Alter>(
             return Ok(nodes);
         };
         nodes.push(node_row(row)?)?;
+    }
+    Err(Refusal(Error::SqliteFailure(ErrorCode::TooBig)))
+}
+
+/// The texts of the rows of one column that an answer gives from here on. One that would not end
+/// is refused.
+pub fn rest_as_texts<S: Alter>(
+    alloc: Global,
+    rows: &mut Rows<'_, S>,
+) -> Result<Vec<String>, Refusal>
+    ensures same_reference { rows.new.conn.ghost_name ≡ rows.old.conn.ghost_name }
+    ensures mode { rows.old.conn.now.in_transaction ≡ false
+        → rows.new.conn.now.in_transaction ≡ false }
+    ensures clean { doubt (state S.Store rows.old.conn.now).is_clean
+        ≤ doubt (state S.Store rows.new.conn.now).is_clean }
+    ensures stays { IsReady (state S.Store rows.new.conn.now)
+        → Stays (state S.Store rows.old.conn.now) (state S.Store rows.new.conn.now) }
+    ensures ends_open { HasCleanDisk (state S.Store rows.new.conn.now)
+        → OnOk result (IsTrue (state S.Store rows.new.conn.now).is_open) }
+    ensures texts { HasCleanDisk (state S.Store rows.new.conn.now)
+        → IfOk result (λ texts. Gives S.Store rows.old.conn.now rows.new.conn.now
+        (λ given. map Text (map string_bytes texts.items) ≡ map (λ r. column r 0) given)) }
+{
+    let mut texts = Vec::new(alloc);
+    for _ in 0..u64::MAX {
+        let Some(row) = rows.next()? else {
+            return Ok(texts);
+        };
+        texts.push(text_of(row)?)?;
     }
     Err(Refusal(Error::SqliteFailure(ErrorCode::TooBig)))
 }

@@ -2,9 +2,10 @@
 //!
 //! Nothing above this file knows a text of SQL. A write runs inside a transaction, and a query
 //! outside one.
-ghost use Rattle.std.specs.Prelude.{◌≡◌, [], ◌∷◌, map, false, IfOk, OnOk, IsTrue};
+ghost use Rattle.std.specs.Prelude.{◌≡◌, [], ◌∷◌, map, false, string_bytes, IfOk, OnOk, IsTrue};
 ghost use Rattle.sqlite.specs.State.{HasCleanDisk};
 ghost use Rattle.sqlite.specs.Held.{state};
+ghost use Rattle.sqlite_value.specs.declared.value.Value.TheVariants.{Text};
 ghost use Rattle.xq_regions.specs.Rows.{placed};
 ghost use Rattle.xq_rows.specs.Documents.{IsReady, is_at};
 ghost use Rattle.xq_rows.specs.Nodes.{cells, number_of as number_of_lem};
@@ -13,7 +14,7 @@ ghost use Rattle.xq_rows.specs.private.Keeps.{StaysInside, StaysOutside};
 ghost use Rattle.xq_rows.specs.Tables.{IsStoreSchema};
 
 use crate::refusals::Refusal;
-use crate::rows::rest_as_nodes;
+use crate::rows::{rest_as_nodes, rest_as_texts};
 use sqlite::{Alter, Connection, Error, Row, Transaction, params};
 use std::alloc::Global;
 use xq_regions::{Kind, NodeRow};
@@ -153,8 +154,11 @@ pub fn read_enclosing<S: Alter>(
     )
 }
 
-/// Reads the addresses in the order of their bytes: one row of one column for each document.
-pub fn read_addresses<S: Alter>(conn: &mut Connection<S>) -> Result<Vec<Row>, Error>
+/// Reads the addresses in the order of their bytes, one for each document.
+pub fn read_addresses<S: Alter>(
+    alloc: Global,
+    conn: &mut Connection<S>,
+) -> Result<Vec<String>, Refusal>
     requires { conn.old.in_transaction ≡ false }
     ensures outside { StaysOutside S.Store conn.old conn.new }
     ensures ends_open { HasCleanDisk (state S.Store conn.new)
@@ -162,14 +166,16 @@ pub fn read_addresses<S: Alter>(conn: &mut Connection<S>) -> Result<Vec<Row>, Er
     ensures same { IsReady (state S.Store conn.new)
         → IsStoreSchema (state S.Store conn.old).now.schema
         → (state S.Store conn.new).now ≡ (state S.Store conn.old).now }
-    ensures rows { IsReady (state S.Store conn.new)
-        → IfOk result (λ rows. AreAddresses (state S.Store conn.old).now rows.items) }
+    ensures all { IsReady (state S.Store conn.new)
+        → IfOk result (λ all. AreAddresses (state S.Store conn.old).now
+        (map (λ bytes. Text bytes ∷ []) (map string_bytes all.items))) }
 {
     let _settled = conn.is_autocommit();
-    conn.query_all(
+    let mut rows = conn.query(
         "SELECT address FROM node WHERE pre = 0 ORDER BY address",
         &[],
-    )
+    )?;
+    rest_as_texts(alloc, &mut rows)
 }
 
 /// Finds whether the database is open, by a statement that is compiled and not run.
