@@ -1,21 +1,23 @@
 -- The rows below a context.
-use Rattle.std.proofs.Common.{◌≡◌, ℕ, suc, ◌+◌, ◌-◌, ◌<◌, ◌≤◌, List, length, get_or, set, Bool, true, false, not, ◌&&◌, ◌||◌, nat_eq, nat_lt, inl, inr, refl, sym, ◌∙◌, ap, subst, arith, get_or-set_same, get_or-set_other}
+use Rattle.std.proofs.Common.{◌≡◌, ℕ, suc, ◌+◌, ◌-◌, ◌<◌, ◌≤◌, List, length, get_or, set, cond, Bool, true, false, not, ◌&&◌, ◌||◌, nat_eq, nat_lt, inl, inr, refl, sym, ◌∙◌, ap, subst, arith, get_or-set_same, get_or-set_other}
 use Rattle.std.specs.List.{list_any}
 use Rattle.std.proofs.lemmas.List.{length-set}
-use Rattle.std.proofs.lemmas.Bool.{cases_lt, cases_eq, eqb-true, eq-eqb, and_from, and_parts, le-leb, leb-true}
+use Rattle.std.proofs.lemmas.Bool.{cases_lt, cases_eq, cases_Bool, eqb-true, eq-eqb, and_from, and_parts, le-leb, leb-true}
+use Rattle.std.proofs.Math.Bool.{and-false}
 use Rattle.xq_regions.specs.Forest.{count}
-use Rattle.xq_regions.specs.Tree.{Tree, nodes}
+use Rattle.xq_regions.specs.Tree.{Tree, IsTree, nodes}
 use Rattle.xq_regions.specs.Rows.{Row, rows, row_at}
 use Rattle.xq_regions.specs.Regions.{IsInside}
 use Rattle.xq_regions.specs.RegionTests.{inside, one_below, plain_row, in_region}
 use Rattle.xq_axes.specs.private.Reads.{Span}
 use Rattle.xq_axes.specs.private.Hits.{is_among, is_hit, IsReached}
-use Rattle.xq_axes.specs.private.Downward.{axis_of, is_chosen, level_of, AreMarked, IsJudged}
+use Rattle.xq_axes.specs.private.Downward.{axis_of, is_chosen, is_child, level_of, AreMarked, IsOpen, IsKnown, IsJudged}
 use Rattle.xq_axes.specs.declared.downward.Downward.{Downward}
 use Rattle.xq_axes.specs.declared.downward.Downward.TheVariants.{Child, Attribute, Descendant, DescendantOrSelf}
 use Rattle.xq_axes.specs.private.Waiting.{IsParent}
 use Rattle.xq_axes.proofs.Lists.{any_from, any_at, any_agree, any_and, any_or, same_tests, among_at, among_index}
-use Rattle.xq_axes.proofs.Trees.{inside_deeper, between_deeper, parent_of, one_parent}
+use Rattle.xq_axes.proofs.Trees.{HasParent, inside_deeper, between_deeper, parent_of, one_parent}
+use Rattle.xq_axes.proofs.AttributeRows.{attribute_run}
 
 pub inside_true : (rs : List Row) (v p : ℕ) → IsInside rs v p → inside rs v p ≡ true
 inside_true rs v p h = and_from _ _ (le-leb (suc v) p h.0) (le-leb p (v + (row_at rs v).size) h.1)
@@ -85,54 +87,104 @@ parent_below t v w n hn h p =
 pub mark_of_parent : (t : Tree) (vs : List ℕ) (v n w : ℕ) (marks : List Bool) → n < count (nodes t) → IsInside (rows t) v n → IsParent t w n → AreMarked t vs v n marks → get_or marks (level_of t n - 1) false ≡ is_among vs w
 mark_of_parent t vs v n w marks hn h p m =
     let e : level_of t n - 1 ≡ level_of t w = (let l = p.level in omega arith) in
-    ap (λ l. get_or marks l false) e
-    ∙ m.marked w (parent_below t v w n hn h p) (let x = p.inside.0 in omega arith)
-    (λ q a b e. (let d = between_deeper t w n q hn p.inside a (omega (arith, b)) in omega (arith, d, e)))
+    ap (λ l. get_or marks l false) e ∙ m w (parent_below t v w n hn h p) p.inside
+
+marked_more : (t : Tree) (vs : List ℕ) (v n : ℕ) (marks : List Bool) (is_context : Bool) → n < count (nodes t) → level_of t n < length marks → AreMarked t vs v n marks → is_context ≡ is_among vs n → AreMarked t vs v (n + 1) (set marks (level_of t n) is_context)
+marked_more t vs v n marks is_context hn l m e = λ w a i. elim (cases_eq w n) [
+  | inl same ↦ subst (λ x. get_or (set marks (level_of t n) is_context) (level_of t x) false ≡ is_among vs x) (sym same) (get_or-set_same marks (level_of t n) is_context false l ∙ e)
+  | inr other ↦ (
+      let x = i.0 in
+      let y = i.1 in
+      let inner : IsInside (rows t) w n = (omega (arith, x, other), omega (arith, y)) in
+      let deeper = inside_deeper t w n (omega (arith, x, other, hn)) hn inner in
+      get_or-set_other marks (level_of t n) (level_of t w) is_context false (λ z. omega (arith, z, deeper)) ∙ m w a inner)
+]
+
+open_more : (t : Tree) (vs : List ℕ) (v n : ℕ) (is_open is_context plain : Bool) → IsOpen t vs v n is_open → plain ≡ plain_row (rows t) n → is_context ≡ is_among vs n → IsOpen t vs v (n + 1) (cond plain is_context is_open)
+open_more t vs v n is_open is_context plain o ep e = λ w a b pw clear. elim (cases_eq w n) [
+  | inl same ↦ (
+      let yes : plain ≡ true = ep ∙ ap (plain_row (rows t)) (sym same) ∙ pw in
+      ap (λ x. cond x is_context is_open) yes ∙ e ∙ ap (is_among vs) (sym same))
+  | inr other ↦ (
+      let less : w < n = omega (arith, b, other) in
+      let no : plain ≡ false = ep ∙ clear n less (omega arith) in
+      ap (λ x. cond x is_context is_open) no ∙ o w a less pw (λ q c d. clear q c (omega (arith, d))))
+]
 
 -- one row more
-pub marked_more : (t : Tree) (vs : List ℕ) (v n : ℕ) (marks : List Bool) (is_context : Bool) → level_of t n < 101 → AreMarked t vs v n marks → is_context ≡ is_among vs n → AreMarked t vs v (n + 1) (set marks (level_of t n) is_context)
-marked_more t vs v n marks is_context l m e = record {
-  levels = length-set marks (level_of t n) is_context ∙ m.levels;
-  marked = λ w a b apart. elim (cases_eq w n) [
-    | inl same ↦ (
-        let k : level_of t n < length marks = (let x = m.levels in omega arith) in
-        subst (λ x. get_or (set marks (level_of t n) is_context) (level_of t x) false ≡ is_among vs x) (sym same) (get_or-set_same marks (level_of t n) is_context false k ∙ e))
-    | inr other ↦ (
-        let less : w < n = omega (arith, b, other) in
-        get_or-set_other marks (level_of t n) (level_of t w) is_context false (λ x. apart n less (omega arith) (sym x))
-        ∙ m.marked w a less (λ q c d. apart q c (omega (arith, d))))
-  ];
-}
+pub known_more : (d : Downward) (t : Tree) (vs : List ℕ) (v n : ℕ) (marks : List Bool) (is_open is_context plain : Bool) → n < count (nodes t) → level_of t n < length marks → IsKnown d t vs v n marks is_open → plain ≡ plain_row (rows t) n → is_context ≡ is_among vs n
+    → IsKnown d t vs v (n + 1) (set marks (level_of t n) is_context) (cond plain is_context is_open)
+known_more Child t vs v n marks is_open is_context plain hn l k ep e = marked_more t vs v n marks is_context hn l k e
+known_more Attribute t vs v n marks is_open is_context plain hn l k ep e = open_more t vs v n is_open is_context plain k ep e
+known_more Descendant t vs v n marks is_open is_context plain hn l k ep e = marked_more t vs v n marks is_context hn l k e
+known_more DescendantOrSelf t vs v n marks is_open is_context plain hn l k ep e = marked_more t vs v n marks is_context hn l k e
+
+-- a row that is no attribute is on no axis to attributes
+no_attribute : (t : Tree) (vs : List ℕ) (n : ℕ) (child is_context : Bool) → plain_row (rows t) n ≡ true → is_chosen Attribute child is_context (plain_row (rows t) n) ≡ is_hit (axis_of Attribute) t vs n
+no_attribute t vs n child is_context h =
+    let z : not (plain_row (rows t) n) ≡ false = ap not h in
+    ap (λ b. child && b) z ∙ and-false child
+    ∙ sym (any_agree (λ u. in_region (axis_of Attribute) (rows t) u n) (λ u. is_child_of t n u && not (plain_row (rows t) n)) vs 0 (λ i l. shuffle (inside (rows t) (get_or vs i 0) n) (one_below (rows t) (get_or vs i 0) n) (not (plain_row (rows t) n)))
+    ∙ any_and (is_child_of t n) (not (plain_row (rows t) n)) vs ∙ ap (λ b. list_any (is_child_of t n) vs && b) z ∙ and-false (list_any (is_child_of t n) vs))
+
+-- a row below a context is on the axis as what is known of it says
+known_hit : (d : Downward) (t : Tree) (vs : List ℕ) (n v : ℕ) (marks : List Bool) (is_open : Bool) → IsTree t → n < count (nodes t) → is_among vs v ≡ true → v < count (nodes t) → IsInside (rows t) v n → IsKnown d t vs v n marks is_open
+    → is_chosen d (is_child d is_open (nat_lt 0 (level_of t n) && get_or marks (level_of t n - 1) false)) (is_among vs n) (plain_row (rows t) n) ≡ is_hit (axis_of d) t vs n
+known_hit d t vs n v marks is_open is hn m hv h k = by d k
+  where
+    deep : level_of t v < level_of t n
+    deep = inside_deeper t v n hv hn h
+
+    par : HasParent t n
+    par = parent_of t n hn (omega (arith, deep))
+
+    by_marks : AreMarked t vs v n marks → (nat_lt 0 (level_of t n) && get_or marks (level_of t n - 1) false) ≡ is_among vs par.parent
+    by_marks a =
+        let some : nat_lt 0 (level_of t n) ≡ true = le-leb 1 (level_of t n) (omega (arith, deep)) in
+        ap (λ b. b && get_or marks (level_of t n - 1) false) some ∙ mark_of_parent t vs v n par.parent marks hn h par.is a
+
+    by_open : IsOpen t vs v n is_open → plain_row (rows t) n ≡ false → is_open ≡ is_among vs par.parent
+    by_open o p =
+        let run = attribute_run t is par.parent n hn par.is p in
+        o par.parent (parent_below t v par.parent n hn h par.is) par.is.inside.0 run.parent run.between
+
+    by : (d : Downward) → IsKnown d t vs v n marks is_open → is_chosen d (is_child d is_open (nat_lt 0 (level_of t n) && get_or marks (level_of t n - 1) false)) (is_among vs n) (plain_row (rows t) n) ≡ is_hit (axis_of d) t vs n
+    by Child k = ap (λ b. is_chosen Child b (is_among vs n) (plain_row (rows t) n)) (by_marks k) ∙ chosen_hit Child t vs n v par.parent hn m h par.is
+    by Attribute k = elim (cases_Bool (plain_row (rows t) n)) [
+      | inl p ↦ no_attribute t vs n is_open (is_among vs n) p
+      | inr p ↦ ap (λ b. is_chosen Attribute b (is_among vs n) (plain_row (rows t) n)) (by_open k p) ∙ chosen_hit Attribute t vs n v par.parent hn m h par.is
+    ]
+    by Descendant k = chosen_hit Descendant t vs n v par.parent hn m h par.is
+    by DescendantOrSelf k = chosen_hit DescendantOrSelf t vs n v par.parent hn m h par.is
 
 -- one row below a context judged
-pub record Judging (d : Downward) (t : Tree) (vs : List ℕ) (s : Span) (n : ℕ) (hit is_context : Bool) (met : ℕ) (marks : List Bool) : Type 0 where
+pub record Judging (d : Downward) (t : Tree) (vs : List ℕ) (s : Span) (n : ℕ) (hit : Bool) (met : ℕ) (marks : List Bool) (is_open : Bool) : Type 0 where
   pub is_right : hit ≡ is_hit (axis_of d) t vs n
-  pub goes_on : IsJudged t vs s (n + 1) met marks
+  pub goes_on : IsJudged d t vs s (n + 1) met marks is_open
 
-pub judged : (d : Downward) (t : Tree) (vs : List ℕ) (s : Span) (n : ℕ) (child is_context plain hit : Bool) (met new_met : ℕ) (marks : List Bool) → IsJudged t vs s n met marks → n < count (nodes t) → s.low ≤ n → n ≤ s.high → level_of t n < 101
-    → child ≡ (nat_lt 0 (level_of t n) && get_or marks (level_of t n - 1) false)
+pub judged : (d : Downward) (t : Tree) (vs : List ℕ) (s : Span) (n : ℕ) (child is_context plain hit : Bool) (met new_met : ℕ) (marks : List Bool) (is_open : Bool) → IsJudged d t vs s n met marks is_open
+    → n < count (nodes t) → s.low ≤ n → n ≤ s.high → level_of t n < 101
+    → child ≡ is_child d is_open (nat_lt 0 (level_of t n) && get_or marks (level_of t n - 1) false)
     → (is_context ≡ is_among vs n) × IsReached vs new_met (n + 1)
     → plain ≡ plain_row (rows t) n → hit ≡ is_chosen d child is_context plain
-    → Judging d t vs s n hit is_context new_met (set marks (level_of t n) is_context)
-judged d t vs s n child is_context plain hit met new_met marks j hn low high l ec em ep eh =
+    → Judging d t vs s n hit new_met (set marks (level_of t n) is_context) (cond plain is_context is_open)
+judged d t vs s n child is_context plain hit met new_met marks is_open j hn low high l ec em ep eh =
     let v = j.top in
     let c = j.cluster in
     let h : IsInside (rows t) v n = (let a = c.low in let b = c.high in (omega arith, omega arith)) in
-    let deep = inside_deeper t v n c.is_there hn h in
-    let par = parent_of t n hn (omega (arith, deep)) in
-    let w = par.parent in
-    let some : nat_lt 0 (level_of t n) ≡ true = le-leb 1 (level_of t n) (omega (arith, deep)) in
-    let m : child ≡ is_among vs w = ec ∙ ap (λ b. b && get_or marks (level_of t n - 1) false) some ∙ mark_of_parent t vs v n w marks hn h par.is j.are_marked in
+    let known = is_child d is_open (nat_lt 0 (level_of t n) && get_or marks (level_of t n - 1) false) in
     record {
-      is_right = eh ∙ ap (λ b. is_chosen d b is_context plain) m ∙ ap (λ b. is_chosen d (is_among vs w) b plain) em.0 ∙ ap (λ b. is_chosen d (is_among vs w) (is_among vs n) b) ep
-          ∙ chosen_hit d t vs n v w hn j.is_context h par.is;
+      is_right = eh ∙ ap (λ b. is_chosen d b is_context plain) ec ∙ ap (λ b. is_chosen d known b plain) em.0 ∙ ap (λ b. is_chosen d known (is_among vs n) b) ep
+          ∙ known_hit d t vs n v marks is_open j.is_tree hn j.is_context c.is_there h j.is_known;
       goes_on = record {
+        is_tree = j.is_tree;
         rising = j.rising;
         reached = em.1;
         top = v;
         cluster = c;
         is_context = j.is_context;
         from = omega arith;
-        are_marked = marked_more t vs v n marks is_context l j.are_marked em.0;
+        levels = length-set marks (level_of t n) is_context ∙ j.levels;
+        is_known = known_more d t vs v n marks is_open is_context plain hn (let z = j.levels in omega (arith, l, z)) j.is_known ep em.0;
       };
     }

@@ -7,9 +7,11 @@ pub mod Copying
 pub mod Trees
 pub mod Lists
 pub mod Picking
+pub mod AttributeRows
 pub mod Clusters
 pub mod Searching
 pub mod Ranges
+pub mod Over
 pub mod OwnNodes
 pub mod Siblings
 pub mod OnPaths

@@ -1,11 +1,11 @@
 -- From places to paths.
-use Rattle.std.proofs.Common.{◌≡◌, ℕ, zero, suc, ◌+◌, ◌-◌, ◌<◌, List, [], ◌∷◌, ◌++◌, map, Bool, true, false, ◌&&◌, cond, refl, sym, ◌∙◌, ap, arith}
+use Rattle.std.proofs.Common.{◌≡◌, ℕ, zero, suc, ◌+◌, ◌<◌, List, [], ◌∷◌, ◌++◌, map, Bool, true, false, ◌&&◌, cond, refl, sym, ◌∙◌, ap, arith}
 use Rattle.std.specs.Prelude.{filter}
 use Rattle.std.specs.List.{range_with_len}
 use Rattle.std.proofs.lemmas.List.Elements.{filter-append}
-use Rattle.xq_regions.specs.Forest.{Forest, end, node, count}
+use Rattle.xq_regions.specs.Forest.{count}
 use Rattle.xq_regions.specs.Tree.{Label, Tree, nodes}
-use Rattle.xq_regions.specs.Order.{path_at, step_down, step_right}
+use Rattle.xq_regions.specs.Order.{path_at}
 use Rattle.xq_regions.specs.AxisTests.{on_axis}
 use Rattle.xq_regions.specs.RegionTests.{in_region}
 use Rattle.xq_regions.specs.Rows.{rows, row_at}
@@ -15,7 +15,7 @@ use Rattle.xq_regions.proofs.RegionTable.{region_is_axis}
 use Rattle.xq_regions.proofs.AxisTable.{on_axis_is}
 use Rattle.xq_sources.specs.Sources.{tree_at, HasNode}
 use Rattle.xq_values.specs.declared.node_tests.Test.{Test}
-use Rattle.xq_values.specs.Items.{Place, place, paths, nodes_at}
+use Rattle.xq_values.specs.Items.{Place, place, nodes_at}
 use Rattle.xq_values.specs.Steps.{passes_at, axis_nodes}
 use Rattle.xq_values.specs.Readings.{node_at}
 use Rattle.xq_values.proofs.PathLemmas.{map-map, range-split, filter-map, paths-range}

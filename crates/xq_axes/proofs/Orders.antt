@@ -1,5 +1,5 @@
 -- Nodes in document order.
-use Rattle.std.proofs.Common.{◌≡◌, ◌↔◌, suc, ◌<◌, List, [], ◌∷◌, ◌++◌, Bool, true, false, ◌&&◌, nat_eq, ◌⊎◌, inl, inr, refl, sym, ◌∙◌, ap, subst, arith}
+use Rattle.std.proofs.Common.{◌≡◌, ◌↔◌, suc, ◌<◌, List, [], ◌∷◌, ◌++◌, Bool, true, false, ◌&&◌, ◌||◌, cond, nat_eq, ◌⊎◌, inl, inr, refl, sym, ◌∙◌, ap, subst, arith}
 use Rattle.std.specs.List.{list_any, Contains, AllByRecursion, IsAllAdjacentAnswer, dedup}
 use Rattle.std.specs.List.Sorted.{IsStrictlySortedBy, IsSorted, IsPermutation}
 use Rattle.std.specs.declared.cmp.Ordering.{Ordering}
@@ -140,3 +140,11 @@ deduped xs ys zs p s e =
         λ c. Contains-dedup one_node_equivalence one_node ys n (Contains-permutation xs ys n p c),
       );
     })
+
+-- document order by tests of numbers
+pub before_is : (a b c d : Bool) → (a || (b && c)) ≡ is_lt (ordering_then (cond a Less (cond b Equal Greater)) (cond c Less (cond d Equal Greater)))
+before_is true b c d = refl
+before_is false true true d = refl
+before_is false true false true = refl
+before_is false true false false = refl
+before_is false false c d = refl

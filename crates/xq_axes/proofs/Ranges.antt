@@ -13,8 +13,8 @@ use Rattle.xq_regions.specs.declared.Axis.TheVariants as axis
 use Rattle.xq_values.specs.declared.node_tests.Test.{Test}
 use Rattle.xq_axes.specs.private.Reads.{span, span_end}
 use Rattle.xq_axes.specs.private.Hits.{is_among, is_hit, is_wanted, row_passes, below_where, IsRising, IsReached}
-use Rattle.xq_axes.specs.private.Downward.{end_of}
-use Rattle.xq_axes.specs.private.Passing.{IsLast, IsEnd, IsLeastEnd, axis_above, is_within, is_next_within}
+use Rattle.xq_axes.specs.private.Downward.{end_of, is_within}
+use Rattle.xq_axes.specs.private.Passing.{IsLast, IsEnd, IsLeastEnd, axis_above, is_next_within}
 use Rattle.xq_axes.proofs.Lists.{any_from, any_at, any_and, any_or, any_none, same_tests, below_where-none, got}
 use Rattle.xq_axes.proofs.Clusters.{inside_true, true_inside}
 

@@ -12,7 +12,7 @@ use Rattle.xq_regions.proofs.Encoding.{length-rows}
 use Rattle.xq_sources.specs.Sources.{rows_between}
 use Rattle.xq_sources.specs.Lenders.{IsRun}
 use Rattle.xq_sources.proofs.Intervals.{between-places}
-use Rattle.xq_axes.specs.private.Reads.{Span, IsRowIn, AreRowsIn, rows_to}
+use Rattle.xq_axes.specs.private.Reads.{Span, span_end, IsRowIn, AreRowsIn, rows_to}
 
 pub row_in_turn : (t : Tree) (s : Span) (n : ℕ) (xs : List NodeRow) (i : ℕ) (x : NodeRow) → AreRowsIn t s n (map placed xs) → i < length xs → x ≡ get_or xs i x → IsRowIn t s (n + i) (placed x)
 row_in_turn t s n [] i x h l e = absurd (omega (arith, l))
@@ -76,3 +76,12 @@ run_ends t s n run r =
 pub rows_to-more : (rs : List Row) (low n : ℕ) → low ≤ n → n < length rs → rows_to rs low (n + 1) ≡ rows_to rs low n ++ row_at rs n ∷ []
 rows_to-more rs low n l h =
     ap (drop low) (take_more rs n no_row h) ∙ drop-append-le low (take n rs) (row_at rs n ∷ []) (omega (arith, length-take n rs, l, h))
+
+-- a row that is visited alone leads to the next one
+pub one_on : (t : Tree) (s : Span) (n : ℕ) (p : ℕ × Row) (P : ℕ → Type 0) → IsRowIn t s n p → P (n + 1) → (n + 1 + 0 ≤ span_end t s) × P (n + 1 + 0)
+one_on t s n p P r h =
+    let a = r.from in
+    let b = r.to in
+    let c = r.is_there in
+    let e : n + 1 ≡ n + 1 + 0 = omega arith in
+    (omega (arith, a, b, c), subst P e h)

@@ -11,7 +11,7 @@ use Rattle.xq_regions.specs.RegionTests.{inside, plain_row, in_region}
 use Rattle.xq_values.specs.declared.node_tests.Test.{Test}
 use Rattle.xq_axes.specs.private.Reads.{span, IsSized}
 use Rattle.xq_axes.specs.private.Hits.{is_among, is_hit, is_wanted, row_passes, below_where, IsRising, IsReached}
-use Rattle.xq_axes.specs.private.Downward.{axis_of, is_own, level_of, end_of, IsJudged, IsSearched, IsNext}
+use Rattle.xq_axes.specs.private.Downward.{axis_of, is_own, level_of, end_of, AreMarked, IsOpen, IsKnown, IsJudged, IsSearched, IsNext}
 use Rattle.xq_axes.specs.declared.downward.Downward.{Downward}
 use Rattle.xq_axes.specs.declared.downward.Downward.TheVariants.{Child, Attribute, Descendant, DescendantOrSelf}
 use Rattle.xq_axes.proofs.Lists.{any_none, any_or, among_at, below_where-none, reached_none, reached_over}
@@ -39,6 +39,23 @@ own_hit Attribute t vs v m top = sym (any_none (λ u. in_region (axis_of Attribu
 own_hit Descendant t vs v m top = sym (any_none (λ u. in_region (axis_of Descendant) (rows t) u v) vs 0 (λ i l e. top i l (true_inside (rows t) (get_or vs i 0) v (and_parts _ _ e).0)))
 own_hit DescendantOrSelf t vs v m top =
     sym (any_or (λ u. nat_eq u v) (λ u. inside (rows t) u v && plain_row (rows t) v) vs ∙ or_left (is_among vs v) (list_any (λ u. inside (rows t) u v && plain_row (rows t) v) vs) m)
+
+-- what is known after the row of a context
+entered_marked : (t : Tree) (vs : List ℕ) (v level : ℕ) (marks : List Bool) → is_among vs v ≡ true → level < length marks → level ≡ level_of t v → AreMarked t vs v (v + 1) (set marks level true)
+entered_marked t vs v level marks m l e = λ w a i. (
+    let x = i.0 in
+    let same : w ≡ v = omega (arith, a, x) in
+    subst (λ x. get_or (set marks level true) (level_of t x) false ≡ is_among vs x) (sym same)
+    (ap (λ x. get_or (set marks level true) x false) (sym e) ∙ get_or-set_same marks level true false l ∙ sym m))
+
+entered_open : (t : Tree) (vs : List ℕ) (v : ℕ) → is_among vs v ≡ true → IsOpen t vs v (v + 1) true
+entered_open t vs v m = λ w a b _ _. (let same : v ≡ w = omega (arith, a, b) in sym m ∙ ap (is_among vs) same)
+
+entered_known : (d : Downward) (t : Tree) (vs : List ℕ) (v level : ℕ) (marks : List Bool) → is_among vs v ≡ true → level < length marks → level ≡ level_of t v → IsKnown d t vs v (v + 1) (set marks level true) true
+entered_known Child t vs v level marks m l e = entered_marked t vs v level marks m l e
+entered_known Attribute t vs v level marks m l e = entered_open t vs v m
+entered_known Descendant t vs v level marks m l e = entered_marked t vs v level marks m l e
+entered_known DescendantOrSelf t vs v level marks m l e = entered_marked t vs v level marks m l e
 
 module _ (d : Downward) (test : Test) (t : Tree) (vs : List ℕ) (n v met marks : ℕ) (found : List ℕ) (before : IsSearched d test t vs n met marks found) (after : n ≤ v) (next : IsNext vs n v) where
   pub stands_in_none : (i : ℕ) → i < length vs → IsInside (rows t) (get_or vs i 0) v → ⊥
@@ -71,26 +88,22 @@ module _ (d : Downward) (test : Test) (t : Tree) (vs : List ℕ) (n v met marks 
   pub own_is_hit : is_own d ≡ is_hit (axis_of d) t vs v
   own_is_hit = own_hit d t vs v next.is_context stands_in_none
 
-  pub entered : (new_met level size : ℕ) (old_marks : List Bool) → length old_marks ≡ marks → IsSized t v size → level ≡ level_of t v → level < 101 → IsReached vs new_met (v + 1) → IsJudged t vs (span (v + 1) (v + size)) (v + 1) new_met (set old_marks level true)
+  pub entered : (new_met level size : ℕ) (old_marks : List Bool) → length old_marks ≡ marks → IsSized t v size → level ≡ level_of t v → level < 101 → IsReached vs new_met (v + 1)
+      → IsJudged d t vs (span (v + 1) (v + size)) (v + 1) new_met (set old_marks level true) true
   entered new_met level size old_marks k sized e l r = record {
+    is_tree = sized.is_tree;
     rising = before.rising;
     reached = r;
     top = v;
     cluster = record { low = omega arith; high = ap (λ x. v + x) sized.size; is_there = sized.is_there; is_top = stands_in_none };
     is_context = next.is_context;
     from = omega arith;
-    are_marked = record {
-      levels = length-set old_marks level true ∙ k ∙ before.levels;
-      marked = λ w a b apart. (
-          let same : w ≡ v = omega (arith, a, b) in
-          let m : level < length old_marks = (let x = before.levels in omega arith) in
-          subst (λ x. get_or (set old_marks level true) (level_of t x) false ≡ is_among vs x) (sym same)
-          (ap (λ x. get_or (set old_marks level true) x false) (sym e) ∙ get_or-set_same old_marks level true false m ∙ sym next.is_context));
-    };
+    levels = length-set old_marks level true ∙ k ∙ before.levels;
+    is_known = entered_known d t vs v level old_marks next.is_context (let x = before.levels in omega (arith, k, l, x)) e;
   }
 
-  pub searched : (size last_met : ℕ) (last_marks : List Bool) (last_found : List ℕ) → IsSized t v size → IsJudged t vs (span (v + 1) (v + size)) (v + 1 + size) last_met last_marks → last_found ≡ below_where (is_wanted (axis_of d) test t vs) (v + 1 + size) → IsSearched d test t vs (v + 1 + size) last_met (length last_marks) last_found
-  searched size last_met last_marks last_found sized j e = record {
+  pub searched : (size last_met : ℕ) (last_marks : List Bool) (last_open : Bool) (last_found : List ℕ) → IsSized t v size → IsJudged d t vs (span (v + 1) (v + size)) (v + 1 + size) last_met last_marks last_open → last_found ≡ below_where (is_wanted (axis_of d) test t vs) (v + 1 + size) → IsSearched d test t vs (v + 1 + size) last_met (length last_marks) last_found
+  searched size last_met last_marks last_open last_found sized j e = record {
     rising = before.rising;
     reached = j.reached;
     closed = λ i l h. (
@@ -110,7 +123,7 @@ module _ (d : Downward) (test : Test) (t : Tree) (vs : List ℕ) (n v met marks 
               ])
         ]);
     within = (let w = (node_of t v sized.is_there).ends in let s = sized.size in omega (arith, w, s));
-    levels = j.are_marked.levels;
+    levels = j.levels;
     is_found = e;
   }
 

@@ -73,13 +73,13 @@ impl Visitor for Part<'_> {
         × (n ≡ s.low + length part.seen.items)
         × AreSeen start.test.now t s.low part.seen.items };
 
-    fn visit(&mut self, row: &NodeRow) -> Result<(), Want> {
+    fn visit(&mut self, row: &NodeRow) -> Result<u32, Want> {
         self.seen.push(Seen {
             level: row.level,
             is_plain: is_plain(row.kind),
             passes: passes(self.test, row),
         })?;
-        Ok(())
+        Ok(0)
     }
 }
 

@@ -1,6 +1,8 @@
 //! The places of context nodes, met in turn.
 ghost use Rattle.std.specs.Prelude.{◌≡◌, ◌≤◌, ◌+◌, length, slice_get};
 ghost use Rattle.xq_axes.specs.private.Hits.{is_among, IsRising, IsReached};
+ghost use Rattle.xq_axes.specs.private.Downward.{stop as stop_lem};
+ghost use Rattle.xq_axes.specs.private.Passing.{is_next_within as is_next_within_lem};
 ghost use Rattle.xq_axes.specs.private.Waiting.{latest as latest_lem};
 
 /// Places in document order, of which those before an index were met.
@@ -44,6 +46,26 @@ impl<'a> Contexts<'a> {
         ensures { result ≡ slice_get self.now.places.now self.now.met }
     {
         self.places.get(self.met).copied()
+    }
+
+    /// Whether one of the places that were not met yet is not after the end.
+    pub fn is_next_within(&self, end: u64) -> bool
+        ensures { result ≡ is_next_within_lem self.now.places.now self.now.met end }
+    {
+        match self.next() {
+            None => false,
+            Some(next) => u64::from(next) <= end,
+        }
+    }
+
+    /// The last place before those that were not met yet, or `last` where that is less.
+    pub fn stop(&self, last: u32) -> u32
+        ensures { result ≡ stop_lem (slice_get self.now.places.now self.now.met) last }
+    {
+        match self.next() {
+            None => last,
+            Some(next) => next.saturating_sub(1).min(last),
+        }
     }
 }
 

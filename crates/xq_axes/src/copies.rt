@@ -24,7 +24,7 @@ struct Copied {
 impl Visitor for Copied {
     ghost has_read = { λ _ v t s n. AreCopied t s n v.place v.level v.rows.items };
 
-    fn visit(&mut self, row: &NodeRow) -> Result<(), Want> {
+    fn visit(&mut self, row: &NodeRow) -> Result<u32, Want> {
         self.rows.push(NodeRow {
             pre: row.pre.saturating_sub(self.place),
             size: row.size,
@@ -33,7 +33,7 @@ impl Visitor for Copied {
             name: String::from_str(self.alloc, row.name.as_str())?,
             value: String::from_str(self.alloc, row.value.as_str())?,
         })?;
-        Ok(())
+        Ok(0)
     }
 }
 

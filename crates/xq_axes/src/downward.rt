@@ -1,14 +1,15 @@
 //! Axes to what is below the context nodes: child, attribute, descendant and descendant-or-self.
-ghost use Rattle.std.specs.Prelude.{◌≡◌, ◌+◌, ◌-◌, ◌<◌, ◌≤◌, ◌&&◌, ℕ, length, true, false, nat_lt, slice_set, slice_index_or, IfOk, OnOk};
+ghost use Rattle.std.specs.Prelude.{◌≡◌, ◌+◌, ◌-◌, ◌<◌, ◌≤◌, ◌&&◌, ℕ, length, min, true, false, nat_lt, slice_get, slice_set, slice_index_or, if◌then◌else◌, IfOk, OnOk};
 ghost use Rattle.xq_regions.specs.Forest.{count};
 ghost use Rattle.xq_regions.specs.Tree.{nodes};
 ghost use Rattle.xq_sources.specs.Sources.{tree_at};
 ghost use Rattle.xq_axes.specs.Scans.{region};
 ghost use Rattle.xq_axes.specs.private.Hits.{is_wanted, below_where, IsRising, IsReached};
-ghost use Rattle.xq_axes.specs.private.Downward.{axis_of, is_chosen as is_chosen_lem, is_own as is_own_lem, end_of, IsJudged, IsSearched, IsNext, ReadsBelow};
+ghost use Rattle.xq_axes.specs.private.Downward.{axis_of, is_chosen as is_chosen_lem, is_own as is_own_lem, is_child as is_child_lem, rows_over as rows_over_lem, end_of, IsJudged, IsSearched, IsNext, ReadsBelow};
 
 use crate::contexts::Contexts;
-use crate::picks::{Judge, Picker};
+use crate::passing::end_of_row;
+use crate::picks::{Judge, Picker, Verdict};
 use crate::tests::is_plain;
 use crate::walks::walk;
 use std::alloc::Global;
@@ -58,6 +59,10 @@ pub struct Below<'a> {
     contexts: Contexts<'a>,
     /// By level, whether the last row there is that of a context.
     marks: [bool; LEVELS],
+    /// Whether the last row that is no attribute is that of a context.
+    is_open: bool,
+    /// The place of the last row below the context that stands in no other.
+    last: u32,
 }
 
 impl Judge for Below<'_> {
@@ -67,20 +72,23 @@ impl Judge for Below<'_> {
 
     ghost has_judged = { λ start now t s n. (now.direction ≡ start.direction)
         × (now.contexts.places.now ≡ start.contexts.places.now)
-        × IsJudged t start.contexts.places.now s n now.contexts.met now.marks };
+        × (now.last ≡ s.high)
+        × IsJudged start.direction t start.contexts.places.now s n now.contexts.met now.marks
+        now.is_open };
 
-    fn judge(&mut self, row: &NodeRow) -> Result<bool, Want> {
+    fn judge(&mut self, row: &NodeRow) -> Result<Verdict, Want> {
         let level = row.level as usize;
         if level >= LEVELS {
             return Err(Want::Store);
         }
-        let is_child = self.is_below_mark(level);
+        let is_plain = is_plain(row.kind);
+        let is_child = self.is_child(level);
         let is_context = self.contexts.meets(row.pre);
-        self.marks[level] = is_context;
-        Ok(
-            self.direction
-                .is_chosen(is_child, is_context, is_plain(row.kind)),
-        )
+        self.mark(level, is_context, is_plain);
+        Ok(Verdict {
+            is_hit: self.direction.is_chosen(is_child, is_context, is_plain),
+            over: self.rows_over(row, is_context, is_plain),
+        })
     }
 }
 
@@ -91,6 +99,62 @@ impl<'a> Below<'a> {
         ensures { result ≡ (nat_lt 0 level && slice_index_or self.now.marks (level - 1) false) }
     {
         level > 0 && self.marks[level - 1]
+    }
+
+    /// Whether the parent of the row that comes next is a context. To attributes only rows of
+    /// attributes are asked for.
+    fn is_child(&self, level: usize) -> bool
+        requires { level ≤ length self.now.marks }
+        ensures { result ≡ is_child_lem self.now.direction self.now.is_open
+            (nat_lt 0 level && slice_index_or self.now.marks (level - 1) false) }
+    {
+        match self.direction {
+            Downward::Attribute => self.is_open,
+            _ => self.is_below_mark(level),
+        }
+    }
+
+    /// Takes note of the row, the next one: whether it is a context.
+    fn mark(&mut self, level: usize, is_context: bool, is_plain: bool)
+        requires { level < length self.now.marks }
+        ensures direction { self.new.direction ≡ self.old.direction }
+        ensures contexts { self.new.contexts ≡ self.old.contexts }
+        ensures marks { self.new.marks ≡ slice_set self.old.marks level is_context }
+        ensures is_open { self.new.is_open ≡ (if is_plain then is_context else self.old.is_open) }
+        ensures last { self.new.last ≡ self.old.last }
+    {
+        self.marks[level] = is_context;
+        if is_plain {
+            self.is_open = is_context;
+        }
+    }
+
+    /// How many rows right after the row, of which note was taken, are on the axis from no context:
+    /// to children those below a row that is no context and holds none, to attributes those before
+    /// the next context.
+    fn rows_over(&self, row: &NodeRow, is_context: bool, is_plain: bool) -> u32
+        ensures { result ≡ rows_over_lem self.now.direction is_context is_plain
+            (slice_get self.now.contexts.places.now self.now.contexts.met) row.now.pre
+            row.now.size self.now.last }
+    {
+        if is_context {
+            return 0;
+        }
+        match self.direction {
+            Downward::Child => {
+                if self.contexts.is_next_within(end_of_row(row)) {
+                    return 0;
+                }
+                row.size
+            }
+            Downward::Attribute => {
+                if !is_plain {
+                    return 0;
+                }
+                self.contexts.stop(self.last).saturating_sub(row.pre)
+            }
+            _ => 0,
+        }
     }
 
     /// Nothing known yet.
@@ -104,6 +168,8 @@ impl<'a> Below<'a> {
             direction,
             contexts: Contexts::new(places),
             marks: [false; LEVELS],
+            is_open: false,
+            last: 0,
         }
     }
 
@@ -114,6 +180,9 @@ impl<'a> Below<'a> {
         ensures places { self.new.contexts.places.now ≡ self.old.contexts.places.now }
         ensures marks { OnOk result ((row.now.level < 101)
             × (self.new.marks ≡ slice_set self.old.marks row.now.level true)) }
+        ensures open { OnOk result (self.new.is_open ≡ true) }
+        ensures last { OnOk result (self.new.last
+            ≡ min (row.now.pre + row.now.size) 4294967295) }
         ensures met { IsRising self.old.contexts.places.now
             → IsReached self.old.contexts.places.now self.old.contexts.met row.now.pre
             → OnOk result (IsReached self.old.contexts.places.now self.new.contexts.met
@@ -124,6 +193,8 @@ impl<'a> Below<'a> {
             return Err(Want::Store);
         }
         self.marks[level] = true;
+        self.is_open = true;
+        self.last = row.pre.saturating_add(row.size);
         let _ = self.contexts.meets(row.pre);
         Ok(self.direction.is_own())
     }

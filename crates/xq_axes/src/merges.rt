@@ -19,11 +19,19 @@ fn compare(first: &Node, second: &Node) -> Ordering
     trees.then_with(|| first.pre.cmp(&second.pre))
 }
 
+/// Whether the first node comes before the second.
+#[inline]
+fn comes_before(first: &Node, second: &Node) -> bool
+    ensures { result ≡ is_lt (document_order first.now second.now) }
+{
+    (first.tree < second.tree) | (first.tree == second.tree) & (first.pre < second.pre)
+}
+
 /// Whether each node comes before the next.
 fn rises(nodes: &[Node]) -> bool
     ensures { IsAllAdjacentAnswer (λ x y b. b ≡ is_lt (document_order x y)) nodes.now result }
 {
-    nodes.is_sorted_by(|first, second| compare(first, second).is_lt())
+    nodes.is_sorted_by(|first, second| comes_before(first, second))
 }
 
 /// The nodes in document order (XDM 3.1, section 2.4), each once: found out by one look where they

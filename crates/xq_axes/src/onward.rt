@@ -12,7 +12,7 @@ ghost use Rattle.xq_axes.specs.private.Waiting.{has_siblings, next_place as next
 use crate::contexts::Contexts;
 use crate::levels::Levels;
 use crate::passing::end_of_node;
-use crate::picks::{Judge, Picker};
+use crate::picks::{Judge, Picker, Verdict};
 use crate::tests::is_plain;
 use crate::walks::walk;
 use std::alloc::Global;
@@ -53,12 +53,15 @@ impl Judge for Onward<'_> {
     ghost has_judged = { λ start now t s n. (now.contexts.places.now ≡ start.contexts.places.now)
         × IsOn t start.contexts.places.now n now.contexts.met now.levels.list.items };
 
-    fn judge(&mut self, row: &NodeRow) -> Result<bool, Want> {
+    fn judge(&mut self, row: &NodeRow) -> Result<Verdict, Want> {
         let is_context = self.contexts.meets(row.pre);
         let is_plain = is_plain(row.kind);
         let waits = waits(is_context, row.level, is_plain);
         let is_awaited = self.levels.meet(u64::from(row.level), waits)?;
-        Ok(is_sibling(is_awaited, is_plain))
+        Ok(Verdict {
+            is_hit: is_sibling(is_awaited, is_plain),
+            over: 0,
+        })
     }
 }
 

@@ -8,10 +8,10 @@ ghost use Rattle.xq_axes.specs.Scans.{region};
 ghost use Rattle.xq_sources.specs.Sources.{tree_at};
 ghost use Rattle.xq_axes.specs.private.Reads.{span, span_end};
 ghost use Rattle.xq_axes.specs.private.Hits.{is_wanted, below_where, IsRising, IsReached};
-ghost use Rattle.xq_axes.specs.private.Passing.{axis_above, IsEnd, is_next_within as is_next_within_lem, IsLast, IsLeastEnd};
+ghost use Rattle.xq_axes.specs.private.Passing.{axis_above, IsEnd, IsLast, IsLeastEnd};
 
 use crate::contexts::Contexts;
-use crate::picks::{Judge, Picker};
+use crate::picks::{Judge, Picker, Verdict};
 use crate::tests::is_plain;
 use crate::walks::walk;
 use std::alloc::Global;
@@ -82,8 +82,11 @@ impl Judge for Preceding<'_> {
     ghost has_judged = { λ start now t s n. (now.last ≡ start.last)
         × IsLast start.places.now start.last };
 
-    fn judge(&mut self, row: &NodeRow) -> Result<bool, Want> {
-        Ok(is_before(end_of_row(row), self.last, is_plain(row.kind)))
+    fn judge(&mut self, row: &NodeRow) -> Result<Verdict, Want> {
+        Ok(Verdict {
+            is_hit: is_before(end_of_row(row), self.last, is_plain(row.kind)),
+            over: 0,
+        })
     }
 }
 
@@ -102,8 +105,11 @@ impl Judge for Following<'_> {
     ghost has_judged = { λ start now t s n. (start.least < s.low)
         × IsLeastEnd t start.places.now start.least };
 
-    fn judge(&mut self, row: &NodeRow) -> Result<bool, Want> {
-        Ok(is_plain(row.kind))
+    fn judge(&mut self, row: &NodeRow) -> Result<Verdict, Want> {
+        Ok(Verdict {
+            is_hit: is_plain(row.kind),
+            over: 0,
+        })
     }
 }
 
@@ -128,19 +134,6 @@ struct Above<'a> {
     or_self: bool,
 }
 
-impl Above<'_> {
-    /// Whether one of the places that come next is not after the end.
-    fn is_next_within(&self, end: u64) -> bool
-        ensures { result ≡ is_next_within_lem self.now.contexts.places.now self.now.contexts.met
-            end }
-    {
-        match self.contexts.next() {
-            None => false,
-            Some(next) => u64::from(next) <= end,
-        }
-    }
-}
-
 impl Judge for Above<'_> {
     ghost axis = { λ j. axis_above j.or_self };
 
@@ -151,10 +144,13 @@ impl Judge for Above<'_> {
         × IsRising start.contexts.places.now
         × IsReached start.contexts.places.now now.contexts.met n };
 
-    fn judge(&mut self, row: &NodeRow) -> Result<bool, Want> {
+    fn judge(&mut self, row: &NodeRow) -> Result<Verdict, Want> {
         let is_context = self.contexts.meets(row.pre);
-        let is_above = self.is_next_within(end_of_row(row));
-        Ok(is_counted(self.or_self, is_context, is_above))
+        let is_above = self.contexts.is_next_within(end_of_row(row));
+        Ok(Verdict {
+            is_hit: is_counted(self.or_self, is_context, is_above),
+            over: 0,
+        })
     }
 }
 

@@ -1,10 +1,10 @@
 //! Picking rows by how they stand to context nodes.
-ghost use Rattle.std.specs.Prelude.{◌≡◌, ◌+◌, ◌∷◌, [], ◌++◌, ◌&&◌, if◌then◌else◌, ℕ, List, IfOk, OnOk};
+ghost use Rattle.std.specs.Prelude.{◌≡◌, ◌+◌, ◌≤◌, ◌∷◌, [], ◌++◌, ◌&&◌, if◌then◌else◌, ℕ, List, IfOk, OnOk};
 ghost use Rattle.xq_regions.specs.Tree.{Tree};
 ghost use Rattle.xq_regions.specs.Rows.{placed, row_of};
 ghost use Rattle.xq_regions.specs.declared.Axis.{Axis as AxisLem};
-ghost use Rattle.xq_axes.specs.private.Reads.{Span, IsRowIn};
-ghost use Rattle.xq_axes.specs.private.Hits.{is_hit as is_hit_lem, is_wanted, row_passes, below_where};
+ghost use Rattle.xq_axes.specs.private.Reads.{Span, span_end, IsRowIn};
+ghost use Rattle.xq_axes.specs.private.Hits.{is_hit as is_hit_lem, is_wanted, row_passes, below_where, AreUnhit};
 
 use crate::tests::passes;
 use crate::walks::Visitor;
@@ -23,6 +23,14 @@ pub fn push_if(found: &mut Vec<u32>, is_wanted: bool, place: u32) -> Result<(), 
     Ok(())
 }
 
+/// What is told of a row: whether it is on the axis, and how many of those right after it need no
+/// look, since none of them is.
+#[derive(Clone, Copy)]
+pub struct Verdict {
+    pub is_hit: bool,
+    pub over: u32,
+}
+
 /// Tells of rows, one after another, whether they are on an axis from one of the context nodes.
 pub trait Judge {
     /// The axis.
@@ -34,12 +42,14 @@ pub trait Judge {
     /// From the first state on, the rows of the tree in the span before the place were judged.
     ghost has_judged: { Self → Self → Tree → Span → ℕ → Type 0 };
 
-    /// Whether the row, the next one, is on the axis.
-    fn judge(&mut self, row: &NodeRow) -> Result<bool, Want>
+    /// Whether the row, the next one, is on the axis, and how many after it are not.
+    fn judge(&mut self, row: &NodeRow) -> Result<Verdict, Want>
         ensures { (start : Self) (t : Tree) (s : Span) (n : ℕ)
             → IsRowIn t s n (placed row.now) → has_judged start self.old t s n
-            → IfOk result (λ hit. (hit ≡ is_hit_lem (axis start) t (contexts start) n)
-            × has_judged start self.new t s (n + 1)) };
+            → IfOk result (λ verdict. let is_hit = is_hit_lem (axis start) t (contexts start) in
+            let next = n + 1 + verdict.over in
+            (verdict.is_hit ≡ is_hit n) × (next ≤ span_end t s)
+            × AreUnhit is_hit (n + 1) next × has_judged start self.new t s next) };
 }
 
 /// Picks the rows that are on an axis and pass a test.
@@ -52,6 +62,7 @@ pub struct Picker<'a, J> {
 
 impl<J> Picker<'_, J> {
     /// Takes the row if it is on the axis, as it is told, and passes the test.
+    #[inline]
     pub fn pick(&mut self, is_hit: bool, row: &NodeRow) -> Result<(), Want>
         ensures judge { self.new.judge ≡ self.old.judge }
         ensures test { self.new.test.now ≡ self.old.test.now }
@@ -71,8 +82,9 @@ impl<J: Judge> Visitor for Picker<'_, J> {
         × (now.found.items ≡ below_where
         (is_wanted (J.axis start.judge) start.test.now t (J.contexts start.judge)) n) };
 
-    fn visit(&mut self, row: &NodeRow) -> Result<(), Want> {
-        let is_hit = self.judge.judge(row)?;
-        self.pick(is_hit, row)
+    fn visit(&mut self, row: &NodeRow) -> Result<u32, Want> {
+        let verdict = self.judge.judge(row)?;
+        self.pick(verdict.is_hit, row)?;
+        Ok(verdict.over)
     }
 }

@@ -86,6 +86,7 @@ fn add_nodes(found: &mut Vec<Node>, tree: usize, places: &[u32]) -> Result<(), W
     ensures { OnOk result (found.new.items
         ≡ found.old.items ++ map (λ p. record { tree = tree; pre = p }) places.now) }
 {
+    found.reserve(places.len())?;
     for place in places {
         found.push(Node { tree, pre: *place })?;
     }

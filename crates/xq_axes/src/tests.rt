@@ -27,6 +27,7 @@ pub fn is_plain(kind: Kind) -> bool
 }
 
 /// Whether the node of the row passes the test (XQuery 3.1, section 3.3.2.2).
+#[inline]
 pub fn passes(test: &Test, row: &NodeRow) -> bool
     ensures { result ≡ row_passes test.now (row_of row.now) }
 {

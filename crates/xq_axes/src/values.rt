@@ -22,11 +22,11 @@ struct Texts {
 impl Visitor for Texts {
     ghost has_read = { λ _ v t s n. string_bytes v.joined ≡ joined_texts (rows_to (rows t) s.low n) };
 
-    fn visit(&mut self, row: &NodeRow) -> Result<(), Want> {
+    fn visit(&mut self, row: &NodeRow) -> Result<u32, Want> {
         if let Kind::Text = row.kind {
             self.joined.push_str(row.value.as_str())?;
         }
-        Ok(())
+        Ok(0)
     }
 }
 

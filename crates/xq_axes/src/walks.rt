@@ -1,5 +1,5 @@
 //! Reading the rows of a range in turn.
-ghost use Rattle.std.specs.Prelude.{◌≡◌, ◌+◌, ◌-◌, ◌≤◌, ℕ, length, map, OnOk};
+ghost use Rattle.std.specs.Prelude.{◌≡◌, ◌+◌, ◌-◌, ◌≤◌, ℕ, length, map, IfOk, OnOk};
 ghost use Rattle.xq_regions.specs.Tree.{Tree};
 ghost use Rattle.xq_regions.specs.Rows.{placed};
 ghost use Rattle.xq_sources.specs.Sources.{tree_at};
@@ -15,26 +15,33 @@ pub trait Visitor {
     /// From the first state on, the rows of the tree in the span before the place were visited.
     ghost has_read: { Self → Self → Tree → Span → ℕ → Type 0 };
 
-    /// Takes one more row.
-    fn visit(&mut self, row: &NodeRow) -> Result<(), Want>
+    /// Takes one more row, and tells how many of those right after it need no visit.
+    fn visit(&mut self, row: &NodeRow) -> Result<u32, Want>
         ensures { (start : Self) (t : Tree) (s : Span) (n : ℕ)
             → IsRowIn t s n (placed row.now) → has_read start self.old t s n
-            → OnOk result (has_read start self.new t s (n + 1)) };
+            → IfOk result (λ over. (n + 1 + over ≤ span_end t s)
+            × has_read start self.new t s (n + 1 + over)) };
 }
 
-/// Visits the rows in turn.
-fn visit_all<V: Visitor>(rows: &[NodeRow], visitor: &mut V) -> Result<(), Want>
-    ensures { (start : V) (t : Tree) (s : Span) (n : ℕ) → AreRowsIn t s n (map placed rows.now)
+/// Visits the rows in turn, but for those that need no visit, and tells how many it went over: at
+/// least all of them.
+fn visit_all<V: Visitor>(rows: &[NodeRow], visitor: &mut V) -> Result<u64, Want>
+    ensures all { IfOk result (λ passed. length rows.now ≤ passed) }
+    ensures read { (start : V) (t : Tree) (s : Span) (n : ℕ) → s.high ≤ 4294967295
+        → AreRowsIn t s n (map placed rows.now) → n + length rows.now ≤ span_end t s
         → V.has_read start visitor.old t s n
-        → OnOk result (V.has_read start visitor.new t s (n + length rows.now)) }
+        → IfOk result (λ passed. (n + passed ≤ span_end t s)
+        × V.has_read start visitor.new t s (n + passed)) }
 {
-    for row in rows {
-        visitor.visit(row)?;
+    let mut passed = 0usize;
+    while let Some(row) = rows.get(passed) {
+        let over = visitor.visit(row)?;
+        passed = passed.saturating_add(1).saturating_add(over as usize);
     }
-    Ok(())
+    Ok(passed as u64)
 }
 
-/// Visits the rows of the tree from `low` to `high`, each of which is read once.
+/// Visits the rows of the tree from `low` to `high` that need it; each is read once at most.
 pub fn walk<L: RowLender, V: Visitor>(
     alloc: Global,
     source: &mut L,
@@ -62,8 +69,8 @@ pub fn walk<L: RowLender, V: Visitor>(
         if rows.is_empty() {
             break;
         }
-        visit_all(rows, visitor)?;
-        next = next.saturating_add(rows.len() as u64);
+        let passed = visit_all(rows, visitor)?;
+        next = next.saturating_add(passed);
     }
     Ok(())
 }

@@ -1,10 +1,11 @@
 -- Axes to what is below the context nodes, judged row by row.
 use Rattle.std.proofs.Common.{suc}
-use Rattle.std.specs.Prelude.{ℕ, ◌+◌, ◌<◌, ◌≤◌, ◌≡◌, ◌≢◌, ◌⊎◌, List, length, Bool, true, false, not, ◌&&◌, ◌||◌, slice_index, slice_index_or}
+use Rattle.std.specs.Prelude.{ℕ, ◌+◌, ◌-◌, ◌<◌, ◌≤◌, ◌≡◌, ◌⊎◌, List, length, min, Bool, true, false, not, ◌&&◌, ◌||◌, if◌then◌else◌, Option, Some, None, nat_le, slice_index, slice_index_or}
 use Rattle.xq_regions.specs.Forest.{count}
-use Rattle.xq_regions.specs.Tree.{Tree, nodes}
+use Rattle.xq_regions.specs.Tree.{Tree, IsTree, nodes}
 use Rattle.xq_regions.specs.Rows.{row_at, rows}
 use Rattle.xq_regions.specs.Regions.{IsInside}
+use Rattle.xq_regions.specs.RegionTests.{plain_row}
 use Rattle.xq_regions.specs.declared.Axis.{Axis}
 use Rattle.xq_regions.specs.declared.Axis.TheVariants as axis
 use Rattle.xq_values.specs.declared.node_tests.Test.{Test}
@@ -45,22 +46,57 @@ pub record IsCluster (t : Tree) (vs : List ℕ) (s : Span) (v : ℕ) : Type 0 wh
   pub is_there : v < count (nodes t)
   pub is_top : (i : ℕ) → i < length vs → IsInside (rows t) (slice_index vs i) v → ⊥
 
--- by level, whether the last row there is that of a context
-pub record AreMarked (t : Tree) (vs : List ℕ) (v n : ℕ) (marks : List Bool) : Type 0 where
-  pub levels : length marks ≡ 101
-  pub marked : (w : ℕ) → v ≤ w → w < n → ((q : ℕ) → w < q → q < n → level_of t q ≢ level_of t w)
-      → slice_index_or marks (level_of t w) false ≡ is_among vs w
+-- whether the parent of a row is a context, as far as the axis asks: of an attribute by the row
+-- that was open, of others by the mark one level up
+abbrev pub is_child : Downward → Bool → Bool → Bool
+is_child Attribute is_open below_mark = is_open
+is_child direction is_open below_mark = below_mark
+
+-- the last place before the next context, or the last one where that is less
+abbrev pub stop : Option ℕ → ℕ → ℕ
+stop None last = last
+stop (Some v) last = min (v - 1) last
+
+-- there is a place, and it is not after the end
+abbrev pub is_within : Option ℕ → ℕ → Bool
+is_within None last = false
+is_within (Some v) last = nat_le v last
+
+-- how many rows right after a row need no look: to children all below one that is no context and
+-- holds none, to attributes those before the next context; by whether the row is a context, and no
+-- attribute, the next context, its place and size, and the last place
+abbrev pub rows_over : Downward → Bool → Bool → Option ℕ → ℕ → ℕ → ℕ → ℕ
+rows_over Child false plain next pre size last = if is_within next (pre + size) then 0 else size
+rows_over Attribute false true next pre size last = stop next last - pre
+rows_over direction context plain next pre size last = 0
+
+-- by level, whether the row that n is below there is that of a context
+abbrev pub AreMarked : Tree → List ℕ → ℕ → ℕ → List Bool → Type 0
+AreMarked t vs v n marks = (w : ℕ) → v ≤ w → IsInside (rows t) w n
+    → slice_index_or marks (level_of t w) false ≡ is_among vs w
+
+-- whether the last row before n that is no attribute is that of a context
+abbrev pub IsOpen : Tree → List ℕ → ℕ → ℕ → Bool → Type 0
+IsOpen t vs v n is_open = (w : ℕ) → v ≤ w → w < n → plain_row (rows t) w ≡ true
+    → ((q : ℕ) → w < q → q < n → plain_row (rows t) q ≡ false) → is_open ≡ is_among vs w
+
+-- what the axis asks for is known of the parent of row n
+abbrev pub IsKnown : Downward → Tree → List ℕ → ℕ → ℕ → List Bool → Bool → Type 0
+IsKnown Attribute t vs v n marks is_open = IsOpen t vs v n is_open
+IsKnown direction t vs v n marks is_open = AreMarked t vs v n marks
 
 -- the rows below a context were judged to before n
-pub record IsJudged (t : Tree) (vs : List ℕ) (s : Span) (n met : ℕ)
-    (marks : List Bool) : Type 0 where
+pub record IsJudged (direction : Downward) (t : Tree) (vs : List ℕ) (s : Span) (n met : ℕ)
+    (marks : List Bool) (is_open : Bool) : Type 0 where
+  pub is_tree : IsTree t
   pub rising : IsRising vs
   pub reached : IsReached vs met n
   pub top : ℕ
   pub cluster : IsCluster t vs s top
   pub is_context : is_among vs top ≡ true
   pub from : top < n
-  pub are_marked : AreMarked t vs top n marks
+  pub levels : length marks ≡ 101
+  pub is_known : IsKnown direction t vs top n marks is_open
 
 -- all was found to before n, and no context before n holds a row from there on
 pub record IsSearched (direction : Downward) (test : Test) (t : Tree) (vs : List ℕ) (n met : ℕ)

@@ -1,6 +1,6 @@
 -- The places that a step gives, by rows.
 use Rattle.std.proofs.Common.{zero, suc}
-use Rattle.std.specs.Prelude.{ℕ, ◌<◌, ◌≤◌, List, [], ◌∷◌, ◌++◌, length, Bool, ◌&&◌, ◌==◌, if◌then◌else◌, slice_index}
+use Rattle.std.specs.Prelude.{ℕ, ◌<◌, ◌≤◌, ◌≡◌, List, [], ◌∷◌, ◌++◌, length, Bool, false, ◌&&◌, ◌==◌, if◌then◌else◌, slice_index}
 use Rattle.std.specs.List.{list_any}
 use Rattle.xq_regions.specs.Tree.{Tree}
 use Rattle.xq_regions.specs.Rows.{Row, row_at, rows}
@@ -24,6 +24,10 @@ is_wanted axis test t vs p = is_hit axis t vs p && row_passes test (row_at (rows
 abbrev pub below_where : (ℕ → Bool) → ℕ → List ℕ
 below_where f zero = []
 below_where f (suc n) = below_where f n ++ (if f n then n ∷ [] else [])
+
+-- none of the numbers from low to before high passes the test
+abbrev pub AreUnhit : (ℕ → Bool) → ℕ → ℕ → Type 0
+AreUnhit f low high = (n : ℕ) → low ≤ n → n < high → f n ≡ false
 
 -- a number is among these
 abbrev pub is_among : List ℕ → ℕ → Bool

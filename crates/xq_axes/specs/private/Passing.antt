@@ -1,10 +1,10 @@
 -- Axes to what is before, after and above the context nodes, judged row by row.
-use Rattle.std.specs.Prelude.{ℕ, ◌<◌, ◌≤◌, ◌≡◌, List, Bool, true, false, Option, Some, None, nat_le, length, slice_index, slice_get}
+use Rattle.std.specs.Prelude.{ℕ, ◌<◌, ◌≤◌, ◌≡◌, List, Bool, true, false, length, slice_index, slice_get}
 use Rattle.xq_regions.specs.declared.Axis.{Axis}
 use Rattle.xq_regions.specs.declared.Axis.TheVariants as axis
 use Rattle.xq_regions.specs.Tree.{Tree, IsTree, nodes}
 use Rattle.xq_regions.specs.Forest.{count}
-use Rattle.xq_axes.specs.private.Downward.{end_of}
+use Rattle.xq_axes.specs.private.Downward.{end_of, is_within}
 
 -- the greatest of the places
 pub record IsLast (vs : List ℕ) (last : ℕ) : Type 0 where
@@ -31,11 +31,6 @@ pub record IsLeastEnd (t : Tree) (vs : List ℕ) (least : ℕ) : Type 0 where
 abbrev pub axis_above : Bool → Axis
 axis_above true = axis.AncestorOrSelf
 axis_above false = axis.Ancestor
-
--- there is a place, and it is not after the end
-abbrev pub is_within : Option ℕ → ℕ → Bool
-is_within None last = false
-is_within (Some v) last = nat_le v last
 
 abbrev pub is_next_within : List ℕ → ℕ → ℕ → Bool
 is_next_within vs index last = is_within (slice_get vs index) last

@@ -1,4 +1,4 @@
-use Rattle.std.proofs.Common.{◌≡◌, ◌≤◌, ◌-◌, inr, ℕ, ◌+◌, ◌∷◌, [], ◌++◌, ◌&&◌, cond, length, set, true, refl, sym, ap, subst, ◌∙◌, arith}
+use Rattle.std.proofs.Common.{◌≡◌, ◌≤◌, ◌-◌, inr, ℕ, ◌+◌, ◌∷◌, [], ◌++◌, ◌&&◌, cond, length, min, set, true, refl, sym, ap, subst, ◌∙◌, arith}
 use Rattle.xq_regions.specs.Tree.{Tree}
 use Rattle.xq_regions.specs.Rows.{Row, rows, row_at, row_of}
 use Rattle.xq_sources.specs.Sources.{tree_at}
@@ -37,13 +37,16 @@ returns-clause-searched g c = λ k n after next before. (
     let reached_x = c.in_ok-is_own.ensures.met before.rising (subst (IsReached vs old.judge.contexts.met) (sym pre) (reached_before d test t vs n v old.judge.contexts.met (length old.judge.marks) found before after next)) in
     let reached_v = subst (λ m. IsReached vs met (m + 1)) pre reached_x in
     let m = c.in_ok-is_own.ensures.marks in
+    let new = c.enter.new.self in
     let e0 = entered d test t vs n v old.judge.contexts.met (length old.judge.marks) found before after next met x.level x.size old.judge.marks refl sized level m.0 reached_v in
-    let e1 = subst (λ l. IsJudged t vs (span l (v + x.size)) l met (set old.judge.marks x.level true)) (sym ex.low_is) e0 in
-    let e2 = subst (λ h. IsJudged t vs (span low h) low met (set old.judge.marks x.level true)) (sym ex.high_is) e1 in
-    let e3 = subst (λ ms. IsJudged t vs (span low high) low met ms) (sym m.1) e2 in
+    let e1 = subst (λ l. IsJudged d t vs (span l (v + x.size)) l met (set old.judge.marks x.level true) true) (sym ex.low_is) e0 in
+    let e2 = subst (λ h. IsJudged d t vs (span low h) low met (set old.judge.marks x.level true) true) (sym ex.high_is) e1 in
+    let e3 = subst (λ ms. IsJudged d t vs (span low high) low met ms true) (sym m.1) e2 in
+    let e4 = subst (λ b. IsJudged d t vs (span low high) low met new.marks b) (sym c.in_ok-is_own.ensures.open) e3 in
     let p = c.pick.new.self in
-    let je : p.judge ≡ c.enter.new.self = c.in_ok-pick.ensures.judge in
-    let e4 = subst (λ (j : Below). IsJudged t vs (span low high) low j.contexts.met j.marks) (sym je) e3 in
+    let je : p.judge ≡ new = c.in_ok-pick.ensures.judge in
+    let e5 = subst (λ (j : Below). IsJudged d t vs (span low high) low j.contexts.met j.marks j.is_open) (sym je) e4 in
+    let last : p.judge.last ≡ high = ap (λ (j : Below). j.last) je ∙ c.in_ok-is_own.ensures.last ∙ ap (λ y. min (y + x.size) 4294967295) pre ∙ sym c.saturating_add-high.ensures in
     let own = c.in_ok-is_own.is_own in
     let w = wanted_is (axis_of d) test test t vs v x own rx refl (c.in_ok-is_own.ensures.own ∙ own_is_hit d test t vs n v old.judge.contexts.met (length old.judge.marks) found before after next) in
     let f0 = c.in_ok-pick.ensures.found ∙ ap (λ q. found ++ cond (own && row_passes test (row_of x)) (q ∷ []) []) pre
@@ -51,17 +54,17 @@ returns-clause-searched g c = λ k n after next before. (
     ∙ ap (below_where (is_wanted (axis_of d) test t vs)) (sym ex.low_is) in
     let q = c.walk.new.visitor in
     let same : tree_at (g.L.TreeSource.forest c.fetch_row.new.self) c.args.tree ≡ t = ap (λ f. tree_at f c.args.tree) c.in_ok-fetch_row.ensures.keeps in
-    let Start : Tree → Type 0 = λ u. ((p.judge.direction ≡ d) × (p.judge.contexts.places.now ≡ vs) × IsJudged u vs (span low high) low p.judge.contexts.met p.judge.marks)
+    let Start : Tree → Type 0 = λ u. ((p.judge.direction ≡ d) × (p.judge.contexts.places.now ≡ vs) × (p.judge.last ≡ high) × IsJudged d u vs (span low high) low p.judge.contexts.met p.judge.marks p.judge.is_open)
     × (p.test.now ≡ test) × (p.found.items ≡ below_where (is_wanted (axis_of d) test u vs) low) in
-    let start : Start t = ((ap (λ (j : Below). j.direction) je ∙ c.in_ok-is_own.ensures.direction, ap (λ (j : Below). j.contexts.places.now) je ∙ c.in_ok-is_own.ensures.places, e4), c.in_ok-pick.ensures.test, f0) in
-    let End : Tree → Type 0 = λ u. ((q.judge.direction ≡ d) × (q.judge.contexts.places.now ≡ vs) × IsJudged u vs (span low high) (span_end u (span low high)) q.judge.contexts.met q.judge.marks)
+    let start : Start t = ((ap (λ (j : Below). j.direction) je ∙ c.in_ok-is_own.ensures.direction, ap (λ (j : Below). j.contexts.places.now) je ∙ c.in_ok-is_own.ensures.places, last, e5), c.in_ok-pick.ensures.test, f0) in
+    let End : Tree → Type 0 = λ u. ((q.judge.direction ≡ d) × (q.judge.contexts.places.now ≡ vs) × (q.judge.last ≡ high) × IsJudged d u vs (span low high) (span_end u (span low high)) q.judge.contexts.met q.judge.marks q.judge.is_open)
     × (q.test.now ≡ test) × (q.found.items ≡ below_where (is_wanted (axis_of d) test u vs) (span_end u (span low high))) in
     let ended = subst End same (c.in_ok-walk.ensures.read k old (subst Start (sym same) start)) in
-    let j0 = subst (λ m. IsJudged t vs (span low high) m q.judge.contexts.met q.judge.marks) ex.end_is ended.0.2 in
-    let j1 = subst (λ l. IsJudged t vs (span l high) (v + 1 + x.size) q.judge.contexts.met q.judge.marks) ex.low_is j0 in
-    let j2 = subst (λ h. IsJudged t vs (span (v + 1) h) (v + 1 + x.size) q.judge.contexts.met q.judge.marks) ex.high_is j1 in
+    let j0 = subst (λ m. IsJudged d t vs (span low high) m q.judge.contexts.met q.judge.marks q.judge.is_open) ex.end_is ended.0.3 in
+    let j1 = subst (λ l. IsJudged d t vs (span l high) (v + 1 + x.size) q.judge.contexts.met q.judge.marks q.judge.is_open) ex.low_is j0 in
+    let j2 = subst (λ h. IsJudged d t vs (span (v + 1) h) (v + 1 + x.size) q.judge.contexts.met q.judge.marks q.judge.is_open) ex.high_is j1 in
     let f1 = ended.2 ∙ ap (below_where (is_wanted (axis_of d) test t vs)) ex.end_is in
-    let done = searched d test t vs n v old.judge.contexts.met (length old.judge.marks) found before after next x.size q.judge.contexts.met q.judge.marks q.found.items sized j2 f1 in
+    let done = searched d test t vs n v old.judge.contexts.met (length old.judge.marks) found before after next x.size q.judge.contexts.met q.judge.marks q.judge.is_open q.found.items sized j2 f1 in
     let h = ex.high_is in
     let last : v + 1 + x.size ≡ c.from.result + 1 = omega (arith, h) in
     (omega (arith, h), ended.0.0, ended.0.1, ended.1, subst (λ m. IsSearched d test t vs m q.judge.contexts.met (length q.judge.marks) q.found.items) last done))

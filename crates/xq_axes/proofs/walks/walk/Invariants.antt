@@ -1,4 +1,4 @@
-use Rattle.std.proofs.Common.{◌≡◌, ◌+◌, ◌-◌, ◌≤◌}
+use Rattle.std.proofs.Common.{◌≡◌, ◌+◌, ◌-◌, ◌≤◌, min}
 use Rattle.xq_sources.specs.Sources.{tree_at}
 use Rattle.xq_axes.specs.private.Reads.{span, span_end}
 use Rattle.xq_axes.proofs.walks.walk.Given as goal
@@ -12,9 +12,10 @@ invariant-loop-next g l =
       forest : g.L.TreeSource.forest l.source ≡ g.L.TreeSource.forest l.initial.source;
       clean : g.L.TreeSource.is_clean l.source → g.L.TreeSource.is_clean l.initial.source;
       from : l.low ≤ l.next;
-      to : g.L.TreeSource.is_clean l.source → l.next ≤ span_end t s;
-      read : g.L.TreeSource.is_clean l.source → (start : g.row.V.Denot) → g.V.Visitor.has_read start l.initial.visitor t s l.low → g.V.Visitor.has_read start l.visitor t s l.next;
-      rows : g.L.TreeSource.is_clean l.source → (g.L.TreeSource.meter l.source).rows ≤ (g.L.TreeSource.meter l.initial.source).rows + (l.next - l.low);
+      read :
+          g.L.TreeSource.is_clean l.source → (start : g.row.V.Denot) → g.V.Visitor.has_read start l.initial.visitor t s l.low
+          → (l.next ≤ span_end t s) × g.V.Visitor.has_read start l.visitor t s l.next;
+      rows : g.L.TreeSource.is_clean l.source → (g.L.TreeSource.meter l.source).rows ≤ (g.L.TreeSource.meter l.initial.source).rows + (min l.next (span_end t s) - l.low);
       singles : (g.L.TreeSource.meter l.source).singles ≡ (g.L.TreeSource.meter l.initial.source).singles;
     }
 

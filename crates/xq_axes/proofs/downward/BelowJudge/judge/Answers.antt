@@ -1,10 +1,13 @@
 use Rattle.std.proofs.Common.{◌≡◌, ◌+◌, ◌-◌, ◌&&◌, false, get_or, set, nat_lt, not, sym, ap, ◌∙◌, subst, arith}
+use Rattle.std.specs.Prelude.{slice_get}
 use Rattle.xq_regions.specs.Rows.{Row, rows}
 use Rattle.xq_regions.specs.Tree.{is_attribute}
 use Rattle.xq_regions.specs.RegionTests.{plain_row}
+use Rattle.xq_axes.specs.declared.contexts.Contexts.{Contexts}
 use Rattle.xq_axes.specs.private.Hits.{is_among, IsRising, IsReached}
-use Rattle.xq_axes.specs.private.Downward.{is_chosen, level_of, IsJudged}
+use Rattle.xq_axes.specs.private.Downward.{is_chosen, is_child, level_of, rows_over, IsJudged}
 use Rattle.xq_axes.proofs.Clusters.{judged}
+use Rattle.xq_axes.proofs.Over.{goes_over}
 use Rattle.xq_axes.proofs.downward.BelowJudge.judge.Goals as goal
 
 pub returns : goal.returns
@@ -12,12 +15,33 @@ returns c = λ start t s n r h. (
     let x = c.args.row.now in
     let vs = start.contexts.places.now in
     let old = c.args.self.now in
-    let j = h.2 in
+    let d = start.direction in
+    let j = h.3 in
+    let context = c.meets-is_context.result in
+    let plain = c.is_plain-is_plain.result in
+    let child = c.is_child-is_child.result in
+    let met = c.meets-is_context.new.self.met in
+    let new = c.mark.new.self in
     let e : x.level ≡ level_of t n = ap (λ (y : Row). y.level) r.row in
     let k : plain_row (rows t) n ≡ not (is_attribute x.kind) = sym (ap (λ (y : Row). not (is_attribute y.label.kind)) r.row) in
-    let met = subst (λ us. (c.meets-is_context.result ≡ is_among us x.pre) × IsReached us c.meets-is_context.new.self.met (x.pre + 1)) h.1
+    let ep : plain ≡ plain_row (rows t) n = c.is_plain-is_plain.ensures ∙ sym k in
+    let found = subst (λ us. (context ≡ is_among us x.pre) × IsReached us met (x.pre + 1)) h.1
     (c.meets-is_context.ensures.met (subst (λ us. IsRising us) (sym h.1) j.rising) (subst (λ us. IsReached us old.contexts.met x.pre) (sym h.1) (subst (IsReached vs old.contexts.met) (sym r.place) j.reached))) in
-    let met_n = subst (λ m. (c.meets-is_context.result ≡ is_among vs m) × IsReached vs c.meets-is_context.new.self.met (m + 1)) r.place met in
-    let w = judged start.direction t vs s n c.is_below_mark-is_child.result c.meets-is_context.result c.is_plain.result c.is_chosen.result old.contexts.met c.meets-is_context.new.self.met old.marks j r.is_there r.from r.to (omega arith)
-    (c.is_below_mark-is_child.ensures ∙ ap (λ l. nat_lt 0 l && get_or old.marks (l - 1) false) e) met_n (c.is_plain.ensures ∙ sym k) (c.is_chosen.ensures ∙ ap (λ d. is_chosen d c.is_below_mark-is_child.result c.meets-is_context.result c.is_plain.result) h.0) in
-    (w.is_right, (h.0, c.meets-is_context.ensures.places ∙ h.1, subst (λ l. IsJudged t vs s (n + 1) c.meets-is_context.new.self.met (set old.marks l c.meets-is_context.result)) (sym e) w.goes_on)))
+    let em = subst (λ m. (context ≡ is_among vs m) × IsReached vs met (m + 1)) r.place found in
+    let ec : child ≡ is_child d old.is_open (nat_lt 0 (level_of t n) && get_or old.marks (level_of t n - 1) false) =
+    c.is_child-is_child.ensures ∙ ap (λ y. is_child y old.is_open (nat_lt 0 x.level && get_or old.marks (x.level - 1) false)) h.0
+    ∙ ap (λ l. is_child d old.is_open (nat_lt 0 l && get_or old.marks (l - 1) false)) e in
+    let w = judged d t vs s n child context plain c.is_chosen.result old.contexts.met met old.marks old.is_open j r.is_there r.from r.to (omega (arith, e)) ec em ep
+    (c.is_chosen.ensures ∙ ap (λ y. is_chosen y child context plain) (c.mark.ensures.direction ∙ h.0)) in
+    let marks : set old.marks (level_of t n) context ≡ new.marks = ap (λ l. set old.marks l context) (sym e) ∙ sym c.mark.ensures.marks in
+    let contexts : new.contexts ≡ c.meets-is_context.new.self = c.mark.ensures.contexts in
+    let places = ap (λ (y : Contexts). y.places.now) contexts ∙ c.meets-is_context.ensures.places ∙ h.1 in
+    let new_met = ap (λ (y : Contexts). y.met) contexts in
+    let j1 = subst (λ b. IsJudged d t vs s (n + 1) met (set old.marks (level_of t n) context) b) (sym c.mark.ensures.is_open) w.goes_on in
+    let j2 = subst (λ ms. IsJudged d t vs s (n + 1) met ms new.is_open) marks j1 in
+    let j3 = subst (λ m. IsJudged d t vs s (n + 1) m new.marks new.is_open) (sym new_met) j2 in
+    let last = c.mark.ensures.last ∙ h.2 in
+    let over = c.rows_over.ensures ∙ ap (λ y. rows_over y context plain (slice_get new.contexts.places.now new.contexts.met) x.pre x.size new.last) (c.mark.ensures.direction ∙ h.0)
+    ∙ ap (λ us. rows_over d context plain (slice_get us new.contexts.met) x.pre x.size new.last) places in
+    let g = goes_over t vs s n new.contexts.met new.marks new.is_open r.is_there r.from r.to d context plain x.pre x.size new.last c.rows_over.result j3 em.0 ep r.place (ap (λ (y : Row). y.size) r.row) last over in
+    (w.is_right, g.within, g.unhit, (c.mark.ensures.direction ∙ h.0, places, last, g.goes_on)))

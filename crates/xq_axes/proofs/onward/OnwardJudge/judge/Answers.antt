@@ -1,10 +1,12 @@
 use Rattle.std.proofs.Common.{◌≡◌, ◌+◌, ◌&&◌, ◌||◌, not, eqb, nat_le, sym, ap, subst, ◌∙◌}
-use Rattle.xq_regions.specs.Rows.{Row, rows}
+use Rattle.xq_regions.specs.Rows.{Row, rows, placed}
 use Rattle.xq_regions.specs.Tree.{is_attribute}
 use Rattle.xq_regions.specs.RegionTests.{plain_row}
-use Rattle.xq_axes.specs.private.Hits.{is_among, IsRising, IsReached}
+use Rattle.xq_axes.specs.private.Hits.{is_among, is_hit, IsRising, IsReached}
 use Rattle.xq_axes.specs.private.Downward.{level_of}
-use Rattle.xq_axes.specs.private.Waiting.{has_siblings}
+use Rattle.xq_axes.specs.private.Waiting.{has_siblings, IsOn}
+use Rattle.xq_regions.specs.declared.Axis.TheVariants as axes
+use Rattle.xq_axes.proofs.Picking.{judged_one}
 use Rattle.xq_axes.proofs.GoingOn.{on_hit, on_more}
 use Rattle.xq_axes.proofs.onward.OnwardJudge.judge.Goals as goal
 
@@ -25,10 +27,7 @@ returns c = λ start t s n r h. (
     let met_n = subst (λ m. (context ≡ is_among vs m) × IsReached vs new_met (m + 1)) r.place met in
     let w : c.waits-waits.result ≡ (context && has_siblings level (plain_row (rows t) n)) =
     c.waits-waits.ensures ∙ ap (λ l. context && has_siblings l c.is_plain-is_plain.result) (sym c.from.ensures) ∙ ap (λ b. context && has_siblings level b) plain in
-    let hit = c.is_sibling.ensures ∙ ap (λ b. b && c.is_plain-is_plain.result) c.in_ok-is_awaited.ensures.awaited ∙ ap (λ b. is_among levels level && b) plain ∙ on_hit t vs n old.contexts.met level levels r.is_there on e in (
-      hit,
-      (
-        c.meets-is_context.ensures.places ∙ h.0,
-        on_more t vs n old.contexts.met new_met level levels c.meet.new.self.list.items context on e met_n (λ m. c.in_ok-is_awaited.ensures.levels m ∙ ap (λ b. (is_among levels m && nat_le m level) || (b && eqb level m)) w),
-      ),
-    ))
+    let hit = c.is_sibling.ensures ∙ ap (λ b. b && c.is_plain-is_plain.result) c.in_ok-is_awaited.ensures.awaited ∙ ap (λ b. is_among levels level && b) plain ∙ on_hit t vs n old.contexts.met level levels r.is_there on e in
+    let more = on_more t vs n old.contexts.met new_met level levels c.meet.new.self.list.items context on e met_n (λ m. c.in_ok-is_awaited.ensures.levels m ∙ ap (λ b. (is_among levels m && nat_le m level) || (b && eqb level m)) w) in
+    let o = judged_one t s n (placed x) (is_hit axes.FollowingSibling t vs) (λ m. (c.meets-is_context.new.self.places.now ≡ vs) × IsOn t vs m new_met c.meet.new.self.list.items) r (c.meets-is_context.ensures.places ∙ h.0, more) in
+    (hit, o.within, o.unhit, o.goes_on))
