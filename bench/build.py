@@ -2,7 +2,8 @@
 
 usage: build.py [FOLDER]    builds bench/build/main.rattle there, unless an earlier call did
 
-A time is the least of five runs, and begins with empty caches.
+A time is the least of fifteen runs, and begins with empty caches; the two sizes are run in turn,
+since the machine's speed changes.
 """
 
 import os
@@ -18,6 +19,7 @@ USES = (
     "xq_atoms", "xq_expressions", "xq_signatures", "xq_regions", "xq_sources", "xq_values",
     "xq_build", "sqlite_items", "indexmap",
 )
+RUNS = 15
 # as many attributes as a reply of 16 MB has room for
 KINDS = (
     ("atoms", (99_999, 999_990)), ("texts", (99_999, 999_990)), ("elements", (99_999, 999_990)),
@@ -25,18 +27,20 @@ KINDS = (
 )
 
 
-def timed(program, kind, size):
-    """The rows of the element, the bytes that it prints as, and the least times in milliseconds."""
-    best = None
-    for _ in range(5):
-        given = ("%s %d" % (kind, size)).encode()
-        ran = subprocess.run([program], input=given, stdout=subprocess.PIPE, check=True)
-        words = ran.stdout.decode().split()
-        if words[0] == "refused":
-            sys.exit("%s %d: refused" % (kind, size))
-        times = [int(word) / 1000 for word in words[2:]]
-        best = times if best is None else [min(pair) for pair in zip(best, times)]
-    return int(words[0]), int(words[1]), best
+def once(program, kind, size):
+    """The rows of the element, the bytes that it prints as, and the times in milliseconds."""
+    given = ("%s %d" % (kind, size)).encode()
+    ran = subprocess.run([program], input=given, stdout=subprocess.PIPE, check=True)
+    words = ran.stdout.decode().split()
+    if words[0] == "refused":
+        sys.exit("%s %d: refused" % (kind, size))
+    return int(words[0]), int(words[1]), [int(word) / 1000 for word in words[2:]]
+
+
+def least(turns):
+    """The rows and the bytes, and the least times, of several turns of one size."""
+    rows, length, _ = turns[0]
+    return rows, length, [min(times) for times in zip(*(turn[2] for turn in turns))]
 
 
 def measure(program):
@@ -44,9 +48,10 @@ def measure(program):
     heads = ("items", "count", "rows", "build ms", "copy ms", "print ms", "MB/s")
     print("%-11s %8s %8s %9s %9s %9s %9s   ratios" % heads)
     for kind, sizes in KINDS:
+        rounds = [[once(program, kind, size) for size in sizes] for _ in range(RUNS)]
         before = None
-        for size in sizes:
-            rows, length, times = timed(program, kind, size)
+        for size, turns in zip(sizes, zip(*rounds)):
+            rows, length, times = least(turns)
             ratios = " ".join("%5.1f" % (now / then) for now, then in zip(times, before or ()))
             print("%-11s %8d %8d %9.1f %9.1f %9.1f %9.1f   %s"
                   % (kind, size, rows, *times, length / times[2] / 1000, ratios), flush=True)

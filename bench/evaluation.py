@@ -4,8 +4,8 @@
     bench/evaluation.py [FOLDER]     builds bench/evaluation/main.rattle in the folder, unless an earlier call did
 
 The queries and the document are those of bench/queries.py, of 10,000 and of 100,000 elements. For each: the
-milliseconds for both sizes, the least of five turns, reading and planning of the query included; the same of five
-turns that begin with empty caches, and how many times as long the larger takes then; the rows that it reads; and
+milliseconds for both sizes, the least of four runs of five turns, reading and planning of the query included; the
+same of turns that begin with empty caches, and how many times as long the larger takes then; the rows that it reads; and
 what two engines that hold their trees in memory took for 100,000 elements on another machine. The smaller document
 lies in the processor's caches from one turn to the next and the larger doesn't, so growth is judged where neither
 does.
@@ -24,6 +24,8 @@ USES = ("xq_atoms", "xq_queries", "xq_sources", "xq_worlds")
 # The most that a time may grow where the document grows tenfold.
 MOST = 13
 TURNS = 5
+# How often both sizes are run, one after the other, since the machine's speed changes.
+ROUNDS = 4
 
 
 def figures(program, elements):
@@ -41,10 +43,17 @@ def figures(program, elements):
             for near, far, group in zip(least[::2], least[1::2], groups[::2])]
 
 
+def least(runs):
+    """For each query the least times of several runs."""
+    return [(min(turn[0] for turn in turns), min(turn[1] for turn in turns), turns[0][2])
+            for turns in zip(*runs)]
+
+
 def main():
     with tempfile.TemporaryDirectory() as scratch:
         program = bench_program(sys.argv[1] if len(sys.argv) > 1 else scratch, "evaluation", USES)
-        small, large = figures(program, 10_000), figures(program, 100_000)
+        rounds = [(figures(program, 10_000), figures(program, 100_000)) for _ in range(ROUNDS)]
+    small, large = (least(runs) for runs in zip(*rounds))
     print("| Query | 10,000 | 100,000 | from memory | from memory | growth | rows read | A | B |")
     print("|---|---|---|---|---|---|---|---|---|")
     within = True

@@ -2,38 +2,25 @@
 
 usage: plan.py [FOLDER]     builds bench/plan/main.rattle in the folder, unless an earlier call did
 
-A time is the least of five runs, of the normal form and the plan alone. The queries are steps of one path,
-operands of one chain, clauses of one FLWOR expression, and quantified expressions side by side. The clauses are
+A time is the least of fifteen runs, of the normal form and the plan alone; the three lengths of a query are run
+in turn. The queries are steps of one path, operands of one chain, clauses of one FLWOR expression, and quantified expressions side by side. The clauses are
 the bindings of one `let`, of ever new variables or of one again and again, and those of the other kinds: each
 word that binds nests what follows, and nesting goes to 128, so most bindings come after a comma.
 """
 
 import os
-import subprocess
 import sys
 import tempfile
 
 TOP = os.path.join(os.path.dirname(os.path.abspath(__file__)), "..")
-sys.path.insert(0, os.path.join(TOP, "tools"))
+sys.path[:0] = [os.path.join(TOP, "tools"), os.path.join(TOP, "bench")]
+from doublings import measure, of_length
 from workspace import bench_program
 
 USES = ("xq_atoms", "xq_lexer", "xq_expressions", "xq_grammar", "xq_parser", "xq_signatures", "xq_scopes", "xq_regions",
         "xq_sources", "xq_values", "xq_meaning", "xq_normal", "xq_plan", "sqlite_items", "indexmap")
 MEGABYTE = 1_000_000
-# The most that a time may grow where the length doubles.
-MOST = 2.3
-# Microseconds too few for a ratio.
-SHORT = 100
-
-
-def of_length(length, begin, part, end):
-    """A query of about that many bytes: its begin, parts by their numbers, and its end."""
-    parts, size, number = [begin], len(begin) + len(end), 0
-    while size < length:
-        parts.append(part(number))
-        size += len(parts[-1])
-        number += 1
-    return "".join(parts) + end
+RUNS = 15
 
 
 def steps(length):
@@ -63,47 +50,19 @@ def quantifiers(length):
 
 
 QUERIES = (
-    ("steps", steps),
-    ("operands", operands),
-    ("ever new variables", new_variables),
-    ("one variable", one_variable),
-    ("other clauses", other_clauses),
-    ("quantifiers", quantifiers),
+    ("steps", MEGABYTE, steps),
+    ("operands", MEGABYTE, operands),
+    ("ever new variables", MEGABYTE, new_variables),
+    ("one variable", MEGABYTE, one_variable),
+    ("other clauses", MEGABYTE, other_clauses),
+    ("quantifiers", MEGABYTE, quantifiers),
 )
-
-
-def timed(program, text):
-    """The least time of five runs in microseconds."""
-    best = None
-    for _ in range(5):
-        words = subprocess.run([program], input=text.encode(), stdout=subprocess.PIPE, check=True).stdout.decode().split()
-        if words[0] != "planned":
-            sys.exit("%s, not planned" % words[0])
-        time = max(1, int(words[1]))
-        best = time if best is None else min(best, time)
-    return best
-
-
-def measure(program):
-    """Prints the times, and whether each doubling is within the bound."""
-    within = True
-    print("%-20s %10s %10s %8s" % ("query", "bytes", "ms", "ratio"))
-    for name, make in QUERIES:
-        before = None
-        for size in (MEGABYTE // 4, MEGABYTE // 2, MEGABYTE):
-            text = make(size)
-            time = timed(program, text)
-            ratio = time / before if before and before > SHORT else None
-            within = within and (ratio is None or ratio <= MOST)
-            print("%-20s %10d %10.2f %8s" % (name, len(text), time / 1000, "" if ratio is None else "%.2f" % ratio), flush=True)
-            before = time
-    print("each doubling at most %.1f times: %s" % (MOST, "yes" if within else "no"))
-    return 0 if within else 1
 
 
 def main():
     with tempfile.TemporaryDirectory() as scratch:
-        return measure(bench_program(sys.argv[1] if len(sys.argv) > 1 else scratch, "plan", USES))
+        folder = sys.argv[1] if len(sys.argv) > 1 else scratch
+        return measure(bench_program(folder, "plan", USES), QUERIES, "planned", RUNS)
 
 
 if __name__ == "__main__":

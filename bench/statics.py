@@ -2,37 +2,25 @@
 
 usage: statics.py [FOLDER]     builds bench/statics/main.rattle in the folder, unless an earlier call did
 
-A time is the least of 75 runs, of the checks alone, and begins with empty caches. The queries are bindings and uses of ever new variables, of
-one variable that is bound again and again, of calls, and one FLWOR expression of up to 20,000 clauses of all kinds.
+A time is the least of 75 runs, of the checks alone, and begins with empty caches; the three lengths
+of a query are run in turn. The queries are bindings and uses of ever new variables, of one variable
+that is bound again and again, of calls, and one FLWOR expression of up to 20,000 clauses of all
+kinds.
 """
 
 import os
-import subprocess
 import sys
 import tempfile
 
 TOP = os.path.join(os.path.dirname(os.path.abspath(__file__)), "..")
-sys.path.insert(0, os.path.join(TOP, "tools"))
+sys.path[:0] = [os.path.join(TOP, "tools"), os.path.join(TOP, "bench")]
+from doublings import measure, of_length
 from workspace import bench_program
 
 USES = ("xq_atoms", "xq_lexer", "xq_expressions", "xq_grammar", "xq_parser", "xq_signatures", "xq_scopes",
         "xq_statics", "sqlite_items")
 MEGABYTE = 1_000_000
 RUNS = 75
-# The most that a time may grow where the length doubles.
-MOST = 2.3
-# Microseconds too few for a ratio.
-SHORT = 100
-
-
-def of_length(length, begin, part, end):
-    """A query of about that many bytes: its begin, parts by their numbers, and its end."""
-    parts, size, number = [begin], len(begin) + len(end), 0
-    while size < length:
-        parts.append(part(number))
-        size += len(parts[-1])
-        number += 1
-    return "".join(parts) + end
 
 
 def new_variables(length):
@@ -69,38 +57,10 @@ QUERIES = (
 )
 
 
-def timed(program, text):
-    """The least time of the runs in microseconds."""
-    best = None
-    for _ in range(RUNS):
-        words = subprocess.run([program], input=text.encode(), stdout=subprocess.PIPE, check=True).stdout.decode().split()
-        if words[0] != "passed":
-            sys.exit("%s, not passed" % words[0])
-        time = max(1, int(words[1]))
-        best = time if best is None else min(best, time)
-    return best
-
-
-def measure(program):
-    """Prints the times, and whether each doubling is within the bound."""
-    within = True
-    print("%-20s %10s %10s %8s" % ("query", "bytes", "ms", "ratio"))
-    for name, most, make in QUERIES:
-        before = None
-        for size in (most // 4, most // 2, most):
-            text = make(size)
-            time = timed(program, text)
-            ratio = time / before if before and before > SHORT else None
-            within = within and (ratio is None or ratio <= MOST)
-            print("%-20s %10d %10.2f %8s" % (name, len(text), time / 1000, "" if ratio is None else "%.2f" % ratio), flush=True)
-            before = time
-    print("each doubling at most %.1f times: %s" % (MOST, "yes" if within else "no"))
-    return 0 if within else 1
-
-
 def main():
     with tempfile.TemporaryDirectory() as scratch:
-        return measure(bench_program(sys.argv[1] if len(sys.argv) > 1 else scratch, "statics", USES))
+        folder = sys.argv[1] if len(sys.argv) > 1 else scratch
+        return measure(bench_program(folder, "statics", USES), QUERIES, "passed", RUNS)
 
 
 if __name__ == "__main__":
