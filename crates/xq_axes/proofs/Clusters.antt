@@ -11,7 +11,7 @@ use Rattle.xq_regions.specs.Regions.{IsInside}
 use Rattle.xq_regions.specs.RegionTests.{inside, one_below, plain_row, in_region}
 use Rattle.xq_axes.specs.private.Reads.{Span}
 use Rattle.xq_axes.specs.private.Hits.{is_among, is_hit, IsReached}
-use Rattle.xq_axes.specs.private.Downward.{axis_of, is_chosen, is_child, level_of, AreMarked, IsOpen, IsKnown, IsJudged}
+use Rattle.xq_axes.specs.private.Downward.{axis_of, is_chosen, is_child, level_of, AreMarked, IsOpen, IsMet, IsKnown, IsJudged}
 use Rattle.xq_axes.specs.declared.downward.Downward.{Downward}
 use Rattle.xq_axes.specs.declared.downward.Downward.TheVariants.{Child, Attribute, Descendant, DescendantOrSelf}
 use Rattle.xq_axes.specs.private.Waiting.{IsParent}
@@ -116,7 +116,7 @@ pub known_more : (d : Downward) (t : Tree) (vs : List ℕ) (v n : ℕ) (marks : 
     → IsKnown d t vs v (n + 1) (set marks (level_of t n) is_context) (cond plain is_context is_open)
 known_more Child t vs v n marks is_open is_context plain hn l k ep e = marked_more t vs v n marks is_context hn l k e
 known_more Attribute t vs v n marks is_open is_context plain hn l k ep e = open_more t vs v n is_open is_context plain k ep e
-known_more Descendant t vs v n marks is_open is_context plain hn l k ep e = marked_more t vs v n marks is_context hn l k e
+known_more Descendant t vs v n marks is_open is_context plain hn l k ep e = tt
 known_more DescendantOrSelf t vs v n marks is_open is_context plain hn l k ep e = marked_more t vs v n marks is_context hn l k e
 
 -- a row that is no attribute is on no axis to attributes
@@ -162,6 +162,39 @@ pub record Judging (d : Downward) (t : Tree) (vs : List ℕ) (s : Span) (n : ℕ
   pub is_right : hit ≡ is_hit (axis_of d) t vs n
   pub goes_on : IsJudged d t vs s (n + 1) met marks is_open
 
+pub met_is : (d : Downward) (vs : List ℕ) (met n : ℕ) → IsReached vs met n → IsMet d vs met n
+met_is Child vs met n r = r
+met_is Attribute vs met n r = r
+met_is Descendant vs met n r = tt
+met_is DescendantOrSelf vs met n r = r
+
+pub is_met : (d : Downward) (vs : List ℕ) (met n : ℕ) → (d ≡ Descendant → ⊥) → IsMet d vs met n → IsReached vs met n
+is_met Child vs met n h r = r
+is_met Attribute vs met n h r = r
+is_met Descendant vs met n h r = absurd (h refl)
+is_met DescendantOrSelf vs met n h r = r
+
+-- a row below a context is one of its descendants, unless it is an attribute
+pub descendant : (t : Tree) (vs : List ℕ) (s : Span) (n met : ℕ) (marks : List Bool) (is_open plain : Bool) → IsJudged Descendant t vs s n met marks is_open → n < count (nodes t) → s.low ≤ n → n ≤ s.high → plain ≡ plain_row (rows t) n
+    → Judging Descendant t vs s n plain met marks is_open
+descendant t vs s n met marks is_open plain j hn low high ep =
+    let c = j.cluster in
+    let h : IsInside (rows t) j.top n = (let a = c.low in let b = c.high in (omega arith, omega arith)) in
+    record {
+      is_right = ep ∙ known_hit Descendant t vs n j.top marks is_open j.is_tree hn j.is_context c.is_there h tt;
+      goes_on = record {
+        is_tree = j.is_tree;
+        rising = j.rising;
+        reached = tt;
+        top = j.top;
+        cluster = c;
+        is_context = j.is_context;
+        from = (let f = j.from in omega (arith, f));
+        levels = j.levels;
+        is_known = tt;
+      };
+    }
+
 pub judged : (d : Downward) (t : Tree) (vs : List ℕ) (s : Span) (n : ℕ) (child is_context plain hit : Bool) (met new_met : ℕ) (marks : List Bool) (is_open : Bool) → IsJudged d t vs s n met marks is_open
     → n < count (nodes t) → s.low ≤ n → n ≤ s.high → level_of t n < 101
     → child ≡ is_child d is_open (nat_lt 0 (level_of t n) && get_or marks (level_of t n - 1) false)
@@ -179,7 +212,7 @@ judged d t vs s n child is_context plain hit met new_met marks is_open j hn low 
       goes_on = record {
         is_tree = j.is_tree;
         rising = j.rising;
-        reached = em.1;
+        reached = met_is d vs new_met (n + 1) em.1;
         top = v;
         cluster = c;
         is_context = j.is_context;

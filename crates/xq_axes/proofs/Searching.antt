@@ -11,13 +11,13 @@ use Rattle.xq_regions.specs.RegionTests.{inside, plain_row, in_region}
 use Rattle.xq_values.specs.declared.node_tests.Test.{Test}
 use Rattle.xq_axes.specs.private.Reads.{span, IsSized}
 use Rattle.xq_axes.specs.private.Hits.{is_among, is_hit, is_wanted, row_passes, below_where, IsRising, IsReached}
-use Rattle.xq_axes.specs.private.Downward.{axis_of, is_own, level_of, end_of, AreMarked, IsOpen, IsKnown, IsJudged, IsSearched, IsNext}
+use Rattle.xq_axes.specs.private.Downward.{axis_of, is_own, level_of, end_of, AreMarked, IsOpen, IsMet, IsKnown, IsJudged, IsSearched, IsNext}
 use Rattle.xq_axes.specs.declared.downward.Downward.{Downward}
 use Rattle.xq_axes.specs.declared.downward.Downward.TheVariants.{Child, Attribute, Descendant, DescendantOrSelf}
 use Rattle.xq_axes.proofs.Lists.{any_none, any_or, among_at, below_where-none, reached_none, reached_over}
 use Rattle.xq_axes.proofs.Sizes.{node_of}
 use Rattle.xq_axes.proofs.Trees.{inside_ends}
-use Rattle.xq_axes.proofs.Clusters.{true_inside}
+use Rattle.xq_axes.proofs.Clusters.{true_inside, met_is}
 
 -- what is on a downward axis is the node itself or below it
 hit_inside : (d : Downward) (rs : List Row) (u p : ℕ) → in_region (axis_of d) rs u p ≡ true → (u ≡ p) ⊎ IsInside rs u p
@@ -54,8 +54,24 @@ entered_open t vs v m = λ w a b _ _. (let same : v ≡ w = omega (arith, a, b) 
 entered_known : (d : Downward) (t : Tree) (vs : List ℕ) (v level : ℕ) (marks : List Bool) → is_among vs v ≡ true → level < length marks → level ≡ level_of t v → IsKnown d t vs v (v + 1) (set marks level true) true
 entered_known Child t vs v level marks m l e = entered_marked t vs v level marks m l e
 entered_known Attribute t vs v level marks m l e = entered_open t vs v m
-entered_known Descendant t vs v level marks m l e = entered_marked t vs v level marks m l e
+entered_known Descendant t vs v level marks m l e = tt
 entered_known DescendantOrSelf t vs v level marks m l e = entered_marked t vs v level marks m l e
+
+met_next : (vs : List ℕ) (met n v : ℕ) → n ≤ v → IsNext vs n v → IsRising vs → IsReached vs met n → IsReached vs met v
+met_next vs met n v after next up r = reached_over vs met n v r after (λ h. next.none_before met h (r.others met (omega arith) h)) up
+
+met_over : (d : Downward) (vs : List ℕ) (met n v : ℕ) → n ≤ v → IsNext vs n v → IsRising vs → IsMet d vs met n → IsMet d vs met v
+met_over Child vs met n v after next up r = met_next vs met n v after next up r
+met_over Attribute vs met n v after next up r = met_next vs met n v after next up r
+met_over Descendant vs met n v after next up r = tt
+met_over DescendantOrSelf vs met n v after next up r = met_next vs met n v after next up r
+
+-- the row of a context was met
+pub met_on : (d : Downward) (vs : List ℕ) (met new v : ℕ) → IsMet d vs met v → (IsReached vs met v → IsReached vs new (v + 1)) → IsMet d vs new (v + 1)
+met_on Child vs met new v r f = f r
+met_on Attribute vs met new v r f = f r
+met_on Descendant vs met new v r f = tt
+met_on DescendantOrSelf vs met new v r f = f r
 
 module _ (d : Downward) (test : Test) (t : Tree) (vs : List ℕ) (n v met marks : ℕ) (found : List ℕ) (before : IsSearched d test t vs n met marks found) (after : n ≤ v) (next : IsNext vs n v) where
   pub stands_in_none : (i : ℕ) → i < length vs → IsInside (rows t) (get_or vs i 0) v → ⊥
@@ -82,13 +98,13 @@ module _ (d : Downward) (test : Test) (t : Tree) (vs : List ℕ) (n v met marks 
   pub found_before : found ≡ below_where (is_wanted (axis_of d) test t vs) v
   found_before = before.is_found ∙ sym (below_where-none (is_wanted (axis_of d) test t vs) n v after gap_unhit)
 
-  pub reached_before : IsReached vs met v
-  reached_before = reached_over vs met n v before.reached after (λ h. next.none_before met h (before.reached.others met (omega arith) h)) before.rising
+  pub reached_before : IsMet d vs met v
+  reached_before = met_over d vs met n v after next before.rising before.reached
 
   pub own_is_hit : is_own d ≡ is_hit (axis_of d) t vs v
   own_is_hit = own_hit d t vs v next.is_context stands_in_none
 
-  pub entered : (new_met level size : ℕ) (old_marks : List Bool) → length old_marks ≡ marks → IsSized t v size → level ≡ level_of t v → level < 101 → IsReached vs new_met (v + 1)
+  pub entered : (new_met level size : ℕ) (old_marks : List Bool) → length old_marks ≡ marks → IsSized t v size → level ≡ level_of t v → level < 101 → IsMet d vs new_met (v + 1)
       → IsJudged d t vs (span (v + 1) (v + size)) (v + 1) new_met (set old_marks level true) true
   entered new_met level size old_marks k sized e l r = record {
     is_tree = sized.is_tree;
@@ -131,7 +147,7 @@ module _ (d : Downward) (test : Test) (t : Tree) (vs : List ℕ) (n v met marks 
 pub searched_none : (d : Downward) (test : Test) (t : Tree) (vs : List ℕ) (marks : ℕ) → IsRising vs → marks ≡ 101 → IsSearched d test t vs 0 0 marks []
 searched_none d test t vs marks up e = record {
   rising = up;
-  reached = reached_none vs;
+  reached = met_is d vs 0 0 (reached_none vs);
   closed = λ i l h. absurd (omega (arith, h));
   within = omega arith;
   levels = e;

@@ -77,11 +77,17 @@ impl Judge for Below<'_> {
         now.is_open };
 
     fn judge(&mut self, row: &NodeRow) -> Result<Verdict, Want> {
+        let is_plain = is_plain(row.kind);
+        if let Downward::Descendant = self.direction {
+            return Ok(Verdict {
+                is_hit: is_plain,
+                over: 0,
+            });
+        }
         let level = row.level as usize;
         if level >= LEVELS {
             return Err(Want::Store);
         }
-        let is_plain = is_plain(row.kind);
         let is_child = self.is_child(level);
         let is_context = self.contexts.meets(row.pre);
         self.mark(level, is_context, is_plain);

@@ -80,9 +80,16 @@ abbrev pub IsOpen : Tree → List ℕ → ℕ → ℕ → Bool → Type 0
 IsOpen t vs v n is_open = (w : ℕ) → v ≤ w → w < n → plain_row (rows t) w ≡ true
     → ((q : ℕ) → w < q → q < n → plain_row (rows t) q ≡ false) → is_open ≡ is_among vs w
 
+-- the contexts before n were met, unless the axis asks for none: all below a context is on the
+-- descendant axis
+abbrev pub IsMet : Downward → List ℕ → ℕ → ℕ → Type 0
+IsMet Descendant vs met n = Unit {0}
+IsMet direction vs met n = IsReached vs met n
+
 -- what the axis asks for is known of the parent of row n
 abbrev pub IsKnown : Downward → Tree → List ℕ → ℕ → ℕ → List Bool → Bool → Type 0
 IsKnown Attribute t vs v n marks is_open = IsOpen t vs v n is_open
+IsKnown Descendant t vs v n marks is_open = Unit {0}
 IsKnown direction t vs v n marks is_open = AreMarked t vs v n marks
 
 -- the rows below a context were judged to before n
@@ -90,7 +97,7 @@ pub record IsJudged (direction : Downward) (t : Tree) (vs : List ℕ) (s : Span)
     (marks : List Bool) (is_open : Bool) : Type 0 where
   pub is_tree : IsTree t
   pub rising : IsRising vs
-  pub reached : IsReached vs met n
+  pub reached : IsMet direction vs met n
   pub top : ℕ
   pub cluster : IsCluster t vs s top
   pub is_context : is_among vs top ≡ true
@@ -102,7 +109,7 @@ pub record IsJudged (direction : Downward) (t : Tree) (vs : List ℕ) (s : Span)
 pub record IsSearched (direction : Downward) (test : Test) (t : Tree) (vs : List ℕ) (n met : ℕ)
     (marks : ℕ) (found : List ℕ) : Type 0 where
   pub rising : IsRising vs
-  pub reached : IsReached vs met n
+  pub reached : IsMet direction vs met n
   pub closed : (i : ℕ) → i < length vs → slice_index vs i < n → end_of t (slice_index vs i) < n
   pub within : n ≤ count (nodes t)
   pub levels : marks ≡ 101

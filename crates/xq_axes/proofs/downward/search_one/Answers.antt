@@ -9,7 +9,7 @@ use Rattle.xq_axes.specs.declared.downward.Below.{Below}
 use Rattle.xq_sources.specs.Meters.{Readings}
 use Rattle.xq_axes.proofs.Sizes.{one_row, exact_span, node_of}
 use Rattle.xq_axes.proofs.Picking.{picked, wanted_is}
-use Rattle.xq_axes.proofs.Searching.{found_before, reached_before, own_is_hit, entered, searched}
+use Rattle.xq_axes.proofs.Searching.{found_before, reached_before, met_on, own_is_hit, entered, searched}
 use Rattle.xq_axes.proofs.downward.search_one.Goals as goal
 
 pub returns-clause-searched : goal.returns-clause-searched
@@ -34,8 +34,8 @@ returns-clause-searched g c = λ k n after next before. (
     let ex = exact_span t v x.size low high sized c.saturating_add-low.ensures c.saturating_add-high.ensures in
     let found = old.found.items in
     let met = c.enter.new.self.contexts.met in
-    let reached_x = c.in_ok-is_own.ensures.met before.rising (subst (IsReached vs old.judge.contexts.met) (sym pre) (reached_before d test t vs n v old.judge.contexts.met (length old.judge.marks) found before after next)) in
-    let reached_v = subst (λ m. IsReached vs met (m + 1)) pre reached_x in
+    let reached_v = met_on d vs old.judge.contexts.met met v (reached_before d test t vs n v old.judge.contexts.met (length old.judge.marks) found before after next)
+    (λ r. subst (λ m. IsReached vs met (m + 1)) pre (c.in_ok-is_own.ensures.met before.rising (subst (IsReached vs old.judge.contexts.met) (sym pre) r))) in
     let m = c.in_ok-is_own.ensures.marks in
     let new = c.enter.new.self in
     let e0 = entered d test t vs n v old.judge.contexts.met (length old.judge.marks) found before after next met x.level x.size old.judge.marks refl sized level m.0 reached_v in

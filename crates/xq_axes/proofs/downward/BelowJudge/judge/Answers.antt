@@ -1,12 +1,15 @@
 use Rattle.std.proofs.Common.{◌≡◌, ◌+◌, ◌-◌, ◌&&◌, false, get_or, set, nat_lt, not, sym, ap, ◌∙◌, subst, arith}
 use Rattle.std.specs.Prelude.{slice_get}
-use Rattle.xq_regions.specs.Rows.{Row, rows}
+use Rattle.xq_regions.specs.Rows.{Row, rows, placed}
 use Rattle.xq_regions.specs.Tree.{is_attribute}
 use Rattle.xq_regions.specs.RegionTests.{plain_row}
 use Rattle.xq_axes.specs.declared.contexts.Contexts.{Contexts}
-use Rattle.xq_axes.specs.private.Hits.{is_among, IsRising, IsReached}
-use Rattle.xq_axes.specs.private.Downward.{is_chosen, is_child, level_of, rows_over, IsJudged}
-use Rattle.xq_axes.proofs.Clusters.{judged}
+use Rattle.xq_axes.specs.private.Hits.{is_among, is_hit, AreUnhit, IsRising, IsReached}
+use Rattle.xq_axes.specs.private.Downward.{axis_of, is_chosen, is_child, level_of, rows_over, IsJudged}
+use Rattle.xq_axes.proofs.Clusters.{judged, is_met, descendant}
+use Rattle.xq_axes.proofs.Picking.{judged_one}
+use Rattle.xq_regions.specs.declared.Axis.TheVariants as axis
+use Rattle.xq_axes.specs.declared.downward.Downward.TheVariants.{Descendant}
 use Rattle.xq_axes.proofs.Over.{goes_over}
 use Rattle.xq_axes.proofs.downward.BelowJudge.judge.Goals as goal
 
@@ -25,8 +28,10 @@ returns c = λ start t s n r h. (
     let e : x.level ≡ level_of t n = ap (λ (y : Row). y.level) r.row in
     let k : plain_row (rows t) n ≡ not (is_attribute x.kind) = sym (ap (λ (y : Row). not (is_attribute y.label.kind)) r.row) in
     let ep : plain ≡ plain_row (rows t) n = c.is_plain-is_plain.ensures ∙ sym k in
+    let other : d ≡ Descendant → ⊥ = λ e. c.in_default.not-Descendant (h.0 ∙ e) in
+    let reached = is_met d vs old.contexts.met n other j.reached in
     let found = subst (λ us. (context ≡ is_among us x.pre) × IsReached us met (x.pre + 1)) h.1
-    (c.meets-is_context.ensures.met (subst (λ us. IsRising us) (sym h.1) j.rising) (subst (λ us. IsReached us old.contexts.met x.pre) (sym h.1) (subst (IsReached vs old.contexts.met) (sym r.place) j.reached))) in
+    (c.meets-is_context.ensures.met (subst (λ us. IsRising us) (sym h.1) j.rising) (subst (λ us. IsReached us old.contexts.met x.pre) (sym h.1) (subst (IsReached vs old.contexts.met) (sym r.place) reached))) in
     let em = subst (λ m. (context ≡ is_among vs m) × IsReached vs met (m + 1)) r.place found in
     let ec : child ≡ is_child d old.is_open (nat_lt 0 (level_of t n) && get_or old.marks (level_of t n - 1) false) =
     c.is_child-is_child.ensures ∙ ap (λ y. is_child y old.is_open (nat_lt 0 x.level && get_or old.marks (x.level - 1) false)) h.0
@@ -45,3 +50,20 @@ returns c = λ start t s n r h. (
     ∙ ap (λ us. rows_over d context plain (slice_get us new.contexts.met) x.pre x.size new.last) places in
     let g = goes_over t vs s n new.contexts.met new.marks new.is_open r.is_there r.from r.to d context plain x.pre x.size new.last c.rows_over.result j3 em.0 ep r.place (ap (λ (y : Row). y.size) r.row) last over in
     (w.is_right, g.within, g.unhit, (c.mark.ensures.direction ∙ h.0, places, last, g.goes_on)))
+
+pub returns-in-Descendant : goal.returns-in-Descendant
+returns-in-Descendant c = λ start t s n r h. (
+    let x = c.args.row.now in
+    let vs = start.contexts.places.now in
+    let old = c.args.self.now in
+    let plain = c.is_plain-is_plain.result in
+    let d : start.direction ≡ Descendant = sym h.0 ∙ c.in-Descendant.is in
+    let ep : plain ≡ plain_row (rows t) n = c.is_plain-is_plain.ensures ∙ ap (λ (y : Row). not (is_attribute y.label.kind)) r.row in
+    let j = subst (λ y. IsJudged y t vs s n old.contexts.met old.marks old.is_open) d h.3 in
+    let w = descendant t vs s n old.contexts.met old.marks old.is_open plain j r.is_there r.from r.to ep in
+    let o = judged_one t s n (placed x) (is_hit axis.Descendant t vs) (λ m. IsJudged Descendant t vs s m old.contexts.met old.marks old.is_open) r w.goes_on in (
+      w.is_right ∙ ap (λ y. is_hit (axis_of y) t vs n) (sym d),
+      o.within,
+      subst (λ y. AreUnhit (is_hit (axis_of y) t vs) (n + 1) (n + 1 + 0)) (sym d) o.unhit,
+      (h.0, h.1, h.2, subst (λ y. IsJudged y t vs s (n + 1 + 0) old.contexts.met old.marks old.is_open) (sym d) o.goes_on),
+    ))
