@@ -10,9 +10,11 @@ import subprocess
 import sys
 
 TOP = os.path.dirname(os.path.dirname(os.path.abspath(__file__)))
-# What is timed runs as ./serve runs the program: with huge pages where the system lends them.
-os.environ.setdefault(
-    "GLIBC_TUNABLES", "glibc.malloc.hugetlb=1:glibc.malloc.top_pad=67108864")
+# What is timed runs as ./serve runs the program: with its settings of the allocator.
+GIGABYTE = 1 << 30
+os.environ.setdefault("GLIBC_TUNABLES", ":".join((
+    "glibc.malloc.hugetlb=1", "glibc.malloc.top_pad=67108864",
+    "glibc.malloc.mmap_threshold=%d" % GIGABYTE, "glibc.malloc.trim_threshold=%d" % GIGABYTE)))
 
 
 def lines_of(crates):
