@@ -1,14 +1,15 @@
 #!/usr/bin/env python3
-"""Times of queries over a document in memory, with no server and no database: a source of fragments.
+"""Times of queries over a document in memory: a source of fragments, no server and no database.
 
-    bench/evaluation.py [FOLDER]     builds bench/evaluation/main.rattle in the folder, unless an earlier call did
+    bench/evaluation.py [FOLDER]
 
-The queries and the document are those of bench/queries.py, of 10,000 and of 100,000 elements. For each: the
-milliseconds for both sizes, the least of four runs of five turns, reading and planning of the query included; the
-same of turns that begin with empty caches, and how many times as long the larger takes then; the rows that it reads; and
-what two engines that hold their trees in memory took for 100,000 elements on another machine. The smaller document
-lies in the processor's caches from one turn to the next and the larger doesn't, so growth is judged where neither
-does.
+Builds bench/evaluation/main.rattle in the folder, unless an earlier call did. The queries and the
+document are those of bench/queries.py, of 10,000 and of 100,000 elements. For each: the
+milliseconds for both sizes, the least of four runs of five turns, reading and planning of the query
+included; the same of turns that begin with empty caches, and how many times as long the larger
+takes then; the rows that it reads; and what two engines that hold their trees in memory took for
+100,000 elements on another machine. The smaller document lies in the processor's caches from one
+turn to the next and the larger doesn't, so growth is judged where neither does.
 """
 import os
 import subprocess
@@ -59,8 +60,8 @@ def main():
     within = True
     for (name, _, *others), (little, before, _), (much, time, rows) in zip(QUERIES, small, large):
         within = within and time / before <= MOST
-        print(f"| {name} | {little:.1f} | {much:.1f} | {before:.1f} | {time:.1f} | {time / before:.1f} "
-              f"| {rows} | {others[0]} | {others[1]} |")
+        print(f"| {name} | {little:.1f} | {much:.1f} | {before:.1f} | {time:.1f} "
+              f"| {time / before:.1f} | {rows} | {others[0]} | {others[1]} |")
     print(f"each at most {MOST} times for ten times the elements: {'yes' if within else 'no'}")
     return 0 if within else 1
 

@@ -1,11 +1,12 @@
-"""Makes normal forms and plans of queries of up to a megabyte; prints times, and how they grow with the length.
+"""Makes normal forms and plans of queries of up to a megabyte; prints how the times grow.
 
-usage: plan.py [FOLDER]     builds bench/plan/main.rattle in the folder, unless an earlier call did
+usage: plan.py [FOLDER]     builds bench/plan/main.rattle there, unless an earlier call did
 
-A time is the least of fifteen runs, of the normal form and the plan alone; the three lengths of a query are run
-in turn. The queries are steps of one path, operands of one chain, clauses of one FLWOR expression, and quantified expressions side by side. The clauses are
-the bindings of one `let`, of ever new variables or of one again and again, and those of the other kinds: each
-word that binds nests what follows, and nesting goes to 128, so most bindings come after a comma.
+A time is the least of fifteen runs, of the normal form and the plan alone; the three lengths of a
+query are run in turn. The queries are steps of one path, operands of one chain, clauses of one
+FLWOR expression, and quantified expressions side by side. The clauses are the bindings of one
+`let`, of ever new variables or of one again and again, and those of the other kinds: each word that
+binds nests what follows, and nesting goes to 128, so most bindings come after a comma.
 """
 
 import os
@@ -17,8 +18,11 @@ sys.path[:0] = [os.path.join(TOP, "tools"), os.path.join(TOP, "bench")]
 from doublings import measure, of_length
 from workspace import bench_program
 
-USES = ("xq_atoms", "xq_lexer", "xq_expressions", "xq_grammar", "xq_parser", "xq_signatures", "xq_scopes", "xq_regions",
-        "xq_sources", "xq_values", "xq_meaning", "xq_normal", "xq_plan", "sqlite_items", "indexmap")
+USES = (
+    "xq_atoms", "xq_lexer", "xq_expressions", "xq_grammar", "xq_parser", "xq_signatures",
+    "xq_scopes", "xq_regions", "xq_sources", "xq_values", "xq_meaning", "xq_normal", "xq_plan",
+    "sqlite_items", "indexmap",
+)
 MEGABYTE = 1_000_000
 RUNS = 15
 
@@ -33,7 +37,8 @@ def operands(length):
 
 
 def new_variables(length):
-    return of_length(length, "let $v0 := 1", lambda n: ", $v%d := ($v%d, $v%d)" % (n + 1, n, n // 2), " return $v0")
+    return of_length(length, "let $v0 := 1",
+                     lambda n: ", $v%d := ($v%d, $v%d)" % (n + 1, n, n // 2), " return $v0")
 
 
 def one_variable(length):
@@ -41,12 +46,15 @@ def one_variable(length):
 
 
 def other_clauses(length):
-    kinds = (" where $v = %d", " order by $v, $w descending", " group by $v", " stable order by $w + %d empty greatest")
-    return of_length(length, "for $v at $w in 1 to 9", lambda n: kinds[n % len(kinds)].replace("%d", str(n)), " return $v")
+    kinds = (" where $v = %d", " order by $v, $w descending", " group by $v",
+             " stable order by $w + %d empty greatest")
+    return of_length(length, "for $v at $w in 1 to 9",
+                     lambda n: kinds[n % len(kinds)].replace("%d", str(n)), " return $v")
 
 
 def quantifiers(length):
-    return of_length(length, "1", lambda n: ", (some $v%d in 1 to 3, $w in $v%d satisfies $w)" % (n % 1000, n % 1000), "")
+    part = ", (some $v%d in 1 to 3, $w in $v%d satisfies $w)"
+    return of_length(length, "1", lambda n: part % (n % 1000, n % 1000), "")
 
 
 QUERIES = (

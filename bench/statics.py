@@ -1,6 +1,6 @@
 """Checks queries of up to a megabyte; prints times, and how they grow with the length.
 
-usage: statics.py [FOLDER]     builds bench/statics/main.rattle in the folder, unless an earlier call did
+usage: statics.py [FOLDER]     builds bench/statics/main.rattle there, unless an earlier call did
 
 A time is the least of 75 runs, of the checks alone, and begins with empty caches; the three lengths
 of a query are run in turn. The queries are bindings and uses of ever new variables, of one variable
@@ -17,14 +17,15 @@ sys.path[:0] = [os.path.join(TOP, "tools"), os.path.join(TOP, "bench")]
 from doublings import measure, of_length
 from workspace import bench_program
 
-USES = ("xq_atoms", "xq_lexer", "xq_expressions", "xq_grammar", "xq_parser", "xq_signatures", "xq_scopes",
-        "xq_statics", "sqlite_items")
+USES = ("xq_atoms", "xq_lexer", "xq_expressions", "xq_grammar", "xq_parser", "xq_signatures",
+        "xq_scopes", "xq_statics", "sqlite_items")
 MEGABYTE = 1_000_000
 RUNS = 75
 
 
 def new_variables(length):
-    return of_length(length, "let $v0 := 1", lambda n: ", $v%d := ($v%d, $v%d)" % (n + 1, n, n // 2), " return $v0")
+    return of_length(length, "let $v0 := 1",
+                     lambda n: ", $v%d := ($v%d, $v%d)" % (n + 1, n, n // 2), " return $v0")
 
 
 def one_variable(length):
@@ -32,7 +33,8 @@ def one_variable(length):
 
 
 def nested_scopes(length):
-    return of_length(length, "1", lambda n: ", (for $v%d at $p in 1 to 3 return $v%d + $p)" % (n % 1000, n % 1000), "")
+    part = ", (for $v%d at $p in 1 to 3 return $v%d + $p)"
+    return of_length(length, "1", lambda n: part % (n % 1000, n % 1000), "")
 
 
 def calls(length):
@@ -41,11 +43,14 @@ def calls(length):
 
 
 def clauses(count):
-    # Each word that binds nests what follows, and nesting goes to 128: so few clauses are of for and let.
-    kinds = ("where $x", "group by $v%d := $x, $x", "order by $x, $x descending", "stable order by $v0")
+    # Each word that binds nests what follows, and nesting goes to 128: so few clauses bind by
+    # words of their own.
+    kinds = ("where $x", "group by $v%d := $x, $x", "order by $x, $x descending",
+             "stable order by $v0")
     rare = {0: "let $v%d := $x", 200: "for $v%d at $p in $x"}
     lines = [rare.get(n % 400, kinds[n % len(kinds)]) for n in range(count - 1)]
-    return "let $x := 1 " + " ".join(line.replace("%d", str(n)) for n, line in enumerate(lines)) + " return $x"
+    named = (line.replace("%d", str(n)) for n, line in enumerate(lines))
+    return "let $x := 1 " + " ".join(named) + " return $x"
 
 
 QUERIES = (
