@@ -57,7 +57,7 @@ impl Downward {
 pub struct Below<'a> {
     direction: Downward,
     contexts: Contexts<'a>,
-    /// By level, whether the last row there is that of a context.
+    /// By level, whether the last row there that was looked at is that of a context.
     marks: [bool; LEVELS],
     /// Whether the last row that is no attribute is that of a context.
     is_open: bool,
