@@ -1,7 +1,7 @@
 -- Going on from contexts to the siblings after them.
-use Rattle.std.proofs.Common.{◌≡◌, ℕ, suc, ◌+◌, ◌-◌, ◌<◌, ◌≤◌, List, [], ◌∷◌, length, get_or, min, max, Bool, true, false, ◌&&◌, ◌||◌, eqb, nat_le, inl, inr, refl, sym, ◌∙◌, ap, subst, arith}
+use Rattle.std.proofs.Common.{◌≡◌, ℕ, suc, ◌+◌, ◌-◌, ◌<◌, ◌≤◌, List, [], ◌∷◌, length, get_or, min, max, Bool, true, false, ◌&&◌, ◌||◌, eqb, nat_le, cond, inl, inr, refl, sym, ◌∙◌, ap, subst, arith}
 use Rattle.std.specs.Prelude.{Option, Some, None, slice_get}
-use Rattle.std.proofs.lemmas.Bool.{cases_lt, eqb-true, eq-eqb, leb-true, le-leb, and_from, and_parts, and_left, or_cases, or_left, or_right}
+use Rattle.std.proofs.lemmas.Bool.{cases_lt, eqb-true, eq-eqb, leb-true, le-leb, and_from, and_parts, and_left, or_cases, or_left, or_right, false_from_ne_true}
 use Rattle.xq_regions.specs.Forest.{count}
 use Rattle.xq_regions.specs.Tree.{Tree, nodes}
 use Rattle.xq_regions.specs.Rows.{rows, row_at}
@@ -11,13 +11,15 @@ use Rattle.xq_regions.specs.declared.Axis.TheVariants as axis
 use Rattle.xq_regions.proofs.RegionTable.{in_region_is}
 use Rattle.xq_regions.proofs.AxisTable.{plain_kind_is}
 use Rattle.xq_values.specs.declared.node_tests.Test.{Test}
-use Rattle.xq_axes.specs.private.Reads.{span, span_end}
-use Rattle.xq_axes.specs.private.Hits.{is_among, is_hit, is_wanted, row_passes, below_where, IsRising, IsReached}
+use Rattle.xq_axes.specs.private.Reads.{Span, span, span_end}
+use Rattle.xq_axes.specs.private.Hits.{is_among, is_hit, is_wanted, row_passes, below_where, AreUnhit, IsRising, IsReached}
 use Rattle.xq_axes.specs.private.Passing.{IsEnd}
-use Rattle.xq_axes.specs.private.Downward.{level_of}
-use Rattle.xq_axes.specs.private.Waiting.{has_siblings, next_place, place_or_end, WaitsOn, IsOn}
+use Rattle.xq_axes.specs.private.Downward.{level_of, is_within}
+use Rattle.xq_axes.specs.private.Waiting.{has_siblings, rows_below, next_place, place_or_end, WaitsOn, IsOn}
 use Rattle.xq_axes.proofs.Lists.{any_from, any_at, same_tests, among_at, among_index, below_where-none, got, got_none, reached_none, reached_over}
 use Rattle.xq_axes.proofs.Siblings.{AreBeside, beside_shared, beside_after, shared_beside}
+use Rattle.xq_axes.proofs.Sizes.{node_of}
+use Rattle.xq_axes.proofs.Trees.{inside_deeper}
 
 -- # Whether a row is awaited
 
@@ -214,3 +216,108 @@ so_far_moved test other t u vs ws n m met levels found a b c d s =
 pub on_rows : (t : Tree) (first low high last next old now new : ℕ) → now ≤ old + (min low (count (nodes t)) - first) → new ≤ now + (span_end t (span low high) - low) → first ≤ low → low ≤ high → high ≤ last → last + 1 ≡ count (nodes t) → high + 1 ≤ next
     → new ≤ old + (min next (count (nodes t)) - first)
 on_rows t first low high last next old now new a b c d e f h = omega (arith, a, b, c, d, e, f, h)
+
+-- # Over the rows below a row
+
+-- after a row of a level is met none of deeper ones is awaited
+pub meet_deepest : (levels : List ℕ) (level m : ℕ) (new waits : Bool) → new ≡ ((is_among levels m && nat_le m level) || (waits && eqb level m)) → new ≡ true → m ≤ level
+meet_deepest levels level m new waits e h =
+    let own = is_among levels m && nat_le m level in
+    let more = waits && eqb level m in
+    elim (or_cases own more (sym e ∙ h)) [
+      | inl a ↦ leb-true m level (and_parts (is_among levels m) (nat_le m level) a).1
+      | inr a ↦ (let s : level ≡ m = eqb-true level m (and_parts waits (eqb level m) a).1 in omega (arith, s))
+    ]
+
+-- the next context comes after the place
+after_last : (vs : List ℕ) (met last : ℕ) → is_within (slice_get vs met) last ≡ false → met < length vs → last < get_or vs met 0
+after_last vs met last e l = by (slice_get vs met) refl
+  where
+    by : (o : Option ℕ) → slice_get vs met ≡ o → last < get_or vs met 0
+    by None k = absurd (let n = got_none vs met k in omega (arith, n, l))
+    by (Some v) k = elim (cases_lt last v) [
+      | inl a ↦ (let g = got vs met v k in let at = g.1 in omega (arith, a, at))
+      | inr a ↦ absurd (let z : true ≡ false = sym (le-leb v last a) ∙ ap (λ o. is_within o last) (sym k) ∙ e in cc)
+    ]
+
+-- none of the rows below a row that hold no context is awaited, where no deeper level is
+module _ (t : Tree) (vs : List ℕ) (n met : ℕ) (levels : List ℕ) (hn : n < count (nodes t)) (old : IsOn t vs (n + 1) met levels) (deepest : (m : ℕ) → is_among levels m ≡ true → m ≤ level_of t n) where
+  pub on_below : (k : ℕ) → k ≤ (row_at (rows t) n).size → (met < length vs → n + 1 + k ≤ get_or vs met 0) → IsOn t vs (n + 1 + k) met levels
+  on_below k h next =
+      let ends = (node_of t n hn).ends in
+      record {
+        rising = old.rising;
+        reached = reached_over vs met (n + 1) (n + 1 + k) old.reached (omega arith) next old.rising;
+        sound = λ m e. (
+            let w = old.sound m e in
+            record {
+              index = w.index;
+              within = w.within;
+              to = (let x = w.to in omega (arith, x));
+              waits = w.waits;
+              is_level = w.is_level;
+              clear = λ q a b. elim (cases_lt q (n + 1)) [
+                | inl l ↦ w.clear q a l
+                | inr l ↦ (
+                    let d = deepest m e in
+                    let x = inside_deeper t n q hn (omega (arith, b, h, ends)) (omega (arith, l), omega (arith, b, h)) in
+                    omega (arith, d, x))
+              ];
+            });
+        complete = λ m w. old.complete m (record {
+          index = w.index;
+          within = w.within;
+          to = elim (cases_lt w.index met) [
+            | inl x ↦ old.reached.before w.index x
+            | inr x ↦ absurd (
+                let to = w.to in
+                let l : met < length vs = (let y = w.within in omega (arith, x, y)) in
+                let a = next l in
+                elim (cases_lt met w.index) [
+                  | inl y ↦ (let b = old.rising met w.index y w.within in omega (arith, a, b, to))
+                  | inr y ↦ (let same : met ≡ w.index = omega (arith, x, y) in let b : n + 1 + k ≤ get_or vs w.index 0 = subst (λ i. n + 1 + k ≤ get_or vs i 0) same a in omega (arith, b, to))
+                ])
+          ];
+          waits = w.waits;
+          is_level = w.is_level;
+          clear = λ q a b. w.clear q a (omega (arith, b));
+        });
+      }
+
+  pub unhit_below : (k : ℕ) → k ≤ (row_at (rows t) n).size → (met < length vs → n + 1 + k ≤ get_or vs met 0) → AreUnhit (is_hit axis.FollowingSibling t vs) (n + 1) (n + 1 + k)
+  unhit_below k h next q a b =
+      let ends = (node_of t n hn).ends in
+      let hq : q < count (nodes t) = omega (arith, b, h, ends) in
+      let e : n + 1 + (q - (n + 1)) ≡ q = omega (arith, a) in
+      let on = subst (λ x. IsOn t vs x met levels) e (on_below (q - (n + 1)) (omega (arith, a, b, h)) (λ l. (let x = next l in omega (arith, a, b, x)))) in
+      let deeper = inside_deeper t n q hn hq (omega (arith, a), omega (arith, b, h)) in
+      let none : is_among levels (level_of t q) ≡ false = false_from_ne_true (is_among levels (level_of t q)) (λ x. (let d = deepest (level_of t q) x in omega (arith, d, deeper))) in
+      sym (on_hit t vs q met (level_of t q) levels hq on refl) ∙ ap (λ c. c && plain_row (rows t) q) none
+
+  pub record OnGoesOver (s : Span) (k : ℕ) : Type 0 where
+    pub within : n + 1 + k ≤ span_end t s
+    pub unhit : AreUnhit (is_hit axis.FollowingSibling t vs) (n + 1) (n + 1 + k)
+    pub goes_on : IsOn t vs (n + 1 + k) met levels
+
+  pub on_goes_over : (s : Span) (pre size last k : ℕ) → s.low ≤ n → n ≤ s.high → pre ≡ n → size ≡ (row_at (rows t) n).size → last ≡ s.high → k ≡ rows_below (slice_get vs met) pre size last → OnGoesOver s k
+  on_goes_over s pre size last k from to p z l e = by (is_within (slice_get vs met) (pre + size)) refl
+    where
+      by : (x : Bool) → is_within (slice_get vs met) (pre + size) ≡ x → OnGoesOver s k
+      by true x =
+          let none : k ≡ 0 = e ∙ ap (λ y. cond y 0 (min size (last - pre))) x in
+          let here : n + 1 ≡ n + 1 + k = omega (arith, none) in
+          record {
+            within = omega (arith, none, hn, from, to);
+            unhit = λ q a b. absurd (omega (arith, a, b, none));
+            goes_on = subst (λ m. IsOn t vs m met levels) here old;
+          }
+      by false x =
+          let some : k ≡ min size (last - pre) = e ∙ ap (λ y. cond y 0 (min size (last - pre))) x in
+          let ends = (node_of t n hn).ends in
+          let h : k ≤ (row_at (rows t) n).size = omega (arith, some, z) in
+          let next : met < length vs → n + 1 + k ≤ get_or vs met 0 = λ i. (let y = after_last vs met (pre + size) x i in omega (arith, y, some, p)) in
+          record {
+            within = omega (arith, some, p, l, h, ends, from, to);
+            unhit = unhit_below k h next;
+            goes_on = on_below k h next;
+          }

@@ -20,7 +20,8 @@ pub mod Merging
 pub mod Many
 pub mod Counts
 pub mod Scans
+pub mod Deepest
 pub mod Looking
 pub mod GoingOn
-pub mod OneParent
+pub mod KnownParents
 pub mod DoubleSlash

@@ -18,7 +18,7 @@ use Rattle.xq_axes.specs.Scans.{region}
 use Rattle.xq_axes.specs.private.Reads.{span, span_end}
 use Rattle.xq_axes.specs.private.Hits.{is_among, is_hit, is_wanted, row_passes, below_where, IsRising, IsReached}
 use Rattle.xq_axes.specs.private.Downward.{level_of}
-use Rattle.xq_axes.specs.private.Waiting.{axis_back, waits, waits_at, is_awaited, latest, bound, seen_of, AreSeen, WaitsBack, AreBack, IsLooked}
+use Rattle.xq_axes.specs.private.Waiting.{axis_back, waits, waits_at, is_awaited, is_deeper_awaited, latest, bound, seen_of, AreSeen, WaitsBack, AreBack, IsLooked}
 use Rattle.xq_axes.specs.declared.backward.Backward.{Backward}
 use Rattle.xq_axes.specs.declared.backward.Backward.TheVariants.{Parent, PrecedingSibling}
 use Rattle.xq_axes.specs.declared.backward.Seen.{Seen}
@@ -138,6 +138,11 @@ pub back_hit : (d : Backward) (t : Tree) (vs : List ℕ) (p level : ℕ) (levels
 unfolding AreThere
 back_hit Parent t vs p level levels there old e = parent_hit t vs p level levels there old e
 back_hit PrecedingSibling t vs p level levels there old e = beside_hit t vs p level levels there old e
+
+-- siblings are awaited on their own level alone
+pub awaited_is : (d : Backward) (deeper beside plain : Bool) → is_awaited d (is_deeper_awaited d deeper) beside plain ≡ is_awaited d deeper beside plain
+awaited_is Parent deeper beside plain = refl
+awaited_is PrecedingSibling deeper beside plain = refl
 
 -- # One row further back
 

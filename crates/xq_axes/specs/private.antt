@@ -4,4 +4,5 @@ pub mod Downward
 pub mod Passing
 pub mod Waiting
 pub mod Many
+pub mod KnownParents
 pub mod Standing

@@ -7,9 +7,9 @@ ghost use Rattle.xq_values.specs.declared.node_tests.Test.{Test as TestLem};
 ghost use Rattle.xq_sources.specs.Sources.{tree_at};
 ghost use Rattle.xq_axes.specs.Scans.{region};
 ghost use Rattle.xq_axes.specs.private.Reads.{span, span_end};
-ghost use Rattle.xq_axes.specs.private.Hits.{is_wanted, below_where, IsRising};
+ghost use Rattle.xq_axes.specs.private.Hits.{is_among, is_wanted, below_where, IsRising};
 ghost use Rattle.xq_axes.specs.private.Many.{AreThere};
-ghost use Rattle.xq_axes.specs.private.Waiting.{axis_back, waits as waits_lem, is_awaited, seen_of, bound, AreSeen, IsLooked};
+ghost use Rattle.xq_axes.specs.private.Waiting.{axis_back, waits as waits_lem, is_awaited, is_deeper_awaited, seen_of, bound, AreSeen, IsLooked};
 
 use crate::contexts::Earlier;
 use crate::levels::Levels;
@@ -98,7 +98,7 @@ impl<'a> Look<'a> {
         ensures direction { result.direction ≡ direction }
         ensures places { result.contexts.places.now ≡ places.now }
         ensures left { result.contexts.left ≡ length places.now }
-        ensures levels { result.levels.list.items ≡ [] }
+        ensures levels { result.levels ≡ [] }
         ensures found { result.found.items ≡ [] }
     {
         Look {
@@ -106,6 +106,18 @@ impl<'a> Look<'a> {
             contexts: Earlier::new(places),
             levels: Levels::new(alloc),
             found: Vec::new(alloc),
+        }
+    }
+
+    /// Whether a row of the level is the parent of a context, where parents are looked for.
+    fn is_parent(&self, level: u64) -> bool
+        requires { level < 18446744073709551615 }
+        ensures { result ≡ is_deeper_awaited self.now.direction
+            (is_among self.now.levels (level + 1)) }
+    {
+        match self.direction {
+            Backward::Parent => self.levels.has(level + 1),
+            Backward::PrecedingSibling => false,
         }
     }
 
@@ -117,12 +129,12 @@ impl<'a> Look<'a> {
             → row ≡ seen_of test (row_at (rows t) place)
             → let vs = self.old.contexts.places.now in
             IsLooked self.old.direction test t vs (place + 1) self.old.contexts.left
-            self.old.levels.list.items self.old.found.items
+            self.old.levels self.old.found.items
             → OnOk result (IsLooked self.old.direction test t vs place self.new.contexts.left
-            self.new.levels.list.items self.new.found.items) }
+            self.new.levels self.new.found.items) }
     {
         let level = u64::from(row.level);
-        let is_parent = self.levels.has(level + 1);
+        let is_parent = self.is_parent(level);
         let is_context = self.contexts.meets(place);
         let waits = self.direction.waits(is_context, row);
         let is_beside = self.levels.meet(level, waits)?;
@@ -138,9 +150,9 @@ impl<'a> Look<'a> {
             → last + 1 ≡ low + length rows.now → AreSeen test t low rows.now
             → let vs = self.old.contexts.places.now in
             IsLooked self.old.direction test t vs (last + 1) self.old.contexts.left
-            self.old.levels.list.items self.old.found.items
+            self.old.levels self.old.found.items
             → OnOk result (IsLooked self.old.direction test t vs low self.new.contexts.left
-            self.new.levels.list.items self.new.found.items) }
+            self.new.levels self.new.found.items) }
     {
         let mut rest = rows;
         let mut place = last;
@@ -158,10 +170,10 @@ impl<'a> Look<'a> {
         ensures before { bound result ≤ low }
         ensures looked { (test : TestLem) (t : Tree) → let look = self.now in let vs =
             look.contexts.places.now in
-            IsLooked look.direction test t vs low look.contexts.left look.levels.list.items
+            IsLooked look.direction test t vs low look.contexts.left look.levels
             look.found.items
             → IsLooked look.direction test t vs (bound result) look.contexts.left
-            look.levels.list.items look.found.items }
+            look.levels look.found.items }
     {
         if low == 0 {
             return None;
@@ -193,9 +205,9 @@ fn look_between<L: RowLender>(
         let vs = look.old.contexts.places.now in
         low ≤ high → high < count (nodes t)
         → IsLooked look.old.direction test.now t vs (high + 1) look.old.contexts.left
-        look.old.levels.list.items look.old.found.items
+        look.old.levels look.old.found.items
         → OnOk result (IsLooked look.old.direction test.now t vs low look.new.contexts.left
-        look.new.levels.list.items look.new.found.items) }
+        look.new.levels look.new.found.items) }
     ensures rows { L.is_clean source.new
         → (L.meter source.new).rows ≤ (L.meter source.old).rows
         + (span_end (tree_at (L.forest source.old) tree) (span low high) - low) }
@@ -205,7 +217,7 @@ fn look_between<L: RowLender>(
 {
     let mut part = Part {
         test,
-        seen: Vec::new(alloc),
+        seen: Vec::with_capacity(alloc, high.saturating_sub(low) as usize + 1)?,
     };
     walk(alloc, source, tree, low, high, &mut part)?;
     look.look_back(high, &part.seen)

@@ -5,6 +5,8 @@ ghost use Rattle.xq_regions.specs.Tree.{nodes};
 ghost use Rattle.xq_sources.specs.Sources.{tree_at};
 ghost use Rattle.xq_axes.specs.Scans.{region};
 ghost use Rattle.xq_axes.specs.private.Hits.{is_wanted, below_where, IsRising, IsReached};
+ghost use Rattle.xq_axes.specs.declared.downward.Downward.{Downward as DownwardLem};
+ghost use Rattle.xq_axes.specs.declared.downward.Downward.TheVariants.{Child, Attribute, Descendant, DescendantOrSelf};
 ghost use Rattle.xq_axes.specs.private.Downward.{axis_of, is_chosen as is_chosen_lem, is_own as is_own_lem, is_child as is_child_lem, rows_over as rows_over_lem, end_of, IsJudged, IsSearched, IsNext, ReadsBelow};
 
 use crate::contexts::Contexts;
@@ -28,6 +30,63 @@ pub enum Downward {
     Attribute,
     Descendant,
     DescendantOrSelf,
+}
+
+/// Such an axis as a type of its own, so that what is done with each row is compiled for it.
+pub trait Direction: Copy {
+    /// Which one it is.
+    ghost which: { Self → DownwardLem };
+
+    fn which(self) -> Downward
+        ensures { result ≡ which self };
+}
+
+/// To children.
+#[derive(Clone, Copy)]
+pub struct ToChildren;
+
+impl Direction for ToChildren {
+    ghost which = { λ _. Child };
+
+    fn which(self) -> Downward {
+        Downward::Child
+    }
+}
+
+/// To attributes.
+#[derive(Clone, Copy)]
+pub struct ToAttributes;
+
+impl Direction for ToAttributes {
+    ghost which = { λ _. Attribute };
+
+    fn which(self) -> Downward {
+        Downward::Attribute
+    }
+}
+
+/// To descendants.
+#[derive(Clone, Copy)]
+pub struct ToDescendants;
+
+impl Direction for ToDescendants {
+    ghost which = { λ _. Descendant };
+
+    fn which(self) -> Downward {
+        Downward::Descendant
+    }
+}
+
+/// To descendants and the contexts themselves.
+#[derive(Clone, Copy)]
+pub struct ToDescendantsOrSelf;
+
+impl Direction for ToDescendantsOrSelf {
+    ghost which = { λ _. DescendantOrSelf };
+
+    fn which(self) -> Downward {
+        Downward::DescendantOrSelf
+    }
 }
 
 impl Downward {
@@ -54,8 +113,8 @@ impl Downward {
 
 /// What is known of the rows so far, one context's rows after another's.
 #[derive(Clone, Copy)]
-pub struct Below<'a> {
-    direction: Downward,
+pub struct Below<'a, D> {
+    direction: D,
     contexts: Contexts<'a>,
     /// By level, whether the last row there that was looked at is that of a context.
     marks: [bool; LEVELS],
@@ -65,20 +124,20 @@ pub struct Below<'a> {
     last: u32,
 }
 
-impl Judge for Below<'_> {
-    ghost axis = { λ b. axis_of b.direction };
+impl<D: Direction> Judge for Below<'_, D> {
+    ghost axis = { λ b. axis_of (D.which b.direction) };
 
     ghost contexts = { λ b. b.contexts.places.now };
 
     ghost has_judged = { λ start now t s n. (now.direction ≡ start.direction)
         × (now.contexts.places.now ≡ start.contexts.places.now)
         × (now.last ≡ s.high)
-        × IsJudged start.direction t start.contexts.places.now s n now.contexts.met now.marks
-        now.is_open };
+        × IsJudged (D.which start.direction) t start.contexts.places.now s n now.contexts.met
+        now.marks now.is_open };
 
     fn judge(&mut self, row: &NodeRow) -> Result<Verdict, Want> {
         let is_plain = is_plain(row.kind);
-        if let Downward::Descendant = self.direction {
+        if let Downward::Descendant = self.direction.which() {
             return Ok(Verdict {
                 is_hit: is_plain,
                 over: 0,
@@ -92,13 +151,16 @@ impl Judge for Below<'_> {
         let is_context = self.contexts.meets(row.pre);
         self.mark(level, is_context, is_plain);
         Ok(Verdict {
-            is_hit: self.direction.is_chosen(is_child, is_context, is_plain),
+            is_hit: self
+                .direction
+                .which()
+                .is_chosen(is_child, is_context, is_plain),
             over: self.rows_over(row, is_context, is_plain),
         })
     }
 }
 
-impl<'a> Below<'a> {
+impl<'a, D: Direction> Below<'a, D> {
     /// Whether the level above is marked.
     fn is_below_mark(&self, level: usize) -> bool
         requires { level ≤ length self.now.marks }
@@ -111,10 +173,10 @@ impl<'a> Below<'a> {
     /// attributes are asked for.
     fn is_child(&self, level: usize) -> bool
         requires { level ≤ length self.now.marks }
-        ensures { result ≡ is_child_lem self.now.direction self.now.is_open
+        ensures { result ≡ is_child_lem (D.which self.now.direction) self.now.is_open
             (nat_lt 0 level && slice_index_or self.now.marks (level - 1) false) }
     {
-        match self.direction {
+        match self.direction.which() {
             Downward::Attribute => self.is_open,
             _ => self.is_below_mark(level),
         }
@@ -139,14 +201,14 @@ impl<'a> Below<'a> {
     /// to children those below a row that is no context and holds none, to attributes those before
     /// the next context.
     fn rows_over(&self, row: &NodeRow, is_context: bool, is_plain: bool) -> u32
-        ensures { result ≡ rows_over_lem self.now.direction is_context is_plain
+        ensures { result ≡ rows_over_lem (D.which self.now.direction) is_context is_plain
             (slice_get self.now.contexts.places.now self.now.contexts.met) row.now.pre
             row.now.size self.now.last }
     {
         if is_context {
             return 0;
         }
-        match self.direction {
+        match self.direction.which() {
             Downward::Child => {
                 if self.contexts.is_next_within(end_of_row(row)) {
                     return 0;
@@ -164,7 +226,7 @@ impl<'a> Below<'a> {
     }
 
     /// Nothing known yet.
-    fn new(direction: Downward, places: &'a [u32]) -> Below<'a>
+    fn new(direction: D, places: &'a [u32]) -> Below<'a, D>
         ensures direction { result.direction ≡ direction }
         ensures places { result.contexts.places.now ≡ places.now }
         ensures met { result.contexts.met ≡ 0 }
@@ -181,7 +243,7 @@ impl<'a> Below<'a> {
 
     /// Takes the row of a context that stands in no other, and tells whether it is on its own axis.
     fn enter(&mut self, row: &NodeRow) -> Result<bool, Want>
-        ensures own { IfOk result (λ own. own ≡ is_own_lem self.old.direction) }
+        ensures own { IfOk result (λ own. own ≡ is_own_lem (D.which self.old.direction)) }
         ensures direction { self.new.direction ≡ self.old.direction }
         ensures places { self.new.contexts.places.now ≡ self.old.contexts.places.now }
         ensures marks { OnOk result ((row.now.level < 101)
@@ -202,18 +264,18 @@ impl<'a> Below<'a> {
         self.is_open = true;
         self.last = row.pre.saturating_add(row.size);
         let _ = self.contexts.meets(row.pre);
-        Ok(self.direction.is_own())
+        Ok(self.direction.which().is_own())
     }
 }
 
 /// Finds what is on the axis in the rows of a context that stands in no other, and gives the place
 /// after them.
-fn search_one<L: RowLender>(
+fn search_one<L: RowLender, D: Direction + Drop>(
     alloc: Global,
     source: &mut L,
     tree: usize,
     place: u32,
-    picker: &mut Picker<'_, Below<'_>>,
+    picker: &mut Picker<'_, Below<'_, D>>,
 ) -> Result<u64, Want>
     ensures keeps { L.forest source.new ≡ L.forest source.old }
     ensures was_clean { L.is_clean source.new → L.is_clean source.old }
@@ -223,11 +285,11 @@ fn search_one<L: RowLender>(
         let direction = picker.old.judge.direction in
         let test = picker.old.test.now in
         (n : ℕ) → n ≤ place → IsNext vs n place
-        → IsSearched direction test t vs n picker.old.judge.contexts.met
+        → IsSearched (D.which direction) test t vs n picker.old.judge.contexts.met
         (length picker.old.judge.marks) picker.old.found.items
         → IfOk result (λ next. (place < next) × (picker.new.judge.direction ≡ direction)
         × (picker.new.judge.contexts.places.now ≡ vs) × (picker.new.test.now ≡ test)
-        × IsSearched direction test t vs next picker.new.judge.contexts.met
+        × IsSearched (D.which direction) test t vs next picker.new.judge.contexts.met
         (length picker.new.judge.marks) picker.new.found.items) }
     ensures ends { L.is_clean source.new → let t = tree_at (L.forest source.old) tree in
         IfOk result (λ next. (next ≡ end_of t place + 1) × (end_of t place < count (nodes t))) }
@@ -250,21 +312,23 @@ fn search_one<L: RowLender>(
 
 /// The places of the nodes that are on the axis from one of the places, which rise, and pass the
 /// test: in document order, each once.
-pub fn search_below<L: RowLender>(
+pub fn search_below<L: RowLender, D: Direction + Drop>(
     alloc: Global,
     source: &mut L,
     tree: usize,
-    direction: Downward,
+    direction: D,
     places: &[u32],
     test: &Test,
 ) -> Result<Vec<u32>, Want>
     ensures found { L.is_clean source.new
         → let t = tree_at (L.forest source.old) tree in
         IsRising places.now → IfOk result (λ found. found.items
-        ≡ below_where (is_wanted (axis_of direction) test.now t places.now) (count (nodes t))) }
+        ≡ below_where (is_wanted (axis_of (D.which direction)) test.now t places.now)
+        (count (nodes t))) }
     ensures rows { L.is_clean source.new
         → (L.meter source.new).rows ≤ (L.meter source.old).rows
-        + length (region (axis_of direction) (tree_at (L.forest source.old) tree) places.now) }
+        + length (region (axis_of (D.which direction)) (tree_at (L.forest source.old) tree)
+        places.now) }
     ensures singles { (L.meter source.new).singles
         ≤ (L.meter source.old).singles + length places.now }
     ensures keeps { L.forest source.new ≡ L.forest source.old }

@@ -7,11 +7,11 @@ ghost use Rattle.xq_sources.specs.Sources.{tree_at};
 ghost use Rattle.xq_axes.specs.Scans.{region};
 ghost use Rattle.xq_axes.specs.private.Hits.{is_wanted, below_where, IsRising};
 ghost use Rattle.xq_axes.specs.private.Many.{AreThere};
-ghost use Rattle.xq_axes.specs.private.Waiting.{has_siblings, next_place as next_place_lem, IsOn};
+ghost use Rattle.xq_axes.specs.private.Waiting.{has_siblings, rows_below, next_place as next_place_lem, IsOn};
 
 use crate::contexts::Contexts;
 use crate::levels::Levels;
-use crate::passing::end_of_node;
+use crate::passing::{end_of_node, end_of_row};
 use crate::picks::{Judge, Picker, Verdict};
 use crate::tests::is_plain;
 use crate::walks::walk;
@@ -29,6 +29,8 @@ const LAST: u64 = u32::MAX as u64;
 struct Onward<'a> {
     contexts: Contexts<'a>,
     levels: Levels,
+    /// The last place of the rows that are read at once.
+    last: u32,
 }
 
 /// Whether a row is a context that waits for siblings.
@@ -51,7 +53,8 @@ impl Judge for Onward<'_> {
     ghost contexts = { λ j. j.contexts.places.now };
 
     ghost has_judged = { λ start now t s n. (now.contexts.places.now ≡ start.contexts.places.now)
-        × IsOn t start.contexts.places.now n now.contexts.met now.levels.list.items };
+        × (now.last ≡ s.high)
+        × IsOn t start.contexts.places.now n now.contexts.met now.levels };
 
     fn judge(&mut self, row: &NodeRow) -> Result<Verdict, Want> {
         let is_context = self.contexts.meets(row.pre);
@@ -60,7 +63,7 @@ impl Judge for Onward<'_> {
         let is_awaited = self.levels.meet(u64::from(row.level), waits)?;
         Ok(Verdict {
             is_hit: is_sibling(is_awaited, is_plain),
-            over: 0,
+            over: self.rows_over(row),
         })
     }
 }
@@ -70,19 +73,33 @@ impl<'a> Onward<'a> {
     fn new(alloc: Global, places: &'a [u32]) -> Onward<'a>
         ensures places { result.contexts.places.now ≡ places.now }
         ensures met { result.contexts.met ≡ 0 }
-        ensures levels { result.levels.list.items ≡ [] }
+        ensures levels { result.levels ≡ [] }
     {
         Onward {
             contexts: Contexts::new(places),
             levels: Levels::new(alloc),
+            last: 0,
         }
+    }
+
+    /// How many of the rows right after the row, which was met, are siblings of no context: all
+    /// below it, up to the last that is read, where they hold none.
+    fn rows_over(&self, row: &NodeRow) -> u32
+        ensures { result ≡ rows_below (slice_get self.now.contexts.places.now self.now.contexts.met)
+            row.now.pre row.now.size self.now.last }
+    {
+        let end = end_of_row(row);
+        if self.contexts.is_next_within(end) {
+            return 0;
+        }
+        row.size.min(self.last.saturating_sub(row.pre))
     }
 
     /// The row that is read next, where those before `next` were: the next context where no row is
     /// awaited, and that after the last row where there is none.
     fn next_place(&self, next: u64, last: u64) -> u64
         requires { last ≤ 4294967295 }
-        ensures { result ≡ next_place_lem self.now.levels.list.items (slice_get
+        ensures { result ≡ next_place_lem self.now.levels (slice_get
             self.now.contexts.places.now self.now.contexts.met) next last }
     {
         if !self.levels.is_empty() {
@@ -131,6 +148,7 @@ pub fn search_on<L: RowLender>(
     while low <= last {
         width = picker.judge.levels.wider(width);
         let high = low.saturating_add(u64::from(width)).min(last);
+        picker.judge.last = high as u32;
         walk(alloc, source, tree, low as u32, high as u32, &mut picker)?;
         low = picker.judge.next_place(high + 1, last);
     }

@@ -1,12 +1,13 @@
 //! The parent axis.
-ghost use Rattle.std.specs.Prelude.{◌≡◌, ◌+◌, ◌≤◌, length, IfOk};
+ghost use Rattle.std.specs.Prelude.{◌≡◌, ◌+◌, ◌-◌, ◌≤◌, ◌==◌, ◌||◌, ◌∷◌, ◌⊎◌, ℕ, length, slice_get, IfOk, IfSome, OnOk};
 ghost use Rattle.xq_regions.specs.Forest.{count};
 ghost use Rattle.xq_regions.specs.Tree.{nodes};
 ghost use Rattle.xq_regions.specs.declared.Axis.TheVariants as axes;
 ghost use Rattle.xq_sources.specs.Sources.{tree_at};
 ghost use Rattle.xq_axes.specs.Scans.{region};
-ghost use Rattle.xq_axes.specs.private.Hits.{is_wanted, below_where, IsRising};
+ghost use Rattle.xq_axes.specs.private.Hits.{is_among, is_wanted, below_where, IsRising};
 ghost use Rattle.xq_axes.specs.private.Many.{AreThere};
+ghost use Rattle.xq_axes.specs.private.KnownParents.{ends_before as ends_before_lem, AreTold};
 
 use crate::backward::{Backward, search_back};
 use crate::selves::search_selves;
@@ -15,10 +16,87 @@ use xq_atoms::Want;
 use xq_sources::RowLender;
 use xq_values::Test;
 
+/// Whether all of the places, which rise, come before the place.
+fn ends_before(places: &[u32], place: u32) -> bool
+    ensures { result ≡ ends_before_lem (slice_get places.now (length places.now - 1)) place }
+{
+    match places.last() {
+        Some(last) => *last < place,
+        None => true,
+    }
+}
+
+/// Adds the place to those that rise, unless it is one of them.
+///
+/// The parent of a later node that comes before those of earlier ones holds them: so each of these
+/// makes room once at most for each node above it.
+fn add_place(places: &mut Vec<u32>, place: u32) -> Result<(), Want>
+    ensures rising { IsRising places.old.items → OnOk result (IsRising places.new.items) }
+    ensures among { IsRising places.old.items → OnOk result ((n : ℕ)
+        → is_among places.new.items n ≡ ((place == n) || is_among places.old.items n)) }
+    ensures fewer { OnOk result (length places.new.items ≤ length places.old.items + 1) }
+{
+    if ends_before(places, place) {
+        places.push(place)?;
+        return Ok(());
+    }
+    if let Err(index) = places.binary_search(&place) {
+        places.insert(index, place)?;
+    }
+    Ok(())
+}
+
+/// The places in document order, each once.
+fn in_order(alloc: Global, places: &[u32]) -> Result<Vec<u32>, Want>
+    ensures rising { IfOk result (λ ordered. IsRising ordered.items) }
+    ensures among { IfOk result (λ ordered. (n : ℕ)
+        → is_among ordered.items n ≡ is_among places.now n) }
+    ensures fewer { IfOk result (λ ordered. length ordered.items ≤ length places.now) }
+{
+    let mut ordered = Vec::new(alloc);
+    for place in places {
+        add_place(&mut ordered, *place)?;
+    }
+    Ok(ordered)
+}
+
+/// The place of the parent of the node at each of the places, where the source can tell all of them
+/// at once. It only asks: so that the source can look up the next while the last is on its way.
+fn told_parents<L: RowLender>(
+    alloc: Global,
+    source: &L,
+    tree: usize,
+    places: &[u32],
+) -> Result<Option<Vec<u32>>, Want>
+    ensures told { L.is_clean source.now → IfOk result (λ found. IfSome found (λ parents.
+        AreTold (tree_at (L.forest source.now) tree) places.now parents.items)) }
+    ensures all { IfOk result (λ found. IfSome found (λ parents.
+        length parents.items ≡ length places.now)) }
+{
+    let mut parents = Vec::with_capacity(alloc, places.len())?;
+    for place in places {
+        let Some(parent) = source.parent(tree, *place) else {
+            return Ok(None);
+        };
+        parents.push(parent)?;
+    }
+    Ok(Some(parents))
+}
+
+/// The places but for that of the root, which has no parent, where it is the first.
+fn below_root(places: &[u32]) -> &[u32]
+    ensures { (result.now ≡ places.now) ⊎ (places.now ≡ 0 ∷ result.now) }
+{
+    match places.split_first() {
+        Some((first, rest)) => { if *first == 0 { rest } else { places } }
+        None => places,
+    }
+}
+
 /// The places of the parents of the nodes at the places, which rise, that pass the test.
 ///
-/// The parent of a single node is asked of the source, which may know it at once; those of many
-/// are found by one look back over the rows.
+/// Where the source can tell all of them at once, no row between is read; else they are found by
+/// one look back over the rows.
 pub fn search_parents<L: RowLender>(
     alloc: Global,
     source: &mut L,
@@ -43,5 +121,11 @@ pub fn search_parents<L: RowLender>(
             return search_selves(alloc, source, tree, &[parent], test);
         }
     }
-    search_back(alloc, source, tree, Backward::Parent, places, test)
+    match told_parents(alloc, source, tree, below_root(places))? {
+        Some(told) => {
+            let parents = in_order(alloc, &told)?;
+            search_selves(alloc, source, tree, &parents, test)
+        }
+        None => search_back(alloc, source, tree, Backward::Parent, places, test),
+    }
 }

@@ -14,7 +14,7 @@ ghost use Rattle.xq_axes.specs.private.Hits.{is_wanted, below_where, IsRising};
 ghost use Rattle.xq_axes.specs.private.Many.{spot, is_found_from, AreThere, IsNext, IsGathered, IsAt, AreKept};
 
 use crate::backward::{Backward, search_back};
-use crate::downward::{Downward, search_below};
+use crate::downward::{ToAttributes, ToChildren, ToDescendants, ToDescendantsOrSelf, search_below};
 use crate::merges::merge;
 use crate::onward::search_on;
 use crate::parents::search_parents;
@@ -48,20 +48,13 @@ fn search<L: RowLender>(
     ensures was_clean { L.is_clean source.new → L.is_clean source.old }
 {
     match axis {
-        Axis::Child => search_below(alloc, source, tree, Downward::Child, places, test),
-        Axis::Descendant => search_below(alloc, source, tree, Downward::Descendant, places, test),
+        Axis::Child => search_below(alloc, source, tree, ToChildren, places, test),
+        Axis::Descendant => search_below(alloc, source, tree, ToDescendants, places, test),
         Axis::DescendantOrSelf => {
-            search_below(
-                alloc,
-                source,
-                tree,
-                Downward::DescendantOrSelf,
-                places,
-                test,
-            )
+            search_below(alloc, source, tree, ToDescendantsOrSelf, places, test)
         }
         Axis::SelfNode => search_selves(alloc, source, tree, places, test),
-        Axis::Attributes => search_below(alloc, source, tree, Downward::Attribute, places, test),
+        Axis::Attributes => search_below(alloc, source, tree, ToAttributes, places, test),
         Axis::Parent => search_parents(alloc, source, tree, places, test),
         Axis::Ancestor => search_above(alloc, source, tree, false, places, test),
         Axis::AncestorOrSelf => search_above(alloc, source, tree, true, places, test),
@@ -237,7 +230,7 @@ pub fn step<L: RowLender>(
     let mut found = Vec::new(alloc);
     let mut gathered = Gathered {
         tree: 0,
-        places: Vec::new(alloc),
+        places: Vec::with_capacity(alloc, contexts.len())?,
     };
     for context in &contexts {
         gather(

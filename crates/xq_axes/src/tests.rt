@@ -2,6 +2,7 @@
 ghost use Rattle.std.specs.Prelude.{◌≡◌, not, string_bytes};
 ghost use Rattle.xq_regions.specs.Tree.{is_attribute};
 ghost use Rattle.xq_regions.specs.Rows.{row_of};
+ghost use Rattle.xq_atoms.specs.Text.{text_eq};
 ghost use Rattle.xq_values.specs.Steps.{has_name as has_name_lem};
 ghost use Rattle.xq_axes.specs.private.Hits.{row_passes};
 
@@ -9,13 +10,28 @@ use xq_expressions::Text;
 use xq_regions::{Kind, NodeRow};
 use xq_values::Test;
 
-/// Whether the name is the wanted one; any name is, where none is wanted.
-fn has_name(wanted: &Option<Text>, name: &str) -> bool
-    ensures { result ≡ has_name_lem wanted.now name.now }
+/// Whether two names that are as long are the same.
+#[inline(never)]
+fn is_same(wanted: &str, name: &str) -> bool
+    ensures { result ≡ text_eq wanted.now name.now }
+{
+    wanted == name
+}
+
+/// Whether the row has the wanted name; any does, where none is wanted.
+///
+/// The lengths, which lie in the row, are compared first: the names lie elsewhere.
+#[inline(always)]
+fn has_name(wanted: &Option<Text>, row: &NodeRow) -> bool
+    ensures { result ≡ has_name_lem wanted.now (string_bytes row.now.name) }
 {
     match wanted {
         None => true,
-        Some(text) => text.as_str() == name,
+        Some(text) => {
+            let text = text.as_str();
+            let name = row.name.as_str();
+            text.len() == name.len() && is_same(text, name)
+        }
     }
 }
 
@@ -27,20 +43,19 @@ pub fn is_plain(kind: Kind) -> bool
 }
 
 /// Whether the node of the row passes the test (XQuery 3.1, section 3.3.2.2).
-#[inline]
+#[inline(always)]
 pub fn passes(test: &Test, row: &NodeRow) -> bool
     ensures { result ≡ row_passes test.now (row_of row.now) }
 {
-    let name = row.name.as_str();
     match test {
         Test::Any => true,
         Test::Text => matches!(row.kind, Kind::Text),
         Test::Comment => matches!(row.kind, Kind::Comment),
         Test::Document => matches!(row.kind, Kind::Document),
         Test::ProcessingInstruction(wanted) => {
-            matches!(row.kind, Kind::ProcessingInstruction) && has_name(wanted, name)
+            matches!(row.kind, Kind::ProcessingInstruction) && has_name(wanted, row)
         }
-        Test::Element(wanted) => matches!(row.kind, Kind::Element) && has_name(wanted, name),
-        Test::Attribute(wanted) => matches!(row.kind, Kind::Attribute) && has_name(wanted, name),
+        Test::Element(wanted) => matches!(row.kind, Kind::Element) && has_name(wanted, row),
+        Test::Attribute(wanted) => matches!(row.kind, Kind::Attribute) && has_name(wanted, row),
     }
 }

@@ -1,6 +1,6 @@
 -- Contexts that wait for their siblings, or for their parent, by level.
 use Rattle.std.proofs.Common.{zero, suc}
-use Rattle.std.specs.Prelude.{ℕ, ◌+◌, ◌*◌, ◌<◌, ◌≤◌, ◌≡◌, List, [], ◌∷◌, ◌++◌, reverse, length, min, max, Bool, true, not, ◌&&◌, nat_lt, slice_index, Option, Some, None}
+use Rattle.std.specs.Prelude.{ℕ, ◌+◌, ◌-◌, ◌*◌, ◌<◌, ◌≤◌, ◌≡◌, List, [], ◌∷◌, ◌++◌, reverse, length, min, max, Bool, true, false, not, ◌&&◌, ◌==◌, if◌then◌else◌, nat_lt, slice_index, Option, Some, None}
 use Rattle.xq_regions.specs.Forest.{count}
 use Rattle.xq_regions.specs.Tree.{Tree, nodes, is_attribute}
 use Rattle.xq_regions.specs.Rows.{Row, row_at, rows}
@@ -10,7 +10,7 @@ use Rattle.xq_regions.specs.declared.Axis.{Axis}
 use Rattle.xq_regions.specs.declared.Axis.TheVariants as axis
 use Rattle.xq_values.specs.declared.node_tests.Test.{Test}
 use Rattle.xq_axes.specs.private.Hits.{is_among, is_wanted, row_passes, below_where, IsRising, IsReached}
-use Rattle.xq_axes.specs.private.Downward.{level_of}
+use Rattle.xq_axes.specs.private.Downward.{level_of, is_within}
 use Rattle.xq_axes.specs.declared.backward.Backward.{Backward}
 use Rattle.xq_axes.specs.declared.backward.Backward.TheVariants.{Parent, PrecedingSibling}
 use Rattle.xq_axes.specs.declared.backward.Seen.{Seen}
@@ -19,6 +19,16 @@ use Rattle.xq_axes.specs.declared.backward.Seen.{Seen}
 pub record IsParent (t : Tree) (u v : ℕ) : Type 0 where
   pub inside : IsInside (rows t) u v
   pub level : level_of t v ≡ suc (level_of t u)
+
+-- there is a level, and it is deeper than this one
+abbrev pub is_deeper : Option ℕ → ℕ → Bool
+is_deeper None level = false
+is_deeper (Some last) level = nat_lt level last
+
+-- there is a level, and it is this one
+abbrev pub is_level : Option ℕ → ℕ → Bool
+is_level None level = false
+is_level (Some last) level = last == level
 
 -- few rows where no level is awaited, else twice as many as before, up to a bound
 abbrev pub wider : List ℕ → ℕ → ℕ
@@ -45,6 +55,11 @@ waits PrecedingSibling level plain = has_siblings level plain
 abbrev pub is_awaited : Backward → Bool → Bool → Bool → Bool
 is_awaited Parent deeper beside plain = deeper
 is_awaited PrecedingSibling deeper beside plain = beside && plain
+
+-- whether rows one level deeper are awaited, where the axis asks
+abbrev pub is_deeper_awaited : Backward → Bool → Bool
+is_deeper_awaited Parent deeper = deeper
+is_deeper_awaited PrecedingSibling deeper = false
 
 abbrev pub waits_at : Backward → Tree → ℕ → Bool
 waits_at d t v = waits d (level_of t v) (plain_row (rows t) v)
@@ -117,6 +132,11 @@ pub record IsOn (t : Tree) (vs : List ℕ) (n met : ℕ) (levels : List ℕ) : T
   pub reached : IsReached vs met n
   pub sound : (m : ℕ) → is_among levels m ≡ true → WaitsOn t vs n m
   pub complete : (m : ℕ) → WaitsOn t vs n m → is_among levels m ≡ true
+
+-- how many rows right after a row lie below it, up to the last place, where the next context does
+-- not: by that context, and the place and size of the row
+abbrev pub rows_below : Option ℕ → ℕ → ℕ → ℕ → ℕ
+rows_below next pre size last = if is_within next (pre + size) then 0 else min size (last - pre)
 
 -- the place that is read next: the next row, or the next context where no row is awaited, or that
 -- after the last

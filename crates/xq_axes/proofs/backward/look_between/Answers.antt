@@ -11,9 +11,9 @@ returns-clause-looked g c = λ k le hc old. (
     let test = c.args.test.now in
     let low = c.args.low in
     let high = c.args.high in
-    let start : Part = record { test = c.args.test; seen = c.new.result } in
-    let empty = ap length c.new.ensures.items in
-    let read = c.in_ok-walk.ensures.read k start (refl, omega (arith, empty), subst (AreSeen test t low) (sym c.new.ensures.items) tt) in
+    let start : Part = record { test = c.args.test; seen = c.in_ok-with_capacity.field-0 } in
+    let empty = ap length c.in_ok-with_capacity.ensures.items in
+    let read = c.in_ok-walk.ensures.read k start (refl, omega (arith, empty), subst (AreSeen test t low) (sym c.in_ok-with_capacity.ensures.items) tt) in
     let n : span_end t (span low high) ≡ high + 1 = omega (arith, le, hc) in
     let v = c.deref.ensures.value in
     let len = ap length v in

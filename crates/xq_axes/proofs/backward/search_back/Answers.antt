@@ -25,7 +25,7 @@ loop-high-init g c =
       rows = λ k. (let e = ap bound c.last_of-high.ensures in omega (arith, e));
       looked = λ k there up. (
           let begin = look_start d test t vs high up there (sym c.last_of-high.ensures) in
-          subst (λ m. IsLooked d test t vs (bound high) m c.new-look.result.levels.list.items c.new-look.result.found.items) (sym new.left)
+          subst (λ m. IsLooked d test t vs (bound high) m c.new-look.result.levels c.new-look.result.found.items) (sym new.left)
           (subst (λ ls. IsLooked d test t vs (bound high) (length vs) ls c.new-look.result.found.items) (sym new.levels)
           (subst (λ xs. IsLooked d test t vs (bound high) (length vs) [] xs) (sym new.found) begin)));
     }
@@ -78,12 +78,12 @@ loop-high-preserved g c =
           let n : bound c.loop-high.high ≡ place + 1 = (let e = ap bound c.in-Some.is in omega (arith, e)) in
           let old = inv.looked was there up in
           let hp = old.within in
-          let at = subst (λ m. IsLooked d test t vs m p.contexts.left p.levels.list.items p.found.items) n old in
-          let begin = moved d p.direction test test t u vs p.contexts.places.now (place + 1) p.contexts.left p.levels.list.items p.found.items (sym inv.direction) refl (sym here) (sym inv.places) at in
+          let at = subst (λ m. IsLooked d test t vs m p.contexts.left p.levels p.found.items) n old in
+          let begin = moved d p.direction test test t u vs p.contexts.places.now (place + 1) p.contexts.left p.levels p.found.items (sym inv.direction) refl (sym here) (sym inv.places) at in
           let hc : place < count (nodes u) = subst (λ w. place < count (nodes w)) (sym here) (omega (arith, hp, n)) in
           let after = c.in_ok-look_between.ensures.looked k (omega (arith, less)) hc begin in
-          let in_q = moved p.direction q.direction test test u t p.contexts.places.now q.contexts.places.now low q.contexts.left q.levels.list.items q.found.items (sym c.look_between.ensures.direction) refl here (sym c.look_between.ensures.places) after in
-          moved q.direction d test test t t q.contexts.places.now vs (bound high) q.contexts.left q.levels.list.items q.found.items direction refl refl places (c.next_place-high.ensures.looked test t in_q));
+          let in_q = moved p.direction q.direction test test u t p.contexts.places.now q.contexts.places.now low q.contexts.left q.levels q.found.items (sym c.look_between.ensures.direction) refl here (sym c.look_between.ensures.places) after in
+          moved q.direction d test test t t q.contexts.places.now vs (bound high) q.contexts.left q.levels q.found.items direction refl refl places (c.next_place-high.ensures.looked test t in_q));
     }
 
 pub returns-clause-rows : goal.returns-clause-rows

@@ -24,7 +24,7 @@ invariant-loop-high g l =
           ≤ (g.L.TreeSource.meter l.initial.source).rows + min (bound (slice_get l.places (length l.places - 1))) (count (nodes t));
       looked :
           g.L.TreeSource.is_clean l.source → ((i : ℕ) → i < length l.places → get_or l.places i 0 < count (nodes t)) → IsRising l.places
-          → IsLooked l.fn.direction l.test t l.places (bound l.high) l.look.contexts.left l.look.levels.list.items l.look.found.items;
+          → IsLooked l.fn.direction l.test t l.places (bound l.high) l.look.contexts.left l.look.levels l.look.found.items;
     }
 
 abbrev pub decreases-loop-high : goal.decreases-loop-high

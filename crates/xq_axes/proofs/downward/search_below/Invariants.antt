@@ -15,7 +15,7 @@ invariant-loop-place g l =
     record {
       forest : g.L.TreeSource.forest l.source ≡ g.L.TreeSource.forest l.initial.source;
       clean : g.L.TreeSource.is_clean l.source → g.L.TreeSource.is_clean l.initial.source;
-      rows : g.L.TreeSource.is_clean l.source → (g.L.TreeSource.meter l.source).rows ≤ (g.L.TreeSource.meter l.initial.source).rows + length (below_where (in_some (axis_of l.fn.direction) t l.places) l.next);
+      rows : g.L.TreeSource.is_clean l.source → (g.L.TreeSource.meter l.source).rows ≤ (g.L.TreeSource.meter l.initial.source).rows + length (below_where (in_some (axis_of (g.D.Direction.which l.fn.direction)) t l.places) l.next);
       within : g.L.TreeSource.is_clean l.source → l.next ≤ count (nodes t);
       singles : (g.L.TreeSource.meter l.source).singles ≤ (g.L.TreeSource.meter l.initial.source).singles + l.place-index;
       searched :
@@ -25,6 +25,6 @@ invariant-loop-place g l =
             places : p.judge.contexts.places.now ≡ l.places;
             test : p.test.now ≡ l.fn.test;
             before : (i : ℕ) → i < l.place-index → get_or l.places i 0 < l.next;
-            found : IsSearched l.fn.direction l.fn.test t l.places l.next p.judge.contexts.met (length p.judge.marks) p.found.items;
+            found : IsSearched (g.D.Direction.which l.fn.direction) l.fn.test t l.places l.next p.judge.contexts.met (length p.judge.marks) p.found.items;
           };
     }

@@ -18,7 +18,8 @@ returns-clause-searched g c = λ k n after next before. (
     let t = tree_at trees c.args.tree in
     let old = c.args.picker.now in
     let vs = old.judge.contexts.places.now in
-    let d = old.judge.direction in
+    let which = g.D.Direction.which in
+    let d = which old.judge.direction in
     let test = old.test.now in
     let v = c.args.place in
     let was = c.in_ok-walk.ensures.was_clean k in
@@ -45,8 +46,8 @@ returns-clause-searched g c = λ k n after next before. (
     let e4 = subst (λ b. IsJudged d t vs (span low high) low met new.marks b) (sym c.in_ok-is_own.ensures.open) e3 in
     let p = c.pick.new.self in
     let je : p.judge ≡ new = c.in_ok-pick.ensures.judge in
-    let e5 = subst (λ (j : Below). IsJudged d t vs (span low high) low j.contexts.met j.marks j.is_open) (sym je) e4 in
-    let last : p.judge.last ≡ high = ap (λ (j : Below). j.last) je ∙ c.in_ok-is_own.ensures.last ∙ ap (λ y. min (y + x.size) 4294967295) pre ∙ sym c.saturating_add-high.ensures in
+    let e5 = subst (λ (j : Below _). IsJudged d t vs (span low high) low j.contexts.met j.marks j.is_open) (sym je) e4 in
+    let last : p.judge.last ≡ high = ap (λ (j : Below _). j.last) je ∙ c.in_ok-is_own.ensures.last ∙ ap (λ y. min (y + x.size) 4294967295) pre ∙ sym c.saturating_add-high.ensures in
     let own = c.in_ok-is_own.is_own in
     let w = wanted_is (axis_of d) test test t vs v x own rx refl (c.in_ok-is_own.ensures.own ∙ own_is_hit d test t vs n v old.judge.contexts.met (length old.judge.marks) found before after next) in
     let f0 = c.in_ok-pick.ensures.found ∙ ap (λ q. found ++ cond (own && row_passes test (row_of x)) (q ∷ []) []) pre
@@ -54,10 +55,10 @@ returns-clause-searched g c = λ k n after next before. (
     ∙ ap (below_where (is_wanted (axis_of d) test t vs)) (sym ex.low_is) in
     let q = c.walk.new.visitor in
     let same : tree_at (g.L.TreeSource.forest c.fetch_row.new.self) c.args.tree ≡ t = ap (λ f. tree_at f c.args.tree) c.in_ok-fetch_row.ensures.keeps in
-    let Start : Tree → Type 0 = λ u. ((p.judge.direction ≡ d) × (p.judge.contexts.places.now ≡ vs) × (p.judge.last ≡ high) × IsJudged d u vs (span low high) low p.judge.contexts.met p.judge.marks p.judge.is_open)
+    let Start : Tree → Type 0 = λ u. ((p.judge.direction ≡ old.judge.direction) × (p.judge.contexts.places.now ≡ vs) × (p.judge.last ≡ high) × IsJudged d u vs (span low high) low p.judge.contexts.met p.judge.marks p.judge.is_open)
     × (p.test.now ≡ test) × (p.found.items ≡ below_where (is_wanted (axis_of d) test u vs) low) in
-    let start : Start t = ((ap (λ (j : Below). j.direction) je ∙ c.in_ok-is_own.ensures.direction, ap (λ (j : Below). j.contexts.places.now) je ∙ c.in_ok-is_own.ensures.places, last, e5), c.in_ok-pick.ensures.test, f0) in
-    let End : Tree → Type 0 = λ u. ((q.judge.direction ≡ d) × (q.judge.contexts.places.now ≡ vs) × (q.judge.last ≡ high) × IsJudged d u vs (span low high) (span_end u (span low high)) q.judge.contexts.met q.judge.marks q.judge.is_open)
+    let start : Start t = ((ap (λ (j : Below _). j.direction) je ∙ c.in_ok-is_own.ensures.direction, ap (λ (j : Below _). j.contexts.places.now) je ∙ c.in_ok-is_own.ensures.places, last, e5), c.in_ok-pick.ensures.test, f0) in
+    let End : Tree → Type 0 = λ u. ((q.judge.direction ≡ old.judge.direction) × (q.judge.contexts.places.now ≡ vs) × (q.judge.last ≡ high) × IsJudged d u vs (span low high) (span_end u (span low high)) q.judge.contexts.met q.judge.marks q.judge.is_open)
     × (q.test.now ≡ test) × (q.found.items ≡ below_where (is_wanted (axis_of d) test u vs) (span_end u (span low high))) in
     let ended = subst End same (c.in_ok-walk.ensures.read k old (subst Start (sym same) start)) in
     let j0 = subst (λ m. IsJudged d t vs (span low high) m q.judge.contexts.met q.judge.marks q.judge.is_open) ex.end_is ended.0.3 in

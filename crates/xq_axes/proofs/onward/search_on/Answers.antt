@@ -40,7 +40,7 @@ loop-low-init g c =
           let same : old ≡ t = sym (ap (λ f. tree_at f c.args.tree) c.in_ok-end_of_node.ensures.keeps) in
           let end : c.min-last.result + 1 ≡ count (nodes t) = subst (λ u. c.min-last.result + 1 ≡ count (nodes u)) same (last_row old c.in_ok-end_of_node.field-0 c.min-last.result (c.in_ok-end_of_node.ensures.end k) c.min-last.ensures) in
           let begin = so_far_next c.args.test.now t vs 0 c.min-last.result 0 low [] [] there end (on_start c.args.test.now t vs up) e in (
-            subst (λ m. OnSoFar c.args.test.now t vs low m c.new-2.result.levels.list.items c.new-3.result.items) (sym start.met)
+            subst (λ m. OnSoFar c.args.test.now t vs low m c.new-2.result.levels c.new-3.result.items) (sym start.met)
                 (subst (λ ls. OnSoFar c.args.test.now t vs low 0 ls c.new-3.result.items) (sym start.levels)
                 (subst (λ xs. OnSoFar c.args.test.now t vs low 0 [] xs) (sym c.new-3.ensures.items) begin)),
             refl,
@@ -93,7 +93,7 @@ loop-low-preserved g c =
     let more = c.saturating_add.ensures in
     let to = c.min-high.ensures in
     let test = c.loop-low-test.true in
-    let from : high + 1 ≤ next = (let e = c.next_place-low-in-loop-low.ensures in let f = next_from q.judge.levels.list.items (slice_get q.judge.contexts.places.now q.judge.contexts.met) (high + 1) last in omega (arith, e, f)) in
+    let from : high + 1 ≤ next = (let e = c.next_place-low-in-loop-low.ensures in let f = next_from q.judge.levels (slice_get q.judge.contexts.places.now q.judge.contexts.met) (high + 1) last in omega (arith, e, f)) in
     let end : g.L.TreeSource.is_clean c.end_of_node.new.source → last + 1 ≡ count (nodes t) =
     λ k. subst (λ u. last + 1 ≡ count (nodes u)) same (last_row old c.in_ok-end_of_node.field-0 last (c.in_ok-end_of_node.ensures.end k) c.min-last.ensures) in
     record {
@@ -111,15 +111,15 @@ loop-low-preserved g c =
           let u = tree_at (g.L.TreeSource.forest c.loop-low.source) c.args.tree in
           let here : u ≡ t = ap (λ f. tree_at f c.args.tree) inv.forest in
           let l = inv.looked was there up in
-          let begin = so_far_moved c.args.test.now p.test.now t u vs p.judge.contexts.places.now low low p.judge.contexts.met p.judge.levels.list.items p.found.items (sym l.1) (sym here) (sym l.2) refl l.0 in
-          let read = c.in_ok-walk.ensures.read k p ((refl, begin.on), refl, begin.is_found) in
+          let begin = so_far_moved c.args.test.now p.test.now t u vs p.judge.contexts.places.now low low p.judge.contexts.met p.judge.levels p.found.items (sym l.1) (sym here) (sym l.2) refl l.0 in
+          let read = c.in_ok-walk.ensures.read k p ((refl, refl, begin.on), refl, begin.is_found) in
           let c_u : count (nodes u) ≡ count (nodes t) = ap (λ w. count (nodes w)) here in
           let n : span_end u (span low high) ≡ high + 1 = omega (arith, more, to, test, is_end, c_u) in
           let places = read.0.0 ∙ l.2 in
-          let after = so_far_moved p.test.now c.args.test.now u t p.judge.contexts.places.now vs (span_end u (span low high)) (high + 1) q.judge.contexts.met q.judge.levels.list.items q.found.items l.1 here l.2 n
-          (record { within = omega (arith, n, to, is_end, c_u); on = read.0.1; is_found = read.2 }) in (
-            so_far_next c.args.test.now t vs (high + 1) last q.judge.contexts.met next q.judge.levels.list.items q.found.items there is_end after
-                (c.next_place-low-in-loop-low.ensures ∙ ap (λ us. next_place q.judge.levels.list.items (slice_get us q.judge.contexts.met) (high + 1) last) places),
+          let after = so_far_moved p.test.now c.args.test.now u t p.judge.contexts.places.now vs (span_end u (span low high)) (high + 1) q.judge.contexts.met q.judge.levels q.found.items l.1 here l.2 n
+          (record { within = omega (arith, n, to, is_end, c_u); on = read.0.2; is_found = read.2 }) in (
+            so_far_next c.args.test.now t vs (high + 1) last q.judge.contexts.met next q.judge.levels q.found.items there is_end after
+                (c.next_place-low-in-loop-low.ensures ∙ ap (λ us. next_place q.judge.levels (slice_get us q.judge.contexts.met) (high + 1) last) places),
             read.1 ∙ l.1,
             places,
           ));

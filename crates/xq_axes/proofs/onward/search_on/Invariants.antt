@@ -21,7 +21,7 @@ invariant-loop-low g l =
           → (g.L.TreeSource.meter l.source).rows ≤ (g.L.TreeSource.meter l.initial.source).rows + (min l.low (count (nodes t)) - get_or l.places 0 0);
       looked :
           g.L.TreeSource.is_clean l.source → ((i : ℕ) → i < length l.places → get_or l.places i 0 < count (nodes t)) → IsRising l.places
-          → OnSoFar l.test t l.places l.low l.picker.judge.contexts.met l.picker.judge.levels.list.items l.picker.found.items
+          → OnSoFar l.test t l.places l.low l.picker.judge.contexts.met l.picker.judge.levels l.picker.found.items
           × (l.picker.test.now ≡ l.test) × (l.picker.judge.contexts.places.now ≡ l.places);
     }
 

@@ -19,9 +19,9 @@ loop-context-init g c =
       forest = refl;
       clean = λ k. k;
       rows = λ k one all. omega arith;
-      kept = λ one all. ap (map (spot 0)) c.new.ensures.items;
-      singles = (let n = ap length c.new.ensures.items in omega (arith, n));
-      gathered = λ k have. subst (λ ps. IsGathered trees axis test items 0 0 ps c.new-found.result.items) (sym c.new.ensures.items) (subst (λ fs. IsGathered trees axis test items 0 0 [] fs) (sym c.new-found.ensures.items) (gathered_none trees axis test items));
+      kept = λ one all. ap (map (spot 0)) c.in_ok-with_capacity.ensures.items;
+      singles = (let n = ap length c.in_ok-with_capacity.ensures.items in omega (arith, n));
+      gathered = λ k have. subst (λ ps. IsGathered trees axis test items 0 0 ps c.new-found.result.items) (sym c.in_ok-with_capacity.ensures.items) (subst (λ fs. IsGathered trees axis test items 0 0 [] fs) (sym c.new-found.ensures.items) (gathered_none trees axis test items));
     }
 
 pub loop-context-preserved : goal.loop-context-preserved

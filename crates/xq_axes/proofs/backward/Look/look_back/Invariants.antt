@@ -15,8 +15,8 @@ invariant-loop-row l =
       places : l.self.contexts.places.now ≡ old.contexts.places.now;
       looked :
           (test : Test) (t : Tree) (low : ℕ) → l.last < count (nodes t) → l.last + 1 ≡ low + length l.rows → AreSeen test t low l.rows
-          → IsLooked old.direction test t old.contexts.places.now (l.last + 1) old.contexts.left old.levels.list.items old.found.items
-          → RestLooked old.direction test t old.contexts.places.now low l.place l.rest l.self.contexts.left l.self.levels.list.items l.self.found.items;
+          → IsLooked old.direction test t old.contexts.places.now (l.last + 1) old.contexts.left old.levels old.found.items
+          → RestLooked old.direction test t old.contexts.places.now low l.place l.rest l.self.contexts.left l.self.levels l.self.found.items;
     }
 
 abbrev pub decreases-loop-row : goal.decreases-loop-row

@@ -14,11 +14,13 @@ use Rattle.xq_axes.proofs.Over.{goes_over}
 use Rattle.xq_axes.proofs.downward.BelowJudge.judge.Goals as goal
 
 pub returns : goal.returns
-returns c = λ start t s n r h. (
+returns g c = λ start t s n r h. (
     let x = c.args.row.now in
     let vs = start.contexts.places.now in
     let old = c.args.self.now in
-    let d = start.direction in
+    let which = g.D.Direction.which in
+    let d = which start.direction in
+    let same = ap which h.0 in
     let j = h.3 in
     let context = c.meets-is_context.result in
     let plain = c.is_plain-is_plain.result in
@@ -28,16 +30,16 @@ returns c = λ start t s n r h. (
     let e : x.level ≡ level_of t n = ap (λ (y : Row). y.level) r.row in
     let k : plain_row (rows t) n ≡ not (is_attribute x.kind) = sym (ap (λ (y : Row). not (is_attribute y.label.kind)) r.row) in
     let ep : plain ≡ plain_row (rows t) n = c.is_plain-is_plain.ensures ∙ sym k in
-    let other : d ≡ Descendant → ⊥ = λ e. c.in_default.not-Descendant (h.0 ∙ e) in
+    let other : d ≡ Descendant → ⊥ = λ e. c.in_default.not-Descendant (c.which.ensures ∙ same ∙ e) in
     let reached = is_met d vs old.contexts.met n other j.reached in
     let found = subst (λ us. (context ≡ is_among us x.pre) × IsReached us met (x.pre + 1)) h.1
     (c.meets-is_context.ensures.met (subst (λ us. IsRising us) (sym h.1) j.rising) (subst (λ us. IsReached us old.contexts.met x.pre) (sym h.1) (subst (IsReached vs old.contexts.met) (sym r.place) reached))) in
     let em = subst (λ m. (context ≡ is_among vs m) × IsReached vs met (m + 1)) r.place found in
     let ec : child ≡ is_child d old.is_open (nat_lt 0 (level_of t n) && get_or old.marks (level_of t n - 1) false) =
-    c.is_child-is_child.ensures ∙ ap (λ y. is_child y old.is_open (nat_lt 0 x.level && get_or old.marks (x.level - 1) false)) h.0
+    c.is_child-is_child.ensures ∙ ap (λ y. is_child y old.is_open (nat_lt 0 x.level && get_or old.marks (x.level - 1) false)) same
     ∙ ap (λ l. is_child d old.is_open (nat_lt 0 l && get_or old.marks (l - 1) false)) e in
     let w = judged d t vs s n child context plain c.is_chosen.result old.contexts.met met old.marks old.is_open j r.is_there r.from r.to (omega (arith, e)) ec em ep
-    (c.is_chosen.ensures ∙ ap (λ y. is_chosen y child context plain) (c.mark.ensures.direction ∙ h.0)) in
+    (c.is_chosen.ensures ∙ ap (λ y. is_chosen y child context plain) (c.which-2.ensures ∙ ap which c.mark.ensures.direction ∙ same)) in
     let marks : set old.marks (level_of t n) context ≡ new.marks = ap (λ l. set old.marks l context) (sym e) ∙ sym c.mark.ensures.marks in
     let contexts : new.contexts ≡ c.meets-is_context.new.self = c.mark.ensures.contexts in
     let places = ap (λ (y : Contexts). y.places.now) contexts ∙ c.meets-is_context.ensures.places ∙ h.1 in
@@ -46,18 +48,19 @@ returns c = λ start t s n r h. (
     let j2 = subst (λ ms. IsJudged d t vs s (n + 1) met ms new.is_open) marks j1 in
     let j3 = subst (λ m. IsJudged d t vs s (n + 1) m new.marks new.is_open) (sym new_met) j2 in
     let last = c.mark.ensures.last ∙ h.2 in
-    let over = c.rows_over.ensures ∙ ap (λ y. rows_over y context plain (slice_get new.contexts.places.now new.contexts.met) x.pre x.size new.last) (c.mark.ensures.direction ∙ h.0)
+    let over = c.rows_over.ensures ∙ ap (λ y. rows_over y context plain (slice_get new.contexts.places.now new.contexts.met) x.pre x.size new.last) (ap which c.mark.ensures.direction ∙ same)
     ∙ ap (λ us. rows_over d context plain (slice_get us new.contexts.met) x.pre x.size new.last) places in
     let g = goes_over t vs s n new.contexts.met new.marks new.is_open r.is_there r.from r.to d context plain x.pre x.size new.last c.rows_over.result j3 em.0 ep r.place (ap (λ (y : Row). y.size) r.row) last over in
     (w.is_right, g.within, g.unhit, (c.mark.ensures.direction ∙ h.0, places, last, g.goes_on)))
 
 pub returns-in-Descendant : goal.returns-in-Descendant
-returns-in-Descendant c = λ start t s n r h. (
+returns-in-Descendant g c = λ start t s n r h. (
     let x = c.args.row.now in
     let vs = start.contexts.places.now in
     let old = c.args.self.now in
     let plain = c.is_plain-is_plain.result in
-    let d : start.direction ≡ Descendant = sym h.0 ∙ c.in-Descendant.is in
+    let which = g.D.Direction.which in
+    let d : which start.direction ≡ Descendant = sym (ap which h.0) ∙ sym c.which.ensures ∙ c.in-Descendant.is in
     let ep : plain ≡ plain_row (rows t) n = c.is_plain-is_plain.ensures ∙ ap (λ (y : Row). not (is_attribute y.label.kind)) r.row in
     let j = subst (λ y. IsJudged y t vs s n old.contexts.met old.marks old.is_open) d h.3 in
     let w = descendant t vs s n old.contexts.met old.marks old.is_open plain j r.is_there r.from r.to ep in

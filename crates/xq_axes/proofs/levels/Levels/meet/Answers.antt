@@ -1,57 +1,56 @@
-use Rattle.std.proofs.Common.{rules, ◌≡◌, ℕ, List, [], ◌∷◌, Bool, true, false, ◌&&◌, ◌||◌, eqb, nat_le, refl, sym, ap, ◌∙◌, inl, inr, arith}
-use Rattle.std.specs.Prelude.{filter}
-use Rattle.std.proofs.Math.Bool.{and-false}
-use Rattle.std.proofs.lemmas.Bool.{eqb-true, le-leb}
-use Rattle.std.proofs.lemmas.Fn.{filter_same}
+use Rattle.std.proofs.Common.{◌≡◌, ℕ, List, ◌-◌, [], ◌∷◌, Bool, true, false, ◌&&◌, ◌||◌, eqb, nat_le, length, sym, ap, subst, ◌∙◌}
+use Rattle.std.specs.Prelude.{slice_get}
 use Rattle.std.proofs.lemmas.List.Folds.{list_any-append}
-use Rattle.xq_axes.specs.private.Hits.{is_among}
-use Rattle.xq_axes.proofs.Looking.{among_kept}
+use Rattle.xq_axes.specs.private.Hits.{is_among, IsRising}
+use Rattle.xq_axes.specs.private.Waiting.{is_level}
+use Rattle.xq_axes.proofs.Deepest.{ends_kept, own_kept, less_kept, rising_more, or_none, already}
+use Rattle.xq_axes.proofs.levels.Levels.meet.Goals.{else-waits-via-then-waits+else-not-is_awaited, else-waits-via-else-waits}
 use Rattle.xq_axes.proofs.levels.Levels.meet.Goals as goal
 
-and_true : (b : Bool) → (b && true) ≡ b
-and_true true = refl
-and_true false = refl
+-- whether the levels that are left end at the level
+is_last : (old left seen : List ℕ) (level : ℕ) (b : Bool) → IsRising left → ((m : ℕ) → is_among left m ≡ (is_among old m && nat_le m level)) → seen ≡ left → b ≡ is_level (slice_get seen (length seen - 1)) level → b ≡ is_among old level
+is_last old left seen level b up kept e h = h ∙ ap (λ xs. is_level (slice_get xs (length xs - 1)) level) e ∙ ends_kept old left level kept up
 
-or_none : (b : Bool) → (b || false) ≡ b
-or_none true = refl
-or_none false = refl
-
-kept : (old new : List ℕ) (level m : ℕ) → new ≡ filter (λ k. nat_le k level) old → is_among new m ≡ (is_among old m && nat_le m level)
-kept old new level m e = ap (λ xs. is_among xs m) e ∙ among_kept (λ k. nat_le k level) old m
-
-own : (old new : List ℕ) (level : ℕ) → new ≡ filter (λ k. nat_le k level) old → is_among new level ≡ is_among old level
-own old new level e = kept old new level level e ∙ ap (λ b. is_among old level && b) (le-leb level level (omega arith)) ∙ and_true (is_among old level)
-
-already : (xs : List ℕ) (level m : ℕ) (w : Bool) → is_among xs level ≡ true → is_among xs m ≡ (is_among xs m || (w && eqb level m))
-already xs level m w h = by (eqb level m) refl
-  where
-    by : (b : Bool) → eqb level m ≡ b → is_among xs m ≡ (is_among xs m || (w && eqb level m))
-    by true e = (let a : is_among xs m ≡ true = ap (is_among xs) (sym (eqb-true level m e)) ∙ h in a ∙ sym (ap (λ b. b || (w && eqb level m)) a))
-    by false e = sym (ap (λ b. is_among xs m || (w && b)) e ∙ ap (λ b. is_among xs m || b) (and-false w) ∙ or_none (is_among xs m))
+pub invariant_of-self-then-not-is_awaited : goal.invariant_of-self-then-not-is_awaited
+invariant_of-self-then-not-is_awaited c =
+    let old = c.self.inside.list.items in
+    let left = c.leave_deeper.new.levels.items in
+    let level = c.args.level in
+    let up = c.leave_deeper.ensures.rising c.self.invariant in
+    let kept = c.leave_deeper.ensures.kept c.self.invariant in
+    let none : is_among old level ≡ false = sym (is_last old left c.deref.result.now level c.ends_at-is_awaited.result up kept c.deref.ensures.value c.ends_at-is_awaited.ensures) ∙ c.if-not-is_awaited.true in
+    subst (λ xs. IsRising xs) (sym c.in_ok-push.ensures.items) (rising_more left level up (less_kept old left level kept none))
 
 pub returns-in_ok-push-clause-awaited : goal.returns-in_ok-push-clause-awaited
 returns-in_ok-push-clause-awaited c =
-    c.has-is_awaited.ensures ∙ own c.args.self.now.list.items c.retain.new.self.items c.args.level (filter_same _ (λ m. nat_le m c.args.level) _ (λ x b f' k. search rules) _ _ c.retain.ensures.filtered)
+    is_last c.self.inside.list.items c.leave_deeper.new.levels.items c.deref.result.now c.args.level c.ends_at-is_awaited.result (c.leave_deeper.ensures.rising c.self.invariant) (c.leave_deeper.ensures.kept c.self.invariant) c.deref.ensures.value c.ends_at-is_awaited.ensures
+    ∙ ap (λ xs. is_among xs c.args.level) c.self.view_is
 
 pub returns-in_ok-push-clause-levels : goal.returns-in_ok-push-clause-levels
 returns-in_ok-push-clause-levels c = λ m. (
+    let left = c.leave_deeper.new.levels.items in
     let level = c.args.level in
-    let old = c.args.self.now.list.items in
-    let k = kept old c.retain.new.self.items level m (filter_same _ (λ m. nat_le m c.args.level) _ (λ x b f' k. search rules) _ _ c.retain.ensures.filtered) in
-    ap (λ xs. is_among xs m) c.in_ok-push.ensures.items ∙ list_any-append (λ v. eqb v m) c.retain.new.self.items (level ∷ []) ∙ ap (λ b. b || (eqb level m || false)) k
-    ∙ ap (λ b. (is_among old m && nat_le m level) || b) (or_none (eqb level m) ∙ ap (λ w. w && eqb level m) (sym c.if-waits.true)))
+    let kept = c.leave_deeper.ensures.kept c.self.invariant m ∙ ap (λ xs. is_among xs m && nat_le m level) c.self.view_is in
+    ap (λ xs. is_among xs m) c.in_ok-push.ensures.items ∙ list_any-append (λ v. eqb v m) left (level ∷ []) ∙ ap (λ b. b || (eqb level m || false)) kept
+    ∙ ap (λ b. (is_among c.args.self.now m && nat_le m level) || b) (or_none (eqb level m) ∙ ap (λ w. w && eqb level m) (sym c.if-waits.true)))
 
 pub returns-else-waits-clause-awaited : goal.returns-else-waits-clause-awaited
 returns-else-waits-clause-awaited c =
-    c.has-is_awaited.ensures ∙ own c.args.self.now.list.items c.retain.new.self.items c.args.level (filter_same _ (λ m. nat_le m c.args.level) _ (λ x b f' k. search rules) _ _ c.retain.ensures.filtered)
+    is_last c.self.inside.list.items c.leave_deeper.new.levels.items c.deref.result.now c.args.level c.ends_at-is_awaited.result (c.leave_deeper.ensures.rising c.self.invariant) (c.leave_deeper.ensures.kept c.self.invariant) c.deref.ensures.value c.ends_at-is_awaited.ensures
+    ∙ ap (λ xs. is_among xs c.args.level) c.self.view_is
 
 pub returns-else-waits-clause-levels : goal.returns-else-waits-clause-levels
 returns-else-waits-clause-levels c = λ m. (
+    let old = c.self.inside.list.items in
+    let left = c.leave_deeper.new.levels.items in
     let level = c.args.level in
-    let old = c.args.self.now.list.items in
-    let new = c.retain.new.self.items in
-    let k = kept old new level m (filter_same _ (λ m. nat_le m c.args.level) _ (λ x b f' k. search rules) _ _ c.retain.ensures.filtered) in
-    elim c.else-waits.either [
-      | inl w ↦ already new level m c.args.waits (sym c.has-is_awaited.ensures ∙ w.1) ∙ ap (λ b. b || (c.args.waits && eqb level m)) k
-      | inr w ↦ k ∙ sym (or_none (is_among old m && nat_le m level)) ∙ ap (λ b. (is_among old m && nat_le m level) || (b && eqb level m)) (sym w)
+    let all = c.leave_deeper.ensures.kept c.self.invariant in
+    let kept = all m ∙ ap (λ xs. is_among xs m && nat_le m level) c.self.view_is in
+    let awaited = is_last old left c.deref.result.now level c.ends_at-is_awaited.result (c.leave_deeper.ensures.rising c.self.invariant) all c.deref.ensures.value c.ends_at-is_awaited.ensures in
+    elim c.else-waits.branch [
+      | else-waits-via-then-waits+else-not-is_awaited w ↦ (
+          let here : is_among left level ≡ true = own_kept old left level all ∙ sym awaited ∙ w.if-not-is_awaited.false in
+          ap (λ xs. is_among xs m) w.self-is ∙ already left level m c.args.waits here ∙ ap (λ b. b || (c.args.waits && eqb level m)) kept)
+      | else-waits-via-else-waits w ↦
+          ap (λ xs. is_among xs m) w.self-is ∙ kept ∙ sym (or_none (is_among c.args.self.now m && nat_le m level)) ∙ ap (λ b. (is_among c.args.self.now m && nat_le m level) || (b && eqb level m)) (sym w.if-waits.false)
     ])
