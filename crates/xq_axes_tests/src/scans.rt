@@ -155,6 +155,14 @@ impl From {
 }
 
 impl To {
+    /// How many nodes these are.
+    pub fn count(self) -> u64 {
+        match self {
+            To::At(places) => places.len() as u64,
+            To::Ends(count, ..) => count as u64,
+        }
+    }
+
     fn are(self, nodes: &[Node]) -> bool {
         match self {
             To::At(places) => are_at(nodes, places),

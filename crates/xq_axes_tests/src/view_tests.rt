@@ -4,7 +4,7 @@ ghost use Rattle.std.specs.Prelude.{◌≡◌};
 ghost use Rattle.xq_rows.specs.Views.{beginning};
 
 use crate::documents::{great_library, held, library};
-use crate::scans::{From, GREAT_SCANS, SCANS, Scan, To, read_by, reads_twice_in_two_steps};
+use crate::scans::{GREAT_SCANS, SCANS, Scan, read_by, reads_twice_in_two_steps};
 use crate::tables::reads;
 use sqlite::Alter;
 use std::alloc::Global;
@@ -90,9 +90,9 @@ fn tables_hold<S: Alter + Drop, R: Abort>(
 }
 
 /// Each step reads as many rows of a view as of fragments: what a view lends is counted, and not
-/// that it reads a document on in parts. The one difference is the parent of a single node. Fragments
-/// and kept rows tell it at once, and its row alone is read; a view that has read nothing of the
-/// document can't tell it, and looks back for it over the rows before the node.
+/// that it reads a document on in parts. The one difference is parents. Fragments and kept rows tell
+/// them at once, and their rows alone are read; a view that has read nothing of the document can't
+/// tell them, and looks back for them over the rows before the nodes.
 fn steps_read_as_many<S: Alter + Drop, R: Abort>(
     rt: &R,
     alloc: Global,
@@ -112,8 +112,8 @@ fn steps_read_as_many<S: Alter + Drop, R: Abort>(
         store = last;
         assert_eq!(rt; kept, counts);
         match scan {
-            (From::At([_]), Axis::Parent, To::At([_]), _) => {
-                assert_eq!(rt; counts, (0, 1));
+            (_, Axis::Parent, to, _) => {
+                assert_eq!(rt; counts, (0, to.count()));
                 assert_eq!(rt; unread.1, 0);
             }
             _ => assert_eq!(rt; unread, counts),
