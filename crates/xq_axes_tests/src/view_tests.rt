@@ -90,9 +90,10 @@ fn tables_hold<S: Alter + Drop, R: Abort>(
 }
 
 /// Each step reads as many rows of a view as of fragments: what a view lends is counted, and not
-/// that it reads a document on in parts. The one difference is parents. Fragments and kept rows tell
-/// them at once, and their rows alone are read; a view that has read nothing of the document can't
-/// tell them, and looks back for them over the rows before the nodes.
+/// that it reads a document on in parts. At the end of such a part, before it is read on, a step may
+/// go over rows that are not lent yet, and so read fewer. The one other difference is parents.
+/// Fragments and kept rows tell them at once, and their rows alone are read; a view that has read
+/// nothing of the document can't tell them, and looks back for them over the rows before the nodes.
 fn steps_read_as_many<S: Alter + Drop, R: Abort>(
     rt: &R,
     alloc: Global,
@@ -116,7 +117,10 @@ fn steps_read_as_many<S: Alter + Drop, R: Abort>(
                 assert_eq!(rt; counts, (0, to.count()));
                 assert_eq!(rt; unread.1, 0);
             }
-            _ => assert_eq!(rt; unread, counts),
+            _ => {
+                assert!(rt; unread.0 <= counts.0);
+                assert_eq!(rt; unread.1, counts.1);
+            }
         }
     }
     Ok(())
