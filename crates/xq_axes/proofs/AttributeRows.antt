@@ -125,6 +125,14 @@ not_plain : (b : Bool) → not b ≡ false → b ≡ true
 not_plain true h = refl
 not_plain false h = absurd (cc)
 
+-- a row right before that of an attribute, which is deeper, is that of none
+pub first_attribute : (t : Tree) → IsTree t → (v : ℕ) → suc v < count (nodes t) → plain_row (rows t) (suc v) ≡ false → level_of t v < level_of t (suc v) → plain_row (rows t) v ≡ true
+unfolding StandsAfter IsContent
+first_attribute t is v h at deeper = elim (before_attribute 0 (nodes t) is.content refl v h (not_plain _ at)) [
+  | inl k ↦ plain_is _ k.1
+  | inr k ↦ absurd (let same : level_of t (suc v) ≡ level_of t v = k.0 in omega (arith, deeper, same))
+]
+
 -- the parent of an attribute is none, and all rows between them are attributes
 pub record AttributeRun (t : Tree) (w q : ℕ) : Type 0 where
   pub parent : plain_row (rows t) w ≡ true

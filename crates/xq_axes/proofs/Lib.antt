@@ -3,6 +3,7 @@ pub mod Below
 pub mod Texts
 pub mod RunBounds
 pub mod Sizes
+pub mod CountedAttributes
 pub mod Copying
 pub mod Trees
 pub mod Lists

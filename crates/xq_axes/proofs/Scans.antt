@@ -117,7 +117,7 @@ onward_bound t vs some =
 -- # The rows below one node after another
 
 -- the numbers from low on, so many of them, all pass
-passing_up : (f : ℕ → Bool) (n low k : ℕ) → n ≤ low → ((p : ℕ) → low ≤ p → p < low + k → f p ≡ true) → length (below_where f n) + k ≤ length (below_where f (low + k))
+pub passing_up : (f : ℕ → Bool) (n low k : ℕ) → n ≤ low → ((p : ℕ) → low ≤ p → p < low + k → f p ≡ true) → length (below_where f n) + k ≤ length (below_where f (low + k))
 passing_up f n low zero h all = let e : low ≡ low + 0 = omega arith in let a = passing_more f n low h in subst (λ m. length (below_where f n) + 0 ≤ length (below_where f m)) e (omega (arith, a))
 passing_up f n low (suc k) h all =
     let e : suc (low + k) ≡ low + suc k = omega arith in
@@ -132,7 +132,7 @@ below_scan Attribute rs v p h = h
 below_scan Descendant rs v p h = h
 below_scan DescendantOrSelf rs v p h = or_right (nat_eq v p) (inside rs v p) h
 
-is_inside : (t : Tree) (v p : ℕ) → v < p → p ≤ end_of t v → inside (rows t) v p ≡ true
+pub is_inside : (t : Tree) (v p : ℕ) → v < p → p ≤ end_of t v → inside (rows t) v p ≡ true
 is_inside t v p a b = let low = lt-ltb v p a in let high = le-leb p (end_of t v) b in rw (low, high)
 
 module _ (d : Downward) (t : Tree) (vs : List ℕ) where

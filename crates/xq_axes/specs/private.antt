@@ -5,4 +5,5 @@ pub mod Passing
 pub mod Waiting
 pub mod Many
 pub mod KnownParents
+pub mod Counted
 pub mod Standing

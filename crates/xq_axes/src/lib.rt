@@ -1,6 +1,7 @@
 //! Steps along the axes, string values and copies of nodes, read from a lender of rows.
 #![tactic(auto)]
 
+mod attributes;
 mod backward;
 mod contexts;
 mod copies;

@@ -13,8 +13,9 @@ ghost use Rattle.xq_axes.specs.Scans.{region, places_of, AreOf};
 ghost use Rattle.xq_axes.specs.private.Hits.{is_wanted, below_where, IsRising};
 ghost use Rattle.xq_axes.specs.private.Many.{spot, is_found_from, AreThere, IsNext, IsGathered, IsAt, AreKept};
 
+use crate::attributes::search_attributes;
 use crate::backward::{Backward, search_back};
-use crate::downward::{ToAttributes, ToChildren, ToDescendants, ToDescendantsOrSelf, search_below};
+use crate::downward::{ToChildren, ToDescendants, ToDescendantsOrSelf, search_below};
 use crate::merges::merge;
 use crate::onward::search_on;
 use crate::parents::search_parents;
@@ -54,7 +55,7 @@ fn search<L: RowLender>(
             search_below(alloc, source, tree, ToDescendantsOrSelf, places, test)
         }
         Axis::SelfNode => search_selves(alloc, source, tree, places, test),
-        Axis::Attributes => search_below(alloc, source, tree, ToAttributes, places, test),
+        Axis::Attributes => search_attributes(alloc, source, tree, places, test),
         Axis::Parent => search_parents(alloc, source, tree, places, test),
         Axis::Ancestor => search_above(alloc, source, tree, false, places, test),
         Axis::AncestorOrSelf => search_above(alloc, source, tree, true, places, test),

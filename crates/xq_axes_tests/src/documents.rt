@@ -70,6 +70,33 @@ pub fn great_library(alloc: Global) -> Result<Fragment, Want> {
     Fragment::from_rows(rows).map_err(|_rows| Want::Store)
 }
 
+/// How many entries the register has; each has a number, an attribute, and nine marks, so eleven
+/// rows: the entries are far apart.
+const ENTRIES: u32 = 20;
+
+/// The register.
+pub fn register(alloc: Global) -> Result<Fragment, Want> {
+    let mut rows = Vec::new(alloc);
+    let last = 11 * ENTRIES + 1;
+    push(alloc, &mut rows, (0, last, 0, Kind::Document, "", ""))?;
+    push(
+        alloc,
+        &mut rows,
+        (1, last - 1, 1, Kind::Element, "register", ""),
+    )?;
+    for entry in 0..ENTRIES {
+        let place = entry.wrapping_mul(11).wrapping_add(2);
+        push(alloc, &mut rows, (place, 10, 2, Kind::Element, "entry", ""))?;
+        let number = place.wrapping_add(1);
+        push(alloc, &mut rows, (number, 0, 3, Kind::Attribute, "n", ""))?;
+        for mark in 0..9u32 {
+            let below = place.wrapping_add(2).wrapping_add(mark);
+            push(alloc, &mut rows, (below, 0, 3, Kind::Element, "mark", ""))?;
+        }
+    }
+    Fragment::from_rows(rows).map_err(|_rows| Want::Store)
+}
+
 /// Fragments with this tree alone.
 pub fn held(alloc: Global, tree: Fragment) -> Result<Fragments, Want> {
     let mut fragments = Fragments::new(alloc);

@@ -145,6 +145,26 @@ pub const GREAT_SCANS: [Scan; 13] = [
     ),
 ];
 
+/// How many nodes each step over the register goes from.
+pub const REGISTER_NODES: u64 = 4;
+
+/// Steps over the register, to the attributes of entries and of marks.
+pub const REGISTER_SCANS: [Scan; 3] = [
+    (
+        From::At(&[2, 13, 24, 35]),
+        Axis::Attributes,
+        To::At(&[3, 14, 25, 36]),
+        40,
+    ),
+    (
+        From::At(&[35, 2, 24, 13, 2]),
+        Axis::Attributes,
+        To::At(&[3, 14, 25, 36]),
+        40,
+    ),
+    (From::At(&[4, 15, 26, 37]), Axis::Attributes, To::At(&[]), 0),
+];
+
 impl From {
     fn nodes(self, alloc: Global) -> Result<Vec<Node>, AllocError> {
         match self {

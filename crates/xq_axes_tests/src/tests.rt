@@ -1,6 +1,6 @@
 //! The tables over trees in memory, and what goes through several trees.
-use crate::documents::{are_at, great_library, held, library, nodes_at};
-use crate::scans::{GREAT_SCANS, SCANS, Scan, read_by, reads_twice_in_two_steps};
+use crate::documents::{are_at, great_library, held, library, nodes_at, register};
+use crate::scans::{GREAT_SCANS, REGISTER_SCANS, SCANS, Scan, read_by, reads_twice_in_two_steps};
 use crate::tables::reads;
 use std::alloc::Global;
 use std::process::Abort;
@@ -46,6 +46,15 @@ fn great_fragments_are_read(rt: HostRuntime) -> Result<(), Want> {
     let alloc = rt.alloc();
     let mut fragments = held(alloc, great_library(alloc)?)?;
     scans(&rt, alloc, &mut fragments, &GREAT_SCANS)
+}
+
+#[test]
+fn registers_are_read(rt: HostRuntime) -> Result<(), Want> {
+    let alloc = rt.alloc();
+    let mut fragments = held(alloc, register(alloc)?)?;
+    scans(&rt, alloc, &mut fragments, &REGISTER_SCANS)?;
+    let mut buffered = Buffered::new(alloc, fragments);
+    scans(&rt, alloc, &mut buffered, &REGISTER_SCANS)
 }
 
 #[test]

@@ -3,8 +3,10 @@
 ghost use Rattle.std.specs.Prelude.{◌≡◌};
 ghost use Rattle.xq_rows.specs.Views.{beginning};
 
-use crate::documents::{great_library, held, library};
-use crate::scans::{GREAT_SCANS, SCANS, Scan, read_by, reads_twice_in_two_steps};
+use crate::documents::{great_library, held, library, register};
+use crate::scans::{
+    GREAT_SCANS, REGISTER_NODES, REGISTER_SCANS, SCANS, Scan, read_by, reads_twice_in_two_steps,
+};
 use crate::tables::reads;
 use sqlite::Alter;
 use std::alloc::Global;
@@ -91,9 +93,11 @@ fn tables_hold<S: Alter + Drop, R: Abort>(
 
 /// Each step reads as many rows of a view as of fragments: what a view lends is counted, and not
 /// that it reads a document on in parts. At the end of such a part, before it is read on, a step may
-/// go over rows that are not lent yet, and so read fewer. The one other difference is parents.
-/// Fragments and kept rows tell them at once, and their rows alone are read; a view that has read
-/// nothing of the document can't tell them, and looks back for them over the rows before the nodes.
+/// go over rows that are not lent yet, and so read fewer. The other differences are parents, and the
+/// attributes of nodes that are far apart. Fragments and kept rows tell them at once, and their rows
+/// alone are read; a view that has read nothing of the document can't tell them, and looks for
+/// parents over the rows before the nodes, for attributes at each node's own row and over those
+/// below it.
 fn steps_read_as_many<S: Alter + Drop, R: Abort>(
     rt: &R,
     alloc: Global,
@@ -116,6 +120,10 @@ fn steps_read_as_many<S: Alter + Drop, R: Abort>(
             (_, Axis::Parent, to, _) => {
                 assert_eq!(rt; counts, (0, to.count()));
                 assert_eq!(rt; unread.1, 0);
+            }
+            (_, Axis::Attributes, to, _) => {
+                assert_eq!(rt; counts, (to.count(), 0));
+                assert_eq!(rt; unread.1, REGISTER_NODES);
             }
             _ => {
                 assert!(rt; unread.0 <= counts.0);
@@ -146,6 +154,13 @@ fn steps_in_memory(rt: HostRuntime) -> Result<(), Want> {
         &SCANS,
         library(alloc)?,
     )
+}
+
+#[test]
+fn register_steps_in_memory(rt: HostRuntime) -> Result<(), Want> {
+    let alloc = rt.alloc();
+    let store = Store::new_in_memory(alloc)?;
+    steps_read_as_many(&rt, alloc, store, &REGISTER_SCANS, register(alloc)?)
 }
 
 #[test]

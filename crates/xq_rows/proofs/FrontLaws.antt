@@ -14,7 +14,7 @@ use Rattle.xq_sources.specs.Sources.{encloses, rows_between, rows_enclosing, tre
 use Rattle.xq_sources.proofs.Intervals.{between-places}
 use Rattle.xq_rows.proofs.Loads.{length-labels}
 use Rattle.xq_rows.proofs.ViewLaws.{one_placed}
-use Rattle.xq_rows.specs.private.Shelves.{AreFronts, IsFront, Reaches, front_at, run_of}
+use Rattle.xq_rows.specs.private.Shelves.{AreFronts, HasReached, IsFront, Reaches, front_at, run_of}
 
 -- # Lists
 
@@ -202,6 +202,18 @@ as_many [] [] are = refl
 as_many [] (f ∷ fronts) are = elim are [ ]
 as_many (t ∷ trees) [] are = elim are [ ]
 as_many (t ∷ trees) (f ∷ fronts) are = ap suc (as_many trees fronts are.1)
+
+-- a tree of which rows are kept is there
+pub has_front : (fronts : List (Vec NodeRow Global)) (tree place : ℕ) → place < length (front_at fronts tree) → tree < length fronts
+has_front [] tree place h = absurd (omega (arith, h))
+has_front (front ∷ fronts) zero place h = omega arith
+has_front (front ∷ fronts) (suc tree) place h = let more = has_front fronts tree place h in omega (arith, more)
+
+pub reached_in : (trees : List Tree) (fronts : List (Vec NodeRow Global)) (tree place : ℕ) → AreFronts trees fronts → place < length (front_at fronts tree) → HasReached trees fronts tree place
+reached_in trees fronts tree place are h = record {
+  tree_in = let many = as_many trees fronts are in let there = has_front fronts tree place h in omega (arith, many, there);
+  reaches = inl h;
+}
 
 pub none_yet : (t : Tree) (rows : List NodeRow) → rows ≡ [] → IsFront t rows
 none_yet t rows e = subst (IsFront t) (sym e) refl

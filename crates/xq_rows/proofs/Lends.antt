@@ -10,7 +10,7 @@ use Rattle.xq_sources.specs.Lenders.{IsRun, places_above}
 use Rattle.xq_sources.specs.Meters.{Readings}
 use Rattle.xq_sources.specs.Sources.{HasTree, HasNode, encloses, rows_between, tree_at as nth_tree}
 use Rattle.xq_rows.specs.Documents.{Map, IsClean, StandsFor}
-use Rattle.xq_rows.specs.Views.{Beginning, HeldDocuments, Viewed, trees_under}
+use Rattle.xq_rows.specs.Views.{Beginning, HeldDocuments, IsView, Viewed, trees_under}
 use Rattle.xq_rows.specs.private.Shelves.{AreFronts, AreListed, HasReached, IsFront, IsShelved, front_at, run_of}
 use Rattle.xq_rows.proofs.FrontLaws.{as_many, encloses_all, front_is, has_node, lends, lends_one}
 use Rattle.xq_rows.proofs.Keeping.{still_stays}
@@ -25,6 +25,13 @@ some_at (x ∷ xs) (suc i) h = some_at xs i (omega (arith, h))
 under_many : (b : Beginning) (addresses : List (List ℕ)) → length addresses ≡ length (trees_under b addresses)
 under_many b [] = refl
 under_many b (a ∷ addresses) = ap suc (under_many b addresses)
+
+-- the documents of a view are trees
+pub is_held_tree : {S : Type 0} (g : Ghosts S) (b : Beginning) (v : Viewed S) → IsView g b v → IsClean g v.store → HeldDocuments b → (tree : ℕ) → HasTree (trees_under b v.addresses) tree → IsTree (nth_tree (trees_under b v.addresses) tree)
+is_held_tree g b v view clean held tree in_it =
+    let many = under_many b v.addresses in
+    let named = some_at v.addresses tree (omega (arith, many, in_it)) in
+    is_its_tree g b v view clean held tree named.0 named.1
 
 module _ {S : Type 0} (g : Ghosts S) (b : Beginning) (v : Viewed S) (fronts : List (Vec NodeRow Global)) (may_stay : Bool) (is : IsShelved g b v fronts may_stay) (new : Held S)
     (later : List (Vec NodeRow Global)) (was_clean : IsClean g new → IsClean g v.store) where
@@ -84,8 +91,4 @@ module _ {S : Type 0} (g : Ghosts S) (b : Beginning) (v : Viewed S) (fronts : Li
       are_above = ap (map (λ (p : ℕ × Row). p.0)) (encloses_all (nth_tree trees tree) (front_at later tree) front place reached.reaches)
 
       pub is_a_tree : IsTree (nth_tree trees tree)
-      is_a_tree =
-          let many = under_many b v.addresses in
-          let in_it = reached.tree_in in
-          let named = some_at v.addresses tree (omega (arith, many, in_it)) in
-          is_its_tree g b v is.view (was_clean clean) held tree named.0 named.1
+      is_a_tree = is_held_tree g b v is.view (was_clean clean) held tree reached.tree_in

@@ -25,4 +25,5 @@ pub mod Adopts
 pub mod Runs
 pub mod Adoptions
 pub mod Parents
+pub mod CountedAttributes
 pub mod Streams

@@ -1,7 +1,7 @@
 -- Parents, by the rows that are kept of a tree.
 use Rattle.std.proofs.Common.{◌≡◌, ◌+◌, ◌<◌, ◌≤◌, ℕ, zero, suc, Bool, List, [], ◌∷◌, length, map, take, refl, sym, ap, subst, ◌∙◌, arith, Vec, Global, Option, Some, None, IfSome}
 use Rattle.std.specs.List.{enumerate_from}
-use Rattle.std.proofs.lemmas.List.{take-map}
+use Rattle.std.proofs.lemmas.List.{take-map, length-map}
 use Rattle.sqlite_trees.specs.declared.store.Store.{Ghosts}
 use Rattle.xq_regions.specs.Tree.{Tree}
 use Rattle.xq_regions.specs.Rows.{Row, rows, row_at, row_of, placed}
@@ -11,15 +11,15 @@ use Rattle.xq_sources.specs.Sources.{tree_at as nth_tree}
 use Rattle.xq_rows.specs.Documents.{IsClean}
 use Rattle.xq_rows.specs.Views.{Beginning, HeldDocuments, Viewed, trees_under}
 use Rattle.xq_rows.specs.private.Shelves.{IsFront, IsShelved, front_at}
-use Rattle.xq_rows.proofs.FrontLaws.{front_is}
+use Rattle.xq_rows.proofs.FrontLaws.{front_is, has_front}
 
-row-first : (n i : ℕ) (xs : List Row) → i < length (take n xs) → row_at (take n xs) i ≡ row_at xs i
+pub row-first : (n i : ℕ) (xs : List Row) → i < length (take n xs) → row_at (take n xs) i ≡ row_at xs i
 row-first zero i xs h = absurd (omega (arith, h))
 row-first (suc n) i [] h = absurd (omega (arith, h))
 row-first (suc n) zero (x ∷ xs) h = refl
 row-first (suc n) (suc i) (x ∷ xs) h = row-first n i xs (omega (arith, h))
 
-length-first : (n : ℕ) (xs : List Row) → length (take n xs) ≤ length xs
+pub length-first : (n : ℕ) (xs : List Row) → length (take n xs) ≤ length xs
 length-first zero xs = omega arith
 length-first (suc n) [] = omega arith
 length-first (suc n) (x ∷ xs) = let more = length-first n xs in omega (arith, more)
@@ -46,16 +46,17 @@ parent-first n xs u v q =
       level = sym (ap (λ (r : Row). r.level) ev) ∙ q.level ∙ ap (λ (r : Row). suc r.level) eu;
     }
 
-parent-of-front : (t : Tree) (rs : List NodeRow) → IsFront t rs → (u v : ℕ) → IsParentRow (map row_of rs) u v → IsParentRow (rows t) u v
-parent-of-front t rs front u v q =
-    let n = length rs in
-    let e : map row_of rs ≡ take n (rows t) = sym (rows-placed rs) ∙ ap (map (λ (p : ℕ × Row). p.1)) front ∙ sym (take-map (λ (p : ℕ × Row). p.1) n (enumerate_from 0 (rows t))) ∙ ap (take n) (without-places 0 (rows t)) in
-    parent-first n (rows t) u v (subst (λ xs. IsParentRow xs u v) e q)
+-- the rows that are kept of a tree are its first
+pub first-rows : (t : Tree) (rs : List NodeRow) → IsFront t rs → map row_of rs ≡ take (length rs) (rows t)
+first-rows t rs front =
+    sym (rows-placed rs) ∙ ap (map (λ (p : ℕ × Row). p.1)) front ∙ sym (take-map (λ (p : ℕ × Row). p.1) (length rs) (enumerate_from 0 (rows t)))
+    ∙ ap (take (length rs)) (without-places 0 (rows t))
 
-some-front : (fronts : List (Vec NodeRow Global)) (tree v : ℕ) → v < length (map row_of (front_at fronts tree)) → tree < length fronts
-some-front [] tree v h = absurd (omega (arith, h))
-some-front (front ∷ fronts) zero v h = omega arith
-some-front (front ∷ fronts) (suc tree) v h = let more = some-front fronts tree v h in omega (arith, more)
+parent-of-front : (t : Tree) (rs : List NodeRow) → IsFront t rs → (u v : ℕ) → IsParentRow (map row_of rs) u v → IsParentRow (rows t) u v
+parent-of-front t rs front u v q = parent-first (length rs) (rows t) u v (subst (λ xs. IsParentRow xs u v) (first-rows t rs front) q)
+
+pub some-front : (fronts : List (Vec NodeRow Global)) (tree v : ℕ) → v < length (map row_of (front_at fronts tree)) → tree < length fronts
+some-front fronts tree v h = has_front fronts tree v (let same = length-map (front_at fronts tree) row_of in omega (arith, h, same))
 
 -- the parent that a view's rows tell
 pub told : {S : Type 0} (g : Ghosts S) (b : Beginning) (v : Viewed S) (fronts : List (Vec NodeRow Global)) (stays : Bool) → IsShelved g b v fronts stays → IsClean g v.store → HeldDocuments b → (tree place node : ℕ)

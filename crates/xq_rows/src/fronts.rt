@@ -200,6 +200,15 @@ pub(crate) fn places_enclosing(alloc: Global, rows: &[NodeRow], node: u32) -> Re
     Ok(found)
 }
 
+/// Whether the rows that are kept of a tree reach a place.
+#[tactic(auto, using(crate::proofs::FrontLaws::reached_in))]
+fn has_reached(shelf: &Shelf, tree: usize, place: u32) -> bool
+    ensures { IsTrue result → (trees : List Tree) → AreFronts trees shelf.now.fronts.items
+        → HasReached trees shelf.now.fronts.items tree place }
+{
+    front_of(&shelf.fronts, tree).len() > place as usize
+}
+
 /// Reads a document on until its rows reach a place, or are all there. Where that is refused, the
 /// store is to keep nothing.
 pub(crate) fn read_on<S: Alter>(
@@ -225,6 +234,9 @@ pub(crate) fn read_on<S: Alter>(
     ensures alone { LeavesAlone S.Store store.old store.new }
     ensures stays { IsTrue shelf.new.stays → IsTrue shelf.old.stays }
 {
+    if has_reached(shelf, tree, place) {
+        return Ok(());
+    }
     make_room(alloc, shelf, tree);
     let Some(address) = shelf.addresses.get(tree) else {
         return Err(Want::Store);

@@ -8,7 +8,7 @@ use sqlite::Alter;
 use std::alloc::Global;
 use xq_atoms::Want;
 use xq_regions::NodeRow;
-use xq_sources::RowLender;
+use xq_sources::{RowLender, count_attributes};
 
 impl<S: Alter, O: Origin> RowLender for View<S, O> {
     ghost lent = { λ v. v.lent };
@@ -44,6 +44,10 @@ impl<S: Alter, O: Origin> RowLender for View<S, O> {
 
     fn parent(&self, tree: usize, node: u32) -> Option<u32> {
         parent_of(&self.shelf, tree, node)
+    }
+
+    fn attributes(&self, tree: usize, node: u32) -> Option<u32> {
+        count_attributes(front_of(&self.shelf.fronts, tree), node)
     }
 
     fn lent(&self) -> &[NodeRow] {

@@ -1,2 +1,3 @@
+pub mod AttributeRows
 pub mod Intervals
 pub mod ReadRows

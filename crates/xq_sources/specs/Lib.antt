@@ -2,4 +2,5 @@ pub mod Meters
 pub mod Sources
 pub mod Lenders
 pub mod Parents
+pub mod AttributeRows
 pub mod private

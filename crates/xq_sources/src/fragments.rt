@@ -5,6 +5,7 @@ ghost use Rattle.xq_sources.specs.Meters.{no_readings};
 ghost use Rattle.xq_sources.specs.Sources.{tree_at, HasTree};
 ghost use Rattle.xq_sources.specs.private.Runs.{rows_of_run};
 
+use crate::attributes::count_attributes;
 use crate::rows::{copy_enclosing, copy_row, copy_rows, places_enclosing, rows_between};
 use crate::{Guide, Meter, RowLender, RowSource, TreeSource};
 use std::alloc::Global;
@@ -164,6 +165,11 @@ impl RowLender for Fragments {
         let guide = self.guides.get(tree)?;
         let fragment = self.list.get(tree)?;
         guide.parent(fragment.rows(), node)
+    }
+
+    fn attributes(&self, tree: usize, node: u32) -> Option<u32> {
+        let fragment = self.list.get(tree)?;
+        count_attributes(fragment.rows(), node)
     }
 
     fn lent(&self) -> &[NodeRow] {

@@ -2,6 +2,7 @@
 ghost use Rattle.std.specs.Prelude.{◌≡◌, ◌↔◌, ◌∷◌, [], ℕ, List, map, vec_len, IfOk, IfSome, OnErr, OnOk};
 ghost use Rattle.xq_regions.specs.Tree.{IsTree};
 ghost use Rattle.xq_regions.specs.Rows.{Row, placed, row_at, rows};
+ghost use Rattle.xq_sources.specs.AttributeRows.{AreAttributeRows};
 ghost use Rattle.xq_sources.specs.Meters.{with_singles};
 ghost use Rattle.xq_sources.specs.Parents.{IsParentRow};
 ghost use Rattle.xq_sources.specs.Sources.{tree_at, HasTree, HasNode, rows_between, after_row};
@@ -67,6 +68,14 @@ pub trait RowLender: TreeSource {
     fn parent(&self, tree: usize, node: u32) -> Option<u32>
         ensures { Self.is_clean self.now → IfSome result (λ place.
             IsParentRow (rows (tree_at (Self.forest self.now) tree)) place node) };
+
+    /// How many attributes the node has, where the lender can tell it at once; none says nothing.
+    /// A number is no row, so nothing is counted.
+    fn attributes(&self, tree: usize, node: u32) -> Option<u32>
+        ensures told { Self.is_clean self.now → IfSome result (λ number.
+            AreAttributeRows (rows (tree_at (Self.forest self.now) tree)) node number) }
+        ensures is_tree { Self.is_clean self.now → IfSome result (λ _.
+            IsTree (tree_at (Self.forest self.now) tree)) };
 
     /// The rows that the last fetch made ready, in document order.
     fn lent(&self) -> &[NodeRow]
@@ -143,6 +152,10 @@ impl<S: RowSource + Drop> RowLender for Buffered<S> {
     }
 
     fn parent(&self, _: usize, _: u32) -> Option<u32> {
+        None
+    }
+
+    fn attributes(&self, _: usize, _: u32) -> Option<u32> {
         None
     }
 

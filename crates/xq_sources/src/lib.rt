@@ -1,6 +1,7 @@
 //! Where trees are read from: sources, which give copies of rows, and lenders, which lend them.
 #![tactic(auto)]
 
+mod attributes;
 mod fragments;
 mod guides;
 mod lenders;
@@ -8,6 +9,7 @@ mod meters;
 mod rows;
 mod sources;
 
+pub use attributes::count_attributes;
 pub use fragments::Fragments;
 pub use guides::Guide;
 pub use lenders::{Buffered, RowLender};

@@ -115,6 +115,14 @@ impl<S: RowLender + Drop> RowLender for Trees<S> {
         }
     }
 
+    fn attributes(&self, tree: usize, node: u32) -> Option<u32> {
+        if tree < self.stored {
+            self.source.attributes(tree, node)
+        } else {
+            self.constructed.attributes(tree - self.stored, node)
+        }
+    }
+
     fn lent(&self) -> &[NodeRow] {
         if self.is_stored {
             self.source.lent()

@@ -1,0 +1,133 @@
+//! The attribute axis.
+ghost use Rattle.std.specs.Prelude.{◌≡◌, ◌+◌, ◌≤◌, ℕ, true, length, IfOk, IfSome};
+ghost use Rattle.xq_regions.specs.Forest.{count};
+ghost use Rattle.xq_regions.specs.Tree.{nodes};
+ghost use Rattle.xq_regions.specs.declared.Axis.TheVariants as axes;
+ghost use Rattle.xq_sources.specs.Sources.{tree_at};
+ghost use Rattle.xq_axes.specs.Scans.{region};
+ghost use Rattle.xq_axes.specs.private.Hits.{is_hit as is_hit_lem, is_wanted, below_where, IsRising};
+ghost use Rattle.xq_axes.specs.private.Counted.{AreCounted};
+
+use crate::downward::{ToAttributes, search_below};
+use crate::picks::{Judge, Picker, Verdict};
+use crate::walks::walk;
+use std::alloc::Global;
+use xq_atoms::Want;
+use xq_regions::NodeRow;
+use xq_sources::RowLender;
+use xq_values::Test;
+
+/// A context node and how many attributes it has.
+#[derive(Clone, Copy)]
+struct Counted {
+    place: u32,
+    number: u32,
+}
+
+/// Judges rows that are those of attributes of context nodes, each of them.
+#[derive(Clone, Copy)]
+struct OfContexts<'a> {
+    places: &'a [u32],
+}
+
+impl Judge for OfContexts<'_> {
+    ghost axis = { λ _. axes.Attributes };
+
+    ghost contexts = { λ j. j.places.now };
+
+    ghost has_judged = { λ start now t s n. (now.places.now ≡ start.places.now)
+        × ((p : ℕ) → s.low ≤ p → p ≤ s.high
+        → is_hit_lem axes.Attributes t start.places.now p ≡ true) };
+
+    fn judge(&mut self, _: &NodeRow) -> Result<Verdict, Want> {
+        Ok(Verdict {
+            is_hit: true,
+            over: 0,
+        })
+    }
+}
+
+/// How many attributes the node at each of the places has, where the source can tell all of them at
+/// once. It only asks: so that the source can look up the next while the last is on its way.
+fn told_attributes<L: RowLender>(
+    alloc: Global,
+    source: &L,
+    tree: usize,
+    places: &[u32],
+) -> Result<Option<Vec<Counted>>, Want>
+    ensures told { L.is_clean source.now → IfOk result (λ found. IfSome found (λ counted.
+        AreCounted (tree_at (L.forest source.now) tree) places.now counted.items)) }
+    ensures all { IfOk result (λ found. IfSome found (λ counted.
+        length counted.items ≡ length places.now)) }
+{
+    let mut counted = Vec::with_capacity(alloc, places.len())?;
+    for place in places {
+        let Some(number) = source.attributes(tree, *place) else {
+            return Ok(None);
+        };
+        counted.push(Counted {
+            place: *place,
+            number,
+        })?;
+    }
+    Ok(Some(counted))
+}
+
+/// How many rows there are at least for each context, where the contexts are far apart.
+const FAR: u32 = 3;
+
+/// Whether the places, which rise, are so close to one another that a walk over all rows between
+/// them costs less than a look at each by itself: a single one is.
+fn are_close(places: &[u32]) -> bool {
+    match (places.first(), places.last()) {
+        (Some(first), Some(last)) => (last.saturating_sub(*first) / FAR) as usize <= places.len(),
+        _ => true,
+    }
+}
+
+/// The places of the attributes of the nodes at the places, which rise, that pass the test.
+///
+/// Where the nodes are far apart and the source can tell at once how many each of them has, their
+/// rows alone are read; else they are found on a walk below the nodes.
+pub fn search_attributes<L: RowLender>(
+    alloc: Global,
+    source: &mut L,
+    tree: usize,
+    places: &[u32],
+    test: &Test,
+) -> Result<Vec<u32>, Want>
+    ensures found { L.is_clean source.new
+        → let t = tree_at (L.forest source.old) tree in
+        IsRising places.now → IfOk result (λ found. found.items
+        ≡ below_where (is_wanted axes.Attributes test.now t places.now) (count (nodes t))) }
+    ensures rows { L.is_clean source.new
+        → (L.meter source.new).rows ≤ (L.meter source.old).rows
+        + length (region axes.Attributes (tree_at (L.forest source.old) tree) places.now) }
+    ensures singles { (L.meter source.new).singles
+        ≤ (L.meter source.old).singles + length places.now }
+    ensures keeps { L.forest source.new ≡ L.forest source.old }
+    ensures was_clean { L.is_clean source.new → L.is_clean source.old }
+{
+    if are_close(places) {
+        return search_below(alloc, source, tree, ToAttributes, places, test);
+    }
+    let Some(counted) = told_attributes(alloc, source, tree, places)? else {
+        return search_below(alloc, source, tree, ToAttributes, places, test);
+    };
+    let mut picker = Picker {
+        judge: OfContexts { places },
+        test,
+        found: Vec::new(alloc),
+    };
+    let mut next = 0u32;
+    for node in &counted {
+        if node.number == 0 {
+            continue;
+        }
+        let low = next.max(node.place.saturating_add(1));
+        let high = node.place.saturating_add(node.number);
+        walk(alloc, source, tree, low, high, &mut picker)?;
+        next = next.max(high.saturating_add(1));
+    }
+    Ok(picker.found)
+}
