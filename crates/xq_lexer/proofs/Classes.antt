@@ -1,5 +1,5 @@
 -- The classes of characters: what a digit, a quote, a sign isn't.
-use Rattle.std.proofs.Common.{◌≡◌, ℕ, Bool, true, false, ◌⊎◌, refl, inl, inr, arith}
+use Rattle.std.proofs.Common.{◌≡◌, ℕ, true, false, ◌⊎◌, refl, inl, inr, arith}
 use Rattle.std.specs.Prelude.{◌==◌}
 use Rattle.std.proofs.lemmas.Bool.Decides.{nat_tests}
 use Rattle.xq_characters.specs.Characters.{is_char, is_digit, is_name_start, is_name_char}
