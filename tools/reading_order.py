@@ -6,6 +6,8 @@
 Begins at the clauses of the public functions of the crates named (of all, if none is), and follows
 each name through the specs/ of the repository. Prints a line for each file, lowest crate first:
 its lines, those of the definitions that are reached, and their names; the last line has the sums.
+What lies in specs/private/ is left out: the invariants of types with private fields reach some of
+it, which no caller has to know.
 With --unreached it lists the public definitions of specs/ (without specs/private/) that are not.
 
 It reads words, not the logic: a definition is reached where its name stands in a clause or in the
@@ -189,7 +191,7 @@ def show(files, done):
     for module in sorted(files, key=lambda it: (rank.get(crate_of[it], 99), it)):
         file = files[module]
         names = [it for it in file.definitions if (module, it) in done]
-        if names:
+        if names and ".specs.private." not in module:
             lines = sum(len(file.definitions[it]) for it in names)
             sums = [sums[0] + file.lines, sums[1] + lines]
             path = os.path.relpath(file.path, TOP)
