@@ -28,7 +28,7 @@ fn comes_before(first: &Node, second: &Node) -> bool
 }
 
 /// Whether each node comes before the next.
-fn rises(nodes: &[Node]) -> bool
+pub fn rises(nodes: &[Node]) -> bool
     ensures { IsAllAdjacentAnswer (λ x y b. b ≡ is_lt (document_order x y)) nodes.now result }
 {
     nodes.is_sorted_by(|first, second| comes_before(first, second))

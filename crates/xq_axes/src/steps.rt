@@ -11,12 +11,12 @@ ghost use Rattle.xq_values.specs.Readings.{node_at};
 ghost use Rattle.xq_axes.specs.Nodes.{AreRising, HaveAll};
 ghost use Rattle.xq_axes.specs.Scans.{region, places_of, AreOf};
 ghost use Rattle.xq_axes.specs.private.Hits.{is_wanted, below_where, IsRising};
-ghost use Rattle.xq_axes.specs.private.Many.{spot, is_found_from, AreThere, IsNext, IsGathered, IsAt, AreKept};
+ghost use Rattle.xq_axes.specs.private.Many.{spot, is_found_from, AreSame, AreThere, IsNext, IsGathered, IsAt, AreKept};
 
 use crate::attributes::search_attributes;
 use crate::backward::{Backward, search_back};
 use crate::downward::{ToChildren, ToDescendants, ToDescendantsOrSelf, search_below};
-use crate::merges::merge;
+use crate::merges::{merge, rises};
 use crate::onward::search_on;
 use crate::parents::search_parents;
 use crate::passing::{search_above, search_after, search_before};
@@ -195,6 +195,53 @@ fn gather<L: RowLender>(
     Ok(())
 }
 
+/// The nodes that are on the axis from one of the contexts, which rise, and pass the test, in
+/// document order, each once: the same as from these contexts in any other order.
+fn step_from<L: RowLender>(
+    alloc: Global,
+    source: &mut L,
+    contexts: &[Node],
+    axis: Axis,
+    test: &Test,
+) -> Result<Vec<Node>, Want>
+    ensures nodes { L.is_clean source.new → AreRising contexts.now
+        → let trees = L.forest source.old in
+        (ns : List NodeLem) → AreSame contexts.now ns → HaveAll trees ns
+        → IfOk result (λ found. map (node_at trees) found.items ≡ in_document_order trees
+        (flat_map (axis_nodes trees axis test.now) (map (node_at trees) ns))) }
+    ensures there { L.is_clean source.new → AreRising contexts.now
+        → (ns : List NodeLem) → AreSame contexts.now ns → HaveAll (L.forest source.old) ns
+        → IfOk result (λ found. HaveAll (L.forest source.old) found.items) }
+    ensures rising { IfOk result (λ found. AreRising found.items) }
+    ensures rows { L.is_clean source.new → AreRising contexts.now
+        → (ns : List NodeLem) → AreSame contexts.now ns → (tree : ℕ) → AreOf tree ns
+        → (L.meter source.new).rows ≤ (L.meter source.old).rows
+        + length (region axis (tree_at (L.forest source.old) tree) (places_of ns)) }
+    ensures singles { (L.meter source.new).singles
+        ≤ (L.meter source.old).singles + length contexts.now }
+    ensures keeps { L.forest source.new ≡ L.forest source.old }
+    ensures was_clean { L.is_clean source.new → L.is_clean source.old }
+{
+    let mut found = Vec::new(alloc);
+    let mut gathered = Gathered {
+        tree: 0,
+        places: Vec::with_capacity(alloc, contexts.len())?,
+    };
+    for context in contexts {
+        gather(
+            alloc,
+            source,
+            *context,
+            axis,
+            test,
+            &mut gathered,
+            &mut found,
+        )?;
+    }
+    add_step(alloc, source, &gathered, axis, test, &mut found)?;
+    Ok(merge(found))
+}
+
 /// The nodes that are on the axis from one of the nodes and pass the test, in document order, each
 /// once (XPath 3.1, section 3.3), where the source has the nodes: in any order, of any trees.
 ///
@@ -225,25 +272,10 @@ pub fn step<L: RowLender>(
     ensures keeps { L.forest source.new ≡ L.forest source.old }
     ensures was_clean { L.is_clean source.new → L.is_clean source.old }
 {
-    let mut copies = Vec::with_capacity(alloc, nodes.len())?;
-    copies.extend_from_slice(nodes)?;
-    let contexts = merge(copies);
-    let mut found = Vec::new(alloc);
-    let mut gathered = Gathered {
-        tree: 0,
-        places: Vec::with_capacity(alloc, contexts.len())?,
-    };
-    for context in &contexts {
-        gather(
-            alloc,
-            source,
-            *context,
-            axis,
-            test,
-            &mut gathered,
-            &mut found,
-        )?;
+    if rises(nodes) {
+        return step_from(alloc, source, nodes, axis, test);
     }
-    add_step(alloc, source, &gathered, axis, test, &mut found)?;
-    Ok(merge(found))
+    let mut contexts = Vec::with_capacity(alloc, nodes.len())?;
+    contexts.extend_from_slice(nodes)?;
+    step_from(alloc, source, &merge(contexts), axis, test)
 }

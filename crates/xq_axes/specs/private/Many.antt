@@ -1,6 +1,6 @@
 -- Steps from many nodes.
-use Rattle.std.specs.Prelude.{ℕ, ◌<◌, ◌≤◌, ◌≡◌, List, [], ◌∷◌, length, map, take, Bool, ◌||◌, slice_index, slice_index_or}
-use Rattle.std.specs.List.{list_any}
+use Rattle.std.specs.Prelude.{ℕ, ◌<◌, ◌≤◌, ◌≡◌, ◌↔◌, List, [], ◌∷◌, length, map, take, Bool, ◌||◌, slice_index, slice_index_or}
+use Rattle.std.specs.List.{list_any, Contains}
 use Rattle.xq_regions.specs.Forest.{count}
 use Rattle.xq_regions.specs.Tree.{Tree, nodes}
 use Rattle.xq_regions.specs.declared.Axis.{Axis}
@@ -46,6 +46,10 @@ pub record IsGathered (trees : List Tree) (axis : Axis) (test : Test) (contexts 
   pub is_found : (p : Node → Bool)
       → (list_any p found || list_any (is_found_from trees axis test p) (map (spot tree) places))
       ≡ list_any (is_found_from trees axis test p) (take index contexts)
+
+-- these lists have the same nodes
+abbrev pub AreSame : List Node → List Node → Type 0
+AreSame ms ns = (n : Node) → Contains ms n ↔ Contains ns n
 
 -- the node is the one at the index
 pub record IsAt (contexts : List Node) (index : ℕ) (n : Node) : Type 0 where

@@ -1,179 +1,40 @@
-use Rattle.std.proofs.Common.{◌≡◌, ◌≤◌, ◌↔◌, length, ◌+◌, ◌++◌, ◌||◌, [], Bool, map, refl, sym, ap, subst, ◌∙◌, arith, get_or}
-use Rattle.std.specs.List.{list_any, Contains}
+use Rattle.std.proofs.Common.{◌++◌, ◌↔◌, sym, ap, subst, ◌∙◌}
+use Rattle.std.specs.List.{Contains}
 use Rattle.xq_regions.specs.declared.items.Node.{Node}
 use Rattle.xq_axes.specs.Nodes.{AreRising}
-use Rattle.xq_axes.specs.private.Many.{spot, is_found_from, AreThere, IsNext, IsGathered, IsAt}
-use Rattle.xq_axes.proofs.Many.{gathered_none, default_at, step_found, step_there, step_nodes, have_same}
-use Rattle.xq_sources.specs.Sources.{tree_at}
-use Rattle.xq_axes.specs.Scans.{region}
-use Rattle.xq_axes.proofs.Scans.{kept_rises, kept_region, still_one}
+use Rattle.xq_axes.specs.private.Many.{AreSame}
+use Rattle.xq_axes.proofs.Orders.{rising_seen}
 use Rattle.xq_axes.proofs.steps.step.Goals as goal
 
-pub loop-context-init : goal.loop-context-init
-loop-context-init g c =
-    let trees = g.L.TreeSource.forest c.args.source.now in
-    let axis = c.args.axis in
-    let test = c.args.test.now in
-    let items = c.deref-context-items.result.now in
-    record {
-      forest = refl;
-      clean = λ k. k;
-      rows = λ k one all. omega arith;
-      kept = λ one all. ap (map (spot 0)) c.in_ok-with_capacity.ensures.items;
-      singles = (let n = ap length c.in_ok-with_capacity.ensures.items in omega (arith, n));
-      gathered = λ k have. subst (λ ps. IsGathered trees axis test items 0 0 ps c.new-found.result.items) (sym c.in_ok-with_capacity.ensures.items) (subst (λ fs. IsGathered trees axis test items 0 0 [] fs) (sym c.new-found.ensures.items) (gathered_none trees axis test items));
-    }
+pub returns-then-rises-clause-nodes : goal.returns-then-rises-clause-nodes
+returns-then-rises-clause-nodes g c = λ k have. c.step_from.ensures.nodes k (rising_seen c.args.nodes.now c.rises.result c.rises.ensures c.if-rises.true) c.args.nodes.now (λ n. (λ m. m, λ m. m)) have
 
-pub loop-context-preserved : goal.loop-context-preserved
-loop-context-preserved g c =
-    let inv = c.loop-context.invariant in
-    let trees = g.L.TreeSource.forest c.args.source.now in
-    let axis = c.args.axis in
-    let test = c.args.test.now in
-    let items = c.deref-context-items.result.now in
-    let index = c.loop-context.context-index in
-    let old = c.loop-context.gathered in
-    let new = c.gather.new.gathered in
-    let x : Node = get_or items index (record { tree = 0; pre = 0 }) in
-    let at : IsAt items index x = record { within = omega arith; is = default_at items index (record { tree = 0; pre = 0 }) x (omega arith) } in
-    record {
-      forest = c.in_ok-gather.ensures.keeps ∙ inv.forest;
-      clean = λ k. inv.clean (c.in_ok-gather.ensures.was_clean k);
-      rows = λ k one all. (
-          let before = inv.rows (c.in_ok-gather.ensures.was_clean k) one all in
-          let more = c.in_ok-gather.ensures.rows k items index one all at (inv.kept one all) in
-          omega (arith, before, more));
-      kept = λ one all. c.in_ok-gather.ensures.kept items index one all at (inv.kept one all);
-      singles = (
-          let before = inv.singles in
-          let more = c.in_ok-gather.ensures.gathers in
-          omega (arith, before, more));
-      gathered = λ k have. (
-          let next : IsNext trees items index x = record {
-            rising = subst (λ xs. AreRising xs) (sym c.deref-context-items.ensures.value) c.merge-contexts.ensures.rising;
-            there = have;
-            within = omega arith;
-            is = default_at items index (record { tree = 0; pre = 0 }) x (omega arith);
-          } in
-          subst (λ f. IsNext f items index x → IsGathered f axis test items index old.tree old.places.items c.loop-context.found.items → IsGathered f axis test items (index + 1) new.tree new.places.items c.gather.new.found.items) inv.forest
-          (c.in_ok-gather.ensures.gathered k items index) next (inv.gathered (c.in_ok-gather.ensures.was_clean k) have));
-    }
+pub returns-then-rises-clause-there : goal.returns-then-rises-clause-there
+returns-then-rises-clause-there g c = λ k have. c.step_from.ensures.there k (rising_seen c.args.nodes.now c.rises.result c.rises.ensures c.if-rises.true) c.args.nodes.now (λ n. (λ m. m, λ m. m)) have
+
+pub returns-then-rises-clause-rows : goal.returns-then-rises-clause-rows
+returns-then-rises-clause-rows g c = λ k tree all. c.step_from.ensures.rows k (rising_seen c.args.nodes.now c.rises.result c.rises.ensures c.if-rises.true) c.args.nodes.now (λ n. (λ m. m, λ m. m)) tree all
 
 pub returns-clause-nodes : goal.returns-clause-nodes
 returns-clause-nodes g c = λ k have. (
-    let inv = c.loop-context.invariant in
-    let trees = g.L.TreeSource.forest c.args.source.now in
-    let axis = c.args.axis in
-    let test = c.args.test.now in
-    let items = c.deref-context-items.result.now in
     let ns = c.args.nodes.now in
-    let old = c.loop-context.gathered in
-    let new = c.add_step.new.found.items in
-    let copied = c.in_ok-extend_from_slice.ensures.items ∙ ap (λ xs. xs ++ ns) c.in_ok-copies.ensures.items in
-    let members : (n : Node) → Contains items n ↔ Contains ns n = subst (λ xs. (n : Node) → Contains xs n ↔ Contains ns n) (sym c.deref-context-items.ensures.value) (subst (λ xs. (n : Node) → Contains c.merge-contexts.result.items n ↔ Contains xs n) copied c.merge-contexts.ensures.members) in
-    let gathered = inv.gathered (c.in_ok-add_step.ensures.was_clean k) (have_same trees ns items have (λ n. (members n).0)) in
-    let last = subst (λ f. AreThere f old.tree old.places.items → (p : Node → Bool) → list_any p new ≡ (list_any p c.loop-context.found.items || list_any (is_found_from f axis test p) (map (spot old.tree) old.places.items))) inv.forest (c.in_ok-add_step.ensures.found k gathered.rising) gathered.there in
-    let found = step_found trees axis test ns items c.loop-context.found.items new c.loop-context.context-index old.tree old.places.items (omega arith) gathered last members in
-    c.merge.ensures.nodes trees (step_there trees axis test ns new have found) ∙ step_nodes trees axis test ns new have found)
+    let copied = c.in_ok-extend_from_slice.ensures.items ∙ ap (λ xs. xs ++ ns) c.in_ok-contexts.ensures.items in
+    let same : AreSame c.deref.result.now ns = subst (λ xs. AreSame xs ns) (sym c.deref.ensures.value) (subst (λ xs. (n : Node) → Contains c.merge.result.items n ↔ Contains xs n) copied c.merge.ensures.members) in
+    let rising = subst (λ xs. AreRising xs) (sym c.deref.ensures.value) c.merge.ensures.rising in
+    c.step_from-2.ensures.nodes k rising ns same have)
 
 pub returns-clause-there : goal.returns-clause-there
 returns-clause-there g c = λ k have. (
-    let inv = c.loop-context.invariant in
-    let trees = g.L.TreeSource.forest c.args.source.now in
-    let axis = c.args.axis in
-    let test = c.args.test.now in
-    let items = c.deref-context-items.result.now in
     let ns = c.args.nodes.now in
-    let old = c.loop-context.gathered in
-    let new = c.add_step.new.found.items in
-    let copied = c.in_ok-extend_from_slice.ensures.items ∙ ap (λ xs. xs ++ ns) c.in_ok-copies.ensures.items in
-    let members : (n : Node) → Contains items n ↔ Contains ns n = subst (λ xs. (n : Node) → Contains xs n ↔ Contains ns n) (sym c.deref-context-items.ensures.value) (subst (λ xs. (n : Node) → Contains c.merge-contexts.result.items n ↔ Contains xs n) copied c.merge-contexts.ensures.members) in
-    let gathered = inv.gathered (c.in_ok-add_step.ensures.was_clean k) (have_same trees ns items have (λ n. (members n).0)) in
-    let last = subst (λ f. AreThere f old.tree old.places.items → (p : Node → Bool) → list_any p new ≡ (list_any p c.loop-context.found.items || list_any (is_found_from f axis test p) (map (spot old.tree) old.places.items))) inv.forest (c.in_ok-add_step.ensures.found k gathered.rising) gathered.there in
-    let found = step_found trees axis test ns items c.loop-context.found.items new c.loop-context.context-index old.tree old.places.items (omega arith) gathered last members in
-    have_same trees new c.merge.result.items (step_there trees axis test ns new have found) (λ n. (c.merge.ensures.members n).0))
+    let copied = c.in_ok-extend_from_slice.ensures.items ∙ ap (λ xs. xs ++ ns) c.in_ok-contexts.ensures.items in
+    let same : AreSame c.deref.result.now ns = subst (λ xs. AreSame xs ns) (sym c.deref.ensures.value) (subst (λ xs. (n : Node) → Contains c.merge.result.items n ↔ Contains xs n) copied c.merge.ensures.members) in
+    let rising = subst (λ xs. AreRising xs) (sym c.deref.ensures.value) c.merge.ensures.rising in
+    c.step_from-2.ensures.there k rising ns same have)
 
 pub returns-clause-rows : goal.returns-clause-rows
-returns-clause-rows g c = λ k one all. (
-    let inv = c.loop-context.invariant in
-    let trees = g.L.TreeSource.forest c.args.source.now in
-    let axis = c.args.axis in
-    let items = c.deref-context-items.result.now in
+returns-clause-rows g c = λ k tree all. (
     let ns = c.args.nodes.now in
-    let copied = c.in_ok-extend_from_slice.ensures.items ∙ ap (λ xs. xs ++ ns) c.in_ok-copies.ensures.items in
-    let members : (n : Node) → Contains items n ↔ Contains ns n = subst (λ xs. (n : Node) → Contains xs n ↔ Contains ns n) (sym c.deref-context-items.ensures.value) (subst (λ xs. (n : Node) → Contains c.merge-contexts.result.items n ↔ Contains xs n) copied c.merge-contexts.ensures.members) in
-    let old = c.loop-context.gathered in
-    let index = c.loop-context.context-index in
-    let ones = still_one one ns items all (λ n. (members n).0) in
-    let are = inv.kept one ones in
-    let up = kept_rises items index old.tree old.places.items are (subst (λ xs. AreRising xs) (sym c.deref-context-items.ensures.value) c.merge-contexts.ensures.rising) in
-    let before = inv.rows (c.in_ok-add_step.ensures.was_clean k) one ones in
-    let read = subst (λ f. (g.L.TreeSource.meter c.add_step.new.source).rows ≤ (g.L.TreeSource.meter c.loop-context.source).rows + length (region axis (tree_at f old.tree) old.places.items)) inv.forest (c.in_ok-add_step.ensures.rows k up) in
-    let most = kept_region items index old.tree old.places.items are axis trees one ns (omega arith) all members in
-    omega (arith, before, read, most))
-
-pub returns-clause-singles : goal.returns-clause-singles
-returns-clause-singles g c = (
-    let before = c.loop-context.invariant.singles in
-    let more = c.in_ok-add_step.ensures.singles in
-    let copied = c.in_ok-extend_from_slice.ensures.items ∙ ap (λ xs. xs ++ c.args.nodes.now) c.in_ok-copies.ensures.items in
-    let size = ap length copied in
-    let fewer = c.merge-contexts.ensures.fewer in
-    let same = ap length c.deref-context-items.ensures.value in
-    omega (arith, before, more, size, fewer, same))
-
-pub returns-in_err-add_step-clause-rows : goal.returns-in_err-add_step-clause-rows
-returns-in_err-add_step-clause-rows g c = λ k one all. (
-    let inv = c.loop-context.invariant in
-    let trees = g.L.TreeSource.forest c.args.source.now in
-    let axis = c.args.axis in
-    let items = c.deref-context-items.result.now in
-    let ns = c.args.nodes.now in
-    let copied = c.in_ok-extend_from_slice.ensures.items ∙ ap (λ xs. xs ++ ns) c.in_ok-copies.ensures.items in
-    let members : (n : Node) → Contains items n ↔ Contains ns n = subst (λ xs. (n : Node) → Contains xs n ↔ Contains ns n) (sym c.deref-context-items.ensures.value) (subst (λ xs. (n : Node) → Contains c.merge-contexts.result.items n ↔ Contains xs n) copied c.merge-contexts.ensures.members) in
-    let old = c.loop-context.gathered in
-    let index = c.loop-context.context-index in
-    let ones = still_one one ns items all (λ n. (members n).0) in
-    let are = inv.kept one ones in
-    let up = kept_rises items index old.tree old.places.items are (subst (λ xs. AreRising xs) (sym c.deref-context-items.ensures.value) c.merge-contexts.ensures.rising) in
-    let before = inv.rows (c.in_err-add_step.ensures.was_clean k) one ones in
-    let read = subst (λ f. (g.L.TreeSource.meter c.add_step.new.source).rows ≤ (g.L.TreeSource.meter c.loop-context.source).rows + length (region axis (tree_at f old.tree) old.places.items)) inv.forest (c.in_err-add_step.ensures.rows k up) in
-    let most = kept_region items index old.tree old.places.items are axis trees one ns (omega arith) all members in
-    omega (arith, before, read, most))
-
-pub returns-in_err-add_step-clause-singles : goal.returns-in_err-add_step-clause-singles
-returns-in_err-add_step-clause-singles g c = (
-    let before = c.loop-context.invariant.singles in
-    let more = c.in_err-add_step.ensures.singles in
-    let copied = c.in_ok-extend_from_slice.ensures.items ∙ ap (λ xs. xs ++ c.args.nodes.now) c.in_ok-copies.ensures.items in
-    let size = ap length copied in
-    let fewer = c.merge-contexts.ensures.fewer in
-    let same = ap length c.deref-context-items.ensures.value in
-    omega (arith, before, more, size, fewer, same))
-
-pub returns-in_err-gather-clause-rows : goal.returns-in_err-gather-clause-rows
-returns-in_err-gather-clause-rows g c = λ k one all. (
-    let inv = c.loop-context.invariant in
-    let trees = g.L.TreeSource.forest c.args.source.now in
-    let axis = c.args.axis in
-    let items = c.deref-context-items.result.now in
-    let ns = c.args.nodes.now in
-    let copied = c.in_ok-extend_from_slice.ensures.items ∙ ap (λ xs. xs ++ ns) c.in_ok-copies.ensures.items in
-    let members : (n : Node) → Contains items n ↔ Contains ns n = subst (λ xs. (n : Node) → Contains xs n ↔ Contains ns n) (sym c.deref-context-items.ensures.value) (subst (λ xs. (n : Node) → Contains c.merge-contexts.result.items n ↔ Contains xs n) copied c.merge-contexts.ensures.members) in
-    let index = c.loop-context.context-index in
-    let x : Node = get_or items index (record { tree = 0; pre = 0 }) in
-    let at : IsAt items index x = record { within = omega arith; is = default_at items index (record { tree = 0; pre = 0 }) x (omega arith) } in
-    let ones = still_one one ns items all (λ n. (members n).0) in
-    let before = inv.rows (c.in_err-gather.ensures.was_clean k) one ones in
-    let read = c.in_err-gather.ensures.rows k items index one ones at (inv.kept one ones) in
-    omega (arith, before, read))
-
-pub returns-in_err-gather-clause-singles : goal.returns-in_err-gather-clause-singles
-returns-in_err-gather-clause-singles g c = (
-    let before = c.loop-context.invariant.singles in
-    let more = c.in_err-gather.ensures.singles in
-    let copied = c.in_ok-extend_from_slice.ensures.items ∙ ap (λ xs. xs ++ c.args.nodes.now) c.in_ok-copies.ensures.items in
-    let size = ap length copied in
-    let fewer = c.merge-contexts.ensures.fewer in
-    let same = ap length c.deref-context-items.ensures.value in
-    omega (arith, before, more, size, fewer, same))
+    let copied = c.in_ok-extend_from_slice.ensures.items ∙ ap (λ xs. xs ++ ns) c.in_ok-contexts.ensures.items in
+    let same : AreSame c.deref.result.now ns = subst (λ xs. AreSame xs ns) (sym c.deref.ensures.value) (subst (λ xs. (n : Node) → Contains c.merge.result.items n ↔ Contains xs n) copied c.merge.ensures.members) in
+    let rising = subst (λ xs. AreRising xs) (sym c.deref.ensures.value) c.merge.ensures.rising in
+    c.step_from-2.ensures.rows k rising ns same tree all)

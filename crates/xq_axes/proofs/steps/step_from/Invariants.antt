@@ -1,8 +1,8 @@
 use Rattle.std.proofs.Common.{◌≡◌, ◌≤◌, ◌+◌, ℕ, length}
-use Rattle.xq_axes.specs.Nodes.{HaveAll}
+use Rattle.xq_axes.specs.Nodes.{AreRising, HaveAll}
 use Rattle.xq_axes.specs.Scans.{AreOf}
 use Rattle.xq_axes.specs.private.Many.{IsGathered, AreKept}
-use Rattle.xq_axes.proofs.steps.step.Given as goal
+use Rattle.xq_axes.proofs.steps.step_from.Given as goal
 
 -- the contexts so far were gathered, and where they are of one tree nothing was read yet
 abbrev pub invariant-loop-context : goal.invariant-loop-context
@@ -12,9 +12,10 @@ invariant-loop-context g l =
       forest : g.L.TreeSource.forest l.source ≡ trees;
       clean : g.L.TreeSource.is_clean l.source → g.L.TreeSource.is_clean l.initial.source;
       rows :
-          g.L.TreeSource.is_clean l.source → (one : ℕ) → AreOf one l.context-items
+          g.L.TreeSource.is_clean l.source → (one : ℕ) → AreOf one l.contexts
           → (g.L.TreeSource.meter l.source).rows ≤ (g.L.TreeSource.meter l.initial.source).rows;
-      kept : (one : ℕ) → AreOf one l.context-items → AreKept l.context-items l.context-index l.gathered.tree l.gathered.places.items;
+      kept : (one : ℕ) → AreOf one l.contexts → AreKept l.contexts l.context-index l.gathered.tree l.gathered.places.items;
       singles : (g.L.TreeSource.meter l.source).singles + length l.gathered.places.items ≤ (g.L.TreeSource.meter l.initial.source).singles + l.context-index;
-      gathered : g.L.TreeSource.is_clean l.source → HaveAll trees l.context-items → IsGathered trees l.axis l.test l.context-items l.context-index l.gathered.tree l.gathered.places.items l.found.items;
+      gathered : g.L.TreeSource.is_clean l.source → AreRising l.contexts → HaveAll trees l.contexts
+          → IsGathered trees l.axis l.test l.contexts l.context-index l.gathered.tree l.gathered.places.items l.found.items;
     }
