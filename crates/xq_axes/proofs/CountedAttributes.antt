@@ -16,7 +16,7 @@ use Rattle.xq_axes.specs.private.Reads.{span, span_end}
 use Rattle.xq_axes.specs.private.Hits.{is_hit, is_wanted, below_where, AreUnhit, IsRising}
 use Rattle.xq_axes.specs.private.Downward.{level_of}
 use Rattle.xq_axes.specs.private.Waiting.{IsParent}
-use Rattle.xq_axes.specs.private.Counted.{AreCounted}
+use Rattle.xq_axes.specs.private.Counted.{AreCounted, AreHits}
 use Rattle.xq_axes.specs.declared.attributes.Counted.{Counted}
 use Rattle.xq_axes.proofs.Lists.{any_from, any_none}
 use Rattle.xq_axes.proofs.Sizes.{node_of}
@@ -142,7 +142,25 @@ all_hit t vs index next number low high after r p a b =
     let y = r.high_is in
     any_from (λ w. in_region axis.Attributes (rows t) w p) vs index 0 r.here (counted_are t r.is_tree (get_or vs index 0) number r.are p (omega (arith, a, x)) (omega (arith, b, y)))
 
-pub read_end : (t : Tree) (vs : List ℕ) (index next number low high after : ℕ) → IsAsked t vs index next number low high after → span_end t (span low high) ≡ after
+pub are_hits : (t : Tree) (vs : List ℕ) (index next number low high after : ℕ) → IsAsked t vs index next number low high after → AreHits t vs low high
+are_hits t vs index next number low high after r =
+    let x = r.low_is in
+    let y = r.high_is in
+    record {
+      there = λ _. (let e = counted_end t r.is_tree (get_or vs index 0) number r.are in omega (arith, e, y));
+      hits = all_hit t vs index next number low high after r;
+      none_plain = λ p a b. r.are.are p (omega (arith, a, x)) (omega (arith, b, y));
+    }
+
+pub asked_end : (t : Tree) (vs : List ℕ) (index next number low high after : ℕ) → IsAsked t vs index next number low high after → max low (high + 1) ≡ after
+asked_end t vs index next number low high after r =
+    let x = r.low_is in
+    let y = r.high_is in
+    let z = r.after_is in
+    let s = r.some in
+    omega (arith, x, y, z, s)
+
+read_end : (t : Tree) (vs : List ℕ) (index next number low high after : ℕ) → IsAsked t vs index next number low high after → span_end t (span low high) ≡ after
 read_end t vs index next number low high after r =
     let x = r.low_is in
     let y = r.high_is in

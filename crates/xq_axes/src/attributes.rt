@@ -1,12 +1,13 @@
 //! The attribute axis.
-ghost use Rattle.std.specs.Prelude.{◌≡◌, ◌+◌, ◌≤◌, ℕ, true, length, IfOk, IfSome};
+ghost use Rattle.std.specs.Prelude.{◌≡◌, ◌+◌, ◌-◌, ◌≤◌, ℕ, Bool, true, length, max, IfOk, IfSome, OnOk};
 ghost use Rattle.xq_regions.specs.Forest.{count};
 ghost use Rattle.xq_regions.specs.Tree.{nodes};
 ghost use Rattle.xq_regions.specs.declared.Axis.TheVariants as axes;
 ghost use Rattle.xq_sources.specs.Sources.{tree_at};
 ghost use Rattle.xq_axes.specs.Scans.{region};
 ghost use Rattle.xq_axes.specs.private.Hits.{is_hit as is_hit_lem, is_wanted, below_where, IsRising};
-ghost use Rattle.xq_axes.specs.private.Counted.{AreCounted};
+ghost use Rattle.xq_axes.specs.private.Reads.{span, span_end};
+ghost use Rattle.xq_axes.specs.private.Counted.{passes_each as passes_each_lem, AreAll, AreCounted, AreHits};
 
 use crate::downward::{ToAttributes, search_below};
 use crate::picks::{Judge, Picker, Verdict};
@@ -73,6 +74,56 @@ fn told_attributes<L: RowLender>(
     Ok(Some(counted))
 }
 
+/// Whether each attribute passes the test, whatever its name.
+fn passes_each(test: &Test) -> bool
+    ensures { result ≡ passes_each_lem test.now }
+{
+    matches!(test, Test::Any | Test::Attribute(None))
+}
+
+/// Adds the places from `low` to `high`.
+fn add_places(places: &mut Vec<u32>, low: u32, high: u32) -> Result<(), Want>
+    ensures { (wanted : ℕ → Bool) → AreAll wanted low high
+        → places.old.items ≡ below_where wanted low
+        → OnOk result (places.new.items ≡ below_where wanted (max low (high + 1))) }
+{
+    for place in low..=high {
+        places.push(place)?;
+    }
+    Ok(())
+}
+
+/// Takes the attributes of contexts whose rows are those from `low` to `high`, where they pass the
+/// test. Their rows are read only where the test asks for a name.
+fn take_attributes<L: RowLender>(
+    alloc: Global,
+    source: &mut L,
+    tree: usize,
+    low: u32,
+    high: u32,
+    picker: &mut Picker<'_, OfContexts<'_>>,
+) -> Result<(), Want>
+    ensures found { L.is_clean source.new
+        → let t = tree_at (L.forest source.old) tree in
+        let vs = picker.old.judge.places.now in
+        let wanted = is_wanted axes.Attributes picker.old.test.now t vs in
+        AreHits t vs low high → picker.old.found.items ≡ below_where wanted low
+        → OnOk result ((picker.new.judge.places.now ≡ vs)
+        × (picker.new.test.now ≡ picker.old.test.now)
+        × (picker.new.found.items ≡ below_where wanted (max low (high + 1)))) }
+    ensures rows { L.is_clean source.new
+        → (L.meter source.new).rows ≤ (L.meter source.old).rows
+        + (span_end (tree_at (L.forest source.old) tree) (span low high) - low) }
+    ensures singles { (L.meter source.new).singles ≡ (L.meter source.old).singles }
+    ensures keeps { L.forest source.new ≡ L.forest source.old }
+    ensures was_clean { L.is_clean source.new → L.is_clean source.old }
+{
+    if passes_each(picker.test) {
+        return add_places(&mut picker.found, low, high);
+    }
+    walk(alloc, source, tree, low, high, picker)
+}
+
 /// How many rows there are at least for each context, where the contexts are far apart.
 const FAR: u32 = 3;
 
@@ -126,7 +177,7 @@ pub fn search_attributes<L: RowLender>(
         }
         let low = next.max(node.place.saturating_add(1));
         let high = node.place.saturating_add(node.number);
-        walk(alloc, source, tree, low, high, &mut picker)?;
+        take_attributes(alloc, source, tree, low, high, &mut picker)?;
         next = next.max(high.saturating_add(1));
     }
     Ok(picker.found)

@@ -1,5 +1,5 @@
 -- Loops that stop at the first refusal, over a state of any kind.
-use Rattle.std.proofs.Common.{◌≡◌, ℕ, suc, ◌+◌, ◌<◌, zero, ◌≤◌, List, [], ◌∷◌, length, map, drop, get_or, refl, sym, ◌∙◌, ap, subst, add-one, arith, Ok, Err, Some, Result, Bool, true, false}
+use Rattle.std.proofs.Common.{◌≡◌, ℕ, suc, ◌+◌, ◌<◌, zero, List, [], ◌∷◌, length, map, drop, get_or, refl, sym, ◌∙◌, ap, subst, add-one, arith, Ok, Err, Some, Result, Bool, true, false}
 use Rattle.std.specs.Prelude.{IsErrAnd, slice_get, if◌then◌else◌}
 use Rattle.std.proofs.lemmas.Option.{none-some, same_Some}
 use Rattle.std.proofs.Math.Seq.{drop-cons}

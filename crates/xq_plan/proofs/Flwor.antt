@@ -1,7 +1,7 @@
 -- Clauses over tuples of slots follow the clauses over streams of names.
-use Rattle.std.proofs.Common.{◌≡◌, ℕ, ◌+◌, List, [], ◌∷◌, ◌++◌, map, length, Bool, true, false, Option, Some, None, Ok, Err, refl, sym, ap, ◌∙◌, subst, arith}
-use Rattle.std.specs.List.{AllByRecursion, zip}
-use Rattle.std.proofs.lemmas.List.{length-append, append_assoc, map-append}
+use Rattle.std.proofs.Common.{◌≡◌, ℕ, ◌+◌, List, [], ◌∷◌, ◌++◌, map, length, Option, Some, None, Ok, Err, refl, sym, ap, ◌∙◌, subst}
+use Rattle.std.specs.List.{AllByRecursion}
+use Rattle.std.proofs.lemmas.List.{length-append, map-append}
 use Rattle.xq_atoms.specs.Text.{Text}
 use Rattle.xq_atoms.specs.declared.refusals.Code.{Code}
 use Rattle.xq_expressions.specs.declared.operators.OrderModifier.{OrderModifier}
@@ -20,7 +20,7 @@ use Rattle.xq_meaning.specs.declared.plans.PlanClause.{PlanClause}
 use Rattle.xq_meaning.specs.declared.plans.PlanClause.TheVariants as plan_clause
 use Rattle.xq_meaning.specs.Doing.{Doing, Outcome, go_on, give, judged, in_turn}
 use Rattle.xq_meaning.specs.Forms
-use Rattle.xq_meaning.specs.Meaning.{Environment, Stream, ClauseMeaning, bind_all, named, clauses, slot_of, position_name, is_asked}
+use Rattle.xq_meaning.specs.Meaning.{Environment, Stream, ClauseMeaning, named, clauses, slot_of, position_name, is_asked}
 use Rattle.xq_meaning.specs.Meaning as meaning
 use Rattle.xq_meaning.specs.CoreMeaning.{core_mean, core_clause_mean}
 use Rattle.xq_meaning.specs.PlanMeaning.{Slots, next_clause, plan_mean, plan_clause_mean}

@@ -1,11 +1,10 @@
 -- After a slash a step without predicates is a scan.
-use Rattle.std.proofs.Common.{◌≡◌, ℕ, suc, List, [], ◌∷◌, ◌++◌, map, length, Bool, true, false, Option, Some, None, Ok, Err, refl, sym, ap, ◌∙◌, append-nil, ◌⊎◌, inl, inr}
+use Rattle.std.proofs.Common.{◌≡◌, ℕ, suc, List, [], ◌∷◌, ◌++◌, map, length, Bool, true, false, Ok, Err, refl, sym, ap, ◌∙◌, append-nil, ◌⊎◌, inl, inr}
 use Rattle.std.specs.Prelude.{reverse, if◌then◌else◌}
 use Rattle.std.specs.List.{flat_map}
 use Rattle.std.proofs.lemmas.List.{reverse-append, reverse-reverse, map-append, append_assoc}
 use Rattle.std.proofs.lemmas.List.Concat.{flat_map-cons}
-use Rattle.xq_atoms.specs.Judged.{Judged, ◌>>=◌}
-use Rattle.xq_atoms.specs.Text.{Text}
+use Rattle.xq_atoms.specs.Judged.{◌>>=◌}
 use Rattle.xq_atoms.specs.declared.refusals.Code.{Code}
 use Rattle.xq_atoms.specs.declared.refusals.Code.TheVariants.{XPTY0018, XPTY0019}
 use Rattle.xq_regions.specs.declared.Axis.{Axis}
@@ -18,7 +17,6 @@ use Rattle.xq_values.specs.Operators.{gathered, nodes_or_atoms, in_order}
 use Rattle.xq_values.specs.Steps.{focuses, focuses_from, is_reverse, in_axis_order, axis_nodes}
 use Rattle.xq_meaning.specs.Doing.{Doing, go_on, give, in_turn, more, collected, on_trees, judged}
 use Rattle.xq_meaning.specs.Forms
-use Rattle.xq_meaning.proofs.SameForms.{go_on_same}
 
 map-reverse : {A B : Type 0} (f : A → B) (xs : List A) → map f (reverse xs) ≡ reverse (map f xs)
 map-reverse f [] = refl

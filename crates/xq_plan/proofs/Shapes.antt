@@ -13,10 +13,10 @@ use Rattle.xq_meaning.specs.declared.plans.PlanClause.{PlanClause}
 use Rattle.xq_meaning.specs.declared.plans.Plan.TheVariants as plan
 use Rattle.xq_meaning.specs.declared.plans.PlanStep.{PlanStep}
 use Rattle.xq_meaning.specs.declared.plans.PlanStep.TheVariants as step
-use Rattle.xq_plan.specs.Scans.{path_of_steps, path_of_scans, ScansDocument}
+use Rattle.xq_plan.specs.Scans.{ScansDocument}
 use Rattle.xq_meaning.specs.Same.{IsPlan}
 use Rattle.xq_plan.specs.private.Plans.{AreAll, IsStep}
-use Rattle.xq_plan.specs.private.Shapes.{Where, Form, literal, plain_step, IsLiteral, IsCallOf, IsCall, IsPlainStep, IsScan, BecomesScan, IsPath, HasShapeOf, HasShape}
+use Rattle.xq_plan.specs.private.Shapes.{Where, Form, literal, plain_step, IsLiteral, IsCallOf, IsPlainStep, IsScan, BecomesScan, IsPath, HasShapeOf, HasShape}
 
 -- a part with its plan, and a part after a slash
 abbrev pub IsPart : List Text → Core → Plan → Type 0

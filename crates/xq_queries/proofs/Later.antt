@@ -1,9 +1,8 @@
 -- The faults of a text's characters are other ones than those of requests and of bytes.
-use Rattle.std.proofs.Common.{◌≡◌, ℕ, pos, nat_lt, length, List, [], ◌∷◌, ◌++◌, refl, sym, ◌∙◌, ap, subst, Bool, true, false, if◌then◌else◌, Option, Some, None, Result, Ok, Err, inl, inr, codes}
+use Rattle.std.proofs.Common.{◌≡◌, ℕ, pos, nat_lt, length, List, [], ◌∷◌, ◌++◌, refl, sym, ◌∙◌, ap, subst, Bool, true, false, if◌then◌else◌, Option, Some, None, Result, Err, inl, inr, codes}
 use Rattle.std.specs.Option.{option_or}
-use Rattle.std.specs.Str.{IsUtf8}
 use Rattle.xq_atoms.specs.declared.refusals.Code.{Code}
-use Rattle.xq_atoms.specs.declared.refusals.Code.TheVariants.{XPST0003, XPST0008, XPST0017, XQST0089, XQST0090, XQST0094, FOAR0002, ProfUtf8, ProfDepth, ProfDigits, ProfDouble, ProfPrefix, ProfType, ProfFrame, ProfAddress}
+use Rattle.xq_atoms.specs.declared.refusals.Code.TheVariants.{XPST0003, XPST0008, XPST0017, XQST0089, XQST0090, XQST0094, FOAR0002, ProfUtf8, ProfDepth, ProfDigits, ProfDouble, ProfPrefix, ProfFrame, ProfAddress}
 use Rattle.xq_atoms.specs.Atom.{is_integer}
 use Rattle.xq_atoms.specs.Decimal.{is_decimal}
 use Rattle.xq_atoms.specs.Judged.{only_if}
@@ -14,13 +13,12 @@ use Rattle.xq_signatures.specs.Signatures.{arity, admits, in_library, of_type}
 use Rattle.xq_lexer.specs.Lexeme.{Lex}
 use Rattle.xq_lexer.specs.Chars.{begins}
 use Rattle.xq_lexer.specs.Literals.{Number, integer, decimal, begins_exponent, clings, code_of, value_fault, follow_fault, number_fault, first_fault as first_of}
-use Rattle.xq_lexer.specs.TokenFaults.{ContentFault, FaultHere, HasFault, TokenFault}
-use Rattle.xq_expressions.specs.declared.names.QName.{QName}
+use Rattle.xq_lexer.specs.TokenFaults.{ContentFault, FaultHere, TokenFault}
 use Rattle.xq_statics.specs.Places.{Place, named, position, variable, grouping, call}
 use Rattle.xq_statics.specs.Faults.{is_among, unless, unprefixed, position_fault, arity_fault, type_fault, call_fault, fault_at, first_fault}
 use Rattle.xq_statics.specs.Statics.{places, static_fault}
 use Rattle.xq_queries.specs.Texts.{characters}
-use Rattle.xq_queries.specs.Reading.{lexemes, TokensFault, CharactersFault, IsEarly, Reads, FaultsComeLater}
+use Rattle.xq_queries.specs.Reading.{lexemes, TokensFault, CharactersFault, IsEarly, FaultsComeLater}
 
 abbrev is_late : Code → Bool
 is_late ProfFrame = false

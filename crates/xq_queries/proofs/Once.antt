@@ -1,5 +1,5 @@
 -- A text has one reading.
-use Rattle.std.proofs.Common.{◌≡◌, ℕ, List, refl, sym, ◌∙◌, ap, subst, arith, Ok, Err, Some, None, inl, inr}
+use Rattle.std.proofs.Common.{◌≡◌, ℕ, List, sym, ◌∙◌, ap, subst, arith, Ok, Err, Some, None, inl, inr}
 use Rattle.xq_atoms.specs.declared.refusals.Code.{Code}
 use Rattle.xq_atoms.specs.Judged.{Judged}
 use Rattle.xq_expressions.specs.declared.expressions.Expr.{Expr}
@@ -9,7 +9,7 @@ use Rattle.xq_lexer.proofs.Lists.{spells_one, spells_no_fault, one_fault}
 use Rattle.xq_grammar.proofs.Top.{derives_one}
 use Rattle.xq_statics.specs.Statics.{static_fault}
 use Rattle.xq_queries.specs.Texts.{characters}
-use Rattle.xq_queries.specs.Reading.{lexemes, TokensFault, TokensRead, CharactersFault, IsRead, IsRefused, Reads, ReadsAtMostOnce}
+use Rattle.xq_queries.specs.Reading.{lexemes, TokensFault, TokensRead, CharactersFault, IsRead, IsRefused, Reads}
 
 -- ---- tokens
 

@@ -1,14 +1,12 @@
 -- The steps of reading, one after another.
-use Rattle.std.proofs.Common.{◌≡◌, ◌≤◌, ℕ, List, [], ◌∷◌, map, refl, sym, ◌∙◌, ap, ap₂, subst, Some, None, Ok, Err, Result, inl, inr, IsErrAnd}
+use Rattle.std.proofs.Common.{◌≡◌, ◌≤◌, ℕ, List, [], ◌∷◌, refl, sym, ◌∙◌, ap, subst, None, Ok, Err, Result, inl, inr, IsErrAnd}
 use Rattle.std.specs.Str.{IsUtf8}
 use Rattle.xq_atoms.specs.declared.refusals.Code.TheVariants.{XPST0003, ProfDepth}
 use Rattle.xq_atoms.specs.declared.refusals.Fault.{Fault}
 use Rattle.xq_atoms.specs.declared.refusals.Fault.TheVariants.{Code as OfCode, Want as OfWant}
 use Rattle.xq_atoms.specs.declared.refusals.Want.TheVariants.{Memory, Store}
-use Rattle.xq_regions.specs.Tree.{Tree}
-use Rattle.xq_atoms.specs.Text.{Text}
 use Rattle.xq_lexer.specs.declared.tokens.Token.{Token}
-use Rattle.xq_lexer.specs.Lexeme.{Lex, Placed, placed, place_of, lex_of, lexemes as token_lexemes}
+use Rattle.xq_lexer.specs.Lexeme.{Lex, placed, lex_of, lexemes as token_lexemes}
 use Rattle.xq_lexer.specs.Nesting.{nesting}
 use Rattle.xq_lexer.specs.Spelling.{Spells}
 use Rattle.xq_lexer.specs.TokenFaults.{Refuses}

@@ -1,7 +1,7 @@
 -- The expression that a text is read as, or the code for which it is refused before anything is
 -- evaluated (XQuery 3.1, 2.2.3.1): in this order its bytes, tokens, nesting, grammar and static
 -- faults are judged.
-use Rattle.std.specs.Prelude.{◌≡◌, ◌⊎◌, ◌≤◌, ◌<◌, ℕ, List, map, Result, Ok, Err, Some, None}
+use Rattle.std.specs.Prelude.{◌≡◌, ◌⊎◌, ◌≤◌, ◌<◌, ℕ, List, map, Ok, Err, Some, None}
 use Rattle.std.specs.Str.{IsUtf8}
 use Rattle.xq_atoms.specs.declared.refusals.Code.{Code}
 use Rattle.xq_atoms.specs.declared.refusals.Code.TheVariants.{XPST0003, ProfAddress, ProfDepth, ProfFrame, ProfUtf8}

@@ -1,5 +1,5 @@
 -- Each way to tell a request its answer is one of those of a step.
-use Rattle.std.proofs.Common.{◌≡◌, ℕ, ◌<◌, ◌≤◌, List, length, refl, sym, ◌∙◌, ap, subst, rules, None, Some, Ok, Err, Result, inl, inr, nat_le, cond, true, false, Bool, IsTrue, IsErrAnd, MatchResult, IsOk, arith, zero, suc, [], ◌∷◌, get_or, All, nat_cmp, Option, is_some, String, Global, string_bytes, codes, if◌then◌else◌}
+use Rattle.std.proofs.Common.{◌≡◌, ℕ, ◌<◌, List, length, refl, sym, ◌∙◌, ap, subst, None, Some, Ok, Err, Result, inl, inr, nat_le, cond, true, false, Bool, IsTrue, IsErrAnd, MatchResult, IsOk, arith, zero, suc, [], ◌∷◌, get_or, All, nat_cmp, Option, is_some, String, Global, string_bytes, codes, if◌then◌else◌}
 use Rattle.std.specs.FinMap.{get, insert, remove, contains_key, keys, values, get-remove, same_map, slice_cmp-IsAntisymmetric, nat_cmp-IsAntisymmetric}
 use Rattle.std.specs.Cmp.Lexicographic.{slice_cmp, nat_list_cmp_total}
 use Rattle.std.specs.Ordering.{is_eq, eq_by_cmp}
@@ -24,11 +24,10 @@ use Rattle.xq_rows.specs.Documents.{Map}
 use Rattle.xq_rows.specs.declared.stores.Put.TheVariants.{Stored as Fresh, Replaced as Other}
 use Rattle.xq_frame.specs.Request.{Asked, query, put, remove as remove_one}
 use Rattle.xq_service.specs.Meaning.{value}
-use Rattle.xq_service.specs.Answer.{Outcome, Answers, CarriesOut, Refuses, told, done, refused, longest_text, queried, stored, set_to, put_word, removed_if}
+use Rattle.xq_service.specs.Answer.{Outcome, Answers, CarriesOut, Refuses, done, refused, longest_text, queried, stored, set_to, put_word, removed_if}
 use Rattle.xq_service.specs.Step.{MayWant}
 use Rattle.xq_service.specs.private.Work.{Tells, Understands, Makes, MakesText, MakesDocument}
-use Rattle.xq_service.specs.declared.answers.Answer.{Answer}
-use Rattle.xq_service.specs.declared.answers.Answer.TheVariants.{Text, Stored, Replaced, Dropped}
+use Rattle.xq_service.specs.declared.answers.Answer.TheVariants.{Text}
 use Rattle.xq_service.proofs.Once.{not_both}
 
 -- any want may come where nothing is refused before the documents matter

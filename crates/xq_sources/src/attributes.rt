@@ -1,6 +1,7 @@
 //! How many attributes a node has, by the rows after its own.
-ghost use Rattle.std.specs.Prelude.{◌≡◌, not, map, IfSome};
+ghost use Rattle.std.specs.Prelude.{◌≡◌, ◌<◌, true, length, map, IfSome};
 ghost use Rattle.xq_regions.specs.Rows.{row_of};
+ghost use Rattle.xq_regions.specs.RegionTests.{plain_row};
 ghost use Rattle.xq_regions.specs.Tree.{is_attribute};
 ghost use Rattle.xq_sources.specs.AttributeRows.{AreAttributeRows};
 
@@ -13,13 +14,28 @@ fn is_of_attribute(row: &NodeRow) -> bool
     matches!(row.kind, Kind::Attribute)
 }
 
+/// Whether there is a row at the place, and it is that of no attribute.
+fn is_plain_at(rows: &[NodeRow], place: usize) -> bool
+    ensures { result ≡ true → (place < length (map row_of rows.now))
+        × (plain_row (map row_of rows.now) place ≡ true) }
+{
+    match rows.get(place) {
+        Some(row) => !is_of_attribute(row),
+        None => false,
+    }
+}
+
 /// How many attributes the node has; none where the rows, which are the first of a tree, don't
 /// tell it.
 pub fn count_attributes(rows: &[NodeRow], node: u32) -> Option<u32>
     ensures { IfSome result (λ number. AreAttributeRows (map row_of rows.now) node number) }
 {
-    let row = rows.get(node as usize)?;
     let first = node as usize + 1;
+    // Most nodes have none, which the next row alone tells: their own needs no look.
+    if is_plain_at(rows, first) {
+        return Some(0);
+    }
+    let row = rows.get(node as usize)?;
     for number in 0..row.size {
         let next = rows.get(first + number as usize)?;
         if !is_of_attribute(next) {

@@ -1,5 +1,5 @@
 -- A key that is read at its place.
-use Rattle.std.proofs.Common.{◌≡◌, ℕ, zero, suc, ◌≤◌, List, [], ◌∷◌, length, get_or, Option, Some, None, Bor, ltb, refl, ap, sym, ◌∙◌, arith}
+use Rattle.std.proofs.Common.{◌≡◌, ℕ, List, length, get_or, Option, Some, None, Bor, ltb, ap, sym, ◌∙◌}
 use borrow.Author.Tests.{ltb-true, ltb-false}
 use Rattle.std.specs.Option.{option_map, is_some, IfSome}
 use Rattle.std.specs.List.{slice_get}

@@ -1,6 +1,6 @@
 -- What the parts of a plan are to the parts of its normal form, as the functions of the walk take
 -- them. The names in scope are those of the slots that are open.
-use Rattle.std.specs.Prelude.{◌≡◌, ◌≤◌, ℕ, List, [], ◌∷◌, ◌++◌, map, length, take, drop, Bool, true, false, Option, Ok, Err}
+use Rattle.std.specs.Prelude.{◌≡◌, ◌≤◌, ℕ, List, [], ◌∷◌, ◌++◌, map, length, take, drop, Option, Ok, Err}
 use Rattle.std.specs.List.{AllByRecursion}
 use Rattle.xq_atoms.specs.Text.{Text}
 use Rattle.xq_expressions.specs.declared.operators.OrderModifier.{OrderModifier}

@@ -1,5 +1,5 @@
 -- Which form a plan has, where its normal form is a string, a call, a step or a path.
-use Rattle.std.specs.Prelude.{◌≡◌, List, [], ◌∷◌, Option, Some, None}
+use Rattle.std.specs.Prelude.{◌≡◌, List, [], Option, Some, None}
 use Rattle.xq_atoms.specs.Text.{Text}
 use Rattle.xq_regions.specs.declared.Axis.{Axis}
 use Rattle.xq_signatures.specs.declared.Function.{Function}

@@ -1,9 +1,8 @@
 -- What the parts of a step ensure, before the reply is written.
-use Rattle.std.specs.Prelude.{◌≡◌, ℕ, ◌<◌, ◌≤◌, List, ◌∷◌, ◌++◌, length, Result, Ok, Err, String, codes, string_bytes, string_len, ◌⊎◌, ⊤}
+use Rattle.std.specs.Prelude.{◌≡◌, ℕ, ◌≤◌, List, ◌++◌, length, Result, Ok, Err, String, codes, string_bytes, string_len, ◌⊎◌, ⊤}
 use Rattle.std.specs.Global.{Global}
 use Rattle.xq_atoms.specs.Code.{code_text, want_text}
 use Rattle.xq_atoms.specs.declared.refusals.Code.{Code}
-use Rattle.xq_atoms.specs.declared.refusals.Code.TheVariants.{ProfReply}
 use Rattle.xq_atoms.specs.declared.refusals.Fault.{Fault}
 use Rattle.xq_atoms.specs.declared.refusals.Fault.TheVariants.{Code as OfCode, Want as OfWant}
 use Rattle.xq_atoms.specs.declared.refusals.Want.TheVariants.{Memory}

@@ -3,10 +3,10 @@ use Rattle.std.specs.Prelude.{IfSome}
 use Rattle.xq_regions.specs.declared.Axis.TheVariants as axis
 use Rattle.xq_sources.specs.Sources.{tree_at}
 use Rattle.xq_axes.specs.declared.attributes.Counted.{Counted}
-use Rattle.xq_axes.specs.private.Counted.{AreCounted}
+use Rattle.xq_axes.specs.private.Counted.{AreCounted, AreHits}
 use Rattle.xq_axes.specs.private.Reads.{span, span_end}
-use Rattle.xq_axes.specs.private.Hits.{is_hit, is_wanted, below_where}
-use Rattle.xq_axes.proofs.CountedAttributes.{IsAsked, none_yet, none_counted_of, asked, begins, all_hit, goes_on, all_so_far, read_rows, read_end}
+use Rattle.xq_axes.specs.private.Hits.{is_wanted, below_where}
+use Rattle.xq_axes.proofs.CountedAttributes.{IsAsked, none_yet, none_counted_of, asked, are_hits, asked_end, begins, goes_on, all_so_far, read_rows}
 use Rattle.xq_axes.proofs.Scans.{below_ends}
 use Rattle.xq_axes.specs.declared.downward.Downward.TheVariants.{Attribute}
 use Rattle.xq_axes.proofs.attributes.search_attributes.Goals as goal
@@ -40,44 +40,44 @@ loop-node-preserved g c =
     let high = c.saturating_add-high.result in
     let next = c.loop-node.next in
     let after = c.max-next.result in
-    let is : g.L.TreeSource.is_clean c.walk.new.source → IsAsked t vs i next x.number low high after = λ k.
-    asked t vs items i next _ _ low high after (told (inv.clean (c.in_ok-walk.ensures.was_clean k))) all (omega arith) c.if-node-eq0.false c.saturating_add.ensures c.max-low.ensures c.saturating_add-high.ensures c.saturating_add-in-loop-node.ensures c.max-next.ensures (inv.within (c.in_ok-walk.ensures.was_clean k)) in
+    let is : g.L.TreeSource.is_clean c.take_attributes.new.source → IsAsked t vs i next x.number low high after = λ k.
+    asked t vs items i next _ _ low high after (told (inv.clean (c.in_ok-take_attributes.ensures.was_clean k))) all (omega arith) c.if-node-eq0.false c.saturating_add.ensures c.max-low.ensures c.saturating_add-high.ensures c.saturating_add-in-loop-node.ensures c.max-next.ensures (inv.within (c.in_ok-take_attributes.ensures.was_clean k)) in
     record {
-      forest = c.in_ok-walk.ensures.keeps ∙ inv.forest;
-      clean = λ k. inv.clean (c.in_ok-walk.ensures.was_clean k);
-      singles = c.in_ok-walk.ensures.singles ∙ inv.singles;
+      forest = c.in_ok-take_attributes.ensures.keeps ∙ inv.forest;
+      clean = λ k. inv.clean (c.in_ok-take_attributes.ensures.was_clean k);
+      singles = c.in_ok-take_attributes.ensures.singles ∙ inv.singles;
       within = λ k. (is k).within;
       rows = λ k. (
-          let was = c.in_ok-walk.ensures.was_clean k in
-          let read = subst (λ w. (g.L.TreeSource.meter c.walk.new.source).rows ≤ (g.L.TreeSource.meter c.loop-node.source).rows + (span_end w (span low high) - low)) same (c.in_ok-walk.ensures.rows k) in
+          let was = c.in_ok-take_attributes.ensures.was_clean k in
+          let read = subst (λ w. (g.L.TreeSource.meter c.take_attributes.new.source).rows ≤ (g.L.TreeSource.meter c.loop-node.source).rows + (span_end w (span low high) - low)) same (c.in_ok-take_attributes.ensures.rows k) in
           let more = read_rows t vs i next x.number low high after (is k) in
           let so = inv.rows was in
           omega (arith, read, more, so));
       so_far = λ k up. (
-          let was = c.in_ok-walk.ensures.was_clean k in
+          let was = c.in_ok-take_attributes.ensures.was_clean k in
           let p = c.loop-node.picker in
-          let q = c.walk.new.visitor in
+          let q = c.take_attributes.new.picker in
           let test = c.args.test.now in
           let s = inv.so_far was up in
           let found = s.found in
-          let hit = all_hit t vs i next x.number low high after (is k) in
+          let asked_is = is k in
+          let hits = subst (λ w. AreHits w p.judge.places.now low high) (sym same) (subst (λ ws. AreHits t ws low high) (sym s.places) (are_hits t vs i next x.number low high after asked_is)) in
           let begin : p.found.items ≡ below_where (is_wanted axis.Attributes p.test.now u p.judge.places.now) low =
-          begins test t vs i next p.found.items up found x.number low high after (is k)
+          begins test t vs i next p.found.items up found x.number low high after asked_is
           ∙ ap (λ w. below_where (is_wanted axis.Attributes w t vs) low) (sym s.test) ∙ ap (λ w. below_where (is_wanted axis.Attributes p.test.now w vs) low) (sym same)
           ∙ ap (λ ws. below_where (is_wanted axis.Attributes p.test.now u ws) low) (sym s.places) in
-          let r = c.in_ok-walk.ensures.read k p ((refl, (λ n a b. subst (λ w. is_hit axis.Attributes w p.judge.places.now n ≡ true) (sym same) (subst (λ ws. is_hit axis.Attributes t ws n ≡ true) (sym s.places) (hit n a b)))), refl, begin) in
-          let places = r.0.0 ∙ s.places in
+          let r = c.in_ok-take_attributes.ensures.found k hits begin in
+          let places = r.0 ∙ s.places in
           let tests = r.1 ∙ s.test in
-          let end = ap (λ w. span_end w (span low high)) same ∙ read_end t vs i next x.number low high after (is k) in
+          let end = asked_end t vs i next x.number low high after asked_is in
           let now : q.found.items ≡ below_where (is_wanted axis.Attributes test t vs) after =
-          r.2 ∙ ap (λ w. below_where (is_wanted axis.Attributes w u p.judge.places.now) (span_end u (span low high))) s.test ∙ ap (λ w. below_where (is_wanted axis.Attributes test w p.judge.places.now) (span_end u (span low high))) same
-          ∙ ap (λ ws. below_where (is_wanted axis.Attributes test t ws) (span_end u (span low high))) s.places ∙ ap (below_where (is_wanted axis.Attributes test t vs)) end in
-          let asked_is = is k in
+          r.2 ∙ ap (λ w. below_where (is_wanted axis.Attributes w u p.judge.places.now) (max low (high + 1))) s.test ∙ ap (λ w. below_where (is_wanted axis.Attributes test w p.judge.places.now) (max low (high + 1))) same
+          ∙ ap (λ ws. below_where (is_wanted axis.Attributes test t ws) (max low (high + 1))) s.places ∙ ap (below_where (is_wanted axis.Attributes test t vs)) end in
           record { places = places; test = tests; found = goes_on test t vs i next p.found.items up found asked_is.is_tree asked_is.here x.number asked_is.are low high after q.found.items asked_is now });
     }
 
-pub returns-in_err-walk-clause-rows : goal.returns-in_err-walk-clause-rows
-returns-in_err-walk-clause-rows g c = λ k. (
+pub returns-in_err-take_attributes-clause-rows : goal.returns-in_err-take_attributes-clause-rows
+returns-in_err-take_attributes-clause-rows g c = λ k. (
     let inv = c.loop-node.invariant in
     let vs = c.args.places.now in
     let i = c.loop-node.node-index in
@@ -92,10 +92,10 @@ returns-in_err-walk-clause-rows g c = λ k. (
     let low = c.max-low.result in
     let high = c.saturating_add-high.result in
     let next = c.loop-node.next in
-    let was = c.in_err-walk.ensures.was_clean k in
+    let was = c.in_err-take_attributes.ensures.was_clean k in
     let last = min (high + 1) 4294967295 in
     let is = asked t vs items i next _ last low high (max next last) (told (inv.clean was)) all (omega arith) c.if-node-eq0.false c.saturating_add.ensures c.max-low.ensures c.saturating_add-high.ensures refl refl (inv.within was) in
-    let read = subst (λ w. (g.L.TreeSource.meter c.walk.new.source).rows ≤ (g.L.TreeSource.meter c.loop-node.source).rows + (span_end w (span low high) - low)) same (c.in_err-walk.ensures.rows k) in
+    let read = subst (λ w. (g.L.TreeSource.meter c.take_attributes.new.source).rows ≤ (g.L.TreeSource.meter c.loop-node.source).rows + (span_end w (span low high) - low)) same (c.in_err-take_attributes.ensures.rows k) in
     let more = read_rows t vs i next x.number low high (max next last) is in
     let so = inv.rows was in
     below_ends Attribute t vs (max next last) _ _ is.within (omega (arith, read, more, so)))

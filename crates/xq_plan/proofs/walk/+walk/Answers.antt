@@ -8,7 +8,7 @@ use Rattle.xq_meaning.specs.Same.{IsPlan}
 use Rattle.xq_plan.specs.private.Plans.{AreAll, AreRanges, AreClauses, IsClause, IsOperand, IsStep, IsKey}
 use Rattle.xq_meaning.specs.declared.normal_forms.Core.{out-Core}
 use Rattle.xq_meaning.specs.declared.normal_forms.Core.TheOpen.{Core-F}
-use Rattle.xq_plan.specs.private.Shapes.{IsLiteral, IsCall, IsScan, HasShape}
+use Rattle.xq_plan.specs.private.Shapes.{IsLiteral, IsCall, IsScan}
 use Rattle.xq_plan.proofs.Forms as forms
 use Rattle.xq_plan.proofs.Shapes.{IsPart, IsStepOrScan, shape_at, all_are, step_shape, scan_of}
 use Rattle.xq_plan.proofs.Walks.{left_next, left_done, range_next, ranges_done, clause_next, clauses_done, for_clause, let_clause, where_clause, order_clause, flwor_is, quantified_is, as_is, part_at, list_at, asked}

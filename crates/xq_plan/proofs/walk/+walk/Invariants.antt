@@ -1,6 +1,4 @@
-use Rattle.std.proofs.Common.{◌≡◌, ◌≤◌, length}
-use Rattle.xq_meaning.specs.Same.{IsPlan}
-use Rattle.xq_plan.specs.private.Plans.{IsOperand, IsStep, IsKey}
+use Rattle.xq_plan.specs.private.Plans.{IsOperand, IsKey}
 use Rattle.xq_plan.proofs.Walks.{AllLeft, RangesLeft, ClausesLeft}
 use Rattle.xq_plan.proofs.Shapes.{IsPart, IsStepOrScan}
 use Rattle.xq_plan.proofs.walk.+walk.Given as goal

@@ -1,10 +1,8 @@
-use Rattle.std.proofs.Common.{◌≡◌, take, drop, length, Some, None, Ok, ap, sym, ◌∙◌, arith}
+use Rattle.std.proofs.Common.{◌≡◌, take, drop, None, Ok, ap, sym, ◌∙◌, arith}
 use Rattle.xq_atoms.specs.declared.refusals.Code.TheVariants.{XQST0094}
 use Rattle.xq_plan.proofs.Flwor.{group_leads, refused_leads}
 use Rattle.xq_plan.proofs.Groups.{slot_found, slot_missing, slots_done}
 use Rattle.xq_scopes.specs.Scopes.{last_place, from_place}
-use Rattle.xq_meaning.specs.Meaning.{slot_of}
-use Rattle.xq_values.specs.Arguments.{each}
 use Rattle.xq_plan.proofs.walk.group.Goals as goal
 
 pub returns : goal.returns

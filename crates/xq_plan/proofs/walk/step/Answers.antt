@@ -1,5 +1,4 @@
 use Rattle.std.proofs.Common.{◌≡◌, [], sym, ap, ◌∙◌, subst}
-use Rattle.xq_meaning.specs.declared.plans.Plan.{Plan}
 use Rattle.xq_meaning.specs.declared.plans.Plan.TheVariants as plan
 use Rattle.xq_meaning.specs.declared.plans.PlanStep.TheVariants as step
 use Rattle.xq_plan.specs.private.Plans.{IsScanOrPart}
