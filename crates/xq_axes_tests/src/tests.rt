@@ -6,6 +6,7 @@ use std::alloc::Global;
 use std::process::Abort;
 use xq_atoms::Want;
 use xq_axes::{merge, step};
+use xq_expressions::Text;
 use xq_regions::{Axis, Node};
 use xq_sources::{Buffered, RowLender};
 use xq_values::Test;
@@ -48,11 +49,30 @@ fn great_fragments_are_read(rt: HostRuntime) -> Result<(), Want> {
     scans(&rt, alloc, &mut fragments, &GREAT_SCANS)
 }
 
+/// A step to the attributes of four nodes that are far apart reads the rows of their attributes
+/// where it asks for a name, and no others.
+fn names_are_read<L: RowLender>(
+    rt: &impl Abort,
+    alloc: Global,
+    source: &mut L,
+) -> Result<(), Want> {
+    let entries = nodes_at(alloc, &[2, 13, 24, 35])?;
+    for (name, places) in [("n", [3, 14, 25, 36].as_slice()), ("m", [].as_slice())] {
+        let test = Test::Attribute(Some(Text::copy_of(alloc, name)?));
+        let before = source.meter().rows();
+        let found = step(alloc, source, &entries, Axis::Attributes, &test)?;
+        assert!(rt; are_at(&found, places));
+        assert_eq!(rt; source.meter().rows().saturating_sub(before), 4);
+    }
+    Ok(())
+}
+
 #[test]
 fn registers_are_read(rt: HostRuntime) -> Result<(), Want> {
     let alloc = rt.alloc();
     let mut fragments = held(alloc, register(alloc)?)?;
     scans(&rt, alloc, &mut fragments, &REGISTER_SCANS)?;
+    names_are_read(&rt, alloc, &mut fragments)?;
     let mut buffered = Buffered::new(alloc, fragments);
     scans(&rt, alloc, &mut buffered, &REGISTER_SCANS)
 }
