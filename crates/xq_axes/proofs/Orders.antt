@@ -1,5 +1,5 @@
 -- Nodes in document order.
-use Rattle.std.proofs.Common.{◌≡◌, ◌↔◌, suc, ◌<◌, List, [], ◌∷◌, ◌++◌, Bool, true, false, ◌&&◌, ◌||◌, cond, nat_eq, ◌⊎◌, inl, inr, refl, sym, ◌∙◌, ap, subst, arith}
+use Rattle.std.proofs.Common.{◌≡◌, ◌↔◌, suc, ◌<◌, List, [], ◌∷◌, ℕ, ◌+◌, ◌++◌, length, get_or, Bool, true, false, ◌&&◌, ◌||◌, cond, nat_eq, ◌⊎◌, inl, inr, refl, sym, ◌∙◌, ap, subst, arith}
 use Rattle.std.specs.List.{list_any, Contains, AllByRecursion, IsAllAdjacentAnswer, dedup}
 use Rattle.std.specs.List.Sorted.{IsStrictlySortedBy, IsSorted, IsPermutation}
 use Rattle.std.specs.declared.cmp.Ordering.{Ordering}
@@ -86,7 +86,37 @@ rising_append (x ∷ xs) ys a b h = (
   rising_append xs ys a.1 b (λ u v c d. h u v (suc c.0, omega (arith, c.1), c.2) d),
 )
 
-less_of : (r : Ordering) → true ≡ is_lt r → r ≡ Less
+less_trans : (x y z : Node) → document_order x y ≡ Less → document_order y z ≡ Less → document_order x z ≡ Less
+less_trans x y z a b = order_less x z (elim (order_parts x y a) [
+  | inl p ↦ elim (order_parts y z b) [
+    | inl q ↦ inl (omega (arith, p, q))
+    | inr q ↦ (let e = q.0 in inl (omega (arith, p, e)))
+  ]
+  | inr p ↦ elim (order_parts y z b) [
+    | inl q ↦ (let e = p.0 in inl (omega (arith, q, e)))
+    | inr q ↦ (let f = p.1 in let g = q.1 in inr (p.0 ∙ q.0, omega (arith, f, g)))
+  ]
+])
+
+all_last : {X : Type 0} (P : X → Type 0) (xs : List X) (y : X) → AllByRecursion P (xs ++ y ∷ []) → P y
+all_last P [] y a = a.0
+all_last P (x ∷ xs) y a = all_last P xs y a.1
+
+pub rising_none : AreRising []
+unfolding IsStrictlySortedBy
+rising_none = tt
+
+-- one more node, which comes after the last
+pub rising_more : (xs : List Node) (y d : Node) → AreRising xs → ((i : ℕ) → i + 1 ≡ length xs → document_order (get_or xs i d) y ≡ Less) → AreRising (xs ++ y ∷ [])
+unfolding IsStrictlySortedBy
+rising_more [] y d a h = (tt, tt)
+rising_more (x ∷ []) y d a h = ((h 0 (omega arith), tt), (tt, tt))
+rising_more (x ∷ z ∷ zs) y d a h =
+    let more = rising_more (z ∷ zs) y d a.1 (λ i e. h (suc i) (omega (arith, e))) in
+    let after = all_last (λ u. document_order z u ≡ Less) zs y more.0 in
+    (all_append (λ u. document_order x u ≡ Less) (z ∷ zs) (y ∷ []) a.0 (less_trans x z y a.0.0 after, tt), more)
+
+pub less_of : (r : Ordering) → true ≡ is_lt r → r ≡ Less
 less_of Less e = refl
 less_of Equal e = absurd (cc)
 less_of Greater e = absurd (cc)

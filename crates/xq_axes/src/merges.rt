@@ -1,5 +1,5 @@
 //! Nodes in document order, each once.
-ghost use Rattle.std.specs.Prelude.{◌≡◌, ◌≤◌, ◌↔◌, List, length, map};
+ghost use Rattle.std.specs.Prelude.{◌≡◌, ◌≤◌, ◌↔◌, ◌++◌, ◌∷◌, [], true, List, length, map};
 ghost use Rattle.std.specs.List.{Contains, IsAllAdjacentAnswer};
 ghost use Rattle.std.specs.Ordering.{is_lt};
 ghost use Rattle.xq_regions.specs.Tree.{Tree};
@@ -25,6 +25,17 @@ fn comes_before(first: &Node, second: &Node) -> bool
     ensures { result ≡ is_lt (document_order first.now second.now) }
 {
     (first.tree < second.tree) | (first.tree == second.tree) & (first.pre < second.pre)
+}
+
+/// Whether the node comes after each of the nodes, which rise.
+#[inline]
+pub fn comes_after(nodes: &[Node], node: &Node) -> bool
+    ensures { result ≡ true → AreRising nodes.now → AreRising (nodes.now ++ node.now ∷ []) }
+{
+    match nodes.last() {
+        Some(last) => comes_before(last, node),
+        None => true,
+    }
 }
 
 /// Whether each node comes before the next.

@@ -16,7 +16,7 @@ ghost use Rattle.xq_axes.specs.private.Many.{spot, is_found_from, AreSame, AreTh
 use crate::attributes::search_attributes;
 use crate::backward::{Backward, search_back};
 use crate::downward::{ToChildren, ToDescendants, ToDescendantsOrSelf, search_below};
-use crate::merges::{merge, rises};
+use crate::merges::{comes_after, merge, rises};
 use crate::onward::search_on;
 use crate::parents::search_parents;
 use crate::passing::{search_above, search_after, search_before};
@@ -75,14 +75,20 @@ fn search<L: RowLender>(
     }
 }
 
-/// Adds the nodes of the tree at the places.
+/// Adds the nodes of the tree at the places. `Want::Store` where they don't come one after another,
+/// which no clean source brings about: so what was found is known to rise, and needs no sorting.
 fn add_nodes(found: &mut Vec<Node>, tree: usize, places: &[u32]) -> Result<(), Want>
-    ensures { OnOk result (found.new.items
+    ensures nodes { OnOk result (found.new.items
         ≡ found.old.items ++ map (λ p. record { tree = tree; pre = p }) places.now) }
+    ensures rising { AreRising found.old.items → OnOk result (AreRising found.new.items) }
 {
     found.reserve(places.len())?;
     for place in places {
-        found.push(Node { tree, pre: *place })?;
+        let node = Node { tree, pre: *place };
+        if !comes_after(found, &node) {
+            return Err(Want::Store);
+        }
+        found.push(node)?;
     }
     Ok(())
 }
@@ -130,6 +136,7 @@ fn add_step<L: RowLender>(
         ≡ (list_any p found.old.items || list_any (is_found_from (L.forest source.old) axis
         test.now p)
         (map (spot contexts.now.tree) contexts.now.places.items))) }
+    ensures rising { AreRising found.old.items → OnOk result (AreRising found.new.items) }
     ensures rows { L.is_clean source.new → IsRising contexts.now.places.items
         → (L.meter source.new).rows ≤ (L.meter source.old).rows
         + length (region axis (tree_at (L.forest source.old) contexts.now.tree)
@@ -171,6 +178,7 @@ fn gather<L: RowLender>(
         → IsAt contexts index context → AreKept contexts index gathered.old.tree
         gathered.old.places.items
         → OnOk result (AreKept contexts (index + 1) gathered.new.tree gathered.new.places.items) }
+    ensures rising { AreRising found.old.items → OnOk result (AreRising found.new.items) }
     ensures rows { L.is_clean source.new → (contexts : List NodeLem) (index one : ℕ) → AreOf one
         contexts
         → IsAt contexts index context → AreKept contexts index gathered.old.tree
@@ -239,7 +247,7 @@ fn step_from<L: RowLender>(
         )?;
     }
     add_step(alloc, source, &gathered, axis, test, &mut found)?;
-    Ok(merge(found))
+    Ok(found)
 }
 
 /// The nodes that are on the axis from one of the nodes and pass the test, in document order, each

@@ -14,7 +14,7 @@ returns-clause-nodes g c = λ k there. (
     let v = c.args.node in
     let make : ℕ → Node = λ p. record { tree = v.tree; pre = p } in
     let ps = c.deref.result.now in
-    ap (map (node_at trees)) (c.in_ok-add_nodes.ensures ∙ ap (λ xs. xs ++ map make ps) c.in_ok-found.ensures.items) ∙ map-map (node_at trees) make ps
+    ap (map (node_at trees)) (c.in_ok-add_nodes.ensures.nodes ∙ ap (λ xs. xs ++ map make ps) c.in_ok-found.ensures.items) ∙ map-map (node_at trees) make ps
     ∙ ap (map (λ p. place v.tree (path_at (nodes_at trees v.tree) p))) (c.deref.ensures.value ∙ c.in_ok-places.ensures.found k (one_there trees v.tree v.pre there) (one_rises v.pre))
     ∙ sym (axis_nodes_of trees c.args.axis c.args.test.now v there))
 
@@ -24,5 +24,5 @@ returns-clause-there g c = λ k there. (
     let v = c.args.node in
     let make : ℕ → Node = λ p. record { tree = v.tree; pre = p } in
     let ps = c.deref.result.now in
-    axis_there trees c.args.axis c.args.test.now v c.add_nodes.new.found.items there (c.in_ok-add_nodes.ensures ∙ ap (λ xs. xs ++ map make ps) c.in_ok-found.ensures.items
+    axis_there trees c.args.axis c.args.test.now v c.add_nodes.new.found.items there (c.in_ok-add_nodes.ensures.nodes ∙ ap (λ xs. xs ++ map make ps) c.in_ok-found.ensures.items
     ∙ ap (map make) (c.deref.ensures.value ∙ c.in_ok-places.ensures.found k (one_there trees v.tree v.pre there) (one_rises v.pre))))

@@ -6,6 +6,9 @@ use Rattle.xq_axes.proofs.Many.{gathered_none, default_at, step_found, step_ther
 use Rattle.xq_sources.specs.Sources.{tree_at}
 use Rattle.xq_axes.specs.Scans.{region}
 use Rattle.xq_axes.proofs.Scans.{kept_rises, kept_region, still_one}
+use Rattle.xq_axes.specs.Nodes.{AreRising}
+use Rattle.xq_axes.proofs.Merging.{merged}
+use Rattle.xq_axes.proofs.Orders.{rising_none}
 use Rattle.xq_axes.proofs.steps.step_from.Goals as goal
 
 pub loop-context-init : goal.loop-context-init
@@ -18,6 +21,7 @@ loop-context-init g c =
       forest = refl;
       clean = λ k. k;
       rows = λ k one all. omega arith;
+      rising = subst (λ ns. AreRising ns) (sym c.new-found.ensures.items) rising_none;
       kept = λ one all. ap (map (spot 0)) c.in_ok-with_capacity.ensures.items;
       singles = (let n = ap length c.in_ok-with_capacity.ensures.items in omega (arith, n));
       gathered = λ k up have. subst (λ ps. IsGathered trees axis test items 0 0 ps c.new-found.result.items) (sym c.in_ok-with_capacity.ensures.items) (subst (λ fs. IsGathered trees axis test items 0 0 [] fs) (sym c.new-found.ensures.items) (gathered_none trees axis test items));
@@ -42,6 +46,7 @@ loop-context-preserved g c =
           let before = inv.rows (c.in_ok-gather.ensures.was_clean k) one all in
           let more = c.in_ok-gather.ensures.rows k items index one all at (inv.kept one all) in
           omega (arith, before, more));
+      rising = c.in_ok-gather.ensures.rising inv.rising;
       kept = λ one all. c.in_ok-gather.ensures.kept items index one all at (inv.kept one all);
       singles = (
           let before = inv.singles in
@@ -70,7 +75,7 @@ returns-clause-nodes g c = λ k up ns same have. (
     let gathered = inv.gathered (c.in_ok-add_step.ensures.was_clean k) up (have_same trees ns items have (λ n. (same n).0)) in
     let last = subst (λ f. AreThere f old.tree old.places.items → (p : Node → Bool) → list_any p new ≡ (list_any p c.loop-context.found.items || list_any (is_found_from f axis test p) (map (spot old.tree) old.places.items))) inv.forest (c.in_ok-add_step.ensures.found k gathered.rising) gathered.there in
     let found = step_found trees axis test ns items c.loop-context.found.items new c.loop-context.context-index old.tree old.places.items (omega arith) gathered last same in
-    c.merge.ensures.nodes trees (step_there trees axis test ns new have found) ∙ step_nodes trees axis test ns new have found)
+    merged trees new (step_there trees axis test ns new have found) new (c.in_ok-add_step.ensures.rising inv.rising) (λ n. (λ k. k, λ k. k)) ∙ step_nodes trees axis test ns new have found)
 
 pub returns-clause-there : goal.returns-clause-there
 returns-clause-there g c = λ k up ns same have. (
@@ -84,7 +89,7 @@ returns-clause-there g c = λ k up ns same have. (
     let gathered = inv.gathered (c.in_ok-add_step.ensures.was_clean k) up (have_same trees ns items have (λ n. (same n).0)) in
     let last = subst (λ f. AreThere f old.tree old.places.items → (p : Node → Bool) → list_any p new ≡ (list_any p c.loop-context.found.items || list_any (is_found_from f axis test p) (map (spot old.tree) old.places.items))) inv.forest (c.in_ok-add_step.ensures.found k gathered.rising) gathered.there in
     let found = step_found trees axis test ns items c.loop-context.found.items new c.loop-context.context-index old.tree old.places.items (omega arith) gathered last same in
-    have_same trees new c.merge.result.items (step_there trees axis test ns new have found) (λ n. (c.merge.ensures.members n).0))
+    step_there trees axis test ns new have found)
 
 pub returns-clause-rows : goal.returns-clause-rows
 returns-clause-rows g c = λ k up ns same one all. (

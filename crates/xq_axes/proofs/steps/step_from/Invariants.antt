@@ -14,6 +14,7 @@ invariant-loop-context g l =
       rows :
           g.L.TreeSource.is_clean l.source → (one : ℕ) → AreOf one l.contexts
           → (g.L.TreeSource.meter l.source).rows ≤ (g.L.TreeSource.meter l.initial.source).rows;
+      rising : AreRising l.found.items;
       kept : (one : ℕ) → AreOf one l.contexts → AreKept l.contexts l.context-index l.gathered.tree l.gathered.places.items;
       singles : (g.L.TreeSource.meter l.source).singles + length l.gathered.places.items ≤ (g.L.TreeSource.meter l.initial.source).singles + l.context-index;
       gathered : g.L.TreeSource.is_clean l.source → AreRising l.contexts → HaveAll trees l.contexts
