@@ -25,4 +25,5 @@ pub mod Deepest
 pub mod Looking
 pub mod GoingOn
 pub mod KnownParents
+pub mod AxisNodes
 pub mod DoubleSlash
