@@ -23,12 +23,14 @@ got_at [] i x e = absurd (none-some x e)
 got_at (y ∷ ys) zero x e = (omega arith, sym (same_Some y x e))
 got_at (y ∷ ys) (suc i) x e = let w = got_at ys i x e in (omega (arith, w.0), w.1)
 
+pub left_from : {X A : Type 0} (view : X → A) (xs : List X) (i : ℕ) (x : X) → slice_get xs i ≡ Some x → map view (drop i xs) ≡ view x ∷ map view (drop (i + 1) xs)
+left_from view xs i x e = let w = got_at xs i x e in left_over view xs i x w.0 w.1
+
 -- and with the next one
 pub two_left : {X A : Type 0} (view : X → A) (xs : List X) (i : ℕ) (x y : X) → i < length xs → x ≡ get_or xs i x → slice_get xs (i + 1) ≡ Some y
     → map view (drop i xs) ≡ view x ∷ view y ∷ map view (drop (i + 1 + 1) xs)
 two_left view xs i x y h is next =
-    let w = got_at xs (i + 1) y next in
-    left_over view xs i x h is ∙ ap (λ l. view x ∷ l) (left_over view xs (i + 1) y w.0 w.1)
+    left_over view xs i x h is ∙ ap (λ l. view x ∷ l) (left_from view xs (i + 1) y next)
 
 -- whether one more was taken
 pub none_taken : (taken : Bool) (i : ℕ) → taken ≡ false → i + (if taken then 1 else 0) ≡ i
@@ -83,6 +85,18 @@ module _ {S B A : Type 0} (read : List Tree → S → B) (In : List Tree → S �
       → (clean' → premise → In f state → In f' state' × (go_on (act (read f state) x f) (λ next. act next y) ≡ (Ok (read f' state'), f')))
       → Turns premise clean' state' left' f' whole
   turns_two {state = state} {left} {f} state' x y left' f' now e was step = record {
+    rest = λ c p.
+        let n = now.rest (was c) p in
+        let s = step c p n.0 in
+        (s.0, sym (ap (λ o. go_on o (λ next. in_turn act next left')) s.1) ∙ both_of (act (read f state) x f) y left' ∙ sym (ap (λ ys. in_turn act (read f state) ys f) e) ∙ n.1);
+  }
+
+  -- two turns that give what the second gives from another state
+  pub turns_from : {premise clean clean' : Type 0} {state : S} {left : List A} {f : List Tree} {whole : Outcome B} (state' : S) (x y : A) (left' : List A) (f' : List Tree)
+      → Turns premise clean state left f whole → left ≡ x ∷ y ∷ left' → (clean' → clean)
+      → (clean' → premise → In f state → In f' state' × (go_on (act (read f state) x f) (λ next. act next y) ≡ act (read f' state') y f'))
+      → Turns premise clean' state' (y ∷ left') f' whole
+  turns_from {state = state} {left} {f} state' x y left' f' now e was step = record {
     rest = λ c p.
         let n = now.rest (was c) p in
         let s = step c p n.0 in

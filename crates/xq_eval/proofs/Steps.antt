@@ -32,13 +32,18 @@ use Rattle.xq_expressions.specs.declared.operators.NamedNode.{NamedNode}
 use Rattle.xq_values.specs.Readings.{item_at, items_at, IsIn, AreIn, Extends}
 use Rattle.xq_meaning.specs.Doing.{Doing, Outcome, go_on, ◌>>=◌, give, judged, on_trees, in_turn, more, one_more, collected, for_each}
 use Rattle.xq_meaning.specs.Forms as Forms
-use Rattle.xq_meaning.specs.PlanMeaning.{Frame, Meaning, ClauseMeaning, at_tuple, next_clause, flwor, plan_step_mean}
+use Rattle.xq_meaning.specs.PlanMeaning.{Frame, Meaning, ClauseMeaning, StepMeaning, at_tuple, next_clause, flwor, plan_mean, plan_step_mean}
+use Rattle.xq_meaning.specs.declared.plans.Plan.{Plan}
+use Rattle.xq_meaning.specs.declared.plans.Plan.TheVariants as plan
+use Rattle.xq_meaning.proofs.Growth.{AllGrowing}
+use Rattle.xq_meaning.proofs.PlanGrowth.{plan_grows}
 use Rattle.xq_meaning.specs.declared.plans.PlanStep.{PlanStep}
 use Rattle.xq_meaning.specs.declared.plans.PlanStep.TheVariants as plan_step
-use Rattle.xq_meaning.proofs.PlanEquations.{step-Scan}
+use Rattle.xq_meaning.proofs.PlanEquations.{plan-Step, step-Each, step-Scan}
 use Rattle.xq_operations.specs.declared.frames.Frame.{Frame as Held_frame}
-use Rattle.xq_operations.specs.Views.{tuple_at, focus_at, frame_at, TupleIn, TuplesIn, FocusIn, FrameIn, Goes, GivesAs, forget, on_axis, after_double_slash, plant_named}
+use Rattle.xq_operations.specs.Views.{tuple_at, focus_at, frame_at, TupleIn, TuplesIn, FocusIn, FrameIn, Goes, GivesAs, forget, on_axis, after_double_slash, parents_below, plant_named}
 use Rattle.xq_eval.proofs.Loops.{stops}
+use Rattle.xq_operations.proofs.ParentsBelow.{parents_suffice}
 use Rattle.xq_operations.proofs.Growth.{items_grown, are_in_grown, tuple_grown, tuple_in_grown, item_at_grown, in_grown, all-append}
 
 -- the results of one more, at the end of those so far
@@ -279,3 +284,20 @@ double_slash_is p q test frame xs f hp hq =
     let first : plan_step_mean p frame xs f ≡ Forms.scan DescendantOrSelf Any xs f = ap (λ m. m frame xs f) (ap plan_step_mean hp ∙ step-Scan DescendantOrSelf Any) in
     ap (λ o. go_on o (λ ys. plan_step_mean q frame ys)) first
     ∙ ap (λ m. go_on (Forms.scan DescendantOrSelf Any xs f) (λ ys. m frame ys)) (ap plan_step_mean hq ∙ step-Scan Child test)
+
+grow_all : (plans : List Plan) → AllGrowing (map plan_mean plans)
+grow_all [] = tt
+grow_all (p ∷ ps) = (plan_grows p, grow_all ps)
+
+-- a step to children with predicates, after descendant-or-self::node()
+pub parents_below_is : (p q : PlanStep) (of : Test) (predicates : List Plan) (frame : Frame) (xs : List Item) (f : List Tree) → p ≡ plan_step.Scan DescendantOrSelf Any → q ≡ plan_step.Each (plan.Step Child of predicates)
+    → go_on (plan_step_mean p frame xs f) (λ ys. plan_step_mean q frame ys) ≡ go_on (parents_below of xs f) (λ ys. plan_step_mean q frame ys)
+parents_below_is p q of predicates frame xs f hp hq =
+    let ms = map plan_mean predicates in
+    let first : plan_step_mean p frame xs f ≡ Forms.scan DescendantOrSelf Any xs f = ap (λ m. m frame xs f) (ap plan_step_mean hp ∙ step-Scan DescendantOrSelf Any) in
+    let later : plan_step_mean q ≡ (λ frame xs. Forms.slash frame xs (Forms.step Child of ms)) =
+        ap plan_step_mean hq ∙ step-Each (plan.Step Child of predicates) ∙ ap (λ (m : Meaning). λ (frame : Frame) (xs : List Item). Forms.slash frame xs m) (plan-Step Child of predicates) in
+    ap (λ o. go_on o (λ ys. plan_step_mean q frame ys)) first
+    ∙ ap (λ (m : StepMeaning). go_on (Forms.scan DescendantOrSelf Any xs f) (λ ys. m frame ys)) later
+    ∙ parents_suffice of ms frame f (grow_all predicates) xs
+    ∙ sym (ap (λ (m : StepMeaning). go_on (parents_below of xs f) (λ ys. m frame ys)) later)

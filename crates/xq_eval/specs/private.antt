@@ -1,4 +1,5 @@
 pub mod Bindings
+pub mod Children
 pub mod Keys
 pub mod Quantifying
 pub mod Turns

@@ -1,5 +1,5 @@
 //! What follows the slashes of a path (XQuery 3.1, section 3.3).
-ghost use Rattle.std.specs.Prelude.{◌≡◌, List, map, Some, IfSome};
+ghost use Rattle.std.specs.Prelude.{◌≡◌, List, map, true, Some, IfSome};
 ghost use Rattle.std.specs.Option.{option_copied};
 ghost use Rattle.xq_meaning.specs.declared.plans.PlanStep.TheVariants as plan_step;
 ghost use Rattle.xq_regions.specs.Items.{item_view, item_views};
@@ -9,37 +9,54 @@ ghost use Rattle.xq_meaning.specs.Doing.{in_turn, more, collected};
 ghost use Rattle.xq_meaning.specs.Forms as Forms;
 ghost use Rattle.xq_meaning.specs.PlanMeaning.{plan_mean, plan_step_mean, next_step};
 ghost use Rattle.xq_operations.specs.Views.{spot_at, frame_at, FrameIn, Goes, Gives};
+ghost use Rattle.xq_eval.specs.private.Children.{IsToChildren};
 
 use crate::evaluation::evaluate;
 use sqlite_items::at;
 use std::alloc::Global;
 use xq_atoms::Fault;
 use xq_meaning::{Plan, PlanStep};
-use xq_operations::{Focus, Frame, double_slash, gather, only_nodes, scan};
+use xq_operations::{Focus, Frame, double_slash, gather, only_nodes, parents_below, scan};
 use xq_regions::{Axis, Item, Items};
 use xq_values::Test;
 use xq_worlds::Growing;
 
-/// The test of a step to children right after `descendant-or-self::node()`, where neither of the
-/// two has predicates: together they are `//` and a step (XQuery 3.1, section 3.3.5).
-fn children_below<'a>(step: &PlanStep, next: Option<&'a PlanStep>) -> Option<&'a Test>
-    ensures { IfSome result (λ test.
-        (step.now ≡ plan_step.Scan Axis.DescendantOrSelf Test.Any)
-        × (option_copied next.entry ≡ Some (plan_step.Scan Axis.Child test.now))) }
+/// Whether the step is `descendant-or-self::node()`, for which `//` stands (XQuery 3.1, section
+/// 3.3.5).
+fn is_double_slash(step: &PlanStep) -> bool
+    ensures { result ≡ true → step.now ≡ plan_step.Scan Axis.DescendantOrSelf Test.Any }
 {
-    let PlanStep::Scan(axis, all) = step else {
-        return None;
+    let PlanStep::Scan(axis, test) = step else {
+        return false;
     };
     let Axis::DescendantOrSelf = axis else {
+        return false;
+    };
+    matches!(test, Test::Any)
+}
+
+/// The test of a step to children without predicates, where that is the next step.
+fn children(next: Option<&PlanStep>) -> Option<&Test>
+    ensures { IfSome result (λ test.
+        option_copied next.entry ≡ Some (plan_step.Scan Axis.Child test.now)) }
+{
+    let Some(PlanStep::Scan(axis, test)) = next else {
         return None;
     };
-    let Test::Any = all else {
+    let Axis::Child = axis else {
         return None;
     };
-    let Some(after) = next else {
+    Some(test)
+}
+
+/// The test of a step to children with predicates, where that is the next step.
+fn chosen_children(next: Option<&PlanStep>) -> Option<&Test>
+    ensures { IfSome result (λ test. IsToChildren test.now (option_copied next.entry)) }
+{
+    let Some(PlanStep::Each(part)) = next else {
         return None;
     };
-    let PlanStep::Scan(direction, test) = after else {
+    let Plan::Step(direction, test, _) = part else {
         return None;
     };
     let Axis::Child = direction else {
@@ -48,7 +65,8 @@ fn children_below<'a>(step: &PlanStep, next: Option<&'a PlanStep>) -> Option<&'a
     Some(test)
 }
 
-/// The items after all steps. Two that are `//` and a step to children are one scan.
+/// The items after all steps. Two that are `//` and a step to children are one scan; where that
+/// step has predicates, it is tried at those nodes alone that have such children.
 #[cycle(eval)]
 pub fn step_list<W: Growing>(
     alloc: Global,
@@ -73,11 +91,19 @@ pub fn step_list<W: Growing>(
             is_taken = false;
             continue;
         }
-        if let Some(test) = children_below(step, at(steps, index + 1)) {
-            let found = double_slash(alloc, world, &left, test)?;
-            left = found;
-            is_taken = true;
-            continue;
+        if is_double_slash(step) {
+            let next = at(steps, index + 1);
+            if let Some(test) = children(next) {
+                let found = double_slash(alloc, world, &left, test)?;
+                left = found;
+                is_taken = true;
+                continue;
+            }
+            if let Some(test) = chosen_children(next) {
+                let parents = parents_below(alloc, world, &left, test)?;
+                left = parents;
+                continue;
+            }
         }
         left = next_items(alloc, world, frame, left, step)?;
     }

@@ -3,6 +3,7 @@ pub mod CoreEquations
 pub mod PlanEquations
 pub mod SameForms
 pub mod Growth
+pub mod PlanGrowth
 pub mod Writing
 pub mod CoreWriting
 pub mod PlanWriting

@@ -85,7 +85,7 @@ paths_lead (node a k r) = (
 abbrev StandAt : List Tree → List Tree → ℕ → Type 0
 StandAt trees ts n = (i : ℕ) → i < length ts → (n + i < length trees) × (tree_at trees (n + i) ≡ tree_at ts i)
 
-abbrev IsPlace : List Tree → Place → Type 0
+abbrev pub IsPlace : List Tree → Place → Type 0
 IsPlace trees p = Exists trees (Node p)
 
 places_exist : (trees ts : List Tree) (n : ℕ) → StandAt trees ts n → AllByRecursion (IsPlace trees) (places_from n ts)
@@ -103,7 +103,12 @@ places_exist trees (t ∷ ts) n stand =
     (all_map (HasPath (nodes t)) (IsPlace trees) (place n) (λ p h. (there, subst (λ u. HasPath (nodes u) p) same h)) (paths (nodes t)) (paths_lead (nodes t)))
     (places_exist trees ts (suc n) later)
 
+-- each node in document order is one of the trees
+pub all_exist : (trees : List Tree) → AllByRecursion (IsPlace trees) (places_from 0 trees)
+all_exist trees =
+    let all : StandAt trees trees 0 = λ i h. (let e : 0 + i ≡ i = omega arith in (omega (arith, h), ap (tree_at trees) e)) in
+    places_exist trees trees 0 all
+
 pub ordered_exist : (trees : List Tree) (ps : List Place) → Exist trees (in_order trees ps)
 ordered_exist trees ps =
-    let all : StandAt trees trees 0 = λ i h. (let e : 0 + i ≡ i = omega arith in (omega (arith, h), ap (tree_at trees) e)) in
-    all_map (IsPlace trees) (Exists trees) Node (λ p h. h) (in_document_order trees ps) (all_filter (IsPlace trees) (is_among ps) (places_from 0 trees) (places_exist trees trees 0 all))
+    all_map (IsPlace trees) (Exists trees) Node (λ p h. h) (in_document_order trees ps) (all_filter (IsPlace trees) (is_among ps) (places_from 0 trees) (all_exist trees))

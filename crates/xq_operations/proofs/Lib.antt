@@ -9,3 +9,4 @@ pub mod Streams
 pub mod Giving
 pub mod Columns
 pub mod CallForms
+pub mod ParentsBelow

@@ -133,7 +133,7 @@ scan_stops f axis test xs code h = stops_at (all_nodes XPTY0019 xs) (λ places. 
 
 -- # A step to children after `//`
 
-are_nodes : (code : Code) (ps : List Place) → all_nodes code (map Node ps) ≡ Ok ps
+pub are_nodes : (code : Code) (ps : List Place) → all_nodes code (map Node ps) ≡ Ok ps
 are_nodes code [] = refl
 are_nodes code (p ∷ ps) = ap (λ r. r >>= (λ qs. Ok (p ∷ qs))) (are_nodes code ps)
 

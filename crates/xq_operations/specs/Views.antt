@@ -23,7 +23,7 @@ use Rattle.xq_atoms.specs.Text.{Text}
 use Rattle.xq_expressions.specs.declared.operators.NamedNode.{NamedNode}
 use Rattle.xq_expressions.specs.declared.operators.UnnamedNode.{UnnamedNode}
 use Rattle.xq_regions.specs.declared.Axis.{Axis}
-use Rattle.xq_regions.specs.declared.Axis.TheVariants.{Child, DescendantOrSelf}
+use Rattle.xq_regions.specs.declared.Axis.TheVariants.{Child, DescendantOrSelf, Parent}
 use Rattle.xq_values.specs.declared.node_tests.Test.{Test}
 use Rattle.xq_values.specs.declared.node_tests.Test.TheVariants.{Any}
 use Rattle.xq_values.specs.Content.{named_tree, unnamed_tree}
@@ -158,6 +158,12 @@ abbrev pub after_double_slash : Test → List Item → Doing (List Item)
 after_double_slash test xs = do
   all ← Forms.scan DescendantOrSelf Any xs
   Forms.scan Child test all
+
+-- of the nodes that `//` leads to, those with a child that passes the test
+abbrev pub parents_below : Test → List Item → Doing (List Item)
+parents_below test xs = do
+  found ← after_double_slash test xs
+  Forms.scan Parent Any found
 
 abbrev pub plant_named : NamedNode → Text → List Item → Doing (List Item)
 plant_named kind name xs = do

@@ -4,7 +4,7 @@ ghost use Rattle.xq_regions.specs.Items.{item_view, item_views};
 ghost use Rattle.xq_values.specs.Steps.{in_axis_order as in_axis_order_lem, is_reverse as is_reverse_lem};
 ghost use Rattle.xq_values.specs.Readings.{items_at, AreIn};
 ghost use Rattle.xq_meaning.specs.Forms as Forms;
-ghost use Rattle.xq_operations.specs.Views.{focus_at, on_axis, after_double_slash, FrameIn, Goes, Gives};
+ghost use Rattle.xq_operations.specs.Views.{focus_at, on_axis, after_double_slash, parents_below as parents_below_lem, FrameIn, Goes, Gives};
 
 use crate::frames::Frame;
 use crate::nodes::{as_items, context_node, nodes_among, only_nodes};
@@ -103,4 +103,23 @@ pub fn double_slash<W: Growing>(
     let contexts = nodes_among(alloc, items)?;
     let nodes = xq_axes::double_slash(alloc, world, &contexts, test)?;
     Ok(as_items(alloc, &nodes)?)
+}
+
+/// The nodes that `//` leads to from all items and that have a child which passes the test, in
+/// document order, each once. A step to such children after `//` gives nothing at any other node,
+/// whatever its predicates are (XQuery 3.1, section 3.3.5). XPTY0019 where an item is no node.
+pub fn parents_below<W: Growing>(
+    alloc: Global,
+    world: &mut W,
+    items: &[Item],
+    test: &Test,
+) -> Result<Items, Fault>
+    ensures goes { Goes (W.forest world.old) (W.forest world.new) (W.is_clean world.old)
+        (W.is_clean world.new) }
+    ensures gives { W.is_clean world.new → AreIn (W.forest world.old) (map item_view items.now)
+        → Gives (parents_below_lem test.now (items_at (W.forest world.old) (map item_view
+        items.now)) (W.forest world.old)) (W.forest world.new) result }
+{
+    let found = double_slash(alloc, world, items, test)?;
+    scan(alloc, world, &found, Axis::Parent, &Test::Any)
 }

@@ -45,6 +45,58 @@ const PATHS: [(&str, &str); 12] = [
     ("element div {element for {}}/for", "element for {}"),
 ];
 
+/// Steps to children with predicates after `//` (XQuery 3.1, section 3.3.5): a predicate counts among
+/// the children of one parent, and the parents are tried in document order.
+const CHILDREN_BELOW: [(&str, &str); 14] = [
+    (
+        "let $d := document {element r {element s {element p {1}, element p {2}}, element p {3, element p {4}}}} return $d//p[1]/string()",
+        "\"1\", \"34\", \"4\"",
+    ),
+    (
+        "let $d := document {element r {element s {element p {1}, element p {2}}, element p {3, element p {4}}}} return $d//p[last()]/string()",
+        "\"2\", \"34\", \"4\"",
+    ),
+    (
+        "let $d := document {element r {element s {element p {1}, element p {2}}, element p {3, element p {4}}}} return $d//p[2]/string()",
+        "\"2\"",
+    ),
+    (
+        "let $d := document {element r {element s {element p {1}, element p {2}}, element p {3, element p {4}}}} return $d//p[p]/string()",
+        "\"34\"",
+    ),
+    (
+        "let $d := document {element r {element s {element p {1}, element p {2}}, element p {3, element p {4}}}} return $d//p[. = \"9\"]",
+        "()",
+    ),
+    (
+        "let $d := document {element r {element s {element p {1}, element p {2}}, element p {3, element p {4}}}} return $d//*[2]/name()",
+        "\"p\", \"p\"",
+    ),
+    (
+        "let $d := document {element r {element s {element p {1}, element p {2}}, element p {3, element p {4}}}} return $d//node()[last()][self::text()]",
+        "text {\"1\"}, text {\"2\"}, text {\"4\"}",
+    ),
+    (
+        "let $d := document {element r {element s {element p {1}, element p {2}}, element p {3, element p {4}}}} return count($d//p[element x {.} = \"1\"])",
+        "1",
+    ),
+    (
+        "let $d := document {element r {element s {element p {1}, element p {2}}, element p {3, element p {4}}}} return $d//p[if (. = \"34\") then 1 div 0 else xs:integer(\"a\")]",
+        "FOAR0001",
+    ),
+    (
+        "let $d := document {element r {element s {element p {1}, element p {2}}, element p {3, element p {4}}}} return (1, $d)//p[1]",
+        "XPTY0019",
+    ),
+    ("(document {element r {\"a\", element b {}, \"c\"}})//text()[2]", "text {\"c\"}"),
+    ("(element a {element p {1}}, element b {element p {2}})//p[1]/string()", "\"1\", \"2\""),
+    (
+        "let $a := element a {element p {1}, element p {2}} return ($a, $a/p, $a)//p[2]/string()",
+        "\"2\"",
+    ),
+    ("let $a := element a {attribute p {1}, element p {2}} return $a/@p//p[1]", "()"),
+];
+
 /// FLWOR and quantified expressions (XQuery 3.1, sections 3.12 and 3.16).
 const FLWOR: [(&str, &str); 11] = [
     (
@@ -195,6 +247,11 @@ fn paths(rt: HostRuntime) {
 }
 
 #[test]
+fn children_below(rt: HostRuntime) {
+    assert_answers(&rt, &CHILDREN_BELOW);
+}
+
+#[test]
 fn flwor(rt: HostRuntime) {
     assert_answers(&rt, &FLWOR);
 }
@@ -217,6 +274,11 @@ fn refusals(rt: HostRuntime) {
 #[test]
 fn each_allocation_of_paths(rt: HostRuntime) {
     assert_answers_or_memory(&rt, &PATHS);
+}
+
+#[test]
+fn each_allocation_of_children_below(rt: HostRuntime) {
+    assert_answers_or_memory(&rt, &CHILDREN_BELOW);
 }
 
 #[test]

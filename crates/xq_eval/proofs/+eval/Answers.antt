@@ -23,11 +23,11 @@ use Rattle.xq_meaning.specs.declared.plans.PlanClause.{PlanClause}
 use Rattle.xq_meaning.specs.Doing.{◌>>=◌, go_on, give, judged, on_trees, collected, in_turn, more, one_more, for_each, first_that}
 use Rattle.xq_meaning.specs.PlanMeaning.{Frame, Meaning, plan_mean, plan_clause_mean, plan_step_mean, at_tuple, next_clause, next_step}
 use Rattle.xq_meaning.proofs.PlanEquations.{plan-Root, plan-Step, plan-Named, plan-Unnamed, plan-Call, plan-Quantified, clause-Group, clause-Order, clause-Refused, step-Scan, plan-Dec, plan-Slot, plan-ContextItem, plan-Sequence, plan-Chain, plan-Unary, plan-If, plan-Or, plan-And, plan-Filter, plan-Path, plan-Flwor, step-Each, clause-For, clause-Let, clause-Where}
-use Rattle.xq_operations.specs.Views.{order_specs, GivesKeys, GivesRows, calling, ordering, on_axis, after_double_slash, plant_named, plant_unnamed, tuple_at, tuples_at, lists_of, spot_at, forget, frame_at, TupleIn, TuplesIn, Gives, GivesLists, GivesTuples, GivesTests, GivesPlain, FrameIn}
+use Rattle.xq_operations.specs.Views.{order_specs, GivesKeys, GivesRows, calling, ordering, on_axis, after_double_slash, parents_below, plant_named, plant_unnamed, tuple_at, tuples_at, lists_of, spot_at, forget, frame_at, TupleIn, TuplesIn, Gives, GivesLists, GivesTuples, GivesTests, GivesPlain, FrameIn}
 use Rattle.xq_operations.proofs.Growth.{extends_more, stays, value_in, frame_grown, frame_in_grown, items_grown, are_in_grown, item_at_grown, in_grown, tuple_grown, tuple_in_grown, tuples_grown, tuples_in_grown, goes_on_to}
 use Rattle.xq_regions.specs.declared.Axis.TheVariants.{Child}
 use Rattle.xq_meaning.specs.declared.plans.PlanStep.TheVariants as plan_step
-use Rattle.xq_eval.proofs.Loops.{left_over, two_left, none_taken, one_taken, turns_same, turns_two, turns_stop_two, turns_next, turns_stop, turns_end, tries_next, tries_found, tries_stop, handed_on, stops, cut}
+use Rattle.xq_eval.proofs.Loops.{left_over, left_from, two_left, none_taken, one_taken, turns_same, turns_two, turns_from, turns_stop_two, turns_next, turns_stop, turns_end, tries_next, tries_found, tries_stop, handed_on, stops, cut}
 use Rattle.xq_atoms.specs.Text.{Text}
 use Rattle.xq_expressions.specs.declared.operators.OrderModifier.{OrderModifier}
 use Rattle.xq_tuples.specs.Keys.{atomics_of, column_of, columns_of}
@@ -35,7 +35,7 @@ use Rattle.xq_values.specs.Content.{name_of}
 use Rattle.xq_eval.specs.private.Keys.{keys_at}
 use Rattle.xq_eval.specs.private.Quantifying.{holds, at_top, turn, resumed, weigh, all_weigh, unless_wanted}
 use Rattle.std.specs.Prelude.{string_bytes, IfSome, if◌then◌else◌}
-use Rattle.xq_eval.proofs.Steps.{double_slash_is, axis_order_read, axis_order_in, step_is, named_is, same_goes, more_next, tested_ok, tested_err, go_on_stop, list_next, passed_ok, passed_err, kept_read, concat, concat_read, concat_in, flwor_is, spots_left, all_at, element, left_at, frame_inner, frame_inner_in, bound_in, kept_in, expanded_in, slash_ok, slash_err, same_tests, any_tests}
+use Rattle.xq_eval.proofs.Steps.{double_slash_is, parents_below_is, axis_order_read, axis_order_in, step_is, named_is, same_goes, more_next, tested_ok, tested_err, go_on_stop, list_next, passed_ok, passed_err, kept_read, concat, concat_read, concat_in, flwor_is, spots_left, all_at, element, left_at, frame_inner, frame_inner_in, bound_in, kept_in, expanded_in, slash_ok, slash_err, same_tests, any_tests}
 use Rattle.xq_operations.proofs.Natural.{bound_natural, kept_natural, expanded_natural}
 use Rattle.xq_tuples.proofs.Copies.{values_of-clones}
 use Rattle.xq_eval.specs.private.Bindings.{values_left, stack_of, Falls, Moved, MovesOn}
@@ -1203,14 +1203,14 @@ paths::step_list-loop-index-preserved-in-Some g t c =
     let q = plan_step.Scan Child test in
     let left = item_views c.loop-index.left in
     let d : map item_view c.deref.result.now ≡ left = ap (map item_view) c.deref.ensures.value in
-    let next = sym c.at.ensures ∙ c.in-Some.ensures.1 in
+    let next = sym c.at-next.ensures ∙ c.in-Some.ensures in
     let are = ap (λ k. map plan_step_mean (drop k c.args.steps.now)) (none_taken c.loop-index.is_taken n c.if-is_taken.false) ∙ two_left plan_step_mean c.args.steps.now n p q (omega arith) c.index-steps-index.is next in
     record {
       goes = goes_on_to i.goes c.in_ok-found.ensures.goes;
       turns = turns_two _ _ _ (item_views c.in_ok-found.found) (plan_step_mean p) (plan_step_mean q) _ _ i.turns are c.in_ok-found.ensures.goes.was_clean
           (λ clean inside is_in.
           let s = c.in_ok-found.ensures.gives clean (subst (AreIn f) (sym d) is_in) in
-          (s.0, double_slash_is p q test (frame_at old held) (items_at f left) f c.in-Some.ensures.0 refl ∙ ap (λ xs. after_double_slash test (items_at f xs) f) (sym d) ∙ s.1));
+          (s.0, double_slash_is p q test (frame_at old held) (items_at f left) f (c.is_double_slash.ensures c.if-is_double_slash.true) refl ∙ ap (λ xs. after_double_slash test (items_at f xs) f) (sym d) ∙ s.1));
     }
 
 pub paths::step_list-returns-in_err-found-clause-gives : goal.paths::step_list-returns-in_err-found-clause-gives
@@ -1227,16 +1227,67 @@ paths::step_list-returns-in_err-found-clause-gives g t c = λ clean inside items
     let left = item_views c.loop-index.left in
     let e = c.in_err-found.field-0.0 in
     let d : map item_view c.deref.result.now ≡ left = ap (map item_view) c.deref.ensures.value in
-    let next = sym c.at.ensures ∙ c.in-Some.ensures.1 in
+    let next = sym c.at-next.ensures ∙ c.in-Some.ensures in
     let are = ap (λ k. map plan_step_mean (drop k c.args.steps.now)) (none_taken c.loop-index.is_taken n c.if-is_taken.false) ∙ two_left plan_step_mean c.args.steps.now n p q (omega arith) c.index-steps-index.is next in
     handed_on item_views items_at AreIn _ f' e c.from_residual.result c.from_residual.ensures.1
     (turns_stop_two _ _ _ item_views items_at AreIn (plan_step_mean p) (plan_step_mean q) _ f' e i.turns are c.double_slash.ensures.goes.was_clean
     (λ clean inside is_in.
-    subst (λ o. Gives o f' (Err e)) (sym (double_slash_is p q test (frame_at old held) (items_at f left) f c.in-Some.ensures.0 refl ∙ ap (λ xs. after_double_slash test (items_at f xs) f) (sym d)))
+    subst (λ o. Gives o f' (Err e)) (sym (double_slash_is p q test (frame_at old held) (items_at f left) f (c.is_double_slash.ensures c.if-is_double_slash.true) refl ∙ ap (λ xs. after_double_slash test (items_at f xs) f) (sym d)))
     (c.in_err-found.ensures.gives clean (subst (AreIn f) (sym d) is_in))) clean (inside, items_in))
 
 pub paths::step_list-returns-in_err-found-clause-goes : goal.paths::step_list-returns-in_err-found-clause-goes
 paths::step_list-returns-in_err-found-clause-goes g t c = goes_on_to c.loop-index.invariant.goes c.in_err-found.ensures.goes
+
+pub paths::step_list-loop-index-preserved-in-Some-chosen_children : goal.paths::step_list-loop-index-preserved-in-Some-chosen_children
+paths::step_list-loop-index-preserved-in-Some-chosen_children g t c =
+    let i = c.loop-index.invariant in
+    let old = g.W.TreeSource.forest c.args.world.now in
+    let f = g.W.TreeSource.forest c.loop-index.world in
+    let f' = g.W.TreeSource.forest c.parents_below.new.world in
+    let frame = frame_at old c.args.frame in
+    let n = c.loop-index.index in
+    let p = c.index-steps-index.result in
+    let some = c.in-Some-chosen_children in
+    let test = some.test.now in
+    let q = plan_step.Each (plan.Step Child test some.ensures.0) in
+    let left = item_views c.loop-index.left in
+    let d : map item_view c.deref-in-Some-chosen_children.result.now ≡ left = ap (map item_view) c.deref-in-Some-chosen_children.ensures.value in
+    let next = sym c.at-next.ensures ∙ some.ensures.1 in
+    let are = ap (λ k. map plan_step_mean (drop k c.args.steps.now)) (none_taken c.loop-index.is_taken n c.if-is_taken.false) ∙ two_left plan_step_mean c.args.steps.now n p q (omega arith) c.index-steps-index.is next in
+    let there = turns_from _ _ _ (item_views c.in_ok-parents.parents) (plan_step_mean p) (plan_step_mean q) _ f' i.turns are c.in_ok-parents.ensures.goes.was_clean
+        (λ clean inside is_in.
+        let s = c.in_ok-parents.ensures.gives clean (subst (AreIn f) (sym d) is_in) in
+        (s.0, parents_below_is p q test some.ensures.0 frame (items_at f left) f (c.is_double_slash.ensures c.if-is_double_slash.true) refl
+            ∙ ap (λ o. go_on o (λ ys. plan_step_mean q frame ys)) (ap (λ xs. parents_below test (items_at f xs) f) (sym d) ∙ s.1))) in
+    record {
+      goes = goes_on_to i.goes c.in_ok-parents.ensures.goes;
+      turns = turns_same _ _ _ _ there (sym (left_from plan_step_mean c.args.steps.now (n + 1) q next) ∙ ap (λ k. map plan_step_mean (drop k c.args.steps.now)) (sym (none_taken c.loop-index.is_taken (n + 1) c.if-is_taken.false)));
+    }
+
+pub paths::step_list-returns-in_err-parents-clause-gives : goal.paths::step_list-returns-in_err-parents-clause-gives
+paths::step_list-returns-in_err-parents-clause-gives g t c = λ clean inside items_in.
+    let i = c.loop-index.invariant in
+    let old = g.W.TreeSource.forest c.args.world.now in
+    let f = g.W.TreeSource.forest c.loop-index.world in
+    let f' = g.W.TreeSource.forest c.parents_below.new.world in
+    let frame = frame_at old c.args.frame in
+    let n = c.loop-index.index in
+    let p = c.index-steps-index.result in
+    let some = c.in-Some-chosen_children in
+    let test = some.test.now in
+    let q = plan_step.Each (plan.Step Child test some.ensures.0) in
+    let left = item_views c.loop-index.left in
+    let e = c.in_err-parents.field-0.0 in
+    let d : map item_view c.deref-in-Some-chosen_children.result.now ≡ left = ap (map item_view) c.deref-in-Some-chosen_children.ensures.value in
+    let next = sym c.at-next.ensures ∙ some.ensures.1 in
+    let are = ap (λ k. map plan_step_mean (drop k c.args.steps.now)) (none_taken c.loop-index.is_taken n c.if-is_taken.false) ∙ two_left plan_step_mean c.args.steps.now n p q (omega arith) c.index-steps-index.is next in
+    let then_q = λ (ys : List Item). plan_step_mean q frame ys in
+    handed_on item_views items_at AreIn _ f' e c.from_residual-in_err-parents.result c.from_residual-in_err-parents.ensures.1
+    (turns_stop_two _ _ _ item_views items_at AreIn (plan_step_mean p) (plan_step_mean q) _ f' e i.turns are c.parents_below.ensures.goes.was_clean
+    (λ clean inside is_in.
+    subst (λ o. Gives o f' (Err e)) (sym (parents_below_is p q test some.ensures.0 frame (items_at f left) f (c.is_double_slash.ensures c.if-is_double_slash.true) refl ∙ ap (λ xs. go_on (parents_below test (items_at f xs) f) then_q) (sym d)))
+    (go_on_stop item_views items_at AreIn item_views items_at AreIn (parents_below test (items_at f (map item_view c.deref-in-Some-chosen_children.result.now)) f) then_q f' e
+    (c.in_err-parents.ensures.gives clean (subst (AreIn f) (sym d) is_in)))) clean (inside, items_in))
 
 pub paths::step_list-loop-index-preserved : goal.paths::step_list-loop-index-preserved
 paths::step_list-loop-index-preserved g t c =

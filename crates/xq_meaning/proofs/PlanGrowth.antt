@@ -1,0 +1,137 @@
+-- The list of trees only grows, whatever the plan is: by induction over plans.
+use Rattle.std.proofs.Common.{List, [], ◌∷◌, map, subst, sym}
+use Rattle.std.specs.List.{AllByRecursion}
+use Rattle.xq_expressions.specs.declared.operators.OrderModifier.{OrderModifier}
+use Rattle.xq_regions.specs.Tuples.{Tuple}
+use Rattle.xq_values.specs.declared.operators.Operator.{Operator}
+use Rattle.xq_values.specs.Items.{Item}
+use Rattle.xq_meaning.specs.Doing.{in_turn, for_each}
+use Rattle.xq_meaning.specs.Forms
+use Rattle.xq_meaning.specs.declared.plans.Plan.{Plan, map-Plan, fold-roll-Plan, ind-Plan}
+use Rattle.xq_meaning.specs.declared.plans.PlanClause.{PlanClause, map-PlanClause, fold-roll-PlanClause}
+use Rattle.xq_meaning.specs.declared.plans.PlanStep.{PlanStep, map-PlanStep, fold-roll-PlanStep}
+use Rattle.xq_meaning.specs.declared.plans.Plan.TheOpen.{Plan-F, PlanClause-F, PlanStep-F}
+use Rattle.xq_meaning.specs.PlanMeaning.{Frame, Meaning, ClauseMeaning, StepMeaning, at_tuple, next_clause, next_step, opened, plan_form, plan_clause, plan_step, plan_mean, plan_clause_mean, plan_step_mean}
+use Rattle.xq_meaning.proofs.Growth.{Grows, Growing, AllGrowing, extends_itself, then_grows, in_turn_grows, for_each_grows, all_of, atoms_grow, call_grows, sequence_grows, chain_grows, unary_grows, or_grows, and_grows, conditional_grows, filter_grows, slash_grows, named_node_grows, unnamed_node_grows, root_grows, step_grows, quantified_grows, for_tuples_grows, let_tuples_grows, where_tuples_grows, return_grows, group_tuples_grows}
+
+-- # What is claimed of each part
+
+abbrev Grown : Plan → Type 0
+Grown p = Growing (plan_mean p)
+
+abbrev ClauseGrows : ClauseMeaning → Type 0
+ClauseGrows m = (frame : Frame) (tuples : List (Tuple Item)) → Grows (m frame tuples)
+
+abbrev StepGrows : StepMeaning → Type 0
+StepGrows m = (frame : Frame) (xs : List Item) → Grows (m frame xs)
+
+-- a part with its proof
+abbrev P : Type 0
+P = (p : Plan) × Grown p
+
+abbrev C : Type 0
+C = (c : PlanClause) × ClauseGrows (plan_clause_mean c)
+
+abbrev S : Type 0
+S = (s : PlanStep) × StepGrows (plan_step_mean s)
+
+-- # Lists of parts
+
+plans : (ps : List P) → AllGrowing (map plan_mean (map (λ e. e.0) ps))
+plans [] = tt
+plans (p ∷ ps) = (p.1, plans ps)
+
+operands : (rest : List (Operator × P)) → AllByRecursion (λ (o : Operator × Meaning). Growing o.1) (map (λ (o : Operator × Plan). (o.0, plan_mean o.1)) (map (λ (o : Operator × P). (o.0, o.1.0)) rest))
+operands [] = tt
+operands (o ∷ rest) = (o.1.1, operands rest)
+
+ranges : (ps : List P) → AllByRecursion (λ (b : Forms.Binding _). Growing b.1) (map (λ range. (opened, range)) (map plan_mean (map (λ e. e.0) ps)))
+ranges [] = tt
+ranges (p ∷ ps) = (p.1, ranges ps)
+
+steps : (frame : Frame) (ss : List S) → AllByRecursion (λ (m : StepMeaning). (xs : List Item) → Grows (next_step frame xs m)) (map plan_step_mean (map (λ e. e.0) ss))
+steps frame [] = tt
+steps frame (s ∷ ss) = (s.1 frame, steps frame ss)
+
+clauses : (frame : Frame) (cs : List C) → AllByRecursion (λ (m : ClauseMeaning). (tuples : List (Tuple Item)) → Grows (next_clause frame tuples m)) (map plan_clause_mean (map (λ e. e.0) cs))
+clauses frame [] = tt
+clauses frame (c ∷ cs) = (c.1 frame, clauses frame cs)
+
+abbrev keys_of : Frame → Meaning × OrderModifier → Type 0
+keys_of frame spec = Grows (Forms.atoms_of spec.0 frame)
+
+specs : (frame : Frame) (os : List (P × OrderModifier)) → AllByRecursion (keys_of frame) (map (λ (o : Plan × OrderModifier). (plan_mean o.0, o.1)) (map (λ (o : P × OrderModifier). (o.0.0, o.1)) os))
+specs frame [] = tt
+specs frame (o ∷ os) = (atoms_grow (plan_mean o.0.0) o.0.1 frame, specs frame os)
+
+-- # Forms
+
+abbrev plan_parts : Plan-F P C S → Plan-F Meaning ClauseMeaning StepMeaning
+plan_parts y =
+    map-Plan Plan PlanClause PlanStep Meaning ClauseMeaning StepMeaning plan_mean plan_clause_mean plan_step_mean
+    (map-Plan P C S Plan PlanClause PlanStep (λ e. e.0) (λ e. e.0) (λ e. e.0) y)
+
+form_grows : (y : Plan-F P C S) → Growing (plan_form (plan_parts y))
+form_grows (Plan-F.Int n) = λ frame f. extends_itself f
+form_grows (Plan-F.Dec m) = λ frame f. extends_itself f
+form_grows (Plan-F.Str t) = λ frame f. extends_itself f
+form_grows (Plan-F.Slot n) = λ frame f. extends_itself f
+form_grows Plan-F.ContextItem = λ frame f. extends_itself f
+form_grows Plan-F.Root = root_grows
+form_grows (Plan-F.Sequence parts) = sequence_grows _ (plans parts)
+form_grows (Plan-F.Flwor cs part) = λ frame f.
+    then_grows (in_turn (next_clause frame) ([] ∷ []) (map plan_clause_mean (map (λ e. e.0) cs)) f) _ f (in_turn_grows (next_clause frame) _ (clauses frame cs) ([] ∷ []) f)
+    (λ tuples. return_grows (plan_mean part.0) part.1 (at_tuple frame) tuples)
+form_grows (Plan-F.Quantified which parts part) = quantified_grows which _ (plan_mean part.0) (ranges parts) part.1
+form_grows (Plan-F.If test yes' no') = conditional_grows (plan_mean test.0) (plan_mean yes'.0) (plan_mean no'.0) test.1 yes'.1 no'.1
+form_grows (Plan-F.Or parts) = or_grows _ (plans parts)
+form_grows (Plan-F.And parts) = and_grows _ (plans parts)
+form_grows (Plan-F.Chain first rest) = chain_grows (plan_mean first.0) _ first.1 (operands rest)
+form_grows (Plan-F.Unary signs part) = unary_grows signs (plan_mean part.0) part.1
+form_grows (Plan-F.Path start ss) = λ frame f.
+    then_grows (plan_mean start.0 frame f) _ f (start.1 frame f) (in_turn_grows (next_step frame) _ (steps frame ss))
+form_grows (Plan-F.Step axis test predicates) = step_grows axis test _ (plans predicates)
+form_grows (Plan-F.Filter start predicates) = filter_grows (plan_mean start.0) _ start.1 (plans predicates)
+form_grows (Plan-F.Call function parts) = call_grows function _ (plans parts)
+form_grows (Plan-F.Named kind name part) = named_node_grows kind (plan_mean name.0) (plan_mean part.0) name.1 part.1
+form_grows (Plan-F.Unnamed kind part) = unnamed_node_grows kind (plan_mean part.0) part.1
+
+abbrev clause_parts : PlanClause-F P C S → PlanClause-F Meaning ClauseMeaning StepMeaning
+clause_parts y =
+    map-PlanClause Plan PlanClause PlanStep Meaning ClauseMeaning StepMeaning plan_mean plan_clause_mean plan_step_mean
+    (map-PlanClause P C S Plan PlanClause PlanStep (λ e. e.0) (λ e. e.0) (λ e. e.0) y)
+
+clause_grows : (y : PlanClause-F P C S) → ClauseGrows (plan_clause (clause_parts y))
+clause_grows (PlanClause-F.For at part) = λ frame. for_tuples_grows at (plan_mean part.0) part.1 (at_tuple frame)
+clause_grows (PlanClause-F.Let part) = λ frame. let_tuples_grows (plan_mean part.0) part.1 (at_tuple frame)
+clause_grows (PlanClause-F.Where part) = λ frame. where_tuples_grows (plan_mean part.0) part.1 (at_tuple frame)
+clause_grows (PlanClause-F.Group slots) = λ frame. group_tuples_grows slots
+clause_grows (PlanClause-F.Order os) = λ frame tuples f.
+    let parts = map (λ (o : Plan × OrderModifier). (plan_mean o.0, o.1)) (map (λ (o : P × OrderModifier). (o.0.0, o.1)) os) in
+    let keys = λ (t : Tuple Item). for_each (λ (spec : Meaning × OrderModifier). Forms.atoms_of spec.0 (at_tuple frame t)) parts in
+    then_grows (for_each keys tuples f) _ f
+    (for_each_grows keys tuples (all_of (λ t. Grows (keys t)) (λ t. for_each_grows (λ (spec : Meaning × OrderModifier). Forms.atoms_of spec.0 (at_tuple frame t)) parts (specs (at_tuple frame t) os)) tuples) f)
+    (λ rows g. extends_itself g)
+clause_grows (PlanClause-F.Refused code) = λ frame tuples f. extends_itself f
+
+abbrev step_parts : PlanStep-F P C S → PlanStep-F Meaning ClauseMeaning StepMeaning
+step_parts y =
+    map-PlanStep Plan PlanClause PlanStep Meaning ClauseMeaning StepMeaning plan_mean plan_clause_mean plan_step_mean
+    (map-PlanStep P C S Plan PlanClause PlanStep (λ e. e.0) (λ e. e.0) (λ e. e.0) y)
+
+one_step_grows : (y : PlanStep-F P C S) → StepGrows (plan_step (step_parts y))
+one_step_grows (PlanStep-F.Each part) = λ frame xs. slash_grows frame (plan_mean part.0) part.1 xs
+one_step_grows (PlanStep-F.Scan direction node_test) = λ frame xs f.
+    then_grows _ _ f (extends_itself f) (λ places g. extends_itself g)
+
+-- # All plans
+
+pub plan_grows : (p : Plan) → Growing (plan_mean p)
+plan_grows =
+    ind-Plan Grown (λ c. ClauseGrows (plan_clause_mean c)) (λ s. StepGrows (plan_step_mean s))
+    (λ x y is. subst Growing (sym (fold-roll-Plan Meaning ClauseMeaning StepMeaning plan_form plan_clause plan_step x))
+    (subst (λ z. Growing (plan_form (map-Plan Plan PlanClause PlanStep Meaning ClauseMeaning StepMeaning plan_mean plan_clause_mean plan_step_mean z))) is (form_grows y)))
+    (λ x y is. subst ClauseGrows (sym (fold-roll-PlanClause Meaning ClauseMeaning StepMeaning plan_form plan_clause plan_step x))
+    (subst (λ z. ClauseGrows (plan_clause (map-PlanClause Plan PlanClause PlanStep Meaning ClauseMeaning StepMeaning plan_mean plan_clause_mean plan_step_mean z))) is (clause_grows y)))
+    (λ x y is. subst StepGrows (sym (fold-roll-PlanStep Meaning ClauseMeaning StepMeaning plan_form plan_clause plan_step x))
+    (subst (λ z. StepGrows (plan_step (map-PlanStep Plan PlanClause PlanStep Meaning ClauseMeaning StepMeaning plan_mean plan_clause_mean plan_step_mean z))) is (one_step_grows y)))

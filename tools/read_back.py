@@ -1,0 +1,77 @@
+#!/usr/bin/env python3
+"""Sends replies back as queries: each short reply has to give itself, over no documents.
+
+    tools/read_back.py CORPUS ..          tools/read_back.py ../shared/corpus/public.jsonl
+
+Each row of a corpus with an answer, `{"s": SET, "q": QUERY, "a": ANSWER}`, is asked over the
+documents of its set, as docs.jsonl beside the corpus has them. The text of a reply that fits a
+frame is then asked of a server that keeps nothing, and its reply has to be the same text.
+`--server COMMAND` names another server than the program of this repository. Status 1 where a reply
+is no query, or gives another text.
+"""
+
+import argparse
+import collections
+import json
+import os
+import shlex
+import sys
+
+import client
+
+LONGEST = 1048576
+
+
+def rows(path):
+    """The rows of a file with one JSON value a line."""
+    with open(path, encoding="utf-8", newline="\n") as file:
+        return [json.loads(line) for line in file]
+
+
+def sets_of(paths):
+    """By set, its documents and the queries that have an answer."""
+    documents, queries = {}, collections.defaultdict(list)
+    for path in paths:
+        beside = os.path.join(os.path.dirname(path), "docs.jsonl")
+        documents.update((row["s"], row["docs"]) for row in rows(beside))
+        for row in rows(path):
+            if "a" in row:
+                queries[row["s"]].append(row["q"])
+    return [(documents[name], queries[name]) for name in sorted(queries)]
+
+
+def answers(server, documents, queries):
+    """The texts that the server answers to the queries, over these documents alone."""
+    for address, text in documents.items():
+        server.ask(b"S", client.store(address.encode(), text.encode()))
+    for query in queries:
+        status, text = server.ask(b"Q", query.encode())
+        if status != 0:
+            sys.exit("refused as %s: %s" % (text.decode(), query))
+        yield query, text
+    for address in documents:
+        server.ask(b"D", address.encode())
+
+
+def main():
+    words = argparse.ArgumentParser(description=__doc__.splitlines()[0])
+    words.add_argument("corpus", nargs="+")
+    words.add_argument("--server")
+    given = words.parse_args()
+    command = shlex.split(given.server) if given.server else [client.built()]
+    server, empty = client.Server(command), client.Server(command)
+    count = long = 0
+    for documents, queries in sets_of(given.corpus):
+        for query, text in answers(server, documents, queries):
+            if len(text) > LONGEST:
+                long += 1
+                continue
+            count += 1
+            again = empty.ask(b"Q", text)
+            if again != (0, text):
+                sys.exit("%s\nanswers %s\nwhich reads back as %s" % (query, text[:400], again))
+    print("%d replies give themselves; %d are longer than a frame" % (count, long))
+
+
+if __name__ == "__main__":
+    main()
