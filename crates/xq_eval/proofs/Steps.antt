@@ -296,7 +296,7 @@ parents_below_is p q of predicates frame xs f hp hq =
     let ms = map plan_mean predicates in
     let first : plan_step_mean p frame xs f ≡ Forms.scan DescendantOrSelf Any xs f = ap (λ m. m frame xs f) (ap plan_step_mean hp ∙ step-Scan DescendantOrSelf Any) in
     let later : plan_step_mean q ≡ (λ frame xs. Forms.slash frame xs (Forms.step Child of ms)) =
-        ap plan_step_mean hq ∙ step-Each (plan.Step Child of predicates) ∙ ap (λ (m : Meaning). λ (frame : Frame) (xs : List Item). Forms.slash frame xs m) (plan-Step Child of predicates) in
+    ap plan_step_mean hq ∙ step-Each (plan.Step Child of predicates) ∙ ap (λ (m : Meaning). λ (frame : Frame) (xs : List Item). Forms.slash frame xs m) (plan-Step Child of predicates) in
     ap (λ o. go_on o (λ ys. plan_step_mean q frame ys)) first
     ∙ ap (λ (m : StepMeaning). go_on (Forms.scan DescendantOrSelf Any xs f) (λ ys. m frame ys)) later
     ∙ parents_suffice of ms frame f (grow_all predicates) xs

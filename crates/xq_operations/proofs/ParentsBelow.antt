@@ -1,6 +1,6 @@
 -- A step to children with predicates after `//` gives nothing at a node without a child that passes
 -- the test: so it is evaluated at the others alone.
-use Rattle.std.proofs.Common.{◌≡◌, ℕ, zero, suc, ◌+◌, ◌<◌, List, [], ◌∷◌, ◌++◌, length, map, cond, Bool, true, false, ◌&&◌, Ok, Err, refl, sym, ◌∙◌, ap, subst, arith}
+use Rattle.std.proofs.Common.{◌≡◌, ℕ, suc, ◌+◌, ◌<◌, List, [], ◌∷◌, ◌++◌, length, map, cond, Bool, true, false, ◌&&◌, Ok, Err, refl, sym, ◌∙◌, ap, subst, arith}
 use Rattle.std.specs.Prelude.{filter}
 use Rattle.std.specs.List.{list_any, flat_map, AllByRecursion}
 use Rattle.std.proofs.lemmas.Bool.{or_left, and_from, and_parts}
@@ -11,7 +11,7 @@ use Rattle.xq_atoms.specs.declared.refusals.Code.TheVariants.{XPTY0019}
 use Rattle.xq_regions.specs.declared.Axis.{Axis}
 use Rattle.xq_regions.specs.declared.Axis.TheVariants as axis
 use Rattle.xq_regions.specs.AxisTests.{on_axis}
-use Rattle.xq_regions.specs.Node.{HasPath, label_at as label_in}
+use Rattle.xq_regions.specs.Node.{label_at as label_in}
 use Rattle.xq_regions.specs.Order.{IsAbove}
 use Rattle.xq_regions.specs.Tree.{Tree, nodes, no_label}
 use Rattle.xq_sources.specs.Sources.{tree_at}
@@ -19,7 +19,7 @@ use Rattle.xq_values.specs.declared.node_tests.Test.{Test}
 use Rattle.xq_values.specs.declared.node_tests.Test.TheVariants as test
 use Rattle.xq_values.specs.Arguments.{all_nodes}
 use Rattle.xq_values.specs.Functions.{Focus}
-use Rattle.xq_values.specs.Items.{Place, place, Item, Node, paths, places_from, nodes_at, same_node, is_among, in_document_order}
+use Rattle.xq_values.specs.Items.{Place, place, Item, Node, paths, places_from, same_node, is_among, in_document_order}
 use Rattle.xq_values.specs.Readings.{Extends}
 use Rattle.xq_values.specs.Operators.{in_order, gathered}
 use Rattle.xq_values.specs.Steps.{passes, passes_at, axis_nodes, focuses, focuses_from, in_axis_order}
@@ -126,10 +126,10 @@ module _ (trees : List Tree) (of : Test) (ps : List Place) where
         let found : Place → Bool = is_among (flat_map children below) in
         let z : 0 + p.tree ≡ p.tree = omega arith in
         let among : found c ≡ true =
-            any_flat (same_node c) children below
-            ∙ any_filter (λ d. is_among (children d) c) all (places_from 0 trees)
-            ∙ has_place (λ d. all d && is_among (children d) c) 0 trees p.tree p.path there.0 there.1
-            (subst (λ n. (all (place n p.path) && is_among (children (place n p.path)) c) ≡ true) (sym z) (and_from _ _ two.0 child)) in
+        any_flat (same_node c) children below
+        ∙ any_filter (λ d. is_among (children d) c) all (places_from 0 trees)
+        ∙ has_place (λ d. all d && is_among (children d) c) 0 trees p.tree p.path there.0 there.1
+        (subst (λ n. (all (place n p.path) && is_among (children (place n p.path)) c) ≡ true) (sym z) (and_from _ _ two.0 child)) in
         let parent : is_among (up c) p ≡ true = to_axis trees axis.Parent test.Any c p (record { tree = refl; path = there.1; on = (on.on.0, on.on.1); passes = refl }) in
         any_flat (same_node p) up (places_after trees of ps)
         ∙ any_filter (λ c. is_among (up c) p) found (places_from 0 trees)

@@ -88,13 +88,22 @@ const CHILDREN_BELOW: [(&str, &str); 14] = [
         "let $d := document {element r {element s {element p {1}, element p {2}}, element p {3, element p {4}}}} return (1, $d)//p[1]",
         "XPTY0019",
     ),
-    ("(document {element r {\"a\", element b {}, \"c\"}})//text()[2]", "text {\"c\"}"),
-    ("(element a {element p {1}}, element b {element p {2}})//p[1]/string()", "\"1\", \"2\""),
+    (
+        "(document {element r {\"a\", element b {}, \"c\"}})//text()[2]",
+        "text {\"c\"}",
+    ),
+    (
+        "(element a {element p {1}}, element b {element p {2}})//p[1]/string()",
+        "\"1\", \"2\"",
+    ),
     (
         "let $a := element a {element p {1}, element p {2}} return ($a, $a/p, $a)//p[2]/string()",
         "\"2\"",
     ),
-    ("let $a := element a {attribute p {1}, element p {2}} return $a/@p//p[1]", "()"),
+    (
+        "let $a := element a {attribute p {1}, element p {2}} return $a/@p//p[1]",
+        "()",
+    ),
 ];
 
 /// FLWOR and quantified expressions (XQuery 3.1, sections 3.12 and 3.16).

@@ -1255,10 +1255,12 @@ paths::step_list-loop-index-preserved-in-Some-chosen_children g t c =
     let next = sym c.at-next.ensures ∙ some.ensures.1 in
     let are = ap (λ k. map plan_step_mean (drop k c.args.steps.now)) (none_taken c.loop-index.is_taken n c.if-is_taken.false) ∙ two_left plan_step_mean c.args.steps.now n p q (omega arith) c.index-steps-index.is next in
     let there = turns_from _ _ _ (item_views c.in_ok-parents.parents) (plan_step_mean p) (plan_step_mean q) _ f' i.turns are c.in_ok-parents.ensures.goes.was_clean
-        (λ clean inside is_in.
-        let s = c.in_ok-parents.ensures.gives clean (subst (AreIn f) (sym d) is_in) in
-        (s.0, parents_below_is p q test some.ensures.0 frame (items_at f left) f (c.is_double_slash.ensures c.if-is_double_slash.true) refl
-            ∙ ap (λ o. go_on o (λ ys. plan_step_mean q frame ys)) (ap (λ xs. parents_below test (items_at f xs) f) (sym d) ∙ s.1))) in
+    (λ clean inside is_in.
+    let s = c.in_ok-parents.ensures.gives clean (subst (AreIn f) (sym d) is_in) in (
+      s.0,
+      parents_below_is p q test some.ensures.0 frame (items_at f left) f (c.is_double_slash.ensures c.if-is_double_slash.true) refl
+          ∙ ap (λ o. go_on o (λ ys. plan_step_mean q frame ys)) (ap (λ xs. parents_below test (items_at f xs) f) (sym d) ∙ s.1),
+    )) in
     record {
       goes = goes_on_to i.goes c.in_ok-parents.ensures.goes;
       turns = turns_same _ _ _ _ there (sym (left_from plan_step_mean c.args.steps.now (n + 1) q next) ∙ ap (λ k. map plan_step_mean (drop k c.args.steps.now)) (sym (none_taken c.loop-index.is_taken (n + 1) c.if-is_taken.false)));
