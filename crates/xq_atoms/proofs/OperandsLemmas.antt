@@ -7,7 +7,7 @@ use Rattle.xq_atoms.specs.declared.arithmetic.Operands.TheVariants.{Integers as 
 use Rattle.xq_atoms.specs.Judged.{Judged, ◌>>=◌}
 use Rattle.xq_atoms.specs.Atom.{Atomic, numeric, integer, decimal}
 use Rattle.xq_atoms.specs.Arithmetic.{operands, on_operands, arithmetic, on_number, on_one}
-use Rattle.xq_atoms.specs.Numbers.{number_of, operands_of}
+use Rattle.xq_atoms.specs.private.Numbers.{number_of, operands_of}
 
 pub arithmetic-Integers : (f g : ℤ → ℤ → Judged Atomic) (a b : Atomic) (o : Pair) (m n : ℤ) → operands_of (Ok o) ≡ operands a b → o ≡ TwoIntegers m n → arithmetic f g a b ≡ f m n
 arithmetic-Integers f g a b o m n known is = ap (λ x. x >>= on_operands f g) (sym known ∙ ap (λ x. operands_of (Ok x)) is)

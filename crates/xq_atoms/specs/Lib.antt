@@ -5,11 +5,8 @@ pub mod Decimal
 pub mod Text
 pub mod Atom
 pub mod Arithmetic
-pub mod Numbers
 pub mod Literal
 pub mod Cast
-pub mod Casting
 pub mod Compare
-pub mod Comparing
 pub mod Print
-pub mod Derived
+pub mod private

@@ -4,7 +4,7 @@ ghost use Rattle.xq_atoms.specs.Decimal.{IsDecimal, one, in_millionths, floored 
 ghost use Rattle.xq_atoms.specs.Atom as Atomic;
 ghost use Rattle.xq_atoms.specs.Atom.{atomic_of, judged_of};
 ghost use Rattle.xq_atoms.specs.Arithmetic as Arithmetic;
-ghost use Rattle.xq_atoms.specs.Numbers.{number_of, operands_of};
+ghost use Rattle.xq_atoms.specs.private.Numbers.{number_of, operands_of};
 
 use crate::atoms::Atom;
 use crate::decimals::Decimal;

@@ -5,7 +5,7 @@ ghost use Rattle.xq_atoms.specs.Decimal.{is_decimal};
 ghost use Rattle.xq_atoms.specs.Atom.{atomic_of, judged_of, is_integer, Integer, Decimal as ADecimal};
 ghost use Rattle.xq_atoms.specs.Literal as Literal;
 ghost use Rattle.xq_atoms.specs.Cast as Cast;
-ghost use Rattle.xq_atoms.specs.Casting.{boolean_judged};
+ghost use Rattle.xq_atoms.specs.private.Casting.{boolean_judged};
 
 use crate::atoms::Atom;
 use crate::decimals::Decimal;

@@ -2,7 +2,7 @@
 ghost use Rattle.std.specs.Prelude.{◌≡◌};
 ghost use Rattle.xq_atoms.specs.Atom.{atomic_of};
 ghost use Rattle.xq_atoms.specs.Compare as Compare;
-ghost use Rattle.xq_atoms.specs.Comparing.{ordering_of, key_of_comparable};
+ghost use Rattle.xq_atoms.specs.private.Comparing.{ordering_of, key_of_comparable};
 
 use crate::atoms::Atom;
 use crate::casts;

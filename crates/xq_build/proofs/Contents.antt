@@ -14,7 +14,7 @@ use Rattle.xq_regions.specs.Rows.{rows}
 use Rattle.xq_regions.specs.Nesting.{rows-injective}
 use Rattle.xq_regions.proofs.Printed.{leveled, flat-measured}
 use Rattle.xq_regions.proofs.Sized.{sized-tree}
-use Rattle.xq_regions.specs.Sizes.{sized}
+use Rattle.xq_regions.specs.private.Sizes.{sized}
 use Rattle.xq_values.specs.Texts.{joined}
 use Rattle.xq_values.specs.Content.{is_text, text_label, copied, run, spaced, flattened_after, flattened, in_front, merged, in_front_unless, is_empty_text, without_empty_texts, is_within_height}
 use Rattle.xq_values.specs.Items.{Item, Node, Atom, tree_below}

@@ -14,8 +14,8 @@ use Rattle.xq_lexer.specs.Separators.{skip}
 use Rattle.xq_lexer.specs.Lexeme.{Lex, Placed, place_of, placed}
 use Rattle.xq_lexer.specs.Spelling.{Form, name, prefixed, number, string, symbol, form_text, form_lex, IsForm, Next, Before, Spells, bytes}
 use Rattle.xq_lexer.specs.TokenFaults.{TokenFault, FaultHere, HasFault, Refuses}
-use Rattle.xq_lexer.specs.Reading.{read_token}
-use Rattle.xq_lexer.specs.Gives.{lexed, Fails, Nexts, Lexes}
+use Rattle.xq_lexer.specs.private.Reading.{read_token}
+use Rattle.xq_lexer.specs.private.Gives.{lexed, Fails, Nexts, Lexes}
 use Rattle.xq_lexer.proofs.RunLemmas.{bytes_append}
 use Rattle.xq_lexer.proofs.SymbolLemmas.{row_of}
 use Rattle.xq_lexer.proofs.Fronts.{number_some}

@@ -12,8 +12,8 @@ use Rattle.xq_characters.specs.Characters.{is_char}
 use Rattle.xq_lexer.specs.Chars.{Text, is_quote}
 use Rattle.xq_lexer.specs.Lexeme.{str}
 use Rattle.xq_lexer.specs.Literals.{Reference, referred, Piece, reference, IsPiece, ArePieces, piece_text, piece_char, content_text, content_chars}
-use Rattle.xq_lexer.specs.Reading.{Inside, closed, one, wrong, after_ampersand, inside, read_reference, content, as_string, read_string}
-use Rattle.xq_lexer.specs.Gives.{shown, referred_char, refers, lexed}
+use Rattle.xq_lexer.specs.private.Reading.{Inside, closed, one, wrong, after_ampersand, inside, read_reference, content, as_string, read_string}
+use Rattle.xq_lexer.specs.private.Gives.{shown, referred_char, refers, lexed}
 use Rattle.xq_lexer.proofs.Contents.{Means, inside_means, content_read, content_fault_read, piece_shorter}
 
 at : (quote : ℕ) (x : Reference × Text) (b : Bool) → shown quote (cond b (one (reference x.0) x.1) (wrong XQST0090)) ≡ cond {A = Result (Option ℕ × Text) Code} b (Ok (Some (referred x.0), x.1)) (Err XQST0090)

@@ -1,9 +1,8 @@
 pub mod Chars
-pub mod Gives
 pub mod Lexeme
 pub mod Literals
 pub mod Nesting
-pub mod Reading
 pub mod Separators
 pub mod Spelling
 pub mod TokenFaults
+pub mod private

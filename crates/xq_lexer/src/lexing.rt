@@ -5,9 +5,9 @@ ghost use Rattle.xq_atoms.specs.declared.refusals.Code.{Code as FaultCode};
 ghost use Rattle.xq_atoms.specs.declared.refusals.Fault.TheVariants.{Want as FaultWant};
 ghost use Rattle.xq_atoms.specs.declared.refusals.Want.TheVariants.{Memory as WantMemory};
 ghost use Rattle.xq_lexer.specs.Chars.{Text};
-ghost use Rattle.xq_lexer.specs.Gives.{Answers, Gives, Lexes, Nexts, lexed};
+ghost use Rattle.xq_lexer.specs.private.Gives.{Answers, Gives, Lexes, Nexts, lexed};
 ghost use Rattle.xq_lexer.specs.Lexeme.{Placed, lex_of, placed};
-ghost use Rattle.xq_lexer.specs.Reading as spec;
+ghost use Rattle.xq_lexer.specs.private.Reading as spec;
 ghost use Rattle.xq_lexer.specs.Spelling.{Spells, bytes as bytes_of};
 ghost use Rattle.xq_lexer.specs.TokenFaults.{HasFault, Refuses};
 
@@ -94,7 +94,7 @@ fn passed(chars: &[char], rest: &[char]) -> usize
 }
 
 /// What the token at the front is, and what is left behind it.
-#[tactic(auto, unfolding(crate::specs::Reading::read_token))]
+#[tactic(auto, unfolding(crate::specs::private::Reading::read_token))]
 fn token<'a>(alloc: Global, chars: &'a [char]) -> Result<(Lexeme, &'a [char]), Fault>
     ensures { Gives (λ x. (lex_of x.0, x.1.now)) result (lexed (spec.read_token chars.now)) }
 {
@@ -115,7 +115,7 @@ fn token<'a>(alloc: Global, chars: &'a [char]) -> Result<(Lexeme, &'a [char]), F
 }
 
 /// The symbol at the front, and what is left behind it.
-#[tactic(auto, unfolding(crate::specs::Reading::read_symbol))]
+#[tactic(auto, unfolding(crate::specs::private::Reading::read_symbol))]
 fn symbol(chars: &[char]) -> Result<(Lexeme, &[char]), Code>
     ensures { Answers (λ x. (lex_of x.0, x.1.now)) result (lexed (spec.read_symbol chars.now)) }
 {

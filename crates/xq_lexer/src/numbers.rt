@@ -4,11 +4,11 @@ ghost use Rattle.std.specs.Bool.{OnTrue, OnFalse};
 ghost use Rattle.xq_atoms.specs.Literal.{is_number};
 ghost use Rattle.xq_atoms.specs.Text.{is_whole};
 ghost use Rattle.xq_characters.specs.Characters.{is_digit as is_digit_lem};
-ghost use Rattle.xq_lexer.specs.Gives.{Answers, Gives, lexed, pointed, valued_lex};
+ghost use Rattle.xq_lexer.specs.private.Gives.{Answers, Gives, lexed, pointed, valued_lex};
 ghost use Rattle.xq_lexer.specs.Lexeme.{lex_of};
 ghost use Rattle.xq_lexer.specs.Literals as lit;
 ghost use Rattle.xq_lexer.specs.Chars as chars_spec;
-ghost use Rattle.xq_lexer.specs.Reading as spec;
+ghost use Rattle.xq_lexer.specs.private.Reading as spec;
 
 use crate::runs::{Class, run, text};
 use crate::tokens::Lexeme;
@@ -42,7 +42,7 @@ pub fn number<'a>(alloc: Global, chars: &'a [char]) -> Result<(Lexeme, &'a [char
 }
 
 /// Whether a point stands among the digits at the front, and what is left behind them.
-#[tactic(auto, unfolding(crate::specs::Reading::read_number, crate::specs::Reading::after_digits))]
+#[tactic(auto, unfolding(crate::specs::private::Reading::read_number, crate::specs::private::Reading::after_digits))]
 fn digits(chars: &[char]) -> (bool, &[char])
     ensures { (result.0, result.1.now) ≡ pointed (spec.read_number chars.now) }
 {

@@ -1,10 +1,10 @@
 //! String literals.
 ghost use Rattle.std.specs.Prelude.{◌≡◌, ◌≤◌, min, true, option_map, Ok};
-ghost use Rattle.xq_lexer.specs.Gives.{Answers, Gives, lexed, refers, referred_char, shown};
+ghost use Rattle.xq_lexer.specs.private.Gives.{Answers, Gives, lexed, refers, referred_char, shown};
 ghost use Rattle.xq_lexer.specs.Chars as chars_spec;
 ghost use Rattle.xq_lexer.specs.Lexeme.{lex_of};
 ghost use Rattle.xq_lexer.specs.Literals as lit;
-ghost use Rattle.xq_lexer.specs.Reading as spec;
+ghost use Rattle.xq_lexer.specs.private.Reading as spec;
 
 use crate::runs::{Class, run};
 use crate::tokens::Lexeme;
@@ -39,7 +39,7 @@ pub fn string<'a>(
 }
 
 /// The character that is next inside a string, or None at its last quote, and what is left.
-#[tactic(auto, unfolding(crate::specs::Reading::inside))]
+#[tactic(auto, unfolding(crate::specs::private::Reading::inside))]
 fn inside(quote: char, chars: &[char]) -> Result<(Option<char>, &[char]), Code>
     ensures { Answers (λ x. (x.0, x.1.now)) result (shown quote (spec.inside quote chars.now)) }
 {
@@ -90,7 +90,7 @@ fn after_ampersand(chars: &[char]) -> Result<(Option<char>, &[char]), Code>
 
 /// The number of the character that the reference behind an `&` stands for, at most `PAST_CHARS`,
 /// and what is left.
-#[tactic(auto, unfolding(crate::specs::Reading::read_reference))]
+#[tactic(auto, unfolding(crate::specs::private::Reading::read_reference))]
 fn reference(chars: &[char]) -> Option<(u32, &[char])>
     ensures { option_map (λ x. (x.0, x.1.now)) result ≡ refers (spec.read_reference chars.now) }
 {
@@ -127,7 +127,7 @@ fn strip<'a>(word: &[char], chars: &'a [char]) -> Option<&'a [char]>
 }
 
 /// The number that the digits behind `&#` spell, at most `PAST_CHARS`, and what is left behind `;`.
-#[tactic(auto, unfolding(crate::specs::Reading::read_numbered))]
+#[tactic(auto, unfolding(crate::specs::private::Reading::read_numbered))]
 fn numbered(chars: &[char]) -> Option<(u32, &[char])>
     ensures { option_map (λ x. (x.0, x.1.now)) result ≡ refers (spec.read_numbered chars.now) }
 {

@@ -6,7 +6,7 @@ use Rattle.std.proofs.lemmas.Bool.{cases_lt}
 use Rattle.std.proofs.lemmas.List.{get_or_append_left, get_or-append_right, get_or_past, get_or-take, get_or-drop, get_or-set_same, length-set, length-take-le, take-append-drop, ext_get_or}
 use Rattle.std.proofs.lemmas.List.Concat.{flat_map-append}
 use Rattle.std.proofs.lemmas.List.Elements.{All-set, All-take, All-push}
-use Rattle.xq_memory_disk.specs.Blocks.{joined, AreFull, HasRoom}
+use Rattle.xq_memory_disk.specs.private.Blocks.{joined, AreFull, HasRoom}
 
 -- what each index reads decides a list, together with its length
 pub same_bytes : (xs ys : List ℕ) → length xs ≡ length ys → ((i : ℕ) → slice_index xs i ≡ slice_index ys i) → xs ≡ ys

@@ -2,7 +2,7 @@
 //! where it is.
 ghost use Rattle.std.specs.Prelude.{◌≡◌, ◌⊎◌, ◌+◌, ◌*◌, ◌^◌, ◌<◌, ◌≤◌, ℕ, [], length, max, slice_index, take, IfOk, OnOk, OnErr};
 ghost use Rattle.sqlite_disk.specs.Disk.{Holds, Torn, Cut};
-ghost use Rattle.xq_memory_disk.specs.Blocks.{joined, AreFull};
+ghost use Rattle.xq_memory_disk.specs.private.Blocks.{joined, AreFull};
 
 use std::alloc::{AllocError, Global};
 use std::marker::Model;
@@ -19,7 +19,7 @@ pub struct Blocks {
 
 impl Model for Blocks {
     ghost use Rattle.std.specs.Prelude.{ℕ, List, take};
-    ghost use Rattle.xq_memory_disk.specs.Blocks.{joined, HasRoom};
+    ghost use Rattle.xq_memory_disk.specs.private.Blocks.{joined, HasRoom};
 
     ghost Value = { List ℕ };
 

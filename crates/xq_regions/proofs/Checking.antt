@@ -7,7 +7,7 @@ use Rattle.xq_regions.specs.Forest.{Forest, end, node, count, labels, tops, Each
 use Rattle.std.specs.Prelude.{nat_le}
 use Rattle.xq_regions.specs.Tree.{Label, may_stand, has_text, may_precede, is_legal}
 use Rattle.xq_regions.specs.Rows.{Row, front, back, nest, no_row, row_at}
-use Rattle.xq_regions.specs.Checks.{label_of, child_ok, is_run, RowOk, IsChecked, NamesOk, AreNamed, roots}
+use Rattle.xq_regions.specs.private.Checks.{label_of, child_ok, is_run, RowOk, IsChecked, NamesOk, AreNamed, roots}
 
 pub both : (a b : Bool) → (a && b) ≡ true → (a ≡ true) × (b ≡ true)
 both true b h = (refl, h)

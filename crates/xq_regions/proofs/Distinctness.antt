@@ -14,7 +14,7 @@ use Rattle.std.proofs.lemmas.List.{get_or-map}
 use Rattle.std.proofs.lemmas.List.Sorted.{IsPermutation-map, IsPermutation-sym, Contains-permutation}
 use Rattle.std.proofs.lemmas.Map.Keys.{IsDistinct-from_apart, IsDistinct-head, IsDistinct-tail, IsDistinct-cons, IsDistinct-IsPermutation, IsStrictlyIncreasing-from_distinct, sorted_from_strictly_increasing, below_from_sorted, apart_from_distinct, sorted_from_all_adjacent, Less-from_sorted}
 use Rattle.xq_regions.specs.declared.NodeRow.{NodeRow}
-use Rattle.xq_regions.specs.Checks.{name_of, pre_of, rank_of}
+use Rattle.xq_regions.specs.private.Checks.{name_of, pre_of, rank_of}
 use Rattle.xq_regions.proofs.Walks.{length-map}
 
 -- # Back in document order

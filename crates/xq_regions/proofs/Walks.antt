@@ -6,7 +6,7 @@ use Rattle.std.proofs.lemmas.Bool.{le-leb, eq-eqb}
 use Rattle.xq_regions.specs.Forest.{count, tops}
 use Rattle.xq_regions.specs.Tree.{Label, may_precede, may_follow, may_stand, has_text}
 use Rattle.xq_regions.specs.Rows.{Row, row_at, row_of, front, nest}
-use Rattle.xq_regions.specs.Checks.{IsChecked, roots, label_of, child_ok, may_be_child, is_run}
+use Rattle.xq_regions.specs.private.Checks.{IsChecked, roots, label_of, child_ok, may_be_child, is_run}
 use Rattle.xq_regions.specs.declared.NodeRow.{NodeRow}
 use Rattle.xq_regions.specs.declared.Kind.{Kind}
 use Rattle.std.proofs.Common.{length-drop}

@@ -5,7 +5,7 @@ ghost use Rattle.std.specs.List.Sorted.{IsNonDecreasingBy, IsStrictlyIncreasing}
 ghost use Rattle.std.specs.Str.{bytes_eq};
 ghost use Rattle.std.specs.Cmp.Lexicographic.{slice_cmp};
 ghost use Rattle.std.specs.Ordering.{is_lt, nat_cmp};
-ghost use Rattle.xq_regions.specs.Checks.{name_of, pre_of, rank_of};
+ghost use Rattle.xq_regions.specs.private.Checks.{name_of, pre_of, rank_of};
 
 use crate::NodeRow;
 use std::cmp::Ordering;

@@ -2,9 +2,9 @@
 ghost use Rattle.std.specs.Prelude.{◌≡◌, ◌≤◌, ◌<◌, ◌+◌, length, map, drop, slice_index, vec_len, IsNone, IfSome};
 ghost use Rattle.xq_regions.specs.Tree.{Tree, IsTree};
 ghost use Rattle.xq_regions.specs.Rows.{AreNumbered};
-ghost use Rattle.xq_regions.specs.Levels.{HasLevels};
+ghost use Rattle.xq_regions.specs.private.Levels.{HasLevels};
 ghost use Rattle.xq_regions.specs.Print.{flat_row};
-ghost use Rattle.xq_regions.specs.Sizes.{IsSized, deeper, level_of};
+ghost use Rattle.xq_regions.specs.private.Sizes.{IsSized, deeper, level_of};
 
 use crate::{Fragment, MAX_NODES, NodeRow};
 

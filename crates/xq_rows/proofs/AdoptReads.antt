@@ -30,7 +30,7 @@ use Rattle.sqlite.proofs.Callers.{IsPlain, command_of, reads_as}
 use Rattle.xq_rows.specs.declared.faults.OpenFault.TheVariants.{NotAStore}
 use Rattle.xq_rows.specs.Tables.{no_schema, layout_schema, node_schema, IsStoreSchema, layout_rows}
 use Rattle.xq_rows.proofs.Places.{First, layout_first, node_first, schema_of, layout_tree, node_tree, which, nodes_lie, layout_lies, layout_alone, layout_not_given}
-use Rattle.xq_rows.specs.Adopt.{fault_of, IsInputError, named, by_place, AreNodes, ReadsEdition, ReadsRowids, ReadsNodes, SeesNothing}
+use Rattle.xq_rows.specs.private.Adopt.{fault_of, IsInputError, named, by_place, AreNodes, ReadsEdition, ReadsRowids, ReadsNodes, SeesNothing}
 use Rattle.xq_rows.proofs.Texts.{IsUnread, body, key}
 use Rattle.xq_rows.proofs.Lists.{flat_map_picks}
 use Rattle.xq_rows.proofs.Creates.{undone_kept}

@@ -4,7 +4,7 @@ use Rattle.std.specs.FinMap.{empty}
 use Rattle.sqlite_trees.specs.declared.store.Store.{Ghosts}
 use Rattle.sqlite.specs.Held.{Held, state}
 use Rattle.sqlite.specs.State.{HasCleanDisk}
-use Rattle.xq_rows.specs.Adopt.{IsAdopted, IsNoStore, IsBlank, HasTables, HasOneTable}
+use Rattle.xq_rows.specs.private.Adopt.{IsAdopted, IsNoStore, IsBlank, HasTables, HasOneTable}
 use Rattle.xq_rows.specs.Documents.{IsReady, IsClean, IsOpen, IsUp, Holds, StandsFor, documents, documents_in, IsStore}
 use Rattle.xq_rows.proofs.Maps.{no_documents}
 use Rattle.xq_rows.specs.Tables.{node_rows}

@@ -28,8 +28,8 @@ use Rattle.xq_atoms.specs.Address.{IsAddress}
 use Rattle.xq_regions.specs.Rows.{rows as rows_of, placed_rows}
 use Rattle.xq_rows.specs.Nodes.{cells, node_of, bytes_in}
 use Rattle.xq_rows.specs.Documents.{AreApart, HaveInts, HasAddress, is_at, rows_at, by_first, IsWhole, IsStore}
-use Rattle.xq_rows.specs.Adopt.{named, is_under, HasOwner, by_place, run_length, IsRun, nodes_under, AreTold, ReadsEdition, SeesEdition, IsPast, ReadsRowids, SeesRowids, AreNodes, ReadsNodes, AreDocuments, SeesNothing, SeesDocuments, IsAdopted, IsNoStore}
-use Rattle.xq_rows.specs.Statements.{MakesStore}
+use Rattle.xq_rows.specs.private.Adopt.{named, is_under, HasOwner, by_place, run_length, IsRun, nodes_under, AreTold, ReadsEdition, SeesEdition, IsPast, ReadsRowids, SeesRowids, AreNodes, ReadsNodes, AreDocuments, SeesNothing, SeesDocuments, IsAdopted, IsNoStore}
+use Rattle.xq_rows.specs.private.Statements.{MakesStore}
 use Rattle.xq_rows.specs.Tables.{no_schema, node_rows, layout_rows, IsStoreSchema}
 use Rattle.xq_rows.proofs.Lists.{tied}
 use Rattle.xq_rows.proofs.Maps.{text_is, same_address}

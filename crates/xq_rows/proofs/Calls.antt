@@ -13,7 +13,7 @@ use Rattle.xq_regions.specs.declared.NodeRow.{NodeRow}
 use Rattle.xq_regions.specs.declared.Kind.TheVariants.{Document}
 use Rattle.xq_rows.specs.Nodes.{cells}
 use Rattle.xq_rows.specs.Documents.{Map, IsReady, IsClean, IsOpen, StandsFor, documents_in, is_at, IsStore, IsEmptyStore}
-use Rattle.xq_rows.specs.Statements.{AreAbove, AreAddresses, Deletes, Finds, IsRange, Puts}
+use Rattle.xq_rows.specs.private.Statements.{AreAbove, AreAddresses, Deletes, Finds, IsRange, Puts}
 use Rattle.xq_rows.specs.Tables.{node_rows, IsStoreSchema}
 use Rattle.sqlite_value.specs.declared.value.Value.TheVariants.{Text}
 use Rattle.xq_rows.proofs.Loads.{most, found_is}

@@ -28,7 +28,7 @@ use Rattle.std.proofs.Common.{IfOk, IsTrue}
 use Rattle.sqlite.proofs.Callers.{IsPlain, command_of, statement_of, runs_as, one_step}
 use Rattle.xq_rows.specs.Tables.{IsStoreSchema, node_rows}
 use Rattle.xq_rows.proofs.Places.{First, schema_of, layout_tree, node_tree, node_place, node_table_of, which, nodes_lie, layout_lies, no_works, layout_stays, on_node}
-use Rattle.xq_rows.specs.Statements.{HasDropped, Drops, is_part}
+use Rattle.xq_rows.specs.private.Statements.{HasDropped, Drops, is_part}
 use Rattle.xq_rows.proofs.Texts.{body, term1, delete_text, delete_program, delete_is, delete_plain, part_text, part_tests, part_is, part_plain}
 use Rattle.xq_rows.proofs.Lists.{takes_out}
 

@@ -42,7 +42,7 @@ use Rattle.sqlite.specs.State.{ExecutesInside, KeepsCommit}
 use Rattle.sqlite.specs.declared.error.Error.{Error}
 use Rattle.std.specs.List.{AllByRecursion}
 use Rattle.xq_rows.specs.Documents.{is_at, kept, rows_at, AreApart, HasAddress, HaveInts}
-use Rattle.xq_rows.specs.Statements.{HasAdded, Adds}
+use Rattle.xq_rows.specs.private.Statements.{HasAdded, Adds}
 
 either : (b : Bool) (x : Value) → cond b x x ≡ x
 either true x = refl

@@ -20,7 +20,7 @@ use Rattle.xq_regions.specs.Rows.{Row as Node, rows}
 use Rattle.xq_regions.specs.Tree.{Tree}
 use Rattle.xq_rows.specs.Nodes.{cells, bytes_in}
 use Rattle.xq_rows.specs.Documents.{is_at, is_first, kept, rows_at, by_first, tree_at, addresses_in, documents_in, HasAddress, IsWhole}
-use Rattle.xq_rows.specs.Statements.{IsPicked, AreAddresses}
+use Rattle.xq_rows.specs.private.Statements.{IsPicked, AreAddresses}
 use Rattle.sqlite.specs.Effect.{Database}
 use Rattle.std.proofs.Common.{ap₂}
 use Rattle.std.proofs.lemmas.List.Sorted.{All-permutation}

@@ -21,7 +21,7 @@ use Rattle.xq_regions.specs.Nesting.{count-measured, rows-injective}
 use Rattle.xq_regions.specs.declared.NodeRow.{NodeRow}
 use Rattle.xq_rows.specs.Nodes.{cells, node_in, node_of}
 use Rattle.xq_rows.specs.Documents.{is_at, kept, rows_at, by_first, documents_in, IsWhole, IsStore}
-use Rattle.xq_rows.specs.Statements.{is_above, is_within, AreAbove, Finds, IsPicked, IsRange}
+use Rattle.xq_rows.specs.private.Statements.{is_above, is_within, AreAbove, Finds, IsPicked, IsRange}
 use Rattle.xq_rows.proofs.Maps.{get-whole, get-none, node_back, nodes_back}
 use Rattle.xq_rows.proofs.Orders.{first_total, numbers_rise}
 use Rattle.xq_rows.specs.Tables.{node_rows}

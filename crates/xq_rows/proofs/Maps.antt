@@ -25,7 +25,7 @@ use Rattle.xq_regions.specs.declared.Kind.{Kind}
 use Rattle.xq_regions.specs.declared.Kind.TheVariants.{Document, Element, Attribute, Text as TextNode, Comment, ProcessingInstruction}
 use Rattle.xq_rows.specs.Nodes.{cells, node_in, bytes_in, number_of, kind_from}
 use Rattle.xq_rows.specs.Documents.{is_at, is_first, kept, rows_at, by_first, tree_at, addresses_in, documents_in, AreApart, HasAddress, HaveInts, IsWhole, IsStore}
-use Rattle.xq_rows.specs.Statements.{HasDropped, HasAdded}
+use Rattle.xq_rows.specs.private.Statements.{HasDropped, HasAdded}
 use Rattle.xq_rows.proofs.Inserts.{own_address}
 use Rattle.xq_rows.proofs.Lists.{tied}
 use Rattle.xq_rows.proofs.Orders.{sorted_nodes}

@@ -24,7 +24,7 @@ use Rattle.xq_regions.specs.Nesting.{count-measured}
 use Rattle.xq_regions.specs.declared.NodeRow.{NodeRow}
 use Rattle.xq_rows.specs.Documents.{is_at, kept, rows_at, AreApart, HasAddress, HaveInts, IsStore}
 use Rattle.xq_rows.specs.Nodes.{cells}
-use Rattle.xq_rows.specs.Statements.{Deletes, HasDropped, HasAdded, Puts, is_part}
+use Rattle.xq_rows.specs.private.Statements.{Deletes, HasDropped, HasAdded, Puts, is_part}
 use Rattle.sqlite_trees.specs.Tree.{with_tree}
 use Rattle.xq_rows.proofs.Places.{First, layout_first, node_first, schema_of, node_tree, which, nodes_lie, layout_lies}
 use Rattle.xq_rows.specs.Tables.{node_rows, layout_rows, IsStoreSchema}

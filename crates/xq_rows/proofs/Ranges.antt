@@ -35,7 +35,7 @@ use Rattle.xq_regions.specs.Nesting.{count-measured}
 use Rattle.xq_sources.specs.Sources.{is_between, encloses, rows_between, rows_enclosing}
 use Rattle.xq_rows.specs.Nodes.{cells, node_in, number_in}
 use Rattle.xq_rows.specs.Documents.{is_at, kept, rows_at, by_first, documents_in, IsWhole, IsStore}
-use Rattle.xq_rows.specs.Statements.{is_above, AreAbove, IsPicked, IsRange}
+use Rattle.xq_rows.specs.private.Statements.{is_above, AreAbove, IsPicked, IsRange}
 use Rattle.xq_rows.proofs.Adopts.{all_joined}
 use Rattle.xq_rows.proofs.Loads.{length-labels}
 use Rattle.xq_rows.proofs.Maps.{get-whole, get-none, node_back}

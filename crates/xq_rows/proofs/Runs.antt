@@ -14,7 +14,7 @@ use Rattle.xq_regions.specs.Nesting.{count-measured, rows-injective}
 use Rattle.xq_regions.specs.declared.NodeRow.{NodeRow}
 use Rattle.xq_regions.specs.declared.Kind.TheVariants.{Document}
 use Rattle.xq_rows.specs.Nodes.{cells, node_in, node_of, number_in, IsReadable}
-use Rattle.xq_rows.specs.Adopt.{IsRun}
+use Rattle.xq_rows.specs.private.Adopt.{IsRun}
 use Rattle.xq_rows.proofs.Adopts.{all_joined}
 use Rattle.xq_rows.proofs.Calls.{encoded}
 use Rattle.xq_rows.proofs.Loads.{length-labels}

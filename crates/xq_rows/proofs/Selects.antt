@@ -40,7 +40,7 @@ use Rattle.xq_rows.specs.Tables.{IsStoreSchema}
 use Rattle.xq_rows.proofs.Lists.{same_test}
 use Rattle.xq_rows.proofs.Texts.{body, key, range_text, range_tests, range_command, range_is, range_plain, part_tests, addresses_text, addresses_tests, addresses_command, addresses_is, addresses_plain}
 use Rattle.xq_rows.specs.Documents.{by_first, is_at, is_first, kept}
-use Rattle.xq_rows.specs.Statements.{is_within, is_part, IsPicked, IsRange, AreAddresses}
+use Rattle.xq_rows.specs.private.Statements.{is_within, is_part, IsPicked, IsRange, AreAddresses}
 use Rattle.std.proofs.lemmas.List.{length-map}
 
 module _ (first : First) (tests : List Term) (project : List Term) (order : List (Term × Key)) (db : Trees) (params : Row) where

@@ -1,3 +1,6 @@
 pub mod Shelves
 pub mod Keeps
 pub mod Streams
+pub mod Adopt
+pub mod Statements
+pub mod Refusals

@@ -7,10 +7,10 @@ ghost use Rattle.sqlite_value.specs.Order.{column};
 ghost use Rattle.sqlite_value.specs.declared.value.Value.TheVariants.{Int, Text};
 ghost use Rattle.xq_atoms.specs.Address.{IsAddress};
 ghost use Rattle.xq_regions.specs.Rows.{placed};
-ghost use Rattle.xq_rows.specs.Adopt.{AreTold, IsAdopted, IsNoStore, IsRun, ReadsEdition, ReadsNodes, ReadsRowids, IsInputError, IsPast, Sees, SeesDocuments, SeesNothing, SeesRowids, by_place, fault_of, is_under as is_under_lem, row_fault as row_fault_lem, run_length};
+ghost use Rattle.xq_rows.specs.private.Adopt.{AreTold, IsAdopted, IsNoStore, IsRun, ReadsEdition, ReadsNodes, ReadsRowids, IsInputError, IsPast, Sees, SeesDocuments, SeesNothing, SeesRowids, by_place, fault_of, is_under as is_under_lem, row_fault as row_fault_lem, run_length};
 ghost use Rattle.xq_rows.specs.Documents.{AreApart, HaveInts, IsReady, IsStore};
 ghost use Rattle.xq_rows.specs.Nodes.{IsReadable, cells, node_of};
-ghost use Rattle.xq_rows.specs.Statements.{MakesStore};
+ghost use Rattle.xq_rows.specs.private.Statements.{MakesStore};
 ghost use Rattle.xq_rows.specs.private.Keeps.{ReadsInside, StaysInside, StaysOutside};
 ghost use Rattle.xq_rows.specs.Tables.{no_schema, IsStoreSchema};
 

@@ -20,7 +20,7 @@ pub enum OpenFault {
 /// A statement that is refused since other tables are there, or none, tells of no store; any
 /// other refusal of the database is a want.
 impl From<sqlite::Error> for OpenFault {
-    ghost use Rattle.xq_rows.specs.Adopt.{fault_of};
+    ghost use Rattle.xq_rows.specs.private.Adopt.{fault_of};
 
     ghost from_gives = { λ error fault. fault ≡ fault_of error };
 

@@ -32,7 +32,7 @@ impl<T: Drop> From<AllocFailed<T>> for Refusal {
 
 /// The database's refusal for memory is want of memory, any other want of the store.
 impl From<Refusal> for Want {
-    ghost use Rattle.xq_rows.specs.Refusals.{want_of};
+    ghost use Rattle.xq_rows.specs.private.Refusals.{want_of};
 
     ghost from_gives = { λ refusal want. want ≡ want_of refusal.0 };
 

@@ -4,7 +4,7 @@ ghost use Rattle.sqlite.specs.State.{HasCleanDisk};
 ghost use Rattle.sqlite.specs.Held.{state};
 ghost use Rattle.xq_regions.specs.Rows.{AreNumbered, placed};
 ghost use Rattle.xq_rows.specs.Nodes.{cells};
-ghost use Rattle.xq_rows.specs.Statements.{Replaces};
+ghost use Rattle.xq_rows.specs.private.Statements.{Replaces};
 ghost use Rattle.xq_rows.specs.private.Keeps.{StaysInside};
 
 use crate::statements::{delete_part, insert_rows};

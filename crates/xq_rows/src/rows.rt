@@ -8,7 +8,7 @@ ghost use Rattle.sqlite_value.specs.declared.value.Value.TheVariants.{Text};
 ghost use Rattle.xq_regions.specs.Rows.{placed};
 ghost use Rattle.xq_rows.specs.Documents.{IsReady};
 ghost use Rattle.xq_rows.specs.Nodes.{IsReadable, cells, node_of, number_of};
-ghost use Rattle.xq_rows.specs.Refusals.{want_of};
+ghost use Rattle.xq_rows.specs.private.Refusals.{want_of};
 ghost use Rattle.xq_rows.specs.private.Streams.{Gives, Stays};
 
 use crate::refusals::Refusal;

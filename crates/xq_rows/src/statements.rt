@@ -9,7 +9,7 @@ ghost use Rattle.sqlite_value.specs.declared.value.Value.TheVariants.{Text};
 ghost use Rattle.xq_regions.specs.Rows.{placed};
 ghost use Rattle.xq_rows.specs.Documents.{IsReady, is_at};
 ghost use Rattle.xq_rows.specs.Nodes.{cells, number_of as number_of_lem};
-ghost use Rattle.xq_rows.specs.Statements.{Adds, AreAbove, AreAddresses, Drops, IsRange, is_part};
+ghost use Rattle.xq_rows.specs.private.Statements.{Adds, AreAbove, AreAddresses, Drops, IsRange, is_part};
 ghost use Rattle.xq_rows.specs.private.Keeps.{StaysInside, StaysOutside};
 ghost use Rattle.xq_rows.specs.Tables.{IsStoreSchema};
 

@@ -11,7 +11,7 @@ ghost use Rattle.sqlite.specs.Held.{state};
 ghost use Rattle.sqlite.specs.Steps.{over_memory};
 ghost use Rattle.xq_atoms.specs.Address.{IsAddress};
 ghost use Rattle.xq_regions.specs.declared.Kind.TheVariants.{Document};
-ghost use Rattle.xq_rows.specs.Adopt.{IsBlank, HasTables, HasOneTable};
+ghost use Rattle.xq_rows.specs.private.Adopt.{IsBlank, HasTables, HasOneTable};
 ghost use Rattle.xq_regions.specs.Rows.{placed};
 ghost use Rattle.xq_regions.specs.Tree.{IsDocument, Tree};
 ghost use Rattle.xq_rows.specs.Documents.{IsClean, IsOpen, IsUp, Holds, Map, StandsFor, documents};

@@ -3,8 +3,8 @@ ghost use Rattle.std.specs.Prelude.{◌≡◌, ◌≢◌, false, IfErr, OnErr, O
 ghost use Rattle.sqlite.specs.State.{HasCleanDisk};
 ghost use Rattle.sqlite.specs.Held.{state};
 ghost use Rattle.xq_rows.specs.Documents.{IsEmptyStore, IsReady};
-ghost use Rattle.xq_rows.specs.Adopt.{fault_of};
-ghost use Rattle.xq_rows.specs.Statements.{MakesBoth, MakesLayout, MakesNode, WritesEdition};
+ghost use Rattle.xq_rows.specs.private.Adopt.{fault_of};
+ghost use Rattle.xq_rows.specs.private.Statements.{MakesBoth, MakesLayout, MakesNode, WritesEdition};
 ghost use Rattle.xq_rows.specs.private.Keeps.{StaysInside, StaysOutside};
 ghost use Rattle.xq_rows.specs.Tables.{no_schema, layout_schema};
 

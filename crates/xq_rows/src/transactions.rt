@@ -5,7 +5,7 @@ ghost use Rattle.sqlite.specs.Held.{state};
 ghost use Rattle.xq_regions.specs.Rows.{AreNumbered, placed};
 ghost use Rattle.xq_rows.specs.Documents.{IsReady, is_at};
 ghost use Rattle.xq_rows.specs.Nodes.{cells};
-ghost use Rattle.xq_rows.specs.Statements.{Deletes, Puts};
+ghost use Rattle.xq_rows.specs.private.Statements.{Deletes, Puts};
 ghost use Rattle.xq_rows.specs.private.Keeps.{StaysOutside};
 
 use crate::refusals::Refusal;

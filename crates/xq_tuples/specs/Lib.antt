@@ -1,4 +1,4 @@
 pub mod Views
 pub mod Keys
-pub mod Groups
 pub mod Orders
+pub mod private

@@ -7,7 +7,7 @@ use Rattle.xq_tuples.specs.declared.rows.OrderSpec.{OrderSpec}
 use Rattle.xq_tuples.specs.declared.rows.Ranked.{Ranked}
 use Rattle.xq_regions.specs.Items.{ItemView}
 use Rattle.xq_tuples.specs.Views.{tuple_of}
-use Rattle.xq_tuples.specs.Groups.{compared_of}
+use Rattle.xq_tuples.specs.private.Groups.{compared_of}
 
 abbrev pub rule_of : OrderSpec → OrderRule
 rule_of spec = record { descending = spec.descending; greatest = spec.greatest }

@@ -5,7 +5,7 @@ ghost use Rattle.xq_atoms.specs.Compare.{key_of, of_one_kind};
 ghost use Rattle.xq_regions.specs.Tuples.{is_nothing, placed_cmp, rule_cmp, keys_cmp, are_of_one_kind, sort_keys, can_order, sorted};
 ghost use Rattle.xq_tuples.specs.Views.{tuple_of};
 ghost use Rattle.xq_tuples.specs.Keys.{column_of, columns_of, Refuses};
-ghost use Rattle.xq_tuples.specs.Groups.{compared_of};
+ghost use Rattle.xq_tuples.specs.private.Groups.{compared_of};
 ghost use Rattle.xq_tuples.specs.Orders.{rule_of, ranked_of, by_keys};
 
 use crate::keys::{compared_keys, key_column};

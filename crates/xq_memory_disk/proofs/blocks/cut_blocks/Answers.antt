@@ -2,7 +2,7 @@ use Rattle.std.proofs.Common.{ℕ, ◌≡◌, ◌+◌, ◌-◌, ◌*◌, ◌/◌
 use Rattle.std.specs.Prelude.{slice_index, Vec}
 use Rattle.std.specs.declared.alloc.Global.{Global}
 use Rattle.std.proofs.lemmas.Bool.{cases_lt}
-use Rattle.xq_memory_disk.specs.Blocks.{joined, AreFull}
+use Rattle.xq_memory_disk.specs.private.Blocks.{joined, AreFull}
 use Rattle.xq_memory_disk.proofs.Places.{joined_set, joined_take, joined_past, kept_by_set, set_full, take_full}
 use Rattle.xq_memory_disk.proofs.blocks.cut_blocks.Goals as goal
 

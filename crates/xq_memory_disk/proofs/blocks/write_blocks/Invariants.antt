@@ -1,6 +1,6 @@
 use Rattle.std.proofs.Common.{◌≡◌, ℕ, ◌+◌, ◌-◌, ◌<◌, ◌≤◌, ◌⊎◌, length}
 use Rattle.std.specs.Prelude.{slice_index}
-use Rattle.xq_memory_disk.specs.Blocks.{joined, AreFull}
+use Rattle.xq_memory_disk.specs.private.Blocks.{joined, AreFull}
 use Rattle.xq_memory_disk.proofs.blocks.write_blocks.Given as goal
 
 abbrev pub invariant-loop-done : goal.invariant-loop-done

@@ -2,7 +2,7 @@ use Rattle.std.proofs.Common.{rules}
 use Rattle.std.specs.Cmp.Lexicographic.{slice_cmp}
 use Rattle.std.specs.Ordering.{is_lt, nat_cmp}
 use Rattle.std.proofs.lemmas.Fn.{always_returns_same}
-use Rattle.xq_regions.specs.Checks.{rank_of}
+use Rattle.xq_regions.specs.private.Checks.{rank_of}
 use Rattle.xq_regions.proofs.attributes.names_ascend.Goals as goal
 
 pub returns : goal.returns

@@ -4,7 +4,7 @@ use Rattle.std.specs.Ordering.{is_lt, nat_cmp}
 use Rattle.std.proofs.lemmas.Fn.{always_returns_same}
 use Rattle.std.proofs.lemmas.Cmp.{nat_list_cmp_total}
 use Rattle.std.proofs.lemmas.List.Sorted.{ranks_by}
-use Rattle.xq_regions.specs.Checks.{rank_of}
+use Rattle.xq_regions.specs.private.Checks.{rank_of}
 use Rattle.xq_regions.proofs.attributes.sort_by_name.Goals as goal
 
 pub returns-clause-sorted : goal.returns-clause-sorted

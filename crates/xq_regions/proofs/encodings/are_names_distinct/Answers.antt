@@ -1,7 +1,7 @@
 use Rattle.std.proofs.Common.{◌↔◌, map, refl, arith, subst}
 use Rattle.std.specs.Prelude.{IsTrue}
 use Rattle.xq_regions.specs.Rows.{row_of}
-use Rattle.xq_regions.specs.Checks.{IsNamedAt}
+use Rattle.xq_regions.specs.private.Checks.{IsNamedAt}
 use Rattle.xq_regions.proofs.Walks.{length-map}
 use Rattle.xq_regions.proofs.AttributeRuns.{named_rows, not_named}
 use Rattle.xq_regions.proofs.encodings.are_names_distinct.Goals as goal

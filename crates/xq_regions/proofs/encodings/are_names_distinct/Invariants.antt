@@ -1,6 +1,6 @@
 use Rattle.std.proofs.Common.{ℕ, ◌≡◌, ◌<◌, map}
 use Rattle.xq_regions.specs.Rows.{row_of}
-use Rattle.xq_regions.specs.Checks.{IsNamedAt}
+use Rattle.xq_regions.specs.private.Checks.{IsNamedAt}
 use Rattle.xq_regions.proofs.encodings.are_names_distinct.Given as goal
 
 abbrev pub invariant-loop-at : goal.invariant-loop-at

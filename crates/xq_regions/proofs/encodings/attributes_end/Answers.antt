@@ -1,6 +1,6 @@
 use Rattle.std.proofs.Common.{◌≡◌, ◌+◌, ◌++◌, map, true, false, ◌∙◌, ap, arith}
 use Rattle.std.specs.Prelude.{slice_range}
-use Rattle.xq_regions.specs.Checks.{name_of}
+use Rattle.xq_regions.specs.private.Checks.{name_of}
 use Rattle.xq_regions.specs.Tree.{is_attribute}
 use Rattle.xq_regions.proofs.AttributeRuns.{names_from, next_names, no_names, names_at_stop, checked_next, names_more, names_end}
 use Rattle.xq_regions.proofs.encodings.attributes_end.Goals as goal

@@ -1,7 +1,7 @@
 use Rattle.std.proofs.Common.{◌-◌, ◌≡◌, ◌≤◌, ◌++◌, map, drop}
 use Rattle.std.specs.Prelude.{slice_range}
 use Rattle.xq_regions.specs.Rows.{row_of}
-use Rattle.xq_regions.specs.Checks.{IsChecked, name_of}
+use Rattle.xq_regions.specs.private.Checks.{IsChecked, name_of}
 use Rattle.xq_regions.proofs.AttributeRuns.{names_from, InFront}
 use Rattle.xq_regions.proofs.encodings.attributes_end.Given as goal
 

@@ -1,6 +1,6 @@
 use Rattle.std.proofs.Common.{◌≡◌, ◌+◌, suc, sym, ◌∙◌, ap, map, arith}
 use Rattle.xq_regions.specs.Rows.{row_of, Row, row_at}
-use Rattle.xq_regions.specs.Checks.{roots, is_run}
+use Rattle.xq_regions.specs.private.Checks.{roots, is_run}
 use Rattle.xq_regions.proofs.Checking.{checked_later}
 use Rattle.xq_regions.proofs.Walks.{row_at-map, false_unless, run_fails, run_goes_on, run_within}
 use Rattle.xq_regions.proofs.encodings.has_children.Goals as goal

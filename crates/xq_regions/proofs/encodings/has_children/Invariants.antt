@@ -1,6 +1,6 @@
 use Rattle.std.proofs.Common.{suc, ◌-◌, ◌≡◌, ◌≤◌, map, drop}
 use Rattle.xq_regions.specs.Rows.{row_of, row_at}
-use Rattle.xq_regions.specs.Checks.{IsChecked, roots, is_run}
+use Rattle.xq_regions.specs.private.Checks.{IsChecked, roots, is_run}
 use Rattle.xq_regions.proofs.encodings.has_children.Given as goal
 
 abbrev pub invariant-loop-at : goal.invariant-loop-at

@@ -1,6 +1,6 @@
 use Rattle.std.proofs.Common.{◌≡◌, ◌<◌, ◌-◌, suc, true, false, refl, sym, ◌∙◌, ap, map, drop, subst, length, arith}
 use Rattle.xq_regions.specs.Rows.{Row, row_at, row_of, AreNumbered}
-use Rattle.xq_regions.specs.Checks.{IsChecked, Passes}
+use Rattle.xq_regions.specs.private.Checks.{IsChecked, Passes}
 use Rattle.xq_regions.proofs.Walks.{row_at-map, length-map}
 use Rattle.xq_regions.proofs.Encoding.{refused, sound_at, checked_step, numbered_step, some_rows}
 use Rattle.std.proofs.lemmas.Bool.{eqb-true}

@@ -1,6 +1,6 @@
 use Rattle.std.proofs.Common.{◌≤◌, length, map, drop}
 use Rattle.xq_regions.specs.Rows.{row_of, AreNumbered}
-use Rattle.xq_regions.specs.Checks.{IsChecked}
+use Rattle.xq_regions.specs.private.Checks.{IsChecked}
 use Rattle.xq_regions.proofs.encodings.is_nested.Given as goal
 
 abbrev pub invariant-loop-at : goal.invariant-loop-at

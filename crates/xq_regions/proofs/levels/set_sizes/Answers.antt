@@ -1,7 +1,7 @@
 use Rattle.std.proofs.Common.{arith, get_or, ◌+◌, ◌-◌, refl, ◌∙◌, length, ◌<◌, ◌≡◌, ap, subst, drop, ℕ, set}
 use Rattle.std.proofs.lemmas.List.{length-set}
 use Rattle.xq_regions.specs.declared.NodeRow.{NodeRow}
-use Rattle.xq_regions.specs.Sizes.{IsSized, deeper}
+use Rattle.xq_regions.specs.private.Sizes.{IsSized, deeper}
 use Rattle.xq_regions.proofs.SizedRows.{flat_set, numbered_set, sized_set, level_at}
 use Rattle.xq_regions.proofs.levels.set_sizes.Goals as goal
 

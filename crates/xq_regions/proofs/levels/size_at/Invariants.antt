@@ -1,5 +1,5 @@
 use Rattle.std.proofs.Common.{◌≡◌, ◌+◌, ◌-◌, ◌<◌, ◌≤◌, length, drop}
-use Rattle.xq_regions.specs.Sizes.{deeper}
+use Rattle.xq_regions.specs.private.Sizes.{deeper}
 use Rattle.xq_regions.proofs.levels.size_at.Given as goal
 
 abbrev pub invariant-loop-next : goal.invariant-loop-next

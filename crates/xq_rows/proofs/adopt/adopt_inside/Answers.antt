@@ -2,9 +2,9 @@ use Rattle.std.proofs.Common.{◌≡◌, ◌≢◌, arith, subst}
 use Rattle.sqlite.specs.Held.{state}
 use Rattle.sqlite.specs.State.{HasCleanDisk}
 use Rattle.xq_rows.specs.declared.faults.OpenFault.TheVariants.{NotAStore}
-use Rattle.xq_rows.specs.Adopt.{IsAdopted, IsNoStore, Sees, SeesDocuments, SeesEdition, SeesNothing}
+use Rattle.xq_rows.specs.private.Adopt.{IsAdopted, IsNoStore, Sees, SeesDocuments, SeesEdition, SeesNothing}
 use Rattle.xq_rows.specs.Documents.{IsStore}
-use Rattle.xq_rows.specs.Statements.{MakesStore}
+use Rattle.xq_rows.specs.private.Statements.{MakesStore}
 use Rattle.xq_rows.specs.Tables.{no_schema}
 use Rattle.xq_rows.proofs.AdoptReads.{each_err, on_ok}
 use Rattle.xq_rows.proofs.Adopts.{adopted_found, adopted_made, refused_found, refused_made}

@@ -5,7 +5,7 @@ use mir.Syntax.{w64}
 use Rattle.sqlite_value.specs.Order.{column}
 use Rattle.sqlite_value.specs.Value.{owned}
 use Rattle.sqlite_value.specs.declared.value.Value.TheVariants.{Int}
-use Rattle.xq_rows.specs.Adopt.{IsPast}
+use Rattle.xq_rows.specs.private.Adopt.{IsPast}
 use Rattle.xq_rows.proofs.Adopts.{risen_next}
 use Rattle.xq_rows.proofs.adopt.are_rising.Goals as goal
 

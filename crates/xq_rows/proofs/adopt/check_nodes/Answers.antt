@@ -2,7 +2,7 @@ use Rattle.std.proofs.Common.{◌≡◌, arith, IsSorted, IsTrue}
 use Rattle.sqlite.specs.Held.{state}
 use Rattle.sqlite.specs.State.{HasCleanDisk}
 use Rattle.xq_rows.specs.declared.faults.OpenFault.TheVariants.{NotAStore}
-use Rattle.xq_rows.specs.Adopt.{AreTold, SeesDocuments, by_place}
+use Rattle.xq_rows.specs.private.Adopt.{AreTold, SeesDocuments, by_place}
 use Rattle.xq_rows.specs.Documents.{IsStore}
 use Rattle.xq_rows.proofs.AdoptReads.{any_ok, each_err, on_ok}
 use Rattle.xq_rows.proofs.Adopts.{documents_seen, no_documents_seen}

@@ -2,7 +2,7 @@ use Rattle.std.proofs.Common.{[], Vec, Global}
 use Rattle.sqlite_value.specs.Order.{Row}
 use Rattle.sqlite.specs.Held.{state}
 use Rattle.sqlite.specs.State.{Shown}
-use Rattle.xq_rows.specs.Adopt.{ReadsEdition, SeesNothing, IsInputError}
+use Rattle.xq_rows.specs.private.Adopt.{ReadsEdition, SeesNothing, IsInputError}
 use Rattle.xq_rows.proofs.AdoptReads.{edition_query, nothing_read, IsQueryRefusal, each_ok, each_err, query_kept, query_mode, reads_edition}
 use Rattle.xq_rows.proofs.adopt.read_layout.Goals as goal
 

@@ -3,7 +3,7 @@ use Rattle.sqlite_value.specs.Order.{Row}
 use Rattle.sqlite.specs.Held.{state}
 use Rattle.sqlite.specs.State.{Shown}
 use Rattle.xq_rows.specs.declared.faults.OpenFault.TheVariants.{NotAStore}
-use Rattle.xq_rows.specs.Adopt.{ReadsNodes, fault_of}
+use Rattle.xq_rows.specs.private.Adopt.{ReadsNodes, fault_of}
 use Rattle.xq_rows.specs.Tables.{IsStoreSchema}
 use Rattle.xq_rows.proofs.Places.{node_tree}
 use Rattle.xq_rows.proofs.AdoptReads.{nodes_query, nodes_program, nodes_names, nodes_are, nodes_plain, IsQueryRefusal, each_ok, each_err, query_kept, query_mode, placed_told, reads_nodes}

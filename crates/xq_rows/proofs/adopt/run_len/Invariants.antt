@@ -1,5 +1,5 @@
 use Rattle.std.proofs.Common.{◌≡◌, ◌+◌, drop}
-use Rattle.xq_rows.specs.Adopt.{run_length}
+use Rattle.xq_rows.specs.private.Adopt.{run_length}
 use Rattle.xq_rows.proofs.adopt.run_len.Given as goal
 
 abbrev pub invariant-loop-row : goal.invariant-loop-row

@@ -1,7 +1,7 @@
 use Rattle.std.proofs.Common.{sym, subst, Vec, Global}
 use Rattle.sqlite.specs.Held.{state}
 use Rattle.xq_regions.specs.declared.NodeRow.{NodeRow}
-use Rattle.xq_rows.specs.Statements.{AreAbove}
+use Rattle.xq_rows.specs.private.Statements.{AreAbove}
 use Rattle.xq_rows.proofs.Loads.{above_read}
 use Rattle.xq_rows.proofs.readings.nodes_above.Goals as goal
 

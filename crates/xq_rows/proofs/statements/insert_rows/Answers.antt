@@ -5,7 +5,7 @@ use Rattle.sqlite.specs.State.{HasCleanDisk}
 use Rattle.sqlite.specs.Held.{state}
 use Rattle.xq_regions.specs.Rows.{placed}
 use Rattle.xq_rows.specs.Nodes.{cells}
-use Rattle.xq_rows.specs.Statements.{Adds}
+use Rattle.xq_rows.specs.private.Statements.{Adds}
 use Rattle.xq_rows.proofs.Inserts.{adds_then, kept_then}
 use Rattle.xq_rows.proofs.statements.insert_rows.Goals as goal
 

@@ -4,7 +4,7 @@ use Rattle.sqlite.specs.Held.{state}
 use Rattle.sqlite_trees.specs.View.{doubt}
 use Rattle.xq_regions.specs.Rows.{placed}
 use Rattle.xq_rows.specs.Nodes.{cells}
-use Rattle.xq_rows.specs.Statements.{Adds}
+use Rattle.xq_rows.specs.private.Statements.{Adds}
 use Rattle.xq_rows.proofs.statements.insert_rows.Given as goal
 
 abbrev pub invariant-loop-row : goal.invariant-loop-row

@@ -6,7 +6,7 @@ use Rattle.sqlite.specs.Held.{state}
 use Rattle.sqlite.specs.State.{HasCleanDisk}
 use Rattle.sqlite.proofs.Callers.{IsPlain}
 use Rattle.sqlite.specs.Listing.{understood}
-use Rattle.xq_rows.specs.Statements.{AreAddresses}
+use Rattle.xq_rows.specs.private.Statements.{AreAddresses}
 use Rattle.xq_rows.specs.Tables.{IsStoreSchema}
 use Rattle.xq_rows.specs.private.Streams.{Gives}
 use Rattle.xq_rows.specs.Documents.{IsReady}

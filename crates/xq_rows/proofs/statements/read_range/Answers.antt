@@ -7,7 +7,7 @@ use Rattle.xq_regions.specs.Rows.{placed}
 use Rattle.sqlite.proofs.Callers.{IsPlain}
 use Rattle.sqlite.specs.Listing.{understood}
 use Rattle.xq_regions.specs.declared.NodeRow.{NodeRow}
-use Rattle.xq_rows.specs.Statements.{IsRange}
+use Rattle.xq_rows.specs.private.Statements.{IsRange}
 use Rattle.xq_rows.specs.Tables.{IsStoreSchema}
 use Rattle.xq_rows.specs.private.Streams.{Gives}
 use Rattle.xq_rows.specs.Documents.{IsReady}

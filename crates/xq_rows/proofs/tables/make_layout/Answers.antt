@@ -1,5 +1,5 @@
 use Rattle.sqlite.specs.Held.{state}
-use Rattle.xq_rows.specs.Statements.{MakesLayout}
+use Rattle.xq_rows.specs.private.Statements.{MakesLayout}
 use Rattle.xq_rows.proofs.Texts.{layout_text}
 use Rattle.xq_rows.proofs.Creates.{ran_inside, makes_first, makes_beside}
 use Rattle.xq_rows.proofs.CreateFaults.{layout_told}

@@ -1,7 +1,7 @@
 use Rattle.sqlite.specs.Held.{Held, state}
 use Rattle.std.proofs.Common.{subst, sym}
 use Rattle.sqlite.specs.State.{KeepsCommit}
-use Rattle.xq_rows.specs.Statements.{MakesNode}
+use Rattle.xq_rows.specs.private.Statements.{MakesNode}
 use Rattle.xq_rows.proofs.Texts.{node_text}
 use Rattle.xq_rows.proofs.Creates.{ran_inside, makes_second, makes_never, kept_inside, kept_same}
 use Rattle.xq_rows.proofs.CreateFaults.{node_told}

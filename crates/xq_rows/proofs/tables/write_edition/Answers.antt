@@ -1,5 +1,5 @@
 use Rattle.sqlite.specs.Held.{state}
-use Rattle.xq_rows.specs.Statements.{WritesEdition}
+use Rattle.xq_rows.specs.private.Statements.{WritesEdition}
 use Rattle.xq_rows.proofs.Texts.{edition_text}
 use Rattle.xq_rows.proofs.Creates.{ran_inside, numbers}
 use Rattle.xq_rows.proofs.tables.write_edition.Goals as goal

@@ -2,7 +2,7 @@ use Rattle.std.proofs.Common.{◌≡◌, map, take}
 use Rattle.std.specs.List.{flat_map}
 use Rattle.xq_regions.specs.Tuples.{value_at}
 use Rattle.xq_regions.specs.Items.{item_views}
-use Rattle.xq_tuples.specs.Groups.{keyed_of}
+use Rattle.xq_tuples.specs.private.Groups.{keyed_of}
 use Rattle.xq_tuples.proofs.groups.concatenated.Given as goal
 
 abbrev pub invariant-loop-row : goal.invariant-loop-row

@@ -4,7 +4,7 @@ use Rattle.xq_regions.specs.Tuples.{grouped_value, slot_key}
 use Rattle.xq_regions.specs.Items.{Value}
 use Rattle.xq_tuples.specs.Views.{tuple_of}
 use Rattle.xq_tuples.specs.Keys.{keys_of}
-use Rattle.xq_tuples.specs.Groups.{keyed_of}
+use Rattle.xq_tuples.specs.private.Groups.{keyed_of}
 use Rattle.xq_tuples.proofs.groups.joined.Given as goal
 
 abbrev pub invariant-loop-slot : goal.invariant-loop-slot

@@ -3,7 +3,7 @@ use Rattle.std.proofs.lemmas.Iterator.{YieldsList-from_zip}
 use Rattle.std.proofs.lemmas.Iterator.Adapters.{YieldsList-from_vec}
 use Rattle.std.proofs.lemmas.Iterator.Consumers.{YieldsList-end}
 use Rattle.xq_tuples.specs.Views.{tuple_of}
-use Rattle.xq_tuples.specs.Groups.{compared_of}
+use Rattle.xq_tuples.specs.private.Groups.{compared_of}
 use Rattle.xq_tuples.proofs.Lists.{zip-yielded}
 use Rattle.xq_tuples.proofs.order.ranked.Goals as goal
 

@@ -5,7 +5,7 @@ use Rattle.std.specs.Cmp.{IsTotalOrder, IsStrictWeakOrder, on_total}
 use Rattle.std.proofs.lemmas.Fn.{always_returns_same}
 use Rattle.std.proofs.lemmas.List.Sorted.{ranks_by}
 use Rattle.xq_tuples.specs.declared.rows.Ranked.{Ranked}
-use Rattle.xq_tuples.specs.Groups.{compared_of}
+use Rattle.xq_tuples.specs.private.Groups.{compared_of}
 use Rattle.xq_tuples.specs.Orders.{rule_of, ranked_of, by_keys}
 use Rattle.xq_tuples.proofs.Rules.{keys_total}
 use Rattle.xq_tuples.proofs.Sorting.{sorted_from_sort, sorted-map}

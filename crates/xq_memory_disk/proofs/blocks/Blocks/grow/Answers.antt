@@ -1,6 +1,6 @@
 use Rattle.std.proofs.Common.{◌≤◌, ◌∙◌, arith, ap, sym, length}
 use Rattle.std.proofs.lemmas.Result.{err_from_is_err_and}
-use Rattle.xq_memory_disk.specs.Blocks.{HasRoom}
+use Rattle.xq_memory_disk.specs.private.Blocks.{HasRoom}
 use Rattle.xq_memory_disk.proofs.Places.{more_room, same_seen, seen_length, same_bytes}
 use Rattle.xq_memory_disk.proofs.blocks.Blocks.grow.Goals as goal
 

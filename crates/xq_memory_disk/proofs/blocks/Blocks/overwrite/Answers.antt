@@ -1,7 +1,7 @@
 use Rattle.std.proofs.Common.{◌≡◌, ◌≤◌, ◌+◌, ◌∙◌, arith, ap, sym, length, take}
 use Rattle.std.specs.Vec.{with_items}
 use Rattle.std.proofs.lemmas.List.{with_items_is}
-use Rattle.xq_memory_disk.specs.Blocks.{joined, HasRoom}
+use Rattle.xq_memory_disk.specs.private.Blocks.{joined, HasRoom}
 use Rattle.xq_memory_disk.proofs.Places.{written_room, seen_length, seen_at}
 use Rattle.xq_memory_disk.proofs.blocks.Blocks.overwrite.Goals as goal
 

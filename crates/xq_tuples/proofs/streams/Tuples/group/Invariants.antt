@@ -2,7 +2,7 @@ use Rattle.std.proofs.Common.{◌≡◌, map, take}
 use Rattle.xq_regions.specs.Tuples.{grouped_tuple}
 use Rattle.xq_regions.specs.Items.{Value}
 use Rattle.xq_tuples.specs.Views.{tuple_of}
-use Rattle.xq_tuples.specs.Groups.{group_of}
+use Rattle.xq_tuples.specs.private.Groups.{group_of}
 use Rattle.xq_tuples.proofs.streams.Tuples.group.Given as goal
 
 abbrev pub invariant-loop-group : goal.invariant-loop-group

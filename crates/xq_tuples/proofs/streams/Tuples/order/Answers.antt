@@ -8,7 +8,7 @@ use Rattle.xq_atoms.specs.Compare.{key_of}
 use Rattle.xq_regions.specs.Tuples.{sorted, key_rows, sort_keys}
 use Rattle.xq_tuples.specs.Views.{tuple_of}
 use Rattle.xq_tuples.specs.Keys.{columns_of, rows_of}
-use Rattle.xq_tuples.specs.Groups.{compared_of}
+use Rattle.xq_tuples.specs.private.Groups.{compared_of}
 use Rattle.xq_tuples.specs.Orders.{by_keys}
 use Rattle.xq_tuples.proofs.Lists.{map-map}
 use Rattle.xq_tuples.proofs.KeyRows.{key_rows-read}

@@ -20,7 +20,7 @@ use Rattle.xq_lexer.specs.declared.tokens.Token.{Token}
 use Rattle.std.specs.declared.alloc.Global.{Global}
 use Rattle.std.specs.Prelude.{◌+◌, ◌<◌, length}
 use Rattle.std.specs.declared.vec.Vec.{Vec}
-use Rattle.xq_lexer.specs.Reading.{Inside, closed, one, wrong}
+use Rattle.xq_lexer.specs.private.Reading.{Inside, closed, one, wrong}
 
 abbrev pub Fails : {Y : Type 0} → Fault → Result Y Code → Type 0
 Fails (OfCode c) read = read ≡ Err c

@@ -23,7 +23,7 @@ use Rattle.xq_rows.specs.declared.faults.OpenFault.{OpenFault}
 use Rattle.xq_rows.specs.declared.faults.OpenFault.TheVariants.{Want, NotAStore}
 use Rattle.xq_rows.specs.Documents.{AreApart, HaveInts, HasAddress, rows_at, IsWhole, IsEmptyStore, IsStore}
 use Rattle.xq_rows.specs.Nodes.{cells, node_of}
-use Rattle.xq_rows.specs.Refusals.{want_of}
+use Rattle.xq_rows.specs.private.Refusals.{want_of}
 use Rattle.xq_rows.specs.Tables.{no_schema, layout_schema, node_schema, node_rows, layout_rows, IsStoreSchema}
 
 -- one of the two tables stands without the other

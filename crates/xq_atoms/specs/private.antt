@@ -1,0 +1,4 @@
+pub mod Casting
+pub mod Comparing
+pub mod Derived
+pub mod Numbers
