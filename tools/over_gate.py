@@ -1,5 +1,5 @@
 #!/usr/bin/env python3
-"""Runs a command in which `rt run` and `rt test` build over libraries that a gate proved.
+"""Runs a command in which `rt run`, `rt test` and `rt check` go over libraries that a gate proved.
 
     tools/over_gate.py CLONE COMMAND ..       tools/over_gate.py ../gate python3 bench/statics.py
 
@@ -38,34 +38,33 @@ def all_below(uses, crates):
     return sorted(found)
 
 
-def build_words(name, uses, clone, is_test):
-    """What rattle is called with to prove and compile the crate of the current folder."""
+def check_words(verb, name, clone):
+    """What rattle is called with to prove the crate of the current folder, or to build it."""
     crates = libraries(os.path.join(clone, "crates.txt"))
+    uses = libraries(os.path.join("..", "..", "crates.txt"))[name]
     source = "src/main.rt" if os.path.exists("src/main.rt") else "src/lib.rt"
-    words = [KIT + "/bin/rattle", "build", "--crate-name", name, source,
+    words = [KIT + "/bin/rattle", verb, "--crate-name", name, source,
              "--extern", "std=%s/rlibs/std.rlib" % KIT, "-L", "dependency=%s/rlibs" % KIT]
     for used in uses:
         folder = "%s/crates/%s/out/rlib" % (clone, used) if used in crates else KIT + "/rlibs"
         words += ["--extern", "%s=%s/%s.rlib" % (used, folder, used)]
     for below in all_below(uses, crates):
         words += ["-L", "dependency=%s/crates/%s/out/rlib" % (clone, below)]
-    words += ["--antt-project", KIT + "/rattle/logic/antt-project.json",
-              "--logic-built", KIT + "/logic_built", "--links", name + "=", "--jobs", "2",
-              "--toolchain", KIT + "/toolchain", "--backend", "llvm"]
-    return words + ["--test"] * is_test
+    return words + ["--antt-project", KIT + "/rattle/logic/antt-project.json",
+                    "--logic-built", KIT + "/logic_built", "--links", name + "=", "--jobs", "2"]
 
 
 def build(clone, is_test):
     """Builds the program or the tests of the current folder's crate; gives their path."""
-    folder = os.getcwd()
-    name = os.path.basename(folder)
-    uses = libraries(os.path.join(folder, "..", "..", "crates.txt"))[name]
+    name = os.path.basename(os.getcwd())
     program = "out/" + name + "_tests" * is_test
+    build_words = check_words("build", name, clone) + ["--test"] * is_test
+    build_words += ["--toolchain", KIT + "/toolchain", "--backend", "llvm", "-o", program + ".o"]
     os.makedirs("out", exist_ok=True)
     link = [KIT + "/bin/rattle-link", "--target", "x86_64-unknown-linux-gnu",
             "--toolchain", KIT + "/toolchain", "-o", program, program + ".o",
             KIT + "/c/libos_c.a", KIT + "/c/liblibc_c.a"]
-    for words in (build_words(name, uses, clone, is_test) + ["-o", program + ".o"], link):
+    for words in (build_words, link):
         done = subprocess.run(words, stdin=subprocess.DEVNULL, capture_output=True, text=True)
         if done.returncode:
             sys.exit(done.stdout[-4000:] + done.stderr[-4000:])
@@ -74,6 +73,9 @@ def build(clone, is_test):
 
 def stand_in(clone, words):
     """What `rt` is while the command runs."""
+    if words == ["check"]:
+        check = check_words("check", os.path.basename(os.getcwd()), clone)
+        os.execv(check[0], check)
     if words[:1] not in (["run"], ["test"]):
         os.execv(KIT + "/bin/rt", ["rt"] + words)
     program = build(clone, words[0] == "test")
