@@ -15,9 +15,9 @@ use Rattle.xq_atoms.specs.Text.{Text}
 use Rattle.xq_regions.specs.Forest.{end, node}
 use Rattle.xq_regions.specs.Tree.{Tree}
 use Rattle.xq_values.specs.Content.{label}
-use Rattle.xq_meaning.specs.Meaning.{Meaning, first_frame, answered}
+use Rattle.xq_meaning.specs.Meaning.{Meaning, first_frame}
 use Rattle.xq_meaning.proofs.Writing.{utf8}
-use Rattle.xq_meaning.proofs.Library.{Nodes, el, att, tex, note, ins, tree}
+use Rattle.xq_meaning.proofs.Library.{Nodes, answered, el, att, tex, note, ins, tree}
 
 abbrev pub att8 : String → String → Nodes
 att8 s value = node (label kind.Attribute (codes s) (utf8 value)) end end

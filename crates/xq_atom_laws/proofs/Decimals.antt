@@ -10,7 +10,8 @@ use Rattle.std.proofs.lemmas.List.Folds.{list_all-append}
 use Rattle.xq_atoms.specs.declared.refusals.Code.TheVariants.{FOAR0002, FORG0001, FOCA0001, FOCA0006, XPST0003, ProfDigits}
 use Rattle.xq_atoms.specs.Judged.{Judged, ◌>>=◌, only_if}
 use Rattle.xq_atoms.specs.Decimal.{IsDecimal, is_decimal}
-use Rattle.xq_atoms.specs.Text.{Text, are_digits, is_whole, value, trimmed}
+use Rattle.xq_atoms.specs.Text.{Text, are_digits, is_whole, value}
+use Rattle.xq_characters.specs.Spaces.{trimmed}
 use Rattle.xq_atoms.specs.Literal.{is_number, whole_part, fraction, without_trailing_zeros, millionths_of, integer_literal, decimal_literal}
 use Rattle.xq_atoms.specs.Atom.{Atomic, Integer, Decimal, String}
 use Rattle.xq_atoms.specs.Arithmetic.{neg}

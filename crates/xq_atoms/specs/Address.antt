@@ -1,14 +1,16 @@
 -- The addresses that documents are stored under: 1 to 200 bytes of A-Z a-z 0-9 . _ / -
-use Rattle.std.specs.Prelude.{ℕ, ◌<◌, ◌≤◌, List, length, Bool, All, IsTrue, ◌==◌, ◌&&◌, ◌||◌, nat_le}
+use Rattle.std.specs.Prelude.{ℕ, ◌<◌, ◌≤◌, List, length, Bool, All, IsTrue, ◌==◌, ◌||◌}
+use Rattle.xq_characters.specs.Characters.{within, is_digit}
+
+-- the greatest length of an address, in bytes
+abbrev pub longest_address : ℕ
+longest_address = 200
 
 abbrev pub is_upper : ℕ → Bool
-is_upper byte = nat_le 65 byte && nat_le byte 90
+is_upper byte = within 65 90 byte
 
 abbrev pub is_lower : ℕ → Bool
-is_lower byte = nat_le 97 byte && nat_le byte 122
-
-abbrev pub is_digit : ℕ → Bool
-is_digit byte = nat_le 48 byte && nat_le byte 57
+is_lower byte = within 97 122 byte
 
 -- a letter, a digit, or one of  .  _  /  -
 abbrev pub is_address_byte : ℕ → Bool
@@ -17,5 +19,5 @@ is_address_byte byte =
     || byte == 45
 
 abbrev pub IsAddress : List ℕ → Type 0
-IsAddress bytes = (0 < length bytes) × (length bytes ≤ 200)
+IsAddress bytes = (0 < length bytes) × (length bytes ≤ longest_address)
     × All (λ byte. IsTrue (is_address_byte byte)) bytes

@@ -1,11 +1,11 @@
 -- Casts between the five types (F&O 3.1, 19).
-use Rattle.std.specs.Prelude.{ℕ, ◌/◌, ◌%◌, ◌-◌, ℤ, pos, neg_ℤ, nat_abs, int_lt, int_div, [], ◌∷◌, ◌++◌, length, replicate, Bool, true, false, not, ◌||◌, ◌==◌, nat_lt, Ok, Err, codes, if◌then◌else◌}
-use Rattle.std.specs.Prelude.{decimal as digits}
+use Rattle.std.specs.Prelude.{ℕ, ◌/◌, ◌%◌, ◌-◌, ℤ, pos, neg_ℤ, nat_abs, int_lt, int_div, [], ◌∷◌, ◌++◌, length, replicate, Bool, true, false, not, ◌||◌, ◌==◌, nat_lt, Ok, Err, codes, if◌then◌else◌, decimal as digits}
 use Rattle.std.specs.Fmt.{signed_decimal}
 use Rattle.xq_atoms.specs.declared.refusals.Code.TheVariants.{FORG0001, FOCA0001, FOCA0003, FOCA0006}
 use Rattle.xq_atoms.specs.Judged.{Judged, only_if}
 use Rattle.xq_atoms.specs.Decimal.{one, in_millionths, is_decimal}
-use Rattle.xq_atoms.specs.Text.{Text, text_eq, trimmed, is_whole, value}
+use Rattle.xq_atoms.specs.Text.{Text, text_eq, is_whole, value}
+use Rattle.xq_characters.specs.Spaces.{trimmed}
 use Rattle.xq_atoms.specs.Literal.{is_number, fraction, without_trailing_zeros, millionths}
 use Rattle.xq_atoms.specs.Atom.{Atomic, Integer, Decimal, String, Boolean, Untyped, is_integer}
 use Rattle.xq_atoms.specs.Arithmetic.{is_zero}

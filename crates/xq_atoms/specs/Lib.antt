@@ -1,6 +1,7 @@
 pub mod Address
 pub mod Code
 pub mod Judged
+pub mod Answers
 pub mod Decimal
 pub mod Text
 pub mod Atom

@@ -4,7 +4,8 @@ use Rattle.std.specs.List.{before_first, after_first}
 use Rattle.xq_atoms.specs.declared.refusals.Code.TheVariants.{FOAR0002, ProfDigits}
 use Rattle.xq_atoms.specs.Judged.{Judged, only_if}
 use Rattle.xq_atoms.specs.Decimal.{is_decimal}
-use Rattle.xq_atoms.specs.Text.{Text, before_trailing, is_whole, value}
+use Rattle.xq_atoms.specs.Text.{Text, is_whole, value}
+use Rattle.xq_characters.specs.Spaces.{before_trailing}
 use Rattle.xq_atoms.specs.Atom.{is_integer}
 
 abbrev pub is_point : ℕ → Bool

@@ -13,8 +13,12 @@ quoted_character c =
     if c == 34 then codes "\"\"" else if c == 38 then codes "&amp;" else if c == 13
     then codes "&#xD;" else c ∷ []
 
+abbrev pub escaped : Text → Text
+escaped t = flat_map quoted_character t
+
+-- a string literal: XQuery 3.1, 3.1.1
 abbrev pub quoted : Text → Text
-quoted t = codes "\"" ++ flat_map quoted_character t ++ codes "\""
+quoted t = codes "\"" ++ escaped t ++ codes "\""
 
 -- the least integer is no literal with a sign before it, since the literal is out of range
 abbrev pub print_integer : ℤ → Text

@@ -1,10 +1,11 @@
 -- Texts, as the lists of their UTF-8 bytes. White space, digits, signs and quotes are one byte
 -- each.
-use Rattle.std.specs.Prelude.{ℕ, ◌+◌, ◌-◌, ◌*◌, List, [], ◌∷◌, reverse, Bool, true, false, not, ◌&&◌, ◌||◌, ◌==◌, nat_le, bytes_eq, if◌then◌else◌}
+use Rattle.std.specs.Prelude.{ℕ, ◌+◌, ◌-◌, ◌*◌, List, [], ◌∷◌, Bool, true, false, not, ◌&&◌, bytes_eq}
 use Rattle.std.specs.declared.cmp.Ordering.{Ordering}
 use Rattle.std.specs.Ordering.{nat_cmp}
 use Rattle.std.specs.Cmp.Lexicographic.{slice_cmp}
 use Rattle.std.specs.List.{list_all}
+use Rattle.xq_characters.specs.Characters.{is_digit}
 
 abbrev pub Text : Type 0
 Text = List ℕ
@@ -22,26 +23,7 @@ abbrev pub is_empty : Text → Bool
 is_empty [] = true
 is_empty (c ∷ cs) = false
 
--- XML 1.0, 2.3: #x20, #x9, #xD, #xA
-abbrev pub is_space : ℕ → Bool
-is_space c = c == 32 || c == 9 || c == 13 || c == 10
-
--- what is left from the first on that is not of the kind
-abbrev pub after_leading : (ℕ → Bool) → Text → Text
-after_leading of_kind [] = []
-after_leading of_kind (c ∷ cs) = if of_kind c then after_leading of_kind cs else c ∷ cs
-
-abbrev pub before_trailing : (ℕ → Bool) → Text → Text
-before_trailing of_kind cs = reverse (after_leading of_kind (reverse cs))
-
--- white space at the ends is dropped
-abbrev pub trimmed : Text → Text
-trimmed cs = before_trailing is_space (after_leading is_space cs)
-
--- 0 to 9
-abbrev pub is_digit : ℕ → Bool
-is_digit c = nat_le 48 c && nat_le c 57
-
+-- digits alone, or nothing
 abbrev pub are_digits : Text → Bool
 are_digits cs = list_all is_digit cs
 

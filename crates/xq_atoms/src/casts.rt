@@ -13,6 +13,7 @@ use crate::literals::{FRACTION_DIGITS, millionths};
 use crate::refusals::{Code, Want};
 use crate::texts;
 use std::alloc::Global;
+use xq_characters::trimmed;
 
 /// The atom as an integer (F&O 3.1, section 19): a decimal is truncated towards zero, a boolean is
 /// 1 or 0, and a text is `[+-]?d+` between white space. FORG0001 for another text, FOCA0003 out of
@@ -24,7 +25,7 @@ pub fn cast_int(atom: &Atom) -> Result<Atom, Code>
         Atom::Int(value) => Ok(Atom::Int(*value)),
         Atom::Dec(value) => integer_or_too_large(value.millionths() / 1_000_000),
         Atom::Bool(truth) => Ok(Atom::Int(i64::from(*truth))),
-        Atom::Str(text) | Atom::Untyped(text) => integer_of_text(texts::trimmed(text.as_bytes())),
+        Atom::Str(text) | Atom::Untyped(text) => integer_of_text(trimmed(text.as_bytes())),
     }
 }
 
@@ -38,7 +39,7 @@ pub fn cast_dec(atom: &Atom) -> Result<Atom, Code>
         Atom::Int(value) => Ok(Atom::Dec(Decimal::from_int(*value))),
         Atom::Dec(value) => Ok(Atom::Dec(*value)),
         Atom::Bool(truth) => Ok(Atom::Dec(Decimal::from_int(i64::from(*truth)))),
-        Atom::Str(text) | Atom::Untyped(text) => decimal_of_text(texts::trimmed(text.as_bytes())),
+        Atom::Str(text) | Atom::Untyped(text) => decimal_of_text(trimmed(text.as_bytes())),
     }
 }
 
@@ -58,7 +59,7 @@ pub fn boolean(atom: &Atom) -> Result<bool, Code>
         Atom::Int(value) => Ok(*value != 0),
         Atom::Dec(value) => Ok(value.millionths() != 0),
         Atom::Bool(truth) => Ok(*truth),
-        Atom::Str(text) | Atom::Untyped(text) => boolean_of_text(texts::trimmed(text.as_bytes())),
+        Atom::Str(text) | Atom::Untyped(text) => boolean_of_text(trimmed(text.as_bytes())),
     }
 }
 

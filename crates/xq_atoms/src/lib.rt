@@ -20,5 +20,5 @@ pub use casts::{cast_bool, cast_dec, cast_int};
 pub use comparisons::{CompOp, compare_general, compare_value};
 pub use decimals::Decimal;
 pub use literals::{dec_literal, int_literal};
-pub use prints::{cast_str, print};
+pub use prints::{append_quoted, cast_str, print};
 pub use refusals::{Code, Fault, Want};

@@ -1,6 +1,5 @@
 //! Atoms as texts.
-ghost use Rattle.std.specs.Prelude.{◌≡◌, ◌%◌, ◌<◌, ◌++◌, take, length, flat_map, encode_utf8, All, OnOk, OnErr, IfOk, IfErr, string_bytes, nat_abs};
-ghost use Rattle.std.specs.Prelude.{decimal as decimal_digits};
+ghost use Rattle.std.specs.Prelude.{◌≡◌, ◌%◌, ◌<◌, ◌++◌, take, length, flat_map, encode_utf8, All, OnOk, OnErr, IfOk, IfErr, string_bytes, nat_abs, decimal as decimal_digits};
 ghost use Rattle.xq_atoms.specs.Atom.{atomic_of};
 ghost use Rattle.xq_atoms.specs.Cast as Cast;
 ghost use Rattle.xq_atoms.specs.Print as Print;
@@ -158,8 +157,9 @@ fn append_digits(digits: &[u8], out: &mut String) -> Result<(), Want>
     Ok(())
 }
 
-/// Appends a string literal.
-fn append_quoted(text: &str, out: &mut String) -> Result<(), Want>
+/// Appends the string literal that gives the text (XQuery 3.1, section 3.1.1). After a refusal a
+/// front of it may stand behind the text that was there.
+pub fn append_quoted(text: &str, out: &mut String) -> Result<(), Want>
     ensures ok { OnOk result
         (string_bytes out.new ≡ string_bytes out.old ++ Print.quoted text.now) }
     ensures kept { take (length (string_bytes out.old)) (string_bytes out.new)

@@ -3,41 +3,6 @@ ghost use Rattle.std.specs.Prelude.{◌≡◌, ◌^◌, ◌<◌, IsTrue, SomeIff
 ghost use Rattle.xq_atoms.specs.Text as Text;
 ghost use Rattle.xq_atoms.specs.Literal as Literal;
 
-/// The text without the white space at its ends.
-pub fn trimmed(text: &[u8]) -> &[u8]
-    ensures { result.now ≡ Text.trimmed text.now }
-{
-    before_spaces(after_spaces(text))
-}
-
-/// What is left from the first byte on that is no white space.
-fn after_spaces(text: &[u8]) -> &[u8]
-    ensures { result.now ≡ Text.after_leading Text.is_space text.now }
-{
-    let mut rest = text;
-    while let Some((first, others)) = rest.split_first() {
-        if !is_space(*first) {
-            break;
-        }
-        rest = others;
-    }
-    rest
-}
-
-/// What comes before the white space at the end.
-fn before_spaces(text: &[u8]) -> &[u8]
-    ensures { result.now ≡ Text.before_trailing Text.is_space text.now }
-{
-    let mut rest = text;
-    while let Some((last, others)) = rest.split_last() {
-        if !is_space(*last) {
-            break;
-        }
-        rest = others;
-    }
-    rest
-}
-
 /// The digits without the zeros at their end.
 pub fn without_trailing_zeros(digits: &[u8]) -> &[u8]
     ensures { result.now ≡ Literal.without_trailing_zeros digits.now }
@@ -50,13 +15,6 @@ pub fn without_trailing_zeros(digits: &[u8]) -> &[u8]
         rest = others;
     }
     rest
-}
-
-/// Whether the byte is white space of XML 1.0, section 2.3.
-fn is_space(byte: u8) -> bool
-    ensures { result ≡ Text.is_space byte }
-{
-    matches!(byte, b' ' | b'\t' | b'\r' | b'\n')
 }
 
 /// Whether each byte is a digit.

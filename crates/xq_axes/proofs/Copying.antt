@@ -9,7 +9,7 @@ use Rattle.xq_regions.specs.Tree.{Label, Tree, nodes}
 use Rattle.xq_regions.specs.Node.{below_at, subtree}
 use Rattle.xq_regions.specs.Order.{path_at}
 use Rattle.xq_regions.specs.Rows.{Row, no_row, row_at, row_of, rows, placed, measured, AreNumbered, Encodes}
-use Rattle.xq_regions.specs.Nesting.{rows-injective}
+use Rattle.xq_regions.proofs.Injective.{rows-injective}
 use Rattle.xq_regions.proofs.Encoding.{length-rows}
 use Rattle.xq_regions.proofs.Walks.{length-map}
 use Rattle.xq_axes.specs.private.Reads.{Span, span, span_end, IsRowIn, rows_to, lowered, AreCopied, IsSized}

@@ -7,7 +7,8 @@ use Rattle.xq_regions.specs.Forest.{count}
 use Rattle.xq_regions.specs.Tree.{Tree, IsTree, nodes}
 use Rattle.xq_regions.specs.Rows.{rows}
 use Rattle.xq_regions.specs.Regions.{IsInside}
-use Rattle.xq_regions.specs.RegionTests.{plain_row, inside, in_region}
+use Rattle.xq_regions.specs.private.RegionTests.{in_region}
+use Rattle.xq_regions.specs.RegionTests.{plain_row, inside}
 use Rattle.xq_regions.specs.declared.Axis.TheVariants as axis
 use Rattle.xq_regions.proofs.Encoding.{length-rows}
 use Rattle.xq_sources.specs.AttributeRows.{AreAttributeRows}

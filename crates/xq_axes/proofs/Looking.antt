@@ -9,7 +9,8 @@ use Rattle.xq_regions.specs.Tree.{Tree, nodes, is_attribute}
 use Rattle.xq_regions.specs.declared.NodeRow.{NodeRow}
 use Rattle.xq_regions.specs.Rows.{Row, rows, row_at, row_of}
 use Rattle.xq_regions.specs.Regions.{kind_of_row}
-use Rattle.xq_regions.specs.RegionTests.{plain_row, in_region}
+use Rattle.xq_regions.specs.private.RegionTests.{in_region}
+use Rattle.xq_regions.specs.RegionTests.{plain_row}
 use Rattle.xq_regions.specs.declared.Axis.TheVariants as axis
 use Rattle.xq_regions.proofs.RegionTable.{in_region_is}
 use Rattle.xq_regions.proofs.AxisTable.{plain_kind_is}

@@ -12,7 +12,7 @@ use Rattle.xq_regions.specs.declared.Axis.{Axis}
 use Rattle.xq_regions.specs.declared.items.Node.{Node}
 use Rattle.xq_regions.specs.Forest.{count}
 use Rattle.xq_regions.specs.Order.{path_at}
-use Rattle.xq_regions.specs.RegionTests.{in_region}
+use Rattle.xq_regions.specs.private.RegionTests.{in_region}
 use Rattle.xq_regions.specs.Rows.{rows, row_at}
 use Rattle.xq_regions.specs.Tree.{Tree, nodes}
 use Rattle.xq_sources.specs.Sources.{tree_at, HasNode}

@@ -67,7 +67,8 @@ impl<J> Picker<'_, J> {
         ensures judge { self.new.judge ≡ self.old.judge }
         ensures test { self.new.test.now ≡ self.old.test.now }
         ensures found { OnOk result (self.new.found.items ≡ self.old.found.items
-            ++ (if is_hit && row_passes self.old.test.now (row_of row.now) then row.now.pre ∷ [] else [])) }
+            ++ (if is_hit && row_passes self.old.test.now
+            (row_of row.now) then row.now.pre ∷ [] else [])) }
     {
         if is_hit && passes(self.test, row) {
             self.found.push(row.pre)?;

@@ -44,7 +44,7 @@ fn ask_for_trees<L: RowLender>(alloc: Global, source: &mut L, nodes: &[Node]) ->
 /// From nodes of one tree it reads each row below them once at most, and for each node at most two
 /// rows besides.
 ///
-/// `Want::Store` where the source refuses to read a row, or isn't clean and gives rows out of order;
+/// `Want::Store` where the source refuses a row, or gives rows out of order and isn't clean;
 /// `Want::Memory` where a growth was refused.
 pub fn double_slash<L: RowLender>(
     alloc: Global,

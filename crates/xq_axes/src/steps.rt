@@ -256,7 +256,7 @@ fn step_from<L: RowLender>(
 /// From nodes of one tree it reads each row of the axis' region once at most, and for each node at
 /// most one row besides.
 ///
-/// `Want::Store` where the source refuses to read a row, or isn't clean and gives rows out of order;
+/// `Want::Store` where the source refuses a row, or gives rows out of order and isn't clean;
 /// `Want::Memory` where a growth was refused.
 pub fn step<L: RowLender>(
     alloc: Global,

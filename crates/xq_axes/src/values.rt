@@ -20,7 +20,8 @@ struct Texts {
 }
 
 impl Visitor for Texts {
-    ghost has_read = { λ _ v t s n. string_bytes v.joined ≡ joined_texts (rows_to (rows t) s.low n) };
+    ghost has_read = { λ _ v t s n. string_bytes v.joined
+        ≡ joined_texts (rows_to (rows t) s.low n) };
 
     fn visit(&mut self, row: &NodeRow) -> Result<u32, Want> {
         if let Kind::Text = row.kind {

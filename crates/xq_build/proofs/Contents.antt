@@ -1,26 +1,24 @@
 -- Content by forests is content by leaves.
 use Rattle.std.proofs.Common.{◌≡◌, ℕ, zero, suc, ◌+◌, List, [], ◌∷◌, ◌++◌, length, map, Bool, true, false, not, ◌&&◌, cond, Option, Some, None, refl, sym, ◌∙◌, ap, subst, arith, append_assoc}
-use Rattle.std.specs.Prelude.{filter, codes, nat_lt, nat_eq}
+use Rattle.std.specs.Prelude.{filter, codes, nat_lt, nat_eq, IsTrue}
 use Rattle.std.specs.List.{list_all}
 use Rattle.std.proofs.lemmas.Bool.Decides.{nat_tests}
 use Rattle.std.proofs.lemmas.List.{append-nil, map-append, map_push}
-use Rattle.xq_regions.specs.Print.{flat_row}
+use Rattle.xq_regions.specs.Levels.{flat_row}
 use Rattle.xq_atoms.specs.Text.{Text, is_empty}
 use Rattle.xq_atoms.specs.Atom.{Atomic}
 use Rattle.xq_atoms.specs.Cast.{text_of}
-use Rattle.xq_regions.specs.Forest.{Forest, end, node, count, join, tops}
-use Rattle.xq_regions.specs.Tree.{Label, Tree, nodes}
+use Rattle.xq_regions.specs.Forest.{Forest, end, node, count, join, tops, EachNode}
+use Rattle.xq_regions.specs.Tree.{Label, Tree, nodes, IsTree, no_label, is_content, may_stand}
 use Rattle.xq_regions.specs.Rows.{rows}
-use Rattle.xq_regions.specs.Nesting.{rows-injective}
+use Rattle.xq_regions.proofs.Injective.{rows-injective}
 use Rattle.xq_regions.proofs.Printed.{leveled, flat-measured}
 use Rattle.xq_regions.proofs.Sized.{sized-tree}
 use Rattle.xq_regions.specs.private.Sizes.{sized}
 use Rattle.xq_values.specs.Texts.{joined}
-use Rattle.xq_values.specs.Content.{is_text, text_label, copied, run, spaced, flattened_after, flattened, in_front, merged, in_front_unless, is_empty_text, without_empty_texts, is_within_height}
+use Rattle.xq_values.specs.Content.{is_text, text_label, copied, run, spaced, flattened_after, flattened, in_front, merged, in_front_unless, is_empty_text, without_empty_texts, is_within_height, copied_as}
 use Rattle.xq_values.specs.Items.{Item, Node, Atom, tree_below}
-use Rattle.xq_build.specs.private.Leaves.{Leaf, leaves}
-use Rattle.xq_regions.specs.Forest.{EachNode}
-use Rattle.xq_regions.specs.Tree.{IsTree, no_label, is_content, may_stand}
+use Rattle.xq_build.specs.private.Leaves.{Leaf, leaves, IsRowOf}
 use Rattle.xq_regions.specs.Node.{HasPath, label_at, below_at}
 use Rattle.xq_regions.specs.Order.{path_at}
 use Rattle.xq_regions.specs.declared.NodeRow.{NodeRow}
@@ -29,13 +27,9 @@ use Rattle.xq_regions.specs.declared.Kind.{Kind}
 use Rattle.xq_regions.specs.declared.Kind.TheVariants.{Document, Element, Attribute, Text as TextKind, Comment, ProcessingInstruction}
 use Rattle.xq_regions.proofs.Paths.{at_place}
 use Rattle.xq_sources.specs.Sources.{tree_at}
-use Rattle.xq_values.specs.Content.{copied_as}
 use Rattle.xq_values.specs.Readings.{node_at}
-use Rattle.xq_build.specs.private.Leaves.{IsRowOf}
-use Rattle.xq_build.specs.private.Content.{so_far}
-use Rattle.std.specs.Prelude.{IsTrue}
+use Rattle.xq_build.specs.private.Content.{so_far, open_text, longer, flattened_with, Childless, is_top_text, glued, put, merged_leaves, may_stand_first, AreApart, is_kept, labels_if, top_labels, raised, are_low}
 use Rattle.xq_build.proofs.Subtrees.{length-leveled}
-use Rattle.xq_build.specs.private.Content.{open_text, longer, flattened_with, Childless, is_top_text, glued, put, merged_leaves, may_stand_first, AreApart, is_kept, labels_if, top_labels, raised, are_low}
 
 pub leaves-leveled : (f : Forest Label) → leaves f ≡ leveled 0 f
 leaves-leveled f = flat-measured 0 f

@@ -14,7 +14,7 @@ use Rattle.xq_regions.specs.Tree.{Label, Tree, nodes}
 use Rattle.xq_regions.specs.declared.Kind.{Kind}
 use Rattle.xq_regions.specs.declared.Kind.TheVariants.{Document, Element, Attribute, Text as TextKind, Comment, ProcessingInstruction}
 use Rattle.xq_values.specs.Content.{attribute_fault, first_fault, or_else, is_within_height, within_limits, unless_fault, built}
-use Rattle.xq_build.specs.Gives.{Gives}
+use Rattle.xq_atoms.specs.Answers.{GivesUnlessWanting}
 use Rattle.xq_build.specs.private.Leaves.{Leaf, leaves}
 use Rattle.xq_build.specs.private.Content.{top_labels, labels_if, raised, are_low, fault_from, JudgedAs, JudgesLeaf}
 use Rattle.xq_build.proofs.Contents.{top_leaves, low_leaves, length-leaves, raised_leaves, leaves-injective}
@@ -120,7 +120,7 @@ whole a f = record { root = a; below = f }
 passes : (a : Label) (f : Forest Label) (ps : List Leaf) → ps ≡ leaves f → fault_from a.kind [] false ps ≡ first_fault a.kind [] false (tops f)
 passes a f ps e = ap (first_fault a.kind [] false) (ap top_labels e ∙ top_leaves f)
 
-pub built_refused : (a : Label) (f : Forest Label) (ps : List Leaf) (fault : Fault) → ps ≡ leaves f → JudgedAs (fault_from a.kind [] false ps) (Err fault) → Gives (λ (t : Tree). t) (built a f) (Err fault)
+pub built_refused : (a : Label) (f : Forest Label) (ps : List Leaf) (fault : Fault) → ps ≡ leaves f → JudgedAs (fault_from a.kind [] false ps) (Err fault) → GivesUnlessWanting (λ (t : Tree). t) (built a f) (Err fault)
 built_refused a f ps (OfWant want) e h = tt
 built_refused a f ps (OfCode code) e h = ap (λ o. unless_fault o (whole a f)) (sym (passes a f ps e) ∙ h)
 

@@ -9,7 +9,7 @@ use Rattle.xq_regions.specs.Tree.{Label, Tree, nodes, no_label}
 use Rattle.xq_regions.specs.Node.{HasPath, label_at, below_at}
 use Rattle.xq_regions.specs.Order.{place_of, path_at}
 use Rattle.xq_regions.specs.Rows.{Row, rows, row_at, row_of, placed, placed_rows}
-use Rattle.xq_regions.specs.Print.{flat, flat_row}
+use Rattle.xq_regions.specs.Levels.{flat, flat_row}
 use Rattle.xq_regions.specs.declared.NodeRow.{NodeRow}
 use Rattle.xq_regions.specs.declared.Kind.{Kind}
 use Rattle.xq_regions.specs.declared.Kind.TheVariants.{Document, Element, Attribute, Text, Comment, ProcessingInstruction}

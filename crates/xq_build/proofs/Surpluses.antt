@@ -7,16 +7,15 @@ use Rattle.std.proofs.lemmas.List.{append-nil, drop_more, length-append, map_pus
 use Rattle.std.proofs.lemmas.List.Elements.{filter-append}
 use Rattle.std.proofs.lemmas.List.Folds.{list_any-append}
 use Rattle.xq_atoms.specs.Text.{Text, is_empty}
-use Rattle.xq_regions.specs.Tree.{Label, is_attribute}
+use Rattle.xq_regions.specs.Tree.{Label, is_attribute, Tree, nodes, may_stand, is_content}
 use Rattle.xq_regions.specs.declared.Kind.{Kind}
 use Rattle.xq_regions.specs.declared.Kind.TheVariants.{Document, Element, Attribute, Text as TextKind, Comment, ProcessingInstruction}
-use Rattle.xq_values.specs.Content.{is_text, attribute_fault, first_fault, or_else}
-use Rattle.xq_regions.specs.Forest.{Forest, end, node, tops, IsWithinHeight}
-use Rattle.xq_regions.specs.Tree.{Tree, nodes, may_stand, is_content}
+use Rattle.xq_values.specs.Content.{is_text, attribute_fault, first_fault, or_else, copied, is_within_height, flattened, content}
+use Rattle.xq_regions.specs.Forest.{Forest, end, node, tops, IsWithinHeight, join}
 use Rattle.xq_regions.specs.Node.{HasPath, below_at}
 use Rattle.xq_regions.specs.Order.{path_at, place_of}
 use Rattle.xq_regions.specs.Rows.{Row, rows, row_at, placed}
-use Rattle.xq_regions.specs.Print.{flat_row}
+use Rattle.xq_regions.specs.Levels.{flat_row}
 use Rattle.xq_regions.specs.declared.NodeRow.{NodeRow}
 use Rattle.xq_regions.specs.declared.items.Node.{Node as CodeNode}
 use Rattle.xq_regions.proofs.Printed.{leveled}
@@ -26,8 +25,6 @@ use Rattle.xq_sources.specs.Sources.{rows_between, tree_at}
 use Rattle.xq_sources.specs.Lenders.{IsRun}
 use Rattle.xq_atoms.specs.Atom.{Atomic}
 use Rattle.xq_atoms.specs.Cast.{text_of}
-use Rattle.xq_regions.specs.Forest.{join}
-use Rattle.xq_values.specs.Content.{copied, is_within_height, flattened, content}
 use Rattle.xq_values.specs.Items.{Item, Node, Atom, tree_below}
 use Rattle.xq_regions.specs.Items.{item_view}
 use Rattle.xq_regions.specs.declared.items.Item.{Item as CodeItem}

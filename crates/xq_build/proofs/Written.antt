@@ -1,6 +1,6 @@
 -- Pieces of a text, one after another.
-use Rattle.std.proofs.Common.{◌≡◌, ℕ, suc, ◌<◌, ◌≤◌, List, [], ◌∷◌, ◌++◌, length, get_or, take, refl, sym, ◌∙◌, ap, subst, arith, append_assoc, encode_utf8, map, Bool, true, false, nat_lt}
-use Rattle.std.proofs.lemmas.List.{length-append, append-nil}
+use Rattle.std.proofs.Common.{◌≡◌, ℕ, suc, ◌<◌, ◌≤◌, List, [], ◌∷◌, ◌++◌, length, get_or, take, refl, sym, ◌∙◌, ap, subst, arith, append_assoc, encode_utf8, map, Bool, true, false, nat_lt, ◌+◌, ◌-◌, drop}
+use Rattle.std.proofs.lemmas.List.{length-append, append-nil, drop_more, map-append}
 use Rattle.std.proofs.lemmas.Str.{encodes-append, encode_ascii, inside_one}
 use Rattle.std.proofs.lemmas.Bool.Decides.{nat_tests}
 use Rattle.std.specs.Str.{encode_utf8_all}
@@ -8,28 +8,26 @@ use Rattle.xq_atoms.specs.declared.refusals.Fault.{Fault}
 use Rattle.xq_atoms.specs.declared.refusals.Fault.TheVariants.{Code as OfCode, Want as OfWant}
 use Rattle.xq_atoms.specs.declared.refusals.Code.{Code}
 use Rattle.xq_atoms.specs.declared.refusals.Code.TheVariants.{ProfReply}
-use Rattle.xq_regions.specs.Print.{escape, escaped, text_from, print, flat_row}
+use Rattle.xq_regions.specs.Print.{print}
+use Rattle.xq_atoms.specs.Print.{quoted_character, escaped}
+use Rattle.xq_regions.specs.Levels.{flat_row}
+use Rattle.xq_regions.specs.private.Printing.{text_from}
 use Rattle.xq_regions.specs.Tree.{Tree}
 use Rattle.xq_regions.specs.declared.NodeRow.{NodeRow}
 use Rattle.xq_regions.proofs.Printed.{text-rows}
 use Rattle.xq_regions.specs.declared.items.Item.{Item as CodeItem}
 use Rattle.xq_regions.specs.Items.{item_view}
-use Rattle.xq_values.specs.Items.{Item}
-use Rattle.xq_values.specs.Readings.{item_at, items_at}
+use Rattle.xq_values.specs.Items.{Item, tree_below}
+use Rattle.xq_values.specs.Readings.{item_at, items_at, node_at}
 use Rattle.xq_values.specs.Print.{print_item, print_items, within_reply}
 use Rattle.xq_regions.specs.Rows.{row_of, placed}
 use Rattle.xq_regions.specs.declared.items.Node.{Node as CodeNode}
 use Rattle.xq_sources.specs.Lenders.{IsRun}
 use Rattle.xq_sources.specs.Sources.{rows_between, tree_at}
-use Rattle.xq_values.specs.Items.{tree_below}
-use Rattle.xq_values.specs.Readings.{node_at}
 use Rattle.xq_build.proofs.Subtrees.{run_splits, whole_leaves}
-use Rattle.std.specs.Prelude.{Result, String, string_bytes}
-use Rattle.std.proofs.Common.{◌+◌, ◌-◌, drop}
-use Rattle.std.proofs.lemmas.List.{drop_more, map-append}
-use Rattle.xq_build.specs.Gives.{Gives}
+use Rattle.std.specs.Prelude.{Result, String, string_bytes, codes, nat_le, Ok, Err}
+use Rattle.xq_atoms.specs.Answers.{GivesUnlessWanting}
 use Rattle.xq_build.specs.private.Leaves.{Leaf, lowered, leaves_between, IsRowOf}
-use Rattle.std.specs.Prelude.{codes, nat_le, Ok, Err}
 use Rattle.xq_build.specs.private.Writing.{IsTooLong, Appends, each_after_comma, escape_char}
 
 -- a text that is too long stays so
@@ -46,9 +44,9 @@ refused_within limit f x q more whole e h = too_long_along limit f _ _ e (too_lo
 
 pub escaped-append : (xs ys : List ℕ) → escaped (xs ++ ys) ≡ escaped xs ++ escaped ys
 escaped-append [] ys = refl
-escaped-append (x ∷ xs) ys = ap (λ l. escape x ++ l) (escaped-append xs ys) ∙ sym (append_assoc (escape x) (escaped xs) (escaped ys))
+escaped-append (x ∷ xs) ys = ap (λ l. quoted_character x ++ l) (escaped-append xs ys) ∙ sym (append_assoc (quoted_character x) (escaped xs) (escaped ys))
 
-plain : (b : ℕ) → 128 ≤ b → escape b ≡ b ∷ []
+plain : (b : ℕ) → 128 ≤ b → quoted_character b ≡ b ∷ []
 plain b h = grind (arith, nat_tests)
 
 plain_bytes : (bs : List ℕ) → ((k : ℕ) → k < length bs → 128 ≤ get_or bs k 0) → escaped bs ≡ bs
@@ -70,7 +68,7 @@ pub escaped-encode : (c : ℕ) → escaped (encode_utf8 c) ≡ escape_char c
 escaped-encode c = by_test (nat_lt c 128) refl
   where
     by_test : (b : Bool) → nat_lt c 128 ≡ b → escaped (encode_utf8 c) ≡ escape_char c
-    by_test true e = let small : c < 128 = grind (arith, nat_tests) in rw (encode_ascii c small) (append-nil (escape c))
+    by_test true e = let small : c < 128 = grind (arith, nat_tests) in rw (encode_ascii c small) (append-nil (quoted_character c))
     by_test false e =
         let wide : 128 ≤ c = grind (arith, nat_tests) in
         let is : escape_char c ≡ encode_utf8 c = grind (arith, nat_tests) in
@@ -126,7 +124,7 @@ whole limit text start written printed s w h =
 refused_code : (whole : List ℕ) (code : Code) → code ≡ ProfReply → 16777216 < length whole → within_reply whole ≡ Err code
 refused_code whole code e h = let no : nat_le (length whole) 16777216 ≡ false = grind (arith, nat_tests) in rw no (ap Err (sym e))
 
-pub reply_refused : {X : Type 0} (view : X → List ℕ) (whole text : List ℕ) (f : Fault) → text ≡ whole → IsTooLong 16777216 text f → Gives view (within_reply whole) (Err f)
+pub reply_refused : {X : Type 0} (view : X → List ℕ) (whole text : List ℕ) (f : Fault) → text ≡ whole → IsTooLong 16777216 text f → GivesUnlessWanting view (within_reply whole) (Err f)
 reply_refused view whole text (OfWant want) e h = tt
 reply_refused view whole text (OfCode code) e h = refused_code whole code h.0 (omega (arith, h.1, ap length e))
 

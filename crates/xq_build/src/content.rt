@@ -5,7 +5,7 @@ ghost use Rattle.std.specs.Option.{option_map};
 ghost use Rattle.xq_atoms.specs.Atom.{atomic_of};
 ghost use Rattle.xq_atoms.specs.Cast.{text_of};
 ghost use Rattle.xq_regions.specs.Items.{item_view};
-ghost use Rattle.xq_regions.specs.Print.{flat_row};
+ghost use Rattle.xq_regions.specs.Levels.{flat_row};
 ghost use Rattle.xq_values.specs.Content.{content as content_lem};
 ghost use Rattle.xq_values.specs.Readings.{item_at, items_at};
 ghost use Rattle.xq_build.specs.private.Leaves.{Leaf, leaves};

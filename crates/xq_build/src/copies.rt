@@ -1,7 +1,7 @@
 //! Copies of nodes and of all that is below them, as rows whose levels begin at 0.
 ghost use Rattle.std.specs.Prelude.{◌≡◌, ◌++◌, ◌+◌, ◌∷◌, map, IfOk, OnOk};
 ghost use Rattle.xq_regions.specs.Tree.{nodes};
-ghost use Rattle.xq_regions.specs.Print.{flat_row};
+ghost use Rattle.xq_regions.specs.Levels.{flat_row};
 ghost use Rattle.xq_regions.specs.Rows.{row_of};
 ghost use Rattle.xq_sources.specs.Sources.{tree_at};
 ghost use Rattle.xq_values.specs.Items.{tree_below};
@@ -157,7 +157,8 @@ pub fn append_content<L: RowLender>(
 ) -> Result<(), Want>
     ensures copied { L.is_clean source.new
         → OnOk result (map flat_row copies.new.items ≡ map flat_row copies.old.items
-        ++ leaves (copied (tree_below (L.forest source.old) (node_at (L.forest source.old) node)))) }
+        ++ leaves (copied (tree_below (L.forest source.old)
+        (node_at (L.forest source.old) node)))) }
     ensures childless { L.is_clean source.new → OnOk result
         (Childless (copied (tree_below (L.forest source.old)
         (node_at (L.forest source.old) node)))) }

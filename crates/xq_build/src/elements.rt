@@ -3,7 +3,7 @@ ghost use Rattle.std.specs.Prelude.{◌≡◌, map, string_bytes};
 ghost use Rattle.xq_regions.specs.Items.{item_view};
 ghost use Rattle.xq_values.specs.Content.{element_tree, document_tree};
 ghost use Rattle.xq_values.specs.Readings.{items_at};
-ghost use Rattle.xq_build.specs.Gives.{Gives};
+ghost use Rattle.xq_atoms.specs.Answers.{GivesUnlessWanting};
 
 use crate::content::content;
 use crate::judging::built;
@@ -29,7 +29,7 @@ pub fn element<L: RowLender>(
     name: String,
     items: &[Item],
 ) -> Result<Fragment, Fault>
-    ensures gives { L.is_clean source.new → Gives (λ tree. tree)
+    ensures gives { L.is_clean source.new → GivesUnlessWanting (λ tree. tree)
         (element_tree (string_bytes name) (L.forest source.old)
         (items_at (L.forest source.old) (map item_view items.now))) result }
     ensures keeps { L.forest source.new ≡ L.forest source.old }
@@ -46,7 +46,7 @@ pub fn document<L: RowLender>(
     source: &mut L,
     items: &[Item],
 ) -> Result<Fragment, Fault>
-    ensures gives { L.is_clean source.new → Gives (λ tree. tree)
+    ensures gives { L.is_clean source.new → GivesUnlessWanting (λ tree. tree)
         (document_tree (L.forest source.old)
         (items_at (L.forest source.old) (map item_view items.now))) result }
     ensures keeps { L.forest source.new ≡ L.forest source.old }

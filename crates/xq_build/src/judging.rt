@@ -2,9 +2,9 @@
 ghost use Rattle.std.specs.Prelude.{◌≡◌, ◌∷◌, [], false, map, string_bytes, IfOk, OnOk};
 ghost use Rattle.xq_regions.specs.Forest.{Forest};
 ghost use Rattle.xq_regions.specs.Tree.{Label};
-ghost use Rattle.xq_regions.specs.Print.{flat_row};
+ghost use Rattle.xq_regions.specs.Levels.{flat_row};
 ghost use Rattle.xq_values.specs.Content.{attribute_fault, built as built_lem, label};
-ghost use Rattle.xq_build.specs.Gives.{Gives};
+ghost use Rattle.xq_atoms.specs.Answers.{GivesUnlessWanting};
 ghost use Rattle.xq_build.specs.private.Content.{are_low as are_low_lem, raised as raised_lem, fault_from, names_of, JudgedAs, JudgesLeaf};
 ghost use Rattle.xq_build.specs.private.Surplus.{StandsFor};
 
@@ -114,7 +114,8 @@ pub fn built(
     content: Vec<NodeRow>,
 ) -> Result<Fragment, Fault>
     ensures { (f : Forest Label) → StandsFor (map flat_row content.items) f
-        → Gives (λ tree. tree) (built_lem (label kind (string_bytes name) []) f) result }
+        → GivesUnlessWanting (λ tree. tree)
+        (built_lem (label kind (string_bytes name) []) f) result }
 {
     judge_attributes(alloc, kind, &content)?;
     if !are_low(&content) {

@@ -2,9 +2,9 @@
 ghost use Rattle.std.specs.Prelude.{◌≡◌, map, string_bytes};
 ghost use Rattle.std.specs.Str.{chars};
 ghost use Rattle.xq_atoms.specs.Atom.{atomic_of};
-ghost use Rattle.xq_atoms.specs.Text as Text;
+ghost use Rattle.xq_characters.specs.Spaces.{trimmed as trimmed_lem};
 ghost use Rattle.xq_values.specs.Content.{name_of as name_of_lem, judged_name, element_name, is_prefixed as is_prefixed_lem};
-ghost use Rattle.xq_build.specs.Gives.{GivesAlone};
+ghost use Rattle.xq_atoms.specs.Answers.{Gives};
 ghost use Rattle.xq_build.specs.private.Judging.{JudgesText};
 
 use crate::values::trimmed;
@@ -53,7 +53,7 @@ fn judge_name(node_kind: NamedNode, name: &str) -> Result<(), Code>
 
 /// The name that the text is, without the white space at its ends.
 fn named(alloc: Global, node_kind: NamedNode, text: &str) -> Result<String, Fault>
-    ensures { GivesAlone string_bytes (judged_name node_kind (Text.trimmed text.now)) result }
+    ensures { Gives string_bytes (judged_name node_kind (trimmed_lem text.now)) result }
 {
     let name = trimmed(alloc, text)?;
     judge_name(node_kind, name.as_str())?;
@@ -69,7 +69,7 @@ fn named(alloc: Global, node_kind: NamedNode, text: &str) -> Result<String, Faul
 /// processing instruction what is no name is refused as `XQDY0041`, and `xml` in any case as
 /// `XQDY0064`.
 pub fn name_of(alloc: Global, node_kind: NamedNode, values: &[Atom]) -> Result<String, Fault>
-    ensures { GivesAlone string_bytes (name_of_lem node_kind (map atomic_of values.now)) result }
+    ensures { Gives string_bytes (name_of_lem node_kind (map atomic_of values.now)) result }
 {
     match values {
         [Atom::Str(text)] | [Atom::Untyped(text)] => named(alloc, node_kind, text.as_str()),

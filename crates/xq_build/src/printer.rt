@@ -3,15 +3,17 @@
 ghost use Rattle.std.specs.Prelude.{◌≡◌, ◌≤◌, ◌∷◌, [], length, map, string_bytes, OnOk};
 ghost use Rattle.std.specs.Char.{encode_utf8};
 ghost use Rattle.xq_atoms.specs.Atom.{atomic_of};
-ghost use Rattle.xq_atoms.specs.Print.{print_atomic};
+ghost use Rattle.xq_atoms.specs.Print.{print_atomic, quoted, escaped};
 ghost use Rattle.xq_regions.specs.Items.{item_view};
 ghost use Rattle.xq_regions.specs.Rows.{row_of};
-ghost use Rattle.xq_regions.specs.Print.{quoted, heading, content, opening, escaped, closing, between, text_from, flat_row, print};
+ghost use Rattle.xq_regions.specs.Print.{heading, content, opening, print};
+ghost use Rattle.xq_regions.specs.Levels.{flat_row};
+ghost use Rattle.xq_regions.specs.private.Printing.{closing, between, text_from};
 ghost use Rattle.xq_sources.specs.Sources.{tree_at};
 ghost use Rattle.xq_values.specs.Print.{print_item, print_items as printed_items, within_reply};
 ghost use Rattle.xq_values.specs.Items.{tree_below};
 ghost use Rattle.xq_values.specs.Readings.{item_at, items_at, node_at};
-ghost use Rattle.xq_build.specs.Gives.{Gives};
+ghost use Rattle.xq_atoms.specs.Answers.{GivesUnlessWanting};
 ghost use Rattle.xq_build.specs.private.Leaves.{lowered, leaves_between, IsRowOf};
 ghost use Rattle.xq_build.specs.private.Writing.{Appends, GoesOn, each_after_comma, escape_char};
 
@@ -305,7 +307,7 @@ pub fn print_items<L: RowLender>(
     source: &mut L,
     items: &[Item],
 ) -> Result<String, Fault>
-    ensures gives { L.is_clean source.new → Gives string_bytes
+    ensures gives { L.is_clean source.new → GivesUnlessWanting string_bytes
         (within_reply (printed_items (L.forest source.old)
         (items_at (L.forest source.old) (map item_view items.now)))) result }
     ensures keeps { L.forest source.new ≡ L.forest source.old }

@@ -2,7 +2,7 @@
 //! then, so what is still to come is looked at, and not copied.
 ghost use Rattle.std.specs.Prelude.{◌≡◌, true, false, map, IfOk, OnOk};
 ghost use Rattle.std.specs.List.{list_any};
-ghost use Rattle.xq_regions.specs.Print.{flat_row};
+ghost use Rattle.xq_regions.specs.Levels.{flat_row};
 ghost use Rattle.xq_regions.specs.declared.Kind.TheVariants.{Document, Attribute};
 ghost use Rattle.xq_sources.specs.Sources.{tree_at};
 ghost use Rattle.xq_values.specs.Content.{copied};

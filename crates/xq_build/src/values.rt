@@ -1,11 +1,13 @@
 //! Tests and parts of values.
 ghost use Rattle.std.specs.Prelude.{◌≡◌, codes, string_bytes, IfErr, IfOk};
 ghost use Rattle.std.specs.Str.{IsUtf8};
-ghost use Rattle.xq_atoms.specs.Text as Text;
+ghost use Rattle.xq_characters.specs.Characters.{is_space};
+ghost use Rattle.xq_characters.specs.Spaces as Spaces;
 ghost use Rattle.xq_regions.specs.Names.{holds, ends_with_dash as ends_with_dash_lem};
 
 use std::alloc::Global;
 use xq_atoms::Want;
+use xq_characters::after_spaces;
 
 /// Whether two dashes stand side by side.
 pub fn holds_two_dashes(text: &str) -> bool
@@ -28,41 +30,6 @@ pub fn ends_with_dash(text: &str) -> bool
     matches!(text.as_bytes(), [.., b'-'])
 }
 
-/// Whether the byte is white space (XML 1.0, section 2.3).
-fn is_space(byte: u8) -> bool
-    ensures { result ≡ Text.is_space byte }
-{
-    matches!(byte, b' ' | b'\t' | b'\r' | b'\n')
-}
-
-/// What is left from the first byte on that is no white space.
-fn after_spaces(text: &[u8]) -> &[u8]
-    ensures { result.now ≡ Text.after_leading Text.is_space text.now }
-{
-    let mut rest = text;
-    while let Some((first, others)) = rest.split_first() {
-        if !is_space(*first) {
-            break;
-        }
-        rest = others;
-    }
-    rest
-}
-
-/// What comes before the white space at the end.
-fn before_spaces(text: &[u8]) -> &[u8]
-    ensures { result.now ≡ Text.before_trailing Text.is_space text.now }
-{
-    let mut rest = text;
-    while let Some((last, others)) = rest.split_last() {
-        if !is_space(*last) {
-            break;
-        }
-        rest = others;
-    }
-    rest
-}
-
 /// A copy of a text by its bytes.
 fn copied_text(alloc: Global, bytes: &[u8]) -> Result<String, Want>
     requires { IsUtf8 bytes.now }
@@ -78,7 +45,7 @@ fn copied_text(alloc: Global, bytes: &[u8]) -> Result<String, Want>
 /// A copy of the text without the white space in front.
 pub fn without_leading_space(alloc: Global, text: &str) -> Result<String, Want>
     ensures text { IfOk result (λ rest. string_bytes rest
-        ≡ Text.after_leading Text.is_space text.now) }
+        ≡ Spaces.after_leading is_space text.now) }
     ensures want { IfErr result (λ want. want ≡ Want.Memory) }
 {
     copied_text(alloc, after_spaces(text.as_bytes()))
@@ -86,8 +53,8 @@ pub fn without_leading_space(alloc: Global, text: &str) -> Result<String, Want>
 
 /// A copy of the text without the white space at its ends.
 pub fn trimmed(alloc: Global, text: &str) -> Result<String, Want>
-    ensures text { IfOk result (λ rest. string_bytes rest ≡ Text.trimmed text.now) }
+    ensures text { IfOk result (λ rest. string_bytes rest ≡ Spaces.trimmed text.now) }
     ensures want { IfErr result (λ want. want ≡ Want.Memory) }
 {
-    copied_text(alloc, before_spaces(after_spaces(text.as_bytes())))
+    copied_text(alloc, xq_characters::trimmed(text.as_bytes()))
 }

@@ -1,10 +1,14 @@
 //! Characters and names of XML 1.0 (sections 2.2 and 2.3), of which queries and documents are made.
 #![tactic(auto)]
 
+mod spaces;
+
 ghost use Rattle.std.specs.Prelude.{◌≡◌, slice_get};
 ghost use Rattle.std.specs.List.{list_all};
 ghost use Rattle.std.specs.Str.{chars};
 ghost use Rattle.xq_characters.specs.Characters as spec;
+
+pub use spaces::{after_spaces, trimmed};
 
 /// Whether the character may stand in a document, and in a query (section 2.2, Char).
 #[tactic(auto, unfolding(crate::specs::Characters::is_char))]

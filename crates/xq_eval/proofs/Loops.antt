@@ -1,5 +1,5 @@
 -- Loops that stop at the first refusal, over a state of any kind.
-use Rattle.std.proofs.Common.{◌≡◌, ℕ, suc, ◌+◌, ◌<◌, zero, List, [], ◌∷◌, length, map, drop, get_or, refl, sym, ◌∙◌, ap, subst, add-one, arith, Ok, Err, Some, Result, Bool, true, false}
+use Rattle.std.proofs.Common.{◌≡◌, ℕ, suc, ◌+◌, ◌<◌, zero, List, [], ◌∷◌, length, map, drop, get_or, refl, sym, ◌∙◌, ap, subst, add-one, arith, Ok, Err, Some, Result, Bool, true, false, not}
 use Rattle.std.specs.Prelude.{IsErrAnd, slice_get, if◌then◌else◌}
 use Rattle.std.proofs.lemmas.Option.{none-some, same_Some}
 use Rattle.std.proofs.Math.Seq.{drop-cons}
@@ -8,9 +8,9 @@ use Rattle.xq_atoms.specs.declared.refusals.Fault.TheVariants.{Code as OfCode, W
 use Rattle.xq_regions.specs.Tree.{Tree}
 use Rattle.xq_atoms.specs.declared.refusals.Code.{Code}
 use Rattle.xq_atoms.specs.Judged.{Judged}
-use Rattle.std.proofs.Common.{not}
 use Rattle.xq_meaning.specs.Doing.{Doing, Outcome, go_on, in_turn, first_that, unless_found}
-use Rattle.xq_operations.specs.Views.{GivesAs, GivesPlain}
+use Rattle.xq_operations.specs.Views.{GivesAs}
+use Rattle.xq_eval.specs.private.Results.{GivesPlain}
 
 -- what is left of a list begins with its element at the index
 pub left_over : {X A : Type 0} (view : X → A) (xs : List X) (i : ℕ) (x : X) → i < length xs → x ≡ get_or xs i x → map view (drop i xs) ≡ view x ∷ map view (drop (i + 1) xs)

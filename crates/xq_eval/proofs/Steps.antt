@@ -14,7 +14,7 @@ use Rattle.xq_atoms.specs.declared.refusals.Fault.{Fault}
 use Rattle.xq_atoms.specs.declared.refusals.Fault.TheVariants.{Code as OfCode, Want as OfWant}
 use Rattle.xq_regions.specs.declared.items.Item.{Item as Held}
 use Rattle.xq_regions.specs.Tree.{Tree}
-use Rattle.xq_regions.specs.Tuples.{Tuple, item_values, with_each, expanded, bound, kept}
+use Rattle.xq_regions.specs.Tuples.{Tuple, item_values, with_each, expanded, bound, satisfying}
 use Rattle.xq_tuples.specs.Views.{values_of}
 use Rattle.xq_regions.specs.Items.{ItemView, Value, item_view}
 use Rattle.xq_atoms.specs.Judged.{Judged, ◌>>=◌ as ◌>>>=◌}
@@ -168,7 +168,7 @@ bound_in f [] values h k = tt
 bound_in f (t ∷ ts) [] h k = tt
 bound_in f (t ∷ ts) (v ∷ vs) h k = (all-append (AreIn f) t (v ∷ []) h.0 (k.0, tt), bound_in f ts vs h.1 k.1)
 
-pub kept_in : (f : List Tree) (tuples : List (Tuple ItemView)) (tests : List Bool) → TuplesIn f tuples → TuplesIn f (kept tuples tests)
+pub kept_in : (f : List Tree) (tuples : List (Tuple ItemView)) (tests : List Bool) → TuplesIn f tuples → TuplesIn f (satisfying tuples tests)
 kept_in f [] tests h = tt
 kept_in f (t ∷ ts) [] h = tt
 kept_in f (t ∷ ts) (true ∷ bs) h = (h.0, kept_in f ts bs h.1)

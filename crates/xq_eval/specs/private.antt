@@ -3,3 +3,4 @@ pub mod Children
 pub mod Keys
 pub mod Quantifying
 pub mod Turns
+pub mod Results

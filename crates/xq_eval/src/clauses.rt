@@ -8,7 +8,8 @@ ghost use Rattle.xq_meaning.specs.Doing.{in_turn, one_more, for_each};
 ghost use Rattle.xq_meaning.specs.Forms as Forms;
 ghost use Rattle.xq_meaning.specs.PlanMeaning.{plan_mean, plan_clause_mean, at_tuple as meant_at, next_clause};
 ghost use Rattle.xq_eval.specs.private.Keys.{keys_at};
-ghost use Rattle.xq_operations.specs.Views.{tuple_at, tuples_at, lists_of, order_specs, frame_at, FrameIn, TupleIn, TuplesIn, Goes, Gives, GivesLists, GivesTests, GivesTuples, GivesKeys, GivesRows};
+ghost use Rattle.xq_operations.specs.Views.{tuple_at, tuples_at, lists_of, order_specs, frame_at, FrameIn, TupleIn, TuplesIn, Goes, GivesSequence, GivesTuples};
+ghost use Rattle.xq_eval.specs.private.Results.{GivesLists, GivesTests, GivesKeys, GivesRows};
 
 use crate::evaluation::evaluate;
 use std::alloc::Global;
@@ -198,7 +199,7 @@ fn at_tuple<W: Growing>(
         (W.is_clean world.new) }
     ensures gives { W.is_clean world.new → FrameIn (W.forest world.old) frame.entry
         → TupleIn (W.forest world.old) (values_of tuple.now)
-        → Gives (plan_mean part.now (meant_at (frame_at (W.forest world.old) frame.entry)
+        → GivesSequence (plan_mean part.now (meant_at (frame_at (W.forest world.old) frame.entry)
         (tuple_at (W.forest world.old) (values_of tuple.now))) (W.forest world.old))
         (W.forest world.new) result }
 {

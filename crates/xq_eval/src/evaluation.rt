@@ -5,7 +5,8 @@ ghost use Rattle.xq_values.specs.Readings.{items_at, IsIn, AreIn};
 ghost use Rattle.xq_meaning.specs.Doing.{in_turn, more, one_more, for_each, first_that};
 ghost use Rattle.xq_meaning.specs.Forms as Forms;
 ghost use Rattle.xq_meaning.specs.PlanMeaning.{plan_mean};
-ghost use Rattle.xq_operations.specs.Views.{tuple_at, lists_of, spot_at, frame_at, FrameIn, TupleIn, Goes, Gives, GivesLists, GivesPlain};
+ghost use Rattle.xq_operations.specs.Views.{tuple_at, lists_of, spot_at, frame_at, FrameIn, TupleIn, Goes, GivesSequence};
+ghost use Rattle.xq_eval.specs.private.Results.{GivesLists, GivesPlain};
 
 use crate::clauses::{clause_list, values};
 use crate::counting::counted_variable;
@@ -35,7 +36,7 @@ pub fn evaluate<W: Growing>(
     ensures goes { Goes (W.forest world.old) (W.forest world.new) (W.is_clean world.old)
         (W.is_clean world.new) }
     ensures gives { W.is_clean world.new → FrameIn (W.forest world.old) frame.entry
-        → Gives (plan_mean plan.now (frame_at (W.forest world.old) frame.entry)
+        → GivesSequence (plan_mean plan.now (frame_at (W.forest world.old) frame.entry)
         (W.forest world.old)) (W.forest world.new) result }
 {
     match plan {
@@ -122,7 +123,7 @@ fn sequence<W: Growing>(
     ensures goes { Goes (W.forest world.old) (W.forest world.new) (W.is_clean world.old)
         (W.is_clean world.new) }
     ensures gives { W.is_clean world.new → FrameIn (W.forest world.old) frame.entry
-        → Gives (Forms.sequence (map plan_mean parts.now) (frame_at (W.forest world.old)
+        → GivesSequence (Forms.sequence (map plan_mean parts.now) (frame_at (W.forest world.old)
         frame.entry) (W.forest world.old)) (W.forest world.new) result }
 {
     let mut items = Vec::new(alloc);
@@ -145,7 +146,7 @@ fn next_part<W: Growing>(
         (W.is_clean world.new) }
     ensures gives { W.is_clean world.new → FrameIn (W.forest world.old) frame.entry
         → AreIn (W.forest world.old) (item_views done)
-        → Gives (more (λ part. part (frame_at (W.forest world.old) frame.entry)) (items_at
+        → GivesSequence (more (λ part. part (frame_at (W.forest world.old) frame.entry)) (items_at
         (W.forest world.old) (item_views done)) (plan_mean part.now) (W.forest world.old))
         (W.forest world.new) result }
 {
@@ -168,7 +169,7 @@ fn chain<W: Growing>(
         (W.is_clean world.new) }
     ensures gives { W.is_clean world.new → FrameIn (W.forest world.old) frame.entry
         → AreIn (W.forest world.old) (item_views first)
-        → Gives (in_turn (Forms.next_operand (frame_at (W.forest world.old) frame.entry))
+        → GivesSequence (in_turn (Forms.next_operand (frame_at (W.forest world.old) frame.entry))
         (items_at (W.forest world.old) (item_views first)) (map (λ (op, p). (op, plan_mean p))
         rest.now) (W.forest world.old)) (W.forest world.new) result }
 {
@@ -193,7 +194,7 @@ fn next_operand<W: Growing>(
         (W.is_clean world.new) }
     ensures gives { W.is_clean world.new → FrameIn (W.forest world.old) frame.entry
         → AreIn (W.forest world.old) (item_views left)
-        → Gives (Forms.next_operand (frame_at (W.forest world.old) frame.entry) (items_at
+        → GivesSequence (Forms.next_operand (frame_at (W.forest world.old) frame.entry) (items_at
         (W.forest world.old) (item_views left)) (operator, plan_mean part.now)
         (W.forest world.old)) (W.forest world.new) result }
 {
@@ -256,7 +257,8 @@ fn filter<W: Growing>(
         (W.is_clean world.new) }
     ensures gives { W.is_clean world.new → FrameIn (W.forest world.old) frame.entry
         → AreIn (W.forest world.old) (item_views items)
-        → Gives (in_turn (Forms.filtered (frame_at (W.forest world.old) frame.entry)) (items_at
+        → GivesSequence (in_turn (Forms.filtered (frame_at (W.forest world.old) frame.entry))
+        (items_at
         (W.forest world.old) (item_views items)) (map plan_mean predicates.now)
         (W.forest world.old)) (W.forest world.new) result }
 {
@@ -280,7 +282,7 @@ fn keep<W: Growing>(
         (W.is_clean world.new) }
     ensures gives { W.is_clean world.new → FrameIn (W.forest world.old) frame.entry
         → AreIn (W.forest world.old) (map item_view items.now)
-        → Gives (Forms.filtered (frame_at (W.forest world.old) frame.entry) (items_at
+        → GivesSequence (Forms.filtered (frame_at (W.forest world.old) frame.entry) (items_at
         (W.forest world.old) (map item_view items.now)) (plan_mean predicate.now)
         (W.forest world.old)) (W.forest world.new) result }
 {
@@ -312,7 +314,7 @@ fn pass<W: Growing>(
     ensures gives { W.is_clean world.new → FrameIn (W.forest world.old) frame.entry
         → AreIn (W.forest world.old) (item_views done)
         → IsIn (W.forest world.old) (item_view spot.entry.item.now)
-        → Gives (more (Forms.passed (plan_mean predicate.now) (frame_at (W.forest world.old)
+        → GivesSequence (more (Forms.passed (plan_mean predicate.now) (frame_at (W.forest world.old)
         frame.entry)) (items_at (W.forest world.old) (item_views done)) (spot_at
         (W.forest world.old) spot.entry) (W.forest world.old)) (W.forest world.new) result }
 {
@@ -337,7 +339,8 @@ fn called<W: Growing>(
     ensures goes { Goes (W.forest world.old) (W.forest world.new) (W.is_clean world.old)
         (W.is_clean world.new) }
     ensures gives { W.is_clean world.new → FrameIn (W.forest world.old) frame.entry
-        → Gives (Forms.call function (map plan_mean parts.now) (frame_at (W.forest world.old)
+        → GivesSequence (Forms.call function (map plan_mean parts.now)
+        (frame_at (W.forest world.old)
         frame.entry) (W.forest world.old)) (W.forest world.new) result }
 {
     if let Some(items) = counted_variable(alloc, frame.slots, function, parts)? {

@@ -8,7 +8,7 @@ ghost use Rattle.xq_values.specs.Steps.{focuses};
 ghost use Rattle.xq_meaning.specs.Doing.{in_turn, more, collected};
 ghost use Rattle.xq_meaning.specs.Forms as Forms;
 ghost use Rattle.xq_meaning.specs.PlanMeaning.{plan_mean, plan_step_mean, next_step};
-ghost use Rattle.xq_operations.specs.Views.{spot_at, frame_at, FrameIn, Goes, Gives};
+ghost use Rattle.xq_operations.specs.Views.{spot_at, frame_at, FrameIn, Goes, GivesSequence};
 ghost use Rattle.xq_eval.specs.private.Children.{IsToChildren};
 
 use crate::evaluation::evaluate;
@@ -79,7 +79,7 @@ pub fn step_list<W: Growing>(
         (W.is_clean world.new) }
     ensures gives { W.is_clean world.new → FrameIn (W.forest world.old) frame.entry
         → AreIn (W.forest world.old) (item_views items)
-        → Gives (in_turn (next_step (frame_at (W.forest world.old) frame.entry)) (items_at
+        → GivesSequence (in_turn (next_step (frame_at (W.forest world.old) frame.entry)) (items_at
         (W.forest world.old) (item_views items)) (map plan_step_mean steps.now)
         (W.forest world.old)) (W.forest world.new) result }
 {
@@ -123,7 +123,8 @@ fn next_items<W: Growing>(
         (W.is_clean world.new) }
     ensures gives { W.is_clean world.new → FrameIn (W.forest world.old) frame.entry
         → AreIn (W.forest world.old) (item_views items)
-        → Gives (plan_step_mean step.now (frame_at (W.forest world.old) frame.entry) (items_at
+        → GivesSequence (plan_step_mean step.now (frame_at (W.forest world.old) frame.entry)
+        (items_at
         (W.forest world.old) (item_views items)) (W.forest world.old)) (W.forest world.new) result }
 {
     match step {
@@ -149,7 +150,7 @@ fn each<W: Growing>(
         (W.is_clean world.new) }
     ensures gives { W.is_clean world.new → FrameIn (W.forest world.old) frame.entry
         → AreIn (W.forest world.old) (map item_view items.now)
-        → Gives (collected (λ spot. plan_mean part.now (Forms.in_focus (frame_at
+        → GivesSequence (collected (λ spot. plan_mean part.now (Forms.in_focus (frame_at
         (W.forest world.old) frame.entry) spot)) (focuses (items_at (W.forest world.old) (map
         item_view items.now))) (W.forest world.old)) (W.forest world.new) result }
 {
@@ -181,7 +182,8 @@ fn at_spot<W: Growing>(
     ensures gives { W.is_clean world.new → FrameIn (W.forest world.old) frame.entry
         → AreIn (W.forest world.old) (item_views done)
         → IsIn (W.forest world.old) (item_view spot.entry.item.now)
-        → Gives (more (λ spot. plan_mean part.now (Forms.in_focus (frame_at (W.forest world.old)
+        → GivesSequence (more
+        (λ spot. plan_mean part.now (Forms.in_focus (frame_at (W.forest world.old)
         frame.entry) spot)) (items_at (W.forest world.old) (item_views done)) (spot_at
         (W.forest world.old) spot.entry) (W.forest world.old)) (W.forest world.new) result }
 {

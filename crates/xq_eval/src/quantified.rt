@@ -4,7 +4,8 @@ ghost use Rattle.std.specs.Prelude.{◌≡◌, ◌≤◌, [], map, drop, length,
 ghost use Rattle.xq_regions.specs.Items.{item_views};
 ghost use Rattle.xq_meaning.specs.Forms as Forms;
 ghost use Rattle.xq_meaning.specs.PlanMeaning.{plan_mean};
-ghost use Rattle.xq_operations.specs.Views.{frame_at, FrameIn, Goes, GivesPlain};
+ghost use Rattle.xq_operations.specs.Views.{frame_at, FrameIn, Goes};
+ghost use Rattle.xq_eval.specs.private.Results.{GivesPlain};
 ghost use Rattle.xq_eval.specs.private.Quantifying.{IsOf, bindings, turn as meant_turn};
 ghost use Rattle.xq_eval.specs.private.Turns.{GivesTurn};
 

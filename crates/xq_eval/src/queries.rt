@@ -1,7 +1,7 @@
 //! A query's plan.
 ghost use Rattle.std.specs.Prelude.{◌≤◌, [], None, length, map, string_bytes};
 ghost use Rattle.xq_meaning.specs.PlanMeaning.{Frame as Meant, plan_mean};
-ghost use Rattle.xq_operations.specs.Views.{Goes, Gives};
+ghost use Rattle.xq_operations.specs.Views.{Goes, GivesSequence};
 
 use crate::evaluation::evaluate;
 use std::alloc::Global;
@@ -34,7 +34,7 @@ pub fn eval<W: Growing>(
           addresses = map string_bytes
               addresses.now;
         } in
-        Gives (plan_mean plan.now frame (W.forest world.old)) (W.forest world.new) result }
+        GivesSequence (plan_mean plan.now frame (W.forest world.old)) (W.forest world.new) result }
 {
     let slots: Vec<Rc<Items>> = Vec::new(alloc);
     evaluate(alloc, world, Frame::outermost(&slots, addresses), plan)

@@ -8,7 +8,7 @@ use Rattle.std.proofs.Math.Seq.{take-append_seam, drop-append_seam}
 use Rattle.std.proofs.lemmas.Grind.{common_steps}
 use Rattle.std.specs.Int.{to_be_bytes, w32}
 use Rattle.std.specs.List.{flat_map, AllByRecursion}
-use Rattle.xq_frame.specs.Frame.{frame_bytes, IsMessage, longest_message, announced, Ending, finished, too_long, cut, EndsAs, Splits, SplitsInOneWay}
+use Rattle.xq_frame.specs.Frame.{frame_bytes, IsMessage, longest_message, announced_length, Ending, finished, too_long, cut, EndsAs, Splits, SplitsInOneWay}
 
 front_bytes : (n : ℕ) (bytes : List ℕ) → ((i : ℕ) → get_or bytes i 0 < 256) → (i : ℕ) → get_or (take n bytes) i 0 < 256
 front_bytes zero bytes each i = omega arith
@@ -16,13 +16,13 @@ front_bytes (suc n) [] each i = omega arith
 front_bytes (suc n) (b ∷ bytes) each zero = each 0
 front_bytes (suc n) (b ∷ bytes) each (suc i) = front_bytes n bytes (λ k. each (suc k)) i
 
-pub same_bytes : (bytes : List ℕ) (n : ℕ) → ((i : ℕ) → get_or bytes i 0 < 256) → 4 ≤ length bytes → n ≡ announced bytes → to_be_bytes w32 n ≡ take 4 bytes
+pub same_bytes : (bytes : List ℕ) (n : ℕ) → ((i : ℕ) → get_or bytes i 0 < 256) → 4 ≤ length bytes → n ≡ announced_length bytes → to_be_bytes w32 n ≡ take 4 bytes
 same_bytes bytes n each four said =
     let four_taken : length (take 4 bytes) ≡ 4 = grind (arith, common_steps) in
     be_bytes_4 (take 4 bytes) n four_taken (front_bytes 4 bytes each) said
 
 pub whole_frame : (bytes : List ℕ) (n : ℕ) → ((i : ℕ) → get_or bytes i 0 < 256) → 4 ≤ length bytes
-    → n ≡ announced bytes → n ≤ length bytes - 4
+    → n ≡ announced_length bytes → n ≤ length bytes - 4
     → (bytes ≡ frame_bytes (take n (drop 4 bytes)) ++ drop n (drop 4 bytes)) × (length (take n (drop 4 bytes)) ≡ n)
 whole_frame bytes n each four said fits =
     let four_taken : length (take 4 bytes) ≡ 4 = grind (arith, common_steps) in
@@ -37,7 +37,7 @@ whole_frame bytes n each four said fits =
     )
 
 -- what a frame announces, and what follows its length
-pub announced_frame : (message more : List ℕ) → IsMessage message → announced (frame_bytes message ++ more) ≡ length message
+pub announced_frame : (message more : List ℕ) → IsMessage message → announced_length (frame_bytes message ++ more) ≡ length message
 announced_frame message more small = from_be_bytes-to_be_bytes_4 (length message) (omega arith)
 
 pub after_length : (message more : List ℕ) → drop 4 (frame_bytes message ++ more) ≡ message ++ more
@@ -50,9 +50,9 @@ frame_length message more = grind (arith, common_steps)
 pub no_frame : (ending : Ending) (rest message more : List ℕ) → EndsAs ending rest → IsMessage message → rest ≡ frame_bytes message ++ more → ⊥
 no_frame finished rest message more ends small e = let none = ap length (sym e ∙ ends) in omega (arith, frame_length message more, none)
 no_frame too_long rest message more ends small e =
-    let said = ap announced e ∙ announced_frame message more small in omega (arith, said, ends.1, small)
+    let said = ap announced_length e ∙ announced_frame message more small in omega (arith, said, ends.1, small)
 no_frame cut rest message more ends small e =
-    let said = ap announced e ∙ announced_frame message more small in
+    let said = ap announced_length e ∙ announced_frame message more small in
     let size = ap length e ∙ frame_length message more in
     elim ends.1 [ inl short ↦ omega (arith, size, short) | inr short ↦ omega (arith, size, said, short.1) ]
 
@@ -70,7 +70,7 @@ ends_once cut too_long rest p q = absurd (elim p.1 [ inl short ↦ omega (arith,
 -- two frames with what follows them
 pub frames_once : (a b xs ys : List ℕ) → IsMessage a → IsMessage b → frame_bytes a ++ xs ≡ frame_bytes b ++ ys → (a ≡ b) × (xs ≡ ys)
 frames_once a b xs ys small_a small_b e =
-    let sizes : length a ≡ length b = sym (announced_frame a xs small_a) ∙ ap announced e ∙ announced_frame b ys small_b in
+    let sizes : length a ≡ length b = sym (announced_frame a xs small_a) ∙ ap announced_length e ∙ announced_frame b ys small_b in
     let tails : a ++ xs ≡ b ++ ys = ap (drop 4) e in (
       sym (take-append_seam a xs) ∙ ap (λ n. take n (a ++ xs)) sizes ∙ ap (take (length b)) tails ∙ take-append_seam b ys,
       sym (drop-append_seam a xs) ∙ ap (λ n. drop n (a ++ xs)) sizes ∙ ap (drop (length b)) tails ∙ drop-append_seam b ys,
@@ -130,15 +130,15 @@ some_split (suc n) (b ∷ bytes) few each =
     let all : List ℕ = b ∷ bytes in
     elim (cases_lt (length all) 4) [
       | inl short ↦ rest_alone cut all (omega arith, inl short)
-      | inr four ↦ elim (cases_lt longest_message (announced all)) [
+      | inr four ↦ elim (cases_lt longest_message (announced_length all)) [
         | inl long ↦ rest_alone too_long all (four, long)
-        | inr fits ↦ elim (cases_lt (length all) (4 + announced all)) [
+        | inr fits ↦ elim (cases_lt (length all) (4 + announced_length all)) [
           | inl short ↦ rest_alone cut all (omega arith, inr (fits, short))
           | inr enough ↦
-              let parts = whole_frame all (announced all) (byte_at all each) four refl (omega (arith, enough)) in
-              let left : List ℕ = drop (announced all) (drop 4 all) in
-              frame_first all (take (announced all) (drop 4 all)) left parts.0 (omega (arith, parts.1, fits))
-              (some_split n left (left_is_less n (announced all) b bytes few) (All-drop (λ x. x < 256) (announced all) (drop 4 all) (All-drop (λ x. x < 256) 4 all each)))
+              let parts = whole_frame all (announced_length all) (byte_at all each) four refl (omega (arith, enough)) in
+              let left : List ℕ = drop (announced_length all) (drop 4 all) in
+              frame_first all (take (announced_length all) (drop 4 all)) left parts.0 (omega (arith, parts.1, fits))
+              (some_split n left (left_is_less n (announced_length all) b bytes few) (All-drop (λ x. x < 256) (announced_length all) (drop 4 all) (All-drop (λ x. x < 256) 4 all each)))
         ]
       ]
     ]

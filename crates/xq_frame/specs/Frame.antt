@@ -16,18 +16,18 @@ abbrev pub frame_bytes : List ℕ → List ℕ
 frame_bytes message = to_be_bytes w32 (length message) ++ message
 
 -- the length that the first four bytes tell
-abbrev pub announced : List ℕ → ℕ
-announced bytes = from_be_bytes w32 (take 4 bytes)
+abbrev pub announced_length : List ℕ → ℕ
+announced_length bytes = from_be_bytes w32 (take 4 bytes)
 
 -- a length over the limit, and anything after it
 abbrev pub IsTooLong : List ℕ → Type 0
-IsTooLong bytes = (4 ≤ length bytes) × (longest_message < announced bytes)
+IsTooLong bytes = (4 ≤ length bytes) × (longest_message < announced_length bytes)
 
 -- 1 to 3 bytes, or fewer than the length tells
 abbrev pub IsCut : List ℕ → Type 0
 IsCut bytes = (0 < length bytes)
     × ((length bytes < 4)
-    ⊎ ((announced bytes ≤ longest_message) × (length bytes < 4 + announced bytes)))
+    ⊎ ((announced_length bytes ≤ longest_message) × (length bytes < 4 + announced_length bytes)))
 
 -- what stands after the last whole frame: nothing, a length over the limit, or a cut frame
 pub data Ending : Type 0 where

@@ -1,7 +1,7 @@
 -- What some bytes begin with, as the code answers it.
 use Rattle.std.specs.Prelude.{◌≡◌, ℕ, ◌+◌, List, [], ◌++◌, length}
 use Rattle.xq_frame.specs.Frame.{frame_bytes, IsMessage, IsTooLong, IsCut}
-use Rattle.xq_frame.specs.Request.{asked, message_asks, message_tag}
+use Rattle.xq_frame.specs.Request.{request_meaning, message_meaning, message_tag}
 use Rattle.xq_frame.specs.declared.frames.Frame.{Frame}
 use Rattle.xq_frame.specs.declared.frames.Next.{Next}
 use Rattle.xq_frame.specs.declared.frames.Next.TheVariants.{Frame as Whole, End, Cut, TooLong}
@@ -10,7 +10,7 @@ use Rattle.xq_frame.specs.declared.frames.Next.TheVariants.{Frame as Whole, End,
 pub record IsFrameOf (frame : Frame) (message : List ℕ) : Type 0 where
   pub used : frame.used ≡ 4 + length message
   pub tag : frame.tag ≡ message_tag message
-  pub request : asked frame.request ≡ message_asks message
+  pub request : request_meaning frame.request ≡ message_meaning message
 
 -- the bytes are this message's frame and what follows
 pub record Starts (bytes : List ℕ) (found : Frame) (message : List ℕ) (rest : List ℕ) : Type 0 where

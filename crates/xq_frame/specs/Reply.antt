@@ -2,6 +2,10 @@
 use Rattle.std.specs.Prelude.{ℕ, ◌+◌, List, [], ◌∷◌, ◌++◌, length}
 use Rattle.std.specs.Int.{to_be_bytes, w32}
 
+-- the greatest length of a text, in bytes
+abbrev pub longest_text : ℕ
+longest_text = 16777216
+
 -- the nine bytes before a text of this length
 abbrev pub header : ℕ → ℕ → ℕ → List ℕ
 header tag status size = to_be_bytes w32 (size + 5) ++ to_be_bytes w32 tag ++ status ∷ []

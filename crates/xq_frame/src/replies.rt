@@ -1,6 +1,6 @@
 //! The header of a reply.
 ghost use Rattle.std.specs.Prelude.{◌≡◌, ◌≤◌};
-ghost use Rattle.xq_frame.specs.Reply.{header};
+ghost use Rattle.xq_frame.specs.Reply.{header, longest_text};
 
 /// The greatest length of a reply's text, in bytes.
 pub const MAX_TEXT: usize = 16_777_216;
@@ -9,7 +9,7 @@ pub const MAX_TEXT: usize = 16_777_216;
 /// length itself, the tag, the status.
 pub fn reply_header(tag: u32, status: u8, len: usize) -> [u8; 9]
     requires status { status ≤ 2 }
-    requires len { len ≤ 16777216 }
+    requires len { len ≤ longest_text }
     ensures { result ≡ header tag status len }
 {
     let [a, b, c, d] = (len as u32 + 5).to_be_bytes();

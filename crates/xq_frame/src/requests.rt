@@ -1,6 +1,6 @@
 //! What the message of a frame asks.
 ghost use Rattle.std.specs.Prelude.{◌≡◌};
-ghost use Rattle.xq_frame.specs.Request.{asked, asked_by, put_asked, list_asked};
+ghost use Rattle.xq_frame.specs.Request.{request_meaning, meaning_by_kind, put_meaning, list_meaning};
 
 /// What a client asks, over the bytes of its frame.
 #[derive(Clone, Copy)]
@@ -19,7 +19,7 @@ pub enum Request<'a> {
 
 /// The request of a message that has this kind byte, and these bytes after it.
 pub(crate) fn request_of(kind: u8, body: &[u8]) -> Request<'_>
-    ensures { asked result ≡ asked_by kind body.now }
+    ensures { request_meaning result ≡ meaning_by_kind kind body.now }
 {
     match kind {
         b'Q' => Request::Query(body),
@@ -31,7 +31,7 @@ pub(crate) fn request_of(kind: u8, body: &[u8]) -> Request<'_>
 }
 
 fn put_in(body: &[u8]) -> Request<'_>
-    ensures { asked result ≡ put_asked body.now }
+    ensures { request_meaning result ≡ put_meaning body.now }
 {
     let [size, rest @ ..] = body else {
         return Request::Bad;
@@ -47,7 +47,7 @@ fn put_in(body: &[u8]) -> Request<'_>
 }
 
 fn list_in(body: &[u8]) -> Request<'_>
-    ensures { asked result ≡ list_asked body.now }
+    ensures { request_meaning result ≡ list_meaning body.now }
 {
     if body.is_empty() {
         Request::List

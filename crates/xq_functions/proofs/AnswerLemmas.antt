@@ -4,7 +4,7 @@ use Rattle.xq_atoms.specs.declared.refusals.Code.{Code}
 use Rattle.xq_atoms.specs.declared.refusals.Fault.{Fault}
 use Rattle.xq_atoms.specs.declared.refusals.Fault.TheVariants.{Code as OfCode, Want as OfWant}
 use Rattle.xq_atoms.specs.Judged.{Judged}
-use Rattle.xq_functions.specs.Answers.{Gives}
+use Rattle.xq_atoms.specs.Answers.{Gives}
 
 -- another call's fault, where its code is this call's too
 pub Gives-fault : {A B C D : Type 0} (view : A → B) (judged : Judged B) (other : C → D) (outcome : Judged D) (fault : Fault) (r : Result A Fault) → r ≡ Err fault → Gives other outcome (Err fault) → ((code : Code) → outcome ≡ Err code → judged ≡ Err code) → Gives view judged r

@@ -4,7 +4,8 @@ ghost use Rattle.xq_atoms.specs.Atom as Atomics;
 ghost use Rattle.xq_atoms.specs.Atom.{atomic_of, judged_of};
 ghost use Rattle.xq_values.specs.Arguments as Arguments;
 ghost use Rattle.xq_values.specs.Operators as Operators;
-ghost use Rattle.xq_functions.specs.Answers.{GivesItems, atomics, judged_as};
+ghost use Rattle.xq_functions.specs.Answers.{GivesItems, atomics};
+ghost use Rattle.xq_functions.specs.private.Judgements.{judged_as};
 ghost use Rattle.xq_functions.specs.private.Calls as Calls;
 
 use crate::arguments::single;

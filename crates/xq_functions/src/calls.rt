@@ -6,7 +6,8 @@ ghost use Rattle.xq_regions.specs.Tree.{Tree};
 ghost use Rattle.xq_values.specs.Items.{Item as ItemSeen, atomized};
 ghost use Rattle.xq_values.specs.Functions as Functions;
 ghost use Rattle.xq_values.specs.Operators as Operators;
-ghost use Rattle.xq_functions.specs.Answers.{Gives, GivesItems, atomics, items_of};
+ghost use Rattle.xq_functions.specs.Answers.{GivesItems, atomics, items_of};
+ghost use Rattle.xq_atoms.specs.Answers.{Gives};
 ghost use Rattle.xq_functions.specs.Kinds as Kinds;
 ghost use Rattle.xq_functions.specs.private.Calls as Calls;
 

@@ -2,7 +2,8 @@
 ghost use Rattle.std.specs.Prelude.{◌≡◌, List, map, string_bytes, IfOk, IfErr};
 ghost use Rattle.xq_regions.specs.Tree.{Tree};
 ghost use Rattle.xq_values.specs.Functions as Functions;
-ghost use Rattle.xq_functions.specs.Answers.{Gives, GivesItems, atomics, items_of, lent_items};
+ghost use Rattle.xq_functions.specs.Answers.{GivesItems, atomics, items_of, lent_items};
+ghost use Rattle.xq_atoms.specs.Answers.{Gives};
 ghost use Rattle.xq_functions.specs.private.Documents as Documents;
 
 use crate::arguments::{optional, text_argument};

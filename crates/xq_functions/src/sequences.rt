@@ -2,7 +2,8 @@
 ghost use Rattle.std.specs.Prelude.{◌≡◌, List, reverse};
 ghost use Rattle.xq_regions.specs.Tree.{Tree};
 ghost use Rattle.xq_values.specs.Functions as Functions;
-ghost use Rattle.xq_functions.specs.Answers.{items_of, judged_as};
+ghost use Rattle.xq_functions.specs.Answers.{items_of};
+ghost use Rattle.xq_functions.specs.private.Judgements.{judged_as};
 
 use xq_atoms::Code;
 use xq_regions::Items;

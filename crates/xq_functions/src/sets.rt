@@ -6,7 +6,8 @@ ghost use Rattle.xq_regions.specs.Tree.{Tree};
 ghost use Rattle.xq_values.specs.Readings.{AreIn, items_at};
 ghost use Rattle.xq_values.specs.declared.operators.Operator.TheVariants as operators;
 ghost use Rattle.xq_values.specs.Operators as Operators;
-ghost use Rattle.xq_functions.specs.Answers.{Gives, items_of, lent_items};
+ghost use Rattle.xq_functions.specs.Answers.{items_of, lent_items};
+ghost use Rattle.xq_atoms.specs.Answers.{Gives};
 ghost use Rattle.xq_functions.specs.private.Places as Places;
 
 use crate::spots::Spot;

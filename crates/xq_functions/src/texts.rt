@@ -4,7 +4,8 @@ ghost use Rattle.xq_atoms.specs.Atom.{Atomic, atomic_of};
 ghost use Rattle.xq_atoms.specs.Cast.{text_of};
 ghost use Rattle.xq_values.specs.Arguments as Arguments;
 ghost use Rattle.xq_values.specs.Functions as Functions;
-ghost use Rattle.xq_functions.specs.Answers.{Gives, GivesItems, atomics};
+ghost use Rattle.xq_functions.specs.Answers.{GivesItems, atomics};
+ghost use Rattle.xq_atoms.specs.Answers.{Gives};
 ghost use Rattle.xq_functions.specs.private.Calls as Calls;
 
 use crate::arguments::{one_count, one_text, optional, optional_text};

@@ -5,7 +5,8 @@ use Rattle.xq_lexer.specs.Lexeme.{Lex, lexemes}
 use Rattle.xq_lexer.specs.declared.tokens.Token.{Token}
 use Rattle.xq_lexer.specs.declared.depth.Change.{Change}
 use Rattle.xq_lexer.specs.declared.depth.Change.TheVariants.{Opens, Closes, Deepens, Keeps}
-use Rattle.xq_lexer.specs.Nesting.{changed, first_change, greatest, nesting}
+use Rattle.xq_lexer.specs.Nesting.{changed, greatest, nesting}
+use Rattle.xq_lexer.specs.private.Changes.{first_change}
 
 -- each saved number is below the next one, and the last below k
 abbrev pub Rises : ℕ → List ℕ → Type 0

@@ -19,7 +19,7 @@ use Rattle.xq_lexer.specs.Lexeme.{Lex, int, dec}
 use Rattle.xq_lexer.specs.Literals.{Number, integer, decimal, number_text, IsNumber, follow_fault, code_of}
 use Rattle.xq_lexer.specs.Spelling.{number}
 use Rattle.xq_lexer.specs.private.Reading.{unless_fault, judged, read_number, begins_number}
-use Rattle.xq_lexer.specs.private.Gives.{lexed, pointed, is_decimal, made, valued_lex}
+use Rattle.xq_lexer.specs.private.Lexes.{lexed, pointed, is_decimal, lex_by, valued_lex}
 use Rattle.xq_lexer.proofs.Classes.{digit_no_point}
 use Rattle.xq_lexer.proofs.Fronts.{number_front}
 
@@ -112,7 +112,7 @@ only_value : (b : Bool) (c : Code) (m : ℤ) (k : ℤ) → only_if b c m ≡ Ok 
 only_value true c m k h = cc
 only_value false c m k h = absurd cc
 
-integer_at : (w rest : Text) (r : Result ℤ Code) → integer_literal w ≡ r → lexed (unless_fault (code_of r) (number (integer w), rest)) ≡ with_rest rest (made int r)
+integer_at : (w rest : Text) (r : Result ℤ Code) → integer_literal w ≡ r → lexed (unless_fault (code_of r) (number (integer w), rest)) ≡ with_rest rest (lex_by int r)
 integer_at w rest (Ok m) e = let is = only_value _ _ _ m e in ap (λ (m : ℤ). Ok (int m, rest)) (sym is)
 integer_at w rest (Err c) e = refl
 
@@ -123,7 +123,7 @@ decimal_value t m h = go (nat_lt 6 (length (fraction t))) h
     go true h = absurd cc
     go false h = only_value _ _ _ m h
 
-decimal_at : (w f rest : Text) (r : Result ℤ Code) → decimal_literal (w ++ 46 ∷ f) ≡ r → lexed (unless_fault (code_of r) (number (decimal w f), rest)) ≡ with_rest rest (made dec r)
+decimal_at : (w f rest : Text) (r : Result ℤ Code) → decimal_literal (w ++ 46 ∷ f) ≡ r → lexed (unless_fault (code_of r) (number (decimal w f), rest)) ≡ with_rest rest (lex_by dec r)
 decimal_at w f rest (Ok m) e = let is = decimal_value (w ++ 46 ∷ f) m e in ap (λ (m : ℤ). Ok (dec m, rest)) (sym is)
 decimal_at w f rest (Err c) e = refl
 

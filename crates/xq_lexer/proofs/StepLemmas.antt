@@ -13,9 +13,10 @@ use Rattle.xq_lexer.specs.Chars.{Text}
 use Rattle.xq_lexer.specs.Separators.{skip}
 use Rattle.xq_lexer.specs.Lexeme.{Lex, Placed, place_of, placed}
 use Rattle.xq_lexer.specs.Spelling.{Form, name, prefixed, number, string, symbol, form_text, form_lex, IsForm, Next, Before, Spells, bytes}
-use Rattle.xq_lexer.specs.TokenFaults.{TokenFault, FaultHere, HasFault, Refuses}
+use Rattle.xq_lexer.specs.TokenFaults.{TokenFault, FaultHere, HasFault, RefusesText}
 use Rattle.xq_lexer.specs.private.Reading.{read_token}
-use Rattle.xq_lexer.specs.private.Gives.{lexed, Fails, Nexts, Lexes}
+use Rattle.xq_atoms.specs.Answers.{IsRefusal}
+use Rattle.xq_lexer.specs.private.Lexes.{lexed, Nexts, Lexes}
 use Rattle.xq_lexer.proofs.RunLemmas.{bytes_append}
 use Rattle.xq_lexer.proofs.SymbolLemmas.{row_of}
 use Rattle.xq_lexer.proofs.Fronts.{number_some}
@@ -120,7 +121,7 @@ passed_is cs rest front e =
     let b3 = bytes_append front rest in
     (omega (arith, l, a), omega (arith, b1, b2, b3))
 
-pub step_fault : (place : ℕ) (text z : Text) (e : Fault) → skip 0 text ≡ Some z → 0 < length z → Fails e (lexed (read_token z)) → Nexts place text (Err e)
+pub step_fault : (place : ℕ) (text z : Text) (e : Fault) → skip 0 text ≡ Some z → 0 < length z → IsRefusal (lexed (read_token z)) e → Nexts place text (Err e)
 step_fault place text z (OfCode c) s some h = fault_here text z c s some h
 step_fault place text z (OfWant w) s some h = h
 
@@ -151,7 +152,7 @@ pub lexes_sound : (text : Text) (r : Answer) → Lexes text r → IfOk r (λ v. 
 lexes_sound text (Ok v) h = λ code k. spells_no_fault text (placed v.items) code h k
 lexes_sound text (Err e) h = tt
 
-pub lexes_refused : (text : Text) (r : Answer) → Lexes text r → IfErr r (λ e. Refuses text e)
+pub lexes_refused : (text : Text) (r : Answer) → Lexes text r → IfErr r (λ e. RefusesText text e)
 lexes_refused text (Ok v) h = tt
 lexes_refused text (Err (OfCode c)) h = (h, λ ts k. spells_no_fault text ts c k h, λ other k. one_fault text c other h k)
 lexes_refused text (Err (OfWant w)) h = h

@@ -1,4 +1,4 @@
--- What is shown of the inside of a string.
+-- What is next inside a string.
 use Rattle.std.proofs.Common.{◌≡◌, ℕ, suc, ◌<◌, ◌≤◌, min, Bool, true, false, cond, List, [], ◌∷◌, ◌++◌, length, get_or, drop, Option, Some, None, Result, Ok, Err, refl, sym, ap, subst, ◌∙◌, arith, append_assoc, encode_utf8_all, encode_utf8, ◌⊎◌, inl, inr}
 use Rattle.std.specs.Prelude.{◌==◌}
 use Rattle.std.specs.Char.{IsScalar}
@@ -13,14 +13,14 @@ use Rattle.xq_lexer.specs.Chars.{Text, is_quote}
 use Rattle.xq_lexer.specs.Lexeme.{str}
 use Rattle.xq_lexer.specs.Literals.{Reference, referred, Piece, reference, IsPiece, ArePieces, piece_text, piece_char, content_text, content_chars}
 use Rattle.xq_lexer.specs.private.Reading.{Inside, closed, one, wrong, after_ampersand, inside, read_reference, content, as_string, read_string}
-use Rattle.xq_lexer.specs.private.Gives.{shown, referred_char, refers, lexed}
+use Rattle.xq_lexer.specs.private.Lexes.{next_inside, referred_char, refers, lexed}
 use Rattle.xq_lexer.proofs.Contents.{Means, inside_means, content_read, content_fault_read, piece_shorter}
 
-at : (quote : ℕ) (x : Reference × Text) (b : Bool) → shown quote (cond b (one (reference x.0) x.1) (wrong XQST0090)) ≡ cond {A = Result (Option ℕ × Text) Code} b (Ok (Some (referred x.0), x.1)) (Err XQST0090)
+at : (quote : ℕ) (x : Reference × Text) (b : Bool) → next_inside quote (cond b (one (reference x.0) x.1) (wrong XQST0090)) ≡ cond {A = Result (Option ℕ × Text) Code} b (Ok (Some (referred x.0), x.1)) (Err XQST0090)
 at quote x true = refl
 at quote x false = refl
 
-pub shown_reference : (quote : ℕ) (o : Option (Reference × Text)) → shown quote (after_ampersand o) ≡ referred_char o
+pub shown_reference : (quote : ℕ) (o : Option (Reference × Text)) → next_inside quote (after_ampersand o) ≡ referred_char o
 shown_reference quote None = refl
 shown_reference quote (Some x) = at quote x (is_char (referred x.0))
 
@@ -34,12 +34,12 @@ pub record PiecesRead (quote : ℕ) (chars rest bytes : Text) : Type 0 where
 pub none_read : (quote : ℕ) (chars : Text) → PiecesRead quote chars chars []
 none_read quote chars = record { pieces = []; whole = refl; are_pieces = tt; encoded = refl }
 
--- ---- what is shown says what was read
+-- ---- what is next says what was read
 
 abbrev Shown : Type 0
 Shown = Result (Option ℕ × Text) Code
 
-pub shown_one : (quote : ℕ) (i : Inside) (c : ℕ) (after : Text) → shown quote i ≡ Ok (Some c, after) → (p : Piece) × (i ≡ one p after) × (piece_char quote p ≡ c)
+pub shown_one : (quote : ℕ) (i : Inside) (c : ℕ) (after : Text) → next_inside quote i ≡ Ok (Some c, after) → (p : Piece) × (i ≡ one p after) × (piece_char quote p ≡ c)
 shown_one quote (closed rest) c after h =
     let pair : ◌≡◌ {A = Option ℕ × Text} (None, rest) (Some c, after) = cc in
     let first : ◌≡◌ {A = Option ℕ} None (Some c) = ap (λ (x : Option ℕ × Text). x.0) pair in
@@ -50,7 +50,7 @@ shown_one quote (one p rest) c after h =
     (p, ap (λ (u : Text). one p u) (ap (λ (x : Option ℕ × Text). x.1) pair), cc)
 shown_one quote (wrong d) c after h = absurd cc
 
-pub shown_closed : (quote : ℕ) (i : Inside) (after : Text) → shown quote i ≡ Ok (None, after) → i ≡ closed after
+pub shown_closed : (quote : ℕ) (i : Inside) (after : Text) → next_inside quote i ≡ Ok (None, after) → i ≡ closed after
 shown_closed quote (closed rest) after h =
     let pair : ◌≡◌ {A = Option ℕ × Text} (None, rest) (None, after) = cc in
     ap (λ (u : Text). closed u) (ap (λ (x : Option ℕ × Text). x.1) pair)
@@ -60,7 +60,7 @@ shown_closed quote (one p rest) after h =
     absurd cc
 shown_closed quote (wrong d) after h = absurd cc
 
-pub shown_wrong : (quote : ℕ) (i : Inside) (c : Code) → shown quote i ≡ Err c → i ≡ wrong c
+pub shown_wrong : (quote : ℕ) (i : Inside) (c : Code) → next_inside quote i ≡ Err c → i ≡ wrong c
 shown_wrong quote (closed rest) c h = absurd cc
 shown_wrong quote (one p rest) c h = absurd cc
 shown_wrong quote (wrong d) c h = cc
@@ -74,7 +74,7 @@ pieces_push quote [] p all is = (is, tt)
 pieces_push quote (q ∷ ps) p all is = (all.0, pieces_push quote ps p all.1 is)
 
 -- one character more
-pub piece_more : (quote : ℕ) (chars rest bytes : Text) (c : ℕ) (after : Text) → PiecesRead quote chars rest bytes → shown quote (inside quote rest) ≡ Ok (Some c, after) → PiecesRead quote chars after (bytes ++ encode_utf8 c)
+pub piece_more : (quote : ℕ) (chars rest bytes : Text) (c : ℕ) (after : Text) → PiecesRead quote chars rest bytes → next_inside quote (inside quote rest) ≡ Ok (Some c, after) → PiecesRead quote chars after (bytes ++ encode_utf8 c)
 piece_more quote chars rest bytes c after r h =
     let o = shown_one quote (inside quote rest) c after h in
     let m : Means quote rest (one o.0 after) = subst (Means quote rest) o.1 (inside_means quote rest) in
@@ -88,14 +88,14 @@ piece_more quote chars rest bytes c after r h =
           ∙ ap encode_utf8_all (sym (map-append (piece_char quote) r.pieces (o.0 ∷ [])));
     }
 
-pub piece_shorter_than : (quote : ℕ) (rest : Text) (c : ℕ) (after : Text) → shown quote (inside quote rest) ≡ Ok (Some c, after) → length after < length rest
+pub piece_shorter_than : (quote : ℕ) (rest : Text) (c : ℕ) (after : Text) → next_inside quote (inside quote rest) ≡ Ok (Some c, after) → length after < length rest
 piece_shorter_than quote rest c after h =
     let o = shown_one quote (inside quote rest) c after h in
     let m : Means quote rest (one o.0 after) = subst (Means quote rest) o.1 (inside_means quote rest) in
     piece_shorter quote o.0 after rest m.0
 
 -- the last quote
-pub pieces_closed : (quote : ℕ) (chars rest bytes : Text) (after : Text) → is_quote quote ≡ true → PiecesRead quote chars rest bytes → shown quote (inside quote rest) ≡ Ok (None, after) → lexed (read_string quote chars) ≡ Ok (str bytes, after)
+pub pieces_closed : (quote : ℕ) (chars rest bytes : Text) (after : Text) → is_quote quote ≡ true → PiecesRead quote chars rest bytes → next_inside quote (inside quote rest) ≡ Ok (None, after) → lexed (read_string quote chars) ≡ Ok (str bytes, after)
 unfolding read_string
 pieces_closed quote chars rest bytes after is r h =
     let o = shown_closed quote (inside quote rest) after h in
@@ -106,7 +106,7 @@ pieces_closed quote chars rest bytes after is r h =
     ap (λ (u : Text). lexed (as_string quote (content (suc (length u)) quote u))) (sym whole) ∙ ap (λ (r : Result (List Piece × Text) Code). lexed (as_string quote r)) read ∙ ap (λ (b : Text). Ok (str b, after)) (sym r.encoded)
 
 -- a fault
-pub pieces_wrong : (quote : ℕ) (chars rest bytes : Text) (c : Code) → is_quote quote ≡ true → PiecesRead quote chars rest bytes → shown quote (inside quote rest) ≡ Err c → lexed (read_string quote chars) ≡ Err c
+pub pieces_wrong : (quote : ℕ) (chars rest bytes : Text) (c : Code) → is_quote quote ≡ true → PiecesRead quote chars rest bytes → next_inside quote (inside quote rest) ≡ Err c → lexed (read_string quote chars) ≡ Err c
 unfolding read_string
 pieces_wrong quote chars rest bytes c is r h =
     let o = shown_wrong quote (inside quote rest) c h in
@@ -141,7 +141,7 @@ unfolding is_char
 no_scalar n h = grind (arith, nat_tests)
 
 -- behind an `&`
-pub inside_ampersand : (quote : ℕ) (chars : Text) → 1 ≤ length chars → get_or chars 0 0 ≡ 38 → (38 ≡ quote → ⊥) → shown quote (inside quote chars) ≡ referred_char (read_reference (drop 1 chars))
+pub inside_ampersand : (quote : ℕ) (chars : Text) → 1 ≤ length chars → get_or chars 0 0 ≡ 38 → (38 ≡ quote → ⊥) → next_inside quote (inside quote chars) ≡ referred_char (read_reference (drop 1 chars))
 unfolding inside
 inside_ampersand quote [] len e not_quote = absurd (omega (arith, len))
 inside_ampersand quote (c ∷ t) len e not_quote =

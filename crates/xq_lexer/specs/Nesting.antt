@@ -37,11 +37,6 @@ change (symbol s) rest = symbol_change s
 change (name word) rest = name_change word rest
 change _ rest = keeps
 
--- what the first of the tokens does
-abbrev pub first_change : List Lex → Change
-first_change [] = keeps
-first_change (t ∷ rest) = change t rest
-
 -- the number and those saved, the last one first, after a change
 abbrev pub changed : Change → ℕ → List ℕ → ℕ × List ℕ
 changed opens k saved = (k + 1, k ∷ saved)
@@ -58,3 +53,7 @@ greatest k saved (t ∷ rest) = let next = changed (change t rest) k saved in ma
 
 abbrev pub nesting : List Lex → ℕ
 nesting = greatest 0 []
+
+-- the deepest nesting of a query
+abbrev pub deepest_nesting : ℕ
+deepest_nesting = 128

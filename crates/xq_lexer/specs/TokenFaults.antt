@@ -75,7 +75,7 @@ HasFault text code = (ts : List Placed) × (rest : Text) × Before (bytes text) 
 
 -- the text is refused: for its fault, and then no list is spelled and no fault has another code; or
 -- for want of memory
-abbrev pub Refuses : Text → Fault → Type 0
-Refuses text (OfCode code) = HasFault text code × ((ts : List Placed) → Spells text ts → ⊥)
+abbrev pub RefusesText : Text → Fault → Type 0
+RefusesText text (OfCode code) = HasFault text code × ((ts : List Placed) → Spells text ts → ⊥)
     × ((other : Code) → HasFault text other → other ≡ code)
-Refuses text (OfWant want) = want ≡ Memory
+RefusesText text (OfWant want) = want ≡ Memory

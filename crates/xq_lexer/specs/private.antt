@@ -1,2 +1,3 @@
-pub mod Gives
+pub mod Changes
+pub mod Lexes
 pub mod Reading

@@ -2,11 +2,12 @@
 ghost use Rattle.std.specs.Prelude.{◌≡◌, ℕ, min};
 ghost use Rattle.xq_lexer.specs.Lexeme.{lexemes};
 ghost use Rattle.xq_lexer.specs.Nesting as spec;
+ghost use Rattle.xq_lexer.specs.private.Changes.{first_change as first_change_lem};
 
 use crate::tokens::{Lexeme, Symbol, Token};
 
-/// The deepest nesting that is counted.
-const LIMIT: u8 = 128;
+/// The deepest nesting of a query.
+pub const MAX_NESTING: u8 = 128;
 
 /// What a token does to the running number of nested constructs.
 #[derive(Clone, Copy)]
@@ -30,7 +31,7 @@ pub fn nesting(tokens: &[Token]) -> u32
     for index in 0..tokens.len() {
         match first_change(&tokens[index..]) {
             Change::Opens => {
-                if now == LIMIT {
+                if now == MAX_NESTING {
                     return 129;
                 }
                 saved[open] = now;
@@ -44,7 +45,7 @@ pub fn nesting(tokens: &[Token]) -> u32
                 }
             }
             Change::Deepens => {
-                if now == LIMIT {
+                if now == MAX_NESTING {
                     return 129;
                 }
                 now += 1;
@@ -58,7 +59,7 @@ pub fn nesting(tokens: &[Token]) -> u32
 
 /// What the first of the tokens does to the running number.
 fn first_change(tokens: &[Token]) -> Change
-    ensures { result ≡ spec.first_change (lexemes tokens.now) }
+    ensures { result ≡ first_change_lem (lexemes tokens.now) }
 {
     match tokens {
         [first, rest @ ..] => match &first.lexeme {

@@ -5,11 +5,12 @@ ghost use Rattle.xq_atoms.specs.declared.refusals.Code.{Code as FaultCode};
 ghost use Rattle.xq_atoms.specs.declared.refusals.Fault.TheVariants.{Want as FaultWant};
 ghost use Rattle.xq_atoms.specs.declared.refusals.Want.TheVariants.{Memory as WantMemory};
 ghost use Rattle.xq_lexer.specs.Chars.{Text};
-ghost use Rattle.xq_lexer.specs.private.Gives.{Answers, Gives, Lexes, Nexts, lexed};
+ghost use Rattle.xq_atoms.specs.Answers.{Gives};
+ghost use Rattle.xq_lexer.specs.private.Lexes.{GivesAlways, Lexes, Nexts, lexed};
 ghost use Rattle.xq_lexer.specs.Lexeme.{Placed, lex_of, placed};
 ghost use Rattle.xq_lexer.specs.private.Reading as spec;
 ghost use Rattle.xq_lexer.specs.Spelling.{Spells, bytes as bytes_of};
-ghost use Rattle.xq_lexer.specs.TokenFaults.{HasFault, Refuses};
+ghost use Rattle.xq_lexer.specs.TokenFaults.{HasFault, RefusesText};
 
 use crate::chars::is_quote;
 use crate::names::name;
@@ -31,7 +32,7 @@ pub fn lex(alloc: Global, text: &str) -> Result<Vec<Token>, Fault>
     ensures only { IfOk result (λ tokens. (other : List Placed) → Spells (chars_of text.now) other
         → other ≡ placed tokens.items) }
     ensures sound { IfOk result (λ _. (code : FaultCode) → HasFault (chars_of text.now) code → ⊥) }
-    ensures refused { IfErr result (λ fault. Refuses (chars_of text.now) fault) }
+    ensures refused { IfErr result (λ fault. RefusesText (chars_of text.now) fault) }
 {
     let chars = chars(alloc, text)?;
     tokens(alloc, &chars)
@@ -96,7 +97,7 @@ fn passed(chars: &[char], rest: &[char]) -> usize
 /// What the token at the front is, and what is left behind it.
 #[tactic(auto, unfolding(crate::specs::private::Reading::read_token))]
 fn token<'a>(alloc: Global, chars: &'a [char]) -> Result<(Lexeme, &'a [char]), Fault>
-    ensures { Gives (λ x. (lex_of x.0, x.1.now)) result (lexed (spec.read_token chars.now)) }
+    ensures { Gives (λ x. (lex_of x.0, x.1.now)) (lexed (spec.read_token chars.now)) result }
 {
     match chars {
         [] => Err(Fault::Code(Code::XPST0003)),
@@ -117,7 +118,7 @@ fn token<'a>(alloc: Global, chars: &'a [char]) -> Result<(Lexeme, &'a [char]), F
 /// The symbol at the front, and what is left behind it.
 #[tactic(auto, unfolding(crate::specs::private::Reading::read_symbol))]
 fn symbol(chars: &[char]) -> Result<(Lexeme, &[char]), Code>
-    ensures { Answers (λ x. (lex_of x.0, x.1.now)) result (lexed (spec.read_symbol chars.now)) }
+    ensures { GivesAlways (λ x. (lex_of x.0, x.1.now)) (lexed (spec.read_symbol chars.now)) result }
 {
     if let [a, b, rest @ ..] = chars {
         if let Some(symbol) = double_symbol(*a, *b) {

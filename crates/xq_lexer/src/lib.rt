@@ -12,6 +12,6 @@ mod strings;
 mod symbols;
 mod tokens;
 
-pub use depth::nesting;
+pub use depth::{MAX_NESTING, nesting};
 pub use lexing::lex;
 pub use tokens::{Lexeme, Symbol, Token};

@@ -4,7 +4,8 @@ ghost use Rattle.std.specs.Bool.{OnTrue, OnFalse};
 ghost use Rattle.xq_atoms.specs.Literal.{is_number};
 ghost use Rattle.xq_atoms.specs.Text.{is_whole};
 ghost use Rattle.xq_characters.specs.Characters.{is_digit as is_digit_lem};
-ghost use Rattle.xq_lexer.specs.private.Gives.{Answers, Gives, lexed, pointed, valued_lex};
+ghost use Rattle.xq_atoms.specs.Answers.{Gives};
+ghost use Rattle.xq_lexer.specs.private.Lexes.{GivesAlways, lexed, pointed, valued_lex};
 ghost use Rattle.xq_lexer.specs.Lexeme.{lex_of};
 ghost use Rattle.xq_lexer.specs.Literals as lit;
 ghost use Rattle.xq_lexer.specs.Chars as chars_spec;
@@ -30,8 +31,8 @@ pub fn begins_number(chars: &[char]) -> bool
 /// may not follow a number, then prof:DIGITS and FOAR0002 by its value.
 pub fn number<'a>(alloc: Global, chars: &'a [char]) -> Result<(Lexeme, &'a [char]), Fault>
     requires { spec.begins_number chars.now ≡ true }
-    ensures { Gives (λ x. (lex_of x.0, x.1.now)) result
-        (lexed (spec.judged (spec.read_number chars.now))) }
+    ensures { Gives (λ x. (lex_of x.0, x.1.now))
+        (lexed (spec.judged (spec.read_number chars.now))) result }
 {
     let (has_point, rest) = digits(chars);
     if let Some(code) = follow_fault(rest) {
@@ -60,7 +61,7 @@ fn digits(chars: &[char]) -> (bool, &[char])
 fn valued(has_point: bool, literal: &str) -> Result<Lexeme, Code>
     requires whole { OnFalse has_point (IsTrue (is_whole literal.now)) }
     requires number { OnTrue has_point (IsTrue (is_number literal.now)) }
-    ensures { Answers lex_of result (valued_lex has_point literal.now) }
+    ensures { GivesAlways lex_of (valued_lex has_point literal.now) result }
 {
     if has_point {
         Ok(Lexeme::Dec(dec_literal(literal)?))

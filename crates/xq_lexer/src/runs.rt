@@ -1,7 +1,7 @@
 //! Runs of characters of one class, and their bytes.
 ghost use Rattle.std.specs.Prelude.{◌≡◌, ◌+◌, length, IfOk, string_bytes, ◌<◌, ◌^◌};
 ghost use Rattle.std.specs.Str.{encode_utf8_all};
-ghost use Rattle.xq_lexer.specs.private.Gives.{test};
+ghost use Rattle.xq_lexer.specs.private.Lexes.{test};
 ghost use Rattle.xq_lexer.specs.private.Reading.{span};
 ghost use Rattle.xq_lexer.specs.Spelling.{bytes as bytes_of};
 

@@ -1,6 +1,6 @@
 //! White space and comments.
 ghost use Rattle.std.specs.Prelude.{◌≡◌, ◌+◌, ◌<◌, ◌^◌, length, option_map};
-ghost use Rattle.xq_lexer.specs.private.Gives.{Skips};
+ghost use Rattle.xq_lexer.specs.private.Lexes.{Skips};
 ghost use Rattle.xq_lexer.specs.private.Reading as spec;
 ghost use Rattle.xq_lexer.specs.Separators as sep;
 

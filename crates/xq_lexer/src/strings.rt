@@ -1,6 +1,7 @@
 //! String literals.
 ghost use Rattle.std.specs.Prelude.{◌≡◌, ◌≤◌, min, true, option_map, Ok};
-ghost use Rattle.xq_lexer.specs.private.Gives.{Answers, Gives, lexed, refers, referred_char, shown};
+ghost use Rattle.xq_atoms.specs.Answers.{Gives};
+ghost use Rattle.xq_lexer.specs.private.Lexes.{GivesAlways, lexed, refers, referred_char, next_inside};
 ghost use Rattle.xq_lexer.specs.Chars as chars_spec;
 ghost use Rattle.xq_lexer.specs.Lexeme.{lex_of};
 ghost use Rattle.xq_lexer.specs.Literals as lit;
@@ -23,7 +24,7 @@ pub fn string<'a>(
     chars: &'a [char],
 ) -> Result<(Lexeme, &'a [char]), Fault>
     requires { chars_spec.is_quote quote ≡ true }
-    ensures { Gives (λ x. (lex_of x.0, x.1.now)) result (lexed (spec.read_string quote chars.now)) }
+    ensures { Gives (λ x. (lex_of x.0, x.1.now)) (lexed (spec.read_string quote chars.now)) result }
 {
     let mut text = String::new(alloc);
     let mut rest = chars;
@@ -41,7 +42,8 @@ pub fn string<'a>(
 /// The character that is next inside a string, or None at its last quote, and what is left.
 #[tactic(auto, unfolding(crate::specs::private::Reading::inside))]
 fn inside(quote: char, chars: &[char]) -> Result<(Option<char>, &[char]), Code>
-    ensures { Answers (λ x. (x.0, x.1.now)) result (shown quote (spec.inside quote chars.now)) }
+    ensures { GivesAlways (λ x. (x.0, x.1.now)) (next_inside quote (spec.inside quote chars.now))
+        result }
 {
     match chars {
         [] => Err(Code::XPST0003),
@@ -61,7 +63,7 @@ fn inside(quote: char, chars: &[char]) -> Result<(Option<char>, &[char]), Code>
 
 /// Behind a quote: the quote where it is doubled, else None.
 fn after_quote(quote: char, chars: &[char]) -> (Option<char>, &[char])
-    ensures { Ok (result.0, result.1.now) ≡ shown quote (spec.after_quote quote chars.now) }
+    ensures { Ok (result.0, result.1.now) ≡ next_inside quote (spec.after_quote quote chars.now) }
 {
     match chars {
         [c, rest @ ..] if *c == quote => (Some(quote), rest),
@@ -71,7 +73,8 @@ fn after_quote(quote: char, chars: &[char]) -> (Option<char>, &[char])
 
 /// Behind an `&`: the character that the reference stands for, and what is left.
 fn after_ampersand(chars: &[char]) -> Result<(Option<char>, &[char]), Code>
-    ensures { Answers (λ x. (x.0, x.1.now)) result (referred_char (spec.read_reference chars.now)) }
+    ensures { GivesAlways (λ x. (x.0, x.1.now)) (referred_char (spec.read_reference chars.now))
+        result }
 {
     match reference(chars) {
         None => Err(Code::XPST0003),

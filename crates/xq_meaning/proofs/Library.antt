@@ -1,13 +1,16 @@
 -- Documents for worked rows, and what a query is answered over them.
 use Prim.Native.String.{String}
-use Rattle.std.specs.Prelude.{List, [], ◌∷◌, None, codes}
+use Rattle.std.specs.Prelude.{List, [], ◌∷◌, None, Ok, Err, codes}
 use Rattle.xq_regions.specs.declared.Kind.TheVariants as kind
 use Rattle.xq_atoms.specs.Judged.{Judged}
 use Rattle.xq_atoms.specs.Text.{Text}
 use Rattle.xq_regions.specs.Forest.{Forest, end, node, join}
 use Rattle.xq_regions.specs.Tree.{Label, Tree}
 use Rattle.xq_values.specs.Content.{label}
-use Rattle.xq_meaning.specs.Meaning.{Meaning, first_frame, answered}
+use Rattle.xq_values.specs.Items.{Item}
+use Rattle.xq_values.specs.Print.{print_items, within_reply}
+use Rattle.xq_meaning.specs.Doing.{Outcome}
+use Rattle.xq_meaning.specs.Meaning.{Meaning, first_frame}
 use Rattle.xq_meaning.specs.PlanMeaning
 use Rattle.xq_meaning.specs.Same.{frame_of}
 
@@ -43,6 +46,11 @@ book id title = el "book" (att "id" id ∷ tex title ∷ [])
 --   element book {attribute id {"1"}, text {"A"}}, element book {attribute id {"2"}, text {"B"}}}}
 abbrev pub library : Tree
 library = tree (el "lib" (book "1" "A" ∷ book "2" "B" ∷ []) ∷ [])
+
+-- the text of the reply, or the code
+abbrev pub answered : Outcome (List Item) → Judged Text
+answered (Ok xs, trees) = within_reply (print_items trees xs)
+answered (Err code, trees) = Err code
 
 -- over the library at the address b
 abbrev pub answer : Meaning → Judged Text

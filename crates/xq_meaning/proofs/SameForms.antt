@@ -10,7 +10,7 @@ use Rattle.xq_expressions.specs.declared.operators.UnnamedNode.{UnnamedNode}
 use Rattle.xq_expressions.specs.declared.operators.OrderModifier.{OrderModifier}
 use Rattle.xq_regions.specs.declared.Axis.{Axis}
 use Rattle.xq_regions.specs.Tree.{Tree}
-use Rattle.xq_regions.specs.Tuples.{Tuple, expanded, bound, kept, ordered}
+use Rattle.xq_regions.specs.Tuples.{Tuple, expanded, bound, satisfying, ordered}
 use Rattle.xq_signatures.specs.declared.Function.{Function}
 use Rattle.xq_values.specs.declared.node_tests.Test.{Test}
 use Rattle.xq_values.specs.declared.operators.Operator.{Operator}
@@ -353,7 +353,7 @@ module _ {E F : Type 0} (frame_at : Tuple Item → Forms.Frame E) (frame_at' : T
       AllByRecursion (SameAt m p) tuples → (f : List Tree) → Forms.where_tuples m frame_at
       tuples f ≡ Forms.where_tuples p frame_at' tuples f
   where_tuples_same m p tuples h f =
-      ap (λ o. go_on o (λ tests. give (kept tuples tests)))
+      ap (λ o. go_on o (λ tests. give (satisfying tuples tests)))
       (for_each_same (λ t. Forms.tested m (frame_at t)) (λ t. Forms.tested p (frame_at' t))
       tuples tuples (conditions_same m p tuples h) f)
 

@@ -1,8 +1,7 @@
 -- What each form of expression means, from the meanings of its parts. An environment is of any type
 -- E: of names or of slots. The sections are those of XQuery 3.1.
-use Rattle.std.specs.Prelude.{ℕ, List, [], ◌∷◌, ◌++◌, map, length, Bool, true, false, Option, Some, None, Ok, if◌then◌else◌, slice_index_or}
+use Rattle.std.specs.Prelude.{ℕ, List, [], ◌∷◌, ◌++◌, map, length, Bool, true, false, Option, Some, None, Ok, if◌then◌else◌, slice_index_or, nat_eq}
 use Rattle.std.specs.List.{range_with_len, flat_map}
-use Rattle.std.specs.Prelude.{nat_eq}
 use Rattle.xq_atoms.specs.declared.refusals.Code.TheVariants.{XPTY0019}
 use Rattle.xq_expressions.specs.declared.operators.Sign.{Sign}
 use Rattle.xq_expressions.specs.declared.operators.Quantifier.{Quantifier}
@@ -24,7 +23,7 @@ use Rattle.xq_atoms.specs.Judged.{Judged}
 use Rattle.xq_atoms.specs.Text.{Text}
 use Rattle.xq_atoms.specs.Atom.{Atomic}
 use Rattle.xq_regions.specs.Tree.{Tree}
-use Rattle.xq_regions.specs.Tuples.{Tuple, OrderRule, expanded, bound, kept, grouped, ordered, firsts, value_at}
+use Rattle.xq_regions.specs.Tuples.{Tuple, OrderRule, expanded, bound, satisfying, grouped, ordered, firsts, value_at}
 use Rattle.xq_values.specs.Items.{Item, Node, Atom, root_of, atomized}
 use Rattle.xq_values.specs.Arguments.{atomic, boolean, effective, all_nodes}
 use Rattle.xq_values.specs.Functions.{Focus, called}
@@ -272,7 +271,7 @@ module _ {E : Type 0} where
       Doing (List (Tuple Item))
   where_tuples part frame_at tuples = do
     tests ← for_each (λ t. tested part (frame_at t)) tuples
-    give (kept tuples tests)
+    give (satisfying tuples tests)
 
   abbrev pub rules_of : List (Meaning E × OrderModifier) → List OrderRule
   rules_of specs = map (λ (part, modifier). rule_of modifier) specs

@@ -36,7 +36,6 @@ use Rattle.xq_regions.specs.Tree.{Tree}
 use Rattle.xq_regions.specs.Tuples.{Tuple}
 use Rattle.xq_signatures.specs.Signatures.{function_named, arity, admits}
 use Rattle.xq_values.specs.Items.{Item}
-use Rattle.xq_values.specs.Print.{print_items, within_reply}
 use Rattle.xq_values.specs.Arguments.{each}
 use Rattle.xq_meaning.specs.Doing.{Doing, Outcome, ◌>>=◌, give, refuse, judged, in_turn}
 use Rattle.xq_meaning.specs.Forms
@@ -334,8 +333,3 @@ first_frame addresses = record { env = no_variable; focus = None; addresses = ad
 -- 2.2.3.2: the result of a query over the documents at these addresses, which are the trees
 abbrev pub evaluated : Expr → List Text → List Tree → Outcome (List Item)
 evaluated e addresses trees = mean e (first_frame addresses) trees
-
--- the text of the reply, or the code
-abbrev pub answered : Outcome (List Item) → Judged Text
-answered (Ok xs, trees) = within_reply (print_items trees xs)
-answered (Err code, trees) = Err code

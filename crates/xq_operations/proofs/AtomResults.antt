@@ -19,9 +19,10 @@ use Rattle.xq_values.specs.Functions.{piece}
 use Rattle.xq_values.specs.Items.{Item, Node, Atom, atomized}
 use Rattle.xq_values.specs.Operators.{of_both, number_operand, sum_of, product_of, with_signs, signed, integers_from, integers_within, how_many, integers, one_bound, related_by, some_pair, operated}
 use Rattle.xq_values.specs.Readings.{items_at, AreIn}
+use Rattle.xq_atoms.specs.Answers.{Gives}
 use Rattle.xq_functions.specs.Answers as Answers
 use Rattle.xq_functions.specs.Kinds.{is_on_atoms}
-use Rattle.xq_operations.specs.Views.{Gives}
+use Rattle.xq_operations.specs.Views.{GivesSequence}
 
 abbrev pub IsAtom : Item → Type 0
 IsAtom (Node p) = ⊥
@@ -37,7 +38,7 @@ in_of_atoms trees others (NodeAt n ∷ xs) h = absurd h.0
 in_of_atoms trees others (Value a ∷ xs) h = (tt, in_of_atoms trees others xs h.1)
 
 -- what a judgement on atoms alone answers, beside trees that stay as they are
-pub plain_gives : (judgement : Judged (List Item)) (old new : List Tree) (r : Result (Vec Held) Fault) → OnlyAtoms judgement → new ≡ old → Answers.Gives (Answers.items_of old) judgement r → Gives (judgement, old) new r
+pub plain_gives : (judgement : Judged (List Item)) (old new : List Tree) (r : Result (Vec Held) Fault) → OnlyAtoms judgement → new ≡ old → Gives (Answers.items_of old) judgement r → GivesSequence (judgement, old) new r
 plain_gives judgement old new (Ok items) only same h =
     let value : judgement ≡ Ok (items_at new (item_views items)) = h ∙ ap (λ f. Ok (items_at f (item_views items))) (sym same) in
     let stays : old ≡ new = sym same in

@@ -6,7 +6,7 @@ use Rattle.xq_atoms.specs.declared.refusals.Code.TheVariants.{XPST0017}
 use Rattle.xq_atoms.specs.declared.refusals.Fault.{Fault}
 use Rattle.xq_atoms.specs.Atom.{Atomic}
 use Rattle.xq_atoms.specs.Text.{Text}
-use Rattle.xq_build.specs.Gives.{Gives as GivesBuilt}
+use Rattle.xq_atoms.specs.Answers.{GivesUnlessWanting}
 use Rattle.xq_functions.specs.Answers.{items_of}
 use Rattle.xq_functions.specs.Kinds.{argument_of}
 use Rattle.xq_functions.specs.declared.kinds.Argument.TheVariants.{Missing, Nodes, Address}
@@ -21,7 +21,7 @@ use Rattle.xq_values.specs.Items.{Item, Atom, atomized}
 use Rattle.xq_values.specs.Readings.{items_at, AreIn}
 use Rattle.xq_operations.specs.declared.frames.Focus.{Focus}
 use Rattle.xq_operations.specs.declared.frames.Frame.{Frame}
-use Rattle.xq_operations.specs.Views.{tuple_at, focus_at, frame_at, calling, FocusIn, FrameIn, TupleIn, Gives}
+use Rattle.xq_operations.specs.Views.{tuple_at, focus_at, frame_at, calling, FocusIn, FrameIn, TupleIn, GivesSequence}
 use Rattle.xq_operations.specs.private.Calls.{at_focus}
 use Rattle.xq_operations.proofs.CallResults.{SpotExists, called_exists}
 use Rattle.xq_operations.proofs.Existing.{Exist, exists_at, exist_at, all_map}
@@ -74,8 +74,8 @@ spot_there trees addresses room None h = tt
 spot_there trees addresses room (Some here) h = exists_at trees (item_view here.item.now) h
 
 pub call_gives : (old new : List Tree) (frame : Frame) (function : Function) (views : Tuple ItemView) (r : Result (Vec Held) Fault) → new ≡ old → FrameIn old frame → TupleIn old views
-    → GivesBuilt (items_of old) (fn.called function old (map string_bytes frame.addresses.now) (focus_at old frame.focus) (tuple_at old views)) r
-    → Gives (calling function (frame_at old frame) (tuple_at old views) old) new r
+    → GivesUnlessWanting (items_of old) (fn.called function old (map string_bytes frame.addresses.now) (focus_at old frame.focus) (tuple_at old views)) r
+    → GivesSequence (calling function (frame_at old frame) (tuple_at old views) old) new r
 call_gives old new frame function views r same inside lists h =
     let addresses = map string_bytes frame.addresses.now in
     let room : length addresses ≤ length old = omega (arith, inside.addresses_in, length-map frame.addresses.now string_bytes) in

@@ -5,9 +5,10 @@ use Rattle.xq_atoms.specs.declared.refusals.Fault.{Fault}
 use Rattle.xq_atoms.specs.declared.refusals.Fault.TheVariants.{Code as OfCode, Want as OfWant}
 use Rattle.xq_atoms.specs.declared.refusals.Code.TheVariants.{XPTY0018}
 use Rattle.xq_atoms.specs.Judged.{Judged}
-use Rattle.xq_build.specs.Gives.{Gives as GivesBuilt, GivesAlone, GivesTree}
+use Rattle.xq_build.specs.Gives.{GivesTree}
+use Rattle.xq_atoms.specs.Answers.{Gives, GivesUnlessWanting}
 use Rattle.xq_expressions.specs.declared.operators.ComparisonOperator.TheVariants as comparing
-use Rattle.xq_functions.specs.Answers.{Gives as GivesJudged, items_of}
+use Rattle.xq_functions.specs.Answers.{items_of}
 use Rattle.xq_regions.specs.declared.items.Item.{Item as Held}
 use Rattle.xq_regions.specs.Items.{item_views}
 use Rattle.xq_regions.specs.Tree.{Tree}
@@ -18,7 +19,7 @@ use Rattle.xq_values.specs.Arguments.{all_nodes, boolean}
 use Rattle.xq_values.specs.Operators.{nodes_or_atoms, all_atoms, are_atoms, gathered, operated, from_nodes, set_of, one_node, stand}
 use Rattle.xq_values.specs.Readings.{items_at, AreIn}
 use Rattle.xq_functions.specs.Kinds.{is_on_atoms}
-use Rattle.xq_operations.specs.Views.{Gives, Goes}
+use Rattle.xq_operations.specs.Views.{GivesSequence, Goes}
 use Rattle.xq_operations.proofs.AtomResults.{both_atoms}
 use Rattle.xq_operations.proofs.Existing.{Exist, are_in, ordered_exist}
 use Rattle.xq_operations.proofs.CallResults.{ExistIn, then_exist, atoms_exist}
@@ -29,23 +30,18 @@ pub kept_goes : {old new : List Tree} {p q : Type 0} → new ≡ old → (q → 
 kept_goes {old} {new} {p} {q} same was = subst (λ f. Goes old f p q) (sym same) (record { grows = extends_itself old; was_clean = was })
 
 -- wants tell nothing
-pub told : {A B : Type 0} (view : A → B) (judgement : Judged B) (r : Result A Fault) → GivesJudged view judgement r → GivesBuilt view judgement r
+pub told : {A B : Type 0} (view : A → B) (judgement : Judged B) (r : Result A Fault) → Gives view judgement r → GivesUnlessWanting view judgement r
 told view judgement (Ok x) h = h
 told view judgement (Err (OfCode code)) h = h
 told view judgement (Err (OfWant want)) h = tt
 
-pub told_alone : {A B : Type 0} (view : A → B) (judgement : Judged B) (r : Result A Fault) → GivesAlone view judgement r → GivesBuilt view judgement r
-told_alone view judgement (Ok x) h = h
-told_alone view judgement (Err (OfCode code)) h = h
-told_alone view judgement (Err (OfWant want)) h = tt
-
-pub told_tree : (judgement : Judged Tree) (r : Result Tree Fault) → GivesTree judgement r → GivesBuilt (λ t. t) judgement r
+pub told_tree : (judgement : Judged Tree) (r : Result Tree Fault) → GivesTree judgement r → GivesUnlessWanting (λ t. t) judgement r
 told_tree judgement (Ok x) h = h
 told_tree judgement (Err (OfCode code)) h = h
 told_tree judgement (Err (OfWant want)) h = tt
 
 -- a judgement on the trees, whose items exist
-pub gives_judged : (judgement : Judged (List Item)) (old new : List Tree) (r : Result (Vec Held) Fault) → new ≡ old → GivesBuilt (items_of old) judgement r → ExistIn old judgement → Gives (judgement, old) new r
+pub gives_judged : (judgement : Judged (List Item)) (old new : List Tree) (r : Result (Vec Held) Fault) → new ≡ old → GivesUnlessWanting (items_of old) judgement r → ExistIn old judgement → GivesSequence (judgement, old) new r
 gives_judged judgement old new (Ok items) same h exist =
     let value : judgement ≡ Ok (items_at new (item_views items)) = h ∙ ap (λ f. Ok (items_at f (item_views items))) (sym same) in
     let stays : old ≡ new = sym same in

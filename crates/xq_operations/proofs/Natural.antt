@@ -5,7 +5,7 @@ use Rattle.std.specs.List.{enumerate_from, zip}
 use Rattle.std.proofs.lemmas.List.{map-append}
 use Rattle.std.proofs.lemmas.List.Concat.{flat_map-cons}
 use Rattle.xq_atoms.specs.Atom.{Atomic, Integer}
-use Rattle.xq_regions.specs.Tuples.{Tuple, item_values, with_each, expanded, bound, kept}
+use Rattle.xq_regions.specs.Tuples.{Tuple, item_values, with_each, expanded, bound, satisfying}
 
 module _ {X Y : Type 0} (r : X → Y) where
   pub bound_natural : (tuples : List (Tuple X)) (values : List (List X)) → map (map (map r)) (bound tuples values) ≡ bound (map (map (map r)) tuples) (map (map r) values)
@@ -13,7 +13,7 @@ module _ {X Y : Type 0} (r : X → Y) where
   bound_natural (t ∷ ts) [] = refl
   bound_natural (t ∷ ts) (v ∷ vs) = let a = map-append (map r) t (v ∷ []) in let b = bound_natural ts vs in cc
 
-pub kept_natural : {A B : Type 0} (r : A → B) (tuples : List A) (tests : List Bool) → map r (kept tuples tests) ≡ kept (map r tuples) tests
+pub kept_natural : {A B : Type 0} (r : A → B) (tuples : List A) (tests : List Bool) → map r (satisfying tuples tests) ≡ satisfying (map r tuples) tests
 kept_natural r [] tests = refl
 kept_natural r (t ∷ ts) [] = refl
 kept_natural r (t ∷ ts) (true ∷ bs) = ap (λ rest. r t ∷ rest) (kept_natural r ts bs)

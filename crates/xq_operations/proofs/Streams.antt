@@ -13,7 +13,7 @@ use Rattle.xq_atoms.specs.Judged.{Judged}
 use Rattle.xq_regions.specs.Items.{ItemView, Value}
 use Rattle.xq_regions.specs.Tree.{Tree}
 use Rattle.xq_regions.specs.Tuples.{Tuple, Keyed, OrderRule, inserted, sorted, ordered, can_order, sort_keys, keys_cmp, key_rows, extended, firsts, groups, same_keys, slot_key, grouped_value, grouped_tuple, grouped, are_keys, key_value, value_at}
-use Rattle.xq_tuples.specs.Keys.{IsRefusal}
+use Rattle.xq_atoms.specs.Answers.{IsRefusal}
 use Rattle.xq_tuples.proofs.Lists.{map-map}
 use Rattle.xq_values.proofs.PathLemmas.{filter-map}
 use Rattle.xq_values.specs.Items.{Item, Atom}

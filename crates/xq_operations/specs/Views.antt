@@ -8,13 +8,10 @@ use Rattle.xq_atoms.specs.Judged.{Judged}
 use Rattle.xq_regions.specs.declared.items.Item.{Item as Held}
 use Rattle.xq_regions.specs.Items.{ItemView, item_view, item_views}
 use Rattle.xq_regions.specs.Tree.{Tree}
-use Rattle.xq_regions.specs.Tuples.{Tuple}
+use Rattle.xq_regions.specs.Tuples.{Tuple, ordered}
 use Rattle.xq_signatures.specs.declared.Function.{Function}
-use Rattle.xq_atoms.specs.declared.atoms.Atom.{Atom as HeldAtom}
 use Rattle.xq_atoms.specs.Atom.{Atomic}
 use Rattle.xq_expressions.specs.declared.operators.OrderModifier.{OrderModifier}
-use Rattle.xq_regions.specs.Tuples.{ordered}
-use Rattle.xq_tuples.specs.Keys.{column_of, columns_of}
 use Rattle.xq_tuples.specs.Views.{values_of}
 use Rattle.xq_values.specs.Items.{Item, Node}
 use Rattle.xq_values.specs.Functions.{Focus as Spot, called}
@@ -92,40 +89,22 @@ GivesAs view read In outcome trees (Ok r) =
 GivesAs view read In outcome trees (Err (OfCode code)) = outcome.0 ≡ Err code
 GivesAs view read In outcome trees (Err (OfWant want)) = Unit {0}
 
-abbrev pub Gives : Outcome (List Item) → List Tree → Result (Vec Held) Fault → Type 0
-Gives = GivesAs item_views items_at AreIn
+-- a sequence of items
+abbrev pub GivesSequence : Outcome (List Item) → List Tree → Result (Vec Held) Fault → Type 0
+GivesSequence = GivesAs item_views items_at AreIn
 
 abbrev pub GivesTuples : Outcome (List (Tuple Item)) → List Tree →
     Result (List (Tuple ItemView)) Fault → Type 0
 GivesTuples = GivesAs (λ ts. ts) tuples_at TuplesIn
-
-abbrev pub GivesLists : Outcome (List (List Item)) → List Tree → Result (Vec (Vec Held)) Fault →
-    Type 0
-GivesLists = GivesAs lists_of tuple_at TupleIn
-
--- values that no tree has a part in
-abbrev pub GivesTests : {B : Type 0} → Outcome (List B) → List Tree → Result (Vec B) Fault → Type 0
-GivesTests = GivesAs (λ v. v.items) (λ trees bs. bs) (λ trees bs. Unit {0})
-
-abbrev pub GivesPlain : {B : Type 0} → Outcome B → List Tree → Result B Fault → Type 0
-GivesPlain = GivesAs (λ b. b) (λ trees b. b) (λ trees b. Unit {0})
 
 -- whether a judgement refuses
 abbrev pub forget : {A : Type 0} → Judged A → Judged (Unit {0})
 forget (Ok x) = Ok tt
 forget (Err code) = Err code
 
+-- a text, in which no tree has a part
 abbrev pub GivesText : Outcome (List ℕ) → List Tree → Result (String Global) Fault → Type 0
 GivesText = GivesAs string_bytes (λ trees t. t) (λ trees t. Unit {0})
-
--- the keys of one tuple, and those of each
-abbrev pub GivesKeys : Outcome (List (List Atomic)) → List Tree →
-    Result (Vec (Vec HeldAtom)) Fault → Type 0
-GivesKeys = GivesAs column_of (λ trees keys. keys) (λ trees keys. Unit {0})
-
-abbrev pub GivesRows : Outcome (List (List (List Atomic))) → List Tree →
-    Result (Vec (Vec (Vec HeldAtom))) Fault → Type 0
-GivesRows = GivesAs columns_of (λ trees rows. rows) (λ trees rows. Unit {0})
 
 -- # Parts of forms, from values
 

@@ -6,8 +6,8 @@ ghost use Rattle.xq_tuples.specs.Keys.{column_of};
 ghost use Rattle.xq_values.specs.Items.{atomized as atomized_lem};
 ghost use Rattle.xq_values.specs.Functions as Functions;
 ghost use Rattle.xq_functions.specs.Answers.{items_of};
-ghost use Rattle.xq_build.specs.Gives.{Gives as GivesItems};
-ghost use Rattle.xq_operations.specs.Views.{tuple_at, lists_of, spot_at, focus_at, frame_at, calling, FrameIn, TupleIn, Goes, Gives};
+ghost use Rattle.xq_atoms.specs.Answers.{GivesUnlessWanting};
+ghost use Rattle.xq_operations.specs.Views.{tuple_at, lists_of, spot_at, focus_at, frame_at, calling, FrameIn, TupleIn, Goes, GivesSequence};
 ghost use Rattle.xq_operations.specs.private.Calls.{at_focus};
 
 use crate::atoms::atomized;
@@ -52,7 +52,7 @@ fn on_one<L: RowLender>(
     function: Function,
     items: Items,
 ) -> Result<Items, Fault>
-    ensures gives { L.is_clean source.new → GivesItems (items_of (L.forest source.old))
+    ensures gives { L.is_clean source.new → GivesUnlessWanting (items_of (L.forest source.old))
         (Functions.of_one function (L.forest source.old) (map string_bytes addresses.now)
         (items_of (L.forest source.old) items)) result }
     ensures keeps { L.forest source.new ≡ L.forest source.old }
@@ -84,7 +84,7 @@ fn on_focus<L: RowLender>(
     function: Function,
     focus: Focus<'_>,
 ) -> Result<Items, Fault>
-    ensures gives { L.is_clean source.new → GivesItems (items_of (L.forest source.old))
+    ensures gives { L.is_clean source.new → GivesUnlessWanting (items_of (L.forest source.old))
         (at_focus function (L.forest source.old) (map string_bytes addresses.now) (spot_at
         (L.forest source.old) focus.entry)) result }
     ensures keeps { L.forest source.new ≡ L.forest source.old }
@@ -107,7 +107,7 @@ fn on_none<L: RowLender>(
     frame: Frame<'_>,
     function: Function,
 ) -> Result<Items, Fault>
-    ensures gives { L.is_clean source.new → GivesItems (items_of (L.forest source.old))
+    ensures gives { L.is_clean source.new → GivesUnlessWanting (items_of (L.forest source.old))
         (Functions.of_none function (L.forest source.old) (map string_bytes
         frame.entry.addresses.now) (focus_at (L.forest source.old) frame.entry.focus)) result }
     ensures keeps { L.forest source.new ≡ L.forest source.old }
@@ -132,7 +132,7 @@ fn on_many<L: RowLender>(
     arguments: &[Items],
 ) -> Result<Items, Fault>
     ensures gives { L.is_clean source.new → 2 ≤ length arguments.now
-        → (addresses focus : _) → GivesItems (items_of (L.forest source.old))
+        → (addresses focus : _) → GivesUnlessWanting (items_of (L.forest source.old))
         (Functions.called function (L.forest source.old) addresses focus (tuple_at
         (L.forest source.old) (map item_views arguments.now))) result }
     ensures keeps { L.forest source.new ≡ L.forest source.old }
@@ -156,7 +156,7 @@ pub fn call<W: Growing>(
         (W.is_clean world.new) }
     ensures gives { W.is_clean world.new → FrameIn (W.forest world.old) frame.entry
         → TupleIn (W.forest world.old) (lists_of arguments)
-        → Gives (calling function (frame_at (W.forest world.old) frame.entry) (tuple_at
+        → GivesSequence (calling function (frame_at (W.forest world.old) frame.entry) (tuple_at
         (W.forest world.old) (lists_of arguments)) (W.forest world.old)) (W.forest world.new)
         result }
 {

@@ -6,10 +6,10 @@ ghost use Rattle.xq_regions.specs.Tree.{Tree};
 ghost use Rattle.xq_values.specs.Content.{name_of as name_of_lem, spaced as spaced_lem, named_tree as named_tree_lem, unnamed_tree as unnamed_tree_lem};
 ghost use Rattle.xq_values.specs.Items.{atomized as atomized_lem};
 ghost use Rattle.xq_values.specs.Readings.{items_at, AreIn};
-ghost use Rattle.xq_build.specs.Gives.{Gives as GivesTree};
+ghost use Rattle.xq_atoms.specs.Answers.{GivesUnlessWanting};
 ghost use Rattle.xq_meaning.specs.Doing.{on_trees};
 ghost use Rattle.xq_meaning.specs.Forms.{planted as planted_lem, planted_if};
-ghost use Rattle.xq_operations.specs.Views.{plant_named, plant_unnamed, Goes, Gives, GivesText};
+ghost use Rattle.xq_operations.specs.Views.{plant_named, plant_unnamed, Goes, GivesSequence, GivesText};
 
 use crate::atoms::atomized;
 use crate::values::single;
@@ -54,7 +54,7 @@ fn named_tree<L: RowLender>(
     name: String,
     content: &[Item],
 ) -> Result<Fragment, Fault>
-    ensures gives { L.is_clean source.new → GivesTree (λ tree. tree) (named_tree_lem kind
+    ensures gives { L.is_clean source.new → GivesUnlessWanting (λ tree. tree) (named_tree_lem kind
         (string_bytes name) (L.forest source.old) (items_at (L.forest source.old) (map item_view
         content.now))) result }
     ensures keeps { L.forest source.new ≡ L.forest source.old }
@@ -78,7 +78,7 @@ fn unnamed_tree<L: RowLender>(
     kind: UnnamedNode,
     content: &[Item],
 ) -> Result<Option<Fragment>, Fault>
-    ensures gives { L.is_clean source.new → GivesTree (λ tree. tree) (unnamed_tree_lem kind
+    ensures gives { L.is_clean source.new → GivesUnlessWanting (λ tree. tree) (unnamed_tree_lem kind
         (L.forest source.old) (items_at (L.forest source.old) (map item_view content.now)))
         result }
     ensures keeps { L.forest source.new ≡ L.forest source.old }
@@ -100,7 +100,7 @@ fn unnamed_tree<L: RowLender>(
 fn planted<W: Growing>(alloc: Global, world: &mut W, tree: Fragment) -> Result<Items, Want>
     ensures goes { Goes (W.forest world.old) (W.forest world.new) (W.is_clean world.old)
         (W.is_clean world.new) }
-    ensures gives { IfOk result (λ items. Gives (planted_lem tree (W.forest world.old))
+    ensures gives { IfOk result (λ items. GivesSequence (planted_lem tree (W.forest world.old))
         (W.forest world.new) (Ok items)) }
 {
     let number = world.trees();
@@ -125,7 +125,7 @@ pub fn named<W: Growing>(
     ensures goes { Goes (W.forest world.old) (W.forest world.new) (W.is_clean world.old)
         (W.is_clean world.new) }
     ensures gives { W.is_clean world.new → AreIn (W.forest world.old) (map item_view content.now)
-        → Gives (plant_named kind (string_bytes name) (items_at (W.forest world.old) (map
+        → GivesSequence (plant_named kind (string_bytes name) (items_at (W.forest world.old) (map
         item_view content.now)) (W.forest world.old)) (W.forest world.new) result }
 {
     let tree = named_tree(alloc, world, kind, name, content)?;
@@ -142,7 +142,8 @@ pub fn unnamed<W: Growing>(
     ensures goes { Goes (W.forest world.old) (W.forest world.new) (W.is_clean world.old)
         (W.is_clean world.new) }
     ensures gives { W.is_clean world.new → AreIn (W.forest world.old) (map item_view content.now)
-        → Gives (plant_unnamed kind (items_at (W.forest world.old) (map item_view content.now))
+        → GivesSequence (plant_unnamed kind
+        (items_at (W.forest world.old) (map item_view content.now))
         (W.forest world.old)) (W.forest world.new) result }
 {
     match unnamed_tree(alloc, world, kind, content)? {

@@ -8,7 +8,7 @@ ghost use Rattle.xq_values.specs.Readings.{node_at, item_at, items_at};
 ghost use Rattle.xq_functions.specs.Answers.{items_of, lent_items};
 ghost use Rattle.xq_functions.specs.Kinds as Kinds;
 ghost use Rattle.xq_functions.specs.declared.kinds.Argument.TheVariants.{Nodes};
-ghost use Rattle.xq_build.specs.Gives.{Gives};
+ghost use Rattle.xq_atoms.specs.Answers.{GivesUnlessWanting};
 
 use crate::atoms::atomized;
 use crate::values::{copy, single};
@@ -49,7 +49,7 @@ fn item_text<L: RowLender>(alloc: Global, source: &mut L, item: &Item) -> Result
 
 /// The name of at most one node, as a string (fn:name and fn:local-name).
 fn name<L: RowLender>(alloc: Global, source: &mut L, items: &[Item]) -> Result<Items, Fault>
-    ensures gives { L.is_clean source.new → Gives (items_of (L.forest source.old))
+    ensures gives { L.is_clean source.new → GivesUnlessWanting (items_of (L.forest source.old))
         (Functions.name (L.forest source.old) (lent_items (L.forest source.old) items.now))
         result }
     ensures keeps { L.forest source.new ≡ L.forest source.old }
@@ -65,7 +65,7 @@ fn name<L: RowLender>(alloc: Global, source: &mut L, items: &[Item]) -> Result<I
 
 /// The string value of at most one item (fn:string).
 fn string<L: RowLender>(alloc: Global, source: &mut L, items: &[Item]) -> Result<Items, Fault>
-    ensures gives { L.is_clean source.new → Gives (items_of (L.forest source.old))
+    ensures gives { L.is_clean source.new → GivesUnlessWanting (items_of (L.forest source.old))
         (Functions.string (L.forest source.old) (lent_items (L.forest source.old) items.now))
         result }
     ensures keeps { L.forest source.new ≡ L.forest source.old }
@@ -98,7 +98,8 @@ pub fn call_on_nodes<L: RowLender>(
     items: &[Item],
 ) -> Result<Items, Fault>
     ensures gives { L.is_clean source.new → Kinds.argument_of function ≡ Nodes
-        → (addresses : _) → Gives (items_of (L.forest source.old)) (Functions.of_one function
+        → (addresses : _) → GivesUnlessWanting (items_of (L.forest source.old))
+        (Functions.of_one function
         (L.forest source.old) addresses (lent_items (L.forest source.old) items.now)) result }
     ensures keeps { L.forest source.new ≡ L.forest source.old }
     ensures was_clean { L.is_clean source.new → L.is_clean source.old }
@@ -122,7 +123,7 @@ pub fn context_argument<L: RowLender>(
     function: Function,
     item: &Item,
 ) -> Result<Items, Fault>
-    ensures gives { L.is_clean source.new → Gives (items_of (L.forest source.old))
+    ensures gives { L.is_clean source.new → GivesUnlessWanting (items_of (L.forest source.old))
         (Functions.context_argument function (L.forest source.old) (item_at (L.forest source.old)
         (item_view item.now))) result }
     ensures keeps { L.forest source.new ≡ L.forest source.old }

@@ -8,10 +8,10 @@ ghost use Rattle.xq_values.specs.Items.{root_of, label_at};
 ghost use Rattle.xq_values.specs.Operators.{gathered};
 ghost use Rattle.xq_values.specs.Steps.{context_node as context_node_lem, is_document as is_document_lem};
 ghost use Rattle.xq_values.specs.Readings.{node_at, items_at, AreIn};
-ghost use Rattle.xq_functions.specs.Answers.{judged_as};
+ghost use Rattle.xq_functions.specs.private.Judgements.{judged_as};
 ghost use Rattle.xq_meaning.specs.Doing.{on_trees};
 ghost use Rattle.xq_meaning.specs.Forms as Forms;
-ghost use Rattle.xq_operations.specs.Views.{focus_at, frame_at, forget, FrameIn, Goes, Gives};
+ghost use Rattle.xq_operations.specs.Views.{focus_at, frame_at, forget, FrameIn, Goes, GivesSequence};
 ghost use Rattle.xq_operations.specs.private.Nodes.{nodes_among as nodes_among_lem};
 
 use crate::frames::{Focus, Frame};
@@ -62,7 +62,8 @@ pub fn as_items(alloc: Global, nodes: &[Node]) -> Result<Items, Want>
 /// What a path gives from what its last step gave for each item (XQuery 3.1, section 3.3.1.1).
 pub fn gather(alloc: Global, items: Items) -> Result<Items, Fault>
     ensures { (trees : List Tree) → AreIn trees (item_views items)
-        → Gives (on_trees (λ trees. gathered trees (items_at trees (item_views items))) trees)
+        → GivesSequence (on_trees
+        (λ trees. gathered trees (items_at trees (item_views items))) trees)
         trees result }
 {
     xq_functions::gather(alloc, items)
@@ -103,7 +104,8 @@ pub fn root<W: Growing>(alloc: Global, world: &mut W, frame: Frame<'_>) -> Resul
     ensures goes { Goes (W.forest world.old) (W.forest world.new) (W.is_clean world.old)
         (W.is_clean world.new) }
     ensures gives { W.is_clean world.new → FrameIn (W.forest world.old) frame.entry
-        → Gives (Forms.root (frame_at (W.forest world.old) frame.entry) (W.forest world.old))
+        → GivesSequence (Forms.root (frame_at (W.forest world.old) frame.entry)
+        (W.forest world.old))
         (W.forest world.new) result }
 {
     let tree = context_node(frame.focus)?.tree;

@@ -2,13 +2,14 @@
 ghost use Rattle.std.specs.Prelude.{◌≡◌, List, map, false};
 ghost use Rattle.xq_regions.specs.Tree.{Tree};
 ghost use Rattle.xq_regions.specs.Items.{item_view};
+ghost use Rattle.xq_atoms.specs.Answers.{Gives};
 ghost use Rattle.xq_functions.specs.Answers as Answers;
 ghost use Rattle.xq_functions.specs.Kinds as Kinds;
 ghost use Rattle.xq_values.specs.Operators.{operated, signed as signed_lem};
 ghost use Rattle.xq_values.specs.Items.{atomized as atomized_lem};
 ghost use Rattle.xq_values.specs.Readings.{items_at, AreIn};
 ghost use Rattle.xq_meaning.specs.Doing.{on_trees};
-ghost use Rattle.xq_operations.specs.Views.{Goes, Gives};
+ghost use Rattle.xq_operations.specs.Views.{Goes, GivesSequence};
 
 use crate::atoms::atomized;
 use std::alloc::Global;
@@ -33,7 +34,8 @@ pub fn operate<W: Growing>(
         (W.is_clean world.new) }
     ensures gives { W.is_clean world.new → AreIn (W.forest world.old) (map item_view left.now)
         → AreIn (W.forest world.old) (map item_view right.now)
-        → Gives (on_trees (λ trees. operated operator trees (items_at (W.forest world.old) (map
+        → GivesSequence (on_trees
+        (λ trees. operated operator trees (items_at (W.forest world.old) (map
         item_view left.now))
         (items_at (W.forest world.old) (map item_view right.now))) (W.forest world.old))
         (W.forest world.new) result }
@@ -55,7 +57,7 @@ fn operate_on_nodes(
 ) -> Result<Items, Fault>
     ensures { Kinds.is_on_atoms operator ≡ false → (trees : List Tree)
         → AreIn trees (map item_view left.now) → AreIn trees (map item_view right.now)
-        → Answers.Gives (Answers.items_of trees) (operated operator trees
+        → Gives (Answers.items_of trees) (operated operator trees
         (Answers.lent_items trees left.now) (Answers.lent_items trees right.now)) result }
 {
     match operator {
@@ -78,7 +80,7 @@ pub fn sign<W: Growing>(
     ensures goes { Goes (W.forest world.old) (W.forest world.new) (W.is_clean world.old)
         (W.is_clean world.new) }
     ensures gives { W.is_clean world.new → AreIn (W.forest world.old) (map item_view items.now)
-        → Gives (on_trees (λ trees. signed_lem signs.now (atomized_lem trees (items_at
+        → GivesSequence (on_trees (λ trees. signed_lem signs.now (atomized_lem trees (items_at
         (W.forest world.old) (map item_view items.now))))
         (W.forest world.old)) (W.forest world.new) result }
 {

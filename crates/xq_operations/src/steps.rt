@@ -4,7 +4,7 @@ ghost use Rattle.xq_regions.specs.Items.{item_view, item_views};
 ghost use Rattle.xq_values.specs.Steps.{in_axis_order as in_axis_order_lem, is_reverse as is_reverse_lem};
 ghost use Rattle.xq_values.specs.Readings.{items_at, AreIn};
 ghost use Rattle.xq_meaning.specs.Forms as Forms;
-ghost use Rattle.xq_operations.specs.Views.{focus_at, on_axis, after_double_slash, parents_below as parents_below_lem, FrameIn, Goes, Gives};
+ghost use Rattle.xq_operations.specs.Views.{focus_at, on_axis, after_double_slash, parents_below as parents_below_lem, FrameIn, Goes, GivesSequence};
 
 use crate::frames::Frame;
 use crate::nodes::{as_items, context_node, nodes_among, only_nodes};
@@ -25,7 +25,7 @@ pub fn axis_items<W: Growing>(
     ensures goes { Goes (W.forest world.old) (W.forest world.new) (W.is_clean world.old)
         (W.is_clean world.new) }
     ensures gives { W.is_clean world.new → FrameIn (W.forest world.old) frame.entry
-        → Gives (on_axis axis test.now (focus_at (W.forest world.old) frame.entry.focus)
+        → GivesSequence (on_axis axis test.now (focus_at (W.forest world.old) frame.entry.focus)
         (W.forest world.old)) (W.forest world.new) result }
 {
     let node = context_node(frame.focus)?;
@@ -76,7 +76,7 @@ pub fn scan<W: Growing>(
     ensures goes { Goes (W.forest world.old) (W.forest world.new) (W.is_clean world.old)
         (W.is_clean world.new) }
     ensures gives { W.is_clean world.new → AreIn (W.forest world.old) (map item_view items.now)
-        → Gives (Forms.scan axis test.now (items_at (W.forest world.old) (map item_view
+        → GivesSequence (Forms.scan axis test.now (items_at (W.forest world.old) (map item_view
         items.now)) (W.forest world.old)) (W.forest world.new) result }
 {
     only_nodes(items)?;
@@ -96,7 +96,7 @@ pub fn double_slash<W: Growing>(
     ensures goes { Goes (W.forest world.old) (W.forest world.new) (W.is_clean world.old)
         (W.is_clean world.new) }
     ensures gives { W.is_clean world.new → AreIn (W.forest world.old) (map item_view items.now)
-        → Gives (after_double_slash test.now (items_at (W.forest world.old) (map item_view
+        → GivesSequence (after_double_slash test.now (items_at (W.forest world.old) (map item_view
         items.now)) (W.forest world.old)) (W.forest world.new) result }
 {
     only_nodes(items)?;
@@ -117,7 +117,7 @@ pub fn parents_below<W: Growing>(
     ensures goes { Goes (W.forest world.old) (W.forest world.new) (W.is_clean world.old)
         (W.is_clean world.new) }
     ensures gives { W.is_clean world.new → AreIn (W.forest world.old) (map item_view items.now)
-        → Gives (parents_below_lem test.now (items_at (W.forest world.old) (map item_view
+        → GivesSequence (parents_below_lem test.now (items_at (W.forest world.old) (map item_view
         items.now)) (W.forest world.old)) (W.forest world.new) result }
 {
     let found = double_slash(alloc, world, items, test)?;

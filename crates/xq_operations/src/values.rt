@@ -7,7 +7,7 @@ ghost use Rattle.xq_tuples.specs.Views.{values_of};
 ghost use Rattle.xq_values.specs.Steps.{context_item as context_item_lem};
 ghost use Rattle.xq_meaning.specs.Doing.{judged};
 ghost use Rattle.xq_meaning.specs.Forms.{kept_if, deciding as deciding_lem};
-ghost use Rattle.xq_operations.specs.Views.{focus_at, FocusIn, Gives};
+ghost use Rattle.xq_operations.specs.Views.{focus_at, FocusIn, GivesSequence};
 
 use crate::frames::Focus;
 use std::alloc::Global;
@@ -59,7 +59,8 @@ pub fn slot(alloc: Global, slots: &[Rc<Items>], slot: usize) -> Result<Items, Wa
 /// The context item (XQuery 3.1, section 3.1.4); XPDY0002 where there is none.
 pub fn context_item(alloc: Global, focus: Option<Focus<'_>>) -> Result<Items, Fault>
     ensures { (trees : List Tree) → FocusIn trees focus.entry
-        → Gives (judged (context_item_lem (focus_at trees focus.entry)) trees) trees result }
+        → GivesSequence (judged
+        (context_item_lem (focus_at trees focus.entry)) trees) trees result }
 {
     match focus {
         None => Err(Fault::Code(Code::XPDY0002)),

@@ -10,17 +10,17 @@ use Rattle.xq_expressions.specs.declared.expressions.Expr.{Expr}
 use Rattle.xq_grammar.specs.Look.{Tokens}
 use Rattle.xq_grammar.specs.Grammar.{Derives}
 use Rattle.xq_grammar.specs.private.Reading.{query}
-use Rattle.xq_grammar.specs.private.Gives.{Gives}
-use Rattle.xq_grammar.specs.Answers.{Refuses}
+use Rattle.xq_grammar.specs.private.Parses.{ParsesAs}
+use Rattle.xq_grammar.specs.Answers.{RefusesTokens}
 use Rattle.xq_grammar.proofs.Tokens.{none_some}
 use Rattle.xq_grammar.proofs.SoundLines.{query_sound}
 use Rattle.xq_grammar.proofs.Top.{query_reads, derives_one}
 
-pub found_by : (r : Result Expr Fault) (ts : Tokens) → Gives (λ x. x) r (query 129 ts) → IfOk r (λ e. Derives ts e)
+pub found_by : (r : Result Expr Fault) (ts : Tokens) → ParsesAs (λ x. x) r (query 129 ts) → IfOk r (λ e. Derives ts e)
 found_by (Ok x) ts h = query_sound 129 ts x h
 found_by (Err f) ts h = tt
 
-pub only_by : (r : Result Expr Fault) (ts : Tokens) → Gives (λ x. x) r (query 129 ts) → IfOk r (λ e. (other : Expr) → Derives ts other → other ≡ e)
+pub only_by : (r : Result Expr Fault) (ts : Tokens) → ParsesAs (λ x. x) r (query 129 ts) → IfOk r (λ e. (other : Expr) → Derives ts other → other ≡ e)
 only_by (Ok x) ts h = λ other w. derives_one ts other x w (query_sound 129 ts x h)
 only_by (Err f) ts h = tt
 
@@ -28,7 +28,7 @@ pub shallow_by : (r : Result Expr Fault) (ts : Tokens) → nesting ts ≤ 128 �
 shallow_by (Ok x) ts low = low
 shallow_by (Err f) ts low = tt
 
-pub refused_by : (r : Result Expr Fault) (ts : Tokens) → nesting ts ≤ 128 → Gives (λ x. x) r (query 129 ts) → Refuses r ts
+pub refused_by : (r : Result Expr Fault) (ts : Tokens) → nesting ts ≤ 128 → ParsesAs (λ x. x) r (query 129 ts) → RefusesTokens r ts
 refused_by (Ok x) ts low h = tt
 refused_by (Err (OfWant Memory)) ts low h = low
 refused_by (Err (OfWant Store)) ts low h = absurd h

@@ -8,7 +8,7 @@ use Rattle.xq_atoms.specs.declared.refusals.Fault.{Fault}
 use Rattle.xq_atoms.specs.declared.refusals.Fault.TheVariants.{Code as OfCode, Want as OfWant}
 use Rattle.xq_atoms.specs.declared.refusals.Code.TheVariants.{XPST0003}
 use Rattle.xq_atoms.specs.declared.refusals.Want.TheVariants.{Memory, Store}
-use Rattle.xq_grammar.specs.private.Gives.{Fails}
+use Rattle.xq_grammar.specs.private.Parses.{ParsesNot}
 use Rattle.xq_grammar.specs.private.Reading.{Parser, Outcome, and_then, many_from, many}
 
 length-lexemes : (ts : List Token) → length (lexemes ts) ≡ length ts
@@ -74,7 +74,7 @@ module _ {A : Type 0} (begins : Tokens → Bool) (item : Parser A) where
   kept_last front n turn us ts le k = let none : n - turn ≡ 0 = omega arith in sym k ∙ rw none (ap (λ (xs : List A). Some (xs, us)) (append-nil front))
 
   -- a fault of an item is the fault of all
-  pub fails_along : (front : List A) (n turn : ℕ) (us ts : Tokens) (f : Fault) → turn < n → begins us ≡ true → Fails f (item us) → Kept front n turn us ts → Fails f (many begins item ts)
+  pub fails_along : (front : List A) (n turn : ℕ) (us ts : Tokens) (f : Fault) → turn < n → begins us ≡ true → ParsesNot f (item us) → Kept front n turn us ts → ParsesNot f (many begins item ts)
   fails_along front n turn us ts (OfWant Memory) lt b e k = tt
   fails_along front n turn us ts (OfWant Store) lt b e k = absurd e
   fails_along front n turn us ts (OfCode XPST0003) lt b e k = kept_refused front n turn us ts lt b e k

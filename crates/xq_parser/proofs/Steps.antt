@@ -11,26 +11,26 @@ use Rattle.xq_lexer.specs.Lexeme.{Lex}
 use Rattle.xq_lexer.specs.declared.tokens.Token.{Token}
 use Rattle.xq_grammar.specs.Look.{Tokens}
 use Rattle.xq_grammar.specs.private.Reading.{Outcome, Parser, expect, after, mapped, choose}
-use Rattle.xq_grammar.specs.private.Gives.{Fails, Parses}
+use Rattle.xq_grammar.specs.private.Parses.{ParsesNot, Parses}
 
 module _ {A B : Type 0} (f : A → B) (t : Lex) (p : Parser A) where
   pub reads_after : (ts mid us : Tokens) (a : A) → expect t ts ≡ Some (tt, mid) → p mid ≡ Some (a, us) → mapped f (after t p) ts ≡ Some (f a, us)
   reads_after ts mid us a e h = rw (e, h) refl
 
-  pub fails_at_first : (ts : Tokens) (fault : Fault) → Fails fault (expect t ts) → Fails fault (mapped f (after t p) ts)
+  pub fails_at_first : (ts : Tokens) (fault : Fault) → ParsesNot fault (expect t ts) → ParsesNot fault (mapped f (after t p) ts)
   fails_at_first ts (OfWant Memory) h = tt
   fails_at_first ts (OfWant Store) h = absurd h
   fails_at_first ts (OfCode XPST0003) h = rw h refl
   fails_at_first ts (OfCode _) h = absurd h
 
-  pub fails_after : (ts mid : Tokens) (fault : Fault) → expect t ts ≡ Some (tt, mid) → Fails fault (p mid) → Fails fault (mapped f (after t p) ts)
+  pub fails_after : (ts mid : Tokens) (fault : Fault) → expect t ts ≡ Some (tt, mid) → ParsesNot fault (p mid) → ParsesNot fault (mapped f (after t p) ts)
   fails_after ts mid (OfWant Memory) e h = tt
   fails_after ts mid (OfWant Store) e h = absurd h
   fails_after ts mid (OfCode XPST0003) e h = rw (e, h) refl
   fails_after ts mid (OfCode _) e h = absurd h
 
 -- what a `?` returns
-pub handed_on : {A : Type 0} (result : Result (A × Bor (List Token)) Fault) (fault : Fault) (read : Outcome A) → IsErrAnd result (λ f. f ≡ fault) → Fails fault read → Parses result read
+pub handed_on : {A : Type 0} (result : Result (A × Bor (List Token)) Fault) (fault : Fault) (read : Outcome A) → IsErrAnd result (λ f. f ≡ fault) → ParsesNot fault read → Parses result read
 handed_on (Ok x) fault read same h = absurd same
 handed_on (Err f) fault read same h = rw same h
 

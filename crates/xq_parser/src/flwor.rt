@@ -2,7 +2,7 @@
 ghost use Rattle.xq_lexer.specs.Lexeme.{lexemes, symbol as symbol_lex};
 ghost use Rattle.xq_lexer.specs.declared.tokens.Symbol.TheVariants as s;
 ghost use Rattle.xq_grammar.specs.private.Reading as spec;
-ghost use Rattle.xq_grammar.specs.private.Gives.{Nests, Parses};
+ghost use Rattle.xq_grammar.specs.private.Parses.{Nests, Parses};
 
 use crate::lists::{Phrase, Repeated, commas, many};
 use crate::lookahead::{expect_symbol, expect_word, is_symbol, is_word, position, variable};

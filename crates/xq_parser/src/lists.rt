@@ -4,7 +4,7 @@ ghost use Rattle.xq_lexer.specs.Lexeme.{lexemes, symbol as symbol_lex};
 ghost use Rattle.xq_lexer.specs.declared.tokens.Symbol.TheVariants as s;
 ghost use Rattle.xq_grammar.specs.Look.{Tokens};
 ghost use Rattle.xq_grammar.specs.private.Reading as spec;
-ghost use Rattle.xq_grammar.specs.private.Gives.{Gives, Parses};
+ghost use Rattle.xq_grammar.specs.private.Parses.{ParsesAs, Parses};
 
 use crate::lookahead::{expect_symbol, is_symbol};
 use sqlite_items::Items;
@@ -112,7 +112,7 @@ pub(crate) fn commas<'a, P: Phrase<'a>>(
 
 /// The first item and those after it, in room for just these.
 pub(crate) fn listed<T: Drop>(alloc: Global, first: T, more: Items<T>) -> Result<Items<T>, Fault>
-    ensures { Gives (λ x. x) result (Some (first ∷ more)) }
+    ensures { ParsesAs (λ x. x) result (Some (first ∷ more)) }
 {
     let mut all = Items::from_vec(Vec::with_capacity(alloc, more.len().saturating_add(1))?);
     all.push(first)?;

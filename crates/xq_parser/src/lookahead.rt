@@ -4,7 +4,7 @@ ghost use Rattle.xq_lexer.specs.Lexeme.{lexemes, name as name_lex, symbol as sym
 ghost use Rattle.xq_grammar.specs.Look as look;
 ghost use Rattle.xq_grammar.specs.Grammar as g;
 ghost use Rattle.xq_grammar.specs.private.Reading as spec;
-ghost use Rattle.xq_grammar.specs.private.Gives.{Gives, Parses};
+ghost use Rattle.xq_grammar.specs.private.Parses.{ParsesAs, Parses};
 
 use crate::words::{
     is_constructor_word, is_named_constructor_word, is_reserved_name, named_node_word,
@@ -59,7 +59,7 @@ pub(crate) fn is_word(word: &str, tokens: &[Token]) -> bool
 /// The tokens after the symbol, which is the next token.
 #[tactic(auto, unfolding(xq_grammar::specs::private::Reading::one_of, xq_grammar::specs::Look::lookup, xq_grammar::specs::Look::same))]
 pub(crate) fn expect_symbol(symbol: Symbol, tokens: &[Token]) -> Result<&[Token], Fault>
-    ensures { Gives (λ x. (tt, lexemes x.now)) result
+    ensures { ParsesAs (λ x. (tt, lexemes x.now)) result
         (spec.expect (symbol_lex symbol) (lexemes tokens.now)) }
 {
     match tokens {
@@ -83,7 +83,7 @@ pub(crate) fn expect_symbol(symbol: Symbol, tokens: &[Token]) -> Result<&[Token]
 /// The tokens after the word, which is the next token.
 #[tactic(auto, unfolding(xq_grammar::specs::private::Reading::one_of, xq_grammar::specs::Look::lookup, xq_grammar::specs::Look::same))]
 pub(crate) fn expect_word<'a>(word: &str, tokens: &'a [Token]) -> Result<&'a [Token], Fault>
-    ensures { Gives (λ x. (tt, lexemes x.now)) result
+    ensures { ParsesAs (λ x. (tt, lexemes x.now)) result
         (spec.expect (name_lex word.now) (lexemes tokens.now)) }
 {
     match tokens {
@@ -122,7 +122,7 @@ pub(crate) fn ncname(alloc: Global, tokens: &[Token]) -> Result<(Text, &[Token])
 
 /// A name with a prefix.
 fn prefixed(alloc: Global, prefix: &str, local: &str) -> Result<QName, Fault>
-    ensures { Gives (λ x. x) result (Some (g.with_prefix prefix.now local.now)) }
+    ensures { ParsesAs (λ x. x) result (Some (g.with_prefix prefix.now local.now)) }
 {
     let prefix = Some(Text::copy_of(alloc, prefix)?);
     let local = Text::copy_of(alloc, local)?;

@@ -5,7 +5,7 @@ ghost use Rattle.xq_lexer.specs.declared.tokens.Symbol.TheVariants as s;
 ghost use Rattle.xq_expressions.specs.declared.operators.NodeTest.TheVariants as test;
 ghost use Rattle.xq_expressions.specs.declared.operators.AxisStep.TheVariants as along;
 ghost use Rattle.xq_grammar.specs.private.Reading as spec;
-ghost use Rattle.xq_grammar.specs.private.Gives.{Parses};
+ghost use Rattle.xq_grammar.specs.private.Parses.{Parses};
 
 use crate::lookahead::{
     begins_axis, begins_name, begins_name_test, begins_nc, expect_symbol, expect_word, is_symbol,

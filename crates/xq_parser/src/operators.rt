@@ -4,7 +4,7 @@ ghost use Rattle.xq_lexer.specs.declared.tokens.Symbol.TheVariants as s;
 ghost use Rattle.xq_grammar.specs.Look as look;
 ghost use Rattle.xq_grammar.specs.Grammar as g;
 ghost use Rattle.xq_grammar.specs.private.Reading as spec;
-ghost use Rattle.xq_grammar.specs.private.Gives.{Nests, Parses};
+ghost use Rattle.xq_grammar.specs.private.Parses.{Nests, Parses};
 
 use crate::lists::{Repeated, many};
 use crate::lookahead::{begins_union, expect_symbol, expect_word, is_symbol, is_word};

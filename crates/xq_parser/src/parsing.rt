@@ -1,12 +1,12 @@
 //! The expression that tokens derive.
 ghost use Rattle.std.specs.Prelude.{◌≡◌, ◌≤◌, IfOk};
 ghost use Rattle.xq_lexer.specs.Lexeme.{lexemes};
-ghost use Rattle.xq_lexer.specs.Nesting.{nesting as nesting_of};
+ghost use Rattle.xq_lexer.specs.Nesting.{deepest_nesting, nesting as nesting_of};
 ghost use Rattle.xq_expressions.specs.declared.expressions.Expr.{Expr as Expr_};
 ghost use Rattle.xq_grammar.specs.Grammar.{Derives};
 ghost use Rattle.xq_grammar.specs.private.Reading as spec;
-ghost use Rattle.xq_grammar.specs.private.Gives.{Gives, Nests, Parses};
-ghost use Rattle.xq_grammar.specs.Answers.{Refuses};
+ghost use Rattle.xq_grammar.specs.private.Parses.{ParsesAs, Nests, Parses};
+ghost use Rattle.xq_grammar.specs.Answers.{RefusesTokens};
 
 use crate::lookahead::{begins_flwor, begins_if, begins_quantified};
 use crate::primaries::Grammar;
@@ -14,13 +14,10 @@ use sqlite_items::Boxed;
 use std::alloc::Global;
 use xq_atoms::{Code, Fault};
 use xq_expressions::Expr;
-use xq_lexer::{Token, nesting};
+use xq_lexer::{MAX_NESTING, Token, nesting};
 
-/// The deepest nesting of an expression.
-const MAX_NESTING: u32 = 128;
-
-/// One more: the singles that may nest in one another.
-const MAX_DEPTH: usize = 129;
+/// How many singles may nest in one another: the whole expression, and those nested in it.
+const MAX_DEPTH: usize = MAX_NESTING as usize + 1;
 
 /// A single expression, over what reads singles that nest deeper.
 #[tactic(auto, unfolding(xq_grammar::specs::private::Reading::any))]
@@ -64,7 +61,7 @@ fn single<'a>(
 /// A whole expression that the tokens end with.
 #[tactic(auto, unfolding(xq_grammar::specs::private::Reading::query))]
 fn query(alloc: Global, tokens: &[Token]) -> Result<Expr, Fault>
-    ensures { Gives (λ x. x) result (spec.query 129 (lexemes tokens.now)) }
+    ensures { ParsesAs (λ x. x) result (spec.query 129 (lexemes tokens.now)) }
 {
     let grammar = Grammar {
         alloc,
@@ -85,10 +82,10 @@ pub fn parse(alloc: Global, tokens: &[Token]) -> Result<Expr, Fault>
     ensures found { IfOk result (λ e. Derives (lexemes tokens.now) e) }
     ensures only { IfOk result (λ e. (other : Expr_) → Derives (lexemes tokens.now) other
         → other ≡ e) }
-    ensures shallow { IfOk result (λ _. nesting_of (lexemes tokens.now) ≤ 128) }
-    ensures refused { Refuses result (lexemes tokens.now) }
+    ensures shallow { IfOk result (λ _. nesting_of (lexemes tokens.now) ≤ deepest_nesting) }
+    ensures refused { RefusesTokens result (lexemes tokens.now) }
 {
-    if nesting(tokens) > MAX_NESTING {
+    if nesting(tokens) > u32::from(MAX_NESTING) {
         return Err(Fault::Code(Code::ProfDepth));
     }
     query(alloc, tokens)

@@ -4,7 +4,7 @@ ghost use Rattle.xq_expressions.specs.declared.expressions.Expr.TheVariants as e
 ghost use Rattle.xq_grammar.specs.Look as look;
 ghost use Rattle.xq_grammar.specs.Grammar as g;
 ghost use Rattle.xq_grammar.specs.private.Reading as spec;
-ghost use Rattle.xq_grammar.specs.private.Gives.{Nests, Parses};
+ghost use Rattle.xq_grammar.specs.private.Parses.{Nests, Parses};
 
 use crate::lists::{AfterComma, Phrase, commas, many};
 use crate::lookahead::{

@@ -2,7 +2,7 @@
 ghost use Rattle.std.specs.Prelude.{Some};
 ghost use Rattle.xq_expressions.specs.declared.expressions.Expr.TheVariants as e;
 ghost use Rattle.xq_grammar.specs.Grammar as g;
-ghost use Rattle.xq_grammar.specs.private.Gives.{Gives};
+ghost use Rattle.xq_grammar.specs.private.Parses.{ParsesAs};
 
 use crate::lists::listed;
 use sqlite_items::{Boxed, Items};
@@ -19,7 +19,7 @@ pub(crate) fn sequence(
     first: Boxed<Expr>,
     more: Items<Expr>,
 ) -> Result<Boxed<Expr>, Fault>
-    ensures { Gives (λ x. x) result (Some (g.several e.Sequence (first, more))) }
+    ensures { ParsesAs (λ x. x) result (Some (g.several e.Sequence (first, more))) }
 {
     if more.len() == 0 {
         return Ok(first);
@@ -34,7 +34,7 @@ pub(crate) fn disjunction(
     first: Boxed<Expr>,
     more: Items<Expr>,
 ) -> Result<Boxed<Expr>, Fault>
-    ensures { Gives (λ x. x) result (Some (g.several e.Or (first, more))) }
+    ensures { ParsesAs (λ x. x) result (Some (g.several e.Or (first, more))) }
 {
     if more.len() == 0 {
         return Ok(first);
@@ -49,7 +49,7 @@ pub(crate) fn conjunction(
     first: Boxed<Expr>,
     more: Items<Expr>,
 ) -> Result<Boxed<Expr>, Fault>
-    ensures { Gives (λ x. x) result (Some (g.several e.And (first, more))) }
+    ensures { ParsesAs (λ x. x) result (Some (g.several e.And (first, more))) }
 {
     if more.len() == 0 {
         return Ok(first);
@@ -64,7 +64,7 @@ pub(crate) fn concatenation(
     first: Boxed<Expr>,
     more: Items<Expr>,
 ) -> Result<Boxed<Expr>, Fault>
-    ensures { Gives (λ x. x) result (Some (g.several e.Concat (first, more))) }
+    ensures { ParsesAs (λ x. x) result (Some (g.several e.Concat (first, more))) }
 {
     if more.len() == 0 {
         return Ok(first);
@@ -79,7 +79,7 @@ pub(crate) fn united(
     first: Boxed<Expr>,
     more: Items<Expr>,
 ) -> Result<Boxed<Expr>, Fault>
-    ensures { Gives (λ x. x) result (Some (g.several e.Union (first, more))) }
+    ensures { ParsesAs (λ x. x) result (Some (g.several e.Union (first, more))) }
 {
     if more.len() == 0 {
         return Ok(first);
@@ -94,7 +94,7 @@ pub(crate) fn sum(
     first: Boxed<Expr>,
     more: Items<(Sign, Expr)>,
 ) -> Result<Boxed<Expr>, Fault>
-    ensures { Gives (λ x. x) result (Some (g.chain e.Sum (first, more))) }
+    ensures { ParsesAs (λ x. x) result (Some (g.chain e.Sum (first, more))) }
 {
     if more.len() == 0 {
         Ok(first)
@@ -109,7 +109,7 @@ pub(crate) fn product(
     first: Boxed<Expr>,
     more: Items<(ProductOperator, Expr)>,
 ) -> Result<Boxed<Expr>, Fault>
-    ensures { Gives (λ x. x) result (Some (g.chain e.Product (first, more))) }
+    ensures { ParsesAs (λ x. x) result (Some (g.chain e.Product (first, more))) }
 {
     if more.len() == 0 {
         Ok(first)
@@ -124,7 +124,7 @@ pub(crate) fn set_operation(
     first: Boxed<Expr>,
     more: Items<(SetOperator, Expr)>,
 ) -> Result<Boxed<Expr>, Fault>
-    ensures { Gives (λ x. x) result (Some (g.chain e.SetOperation (first, more))) }
+    ensures { ParsesAs (λ x. x) result (Some (g.chain e.SetOperation (first, more))) }
 {
     if more.len() == 0 {
         Ok(first)
@@ -139,7 +139,7 @@ pub(crate) fn compared(
     left: Boxed<Expr>,
     right: Option<(ComparisonOperator, Boxed<Expr>)>,
 ) -> Result<Boxed<Expr>, Fault>
-    ensures { Gives (λ x. x) result (Some (g.compared (left, right))) }
+    ensures { ParsesAs (λ x. x) result (Some (g.compared (left, right))) }
 {
     match right {
         None => Ok(left),
@@ -155,7 +155,7 @@ pub(crate) fn ranged(
     first: Boxed<Expr>,
     last: Option<Boxed<Expr>>,
 ) -> Result<Boxed<Expr>, Fault>
-    ensures { Gives (λ x. x) result (Some (g.ranged (first, last))) }
+    ensures { ParsesAs (λ x. x) result (Some (g.ranged (first, last))) }
 {
     match last {
         None => Ok(first),
@@ -169,7 +169,7 @@ pub(crate) fn signed(
     signs: Items<Sign>,
     operand: Boxed<Expr>,
 ) -> Result<Boxed<Expr>, Fault>
-    ensures { Gives (λ x. x) result (Some (g.signed (signs, operand))) }
+    ensures { ParsesAs (λ x. x) result (Some (g.signed (signs, operand))) }
 {
     if signs.len() == 0 {
         Ok(operand)
@@ -185,7 +185,7 @@ pub(crate) fn rooted(
     first: Step,
     more: Items<(Separator, Step)>,
 ) -> Result<Boxed<Expr>, Fault>
-    ensures { Gives (λ x. x) result (Some (g.rooted start (first, more))) }
+    ensures { ParsesAs (λ x. x) result (Some (g.rooted start (first, more))) }
 {
     Ok(Boxed::new(alloc, Expr::Path(start, first, more))?)
 }
@@ -196,7 +196,7 @@ pub(crate) fn relative(
     first: Step,
     more: Items<(Separator, Step)>,
 ) -> Result<Boxed<Expr>, Fault>
-    ensures { Gives (λ x. x) result (Some (g.relative (first, more))) }
+    ensures { ParsesAs (λ x. x) result (Some (g.relative (first, more))) }
 {
     if more.len() > 0 {
         return rooted(alloc, PathStart::Relative, first, more);
@@ -225,7 +225,7 @@ pub(crate) fn flwor(
     more: Items<Clause>,
     value: Boxed<Expr>,
 ) -> Result<Boxed<Expr>, Fault>
-    ensures { Gives (λ x. x) result (Some (g.flwor (first, (more, value)))) }
+    ensures { ParsesAs (λ x. x) result (Some (g.flwor (first, (more, value)))) }
 {
     let clauses = listed(alloc, first.into_inner(), more)?;
     Ok(Boxed::new(alloc, Expr::Flwor(clauses, value))?)
@@ -238,7 +238,7 @@ pub(crate) fn quantified(
     bindings: Items<(QName, Expr)>,
     condition: Boxed<Expr>,
 ) -> Result<Boxed<Expr>, Fault>
-    ensures { Gives (λ x. x) result (Some (g.quantified (quantifier, (bindings, condition)))) }
+    ensures { ParsesAs (λ x. x) result (Some (g.quantified (quantifier, (bindings, condition)))) }
 {
     Ok(Boxed::new(alloc, Expr::Quantified(quantifier, bindings, condition))?)
 }
@@ -250,7 +250,7 @@ pub(crate) fn conditional(
     yes: Boxed<Expr>,
     no: Boxed<Expr>,
 ) -> Result<Boxed<Expr>, Fault>
-    ensures { Gives (λ x. x) result (Some (g.conditional (test, (yes, no)))) }
+    ensures { ParsesAs (λ x. x) result (Some (g.conditional (test, (yes, no)))) }
 {
     Ok(Boxed::new(alloc, Expr::If(test, yes, no))?)
 }
@@ -262,7 +262,7 @@ pub(crate) fn named_node(
     name: ConstructorName,
     content: Boxed<Expr>,
 ) -> Result<Boxed<Expr>, Fault>
-    ensures { Gives (λ x. x) result (Some (g.named_node (node, (name, content)))) }
+    ensures { ParsesAs (λ x. x) result (Some (g.named_node (node, (name, content)))) }
 {
     Ok(Boxed::new(alloc, Expr::Named(node, name, content))?)
 }
@@ -273,7 +273,7 @@ pub(crate) fn unnamed_node(
     node: UnnamedNode,
     content: Boxed<Expr>,
 ) -> Result<Boxed<Expr>, Fault>
-    ensures { Gives (λ x. x) result (Some (g.unnamed_node (node, content))) }
+    ensures { ParsesAs (λ x. x) result (Some (g.unnamed_node (node, content))) }
 {
     Ok(Boxed::new(alloc, Expr::Unnamed(node, content))?)
 }

@@ -6,7 +6,7 @@ ghost use Rattle.xq_lexer.specs.Lexeme.{lexemes, lex_of, name as name_lex};
 ghost use Rattle.xq_grammar.specs.Look as look;
 ghost use Rattle.xq_grammar.specs.Grammar as g;
 ghost use Rattle.xq_grammar.specs.private.Reading as spec;
-ghost use Rattle.xq_grammar.specs.private.Gives.{Parses};
+ghost use Rattle.xq_grammar.specs.private.Parses.{Parses};
 
 use xq_atoms::{Code, Fault};
 use xq_expressions::{

@@ -16,7 +16,7 @@ use Rattle.xq_atoms.specs.declared.refusals.Code.TheVariants.{XPTY0004}
 use Rattle.xq_expressions.specs.declared.operators.OrderModifier.{OrderModifier}
 use Rattle.xq_atoms.specs.Compare.{Key, Nothing, Number, Characters, Truth, key_eq}
 use Rattle.xq_regions.specs.Tree.{Tree}
-use Rattle.xq_regions.specs.Tuples.{Tuple, Keyed, OrderRule, expanded, with_each, item_values, bound, kept, grouped, grouped_tuple, grouped_value, slot_key, same_keys, comparison_keys, groups, firsts, are_keys, key_rows, key_value, ordered, can_order, keys_cmp, sort_keys, sorted, inserted}
+use Rattle.xq_regions.specs.Tuples.{Tuple, Keyed, OrderRule, expanded, with_each, item_values, bound, satisfying, grouped, grouped_tuple, grouped_value, slot_key, same_keys, comparison_keys, groups, firsts, are_keys, key_rows, key_value, ordered, can_order, keys_cmp, sort_keys, sorted, inserted}
 use Rattle.xq_atoms.specs.Atom.{Atomic}
 use Rattle.xq_values.specs.Items.{Item, Atom}
 use Rattle.xq_meaning.specs.Doing.{Doing, Outcome, go_on, give, judged, for_each}
@@ -50,7 +50,7 @@ kept_if n true t ps h k = (h, k)
 kept_if n false t ps h k = k
 
 kept_wide : (n : ℕ) (tuples : List (Tuple Item)) (tests : List Bool) → AreWide n tuples →
-    AreWide n (kept tuples tests)
+    AreWide n (satisfying tuples tests)
 kept_wide n [] tests h = tt
 kept_wide n (t ∷ ts) [] h = tt
 kept_wide n (t ∷ ts) (b ∷ bs) h = kept_if n b t (zip ts bs) h.0 (kept_wide n ts bs h.1)
@@ -212,7 +212,7 @@ module _ {E : Type 0} (n : ℕ) (frame_at : Tuple Item → Forms.Frame E) (tuple
 
   pub where_wide : (m : Forms.Meaning E) (f : List Tree) → GivesWide n (Forms.where_tuples m frame_at tuples f)
   where_wide m f =
-      then_wide n (for_each (λ t. Forms.tested m (frame_at t)) tuples f) (λ tests. give (kept tuples tests))
+      then_wide n (for_each (λ t. Forms.tested m (frame_at t)) tuples f) (λ tests. give (satisfying tuples tests))
       (λ tests g. kept_wide n tuples tests h)
 
   pub order_wide : (specs : List (Forms.Meaning E × OrderModifier)) (f : List Tree) →

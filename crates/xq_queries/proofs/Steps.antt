@@ -9,9 +9,9 @@ use Rattle.xq_lexer.specs.declared.tokens.Token.{Token}
 use Rattle.xq_lexer.specs.Lexeme.{Lex, placed, lex_of, lexemes as token_lexemes}
 use Rattle.xq_lexer.specs.Nesting.{nesting}
 use Rattle.xq_lexer.specs.Spelling.{Spells}
-use Rattle.xq_lexer.specs.TokenFaults.{Refuses}
+use Rattle.xq_lexer.specs.TokenFaults.{RefusesText}
 use Rattle.xq_expressions.specs.declared.expressions.Expr.{Expr}
-use Rattle.xq_grammar.specs.Answers.{IsRefusal}
+use Rattle.xq_grammar.specs.Answers.{IsTokenRefusal}
 use Rattle.xq_grammar.specs.Grammar.{Derives}
 use Rattle.xq_statics.specs.Gives.{Judges}
 use Rattle.xq_statics.specs.Statics.{static_fault}
@@ -32,7 +32,7 @@ lexemes_placed (t ∷ ts) = ap (λ rest. lex_of t.lexeme ∷ rest) (lexemes_plac
 
 -- ---- characters
 
-pub lex_refused : (text : List ℕ) (fault : Fault) → Refuses text fault → Parses text (Err fault)
+pub lex_refused : (text : List ℕ) (fault : Fault) → RefusesText text fault → Parses text (Err fault)
 lex_refused text (OfCode code) refused = inl refused.0
 lex_refused text (OfWant want) refused = refused
 
@@ -46,7 +46,7 @@ parses_by text ts (Err (OfWant want)) spelled checks = checks
 
 -- ---- tokens
 
-pub parse_refused : (ts : List Lex) (fault : Fault) → IsRefusal fault ts → Checks ts (Err fault)
+pub parse_refused : (ts : List Lex) (fault : Fault) → IsTokenRefusal fault ts → Checks ts (Err fault)
 parse_refused ts (OfWant Memory) refused = refl
 parse_refused ts (OfWant Store) refused = absurd refused
 parse_refused ts (OfCode ProfDepth) refused = inl (refused, refl)

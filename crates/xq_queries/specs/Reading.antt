@@ -7,7 +7,7 @@ use Rattle.xq_atoms.specs.declared.refusals.Code.{Code}
 use Rattle.xq_atoms.specs.declared.refusals.Code.TheVariants.{XPST0003, ProfAddress, ProfDepth, ProfFrame, ProfUtf8}
 use Rattle.xq_atoms.specs.Judged.{Judged}
 use Rattle.xq_lexer.specs.Lexeme.{Lex, Placed}
-use Rattle.xq_lexer.specs.Nesting.{nesting}
+use Rattle.xq_lexer.specs.Nesting.{deepest_nesting, nesting}
 use Rattle.xq_lexer.specs.Spelling.{Spells}
 use Rattle.xq_lexer.specs.TokenFaults.{HasFault}
 use Rattle.xq_expressions.specs.declared.expressions.Expr.{Expr}
@@ -22,8 +22,8 @@ lexemes tokens = map (λ t. t.lex) tokens
 -- the tokens nest too deep, derive no expression, or one with a static fault
 abbrev pub TokensFault : List Lex → Code → Type 0
 TokensFault tokens code =
-    ((128 < nesting tokens) × (code ≡ ProfDepth))
-    ⊎ ((nesting tokens ≤ 128)
+    ((deepest_nesting < nesting tokens) × (code ≡ ProfDepth))
+    ⊎ ((nesting tokens ≤ deepest_nesting)
     × ((((e : Expr) → ¬ (Derives tokens e)) × (code ≡ XPST0003))
     ⊎ ((e : Expr) × Derives tokens e × (static_fault e ≡ Some code))))
 
@@ -41,7 +41,8 @@ IsRefused text code =
 
 -- the tokens derive this expression, and no static check refuses it
 abbrev pub TokensRead : List Lex → Expr → Type 0
-TokensRead tokens e = (nesting tokens ≤ 128) × Derives tokens e × (static_fault e ≡ None)
+TokensRead tokens e = (nesting tokens ≤ deepest_nesting) × Derives tokens e
+    × (static_fault e ≡ None)
 
 abbrev pub IsRead : List ℕ → Expr → Type 0
 IsRead text e =

@@ -53,8 +53,8 @@ abbrev pub printed : Value → Text
 printed v = print_items v.1 v.0
 
 -- `prof:REPLY` where it is too long
-abbrev pub told : Judged Value → Judged Text
-told v = v >>= (λ v. within_reply (printed v))
+abbrev pub reply_text : Judged Value → Judged Text
+reply_text v = v >>= (λ v. within_reply (printed v))
 
 -- # The document that a value is
 
@@ -77,5 +77,5 @@ abbrev pub or_no_document : Option Tree → Judged Tree
 or_no_document (Some tree) = Ok tree
 or_no_document None = Err ProfNotdoc
 
-abbrev pub made : Judged Value → Judged Tree
-made v = v >>= (λ v. or_no_document (document v))
+abbrev pub made_document : Judged Value → Judged Tree
+made_document v = v >>= (λ v. or_no_document (document v))

@@ -1,10 +1,11 @@
 //! A plan asked over trees.
 ghost use Rattle.std.specs.Prelude.{◌≡◌, ◌≤◌, IfOk, IfSome, length, map, string_bytes, string_len};
-ghost use Rattle.xq_build.specs.Gives.{Gives};
+ghost use Rattle.xq_atoms.specs.Answers.{GivesUnlessWanting};
 ghost use Rattle.xq_regions.specs.Items.{item_view};
 ghost use Rattle.xq_regions.specs.declared.Kind.TheVariants.{Document};
 ghost use Rattle.xq_values.specs.Readings.{items_at, AreIn, Extends};
-ghost use Rattle.xq_queries.specs.Values.{document, made, or_no_document, plan_value, told};
+ghost use Rattle.xq_queries.specs.Values.{document, made_document, or_no_document, plan_value, reply_text};
+ghost use Rattle.xq_values.specs.Print.{longest_text};
 
 use std::alloc::Global;
 use xq_atoms::{Code, Fault, Want};
@@ -30,9 +31,10 @@ pub fn ask<W: Growing>(
     addresses: &[String],
 ) -> Result<String, Fault>
     ensures gives { W.is_clean world.new → length addresses.now ≤ length (W.forest world.old)
-        → Gives string_bytes (told (plan_value plan.now (map string_bytes addresses.now)
+        → GivesUnlessWanting string_bytes
+        (reply_text (plan_value plan.now (map string_bytes addresses.now)
         (W.forest world.old))) result }
-    ensures short { IfOk result (λ text. string_len text ≤ 16777216) }
+    ensures short { IfOk result (λ text. string_len text ≤ longest_text) }
     ensures grows { Extends (W.forest world.old) (W.forest world.new) }
     ensures was_clean { W.is_clean world.new → W.is_clean world.old }
 {
@@ -54,7 +56,8 @@ pub fn make<W: Growing>(
     addresses: &[String],
 ) -> Result<Fragment, Fault>
     ensures gives { W.is_clean world.new → length addresses.now ≤ length (W.forest world.old)
-        → Gives (λ tree. tree) (made (plan_value plan.now (map string_bytes addresses.now)
+        → GivesUnlessWanting (λ tree. tree)
+        (made_document (plan_value plan.now (map string_bytes addresses.now)
         (W.forest world.old))) result }
     ensures document { IfOk result (λ tree. tree.root.kind ≡ Document) }
     ensures grows { Extends (W.forest world.old) (W.forest world.new) }

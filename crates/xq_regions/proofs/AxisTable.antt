@@ -1,19 +1,26 @@
 -- The axes of the worked document, and that the tests of axes are their definitions.
 use Rattle.std.proofs.Common.{◌≡◌, ◌≢◌, ◌↔◌, ℕ, suc, List, [], ◌∷◌, length, ◌⊎◌, inl, inr, Bool, true, false, not, ◌&&◌, ◌||◌, refl}
-use Rattle.std.specs.Prelude.{nat_eq, nat_lt}
+use Rattle.std.specs.Prelude.{nat_eq, nat_lt, filter}
+use Rattle.std.specs.List.{range_with_len}
 use Rattle.std.proofs.lemmas.Bool.{leb-true, eqb-true, le-leb, eq-eqb}
-use Rattle.xq_regions.specs.Forest.{Forest}
-use Rattle.xq_regions.specs.Tree.{Label, is_attribute}
+use Rattle.xq_regions.specs.Forest.{Forest, count}
+use Rattle.xq_regions.specs.Tree.{Label, Tree, nodes, is_attribute}
 use Rattle.xq_regions.specs.Node.{kind_at}
-use Rattle.xq_regions.specs.Order.{IsAbove, IsLeftOf, IsBeside}
+use Rattle.xq_regions.specs.Order.{IsAbove, IsLeftOf, IsBeside, path_at}
 use Rattle.xq_regions.specs.Axis.{IsOnAxis}
-use Rattle.xq_regions.specs.AxisTests.{is_above, is_left_of, is_same, is_beside, plain, on_axis, axis_places}
+use Rattle.xq_regions.specs.AxisTests.{is_above, is_left_of, is_same, is_beside, plain, on_axis}
 use Rattle.xq_regions.proofs.Checking.{both, both_true}
 use Rattle.xq_regions.specs.declared.Kind.{Kind}
 use Rattle.xq_regions.specs.declared.Kind.TheVariants.{Document, Element, Attribute, Text, Comment, ProcessingInstruction}
 use Rattle.xq_regions.specs.declared.Axis.{Axis}
 use Rattle.xq_regions.specs.declared.Axis.TheVariants.{Child, Descendant, DescendantOrSelf, SelfNode, Attributes, Parent, Ancestor, AncestorOrSelf, Following, FollowingSibling, Preceding, PrecedingSibling}
 use Rattle.xq_regions.proofs.Worked.{library}
+
+-- the places of the nodes that are on the axis from the node at the place v, in document order
+abbrev axis_places : Axis → Tree → ℕ → List ℕ
+axis_places axis t v = filter
+    (λ p. on_axis axis (nodes t) (path_at (nodes t) v) (path_at (nodes t) p))
+    (range_with_len 0 (count (nodes t)))
 
 abbrev Row_of_table : Axis → List ℕ → List ℕ → Type 0
 Row_of_table axis five three = (axis_places axis library 5 ≡ five) × (axis_places axis library 3 ≡ three)

@@ -3,7 +3,9 @@ pub mod Regions
 pub mod Checking
 pub mod Walks
 pub mod Encoding
+pub mod Steps
 pub mod Worked
+pub mod Injective
 pub mod AxisRegions
 pub mod AxisTable
 pub mod Printed

@@ -1,14 +1,14 @@
 -- The rows of a small document, and its axes.
 use Rattle.std.proofs.Common.{◌≡◌, true, ℕ, List, [], ◌∷◌, ◌++◌, length, map, refl, arith}
-use Rattle.std.specs.Prelude.{codes}
+use Rattle.std.specs.Prelude.{codes, encode_utf8_all}
 use Rattle.std.specs.List.{IsDistinct}
 use Rattle.std.specs.Str.{chars, IsUtf8, all_scalars}
-use Rattle.std.specs.Prelude.{encode_utf8_all}
 use Rattle.std.specs.Char.{encode_utf8}
 use Rattle.xq_characters.specs.Characters.{is_char, is_name_start, is_name_char}
 use Rattle.xq_regions.specs.Forest.{Forest, end, node, EachNode}
 use Rattle.xq_regions.specs.Tree.{Label, Tree, IsText, IsTree, nodes}
-use Rattle.xq_regions.specs.Node.{steps, attribute, child, subtree}
+use Rattle.xq_regions.specs.Node.{subtree}
+use Rattle.xq_regions.proofs.Steps.{steps, attribute, child}
 use Rattle.xq_regions.specs.Order.{place_of, path_at}
 use Rattle.xq_regions.specs.Value.{string_value, typed_value, untyped}
 use Rattle.xq_regions.specs.Print.{print}

@@ -1,11 +1,9 @@
 -- The axes as tests that compute; each is true exactly where the relation of Axis holds.
 use Rattle.std.proofs.Common.{suc}
-use Rattle.std.specs.Prelude.{ℕ, List, [], ◌∷◌, length, Bool, true, false, not, ◌&&◌, ◌||◌, nat_eq, nat_lt, filter}
-use Rattle.std.specs.List.{range_with_len}
-use Rattle.xq_regions.specs.Forest.{Forest, count}
-use Rattle.xq_regions.specs.Tree.{Label, Tree, nodes, is_attribute}
+use Rattle.std.specs.Prelude.{ℕ, List, [], ◌∷◌, length, Bool, true, false, not, ◌&&◌, ◌||◌, nat_eq, nat_lt}
+use Rattle.xq_regions.specs.Forest.{Forest}
+use Rattle.xq_regions.specs.Tree.{Label, is_attribute}
 use Rattle.xq_regions.specs.Node.{kind_at}
-use Rattle.xq_regions.specs.Order.{path_at}
 use Rattle.xq_regions.specs.declared.Axis.{Axis}
 use Rattle.xq_regions.specs.declared.Axis.TheVariants.{Child, Descendant, DescendantOrSelf, SelfNode, Attributes, Parent, Ancestor, AncestorOrSelf, Following, FollowingSibling, Preceding, PrecedingSibling}
 
@@ -50,9 +48,3 @@ on_axis Following f v w = is_left_of v w && plain f w
 on_axis FollowingSibling f v w = is_beside v w && (is_left_of v w && (plain f v && plain f w))
 on_axis Preceding f v w = is_left_of w v && plain f w
 on_axis PrecedingSibling f v w = is_beside v w && (is_left_of w v && (plain f v && plain f w))
-
--- the places of the nodes that are on the axis from the node at the place v, in document order
-abbrev pub axis_places : Axis → Tree → ℕ → List ℕ
-axis_places axis t v = filter
-    (λ p. on_axis axis (nodes t) (path_at (nodes t) v) (path_at (nodes t) p))
-    (range_with_len 0 (count (nodes t)))

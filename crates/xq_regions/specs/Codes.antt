@@ -1,4 +1,4 @@
--- A tree is stored as its rows.
+-- A tree is told by its rows, and each part of a row by numbers and lists of numbers.
 use Rattle.std.proofs.Common.{zero, suc}
 use Rattle.std.specs.Prelude.{◌≡◌, ℕ, List, refl}
 use Rattle.std.specs.Coded.{Coded, code_by, coded×, coded_ℕ, coded_list}
@@ -8,6 +8,7 @@ use Rattle.xq_regions.specs.Nesting.{tree_of-rows}
 use Rattle.xq_regions.specs.declared.Kind.{Kind}
 use Rattle.xq_regions.specs.declared.Kind.TheVariants.{Document, Element, Attribute, Text, Comment, ProcessingInstruction}
 
+-- the number of a kind, which is also that in the tables of a store
 abbrev pub kind_number : Kind → ℕ
 kind_number Document = 0
 kind_number Element = 1

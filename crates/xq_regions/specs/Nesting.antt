@@ -64,7 +64,3 @@ map-measured l (node a below beside) = rw (map-measured (suc l) below, map-measu
 pub tree_of-rows : (t : Tree) → tree_of (rows t) ≡ t
 tree_of-rows t = ap first_tree (nest-rows t)
     ∙ ap (λ (f : Forest Label). record { root = t.root; below = f }) (map-measured 1 t.below)
-
--- two trees with equal rows are equal
-pub rows-injective : (t u : Tree) → rows t ≡ rows u → t ≡ u
-rows-injective t u e = sym (tree_of-rows t) ∙ ap tree_of e ∙ tree_of-rows u

@@ -84,14 +84,20 @@ is_legal ProcessingInstruction name value = is_target name && is_instruction val
 abbrev pub IsText : Label → Type 0
 IsText a = IsUtf8 a.name × IsUtf8 a.value
 
--- levels are at most 100, where the root has 0; nodes are at most a million
+-- levels are 0, that of the root, to 100
+abbrev pub most_levels : ℕ
+most_levels = 101
+
+abbrev pub most_nodes : ℕ
+most_nodes = 1000000
+
 pub record IsTree (t : Tree) : Type 0 where
   pub texts : EachNode (λ a below. IsText a) (nodes t)
   pub legal : EachNode (λ a below. IsTrue (is_legal a.kind a.name a.value)) (nodes t)
   pub content : EachNode (λ a below. IsTrue (is_content a below)) (nodes t)
   pub names : EachNode (λ a below. IsDistinct bytes_eq (attribute_names below)) (nodes t)
-  pub height : IsWithinHeight 101 (nodes t)
-  pub room : count (nodes t) ≤ 1000000
+  pub height : IsWithinHeight most_levels (nodes t)
+  pub room : count (nodes t) ≤ most_nodes
 
 -- a tree with a document at its root
 pub record IsDocument (t : Tree) : Type 0 where

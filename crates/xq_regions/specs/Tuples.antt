@@ -30,8 +30,8 @@ abbrev pub bound : {X : Type 0} → List (Tuple X) → List (List X) → List (T
 bound tuples values = extended tuples values
 
 -- 3.12.5, where: the tuples at which the condition holds
-abbrev pub kept : {A : Type 0} → List A → List Bool → List A
-kept tuples tests = map (λ p. p.0) (filter (λ p. p.1) (zip tuples tests))
+abbrev pub satisfying : {A : Type 0} → List A → List Bool → List A
+satisfying tuples tests = map (λ p. p.0) (filter (λ p. p.1) (zip tuples tests))
 
 module _ {X : Type 0} (atom : Atomic → X) where
   -- the n-th item, and its position where that is asked for

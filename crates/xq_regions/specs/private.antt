@@ -1,3 +1,4 @@
 pub mod Checks
-pub mod Levels
+pub mod Printing
+pub mod RegionTests
 pub mod Sizes

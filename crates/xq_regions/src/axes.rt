@@ -5,7 +5,8 @@ ghost use Rattle.xq_regions.specs.Tree.{nodes, is_attribute as is_attribute_lem}
 ghost use Rattle.xq_regions.specs.Rows.{row_of, row_at};
 ghost use Rattle.xq_regions.specs.Order.{IsBefore, path_at};
 ghost use Rattle.xq_regions.specs.Axis.{IsOnAxis};
-ghost use Rattle.xq_regions.specs.RegionTests.{inside, one_below, plain_row, common_parent, shares_parent, after, sibling, in_region};
+ghost use Rattle.xq_regions.specs.private.RegionTests.{one_below, common_parent, shares_parent, sibling, in_region};
+ghost use Rattle.xq_regions.specs.RegionTests.{inside, plain_row, after};
 
 use crate::{Axis, Fragment, Kind, NodeRow};
 

@@ -1,9 +1,8 @@
 //! Trees from the levels of their nodes, in document order.
 ghost use Rattle.std.specs.Prelude.{◌≡◌, ◌≤◌, ◌<◌, ◌+◌, length, map, drop, slice_index, vec_len, IsNone, IfSome};
-ghost use Rattle.xq_regions.specs.Tree.{Tree, IsTree};
+ghost use Rattle.xq_regions.specs.Tree.{Tree, IsTree, most_nodes};
 ghost use Rattle.xq_regions.specs.Rows.{AreNumbered};
-ghost use Rattle.xq_regions.specs.private.Levels.{HasLevels};
-ghost use Rattle.xq_regions.specs.Print.{flat_row};
+ghost use Rattle.xq_regions.specs.Levels.{HasLevels, flat_row};
 ghost use Rattle.xq_regions.specs.private.Sizes.{IsSized, deeper, level_of};
 
 use crate::{Fragment, MAX_NODES, NodeRow};
@@ -30,7 +29,7 @@ fn size_at(rows: &[NodeRow], at: usize) -> usize
 
 /// Sets the sizes.
 fn set_sizes(rows: &mut [NodeRow])
-    requires { length rows.old ≤ 1000000 }
+    requires { length rows.old ≤ most_nodes }
     ensures sized { IsSized rows.new }
     ensures same { map flat_row rows.new ≡ map flat_row rows.old }
     ensures numbered { AreNumbered 0 rows.old → AreNumbered 0 rows.new }
@@ -45,7 +44,7 @@ fn set_sizes(rows: &mut [NodeRow])
 
 /// Sets the places.
 fn set_places(rows: &mut [NodeRow])
-    requires { length rows.old ≤ 1000000 }
+    requires { length rows.old ≤ most_nodes }
     ensures numbered { AreNumbered 0 rows.new }
     ensures same { map flat_row rows.new ≡ map flat_row rows.old }
 {
@@ -58,7 +57,7 @@ fn set_places(rows: &mut [NodeRow])
 
 /// The rows with their places.
 fn with_places(mut rows: Vec<NodeRow>) -> Vec<NodeRow>
-    requires { vec_len rows ≤ 1000000 }
+    requires { vec_len rows ≤ most_nodes }
     ensures numbered { AreNumbered 0 result.items }
     ensures same { map flat_row result.items ≡ map flat_row rows.items }
     ensures long { vec_len result ≡ vec_len rows }
@@ -69,7 +68,7 @@ fn with_places(mut rows: Vec<NodeRow>) -> Vec<NodeRow>
 
 /// The rows with their sizes.
 fn with_sizes(mut rows: Vec<NodeRow>) -> Vec<NodeRow>
-    requires { vec_len rows ≤ 1000000 }
+    requires { vec_len rows ≤ most_nodes }
     ensures sized { IsSized result.items }
     ensures same { map flat_row result.items ≡ map flat_row rows.items }
     ensures numbered { AreNumbered 0 rows.items → AreNumbered 0 result.items }

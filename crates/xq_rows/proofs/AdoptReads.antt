@@ -30,7 +30,7 @@ use Rattle.sqlite.proofs.Callers.{IsPlain, command_of, reads_as}
 use Rattle.xq_rows.specs.declared.faults.OpenFault.TheVariants.{NotAStore}
 use Rattle.xq_rows.specs.Tables.{no_schema, layout_schema, node_schema, IsStoreSchema, layout_rows}
 use Rattle.xq_rows.proofs.Places.{First, layout_first, node_first, schema_of, layout_tree, node_tree, which, nodes_lie, layout_lies, layout_alone, layout_not_given}
-use Rattle.xq_rows.specs.private.Adopt.{fault_of, IsInputError, named, by_place, AreNodes, ReadsEdition, ReadsRowids, ReadsNodes, SeesNothing}
+use Rattle.xq_rows.specs.private.Adopt.{fault_of, IsInputError, addressed_node, by_place, AreNodes, ReadsEdition, ReadsRowids, ReadsNodes, SeesNothing}
 use Rattle.xq_rows.proofs.Texts.{IsUnread, body, key}
 use Rattle.xq_rows.proofs.Lists.{flat_map_picks}
 use Rattle.xq_rows.proofs.Creates.{undone_kept}
@@ -173,7 +173,7 @@ nodes_given first db rows got =
     let keyed : Output → Type 0 = λ o. o.0 ≡ place_of o.1 in
     let all : All keyed (map (out first [] project order db []) shown) = All-from_recursion keyed _ (all-map keyed (out first [] project order db []) shown (all_of (λ r. keyed (out first [] project order db [] r)) (λ r. refl) shown)) in
     record {
-      same = subst (λ l. IsPermutation (map named l) rows) (every table) (selected_rows first [] project order db [] rows s);
+      same = subst (λ l. IsPermutation (map addressed_node l) rows) (every table) (selected_rows first [] project order db [] rows s);
       sorted = subst (IsSorted by_place) (sym s.shown) (sorted_as by_place (key ∷ key ∷ []) place_of same_place s.ordered (All-permutation keyed _ _ s.same all) s.sorted);
     }
 

@@ -4,8 +4,9 @@ use Rattle.std.specs.FinMap.{empty}
 use Rattle.sqlite_trees.specs.declared.store.Store.{Ghosts}
 use Rattle.sqlite.specs.Held.{Held, state}
 use Rattle.sqlite.specs.State.{HasCleanDisk}
-use Rattle.xq_rows.specs.private.Adopt.{IsAdopted, IsNoStore, IsBlank, HasTables, HasOneTable}
-use Rattle.xq_rows.specs.Documents.{IsReady, IsClean, IsOpen, IsUp, Holds, StandsFor, documents, documents_in, IsStore}
+use Rattle.xq_rows.specs.private.Adopt.{IsAdopted, IsNoStore}
+use Rattle.xq_rows.specs.Adoption.{IsBlank, HasTables, HasOneTable}
+use Rattle.xq_rows.specs.Documents.{IsReady, IsClean, IsOpen, IsUp, HoldsDocuments, StandsFor, documents, documents_in, IsStore}
 use Rattle.xq_rows.proofs.Maps.{no_documents}
 use Rattle.xq_rows.specs.Tables.{node_rows}
 
@@ -26,8 +27,8 @@ module _ {S : Type 0} (g : Ghosts S) (conn new : Held S) where
       unfolding IsClean HasTables
       found_same clean has = ((did (clean, ends clean)).found has).0
 
-      pub found_whole : IsClean g new → HasTables g conn → Holds g conn × StandsFor g new (documents g conn)
-      unfolding IsClean HasTables Holds documents StandsFor
+      pub found_whole : IsClean g new → HasTables g conn → HoldsDocuments g conn × StandsFor g new (documents g conn)
+      unfolding IsClean HasTables HoldsDocuments documents StandsFor
       found_whole clean has =
           let found = (did (clean, ends clean)).found has in
           (found.1, λ opened. (subst IsStore (sym found.0) found.1, ap (λ db. documents_in (node_rows db)) found.0))
@@ -36,8 +37,8 @@ module _ {S : Type 0} (g : Ghosts S) (conn new : Held S) where
       unfolding IsClean HasOneTable
       never_one clean one = (did (clean, ends clean)).alone one
 
-  pub told_none : {P : Type 0} → (IsReady (state g new) → P → IsNoStore (state g conn).now) → IsUp g new → P → ¬ IsBlank g conn × ¬ Holds g conn
-  unfolding IsUp IsBlank Holds
+  pub told_none : {P : Type 0} → (IsReady (state g new) → P → IsNoStore (state g conn).now) → IsUp g new → P → ¬ IsBlank g conn × ¬ HoldsDocuments g conn
+  unfolding IsUp IsBlank HoldsDocuments
   told_none told up none = let no = told up none in (no.some, no.none)
 
   pub kept_up : (IsReady (state g new) → (state g new).now ≡ (state g conn).now) → IsUp g new → (state g new).now ≡ (state g conn).now

@@ -1,7 +1,7 @@
 -- The rows that an adoption reads, and the table that they are of.
 use Rattle.std.proofs.Common.{◌≡◌, ◌≢◌, ◌⊎◌, inl, inr, ◌+◌, ◌<◌, ◌≤◌, ℕ, ℤ, zero, suc, pos, Bool, true, false, not, cond, List, [], ◌∷◌, ◌++◌, map, filter, length, take, drop, slice_get, Option, None, Some, IsTrue, refl, sym, ap, ap₂, subst, ◌∙◌, arith, Ordering, Less, Equal, Greater, is_lt, is_gt, append-nil, append_assoc, get_or, add-one, drop-cons, length-drop}
 use Rattle.std.specs.Ordering.{is_eq, ordering_reverse, ordering_then}
-use Rattle.std.specs.Cmp.{IsTotalOrder, then_total}
+use Rattle.std.specs.Cmp.{IsTotalOrder, then_total, int_cmp_is}
 use Rattle.std.specs.List.{AllByRecursion}
 use Rattle.std.specs.List.Sorted.{IsPermutation, IsSorted}
 use Rattle.std.proofs.lemmas.Cmp.{tied_itself, alike_right, upto, on_total}
@@ -14,7 +14,6 @@ use Rattle.sqlite_value.specs.declared.value.Value.TheVariants.{Int, Text}
 use Rattle.sqlite_value.proofs.OrderLemmas.{value_cmp_total, value_cmp-Int, value_cmp-Text}
 use lib.Dec.{T}
 use Rattle.std.specs.Int.Signed.{lt_z, lt_z_yes}
-use Rattle.std.specs.Cmp.{int_cmp_is}
 use Rattle.std.specs.Str.{bytes_eq}
 use Rattle.std.proofs.lemmas.Map.Text.{is_eq-slice_cmp}
 use Rattle.sqlite_trees.specs.Tree.{IsAscending, rowid}
@@ -26,9 +25,10 @@ use Rattle.sqlite.specs.Effect.{Database}
 use Rattle.sqlite.proofs.Callers.{one_permutation}
 use Rattle.xq_atoms.specs.Address.{IsAddress}
 use Rattle.xq_regions.specs.Rows.{rows as rows_of, placed_rows}
-use Rattle.xq_rows.specs.Nodes.{cells, node_of, bytes_in}
-use Rattle.xq_rows.specs.Documents.{AreApart, HaveInts, HasAddress, is_at, rows_at, by_first, IsWhole, IsStore}
-use Rattle.xq_rows.specs.private.Adopt.{named, is_under, HasOwner, by_place, run_length, IsRun, nodes_under, AreTold, ReadsEdition, SeesEdition, IsPast, ReadsRowids, SeesRowids, AreNodes, ReadsNodes, AreDocuments, SeesNothing, SeesDocuments, IsAdopted, IsNoStore}
+use Rattle.xq_rows.specs.Nodes.{cells, bytes_in}
+use Rattle.xq_rows.specs.private.Columns.{node_of}
+use Rattle.xq_rows.specs.Documents.{AreApart, HaveInts, HasAddress, is_at, rows_at, by_first, IsIntact, IsStore}
+use Rattle.xq_rows.specs.private.Adopt.{addressed_node, is_under, HasOwner, by_place, run_length, IsRun, nodes_under, AreDocumentRuns, ReadsEdition, SeesEdition, IsPast, ReadsRowids, SeesRowids, AreNodes, ReadsNodes, AreDocuments, SeesNothing, SeesDocuments, IsAdopted, IsNoStore}
 use Rattle.xq_rows.specs.private.Statements.{MakesStore}
 use Rattle.xq_rows.specs.Tables.{no_schema, node_rows, layout_rows, IsStoreSchema}
 use Rattle.xq_rows.proofs.Lists.{tied}
@@ -375,7 +375,7 @@ module _ (a : List ℕ) (first : Row) (own : column first 6 ≡ Text a) where
         ap (filter (is_under a)) (sym whole_rest) ∙ filter-append (is_under a) run more ∙ ap₂ ◌++◌ (filter_all (is_under a) run in_run) gone ∙ append-nil run in
         ap (map node_of) (filter-append (is_under a) past rest ∙ ap₂ ◌++◌ before mine)
 
-    told_more : AreTold past → IsAddress a → IsRun (map node_of run) → AreTold (past ++ run)
+    told_more : AreDocumentRuns past → IsAddress a → IsRun (map node_of run) → AreDocumentRuns (past ++ run)
     told_more told good is = record {
       owned = all_joined HasOwner past run told.owned (all_weaker _ HasOwner (λ r h. (a, good, text_is (column r 6) a h)) run in_run);
       whole = λ b. elim (same_address a b) [
@@ -397,7 +397,7 @@ module _ (a : List ℕ) (first : Row) (own : column first 6 ≡ Text a) where
       ]
     ]
 
-    bad_run : ¬ (IsAddress a × IsRun (map node_of run)) → ¬ AreTold (past ++ rest)
+    bad_run : ¬ (IsAddress a × IsRun (map node_of run)) → ¬ AreDocumentRuns (past ++ rest)
     bad_run bad told = elim (told.whole a) [
       | inl none ↦ some_run rest here (sym here_is ∙ none)
       | inr ok ↦ bad (owned_first rest here (all_later HasOwner past rest told.owned), subst IsRun here_is ok)
@@ -407,7 +407,7 @@ module _ (a : List ℕ) (first : Row) (own : column first 6 ≡ Text a) where
 pub record AreJudged (all rest : List Row) : Type 0 where
   pub past : List Row
   pub is : past ++ rest ≡ all
-  pub told : IsSorted by_place all → AreTold past × IsCut past rest
+  pub told : IsSorted by_place all → AreDocumentRuns past × IsCut past rest
 
 pub judged_none : (all : List Row) → AreJudged all all
 judged_none all = record { past = []; is = refl; told = λ sorted. (record { owned = tt; whole = λ b. inl refl }, λ b. inl refl) }
@@ -426,14 +426,14 @@ module _ (all rest : List Row) (judged : AreJudged all rest) (a : List ℕ) (fir
         (told_more a first own judged.past rest here up so_far.1 so_far.0 good is, cut_more a first own judged.past rest here up so_far.1);
   }
 
-  pub judged_bad : ¬ (IsAddress a × IsRun (map node_of (take (run_length a rest) rest))) → IsSorted by_place all → ¬ AreTold all
+  pub judged_bad : ¬ (IsAddress a × IsRun (map node_of (take (run_length a rest) rest))) → IsSorted by_place all → ¬ AreDocumentRuns all
   judged_bad bad sorted told =
       let so_far = judged.told sorted in
       let up = rest_rises all rest judged.past judged.is sorted in
-      bad_run a first own judged.past rest here up so_far.1 bad (subst AreTold (sym judged.is) told)
+      bad_run a first own judged.past rest here up so_far.1 bad (subst AreDocumentRuns (sym judged.is) told)
 
-pub judged_all : (all rest : List Row) → AreJudged all rest → rest ≡ [] → IsSorted by_place all → AreTold all
-judged_all all rest judged none sorted = subst AreTold (sym (append-nil judged.past) ∙ ap (λ l. judged.past ++ l) (sym none) ∙ judged.is) (judged.told sorted).0
+pub judged_all : (all rest : List Row) → AreJudged all rest → rest ≡ [] → IsSorted by_place all → AreDocumentRuns all
+judged_all all rest judged none sorted = subst AreDocumentRuns (sym (append-nil judged.past) ∙ ap (λ l. judged.past ++ l) (sym none) ∙ judged.is) (judged.told sorted).0
 
 pub first_is : (rest : List Row) (first : Row) → (0 < length rest) × ((d : Row) → first ≡ get_or rest 0 d) → slice_get rest 0 ≡ Some first
 first_is [] first is = absurd (omega (arith, is.0))
@@ -444,15 +444,15 @@ first_owned [] first here all = absurd cc
 first_owned (r ∷ rs) first here all = let same : r ≡ first = cc in subst HasOwner same all.0
 
 -- a row without a text for its address
-pub judged_stray : (all rest : List Row) → AreJudged all rest → (first : Row) → slice_get rest 0 ≡ Some first → ((a : List ℕ) → column first 6 ≢ Text a) → ¬ AreTold all
+pub judged_stray : (all rest : List Row) → AreJudged all rest → (first : Row) → slice_get rest 0 ≡ Some first → ((a : List ℕ) → column first 6 ≢ Text a) → ¬ AreDocumentRuns all
 judged_stray all rest judged first here stray told =
     let owner = first_owned rest first here (all_later HasOwner judged.past rest (subst (λ l. AllByRecursion HasOwner l) (sym judged.is) told.owned)) in
     stray owner.0 owner.2
 
 -- # The table
 
-nodes_of_named : (a : List ℕ) (table : List Row) → nodes_under a (map named table) ≡ rows_at a table
-nodes_of_named a table = ap (map node_of) (filter-map (is_under a) named table) ∙ map-map node_of named (filter (is_at a) table)
+nodes_of_named : (a : List ℕ) (table : List Row) → nodes_under a (map addressed_node table) ≡ rows_at a table
+nodes_of_named a table = ap (map node_of) (filter-map (is_under a) addressed_node table) ∙ map-map node_of addressed_node (filter (is_at a) table)
 
 module _ (table rows : List Row) (are : AreNodes table rows) where
   moved : (a : List ℕ) → IsPermutation (rows_at a table) (nodes_under a rows)
@@ -461,10 +461,10 @@ module _ (table rows : List Row) (are : AreNodes table rows) where
   none_too : (a : List ℕ) → nodes_under a rows ≡ [] → rows_at a table ≡ []
   none_too a none = no_length (rows_at a table) (sym (length_permutation _ _ (moved a)) ∙ ap length none)
 
-  pub table_named : AreTold rows → AllByRecursion HasAddress table
-  table_named told = all_unmap HasOwner named table (all_moved HasOwner rows (map named table) (IsPermutation-sym _ _ are.same) told.owned)
+  pub table_named : AreDocumentRuns rows → AllByRecursion HasAddress table
+  table_named told = all_unmap HasOwner addressed_node table (all_moved HasOwner rows (map addressed_node table) (IsPermutation-sym _ _ are.same) told.owned)
 
-  pub table_whole : AreTold rows → (a : List ℕ) → (rows_at a table ≡ []) ⊎ IsWhole (rows_at a table)
+  pub table_whole : AreDocumentRuns rows → (a : List ℕ) → (rows_at a table ≡ []) ⊎ IsIntact (rows_at a table)
   table_whole told a = elim (told.whole a) [
     | inl none ↦ inl (none_too a none)
     | inr is ↦ inr (record { tree = is.0; is_document = is.1; same = subst (IsPermutation (rows_at a table)) is.2 (moved a) })
@@ -493,9 +493,9 @@ module _ (table rows : List Row) (are : AreNodes table rows) where
       let up = ascending-filter (λ x y. is_gt (by_place x y) ≡ false) (is_under a) rows (rises_from by_place place_total rows are.sorted) in
       sorted_from by_first first_total _ (run_rises a (filter (is_under a) rows) (all_passed (is_under a) rows) up)
 
-  pub told_of : AllByRecursion HasAddress table → ((a : List ℕ) → (rows_at a table ≡ []) ⊎ IsWhole (rows_at a table)) → AreTold rows
+  pub told_of : AllByRecursion HasAddress table → ((a : List ℕ) → (rows_at a table ≡ []) ⊎ IsIntact (rows_at a table)) → AreDocumentRuns rows
   told_of named_all whole = record {
-    owned = all_moved HasOwner (map named table) rows are.same (all_map HasOwner named table named_all);
+    owned = all_moved HasOwner (map addressed_node table) rows are.same (all_map HasOwner addressed_node table named_all);
     whole = λ a. elim (whole a) [
       | inl none ↦ inl (no_length (nodes_under a rows) (length_permutation _ _ (moved a) ∙ ap length none))
       | inr it ↦ inr (
@@ -506,7 +506,7 @@ module _ (table rows : List Row) (are : AreNodes table rows) where
     ];
   }
 
-pub documents_seen : (old mid new : Database) (rows : List Row) → SeesRowids old mid → ReadsNodes mid new rows → (IsSorted by_place rows → AreTold rows) → SeesDocuments old new
+pub documents_seen : (old mid new : Database) (rows : List Row) → SeesRowids old mid → ReadsNodes mid new rows → (IsSorted by_place rows → AreDocumentRuns rows) → SeesDocuments old new
 documents_seen old mid new rows ids nodes told = record {
   alone = ids.alone;
   same = λ has. nodes.same (schema has) ∙ ids.same has;
@@ -522,7 +522,7 @@ documents_seen old mid new rows ids nodes told = record {
     schema : IsStoreSchema old.schema → IsStoreSchema mid.schema
     schema has = subst (λ (d : Database). IsStoreSchema d.schema) (sym (ids.same has)) has
 
-pub no_documents_seen : (old mid new : Database) (rows : List Row) → SeesRowids old mid → ReadsNodes mid new rows → (IsSorted by_place rows → ¬ AreTold rows) → ¬ IsStore old
+pub no_documents_seen : (old mid new : Database) (rows : List Row) → SeesRowids old mid → ReadsNodes mid new rows → (IsSorted by_place rows → ¬ AreDocumentRuns rows) → ¬ IsStore old
 no_documents_seen old mid new rows ids nodes untold store =
     let same = ids.same store.schema in
     let has : IsStoreSchema mid.schema = subst (λ (d : Database). IsStoreSchema d.schema) (sym same) store.schema in

@@ -12,8 +12,8 @@ use Rattle.xq_regions.specs.Rows.{row_of, placed, placed_rows, AreNumbered, Enco
 use Rattle.xq_regions.specs.declared.NodeRow.{NodeRow}
 use Rattle.xq_regions.specs.declared.Kind.TheVariants.{Document}
 use Rattle.xq_rows.specs.Nodes.{cells}
-use Rattle.xq_rows.specs.Documents.{Map, IsReady, IsClean, IsOpen, StandsFor, documents_in, is_at, IsStore, IsEmptyStore}
-use Rattle.xq_rows.specs.private.Statements.{AreAbove, AreAddresses, Deletes, Finds, IsRange, Puts}
+use Rattle.xq_rows.specs.Documents.{Map, IsReady, IsClean, IsOpen, StandsFor, documents_in, is_at, IsStore}
+use Rattle.xq_rows.specs.private.Statements.{IsEmptyStore, AreAbove, AreAddresses, Deletes, Finds, IsRange, Puts}
 use Rattle.xq_rows.specs.Tables.{node_rows, IsStoreSchema}
 use Rattle.sqlite_value.specs.declared.value.Value.TheVariants.{Text}
 use Rattle.xq_rows.proofs.Loads.{most, found_is}

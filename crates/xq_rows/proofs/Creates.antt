@@ -15,8 +15,8 @@ use Rattle.sqlite.specs.Effect.{Database}
 use Rattle.sqlite.specs.State.{State, Writes, Executes, ExecutesIn, ExecutesInside, Shows, IsUnchanged, IsRolledBack, KeepsCommit, mode_of}
 use Rattle.sqlite.specs.declared.error.Error.{Error}
 use Rattle.std.specs.List.{AllByRecursion}
-use Rattle.xq_rows.specs.Documents.{AreApart, HasAddress, HaveInts, IsEmptyStore, IsStore, rows_at}
-use Rattle.xq_rows.specs.private.Statements.{MakesLayout, MakesNode, MakesBoth, WritesEdition}
+use Rattle.xq_rows.specs.Documents.{AreApart, HasAddress, HaveInts, IsStore, rows_at}
+use Rattle.xq_rows.specs.private.Statements.{IsEmptyStore, MakesLayout, MakesNode, MakesBoth, WritesEdition}
 use Rattle.sqlite.proofs.Callers.{statement_of, runs_as, one_step}
 use Rattle.xq_rows.specs.Tables.{no_schema, layout_table, layout_schema, node_table, node_schema, turned_schema, store_schema, layout_rows, node_rows}
 use Rattle.xq_rows.proofs.Places.{layout_first, nodes_lie, layout_lies, layout_alone}

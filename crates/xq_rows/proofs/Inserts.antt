@@ -1,9 +1,9 @@
 -- What INSERT does to the table `node`.
-use Rattle.std.proofs.Common.{◌≡◌, ◌&&◌, ℕ, ℤ, pos, None, Ok, Err, Result, List, [], ◌∷◌, map, filter, Bool, true, false, not, cond, refl, sym, ap, subst, ◌∙◌}
+use Rattle.std.proofs.Common.{◌≡◌, ◌&&◌, ℕ, ℤ, pos, None, Ok, Err, Result, List, [], ◌∷◌, map, filter, Bool, true, false, not, cond, refl, sym, ap, subst, ◌∙◌, ◌++◌, ◌||◌, ◌≢◌, Ordering, Less, Equal, Greater, subst₂, append-nil, append_assoc, OnOk, IsTrue}
 use Rattle.sqlite_value.specs.Order.{Row, value_cmp}
 use Rattle.sqlite_value.specs.declared.value.Value.{Value}
 use Rattle.sqlite_value.specs.declared.value.Value.TheVariants.{Null, Int, Text}
-use Rattle.sqlite_trees.specs.Tree.{Trees, put_row}
+use Rattle.sqlite_trees.specs.Tree.{Trees, put_row, rowid}
 use Rattle.sqlite_sql.specs.Ops.{unary}
 use Rattle.sqlite.specs.Kind.TheVariants as kind
 use Rattle.sqlite.specs.Cast.{cast}
@@ -15,33 +15,29 @@ use Rattle.sqlite.specs.Does.{Tally, Does, OnRows}
 use Rattle.sqlite.specs.Rows.{Written}
 use Rattle.sqlite.specs.Listing.{understood}
 use Rattle.sqlite.specs.Effect.{Database}
-use Rattle.sqlite.specs.State.{State, mode_of, Executes}
+use Rattle.sqlite.specs.State.{State, mode_of, Executes, ExecutesInside, KeepsCommit}
 use Rattle.sqlite.proofs.Callers.{statement_of, runs_as, one_step}
 use Rattle.xq_rows.specs.Tables.{IsStoreSchema, layout_rows, node_rows}
 use Rattle.xq_rows.proofs.Places.{First, schema_of, layout_tree, node_tree, node_place, node_table_of, which, nodes_lie, layout_lies, no_works, layout_stays, on_node}
 use Rattle.xq_regions.specs.Rows.{Row as Node}
-use Rattle.xq_rows.specs.Nodes.{cells, number_of}
+use Rattle.xq_rows.specs.Nodes.{cells}
+use Rattle.xq_regions.specs.Codes.{kind_number}
 use Rattle.xq_rows.proofs.Texts.{insert_text, insert_terms, insert_is, insert_plain}
 use Rattle.xq_rows.proofs.Deletes.{went, same_value}
-use Rattle.std.proofs.Common.{◌++◌, ◌||◌, ◌≢◌, Ordering, Less, Equal, Greater}
 use Rattle.std.specs.Ordering.{is_eq, match_ordering, ordering_reverse}
 use Rattle.std.specs.List.Sorted.{IsPermutation}
-use Rattle.std.proofs.lemmas.List.Sorted.{IsPermutation-refl, IsPermutation-cons, IsPermutation-to_front, IsPermutation-map}
+use Rattle.std.proofs.lemmas.List.Sorted.{IsPermutation-refl, IsPermutation-cons, IsPermutation-to_front, IsPermutation-map, IsPermutation-trans, IsPermutation-append_left}
 use Rattle.std.proofs.lemmas.Cmp.{tied_itself}
 use Rattle.sqlite_value.proofs.OrderLemmas.{value_cmp_total, value_cmp-Text}
-use Rattle.sqlite_trees.specs.Tree.{rowid}
-use Rattle.std.proofs.Common.{subst₂, append-nil, append_assoc, OnOk, IsTrue}
-use Rattle.std.proofs.lemmas.List.Sorted.{IsPermutation-trans, IsPermutation-append_left}
 use Rattle.std.proofs.lemmas.List.{map-append}
 use Rattle.std.proofs.lemmas.List.Elements.{filter-append}
 use Rattle.std.proofs.lemmas.Map.Lookups.{exact_bytes}
 use Rattle.sqlite_trees.specs.View.{is_int}
 use Rattle.sqlite_trees.proofs.ListLemmas.{IsPermutation-filter}
 use Rattle.sqlite_trees.proofs.TreeLemmas.{all-put_row}
-use Rattle.sqlite.specs.State.{ExecutesInside, KeepsCommit}
 use Rattle.sqlite.specs.declared.error.Error.{Error}
 use Rattle.std.specs.List.{AllByRecursion}
-use Rattle.xq_rows.specs.Documents.{is_at, kept, rows_at, AreApart, HasAddress, HaveInts}
+use Rattle.xq_rows.specs.Documents.{is_at, node_columns, rows_at, AreApart, HasAddress, HaveInts}
 use Rattle.xq_rows.specs.private.Statements.{HasAdded, Adds}
 
 either : (b : Bool) (x : Value) → cond b x x ≡ x
@@ -68,7 +64,7 @@ pub record IsInserted (address : List ℕ) (n : ℕ × Node) (old new : Database
 
 news_are : (first : First) (address : List ℕ) (n : ℕ × Node) (db : Trees)
     → (edit_of db (node_table_of first) [] Chosen 0 ((Null ∷ Text address ∷ cells n) ∷ [])).news ≡ new_row address n (db (node_tree first)) ∷ []
-news_are first address n db = rw (cast_null, cast_int (pos n.0), cast_int (pos n.1.size), cast_int (pos n.1.level), cast_int (pos (number_of n.1.label.kind))) refl
+news_are first address n db = rw (cast_null, cast_int (pos n.0), cast_int (pos n.1.size), cast_int (pos n.1.level), cast_int (pos (kind_number n.1.label.kind))) refl
 
 one_fresh : (rows : List Row) (row : Row) → are_fresh rows (row ∷ []) ≡ true → is_taken rows row ≡ false
 one_fresh rows row h = go (is_taken rows row) h
@@ -188,10 +184,10 @@ adds_one address n old new it =
     let rows = node_rows old in
     let row = new_row address n rows in
     let mine : is_at address row ≡ true = own_address address in
-    let whole = IsPermutation-map kept _ _ (IsPermutation-filter (is_at address) _ _ (put_permutes row rows it.fresh)) in
+    let whole = IsPermutation-map node_columns _ _ (IsPermutation-filter (is_at address) _ _ (put_permutes row rows it.fresh)) in
     let last : filter (is_at address) (row ∷ []) ≡ row ∷ [] = rw mine refl in
-    let front : map kept (filter (is_at address) (rows ++ row ∷ [])) ≡ rows_at address rows ++ cells n ∷ [] =
-    ap (map kept) (filter-append (is_at address) rows (row ∷ []) ∙ ap (λ l. filter (is_at address) rows ++ l) last) ∙ map-append kept (filter (is_at address) rows) (row ∷ []) in
+    let front : map node_columns (filter (is_at address) (rows ++ row ∷ [])) ≡ rows_at address rows ++ cells n ∷ [] =
+    ap (map node_columns) (filter-append (is_at address) rows (row ∷ []) ∙ ap (λ l. filter (is_at address) rows ++ l) last) ∙ map-append node_columns (filter (is_at address) rows) (row ∷ []) in
     let nodes = it.nodes in record {
       schema = it.schema;
       layout = it.layout;
@@ -199,7 +195,7 @@ adds_one address n old new it =
       ints = λ ints. subst HaveInts (sym nodes) (all-put_row (λ r. IsTrue (is_int (rowid r))) row rows refl ints);
       named = λ good all. subst (AllByRecursion HasAddress) (sym nodes) (all-put_row HasAddress row rows (address, good, refl) all);
       own = subst₂ IsPermutation front (ap (rows_at address) (sym nodes)) whole;
-      others = λ b apart. ap (rows_at b) nodes ∙ ap (map kept) (put_passed (is_at b) row rows (other_address address b apart) it.fresh);
+      others = λ b apart. ap (rows_at b) nodes ∙ ap (map node_columns) (put_passed (is_at b) row rows (other_address address b apart) it.fresh);
     }
 
 pub adds_none : (address : List ℕ) (db : Database) → HasAdded address [] db db

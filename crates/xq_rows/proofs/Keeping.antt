@@ -7,7 +7,7 @@ use Rattle.sqlite.specs.Held.{Held, state}
 use Rattle.sqlite.specs.State.{HasCleanDisk}
 use Rattle.xq_regions.specs.Tree.{Tree}
 use Rattle.xq_rows.specs.declared.fronts.Shelf.{Shelf}
-use Rattle.xq_rows.specs.Documents.{IsReady, IsClean, IsOpen, IsUp, IsStore, Holds, Map, StandsFor, documents_in}
+use Rattle.xq_rows.specs.Documents.{IsReady, IsClean, IsOpen, IsUp, IsStore, HoldsDocuments, Map, StandsFor, documents_in}
 use Rattle.xq_rows.specs.Tables.{node_rows, IsStoreSchema}
 use Rattle.xq_rows.specs.Views.{Beginning, HeldDocuments, StoodFor, Viewed, beginning, trees_under}
 use Rattle.xq_rows.specs.private.Keeps.{AreOf, IsKept, Keeps, LeavesAlone}
@@ -71,8 +71,8 @@ module _ {S : Type 0} (g : Ghosts S) where
   -- # What is taken
 
   -- the store stands for the documents that its tables hold
-  pub held_stands : (store : Held S) → Holds g store → StandsFor g store (documents_in (node_rows (state g store).now))
-  unfolding Holds StandsFor
+  pub held_stands : (store : Held S) → HoldsDocuments g store → StandsFor g store (documents_in (node_rows (state g store).now))
+  unfolding HoldsDocuments StandsFor
   held_stands store holds opened = (holds, refl)
 
   module _ (conn old new : Held S) (is : conn ≡ old) (clean : doubt (state g conn).is_clean ≤ doubt (state g new).is_clean) (opens : IsReady (state g new) → IsTrue (state g conn).is_open) (shelf : Shelf)
@@ -80,8 +80,8 @@ module _ {S : Type 0} (g : Ghosts S) where
     early : IsReady (state g new) → IsReady (state g conn)
     early ready = let was : HasCleanDisk (state g conn) = omega (arith, clean, ready.0) in (was, opens ready)
 
-    pub taken : (HasCleanDisk (state g new) → IsTrue (state g new).is_open) → IsClean g new → Holds g old → AreOf (state g old).now (map string_bytes shelf.addresses.items) shelf.fronts.items
-    unfolding IsClean Holds
+    pub taken : (HasCleanDisk (state g new) → IsTrue (state g new).is_open) → IsClean g new → HoldsDocuments g old → AreOf (state g old).now (map string_bytes shelf.addresses.items) shelf.fronts.items
+    unfolding IsClean HoldsDocuments
     taken ends now holds = subst (λ (h : Held S). IsStore (state g h).now → AreOf (state g h).now (map string_bytes shelf.addresses.items) shelf.fronts.items) is (kept.holds (early (now, ends now))) holds
 
     pub taken_own : IsUp g new → IsStoreSchema (state g old).now.schema
@@ -91,16 +91,16 @@ module _ {S : Type 0} (g : Ghosts S) where
   -- # A view
 
   module _ (b : Beginning) (old new : Held S) (same : beginning g old ≡ b) (alone : LeavesAlone g old new) (answered : IsClean g new → IsOpen g new) (shelf : Shelf)
-      (of : IsClean g new → Holds g old → AreOf (state g old).now (map string_bytes shelf.addresses.items) shelf.fronts.items) where
+      (of : IsClean g new → HoldsDocuments g old → AreOf (state g old).now (map string_bytes shelf.addresses.items) shelf.fronts.items) where
     pub opened_before : IsClean g new → IsOpen g old
     opened_before clean = alone_open old new alone clean (answered clean)
 
     pub all_named : IsClean g new → (m : Map) → StandsFor g old m → map string_bytes shelf.addresses.items ≡ keys m
-    unfolding StandsFor IsOpen Holds
+    unfolding StandsFor IsOpen HoldsDocuments
     all_named clean m stands = let held = stands (opened_before clean) in (of clean held.0).listed ∙ ap keys held.1
 
     pub own_rows : IsClean g new → HeldDocuments b → AreFronts (trees_under b (map string_bytes shelf.addresses.items)) shelf.fronts.items
-    unfolding HeldDocuments Holds beginning
+    unfolding HeldDocuments HoldsDocuments beginning
     own_rows clean held =
         let rows : IsStore (beginning g old).database → AreFronts (trees_under (beginning g old) (map string_bytes shelf.addresses.items)) shelf.fronts.items = λ is. (of clean is).rows in
         subst (λ b. IsStore b.database → AreFronts (trees_under b (map string_bytes shelf.addresses.items)) shelf.fronts.items) same rows held

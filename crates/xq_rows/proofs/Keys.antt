@@ -1,31 +1,28 @@
 -- The addresses that a SELECT gives are the keys of the map.
-use Rattle.std.proofs.Common.{◌≡◌, ◌⊎◌, ◌+◌, ◌<◌, ◌≤◌, ◌||◌, inl, inr, ℕ, zero, suc, pos, Bool, true, false, cond, List, [], ◌∷◌, map, filter, length, refl, sym, ap, subst, ◌∙◌, arith, Less, Some, None, T}
+use Rattle.std.proofs.Common.{◌≡◌, ◌⊎◌, ◌+◌, ◌<◌, ◌≤◌, ◌||◌, inl, inr, ℕ, zero, suc, pos, Bool, true, false, cond, List, [], ◌∷◌, map, filter, length, refl, sym, ap, subst, ◌∙◌, arith, Less, Some, None, T, ap₂}
 use Rattle.std.specs.Ordering.{is_eq, eq_by_cmp}
 use Rattle.std.specs.Prelude.{slice_get}
 use Rattle.std.specs.FinMap.{entries, find, get, get-entries, keys, values, from_entries, from_sorted, is_sorted, same_map, get-from_entries, get-from_sorted, entries-from_sorted}
 use Rattle.std.specs.FinMap.Entries.{below_all}
 use Rattle.std.specs.List.{AllByRecursion, list_any, enumerate_from}
 use Rattle.std.specs.List.Sorted.{IsPermutation}
-use Rattle.std.proofs.lemmas.List.Sorted.{length_permutation, list_any-IsPermutation}
+use Rattle.std.proofs.lemmas.List.Sorted.{length_permutation, list_any-IsPermutation, All-permutation}
 use Rattle.std.proofs.lemmas.Cmp.{tied_itself}
 use Rattle.std.proofs.lemmas.Int.{ints}
 use Rattle.sqlite_value.specs.Order.{Row, column, value_cmp}
 use Rattle.sqlite_value.specs.declared.value.Value.TheVariants.{Int, Text}
 use Rattle.sqlite_value.proofs.OrderLemmas.{value_cmp_total, value_cmp-Text, value_cmp-Int}
 use Rattle.sqlite_trees.specs.Tree.{IsAscending}
-use Rattle.sqlite_trees.proofs.ListLemmas.{map-map, IsPermutation-filter}
+use Rattle.sqlite_trees.proofs.ListLemmas.{map-map, IsPermutation-filter, all-map, all_of}
 use Rattle.sqlite_keyed.specs.Lists.{sort_by}
 use Rattle.sqlite_keyed.proofs.SortLemmas.{sorted_is-sort_by, sort_by-map, IsPermutation-sort_by}
 use Rattle.xq_regions.specs.Rows.{Row as Node, rows}
 use Rattle.xq_regions.specs.Tree.{Tree}
 use Rattle.xq_rows.specs.Nodes.{cells, bytes_in}
-use Rattle.xq_rows.specs.Documents.{is_at, is_first, kept, rows_at, by_first, tree_at, addresses_in, documents_in, HasAddress, IsWhole}
+use Rattle.xq_rows.specs.Documents.{is_at, is_first, node_columns, rows_at, by_first, tree_at, addresses_in, documents_in, HasAddress, IsIntact}
 use Rattle.xq_rows.specs.private.Statements.{IsPicked, AreAddresses}
 use Rattle.sqlite.specs.Effect.{Database}
-use Rattle.std.proofs.Common.{ap₂}
-use Rattle.std.proofs.lemmas.List.Sorted.{All-permutation}
 use Rattle.std.proofs.lemmas.List.Elements.{All-from_recursion, recursion_from_All}
-use Rattle.sqlite_trees.proofs.ListLemmas.{all-map, all_of}
 use Rattle.xq_rows.proofs.Maps.{order, order_total, order_exact, has_root, listed, find_by}
 use Rattle.xq_rows.proofs.Orders.{first_total, sort_rises}
 use Rattle.xq_rows.specs.Tables.{node_rows}
@@ -52,7 +49,7 @@ one_root (n ∷ ns) =
     let size : length (filter is_root (map cells (enumerate_from 0 (n ∷ ns)))) ≡ 1 = ap length all in
     omega (arith, size)
 
-whole_root : (rows : List Row) → (rows ≡ []) ⊎ IsWhole rows → length (filter is_root rows) ≤ 1
+whole_root : (rows : List Row) → (rows ≡ []) ⊎ IsIntact rows → length (filter is_root rows) ≤ 1
 whole_root given (inl none) = let size : length (filter is_root given) ≡ 0 = ap (λ l. length (filter is_root l)) none in omega (arith, size)
 whole_root given (inr it) =
     let size = length_permutation _ _ (IsPermutation-filter is_root _ _ it.same) in
@@ -81,10 +78,10 @@ IsOnce table = (a : List ℕ) → length (filter is_root (rows_at a table)) ≤ 
 fewer : (r : Row) (table : List Row) → IsOnce (r ∷ table) → IsOnce table
 fewer r table once a = go (is_at a r) (once a)
   where
-    go : (b : Bool) → length (filter is_root (map kept (cond b (r ∷ filter (is_at a) table) (filter (is_at a) table)))) ≤ 1 → length (filter is_root (rows_at a table)) ≤ 1
-    go true h = less (is_root (kept r)) h
+    go : (b : Bool) → length (filter is_root (map node_columns (cond b (r ∷ filter (is_at a) table) (filter (is_at a) table)))) ≤ 1 → length (filter is_root (rows_at a table)) ≤ 1
+    go true h = less (is_root (node_columns r)) h
       where
-        less : (c : Bool) → length (cond c (kept r ∷ filter is_root (rows_at a table)) (filter is_root (rows_at a table))) ≤ 1 → length (filter is_root (rows_at a table)) ≤ 1
+        less : (c : Bool) → length (cond c (node_columns r ∷ filter is_root (rows_at a table)) (filter is_root (rows_at a table))) ≤ 1 → length (filter is_root (rows_at a table)) ≤ 1
         less true h = omega (arith, h)
         less false h = h
     go false h = h
@@ -102,9 +99,9 @@ listed_once (r ∷ rs) named once = go (is_first r) refl (listed_once rs named.1
     go false e more = more
     go true e more =
         let a = bytes_in (column r 1) in
-        let all : rows_at a (r ∷ rs) ≡ kept r ∷ rows_at a rs = ap (λ b. map kept (cond b (r ∷ filter (is_at a) rs) (filter (is_at a) rs))) own in
-        let first : length (filter is_root (rows_at a (r ∷ rs))) ≡ length (filter is_root (kept r ∷ rows_at a rs)) = ap (λ l. length (filter is_root l)) all in
-        let one_more : length (filter is_root (kept r ∷ rows_at a rs)) ≡ suc (length (filter is_root (rows_at a rs))) = ap (λ b. length (cond b (kept r ∷ filter is_root (rows_at a rs)) (filter is_root (rows_at a rs)))) e in
+        let all : rows_at a (r ∷ rs) ≡ node_columns r ∷ rows_at a rs = ap (λ b. map node_columns (cond b (r ∷ filter (is_at a) rs) (filter (is_at a) rs))) own in
+        let first : length (filter is_root (rows_at a (r ∷ rs))) ≡ length (filter is_root (node_columns r ∷ rows_at a rs)) = ap (λ l. length (filter is_root l)) all in
+        let one_more : length (filter is_root (node_columns r ∷ rows_at a rs)) ≡ suc (length (filter is_root (rows_at a rs))) = ap (λ b. length (cond b (node_columns r ∷ filter is_root (rows_at a rs)) (filter is_root (rows_at a rs)))) e in
         let at_most = once a in
         let none : length (filter is_root (rows_at a rs)) ≡ 0 = omega (arith, first, one_more, at_most) in
         (none_passes (eq_by_cmp order a) (addresses_in rs) (listed a rs named.1 ∙ no_root (rows_at a rs) none), more)
@@ -140,7 +137,7 @@ keys_sorted : {X : Type 0} (f : List ℕ → X) (list : List (List ℕ)) → IsA
 keys_sorted {X} f list apart = ap (map (λ (e : List ℕ × X). e.0)) (entries_sorted f list apart) ∙ map-map _ _ _ ∙ unchanged (sort_by order list)
 
 -- the map has under each of its keys the tree at this address
-pub entries_are : (table : List Row) → AllByRecursion HasAddress table → ((a : List ℕ) → (rows_at a table ≡ []) ⊎ IsWhole (rows_at a table))
+pub entries_are : (table : List Row) → AllByRecursion HasAddress table → ((a : List ℕ) → (rows_at a table ≡ []) ⊎ IsIntact (rows_at a table))
     → entries (documents_in table) ≡ map (λ a. (a, tree_at table a)) (keys (documents_in table))
 unfolding documents_in
 entries_are table named whole =
@@ -148,7 +145,7 @@ entries_are table named whole =
     let own : List ℕ → List ℕ × Tree = λ a. (a, tree_at table a) in
     entries_sorted (tree_at table) (addresses_in table) apart ∙ ap (map own) (sym (keys_sorted (tree_at table) (addresses_in table) apart))
 
-pub values_are : (table : List Row) → AllByRecursion HasAddress table → ((a : List ℕ) → (rows_at a table ≡ []) ⊎ IsWhole (rows_at a table))
+pub values_are : (table : List Row) → AllByRecursion HasAddress table → ((a : List ℕ) → (rows_at a table ≡ []) ⊎ IsIntact (rows_at a table))
     → values (documents_in table) ≡ map (tree_at table) (keys (documents_in table))
 values_are table named whole = ap (map (λ (e : List ℕ × Tree). e.1)) (entries_are table named whole) ∙ map-map _ _ _
 
@@ -161,7 +158,7 @@ listed_at (k ∷ list) (suc i) a e = ap (λ b. eq_by_cmp order a k || b) (listed
     always true = refl
     always false = refl
 
-pub get_at : (table : List Row) → AllByRecursion HasAddress table → ((a : List ℕ) → (rows_at a table ≡ []) ⊎ IsWhole (rows_at a table)) → (i : ℕ) (a : List ℕ)
+pub get_at : (table : List Row) → AllByRecursion HasAddress table → ((a : List ℕ) → (rows_at a table ≡ []) ⊎ IsIntact (rows_at a table)) → (i : ℕ) (a : List ℕ)
     → slice_get (keys (documents_in table)) i ≡ Some a → get (documents_in table) a ≡ Some (tree_at table a)
 get_at table named whole i a e =
     get-entries (documents_in table) a ∙ ap (find order a) (entries_are table named whole) ∙ find_by (tree_at table) a (keys (documents_in table))
@@ -197,7 +194,7 @@ bytes_back [] = refl
 bytes_back (a ∷ more) = ap (λ l. a ∷ l) (bytes_back more)
 
 -- the addresses in their order are the keys of the map
-pub keys_are : (table : List Row) (list : List (List ℕ)) → AllByRecursion HasAddress table → ((a : List ℕ) → (rows_at a table ≡ []) ⊎ IsWhole (rows_at a table))
+pub keys_are : (table : List Row) (list : List (List ℕ)) → AllByRecursion HasAddress table → ((a : List ℕ) → (rows_at a table ≡ []) ⊎ IsIntact (rows_at a table))
     → IsPicked is_first (λ r. column r 1 ∷ []) table (map alone list) → list ≡ keys (documents_in table)
 unfolding documents_in
 keys_are table list named whole picked =

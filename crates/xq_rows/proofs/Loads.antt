@@ -17,10 +17,12 @@ use Rattle.sqlite.specs.Effect.{Database}
 use Rattle.xq_regions.specs.Forest.{Forest, end, node, count, labels}
 use Rattle.xq_regions.specs.Tree.{Tree, nodes}
 use Rattle.xq_regions.specs.Rows.{Row as Node, rows, measured, row_of, placed, placed_rows}
-use Rattle.xq_regions.specs.Nesting.{count-measured, rows-injective}
+use Rattle.xq_regions.specs.Nesting.{count-measured}
+use Rattle.xq_regions.proofs.Injective.{rows-injective}
 use Rattle.xq_regions.specs.declared.NodeRow.{NodeRow}
-use Rattle.xq_rows.specs.Nodes.{cells, node_in, node_of}
-use Rattle.xq_rows.specs.Documents.{is_at, kept, rows_at, by_first, documents_in, IsWhole, IsStore}
+use Rattle.xq_rows.specs.Nodes.{cells, node_in}
+use Rattle.xq_rows.specs.private.Columns.{node_of}
+use Rattle.xq_rows.specs.Documents.{is_at, node_columns, rows_at, by_first, documents_in, IsIntact, IsStore}
 use Rattle.xq_rows.specs.private.Statements.{is_above, is_within, AreAbove, Finds, IsPicked, IsRange}
 use Rattle.xq_rows.proofs.Maps.{get-whole, get-none, node_back, nodes_back}
 use Rattle.xq_rows.proofs.Orders.{first_total, numbers_rise}
@@ -48,7 +50,7 @@ pub length-labels : {A : Type 0} (f : Forest A) → length (labels f) ≡ count 
 length-labels end = refl
 length-labels (node a below beside) = ap suc (length-append (labels below) (labels beside) ∙ (let e = length-labels below in let g = length-labels beside in omega arith))
 
-whole_numbers : (given : List Row) → (given ≡ []) ⊎ IsWhole given → AllByRecursion (λ r. is_number r ≡ true) given
+whole_numbers : (given : List Row) → (given ≡ []) ⊎ IsIntact given → AllByRecursion (λ r. is_number r ≡ true) given
 whole_numbers given (inl none) = subst (AllByRecursion (λ r. is_number r ≡ true)) (sym none) tt
 whole_numbers given (inr it) =
     let size : length (rows it.tree) ≡ count (nodes it.tree) = length-labels (measured 0 (nodes it.tree)) ∙ count-measured 0 (nodes it.tree) in
@@ -58,7 +60,7 @@ whole_numbers given (inr it) =
     let back : IsPermutation (map cells (placed_rows it.tree)) given = IsPermutation-sym given (map cells (placed_rows it.tree)) it.same in
     recursion_from_All P given (All-permutation P (map cells (placed_rows it.tree)) given back (All-from_recursion P (map cells (placed_rows it.tree)) all))
 
-own_numbers : (list : List Row) → AllByRecursion (λ r. is_number r ≡ true) (map kept list) → AllByRecursion (λ r. is_within 0 most r ≡ true) list
+own_numbers : (list : List Row) → AllByRecursion (λ r. is_number r ≡ true) (map node_columns list) → AllByRecursion (λ r. is_within 0 most r ≡ true) list
 own_numbers [] all = tt
 own_numbers (r ∷ rs) all = (all.0, own_numbers rs all.1)
 
@@ -74,8 +76,8 @@ both_tests p q (r ∷ rs) all = go (p r) all (both_tests p q rs)
 -- # What the SELECT gives
 
 -- the rows of a document are all within the bounds
-all_picked : (table : List Row) (a : List ℕ) → (rows_at a table ≡ []) ⊎ IsWhole (rows_at a table) → map kept (filter (λ r. is_at a r && is_within 0 most r) table) ≡ rows_at a table
-all_picked table a whole = ap (map kept) (both_tests (is_at a) (is_within 0 most) table (own_numbers (filter (is_at a) table) (whole_numbers (rows_at a table) whole)))
+all_picked : (table : List Row) (a : List ℕ) → (rows_at a table ≡ []) ⊎ IsIntact (rows_at a table) → map node_columns (filter (λ r. is_at a r && is_within 0 most r) table) ≡ rows_at a table
+all_picked table a whole = ap (map node_columns) (both_tests (is_at a) (is_within 0 most) table (own_numbers (filter (is_at a) table) (whole_numbers (rows_at a table) whole)))
 
 no_cells : (list : List NodeRow) → length (map cells (map placed list)) ≡ 0 → list ≡ []
 no_cells [] h = refl
@@ -89,18 +91,18 @@ pub found_is : (db : Database) (a : List ℕ) (list : List NodeRow) (found : Opt
     → found ≡ get (documents_in (node_rows db)) a
 found_is db a list found store range finds = go (store.whole a) found finds
   where
-    picked : IsPicked (λ r. is_at a r && is_within 0 most r) kept (node_rows db) (map cells (map placed list))
+    picked : IsPicked (λ r. is_at a r && is_within 0 most r) node_columns (node_rows db) (map cells (map placed list))
     picked = range store.schema
 
     same : IsPermutation (rows_at a (node_rows db)) (map cells (map placed list))
     same = subst (λ l. IsPermutation l (map cells (map placed list))) (all_picked (node_rows db) a (store.whole a)) picked.same
 
-    here : (it : IsWhole (rows_at a (node_rows db))) → map row_of list ≡ rows it.tree
+    here : (it : IsIntact (rows_at a (node_rows db))) → map row_of list ≡ rows it.tree
     here it =
         let ordered = sorted_unique by_first first_total (map cells (placed_rows it.tree)) (map cells (map placed list)) (numbers_rise 0 (rows it.tree)) (IsPermutation-trans _ _ _ (IsPermutation-sym _ _ it.same) same) picked.sorted in
         sym (read_back list) ∙ ap (map node_in) ordered ∙ nodes_back 0 (rows it.tree)
 
-    go : (rows_at a (node_rows db) ≡ []) ⊎ IsWhole (rows_at a (node_rows db)) → (found : Option Tree) → Finds list found → found ≡ get (documents_in (node_rows db)) a
+    go : (rows_at a (node_rows db) ≡ []) ⊎ IsIntact (rows_at a (node_rows db)) → (found : Option Tree) → Finds list found → found ≡ get (documents_in (node_rows db)) a
     go (inl none) None finds = sym (get-none (node_rows db) a store.named none)
     go (inl none) (Some t) finds =
         let size : length (map cells (map placed list)) ≡ 0 = length_permutation _ _ same ∙ ap length none in
@@ -110,10 +112,10 @@ found_is db a list found store range finds = go (store.whole a) found finds
 
 -- # The columns of each row
 
-all_six : (rows given : List Row) → IsPermutation (map kept rows) given → map node_of given ≡ given
+all_six : (rows given : List Row) → IsPermutation (map node_columns rows) given → map node_of given ≡ given
 all_six table given same =
     let P : Row → Type 0 = λ r. node_of r ≡ r in
-    go given (recursion_from_All P given (All-permutation P (map kept table) given same (All-from_recursion P (map kept table) (all-map P kept table (all_of (λ r. node_of (kept r) ≡ kept r) (λ r. refl) table)))))
+    go given (recursion_from_All P given (All-permutation P (map node_columns table) given same (All-from_recursion P (map node_columns table) (all-map P node_columns table (all_of (λ r. node_of (node_columns r) ≡ node_columns r) (λ r. refl) table)))))
   where
     go : (list : List Row) → AllByRecursion (λ r. node_of r ≡ r) list → map node_of list ≡ list
     go [] all = refl
@@ -125,14 +127,14 @@ pub read_range_is : (db : Database) (a : List ℕ) (low high : ℕ) (given : Lis
 read_range_is db a low high given list range read schema =
     let it = range schema in
     let same = read ∙ all_six (filter (λ r. is_at a r && is_within low high r) (node_rows db)) given it.same in
-    subst (IsPicked (λ r. is_at a r && is_within low high r) kept (node_rows db)) (sym same) it
+    subst (IsPicked (λ r. is_at a r && is_within low high r) node_columns (node_rows db)) (sym same) it
 
 pub above_read_is : (db : Database) (a : List ℕ) (v : ℕ) (given : List Row) (list : List NodeRow) → AreAbove a v db given
     → map cells (map placed list) ≡ map node_of given → AreAbove a v db (map cells (map placed list))
 above_read_is db a v given list shown read store =
     let it = shown store in
     let same = read ∙ all_six (filter (λ r. is_at a r && is_above v r) (node_rows db)) given it.same in
-    subst (IsPicked (λ r. is_at a r && is_above v r) kept (node_rows db)) (sym same) it
+    subst (IsPicked (λ r. is_at a r && is_above v r) node_columns (node_rows db)) (sym same) it
 
 pub above_read : {X E : Type 0} (db : Database) (a : List ℕ) (v : ℕ) (given : List Row) (list : X → List NodeRow) (r : Result X E) → AreAbove a v db given
     → IfOk r (λ nodes. map cells (map placed (list nodes)) ≡ map node_of given) → IfOk r (λ nodes. AreAbove a v db (map cells (map placed (list nodes))))

@@ -23,8 +23,9 @@ use Rattle.xq_regions.specs.Rows.{Row as Node, rows, placed_rows, tree_of}
 use Rattle.xq_regions.specs.Nesting.{tree_of-rows}
 use Rattle.xq_regions.specs.declared.Kind.{Kind}
 use Rattle.xq_regions.specs.declared.Kind.TheVariants.{Document, Element, Attribute, Text as TextNode, Comment, ProcessingInstruction}
-use Rattle.xq_rows.specs.Nodes.{cells, node_in, bytes_in, number_of, kind_from}
-use Rattle.xq_rows.specs.Documents.{is_at, is_first, kept, rows_at, by_first, tree_at, addresses_in, documents_in, AreApart, HasAddress, HaveInts, IsWhole, IsStore}
+use Rattle.xq_rows.specs.Nodes.{cells, node_in, bytes_in}
+use Rattle.xq_regions.specs.Codes.{kind_number, kind_from}
+use Rattle.xq_rows.specs.Documents.{is_at, is_first, node_columns, rows_at, by_first, tree_at, addresses_in, documents_in, AreApart, HasAddress, HaveInts, IsIntact, IsStore}
 use Rattle.xq_rows.specs.private.Statements.{HasDropped, HasAdded}
 use Rattle.xq_rows.proofs.Inserts.{own_address}
 use Rattle.xq_rows.proofs.Lists.{tied}
@@ -68,10 +69,10 @@ same_address a b = go (is_eq (value_cmp (Text a) (Text b))) refl
 -- # The rows of an address
 
 pub rows_gone : (a : List ℕ) (old new : Database) → HasDropped (is_at a) old new → rows_at a (node_rows new) ≡ []
-rows_gone a old new h = ap (rows_at a) h.nodes ∙ ap (map kept) (none_left (is_at a) (node_rows old))
+rows_gone a old new h = ap (rows_at a) h.nodes ∙ ap (map node_columns) (none_left (is_at a) (node_rows old))
 
 pub rows_stay : (a b : List ℕ) (old new : Database) → b ≢ a → HasDropped (is_at a) old new → rows_at b (node_rows new) ≡ rows_at b (node_rows old)
-rows_stay a b old new apart h = ap (rows_at b) h.nodes ∙ ap (map kept) (filter-filter (is_at b) (λ r. not (is_at a r)) (λ r here. apart_rows a b r apart here) (node_rows old))
+rows_stay a b old new apart h = ap (rows_at b) h.nodes ∙ ap (map node_columns) (filter-filter (is_at b) (λ r. not (is_at a r)) (λ r here. apart_rows a b r apart here) (node_rows old))
 
 pub store_drops : (a : List ℕ) (old new : Database) → HasDropped (is_at a) old new → IsStore old → IsStore new
 store_drops a old new h was = record {
@@ -82,7 +83,7 @@ store_drops a old new h was = record {
   named = subst (AllByRecursion HasAddress) (sym h.nodes) (all-filter _ (λ r. not (is_at a r)) (node_rows old) was.named);
   whole = λ b. elim (same_address a b) [
     | inl e ↦ inl (ap (λ x. rows_at x (node_rows new)) e ∙ rows_gone a old new h)
-    | inr apart ↦ subst (λ rows. (rows ≡ []) ⊎ IsWhole rows) (sym (rows_stay a b old new apart h)) (was.whole b)
+    | inr apart ↦ subst (λ rows. (rows ≡ []) ⊎ IsIntact rows) (sym (rows_stay a b old new apart h)) (was.whole b)
   ];
 }
 
@@ -96,21 +97,21 @@ module _ (a : List ℕ) (good : IsAddress a) (t : Tree) (is : IsDocument t) (old
   pub store_puts : IsStore old → IsStore new
   store_puts was =
       let between = store_drops a old mid dropped was in
-      let own : IsWhole (rows_at a (node_rows new)) = record { tree = t; is_document = is; same = own_rows } in record {
+      let own : IsIntact (rows_at a (node_rows new)) = record { tree = t; is_document = is; same = own_rows } in record {
         schema = subst IsStoreSchema (sym added.schema) between.schema;
         layout = ap (map (λ r. column r 1)) added.layout ∙ between.layout;
         apart = added.apart between.apart;
         ints = added.ints between.ints;
         named = added.named good between.named;
         whole = λ b. elim (same_address a b) [
-          | inl e ↦ inr (subst (λ x. IsWhole (rows_at x (node_rows new))) (sym e) own)
-          | inr apart ↦ subst (λ rows. (rows ≡ []) ⊎ IsWhole rows) (sym (other_rows b apart)) (was.whole b)
+          | inl e ↦ inr (subst (λ x. IsIntact (rows_at x (node_rows new))) (sym e) own)
+          | inr apart ↦ subst (λ rows. (rows ≡ []) ⊎ IsIntact rows) (sym (other_rows b apart)) (was.whole b)
         ];
       }
 
 -- # The tree of an address
 
-same_kind : (k : Kind) → kind_from (number_of k) ≡ k
+same_kind : (k : Kind) → kind_from (kind_number k) ≡ k
 same_kind Document = refl
 same_kind Element = refl
 same_kind Attribute = refl
@@ -161,7 +162,7 @@ listed q (r ∷ rs) named = go (is_first r) (is_at q r) refl refl (listed q rs n
     matches = ap (λ v. is_eq (value_cmp v (Text q))) named.0.2 ∙ ap is_eq (value_cmp-Text named.0.0 q) ∙ (eq_by_cmp_equiv order_total).symm named.0.0 q ∙ ap (λ v. eq_by_cmp order q (bytes_in v)) (sym named.0.2)
 
     go : (f t : Bool) → is_first r ≡ f → is_at q r ≡ t → list_any (eq_by_cmp order q) (addresses_in rs) ≡ has_root (rows_at q rs)
-        → list_any (eq_by_cmp order q) (map (λ x. bytes_in (column x 1)) (cond f (r ∷ filter is_first rs) (filter is_first rs))) ≡ has_root (map kept (cond t (r ∷ filter (is_at q) rs) (filter (is_at q) rs)))
+        → list_any (eq_by_cmp order q) (map (λ x. bytes_in (column x 1)) (cond f (r ∷ filter is_first rs) (filter is_first rs))) ≡ has_root (map node_columns (cond t (r ∷ filter (is_at q) rs) (filter (is_at q) rs)))
     go true true e h more = ap (λ b. b || list_any (eq_by_cmp order q) (addresses_in rs)) (sym matches ∙ h) ∙ sym (ap (λ b. b || has_root (rows_at q rs)) e)
     go true false e h more = ap (λ b. b || list_any (eq_by_cmp order q) (addresses_in rs)) (sym matches ∙ h) ∙ more
     go false true e h more = more ∙ sym (ap (λ b. b || has_root (rows_at q rs)) e)
@@ -259,4 +260,4 @@ was_there a db count it e = elim (it.whole a) [
 ]
   where
     size : count ≡ length (rows_at a (node_rows db))
-    size = e ∙ sym (length-map (filter (is_at a) (node_rows db)) kept)
+    size = e ∙ sym (length-map (filter (is_at a) (node_rows db)) node_columns)

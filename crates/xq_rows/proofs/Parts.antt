@@ -22,7 +22,7 @@ use Rattle.xq_regions.specs.Forest.{count}
 use Rattle.xq_regions.specs.Rows.{Row as Node, rows as rows_of, row_of, measured, placed, placed_rows, AreNumbered, Encodes}
 use Rattle.xq_regions.specs.Nesting.{count-measured}
 use Rattle.xq_regions.specs.declared.NodeRow.{NodeRow}
-use Rattle.xq_rows.specs.Documents.{is_at, kept, rows_at, AreApart, HasAddress, HaveInts, IsStore}
+use Rattle.xq_rows.specs.Documents.{is_at, node_columns, rows_at, AreApart, HasAddress, HaveInts, IsStore}
 use Rattle.xq_rows.specs.Nodes.{cells}
 use Rattle.xq_rows.specs.private.Statements.{Deletes, HasDropped, HasAdded, Puts, is_part}
 use Rattle.sqlite_trees.specs.Tree.{with_tree}
@@ -99,32 +99,32 @@ outside j k (x ∷ xs) h = (ap (λ b. not (b && is_lt (value_cmp (column x 0) (I
 -- the rows of an address without a part of them
 rows_without : (a : List ℕ) (j k : ℕ) (table : List Row) → rows_at a (delete_where (is_part a j k) table) ≡ filter (λ x. not (is_between j k x)) (rows_at a table)
 rows_without a j k [] = refl
-rows_without a j k (r ∷ rs) = go (is_at a r) (is_between j k (kept r)) refl refl (rows_without a j k rs)
+rows_without a j k (r ∷ rs) = go (is_at a r) (is_between j k (node_columns r)) refl refl (rows_without a j k rs)
   where
-    go : (t b : Bool) → is_at a r ≡ t → is_between j k (kept r) ≡ b → rows_at a (delete_where (is_part a j k) rs) ≡ filter (λ x. not (is_between j k x)) (rows_at a rs)
-        → rows_at a (cond (not (t && b)) (r ∷ delete_where (is_part a j k) rs) (delete_where (is_part a j k) rs)) ≡ filter (λ x. not (is_between j k x)) (map kept (cond t (r ∷ filter (is_at a) rs) (filter (is_at a) rs)))
-    go true true e f h = h ∙ sym (ap (λ b. cond (not b) (kept r ∷ filter (λ x. not (is_between j k x)) (rows_at a rs)) (filter (λ x. not (is_between j k x)) (rows_at a rs))) f)
+    go : (t b : Bool) → is_at a r ≡ t → is_between j k (node_columns r) ≡ b → rows_at a (delete_where (is_part a j k) rs) ≡ filter (λ x. not (is_between j k x)) (rows_at a rs)
+        → rows_at a (cond (not (t && b)) (r ∷ delete_where (is_part a j k) rs) (delete_where (is_part a j k) rs)) ≡ filter (λ x. not (is_between j k x)) (map node_columns (cond t (r ∷ filter (is_at a) rs) (filter (is_at a) rs)))
+    go true true e f h = h ∙ sym (ap (λ b. cond (not b) (node_columns r ∷ filter (λ x. not (is_between j k x)) (rows_at a rs)) (filter (λ x. not (is_between j k x)) (rows_at a rs))) f)
     go true false e f h =
-        ap (λ t. map kept (cond t (r ∷ filter (is_at a) (delete_where (is_part a j k) rs)) (filter (is_at a) (delete_where (is_part a j k) rs)))) e ∙ ap (λ l. kept r ∷ l) h
-        ∙ sym (ap (λ b. cond (not b) (kept r ∷ filter (λ x. not (is_between j k x)) (rows_at a rs)) (filter (λ x. not (is_between j k x)) (rows_at a rs))) f)
-    go false b e f h = ap (λ t. map kept (cond t (r ∷ filter (is_at a) (delete_where (is_part a j k) rs)) (filter (is_at a) (delete_where (is_part a j k) rs)))) e ∙ h
+        ap (λ t. map node_columns (cond t (r ∷ filter (is_at a) (delete_where (is_part a j k) rs)) (filter (is_at a) (delete_where (is_part a j k) rs)))) e ∙ ap (λ l. node_columns r ∷ l) h
+        ∙ sym (ap (λ b. cond (not b) (node_columns r ∷ filter (λ x. not (is_between j k x)) (rows_at a rs)) (filter (λ x. not (is_between j k x)) (rows_at a rs))) f)
+    go false b e f h = ap (λ t. map node_columns (cond t (r ∷ filter (is_at a) (delete_where (is_part a j k) rs)) (filter (is_at a) (delete_where (is_part a j k) rs)))) e ∙ h
 
 -- and how many the part has
 part_length : (a : List ℕ) (j k : ℕ) (table : List Row) → length (filter (is_part a j k) table) ≡ length (filter (is_between j k) (rows_at a table))
 part_length a j k [] = refl
-part_length a j k (r ∷ rs) = go (is_at a r) (is_between j k (kept r)) refl (part_length a j k rs)
+part_length a j k (r ∷ rs) = go (is_at a r) (is_between j k (node_columns r)) refl (part_length a j k rs)
   where
-    go : (t b : Bool) → is_between j k (kept r) ≡ b → length (filter (is_part a j k) rs) ≡ length (filter (is_between j k) (rows_at a rs))
-        → length (cond (t && b) (r ∷ filter (is_part a j k) rs) (filter (is_part a j k) rs)) ≡ length (filter (is_between j k) (map kept (cond t (r ∷ filter (is_at a) rs) (filter (is_at a) rs))))
-    go true true f h = ap suc h ∙ sym (ap (λ b. length (cond b (kept r ∷ filter (is_between j k) (rows_at a rs)) (filter (is_between j k) (rows_at a rs)))) f)
-    go true false f h = h ∙ sym (ap (λ b. length (cond b (kept r ∷ filter (is_between j k) (rows_at a rs)) (filter (is_between j k) (rows_at a rs)))) f)
+    go : (t b : Bool) → is_between j k (node_columns r) ≡ b → length (filter (is_part a j k) rs) ≡ length (filter (is_between j k) (rows_at a rs))
+        → length (cond (t && b) (r ∷ filter (is_part a j k) rs) (filter (is_part a j k) rs)) ≡ length (filter (is_between j k) (map node_columns (cond t (r ∷ filter (is_at a) rs) (filter (is_at a) rs))))
+    go true true f h = ap suc h ∙ sym (ap (λ b. length (cond b (node_columns r ∷ filter (is_between j k) (rows_at a rs)) (filter (is_between j k) (rows_at a rs)))) f)
+    go true false f h = h ∙ sym (ap (λ b. length (cond b (node_columns r ∷ filter (is_between j k) (rows_at a rs)) (filter (is_between j k) (rows_at a rs)))) f)
     go false b f h = h
 
 -- other addresses have all of theirs
 rows_beside : (a b : List ℕ) (j k : ℕ) (table : List Row) → b ≢ a → rows_at b (delete_where (is_part a j k) table) ≡ rows_at b table
-rows_beside a b j k table apart = ap (map kept) (filter-filter (is_at b) (λ r. not (is_part a j k r)) (λ r here. passes r (is_at a r) (apart_rows a b r apart here)) table)
+rows_beside a b j k table apart = ap (map node_columns) (filter-filter (is_at b) (λ r. not (is_part a j k r)) (λ r here. passes r (is_at a r) (apart_rows a b r apart here)) table)
   where
-    passes : (r : Row) (t : Bool) → not t ≡ true → not (t && is_between j k (kept r)) ≡ true
+    passes : (r : Row) (t : Bool) → not t ≡ true → not (t && is_between j k (node_columns r)) ≡ true
     passes r true e = absurd cc
     passes r false e = refl
 
@@ -302,7 +302,7 @@ puts_all a k deleted added old new replaced h is done store = (
     dropped = nodes_dropped place.0 (is_at a) old place.1
 
     all : deleted ≡ length (filter (is_at a) (node_rows old))
-    all = (let g = done.gone in let n = ap length none in let m = length-map (filter (is_at a) (node_rows old)) kept in omega (arith, g, n, m))
+    all = (let g = done.gone in let n = ap length none in let m = length-map (filter (is_at a) (node_rows old)) node_columns in omega (arith, g, n, m))
 
 -- # What the statements come to
 

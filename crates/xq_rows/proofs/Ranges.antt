@@ -13,13 +13,12 @@ use Rattle.sqlite_value.specs.declared.value.Value.TheVariants.{Int, Text}
 use Rattle.sqlite_value.proofs.OrderLemmas.{value_cmp-Int}
 use Rattle.sqlite_trees.proofs.ListLemmas.{IsPermutation-filter, ascending-filter}
 use Rattle.sqlite_keyed.proofs.SortLemmas.{sorted_unique}
-use Rattle.sqlite_sql.specs.Term.{holds}
+use Rattle.sqlite_sql.specs.Term.{holds, col}
 use Rattle.sqlite_sql.specs.Ops.{binary, is_true}
 use Rattle.sqlite_sql.specs.declared.ops.BinaryOp.TheVariants.{Arith, Compare}
 use Rattle.sqlite_sql.specs.declared.ops.ArithOp.TheVariants.{Add}
 use Rattle.sqlite_sql.specs.declared.ops.CompareOp.TheVariants.{Lt, Ge}
 use Rattle.sqlite_value.specs.declared.keys.Collation.TheVariants.{Binary}
-use Rattle.sqlite_sql.specs.Term.{col}
 use Rattle.sqlite.specs.Effect.{Database}
 use Rattle.sqlite.specs.State.{State, Shown}
 use Rattle.sqlite.specs.declared.error.Error.{Error}
@@ -34,7 +33,7 @@ use Rattle.xq_regions.specs.Rows.{Row as Node, rows as rows_of, measured, placed
 use Rattle.xq_regions.specs.Nesting.{count-measured}
 use Rattle.xq_sources.specs.Sources.{is_between, encloses, rows_between, rows_enclosing}
 use Rattle.xq_rows.specs.Nodes.{cells, node_in, number_in}
-use Rattle.xq_rows.specs.Documents.{is_at, kept, rows_at, by_first, documents_in, IsWhole, IsStore}
+use Rattle.xq_rows.specs.Documents.{is_at, node_columns, rows_at, by_first, documents_in, IsIntact, IsStore}
 use Rattle.xq_rows.specs.private.Statements.{is_above, AreAbove, IsPicked, IsRange}
 use Rattle.xq_rows.proofs.Adopts.{all_joined}
 use Rattle.xq_rows.proofs.Loads.{length-labels}
@@ -44,13 +43,13 @@ use Rattle.xq_rows.proofs.Orders.{first_total, numbers_rise}
 -- # The rows that pass a test
 
 -- a test of what is kept of a row
-picks : (p Q : Row → Bool) (table : List Row) → map kept (filter (λ r. p r && Q (kept r)) table) ≡ filter Q (map kept (filter p table))
+picks : (p Q : Row → Bool) (table : List Row) → map node_columns (filter (λ r. p r && Q (node_columns r)) table) ≡ filter Q (map node_columns (filter p table))
 picks p Q [] = refl
-picks p Q (r ∷ rs) = go (p r) (Q (kept r)) refl (picks p Q rs)
+picks p Q (r ∷ rs) = go (p r) (Q (node_columns r)) refl (picks p Q rs)
   where
-    go : (b c : Bool) → Q (kept r) ≡ c → map kept (filter (λ r. p r && Q (kept r)) rs) ≡ filter Q (map kept (filter p rs))
-        → map kept (cond (b && c) (r ∷ filter (λ r. p r && Q (kept r)) rs) (filter (λ r. p r && Q (kept r)) rs)) ≡ filter Q (map kept (cond b (r ∷ filter p rs) (filter p rs)))
-    go true true e h = rw e (ap (λ l. kept r ∷ l) h)
+    go : (b c : Bool) → Q (node_columns r) ≡ c → map node_columns (filter (λ r. p r && Q (node_columns r)) rs) ≡ filter Q (map node_columns (filter p rs))
+        → map node_columns (cond (b && c) (r ∷ filter (λ r. p r && Q (node_columns r)) rs) (filter (λ r. p r && Q (node_columns r)) rs)) ≡ filter Q (map node_columns (cond b (r ∷ filter p rs) (filter p rs)))
+    go true true e h = rw e (ap (λ l. node_columns r ∷ l) h)
     go true false e h = rw e h
     go false c e h = h
 
@@ -72,7 +71,7 @@ places_back (p ∷ list) = ap₂ ◌∷◌ (ap (λ (n : Node). (p.0, n)) (node_b
 
 -- the nodes of one document that pass a test, in document order
 picked_are : (table : List Row) (a : List ℕ) (t : Tree) (Q : Row → Bool) (P : ℕ × Node → Bool) (list : List (ℕ × Node)) → IsPermutation (rows_at a table) (map cells (placed_rows t))
-    → ((p : ℕ × Node) → Q (cells p) ≡ P p) → IsPicked (λ r. is_at a r && Q (kept r)) kept table (map cells list) → list ≡ filter P (placed_rows t)
+    → ((p : ℕ × Node) → Q (cells p) ≡ P p) → IsPicked (λ r. is_at a r && Q (node_columns r)) node_columns table (map cells list) → list ≡ filter P (placed_rows t)
 picked_are table a t Q P list whole test picked =
     let some : IsPermutation (filter Q (rows_at a table)) (map cells list) = subst (λ l. IsPermutation l (map cells list)) (picks (is_at a) Q table) picked.same in
     let own : IsPermutation (filter Q (rows_at a table)) (filter Q (map cells (placed_rows t))) = IsPermutation-filter Q _ _ whole in
@@ -85,7 +84,7 @@ picked_are table a t Q P list whole test picked =
 own_whole : (db : Database) (a : List ℕ) (t : Tree) → IsStore db → get (documents_in (node_rows db)) a ≡ Some t → IsPermutation (rows_at a (node_rows db)) (map cells (placed_rows t)) × IsDocument t
 own_whole db a t store has = go (store.whole a)
   where
-    go : (rows_at a (node_rows db) ≡ []) ⊎ IsWhole (rows_at a (node_rows db)) → IsPermutation (rows_at a (node_rows db)) (map cells (placed_rows t)) × IsDocument t
+    go : (rows_at a (node_rows db) ≡ []) ⊎ IsIntact (rows_at a (node_rows db)) → IsPermutation (rows_at a (node_rows db)) (map cells (placed_rows t)) × IsDocument t
     go (inl none) = absurd (let e : None ≡ Some t = sym (get-none (node_rows db) a store.named none) ∙ has in cc)
     go (inr it) =
         let e : Some it.tree ≡ Some t = sym (get-whole (node_rows db) a it.tree store.named it.same) ∙ has in
@@ -146,7 +145,7 @@ all_small : (k : ℕ) (list : List Node) → AllByRecursion (λ (r : Node). r.si
 all_small k [] fit h = tt
 all_small k (n ∷ ns) fit h = ((k, n.size, refl, refl, omega (arith, fit.0, h)), all_small (k + 1) ns fit.1 (omega (arith, h)))
 
-small_rows : (given : List Row) → (given ≡ []) ⊎ IsWhole given → AllByRecursion IsSmall given
+small_rows : (given : List Row) → (given ≡ []) ⊎ IsIntact given → AllByRecursion IsSmall given
 small_rows given (inl none) = subst (AllByRecursion IsSmall) (sym none) tt
 small_rows given (inr it) =
     let size : length (rows_of it.tree) ≡ count (nodes it.tree) = length-labels (measured 0 (nodes it.tree)) ∙ count-measured 0 (nodes it.tree) in
@@ -170,7 +169,7 @@ tested a v r = list_all (holds (given a v ∷ r ∷ [])) above_tests
 abbrev late : ℕ → Row → Bool
 late v r = is_true (binary (Compare Lt Binary) (column r 2) (Int (pos v))) && (is_true (binary (Compare Ge Binary) (binary (Arith Add) (column r 2) (column r 3)) (Int (pos v))) && true)
 
-late_is : (v : ℕ) (r : Row) → IsSmall (kept r) → late v r ≡ is_above v r
+late_is : (v : ℕ) (r : Row) → IsSmall (node_columns r) → late v r ≡ is_above v r
 late_is v r (m, n, first, second, small) =
     let number : is_true (binary (Compare Lt Binary) (column r 2) (Int (pos v))) ≡ nat_lt (number_in (column r 2)) v =
     ap (λ x. is_true (binary (Compare Lt Binary) x (Int (pos v)))) first ∙ below_int (Int (pos m)) (pos 0) (pos v) (least m 0 ∙ le-leb 0 m (omega arith)) ∙ less m v
@@ -183,12 +182,12 @@ late_is v r (m, n, first, second, small) =
 elsewhere : (a : List ℕ) (v : ℕ) (r : Row) → is_at a r ≡ false → tested a v r ≡ is_at a r && is_above v r
 elsewhere a v r other = ap (λ b. b && late v r) (equals_text (column r 1) a ∙ other) ∙ sym (ap (λ b. b && is_above v r) other)
 
-all_tested : (a : List ℕ) (v : ℕ) (table : List Row) → AllByRecursion IsSmall (map kept (filter (is_at a) table)) → AllByRecursion (λ r. tested a v r ≡ is_at a r && is_above v r) table
+all_tested : (a : List ℕ) (v : ℕ) (table : List Row) → AllByRecursion IsSmall (map node_columns (filter (is_at a) table)) → AllByRecursion (λ r. tested a v r ≡ is_at a r && is_above v r) table
 all_tested a v [] all = tt
 all_tested a v (r ∷ rs) all = go (is_at a r) refl all (all_tested a v rs)
   where
-    go : (b : Bool) → is_at a r ≡ b → AllByRecursion IsSmall (map kept (cond b (r ∷ filter (is_at a) rs) (filter (is_at a) rs)))
-        → (AllByRecursion IsSmall (map kept (filter (is_at a) rs)) → AllByRecursion (λ r. tested a v r ≡ is_at a r && is_above v r) rs) → AllByRecursion (λ r. tested a v r ≡ is_at a r && is_above v r) (r ∷ rs)
+    go : (b : Bool) → is_at a r ≡ b → AllByRecursion IsSmall (map node_columns (cond b (r ∷ filter (is_at a) rs) (filter (is_at a) rs)))
+        → (AllByRecursion IsSmall (map node_columns (filter (is_at a) rs)) → AllByRecursion (λ r. tested a v r ≡ is_at a r && is_above v r) rs) → AllByRecursion (λ r. tested a v r ≡ is_at a r && is_above v r) (r ∷ rs)
     go true here all more = (ap₂ ◌&&◌ (equals_text (column r 1) a) (late_is v r all.0), more all.1)
     go false other all more = (elsewhere a v r other, more all)
 
@@ -203,9 +202,9 @@ aboves old new a v rows h store =
     let it = reads_as above_text (given a v) old new (schema_of first) place.1 (above_command (node_tree first)) (above_means first).0 (above_plain first) (above_means first).1 rows h in
     let all = picked first above_tests 2 (col 1 3 ∷ col 1 4 ∷ col 1 5 ∷ col 1 6 ∷ col 1 7 ∷ []) old.now.trees (given a v) rows it.answer in
     let table = node_rows old.now in
-    let got = subst (λ t. IsPicked (tested a v) kept t rows) (sym (nodes_lie first old.now place.1)) all in
+    let got = subst (λ t. IsPicked (tested a v) node_columns t rows) (sym (nodes_lie first old.now place.1)) all in
     let tests = all_tested a v table (small_rows (rows_at a table) (store.whole a)) in
-    record { same = subst (λ l. IsPermutation (map kept l) rows) (same_tests (tested a v) (λ r. is_at a r && is_above v r) table tests) got.same; sorted = got.sorted }
+    record { same = subst (λ l. IsPermutation (map node_columns l) rows) (same_tests (tested a v) (λ r. is_at a r && is_above v r) table tests) got.same; sorted = got.sorted }
 
 pub all_aboves : {X : Type 0} (show : X → List Row) (old new : State) (a : List ℕ) (v : ℕ) (r : Result X Error) → IfOk r (λ x. Shown above_text (Text a ∷ Int (pos v) ∷ []) old new (show x))
     → IfOk r (λ x. AreAbove a v old.now (show x))

@@ -10,10 +10,12 @@ use Rattle.sqlite_keyed.proofs.ListLemmas.{all_unmap}
 use Rattle.xq_regions.specs.Forest.{Forest, end, node, count, labels, EachNode, IsWithinHeight}
 use Rattle.xq_regions.specs.Tree.{Label, Tree, IsDocument, IsText, nodes}
 use Rattle.xq_regions.specs.Rows.{Row as Node, rows as rows_of, measured, row_of, placed, placed_rows, AreNumbered, Encodes, IsEncoding}
-use Rattle.xq_regions.specs.Nesting.{count-measured, rows-injective}
+use Rattle.xq_regions.specs.Nesting.{count-measured}
+use Rattle.xq_regions.proofs.Injective.{rows-injective}
 use Rattle.xq_regions.specs.declared.NodeRow.{NodeRow}
 use Rattle.xq_regions.specs.declared.Kind.TheVariants.{Document}
-use Rattle.xq_rows.specs.Nodes.{cells, node_in, node_of, number_in, IsReadable}
+use Rattle.xq_rows.specs.Nodes.{cells, node_in, number_in}
+use Rattle.xq_rows.specs.private.Columns.{node_of, IsReadable}
 use Rattle.xq_rows.specs.private.Adopt.{IsRun}
 use Rattle.xq_rows.proofs.Adopts.{all_joined}
 use Rattle.xq_rows.proofs.Calls.{encoded}

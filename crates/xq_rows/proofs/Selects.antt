@@ -1,5 +1,5 @@
 -- What a SELECT over the table `node` gives.
-use Rattle.std.proofs.Common.{◌≡◌, ◌&&◌, ◌+◌, ◌<◌, zero, suc, get_or, length, All, arith, ℕ, List, [], ◌∷◌, map, filter, flat_map, cond, Bool, true, false, Some, ℤ, refl, sym, ap, subst, subst₂, ◌∙◌, pos}
+use Rattle.std.proofs.Common.{◌≡◌, ◌&&◌, ◌+◌, ◌<◌, zero, suc, get_or, length, All, arith, ℕ, List, [], ◌∷◌, map, filter, flat_map, cond, Bool, true, false, Some, ℤ, refl, sym, ap, subst, subst₂, ◌∙◌, pos, is_lt, ap₂, inl, inr, IsTrue, Result, Ok, Err, IfOk, OnOk, IfErr, Option, None}
 use Rattle.std.specs.List.{list_all}
 use Rattle.std.specs.List.Sorted.{IsPermutation, IsSorted}
 use Rattle.std.specs.Ordering.{on, is_eq, is_le, is_ge}
@@ -8,38 +8,30 @@ use Rattle.sqlite_value.specs.declared.value.Value.{Value}
 use Rattle.sqlite_value.specs.declared.value.Value.TheVariants.{Null, Int, Real, Text, Blob}
 use Rattle.sqlite_value.specs.declared.keys.Key.{Key}
 use Rattle.sqlite_value.specs.declared.keys.Collation.TheVariants.{Binary}
-use Rattle.sqlite_value.proofs.OrderLemmas.{value_cmp-Null}
+use Rattle.sqlite_value.proofs.OrderLemmas.{value_cmp-Null, then-Equal}
 use Rattle.sqlite_trees.specs.Tree.{Trees}
-use Rattle.sqlite_trees.proofs.ListLemmas.{map-map}
-use Rattle.sqlite_sql.specs.Term.{Term, eval_all, holds}
+use Rattle.sqlite_trees.proofs.ListLemmas.{map-map, all-map, all_of}
+use Rattle.sqlite_sql.specs.Term.{Term, eval_all, holds, col}
 use Rattle.sqlite_sql.specs.Query.{Query, IsAnswer, Output, output, key_cmp}
 use Rattle.sqlite_sql.specs.Program.{overlay, IsProgramAnswer}
 use Rattle.sqlite_sql.specs.Ops.{binary, is_true, from_truth}
 use Rattle.sqlite_sql.specs.declared.ops.BinaryOp.TheVariants.{Compare}
 use Rattle.sqlite_sql.specs.declared.ops.CompareOp.TheVariants.{Eq, Ge, Le, Lt}
-use Rattle.std.proofs.lemmas.List.Sorted.{IsPermutation-map}
-use Rattle.xq_rows.proofs.Lists.{flat_map_picks}
-use Rattle.std.proofs.Common.{is_lt, ap₂}
-use Rattle.std.proofs.lemmas.List.Sorted.{All-permutation}
+use Rattle.std.proofs.lemmas.List.Sorted.{IsPermutation-map, All-permutation}
+use Rattle.xq_rows.proofs.Lists.{flat_map_picks, same_test}
 use Rattle.std.proofs.lemmas.List.Elements.{All-from_recursion}
-use Rattle.sqlite_trees.proofs.ListLemmas.{all-map, all_of}
-use Rattle.sqlite_value.proofs.OrderLemmas.{then-Equal}
-use Rattle.sqlite_sql.specs.Term.{col}
-use Rattle.std.proofs.Common.{inl, inr, IsTrue, Result, Ok, Err, IfOk, OnOk, IfErr}
 use Rattle.sqlite.specs.declared.error.Error.{Error}
 use Rattle.sqlite.specs.Listing.{understood}
 use Rattle.sqlite.specs.State.{State, Shown, Fails, FailsToQuery, IsNotRun, RunsCommand, ShowsRows, FailsToShow}
 use Rattle.sqlite.specs.Clock.{timed}
-use Rattle.std.proofs.Common.{Option, None}
 use Rattle.sqlite_resolve.specs.declared.compiled.Compiled.{Compiled}
 use Rattle.sqlite_schema.specs.declared.command.Returning.{Returning}
 use Rattle.sqlite.proofs.Callers.{IsPlain, reads_as}
 use Rattle.sqlite.specs.Schema.{Schema}
 use Rattle.xq_rows.proofs.Places.{First, schema_of, node_tree, which, nodes_lie, not_given}
 use Rattle.xq_rows.specs.Tables.{IsStoreSchema}
-use Rattle.xq_rows.proofs.Lists.{same_test}
 use Rattle.xq_rows.proofs.Texts.{body, key, range_text, range_tests, range_command, range_is, range_plain, part_tests, addresses_text, addresses_tests, addresses_command, addresses_is, addresses_plain}
-use Rattle.xq_rows.specs.Documents.{by_first, is_at, is_first, kept}
+use Rattle.xq_rows.specs.Documents.{by_first, is_at, is_first, node_columns}
 use Rattle.xq_rows.specs.private.Statements.{is_within, is_part, IsPicked, IsRange, AreAddresses}
 use Rattle.std.proofs.lemmas.List.{length-map}
 
@@ -201,7 +193,7 @@ ranges old new address low high rows h has =
     let table = old.now.trees (node_tree first) in
     let it = reads_as range_text params old new (schema_of first) is (range_command (node_tree first)) (range_is first).0 (range_plain first) (range_is first).1 rows h in
     let all = picked first range_tests 2 (col 1 3 ∷ col 1 4 ∷ col 1 5 ∷ col 1 6 ∷ col 1 7 ∷ []) old.now.trees params rows it.answer in
-    subst (λ t. IsPicked (λ r. is_at address r && is_within low high r) kept t rows) (sym (nodes_lie first old.now is)) (same_passes _ _ kept table rows (range_test address low high) all)
+    subst (λ t. IsPicked (λ r. is_at address r && is_within low high r) node_columns t rows) (sym (nodes_lie first old.now is)) (same_passes _ _ node_columns table rows (range_test address low high) all)
 
 pub lists : (old new : State) (rows : List Row) → Shown addresses_text [] old new rows → AreAddresses old.now rows
 lists old new rows h has =

@@ -12,7 +12,7 @@ use Rattle.sqlite.specs.State.{State, HasCleanDisk, IsUnchanged, Shown, ShowsRow
 use Rattle.sqlite.proofs.Callers.{IsPlain, begun_plain, unchanged_then}
 use Rattle.xq_rows.specs.Documents.{IsReady}
 use Rattle.xq_rows.proofs.Selects.{shown_opens}
-use Rattle.xq_rows.specs.private.Streams.{Gives, Stays}
+use Rattle.xq_rows.specs.private.Streams.{GivesRows, Stays}
 
 unchanged_itself : (s : State) → IsTrue s.is_open → IsUnchanged s s
 unchanged_itself s up = (record { was_open = up; is_open = up; now_is = refl; committed_is = refl; mode = refl }, record { changes = refl; last_rowid = refl }, refl)
@@ -59,7 +59,7 @@ module _ {S : Type 0} (g : Ghosts S) where
     }
 
     -- past the last row
-    pub at_end : HasCleanDisk (state g now) → Advances g mid now None → Gives g first now P
+    pub at_end : HasCleanDisk (state g now) → Advances g mid now None → GivesRows g first now P
     at_end late moved sql params plain began =
         let early : HasCleanDisk (state g mid) = omega (arith, late, clean) in
         let so_far = it.given early sql params began in
@@ -84,7 +84,7 @@ module _ {S : Type 0} (g : Ghosts S) where
           ]
 
       -- the whole answer
-      pub gives_shown : (P : List Row → Type 0) → Gives g begun new P → (rows : List Row) × Shown sql params (state g old) (state g new) rows × P rows
+      pub gives_shown : (P : List Row → Type 0) → GivesRows g begun new P → (rows : List Row) × Shown sql params (state g old) (state g new) rows × P rows
       gives_shown P gives =
           let first = begun_plain g sql params old begun plain it in
           let there = subst (λ (d : Database). IsPlain (understood d.schema sql)) (sym first.1.0.now_is) plain in

@@ -36,12 +36,12 @@ abbrev pub is_first : Row → Bool
 is_first row = is_eq (value_cmp (column row 2) (Int (pos 0)))
 
 -- a row without its rowid and its address
-abbrev pub kept : Row → Row
-kept r = column r 2 ∷ column r 3 ∷ column r 4 ∷ column r 5 ∷ column r 6 ∷ column r 7 ∷ []
+abbrev pub node_columns : Row → Row
+node_columns r = column r 2 ∷ column r 3 ∷ column r 4 ∷ column r 5 ∷ column r 6 ∷ column r 7 ∷ []
 
 -- the rows of an address, as they lie in the table
 abbrev pub rows_at : List ℕ → List Row → List Row
-rows_at address table = map kept (filter (is_at address) table)
+rows_at address table = map node_columns (filter (is_at address) table)
 
 -- rows in the order of their first columns
 abbrev pub by_first : Row → Row → Ordering
@@ -65,7 +65,7 @@ abbrev pub documents_of : Database → Map
 documents_of db = documents_in (node_rows db)
 
 -- the rows are those of one document, in some order
-pub record IsWhole (rows : List Row) : Type 0 where
+pub record IsIntact (rows : List Row) : Type 0 where
   pub tree : Tree
   pub is_document : IsDocument tree
   pub same : IsPermutation rows (map cells (placed_rows tree))
@@ -92,11 +92,7 @@ pub record IsStore (db : Database) : Type 0 where
   pub ints : HaveInts (node_rows db)
   pub named : AllByRecursion HasAddress (node_rows db)
   pub whole : (address : List ℕ) → (rows_at address (node_rows db) ≡ [])
-      ⊎ IsWhole (rows_at address (node_rows db))
-
--- it holds the tables and no row of a document
-abbrev pub IsEmptyStore : Database → Type 0
-IsEmptyStore db = IsStore db × (node_rows db ≡ [])
+      ⊎ IsIntact (rows_at address (node_rows db))
 
 -- the connection is open, and its disk has returned what was written
 abbrev pub IsReady : State → Type 0
@@ -119,8 +115,8 @@ module _ {S : Type 0} (g : Ghosts S) (store : Held S) where
   IsUp = IsReady (state g store)
 
   -- Its tables hold documents.
-  unfoldable pub Holds : Type 0
-  Holds = IsStore (state g store).now
+  unfoldable pub HoldsDocuments : Type 0
+  HoldsDocuments = IsStore (state g store).now
 
   -- The map that its tables stand for.
   unfoldable pub documents : Map

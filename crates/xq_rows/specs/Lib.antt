@@ -1,5 +1,6 @@
 pub mod Tables
 pub mod Nodes
 pub mod Documents
+pub mod Adoption
 pub mod Views
 pub mod private

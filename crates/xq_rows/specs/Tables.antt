@@ -18,8 +18,8 @@ abbrev pub no_schema : Schema
 no_schema = record { tables = []; indexes = []; views = [] }
 
 -- a column of a STRICT table that is NOT NULL
-abbrev pub needed : List ℕ → Kind → Column
-needed name kind = record {
+abbrev pub required_column : List ℕ → Kind → Column
+required_column name kind = record {
   name = name;
   kind = kind;
   is_strict = true;
@@ -34,7 +34,7 @@ abbrev pub layout_table : Table
 layout_table = record {
   name = codes "layout";
   tree = 0;
-  columns = needed (codes "edition") Integer ∷ [];
+  columns = required_column (codes "edition") Integer ∷ [];
   key = None;
   primary = [];
   uniques = [];
@@ -55,10 +55,10 @@ abbrev pub node_table : Table
 node_table = record {
   name = codes "node";
   tree = 1;
-  columns = needed (codes "address") Text ∷ needed (codes "pre") Integer
-      ∷ needed (codes "size") Integer ∷ needed (codes "level") Integer
-      ∷ needed (codes "kind") Integer ∷ needed (codes "name") Text ∷ needed (codes "value") Text
-      ∷ [];
+  columns = required_column (codes "address") Text ∷ required_column (codes "pre") Integer
+      ∷ required_column (codes "size") Integer ∷ required_column (codes "level") Integer
+      ∷ required_column (codes "kind") Integer ∷ required_column (codes "name") Text
+      ∷ required_column (codes "value") Text ∷ [];
   key = None;
   primary = 1 ∷ 2 ∷ [];
   uniques = (1 ∷ 2 ∷ []) ∷ [];

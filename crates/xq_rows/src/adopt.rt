@@ -7,9 +7,10 @@ ghost use Rattle.sqlite_value.specs.Order.{column};
 ghost use Rattle.sqlite_value.specs.declared.value.Value.TheVariants.{Int, Text};
 ghost use Rattle.xq_atoms.specs.Address.{IsAddress};
 ghost use Rattle.xq_regions.specs.Rows.{placed};
-ghost use Rattle.xq_rows.specs.private.Adopt.{AreTold, IsAdopted, IsNoStore, IsRun, ReadsEdition, ReadsNodes, ReadsRowids, IsInputError, IsPast, Sees, SeesDocuments, SeesNothing, SeesRowids, by_place, fault_of, is_under as is_under_lem, row_fault as row_fault_lem, run_length};
+ghost use Rattle.xq_rows.specs.private.Adopt.{AreDocumentRuns, IsAdopted, IsNoStore, IsRun, ReadsEdition, ReadsNodes, ReadsRowids, IsInputError, IsPast, Sees, SeesDocuments, SeesNothing, SeesRowids, by_place, fault_of, is_under as is_under_lem, row_fault as row_fault_lem, run_length};
 ghost use Rattle.xq_rows.specs.Documents.{AreApart, HaveInts, IsReady, IsStore};
-ghost use Rattle.xq_rows.specs.Nodes.{IsReadable, cells, node_of};
+ghost use Rattle.xq_rows.specs.Nodes.{cells};
+ghost use Rattle.xq_rows.specs.private.Columns.{IsReadable, node_of};
 ghost use Rattle.xq_rows.specs.private.Statements.{MakesStore};
 ghost use Rattle.xq_rows.specs.private.Keeps.{ReadsInside, StaysInside, StaysOutside};
 ghost use Rattle.xq_rows.specs.Tables.{no_schema, IsStoreSchema};
@@ -202,9 +203,9 @@ fn check_run(alloc: Global, address: &[u8], rows: &[Row]) -> Result<(), OpenFaul
 
 /// Judges rows in the order of address and number: one run for each address.
 fn check_rows(alloc: Global, rows: &[Row]) -> Result<(), OpenFault>
-    ensures ok { OnOk result (IsSorted by_place rows.now → AreTold rows.now) }
+    ensures ok { OnOk result (IsSorted by_place rows.now → AreDocumentRuns rows.now) }
     ensures err { IfErr result (λ fault. fault ≡ OpenFault.NotAStore → IsSorted by_place rows.now
-        → ¬ (AreTold rows.now)) }
+        → ¬ (AreDocumentRuns rows.now)) }
 {
     let mut rest = rows;
     while let Some(first) = rest.first() {

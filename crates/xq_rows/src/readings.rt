@@ -9,7 +9,8 @@ ghost use Rattle.xq_rows.specs.Tables.{IsStoreSchema};
 ghost use Rattle.sqlite_value.specs.declared.value.Value.TheVariants.{Text};
 ghost use Rattle.xq_regions.specs.Rows.{placed};
 ghost use Rattle.xq_regions.specs.Tree.{IsDocument};
-ghost use Rattle.xq_rows.specs.Nodes.{cells, node_of};
+ghost use Rattle.xq_rows.specs.Nodes.{cells};
+ghost use Rattle.xq_rows.specs.private.Columns.{node_of};
 
 use crate::refusals::Refusal;
 use crate::rows::node_row;

@@ -6,6 +6,7 @@ ghost use Rattle.xq_regions.specs.Rows.{AreNumbered, placed};
 ghost use Rattle.xq_rows.specs.Nodes.{cells};
 ghost use Rattle.xq_rows.specs.private.Statements.{Replaces};
 ghost use Rattle.xq_rows.specs.private.Keeps.{StaysInside};
+ghost use Rattle.xq_regions.specs.Tree.{most_nodes};
 
 use crate::statements::{delete_part, insert_rows};
 use sqlite::{Alter, Error, Transaction};
@@ -24,7 +25,7 @@ pub fn replace_rows<S: Alter>(
     rows: &[NodeRow],
 ) -> Result<bool, Error>
     requires numbered { AreNumbered 0 rows.now }
-    requires few { length rows.now ≤ 1000000 }
+    requires few { length rows.now ≤ most_nodes }
     ensures inside { StaysInside S.Store transaction.old transaction.new }
     ensures replaced { HasCleanDisk (state S.Store transaction.new.conn.now)
         → IfOk result (Replaces address.now (map cells (map placed rows.now))

@@ -7,9 +7,11 @@ ghost use Rattle.sqlite_value.specs.Order.{column};
 ghost use Rattle.sqlite_value.specs.declared.value.Value.TheVariants.{Text};
 ghost use Rattle.xq_regions.specs.Rows.{placed};
 ghost use Rattle.xq_rows.specs.Documents.{IsReady};
-ghost use Rattle.xq_rows.specs.Nodes.{IsReadable, cells, node_of, number_of};
+ghost use Rattle.xq_rows.specs.Nodes.{cells};
+ghost use Rattle.xq_regions.specs.Codes.{kind_number};
+ghost use Rattle.xq_rows.specs.private.Columns.{IsReadable, node_of};
 ghost use Rattle.xq_rows.specs.private.Refusals.{want_of};
-ghost use Rattle.xq_rows.specs.private.Streams.{Gives, Stays};
+ghost use Rattle.xq_rows.specs.private.Streams.{GivesRows, Stays};
 
 use crate::refusals::Refusal;
 use sqlite::{Alter, Error, ErrorCode, Row, Rows};
@@ -19,8 +21,8 @@ use xq_regions::{Kind, NodeRow};
 
 /// The kind that a number stands for in the tables.
 fn kind_of(number: u32) -> Option<Kind>
-    ensures some { IfSome result (λ kind. number ≡ number_of kind) }
-    ensures none { result ≡ None → (kind : _) → number ≢ number_of kind }
+    ensures some { IfSome result (λ kind. number ≡ kind_number kind) }
+    ensures none { result ≡ None → (kind : _) → number ≢ kind_number kind }
 {
     match number {
         0 => Some(Kind::Document),
@@ -81,7 +83,7 @@ pub fn rest_as_nodes<S: Alter>(
     ensures ends_open { HasCleanDisk (state S.Store rows.new.conn.now)
         → OnOk result (IsTrue (state S.Store rows.new.conn.now).is_open) }
     ensures nodes { HasCleanDisk (state S.Store rows.new.conn.now)
-        → IfOk result (λ nodes. Gives S.Store rows.old.conn.now rows.new.conn.now
+        → IfOk result (λ nodes. GivesRows S.Store rows.old.conn.now rows.new.conn.now
         (λ given. map cells (map placed nodes.items) ≡ map node_of given)) }
 {
     let mut nodes = Vec::new(alloc);
@@ -110,7 +112,7 @@ pub fn rest_as_texts<S: Alter>(
     ensures ends_open { HasCleanDisk (state S.Store rows.new.conn.now)
         → OnOk result (IsTrue (state S.Store rows.new.conn.now).is_open) }
     ensures texts { HasCleanDisk (state S.Store rows.new.conn.now)
-        → IfOk result (λ texts. Gives S.Store rows.old.conn.now rows.new.conn.now
+        → IfOk result (λ texts. GivesRows S.Store rows.old.conn.now rows.new.conn.now
         (λ given. map Text (map string_bytes texts.items) ≡ map (λ r. column r 0) given)) }
 {
     let mut texts = Vec::new(alloc);

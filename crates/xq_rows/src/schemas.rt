@@ -4,7 +4,7 @@
 //! beside them: of such a one nothing is kept.
 ghost use Rattle.std.specs.Prelude.{◌≡◌, ◌∷◌, [], IsTrue, None, false};
 ghost use Rattle.sqlite_value.specs.Keys.{plain};
-ghost use Rattle.xq_rows.specs.Tables.{IsStoreSchema, layout_table, needed, node_index, node_table};
+ghost use Rattle.xq_rows.specs.Tables.{IsStoreSchema, layout_table, required_column, node_index, node_table};
 
 use sqlite_items::Items;
 use sqlite_schema::code::Terms;
@@ -21,7 +21,7 @@ fn is_named(name: &Bytes, text: &str) -> bool
 
 /// Whether this is a column of a STRICT table that is NOT NULL.
 fn is_needed(column: &Column, name: &str, kind: Kind) -> bool
-    ensures { IsTrue result → column.now ≡ needed name.now kind }
+    ensures { IsTrue result → column.now ≡ required_column name.now kind }
 {
     is_named(&column.name, name)
         && column.kind == kind

@@ -11,10 +11,10 @@ ghost use Rattle.sqlite.specs.Held.{state};
 ghost use Rattle.sqlite.specs.Steps.{over_memory};
 ghost use Rattle.xq_atoms.specs.Address.{IsAddress};
 ghost use Rattle.xq_regions.specs.declared.Kind.TheVariants.{Document};
-ghost use Rattle.xq_rows.specs.private.Adopt.{IsBlank, HasTables, HasOneTable};
+ghost use Rattle.xq_rows.specs.Adoption.{IsBlank, HasTables, HasOneTable};
 ghost use Rattle.xq_regions.specs.Rows.{placed};
 ghost use Rattle.xq_regions.specs.Tree.{IsDocument, Tree};
-ghost use Rattle.xq_rows.specs.Documents.{IsClean, IsOpen, IsUp, Holds, Map, StandsFor, documents};
+ghost use Rattle.xq_rows.specs.Documents.{IsClean, IsOpen, IsUp, HoldsDocuments, Map, StandsFor, documents};
 ghost use Rattle.xq_rows.specs.private.Keeps.{AreOf, IsKept, LeavesAlone};
 ghost use Rattle.xq_rows.specs.Tables.{IsStoreSchema};
 ghost use Rattle.xq_sources.specs.Sources.{rows_between, rows_enclosing};
@@ -120,14 +120,14 @@ impl<S: Alter> Store<S> {
         ensures made { IfOk result (λ store. IsClean S.Store store → IsBlank S.Store conn
             → StandsFor S.Store store empty) }
         ensures found { IfOk result (λ store. IsClean S.Store store → HasTables S.Store conn
-            → Holds S.Store conn × StandsFor S.Store store (documents S.Store conn)) }
+            → HoldsDocuments S.Store conn × StandsFor S.Store store (documents S.Store conn)) }
         ensures same { IfOk result (λ store. IsClean S.Store store → HasTables S.Store conn
             → (state S.Store store).now ≡ (state S.Store conn).now) }
         ensures both { IfOk result (λ store. IsClean S.Store store → ¬ (HasOneTable S.Store conn)) }
         ensures open { IfOk result (λ store. IsClean S.Store store
             → IsOpen S.Store store × IsOpen S.Store conn) }
         ensures no_store { IfErr result (λ e. IsUp S.Store e.1 → e.0 ≡ OpenFault.NotAStore
-            → ¬ (IsBlank S.Store conn) × ¬ (Holds S.Store conn)) }
+            → ¬ (IsBlank S.Store conn) × ¬ (HoldsDocuments S.Store conn)) }
         ensures kept { IfErr result (λ e. IsUp S.Store e.1
             → (state S.Store e.1).now ≡ (state S.Store conn).now) }
         ensures outside { IfErr result (λ e. e.1.in_transaction ≡ false) }
@@ -186,7 +186,7 @@ impl<S: Alter> Store<S> {
 
     /// The addresses, with no row of a document.
     fn empty_shelf(&mut self) -> Result<Shelf, Want>
-        ensures shelf { IsClean S.Store self.new → Holds S.Store self.old
+        ensures shelf { IsClean S.Store self.new → HoldsDocuments S.Store self.old
             → IfOk result (λ shelf. AreOf (state S.Store self.old).now
             (map string_bytes shelf.addresses.items) shelf.fronts.items) }
         ensures own { IfOk result (λ shelf. IsTrue shelf.stays
@@ -208,7 +208,7 @@ impl<S: Alter> Store<S> {
 
     /// What is kept of the documents, or their addresses with no row. Nothing is kept from then on.
     pub(crate) fn take_shelf(&mut self) -> Result<Shelf, Want>
-        ensures shelf { IsClean S.Store self.new → Holds S.Store self.old
+        ensures shelf { IsClean S.Store self.new → HoldsDocuments S.Store self.old
             → IfOk result (λ shelf. AreOf (state S.Store self.old).now
             (map string_bytes shelf.addresses.items) shelf.fronts.items) }
         ensures own { IsUp S.Store self.new → IfOk result (λ shelf. IsTrue shelf.stays

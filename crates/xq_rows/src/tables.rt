@@ -2,9 +2,9 @@
 ghost use Rattle.std.specs.Prelude.{◌≡◌, ◌≢◌, false, IfErr, OnErr, OnOk, IsTrue};
 ghost use Rattle.sqlite.specs.State.{HasCleanDisk};
 ghost use Rattle.sqlite.specs.Held.{state};
-ghost use Rattle.xq_rows.specs.Documents.{IsEmptyStore, IsReady};
+ghost use Rattle.xq_rows.specs.Documents.{IsReady};
+ghost use Rattle.xq_rows.specs.private.Statements.{IsEmptyStore, MakesBoth, MakesLayout, MakesNode, WritesEdition};
 ghost use Rattle.xq_rows.specs.private.Adopt.{fault_of};
-ghost use Rattle.xq_rows.specs.private.Statements.{MakesBoth, MakesLayout, MakesNode, WritesEdition};
 ghost use Rattle.xq_rows.specs.private.Keeps.{StaysInside, StaysOutside};
 ghost use Rattle.xq_rows.specs.Tables.{no_schema, layout_schema};
 

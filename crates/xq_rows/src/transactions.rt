@@ -7,6 +7,7 @@ ghost use Rattle.xq_rows.specs.Documents.{IsReady, is_at};
 ghost use Rattle.xq_rows.specs.Nodes.{cells};
 ghost use Rattle.xq_rows.specs.private.Statements.{Deletes, Puts};
 ghost use Rattle.xq_rows.specs.private.Keeps.{StaysOutside};
+ghost use Rattle.xq_regions.specs.Tree.{most_nodes};
 
 use crate::refusals::Refusal;
 use crate::replacements::replace_rows;
@@ -41,7 +42,7 @@ pub fn put_rows<S: Alter>(
 ) -> Result<bool, Refusal>
     requires outside { conn.old.in_transaction ≡ false }
     requires numbered { AreNumbered 0 rows.now }
-    requires few { length rows.now ≤ 1000000 }
+    requires few { length rows.now ≤ most_nodes }
     ensures outside { StaysOutside S.Store conn.old conn.new }
     ensures ends_open { HasCleanDisk (state S.Store conn.new)
         → OnOk result (IsTrue (state S.Store conn.new).is_open) }

@@ -41,7 +41,9 @@ impl<'a> Model for Scope<'a> {
 
     ghost view = { λ scope. names_of (keys scope.last) scope.bound.items };
 
-    ghost invariant = { λ scope. IsLast scope.last scope.bound.items × AreHidden (keys scope.last) [] scope.bound.items × AreNumbered (keys scope.last) scope.bound.items };
+    ghost invariant = { λ scope. IsLast scope.last scope.bound.items
+        × AreHidden (keys scope.last) [] scope.bound.items
+        × AreNumbered (keys scope.last) scope.bound.items };
 }
 
 impl<'a> Scope<'a> {

@@ -5,12 +5,12 @@ use Rattle.std.proofs.lemmas.Grind.{flat_map-append, common_steps}
 use Rattle.std.proofs.Math.Seq.{drop-append_seam, take-length}
 use Rattle.std.specs.List.{flat_map, AllByRecursion}
 use Rattle.xq_frame.specs.Frame.{frame_bytes, IsMessage}
-use Rattle.xq_frame.specs.Request.{Asked, asked, message_asks}
+use Rattle.xq_frame.specs.Request.{RequestMeaning, request_meaning, message_meaning}
 use Rattle.xq_frame.specs.Next.{Starts, IsFrameOf}
 use Rattle.xq_frame.specs.declared.frames.Frame.{Frame}
 use Rattle.xq_rows.specs.Documents.{Map}
 use Rattle.xq_atoms.specs.Code.{code_text, want_text}
-use Rattle.xq_service.specs.Answer.{longest_text}
+use Rattle.xq_frame.specs.Reply.{longest_text}
 use Rattle.xq_service.specs.Step.{Step}
 use Rattle.xq_service.specs.private.Work.{Tells, Writes, IsShort}
 use Rattle.xq_service.specs.Run.{Reply, bytes_of, written, IsReplyTo, AreReplies, Run, Ran, RanOver, Answered}
@@ -31,7 +31,7 @@ pub record Says (before after : List ℕ) (tag : ℕ) (told : Result Answer Faul
   pub tagged : r.tag ≡ tag
   pub status : r.status ≤ 2
   pub short : length r.text ≤ longest_text
-  pub step : (m : Map) (asks : Asked) (new : Map) → Tells m asks new told → Step m asks new r.status r.text
+  pub step : (m : Map) (asks : RequestMeaning) (new : Map) → Tells m asks new told → Step m asks new r.status r.text
 
 pub replied : (before after : List ℕ) (tag : ℕ) (told : Result Answer Fault) → IsShort told → Writes before after tag told → (r : Reply) × Says before after tag told r
 replied before after tag (Ok (Text t)) short w = elim w [
@@ -67,8 +67,8 @@ replied before after tag (Err (OfWant want)) short w = (
 
 -- a run goes on by one frame
 more_run : (m mid new : Map) (messages : List (List ℕ)) (replies : List Reply) (message : List ℕ) (r : Reply) → Run m messages replies mid
-    → Step mid (message_asks message) new r.status r.text → Run m (messages ++ message ∷ []) (replies ++ r ∷ []) new
-more_run m mid new [] [] message r run step = (new, (subst (λ k. Step k (message_asks message) new r.status r.text) run step, refl))
+    → Step mid (message_meaning message) new r.status r.text → Run m (messages ++ message ∷ []) (replies ++ r ∷ []) new
+more_run m mid new [] [] message r run step = (new, (subst (λ k. Step k (message_meaning message) new r.status r.text) run step, refl))
 more_run m mid new (b ∷ messages) (s ∷ replies) message r run step = (run.0, (run.1.0, more_run run.0 mid new messages replies message r run.1.1 step))
 more_run m mid new [] (s ∷ replies) message r run step = absurd run
 more_run m mid new (b ∷ messages) [] message r run step = absurd run
@@ -119,7 +119,7 @@ module _ {D : Type 0} (clean : D → Type 0) (stands : D → Map → Type 0) whe
 
   pub ran_more : (old mid new : D) (messages : List (List ℕ)) (replies : List Reply) (frame : Frame) (message middle after : List ℕ) (r : Reply)
       → Ran clean stands old mid messages replies → IsMessage message → IsFrameOf frame message
-      → Answered clean stands mid new frame.tag (asked frame.request) middle after r
+      → Answered clean stands mid new frame.tag (request_meaning frame.request) middle after r
       → Ran clean stands old new (messages ++ message ∷ []) (replies ++ r ∷ [])
   ran_more old mid new messages replies frame message middle after r ran limit same answered = record {
     each = more_each messages message ran.each limit;
@@ -136,7 +136,7 @@ module _ {D : Type 0} (clean : D → Type 0) (stands : D → Map → Type 0) whe
       (frame : Frame) (message more : List ℕ) (r : Reply)
       → RanOver clean stands old mid bytes before middle messages replies rest []
       → Starts rest frame message more
-      → Answered clean stands mid new frame.tag (asked frame.request) middle after r
+      → Answered clean stands mid new frame.tag (request_meaning frame.request) middle after r
       → RanOver clean stands old new bytes before after (messages ++ message ∷ []) (replies ++ r ∷ []) more []
   one_more old mid new bytes before middle after messages replies rest frame message more r so_far starts answered = record {
     whole = so_far.whole ∙ ap (λ t. flat_map frame_bytes messages ++ t) starts.whole
@@ -150,7 +150,7 @@ module _ {D : Type 0} (clean : D → Type 0) (stands : D → Map → Type 0) whe
   }
 
   -- what a step told, written into room that was made first
-  pub answered : (old inside new : D) (tag : ℕ) (asks : Asked) (before roomy after : List ℕ) (told : Result Answer Fault) (r : Reply)
+  pub answered : (old inside new : D) (tag : ℕ) (asks : RequestMeaning) (before roomy after : List ℕ) (told : Result Answer Fault) (r : Reply)
       → roomy ≡ before → inside ≡ old → Says roomy after tag told r → (clean new → clean inside)
       → (clean new → (m : Map) → stands inside m → (later : Map) × Tells m asks later told × stands new later)
       → Answered clean stands old new tag asks before after r

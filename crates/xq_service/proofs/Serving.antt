@@ -7,12 +7,13 @@ use Rattle.std.specs.Io.KnownBytes.{Consumes, Appends}
 use Rattle.std.specs.List.{flat_map}
 use Rattle.xq_frame.specs.Frame.{frame_bytes, IsMessage}
 use Rattle.xq_frame.specs.Next.{IsFrameOf}
-use Rattle.xq_frame.specs.Request.{asked}
+use Rattle.xq_frame.specs.Request.{request_meaning}
 use Rattle.xq_frame.specs.declared.frames.Frame.{Frame}
 use Rattle.xq_rows.specs.Documents.{Map}
 use Rattle.xq_streams.specs.Taking.{IsLongHead}
 use Rattle.xq_service.specs.Run.{Reply, bytes_of, written, Answered, long_reply}
-use Rattle.xq_service.specs.Service.{Served, Serves, EndsLong, BreaksOff}
+use Rattle.xq_service.specs.Service.{Served, Serves, BreaksOff}
+use Rattle.xq_service.specs.private.Ends.{EndsLong}
 use Rattle.xq_service.specs.declared.ends.End.{End}
 use Rattle.xq_service.specs.declared.ends.End.TheVariants.{Finished, Cut, TooLong, Bound, ReadFault, WriteFault, NoRoom}
 use Rattle.xq_service.proofs.Running.{ran_more}
@@ -74,7 +75,7 @@ module _ {D : Type 0} (clean : D → Type 0) (stands : D → Map → Type 0) whe
       (frame : Frame) (message taken middle after sent : List ℕ) (r : Reply)
       → Served clean stands old mid before left held holding messages replies [] (written replies)
       → Consumes left left' taken → IsMessage message → taken ≡ frame_bytes message → IsFrameOf frame message
-      → Answered clean stands mid new frame.tag (asked frame.request) middle after r
+      → Answered clean stands mid new frame.tag (request_meaning frame.request) middle after r
       → Appends holding holding' sent
       → Served clean stands old new before left' held holding' (messages ++ message ∷ []) (replies ++ r ∷ []) [] (written replies ++ sent)
   served_more old mid new before left left' held holding holding' messages replies frame message taken middle after sent r so_far took limit whole same answered gave =

@@ -19,19 +19,20 @@ use Rattle.xq_atoms.specs.declared.refusals.Want.TheVariants.{Memory, Store}
 use Rattle.xq_regions.specs.Tree.{Tree}
 use Rattle.xq_meaning.specs.declared.plans.Plan.{Plan}
 use Rattle.xq_queries.specs.Reading.{ReadsAtMostOnce, FaultsComeLater}
-use Rattle.xq_queries.specs.Values.{Plans, Value, plan_value, printed, told as text_of, document, or_no_document, made}
+use Rattle.xq_queries.specs.Values.{Plans, Value, plan_value, printed, reply_text as text_of, document, or_no_document, made_document}
 use Rattle.xq_rows.specs.Documents.{Map}
 use Rattle.xq_rows.specs.declared.stores.Put.TheVariants.{Stored as Fresh, Replaced as Other}
-use Rattle.xq_frame.specs.Request.{Asked, query, put, remove as remove_one}
+use Rattle.xq_frame.specs.Request.{RequestMeaning, query, put, remove as remove_one}
 use Rattle.xq_service.specs.Meaning.{value}
-use Rattle.xq_service.specs.Answer.{Outcome, Answers, CarriesOut, Refuses, done, refused, longest_text, queried, stored, set_to, put_word, removed_if}
+use Rattle.xq_service.specs.Answer.{Outcome, Answers, CarriesOut, RefusesRequest, success, refusal, query_outcome, put_outcome, put_document, put_word, remove_outcome}
+use Rattle.xq_frame.specs.Reply.{longest_text}
 use Rattle.xq_service.specs.Step.{MayWant}
 use Rattle.xq_service.specs.private.Work.{Tells, Understands, Makes, MakesText, MakesDocument}
 use Rattle.xq_service.specs.declared.answers.Answer.TheVariants.{Text}
 use Rattle.xq_service.proofs.Once.{not_both}
 
 -- any want may come where nothing is refused before the documents matter
-pub any_want : (asked : Asked) → ((code : Code) → Refuses asked code → ⊥) → (want : Want) → MayWant asked want
+pub any_want : (asked : RequestMeaning) → ((code : Code) → RefusesRequest asked code → ⊥) → (want : Want) → MayWant asked want
 any_want asked none Memory = λ code refuses free. none code refuses
 any_want asked none Store = none
 
@@ -97,20 +98,20 @@ remove_absent m address none = same_map nat_list_cmp_total (slice_cmp-IsAntisymm
     (λ q. get-remove nat_list_cmp_total m address q ∙ kept_at m address q _ none refl)
 
 pub nothing_removed : (m : Map) (address given : List ℕ) (was : Bool) → (given ≡ address) × IsAddress address
-    → was ≡ contains_key m given → was ≡ false → Answers m (remove_one address) (refused (remove m given) ProfAbsent)
+    → was ≡ contains_key m given → was ≡ false → Answers m (remove_one address) (refusal (remove m given) ProfAbsent)
 nothing_removed m address given was good had none =
     let absent_there : contains_key m address ≡ false = ap (contains_key m) (sym good.0) ∙ sym had ∙ none in
     inr (
       good.1,
-      ap (λ n. refused n ProfAbsent) (ap (remove m) good.0 ∙ remove_absent m address absent_there)
-          ∙ sym (ap (λ b. removed_if b m address) absent_there),
+      ap (λ n. refusal n ProfAbsent) (ap (remove m) good.0 ∙ remove_absent m address absent_there)
+          ∙ sym (ap (λ b. remove_outcome b m address) absent_there),
     )
 
 pub one_removed : (m : Map) (address given : List ℕ) (was : Bool) → (given ≡ address) × IsAddress address
-    → was ≡ contains_key m given → was ≡ true → Answers m (remove_one address) (done (remove m given) (codes "dropped"))
+    → was ≡ contains_key m given → was ≡ true → Answers m (remove_one address) (success (remove m given) (codes "dropped"))
 one_removed m address given was good had there =
     let here : contains_key m address ≡ true = ap (contains_key m) (sym good.0) ∙ sym had ∙ there in
-    inr (good.1, ap (λ a. done (remove m a) (codes "dropped")) good.0 ∙ sym (ap (λ b. removed_if b m address) here))
+    inr (good.1, ap (λ a. success (remove m a) (codes "dropped")) good.0 ∙ sym (ap (λ b. remove_outcome b m address) here))
 
 -- the want of a call on the store, where the address is good
 pub remove_wanted : (address : List ℕ) (want : Want) → IsAddress address → MayWant (remove_one address) want
@@ -124,15 +125,15 @@ query_unread m text (OfCode code) understands = inl (code, understands, refl)
 
 -- what is told where the text, or its code, is this
 told_as : Map → Judged (List ℕ) → Outcome
-told_as m (Ok text) = done m text
-told_as m (Err code) = refused m code
+told_as m (Ok text) = success m text
+told_as m (Err code) = refusal m code
 
-told_within : (m : Map) (text : List ℕ) (fits : Bool) → cond fits (done m text) (refused m ProfReply) ≡ told_as m (only_if fits ProfReply text)
+told_within : (m : Map) (text : List ℕ) (fits : Bool) → cond fits (success m text) (refusal m ProfReply) ≡ told_as m (only_if fits ProfReply text)
 unfolding told_as
 told_within m text true = refl
 told_within m text false = refl
 
-queried_as : (m : Map) (v : Judged Value) → queried m v ≡ told_as m (text_of v)
+queried_as : (m : Map) (v : Judged Value) → query_outcome m v ≡ told_as m (text_of v)
 unfolding told_as
 queried_as m (Ok v) = told_within m (printed v) (nat_le (length (printed v)) longest_text)
 queried_as m (Err code) = refl
@@ -171,27 +172,27 @@ put_unread m address text (OfCode code) good understands = inl (code, inr (good,
 
 -- what is stored where the document, or its code, is this
 stored_as : Map → List ℕ → Judged Tree → Outcome
-stored_as m address (Ok tree) = done (insert m address tree) (put_word (contains_key m address))
-stored_as m address (Err code) = refused m code
+stored_as m address (Ok tree) = success (insert m address tree) (put_word (contains_key m address))
+stored_as m address (Err code) = refusal m code
 
-set_as : (m : Map) (address : List ℕ) (tree : Option Tree) → set_to m address tree ≡ stored_as m address (or_no_document tree)
+set_as : (m : Map) (address : List ℕ) (tree : Option Tree) → put_document m address tree ≡ stored_as m address (or_no_document tree)
 unfolding stored_as
 set_as m address (Some tree) = refl
 set_as m address None = refl
 
-value_stored : (m : Map) (address : List ℕ) (v : Judged Value) → stored m address v ≡ stored_as m address (made v)
+value_stored : (m : Map) (address : List ℕ) (v : Judged Value) → put_outcome m address v ≡ stored_as m address (made_document v)
 unfolding stored_as
 value_stored m address (Ok v) = set_as m address (document v)
 value_stored m address (Err code) = refl
 
 carries_put : (m : Map) (address text : List ℕ) (plan : Plan) (tree : Judged Tree) → IsAddress address → Understands text (Ok plan)
-    → made (plan_value plan (keys m) (values m)) ≡ tree → CarriesOut m (put address text) (stored_as m address tree)
+    → made_document (plan_value plan (keys m) (values m)) ≡ tree → CarriesOut m (put address text) (stored_as m address tree)
 carries_put m address text plan tree good understands is = (
   good,
   (
     understands.0,
     understands.1,
-    sym (value_stored m address (value understands.0 m) ∙ ap (λ v. stored_as m address (made v)) (sym (understands.2 (keys m) (values m))) ∙ ap (stored_as m address) is),
+    sym (value_stored m address (value understands.0 m) ∙ ap (λ v. stored_as m address (made_document v)) (sym (understands.2 (keys m) (values m))) ∙ ap (stored_as m address) is),
   ),
 )
 
@@ -208,11 +209,11 @@ put_wanted m address text plan want good understands = (put_wants address text g
 
 pub put_told : (m : Map) (address text given : List ℕ) (plan : Plan) (tree : Tree) (was : Bool) → (given ≡ address) × IsAddress address
     → Understands text (Ok plan) → Makes MakesDocument (plan_value plan (keys m) (values m)) (Ok tree) → contains_key m given ≡ was
-    → Answers m (put address text) (done (insert m given tree) (put_word was))
+    → Answers m (put address text) (success (insert m given tree) (put_word was))
 unfolding stored_as
 put_told m address text given plan tree was good understands makes had =
-    subst (λ a. Answers m (put address text) (done (insert m a tree) (put_word was))) (sym good.0)
-    (subst (λ w. Answers m (put address text) (done (insert m address tree) (put_word w))) (ap (contains_key m) (sym good.0) ∙ had)
+    subst (λ a. Answers m (put address text) (success (insert m a tree) (put_word was))) (sym good.0)
+    (subst (λ w. Answers m (put address text) (success (insert m address tree) (put_word w))) (ap (contains_key m) (sym good.0) ∙ had)
     (inr (carries_put m address text plan (Ok tree) good.1 understands makes)))
 
 pub was_stored : (there : Bool) → Fresh ≡ (if there then Other else Fresh) → there ≡ false

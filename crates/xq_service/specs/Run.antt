@@ -6,9 +6,8 @@ use Rattle.xq_atoms.specs.Code.{code_text}
 use Rattle.xq_atoms.specs.declared.refusals.Code.TheVariants.{ProfLong}
 use Rattle.xq_rows.specs.Documents.{Map}
 use Rattle.xq_frame.specs.Frame.{frame_bytes, IsMessage, IsTooLong, IsCut}
-use Rattle.xq_frame.specs.Reply.{reply_bytes}
-use Rattle.xq_frame.specs.Request.{Asked, message_asks, message_tag}
-use Rattle.xq_service.specs.Answer.{longest_text}
+use Rattle.xq_frame.specs.Reply.{reply_bytes, longest_text}
+use Rattle.xq_frame.specs.Request.{RequestMeaning, message_meaning, message_tag}
 use Rattle.xq_service.specs.Step.{Step}
 use Rattle.xq_service.specs.declared.ends.End.{End}
 use Rattle.xq_service.specs.declared.ends.End.TheVariants.{Finished, Cut, TooLong, Bound, ReadFault, WriteFault, NoRoom}
@@ -41,7 +40,7 @@ AreReplies (message ∷ messages) [] = ⊥
 abbrev pub Run : Map → List (List ℕ) → List Reply → Map → Type 0
 Run m [] [] new = new ≡ m
 Run m (message ∷ messages) (reply ∷ replies) new =
-    (mid : Map) × (Step m (message_asks message) mid reply.status reply.text
+    (mid : Map) × (Step m (message_meaning message) mid reply.status reply.text
     × Run mid messages replies new)
 Run m [] (reply ∷ replies) new = ⊥
 Run m (message ∷ messages) [] new = ⊥
@@ -70,7 +69,7 @@ EndsRun WriteFault rest last = ⊥
 module _ {D : Type 0} (clean : D → Type 0) (stands : D → Map → Type 0) where
   -- One frame answered: its reply is added to the output. Over the documents that the store stood
   -- for the reply is that of a step, and the store stands for the documents that the step leaves.
-  pub record Answered (old new : D) (tag : ℕ) (asked : Asked) (before after : List ℕ)
+  pub record Answered (old new : D) (tag : ℕ) (asked : RequestMeaning) (before after : List ℕ)
       (reply : Reply) : Type 0 where
     pub out : after ≡ before ++ bytes_of reply
     pub tagged : reply.tag ≡ tag

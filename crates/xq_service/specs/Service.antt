@@ -6,7 +6,6 @@ use Rattle.std.specs.Io.KnownBytes.{Consumes, Appends, IsAtEnd}
 use Rattle.xq_frame.specs.Frame.{frame_bytes, IsMessage, IsCut}
 use Rattle.xq_rows.specs.Documents.{Map}
 use Rattle.xq_streams.specs.Taking.{IsPart, IsHead, IsLongHead}
-use Rattle.xq_streams.specs.Sending.{GivesFront}
 use Rattle.xq_service.specs.Run.{Reply, Ran, bytes_of, written, long_reply}
 use Rattle.xq_service.specs.declared.ends.End.{End}
 use Rattle.xq_service.specs.declared.ends.End.TheVariants.{Finished, Cut, TooLong, Bound, ReadFault, WriteFault, NoRoom}
@@ -51,17 +50,6 @@ EndsService NoRoom bound count replies rest sent left = IsNotCarriedOut rest
     × (sent ≡ written replies) × (count < bound)
 EndsService WriteFault bound count replies rest sent left = BreaksOff replies rest sent
     × (count ≤ bound)
-
--- how a length over the limit ends a service: its reply was given, or a front of it, or there was
--- no room for it
-abbrev pub EndsLong : Option (List ℕ) → Option (List ℕ) → End → Type 0
-EndsLong held holding TooLong = Appends held holding long_reply
-EndsLong held holding WriteFault = GivesFront held holding long_reply
-EndsLong held holding NoRoom = Appends held holding []
-EndsLong held holding Finished = ⊥
-EndsLong held holding Cut = ⊥
-EndsLong held holding Bound = ⊥
-EndsLong held holding ReadFault = ⊥
 
 -- Below, D, `clean` and `stands` are as in Run. `before` and `left` are what the reader will give,
 -- at the start and at the end, `held` and `holding` what the writer holds, each where it is known.

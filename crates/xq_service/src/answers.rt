@@ -3,7 +3,7 @@ ghost use Rattle.std.specs.Prelude.{◌≡◌, MatchResult};
 ghost use Rattle.xq_atoms.specs.Address.{IsAddress};
 ghost use Rattle.xq_atoms.specs.declared.refusals.Code.TheVariants.{ProfAddress};
 ghost use Rattle.xq_rows.specs.Documents.{IsClean, IsOpen, Map, StandsFor};
-ghost use Rattle.xq_frame.specs.Request.{asked, query, put, remove as remove_one, list};
+ghost use Rattle.xq_frame.specs.Request.{request_meaning, query, put, remove as remove_one, list};
 ghost use Rattle.xq_service.specs.private.Work.{Tells, IsShort};
 
 use crate::evaluations::evaluate;
@@ -37,7 +37,7 @@ pub(crate) fn carry_out<S: Alter + Drop>(
     request: Request<'_>,
 ) -> Result<Answer, Fault>
     ensures tells { IsClean S.Store store.new → (m : Map) → StandsFor S.Store store.old m
-        → (later : Map) × Tells m (asked request.entry) later result
+        → (later : Map) × Tells m (request_meaning request.entry) later result
         × StandsFor S.Store store.new later }
     ensures was_clean { IsClean S.Store store.new → IsClean S.Store store.old }
     ensures was_open { IsClean S.Store store.new → IsOpen S.Store store.new

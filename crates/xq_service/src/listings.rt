@@ -1,11 +1,12 @@
 //! The text of a list of addresses.
-ghost use Rattle.std.specs.Prelude.{◌≡◌, ◌++◌, IfOk, OnOk, map, string_bytes, string_len, ◌≤◌, IfErr, length, ◌<◌};
+ghost use Rattle.std.specs.Prelude.{◌≡◌, IfOk, map, string_bytes, string_len, ◌≤◌, IfErr, length, ◌<◌};
 ghost use Rattle.xq_atoms.specs.declared.refusals.Code.TheVariants.{ProfReply};
-ghost use Rattle.xq_service.specs.Answer.{listing as listing_lem, literal_of};
-ghost use Rattle.xq_service.specs.private.Work.{IsRefusal};
+ghost use Rattle.xq_atoms.specs.declared.refusals.Want.TheVariants.{Memory};
+ghost use Rattle.xq_atoms.specs.Answers.{RefusesFor};
+ghost use Rattle.xq_service.specs.Answer.{listing as listing_lem};
 
-use std::alloc::{AllocError, Global};
-use xq_atoms::{Code, Fault};
+use std::alloc::Global;
+use xq_atoms::{Code, Fault, Want, append_quoted};
 use xq_frame::MAX_TEXT;
 
 /// The addresses as string literals, joined by commas; `()` where there are none. A text too
@@ -14,7 +15,7 @@ pub(crate) fn listing(alloc: Global, addresses: &[String]) -> Result<String, Fau
     ensures value { IfOk result (λ text. string_bytes text
         ≡ listing_lem (map string_bytes addresses.now)) }
     ensures short { IfOk result (λ text. string_len text ≤ MAX_TEXT) }
-    ensures refused { IfErr result (IsRefusal ProfReply
+    ensures refused { IfErr result (RefusesFor ProfReply
         (MAX_TEXT < length (listing_lem (map string_bytes addresses.now)))) }
 {
     let text = joined(alloc, addresses)?;
@@ -24,29 +25,20 @@ pub(crate) fn listing(alloc: Global, addresses: &[String]) -> Result<String, Fau
     Ok(text)
 }
 
-fn joined(alloc: Global, addresses: &[String]) -> Result<String, AllocError>
-    ensures { IfOk result (λ text. string_bytes text
+fn joined(alloc: Global, addresses: &[String]) -> Result<String, Want>
+    ensures text { IfOk result (λ text. string_bytes text
         ≡ listing_lem (map string_bytes addresses.now)) }
+    ensures want { IfErr result (λ want. want ≡ Memory) }
 {
     let mut text = String::new(alloc);
     let [first, others @ ..] = addresses else {
         text.push_str("()")?;
         return Ok(text);
     };
-    push_literal(&mut text, first.as_str())?;
+    append_quoted(first.as_str(), &mut text)?;
     for address in others {
         text.push_str(", ")?;
-        push_literal(&mut text, address.as_str())?;
+        append_quoted(address.as_str(), &mut text)?;
     }
     Ok(text)
-}
-
-/// An address holds no character that a string literal would write otherwise.
-fn push_literal(text: &mut String, address: &str) -> Result<(), AllocError>
-    ensures { OnOk result (string_bytes text.new
-        ≡ string_bytes text.old ++ literal_of address.now) }
-{
-    text.push_str("\"")?;
-    text.push_str(address)?;
-    text.push_str("\"")
 }

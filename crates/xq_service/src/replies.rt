@@ -2,7 +2,7 @@
 ghost use Rattle.std.specs.Prelude.{◌≡◌, ◌+◌, ◌≤◌, ◌++◌, ◌⊎◌, length, vec_len, vec_capacity};
 ghost use Rattle.xq_atoms.specs.Code.{want_text};
 ghost use Rattle.xq_atoms.specs.declared.refusals.Want.TheVariants.{Memory};
-ghost use Rattle.xq_frame.specs.Reply.{reply_bytes};
+ghost use Rattle.xq_frame.specs.Reply.{reply_bytes, longest_text};
 ghost use Rattle.xq_service.specs.private.Work.{IsShort, Writes};
 
 use crate::answers::Answer;
@@ -30,7 +30,7 @@ pub(crate) fn write_reply(out: &mut Vec<u8>, tag: u32, answer: Result<Answer, Fa
 
 fn write_text(out: &mut Vec<u8>, tag: u32, text: &str)
     requires room { vec_len out.old + 32 ≤ vec_capacity out.old }
-    requires short { length text.now ≤ 16777216 }
+    requires short { length text.now ≤ longest_text }
     ensures { (out.new.items ≡ out.old.items ++ reply_bytes tag 0 text.now)
         ⊎ (out.new.items ≡ out.old.items ++ reply_bytes tag 2 (want_text Memory)) }
 {
@@ -44,7 +44,7 @@ fn write_text(out: &mut Vec<u8>, tag: u32, text: &str)
 fn write(out: &mut Vec<u8>, tag: u32, status: u8, text: &str)
     requires room { vec_len out.old + (length text.now + 9) ≤ vec_capacity out.old }
     requires status { status ≤ 2 }
-    requires short { length text.now ≤ 16777216 }
+    requires short { length text.now ≤ longest_text }
     ensures { out.new.items ≡ out.old.items ++ reply_bytes tag status text.now }
 {
     let header = reply_header(tag, status, text.len());

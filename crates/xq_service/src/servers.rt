@@ -3,9 +3,10 @@
 ghost use Rattle.std.specs.Prelude.{◌≡◌, ◌+◌, ◌<◌, ◌++◌, ◌⊎◌, OnOk, OnErr, IfErr, vec_len, vec_capacity};
 ghost use Rattle.xq_atoms.specs.declared.refusals.Want.TheVariants.{Memory};
 ghost use Rattle.xq_rows.specs.Documents.{IsClean, IsOpen, StandsFor};
-ghost use Rattle.xq_frame.specs.Request.{asked};
+ghost use Rattle.xq_frame.specs.Request.{request_meaning};
 ghost use Rattle.xq_service.specs.Run.{Reply, Answered, RunsTo, long_reply};
-ghost use Rattle.xq_service.specs.Service.{Serves, EndsLong};
+ghost use Rattle.xq_service.specs.Service.{Serves};
+ghost use Rattle.xq_service.specs.private.Ends.{EndsLong};
 
 use crate::answers::carry_out;
 use crate::ends::End;
@@ -59,7 +60,7 @@ impl<S: Alter + Drop> Server<S> {
     pub fn answer(&mut self, frame: &Frame<'_>, out: &mut Vec<u8>) -> Result<(), Want>
         ensures ok { OnOk result ((reply : Reply)
             × Answered (IsClean S.Store) (StandsFor S.Store) self.old self.new
-            frame.now.tag (asked frame.now.request) out.old.items out.new.items reply) }
+            frame.now.tag (request_meaning frame.now.request) out.old.items out.new.items reply) }
         ensures err { OnErr result ((self.new ≡ self.old) × (out.new.items ≡ out.old.items)) }
         ensures full { OnErr result (vec_capacity out.old < vec_len out.old + 32) }
         ensures memory { IfErr result (λ want. want ≡ Memory) }

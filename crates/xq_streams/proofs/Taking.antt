@@ -6,7 +6,7 @@ use Rattle.std.proofs.Math.Seq.{take-append_seam, take-length}
 use Rattle.std.proofs.KnownBytes.{Consumes-trans}
 use Rattle.std.specs.Io.KnownBytes.{Consumes}
 use Rattle.std.specs.Int.{to_be_bytes, from_be_bytes, w32}
-use Rattle.xq_frame.specs.Frame.{frame_bytes, IsMessage, IsCut, announced, longest_message}
+use Rattle.xq_frame.specs.Frame.{frame_bytes, IsMessage, IsCut, announced_length, longest_message}
 
 pub full_frame : (a b c : Option (List ℕ)) (head new message : List ℕ) (size : ℕ) → length head ≡ 4 → to_be_bytes w32 size ≡ take 4 head
     → size ≤ longest_message → Consumes a b head → Consumes b c new → length new ≡ size → message ≡ new
@@ -23,10 +23,10 @@ full_frame a b c head new message size four said small first second long same =
       ),
     )
 
-pub cut_frame : (head part : List ℕ) (size : ℕ) → length head ≡ 4 → size ≡ announced head → size ≤ longest_message → length part < size → IsCut (head ++ part)
+pub cut_frame : (head part : List ℕ) (size : ℕ) → length head ≡ 4 → size ≡ announced_length head → size ≤ longest_message → length part < size → IsCut (head ++ part)
 cut_frame head part size four said small short =
     let long : length (head ++ part) ≡ 4 + length part = grind (arith, common_steps) in
-    let same : announced (head ++ part) ≡ size = ap (from_be_bytes w32) (take-append-le 4 head part (omega (arith, four))) ∙ sym said in
+    let same : announced_length (head ++ part) ≡ size = ap (from_be_bytes w32) (take-append-le 4 head part (omega (arith, four))) ∙ sym said in
     (omega (arith, long), inr (omega (arith, same, small), omega (arith, same, long, short)))
 
 -- what a vector holds once its slice was written whole

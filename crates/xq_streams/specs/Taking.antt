@@ -1,9 +1,7 @@
 -- What is taken from a reader for one frame.
-use Rattle.std.specs.Prelude.{◌≡◌, ℕ, ◌<◌, ◌≤◌, List, [], length, take, Option, ◌⊎◌}
-use Rattle.std.specs.Io.KnownBytes.{Consumes, IsAtEnd}
-use Rattle.xq_frame.specs.Frame.{frame_bytes, IsMessage, IsCut, announced, longest_message}
-use Rattle.xq_streams.specs.declared.messages.Filled.{Filled}
-use Rattle.xq_streams.specs.declared.messages.Filled.TheVariants.{Full, Ended, Fault as Broken}
+use Rattle.std.specs.Prelude.{◌≡◌, ℕ, ◌<◌, ◌≤◌, List, [], length, Option, ◌⊎◌}
+use Rattle.std.specs.Io.KnownBytes.{IsAtEnd}
+use Rattle.xq_frame.specs.Frame.{frame_bytes, IsMessage, IsCut, announced_length, longest_message}
 use Rattle.xq_streams.specs.declared.messages.Taken.{Taken}
 use Rattle.xq_streams.specs.declared.messages.Taken.TheVariants.{Message, End, Cut, TooLong, Fault, NoRoom}
 
@@ -13,11 +11,11 @@ IsPart bytes = (bytes ≡ []) ⊎ IsCut bytes
 
 -- the length of a message, within the limit, and nothing after it
 abbrev pub IsHead : List ℕ → Type 0
-IsHead bytes = (length bytes ≡ 4) × (announced bytes ≤ longest_message)
+IsHead bytes = (length bytes ≡ 4) × (announced_length bytes ≤ longest_message)
 
 -- a length over the limit, and nothing after it
 abbrev pub IsLongHead : List ℕ → Type 0
-IsLongHead bytes = (length bytes ≡ 4) × (longest_message < announced bytes)
+IsLongHead bytes = (length bytes ≡ 4) × (longest_message < announced_length bytes)
 
 -- what was taken for this answer, and what the reader has left
 abbrev pub Takes : Taken → List ℕ → Option (List ℕ) → Type 0
@@ -27,9 +25,3 @@ Takes Cut taken left = IsCut taken × IsAtEnd left
 Takes TooLong taken left = IsLongHead taken
 Takes Fault taken left = IsPart taken
 Takes NoRoom taken left = IsHead taken
-
--- the buffer, or a front of it, was taken
-abbrev pub Fills : Option (List ℕ) → Option (List ℕ) → List ℕ → Filled → Type 0
-Fills old new buf Full = Consumes old new buf
-Fills old new buf (Ended n) = Consumes old new (take n buf) × (n < length buf) × IsAtEnd new
-Fills old new buf (Broken n) = Consumes old new (take n buf) × (n < length buf)

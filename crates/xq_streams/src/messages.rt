@@ -1,7 +1,8 @@
 //! The message of one frame, taken from a reader.
 ghost use Rattle.std.specs.Prelude.{◌≡◌, ◌≤◌, ℕ, List};
 ghost use Rattle.std.specs.Io.KnownBytes.{Consumes};
-ghost use Rattle.xq_streams.specs.Taking.{Fills, Takes};
+ghost use Rattle.xq_streams.specs.Taking.{Takes};
+ghost use Rattle.xq_streams.specs.private.Filling.{Fills};
 
 use crate::tries::Tries;
 use std::alloc::Global;

@@ -5,7 +5,8 @@ use Rattle.std.proofs.lemmas.List.{append_assoc, append-nil}
 use Rattle.std.proofs.lemmas.Str.{encode_ascii, inside_one, length-encode, len_utf8_bounds}
 use Rattle.std.proofs.lemmas.Bool.{cases_lt, false≢true, ne_eqb}
 use Rattle.std.proofs.lemmas.Bool.Decides.{nat_tests}
-use Rattle.xq_atoms.specs.Text.{Text, is_space}
+use Rattle.xq_atoms.specs.Text.{Text}
+use Rattle.xq_characters.specs.Characters.{is_space}
 use Rattle.xq_values.specs.Texts.{pieces_of, cut_at, words, joined}
 use Rattle.xq_texts.specs.private.Words.{spaced, not_empty, continued}
 

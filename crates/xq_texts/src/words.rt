@@ -1,11 +1,11 @@
 //! Words between white space.
 ghost use Rattle.std.specs.Prelude.{◌≡◌, ◌++◌, ℕ, List, encode_utf8, IfOk, IfErr, string_bytes};
-ghost use Rattle.xq_atoms.specs.Text as Text;
 ghost use Rattle.xq_values.specs.Texts as Texts;
 ghost use Rattle.xq_texts.specs.private.Words.{continued};
 
 use std::alloc::Global;
 use xq_atoms::Want;
+use xq_characters::is_space;
 
 /// The text without white space at its ends, and with one space for each run of white space in it
 /// (fn:normalize-space, F&O 3.1, section 5.4.5).
@@ -38,11 +38,4 @@ fn push_character(words: &mut String, is_apart: bool, character: char) -> Result
     }
     words.push(character)?;
     Ok(false)
-}
-
-/// Whether the character is white space (XML 1.0, section 2.3).
-fn is_space(character: char) -> bool
-    ensures { result ≡ Text.is_space character }
-{
-    matches!(character, ' ' | '\t' | '\r' | '\n')
 }

@@ -2,12 +2,12 @@
 use Rattle.std.proofs.Common.{◌≡◌, ℕ, ◌+◌, ◌<◌, ◌≤◌, List, [], ◌∷◌, ◌++◌, length, take, drop, get_or, Bool, true, false, cond, ap, sym, ◌∙◌, arith}
 use Rattle.std.specs.List.{SwappedAt}
 use Rattle.std.proofs.lemmas.List.{take_more, take_all, take-set-le, drop-set-lt, drop_more, length-set, append-nil, length-take-le}
-use Rattle.xq_regions.specs.Tuples.{kept}
+use Rattle.xq_regions.specs.Tuples.{satisfying}
 use Rattle.xq_tuples.proofs.Lists.{kept-push}
 
 -- ys began as xs. What is kept of the first i of xs stands in the first k places of ys, and from i on ys is as it was
 pub record KeepsInPlace {X : Type 0} (xs : List X) (tests : List Bool) (ys : List X) (k i : ℕ) : Type 0 where
-  pub front : take k ys ≡ kept (take i xs) (take i tests)
+  pub front : take k ys ≡ satisfying (take i xs) (take i tests)
   pub rest : drop i ys ≡ drop i xs
   pub behind : k ≤ i
   pub long : length ys ≡ length xs
@@ -18,13 +18,13 @@ element [] h = absurd (omega arith)
 element (x ∷ xs) h = x
 
 module _ {X : Type 0} {xs : List X} {tests : List Bool} {ys : List X} {k i : ℕ} where
-  pub KeepsInPlace-all : KeepsInPlace xs tests ys k i → length xs ≤ i → length tests ≤ i → take k ys ≡ kept xs tests
-  KeepsInPlace-all h p q = h.front ∙ ap (λ l. kept l (take i tests)) (take_all i xs p) ∙ ap (kept xs) (take_all i tests q)
+  pub KeepsInPlace-all : KeepsInPlace xs tests ys k i → length xs ≤ i → length tests ≤ i → take k ys ≡ satisfying xs tests
+  KeepsInPlace-all h p q = h.front ∙ ap (λ l. satisfying l (take i tests)) (take_all i xs p) ∙ ap (satisfying xs) (take_all i tests q)
 
   step : (x : X) (b : Bool) → KeepsInPlace xs tests ys k i → i < length xs → i < length tests → get_or tests i b ≡ b
-      → kept (take (i + 1) xs) (take (i + 1) tests) ≡ take k ys ++ cond b (get_or xs i x ∷ []) []
+      → satisfying (take (i + 1) xs) (take (i + 1) tests) ≡ take k ys ++ cond b (get_or xs i x ∷ []) []
   step x b h p q e =
-      ap (λ l. kept l (take (i + 1) tests)) (take_more xs i x p) ∙ ap (kept (take i xs ++ get_or xs i x ∷ [])) (take_more tests i b q ∙ ap (λ c. take i tests ++ c ∷ []) e)
+      ap (λ l. satisfying l (take (i + 1) tests)) (take_more xs i x p) ∙ ap (satisfying (take i xs ++ get_or xs i x ∷ [])) (take_more tests i b q ∙ ap (λ c. take i tests ++ c ∷ []) e)
       ∙ kept-push (take i xs) (take i tests) (get_or xs i x) b (length-take-le i xs (omega arith) ∙ sym (length-take-le i tests (omega arith)))
       ∙ ap (λ l. l ++ cond b (get_or xs i x ∷ []) []) (sym h.front)
 

@@ -4,7 +4,7 @@ use Rattle.std.specs.List.{zip, enumerate_from, filter, list_all}
 use Rattle.std.proofs.lemmas.List.{map-id, map-append}
 use Rattle.std.proofs.lemmas.List.Elements.{filter-append}
 pub use mathlib.Core.List.{map-map}
-use Rattle.xq_regions.specs.Tuples.{kept}
+use Rattle.xq_regions.specs.Tuples.{satisfying}
 
 pub list_all-map : {A B : Type 0} (p : B → Bool) (f : A → B) (xs : List A) → list_all p (map f xs) ≡ list_all (λ x. p (f x)) xs
 list_all-map p f [] = refl
@@ -38,16 +38,16 @@ one_kept : {A : Type 0} (x : A) (b : Bool) → map (λ (p : A × Bool). p.0) (fi
 one_kept x true = refl
 one_kept x false = refl
 
-pub kept-push : {A : Type 0} (xs : List A) (tests : List Bool) (x : A) (b : Bool) → length xs ≡ length tests → kept (xs ++ x ∷ []) (tests ++ b ∷ []) ≡ kept xs tests ++ cond b (x ∷ []) []
+pub kept-push : {A : Type 0} (xs : List A) (tests : List Bool) (x : A) (b : Bool) → length xs ≡ length tests → satisfying (xs ++ x ∷ []) (tests ++ b ∷ []) ≡ satisfying xs tests ++ cond b (x ∷ []) []
 kept-push xs tests x b e =
-    ap (λ ps. map (λ p. p.0) (filter (λ p. p.1) ps)) (zip-push xs tests x b e) ∙ ap (map (λ p. p.0)) (filter-append (λ p. p.1) (zip xs tests) ((x, b) ∷ [])) ∙ map-append (λ p. p.0) (filter (λ p. p.1) (zip xs tests)) _ ∙ ap (λ l. kept xs tests ++ l) (one_kept x b)
+    ap (λ ps. map (λ p. p.0) (filter (λ p. p.1) ps)) (zip-push xs tests x b e) ∙ ap (map (λ p. p.0)) (filter-append (λ p. p.1) (zip xs tests) ((x, b) ∷ [])) ∙ map-append (λ p. p.0) (filter (λ p. p.1) (zip xs tests)) _ ∙ ap (λ l. satisfying xs tests ++ l) (one_kept x b)
 
 -- what a loop over a list and its places has yielded, where f reads the elements
 pub counted-yielded : {A B : Type 0} (f : A → B) (xs : List A) (ps : List (ℕ × A)) → map (λ p. p) ps ≡ enumerate_from 0 xs → map (λ p. (p.0 + 1, f p.1)) ps ≡ enumerate_from 1 (map f xs)
 counted-yielded f xs ps e =
     ap (map (λ p. (p.0 + 1, f p.1))) (sym (map-id ps) ∙ e) ∙ sym (map-map (λ p. (p.0, f p.1)) (λ p. (p.0 + 1, p.1)) (enumerate_from 0 xs)) ∙ ap (map (λ p. (p.0, f p.1))) (sym (enumerate_from-more 0 xs)) ∙ sym (enumerate_from-map f 1 xs)
 
-pub kept-map : {A B : Type 0} (f : A → B) (xs : List A) (tests : List Bool) → map f (kept xs tests) ≡ kept (map f xs) tests
+pub kept-map : {A B : Type 0} (f : A → B) (xs : List A) (tests : List Bool) → map f (satisfying xs tests) ≡ satisfying (map f xs) tests
 kept-map f [] tests = refl
 kept-map f (x ∷ xs) [] = refl
 kept-map f (x ∷ xs) (true ∷ tests) = ap (λ ys. f x ∷ ys) (kept-map f xs tests)

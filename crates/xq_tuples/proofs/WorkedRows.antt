@@ -2,7 +2,7 @@
 use Rattle.std.specs.Prelude.{◌≡◌, refl, ℕ, ◌*◌, List, [], ◌∷◌, map, pos, true, false, Ok, Err, codes}
 use Rattle.xq_atoms.specs.declared.refusals.Code.TheVariants.{XPTY0004}
 use Rattle.xq_atoms.specs.Atom.{Atomic, Integer, Decimal, String, Untyped}
-use Rattle.xq_regions.specs.Tuples.{Tuple, OrderRule, value_at, bound, kept, expanded, grouped, ordered}
+use Rattle.xq_regions.specs.Tuples.{Tuple, OrderRule, value_at, bound, satisfying, expanded, grouped, ordered}
 use Rattle.xq_regions.specs.Items.{ItemView, Value}
 
 abbrev int : ℕ → Atomic
@@ -43,7 +43,7 @@ column_row = refl
 bind_row : bound numbered (one x ∷ one x ∷ []) ≡ two
 bind_row = refl
 
-keep_row : kept two (false ∷ true ∷ []) ≡ (one (int 8) ∷ one (int 2) ∷ one x ∷ []) ∷ []
+keep_row : satisfying two (false ∷ true ∷ []) ≡ (one (int 8) ∷ one (int 2) ∷ one x ∷ []) ∷ []
 keep_row = refl
 
 group_row : grouped Value (2 ∷ []) two (keys x x) ≡ Ok (((Value (int 7) ∷ Value (int 8) ∷ []) ∷ (Value (int 1) ∷ Value (int 2) ∷ []) ∷ one x ∷ []) ∷ [])

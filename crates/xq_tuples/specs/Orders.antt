@@ -1,21 +1,6 @@
--- What contracts see of specifications and of tuples with what they are ordered by.
-use Rattle.std.specs.Prelude.{List, map}
-use Rattle.std.specs.declared.cmp.Ordering.{Ordering}
-use Rattle.xq_atoms.specs.Compare.{Key}
-use Rattle.xq_regions.specs.Tuples.{Tuple, OrderRule, keys_cmp}
+-- What contracts see of the specifications of an order.
+use Rattle.xq_regions.specs.Tuples.{OrderRule}
 use Rattle.xq_tuples.specs.declared.rows.OrderSpec.{OrderSpec}
-use Rattle.xq_tuples.specs.declared.rows.Ranked.{Ranked}
-use Rattle.xq_regions.specs.Items.{ItemView}
-use Rattle.xq_tuples.specs.Views.{tuple_of}
-use Rattle.xq_tuples.specs.private.Groups.{compared_of}
 
 abbrev pub rule_of : OrderSpec → OrderRule
 rule_of spec = record { descending = spec.descending; greatest = spec.greatest }
-
-abbrev pub ranked_of : Ranked → Tuple ItemView × List Key
-ranked_of row = (tuple_of row.tuple, compared_of row.keys)
-
--- the order of two tuples with their keys
-abbrev pub by_keys : List OrderSpec → Tuple ItemView × List Key → Tuple ItemView × List Key
-    → Ordering
-by_keys specs p q = keys_cmp (map rule_of specs) p.1 q.1

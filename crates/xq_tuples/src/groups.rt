@@ -5,7 +5,7 @@ ghost use Rattle.std.specs.List.{flat_map, zip};
 ghost use Rattle.xq_regions.specs.Tuples.{groups, same_keys, slot_key, key_items, grouped_tuple, value_at};
 ghost use Rattle.xq_regions.specs.Items.{Value as AtomView, item_views};
 ghost use Rattle.xq_tuples.specs.Views.{tuple_of};
-ghost use Rattle.xq_tuples.specs.Keys.{key_view, keys_of};
+ghost use Rattle.xq_tuples.specs.private.KeyRows.{key_view, keys_of};
 ghost use Rattle.xq_tuples.specs.private.Groups.{Gathers, keyed_of, group_of};
 
 use crate::keys::compared_keys;

@@ -4,7 +4,10 @@ ghost use Rattle.std.specs.List.{list_all};
 ghost use Rattle.xq_atoms.specs.Atom.{atomic_of};
 ghost use Rattle.xq_atoms.specs.Compare.{key_of};
 ghost use Rattle.xq_regions.specs.Tuples.{is_key, as_string, key_value, are_keys, extended, comparison_keys};
-ghost use Rattle.xq_tuples.specs.Keys.{Refuses, atomics_of, column_of, columns_of, key_view, keys_of, rows_of};
+ghost use Rattle.xq_tuples.specs.Keys.{atomics_of, column_of, columns_of};
+ghost use Rattle.xq_tuples.specs.private.KeyRows.{key_view, keys_of, rows_of};
+ghost use Rattle.xq_atoms.specs.Answers.{RefusesFor};
+ghost use Rattle.xq_atoms.specs.declared.refusals.Code.TheVariants.{XPTY0004};
 
 use std::alloc::Global;
 use xq_atoms::{Atom, Code, Fault, GroupKey, Want};
@@ -38,7 +41,8 @@ fn single_key(mut values: Vec<Atom>) -> Result<Option<Atom>, Code>
 pub fn key_column(alloc: Global, column: Vec<Vec<Atom>>) -> Result<Vec<Option<Atom>>, Fault>
     ensures are_keys { IfOk result (λ _. list_all is_key (column_of column) ≡ true) }
     ensures keys { IfOk result (λ keys. keys_of keys ≡ map key_value (column_of column)) }
-    ensures refused { IfErr result (Refuses (list_all is_key (column_of column) ≡ false)) }
+    ensures refused { IfErr result
+        (RefusesFor XPTY0004 (list_all is_key (column_of column) ≡ false)) }
 {
     let mut keys = Vec::with_capacity(alloc, column.len())?;
     for values in column {
@@ -55,7 +59,7 @@ pub fn key_columns(
     ensures are_keys { IfOk result (λ _. are_keys (columns_of columns) ≡ true) }
     ensures keys { IfOk result (λ keys. map keys_of keys.items
         ≡ map (map key_value) (columns_of columns)) }
-    ensures refused { IfErr result (Refuses (are_keys (columns_of columns) ≡ false)) }
+    ensures refused { IfErr result (RefusesFor XPTY0004 (are_keys (columns_of columns) ≡ false)) }
 {
     let mut keys = Vec::with_capacity(alloc, columns.len())?;
     for column in columns {

@@ -4,9 +4,12 @@ ghost use Rattle.std.specs.List.{list_all, zip};
 ghost use Rattle.xq_atoms.specs.Compare.{key_of, of_one_kind};
 ghost use Rattle.xq_regions.specs.Tuples.{is_nothing, placed_cmp, rule_cmp, keys_cmp, are_of_one_kind, sort_keys, can_order, sorted};
 ghost use Rattle.xq_tuples.specs.Views.{tuple_of};
-ghost use Rattle.xq_tuples.specs.Keys.{column_of, columns_of, Refuses};
+ghost use Rattle.xq_tuples.specs.Keys.{column_of, columns_of};
 ghost use Rattle.xq_tuples.specs.private.Groups.{compared_of};
-ghost use Rattle.xq_tuples.specs.Orders.{rule_of, ranked_of, by_keys};
+ghost use Rattle.xq_tuples.specs.Orders.{rule_of};
+ghost use Rattle.xq_tuples.specs.private.Ranks.{ranked_of, by_keys};
+ghost use Rattle.xq_atoms.specs.Answers.{RefusesFor};
+ghost use Rattle.xq_atoms.specs.declared.refusals.Code.TheVariants.{XPTY0004};
 
 use crate::keys::{compared_keys, key_column};
 use crate::rows::{OrderSpec, Ranked};
@@ -57,7 +60,7 @@ fn are_of_one_kind(keys: &[GroupKey]) -> bool
 fn sort_column(alloc: Global, column: Vec<Vec<Atom>>) -> Result<Vec<GroupKey>, Fault>
     ensures can_order { IfOk result (λ _. can_order (column_of column) ≡ true) }
     ensures keys { IfOk result (λ keys. compared_of keys ≡ sort_keys (column_of column)) }
-    ensures refused { IfErr result (Refuses (can_order (column_of column) ≡ false)) }
+    ensures refused { IfErr result (RefusesFor XPTY0004 (can_order (column_of column) ≡ false)) }
 {
     let keys = key_column(alloc, column)?;
     let keys = compared_keys(alloc, &keys)?;
@@ -76,7 +79,8 @@ pub fn sort_columns(
     ensures can_order { IfOk result (λ _. list_all can_order (columns_of columns) ≡ true) }
     ensures keys { IfOk result (λ keys. map compared_of keys.items
         ≡ map sort_keys (columns_of columns)) }
-    ensures refused { IfErr result (Refuses (list_all can_order (columns_of columns) ≡ false)) }
+    ensures refused { IfErr result
+        (RefusesFor XPTY0004 (list_all can_order (columns_of columns) ≡ false)) }
 {
     let mut keys = Vec::with_capacity(alloc, columns.len())?;
     for column in columns {

@@ -1,7 +1,8 @@
 //! The stream of tuples, and the clauses that make one stream of another.
 ghost use Rattle.std.specs.Prelude.{◌≡◌, ◌<◌, [], ◌∷◌, length, map, slice_index_or, All, IsTrue, ◌↔◌, IfOk, IfErr, Ok};
-ghost use Rattle.xq_regions.specs.Tuples.{bound, expanded, grouped, kept, ordered, value_at};
-ghost use Rattle.xq_tuples.specs.Keys.{IsRefusal, columns_of};
+ghost use Rattle.xq_regions.specs.Tuples.{bound, expanded, grouped, satisfying, ordered, value_at};
+ghost use Rattle.xq_tuples.specs.Keys.{columns_of};
+ghost use Rattle.xq_atoms.specs.Answers.{IsRefusal};
 ghost use Rattle.xq_tuples.specs.Orders.{rule_of};
 ghost use Rattle.xq_tuples.specs.Views.{values_of};
 ghost use Rattle.xq_regions.specs.Items.{Value as AtomView, item_view, item_views};
@@ -130,7 +131,7 @@ impl Tuples {
     /// `where`: the stream of the tuples at whose places `tests` holds.
     pub fn keep(self, tests: &[bool]) -> Tuples
         requires { length tests.now ≡ length self }
-        ensures { result ≡ kept self tests.now }
+        ensures { result ≡ satisfying self tests.now }
     {
         let mut tuples = self.tuples;
         let mut count = 0;

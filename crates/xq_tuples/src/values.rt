@@ -56,7 +56,8 @@ fn with_item(
 ) -> Result<Tuple, Want>
     requires { position < 2 ^ 63 }
     ensures tuple { IfOk result (λ longer.
-        tuple_of longer ≡ values_of tuple.now ++ item_values AtomView at position (item_view item)) }
+        tuple_of longer ≡ values_of tuple.now
+        ++ item_values AtomView at position (item_view item)) }
     ensures want { IfErr result (λ want. want ≡ Want.Memory) }
 {
     let mut longer = tuple.to_vec(alloc)?;

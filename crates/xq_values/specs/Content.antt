@@ -12,13 +12,14 @@ use Rattle.xq_expressions.specs.declared.operators.UnnamedNode.TheVariants as un
 use Rattle.xq_regions.specs.declared.Kind.{Kind}
 use Rattle.xq_regions.specs.declared.Kind.TheVariants as kind
 use Rattle.xq_atoms.specs.Judged.{Judged, ◌>>=◌, only_if}
-use Rattle.xq_atoms.specs.Text.{Text, is_empty, is_space, text_eq, trimmed, after_leading}
+use Rattle.xq_atoms.specs.Text.{Text, is_empty, text_eq}
+use Rattle.xq_characters.specs.Characters.{is_space, is_name}
+use Rattle.xq_characters.specs.Spaces.{trimmed, after_leading}
 use Rattle.xq_atoms.specs.Atom.{Atomic, String, Untyped}
 use Rattle.xq_atoms.specs.Cast.{text_of}
-use Rattle.xq_characters.specs.Characters.{is_name}
 use Rattle.xq_regions.specs.Names.{is_xml, holds, ends_with_dash}
 use Rattle.xq_regions.specs.Forest.{Forest, end, node, count, tops, join}
-use Rattle.xq_regions.specs.Tree.{Label, Tree, nodes, is_attribute}
+use Rattle.xq_regions.specs.Tree.{Label, Tree, nodes, is_attribute, most_levels, most_nodes}
 use Rattle.xq_values.specs.Texts.{joined}
 use Rattle.xq_values.specs.Items.{Item, Node, Atom, tree_below, atomized}
 
@@ -153,8 +154,8 @@ is_within_height (suc n) (node a below beside) =
 
 abbrev pub within_limits : Tree → Judged Tree
 within_limits t =
-    if not (is_within_height 101 (nodes t)) then Err ProfLevel
-    else if not (nat_le (count (nodes t)) 1000000) then Err ProfNodes
+    if not (is_within_height most_levels (nodes t)) then Err ProfLevel
+    else if not (nat_le (count (nodes t)) most_nodes) then Err ProfNodes
     else Ok t
 
 abbrev pub unless_fault : Option Code → Tree → Judged Tree

@@ -6,7 +6,7 @@ use Rattle.std.specs.Prelude.{ℕ, pos, List, [], ◌∷◌, map, length, revers
 use Rattle.std.specs.List.{list_all, range_with_len}
 use Rattle.std.specs.Ordering.{is_lt, is_gt}
 use Rattle.xq_atoms.specs.declared.refusals.Code.TheVariants.{XPST0017, XPDY0002, FODC0002, FODC0005, FORG0003, FORG0004, FORG0005, FORG0006, ProfDouble}
-use Rattle.xq_atoms.specs.Address.{is_address_byte}
+use Rattle.xq_atoms.specs.Address.{is_address_byte, longest_address}
 use Rattle.xq_atoms.specs.Judged.{Judged, ◌>>=◌, only_if}
 use Rattle.xq_atoms.specs.Text.{Text, text_eq}
 use Rattle.xq_atoms.specs.Atom.{Atomic, Integer, Decimal, Untyped}
@@ -32,7 +32,8 @@ pub record Focus : Type 0 where
 -- # 14.6: documents, which are the first trees, in the order of their addresses
 
 abbrev pub is_address : Text → Bool
-is_address t = nat_lt 0 (length t) && (nat_le (length t) 200 && list_all is_address_byte t)
+is_address t = nat_lt 0 (length t)
+    && (nat_le (length t) longest_address && list_all is_address_byte t)
 
 -- the root of the tree at that address, among those from number n on
 abbrev pub document_from : ℕ → List Text → Text → Judged (List Item)

@@ -110,9 +110,12 @@ integers_within false m n = Err ProfRange
 abbrev pub how_many : ℤ → ℤ → ℕ
 how_many m n = if int_lt n m then 0 else nat_abs (n -ℤ m) + 1
 
--- the integers from the first to the last, at most a million of them
+abbrev pub most_integers : ℕ
+most_integers = 1000000
+
+-- the integers from the first to the last, at most so many
 abbrev pub integers : ℤ → ℤ → Judged (List Item)
-integers m n = integers_within (nat_le (how_many m n) 1000000) m (how_many m n)
+integers m n = integers_within (nat_le (how_many m n) most_integers) m (how_many m n)
 
 abbrev pub range : List Tree → List Item → List Item → Judged (List Item)
 range trees xs ys = of_both one_bound integers (atomized trees xs) (atomized trees ys)

@@ -1,5 +1,5 @@
 -- The text of a result: items as expressions that give them, joined by a comma and a space.
-use Rattle.std.specs.Prelude.{List, [], ◌∷◌, map, length, nat_le, codes}
+use Rattle.std.specs.Prelude.{ℕ, List, [], ◌∷◌, map, length, nat_le, codes}
 use Rattle.xq_atoms.specs.declared.refusals.Code.TheVariants.{ProfReply}
 use Rattle.xq_atoms.specs.Judged.{Judged, only_if}
 use Rattle.xq_atoms.specs.Text.{Text}
@@ -17,6 +17,9 @@ abbrev pub print_items : List Tree → List Item → Text
 print_items trees [] = codes "()"
 print_items trees (x ∷ xs) = joined (codes ", ") (map (print_item trees) (x ∷ xs))
 
--- a text of at most 16,777,216 bytes
+-- the greatest length of a text, in bytes
+abbrev pub longest_text : ℕ
+longest_text = 16777216
+
 abbrev pub within_reply : Text → Judged Text
-within_reply t = only_if (nat_le (length t) 16777216) ProfReply t
+within_reply t = only_if (nat_le (length t) longest_text) ProfReply t

@@ -2,10 +2,10 @@
 -- code points, and a text stands in another one by characters exactly where it does by bytes.
 use Rattle.std.proofs.Common.{suc}
 use Rattle.std.specs.Prelude.{ℕ, ℤ, pos, ◌+ℤ◌, int_le, int_lt, List, [], ◌∷◌, ◌++◌, length, drop, filter, Bool, true, false, not, ◌&&◌, nat_eq, codes, if◌then◌else◌}
-use Rattle.std.specs.List.{starts_with as starts_by}
-use Rattle.std.specs.List.{ends_with as ends_by}
+use Rattle.std.specs.List.{starts_with as starts_by, ends_with as ends_by}
 use Rattle.std.specs.Str.{chars, encode_utf8_all}
-use Rattle.xq_atoms.specs.Text.{Text, is_space, is_empty}
+use Rattle.xq_atoms.specs.Text.{Text, is_empty}
+use Rattle.xq_characters.specs.Characters.{is_space}
 use Rattle.xq_regions.specs.Names.{holds}
 
 -- texts with a separator between them

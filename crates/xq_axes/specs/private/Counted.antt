@@ -17,7 +17,8 @@ pub record AreCounted (t : Tree) (vs : List ℕ) (counted : List Counted) : Type
   pub place : (i : ℕ) (d : Counted) → i < length counted
       → (slice_index_or counted i d).place ≡ slice_index vs i
   pub number : (i : ℕ) (d : Counted) → i < length counted
-      → AreAttributeRows (rows t) (slice_index_or counted i d).place (slice_index_or counted i d).number
+      → AreAttributeRows (rows t) (slice_index_or counted i d).place
+      (slice_index_or counted i d).number
 
 -- each number from low to high passes the test
 abbrev pub AreAll : (ℕ → Bool) → ℕ → ℕ → Type 0

@@ -3,7 +3,7 @@ use Rattle.std.specs.Prelude.{ℕ, ◌-◌, ◌≡◌, List, map}
 use Rattle.xq_regions.specs.Forest.{Forest, labels}
 use Rattle.xq_regions.specs.Tree.{Label, Tree, IsTree}
 use Rattle.xq_regions.specs.Rows.{measured, rows, row_at, row_of}
-use Rattle.xq_regions.specs.Print.{flat}
+use Rattle.xq_regions.specs.Levels.{flat}
 use Rattle.xq_regions.specs.declared.NodeRow.{NodeRow}
 use Rattle.xq_regions.specs.declared.items.Node.{Node}
 use Rattle.xq_sources.specs.Sources.{rows_between, tree_at, HasNode}

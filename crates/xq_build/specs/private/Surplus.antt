@@ -4,7 +4,7 @@ use Rattle.std.specs.List.{list_any}
 use Rattle.xq_atoms.specs.Text.{Text}
 use Rattle.xq_atoms.specs.declared.refusals.Code.{Code}
 use Rattle.xq_regions.specs.Forest.{Forest}
-use Rattle.xq_regions.specs.Tree.{Label, Tree, is_attribute}
+use Rattle.xq_regions.specs.Tree.{Label, Tree, is_attribute, most_nodes}
 use Rattle.xq_regions.specs.declared.Kind.{Kind}
 use Rattle.xq_regions.specs.declared.items.Node.{Node}
 use Rattle.xq_values.specs.Content.{is_text, copied, flattened}
@@ -26,7 +26,7 @@ is_late p = p.0 == 0 && not (is_text p.1.kind || is_attribute p.1.kind)
 
 -- there are too many nodes, and each later attribute is too late
 abbrev pub is_full : List Leaf → Bool
-is_full ps = nat_le 1000000 (firm_count ps) && list_any is_late ps
+is_full ps = nat_le most_nodes (firm_count ps) && list_any is_late ps
 
 abbrev pub is_top_attribute : Leaf → Bool
 is_top_attribute p = p.0 == 0 && is_attribute p.1.kind
@@ -40,16 +40,16 @@ pub record Alike (ps qs : List Leaf) : Type 0 where
   pub fault : (parent : Kind) (names : List Text) (late : Bool)
       → kept_fault parent names late ps ≡ kept_fault parent names late qs
   pub low : are_low ps ≡ are_low qs
-  pub few : firm_count ps < 1000000 → ps ≡ qs
-  pub many : 1000000 ≤ firm_count ps → 1000000 ≤ firm_count qs
+  pub few : firm_count ps < most_nodes → ps ≡ qs
+  pub many : most_nodes ≤ firm_count ps → most_nodes ≤ firm_count qs
 
 -- the same of content
 pub record StandsFor (ps : List Leaf) (f : Forest Label) : Type 0 where
   pub fault : (parent : Kind)
       → fault_from parent [] false ps ≡ fault_from parent [] false (leaves f)
   pub low : are_low ps ≡ are_low (leaves f)
-  pub few : length ps < 1000000 → ps ≡ leaves f
-  pub many : 1000000 ≤ length ps → 1000000 ≤ length (leaves f)
+  pub few : length ps < most_nodes → ps ≡ leaves f
+  pub many : most_nodes ≤ length ps → most_nodes ≤ length (leaves f)
 
 -- the copy of a node
 abbrev pub copy_of : List Tree → Node → List Leaf

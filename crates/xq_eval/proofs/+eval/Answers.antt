@@ -6,7 +6,7 @@ use Rattle.std.proofs.lemmas.List.Folds.{flat_map-map}
 use Rattle.xq_atoms.specs.Atom.{Atomic}
 use Rattle.xq_atoms.specs.declared.refusals.Code.TheVariants.{XPTY0019}
 use Rattle.xq_atoms.specs.declared.refusals.Fault.TheVariants.{Code as OfCode}
-use Rattle.xq_regions.specs.Tuples.{Tuple, expanded, bound, kept}
+use Rattle.xq_regions.specs.Tuples.{Tuple, expanded, bound, satisfying}
 use Rattle.xq_regions.specs.Items.{ItemView, Value, item_view, item_views}
 use Rattle.xq_tuples.specs.Views.{values_of}
 use Rattle.xq_values.specs.Items.{Item, Atom, atomized}
@@ -23,7 +23,8 @@ use Rattle.xq_meaning.specs.declared.plans.PlanClause.{PlanClause}
 use Rattle.xq_meaning.specs.Doing.{◌>>=◌, go_on, give, judged, on_trees, collected, in_turn, more, one_more, for_each, first_that}
 use Rattle.xq_meaning.specs.PlanMeaning.{Frame, Meaning, plan_mean, plan_clause_mean, plan_step_mean, at_tuple, next_clause, next_step}
 use Rattle.xq_meaning.proofs.PlanEquations.{plan-Root, plan-Step, plan-Named, plan-Unnamed, plan-Call, plan-Quantified, clause-Group, clause-Order, clause-Refused, step-Scan, plan-Dec, plan-Slot, plan-ContextItem, plan-Sequence, plan-Chain, plan-Unary, plan-If, plan-Or, plan-And, plan-Filter, plan-Path, plan-Flwor, step-Each, clause-For, clause-Let, clause-Where}
-use Rattle.xq_operations.specs.Views.{order_specs, GivesKeys, GivesRows, calling, ordering, on_axis, after_double_slash, parents_below, plant_named, plant_unnamed, tuple_at, tuples_at, lists_of, spot_at, forget, frame_at, TupleIn, TuplesIn, Gives, GivesLists, GivesTuples, GivesTests, GivesPlain, FrameIn}
+use Rattle.xq_operations.specs.Views.{order_specs, calling, ordering, on_axis, after_double_slash, parents_below, plant_named, plant_unnamed, tuple_at, tuples_at, lists_of, spot_at, forget, frame_at, TupleIn, TuplesIn, GivesSequence, GivesTuples, FrameIn}
+use Rattle.xq_eval.specs.private.Results.{GivesKeys, GivesRows, GivesLists, GivesTests, GivesPlain}
 use Rattle.xq_operations.proofs.Growth.{extends_more, stays, value_in, frame_grown, frame_in_grown, items_grown, are_in_grown, item_at_grown, in_grown, tuple_grown, tuple_in_grown, tuples_grown, tuples_in_grown, goes_on_to}
 use Rattle.xq_regions.specs.declared.Axis.TheVariants.{Child}
 use Rattle.xq_meaning.specs.declared.plans.PlanStep.TheVariants as plan_step
@@ -137,7 +138,7 @@ evaluation::evaluate-returns-in_err-lists-in-Flwor-clause-gives g t c = λ clean
     ∙ flwor_is (map plan_clause_mean c.in-Flwor.clauses) (plan_mean c.in-Flwor.part) frame f (tuples_at f' tuples) f' (ap (λ cs. in_turn (next_clause frame) ([] ∷ []) (map plan_clause_mean cs) f) (sym c.as_slice-in-Flwor.ensures) ∙ stream.1)
     ∙ ap (λ fr. go_on (for_each (λ t. plan_mean c.in-Flwor.part (at_tuple fr t)) (tuples_at f' tuples) f') (λ ls. give (concat ls))) (sym (frame_grown grows held inside))
     ∙ ap (λ p. go_on (for_each (λ t. plan_mean p (at_tuple (frame_at f' held) t)) (tuples_at f' tuples) f') (λ ls. give (concat ls))) (sym c.get-in-Flwor.ensures) in
-    subst (λ o. Gives o f'' c.from_residual-in_err-lists-in-Flwor.result) (sym meant)
+    subst (λ o. GivesSequence o f'' c.from_residual-in_err-lists-in-Flwor.result) (sym meant)
     (handed_on item_views items_at AreIn _ f'' e c.from_residual-in_err-lists-in-Flwor.result c.from_residual-in_err-lists-in-Flwor.ensures.1
     (go_on_stop lists_of tuple_at TupleIn item_views items_at AreIn _ (λ ls. give (concat ls)) f'' e refused))
 
@@ -254,7 +255,7 @@ evaluation::evaluate-returns-in-Unary-clause-gives g t c = λ clean inside.
     ∙ ap (λ o. go_on (go_on o first) next) value.1
     ∙ ap (λ xs. on_trees (λ trees. signed c.in-Unary.signs (atomized trees (items_at f' xs))) f') (sym d)
     ∙ ap (λ ss. on_trees (λ trees. signed ss (atomized trees (items_at f' (map item_view c.deref.result.now)))) f') (sym c.as_slice-in-Unary.ensures) in
-    subst (λ o. Gives o f'' c.sign.result) (sym meant) found
+    subst (λ o. GivesSequence o f'' c.sign.result) (sym meant) found
 
 pub evaluation::evaluate-returns-in_err-answer-in-Or-clause-gives : goal.evaluation::evaluate-returns-in_err-answer-in-Or-clause-gives
 evaluation::evaluate-returns-in_err-answer-in-Or-clause-gives g t c = λ clean inside.
@@ -466,7 +467,7 @@ evaluation::sequence-returns-in_err-items-clause-gives g t c = λ clean inside.
     let e = c.in_err-items.field-0.0 in
     handed_on item_views items_at AreIn _ f' e c.from_residual.result c.from_residual.ensures.1
     (turns_stop _ _ _ item_views items_at AreIn (plan_mean part) _ f' e i.turns (left_over plan_mean c.args.parts.now c.loop-part.part-index part (omega arith) c.part-item.is) c.next_part.ensures.goes.was_clean
-    (λ clean inside is_in. subst (λ fr. Gives (more (λ (m : Meaning). m fr) (items_at f (item_views c.loop-part.items)) (plan_mean part) f) f' (Err e)) (frame_grown i.goes.grows held inside) (c.in_err-items.ensures.gives clean (frame_in_grown i.goes.grows held inside) is_in)) clean inside)
+    (λ clean inside is_in. subst (λ fr. GivesSequence (more (λ (m : Meaning). m fr) (items_at f (item_views c.loop-part.items)) (plan_mean part) f) f' (Err e)) (frame_grown i.goes.grows held inside) (c.in_err-items.ensures.gives clean (frame_in_grown i.goes.grows held inside) is_in)) clean inside)
 
 pub evaluation::sequence-returns-in_err-items-clause-goes : goal.evaluation::sequence-returns-in_err-items-clause-goes
 evaluation::sequence-returns-in_err-items-clause-goes g t c = goes_on_to c.loop-part.invariant.goes c.in_err-items.ensures.goes
@@ -527,7 +528,7 @@ evaluation::chain-returns-in_err-total-clause-gives g t c = λ clean inside firs
     let e = c.in_err-total.field-0.0 in
     handed_on item_views items_at AreIn _ f' e c.from_residual.result c.from_residual.ensures.1
     (turns_stop _ _ _ item_views items_at AreIn (operand.0, plan_mean operand.1) _ f' e i.turns (left_over (λ (op, p). (op, plan_mean p)) c.args.rest.now c.loop-operator.operator-index operand (omega arith) c.loop-operator-item.is) c.next_operand.ensures.goes.was_clean
-    (λ clean inside is_in. subst (λ fr. Gives (Forms.next_operand fr (items_at f (item_views c.loop-operator.total)) (operand.0, plan_mean operand.1) f) f' (Err e)) (frame_grown i.goes.grows held inside.0) (c.in_err-total.ensures.gives clean (frame_in_grown i.goes.grows held inside.0) is_in)) clean (inside, first_in))
+    (λ clean inside is_in. subst (λ fr. GivesSequence (Forms.next_operand fr (items_at f (item_views c.loop-operator.total)) (operand.0, plan_mean operand.1) f) f' (Err e)) (frame_grown i.goes.grows held inside.0) (c.in_err-total.ensures.gives clean (frame_in_grown i.goes.grows held inside.0) is_in)) clean (inside, first_in))
 
 pub evaluation::chain-returns-in_err-total-clause-goes : goal.evaluation::chain-returns-in_err-total-clause-goes
 evaluation::chain-returns-in_err-total-clause-goes g t c = goes_on_to c.loop-operator.invariant.goes c.in_err-total.ensures.goes
@@ -694,8 +695,8 @@ evaluation::filter-returns-in_err-left-clause-gives g t c = λ clean inside item
     let e = c.in_err-left.field-0.0 in
     handed_on item_views items_at AreIn _ f' e c.from_residual.result c.from_residual.ensures.1
     (turns_stop _ _ _ item_views items_at AreIn (plan_mean p) _ f' e i.turns (left_over plan_mean c.args.predicates.now c.loop-predicate.predicate-index p (omega arith) c.predicate-item.is) c.keep.ensures.goes.was_clean
-    (λ clean inside is_in. subst (λ fr. Gives (Forms.filtered fr (items_at f left) (plan_mean p) f) f' (Err e)) (frame_grown i.goes.grows held inside.0)
-    (subst (λ xs. Gives (Forms.filtered (frame_at f held) (items_at f xs) (plan_mean p) f) f' (Err e)) d
+    (λ clean inside is_in. subst (λ fr. GivesSequence (Forms.filtered fr (items_at f left) (plan_mean p) f) f' (Err e)) (frame_grown i.goes.grows held inside.0)
+    (subst (λ xs. GivesSequence (Forms.filtered (frame_at f held) (items_at f xs) (plan_mean p) f) f' (Err e)) d
     (c.in_err-left.ensures.gives clean (frame_in_grown i.goes.grows held inside.0) (subst (AreIn f) (sym d) is_in)))) clean (inside, items_in))
 
 pub evaluation::filter-returns-in_err-left-clause-goes : goal.evaluation::filter-returns-in_err-left-clause-goes
@@ -752,8 +753,8 @@ evaluation::keep-returns-in_err-kept-clause-gives g t c = λ clean inside items_
     (turns_stop _ _ _ item_views items_at AreIn (spot (item_at old (item_view x))) _ f' e i.turns (spots_left old items n x (length items) (omega arith) c.index-items-index.is) c.pass.ensures.goes.was_clean
     (λ clean inside is_in.
     let x_in = all_at (IsIn old) item_view items n x inside.1 (omega arith) c.index-items-index.is in
-    subst (λ fr. Gives (more (Forms.passed p fr) (items_at f kept) (spot (item_at old (item_view x))) f) f' (Err e)) (frame_grown i.goes.grows held inside.0)
-    (subst (λ it. Gives (more (Forms.passed p (frame_at f held)) (items_at f kept) (spot it) f) f' (Err e)) (item_at_grown i.goes.grows (item_view x) x_in)
+    subst (λ fr. GivesSequence (more (Forms.passed p fr) (items_at f kept) (spot (item_at old (item_view x))) f) f' (Err e)) (frame_grown i.goes.grows held inside.0)
+    (subst (λ it. GivesSequence (more (Forms.passed p (frame_at f held)) (items_at f kept) (spot it) f) f' (Err e)) (item_at_grown i.goes.grows (item_view x) x_in)
     (c.in_err-kept.ensures.gives clean (frame_in_grown i.goes.grows held inside.0) is_in (in_grown i.goes.grows (item_view x) x_in)))) clean (inside, items_in))
 
 pub evaluation::keep-returns-in_err-kept-clause-goes : goal.evaluation::keep-returns-in_err-kept-clause-goes
@@ -927,12 +928,12 @@ clauses::next_tuples-returns-in_ok-tests-in-Where-clause-gives g t c = λ clean 
     let grows = c.in_ok-tests-in-Where.ensures.goes.grows in
     let tests = c.in_ok-tests-in-Where.tests.items in
     let values = c.in_ok-tests-in-Where.ensures.gives clean inside tuples_in in
-    let stream : c.keep.result ≡ kept tuples tests = c.keep.ensures ∙ ap (kept tuples) c.deref.ensures.value in
-    let same : tuples_at f' c.keep.result ≡ kept (tuples_at f tuples) tests =
-    ap (tuples_at f') stream ∙ kept_natural (tuple_at f') tuples tests ∙ ap (λ ts. kept ts tests) (tuples_grown grows tuples tuples_in) in (
+    let stream : c.keep.result ≡ satisfying tuples tests = c.keep.ensures ∙ ap (satisfying tuples) c.deref.ensures.value in
+    let same : tuples_at f' c.keep.result ≡ satisfying (tuples_at f tuples) tests =
+    ap (tuples_at f') stream ∙ kept_natural (tuple_at f') tuples tests ∙ ap (λ ts. satisfying ts tests) (tuples_grown grows tuples tuples_in) in (
       subst (TuplesIn f') (sym stream) (kept_in f' tuples tests (tuples_in_grown grows tuples tuples_in)),
       ap (λ k. plan_clause_mean k frame (tuples_at f tuples) f) c.in-Where.is ∙ ap (λ m. m frame (tuples_at f tuples) f) (clause-Where c.in-Where.part)
-          ∙ ap (λ o. go_on o (λ bs. give (kept (tuples_at f tuples) bs))) values.1 ∙ ap (λ ts. (Ok ts, f')) (sym same),
+          ∙ ap (λ o. go_on o (λ bs. give (satisfying (tuples_at f tuples) bs))) values.1 ∙ ap (λ ts. (Ok ts, f')) (sym same),
     )
 
 pub clauses::next_tuples-returns-in_err-lists-in-Let-clause-gives : goal.clauses::next_tuples-returns-in_err-lists-in-Let-clause-gives
@@ -956,7 +957,7 @@ clauses::next_tuples-returns-in_err-tests-in-Where-clause-gives g t c = λ clean
     let tuples = c.args.tuples in
     let f' = g.W.TreeSource.forest c.tests.new.world in
     let e = c.in_err-tests-in-Where.field-0.0 in
-    let next = λ (tests : List Bool). give (kept (tuples_at f tuples) tests) in
+    let next = λ (tests : List Bool). give (satisfying (tuples_at f tuples) tests) in
     cut (λ (v : Vec Bool). v.items) same_tests any_tests (λ (ts : List (Tuple ItemView)). ts) tuples_at TuplesIn (plan_clause_mean c.args.clause.now frame (tuples_at f tuples) f) (for_each (λ t. Forms.tested (plan_mean c.in-Where.part) (at_tuple frame t)) (tuples_at f tuples) f) next f' e c.from_residual-in_err-tests-in-Where.result
     (ap (λ k. plan_clause_mean k frame (tuples_at f tuples) f) c.in-Where.is ∙ ap (λ m. m frame (tuples_at f tuples) f) (clause-Where c.in-Where.part)) c.from_residual-in_err-tests-in-Where.ensures.1
     (c.in_err-tests-in-Where.ensures.gives clean inside tuples_in)
@@ -1174,7 +1175,7 @@ clauses::at_tuple-returns-clause-gives g t c = λ clean inside tuple_in.
     let held = c.args.frame in
     let inner : Held = record { slots = c.deref.result; focus = held.focus; addresses = held.addresses } in
     let e : values_of inner.slots.now ≡ values_of held.slots.now ++ values_of c.args.tuple.now = ap values_of c.deref.ensures.value ∙ c.in_ok-slots.ensures in
-    subst (λ fr. Gives (plan_mean c.args.part.now fr f) (g.W.TreeSource.forest c.evaluate.new.world) c.evaluate.result) (frame_inner f held inner c.args.tuple.now e refl refl)
+    subst (λ fr. GivesSequence (plan_mean c.args.part.now fr f) (g.W.TreeSource.forest c.evaluate.new.world) c.evaluate.result) (frame_inner f held inner c.args.tuple.now e refl refl)
     (c.evaluate.ensures.gives clean (frame_inner_in f held inner c.args.tuple.now e refl refl inside tuple_in))
 
 pub clauses::at_tuple-returns-in_err-slots-clause-goes : goal.clauses::at_tuple-returns-in_err-slots-clause-goes
@@ -1232,7 +1233,7 @@ paths::step_list-returns-in_err-found-clause-gives g t c = λ clean inside items
     handed_on item_views items_at AreIn _ f' e c.from_residual.result c.from_residual.ensures.1
     (turns_stop_two _ _ _ item_views items_at AreIn (plan_step_mean p) (plan_step_mean q) _ f' e i.turns are c.double_slash.ensures.goes.was_clean
     (λ clean inside is_in.
-    subst (λ o. Gives o f' (Err e)) (sym (double_slash_is p q test (frame_at old held) (items_at f left) f (c.is_double_slash.ensures c.if-is_double_slash.true) refl ∙ ap (λ xs. after_double_slash test (items_at f xs) f) (sym d)))
+    subst (λ o. GivesSequence o f' (Err e)) (sym (double_slash_is p q test (frame_at old held) (items_at f left) f (c.is_double_slash.ensures c.if-is_double_slash.true) refl ∙ ap (λ xs. after_double_slash test (items_at f xs) f) (sym d)))
     (c.in_err-found.ensures.gives clean (subst (AreIn f) (sym d) is_in))) clean (inside, items_in))
 
 pub paths::step_list-returns-in_err-found-clause-goes : goal.paths::step_list-returns-in_err-found-clause-goes
@@ -1287,7 +1288,7 @@ paths::step_list-returns-in_err-parents-clause-gives g t c = λ clean inside ite
     handed_on item_views items_at AreIn _ f' e c.from_residual-in_err-parents.result c.from_residual-in_err-parents.ensures.1
     (turns_stop_two _ _ _ item_views items_at AreIn (plan_step_mean p) (plan_step_mean q) _ f' e i.turns are c.parents_below.ensures.goes.was_clean
     (λ clean inside is_in.
-    subst (λ o. Gives o f' (Err e)) (sym (parents_below_is p q test some.ensures.0 frame (items_at f left) f (c.is_double_slash.ensures c.if-is_double_slash.true) refl ∙ ap (λ xs. go_on (parents_below test (items_at f xs) f) then_q) (sym d)))
+    subst (λ o. GivesSequence o f' (Err e)) (sym (parents_below_is p q test some.ensures.0 frame (items_at f left) f (c.is_double_slash.ensures c.if-is_double_slash.true) refl ∙ ap (λ xs. go_on (parents_below test (items_at f xs) f) then_q) (sym d)))
     (go_on_stop item_views items_at AreIn item_views items_at AreIn (parents_below test (items_at f (map item_view c.deref-in-Some-chosen_children.result.now)) f) then_q f' e
     (c.in_err-parents.ensures.gives clean (subst (AreIn f) (sym d) is_in)))) clean (inside, items_in))
 
@@ -1321,7 +1322,7 @@ paths::step_list-returns-in_err-left-clause-gives g t c = λ clean inside items_
     let e = c.in_err-left.field-0.0 in
     handed_on item_views items_at AreIn _ f' e c.from_residual-in_err-left.result c.from_residual-in_err-left.ensures.1
     (turns_stop _ _ _ item_views items_at AreIn (plan_step_mean p) _ f' e i.turns (ap (λ k. map plan_step_mean (drop k c.args.steps.now)) (none_taken c.loop-index.is_taken c.loop-index.index c.if-is_taken.false) ∙ left_over plan_step_mean c.args.steps.now c.loop-index.index p (omega arith) c.index-steps-index.is) c.next_items.ensures.goes.was_clean
-    (λ clean inside is_in. subst (λ fr. Gives (plan_step_mean p fr (items_at f left) f) f' (Err e)) (frame_grown i.goes.grows held inside.0)
+    (λ clean inside is_in. subst (λ fr. GivesSequence (plan_step_mean p fr (items_at f left) f) f' (Err e)) (frame_grown i.goes.grows held inside.0)
     (c.in_err-left.ensures.gives clean (frame_in_grown i.goes.grows held inside.0) is_in)) clean (inside, items_in))
 
 pub paths::step_list-returns-in_err-left-clause-goes : goal.paths::step_list-returns-in_err-left-clause-goes
@@ -1362,7 +1363,7 @@ paths::next_items-returns-in_err-found-in-Each-clause-gives g t c = λ clean ins
     ap (λ k. plan_step_mean k frame (items_at f items) f) c.in-Each.is ∙ ap (λ m. m frame (items_at f items) f) (step-Each c.in-Each.part)
     ∙ slash_ok frame (items_at f items) p f (ap (λ xs. forget (all_nodes XPTY0019 (items_at f xs))) (sym d) ∙ c.in_ok-only_nodes-in-Each.ensures f)
     ∙ ap (λ xs. go_on (collected (λ focus. p (Forms.in_focus frame focus)) (focuses (items_at f xs)) f) (λ ys. on_trees (λ trees. gathered trees ys))) (sym d') in
-    subst (λ o. Gives o f' c.from_residual-in_err-found-in-Each.result) (sym meant)
+    subst (λ o. GivesSequence o f' c.from_residual-in_err-found-in-Each.result) (sym meant)
     (handed_on item_views items_at AreIn _ f' e c.from_residual-in_err-found-in-Each.result c.from_residual-in_err-found-in-Each.ensures.1
     (go_on_stop item_views items_at AreIn item_views items_at AreIn _ (λ ys. on_trees (λ trees. gathered trees ys)) f' e (c.in_err-found-in-Each.ensures.gives clean inside (subst (AreIn f) (sym d') items_in))))
 
@@ -1415,8 +1416,8 @@ paths::each-returns-in_err-found-clause-gives g t c = λ clean inside items_in.
     (turns_stop _ _ _ item_views items_at AreIn (spot (item_at old (item_view x))) _ f' e i.turns (spots_left old items n x (length items) (omega arith) c.index-items-index.is) c.at_spot.ensures.goes.was_clean
     (λ clean inside is_in.
     let x_in = all_at (IsIn old) item_view items n x inside.1 (omega arith) c.index-items-index.is in
-    subst (λ fr. Gives (more (λ (s : Spot). p (Forms.in_focus fr s)) (items_at f found) (spot (item_at old (item_view x))) f) f' (Err e)) (frame_grown i.goes.grows held inside.0)
-    (subst (λ it. Gives (more (λ (s : Spot). p (Forms.in_focus (frame_at f held) s)) (items_at f found) (spot it) f) f' (Err e)) (item_at_grown i.goes.grows (item_view x) x_in)
+    subst (λ fr. GivesSequence (more (λ (s : Spot). p (Forms.in_focus fr s)) (items_at f found) (spot (item_at old (item_view x))) f) f' (Err e)) (frame_grown i.goes.grows held inside.0)
+    (subst (λ it. GivesSequence (more (λ (s : Spot). p (Forms.in_focus (frame_at f held) s)) (items_at f found) (spot it) f) f' (Err e)) (item_at_grown i.goes.grows (item_view x) x_in)
     (c.in_err-found.ensures.gives clean (frame_in_grown i.goes.grows held inside.0) is_in (in_grown i.goes.grows (item_view x) x_in)))) clean (inside, items_in))
 
 pub paths::each-returns-in_err-found-clause-goes : goal.paths::each-returns-in_err-found-clause-goes
@@ -1619,7 +1620,7 @@ evaluation::evaluate-returns-in-Named-clause-gives g t c = λ clean inside.
     ∙ ap (λ o. go_on o (λ xs. on_trees (λ trees. name_of kind (atomized trees xs)) >>= next)) found.1 ∙ ap (λ xs. go_on (naming xs) next) (sym d)
     ∙ ap (λ o. go_on o next) name.1 ∙ ap (λ fr. go_on (part fr f'') last) (sym (frame_grown grows held inside)) ∙ ap (λ p. go_on (plan_mean p (frame_at f'' held) f'') last) (sym c.get-in-Named-2.ensures)
     ∙ ap (λ o. go_on o last) inner.1 ∙ ap (λ xs. plant_named kind good (items_at f3 xs) f3) (sym d') in
-    subst (λ o. Gives o f4 c.named.result) (sym meant) (c.named.ensures.gives clean (subst (AreIn f3) (sym d') inner.0))
+    subst (λ o. GivesSequence o f4 c.named.result) (sym meant) (c.named.ensures.gives clean (subst (AreIn f3) (sym d') inner.0))
 
 pub evaluation::evaluate-returns-in_err-value-in-Named-clause-goes : goal.evaluation::evaluate-returns-in_err-value-in-Named-clause-goes
 evaluation::evaluate-returns-in_err-value-in-Named-clause-goes g t c = c.in_err-value-in-Named.ensures.goes
@@ -1656,7 +1657,7 @@ evaluation::evaluate-returns-in-Unnamed-clause-gives g t c = λ clean inside.
     let meant : plan_mean c.args.plan.now frame f ≡ plant_unnamed kind (items_at f' (map item_view c.deref-in-Unnamed.result.now)) f' =
     ap (λ p. plan_mean p frame f) c.in-Unnamed.is ∙ ap (λ m. m frame f) (plan-Unnamed kind c.in-Unnamed.part) ∙ ap (λ p. go_on (plan_mean p frame f) (λ xs. plant_unnamed kind xs)) (sym c.get-in-Unnamed.ensures)
     ∙ ap (λ o. go_on o (λ xs. plant_unnamed kind xs)) value.1 ∙ ap (λ xs. plant_unnamed kind (items_at f' xs) f') (sym d) in
-    subst (λ o. Gives o f'' c.unnamed.result) (sym meant) (c.unnamed.ensures.gives clean (subst (AreIn f') (sym d) value.0))
+    subst (λ o. GivesSequence o f'' c.unnamed.result) (sym meant) (c.unnamed.ensures.gives clean (subst (AreIn f') (sym d) value.0))
 
 pub evaluation::evaluate-returns-in_err-content-in-Unnamed-clause-goes : goal.evaluation::evaluate-returns-in_err-content-in-Unnamed-clause-goes
 evaluation::evaluate-returns-in_err-content-in-Unnamed-clause-goes g t c = c.in_err-content-in-Unnamed.ensures.goes
@@ -2013,7 +2014,7 @@ paths::next_items-returns-in-Each-clause-gives g t c = λ clean inside items_in.
     ∙ slash_ok frame (items_at f items) p f (ap (λ xs. forget (all_nodes XPTY0019 (items_at f xs))) (sym d) ∙ c.in_ok-only_nodes-in-Each.ensures f)
     ∙ ap (λ xs. go_on (collected (λ focus. p (Forms.in_focus frame focus)) (focuses (items_at f xs)) f) (λ ys. on_trees (λ trees. gathered trees ys))) (sym d')
     ∙ ap (λ o. go_on o (λ ys. on_trees (λ trees. gathered trees ys))) found.1 in
-    subst (λ o. Gives o f' c.gather.result) (sym meant) (c.gather.ensures f' found.0)
+    subst (λ o. GivesSequence o f' c.gather.result) (sym meant) (c.gather.ensures f' found.0)
 
 pub paths::next_items-returns-in-Each-clause-goes : goal.paths::next_items-returns-in-Each-clause-goes
 paths::next_items-returns-in-Each-clause-goes g t c = c.in_ok-found-in-Each.ensures.goes
@@ -2025,7 +2026,7 @@ paths::next_items-returns-clause-gives g t c = λ clean inside items_in.
     let items = item_views c.args.items in
     let f' = g.W.TreeSource.forest c.scan.new.world in
     let d : map item_view c.deref-in-Scan.result.now ≡ items = ap (map item_view) c.deref-in-Scan.ensures.value in
-    subst (λ o. Gives o f' c.scan.result)
+    subst (λ o. GivesSequence o f' c.scan.result)
     (sym (ap (λ k. plan_step_mean k frame (items_at f items) f) c.in-Scan.is ∙ ap (λ m. m frame (items_at f items) f) (step-Scan c.in-Scan.axis c.in-Scan.test) ∙ ap (λ xs. Forms.scan c.in-Scan.axis c.in-Scan.test (items_at f xs) f) (sym d)))
     (c.scan.ensures.gives clean (subst (AreIn f) (sym d) items_in))
 
@@ -2384,7 +2385,7 @@ evaluation::called-returns-clause-gives g t c = λ clean inside.
     let values = c.in_ok-values.ensures.gives (c.call.ensures.goes.was_clean clean) inside in
     let meant : Forms.call function (map plan_mean c.args.parts.now) frame f ≡ calling function (frame_at f' held) lists f' =
     ap (λ o. go_on o (λ values. calling function frame values)) values.1 ∙ ap (λ fr. calling function fr lists f') (sym (frame_grown grows held inside)) in
-    subst (λ o. Gives o f'' c.call.result) (sym meant) (c.call.ensures.gives clean (frame_in_grown grows held inside) values.0)
+    subst (λ o. GivesSequence o f'' c.call.result) (sym meant) (c.call.ensures.gives clean (frame_in_grown grows held inside) values.0)
 
 pub evaluation::called-returns-in_err-items-clause-goes : goal.evaluation::called-returns-in_err-items-clause-goes
 evaluation::called-returns-in_err-items-clause-goes g t c = stays _ _

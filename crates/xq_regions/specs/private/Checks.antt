@@ -4,7 +4,7 @@ use Rattle.std.specs.Prelude.{ℕ, ◌+◌, ◌-◌, ◌≡◌, ◌≤◌, lengt
 use Rattle.std.specs.List.{IsDistinct}
 use Rattle.std.specs.Str.{bytes_eq}
 use Rattle.xq_regions.specs.Forest.{tops}
-use Rattle.xq_regions.specs.Tree.{Label, may_stand, has_text, may_precede, attribute_names, is_legal}
+use Rattle.xq_regions.specs.Tree.{Label, may_stand, has_text, may_precede, attribute_names, is_legal, most_nodes}
 use Rattle.xq_regions.specs.Rows.{Row, row_of, row_at, AreNumbered, front, nest}
 use Rattle.xq_regions.specs.declared.NodeRow.{NodeRow}
 
@@ -60,7 +60,7 @@ pub record Passes (rs : List Row) : Type 0 where
   pub checked : IsChecked rs
   pub root_level : (row_at rs 0).level ≡ 0
   pub root_size : suc (row_at rs 0).size ≡ length rs
-  pub room : length rs ≤ 1000000
+  pub room : length rs ≤ most_nodes
 
 pub record IsNested (rs : List NodeRow) : Type 0 where
   pub passes : Passes (map row_of rs)

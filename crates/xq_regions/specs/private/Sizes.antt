@@ -1,7 +1,7 @@
 -- The sizes of rows from their levels: below a node are those after it that are deeper.
 use Rattle.std.specs.Prelude.{ℕ, nat_lt, ◌≡◌, List, [], ◌∷◌, map}
 use Rattle.std.specs.List.{prefix_len}
-use Rattle.xq_regions.specs.Print.{flat_row}
+use Rattle.xq_regions.specs.Levels.{flat_row}
 use Rattle.xq_regions.specs.Rows.{Row}
 use Rattle.xq_regions.specs.Tree.{Label}
 use Rattle.xq_regions.specs.declared.NodeRow.{NodeRow}

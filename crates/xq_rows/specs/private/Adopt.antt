@@ -8,10 +8,8 @@ use Rattle.std.specs.List.{AllByRecursion}
 use Rattle.sqlite_value.specs.Order.{Row, column, value_cmp}
 use Rattle.sqlite_value.specs.declared.value.Value.TheVariants.{Int, Text}
 use Rattle.sqlite_trees.specs.Tree.{rowid}
-use Rattle.sqlite_trees.specs.declared.store.Store.{Ghosts}
 use Rattle.sqlite_resolve.specs.declared.error.CompileError.{CompileError}
 use Rattle.sqlite.specs.Effect.{Database}
-use Rattle.sqlite.specs.Held.{Held, state}
 use Rattle.sqlite.specs.declared.error.Error.{Error}
 use Rattle.sqlite.specs.declared.error.Error.TheVariants.{SqliteFailure, SqlInputError}
 use Rattle.sqlite.specs.declared.error.ErrorCode.TheVariants.{NameTaken, OutOfMemory}
@@ -21,14 +19,13 @@ use Rattle.xq_regions.specs.Tree.{Tree, IsDocument}
 use Rattle.xq_regions.specs.Rows.{placed_rows}
 use Rattle.xq_rows.specs.declared.faults.OpenFault.{OpenFault}
 use Rattle.xq_rows.specs.declared.faults.OpenFault.TheVariants.{Want, NotAStore}
-use Rattle.xq_rows.specs.Documents.{AreApart, HaveInts, HasAddress, rows_at, IsWhole, IsEmptyStore, IsStore}
-use Rattle.xq_rows.specs.Nodes.{cells, node_of}
+use Rattle.xq_rows.specs.Adoption.{HasOne}
+use Rattle.xq_rows.specs.Documents.{AreApart, HaveInts, HasAddress, rows_at, IsIntact, IsStore}
+use Rattle.xq_rows.specs.private.Statements.{IsEmptyStore}
+use Rattle.xq_rows.specs.Nodes.{cells}
+use Rattle.xq_rows.specs.private.Columns.{node_of}
 use Rattle.xq_rows.specs.private.Refusals.{want_of}
 use Rattle.xq_rows.specs.Tables.{no_schema, layout_schema, node_schema, node_rows, layout_rows, IsStoreSchema}
-
--- one of the two tables stands without the other
-abbrev pub HasOne : Database → Type 0
-HasOne db = (db.schema ≡ layout_schema) ⊎ (db.schema ≡ node_schema)
 
 -- An adoption that succeeds makes an empty store where no table was there, and takes the two tables
 -- as they stand where they hold documents. Where one of them stands alone, it never succeeds.
@@ -41,21 +38,6 @@ pub record IsAdopted (old new : Database) : Type 0 where
 pub record IsNoStore (db : Database) : Type 0 where
   pub some : db.schema ≢ no_schema
   pub none : ¬ IsStore db
-
--- A connection whose database is to be adopted: `g` are the ghosts of what it keeps its database
--- in.
-module _ {S : Type 0} (g : Ghosts S) (conn : Held S) where
-  -- no table was made in it
-  unfoldable pub IsBlank : Type 0
-  IsBlank = (state g conn).now.schema ≡ no_schema
-
-  -- its tables are the two of a store, whatever rows they have
-  unfoldable pub HasTables : Type 0
-  HasTables = IsStoreSchema (state g conn).now.schema
-
-  -- it has one of the two tables and not the other
-  unfoldable pub HasOneTable : Type 0
-  HasOneTable = HasOne (state g conn).now
 
 -- a statement that is refused since other tables are there, or none, tells of no store; any other
 -- refusal is a want
@@ -75,9 +57,9 @@ IsInputError e = (fault : CompileError) × (e ≡ SqlInputError fault)
 
 -- # The rows that are read: the columns pre, size, level, kind, name, value and address
 
-abbrev pub named : Row → Row
-named r = column r 2 ∷ column r 3 ∷ column r 4 ∷ column r 5 ∷ column r 6 ∷ column r 7 ∷ column r 1
-    ∷ []
+abbrev pub addressed_node : Row → Row
+addressed_node r = column r 2 ∷ column r 3 ∷ column r 4 ∷ column r 5 ∷ column r 6 ∷ column r 7
+    ∷ column r 1 ∷ []
 
 -- the row is one of the address
 abbrev pub is_under : List ℕ → Row → Bool
@@ -105,7 +87,7 @@ abbrev pub nodes_under : List ℕ → List Row → List Row
 nodes_under address rows = map node_of (filter (is_under address) rows)
 
 -- the rows of each address are those of one document, in document order, or there are none
-pub record AreTold (rows : List Row) : Type 0 where
+pub record AreDocumentRuns (rows : List Row) : Type 0 where
   pub owned : AllByRecursion HasOwner rows
   pub whole : (address : List ℕ) → (nodes_under address rows ≡ [])
       ⊎ IsRun (nodes_under address rows)
@@ -162,7 +144,7 @@ pub record SeesRowids (old new : Database) : Type 0 where
 
 -- the nodes are the rows of the table, by address and number
 pub record AreNodes (table rows : List Row) : Type 0 where
-  pub same : IsPermutation (map named table) rows
+  pub same : IsPermutation (map addressed_node table) rows
   pub sorted : IsSorted by_place rows
 
 -- they were read
@@ -175,7 +157,7 @@ pub record AreDocuments (table : List Row) : Type 0 where
   pub apart : AreApart table
   pub ints : HaveInts table
   pub named : AllByRecursion HasAddress table
-  pub whole : (address : List ℕ) → (rows_at address table ≡ []) ⊎ IsWhole (rows_at address table)
+  pub whole : (address : List ℕ) → (rows_at address table ≡ []) ⊎ IsIntact (rows_at address table)
 
 -- the nodes were read, and are those of documents
 pub record SeesDocuments (old new : Database) : Type 0 where

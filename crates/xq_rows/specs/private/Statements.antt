@@ -11,9 +11,13 @@ use Rattle.xq_atoms.specs.Address.{IsAddress}
 use Rattle.xq_regions.specs.Tree.{Tree}
 use Rattle.xq_regions.specs.Rows.{Encodes}
 use Rattle.xq_regions.specs.declared.NodeRow.{NodeRow}
-use Rattle.xq_rows.specs.Documents.{is_at, is_first, kept, rows_at, by_first, AreApart, HasAddress, HaveInts, IsEmptyStore, IsStore}
+use Rattle.xq_rows.specs.Documents.{is_at, is_first, node_columns, rows_at, by_first, AreApart, HasAddress, HaveInts, IsStore}
 use Rattle.xq_rows.specs.Nodes.{number_in}
 use Rattle.xq_rows.specs.Tables.{no_schema, layout_schema, node_schema, turned_schema, store_schema, node_rows, layout_rows, IsStoreSchema}
+
+-- it holds the tables and no row of a document
+abbrev pub IsEmptyStore : Database → Type 0
+IsEmptyStore db = IsStore db × (node_rows db ≡ [])
 
 -- the rows that pass a test are gone, and nothing else is
 pub record HasDropped (gone : Row → Bool) (old new : Database) : Type 0 where
@@ -81,7 +85,7 @@ is_within low high row = is_ge (value_cmp (column row 2) (Int (pos low)))
 -- the rows of an address with numbers from low to high
 abbrev pub IsRange : List ℕ → ℕ → ℕ → Database → List Row → Type 0
 IsRange address low high db rows = IsStoreSchema db.schema
-    → IsPicked (λ r. is_at address r && is_within low high r) kept (node_rows db) rows
+    → IsPicked (λ r. is_at address r && is_within low high r) node_columns (node_rows db) rows
 
 -- the row's number is below that of a node, and at least that with its size
 abbrev pub is_above : ℕ → Row → Bool
@@ -91,7 +95,7 @@ is_above node row = nat_lt (number_in (column row 2)) node
 -- the rows of an address that are those of nodes above a node
 abbrev pub AreAbove : List ℕ → ℕ → Database → List Row → Type 0
 AreAbove address node db rows = IsStore db
-    → IsPicked (λ r. is_at address r && is_above node r) kept (node_rows db) rows
+    → IsPicked (λ r. is_at address r && is_above node r) node_columns (node_rows db) rows
 
 -- the addresses, one for each first row
 abbrev pub AreAddresses : Database → List Row → Type 0

@@ -12,7 +12,7 @@ abbrev pub Stays : State → State → Type 0
 Stays old new = IsTrue old.is_open × ((new.now ≡ old.now) ⊎ (new.now ≡ old.committed))
 
 -- the answer of a query that had given no row has rows of which a property holds
-abbrev pub Gives : {S : Type 0} → Ghosts S → Held S → Held S → (List Row → Type 0) → Type 0
-Gives g old new P = (sql : List ℕ) → (params : Row) → IsPlain (understood old.schema sql)
+abbrev pub GivesRows : {S : Type 0} → Ghosts S → Held S → Held S → (List Row → Type 0) → Type 0
+GivesRows g old new P = (sql : List ℕ) → (params : Row) → IsPlain (understood old.schema sql)
     → HasGiven g sql params old []
     → (rows : List Row) × Shown sql params (state g old) (state g new) rows × P rows

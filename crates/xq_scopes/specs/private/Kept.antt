@@ -26,13 +26,15 @@ in_scope (Some place) = place
 abbrev pub IsLast : {S : Type 0} → IndexMap (Bor (List ℕ)) (Option ℕ) S → List Bound → Type 0
 IsLast last bound =
     (name : List ℕ) →
-    in_scope (get_by (λ k. bytes_eq name k.now) last) ≡ last_place name 0 (names_of (keys last) bound)
+    in_scope (get_by (λ k. bytes_eq name k.now) last)
+    ≡ last_place name 0 (names_of (keys last) bound)
 
 -- each variable says where the last one before it stands that has its name
 abbrev pub AreHidden : List (Bor (List ℕ)) → List (List ℕ) → List Bound → Type 0
 AreHidden names done [] = Unit {0}
 AreHidden names done (b ∷ bs) =
-    (b.hidden ≡ last_place (name_at names b.number) 0 done) × AreHidden names (done ++ name_at names b.number ∷ []) bs
+    (b.hidden ≡ last_place (name_at names b.number) 0 done)
+    × AreHidden names (done ++ name_at names b.number ∷ []) bs
 
 -- the number of each variable's name is that of a name
 abbrev pub AreNumbered : List (Bor (List ℕ)) → List Bound → Type 0

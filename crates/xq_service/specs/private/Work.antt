@@ -11,11 +11,11 @@ use Rattle.xq_meaning.specs.declared.plans.Plan.{Plan}
 use Rattle.xq_regions.specs.Tree.{Tree}
 use Rattle.xq_regions.specs.declared.Kind.TheVariants.{Document}
 use Rattle.xq_rows.specs.Documents.{Map}
-use Rattle.xq_frame.specs.Reply.{reply_bytes}
-use Rattle.xq_frame.specs.Request.{Asked, query}
-use Rattle.xq_queries.specs.Values.{IsPlanOf, Value, told, made}
+use Rattle.xq_frame.specs.Reply.{reply_bytes, longest_text}
+use Rattle.xq_frame.specs.Request.{RequestMeaning, query}
+use Rattle.xq_queries.specs.Values.{IsPlanOf, Value, reply_text, made_document}
 use Rattle.xq_service.specs.Meaning.{Query, Reads}
-use Rattle.xq_service.specs.Answer.{Answers, done, refused, longest_text}
+use Rattle.xq_service.specs.Answer.{Answers, success, refusal}
 use Rattle.xq_service.specs.Step.{MayWant}
 use Rattle.xq_service.specs.declared.answers.Answer.{Answer}
 use Rattle.xq_service.specs.declared.answers.Answer.TheVariants.{Text, Stored, Replaced, Dropped}
@@ -37,12 +37,12 @@ Makes makes v (Err (OfWant want)) = ⊤
 
 -- the text of the reply, or the code
 abbrev pub MakesText : Judged Value → Judged (String Global) → Type 0
-MakesText v (Ok text) = told v ≡ Ok (string_bytes text)
-MakesText v (Err code) = told v ≡ Err code
+MakesText v (Ok text) = reply_text v ≡ Ok (string_bytes text)
+MakesText v (Err code) = reply_text v ≡ Err code
 
 -- the document, or the code
 abbrev pub MakesDocument : Judged Value → Judged Tree → Type 0
-MakesDocument v result = made v ≡ result
+MakesDocument v result = made_document v ≡ result
 
 -- what a product is, whatever the documents are
 abbrev pub IsShortText : String Global → Type 0
@@ -51,19 +51,14 @@ IsShortText text = string_len text ≤ longest_text
 abbrev pub HasDocumentRoot : Tree → Type 0
 HasDocumentRoot tree = tree.root.kind ≡ Document
 
--- the fault is want of memory, or it is this code, and then the cause holds
-abbrev pub IsRefusal : Code → Type 0 → Fault → Type 0
-IsRefusal code cause (OfCode c) = (c ≡ code) × cause
-IsRefusal code cause (OfWant want) = want ≡ Memory
-
 -- a request is answered, or refused; memory may still be wanting for a text, which changes nothing
-abbrev pub Tells : Map → Asked → Map → Result Answer Fault → Type 0
+abbrev pub Tells : Map → RequestMeaning → Map → Result Answer Fault → Type 0
 Tells m asked new (Ok (Text text)) =
-    Answers m asked (done new (string_bytes text)) × MayWant asked Memory × (new ≡ m)
-Tells m asked new (Ok Stored) = Answers m asked (done new (codes "stored"))
-Tells m asked new (Ok Replaced) = Answers m asked (done new (codes "replaced"))
-Tells m asked new (Ok Dropped) = Answers m asked (done new (codes "dropped"))
-Tells m asked new (Err (OfCode code)) = Answers m asked (refused new code)
+    Answers m asked (success new (string_bytes text)) × MayWant asked Memory × (new ≡ m)
+Tells m asked new (Ok Stored) = Answers m asked (success new (codes "stored"))
+Tells m asked new (Ok Replaced) = Answers m asked (success new (codes "replaced"))
+Tells m asked new (Ok Dropped) = Answers m asked (success new (codes "dropped"))
+Tells m asked new (Err (OfCode code)) = Answers m asked (refusal new code)
 Tells m asked new (Err (OfWant want)) = MayWant asked want × (new ≡ m)
 
 -- a text is within the limit

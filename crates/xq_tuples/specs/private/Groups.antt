@@ -7,7 +7,7 @@ use Rattle.xq_regions.specs.Tuples.{Keyed as KeyedTuple, comparison_keys, same_k
 use Rattle.xq_tuples.specs.declared.rows.Keyed.{Keyed}
 use Rattle.xq_regions.specs.Items.{ItemView}
 use Rattle.xq_tuples.specs.Views.{tuple_of}
-use Rattle.xq_tuples.specs.Keys.{keys_of}
+use Rattle.xq_tuples.specs.private.KeyRows.{keys_of}
 
 abbrev pub keyed_of : Keyed → KeyedTuple ItemView
 keyed_of row = (tuple_of row.tuple, keys_of row.keys)

@@ -1,6 +1,6 @@
 use Rattle.std.proofs.Common.{◌≡◌, map}
 use Rattle.std.specs.Prelude.{filter}
-use Rattle.xq_regions.specs.Print.{flat_row}
+use Rattle.xq_regions.specs.Levels.{flat_row}
 use Rattle.xq_build.specs.private.Content.{is_kept}
 use Rattle.xq_build.proofs.content.without_empty_texts.Given as goal
 

@@ -1,6 +1,6 @@
 use Rattle.std.proofs.Common.{◌∙◌, ◌+◌, ap, sym, arith, map, ◌++◌}
 use Rattle.std.proofs.lemmas.List.{append-nil}
-use Rattle.xq_regions.specs.Print.{flat_row}
+use Rattle.xq_regions.specs.Levels.{flat_row}
 use Rattle.xq_sources.specs.Sources.{tree_at}
 use Rattle.xq_build.specs.private.Leaves.{lowered}
 use Rattle.xq_build.proofs.Subtrees.{none_left}

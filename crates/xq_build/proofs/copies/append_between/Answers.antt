@@ -1,7 +1,7 @@
 use Rattle.std.proofs.Common.{◌≡◌, ◌∙◌, ◌++◌, ◌+◌, ◌-◌, ◌≤◌, List, length, ap, sym, subst, arith, map}
 use Rattle.std.proofs.lemmas.List.{append-nil}
 use Rattle.xq_regions.specs.Tree.{Tree}
-use Rattle.xq_regions.specs.Print.{flat_row}
+use Rattle.xq_regions.specs.Levels.{flat_row}
 use Rattle.xq_regions.specs.Rows.{placed}
 use Rattle.xq_sources.specs.Lenders.{IsRun}
 use Rattle.xq_sources.specs.Sources.{rows_between, tree_at}

@@ -1,6 +1,6 @@
 use Rattle.std.proofs.Common.{◌≡◌, ◌∙◌, ◌+◌, ℕ, ap, sym, List, map, ◌++◌, arith}
 use Rattle.xq_regions.specs.Tree.{Tree}
-use Rattle.xq_regions.specs.Print.{flat_row}
+use Rattle.xq_regions.specs.Levels.{flat_row}
 use Rattle.xq_sources.specs.Sources.{tree_at}
 use Rattle.xq_build.specs.private.Leaves.{Leaf, IsRowOf, lowered, leaves_between}
 use Rattle.xq_build.proofs.Subtrees.{document_leaves, whole_copied}

@@ -1,6 +1,6 @@
 use Rattle.std.proofs.Common.{◌≡◌, map, drop}
 use Rattle.std.specs.Prelude.{[], false}
-use Rattle.xq_regions.specs.Print.{flat_row}
+use Rattle.xq_regions.specs.Levels.{flat_row}
 use Rattle.xq_build.specs.private.Content.{fault_from, names_of}
 use Rattle.xq_build.proofs.judging.judge_attributes.Given as goal
 

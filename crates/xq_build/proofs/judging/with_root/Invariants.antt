@@ -1,5 +1,5 @@
 use Rattle.std.proofs.Common.{◌≡◌, ◌∷◌, map}
-use Rattle.xq_regions.specs.Print.{flat_row}
+use Rattle.xq_regions.specs.Levels.{flat_row}
 use Rattle.xq_build.specs.private.Content.{raised}
 use Rattle.xq_build.proofs.judging.with_root.Given as goal
 

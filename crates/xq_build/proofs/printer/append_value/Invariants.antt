@@ -1,6 +1,6 @@
 use Rattle.std.proofs.Common.{◌≡◌, ◌≤◌, length, string_bytes, ◌++◌}
 use Rattle.std.specs.Str.{encode_utf8_all}
-use Rattle.xq_regions.specs.Print.{escaped}
+use Rattle.xq_atoms.specs.Print.{escaped}
 use Rattle.xq_build.proofs.printer.append_value.Given as goal
 
 abbrev pub invariant-loop-character : goal.invariant-loop-character

@@ -1,5 +1,5 @@
 use Rattle.std.proofs.Common.{◌≡◌, ◌∙◌, sym, arith, map, false, refl}
-use Rattle.xq_regions.specs.Print.{flat_row}
+use Rattle.xq_regions.specs.Levels.{flat_row}
 use Rattle.xq_build.specs.private.Content.{are_low}
 use Rattle.xq_build.specs.private.Surplus.{copy_of}
 use Rattle.xq_build.proofs.Surpluses.{deep_low, root_low, short_nothing, short_seen, short_low, short_high}

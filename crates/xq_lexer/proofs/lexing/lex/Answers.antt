@@ -1,6 +1,6 @@
 use Rattle.std.proofs.Common.{ℕ, List, subst, ◌∙◌}
 use Rattle.std.specs.Str.{chars as chars_of}
-use Rattle.xq_lexer.specs.private.Gives.{Lexes}
+use Rattle.xq_lexer.specs.private.Lexes.{Lexes}
 use Rattle.xq_lexer.proofs.StepLemmas.{lexes_only, lexes_sound, lexes_refused}
 use Rattle.xq_lexer.proofs.lexing.lex.Goals as goal
 

@@ -2,7 +2,7 @@ use Rattle.std.proofs.Common.{ℕ, List, Option, Some, None, Ok, subst, arith}
 use Rattle.std.proofs.lemmas.Result.{err_from_is_err_and}
 use denote.Ref.{Bor}
 use Rattle.xq_lexer.specs.declared.tokens.Token.{Token}
-use Rattle.xq_lexer.specs.private.Gives.{Nexts}
+use Rattle.xq_lexer.specs.private.Lexes.{Nexts}
 use Rattle.xq_lexer.proofs.StepLemmas.{lexed_more, lexed_all, lexed_error}
 use Rattle.xq_lexer.proofs.lexing.tokens.Goals as goal
 

@@ -1,7 +1,7 @@
 use Rattle.std.proofs.Common.{ℕ, List, sym, ap, ap₂, ◌∙◌, subst, IsTrue, encode_utf8_all}
 use Rattle.std.proofs.lemmas.Result.{err_from_is_err_and}
 use Rattle.std.specs.Bool.{OnTrue, OnFalse}
-use Rattle.xq_lexer.specs.private.Gives.{is_decimal, valued_lex}
+use Rattle.xq_lexer.specs.private.Lexes.{is_decimal, valued_lex}
 use Rattle.xq_lexer.proofs.NumberLemmas.{cut, stands_for, refused, whole_form, number_form, number_encoded, with_rest}
 use Rattle.xq_atoms.specs.Text.{is_whole}
 use Rattle.xq_atoms.specs.Literal.{is_number}

@@ -1,7 +1,7 @@
 use Rattle.std.proofs.Common.{◌≡◌, ℕ, take, length, sym, ap, ◌∙◌, arith}
 use Rattle.std.proofs.lemmas.List.{get_or_read}
 use Rattle.std.specs.List.{list_all}
-use Rattle.xq_lexer.specs.private.Gives.{test}
+use Rattle.xq_lexer.specs.private.Lexes.{test}
 use Rattle.xq_lexer.proofs.RunLemmas.{span_at, span_all}
 use Rattle.xq_lexer.proofs.runs.run.Goals as goal
 

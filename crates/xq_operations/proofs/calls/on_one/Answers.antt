@@ -1,6 +1,6 @@
 use Rattle.std.proofs.Common.{◌≡◌, ◌∙◌, ap, sym, subst, map, string_bytes}
 use Rattle.xq_atoms.specs.Atom.{atomic_of}
-use Rattle.xq_build.specs.Gives.{Gives}
+use Rattle.xq_atoms.specs.Answers.{GivesUnlessWanting}
 use Rattle.xq_functions.specs.Answers.{atomics, items_of, lent_items}
 use Rattle.xq_values.specs.Functions as Functions
 use Rattle.xq_values.specs.Items.{atomized}
@@ -18,7 +18,7 @@ pub returns-in-Nodes-clause-gives : goal.returns-in-Nodes-clause-gives
 returns-in-Nodes-clause-gives g c = λ k.
     let old = g.L.TreeSource.forest c.args.source.now in
     let addresses = map string_bytes c.args.addresses.now in
-    subst (λ l. Gives (items_of old) (Functions.of_one c.args.function old addresses (lent_items old l)) c.call_on_nodes.result) c.deref.ensures.value (c.call_on_nodes.ensures.gives k (sym c.in-Nodes.ensures) addresses)
+    subst (λ l. GivesUnlessWanting (items_of old) (Functions.of_one c.args.function old addresses (lent_items old l)) c.call_on_nodes.result) c.deref.ensures.value (c.call_on_nodes.ensures.gives k (sym c.in-Nodes.ensures) addresses)
 
 pub returns-in-Missing-clause-gives : goal.returns-in-Missing-clause-gives
 returns-in-Missing-clause-gives g c = λ k.
@@ -40,8 +40,8 @@ returns-in-Doc-clause-gives g c = λ k.
     let xs = items_of old c.args.items in
     let read : atomics c.deref-in-Doc.result.now ≡ atomized old xs =
     ap (map atomic_of) c.deref-in-Doc.ensures.value ∙ c.in_ok-atoms-in-Address.ensures.value k ∙ ap (λ l. atomized old (lent_items old l)) c.deref-in-Address.ensures.value in
-    subst (λ f. Gives (items_of old) (Functions.of_one f old addresses xs) c.doc.result) (sym c.in-Doc.is)
-    (subst (λ as'. Gives (items_of old) (Functions.doc addresses as') c.doc.result) read (told (items_of old) (Functions.doc addresses (atomics c.deref-in-Doc.result.now)) c.doc.result (c.doc.ensures old)))
+    subst (λ f. GivesUnlessWanting (items_of old) (Functions.of_one f old addresses xs) c.doc.result) (sym c.in-Doc.is)
+    (subst (λ as'. GivesUnlessWanting (items_of old) (Functions.doc addresses as') c.doc.result) read (told (items_of old) (Functions.doc addresses (atomics c.deref-in-Doc.result.now)) c.doc.result (c.doc.ensures old)))
 
 pub returns : goal.returns
 returns g c =
@@ -52,7 +52,7 @@ returns g c =
       gives = λ k.
           let read : atomics c.deref-in_default.result.now ≡ atomized old xs =
           ap (map atomic_of) c.deref-in_default.ensures.value ∙ c.in_ok-atoms-in-Address.ensures.value k ∙ ap (λ l. atomized old (lent_items old l)) c.deref-in-Address.ensures.value in
-          subst (λ j. Gives (items_of old) j c.doc_available.result)
+          subst (λ j. GivesUnlessWanting (items_of old) j c.doc_available.result)
           (ap (Functions.doc_available addresses) read ∙ sym (one_available c.args.function old addresses xs (sym c.in-Address.ensures) c.in_default.not-Doc))
           (told (items_of old) (Functions.doc_available addresses (atomics c.deref-in_default.result.now)) c.doc_available.result (c.doc_available.ensures old));
       keeps = c.atomized-in-Address.ensures.keeps;

@@ -1,6 +1,6 @@
 use Rattle.std.proofs.Common.{◌∙◌, ap, sym, subst, map, Ok}
 use Rattle.xq_atoms.specs.Atom.{atomic_of}
-use Rattle.xq_build.specs.Gives.{Gives}
+use Rattle.xq_atoms.specs.Answers.{GivesUnlessWanting}
 use Rattle.xq_functions.specs.Answers.{items_of, lent_items}
 use Rattle.xq_values.specs.Functions as Functions
 use Rattle.xq_values.specs.Items.{Atom}
@@ -13,7 +13,7 @@ pub returns-in-Root-clause-gives : goal.returns-in-Root-clause-gives
 returns-in-Root-clause-gives g c = λ k on addresses.
     let old = g.L.TreeSource.forest c.args.source.now in
     let xs = lent_items old c.args.items.now in
-    subst (λ f. Gives (items_of old) (Functions.of_one f old addresses xs) c.root.result) (sym c.in-Root.is) (told (items_of old) (Functions.root xs) c.root.result (c.root.ensures old))
+    subst (λ f. GivesUnlessWanting (items_of old) (Functions.of_one f old addresses xs) c.root.result) (sym c.in-Root.is) (told (items_of old) (Functions.root xs) c.root.result (c.root.ensures old))
 
 pub returns-in_ok-as_items-in_default : goal.returns-in_ok-as_items-in_default
 returns-in_ok-as_items-in_default g c =

@@ -4,7 +4,7 @@ use Rattle.xq_regions.specs.Items.{item_view}
 use Rattle.xq_values.specs.Items.{atomized}
 use Rattle.xq_values.specs.Operators.{signed}
 use Rattle.xq_values.specs.Readings.{items_at}
-use Rattle.xq_operations.specs.Views.{Gives}
+use Rattle.xq_operations.specs.Views.{GivesSequence}
 use Rattle.xq_operations.proofs.AtomResults.{plain_gives, signed_atoms}
 use Rattle.xq_operations.proofs.operators.sign.Goals as goal
 
@@ -13,5 +13,5 @@ returns-clause-gives g c = λ clean items_in.
     let old = g.W.TreeSource.forest c.args.world.now in
     let new = g.W.TreeSource.forest c.atomized.new.source in
     let value : map atomic_of c.deref.result.now ≡ atomized old (items_at old (map item_view c.args.items.now)) = ap (map atomic_of) c.deref.ensures.value ∙ c.in_ok-atoms.ensures.value clean in
-    subst (λ as'. Gives (signed c.args.signs.now as', old) new c.signed.result) value
+    subst (λ as'. GivesSequence (signed c.args.signs.now as', old) new c.signed.result) value
     (plain_gives (signed c.args.signs.now (map atomic_of c.deref.result.now)) old new c.signed.result (signed_atoms c.args.signs.now (map atomic_of c.deref.result.now)) c.atomized.ensures.keeps (c.signed.ensures old))

@@ -4,7 +4,7 @@ use Rattle.xq_axes.specs.DoubleSlash.{after_double_slash as after_places}
 use Rattle.xq_axes.specs.Nodes.{HaveAll}
 use Rattle.xq_regions.specs.Items.{Place, item_view, item_views}
 use Rattle.xq_values.specs.Readings.{node_at, items_at, AreIn}
-use Rattle.xq_operations.specs.Views.{Gives, after_double_slash}
+use Rattle.xq_operations.specs.Views.{GivesSequence, after_double_slash}
 use Rattle.xq_operations.proofs.NodeLemmas.{among_in, double_slash_gives, double_slash_stops}
 use Rattle.xq_operations.proofs.steps.double_slash.Goals as goal
 
@@ -15,7 +15,7 @@ returns-in_err-only_nodes-clause-gives g c = λ k inside.
     let xs = items_at old (map item_view c.args.items.now) in
     let code = c.in_err-only_nodes.field-0.0 in
     let is : c.from_residual.result ≡ Err (OfCode code) = search rules in
-    subst (Gives (after_double_slash test xs old) old) (sym is) (double_slash_stops old test xs code (c.in_err-only_nodes.ensures old))
+    subst (GivesSequence (after_double_slash test xs old) old) (sym is) (double_slash_stops old test xs code (c.in_err-only_nodes.ensures old))
 
 pub returns-clause-gives : goal.returns-clause-gives
 returns-clause-gives g c = λ k inside.

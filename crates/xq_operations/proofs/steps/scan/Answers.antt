@@ -7,7 +7,7 @@ use Rattle.xq_values.specs.Items.{in_document_order}
 use Rattle.xq_values.specs.Readings.{node_at, items_at, AreIn}
 use Rattle.xq_values.specs.Steps.{axis_nodes}
 use Rattle.xq_meaning.specs.Forms as Forms
-use Rattle.xq_operations.specs.Views.{Gives}
+use Rattle.xq_operations.specs.Views.{GivesSequence}
 use Rattle.xq_operations.proofs.NodeLemmas.{among_in, scan_gives, scan_stops}
 use Rattle.xq_operations.proofs.steps.scan.Goals as goal
 
@@ -17,7 +17,7 @@ returns-in_err-only_nodes-clause-gives g c = λ k inside.
     let xs = items_at old (map item_view c.args.items.now) in
     let code = c.in_err-only_nodes.field-0.0 in
     let is : c.from_residual.result ≡ Err (OfCode code) = search rules in
-    subst (Gives (Forms.scan c.args.axis c.args.test.now xs old) old) (sym is) (scan_stops old c.args.axis c.args.test.now xs code (c.in_err-only_nodes.ensures old))
+    subst (GivesSequence (Forms.scan c.args.axis c.args.test.now xs old) old) (sym is) (scan_stops old c.args.axis c.args.test.now xs code (c.in_err-only_nodes.ensures old))
 
 pub returns-clause-gives : goal.returns-clause-gives
 returns-clause-gives g c = λ k inside.

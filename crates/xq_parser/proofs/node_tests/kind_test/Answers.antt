@@ -4,7 +4,7 @@ use Rattle.xq_expressions.specs.declared.operators.NodeTest.{NodeTest}
 use Rattle.xq_grammar.specs.Look.{Tokens, word}
 use Rattle.xq_grammar.specs.Grammar as g
 use Rattle.xq_grammar.specs.private.Reading as spec
-use Rattle.xq_grammar.specs.private.Gives.{Parses}
+use Rattle.xq_grammar.specs.private.Parses.{Parses}
 use Rattle.xq_parser.proofs.Steps.{chooses_second, chooses_third}
 use Rattle.xq_parser.proofs.node_tests.kind_test.Goals as goal
 

@@ -1,5 +1,5 @@
 use Rattle.xq_regions.specs.Tree.{nodes}
-use Rattle.xq_regions.specs.Nesting.{rows-injective}
+use Rattle.xq_regions.proofs.Injective.{rows-injective}
 use Rattle.xq_regions.proofs.Paths.{place_lt, path_at-place_of, at_place}
 use Rattle.xq_regions.proofs.Regions.{before_by_place}
 use Rattle.xq_regions.proofs.AxisRegions.{axis_region}

@@ -1,6 +1,6 @@
 use Rattle.std.proofs.Common.{◌≡◌, ◌≤◌, length, drop, map}
 use Rattle.xq_regions.specs.Rows.{AreNumbered}
-use Rattle.xq_regions.specs.Print.{flat_row}
+use Rattle.xq_regions.specs.Levels.{flat_row}
 use Rattle.xq_regions.specs.private.Sizes.{IsSized}
 use Rattle.xq_regions.proofs.levels.set_sizes.Given as goal
 

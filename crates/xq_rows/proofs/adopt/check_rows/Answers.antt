@@ -3,7 +3,7 @@ use Rattle.std.proofs.lemmas.Result.{err_from_is_err_and}
 use Rattle.sqlite_value.specs.Order.{Row}
 use Rattle.xq_atoms.specs.Address.{IsAddress}
 use Rattle.xq_rows.specs.private.Adopt.{IsRun}
-use Rattle.xq_rows.specs.Nodes.{node_of}
+use Rattle.xq_rows.specs.private.Columns.{node_of}
 use Rattle.xq_rows.proofs.Adopts.{AreJudged, first_is, judged_more, judged_bad, judged_stray, run_within}
 use Rattle.xq_rows.proofs.adopt.check_rows.Goals as goal
 

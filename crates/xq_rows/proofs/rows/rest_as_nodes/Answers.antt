@@ -1,7 +1,8 @@
 use Rattle.std.proofs.Common.{◌≡◌, ◌++◌, ◌∷◌, [], ◌∙◌, map, ap, ap₂, sym}
 use Rattle.std.proofs.lemmas.List.{map-append}
 use Rattle.xq_regions.specs.Rows.{placed}
-use Rattle.xq_rows.specs.Nodes.{cells, node_of}
+use Rattle.xq_rows.specs.Nodes.{cells}
+use Rattle.xq_rows.specs.private.Columns.{node_of}
 use Rattle.xq_rows.proofs.Streams.{one_more, at_end}
 use Rattle.xq_rows.proofs.rows.rest_as_nodes.Goals as goal
 

@@ -1,6 +1,7 @@
 use Rattle.std.proofs.Common.{◌≡◌, map}
 use Rattle.xq_regions.specs.Rows.{placed}
-use Rattle.xq_rows.specs.Nodes.{cells, node_of}
+use Rattle.xq_rows.specs.Nodes.{cells}
+use Rattle.xq_rows.specs.private.Columns.{node_of}
 use Rattle.xq_rows.proofs.Streams.{IsUnderWay}
 use Rattle.xq_rows.proofs.rows.rest_as_nodes.Given as goal
 

@@ -8,7 +8,7 @@ use Rattle.sqlite.proofs.Callers.{IsPlain}
 use Rattle.sqlite.specs.Listing.{understood}
 use Rattle.xq_rows.specs.private.Statements.{AreAddresses}
 use Rattle.xq_rows.specs.Tables.{IsStoreSchema}
-use Rattle.xq_rows.specs.private.Streams.{Gives}
+use Rattle.xq_rows.specs.private.Streams.{GivesRows}
 use Rattle.xq_rows.specs.Documents.{IsReady}
 use Rattle.xq_rows.proofs.Texts.{addresses_text, addresses_plain}
 use Rattle.xq_rows.proofs.Keys.{read_addresses_is}
@@ -58,7 +58,7 @@ returns-clause-all g c up =
     let begun = c.in_ok-rows.ensures.begun early in
     let db = (state g.S.Store c.args.conn.now).now in
     let plain : IsStoreSchema c.args.conn.now.schema → IsPlain (understood c.args.conn.now.schema addresses_text) = plain_under c.args.conn.now.schema addresses_text addresses_plain in
-    IfOk-weaker c.rest_as_texts.result (λ (texts : Vec (String Global) Global). Gives g.S.Store c.in_ok-rows.rows.conn.now c.rest_as_texts.new.rows.conn.now (λ given. map Text (map string_bytes texts.items) ≡ map (λ (r : Row). column r 0) given))
+    IfOk-weaker c.rest_as_texts.result (λ (texts : Vec (String Global) Global). GivesRows g.S.Store c.in_ok-rows.rows.conn.now c.rest_as_texts.new.rows.conn.now (λ given. map Text (map string_bytes texts.items) ≡ map (λ (r : Row). column r 0) given))
     (λ (texts : Vec (String Global) Global). AreAddresses db (map (λ bytes. Text bytes ∷ []) (map string_bytes texts.items)))
     (λ texts gives has.
     let all = gives_shown g.S.Store addresses_text [] c.args.conn.now c.in_ok-rows.rows.conn.now begun (plain has) c.rest_as_texts.new.rows.conn.now _ gives in

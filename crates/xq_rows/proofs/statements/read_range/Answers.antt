@@ -9,9 +9,10 @@ use Rattle.sqlite.specs.Listing.{understood}
 use Rattle.xq_regions.specs.declared.NodeRow.{NodeRow}
 use Rattle.xq_rows.specs.private.Statements.{IsRange}
 use Rattle.xq_rows.specs.Tables.{IsStoreSchema}
-use Rattle.xq_rows.specs.private.Streams.{Gives}
+use Rattle.xq_rows.specs.private.Streams.{GivesRows}
 use Rattle.xq_rows.specs.Documents.{IsReady}
-use Rattle.xq_rows.specs.Nodes.{cells, node_of}
+use Rattle.xq_rows.specs.Nodes.{cells}
+use Rattle.xq_rows.specs.private.Columns.{node_of}
 use Rattle.xq_rows.proofs.Texts.{range_text, range_plain}
 use Rattle.xq_rows.proofs.Loads.{read_range_is}
 use Rattle.xq_rows.proofs.Selects.{plain_under, ranges, refused_keeps, refused_opens}
@@ -61,7 +62,7 @@ returns-clause-nodes g c up =
     let begun = rw (c.params-to_sql.ensures, c.params-to_sql-2.ensures, c.params-to_sql-3.ensures) at (c.in_ok-rows.ensures.begun early) in
     let db = (state g.S.Store c.args.conn.now).now in
     let plain : IsStoreSchema c.args.conn.now.schema → IsPlain (understood c.args.conn.now.schema range_text) = plain_under c.args.conn.now.schema range_text range_plain in
-    IfOk-weaker c.rest_as_nodes.result (λ (nodes : Vec NodeRow Global). Gives g.S.Store c.in_ok-rows.rows.conn.now c.rest_as_nodes.new.rows.conn.now (λ given. map cells (map placed nodes.items) ≡ map node_of given))
+    IfOk-weaker c.rest_as_nodes.result (λ (nodes : Vec NodeRow Global). GivesRows g.S.Store c.in_ok-rows.rows.conn.now c.rest_as_nodes.new.rows.conn.now (λ given. map cells (map placed nodes.items) ≡ map node_of given))
     (λ (nodes : Vec NodeRow Global). IsRange c.args.address.now c.args.low c.args.high db (map cells (map placed nodes.items)))
     (λ nodes gives has.
     let all = gives_shown g.S.Store range_text params c.args.conn.now c.in_ok-rows.rows.conn.now begun (plain has) c.rest_as_nodes.new.rows.conn.now _ gives in

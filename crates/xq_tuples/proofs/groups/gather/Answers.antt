@@ -4,7 +4,7 @@ use Rattle.std.proofs.lemmas.Iterator.Adapters.{YieldsList-from_vec}
 use Rattle.std.proofs.lemmas.Iterator.Consumers.{YieldsList-end}
 use Rattle.xq_regions.specs.Tuples.{groups, same_keys}
 use Rattle.xq_tuples.specs.Views.{tuple_of}
-use Rattle.xq_tuples.specs.Keys.{keys_of}
+use Rattle.xq_tuples.specs.private.KeyRows.{keys_of}
 use Rattle.xq_tuples.proofs.Lists.{zip-yielded}
 use Rattle.xq_tuples.proofs.groups.gather.Goals as goal
 

@@ -1,6 +1,6 @@
 use Rattle.std.proofs.Common.{◌≡◌, map, length, vec_len}
 use Rattle.xq_tuples.specs.Views.{tuple_of}
-use Rattle.xq_tuples.specs.Keys.{keys_of}
+use Rattle.xq_tuples.specs.private.KeyRows.{keys_of}
 use Rattle.xq_tuples.specs.private.Groups.{Gathers}
 use Rattle.xq_tuples.proofs.groups.gather.Given as goal
 

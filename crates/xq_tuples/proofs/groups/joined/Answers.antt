@@ -6,7 +6,7 @@ use Rattle.xq_atoms.specs.declared.atoms.Atom.{Atom}
 use Rattle.xq_regions.specs.Tuples.{grouped_value, slot_key}
 use Rattle.xq_regions.specs.Items.{ItemView, Value, item_views}
 use Rattle.xq_tuples.specs.Views.{values_of}
-use Rattle.xq_tuples.specs.Keys.{key_view, keys_of}
+use Rattle.xq_tuples.specs.private.KeyRows.{key_view, keys_of}
 use Rattle.xq_tuples.specs.private.Groups.{keyed_of}
 use Rattle.xq_tuples.proofs.groups.joined.Goals as goal
 use Rattle.xq_tuples.proofs.groups.joined.Goals.{in-Some-slot_key+in_ok-value-in-Some-slot_key, in-None+in_ok-value-in-None}

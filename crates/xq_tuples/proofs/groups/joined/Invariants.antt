@@ -3,7 +3,7 @@ use Rattle.std.specs.List.{range_with_len}
 use Rattle.xq_regions.specs.Tuples.{grouped_value, slot_key}
 use Rattle.xq_regions.specs.Items.{Value}
 use Rattle.xq_tuples.specs.Views.{tuple_of}
-use Rattle.xq_tuples.specs.Keys.{keys_of}
+use Rattle.xq_tuples.specs.private.KeyRows.{keys_of}
 use Rattle.xq_tuples.specs.private.Groups.{keyed_of}
 use Rattle.xq_tuples.proofs.groups.joined.Given as goal
 

@@ -2,7 +2,7 @@ use Rattle.std.proofs.Common.{◌≡◌, ◌<◌, [], ◌∷◌, ◌++◌, map, 
 use Rattle.std.specs.List.{list_any}
 use Rattle.std.proofs.lemmas.List.{set_at, get_or_at}
 use Rattle.xq_regions.specs.Tuples.{comparison_keys}
-use Rattle.xq_tuples.specs.Keys.{key_view}
+use Rattle.xq_tuples.specs.private.KeyRows.{key_view}
 use Rattle.xq_tuples.specs.private.Groups.{Gathers, keyed_of}
 use Rattle.xq_tuples.proofs.Placing.{Gathers-new, Gathers-old, position_or_len-none, position_or_len-some, same_compared}
 use Rattle.xq_tuples.proofs.groups.place.Goals as goal

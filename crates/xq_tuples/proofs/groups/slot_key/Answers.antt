@@ -3,7 +3,7 @@ use Rattle.std.specs.Prelude.{position, slice_get, option_and_then}
 use Rattle.std.proofs.lemmas.Iterator.{YieldsList-from_slice}
 use Rattle.std.proofs.lemmas.Iterator.Search.{position_from_yields_List}
 use Rattle.std.proofs.lemmas.Option.{slice_get-map}
-use Rattle.xq_tuples.specs.Keys.{key_view}
+use Rattle.xq_tuples.specs.private.KeyRows.{key_view}
 use Rattle.xq_tuples.proofs.Reading.{read_key}
 use Rattle.xq_tuples.proofs.groups.slot_key.Goals as goal
 

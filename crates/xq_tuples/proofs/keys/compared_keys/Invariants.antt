@@ -1,7 +1,7 @@
 use Rattle.std.proofs.Common.{◌≡◌, map, take}
 use Rattle.xq_atoms.specs.Compare.{key_of}
 use Rattle.xq_regions.specs.Tuples.{comparison_keys}
-use Rattle.xq_tuples.specs.Keys.{key_view}
+use Rattle.xq_tuples.specs.private.KeyRows.{key_view}
 use Rattle.xq_tuples.proofs.keys.compared_keys.Given as goal
 
 abbrev pub invariant-loop-key : goal.invariant-loop-key

@@ -4,7 +4,7 @@ use Rattle.std.proofs.lemmas.List.{map-id}
 use Rattle.std.proofs.lemmas.Iterator.{YieldsList-from_zip}
 use Rattle.std.proofs.lemmas.Iterator.Adapters.{YieldsList-from_vec}
 use Rattle.std.proofs.lemmas.Iterator.Consumers.{YieldsList-end}
-use Rattle.xq_tuples.specs.Keys.{rows_of}
+use Rattle.xq_tuples.specs.private.KeyRows.{rows_of}
 use Rattle.xq_tuples.proofs.Lists.{map-map, zip-yielded}
 use Rattle.xq_tuples.proofs.keys.extended_rows.Goals as goal
 

@@ -1,5 +1,5 @@
 use Rattle.std.proofs.Common.{◌≡◌, [], ◌∷◌, ◌++◌, map}
-use Rattle.xq_tuples.specs.Keys.{rows_of}
+use Rattle.xq_tuples.specs.private.KeyRows.{rows_of}
 use Rattle.xq_tuples.proofs.keys.extended_rows.Given as goal
 
 abbrev pub invariant-loop-row : goal.invariant-loop-row

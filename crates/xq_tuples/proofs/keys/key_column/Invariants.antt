@@ -1,7 +1,8 @@
 use Rattle.std.proofs.Common.{◌≡◌, map, true}
 use Rattle.std.specs.List.{list_all}
 use Rattle.xq_regions.specs.Tuples.{is_key, key_value}
-use Rattle.xq_tuples.specs.Keys.{atomics_of, keys_of}
+use Rattle.xq_tuples.specs.Keys.{atomics_of}
+use Rattle.xq_tuples.specs.private.KeyRows.{keys_of}
 use Rattle.xq_tuples.proofs.keys.key_column.Given as goal
 
 abbrev pub invariant-loop-values : goal.invariant-loop-values

@@ -1,6 +1,7 @@
 use Rattle.std.proofs.Common.{◌≡◌, map, true}
 use Rattle.xq_regions.specs.Tuples.{are_keys, key_value}
-use Rattle.xq_tuples.specs.Keys.{column_of, keys_of}
+use Rattle.xq_tuples.specs.Keys.{column_of}
+use Rattle.xq_tuples.specs.private.KeyRows.{keys_of}
 use Rattle.xq_tuples.proofs.keys.key_columns.Given as goal
 
 abbrev pub invariant-loop-column : goal.invariant-loop-column

@@ -1,6 +1,6 @@
 use Rattle.std.proofs.Common.{◌≡◌, [], map, fold, replicate}
 use Rattle.xq_regions.specs.Tuples.{extended}
-use Rattle.xq_tuples.specs.Keys.{rows_of}
+use Rattle.xq_tuples.specs.private.KeyRows.{rows_of}
 use Rattle.xq_tuples.proofs.keys.key_rows.Given as goal
 
 abbrev pub invariant-loop-column : goal.invariant-loop-column

@@ -1,7 +1,7 @@
 use Rattle.std.proofs.Common.{◌≡◌, map}
 use Rattle.xq_tuples.specs.Views.{tuple_of}
 use Rattle.xq_tuples.specs.private.Groups.{compared_of}
-use Rattle.xq_tuples.specs.Orders.{ranked_of}
+use Rattle.xq_tuples.specs.private.Ranks.{ranked_of}
 use Rattle.xq_tuples.proofs.order.ranked.Given as goal
 
 abbrev pub invariant-loop-tuple : goal.invariant-loop-tuple

@@ -6,7 +6,8 @@ use Rattle.std.proofs.lemmas.Fn.{always_returns_same}
 use Rattle.std.proofs.lemmas.List.Sorted.{ranks_by}
 use Rattle.xq_tuples.specs.declared.rows.Ranked.{Ranked}
 use Rattle.xq_tuples.specs.private.Groups.{compared_of}
-use Rattle.xq_tuples.specs.Orders.{rule_of, ranked_of, by_keys}
+use Rattle.xq_tuples.specs.Orders.{rule_of}
+use Rattle.xq_tuples.specs.private.Ranks.{ranked_of, by_keys}
 use Rattle.xq_tuples.proofs.Rules.{keys_total}
 use Rattle.xq_tuples.proofs.Sorting.{sorted_from_sort, sorted-map}
 use Rattle.xq_tuples.proofs.order.sort.Goals as goal

@@ -1,7 +1,8 @@
 use Rattle.std.proofs.Common.{◌&&◌, map, refl, ap, ◌∙◌, sym}
 use Rattle.xq_atoms.specs.Compare.{key_of}
 use Rattle.xq_regions.specs.Tuples.{are_of_one_kind, comparison_key, comparison_keys, key_value}
-use Rattle.xq_tuples.specs.Keys.{column_of, key_view}
+use Rattle.xq_tuples.specs.Keys.{column_of}
+use Rattle.xq_tuples.specs.private.KeyRows.{key_view}
 use Rattle.xq_tuples.proofs.Lists.{map-map}
 use Rattle.xq_tuples.proofs.order.sort_column.Goals as goal
 

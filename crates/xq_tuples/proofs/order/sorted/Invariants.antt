@@ -1,6 +1,6 @@
 use Rattle.std.proofs.Common.{◌≡◌, map}
 use Rattle.xq_tuples.specs.Views.{tuple_of}
-use Rattle.xq_tuples.specs.Orders.{ranked_of}
+use Rattle.xq_tuples.specs.private.Ranks.{ranked_of}
 use Rattle.xq_tuples.proofs.order.sorted.Given as goal
 
 abbrev pub invariant-loop-row : goal.invariant-loop-row

@@ -7,7 +7,8 @@ use Rattle.xq_atoms.specs.declared.refusals.Code.TheVariants.{XPTY0004}
 use Rattle.xq_regions.specs.Tuples.{grouped_tuple, groups, same_keys, key_rows, key_value}
 use Rattle.xq_regions.specs.Items.{Value}
 use Rattle.xq_tuples.specs.Views.{tuple_of}
-use Rattle.xq_tuples.specs.Keys.{columns_of, key_view, keys_of, rows_of}
+use Rattle.xq_tuples.specs.Keys.{columns_of}
+use Rattle.xq_tuples.specs.private.KeyRows.{key_view, keys_of, rows_of}
 use Rattle.xq_tuples.specs.private.Groups.{group_of}
 use Rattle.xq_tuples.proofs.Lists.{map-map}
 use Rattle.xq_tuples.proofs.KeyRows.{key_rows-read}

@@ -1,6 +1,6 @@
 use Rattle.std.proofs.Common.{◌≡◌, ◌<◌, map, length, true, false, sym, ap, ◌∙◌, arith}
 use Rattle.std.proofs.lemmas.List.{length-map, get_or_default}
-use Rattle.xq_regions.specs.Tuples.{kept}
+use Rattle.xq_regions.specs.Tuples.{satisfying}
 use Rattle.xq_tuples.specs.Views.{tuple_of}
 use Rattle.xq_tuples.proofs.Lists.{kept-map}
 use Rattle.xq_tuples.proofs.Keeping.{KeepsInPlace-all, KeepsInPlace-yes, KeepsInPlace-no}
@@ -19,4 +19,4 @@ loop-index-preserved c =
 pub returns : goal.returns
 returns c =
     let long : length c.self.inside.tuples.items ≡ length c.args.tests.now = sym (length-map c.self.inside.tuples.items tuple_of) ∙ ap length c.self.view_is ∙ sym c.requires in
-    ap (map tuple_of) (c.truncate.ensures.items ∙ KeepsInPlace-all c.loop-index.invariant (omega arith) (omega arith)) ∙ kept-map tuple_of c.self.inside.tuples.items c.args.tests.now ∙ ap (λ s. kept s c.args.tests.now) c.self.view_is
+    ap (map tuple_of) (c.truncate.ensures.items ∙ KeepsInPlace-all c.loop-index.invariant (omega arith) (omega arith)) ∙ kept-map tuple_of c.self.inside.tuples.items c.args.tests.now ∙ ap (λ s. satisfying s c.args.tests.now) c.self.view_is

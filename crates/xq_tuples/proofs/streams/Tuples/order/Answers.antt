@@ -7,9 +7,10 @@ use Rattle.xq_atoms.specs.declared.refusals.Code.TheVariants.{XPTY0004}
 use Rattle.xq_atoms.specs.Compare.{key_of}
 use Rattle.xq_regions.specs.Tuples.{sorted, key_rows, sort_keys}
 use Rattle.xq_tuples.specs.Views.{tuple_of}
-use Rattle.xq_tuples.specs.Keys.{columns_of, rows_of}
+use Rattle.xq_tuples.specs.Keys.{columns_of}
+use Rattle.xq_tuples.specs.private.KeyRows.{rows_of}
 use Rattle.xq_tuples.specs.private.Groups.{compared_of}
-use Rattle.xq_tuples.specs.Orders.{by_keys}
+use Rattle.xq_tuples.specs.private.Ranks.{by_keys}
 use Rattle.xq_tuples.proofs.Lists.{map-map}
 use Rattle.xq_tuples.proofs.KeyRows.{key_rows-read}
 use Rattle.xq_tuples.proofs.Refusals.{IsRefusal-judged}

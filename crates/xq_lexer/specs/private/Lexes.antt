@@ -1,11 +1,12 @@
 -- What a function that reads ensures: what the reader on lists gives, unless memory is wanting.
-use Rattle.std.specs.Prelude.{◌≡◌, ℕ, ℤ, min, [], Bool, true, false, if◌then◌else◌, Option, Some, None, option_map, Result, Ok, Err}
+use Rattle.std.specs.Prelude.{◌≡◌, ℕ, ℤ, min, [], Bool, true, false, if◌then◌else◌, Option, Some, None, option_map, Result, Ok, Err, ◌+◌, ◌<◌, length}
 use Rattle.xq_atoms.specs.declared.refusals.Code.{Code}
 use denote.Ref.{Bor}
 use Rattle.xq_atoms.specs.declared.refusals.Code.TheVariants.{XPST0003, XQST0090}
 use Rattle.xq_atoms.specs.declared.refusals.Fault.{Fault}
 use Rattle.xq_atoms.specs.declared.refusals.Fault.TheVariants.{Code as OfCode, Want as OfWant}
 use Rattle.xq_atoms.specs.declared.refusals.Want.TheVariants.{Memory}
+use Rattle.xq_atoms.specs.Judged.{Judged}
 use Rattle.xq_atoms.specs.Literal.{integer_literal, decimal_literal}
 use Rattle.xq_lexer.specs.declared.runs.Class.{Class}
 use Rattle.xq_lexer.specs.declared.runs.Class.TheVariants.{Name, Digit, HexDigit}
@@ -18,22 +19,13 @@ use Rattle.xq_lexer.specs.Separators.{skip}
 use Rattle.xq_lexer.specs.TokenFaults.{FaultHere, HasFault}
 use Rattle.xq_lexer.specs.declared.tokens.Token.{Token}
 use Rattle.std.specs.declared.alloc.Global.{Global}
-use Rattle.std.specs.Prelude.{◌+◌, ◌<◌, length}
 use Rattle.std.specs.declared.vec.Vec.{Vec}
 use Rattle.xq_lexer.specs.private.Reading.{Inside, closed, one, wrong}
 
-abbrev pub Fails : {Y : Type 0} → Fault → Result Y Code → Type 0
-Fails (OfCode c) read = read ≡ Err c
-Fails (OfWant w) read = w ≡ Memory
-
-abbrev pub Gives : {X Y : Type 0} → (X → Y) → Result X Fault → Result Y Code → Type 0
-Gives view (Ok x) read = read ≡ Ok (view x)
-Gives view (Err e) read = Fails e read
-
--- the same of a function that takes no memory
-abbrev pub Answers : {X Y : Type 0} → (X → Y) → Result X Code → Result Y Code → Type 0
-Answers view (Ok x) read = read ≡ Ok (view x)
-Answers view (Err c) read = read ≡ Err c
+-- a function that takes no memory gives what the reader gives
+abbrev pub GivesAlways : {X Y : Type 0} → (X → Y) → Judged Y → Result X Code → Type 0
+GivesAlways view read (Ok x) = read ≡ Ok (view x)
+GivesAlways view read (Err c) = read ≡ Err c
 
 -- the test of a class of characters
 abbrev pub test : Class → ℕ → Bool
@@ -65,24 +57,24 @@ referred_char (Some x) = if is_char (referred x.0) then Ok (Some (referred x.0),
     else Err XQST0090
 
 -- what is next inside a string: a character, or None at its end
-abbrev pub shown : ℕ → Inside → Result (Option ℕ × Text) Code
-shown quote (closed rest) = Ok (None, rest)
-shown quote (one p rest) = Ok (Some (piece_char quote p), rest)
-shown quote (wrong c) = Err c
+abbrev pub next_inside : ℕ → Inside → Result (Option ℕ × Text) Code
+next_inside quote (closed rest) = Ok (None, rest)
+next_inside quote (one p rest) = Ok (Some (piece_char quote p), rest)
+next_inside quote (wrong c) = Err c
 
 -- what is left behind the separators, or the code of their fault
 abbrev pub Skips : Result (Bor Text) Code → Option Text → Type 0
 Skips (Ok rest) left = left ≡ Some rest.now
 Skips (Err c) left = (left ≡ None) × (c ≡ XPST0003)
 
-abbrev pub made : (ℤ → Lex) → Result ℤ Code → Result Lex Code
-made make (Ok m) = Ok (make m)
-made make (Err c) = Err c
+abbrev pub lex_by : (ℤ → Lex) → Result ℤ Code → Result Lex Code
+lex_by make (Ok m) = Ok (make m)
+lex_by make (Err c) = Err c
 
 -- what a number's literal stands for
 abbrev pub valued_lex : Bool → Text → Result Lex Code
-valued_lex true t = made dec (decimal_literal t)
-valued_lex false t = made int (integer_literal t)
+valued_lex true t = lex_by dec (decimal_literal t)
+valued_lex false t = lex_by int (integer_literal t)
 
 -- the next token, None at the end of the text, or the fault there
 abbrev pub Nexts : ℕ → Text → Result (Option (Token × Bor Text)) Fault → Type 0

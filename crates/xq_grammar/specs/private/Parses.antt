@@ -12,22 +12,22 @@ use Rattle.xq_expressions.specs.declared.expressions.Expr.{Expr}
 use Rattle.xq_grammar.specs.Look.{Tokens}
 use Rattle.xq_grammar.specs.private.Reading.{Outcome, single}
 
-abbrev pub Fails : {Y : Type 0} → Fault → Option Y → Type 0
-Fails (OfWant Memory) read = Unit {0}
-Fails (OfWant _) read = ⊥
-Fails (OfCode XPST0003) read = read ≡ None
-Fails (OfCode _) read = ⊥
+abbrev pub ParsesNot : {Y : Type 0} → Fault → Option Y → Type 0
+ParsesNot (OfWant Memory) read = Unit {0}
+ParsesNot (OfWant _) read = ⊥
+ParsesNot (OfCode XPST0003) read = read ≡ None
+ParsesNot (OfCode _) read = ⊥
 
-abbrev pub Gives : {X Y : Type 0} → (X → Y) → Result X Fault → Option Y → Type 0
-Gives view (Ok x) read = read ≡ Some (view x)
-Gives view (Err fault) read = Fails fault read
+abbrev pub ParsesAs : {X Y : Type 0} → (X → Y) → Result X Fault → Option Y → Type 0
+ParsesAs view (Ok x) read = read ≡ Some (view x)
+ParsesAs view (Err fault) read = ParsesNot fault read
 
 -- what was read, and the tokens after it
-abbrev pub seen : {A : Type 0} → A × Bor (List Token) → A × Tokens
-seen x = (x.0, lexemes x.1.now)
+abbrev pub parse_view : {A : Type 0} → A × Bor (List Token) → A × Tokens
+parse_view x = (x.0, lexemes x.1.now)
 
 abbrev pub Parses : {A : Type 0} → Result (A × Bor (List Token)) Fault → Outcome A → Type 0
-Parses {A} r read = Gives (seen {A = A}) r read
+Parses {A} r read = ParsesAs (parse_view {A = A}) r read
 
 -- a function value that reads singles to a depth
 pub record Nests (depth : ℕ) (pre : Global → ℕ → Bor (List Token) → Type 0)

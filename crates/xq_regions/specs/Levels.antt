@@ -1,0 +1,16 @@
+-- A tree is told by the levels and the labels of its nodes in document order.
+use Rattle.std.specs.Prelude.{◌≡◌, ℕ, List, map}
+use Rattle.xq_regions.specs.Tree.{Label, Tree}
+use Rattle.xq_regions.specs.Rows.{Row, row_of, rows}
+use Rattle.xq_regions.specs.declared.NodeRow.{NodeRow}
+
+-- the level and the label of a row
+abbrev pub flat : Row → ℕ × Label
+flat r = (r.level, r.label)
+
+abbrev pub flat_row : NodeRow → ℕ × Label
+flat_row r = flat (row_of r)
+
+-- the rows have the levels and the labels of the nodes of the tree
+abbrev pub HasLevels : Tree → List NodeRow → Type 0
+HasLevels t rs = map flat_row rs ≡ map flat (rows t)

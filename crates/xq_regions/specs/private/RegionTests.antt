@@ -1,0 +1,40 @@
+-- The regions as tests that compute, which code follows.
+use Rattle.std.proofs.Common.{zero, suc}
+use Rattle.std.specs.Prelude.{ℕ, List, Bool, false, not, ◌&&◌, ◌||◌, nat_eq}
+use Rattle.xq_regions.specs.Rows.{Row, row_at}
+use Rattle.xq_regions.specs.RegionTests.{inside, plain_row, after}
+use Rattle.xq_regions.specs.declared.Axis.{Axis}
+use Rattle.xq_regions.specs.declared.Axis.TheVariants.{Child, Descendant, DescendantOrSelf, SelfNode, Attributes, Parent, Ancestor, AncestorOrSelf, Following, FollowingSibling, Preceding, PrecedingSibling}
+
+-- the level of p is one more than that of v
+abbrev pub one_below : List Row → ℕ → ℕ → Bool
+one_below rs v p = nat_eq (row_at rs p).level (suc (row_at rs v).level)
+
+abbrev pub any_below : (ℕ → Bool) → ℕ → Bool
+any_below test zero = false
+any_below test (suc n) = test n || any_below test n
+
+-- u is the parent of v, and p is below it
+abbrev pub common_parent : List Row → ℕ → ℕ → ℕ → Bool
+common_parent rs v p u = inside rs u v && (inside rs u p && one_below rs u v)
+
+abbrev pub shares_parent : List Row → ℕ → ℕ → Bool
+shares_parent rs v p = nat_eq (row_at rs p).level (row_at rs v).level
+    && any_below (common_parent rs v p) v
+
+abbrev pub sibling : List Row → ℕ → ℕ → Bool
+sibling rs v p = shares_parent rs v p && (plain_row rs v && plain_row rs p)
+
+abbrev pub in_region : Axis → List Row → ℕ → ℕ → Bool
+in_region Child rs v p = inside rs v p && (one_below rs v p && plain_row rs p)
+in_region Descendant rs v p = inside rs v p && plain_row rs p
+in_region DescendantOrSelf rs v p = nat_eq v p || (inside rs v p && plain_row rs p)
+in_region SelfNode rs v p = nat_eq v p
+in_region Attributes rs v p = inside rs v p && (one_below rs v p && not (plain_row rs p))
+in_region Parent rs v p = inside rs p v && one_below rs p v
+in_region Ancestor rs v p = inside rs p v
+in_region AncestorOrSelf rs v p = nat_eq v p || inside rs p v
+in_region Following rs v p = after rs v p && plain_row rs p
+in_region FollowingSibling rs v p = after rs v p && sibling rs v p
+in_region Preceding rs v p = after rs p v && plain_row rs p
+in_region PrecedingSibling rs v p = after rs p v && sibling rs v p
