@@ -11,7 +11,8 @@ use Rattle.xq_regions.specs.Forest.{Forest, end, node, count, labels, tops, map_
 use Rattle.xq_regions.specs.Tree.{Label, Tree, IsText, IsTree, nodes, may_stand, has_text, may_precede, attribute_names, is_content, is_legal}
 use Rattle.xq_regions.specs.Rows.{Row, rows, measured, front, back, nest, tree_of, no_row, row_at, row_of, AreNumbered, Encodes, IsEncoding}
 use Rattle.xq_regions.specs.private.Checks.{label_of, child_ok, is_run, RowOk, IsChecked, NamesOk, AreNamed, Passes, IsNested, roots, IsSoundAt}
-use Rattle.xq_regions.specs.Nesting.{count-measured, labels-nest, nest-rows, tree_of-rows}
+use Rattle.xq_regions.specs.Nesting.{count-measured, nest-rows, tree_of-rows}
+use Rattle.xq_regions.proofs.Nests.{labels-nest}
 use Rattle.xq_regions.proofs.Regions.{length-labels}
 use Rattle.xq_regions.proofs.Checking.{each_named, named, EachNode-front, EachNode-back, both, both_true, each_row, checked, child_is_ok, child_ok_from, size_is, count-front-back, IsChecked-drop}
 use Rattle.xq_regions.proofs.Walks.{length-map}

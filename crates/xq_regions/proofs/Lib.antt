@@ -6,6 +6,7 @@ pub mod Encoding
 pub mod Steps
 pub mod Worked
 pub mod Injective
+pub mod Nests
 pub mod AxisRegions
 pub mod AxisTable
 pub mod Printed

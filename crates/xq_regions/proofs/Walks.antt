@@ -10,7 +10,7 @@ use Rattle.xq_regions.specs.private.Checks.{IsChecked, roots, label_of, child_ok
 use Rattle.xq_regions.specs.declared.NodeRow.{NodeRow}
 use Rattle.xq_regions.specs.declared.Kind.{Kind}
 use Rattle.std.proofs.Common.{length-drop}
-use Rattle.xq_regions.specs.Nesting.{labels-nest}
+use Rattle.xq_regions.proofs.Nests.{labels-nest}
 use Rattle.xq_regions.proofs.Regions.{length-labels}
 use Rattle.xq_regions.proofs.Checking.{roots_step, roots_stop, child_is_ok, count_run, EachRow-front, each_row, count-front-back}
 

@@ -1,5 +1,5 @@
 -- Rows give their tree back.
-use Rattle.std.proofs.Common.{◌≡◌, ℕ, zero, suc, ◌+◌, ◌-◌, List, [], ◌∷◌, ◌++◌, refl, sym, ◌∙◌, ap, arith, append_assoc}
+use Rattle.std.proofs.Common.{◌≡◌, ℕ, suc, ◌+◌, ◌-◌, List, [], ◌∷◌, ◌++◌, refl, sym, ◌∙◌, ap, arith, append_assoc}
 use Rattle.xq_regions.specs.Forest.{Forest, end, node, count, labels, map_forest, join}
 use Rattle.xq_regions.specs.Tree.{Label, Tree, nodes}
 use Rattle.xq_regions.specs.Rows.{Row, measured, rows, front, back, nest, first_tree, tree_of}
@@ -15,19 +15,6 @@ back-join end g = refl
 back-join (node a below beside) g =
     let e : count below + count beside - count below ≡ count beside = omega arith in
     ap (λ n. back n (join beside g)) e ∙ back-join beside g
-
-pub labels-front-back : {A : Type 0} (n : ℕ) (f : Forest A)
-    → labels (front n f) ++ labels (back n f) ≡ labels f
-labels-front-back zero f = refl
-labels-front-back (suc n) end = refl
-labels-front-back (suc n) (node a below beside) =
-    ap (λ l. a ∷ l) (append_assoc (labels below) _ _
-    ∙ ap (λ l. labels below ++ l) (labels-front-back (n - count below) beside))
-
--- whatever their sizes, rows are kept
-pub labels-nest : (rs : List Row) → labels (nest rs) ≡ rs
-labels-nest [] = refl
-labels-nest (r ∷ rs) = ap (λ l. r ∷ l) (labels-front-back r.size (nest rs) ∙ labels-nest rs)
 
 pub count-measured : (l : ℕ) (f : Forest Label) → count (measured l f) ≡ count f
 count-measured l end = refl
