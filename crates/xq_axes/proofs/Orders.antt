@@ -18,6 +18,7 @@ use Rattle.std.proofs.lemmas.Map.Lookups.{btree_set_from_contains, exact_unsigne
 use Rattle.xq_regions.specs.declared.items.Node.{Node}
 use Rattle.xq_axes.specs.Nodes.{document_order, AreRising}
 use Rattle.xq_axes.proofs.Lists.{same_tests}
+use Rattle.xq_regions.proofs.Lists.{all_append}
 
 pub order_total : IsTotalOrder document_order
 order_total = then_total (on_total (λ (n : Node). n.tree) nat_cmp_total) (on_total (λ (n : Node). n.pre) nat_cmp_total)
@@ -73,10 +74,6 @@ same_rising xs ys a b h =
 pub from_contains : {X : Type 0} (P : X → Type 0) (ys : List X) → ((y : X) → Contains ys y → P y) → AllByRecursion P ys
 from_contains P [] h = tt
 from_contains P (y ∷ ys) h = (h y (0, omega arith, refl), from_contains P ys (λ z c. h z (suc c.0, omega (arith, c.1), c.2)))
-
-all_append : {X : Type 0} (P : X → Type 0) (xs ys : List X) → AllByRecursion P xs → AllByRecursion P ys → AllByRecursion P (xs ++ ys)
-all_append P [] ys a b = b
-all_append P (x ∷ xs) ys a b = (a.0, all_append P xs ys a.1 b)
 
 pub rising_append : (xs ys : List Node) → AreRising xs → AreRising ys → ((x y : Node) → Contains xs x → Contains ys y → document_order x y ≡ Less) → AreRising (xs ++ ys)
 unfolding IsStrictlySortedBy

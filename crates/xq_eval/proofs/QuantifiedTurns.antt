@@ -21,7 +21,8 @@ use Rattle.xq_meaning.specs.Forms as Forms
 use Rattle.xq_meaning.specs.PlanMeaning.{Frame, Meaning}
 use Rattle.xq_operations.specs.Views.{tuple_at, focus_at, frame_at, TupleIn, FocusIn, FrameIn}
 use Rattle.xq_eval.specs.private.Results.{GivesPlain}
-use Rattle.xq_operations.proofs.Growth.{tuple_grown, tuple_in_grown, all-append}
+use Rattle.xq_operations.proofs.Growth.{tuple_grown, tuple_in_grown}
+use Rattle.xq_regions.proofs.Lists.{all_append}
 use Rattle.xq_eval.specs.private.Bindings.{Falls, stays, falls, Moved}
 use Rattle.xq_eval.specs.private.Quantifying.{at_top, holds, tried, resumed, turn, unless_wanted, weigh, all_weigh, some_weigh}
 use Rattle.xq_eval.specs.private.Turns.{values_found, found_at, FoundIn, GivesTurn}
@@ -109,7 +110,7 @@ module _ (wanted : Bool) (test : Meaning) (parts : List Meaning) (frame : Frame)
       let read : tuple_at f' stack' ≡ tuple_at f' below ++ items_at f' values ∷ [] = ap (tuple_at f') moved.in_stack ∙ map-append (items_at f') below (values ∷ []) in
       record {
         within = omega arith;
-        is_in = subst (TupleIn f') (sym moved.in_stack) (all-append (AreIn f') below (values ∷ []) inside.0 (inside.1, tt));
+        is_in = subst (TupleIn f') (sym moved.in_stack) (all_append (AreIn f') below (values ∷ []) inside.0 (inside.1, tt));
         rest = ap (λ s. resumed wanted test (holds wanted test) parts frame s f') read
             ∙ sym (moved_same wanted test parts frame (tuple_at f' below) (item_at f' moved.value) (items_at f' moved.left) f' (omega arith))
             ∙ sym ((falls_same wanted test stack items (item_at f') below values parts frame f' moved.falls at.within).1)
@@ -195,7 +196,7 @@ frame_open f frame inner stack e focus addresses =
 pub frame_open_in : (f : List Tree) (frame inner : Held) (stack : Tuple ItemView) → values_of inner.slots.now ≡ values_of frame.slots.now ++ map (take 1) stack
     → inner.focus ≡ frame.focus → inner.addresses.now ≡ frame.addresses.now → FrameIn f frame → TupleIn f stack → FrameIn f inner
 frame_open_in f frame inner stack e focus addresses h k = record {
-  slots_in = subst (TupleIn f) (sym e) (all-append (AreIn f) (values_of frame.slots.now) (map (take 1) stack) h.slots_in (firsts_in f stack k));
+  slots_in = subst (TupleIn f) (sym e) (all_append (AreIn f) (values_of frame.slots.now) (map (take 1) stack) h.slots_in (firsts_in f stack k));
   focus_in = subst (FocusIn f) (sym focus) h.focus_in;
   addresses_in = subst (λ xs. length xs ≤ length f) (sym addresses) h.addresses_in;
 }

@@ -44,14 +44,15 @@ use Rattle.xq_operations.specs.declared.frames.Frame.{Frame as Held_frame}
 use Rattle.xq_operations.specs.Views.{tuple_at, focus_at, frame_at, TupleIn, TuplesIn, FocusIn, FrameIn, Goes, GivesAs, forget, on_axis, after_double_slash, parents_below, plant_named}
 use Rattle.xq_eval.proofs.Loops.{stops}
 use Rattle.xq_operations.proofs.ParentsBelow.{parents_suffice}
-use Rattle.xq_operations.proofs.Growth.{items_grown, are_in_grown, tuple_grown, tuple_in_grown, item_at_grown, in_grown, all-append}
+use Rattle.xq_operations.proofs.Growth.{items_grown, are_in_grown, tuple_grown, tuple_in_grown, item_at_grown, in_grown}
+use Rattle.xq_regions.proofs.Lists.{all_append, all_reverse, map_reverse}
 
 -- the results of one more, at the end of those so far
 pub more_next : {A : Type 0} (act : A → Doing (List Item)) (done added done' : List ItemView) (x : A) (f f' : List Tree) → Extends f f' → AreIn f done
     → AreIn f' added × (act x f ≡ (Ok (items_at f' added), f')) → done' ≡ done ++ added
     → AreIn f' done' × (more act (items_at f done) x f ≡ (Ok (items_at f' done'), f'))
 more_next act done added done' x f f' grows inside step e = (
-  subst (AreIn f') (sym e) (all-append (IsIn f') done added (are_in_grown grows done inside) step.0),
+  subst (AreIn f') (sym e) (all_append (IsIn f') done added (are_in_grown grows done inside) step.0),
   ap (λ o. go_on o (λ ys. give (items_at f done ++ ys))) step.1 ∙ ap (λ zs. (Ok zs, f')) (ap (λ zs. zs ++ items_at f' added) (sym (items_grown grows done inside)) ∙ sym (map-append (item_at f') done added) ∙ ap (items_at f') (sym e)),
 )
 
@@ -71,7 +72,7 @@ pub list_next : {A : Type 0} (act : A → Doing (List Item)) (done : Tuple ItemV
     → AreIn f' added × (act x f ≡ (Ok (items_at f' added), f')) → done' ≡ done ++ added ∷ []
     → TupleIn f' done' × (one_more act (tuple_at f done) x f ≡ (Ok (tuple_at f' done'), f'))
 list_next act done added done' x f f' grows inside step e = (
-  subst (TupleIn f') (sym e) (all-append (AreIn f') done (added ∷ []) (tuple_in_grown grows done inside) (step.0, tt)),
+  subst (TupleIn f') (sym e) (all_append (AreIn f') done (added ∷ []) (tuple_in_grown grows done inside) (step.0, tt)),
   ap (λ o. go_on o (λ y. give (tuple_at f done ++ y ∷ []))) step.1 ∙ ap (λ zs. (Ok zs, f')) (ap (λ zs. zs ++ items_at f' added ∷ []) (sym (tuple_grown grows done inside)) ∙ sym (map-append (items_at f') done (added ∷ [])) ∙ ap (tuple_at f') (sym e)),
 )
 
@@ -99,7 +100,7 @@ concat_read f (l ∷ ls) =
 
 pub concat_in : (f : List Tree) (ls : Tuple ItemView) → TupleIn f ls → AreIn f (concat ls)
 concat_in f [] h = tt
-concat_in f (l ∷ ls) h = subst (AreIn f) (sym (flat_map-cons (λ l. l) l ls)) (all-append (IsIn f) l (concat ls) h.0 (concat_in f ls h.1))
+concat_in f (l ∷ ls) h = subst (AreIn f) (sym (flat_map-cons (λ l. l) l ls)) (all_append (IsIn f) l (concat ls) h.0 (concat_in f ls h.1))
 
 concat-end : {A : Type 0} (ls : List (List A)) (l : List A) → concat (ls ++ l ∷ []) ≡ concat ls ++ l
 concat-end ls l = flat_map-append (λ l. l) ls (l ∷ []) ∙ ap (λ v. concat ls ++ v) (flat_map-cons (λ l. l) l [] ∙ append-nil l)
@@ -156,7 +157,7 @@ frame_inner f frame inner tuple e focus addresses =
 pub frame_inner_in : (f : List Tree) (frame inner : Held_frame) (tuple : List (Rc (Vec Held) Global)) → values_of inner.slots.now ≡ values_of frame.slots.now ++ values_of tuple
     → inner.focus ≡ frame.focus → inner.addresses.now ≡ frame.addresses.now → FrameIn f frame → TupleIn f (values_of tuple) → FrameIn f inner
 frame_inner_in f frame inner tuple e focus addresses h k = record {
-  slots_in = subst (TupleIn f) (sym e) (all-append (AreIn f) (values_of frame.slots.now) (values_of tuple) h.slots_in k);
+  slots_in = subst (TupleIn f) (sym e) (all_append (AreIn f) (values_of frame.slots.now) (values_of tuple) h.slots_in k);
   focus_in = subst (FocusIn f) (sym focus) h.focus_in;
   addresses_in = subst (λ xs. length xs ≤ length f) (sym addresses) h.addresses_in;
 }
@@ -166,7 +167,7 @@ frame_inner_in f frame inner tuple e focus addresses h k = record {
 pub bound_in : (f : List Tree) (tuples : List (Tuple ItemView)) (values : List (List ItemView)) → TuplesIn f tuples → TupleIn f values → TuplesIn f (bound tuples values)
 bound_in f [] values h k = tt
 bound_in f (t ∷ ts) [] h k = tt
-bound_in f (t ∷ ts) (v ∷ vs) h k = (all-append (AreIn f) t (v ∷ []) h.0 (k.0, tt), bound_in f ts vs h.1 k.1)
+bound_in f (t ∷ ts) (v ∷ vs) h k = (all_append (AreIn f) t (v ∷ []) h.0 (k.0, tt), bound_in f ts vs h.1 k.1)
 
 pub kept_in : (f : List Tree) (tuples : List (Tuple ItemView)) (tests : List Bool) → TuplesIn f tuples → TuplesIn f (satisfying tuples tests)
 kept_in f [] tests h = tt
@@ -180,14 +181,14 @@ item_in f false n x h = ((h, tt), tt)
 
 each_in : (f : List Tree) (at : Bool) (tuple : Tuple ItemView) (n : ℕ) (xs : List ItemView) → TupleIn f tuple → AreIn f xs → TuplesIn f (map (λ p. tuple ++ item_values Value at p.0 p.1) (enumerate_from n xs))
 each_in f at tuple n [] h k = tt
-each_in f at tuple n (x ∷ xs) h k = (all-append (AreIn f) tuple (item_values Value at n x) h (item_in f at n x k.0), each_in f at tuple (n + 1) xs h k.1)
+each_in f at tuple n (x ∷ xs) h k = (all_append (AreIn f) tuple (item_values Value at n x) h (item_in f at n x k.0), each_in f at tuple (n + 1) xs h k.1)
 
 pub expanded_in : (f : List Tree) (at : Bool) (tuples : List (Tuple ItemView)) (lists : List (List ItemView)) → TuplesIn f tuples → TupleIn f lists → TuplesIn f (expanded Value at tuples lists)
 expanded_in f at [] lists h k = tt
 expanded_in f at (t ∷ ts) [] h k = tt
 expanded_in f at (t ∷ ts) (l ∷ ls) h k =
     subst (TuplesIn f) (sym (flat_map-cons (λ p. with_each Value at p.0 p.1) (t, l) (zip ts ls)))
-    (all-append (TupleIn f) (with_each Value at t l) (expanded Value at ts ls) (each_in f at t 1 l h.0 k.0) (expanded_in f at ts ls h.1 k.1))
+    (all_append (TupleIn f) (with_each Value at t l) (expanded Value at ts ls) (each_in f at t 1 l h.0 k.0) (expanded_in f at ts ls h.1 k.1))
 
 abbrev pub same_tests : {A : Type 0} → List Tree → List A → List A
 same_tests trees tests = tests
@@ -229,15 +230,6 @@ then_after (Ok x, f) a b = refl
 then_after (Err code, f) a b = refl
 
 -- # Steps and constructors
-
-all_reverse : {A : Type 0} (P : A → Type 0) (xs : List A) → AllByRecursion P xs → AllByRecursion P (reverse xs)
-all_reverse P [] h = tt
-all_reverse P (x ∷ xs) h = subst (AllByRecursion P) (sym (reverse-append (x ∷ []) xs)) (all-append P (reverse xs) (x ∷ []) (all_reverse P xs h.1) (h.0, tt))
-
-map_reverse : {A B : Type 0} (f : A → B) (xs : List A) → map f (reverse xs) ≡ reverse (map f xs)
-map_reverse f [] = refl
-map_reverse f (x ∷ xs) =
-    ap (map f) (reverse-append (x ∷ []) xs) ∙ map-append f (reverse xs) (x ∷ []) ∙ ap (λ ys. ys ++ f x ∷ []) (map_reverse f xs) ∙ sym (reverse-append (f x ∷ []) (map f xs))
 
 abbrev reversed_if : {A : Type 0} → Bool → List A → List A
 reversed_if b xs = if b then reverse xs else xs

@@ -11,6 +11,7 @@ use Rattle.std.proofs.lemmas.Bool.{eqb-true, eq-eqb, false≢true, and_parts, an
 use Rattle.xq_functions.specs.declared.spots.Spot.{Spot}
 use Rattle.xq_functions.specs.contracts.spots.SpotOrd.TheImpl.Laws as law
 use Rattle.xq_functions.specs.private.Places.{spot_cmp, same_spot, is_among, IsRising}
+use Rattle.xq_regions.proofs.Lists.{all_append}
 
 abbrev pub spot : ℕ → ℕ → Spot
 spot tree pre = record { tree = tree; pre = pre }
@@ -118,10 +119,6 @@ among-filter f (x ∷ xs) s = by (f x) refl (same_spot s x) refl (among-filter f
 abbrev pub run : ℕ → ℕ → ℕ → List Spot
 run tree a n = map (spot tree) (range_with_len a n)
 
-pub all-append : {A : Type 0} (P : A → Type 0) (xs ys : List A) → AllByRecursion P xs → AllByRecursion P ys → AllByRecursion P (xs ++ ys)
-all-append P [] ys hx hy = hy
-all-append P (x ∷ xs) ys hx hy = (hx.0, all-append P xs ys hx.1 hy)
-
 run-after : (tree b a n : ℕ) → b < a → AllByRecursion (λ y. spot_cmp (spot tree b) y ≡ Less) (run tree a n)
 run-after tree b a zero h = tt
 run-after tree b a (suc n) h = (ap (λ o. ordering_then o (nat_cmp b a)) (equal tree) ∙ less b a h, run-after tree b (a + 1) n (omega (arith, h)))
@@ -133,7 +130,7 @@ run-beyond m b tree a (suc n) h = (ap (λ o. ordering_then o (nat_cmp b a)) (les
 pub run-rises : (tree a n : ℕ) (more : List Spot) → ((b : ℕ) → AllByRecursion (λ y. spot_cmp (spot tree b) y ≡ Less) more) → IsRising more → IsRising (run tree a n ++ more)
 unfolding IsStrictlySortedBy
 run-rises tree a zero more beyond rises = rises
-run-rises tree a (suc n) more beyond rises = (all-append (λ y. spot_cmp (spot tree a) y ≡ Less) (run tree (a + 1) n) more (run-after tree a (a + 1) n (omega arith)) (beyond a), run-rises tree (a + 1) n more beyond rises)
+run-rises tree a (suc n) more beyond rises = (all_append (λ y. spot_cmp (spot tree a) y ≡ Less) (run tree (a + 1) n) more (run-after tree a (a + 1) n (omega arith)) (beyond a), run-rises tree (a + 1) n more beyond rises)
 
 pub run-among : (tree a n p : ℕ) → p < n → is_among (run tree a n) (spot tree (a + p)) ≡ true
 run-among tree a zero p h = absurd (omega (arith, h))

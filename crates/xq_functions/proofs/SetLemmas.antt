@@ -28,7 +28,8 @@ use Rattle.xq_functions.specs.declared.spots.Spot.{Spot}
 use Rattle.xq_functions.specs.private.Places.{view, place_at, all_spots, SpotsAreIn, spot_cmp, same_spot, is_among, IsRising, IsInOrder, takes, united, selected}
 use Rattle.xq_functions.proofs.NodeLemmas.{stands-same}
 use Rattle.xq_values.proofs.PathLemmas.{map-map, filter-map, paths-range}
-use Rattle.xq_functions.proofs.PlaceLemmas.{spot, run, unique, among-filter, all-append, run-beyond, run-rises, run-among, same-from}
+use Rattle.xq_functions.proofs.PlaceLemmas.{spot, run, unique, among-filter, run-beyond, run-rises, run-among, same-from}
+use Rattle.xq_regions.proofs.Lists.{all_append, all_weaker, all_filter}
 
 -- # All places
 
@@ -38,7 +39,7 @@ spots_from n (t ∷ ts) = run n 0 (count (nodes t)) ++ spots_from (suc n) ts
 
 from-beyond : (m b n : ℕ) (ts : List Tree) → m < n → AllByRecursion (λ y. spot_cmp (spot m b) y ≡ Less) (spots_from n ts)
 from-beyond m b n [] h = tt
-from-beyond m b n (t ∷ ts) h = all-append (λ y. spot_cmp (spot m b) y ≡ Less) (run n 0 (count (nodes t))) (spots_from (suc n) ts) (run-beyond m b n 0 (count (nodes t)) h) (from-beyond m b (suc n) ts (omega (arith, h)))
+from-beyond m b n (t ∷ ts) h = all_append (λ y. spot_cmp (spot m b) y ≡ Less) (run n 0 (count (nodes t))) (spots_from (suc n) ts) (run-beyond m b n 0 (count (nodes t)) h) (from-beyond m b (suc n) ts (omega (arith, h)))
 
 from-rises : (n : ℕ) (ts : List Tree) → IsRising (spots_from n ts)
 unfolding IsStrictlySortedBy
@@ -86,7 +87,7 @@ from-in trees [] n stand = tt
 from-in trees (t ∷ ts) n stand =
     let w = stand-first trees t ts n stand in
     let c = ap (λ u. count (nodes u)) w.1 in
-    all-append (λ s. HasNode trees s.tree s.pre) (run n 0 (count (nodes t))) (spots_from (suc n) ts) (run-in trees n 0 (count (nodes t)) w.0 (omega (arith, c))) (from-in trees ts (suc n) (stand-next trees t ts n stand))
+    all_append (λ s. HasNode trees s.tree s.pre) (run n 0 (count (nodes t))) (spots_from (suc n) ts) (run-in trees n 0 (count (nodes t)) w.0 (omega (arith, c))) (from-in trees ts (suc n) (stand-next trees t ts n stand))
 
 run-places : (trees : List Tree) (n : ℕ) (t : Tree) → tree_at trees n ≡ t → map (place_at trees) (run n 0 (count (nodes t))) ≡ map (place n) (paths (nodes t))
 run-places trees n t e =
@@ -109,10 +110,6 @@ stand-all trees i h = let e : 0 + i ≡ i = omega arith in (omega (arith, h), ap
 filter-same : {X : Type 0} (f g : X → Bool) (xs : List X) → AllByRecursion (λ x. f x ≡ g x) xs → filter f xs ≡ filter g xs
 filter-same f g [] h = refl
 filter-same f g (x ∷ xs) h = let later = filter-same f g xs h.1 in λ i. cond (h.0 i) (x ∷ later i) (later i)
-
-all-map : {X : Type 0} (P Q : X → Type 0) → ((x : X) → P x → Q x) → (xs : List X) → AllByRecursion P xs → AllByRecursion Q xs
-all-map P Q f [] h = tt
-all-map P Q f (x ∷ xs) h = (f x h.0, all-map P Q f xs h.1)
 
 among-places : (trees : List Tree) (zs : List Spot) → SpotsAreIn trees zs → (s : Spot) → HasNode trees s.tree s.pre → has_place (map (place_at trees) zs) (place_at trees s) ≡ is_among zs s
 among-places trees [] hz s hs = refl
@@ -148,7 +145,7 @@ in_document_order-spots trees spots sorted inside ordered =
     let chosen = filter (is_among spots) all in
     ap (filter test) (sym (from-places trees trees 0 (stand-all trees)))
     ∙ filter-map test (place_at trees) all
-    ∙ ap (map (place_at trees)) (filter-same (λ s. test (place_at trees s)) (is_among spots) all (all-map (λ s. HasNode trees s.tree s.pre) (λ s. test (place_at trees s) ≡ is_among spots s) (among-places trees spots inside) all (from-in trees trees 0 (stand-all trees))))
+    ∙ ap (map (place_at trees)) (filter-same (λ s. test (place_at trees s)) (is_among spots) all (all_weaker (λ s. HasNode trees s.tree s.pre) (λ s. test (place_at trees s) ≡ is_among spots s) (among-places trees spots inside) all (from-in trees trees 0 (stand-all trees))))
     ∙ ap (map (place_at trees)) (unique chosen sorted (IsStrictlySortedBy-filter spot_cmp (is_among spots) all (from-rises 0 trees)) ordered.rises
     (λ s. among-filter (is_among spots) all s ∙ and_known (is_among all s) (is_among spots s) (λ e. among-all trees s (among-in trees spots inside s e)) ∙ sym (ordered.same s)))
 
@@ -198,23 +195,15 @@ pub united-in : (trees : List Tree) (xs ys : List ItemView) → AreIn trees xs �
 united-in trees xs ys hx hy = by (all_spots XPTY0004 xs) (all_spots XPTY0004 ys) (spots-in XPTY0004 trees xs hx) (spots-in XPTY0004 trees ys hy)
   where
     by : (r q : Judged (List Spot)) → InResult trees r → InResult trees q → InResult trees (r >>= λ s. q >>= λ o. Ok (s ++ o))
-    by (Ok s) (Ok o) hr hq = all-append (λ (u : Spot). HasNode trees u.tree u.pre) s o hr hq
+    by (Ok s) (Ok o) hr hq = all_append (λ (u : Spot). HasNode trees u.tree u.pre) s o hr hq
     by (Ok s) (Err code) hr hq = tt
     by (Err code) q hr hq = tt
-
-all-filter : {X : Type 0} (P : X → Type 0) (f : X → Bool) (xs : List X) → AllByRecursion P xs → AllByRecursion P (filter f xs)
-all-filter P f [] h = tt
-all-filter P f (x ∷ xs) h = by (f x) (all-filter P f xs h.1)
-  where
-    by : (b : Bool) → AllByRecursion P (filter f xs) → AllByRecursion P (cond b (x ∷ filter f xs) (filter f xs))
-    by true later = (h.0, later)
-    by false later = later
 
 pub selected-in : (trees : List Tree) (op : SetOperator) (xs ys : List ItemView) → AreIn trees xs → InResult trees (selected op xs ys)
 selected-in trees op xs ys hx = by (all_spots XPTY0004 xs) (all_spots XPTY0004 ys) (spots-in XPTY0004 trees xs hx)
   where
     by : (r q : Judged (List Spot)) → InResult trees r → InResult trees (r >>= λ s. q >>= λ o. Ok (filter (takes op o) s))
-    by (Ok s) (Ok o) hr = all-filter (λ (u : Spot). HasNode trees u.tree u.pre) (takes op o) s hr
+    by (Ok s) (Ok o) hr = all_filter (λ (u : Spot). HasNode trees u.tree u.pre) (takes op o) s hr
     by (Ok s) (Err code) hr = tt
     by (Err code) q hr = tt
 
@@ -232,10 +221,10 @@ unite-spots trees xs ys = from_nodes-spots trees (λ ps qs. ps ++ qs) xs ys ∙ 
 set_of-spots : (trees : List Tree) (op : SetOperator) (s o : List Spot) → SpotsAreIn trees s → SpotsAreIn trees o → set_of op (map (place_at trees) s) (map (place_at trees) o) ≡ map (place_at trees) (filter (takes op o) s)
 set_of-spots trees Intersect s o hs ho =
     let test = has_place (map (place_at trees) o) in
-    filter-map test (place_at trees) s ∙ ap (map (place_at trees)) (filter-same (λ u. test (place_at trees u)) (is_among o) s (all-map (λ (u : Spot). HasNode trees u.tree u.pre) (λ u. test (place_at trees u) ≡ is_among o u) (among-places trees o ho) s hs))
+    filter-map test (place_at trees) s ∙ ap (map (place_at trees)) (filter-same (λ u. test (place_at trees u)) (is_among o) s (all_weaker (λ (u : Spot). HasNode trees u.tree u.pre) (λ u. test (place_at trees u) ≡ is_among o u) (among-places trees o ho) s hs))
 set_of-spots trees Except s o hs ho =
     let test = has_place (map (place_at trees) o) in
-    filter-map (λ p. not (test p)) (place_at trees) s ∙ ap (map (place_at trees)) (filter-same (λ u. not (test (place_at trees u))) (λ u. not (is_among o u)) s (all-map (λ (u : Spot). HasNode trees u.tree u.pre) (λ u. not (test (place_at trees u)) ≡ not (is_among o u)) (λ u h. ap not (among-places trees o ho u h)) s hs))
+    filter-map (λ p. not (test p)) (place_at trees) s ∙ ap (map (place_at trees)) (filter-same (λ u. not (test (place_at trees u))) (λ u. not (is_among o u)) s (all_weaker (λ (u : Spot). HasNode trees u.tree u.pre) (λ u. not (test (place_at trees u)) ≡ not (is_among o u)) (λ u h. ap not (among-places trees o ho u h)) s hs))
 
 pub select-spots : (trees : List Tree) (op : SetOperator) (xs ys : List ItemView) → AreIn trees xs → AreIn trees ys → from_nodes (set_of op) trees (items_at trees xs) (items_at trees ys) ≡ (selected op xs ys >>= λ s. Ok (in_order trees (map (place_at trees) s)))
 select-spots trees op xs ys hx hy = from_nodes-spots trees (set_of op) xs ys ∙ by (all_spots XPTY0004 xs) (all_spots XPTY0004 ys) (spots-in XPTY0004 trees xs hx) (spots-in XPTY0004 trees ys hy)

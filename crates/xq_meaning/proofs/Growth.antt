@@ -20,6 +20,7 @@ use Rattle.xq_values.specs.Steps.{focuses, context_node, axis_nodes, in_axis_ord
 use Rattle.xq_meaning.specs.Forms
 use Rattle.xq_regions.specs.Tree.{Tree}
 use Rattle.xq_meaning.specs.Doing.{Doing, Outcome, go_on, give, judged, on_trees, in_turn, more, one_more, for_each, collected, first_that, unless_found}
+use Rattle.xq_regions.proofs.Lists.{all_weaker}
 
 -- the first list, and then others
 abbrev pub Extends : List Tree → List Tree → Type 0
@@ -53,21 +54,16 @@ in_turn_grows act [] h b f = extends_itself f
 in_turn_grows act (x ∷ xs) h b f =
     then_grows (act b x f) _ f (h.0 b f) (λ n. in_turn_grows act xs h.1 n)
 
-all_more : {A : Type 0} (P Q : A → Type 0) → ((x : A) → P x → Q x) → (xs : List A) →
-    AllByRecursion P xs → AllByRecursion Q xs
-all_more P Q up [] h = tt
-all_more P Q up (x ∷ xs) h = (up x h.0, all_more P Q up xs h.1)
-
 pub for_each_grows : {A B : Type 0} (act : A → Doing B) (xs : List A) →
     AllByRecursion (λ x. Grows (act x)) xs → Grows (for_each act xs)
 for_each_grows act xs h f =
-    in_turn_grows (one_more act) xs (all_more (λ x. Grows (act x)) _ (λ x grows done g.
+    in_turn_grows (one_more act) xs (all_weaker (λ x. Grows (act x)) _ (λ x grows done g.
     then_grows (act x g) _ g (grows g) (λ y g'. extends_itself g')) xs h) [] f
 
 pub collected_grows : {A B : Type 0} (act : A → Doing (List B)) (xs : List A) →
     AllByRecursion (λ x. Grows (act x)) xs → Grows (collected act xs)
 collected_grows act xs h f =
-    in_turn_grows (more act) xs (all_more (λ x. Grows (act x)) _ (λ x grows done g. then_grows
+    in_turn_grows (more act) xs (all_weaker (λ x. Grows (act x)) _ (λ x grows done g. then_grows
     (act x g) _ g (grows g) (λ y g'. extends_itself g')) xs h) [] f
 
 unless_grows : (wanted answer : Bool) (rest : Doing Bool) → Grows rest →
@@ -107,7 +103,7 @@ module _ {E : Type 0} where
 
   in_frame : (ms : List (Forms.Meaning E)) (frame : Forms.Frame E) → AllGrowing ms →
       AllByRecursion (λ m. Grows (m frame)) ms
-  in_frame ms frame h = all_more Growing _ (λ m grows. grows frame) ms h
+  in_frame ms frame h = all_weaker Growing _ (λ m grows. grows frame) ms h
 
   pub atoms_grow : (m : Forms.Meaning E) → Growing m → (frame : Forms.Frame E) →
       Grows (Forms.atoms_of m frame)
@@ -131,7 +127,7 @@ module _ {E : Type 0} where
       AllByRecursion (λ operand. Growing operand.1) rest → Growing (Forms.chain m rest)
   chain_grows m rest first h frame f =
       then_grows (m frame f) _ f (first frame f) (in_turn_grows (Forms.next_operand frame) rest
-      (all_more (λ operand. Growing operand.1) _ (λ operand grows xs g. then_grows (operand.1
+      (all_weaker (λ operand. Growing operand.1) _ (λ operand grows xs g. then_grows (operand.1
       frame g) _ g (grows frame g) (λ ys g'. extends_itself g')) rest h))
 
   pub unary_grows : (signs : List Sign) (m : Forms.Meaning E) → Growing m →
@@ -143,7 +139,7 @@ module _ {E : Type 0} where
   tests_grow : (wanted : Bool) (ms : List (Forms.Meaning E)) → AllGrowing ms →
       (frame : Forms.Frame E) → Grows (first_that wanted (λ m. Forms.tested m frame) ms)
   tests_grow wanted ms h frame f =
-      first_that_grows wanted (λ m. Forms.tested m frame) ms (all_more Growing _ (λ m grows.
+      first_that_grows wanted (λ m. Forms.tested m frame) ms (all_weaker Growing _ (λ m grows.
       tested_grows m grows frame) ms h) f
 
   pub or_grows : (ms : List (Forms.Meaning E)) → AllGrowing ms → Growing (Forms.or ms)
@@ -179,7 +175,7 @@ module _ {E : Type 0} where
   predicates_grow : (frame : Forms.Frame E) (ms : List (Forms.Meaning E)) → AllGrowing ms →
       (xs : List Item) → Grows (in_turn (Forms.filtered frame) xs ms)
   predicates_grow frame ms h =
-      in_turn_grows (Forms.filtered frame) ms (all_more Growing _ (λ m grows xs. filtered_grows
+      in_turn_grows (Forms.filtered frame) ms (all_weaker Growing _ (λ m grows xs. filtered_grows
       frame m grows xs) ms h)
 
   pub filter_grows : (m : Forms.Meaning E) (ms : List (Forms.Meaning E)) → Growing m →
@@ -200,7 +196,7 @@ module _ {E : Type 0} where
   pub path_grows : (m : Forms.Meaning E) (ms : List (Forms.Meaning E)) → Growing m → AllGrowing ms →
       Growing (Forms.path m ms)
   path_grows m ms first h frame f =
-      then_grows (m frame f) _ f (first frame f) (in_turn_grows (Forms.slash frame) ms (all_more
+      then_grows (m frame f) _ f (first frame f) (in_turn_grows (Forms.slash frame) ms (all_weaker
       Growing _ (λ part grows xs. slash_grows frame part grows xs) ms h))
 
   pub named_node_grows : (kind : NamedNode) (m n : Forms.Meaning E) → Growing m → Growing n →

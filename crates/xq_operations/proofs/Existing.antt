@@ -13,7 +13,7 @@ use Rattle.xq_sources.specs.Sources.{tree_at}
 use Rattle.xq_values.specs.Items.{Place, place, Item, Node, Atom, paths, places_from, in_document_order, is_among}
 use Rattle.xq_values.specs.Operators.{in_order}
 use Rattle.xq_values.specs.Readings.{item_at, items_at, IsIn, AreIn}
-use Rattle.xq_operations.proofs.Growth.{all-append}
+use Rattle.xq_regions.proofs.Lists.{all_append, all_filter}
 
 abbrev pub Exists : List Tree → Item → Type 0
 Exists trees (Node p) = (p.tree < length trees) × HasPath (nodes (tree_at trees p.tree)) p.path
@@ -62,21 +62,13 @@ pub all_map : {A B : Type 0} (P : A → Type 0) (Q : B → Type 0) (f : A → B)
 all_map P Q f step [] h = tt
 all_map P Q f step (x ∷ xs) h = (step x h.0, all_map P Q f step xs h.1)
 
-pub all_filter : {A : Type 0} (P : A → Type 0) (t : A → Bool) (xs : List A) → AllByRecursion P xs → AllByRecursion P (filter t xs)
-all_filter P t [] h = tt
-all_filter P t (x ∷ xs) h = by (t x) (all_filter P t xs h.1)
-  where
-    by : (b : Bool) → AllByRecursion P (filter t xs) → AllByRecursion P (cond b (x ∷ filter t xs) (filter t xs))
-    by true rest = (h.0, rest)
-    by false rest = rest
-
 -- # Document order
 
 paths_lead : {A : Type 0} (f : Forest A) → AllByRecursion (HasPath f) (paths f)
 paths_lead end = tt
 paths_lead (node a k r) = (
   tt,
-  all-append (HasPath (node a k r)) (map step_down (paths k)) (map step_right (paths r))
+  all_append (HasPath (node a k r)) (map step_down (paths k)) (map step_right (paths r))
       (all_map (HasPath k) (HasPath (node a k r)) step_down (λ p h. (down a k r p h).0) (paths k) (paths_lead k))
       (all_map (HasPath r) (HasPath (node a k r)) step_right (λ p h. (right a k r p h).0) (paths r) (paths_lead r)),
 )
@@ -99,7 +91,7 @@ places_exist trees (t ∷ ts) n stand =
     let w = stand (suc i) (omega (arith, h)) in
     let e : suc n + i ≡ n + suc i = omega arith in
     (omega (arith, w.0), ap (tree_at trees) e ∙ w.1)) in
-    all-append (IsPlace trees) (map (place n) (paths (nodes t))) (places_from (suc n) ts)
+    all_append (IsPlace trees) (map (place n) (paths (nodes t))) (places_from (suc n) ts)
     (all_map (HasPath (nodes t)) (IsPlace trees) (place n) (λ p h. (there, subst (λ u. HasPath (nodes u) p) same h)) (paths (nodes t)) (paths_lead (nodes t)))
     (places_exist trees ts (suc n) later)
 

@@ -15,18 +15,11 @@ use Rattle.xq_values.specs.Readings.{item_at, items_at, IsIn, AreIn, Extends}
 use Rattle.xq_operations.specs.declared.frames.Focus.{Focus}
 use Rattle.xq_operations.specs.declared.frames.Frame.{Frame}
 use Rattle.xq_operations.specs.Views.{tuple_at, tuples_at, focus_at, frame_at, TupleIn, TuplesIn, FocusIn, FrameIn, Goes}
+use Rattle.xq_regions.proofs.Lists.{all_weaker, all_append}
 
 pub map_same : {A B : Type 0} (f g : A → B) (P : A → Type 0) → ((x : A) → P x → f x ≡ g x) → (xs : List A) → AllByRecursion P xs → map f xs ≡ map g xs
 map_same f g P same [] h = refl
 map_same f g P same (x ∷ xs) h = let a = same x h.0 in let b = map_same f g P same xs h.1 in cc
-
-pub all_more : {A : Type 0} (P Q : A → Type 0) → ((x : A) → P x → Q x) → (xs : List A) → AllByRecursion P xs → AllByRecursion Q xs
-all_more P Q more [] h = tt
-all_more P Q more (x ∷ xs) h = (more x h.0, all_more P Q more xs h.1)
-
-pub all-append : {A : Type 0} (P : A → Type 0) (xs ys : List A) → AllByRecursion P xs → AllByRecursion P ys → AllByRecursion P (xs ++ ys)
-all-append P [] ys h k = k
-all-append P (x ∷ xs) ys h k = (h.0, all-append P xs ys h.1 k)
 
 index-front : {X : Type 0} (f g : List X) (k : ℕ) (d : X) → k < length f → slice_index_or (f ++ g) k d ≡ slice_index_or f k d
 index-front [] g k d h = absurd (omega arith)
@@ -72,19 +65,19 @@ module _ {old new : List Tree} (grows : Extends old new) where
   items_grown = map_same (item_at new) (item_at old) (IsIn old) item_at_grown
 
   pub are_in_grown : (xs : List ItemView) → AreIn old xs → AreIn new xs
-  are_in_grown = all_more (IsIn old) (IsIn new) in_grown
+  are_in_grown = all_weaker (IsIn old) (IsIn new) in_grown
 
   pub tuple_grown : (xs : Tuple ItemView) → TupleIn old xs → tuple_at new xs ≡ tuple_at old xs
   tuple_grown = map_same (items_at new) (items_at old) (AreIn old) items_grown
 
   pub tuple_in_grown : (xs : Tuple ItemView) → TupleIn old xs → TupleIn new xs
-  tuple_in_grown = all_more (AreIn old) (AreIn new) are_in_grown
+  tuple_in_grown = all_weaker (AreIn old) (AreIn new) are_in_grown
 
   pub tuples_grown : (xs : List (Tuple ItemView)) → TuplesIn old xs → tuples_at new xs ≡ tuples_at old xs
   tuples_grown = map_same (tuple_at new) (tuple_at old) (TupleIn old) tuple_grown
 
   pub tuples_in_grown : (xs : List (Tuple ItemView)) → TuplesIn old xs → TuplesIn new xs
-  tuples_in_grown = all_more (TupleIn old) (TupleIn new) tuple_in_grown
+  tuples_in_grown = all_weaker (TupleIn old) (TupleIn new) tuple_in_grown
 
   pub focus_grown : (x : Option Focus) → FocusIn old x → focus_at new x ≡ focus_at old x
   focus_grown None h = refl

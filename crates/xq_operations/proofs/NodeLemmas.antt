@@ -28,8 +28,7 @@ use Rattle.xq_operations.specs.declared.frames.Focus.{Focus}
 use Rattle.xq_operations.specs.Views.{forget, focus_at, FocusIn, on_axis, after_double_slash}
 use Rattle.xq_operations.specs.private.Nodes.{nodes_among}
 use Rattle.xq_operations.proofs.Existing.{Exists, exists_at, is_in}
-use Rattle.xq_operations.proofs.Growth.{all-append}
-use Rattle.xq_operations.proofs.Lists.{map_reverse}
+use Rattle.xq_regions.proofs.Lists.{all_append, map_reverse, all_reverse}
 
 after_node : (p : Place) (r : Judged (List Place)) → forget (r >>= (λ ps. Ok (p ∷ ps))) ≡ forget r
 after_node p (Ok ps) = refl
@@ -88,12 +87,8 @@ context_in trees focus node h e = is_in trees (NodeAt node) (subst (IsThere tree
 
 -- # Axis order
 
-reverse_all : {A : Type 0} (P : A → Type 0) (xs : List A) → AllByRecursion P xs → AllByRecursion P (reverse xs)
-reverse_all P [] h = tt
-reverse_all P (x ∷ xs) h = subst (AllByRecursion P) (sym (reverse_onto xs x [])) (all-append P (reverse xs) (x ∷ []) (reverse_all P xs h.1) (h.0, tt))
-
 turned_all : {A : Type 0} (P : A → Type 0) (axis : Axis) (xs : List A) → AllByRecursion P xs → AllByRecursion P (in_axis_order axis xs)
-turned_all P axis xs h = elim (is_reverse axis) as (λ b. AllByRecursion P (if b then reverse xs else xs)) [ true ↦ reverse_all P xs h | false ↦ h ]
+turned_all P axis xs h = elim (is_reverse axis) as (λ b. AllByRecursion P (if b then reverse xs else xs)) [ true ↦ all_reverse P xs h | false ↦ h ]
 
 turned_map : {A B : Type 0} (f : A → B) (axis : Axis) (xs : List A) → map f (in_axis_order axis xs) ≡ in_axis_order axis (map f xs)
 turned_map f axis xs = elim (is_reverse axis) as (λ b. map f (if b then reverse xs else xs) ≡ (if b then reverse (map f xs) else map f xs)) [ true ↦ map_reverse f xs | false ↦ refl ]

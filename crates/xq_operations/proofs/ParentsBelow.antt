@@ -33,7 +33,8 @@ use Rattle.xq_meaning.specs.Doing.{Doing, Outcome, go_on, give, judged, on_trees
 use Rattle.xq_meaning.specs.Forms as Forms
 use Rattle.xq_meaning.proofs.Growth.{AllGrowing, step_grows}
 use Rattle.xq_operations.specs.Views.{parents_below}
-use Rattle.xq_operations.proofs.Existing.{IsPlace, all_exist, all_filter}
+use Rattle.xq_operations.proofs.Existing.{IsPlace, all_exist}
+use Rattle.xq_regions.proofs.Lists.{all_filter}
 use Rattle.xq_operations.proofs.Growth.{tree_grown, extends_more, extends_itself}
 use Rattle.xq_operations.proofs.NodeLemmas.{are_nodes}
 

@@ -20,8 +20,8 @@ use Rattle.xq_values.specs.Items.{Item, Atom}
 use Rattle.xq_values.specs.Readings.{item_at, items_at, AreIn}
 use Rattle.xq_meaning.specs.Doing.{judged}
 use Rattle.xq_operations.specs.Views.{tuple_at, tuples_at, TupleIn, TuplesIn, GivesTuples}
-use Rattle.xq_operations.proofs.Growth.{all-append}
-use Rattle.xq_operations.proofs.Existing.{all_map, all_filter}
+use Rattle.xq_regions.proofs.Lists.{all_append, all_filter}
+use Rattle.xq_operations.proofs.Existing.{all_map}
 
 -- # Lists
 
@@ -203,7 +203,7 @@ module _ (trees : List Tree) where
   values_in slot [] h = tt
   values_in slot (p ∷ ps) h =
       subst (AreIn trees) (sym (flat_map-cons (λ q. value_at slot q.0) p ps))
-      (all-append _ (value_at slot p.0) (flat_map (λ q. value_at slot q.0) ps) (value_in slot p.0 h.0) (values_in slot ps h.1))
+      (all_append _ (value_at slot p.0) (flat_map (λ q. value_at slot q.0) ps) (value_in slot p.0 h.0) (values_in slot ps h.1))
 
   grouped_value_in : (key : Option (Option Atomic)) (slot : ℕ) (group : List (Keyed ItemView)) → AllByRecursion KeyedIn group → AreIn trees (grouped_value Value key slot group)
   grouped_value_in (Some None) slot group h = tt

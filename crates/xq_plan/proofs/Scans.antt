@@ -17,12 +17,7 @@ use Rattle.xq_values.specs.Operators.{gathered, nodes_or_atoms, in_order}
 use Rattle.xq_values.specs.Steps.{focuses, focuses_from, is_reverse, in_axis_order, axis_nodes}
 use Rattle.xq_meaning.specs.Doing.{Doing, go_on, give, in_turn, more, collected, on_trees, judged}
 use Rattle.xq_meaning.specs.Forms
-
-map-reverse : {A B : Type 0} (f : A → B) (xs : List A) → map f (reverse xs) ≡ reverse (map f xs)
-map-reverse f [] = refl
-map-reverse f (x ∷ xs) =
-    ap (map f) (reverse-append (x ∷ []) xs) ∙ map-append f (reverse xs) (x ∷ [])
-    ∙ ap (λ l. l ++ f x ∷ []) (map-reverse f xs) ∙ sym (reverse-append (f x ∷ []) (map f xs))
+use Rattle.xq_regions.proofs.Lists.{map_reverse}
 
 order_twice : {A : Type 0} (b : Bool) (xs : List A) →
     (if b then reverse (if b then reverse xs else xs) else (if b then reverse xs else xs)) ≡ xs
@@ -30,7 +25,7 @@ order_twice true xs = reverse-reverse xs
 order_twice false xs = refl
 
 order-map : (b : Bool) (ps : List Place) → map Node (if b then reverse ps else ps) ≡ (if b then reverse (map Node ps) else map Node ps)
-order-map true ps = map-reverse Node ps
+order-map true ps = map_reverse Node ps
 order-map false ps = refl
 
 -- nodes are all nodes

@@ -22,11 +22,7 @@ use Rattle.xq_values.specs.Items.{Item, Atom}
 use Rattle.xq_meaning.specs.Doing.{Doing, Outcome, go_on, give, judged, for_each}
 use Rattle.xq_meaning.specs.Forms
 use Rattle.xq_plan.specs.private.Plans.{AreWide, GivesWide}
-
-all_append : {A : Type 0} (P : A → Type 0) (xs ys : List A) → AllByRecursion P xs → AllByRecursion P ys →
-    AllByRecursion P (xs ++ ys)
-all_append P [] ys h k = k
-all_append P (x ∷ xs) ys h k = (h.0, all_append P xs ys h.1 k)
+use Rattle.xq_regions.proofs.Lists.{all_append, all_filter}
 
 -- what comes of a value
 then_wide : {A : Type 0} (n : ℕ) (o : Outcome A) (k : A → Doing (List (Tuple Item))) →
@@ -161,16 +157,11 @@ filter_if : {A : Type 0} (P : A → Type 0) (b : Bool) (x : A) (xs : List A) →
 filter_if P true x xs h k = (h, k)
 filter_if P false x xs h k = k
 
-filter_all : {A : Type 0} (P : A → Type 0) (test : A → Bool) (xs : List A) → AllByRecursion P xs →
-    AllByRecursion P (filter test xs)
-filter_all P test [] h = tt
-filter_all P test (x ∷ xs) h = filter_if P (test x) x (filter test xs) h.0 (filter_all P test xs h.1)
-
 firsts_all : {A : Type 0} (P : A → Type 0) (same : A → A → Bool) (xs : List A) → AllByRecursion P xs →
     AllByRecursion P (firsts same xs)
 firsts_all P same [] h = tt
 firsts_all P same (x ∷ xs) h =
-    (h.0, filter_all P (λ y. not (same x y)) (firsts same xs) (firsts_all P same xs h.1))
+    (h.0, all_filter P (λ y. not (same x y)) (firsts same xs) (firsts_all P same xs h.1))
 
 tuple_wide : (n : ℕ) (slots : List ℕ) (group : List (Keyed Item)) → HasFirst n group →
     length (grouped_tuple Atom slots group) ≡ n

@@ -5,6 +5,7 @@ pub mod Walks
 pub mod Encoding
 pub mod Steps
 pub mod Worked
+pub mod Lists
 pub mod Injective
 pub mod Nests
 pub mod AxisRegions

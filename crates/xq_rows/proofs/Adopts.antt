@@ -34,15 +34,12 @@ use Rattle.xq_rows.specs.Tables.{no_schema, node_rows, layout_rows, IsStoreSchem
 use Rattle.xq_rows.proofs.Lists.{tied}
 use Rattle.xq_rows.proofs.Maps.{text_is, same_address}
 use Rattle.xq_rows.proofs.Orders.{first_total, numbers_rise, sorted_from}
+use Rattle.xq_regions.proofs.Lists.{all_append}
 
 -- # Lists
 
 all_moved : {X : Type 0} (P : X → Type 0) (xs ys : List X) → IsPermutation xs ys → AllByRecursion P xs → AllByRecursion P ys
 all_moved P xs ys same all = recursion_from_All P ys (All-permutation P xs ys same (All-from_recursion P xs all))
-
-pub all_joined : {X : Type 0} (P : X → Type 0) (xs ys : List X) → AllByRecursion P xs → AllByRecursion P ys → AllByRecursion P (xs ++ ys)
-all_joined P [] ys all more = more
-all_joined P (x ∷ xs) ys all more = (all.0, all_joined P xs ys all.1 more)
 
 all_later : {X : Type 0} (P : X → Type 0) (xs ys : List X) → AllByRecursion P (xs ++ ys) → AllByRecursion P ys
 all_later P [] ys all = all
@@ -179,7 +176,7 @@ strictly x m n low less = go (value_cmp x m) refl low
 
 apart_more : (rows : List Row) (row : Row) → AreApart rows → AllByRecursion (λ r. is_eq (value_cmp (rowid r) (rowid row)) ≡ false) rows → AreApart (rows ++ row ∷ [])
 apart_more [] row up all = (tt, tt)
-apart_more (r ∷ rs) row up all = (all_joined (λ y. is_eq (value_cmp (rowid r) (rowid y)) ≡ false) rs (row ∷ []) up.0 (all.0, tt), apart_more rs row up.1 all.1)
+apart_more (r ∷ rs) row up all = (all_append (λ y. is_eq (value_cmp (rowid r) (rowid y)) ≡ false) rs (row ∷ []) up.0 (all.0, tt), apart_more rs row up.1 all.1)
 
 all_below : (last : Option ℤ) (n : ℤ) (rows : List Row) → AreUpTo last rows → IsPast last n → AllByRecursion (λ r. value_cmp (rowid r) (Int n) ≡ Less) rows
 all_below None n rows none past = subst (AllByRecursion (λ r. value_cmp (rowid r) (Int n) ≡ Less)) (sym none) tt
@@ -197,8 +194,8 @@ risen_more last rows row n it is past =
     let own : is_gt (value_cmp (rowid row) (Int n)) ≡ false = ap (λ v. is_gt (value_cmp v (Int n))) (sym is) ∙ ap is_gt (tied_itself value_cmp_total (Int n)) in
     record {
       apart = apart_more rows row it.apart (all_weaker _ (λ r. is_eq (value_cmp (rowid r) (rowid row)) ≡ false) (λ r h. ap (λ v. is_eq (value_cmp (rowid r) v)) (sym is) ∙ ap is_eq h) rows below);
-      ints = all_joined (λ r. IsTrue (is_int (rowid r))) rows (row ∷ []) it.ints (ap is_int (sym is), tt);
-      up_to = all_joined (λ r. is_gt (value_cmp (rowid r) (Int n)) ≡ false) rows (row ∷ []) (all_weaker _ (λ r. is_gt (value_cmp (rowid r) (Int n)) ≡ false) (λ r h. ap is_gt h) rows below) (own, tt);
+      ints = all_append (λ r. IsTrue (is_int (rowid r))) rows (row ∷ []) it.ints (ap is_int (sym is), tt);
+      up_to = all_append (λ r. is_gt (value_cmp (rowid r) (Int n)) ≡ false) rows (row ∷ []) (all_weaker _ (λ r. is_gt (value_cmp (rowid r) (Int n)) ≡ false) (λ r h. ap is_gt h) rows below) (own, tt);
     }
 
 pub risen_next : (last : Option ℤ) (rows : List Row) (i : ℕ) (row : Row) (n : ℤ) → i < length rows → row ≡ get_or rows i row → HaveRisen last (take i rows) → Int n ≡ column row 0 → IsPast last n
@@ -377,7 +374,7 @@ module _ (a : List ℕ) (first : Row) (own : column first 6 ≡ Text a) where
 
     told_more : AreDocumentRuns past → IsAddress a → IsRun (map node_of run) → AreDocumentRuns (past ++ run)
     told_more told good is = record {
-      owned = all_joined HasOwner past run told.owned (all_weaker _ HasOwner (λ r h. (a, good, text_is (column r 6) a h)) run in_run);
+      owned = all_append HasOwner past run told.owned (all_weaker _ HasOwner (λ r h. (a, good, text_is (column r 6) a h)) run in_run);
       whole = λ b. elim (same_address a b) [
         | inl e ↦
             let own_is : nodes_under a (past ++ run) ≡ map node_of run = ap (map node_of) (filter-append (is_under a) past run ∙ ap₂ ◌++◌ before (filter_all (is_under a) run in_run)) in

@@ -35,7 +35,7 @@ use Rattle.xq_sources.specs.Sources.{is_between, encloses, rows_between, rows_en
 use Rattle.xq_rows.specs.Nodes.{cells, node_in, number_in}
 use Rattle.xq_rows.specs.Documents.{is_at, node_columns, rows_at, by_first, documents_in, IsIntact, IsStore}
 use Rattle.xq_rows.specs.private.Statements.{is_above, AreAbove, IsPicked, IsRange}
-use Rattle.xq_rows.proofs.Adopts.{all_joined}
+use Rattle.xq_regions.proofs.Lists.{all_append}
 use Rattle.xq_rows.proofs.Loads.{length-labels}
 use Rattle.xq_rows.proofs.Maps.{get-whole, get-none, node_back}
 use Rattle.xq_rows.proofs.Orders.{first_total, numbers_rise}
@@ -139,7 +139,7 @@ IsSmall k = (m n : ℕ) × (column k 0 ≡ Int (pos m)) × (column k 1 ≡ Int (
 
 sizes : (level : ℕ) (f : Forest Label) → count f ≤ 1000000 → AllByRecursion (λ (r : Node). r.size ≤ 1000000) (labels (measured level f))
 sizes level end room = tt
-sizes level (node a below beside) room = (omega (arith, room), all_joined (λ (r : Node). r.size ≤ 1000000) _ _ (sizes (suc level) below (omega (arith, room))) (sizes level beside (omega (arith, room))))
+sizes level (node a below beside) room = (omega (arith, room), all_append (λ (r : Node). r.size ≤ 1000000) _ _ (sizes (suc level) below (omega (arith, room))) (sizes level beside (omega (arith, room))))
 
 all_small : (k : ℕ) (list : List Node) → AllByRecursion (λ (r : Node). r.size ≤ 1000000) list → k + length list ≤ 1000000 → AllByRecursion IsSmall (map cells (enumerate_from k list))
 all_small k [] fit h = tt

@@ -17,7 +17,7 @@ use Rattle.xq_regions.specs.declared.Kind.TheVariants.{Document}
 use Rattle.xq_rows.specs.Nodes.{cells, node_in, number_in}
 use Rattle.xq_rows.specs.private.Columns.{node_of, IsReadable}
 use Rattle.xq_rows.specs.private.Adopt.{IsRun}
-use Rattle.xq_rows.proofs.Adopts.{all_joined}
+use Rattle.xq_regions.proofs.Lists.{all_append}
 use Rattle.xq_rows.proofs.Calls.{encoded}
 use Rattle.xq_rows.proofs.Loads.{length-labels}
 use Rattle.xq_rows.proofs.Maps.{node_back}
@@ -72,7 +72,7 @@ rows_fit h level end texts high room low = tt
 rows_fit zero level (node a below beside) texts high room low = absurd high
 rows_fit (suc h) level (node a below beside) texts high room low = (
   (small (count below) (omega (arith, room)), small level (omega (arith, low)), texts.0.0, texts.0.1),
-  all_joined IsFit _ _ (rows_fit h (suc level) below texts.1.0 high.0 (omega (arith, room)) (omega (arith, low))) (rows_fit (suc h) level beside texts.1.1 high.1 (omega (arith, room)) low),
+  all_append IsFit _ _ (rows_fit h (suc level) below texts.1.0 high.0 (omega (arith, room)) (omega (arith, low))) (rows_fit (suc h) level beside texts.1.1 high.1 (omega (arith, room)) low),
 )
 
 all_readable : (k : ℕ) (list : List Node) → AllByRecursion IsFit list → k + length list ≤ 1000000 → AllByRecursion IsReadable (map cells (enumerate_from k list))

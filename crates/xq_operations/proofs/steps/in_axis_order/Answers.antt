@@ -1,7 +1,7 @@
 use Rattle.std.proofs.Common.{map, reverse, ap, sym, ◌∙◌}
 use Rattle.std.specs.Prelude.{if◌then◌else◌}
 use Rattle.xq_regions.specs.Items.{item_view, item_views}
-use Rattle.xq_operations.proofs.Lists.{map_reverse}
+use Rattle.xq_regions.proofs.Lists.{map_reverse}
 use Rattle.xq_operations.proofs.steps.in_axis_order.Goals as goal
 
 pub returns-then-is_reverse : goal.returns-then-is_reverse
