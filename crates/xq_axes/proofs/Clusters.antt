@@ -16,7 +16,8 @@ use Rattle.xq_axes.specs.private.Downward.{axis_of, is_chosen, is_child, level_o
 use Rattle.xq_axes.specs.declared.downward.Downward.{Downward}
 use Rattle.xq_axes.specs.declared.downward.Downward.TheVariants.{Child, Attribute, Descendant, DescendantOrSelf}
 use Rattle.xq_axes.specs.private.Waiting.{IsParent}
-use Rattle.xq_axes.proofs.Lists.{any_from, any_at, any_agree, any_and, any_or, same_tests, among_at, among_index}
+use Rattle.xq_axes.proofs.Lists.{any_from, any_at, any_agree, any_and, any_or, among_at, among_index}
+use Rattle.xq_regions.proofs.Lists.{same_test}
 use Rattle.xq_axes.proofs.Trees.{HasParent, inside_deeper, between_deeper, parent_of, one_parent}
 use Rattle.xq_axes.proofs.AttributeRows.{attribute_run}
 
@@ -33,7 +34,7 @@ is_child_of t p v = inside (rows t) v p && one_below (rows t) v p
 module _ (t : Tree) (vs : List ℕ) (n : ℕ) (hn : n < count (nodes t)) where
   -- some context is the parent of the row where its parent is a context
   pub child_of_some : (w : ℕ) → IsParent t w n → list_any (is_child_of t n) vs ≡ is_among vs w
-  child_of_some w p = same_tests (list_any (is_child_of t n) vs) (is_among vs w)
+  child_of_some w p = same_test (list_any (is_child_of t n) vs) (is_among vs w)
       (λ e. (
       let s = any_at (is_child_of t n) vs 0 e in
       let u = get_or vs s.index 0 in

@@ -7,7 +7,8 @@ use Rattle.std.proofs.Math.Seq.{get_or-append_seam}
 use Rattle.std.proofs.lemmas.List.{get_or-take, get_or_append_left, length-append, length-take}
 use Rattle.xq_axes.specs.private.Hits.{is_among, IsRising}
 use Rattle.xq_axes.specs.private.Waiting.{is_deeper, is_level}
-use Rattle.xq_axes.proofs.Lists.{same_tests, among_at, among_index, got, got_none}
+use Rattle.xq_axes.proofs.Lists.{among_at, among_index, got, got_none}
+use Rattle.xq_regions.proofs.Lists.{same_test}
 
 -- # Fewer levels
 
@@ -31,7 +32,7 @@ kept_before vs level m up deep = by (slice_get vs (length vs - 1)) refl
         let at = g.0 in
         let more : level < last = ltb-true level last (ap (λ o. is_deeper o level) (sym e) ∙ deep) in
         let n = length-take (length vs - 1) vs in
-        same_tests (is_among (take (length vs - 1) vs) m && nat_le m level) (is_among vs m && nat_le m level)
+        same_test (is_among (take (length vs - 1) vs) m && nat_le m level) (is_among vs m && nat_le m level)
         (λ h. (
         let w = and_parts _ _ h in
         let i = among_index (take (length vs - 1) vs) m w.0 in
@@ -54,7 +55,7 @@ kept_before vs level m up deep = by (slice_get vs (length vs - 1)) refl
 
 -- where it is not, they are all of them
 pub all_kept : (vs : List ℕ) (level m : ℕ) → IsRising vs → is_deeper (slice_get vs (length vs - 1)) level ≡ false → is_among vs m ≡ (is_among vs m && nat_le m level)
-all_kept vs level m up flat = same_tests (is_among vs m) (is_among vs m && nat_le m level)
+all_kept vs level m up flat = same_test (is_among vs m) (is_among vs m && nat_le m level)
     (λ h. and_from _ _ h (le-leb m level (among_most vs level m up flat h)))
     (λ h. (and_parts _ _ h).0)
   where
@@ -88,11 +89,11 @@ pub ends_there : (vs : List ℕ) (level : ℕ) → IsRising vs → ((m : ℕ) �
 ends_there vs level up most = by (slice_get vs (length vs - 1)) refl
   where
     by : (o : Option ℕ) → slice_get vs (length vs - 1) ≡ o → is_level (slice_get vs (length vs - 1)) level ≡ is_among vs level
-    by None e = ap (λ o. is_level o level) e ∙ same_tests false (is_among vs level) (λ z. absurd (cc)) (λ h. absurd (let n = got_none vs (length vs - 1) e in let i = (among_index vs level h).1 in omega (arith, n, i)))
+    by None e = ap (λ o. is_level o level) e ∙ same_test false (is_among vs level) (λ z. absurd (cc)) (λ h. absurd (let n = got_none vs (length vs - 1) e in let i = (among_index vs level h).1 in omega (arith, n, i)))
     by (Some last) e =
         let g = got vs (length vs - 1) last e in
         let is = g.1 in
-        ap (λ o. is_level o level) e ∙ same_tests (eqb last level) (is_among vs level)
+        ap (λ o. is_level o level) e ∙ same_test (eqb last level) (is_among vs level)
         (λ h. among_at vs (length vs - 1) level g.0 (is ∙ eqb-true last level h))
         (λ h. (
         let i = among_index vs level h in

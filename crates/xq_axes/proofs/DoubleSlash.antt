@@ -22,7 +22,7 @@ use Rattle.xq_values.specs.Readings.{node_at}
 use Rattle.xq_axes.specs.Nodes.{HaveAll}
 use Rattle.xq_axes.specs.DoubleSlash.{selves_and_below, after_double_slash}
 use Rattle.xq_axes.specs.private.Standing.{Stands, AreOfTrees}
-use Rattle.xq_axes.proofs.Lists.{same_tests}
+use Rattle.xq_regions.proofs.Lists.{same_test}
 use Rattle.xq_axes.proofs.Many.{any_flat}
 use Rattle.xq_axes.proofs.Merging.{any_filter}
 use Rattle.xq_axes.proofs.AxisNodes.{some_of, filter_agree, has_place, from_axis, to_axis}
@@ -165,7 +165,7 @@ module _ (trees : List Tree) (of : Test) (ps : List Place) (stand : AllByRecursi
 pub double_slash_is_descendant : (trees : List Tree) (of : Test) (ps : List Place) → AllByRecursion (Stands trees) ps → in_document_order trees (flat_map (axis_nodes trees axis.Descendant of) ps) ≡ after_double_slash trees of ps
 double_slash_is_descendant trees of ps stand =
     filter_agree (is_among (flat_map (axis_nodes trees axis.Descendant of) ps)) (is_among (flat_map (axis_nodes trees axis.Child of) (selves_and_below trees ps))) (places_from 0 trees)
-    (λ q. same_tests _ _ (back trees of ps stand q) (forth trees of ps stand q))
+    (λ q. same_test _ _ (back trees of ps stand q) (forth trees of ps stand q))
 
 pub stand_all : (trees : List Tree) (ns : List Node) → HaveAll trees ns → AreOfTrees trees ns → AllByRecursion (Stands trees) (map (node_at trees) ns)
 stand_all trees [] h t = tt

@@ -17,7 +17,8 @@ use Rattle.xq_axes.specs.private.Hits.{is_among, is_hit, is_wanted, row_passes, 
 use Rattle.xq_axes.specs.private.Passing.{IsEnd}
 use Rattle.xq_axes.specs.private.Downward.{level_of, is_within}
 use Rattle.xq_axes.specs.private.Waiting.{has_siblings, rows_below, next_place, place_or_end, WaitsOn, IsOn}
-use Rattle.xq_axes.proofs.Lists.{any_from, any_at, same_tests, among_at, among_index, below_where-none, got, got_none, reached_none, reached_over}
+use Rattle.xq_axes.proofs.Lists.{any_from, any_at, among_at, among_index, below_where-none, got, got_none, reached_none, reached_over}
+use Rattle.xq_regions.proofs.Lists.{same_test}
 use Rattle.xq_axes.proofs.Siblings.{AreBeside, beside_shared, beside_after, shared_beside}
 use Rattle.xq_axes.proofs.Sizes.{node_of}
 use Rattle.xq_axes.proofs.Trees.{inside_deeper}
@@ -25,7 +26,7 @@ use Rattle.xq_axes.proofs.Trees.{inside_deeper}
 -- # Whether a row is awaited
 
 pub on_hit : (t : Tree) (vs : List ℕ) (n met level : ℕ) (levels : List ℕ) → n < count (nodes t) → IsOn t vs n met levels → level ≡ level_of t n → (is_among levels level && plain_row (rows t) n) ≡ is_hit axis.FollowingSibling t vs n
-on_hit t vs n met level levels hn old e = same_tests (is_among levels level && plain_row (rows t) n) (is_hit axis.FollowingSibling t vs n)
+on_hit t vs n met level levels hn old e = same_test (is_among levels level && plain_row (rows t) n) (is_hit axis.FollowingSibling t vs n)
     (λ h. (
     let k = and_parts _ _ h in
     let w = old.sound level k.0 in

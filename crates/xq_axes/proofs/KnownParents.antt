@@ -19,7 +19,8 @@ use Rattle.xq_sources.specs.Parents.{IsParentRow}
 use Rattle.xq_values.specs.declared.node_tests.Test.{Test}
 use Rattle.xq_axes.specs.private.Hits.{is_among, is_hit, is_wanted, row_passes, below_where, IsRising}
 use Rattle.xq_axes.specs.private.KnownParents.{ends_before, AreTold}
-use Rattle.xq_axes.proofs.Lists.{any_from, any_at, same_tests, below_where-agree, among_at, among_index, got, got_none}
+use Rattle.xq_axes.proofs.Lists.{any_from, any_at, below_where-agree, among_at, among_index, got, got_none}
+use Rattle.xq_regions.proofs.Lists.{same_test}
 use Rattle.xq_axes.proofs.Trees.{one_parent}
 
 -- # A place more among those that rise
@@ -117,7 +118,7 @@ module _ (us : List ℕ) (index u : ℕ) (at : IsBetween us index u) where
   among_between n =
       let w = at.within in
       let c = fewer in
-      same_tests (is_among (insert us index u) n) (eqb u n || is_among us n)
+      same_test (is_among (insert us index u) n) (eqb u n || is_among us n)
       (λ h. (
       let i = among_index (insert us index u) n h in
       let l = i.1 in
@@ -144,7 +145,7 @@ module _ (us : List ℕ) (index u : ℕ) (at : IsBetween us index u) where
 
 -- one of them
 pub among_same : (us : List ℕ) (u n : ℕ) → is_among us u ≡ true → is_among us n ≡ (eqb u n || is_among us n)
-among_same us u n h = same_tests (is_among us n) (eqb u n || is_among us n) (or_right _ _) (λ e. elim (or_cases _ _ e) [
+among_same us u n h = same_test (is_among us n) (eqb u n || is_among us n) (or_right _ _) (λ e. elim (or_cases _ _ e) [
   | inl k ↦ subst (λ x. is_among us x ≡ true) (eqb-true u n k) h
   | inr k ↦ k
 ])
@@ -157,7 +158,7 @@ length-rows t = length-labels (measured 0 (nodes t)) ∙ count-measured 0 (nodes
 -- us has the parents that were told, of all places or of all after the root
 module _ (test : Test) (t : Tree) (us : List ℕ) where
   parents_hit : (vs told : List ℕ) (p : ℕ) → AreTold t vs told → length told ≡ length vs → ((n : ℕ) → is_among us n ≡ is_among told n) → is_hit axis.SelfNode t us p ≡ is_hit axis.Parent t vs p
-  parents_hit vs told p all n same = same_tests (is_hit axis.SelfNode t us p) (is_hit axis.Parent t vs p)
+  parents_hit vs told p all n same = same_test (is_hit axis.SelfNode t us p) (is_hit axis.Parent t vs p)
       (λ e. (
       let i = among_index told p (sym (same p) ∙ e) in
       let l = i.1 in

@@ -25,11 +25,6 @@ any_at p (x ∷ xs) d e = elim (or_cases (p x) (list_any p xs) e) [
   | inr h ↦ (let w = any_at p xs d h in record { index = suc w.index; within = omega (arith, w.within); holds = w.holds })
 ]
 
-pub same_tests : (a b : Bool) → (a ≡ true → b ≡ true) → (b ≡ true → a ≡ true) → a ≡ b
-same_tests true b f g = sym (f refl)
-same_tests false true f g = g refl
-same_tests false false f g = refl
-
 -- tests that agree at each element
 pub any_agree : {X : Type 0} (p q : X → Bool) (xs : List X) (d : X) → ((i : ℕ) → i < length xs → p (get_or xs i d) ≡ q (get_or xs i d)) → list_any p xs ≡ list_any q xs
 any_agree p q [] d h = refl

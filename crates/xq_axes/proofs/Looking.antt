@@ -23,7 +23,8 @@ use Rattle.xq_axes.specs.private.Waiting.{axis_back, waits, waits_at, is_awaited
 use Rattle.xq_axes.specs.declared.backward.Backward.{Backward}
 use Rattle.xq_axes.specs.declared.backward.Backward.TheVariants.{Parent, PrecedingSibling}
 use Rattle.xq_axes.specs.declared.backward.Seen.{Seen}
-use Rattle.xq_axes.proofs.Lists.{any_from, any_at, same_tests, among_at, among_index, not_among, below_where-none, got_none}
+use Rattle.xq_axes.proofs.Lists.{any_from, any_at, among_at, among_index, not_among, below_where-none, got_none}
+use Rattle.xq_regions.proofs.Lists.{same_test}
 use Rattle.xq_axes.proofs.Ranges.{last_is, empty_step}
 use Rattle.xq_axes.proofs.Scans.{back_bound}
 use Rattle.xq_axes.proofs.Siblings.{AreBeside, beside_shared, beside_after, shared_beside, parent_clear, clear_parent}
@@ -67,7 +68,7 @@ AreThere t vs = (i : ℕ) → i < length vs → get_or vs i 0 < count (nodes t)
 
 parent_hit : (t : Tree) (vs : List ℕ) (p level : ℕ) (levels : List ℕ) → AreThere t vs → AreBack Parent t vs (p + 1) levels → level ≡ level_of t p → is_among levels (level + 1) ≡ is_hit axis.Parent t vs p
 unfolding AreThere
-parent_hit t vs p level levels there old e = same_tests (is_among levels (level + 1)) (is_hit axis.Parent t vs p)
+parent_hit t vs p level levels there old e = same_test (is_among levels (level + 1)) (is_hit axis.Parent t vs p)
     (λ h. (
     let w = old.sound (level + 1) h in
     let v = get_or vs w.index 0 in
@@ -94,7 +95,7 @@ parent_hit t vs p level levels there old e = same_tests (is_among levels (level 
 
 beside_hit : (t : Tree) (vs : List ℕ) (p level : ℕ) (levels : List ℕ) → AreThere t vs → AreBack PrecedingSibling t vs (p + 1) levels → level ≡ level_of t p → (is_among levels level && plain_row (rows t) p) ≡ is_hit axis.PrecedingSibling t vs p
 unfolding AreThere
-beside_hit t vs p level levels there old e = same_tests (is_among levels level && plain_row (rows t) p) (is_hit axis.PrecedingSibling t vs p)
+beside_hit t vs p level levels there old e = same_test (is_among levels level && plain_row (rows t) p) (is_hit axis.PrecedingSibling t vs p)
     (λ h. (
     let k = and_parts _ _ h in
     let w = old.sound level k.0 in

@@ -20,7 +20,7 @@ use Rattle.xq_values.specs.Items.{Place, place, places_from, same_node, is_among
 use Rattle.xq_values.specs.Readings.{node_at}
 use Rattle.xq_axes.specs.Nodes.{document_order, AreRising, HaveAll}
 use Rattle.xq_axes.specs.private.Many.{spot}
-use Rattle.xq_axes.proofs.Lists.{same_tests}
+use Rattle.xq_regions.proofs.Lists.{same_test}
 use Rattle.xq_axes.proofs.Orders.{same_fields, order_less, same_any, same_rising, from_contains, rising_append}
 use Rattle.xq_values.proofs.PathLemmas.{map-map, filter-map, paths-range}
 use Rattle.xq_axes.proofs.Sizes.{node_of}
@@ -164,7 +164,7 @@ module _ (trees : List Tree) (ns : List Node) (have : HaveAll trees ns) where
   listed s = any_map (same_node (node_at trees s)) (node_at trees) ns
 
   same_listed : (p : Node → Bool) → list_any p ns ≡ list_any p (filter is_one (all_nodes 0 trees))
-  same_listed p = same_tests (list_any p ns) (list_any p (filter is_one (all_nodes 0 trees)))
+  same_listed p = same_test (list_any p ns) (list_any p (filter is_one (all_nodes 0 trees)))
       (λ e. (
       let a = Any-from_list_any p ns e in
       let c : Contains ns a.1 = (a.0, a.2, a.3) in

@@ -20,7 +20,8 @@ use Rattle.xq_values.specs.Steps.{passes_at, axis_nodes}
 use Rattle.xq_values.specs.Readings.{node_at}
 use Rattle.xq_values.proofs.PathLemmas.{map-map, range-split, filter-map, paths-range}
 use Rattle.xq_axes.specs.private.Hits.{is_hit, is_wanted, row_passes, below_where}
-use Rattle.xq_axes.proofs.Lists.{same_tests, below_where-agree}
+use Rattle.xq_axes.proofs.Lists.{below_where-agree}
+use Rattle.xq_regions.proofs.Lists.{same_test}
 use Rattle.xq_axes.proofs.Sizes.{node_of}
 use Rattle.xq_axes.proofs.Siblings.{one_hit}
 
@@ -46,7 +47,7 @@ pub region_is_path : (a : Axis) (t : Tree) (v p : ℕ) → v < count (nodes t) �
 region_is_path a t v p hv hp =
     let r = region_is_axis a t (rows t) v p (in_region a (rows t) v p) refl hv hp refl in
     let q = on_axis_is a (nodes t) (path_at (nodes t) v) (path_at (nodes t) p) in
-    same_tests (on_axis a (nodes t) (path_at (nodes t) v) (path_at (nodes t) p)) (in_region a (rows t) v p) (λ e. r.1 (q.0 e)) (λ e. q.1 (r.0 e))
+    same_test (on_axis a (nodes t) (path_at (nodes t) v) (path_at (nodes t) p)) (in_region a (rows t) v p) (λ e. r.1 (q.0 e)) (λ e. q.1 (r.0 e))
 
 pub passes_row : (trees : List Tree) (test : Test) (n p : ℕ) → p < count (nodes (tree_at trees n)) → passes_at trees test (place n (path_at (nodes_at trees n) p)) ≡ row_passes test (row_at (rows (tree_at trees n)) p)
 passes_row trees test n p h = ap (λ (l : Label). row_passes test (record { size = 0; level = 0; label = l })) (sym (node_of (tree_at trees n) p h).label)

@@ -17,8 +17,7 @@ use Rattle.std.proofs.lemmas.Map.Keys.{sorted_from_all_adjacent}
 use Rattle.std.proofs.lemmas.Map.Lookups.{btree_set_from_contains, exact_unsigned}
 use Rattle.xq_regions.specs.declared.items.Node.{Node}
 use Rattle.xq_axes.specs.Nodes.{document_order, AreRising}
-use Rattle.xq_axes.proofs.Lists.{same_tests}
-use Rattle.xq_regions.proofs.Lists.{all_append}
+use Rattle.xq_regions.proofs.Lists.{same_test, all_append}
 
 pub order_total : IsTotalOrder document_order
 order_total = then_total (on_total (λ (n : Node). n.tree) nat_cmp_total) (on_total (λ (n : Node). n.pre) nat_cmp_total)
@@ -60,7 +59,7 @@ any_one_way p xs ys h e =
     list_any-from_Any p ys (c.0, a.1, c.1, c.2, a.4)
 
 pub same_any : {X : Type 0} (p : X → Bool) (xs ys : List X) → ((x : X) → Contains xs x ↔ Contains ys x) → list_any p xs ≡ list_any p ys
-same_any p xs ys h = same_tests (list_any p xs) (list_any p ys) (any_one_way p xs ys (λ x. (h x).0)) (any_one_way p ys xs (λ x. (h x).1))
+same_any p xs ys h = same_test (list_any p xs) (list_any p ys) (any_one_way p xs ys (λ x. (h x).0)) (any_one_way p ys xs (λ x. (h x).1))
 
 -- two that rise are one
 pub same_rising : (xs ys : List Node) → AreRising xs → AreRising ys → ((p : Node → Bool) → list_any p xs ≡ list_any p ys) → xs ≡ ys
@@ -138,7 +137,7 @@ node_itself x = and_from _ _ (eq-eqb x.tree x.tree refl) (eq-eqb x.pre x.pre ref
 one_node_equivalence : IsEquivalence is_one_node
 one_node_equivalence = record {
   refl = node_itself;
-  symm = λ x y. same_tests (is_one_node x y) (is_one_node y x) (λ e. ap (λ z. is_one_node z x) (sym (one_node x y e)) ∙ node_itself x) (λ e. ap (λ z. is_one_node z y) (sym (one_node y x e)) ∙ node_itself y);
+  symm = λ x y. same_test (is_one_node x y) (is_one_node y x) (λ e. ap (λ z. is_one_node z x) (sym (one_node x y e)) ∙ node_itself x) (λ e. ap (λ z. is_one_node z y) (sym (one_node y x e)) ∙ node_itself y);
   congr = λ x y z e. ap (λ w. is_one_node w z) (one_node x y e);
 }
 
@@ -151,7 +150,7 @@ equal_of Equal e = refl
 equal_of Greater e = absurd (cc)
 
 pub ties_at : (x y : Node) → is_one_node x y ≡ eq_by_cmp document_order x y
-ties_at x y = same_tests (is_one_node x y) (eq_by_cmp document_order x y) (λ e. equal_at x y (one_node x y e)) (λ e. subst (λ z. is_one_node x z ≡ true) (order_exact x y (equal_of (document_order x y) e)) (node_itself x))
+ties_at x y = same_test (is_one_node x y) (eq_by_cmp document_order x y) (λ e. equal_at x y (one_node x y e)) (λ e. subst (λ z. is_one_node x z ≡ true) (order_exact x y (equal_of (document_order x y) e)) (node_itself x))
 
 pub record Deduped (xs zs : List Node) : Type 0 where
   pub rising : AreRising zs

@@ -16,7 +16,8 @@ use Rattle.xq_axes.specs.private.Reads.{span, span_end}
 use Rattle.xq_axes.specs.private.Hits.{is_among, is_hit, is_wanted, row_passes, below_where, IsRising, IsReached}
 use Rattle.xq_axes.specs.private.Downward.{end_of, is_within}
 use Rattle.xq_axes.specs.private.Passing.{IsLast, IsEnd, IsLeastEnd, axis_above, is_next_within}
-use Rattle.xq_axes.proofs.Lists.{any_from, any_at, any_and, any_or, any_none, same_tests, below_where-none, got}
+use Rattle.xq_axes.proofs.Lists.{any_from, any_at, any_and, any_or, any_none, below_where-none, got}
+use Rattle.xq_regions.proofs.Lists.{same_test}
 use Rattle.xq_axes.proofs.Clusters.{inside_true, true_inside}
 
 -- no row of the places from n to before m is wanted where none is hit
@@ -27,7 +28,7 @@ unwanted a test t vs n m h g = below_where-none (is_wanted a test t vs) n m h (�
 
 pub preceding_hit : (t : Tree) (vs : List ℕ) (last n : ℕ) → IsLast vs last → (nat_lt (end_of t n) last && plain_row (rows t) n) ≡ is_hit axis.Preceding t vs n
 preceding_hit t vs last n l =
-    let e : nat_lt (end_of t n) last ≡ list_any (λ v. nat_lt (end_of t n) v) vs = same_tests (nat_lt (end_of t n) last) (list_any (λ v. nat_lt (end_of t n) v) vs)
+    let e : nat_lt (end_of t n) last ≡ list_any (λ v. nat_lt (end_of t n) v) vs = same_test (nat_lt (end_of t n) last) (list_any (λ v. nat_lt (end_of t n) v) vs)
     (λ h. any_from (λ v. nat_lt (end_of t n) v) vs l.index 0 l.within (ap (λ v. nat_lt (end_of t n) v) l.is ∙ h))
     (λ h. (let w = any_at (λ v. nat_lt (end_of t n) v) vs 0 h in let g = l.greatest w.index w.within in let x = leb-true (suc (end_of t n)) (get_or vs w.index 0) w.holds in le-leb (suc (end_of t n)) last (omega (arith, g, x)))) in
     ap (λ b. b && plain_row (rows t) n) e ∙ sym (any_and (λ v. nat_lt (end_of t n) v) (plain_row (rows t) n) vs)
@@ -68,7 +69,7 @@ slice_get-past (v ∷ vs) (suc i) h = slice_get-past vs i (omega (arith, h))
 
 -- some context is inside n where the next one after n is
 pub above_some : (t : Tree) (vs : List ℕ) (met n : ℕ) → IsRising vs → IsReached vs met (n + 1) → is_next_within vs met (end_of t n) ≡ list_any (λ v. inside (rows t) n v) vs
-above_some t vs met n up r = same_tests (is_next_within vs met (end_of t n)) (list_any (λ v. inside (rows t) n v) vs)
+above_some t vs met n up r = same_test (is_next_within vs met (end_of t n)) (list_any (λ v. inside (rows t) n v) vs)
     (λ h. elim (cases_lt met (length vs)) [
       | inl k ↦ (
           let e = within_some (slice_get vs met) (get_or vs met 0) (end_of t n) (slice_get-at vs met k) in

@@ -17,6 +17,7 @@ use Rattle.xq_values.specs.Readings.{items_at, node_at, AreIn}
 use Rattle.xq_values.specs.Arguments.{boolean}
 use Rattle.xq_values.specs.Operators.{by_nodes, stand}
 use Rattle.xq_functions.specs.private.Nodes as places
+use Rattle.xq_regions.proofs.Lists.{same_test}
 
 first_is : (p q : List ℕ) → (comes_first p q ≡ true) ↔ IsBefore p q
 first_is [] [] = (λ e. absurd (false≢true e), λ h. absurd h)
@@ -51,21 +52,16 @@ same_self [] = refl
 same_self (i ∷ p) = and_from (nat_eq i i) (is_same p p) (eq-eqb i i refl) (same_self p)
 
 -- two tests that are true together are equal
-agree : (a b : Bool) → (a ≡ true → b ≡ true) → (b ≡ true → a ≡ true) → a ≡ b
-agree true b f g = sym (f refl)
-agree false true f g = g refl
-agree false false f g = refl
-
 before_places : (t : Tree) (p q : ℕ) → p < count (nodes t) → q < count (nodes t) → comes_first (path_at (nodes t) p) (path_at (nodes t) q) ≡ ltb p q
 before_places t p q hp hq =
     let first = first_is (path_at (nodes t) p) (path_at (nodes t) q) in
     let order = order_is_places t p q (ltb p q) hp hq refl in
-    agree (comes_first (path_at (nodes t) p) (path_at (nodes t) q)) (ltb p q) (λ e. order.1 (first.0 e)) (λ e. first.1 (order.0 e))
+    same_test (comes_first (path_at (nodes t) p) (path_at (nodes t) q)) (ltb p q) (λ e. order.1 (first.0 e)) (λ e. first.1 (order.0 e))
 
 same_places : (t : Tree) (p q : ℕ) → p < count (nodes t) → q < count (nodes t) → is_same (path_at (nodes t) p) (path_at (nodes t) q) ≡ (p == q)
 same_places t p q hp hq =
     let f = nodes t in
-    agree (is_same (path_at f p) (path_at f q)) (p == q)
+    same_test (is_same (path_at f p) (path_at f q)) (p == q)
     (λ e. eq-eqb p q (sym (at_place f p hp).place ∙ ap (place_of f) (same_from (path_at f p) (path_at f q) e) ∙ (at_place f q hq).place))
     (λ e. ap (λ n. is_same (path_at f p) (path_at f n)) (sym (eqb-true p q e)) ∙ same_self (path_at f p))
 

@@ -26,7 +26,7 @@ use Rattle.xq_values.specs.Steps.{passes, passes_at, axis_nodes, focuses, focuse
 use Rattle.xq_values.proofs.PathLemmas.{filter-map}
 use Rattle.xq_axes.specs.DoubleSlash.{selves_and_below, after_double_slash as places_after}
 use Rattle.xq_axes.proofs.AxisNodes.{from_axis, to_axis, has_place, same_place}
-use Rattle.xq_axes.proofs.Lists.{same_tests}
+use Rattle.xq_regions.proofs.Lists.{same_test, all_filter}
 use Rattle.xq_axes.proofs.Many.{any_flat}
 use Rattle.xq_axes.proofs.Merging.{any_filter, same_itself}
 use Rattle.xq_meaning.specs.Doing.{Doing, Outcome, go_on, give, judged, on_trees, in_turn, more, collected}
@@ -34,7 +34,6 @@ use Rattle.xq_meaning.specs.Forms as Forms
 use Rattle.xq_meaning.proofs.Growth.{AllGrowing, step_grows}
 use Rattle.xq_operations.specs.Views.{parents_below}
 use Rattle.xq_operations.proofs.Existing.{IsPlace, all_exist}
-use Rattle.xq_regions.proofs.Lists.{all_filter}
 use Rattle.xq_operations.proofs.Growth.{tree_grown, extends_more, extends_itself}
 use Rattle.xq_operations.proofs.NodeLemmas.{are_nodes}
 
@@ -141,7 +140,7 @@ module _ (trees : List Tree) (of : Test) (ps : List Place) where
   parents_are =
       let all : Place → Bool = is_among (flat_map (axis_nodes trees axis.DescendantOrSelf test.Any) ps) in
       filter_agree_in (IsPlace trees) (is_among (flat_map (axis_nodes trees axis.Parent test.Any) (places_after trees of ps))) (λ p. all p && is_parent trees of p) (places_from 0 trees) (all_exist trees)
-      (λ p there. same_tests _ _ (forth p there) (back p there))
+      (λ p there. same_test _ _ (forth p there) (back p there))
       ∙ sym (filter_twice all (is_parent trees of) (places_from 0 trees))
 
 -- # Trees that are added

@@ -10,13 +10,9 @@ use Rattle.std.proofs.lemmas.Str.Pattern.{contains_text}
 use Rattle.std.specs.Str.Pattern.{HasMatch, FindsText}
 use Rattle.std.specs.Bool.{MatchBool}
 use Rattle.xq_regions.specs.Names.{holds}
+use Rattle.xq_regions.proofs.Lists.{same_test}
 
 -- two tests that are true alike are equal
-pub same_test : (a b : Bool) → (a ≡ true → b ≡ true) → (b ≡ true → a ≡ true) → a ≡ b
-same_test true b f g = sym (f refl)
-same_test false true f g = g refl
-same_test false false f g = refl
-
 begins : (piece text : List ℕ) → starts_with nat_eq text piece ≡ true → text ≡ piece ++ drop (length piece) text
 begins piece text h = (starts_is Decides-eqb text piece (starts_with nat_eq text piece) refl).0 h
 
