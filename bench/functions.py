@@ -1,11 +1,13 @@
 #!/usr/bin/env python3
 """Times of functions and operators over long inputs, and how they grow.
 
-    bench/functions.py [FOLDER]     builds bench/evaluation/main.rattle in the folder, unless an earlier call did
+    bench/functions.py [FOLDER]
 
-Each line is a function of a long list or text, evaluated over a source in memory, eight times in one
-query: milliseconds of one of the eight for 100,000 and for 1,000,000 items or characters, the least
-of five turns, less the time of the query without the function; and how many times as long the
+Builds bench/evaluation/main.rattle in the folder, unless an earlier call did.
+
+Each line is a function of a long list or text, evaluated over a source in memory, eight times in
+one query: milliseconds of one of the eight for 100,000 and for 1,000,000 items or characters, the
+least of five turns, less the time of the query without the function; and how many times as long the
 larger takes, at most 15. An argument is copied for each call, which is counted.
 """
 import subprocess

@@ -1,4 +1,5 @@
-"""Lexes a megabyte of names, of digits, of nested comments, of one string, of symbols; prints times and MB/s.
+"""Lexes a megabyte of names, of digits, of nested comments, of one string, of symbols; prints times
+and MB/s.
 
 usage: lexer.py
 
@@ -17,7 +18,8 @@ from workspace import built
 CRATES = ("xq_atoms", "xq_lexer")
 SIZES = (262_144, 524_288, 1_048_576)
 PROGRAM = """\
-//! Lexes the text of standard input, and prints how many tokens it has and the microseconds it took.
+//! Lexes the text of standard input, and prints how many tokens it has and the microseconds it
+//! took.
 #![tactic(auto)]
 
 use std::io;

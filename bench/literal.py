@@ -1,9 +1,10 @@
-"""Stores document literals of 0.25, 0.5 and 1 MB through the server and reads them back; prints times and ratios.
+"""Stores document literals of 0.25, 0.5 and 1 MB through the server and reads them back; prints
+times and ratios.
 
 usage: literal.py [SERVER]
 
-A run's time is that of the whole program, from its start to its end, less that of a run of an empty input; the
-time of one read is a tenth of ten reads'.
+A run's time is that of the whole program, from its start to its end, less that of a run of an empty
+input; the time of one read is a tenth of ten reads'.
 """
 
 import os

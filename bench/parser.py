@@ -1,11 +1,13 @@
 """Parses long chains, signs and open parentheses; prints times, and how they grow with the length.
 
-usage: parser.py [FOLDER]      builds bench/parser/main.rattle in the folder, unless an earlier call did
+usage: parser.py [FOLDER]
 
-A time is the least of five runs, without the lexer, the program's start and its input; the end of the
-expression is in it. The last lines are the least stack, in kilobytes, on which a text nested 128 deep is parsed:
-parentheses, predicates below one operator of each level, and later items of predicates, which took most of 323
-nests that were tried.
+Builds bench/parser/main.rattle in the folder, unless an earlier call did.
+
+A time is the least of five runs, without the lexer, the program's start and its input; the end of
+the expression is in it. The last lines are the least stack, in kilobytes, on which a text nested
+128 deep is parsed: parentheses, predicates below one operator of each level, and later items of
+predicates, which took most of 323 nests that were tried.
 """
 
 import os

@@ -1,10 +1,12 @@
 #!/usr/bin/env python3
-"""Frames per second over a pipe, in memory and on a file; and how long a file of 100,000 rows takes to open.
+"""Frames per second over a pipe, in memory and on a file; and how long a file of 100,000 rows takes
+to open.
 
     bench/serve.py [SECONDS]      2 seconds for each figure where none are named
 
-`L` lists one address, `doc("b")` reads a document of 8 nodes, and `S` stores that document, which each time replaces it. One
-at a time: each frame after the reply to the one before; 64 in flight: so many frames, and then their replies.
+`L` lists one address, `doc("b")` reads a document of 8 nodes, and `S` stores that document, which
+each time replaces it. One at a time: each frame after the reply to the one before; 64 in flight: so
+many frames, and then their replies.
 """
 import pathlib
 import sys

@@ -1,9 +1,12 @@
-"""Checks the queries of a corpus: each has to pass, or be refused with its code where that is one of the static checks.
+"""Checks the queries of a corpus: each has to pass, or be refused with its code where that is one
+of the static checks.
 
-usage: check_corpus.py CORPUS      lines of JSON with the query as q, and its answer as a or its code as e
+usage: check_corpus.py CORPUS
 
-The last lines are 'passed N of M' and 'CODE N of M' for each code of the static checks. A query whose tokens or
-grammar are refused is counted in none of them.
+CORPUS has lines of JSON with the query as q, and its answer as a or its code as e.
+
+The last lines are 'passed N of M' and 'CODE N of M' for each code of the static checks. A query
+whose tokens or grammar are refused is counted in none of them.
 """
 
 import sys
@@ -16,7 +19,8 @@ CRATES = OF_PARSER + ("xq_signatures", "xq_scopes", "xq_statics")
 OF_TEXT = ("XPST0003", "XQST0090")
 OF_CHECKS = ("XPST0008", "XPST0017", "XQST0089", "XQST0094", "prof:PREFIX", "prof:TYPE")
 PROGRAM = """\
-//! Checks the texts of standard input, each ended by a byte of 0, and prints for each how that ends.
+//! Checks the texts of standard input, each ended by a byte of 0, and prints for each how that
+//! ends.
 #![tactic(auto)]
 
 use std::alloc::Global;

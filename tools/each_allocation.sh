@@ -1,8 +1,8 @@
 #!/usr/bin/env bash
-# Runs the store's tests of refused allocations again and again, refusing the first allocation, then the
-# second, and so on, until a run meets no refusal. Each run has to pass: after a refusal the map is as it
-# was, and the call succeeds when it is made again. A store on disks in memory may be shut instead; then
-# each later call is refused, and its files still hold the map as it was.
+# Runs the store's tests of refused allocations again and again, refusing the first allocation, then
+# the second, and so on, until a run meets no refusal. Each run has to pass: after a refusal the map
+# is as it was, and the call succeeds when it is made again. A store on disks in memory may be shut
+# instead; then each later call is refused, and its files still hold the map as it was.
 #
 #   tools/each_allocation.sh [CRATE TEST..]      tests of another crate, where they are named; needs a C
 #                                                compiler; the tests are built by `rt test` first

@@ -3,10 +3,11 @@
 
     tools/kill_often.py [TIMES [SEED]]      200 times where none is named
 
-A round starts the server on the file, reads all its documents, and sends stores and drops until the server is killed,
-between two frames or inside one; each tenth server is killed sooner, while it opens the file or tells its documents. The next
-server must find the documents as they were before the frame under way or after it. The script prints how often the file opened,
-and what it held; its status is 0 where every server found the one or the other.
+A round starts the server on the file, reads all its documents, and sends stores and drops until the
+server is killed, between two frames or inside one; each tenth server is killed sooner, while it
+opens the file or tells its documents. The next server must find the documents as they were before
+the frame under way or after it. The script prints how often the file opened, and what it held; its
+status is 0 where every server found the one or the other.
 """
 import os
 import pathlib

@@ -1,10 +1,13 @@
 """Lexes the queries of a corpus.
 
-usage: lex_corpus.py CORPUS        lines of JSON with the query as q, and its answer as a or its code as e
+usage: lex_corpus.py CORPUS
 
-A query of code XQST0090 has to be refused with it; one of XPST0003 has to give tokens, for the grammar to refuse, or
-be refused with that code; any other has to give tokens. Line ends are read as line feeds first, as the server does.
-The last lines say how many of each kind did: 'tokens N of M', 'XPST0003 N of M', 'XQST0090 N of M'.
+CORPUS has lines of JSON with the query as q, and its answer as a or its code as e.
+
+A query of code XQST0090 has to be refused with it; one of XPST0003 has to give tokens, for the
+grammar to refuse, or be refused with that code; any other has to give tokens. Line ends are read as
+line feeds first, as the server does. The last lines say how many of each kind did: 'tokens N of M',
+'XPST0003 N of M', 'XQST0090 N of M'.
 """
 
 import json

@@ -1,9 +1,12 @@
-"""Parses the queries of a corpus: each has to give an expression, unless its code tells of tokens or grammar.
+"""Parses the queries of a corpus: each has to give an expression, unless its code tells of tokens
+or grammar.
 
-usage: parse_corpus.py CORPUS      lines of JSON with the query as q, and its answer as a or its code as e
+usage: parse_corpus.py CORPUS
 
-The last lines are 'expressions N of M' and 'refused N of M': of the queries whose code is XPST0003, how many give
-none. A query whose tokens are refused with another code is counted in neither.
+CORPUS has lines of JSON with the query as q, and its answer as a or its code as e.
+
+The last lines are 'expressions N of M' and 'refused N of M': of the queries whose code is XPST0003,
+how many give none. A query whose tokens are refused with another code is counted in neither.
 """
 
 import sys
@@ -14,8 +17,8 @@ CRATES = ("xq_atoms", "xq_lexer", "xq_expressions", "xq_grammar", "xq_parser")
 OF_TOKENS = "XQST0090"
 OF_GRAMMAR = "XPST0003"
 PROGRAM = """\
-//! Reads the texts of standard input, each ended by a byte of 0, as expressions, and prints for each
-//! how that ends.
+//! Reads the texts of standard input, each ended by a byte of 0, as expressions, and prints for
+//! each how that ends.
 #![tactic(auto)]
 
 use std::io::{self, BufRead};

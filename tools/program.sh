@@ -1,4 +1,5 @@
-# Sourced by ./serve and ./demo: where the program is, and whether it is built of the sources as they are.
+# Sourced by ./serve and ./demo: where the program is, and whether it is built of the sources as
+# they are.
 program=$top/crates/xq_server/out/xq_server
 
 is_current() {

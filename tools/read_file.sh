@@ -1,6 +1,7 @@
 #!/usr/bin/env bash
-# Has a program write the document of two books into a file, and stock sqlite3 (Debian package sqlite3) read it:
-# its tables have to be those of edition 1 with the document's eight rows, and the file has to be sound.
+# Has a program write the document of two books into a file, and stock sqlite3 (Debian package
+# sqlite3) read it: its tables have to be those of edition 1 with the document's eight rows, and the
+# file has to be sound.
 #
 #   tools/read_file.sh [FOLDER]       FOLDER as for bench/store/run.sh
 set -eu

@@ -7,9 +7,10 @@ Runs the built program over requests that store, replace, copy, read, list and d
 allocation that it makes, and has that one fail. Each run has to end with one reply for each frame,
 or say that it had no room: for the store, for the input, or for a reply, and then the frames before
 have theirs. The reply to the frame at hand may name want of memory, or of the store where it was a
-disk in memory that could not grow; where the database has shut, each later one wants the store. Each other one has to be what the replies before it make it: they alone
-say which documents there are. With --file each run keeps its documents in a new
-file, which then has to open with these documents. Needs a C compiler, for the allocator that fails.
+disk in memory that could not grow; where the database has shut, each later one wants the store.
+Each other one has to be what the replies before it make it: they alone say which documents there
+are. With --file each run keeps its documents in a new file, which then has to open with these
+documents. Needs a C compiler, for the allocator that fails.
 """
 import argparse
 import concurrent.futures

@@ -2,8 +2,8 @@
 
 usage: show_run.py SERVER FILE     of request frames, or with the ending .txt of requests as text
 
-A text has an empty line after each request. Its first line is `store ADDRESS`, `drop ADDRESS`, `query` or
-`list`, and the lines below are the query.
+A text has an empty line after each request. Its first line is `store ADDRESS`, `drop ADDRESS`,
+`query` or `list`, and the lines below are the query.
 """
 
 import struct

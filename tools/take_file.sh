@@ -1,11 +1,12 @@
 #!/usr/bin/env bash
-# A way back to a file that another program has written to, so that the server refuses it: copies its documents into a new
-# file. Needs stock sqlite3 (Debian package sqlite3).
+# A way back to a file that another program has written to, so that the server refuses it: copies
+# its documents into a new file. Needs stock sqlite3 (Debian package sqlite3).
 #
 #   tools/take_file.sh OLD NEW
 #
-# OLD, with its log OLD-wal where there is one, is only read; no server may hold it. NEW must not be there yet. The rows go
-# over as they are, and the server judges them as it opens NEW: where they are not those of documents, it still refuses.
+# OLD, with its log OLD-wal where there is one, is only read; no server may hold it. NEW must not be
+# there yet. The rows go over as they are, and the server judges them as it opens NEW: where they
+# are not those of documents, it still refuses.
 set -eu
 if [ $# != 2 ] || [ ! -f "$1" ] || [ -e "$2" ]; then
     echo "usage: tools/take_file.sh OLD NEW, where OLD is a file and NEW is not there" >&2

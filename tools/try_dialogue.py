@@ -1,6 +1,6 @@
 #!/usr/bin/env python3
-"""Sends the requests of docs/PROTOCOL.md's dialogue to the server, each after the reply to the one before,
-and compares each reply with the document.
+"""Sends the requests of docs/PROTOCOL.md's dialogue to the server, each after the reply to the one
+before, and compares each reply with the document.
 
     tools/try_dialogue.py [PROGRAM [WORDS]]     the program is ./serve where none is named
 """

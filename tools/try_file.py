@@ -1,9 +1,11 @@
 #!/usr/bin/env python3
-"""Starts the server on files, ends it, and starts it again: the documents are there; and on files that it must refuse.
+"""Starts the server on files, ends it, and starts it again: the documents are there; and on files
+that it must refuse.
 
     tools/try_file.py
 
-Each line says what was tried, and `ok` or what was found in place of it. The status is 0 where all is well.
+Each line says what was tried, and `ok` or what was found in place of it. The status is 0 where all
+is well.
 """
 import os
 import pathlib

@@ -3,8 +3,8 @@
 #
 #   bench/store/build.sh FOLDER
 #
-# The program cannot stand among the crates, since what it prints is another each time. So it is built in a
-# workspace of its own, over copies of the crates with what is built of them.
+# The program cannot stand among the crates, since what it prints is another each time. So it is
+# built in a workspace of its own, over copies of the crates with what is built of them.
 set -eu
 here=$(cd "$(dirname "$0")" && pwd)
 top=$(cd "$here/../.." && pwd)

@@ -1,12 +1,12 @@
-"""Times the store beside C SQLite (python3's sqlite3), which replaces a document by one DELETE and the same INSERTs, in
-one run, and measures the memory that a store on disks in memory holds.
+"""Times the store beside C SQLite (python3's sqlite3), which replaces a document by one DELETE and
+the same INSERTs, in one run, and measures the memory that a store on disks in memory holds.
 
     python3 bench/store/compare.py times PROGRAM FOLDER            as bench/store/run.sh calls it
     python3 bench/store/compare.py memory PROGRAM FOLDER [COUNTER]  after it
 
-Each time is the median of some runs, ours and C's in turn, more of them where there are few rows. It is given as a
-multiple of C SQLite's in memory, and for a file also of C SQLite's in a file. COUNTER is held.c's library, which
-counts what the process has allocated and not freed.
+Each time is the median of some runs, ours and C's in turn, more of them where there are few rows.
+It is given as a multiple of C SQLite's in memory, and for a file also of C SQLite's in a file.
+COUNTER is held.c's library, which counts what the process has allocated and not freed.
 """
 import os
 import statistics

@@ -1,4 +1,5 @@
-"""The statements of the store in C SQLite: put, load, puts of one row, replace and drop of one document."""
+"""The statements of the store in C SQLite: put, load, puts of one row, replace and drop of one
+document."""
 import sqlite3
 import sys
 import time

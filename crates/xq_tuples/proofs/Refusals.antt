@@ -3,11 +3,10 @@ use Rattle.std.proofs.Common.{◌≡◌, Bool, false, Ok, Err, ap, sym, ◌∙�
 use Rattle.xq_atoms.specs.declared.refusals.Fault.{Fault}
 use Rattle.xq_atoms.specs.declared.refusals.Fault.TheVariants.{Code as OfCode, Want as OfWant}
 use Rattle.std.specs.Prelude.{if◌then◌else◌}
-use Rattle.xq_atoms.specs.declared.refusals.Code.{Code}
 use Rattle.xq_atoms.specs.declared.refusals.Code.TheVariants.{XPTY0004}
 use Rattle.xq_atoms.specs.Answers.{IsRefusal, RefusesFor}
 
-pub Refuses-weaker : {P Q : Type 0} {code : Code} (fault : Fault) → RefusesFor code P fault → (P → Q) → RefusesFor code Q fault
+pub Refuses-weaker : {P Q : Type 0} (fault : Fault) → RefusesFor XPTY0004 P fault → (P → Q) → RefusesFor XPTY0004 Q fault
 Refuses-weaker (OfCode other) h f = (h.0, f h.1)
 Refuses-weaker (OfWant want) h f = h
 
