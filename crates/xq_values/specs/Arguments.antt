@@ -15,31 +15,39 @@ each judge (x ∷ xs) = do y ← judge x; ys ← each judge xs; Ok (y ∷ ys)
 
 -- # Results
 
+-- one atomic value as a result
 abbrev pub atomic : Atomic → List Item
 atomic a = Atom a ∷ []
 
+-- a whole number from 0 on, as one integer
 abbrev pub whole : ℕ → List Item
 whole n = atomic (Integer (pos n))
 
+-- one boolean as a result
 abbrev pub boolean : Bool → List Item
 boolean b = atomic (Boolean b)
 
+-- one string as a result
 abbrev pub text : Text → List Item
 text t = atomic (String t)
 
+-- the atomic value as a result, or its refusal
 abbrev pub as_items : Judged Atomic → Judged (List Item)
 as_items result = do a ← result; Ok (atomic a)
 
+-- the boolean as a result, or its refusal
 abbrev pub as_boolean : Judged Bool → Judged (List Item)
 as_boolean result = do b ← result; Ok (boolean b)
 
 -- # How many items an argument may have
 
+-- none or one; more are refused
 abbrev pub optional : {A : Type 0} → List A → Judged (Option A)
 optional [] = Ok None
 optional (a ∷ []) = Ok (Some a)
 optional (a ∷ b ∷ more) = Err XPTY0004
 
+-- exactly one; none, and more, are refused
 abbrev pub single : {A : Type 0} → List A → Judged A
 single (a ∷ []) = Ok a
 single as' = Err XPTY0004
@@ -61,6 +69,7 @@ text_argument (String t) = Ok t
 text_argument (Untyped t) = Ok t
 text_argument a = Err XPTY0004
 
+-- exactly one value, which is a string or an untyped one
 abbrev pub one_text : List Atomic → Judged Text
 one_text as' = do a ← single as'; text_argument a
 
@@ -68,6 +77,7 @@ one_text as' = do a ← single as'; text_argument a
 abbrev pub optional_text : List Atomic → Judged Text
 optional_text as' = do a ← optional as'; if_given [] text_argument a
 
+-- a node; an atomic value is refused
 abbrev pub node_argument : Item → Judged Place
 node_argument (Node p) = Ok p
 node_argument (Atom a) = Err XPTY0004
@@ -79,11 +89,13 @@ count_argument (Decimal m) = Err ProfDouble
 count_argument (Untyped t) = Err ProfDouble
 count_argument a = Err XPTY0004
 
+-- exactly one value, which is a position or a length
 abbrev pub one_count : List Atomic → Judged ℤ
 one_count as' = do a ← single as'; count_argument a
 
 -- # 2.4.3: the effective boolean value
 
+-- of one atomic value: a number is not zero, a text not empty, a boolean is itself
 abbrev pub truth : Atomic → Bool
 truth (Integer n) = not (is_zero n)
 truth (Decimal m) = not (is_zero m)
@@ -100,9 +112,11 @@ effective (Atom a ∷ x ∷ xs) = Err FORG0006
 
 -- # Items that have to be nodes
 
+-- a node; an atomic value is refused with that code
 abbrev pub node_or : Code → Item → Judged Place
 node_or code (Node p) = Ok p
 node_or code (Atom a) = Err code
 
+-- items that all are nodes; else they are refused with that code
 abbrev pub all_nodes : Code → List Item → Judged (List Place)
 all_nodes code xs = each (node_or code) xs

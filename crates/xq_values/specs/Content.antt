@@ -25,6 +25,7 @@ use Rattle.xq_values.specs.Items.{Item, Node, Atom, tree_below, atomized}
 
 -- # Names
 
+-- the code point of a colon
 abbrev pub is_colon : ℕ → Bool
 is_colon c = c == 58
 
@@ -32,12 +33,15 @@ is_colon c = c == 58
 abbrev pub is_prefixed : List ℕ → Bool
 is_prefixed cs = is_name (before_first is_colon cs) && is_name (after_first is_colon cs)
 
+-- 3.9.3.1: the name of a new element; the profile refuses one with a prefix
 abbrev pub element_name : Text → Judged Text
 element_name t =
     if is_name (chars t) then Ok t
     else if is_prefixed (chars t) then Err ProfPrefix
     else Err XQDY0074
 
+-- the name of a new node of that kind: no attribute is named `xmlns`, and no processing
+-- instruction `xml` in any case
 abbrev pub judged_name : NamedNode → Text → Judged Text
 judged_name named.Element t = element_name t
 judged_name named.Attribute t = if text_eq t (codes "xmlns") then Err XQDY0044 else element_name t
@@ -54,12 +58,15 @@ name_of node_kind values = Err XPTY0004
 
 -- # Content of elements and documents: 3.9.1.3
 
+-- a node's kind, name and value put together
 abbrev pub label : Kind → Text → Text → Label
 label node_kind name value = record { kind = node_kind; name = name; value = value }
 
+-- what stands at a text node with that value
 abbrev pub text_label : Text → Label
 text_label t = label kind.Text [] t
 
+-- the kind of text nodes
 abbrev pub is_text : Kind → Bool
 is_text kind.Text = true
 is_text other = false
@@ -71,14 +78,17 @@ spaced values = joined (codes " ") (map text_of values)
 -- First the items as nodes: a run of atomic values is one text; a node is copied with all below it,
 -- and of a document its children are
 
+-- atomic values as one text node, and nothing for no values
 abbrev pub run : List Atomic → Forest Label
 run [] = end
 run (a ∷ as') = node (text_label (spaced (a ∷ as'))) end end
 
+-- what is copied of a tree, if its root counts as that kind: of a document what is below the root
 abbrev pub copied_as : Kind → Tree → Forest Label
 copied_as kind.Document t = t.below
 copied_as other t = nodes t
 
+-- what is copied of a tree: of a document what is below the root, of any other one all nodes
 abbrev pub copied : Tree → Forest Label
 copied t = copied_as t.root.kind t
 
@@ -89,6 +99,7 @@ flattened_after trees open_run (Atom a ∷ xs) = flattened_after trees (open_run
 flattened_after trees open_run (Node p ∷ xs) =
     join (run open_run) (join (copied (tree_below trees p)) (flattened_after trees [] xs))
 
+-- 3.9.1.3: the items of the content as nodes
 abbrev pub flattened : List Tree → List Item → Forest Label
 flattened trees xs = flattened_after trees [] xs
 
@@ -101,24 +112,29 @@ in_front a below (node b below_b beside) =
     if is_text a.kind && is_text b.kind then node (text_label (a.value ++ b.value)) end beside
     else node a below (node b below_b beside)
 
+-- the same nodes, with each run of adjacent texts at the top as one text
 abbrev pub merged : Forest Label → Forest Label
 merged end = end
 merged (node a below beside) = in_front a below (merged beside)
 
 -- Then empty texts are deleted
 
+-- a text node without a character
 abbrev pub is_empty_text : Label → Bool
 is_empty_text a = is_text a.kind && is_empty a.value
 
+-- a node in front of others, or the others alone where it is left out
 abbrev pub in_front_unless : Bool → Label → Forest Label → Forest Label → Forest Label
 in_front_unless true a below others = others
 in_front_unless false a below others = node a below others
 
+-- the same nodes without the empty texts at the top
 abbrev pub without_empty_texts : Forest Label → Forest Label
 without_empty_texts end = end
 without_empty_texts (node a below beside) =
     in_front_unless (is_empty_text a) a below (without_empty_texts beside)
 
+-- 3.9.1.3: the attributes and children that the items give, before they are judged
 abbrev pub content : List Tree → List Item → Forest Label
 content trees xs = without_empty_texts (merged (flattened trees xs))
 
@@ -131,10 +147,13 @@ attribute_fault parent names true name = Some XQTY0024
 attribute_fault parent names false name =
     if list_any (text_eq name) names then Some XQDY0025 else None
 
+-- the first code, or the other one where there is no first one
 abbrev pub or_else : Option Code → Option Code → Option Code
 or_else (Some code) other = Some code
 or_else None other = other
 
+-- the code for the first attribute here that may not stand, after attributes with these names, and
+-- perhaps after other nodes
 abbrev pub first_fault : Kind → List Text → Bool → List Label → Option Code
 first_fault parent names late [] = None
 first_fault parent names late (a ∷ labels) =
@@ -146,47 +165,58 @@ first_fault parent names late (a ∷ labels) =
 
 -- Last the limits: no level over 100, where the root has 0, and at most a million nodes
 
+-- the nodes stand on at most n levels
 abbrev pub is_within_height : {A : Type 0} → ℕ → Forest A → Bool
 is_within_height n end = true
 is_within_height zero (node a below beside) = false
 is_within_height (suc n) (node a below beside) =
     is_within_height n below && is_within_height (suc n) beside
 
+-- the tree, unless it has too many levels or too many nodes
 abbrev pub within_limits : Tree → Judged Tree
 within_limits t =
     if not (is_within_height most_levels (nodes t)) then Err ProfLevel
     else if not (nat_le (count (nodes t)) most_nodes) then Err ProfNodes
     else Ok t
 
+-- the code of a fault; where there is none, the tree within the limits
 abbrev pub unless_fault : Option Code → Tree → Judged Tree
 unless_fault (Some code) t = Err code
 unless_fault None t = within_limits t
 
+-- the tree with that root and that content, if no attribute and no limit refuses it
 abbrev pub built : Label → Forest Label → Judged Tree
 built root below =
     let whole : Tree = record { root = root; below = below } in
     unless_fault (first_fault root.kind [] false (tops below)) whole
 
+-- XQuery 3.1, 3.9.3.1: the new element with that name and content
 abbrev pub element_tree : Text → List Tree → List Item → Judged Tree
 element_tree name trees xs = built (label kind.Element name []) (content trees xs)
 
+-- XQuery 3.1, 3.9.3.3: the new document with that content
 abbrev pub document_tree : List Tree → List Item → Judged Tree
 document_tree trees xs = built (label kind.Document [] []) (content trees xs)
 
 -- # Content of the others: 3.9.3.2, 3.9.3.4, 3.9.3.5, 3.9.3.6
 
+-- a tree of one node
 abbrev pub lone : Kind → Text → Text → Tree
 lone node_kind name value = record { root = label node_kind name value; below = end }
 
+-- XQuery 3.1, 3.9.3.2: the new attribute with that name and value
 abbrev pub attribute_tree : Text → Text → Tree
 attribute_tree name value = lone kind.Attribute name value
 
+-- XQuery 3.1, 3.9.3.4: the new text node with that value
 abbrev pub text_tree : Text → Tree
 text_tree value = lone kind.Text [] value
 
+-- 3.9.3.6: there is no `--` in the value, and no `-` at its end
 abbrev pub may_be_comment : Text → Bool
 may_be_comment value = not (holds (codes "--") value) && not (ends_with_dash value)
 
+-- XQuery 3.1, 3.9.3.6: the new comment with that value
 abbrev pub comment_tree : Text → Judged Tree
 comment_tree value = only_if (may_be_comment value) XQDY0072 (lone kind.Comment [] value)
 
@@ -198,6 +228,7 @@ instruction_tree name value = do
 
 -- # The constructors, from a name that was judged and the value of the content
 
+-- the new element, attribute or processing instruction
 abbrev pub named_tree : NamedNode → Text → List Tree → List Item → Judged Tree
 named_tree named.Element name trees xs = element_tree name trees xs
 named_tree named.Attribute name trees xs = Ok (attribute_tree name (spaced (atomized trees xs)))
@@ -209,11 +240,13 @@ abbrev pub text_of_content : List Atomic → Option Tree
 text_of_content [] = None
 text_of_content (a ∷ as') = Some (text_tree (spaced (a ∷ as')))
 
+-- a tree that there is, or its refusal
 abbrev pub some_tree : Judged Tree → Judged (Option Tree)
 some_tree result = do
   t ← result
   Ok (Some t)
 
+-- the new document, text node or comment; an empty content gives no text node
 abbrev pub unnamed_tree : UnnamedNode → List Tree → List Item → Judged (Option Tree)
 unnamed_tree unnamed.Document trees xs = some_tree (document_tree trees xs)
 unnamed_tree unnamed.Text trees xs = Ok (text_of_content (atomized trees xs))

@@ -31,6 +31,7 @@ pub record Focus : Type 0 where
 
 -- # 14.6: documents, which are the first trees, in the order of their addresses
 
+-- a text that may be an address: its length, and each of its bytes
 abbrev pub is_address : Text → Bool
 is_address t = nat_lt 0 (length t)
     && (nat_le (length t) longest_address && list_all is_address_byte t)
@@ -44,18 +45,22 @@ document_from n (a ∷ as') address = if_at (text_eq a address) n (document_from
     if_at true number other = Ok (Node (root_of number) ∷ [])
     if_at false number other = other
 
+-- the root of the document at that address; what can't be an address is refused
 abbrev pub document : List Text → Text → Judged (List Item)
 document addresses address = do
   good ← only_if (is_address address) FODC0005 address
   document_from 0 addresses good
 
+-- F&O 3.1, 14.6.1: fn:doc, and () for ()
 abbrev pub doc : List Text → List Atomic → Judged (List Item)
 doc addresses = on_optional (λ a. do t ← text_argument a; document addresses t)
 
+-- a result, and no refusal
 abbrev pub is_found : Judged (List Item) → Bool
 is_found (Ok xs) = true
 is_found (Err code) = false
 
+-- there is a document at that address
 abbrev pub is_there : List Text → Text → Bool
 is_there addresses address = is_found (document addresses address)
 
@@ -65,11 +70,13 @@ doc_available addresses as' = do
   a ← optional as'
   if_given (boolean false) (λ b. do t ← text_argument b; Ok (boolean (is_there addresses t))) a
 
+-- F&O 3.1, 14.6.3: fn:collection without an argument, the roots of all documents
 abbrev pub collection : List Text → List Item
 collection addresses = map (λ n. Node (root_of n)) (range_with_len 0 (length addresses))
 
 -- # 13 and 2: nodes
 
+-- F&O 3.1, 13.6: fn:root, the root of the node's tree, and () for ()
 abbrev pub root : List Item → Judged (List Item)
 root = on_optional (λ x. do p ← node_argument x; Ok (Node (root_of p.tree) ∷ []))
 
@@ -79,10 +86,12 @@ name trees xs = do
   x ← optional xs
   if_given (text []) (λ y. do p ← node_argument y; Ok (text (label_at trees p).name)) x
 
+-- a node's string value, or an atomic value cast to a string
 abbrev pub item_text : List Tree → Item → Text
 item_text trees (Node p) = string_value (tree_below trees p)
 item_text trees (Atom a) = text_of a
 
+-- F&O 3.1, 2.3: fn:string, and the empty string for ()
 abbrev pub string : List Tree → List Item → Judged (List Item)
 string trees xs = do
   x ← optional xs
@@ -94,6 +103,7 @@ string trees xs = do
 abbrev pub piece : List Atomic → Judged Text
 piece as' = do a ← optional as'; if_given [] (λ b. Ok (text_of b)) a
 
+-- F&O 3.1, 5.4.1: fn:concat, where () counts as the empty string
 abbrev pub concat : List (List Atomic) → Judged (List Item)
 concat lists = do pieces ← each piece lists; Ok (text (joined [] pieces))
 
@@ -106,10 +116,12 @@ of_texts result as' bs = do
 
 -- # 14.1 and 14.2: sequences
 
+-- F&O 3.1, 14.1.3: fn:head, the first item
 abbrev pub head : List Item → List Item
 head [] = []
 head (x ∷ xs) = x ∷ []
 
+-- F&O 3.1, 14.1.4: fn:tail, all items but the first
 abbrev pub tail : List Item → List Item
 tail [] = []
 tail (x ∷ xs) = xs
@@ -118,26 +130,31 @@ tail (x ∷ xs) = xs
 abbrev pub distinct_values : List Atomic → List Atomic
 distinct_values = firsts (λ a b. key_eq (key a) (key b))
 
+-- F&O 3.1, 14.3.1: fn:zero-or-one, the items if there is at most one
 abbrev pub zero_or_one : List Item → Judged (List Item)
 zero_or_one (x ∷ y ∷ xs) = Err FORG0003
 zero_or_one xs = Ok xs
 
+-- F&O 3.1, 14.3.2: fn:one-or-more, the items if there are any
 abbrev pub one_or_more : List Item → Judged (List Item)
 one_or_more [] = Err FORG0004
 one_or_more xs = Ok xs
 
+-- F&O 3.1, 14.3.3: fn:exactly-one, the item if it is the only one
 abbrev pub exactly_one : List Item → Judged (List Item)
 exactly_one (x ∷ []) = Ok (x ∷ [])
 exactly_one xs = Err FORG0005
 
 -- # 14.4: aggregates
 
+-- a number; the standard casts an untyped value to a double
 abbrev pub summand : Atomic → Judged Atomic
 summand (Integer n) = Ok (Integer n)
 summand (Decimal m) = Ok (Decimal m)
 summand (Untyped t) = Err ProfDouble
 summand a = Err FORG0006
 
+-- the total with these values added, from the first to the last
 abbrev pub added : Atomic → List Atomic → Judged Atomic
 added total [] = Ok total
 added total (a ∷ as') = do next ← add total a; added next as'
@@ -153,6 +170,7 @@ abbrev pub comparable : Atomic → Atomic → Judged Atomic
 comparable first (Untyped t) = Err ProfDouble
 comparable first a = only_if (of_one_kind (key first) (key a)) FORG0006 a
 
+-- the first value where the test holds, else the second one
 abbrev pub chosen : Bool → Atomic → Atomic → Atomic
 chosen true a b = a
 chosen false a b = b
@@ -169,14 +187,17 @@ extreme better (a ∷ as') = do
   values ← each (comparable a) (a ∷ as')
   Ok (atomic (best better a as'))
 
+-- the first value is less, in the order of numbers, then strings, then false and true
 abbrev pub is_less : Atomic → Atomic → Bool
 is_less a b = is_lt (key_cmp (key a) (key b))
 
+-- the first value is greater, in that order
 abbrev pub is_greater : Atomic → Atomic → Bool
 is_greater a b = is_gt (key_cmp (key a) (key b))
 
 -- # All functions, by the number of their arguments; a call with another number is XPST0017
 
+-- a call with one argument
 abbrev pub of_one : Function → List Tree → List Text → List Item → Judged (List Item)
 of_one f.Doc trees addresses xs = doc addresses (atomized trees xs)
 of_one f.DocAvailable trees addresses xs = doc_available addresses (atomized trees xs)
@@ -231,15 +252,18 @@ context_argument f.StringLength trees x = Ok (text (item_text trees x))
 context_argument f.NormalizeSpace trees x = Ok (text (item_text trees x))
 context_argument function trees x = Err XPST0017
 
+-- what the focus gives; without one, XPDY0002
 abbrev pub of_focus : Option Focus → (Focus → Judged (List Item)) → Judged (List Item)
 of_focus None result = Err XPDY0002
 of_focus (Some focus) result = result focus
 
+-- a call without an argument that takes the context item as its argument
 abbrev pub of_context : Function → List Tree → List Text → Focus → Judged (List Item)
 of_context function trees addresses focus = do
   xs ← context_argument function trees focus.item
   of_one function trees addresses xs
 
+-- a call without an argument
 abbrev pub of_none : Function → List Tree → List Text → Option Focus → Judged (List Item)
 of_none f.Collection trees addresses focus = Ok (collection addresses)
 of_none f.True trees addresses focus = Ok (boolean true)
@@ -248,6 +272,7 @@ of_none f.Position trees addresses focus = of_focus focus (λ here. Ok (whole he
 of_none f.Last trees addresses focus = of_focus focus (λ here. Ok (whole here.last))
 of_none function trees addresses focus = of_focus focus (of_context function trees addresses)
 
+-- a call with two arguments, which are atomized
 abbrev pub of_two : Function → List Atomic → List Atomic → Judged (List Item)
 of_two f.Concat as' bs = concat (as' ∷ bs ∷ [])
 of_two f.StringJoin as' bs = do t ← one_text bs; Ok (text (joined t (map text_of as')))
@@ -260,6 +285,7 @@ of_two f.Substring as' bs =
     do t ← optional_text as'; n ← one_count bs; Ok (text (from_position n t))
 of_two function as' bs = Err XPST0017
 
+-- a call with three arguments, which are atomized
 abbrev pub of_three : Function → List Atomic → List Atomic → List Atomic → Judged (List Item)
 of_three f.Concat as' bs cs = concat (as' ∷ bs ∷ cs ∷ [])
 of_three f.Substring as' bs cs = do
@@ -269,6 +295,7 @@ of_three f.Substring as' bs cs = do
   Ok (text (between_positions n l t))
 of_three function as' bs cs = Err XPST0017
 
+-- a call with more arguments, which are atomized: fn:concat alone
 abbrev pub of_many : Function → List (List Atomic) → Judged (List Item)
 of_many f.Concat lists = concat lists
 of_many function lists = Err XPST0017

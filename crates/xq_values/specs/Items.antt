@@ -16,10 +16,12 @@ pub record Place : Type 0 where
   pub tree : ℕ
   pub path : List ℕ
 
+-- a node, by its place, or an atomic value
 pub data Item : Type 0 where
   Node : Place → Item
   Atom : Atomic → Item
 
+-- the node of that tree at that path
 abbrev pub place : ℕ → List ℕ → Place
 place tree path = record { tree = tree; path = path }
 
@@ -29,6 +31,7 @@ root_of tree = place tree (0 ∷ [])
 
 -- # Document order: XDM 3.1, 2.4
 
+-- the two are one node
 abbrev pub same_node : Place → Place → Bool
 same_node p q = p.tree == q.tree && is_same p.path q.path
 
@@ -51,6 +54,7 @@ abbrev pub places_from : ℕ → List Tree → List Place
 places_from n [] = []
 places_from n (t ∷ ts) = map (place n) (paths (nodes t)) ++ places_from (suc n) ts
 
+-- the node is in the list
 abbrev pub is_among : List Place → Place → Bool
 is_among places p = list_any (same_node p) places
 
@@ -60,9 +64,11 @@ in_document_order trees places = filter (is_among places) (places_from 0 trees)
 
 -- # Trees, labels and values of nodes
 
+-- the nodes of the tree with that number
 abbrev pub nodes_at : List Tree → ℕ → Forest Label
 nodes_at trees n = nodes (tree_at trees n)
 
+-- the kind, the name and the value of a node
 abbrev pub label_at : List Tree → Place → Label
 label_at trees p = label_in no_label (nodes_at trees p.tree) p.path
 
@@ -70,6 +76,7 @@ label_at trees p = label_in no_label (nodes_at trees p.tree) p.path
 abbrev pub tree_below : List Tree → Place → Tree
 tree_below trees p = subtree (tree_at trees p.tree) p.path
 
+-- a typed value as an atomic value
 abbrev pub atomic_value : TypedValue → Atomic
 atomic_value (string t) = String t
 atomic_value (untyped t) = Untyped t
@@ -79,5 +86,6 @@ abbrev pub atom_of : List Tree → Item → Atomic
 atom_of trees (Node p) = atomic_value (typed_value (tree_below trees p))
 atom_of trees (Atom a) = a
 
+-- XQuery 3.1, 2.4.2: each item atomized, in order
 abbrev pub atomized : List Tree → List Item → List Atomic
 atomized trees xs = map (atom_of trees) xs

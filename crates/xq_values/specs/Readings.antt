@@ -13,10 +13,12 @@ use Rattle.xq_values.specs.Items.{Place, place, Item, Node, Atom, nodes_at}
 abbrev pub node_at : List Tree → Spot → Place
 node_at trees n = place n.tree (path_at (nodes_at trees n.tree) n.pre)
 
+-- the item that an item of code stands for
 abbrev pub item_at : List Tree → ItemView → Item
 item_at trees (NodeAt n) = Node (node_at trees n)
 item_at trees (Value a) = Atom a
 
+-- the items that items of code stand for, in order
 abbrev pub items_at : List Tree → List ItemView → List Item
 items_at trees xs = map (item_at trees) xs
 
@@ -25,6 +27,7 @@ abbrev pub IsIn : List Tree → ItemView → Type 0
 IsIn trees (NodeAt n) = HasNode trees n.tree n.pre
 IsIn trees (Value a) = Unit {0}
 
+-- each node among the items is one of the trees
 abbrev pub AreIn : List Tree → List ItemView → Type 0
 AreIn trees xs = AllByRecursion (IsIn trees) xs
 

@@ -18,6 +18,7 @@ use Rattle.xq_values.specs.Functions.{Focus}
 
 -- # The focus: XQuery 3.1, 2.1.2
 
+-- the items, each with its position, from that one on, and with that last position
 abbrev pub focuses_from : ℕ → ℕ → List Item → List Focus
 focuses_from position last [] = []
 focuses_from position last (x ∷ xs) =
@@ -27,6 +28,7 @@ focuses_from position last (x ∷ xs) =
 abbrev pub focuses : List Item → List Focus
 focuses xs = focuses_from 1 (length xs) xs
 
+-- XQuery 3.1, 3.1.4: the context item; without a focus, XPDY0002
 abbrev pub context_item : Option Focus → Judged (List Item)
 context_item None = Err XPDY0002
 context_item (Some focus) = Ok (focus.item ∷ [])
@@ -38,10 +40,12 @@ context_node (Some focus) = node_or XPTY0020 focus.item
 
 -- # 3.3.2.2: node tests
 
+-- the name is the wanted one, or none is wanted
 abbrev pub has_name : Option Text → Text → Bool
 has_name None name = true
 has_name (Some wanted) name = text_eq wanted name
 
+-- XQuery 3.1, 3.3.2.2: a node of that kind and with that name passes the test
 abbrev pub passes : Test → Kind → Text → Bool
 passes test.Any node_kind name = true
 passes test.Text kind.Text name = true
@@ -52,6 +56,7 @@ passes (test.Element wanted) kind.Element name = has_name wanted name
 passes (test.Attribute wanted) kind.Attribute name = has_name wanted name
 passes other node_kind name = false
 
+-- the node passes the test
 abbrev pub passes_at : List Tree → Test → Place → Bool
 passes_at trees node_test p = passes node_test (label_at trees p).kind (label_at trees p).name
 
@@ -68,6 +73,7 @@ abbrev pub axis_nodes : List Tree → Axis → Test → Place → List Place
 axis_nodes trees direction node_test p =
     filter (passes_at trees node_test) (on_axis_from trees direction p)
 
+-- XQuery 3.1, 3.3.2.1: the reverse axes
 abbrev pub is_reverse : Axis → Bool
 is_reverse axis.Parent = true
 is_reverse axis.Ancestor = true
@@ -82,10 +88,12 @@ in_axis_order direction xs = if is_reverse direction then reverse xs else xs
 
 -- # A leading /: the root, which has to be a document
 
+-- the kind of document nodes
 abbrev pub is_document : Kind → Bool
 is_document kind.Document = true
 is_document other = false
 
+-- the root of the node's tree; one that is no document is refused
 abbrev pub document_root : List Tree → Place → Judged (List Item)
 document_root trees p =
     if is_document (label_at trees (root_of p.tree)).kind then Ok (Node (root_of p.tree) ∷ [])

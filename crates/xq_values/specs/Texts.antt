@@ -18,6 +18,7 @@ joined separator (t ∷ u ∷ us) = t ++ separator ++ joined separator (u ∷ us
 abbrev pub begins : Text → Text → Bool
 begins word t = starts_by nat_eq t word
 
+-- F&O 3.1, 5.5.3: the text ends with the word
 abbrev pub ends : Text → Text → Bool
 ends word t = ends_by nat_eq t word
 
@@ -33,6 +34,7 @@ abbrev pub pieces_of : Text → Text × List Text
 pieces_of [] = ([], [])
 pieces_of (c ∷ cs) = cut_at (is_space c) c (pieces_of cs)
 
+-- the pieces between white space that are not empty
 abbrev pub words : Text → List Text
 words t = filter (λ piece. not (is_empty piece)) ((pieces_of t).0 ∷ (pieces_of t).1)
 
@@ -46,14 +48,17 @@ normalized t = joined (codes " ") (words t)
 abbrev pub character_count : Text → ℕ
 character_count t = length (chars t)
 
+-- a character in front of others where the test holds, else the others alone
 abbrev pub in_front_if : Bool → ℕ → List ℕ → List ℕ
 in_front_if true c cs = c ∷ cs
 in_front_if false c cs = cs
 
+-- the characters at positions that are kept, where the first one has position p
 abbrev pub characters_where : (ℤ → Bool) → ℕ → List ℕ → List ℕ
 characters_where keep p [] = []
 characters_where keep p (c ∷ cs) = in_front_if (keep (pos p)) c (characters_where keep (suc p) cs)
 
+-- the characters of a text at the positions that are kept
 abbrev pub text_where : (ℤ → Bool) → Text → Text
 text_where keep t = encode_utf8_all (characters_where keep 1 (chars t))
 
@@ -61,6 +66,7 @@ text_where keep t = encode_utf8_all (characters_where keep 1 (chars t))
 abbrev pub from_position : ℤ → Text → Text
 from_position n t = text_where (λ p. int_le n p) t
 
+-- 5.4.3: the characters at positions from n on and below n + l
 abbrev pub between_positions : ℤ → ℤ → Text → Text
 between_positions n l t = text_where (λ p. int_le n p && int_lt p (n +ℤ l)) t
 
@@ -77,9 +83,12 @@ after_first word [] = []
 after_first word (c ∷ cs) =
     if begins word (c ∷ cs) then drop (length word) (c ∷ cs) else after_first word cs
 
+-- F&O 3.1, 5.5.4: what is before the first place of the word, or nothing where it has none
 abbrev pub substring_before : Text → Text → Text
 substring_before t word = if holds word t then before_first word t else []
 
+-- F&O 3.1, 5.5.5: what is after the first place of the word, or nothing where it has none;
+-- for the empty word all of the text
 abbrev pub substring_after : Text → Text → Text
 substring_after t [] = t
 substring_after t (w ∷ ws) = after_first (w ∷ ws) t
