@@ -14,6 +14,7 @@ pub data Lex : Type 0 where
   str : List ℕ → Lex
   symbol : Symbol → Lex
 
+-- what a token of the program is
 abbrev pub lex_of : Lexeme → Lex
 lex_of (Name n) = name (string_bytes n)
 lex_of (Prefixed p n) = prefixed (string_bytes p) (string_bytes n)
@@ -22,6 +23,7 @@ lex_of (Dec m) = dec m
 lex_of (Str s) = str (string_bytes s)
 lex_of (Sym s) = symbol s
 
+-- what each of the tokens is, without its place
 abbrev pub lexemes : List Token → List Lex
 lexemes ts = map (λ t. lex_of t.lexeme) ts
 
@@ -31,8 +33,10 @@ pub record Placed : Type 0 where
   pub start : ℕ
   pub end : ℕ
 
+-- a token of the program, with its place
 abbrev pub place_of : Token → Placed
 place_of t = record { lex = lex_of t.lexeme; start = t.start; end = t.end }
 
+-- each of the tokens, with its place
 abbrev pub placed : List Token → List Placed
 placed ts = map place_of ts

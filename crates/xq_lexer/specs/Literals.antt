@@ -15,6 +15,7 @@ pub data Number : Type 0 where
   integer : Text → Number
   decimal : Text → Text → Number
 
+-- A.2.1, IntegerLiteral and DecimalLiteral: how a number is spelled
 abbrev pub number_text : Number → Text
 number_text (integer w) = w
 number_text (decimal w f) = w ++ 46 ∷ f
@@ -51,10 +52,12 @@ abbrev pub value_fault : Number → Option Code
 value_fault (integer w) = code_of (integer_literal w)
 value_fault (decimal w f) = code_of (decimal_literal (w ++ 46 ∷ f))
 
+-- the first fault of the two, if there is one
 abbrev pub first_fault : Option Code → Option Code → Option Code
 first_fault (Some c) other = Some c
 first_fault None other = other
 
+-- the fault of a number by what follows it, or else by its value, if there is one
 abbrev pub number_fault : Number → Text → Option Code
 number_fault n after = first_fault (follow_fault after) (value_fault n)
 
@@ -80,11 +83,13 @@ reference_text apostrophe = codes "apos;"
 reference_text (numbered w) = 35 ∷ w ++ 59 ∷ []
 reference_text (hexadecimal w) = 35 ∷ 120 ∷ w ++ 59 ∷ []
 
+-- A.2.1, CharRef: the digits are those of the base, and there is one at least
 abbrev pub IsReference : Reference → Type 0
 IsReference (numbered w) = (list_all is_digit w ≡ true) × (0 < length w)
 IsReference (hexadecimal w) = (list_all is_hex w ≡ true) × (0 < length w)
 IsReference _ = Unit {0}
 
+-- the value of a digit of base 16
 abbrev pub hex_digit : ℕ → ℕ
 hex_digit c = if is_digit c then c - 48 else (if within 65 70 c then c - 55 else c - 87)
 
@@ -112,27 +117,33 @@ pub data Piece : Type 0 where
 abbrev pub is_plain : ℕ → ℕ → Bool
 is_plain quote c = not (c == quote) && not (c == 38) && is_char c
 
+-- A.2.1, StringLiteral: the piece may stand in a string with this quote
 abbrev pub IsPiece : ℕ → Piece → Type 0
 IsPiece quote (plain c) = is_plain quote c ≡ true
 IsPiece quote doubled = Unit {0}
 IsPiece quote (reference r) = IsReference r × (is_char (referred r) ≡ true)
 
+-- each of the pieces may stand there
 abbrev pub ArePieces : ℕ → List Piece → Type 0
 ArePieces quote [] = Unit {0}
 ArePieces quote (p ∷ ps) = IsPiece quote p × ArePieces quote ps
 
+-- how a piece is spelled in a string with this quote
 abbrev pub piece_text : ℕ → Piece → Text
 piece_text quote (plain c) = c ∷ []
 piece_text quote doubled = quote ∷ quote ∷ []
 piece_text quote (reference r) = 38 ∷ reference_text r
 
+-- the character that a piece stands for
 abbrev pub piece_char : ℕ → Piece → ℕ
 piece_char quote (plain c) = c
 piece_char quote doubled = quote
 piece_char quote (reference r) = referred r
 
+-- how the pieces are spelled, one after another
 abbrev pub content_text : ℕ → List Piece → Text
 content_text quote ps = flat_map (piece_text quote) ps
 
+-- the characters that the pieces stand for
 abbrev pub content_chars : ℕ → List Piece → Text
 content_chars quote ps = map (piece_char quote) ps

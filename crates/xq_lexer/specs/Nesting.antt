@@ -22,6 +22,7 @@ name_change word (symbol s.OpenParenthesis ∷ rest) = if bytes_eq word (codes "
     else keeps
 name_change word _ = keeps
 
+-- what a symbol does: brackets open and close, and any other symbol keeps the number
 abbrev pub symbol_change : Symbol → Change
 symbol_change s.OpenParenthesis = opens
 symbol_change s.OpenBracket = opens
@@ -51,6 +52,7 @@ greatest k saved [] = k
 greatest k saved (t ∷ rest) = let next = changed (change t rest) k saved in max k
     (greatest next.0 next.1 rest)
 
+-- how deep the tokens nest
 abbrev pub nesting : List Lex → ℕ
 nesting = greatest 0 []
 

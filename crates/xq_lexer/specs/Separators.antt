@@ -8,6 +8,7 @@ use Rattle.xq_lexer.specs.Chars.{Text}
 abbrev pub opens : ℕ → ℕ → Bool
 opens a b = a == 40 && b == 58
 
+-- the two characters are `:)`
 abbrev pub closes : ℕ → ℕ → Bool
 closes a b = a == 58 && b == 41
 

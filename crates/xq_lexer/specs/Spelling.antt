@@ -12,6 +12,7 @@ use Rattle.xq_lexer.specs.Chars.{Text, is_quote, begins}
 use Rattle.xq_lexer.specs.Separators.{skip}
 use Rattle.xq_lexer.specs.Literals.{Number, integer, decimal, number_text, IsNumber, number_fault, Piece, ArePieces, content_text, content_chars}
 
+-- how a symbol is spelled (XQuery 3.1, A.2.2: delimiting terminal symbols)
 abbrev pub symbol_text : Symbol → Text
 symbol_text s.OpenParenthesis = codes "("
 symbol_text s.CloseParenthesis = codes ")"
@@ -58,6 +59,7 @@ form_text (number n) = number_text n
 form_text (string quote ps) = quote ∷ content_text quote ps ++ quote ∷ []
 form_text (symbol s) = symbol_text s
 
+-- the text is a name of XML 1.0 without a colon
 abbrev pub IsName : Text → Type 0
 IsName w = is_name w ≡ true
 

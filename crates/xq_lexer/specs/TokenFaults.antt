@@ -59,6 +59,7 @@ pub record NoToken (z : Text) : Type 0 where
   pub no_string : begins is_quote z ≡ false
   pub no_form : (f : Form) (after : Text) → IsForm f → form_text f ++ after ≡ z → ⊥
 
+-- the number or the string that begins here is at fault, or no token begins here
 abbrev pub TokenFault : Text → Code → Type 0
 TokenFault z code = NumberFault z code ⊎ (StringFault z code ⊎ (NoToken z × (code ≡ XPST0003)))
 

@@ -7,22 +7,26 @@ use Rattle.xq_regions.specs.Node.{kind_at}
 use Rattle.xq_regions.specs.declared.Axis.{Axis}
 use Rattle.xq_regions.specs.declared.Axis.TheVariants.{Child, Descendant, DescendantOrSelf, SelfNode, Attributes, Parent, Ancestor, AncestorOrSelf, Following, FollowingSibling, Preceding, PrecedingSibling}
 
+-- the first path is a proper prefix of the second
 abbrev pub is_above : List ℕ → List ℕ → Bool
 is_above p [] = false
 is_above [] (j ∷ q) = true
 is_above (i ∷ p) (j ∷ q) = nat_eq i j && is_above p q
 
+-- the paths part, and the first goes to the left of the second
 abbrev pub is_left_of : List ℕ → List ℕ → Bool
 is_left_of [] q = false
 is_left_of (i ∷ p) [] = false
 is_left_of (i ∷ p) (j ∷ q) = nat_lt i j || (nat_eq i j && is_left_of p q)
 
+-- the paths are equal
 abbrev pub is_same : List ℕ → List ℕ → Bool
 is_same [] [] = true
 is_same [] (j ∷ q) = false
 is_same (i ∷ p) [] = false
 is_same (i ∷ p) (j ∷ q) = nat_eq i j && is_same p q
 
+-- neither path is empty, and they differ at most in their last step
 abbrev pub is_beside : List ℕ → List ℕ → Bool
 is_beside [] q = false
 is_beside (i ∷ p) [] = false
@@ -31,9 +35,11 @@ is_beside (i ∷ []) (j ∷ k ∷ q) = false
 is_beside (i ∷ k ∷ p) (j ∷ []) = false
 is_beside (i ∷ k ∷ p) (j ∷ l ∷ q) = nat_eq i j && is_beside (k ∷ p) (l ∷ q)
 
+-- no attribute is at the end of the path
 abbrev pub plain : Forest Label → List ℕ → Bool
 plain f w = not (is_attribute (kind_at f w))
 
+-- XQuery 3.1, 3.3.2.1: the node at w is on the axis from the node at v
 abbrev pub on_axis : Axis → Forest Label → List ℕ → List ℕ → Bool
 on_axis Child f v w = is_above v w && (nat_eq (length w) (suc (length v)) && plain f w)
 on_axis Descendant f v w = is_above v w && plain f w

@@ -17,6 +17,7 @@ kind_number Text = 3
 kind_number Comment = 4
 kind_number ProcessingInstruction = 5
 
+-- the kind with the number; each number from 5 on gives a processing instruction
 abbrev pub kind_from : ℕ → Kind
 kind_from zero = Document
 kind_from (suc zero) = Element
@@ -25,6 +26,7 @@ kind_from (suc (suc (suc zero))) = Text
 kind_from (suc (suc (suc (suc zero)))) = Comment
 kind_from (suc (suc (suc (suc (suc n))))) = ProcessingInstruction
 
+-- the number of a kind gives the kind back
 pub kind_from-kind_number : (k : Kind) → kind_from (kind_number k) ≡ k
 kind_from-kind_number Document = refl
 kind_from-kind_number Element = refl
@@ -33,9 +35,11 @@ kind_from-kind_number Text = refl
 kind_from-kind_number Comment = refl
 kind_from-kind_number ProcessingInstruction = refl
 
+-- kinds, told by their numbers
 abbrev pub kind_code : Coded Kind
 kind_code = code_by ℕ coded_ℕ kind_number kind_from kind_from-kind_number
 
+-- labels, told by their kinds, names and values
 abbrev pub label_code : Coded Label
 label_code =
     code_by (Kind × (List ℕ × List ℕ))
@@ -43,11 +47,13 @@ label_code =
     (λ l. (l.kind, (l.name, l.value))) (λ p. record { kind = p.0; name = p.1.0; value = p.1.1 })
     (λ _. refl)
 
+-- rows, told by their sizes, levels and labels
 abbrev pub row_code : Coded Row
 row_code =
     code_by (ℕ × (ℕ × Label)) (coded× coded_ℕ (coded× coded_ℕ label_code))
     (λ r. (r.size, (r.level, r.label))) (λ p. record { size = p.0; level = p.1.0; label = p.1.1 })
     (λ _. refl)
 
+-- trees, told by their rows
 abbrev pub tree_code : Coded Tree
 tree_code = code_by (List Row) (coded_list row_code) rows tree_of tree_of-rows

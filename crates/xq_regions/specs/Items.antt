@@ -11,9 +11,11 @@ pub data ItemView : Type 0 where
   Place : Node → ItemView
   Value : Atomic → ItemView
 
+-- what contracts see of an item
 abbrev pub item_view : Item → ItemView
 item_view (NodeItem node) = Place node
 item_view (AtomItem atom) = Value (atomic_of atom)
 
+-- what contracts see of the items of a list
 abbrev pub item_views : Vec Item → List ItemView
 item_views items = map item_view items.items

@@ -8,6 +8,7 @@ use Rattle.xq_regions.specs.declared.NodeRow.{NodeRow}
 abbrev pub flat : Row → ℕ × Label
 flat r = (r.level, r.label)
 
+-- the level and the label of a row that code holds
 abbrev pub flat_row : NodeRow → ℕ × Label
 flat_row r = flat (row_of r)
 

@@ -33,6 +33,7 @@ label_at other (node a below beside) (zero ∷ []) = a
 label_at other (node a below beside) (zero ∷ i ∷ path) = label_at other below (i ∷ path)
 label_at other (node a below beside) (suc i ∷ path) = label_at other beside (i ∷ path)
 
+-- the kind at the end of a path, or a document's where it leads nowhere
 abbrev pub kind_at : Forest Label → List ℕ → Kind
 kind_at f path = (label_at no_label f path).kind
 

@@ -33,6 +33,7 @@ IsBeside (i ∷ k ∷ p) (j ∷ l ∷ q) = (i ≡ j) × IsBeside (k ∷ p) (l �
 
 -- A node's place is the number of nodes before it in document order.
 
+-- the place of the node at the path
 abbrev pub place_of : {A : Type 0} → Forest A → List ℕ → ℕ
 place_of end path = 0
 place_of (node a below beside) [] = 0
@@ -44,6 +45,7 @@ place_of (node a below beside) (suc i ∷ path) = suc (count below + place_of be
 abbrev pub step_down : List ℕ → List ℕ
 step_down path = zero ∷ path
 
+-- the path with its first step one further to the right, where it has a step
 abbrev pub step_right : List ℕ → List ℕ
 step_right [] = []
 step_right (i ∷ path) = suc i ∷ path

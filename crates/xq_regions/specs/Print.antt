@@ -15,20 +15,24 @@ word Text = codes "text {"
 word Comment = codes "comment {"
 word ProcessingInstruction = codes "processing-instruction "
 
+-- the constructor of a node of the kind has a name
 abbrev pub is_named : Kind → Bool
 is_named Element = true
 is_named Attribute = true
 is_named ProcessingInstruction = true
 is_named kind = false
 
+-- the constructor of a node of the kind has the value of the node between its braces
 abbrev pub is_valued : Kind → Bool
 is_valued Document = false
 is_valued Element = false
 is_valued kind = true
 
+-- the name and the brace after it, where a node of the kind has a name
 abbrev pub heading : Kind → List ℕ → List ℕ
 heading kind name = if is_named kind then name ++ codes " {" else []
 
+-- the value as a string literal, where a node of the kind has one
 abbrev pub content : Kind → List ℕ → List ℕ
 content kind value = if is_valued kind then quoted value else []
 
@@ -36,6 +40,7 @@ content kind value = if is_valued kind then quoted value else []
 abbrev pub opening : Label → List ℕ
 opening a = word a.kind ++ (heading a.kind a.name ++ content a.kind a.value)
 
+-- what stands between two nodes side by side
 abbrev pub comma : List ℕ
 comma = codes ", "
 
@@ -45,5 +50,6 @@ listed before end = []
 listed before (node a below beside) = before
     ++ (opening a ++ (listed [] below ++ 125 ∷ listed comma beside))
 
+-- a tree as computed constructors (XQuery 3.1, 3.9.3)
 abbrev pub print : Tree → List ℕ
 print t = listed [] (nodes t)

@@ -17,6 +17,7 @@ ShareParent rs v p =
     (u : ℕ) × IsInside rs u v × IsInside rs u p
     × ((row_at rs v).level ≡ suc (row_at rs u).level) × ((row_at rs p).level ≡ (row_at rs v).level)
 
+-- the kind of the row at a place, or a document's where there is none
 abbrev pub kind_of_row : List Row → ℕ → Kind
 kind_of_row rs p = (row_at rs p).label.kind
 

@@ -21,9 +21,11 @@ measured level (node a below beside) =
     node (record { size = count below; level = level; label = a }) (measured (suc level) below)
     (measured level beside)
 
+-- XDM 3.1, 2.4: the nodes of a tree in document order, with their sizes and levels
 abbrev pub rows : Tree → List Row
 rows t = labels (measured 0 (nodes t))
 
+-- what stands for a row where there is none
 abbrev pub no_row : Row
 no_row = record { size = 0; level = 0; label = no_label }
 
@@ -33,6 +35,7 @@ row_at rs n = slice_index_or rs n no_row
 
 -- # The rows that code holds
 
+-- a row that code holds, without its place
 abbrev pub row_of : NodeRow → Row
 row_of r = record {
   size = r.size;
@@ -72,6 +75,7 @@ front zero f = end
 front (suc n) end = end
 front (suc n) (node a below beside) = node a below (front (n - count below) beside)
 
+-- the nodes at the top that are to the right of `front`
 abbrev pub back : {A : Type 0} → ℕ → Forest A → Forest A
 back zero f = f
 back (suc n) end = end

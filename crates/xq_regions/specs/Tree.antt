@@ -14,6 +14,7 @@ pub record Label : Type 0 where
   pub name : List ℕ
   pub value : List ℕ
 
+-- what stands for a label where there is no node
 abbrev pub no_label : Label
 no_label = record { kind = Document; name = []; value = [] }
 
@@ -22,11 +23,13 @@ pub record Tree : Type 0 where
   pub root : Label
   pub below : Forest Label
 
+-- the nodes of a tree, with the root alone at the top
 abbrev pub nodes : Tree → Forest Label
 nodes t = node t.root t.below end
 
 -- # What may stand where
 
+-- the kind is that of attributes
 abbrev pub is_attribute : Kind → Bool
 is_attribute Attribute = true
 is_attribute kind = false
@@ -48,6 +51,7 @@ may_follow Attribute second = true
 may_follow kind Attribute = false
 may_follow kind second = true
 
+-- a node of the kind may stand right before these, where there are any
 abbrev pub may_precede : Kind → List Label → Bool
 may_precede kind [] = true
 may_precede kind (next ∷ labels) = may_follow kind next.kind
@@ -88,9 +92,11 @@ IsText a = IsUtf8 a.name × IsUtf8 a.value
 abbrev pub most_levels : ℕ
 most_levels = 101
 
+-- the most nodes of a tree, attributes counted
 abbrev pub most_nodes : ℕ
 most_nodes = 1000000
 
+-- what a tree has to be: XDM 3.1, section 6, with the bounds on levels and nodes
 pub record IsTree (t : Tree) : Type 0 where
   pub texts : EachNode (λ a below. IsText a) (nodes t)
   pub legal : EachNode (λ a below. IsTrue (is_legal a.kind a.name a.value)) (nodes t)

@@ -49,15 +49,18 @@ module _ {X : Type 0} (atom : Atomic → X) where
 -- Keys of groups and orders (3.12.7 and 3.12.8): at most one atomic value, and an untyped one is
 -- taken as a string
 
+-- the values are at most one
 abbrev pub is_key : List Atomic → Bool
 is_key [] = true
 is_key (a ∷ []) = true
 is_key (a ∷ b ∷ more) = false
 
+-- an untyped value as a string, and any other as it is
 abbrev pub as_string : Atomic → Atomic
 as_string (Untyped t) = String t
 as_string a = a
 
+-- the first of the values, as a string where it is untyped, or none where there are none
 abbrev pub key_value : List Atomic → Option Atomic
 key_value [] = None
 key_value (a ∷ more) = Some (as_string a)
@@ -67,6 +70,7 @@ abbrev pub comparison_key : Option Atomic → Key
 comparison_key None = Nothing
 comparison_key (Some a) = key a
 
+-- what each of the keys is compared by
 abbrev pub comparison_keys : List (Option Atomic) → List Key
 comparison_keys keys = map comparison_key keys
 
@@ -102,6 +106,7 @@ abbrev pub slot_key : List ℕ → List (Option Atomic) → ℕ → Option (Opti
 slot_key slots keys slot = option_and_then (slice_get keys) (position (λ s. s == slot) slots)
 
 module _ {X : Type 0} (atom : Atomic → X) where
+  -- the items of a key: none, or its atomic value
   abbrev pub key_items : Option Atomic → List X
   key_items None = []
   key_items (Some a) = atom a ∷ []
@@ -134,6 +139,7 @@ pub record OrderRule : Type 0 where
   pub descending : Bool
   pub greatest : Bool
 
+-- the key is the empty one
 abbrev pub is_nothing : Key → Bool
 is_nothing Nothing = true
 is_nothing k = false
@@ -148,10 +154,12 @@ abbrev pub rule_cmp : OrderRule → Key → Key → Ordering
 rule_cmp rule j k = if rule.descending then placed_cmp rule.greatest k j
     else placed_cmp rule.greatest j k
 
+-- the first of the keys, or the empty key where there are none
 abbrev pub first_key : List Key → Key
 first_key [] = Nothing
 first_key (k ∷ ks) = k
 
+-- the keys after the first
 abbrev pub later_keys : List Key → List Key
 later_keys [] = []
 later_keys (k ∷ ks) = ks
@@ -178,6 +186,7 @@ are_of_one_kind [] = true
 are_of_one_kind (Nothing ∷ ks) = are_of_one_kind ks
 are_of_one_kind (k ∷ ks) = list_all (λ j. is_nothing j || of_one_kind k j) ks
 
+-- from the values of one specification, what each tuple is ordered by
 abbrev pub sort_keys : List (List Atomic) → List Key
 sort_keys column = map (λ values. comparison_key (key_value values)) column
 

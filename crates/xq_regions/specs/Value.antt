@@ -21,6 +21,7 @@ string_value_by Document value joined = joined
 string_value_by Element value joined = joined
 string_value_by kind value joined = value
 
+-- the string value of a tree's root (`dm:string-value`)
 abbrev pub string_value : Tree → List ℕ
 string_value t = string_value_by t.root.kind t.root.value (texts t.below)
 
@@ -29,6 +30,7 @@ pub data TypedValue : Type 0 where
   string : List ℕ → TypedValue
   untyped : List ℕ → TypedValue
 
+-- the typed value of a node of the kind, given its string value
 abbrev pub typed_by : Kind → List ℕ → TypedValue
 typed_by Comment text = string text
 typed_by ProcessingInstruction text = string text

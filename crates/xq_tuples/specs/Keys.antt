@@ -4,6 +4,7 @@ use Rattle.std.specs.Global.{Vec}
 use Rattle.xq_atoms.specs.declared.atoms.Atom.{Atom}
 use Rattle.xq_atoms.specs.Atom.{Atomic, atomic_of}
 
+-- the atomic values of atoms that code holds
 abbrev pub atomics_of : Vec Atom → List Atomic
 atomics_of values = map atomic_of values.items
 

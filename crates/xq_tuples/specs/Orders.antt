@@ -2,5 +2,6 @@
 use Rattle.xq_regions.specs.Tuples.{OrderRule}
 use Rattle.xq_tuples.specs.declared.rows.OrderSpec.{OrderSpec}
 
+-- how a specification of the program orders
 abbrev pub rule_of : OrderSpec → OrderRule
 rule_of spec = record { descending = spec.descending; greatest = spec.greatest }

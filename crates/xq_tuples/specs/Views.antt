@@ -10,5 +10,6 @@ use Rattle.xq_regions.specs.Tuples.{Tuple}
 abbrev pub values_of : List (Rc (Vec Item) Global) → Tuple ItemView
 values_of slots = map (λ slot. item_views slot.value) slots
 
+-- the values of a tuple of the program, slot by slot
 abbrev pub tuple_of : Vec (Rc (Vec Item) Global) → Tuple ItemView
 tuple_of slots = values_of slots.items
