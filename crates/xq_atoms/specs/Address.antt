@@ -6,9 +6,11 @@ use Rattle.xq_characters.specs.Characters.{within, is_digit}
 abbrev pub longest_address : ℕ
 longest_address = 200
 
+-- A-Z
 abbrev pub is_upper : ℕ → Bool
 is_upper byte = within 65 90 byte
 
+-- a-z
 abbrev pub is_lower : ℕ → Bool
 is_lower byte = within 97 122 byte
 
@@ -18,6 +20,7 @@ is_address_byte byte =
     is_upper byte || is_lower byte || is_digit byte || byte == 46 || byte == 95 || byte == 47
     || byte == 45
 
+-- an address: 1 to 200 bytes, each of them one that may stand in it
 abbrev pub IsAddress : List ℕ → Type 0
 IsAddress bytes = (0 < length bytes) × (length bytes ≤ longest_address)
     × All (λ byte. IsTrue (is_address_byte byte)) bytes

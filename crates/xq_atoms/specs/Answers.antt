@@ -22,6 +22,7 @@ GivesOr tells view judged (Err fault) = IsRefusalOr tells judged fault
 abbrev pub IsRefusal : {Y : Type 0} → Judged Y → Fault → Type 0
 IsRefusal judged fault = IsRefusalOr (λ want. want ≡ Memory) judged fault
 
+-- the value or the code that is judged; nothing but memory is wanting
 abbrev pub Gives : {X Y : Type 0} → (X → Y) → Judged Y → Result X Fault → Type 0
 Gives view judged result = GivesOr (λ want. want ≡ Memory) view judged result
 

@@ -11,6 +11,7 @@ pub data Operands : Type 0 where
   Integers : ℤ → ℤ → Operands
   Decimals : ℤ → ℤ → Operands
 
+-- two numbers as operands; what is no number is refused
 abbrev pub beside : Atomic → Atomic → Judged Operands
 beside (Integer m) (Integer n) = Ok (Integers m n)
 beside (Integer m) (Decimal n) = Ok (Decimals (in_millionths m) n)
@@ -25,18 +26,23 @@ operands a b = do
   y ← numeric b
   beside x y
 
+-- the first operation on two integers, the second one on two numbers in millionths
 abbrev pub on_operands : (ℤ → ℤ → Judged Atomic) → (ℤ → ℤ → Judged Atomic) → Operands
     → Judged Atomic
 on_operands integers decimals (Integers m n) = integers m n
 on_operands integers decimals (Decimals m n) = decimals m n
 
+-- XQuery 3.1, 3.5: an operator on two atomic values, by its operations on integers and on
+-- millionths
 abbrev pub arithmetic : (ℤ → ℤ → Judged Atomic) → (ℤ → ℤ → Judged Atomic) → Atomic → Atomic
     → Judged Atomic
 arithmetic integers decimals a b = operands a b >>= on_operands integers decimals
 
+-- the number is zero
 abbrev pub is_zero : ℤ → Bool
 is_zero n = int_eq n (pos 0)
 
+-- F&O 3.1, 4.2.4 to 4.2.6: a result, unless the divisor is zero
 abbrev pub unless_zero : ℤ → Judged Atomic → Judged Atomic
 unless_zero n result = if is_zero n then Err FOAR0001 else result
 
@@ -79,6 +85,7 @@ on_number integers decimals (Integer n) = integer (integers n)
 on_number integers decimals (Decimal m) = decimal (decimals m)
 on_number integers decimals a = Err XPTY0004
 
+-- an operation on one atomic value, by what it does to an integer and to millionths
 abbrev pub on_one : (ℤ → ℤ) → (ℤ → ℤ) → Atomic → Judged Atomic
 on_one integers decimals a = numeric a >>= on_number integers decimals
 

@@ -24,6 +24,7 @@ atomic_of (Str s) = String (string_bytes s)
 atomic_of (Truth b) = Boolean b
 atomic_of (UntypedText s) = Untyped (string_bytes s)
 
+-- what a result of the program judges: the value of its atom, or its code
 abbrev pub judged_of : Result Atom Code → Judged Atomic
 judged_of (Ok a) = Ok (atomic_of a)
 judged_of (Err code) = Err code
@@ -36,6 +37,7 @@ is_integer n = int_le (neg_ℤ (pos (2 ^ 63))) n && int_lt n (pos (2 ^ 63))
 abbrev pub integer : ℤ → Judged Atomic
 integer n = only_if (is_integer n) FOAR0002 (Integer n)
 
+-- a decimal of so many millionths; out of range it is refused
 abbrev pub decimal : ℤ → Judged Atomic
 decimal m = only_if (is_decimal m) FOAR0002 (Decimal m)
 

@@ -38,12 +38,14 @@ decimal_of_text t =
     else if nat_lt 6 (length (fraction (after_sign t))) then Err FOCA0006
     else only_if (is_decimal m) FOCA0001 (Decimal m)
 
+-- true, 1, false or 0
 abbrev pub boolean_of_text : Text → Judged Atomic
 boolean_of_text t =
     if text_eq t (codes "true") || text_eq t (codes "1") then Ok (Boolean true)
     else if text_eq t (codes "false") || text_eq t (codes "0") then Ok (Boolean false)
     else Err FORG0001
 
+-- a boolean as a number: true is one, false is zero
 abbrev pub one_or_zero : Bool → ℤ
 one_or_zero b = if b then pos 1 else pos 0
 
@@ -79,6 +81,7 @@ six_digits n = replicate (6 - length (digits n)) 48 ++ digits n
 abbrev pub fraction_text : ℕ → Text
 fraction_text n = without_trailing_zeros (six_digits (n % 1000000))
 
+-- a minus for a number below zero, nothing for another
 abbrev pub sign_text : ℤ → Text
 sign_text n = if int_lt n (pos 0) then codes "-" else []
 
@@ -95,6 +98,7 @@ pointed (c ∷ cs) = codes "." ++ (c ∷ cs)
 abbrev pub decimal_text : ℤ → Text
 decimal_text m = whole_text m ++ pointed (fraction_text (nat_abs m))
 
+-- 19.1.2: an atomic value, cast to a string
 abbrev pub text_of : Atomic → Text
 text_of (Integer n) = signed_decimal n
 text_of (Decimal m) = decimal_text m

@@ -5,6 +5,7 @@ use Rattle.xq_atoms.specs.declared.refusals.Code.TheVariants.{XPST0003, XPST0008
 use Rattle.xq_atoms.specs.declared.refusals.Want.{Want}
 use Rattle.xq_atoms.specs.declared.refusals.Want.TheVariants.{Memory, Store}
 
+-- a code: a standard's by its name there, one of the profile after `prof:`
 abbrev pub code_text : Code → List ℕ
 code_text XPST0003 = codes "XPST0003"
 code_text XPST0008 = codes "XPST0008"
@@ -54,6 +55,7 @@ code_text ProfAddress = codes "prof:ADDRESS"
 code_text ProfAbsent = codes "prof:ABSENT"
 code_text ProfNotdoc = codes "prof:NOTDOC"
 
+-- what is wanting
 abbrev pub want_text : Want → List ℕ
 want_text Memory = codes "memory"
 want_text Store = codes "store"

@@ -22,6 +22,7 @@ pub data Key : Type 0 where
   Characters : Text → Key
   Truth : Bool → Key
 
+-- what an atomic value is compared by
 abbrev pub key : Atomic → Key
 key (Integer n) = Number (in_millionths n)
 key (Decimal m) = Number m
@@ -63,12 +64,14 @@ key_cmp (Characters s) k = Greater
 key_cmp (Truth p) (Truth q) = bool_cmp p q
 key_cmp (Truth p) k = Greater
 
+-- two numbers, two strings or two booleans
 abbrev pub of_one_kind : Key → Key → Bool
 of_one_kind (Number m) (Number n) = true
 of_one_kind (Characters s) (Characters t) = true
 of_one_kind (Truth p) (Truth q) = true
 of_one_kind j k = false
 
+-- an operator holds of two values that are in this order
 abbrev pub holds : CompOp → Ordering → Bool
 holds Eq o = is_eq o
 holds Ne o = not (is_eq o)
@@ -90,6 +93,7 @@ beside (Untyped t) (Integer n) = Err ProfDouble
 beside (Untyped t) (Decimal m) = Err ProfDouble
 beside a b = Ok a
 
+-- XQuery 3.1, 3.7.2: of one value with one other; the left operand is judged first
 abbrev pub compare_general : CompOp → Atomic → Atomic → Judged Bool
 compare_general op a b = do
   x ← beside a b

@@ -2,10 +2,12 @@
 use Rattle.std.specs.Prelude.{Result, Ok, Err, Bool, if◌then◌else◌}
 use Rattle.xq_atoms.specs.declared.refusals.Code.{Code}
 
+-- a value, or the code by which it is refused
 abbrev pub Judged : Type 0 → Type 0
 Judged A = Result A Code
 
 infixl 10 ◌>>=◌
+-- what comes next, judged with the value; a code stays as it is
 abbrev pub ◌>>=◌ : {A B : Type 0} → Judged A → (A → Judged B) → Judged B
 Ok x >>= next = next x
 Err code >>= next = Err code

@@ -13,6 +13,7 @@ quoted_character c =
     if c == 34 then codes "\"\"" else if c == 38 then codes "&amp;" else if c == 13
     then codes "&#xD;" else c ∷ []
 
+-- a text as it stands between the quotes of a string literal
 abbrev pub escaped : Text → Text
 escaped t = flat_map quoted_character t
 
@@ -31,9 +32,11 @@ abbrev pub at_least_zero : Text → Text
 at_least_zero [] = codes "0"
 at_least_zero (c ∷ cs) = c ∷ cs
 
+-- a decimal with its point, after a minus where it is below zero
 abbrev pub print_decimal : ℤ → Text
 print_decimal m = whole_text m ++ codes "." ++ at_least_zero (fraction_text (nat_abs m))
 
+-- an atomic value, as a query writes it
 abbrev pub print_atomic : Atomic → Text
 print_atomic (Integer n) = print_integer n
 print_atomic (Decimal m) = print_decimal m

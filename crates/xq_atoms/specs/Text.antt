@@ -7,6 +7,7 @@ use Rattle.std.specs.Cmp.Lexicographic.{slice_cmp}
 use Rattle.std.specs.List.{list_all}
 use Rattle.xq_characters.specs.Characters.{is_digit}
 
+-- a text, by its bytes
 abbrev pub Text : Type 0
 Text = List ℕ
 
@@ -16,9 +17,11 @@ Text = List ℕ
 abbrev pub text_eq : Text → Text → Bool
 text_eq = bytes_eq
 
+-- F&O 3.1, 5.3.6: the order of two texts, which is that of their bytes
 abbrev pub text_cmp : Text → Text → Ordering
 text_cmp = slice_cmp nat_cmp
 
+-- the text has no byte
 abbrev pub is_empty : Text → Bool
 is_empty [] = true
 is_empty (c ∷ cs) = false
@@ -36,5 +39,6 @@ abbrev pub value_after : ℕ → Text → ℕ
 value_after n [] = n
 value_after n (c ∷ cs) = value_after (n * 10 + (c - 48)) cs
 
+-- the number that digits write, 0 where there are none
 abbrev pub value : Text → ℕ
 value cs = value_after 0 cs

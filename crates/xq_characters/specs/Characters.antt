@@ -3,6 +3,7 @@
 use Rattle.std.specs.Prelude.{ℕ, Bool, false, ◌&&◌, ◌||◌, ◌==◌, nat_le, List, [], ◌∷◌}
 use Rattle.std.specs.List.{list_all}
 
+-- from the first number to the second, both included
 abbrev pub within : ℕ → ℕ → ℕ → Bool
 within low high c = nat_le low c && nat_le c high
 
@@ -16,6 +17,7 @@ is_char c =
 abbrev pub is_space : ℕ → Bool
 is_space c = c == 0x20 || c == 0x9 || c == 0xD || c == 0xA
 
+-- a digit, from 0 to 9
 abbrev pub is_digit : ℕ → Bool
 is_digit c = within 48 57 c
 

@@ -9,15 +9,19 @@ use Rattle.xq_signatures.specs.declared.Function.TheVariants as f
 
 -- ---- how many arguments
 
+-- from the first number of arguments to the second
 abbrev pub between : ℕ → ℕ → Arity
 between least greatest = record { least = least; greatest = Some greatest }
 
+-- so many arguments, no more and no fewer
 abbrev pub exactly : ℕ → Arity
 exactly count = between count count
 
+-- so many arguments or more
 abbrev pub at_least : ℕ → Arity
 at_least least = record { least = least; greatest = None }
 
+-- the number isn't above the greatest one, if there is a greatest
 abbrev pub is_within : ℕ → Option ℕ → Bool
 is_within count None = true
 is_within count (Some greatest) = nat_le count greatest
@@ -32,6 +36,7 @@ admits arity count = nat_le arity.least count && is_within count arity.greatest
 abbrev pub Signature : Type 0
 Signature = Text × Arity
 
+-- the line of the table for each function
 abbrev pub signature : Function → Signature
 signature f.Doc = (codes "doc", exactly 1)
 signature f.DocAvailable = (codes "doc-available", exactly 1)
@@ -80,9 +85,11 @@ signature f.ToString = (codes "string", exactly 1)
 signature f.ToBoolean = (codes "boolean", exactly 1)
 signature f.ToUntyped = (codes "untypedAtomic", exactly 1)
 
+-- a function's local name
 abbrev pub name : Function → Text
 name function = (signature function).0
 
+-- how many arguments a function takes
 abbrev pub arity : Function → Arity
 arity function = (signature function).1
 
@@ -103,12 +110,15 @@ library =
 abbrev pub constructors : List Function
 constructors = f.ToInteger ∷ f.ToDecimal ∷ f.ToString ∷ f.ToBoolean ∷ f.ToUntyped ∷ []
 
+-- the first of these functions that has this local name, if there is one
 abbrev pub named : List Function → Text → Option Function
 named functions local = find (λ function. text_eq (name function) local) functions
 
+-- the function of the library that has this local name, if there is one
 abbrev pub in_library : Text → Option Function
 in_library = named library
 
+-- the constructor of the type that has this local name, if there is one
 abbrev pub of_type : Text → Option Function
 of_type = named constructors
 

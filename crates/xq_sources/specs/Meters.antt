@@ -6,6 +6,7 @@ pub record Readings : Type 0 where
   pub rows : ℕ
   pub singles : ℕ
 
+-- what a meter shows before any row was given
 abbrev pub no_readings : Readings
 no_readings = record { rows = 0; singles = 0 }
 
@@ -17,9 +18,11 @@ greatest = 2 ^ 64 - 1
 abbrev pub counted : ℕ → ℕ → ℕ
 counted n more = min (n + more) greatest
 
+-- so many more rows were given by ranges
 abbrev pub with_rows : Readings → ℕ → Readings
 with_rows readings n = record { rows = counted readings.rows n; singles = readings.singles }
 
+-- so many more rows were given singly
 abbrev pub with_singles : Readings → ℕ → Readings
 with_singles readings n = record { rows = readings.rows; singles = counted readings.singles n }
 

@@ -8,6 +8,7 @@ use Rattle.xq_sources.specs.Meters.{Readings, with_rows, with_singles}
 
 -- # Trees and places
 
+-- a document with nothing below it, for a number that no tree has
 abbrev pub no_tree : Tree
 no_tree = record { root = no_label; below = end }
 
@@ -44,14 +45,17 @@ rows_enclosing t v = filter (encloses v) (placed_rows t)
 
 -- # Counting: each row that is given, and nothing where a call is refused
 
+-- the rows of a range, counted as such
 abbrev pub after_range : {Z E : Type 0} → Readings → Result (Vec NodeRow Z) E → Readings
 after_range readings (Ok found) = with_rows readings (vec_len found)
 after_range readings (Err want) = readings
 
+-- the rows of the nodes above a node, each counted singly
 abbrev pub after_enclosing : {Z E : Type 0} → Readings → Result (Vec NodeRow Z) E → Readings
 after_enclosing readings (Ok found) = with_singles readings (vec_len found)
 after_enclosing readings (Err want) = readings
 
+-- one row, counted singly
 abbrev pub after_row : {A E : Type 0} → Readings → Result A E → Readings
 after_row readings (Ok row) = with_singles readings 1
 after_row readings (Err want) = readings

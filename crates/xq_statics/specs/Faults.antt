@@ -9,9 +9,11 @@ use Rattle.xq_signatures.specs.declared.Function.{Function}
 use Rattle.xq_signatures.specs.Signatures.{arity, admits, in_library, of_type}
 use Rattle.xq_statics.specs.Places.{Place, named, position, variable, grouping, call}
 
+-- the name is one of these
 abbrev pub is_among : Text → List Text → Bool
 is_among name names = list_any (text_eq name) names
 
+-- no fault where the test holds, and else this code
 abbrev pub unless : Bool → Code → Option Code
 unless true code = None
 unless false code = Some code
@@ -35,12 +37,15 @@ abbrev pub type_fault : Option Function → ℕ → Option Code
 type_fault None count = Some ProfType
 type_fault (Some function) count = arity_fault (Some function) count
 
+-- a call with a bare name or `fn:` is one of the library, with `xs:` one of a type; other
+-- prefixes are refused
 abbrev pub call_fault : Option Text → Text → ℕ → Option Code
 call_fault None local count = arity_fault (in_library local) count
 call_fault (Some prefix) local count =
     if text_eq prefix (codes "fn") then arity_fault (in_library local) count
     else (if text_eq prefix (codes "xs") then type_fault (of_type local) count else Some ProfPrefix)
 
+-- XQuery 3.1, 2.2.3.1: the static fault of a place, if it has one
 abbrev pub fault_at : Place → Option Code
 fault_at (named name) = unprefixed name.prefix None
 fault_at (position name ranging) = unprefixed name.prefix (position_fault name.local ranging.local)

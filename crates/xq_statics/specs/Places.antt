@@ -4,6 +4,7 @@ use Rattle.std.specs.Prelude.{ℕ, List}
 use Rattle.xq_atoms.specs.Text.{Text}
 use Rattle.xq_expressions.specs.declared.names.QName.{QName}
 
+-- a place, by what stands there
 pub data Place : Type 0 where
   -- a name that is bound, tested, or given to a constructed node
   named : QName → Place

@@ -19,13 +19,16 @@ Places = List Text → List Place
 
 -- ---- parts of an expression, one after another
 
+-- the places of one part, and then those of a second one
 abbrev pub after : Places → Places → Places
 after first second names = first names ++ second names
 
+-- the places of all parts, from the first one on; in each the same variables are in scope
 abbrev pub each : List Places → Places
 each [] names = []
 each (part ∷ parts) names = part names ++ each parts names
 
+-- the same, of parts with an operator at each, which has no places
 abbrev pub with_operators : {A : Type 0} → List (A × Places) → Places
 with_operators operands = each (map (λ operand. operand.1) operands)
 
@@ -37,6 +40,7 @@ pub record Binding : Type 0 where
   pub places : List Text → List Text → List Place
   pub binds : List Text
 
+-- no places, and nothing bound
 abbrev pub nothing : Binding
 nothing = record { places = λ names bound. []; binds = [] }
 
@@ -48,6 +52,7 @@ then_binding first second = record {
   binds = first.binds ++ second.binds;
 }
 
+-- one after another: each sees what those before it bind
 abbrev pub in_turn : List Binding → Binding
 in_turn [] = nothing
 in_turn (first ∷ more) = then_binding first (in_turn more)
@@ -65,10 +70,12 @@ abbrev pub assigned : QName → Places → Binding
 assigned name part =
     record { places = λ names bound. named name ∷ part names; binds = name.local ∷ [] }
 
+-- the place of `at $p`, if it stands there
 abbrev pub position_places : QName → Option QName → List Place
 position_places name None = []
 position_places name (Some at) = position at name ∷ []
 
+-- the variable that `at $p` binds, if it stands there
 abbrev pub position_names : Option QName → List Text
 position_names None = []
 position_names (Some at) = at.local ∷ []
@@ -86,12 +93,14 @@ grouped_by name = record { places = λ names bound. grouping name bound ∷ []; 
 
 -- ---- the forms
 
+-- the place of the name in a test of elements or attributes, if there is one
 abbrev pub test_places : NodeTest → List Place
 test_places (test.Named name) = named name ∷ []
 test_places (test.Element (Some name)) = named name ∷ []
 test_places (test.Attribute (Some name)) = named name ∷ []
 test_places _ = []
 
+-- a step along an axis has the places of its test, and `..` has none
 abbrev pub axis_places : AxisStep → List Place
 axis_places (axis_step.Along axis t) = test_places t
 axis_places (axis_step.Attribute t) = test_places t
@@ -102,6 +111,7 @@ axis_places (axis_step.Abbreviated t) = test_places t
 abbrev pub Layer : (Type 0 → Type 0 → Type 0 → Type 0 → Type 0 → Type 0) → Type 0
 Layer F = F Binding Places Places Binding Places
 
+-- the places of each form of expression, by those of its parts
 abbrev pub form_places : Layer Expr-F → Places
 form_places (Expr-F.Sequence parts) = each parts
 form_places (Expr-F.Flwor clauses part) = binding_for (in_turn clauses) part
@@ -130,10 +140,12 @@ form_places (Expr-F.Call name arguments) = λ names. call name (length arguments
 form_places (Expr-F.Named node name content) = after name content
 form_places (Expr-F.Unnamed node content) = content
 
+-- the place of a constructed node's name, or the places of the expression that computes it
 abbrev pub name_places : Layer ConstructorName-F → Places
 name_places (ConstructorName-F.Literal name) = λ names. named name ∷ []
 name_places (ConstructorName-F.Computed part) = part
 
+-- XQuery 3.1, 3.12: the places of each clause of a FLWOR, and what it binds
 abbrev pub clause_binding : Layer Clause-F → Binding
 clause_binding (Clause-F.For bindings) = in_turn (map (λ b. ranging b.0 b.1 b.2) bindings)
 clause_binding (Clause-F.Let bindings) = in_turn (map (λ b. assigned b.0 b.1) bindings)
@@ -141,10 +153,12 @@ clause_binding (Clause-F.Filter part) = binds_nothing part
 clause_binding (Clause-F.Group specs) = in_turn specs
 clause_binding (Clause-F.Order specs) = binds_nothing (each (map (λ s. s.0) specs))
 
+-- XQuery 3.1, 3.12.7: a grouping variable, alone or bound by `:=`
 abbrev pub group_binding : Layer GroupSpec-F → Binding
 group_binding (GroupSpec-F.«GroupSpec::Variable» name) = grouped_by name
 group_binding (GroupSpec-F.Assigned name part) = assigned name part
 
+-- the places of a step or of a primary expression, and then those of its predicates
 abbrev pub step_places : Layer Step-F → Places
 step_places (Step-F.Axis axis predicates) = λ names. axis_places axis ++ each predicates names
 step_places (Step-F.Primary part predicates) = after part (each predicates)
