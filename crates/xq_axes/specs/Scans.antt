@@ -37,5 +37,6 @@ region axis t vs = filter (λ p. list_any (λ v. in_scan axis (rows t) v p) vs)
 abbrev pub AreOf : ℕ → List Node → Type 0
 AreOf tree ns = AllByRecursion (λ n. n.tree ≡ tree) ns
 
+-- the places of these nodes, each in its tree
 abbrev pub places_of : List Node → List ℕ
 places_of ns = map (λ n. n.pre) ns

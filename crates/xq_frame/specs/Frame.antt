@@ -35,6 +35,7 @@ pub data Ending : Type 0 where
   too_long : Ending
   cut : Ending
 
+-- the rest of a stream that ends so
 abbrev pub EndsAs : Ending → List ℕ → Type 0
 EndsAs finished rest = rest ≡ []
 EndsAs too_long rest = IsTooLong rest

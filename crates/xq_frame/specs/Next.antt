@@ -18,6 +18,7 @@ pub record Starts (bytes : List ℕ) (found : Frame) (message : List ℕ) (rest 
   pub limit : IsMessage message
   pub same : IsFrameOf found message
 
+-- the bytes begin so: a whole frame, nothing, a cut frame, or a length over the limit
 abbrev pub Begins : List ℕ → Next → Type 0
 Begins bytes (Whole frame) = (message : List ℕ) × (rest : List ℕ) × Starts bytes frame message rest
 Begins bytes End = bytes ≡ []

@@ -4,6 +4,7 @@ use Rattle.std.specs.Int.{from_be_bytes, w32}
 use Rattle.xq_frame.specs.declared.requests.Request.{Request}
 use Rattle.xq_frame.specs.declared.requests.Request.TheVariants.{Query, Put, Remove, List as ListAll, Bad}
 
+-- a query, a document to store, one to drop, all addresses, or nothing that is a request
 pub data RequestMeaning : Type 0 where
   query : List ℕ → RequestMeaning
   put : List ℕ → List ℕ → RequestMeaning

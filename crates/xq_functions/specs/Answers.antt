@@ -12,6 +12,7 @@ use Rattle.xq_regions.specs.Tree.{Tree}
 use Rattle.xq_values.specs.Items.{Item}
 use Rattle.xq_values.specs.Readings.{items_at}
 
+-- the atomic values that code holds
 abbrev pub atomics : List Atom → List Atomic
 atomics atoms = map atomic_of atoms
 

@@ -7,6 +7,7 @@ use Rattle.xq_atoms.specs.Atom.{Integer, Decimal, String}
 use Rattle.xq_meaning.specs.Forms
 use Rattle.xq_meaning.specs.Meaning.{Meaning, ClauseMeaning, variable, bind, flwor, for_clause, let_clause, where_clause, group_clause, order_clause}
 
+-- a clause, from the meanings of its parts
 abbrev pub core_clause : CoreClause-F Meaning ClauseMeaning → ClauseMeaning
 core_clause (CoreClause-F.For v at part) = for_clause v at part
 core_clause (CoreClause-F.Let v part) = let_clause v part
@@ -14,6 +15,7 @@ core_clause (CoreClause-F.Where part) = where_clause part
 core_clause (CoreClause-F.Group vs) = group_clause vs
 core_clause (CoreClause-F.Order specs) = order_clause specs
 
+-- a form, from the meanings of its parts
 abbrev pub core_form : Core-F Meaning ClauseMeaning → Meaning
 core_form (Core-F.Int n) = Forms.literal (Integer n)
 core_form (Core-F.Dec m) = Forms.literal (Decimal m)
@@ -37,8 +39,10 @@ core_form (Core-F.If part yes' no') = Forms.conditional part yes' no'
 core_form (Core-F.Quantified which bindings part) =
     Forms.quantified which (map (λ (v, range). (bind v, range)) bindings) part
 
+-- the meaning of a normal form in a frame
 abbrev pub core_mean : Core → Meaning
 core_mean = fold-Core Meaning ClauseMeaning core_form core_clause
 
+-- and of a clause
 abbrev pub core_clause_mean : CoreClause → ClauseMeaning
 core_clause_mean = fold-CoreClause Meaning ClauseMeaning core_form core_clause

@@ -8,6 +8,7 @@ use Rattle.xq_regions.specs.Tree.{Tree}
 abbrev pub Outcome : Type 0 → Type 0
 Outcome A = Judged A × List Tree
 
+-- an evaluation: from the trees so far to a value or a code, and the trees then
 abbrev pub Doing : Type 0 → Type 0
 Doing A = List Tree → Outcome A
 
@@ -17,9 +18,11 @@ go_on (Ok x, trees) next = next x trees
 go_on (Err code, trees) next = (Err code, trees)
 
 infixl 10 ◌>>=◌
+-- one evaluation, and after its value the next, over the trees that it leaves
 abbrev pub ◌>>=◌ : {A B : Type 0} → Doing A → (A → Doing B) → Doing B
 (act >>= next) trees = go_on (act trees) next
 
+-- this value, which leaves the trees
 abbrev pub give : {A : Type 0} → A → Doing A
 give x trees = (Ok x, trees)
 
@@ -27,6 +30,7 @@ give x trees = (Ok x, trees)
 abbrev pub judged : {A : Type 0} → Judged A → Doing A
 judged result trees = (result, trees)
 
+-- a refusal with this code, which leaves the trees
 abbrev pub refuse : {A : Type 0} → Code → Doing A
 refuse code = judged (Err code)
 
@@ -43,6 +47,7 @@ in_turn act b (x ∷ xs) = do
   next ← act b x
   in_turn act next xs
 
+-- the results so far, and then the result of the next
 abbrev pub one_more : {A B : Type 0} → (A → Doing B) → List B → A → Doing (List B)
 one_more act done x = do
   y ← act x
@@ -52,6 +57,7 @@ one_more act done x = do
 abbrev pub for_each : {A B : Type 0} → (A → Doing B) → List A → Doing (List B)
 for_each act xs = in_turn (one_more act) [] xs
 
+-- the results so far, and then the results of the next
 abbrev pub more : {A B : Type 0} → (A → Doing (List B)) → List B → A → Doing (List B)
 more act done x = do
   ys ← act x

@@ -39,6 +39,7 @@ pub record Frame (E : Type 0) : Type 0 where
   pub focus : Option Focus
   pub addresses : List Text
 
+-- what a form means: in a frame, the evaluation of a sequence of items
 abbrev pub Meaning : Type 0 → Type 0
 Meaning E = Frame E → Doing (List Item)
 
@@ -46,10 +47,12 @@ Meaning E = Frame E → Doing (List Item)
 abbrev pub planted : Tree → Doing (List Item)
 planted tree trees = (Ok (Node (root_of (length trees)) ∷ []), trees ++ tree ∷ [])
 
+-- the same where there is a tree; else nothing is built, and it gives ()
 abbrev pub planted_if : Option Tree → Doing (List Item)
 planted_if None = give []
 planted_if (Some tree) = planted tree
 
+-- the element alone where it is kept, else none
 abbrev pub kept_if : {A : Type 0} → A → Bool → List A
 kept_if x keep = if keep then x ∷ [] else []
 
@@ -58,10 +61,12 @@ abbrev pub is_descending : Direction → Bool
 is_descending Ascending = false
 is_descending Descending = true
 
+-- whether an empty key counts as the greatest
 abbrev pub is_greatest : EmptyOrder → Bool
 is_greatest Least = false
 is_greatest Greatest = true
 
+-- the rule by which keys with this modifier are ordered
 abbrev pub rule_of : OrderModifier → OrderRule
 rule_of modifier =
     record { descending = is_descending modifier.direction; greatest = is_greatest modifier.empty }
@@ -86,9 +91,11 @@ abbrev pub Binding : Type 0 → Type 0
 Binding E = (E → List Item → E) × Meaning E
 
 module _ {E : Type 0} where
+  -- the frame with this focus instead of its own
   abbrev pub in_focus : Frame E → Focus → Frame E
   in_focus frame focus = record frame { focus = Some focus }
 
+  -- the frame with this environment instead of its own
   abbrev pub in_env : Frame E → E → Frame E
   in_env frame env = record frame { env = env }
 
@@ -132,6 +139,7 @@ module _ {E : Type 0} where
     ys ← part frame
     on_trees (λ trees. operated operator trees xs ys)
 
+  -- a first operand, and then each operator with its right operand, from left to right
   abbrev pub chain : Meaning E → List (Operator × Meaning E) → Meaning E
   chain first rest frame = do
     xs ← first frame
@@ -150,6 +158,7 @@ module _ {E : Type 0} where
     answer ← first_that true (λ part. tested part frame) parts
     give (boolean answer)
 
+  -- false at the first operand that is false, and true where there is none
   abbrev pub and : List (Meaning E) → Meaning E
   and parts frame = do
     answer ← first_that false (λ part. tested part frame) parts
@@ -161,6 +170,7 @@ module _ {E : Type 0} where
   chosen true yes' no' = yes'
   chosen false yes' no' = no'
 
+  -- if, then, else: by the effective boolean value of the test
   abbrev pub conditional : Meaning E → Meaning E → Meaning E → Meaning E
   conditional test yes' no' frame = do
     answer ← tested test frame
@@ -201,6 +211,7 @@ module _ {E : Type 0} where
     ys ← collected (λ focus. part (in_focus frame focus)) (focuses xs)
     on_trees (λ trees. gathered trees ys)
 
+  -- a path: from what a start gives, one part after another by `/`
   abbrev pub path : Meaning E → List (Meaning E) → Meaning E
   path start parts frame = do
     xs ← start frame
@@ -227,6 +238,7 @@ module _ {E : Type 0} where
     tree ← on_trees (λ trees. named_tree kind good trees xs)
     planted tree
 
+  -- a document, text or comment node; a text constructor may give ()
   abbrev pub unnamed_node : UnnamedNode → Meaning E → Meaning E
   unnamed_node kind part frame = do
     xs ← part frame
@@ -244,6 +256,7 @@ module _ {E : Type 0} where
     first_that wanted (λ x. satisfied wanted bindings test (in_env frame (bind frame.env (x ∷
         [])))) xs
 
+  -- whether some values of the variables pass the test, or every one does
   abbrev pub quantified : Quantifier → List (Binding E) → Meaning E → Meaning E
   quantified which bindings test frame = do
     answer ← satisfied (deciding which) bindings test frame
@@ -273,6 +286,7 @@ module _ {E : Type 0} where
     tests ← for_each (λ t. tested part (frame_at t)) tuples
     give (satisfying tuples tests)
 
+  -- the rule of each specification of an order by clause
   abbrev pub rules_of : List (Meaning E × OrderModifier) → List OrderRule
   rules_of specs = map (λ (part, modifier). rule_of modifier) specs
 
@@ -292,6 +306,7 @@ module _ {E : Type 0} where
 abbrev pub slot_values : List Tree → List (Tuple Item) → ℕ → List (List Atomic)
 slot_values trees tuples slot = map (λ t. atomized trees (value_at slot t)) tuples
 
+-- one tuple for each group of tuples with equal keys in these slots
 abbrev pub group_by_slots : List Tree → List ℕ → List (Tuple Item) → Judged (List (Tuple Item))
 group_by_slots trees slots tuples =
     grouped Atom slots tuples (map (slot_values trees tuples) slots)

@@ -45,15 +45,19 @@ use Rattle.xq_meaning.specs.Forms
 abbrev pub Environment : Type 0
 Environment = Text → List Item
 
+-- 2.1: a frame in which the variables have names
 abbrev pub Frame : Type 0
 Frame = Forms.Frame Environment
 
+-- what an expression means in such a frame
 abbrev pub Meaning : Type 0
 Meaning = Forms.Meaning Environment
 
+-- the variable bound to this value, which hides an earlier one of its name
 abbrev pub bind : Text → Environment → List Item → Environment
 bind v env xs = λ w. if text_eq w v then xs else env w
 
+-- several variables, one after another: a later one hides an earlier one of its name
 abbrev pub bind_all : Environment → List (Text × List Item) → Environment
 bind_all env [] = env
 bind_all env (b ∷ bs) = bind_all (bind b.0 env b.1) bs
@@ -62,6 +66,7 @@ bind_all env (b ∷ bs) = bind_all (bind b.0 env b.1) bs
 abbrev pub variable : Text → Meaning
 variable v frame = give (frame.env v)
 
+-- the name without its prefix, where there is a name
 abbrev pub local_name : Option QName → Option Text
 local_name None = None
 local_name (Some q) = Some q.local
@@ -93,6 +98,7 @@ abbrev pub of_principal : Axis → Option Text → Test
 of_principal axis.Attributes wanted = test.Attribute wanted
 of_principal direction wanted = test.Element wanted
 
+-- what a node test asks of a node on this axis
 abbrev pub test_on : Axis → NodeTest → Test
 test_on direction (written.Named q) = of_principal direction (Some q.local)
 test_on direction written.AnyName = of_principal direction None
@@ -109,10 +115,12 @@ abbrev pub default_axis : NodeTest → Axis
 default_axis (written.Attribute wanted) = axis.Attributes
 default_axis node_test = axis.Child
 
+-- a step with its axis, its node test and its predicates
 abbrev pub step_on : Axis → NodeTest → List Meaning → Meaning
 step_on direction node_test predicates =
     Forms.step direction (test_on direction node_test) predicates
 
+-- a step as it is written, in full or abbreviated, and its predicates
 abbrev pub axis_step : AxisStep → List Meaning → Meaning
 axis_step (step.Along axis_name node_test) = step_on (axis_of axis_name) node_test
 axis_step (step.Attribute node_test) = step_on axis.Attributes node_test
@@ -126,9 +134,11 @@ abbrev pub after : Separator → Meaning → List Meaning
 after Slash part = part ∷ []
 after DoubleSlash part = Forms.self_and_below ∷ part ∷ []
 
+-- the parts of a path after its first, with what each `//` stands for
 abbrev pub later_parts : List (Separator × Meaning) → List Meaning
 later_parts steps = flat_map (λ (separator, part). after separator part) steps
 
+-- a path that begins with its first step, with `/`, or with `//`
 abbrev pub path_from : PathStart → Meaning → List (Separator × Meaning) → Meaning
 path_from Relative first steps = Forms.path first (later_parts steps)
 path_from Root first steps = Forms.path Forms.root (first ∷ later_parts steps)
@@ -140,10 +150,12 @@ path_from RootAndBelow first steps =
 abbrev pub unknown_function : Meaning
 unknown_function frame = refuse XPST0017
 
+-- the call, where its number of arguments is admitted, else XPST0017
 abbrev pub call_if : Bool → Function → List Meaning → Meaning
 call_if true function parts = Forms.call function parts
 call_if false function parts = unknown_function
 
+-- the function has to be known, and to admit so many arguments, else XPST0017
 abbrev pub call_of : Option Function → List Meaning → Meaning
 call_of None parts = unknown_function
 call_of (Some function) parts = call_if (admits (arity function) (length parts)) function parts
@@ -159,9 +171,11 @@ pub record Stream : Type 0 where
 abbrev pub first_stream : Stream
 first_stream = record { names = []; tuples = [] ∷ [] }
 
+-- a clause leads from stream to stream
 abbrev pub ClauseMeaning : Type 0
 ClauseMeaning = Frame → Stream → Doing Stream
 
+-- the frame of a tuple, in which the names of its slots stand for their values
 abbrev pub at_tuple : Frame → List Text → Tuple Item → Frame
 at_tuple frame names tuple = record frame { env = bind_all frame.env (zip names tuple) }
 
@@ -171,23 +185,28 @@ named names act = do
   tuples ← act
   give (record { names = names; tuples = tuples })
 
+-- the name of the positional variable, where there is one
 abbrev pub position_name : Option Text → List Text
 position_name None = []
 position_name (Some v) = v ∷ []
 
+-- whether there is a positional variable
 abbrev pub is_asked : Option Text → Bool
 is_asked None = false
 is_asked (Some v) = true
 
+-- 3.12.2: one binding of for, with or without a positional variable
 abbrev pub for_clause : Text → Option Text → Meaning → ClauseMeaning
 for_clause v at part frame s =
     let next = Forms.for_tuples (is_asked at) part (at_tuple frame s.names) s.tuples in
     named (s.names ++ v ∷ position_name at) next
 
+-- 3.12.3: one binding of let
 abbrev pub let_clause : Text → Meaning → ClauseMeaning
 let_clause v part frame s =
     named (s.names ++ v ∷ []) (Forms.let_tuples part (at_tuple frame s.names) s.tuples)
 
+-- 3.12.5: where
 abbrev pub where_clause : Meaning → ClauseMeaning
 where_clause part frame s =
     named s.names (Forms.where_tuples part (at_tuple frame s.names) s.tuples)
@@ -197,22 +216,27 @@ abbrev pub slot_from : ℕ → Option ℕ → List Text → Text → Option ℕ
 slot_from n found [] v = found
 slot_from n found (w ∷ ws) v = slot_from (suc n) (if text_eq w v then Some n else found) ws v
 
+-- the slot, or XQST0094 where there is none
 abbrev pub slot_or_fault : Option ℕ → Judged ℕ
 slot_or_fault None = Err XQST0094
 slot_or_fault (Some slot) = Ok slot
 
+-- the slot of a grouping variable: the last one of its name
 abbrev pub slot_of : List Text → Text → Judged ℕ
 slot_of names v = slot_or_fault (slot_from 0 None names v)
 
+-- 3.12.7: group by, where the grouping variables are bound already
 abbrev pub group_clause : List Text → ClauseMeaning
 group_clause vs frame s = do
   slots ← judged (each (slot_of s.names) vs)
   named s.names (Forms.group_tuples slots s.tuples)
 
+-- 3.12.8: order by
 abbrev pub order_clause : List (Meaning × OrderModifier) → ClauseMeaning
 order_clause specs frame s =
     named s.names (Forms.order_tuples specs (at_tuple frame s.names) s.tuples)
 
+-- a clause over what the clause before it gave
 abbrev pub next_clause : Frame → Stream → ClauseMeaning → Doing Stream
 next_clause frame s clause = clause frame s
 
@@ -230,6 +254,7 @@ flwor parts part frame = do
 abbrev pub GroupMeaning : Type 0
 GroupMeaning = Text × List ClauseMeaning
 
+-- the variables that are assigned are bound first, and then the tuples are grouped
 abbrev pub group_by : List GroupMeaning → ClauseMeaning
 group_by specs =
     clauses (flat_map (λ (v, lets). lets) specs ++ group_clause (map (λ (v, lets). v) specs) ∷ [])
@@ -246,6 +271,7 @@ clause_meaning (Clause-F.Filter part) = where_clause part
 clause_meaning (Clause-F.Group specs) = group_by specs
 clause_meaning (Clause-F.Order specs) = order_clause specs
 
+-- a grouping variable, bound before or assigned here
 abbrev pub group_meaning : GroupSpec-F ClauseMeaning Meaning Meaning GroupMeaning Meaning →
     GroupMeaning
 group_meaning (GroupSpec-F.«GroupSpec::Variable» v) = (v.local, [])
@@ -257,10 +283,12 @@ abbrev pub name_meaning : ConstructorName-F ClauseMeaning Meaning Meaning GroupM
 name_meaning (ConstructorName-F.Literal v) = Forms.literal (String v.local)
 name_meaning (ConstructorName-F.Computed part) = part
 
+-- a step along an axis, or a primary expression, with its predicates
 abbrev pub step_meaning : Step-F ClauseMeaning Meaning Meaning GroupMeaning Meaning → Meaning
 step_meaning (Step-F.Axis written_step predicates) = axis_step written_step predicates
 step_meaning (Step-F.Primary part predicates) = Forms.filter_of part predicates
 
+-- an expression, from the meanings of its parts
 abbrev pub form_meaning : Expr-F ClauseMeaning Meaning Meaning GroupMeaning Meaning → Meaning
 form_meaning (Expr-F.Int n) = Forms.literal (Integer n)
 form_meaning (Expr-F.Dec m) = Forms.literal (Decimal m)
@@ -306,16 +334,19 @@ name_mean =
     fold-ConstructorName ClauseMeaning Meaning Meaning GroupMeaning Meaning clause_meaning
     name_meaning form_meaning group_meaning step_meaning
 
+-- of a clause
 abbrev pub clause_mean : Clause → ClauseMeaning
 clause_mean =
     fold-Clause ClauseMeaning Meaning Meaning GroupMeaning Meaning clause_meaning name_meaning
     form_meaning group_meaning step_meaning
 
+-- of one specification of a group by clause
 abbrev pub group_mean : GroupSpec → GroupMeaning
 group_mean =
     fold-GroupSpec ClauseMeaning Meaning Meaning GroupMeaning Meaning clause_meaning
     name_meaning form_meaning group_meaning step_meaning
 
+-- of a step
 abbrev pub step_mean : Step → Meaning
 step_mean =
     fold-Step ClauseMeaning Meaning Meaning GroupMeaning Meaning clause_meaning name_meaning

@@ -14,9 +14,11 @@ use Rattle.xq_meaning.specs.Forms
 abbrev pub Slots : Type 0
 Slots = Tuple Item
 
+-- a frame in which the variables are slots
 abbrev pub Frame : Type 0
 Frame = Forms.Frame Slots
 
+-- what a plan means in such a frame
 abbrev pub Meaning : Type 0
 Meaning = Forms.Meaning Slots
 
@@ -24,9 +26,11 @@ Meaning = Forms.Meaning Slots
 abbrev pub ClauseMeaning : Type 0
 ClauseMeaning = Frame → List (Tuple Item) → Doing (List (Tuple Item))
 
+-- a step leads from items to items
 abbrev pub StepMeaning : Type 0
 StepMeaning = Frame → List Item → Doing (List Item)
 
+-- the value of the slot with this number, from 0; () where none has it
 abbrev pub slot : ℕ → Meaning
 slot n frame = give (value_at n frame.env)
 
@@ -38,6 +42,7 @@ opened slots xs = slots ++ xs ∷ []
 abbrev pub at_tuple : Frame → Tuple Item → Frame
 at_tuple frame tuple = record frame { env = frame.env ++ tuple }
 
+-- a clause over the tuples that the clause before it gave
 abbrev pub next_clause : Frame → List (Tuple Item) → ClauseMeaning → Doing (List (Tuple Item))
 next_clause frame tuples clause = clause frame tuples
 
@@ -47,18 +52,22 @@ flwor clauses part frame = do
   tuples ← in_turn (next_clause frame) ([] ∷ []) clauses
   Forms.return_of part (at_tuple frame) tuples
 
+-- a step from the items that the step before it gave
 abbrev pub next_step : Frame → List Item → StepMeaning → Doing (List Item)
 next_step frame xs step = step frame xs
 
+-- a path: from what a start gives, one step after another
 abbrev pub path : Meaning → List StepMeaning → Meaning
 path start steps frame = do
   xs ← start frame
   in_turn (next_step frame) xs steps
 
+-- a step: a part for each of the nodes, or a scan from all of them at once
 abbrev pub plan_step : PlanStep-F Meaning ClauseMeaning StepMeaning → StepMeaning
 plan_step (PlanStep-F.Each part) frame xs = Forms.slash frame xs part
 plan_step (PlanStep-F.Scan axis test) frame xs = Forms.scan axis test xs
 
+-- a clause, from the meanings of its parts
 abbrev pub plan_clause : PlanClause-F Meaning ClauseMeaning StepMeaning → ClauseMeaning
 plan_clause (PlanClause-F.For at part) frame = Forms.for_tuples at part (at_tuple frame)
 plan_clause (PlanClause-F.Let part) frame = Forms.let_tuples part (at_tuple frame)
@@ -67,6 +76,7 @@ plan_clause (PlanClause-F.Group slots) frame = Forms.group_tuples slots
 plan_clause (PlanClause-F.Order specs) frame = Forms.order_tuples specs (at_tuple frame)
 plan_clause (PlanClause-F.Refused code) frame = λ tuples. refuse code
 
+-- a form, from the meanings of its parts
 abbrev pub plan_form : Plan-F Meaning ClauseMeaning StepMeaning → Meaning
 plan_form (Plan-F.Int n) = Forms.literal (Integer n)
 plan_form (Plan-F.Dec m) = Forms.literal (Decimal m)
@@ -90,11 +100,14 @@ plan_form (Plan-F.If part yes' no') = Forms.conditional part yes' no'
 plan_form (Plan-F.Quantified which ranges part) =
     Forms.quantified which (map (λ range. (opened, range)) ranges) part
 
+-- the meaning of a plan in a frame
 abbrev pub plan_mean : Plan → Meaning
 plan_mean = fold-Plan Meaning ClauseMeaning StepMeaning plan_form plan_clause plan_step
 
+-- and of a clause
 abbrev pub plan_clause_mean : PlanClause → ClauseMeaning
 plan_clause_mean = fold-PlanClause Meaning ClauseMeaning StepMeaning plan_form plan_clause plan_step
 
+-- and of a step
 abbrev pub plan_step_mean : PlanStep → StepMeaning
 plan_step_mean = fold-PlanStep Meaning ClauseMeaning StepMeaning plan_form plan_clause plan_step

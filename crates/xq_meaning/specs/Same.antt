@@ -12,10 +12,12 @@ use Rattle.xq_meaning.specs.Meaning.{Environment, Frame, bind_all, no_variable, 
 use Rattle.xq_meaning.specs.CoreMeaning.{core_mean}
 use Rattle.xq_meaning.specs.PlanMeaning.{Slots, plan_mean}
 
+-- in every frame and over any trees the normal form gives what the expression gives
 abbrev pub IsNormalForm : Expr → Core → Type 0
 IsNormalForm e c =
     (frame : Frame) (trees : List Tree) → core_mean c frame trees ≡ mean e frame trees
 
+-- the frame with this environment, this focus and these addresses
 abbrev pub frame_of : {E : Type 0} → E → Option Focus → List Text → Forms.Frame E
 frame_of env focus addresses = record { env = env; focus = focus; addresses = addresses }
 

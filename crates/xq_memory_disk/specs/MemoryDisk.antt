@@ -2,5 +2,6 @@
 use Rattle.std.specs.Prelude.{ℕ, List}
 use Rattle.xq_memory_disk.specs.declared.MemoryDisk.{MemoryDisk}
 
+-- all bytes of the disk
 abbrev pub disk_bytes : MemoryDisk → List ℕ
 disk_bytes disk = disk.bytes

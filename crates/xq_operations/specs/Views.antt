@@ -32,23 +32,29 @@ use Rattle.xq_meaning.specs.PlanMeaning.{Frame as Meant, Meaning, plan_mean}
 use Rattle.xq_operations.specs.declared.frames.Focus.{Focus}
 use Rattle.xq_operations.specs.declared.frames.Frame.{Frame}
 
+-- a tuple that code holds, with the items that it stands for over these trees
 abbrev pub tuple_at : List Tree → Tuple ItemView → Tuple Item
 tuple_at trees tuple = map (items_at trees) tuple
 
+-- the same of several tuples
 abbrev pub tuples_at : List Tree → List (Tuple ItemView) → List (Tuple Item)
 tuples_at trees tuples = map (tuple_at trees) tuples
 
+-- the lists of items that code holds, as contracts see them
 abbrev pub lists_of : Vec (Vec Held) → Tuple ItemView
 lists_of lists = map item_views lists.items
 
+-- a focus that code holds, with the item that it stands for over these trees
 abbrev pub spot_at : List Tree → Focus → Spot
 spot_at trees f =
     record { item = item_at trees (item_view f.item.now); position = f.position; last = f.last }
 
+-- the same, where there is a focus
 abbrev pub focus_at : List Tree → Option Focus → Option Spot
 focus_at trees None = None
 focus_at trees (Some f) = Some (spot_at trees f)
 
+-- a frame that code holds, as the frame of a plan over these trees
 abbrev pub frame_at : List Tree → Frame → Meant
 frame_at trees f = record {
   env = tuple_at trees (values_of f.slots.now);
@@ -61,13 +67,16 @@ frame_at trees f = record {
 abbrev pub TupleIn : List Tree → Tuple ItemView → Type 0
 TupleIn trees tuple = AllByRecursion (AreIn trees) tuple
 
+-- the nodes of all these tuples are
 abbrev pub TuplesIn : List Tree → List (Tuple ItemView) → Type 0
 TuplesIn trees tuples = AllByRecursion (TupleIn trees) tuples
 
+-- the context item is, where there is one and it is a node
 abbrev pub FocusIn : List Tree → Option Focus → Type 0
 FocusIn trees None = Unit {0}
 FocusIn trees (Some f) = IsIn trees (item_view f.item.now)
 
+-- the nodes of a frame are, and it has no more addresses than there are trees
 pub record FrameIn (trees : List Tree) (frame : Frame) : Type 0 where
   pub slots_in : TupleIn trees (values_of frame.slots.now)
   pub focus_in : FocusIn trees frame.focus
@@ -93,6 +102,7 @@ GivesAs view read In outcome trees (Err (OfWant want)) = Unit {0}
 abbrev pub GivesSequence : Outcome (List Item) → List Tree → Result (Vec Held) Fault → Type 0
 GivesSequence = GivesAs item_views items_at AreIn
 
+-- a list of tuples
 abbrev pub GivesTuples : Outcome (List (Tuple Item)) → List Tree →
     Result (List (Tuple ItemView)) Fault → Type 0
 GivesTuples = GivesAs (λ ts. ts) tuples_at TuplesIn
@@ -144,11 +154,13 @@ parents_below test xs = do
   found ← after_double_slash test xs
   Forms.scan Parent Any found
 
+-- a named node, built from its name and the value of its content
 abbrev pub plant_named : NamedNode → Text → List Item → Doing (List Item)
 plant_named kind name xs = do
   tree ← on_trees (λ trees. named_tree kind name trees xs)
   Forms.planted tree
 
+-- a node without a name, built from the value of its content
 abbrev pub plant_unnamed : UnnamedNode → List Item → Doing (List Item)
 plant_unnamed kind xs = do
   tree ← on_trees (λ trees. unnamed_tree kind trees xs)

@@ -20,6 +20,7 @@ abbrev pub path_of_scans : Text → List (Axis × Test) → Plan
 path_of_scans address steps =
     plan.Path (plan.Call Doc (plan.Str address ∷ [])) (map (λ s. step.Scan s.0 s.1) steps)
 
+-- where the normal form is such a path, the plan is its scans
 abbrev pub ScansDocument : Core → Plan → Type 0
 ScansDocument c p =
     (address : Text) (steps : List (Axis × Test)) → c ≡ path_of_steps address steps →

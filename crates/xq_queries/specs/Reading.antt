@@ -44,6 +44,7 @@ abbrev pub TokensRead : List Lex → Expr → Type 0
 TokensRead tokens e = (nesting tokens ≤ deepest_nesting) × Derives tokens e
     × (static_fault e ≡ None)
 
+-- the bytes are UTF-8, and the tokens that they spell are read as this expression
 abbrev pub IsRead : List ℕ → Expr → Type 0
 IsRead text e =
     IsUtf8 text

@@ -11,6 +11,7 @@ line_ends_after returned (byte ∷ text) =
     else (if returned && byte == 10 then line_ends_after false text
     else byte ∷ line_ends_after false text)
 
+-- the text with each of its line ends as one line feed
 abbrev pub with_line_feeds : List ℕ → List ℕ
 with_line_feeds text = line_ends_after false text
 

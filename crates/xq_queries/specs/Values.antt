@@ -24,6 +24,7 @@ use Rattle.xq_queries.specs.Reading.{IsRead, IsRefused}
 abbrev pub Value : Type 0
 Value = List Item × List Tree
 
+-- the items with the trees, or the code
 abbrev pub value_of : Outcome (List Item) → Judged Value
 value_of (Ok xs, trees) = Ok (xs, trees)
 value_of (Err code, trees) = Err code
@@ -77,5 +78,6 @@ abbrev pub or_no_document : Option Tree → Judged Tree
 or_no_document (Some tree) = Ok tree
 or_no_document None = Err ProfNotdoc
 
+-- the document that a value is, or the code for which there is none
 abbrev pub made_document : Judged Value → Judged Tree
 made_document v = v >>= (λ v. or_no_document (document v))

@@ -17,6 +17,7 @@ abbrev pub number_in : Value → ℕ
 number_in (Int (pos n)) = n
 number_in v = 0
 
+-- the bytes of a text; none of any other value
 abbrev pub bytes_in : Value → List ℕ
 bytes_in (Text s) = s
 bytes_in v = []

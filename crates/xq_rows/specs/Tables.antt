@@ -46,6 +46,7 @@ layout_table = record {
   is_counted = false;
 }
 
+-- the table `layout` alone
 abbrev pub layout_schema : Schema
 layout_schema = record { tables = layout_table ∷ []; indexes = []; views = [] }
 

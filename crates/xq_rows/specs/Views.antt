@@ -23,6 +23,7 @@ pub record Viewed (S : Type 0) : Type 0 where
   pub meter : Readings
   pub lent : List (ℕ × Row)
 
+-- a code of all four parts, from one of the store
 abbrev pub viewed_code : {S : Type 0} → Coded S → Coded (Viewed S)
 viewed_code {S} store =
     code_by (Held S × (List (List ℕ) × ((ℕ × ℕ) × List (ℕ × Row))))
@@ -41,6 +42,7 @@ viewed_code {S} store =
 
 -- its database, whether it is open, and whether its disk has returned what was written
 pub record Beginning : Type 0 where
+  -- its schema and its rows
   pub database : Database
   pub is_open : Bool
   pub is_clean : Bool
@@ -48,6 +50,7 @@ pub record Beginning : Type 0 where
 -- A store, of which a contract sees its connection: `g` are the ghosts of what it keeps its
 -- database in.
 module _ {S : Type 0} (g : Ghosts S) (store : Held S) where
+  -- the store as it now is, for a view of it to begin with
   unfoldable pub beginning : Beginning
   beginning = record {
     database = (state g store).now;
@@ -68,6 +71,7 @@ StoodFor b m = IsStore b.database × (documents_of b.database ≡ m)
 unfoldable pub WasOpen : Beginning → Type 0
 WasOpen b = IsTrue b.is_open
 
+-- Its disk had returned what was written.
 unfoldable pub WasClean : Beginning → Type 0
 WasClean b = doubt b.is_clean ≡ 0
 

@@ -18,10 +18,12 @@ abbrev pub more_literals : List (List ℕ) → List ℕ
 more_literals [] = []
 more_literals (address ∷ others) = codes ", " ++ quoted address ++ more_literals others
 
+-- all addresses, as string literals joined by a comma and a space; `()` for none
 abbrev pub listing : List (List ℕ) → List ℕ
 listing [] = codes "()"
 listing (address ∷ others) = quoted address ++ more_literals others
 
+-- the documents after a request, the status of its reply, and its text
 pub record Outcome : Type 0 where
   pub documents : Map
   pub status : ℕ
@@ -40,23 +42,28 @@ abbrev pub text_outcome : Map → List ℕ → Outcome
 text_outcome m text = cond (nat_le (length text) longest_text) (success m text)
     (refusal m ProfReply)
 
+-- of a query, by its value or the code for which it has none
 abbrev pub query_outcome : Map → Result Value Code → Outcome
 query_outcome m (Ok v) = text_outcome m (printed v)
 query_outcome m (Err code) = refusal m code
 
+-- what a store is told, by whether it replaced a document
 abbrev pub put_word : Bool → List ℕ
 put_word true = codes "replaced"
 put_word false = codes "stored"
 
+-- the document is stored under the address; where there is none, this is refused
 abbrev pub put_document : Map → List ℕ → Option Tree → Outcome
 put_document m address None = refusal m ProfNotdoc
 put_document m address (Some tree) = success (insert m address tree)
     (put_word (contains_key m address))
 
+-- of a store, by the value of its query
 abbrev pub put_outcome : Map → List ℕ → Result Value Code → Outcome
 put_outcome m address (Ok v) = put_document m address (document v)
 put_outcome m address (Err code) = refusal m code
 
+-- of a drop, by whether there is a document under the address
 abbrev pub remove_outcome : Bool → Map → List ℕ → Outcome
 remove_outcome true m address = success (remove m address) (codes "dropped")
 remove_outcome false m address = refusal m ProfAbsent
@@ -81,6 +88,7 @@ CarriesOut m (remove_one address) out = IsAddress address
 CarriesOut m list out = out ≡ text_outcome m (listing (keys m))
 CarriesOut m bad out = ⊥
 
+-- a request has this outcome: it is refused, or carried out
 abbrev pub Answers : Map → RequestMeaning → Outcome → Type 0
 Answers m asked out = ((code : Code) × RefusesRequest asked code × (out ≡ refusal m code))
     ⊎ CarriesOut m asked out

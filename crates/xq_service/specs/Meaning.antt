@@ -26,6 +26,7 @@ Value = values_of.Value
 abbrev pub value : Query → Map → Result Value Code
 value query documents = values_of.value query (keys documents) (values documents)
 
+-- the text of the value
 abbrev pub printed : Value → List ℕ
 printed = values_of.printed
 

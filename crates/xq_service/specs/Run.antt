@@ -12,14 +12,17 @@ use Rattle.xq_service.specs.Step.{Step}
 use Rattle.xq_service.specs.declared.ends.End.{End}
 use Rattle.xq_service.specs.declared.ends.End.TheVariants.{Finished, Cut, TooLong, Bound, ReadFault, WriteFault, NoRoom}
 
+-- what a reply says
 pub record Reply : Type 0 where
   pub tag : ℕ
   pub status : ℕ
   pub text : List ℕ
 
+-- the bytes of a reply
 abbrev pub bytes_of : Reply → List ℕ
 bytes_of reply = reply_bytes reply.tag reply.status reply.text
 
+-- the bytes of several replies, one after another
 abbrev pub written : List Reply → List ℕ
 written replies = flat_map bytes_of replies
 
@@ -50,6 +53,7 @@ abbrev pub IsAtHand : List ℕ → Type 0
 IsAtHand rest = ((message : List ℕ) × (more : List ℕ) × IsMessage message
     × (rest ≡ frame_bytes message ++ more)) ⊎ IsTooLong rest
 
+-- the reply to a length over the limit: tag 0, status 1
 abbrev pub long_reply : List ℕ
 long_reply = reply_bytes 0 1 (code_text ProfLong)
 
