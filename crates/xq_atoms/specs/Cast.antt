@@ -49,7 +49,7 @@ boolean_of_text t =
 abbrev pub one_or_zero : Bool → ℤ
 one_or_zero b = if b then pos 1 else pos 0
 
--- 19.1.5: a decimal is truncated towards zero
+-- 19.1: a decimal is truncated towards zero
 abbrev pub cast_integer : Atomic → Judged Atomic
 cast_integer (Integer n) = Ok (Integer n)
 cast_integer (Decimal m) = only_if (is_integer (int_div m one)) FOCA0003 (Integer (int_div m one))
@@ -57,7 +57,7 @@ cast_integer (Boolean b) = Ok (Integer (one_or_zero b))
 cast_integer (String t) = integer_of_text (trimmed t)
 cast_integer (Untyped t) = integer_of_text (trimmed t)
 
--- 19.1.3
+-- 19.1: to a decimal, an integer as it is, a boolean as one or zero
 abbrev pub cast_decimal : Atomic → Judged Atomic
 cast_decimal (Integer n) = Ok (Decimal (in_millionths n))
 cast_decimal (Decimal m) = Ok (Decimal m)
@@ -65,7 +65,7 @@ cast_decimal (Boolean b) = Ok (Decimal (in_millionths (one_or_zero b)))
 cast_decimal (String t) = decimal_of_text (trimmed t)
 cast_decimal (Untyped t) = decimal_of_text (trimmed t)
 
--- 19.1.7: a number is true unless it is zero
+-- 19.1: a number is true unless it is zero
 abbrev pub cast_boolean : Atomic → Judged Atomic
 cast_boolean (Integer n) = Ok (Boolean (not (is_zero n)))
 cast_boolean (Decimal m) = Ok (Boolean (not (is_zero m)))
@@ -94,11 +94,11 @@ abbrev pub pointed : Text → Text
 pointed [] = []
 pointed (c ∷ cs) = codes "." ++ (c ∷ cs)
 
--- 19.1.2: a whole decimal as an integer, another without trailing zeros
+-- 19.1: a whole decimal as an integer, another without trailing zeros
 abbrev pub decimal_text : ℤ → Text
 decimal_text m = whole_text m ++ pointed (fraction_text (nat_abs m))
 
--- 19.1.2: an atomic value, cast to a string
+-- 19.1: an atomic value, cast to a string
 abbrev pub text_of : Atomic → Text
 text_of (Integer n) = signed_decimal n
 text_of (Decimal m) = decimal_text m

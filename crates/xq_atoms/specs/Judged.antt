@@ -6,8 +6,8 @@ use Rattle.xq_atoms.specs.declared.refusals.Code.{Code}
 abbrev pub Judged : Type 0 → Type 0
 Judged A = Result A Code
 
-infixl 10 ◌>>=◌
 -- what comes next, judged with the value; a code stays as it is
+infixl 10 ◌>>=◌
 abbrev pub ◌>>=◌ : {A B : Type 0} → Judged A → (A → Judged B) → Judged B
 Ok x >>= next = next x
 Err code >>= next = Err code

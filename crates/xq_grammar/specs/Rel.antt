@@ -20,33 +20,28 @@ Is t x ts a us = (ts ≡ t ∷ us) × (x ≡ a)
 abbrev pub OneOf : {A : Type 0} → Table A → Rel A
 OneOf table ts a us = (t : Lex) × (ts ≡ t ∷ us) × (lookup table t ≡ Some a)
 
--- one phrase, and then another
+-- one phrase, and then another: `P & Q` stands for the pair of what P and Q stand for
 infixr 30 ◌&◌
--- `P & Q` stands for the pair of what P and Q stand for
 abbrev pub ◌&◌ : {A B : Type 0} → Rel A → Rel B → Rel (A × B)
 (P & Q) ts p us = (mid : Tokens) × P ts p.0 mid × Q mid p.1 us
 
--- a token before a phrase
+-- a token before a phrase: `t ▹ P` stands for what P stands for
 infixr 30 ◌▹◌
--- `t ▹ P` stands for what P stands for
 abbrev pub ◌▹◌ : {A : Type 0} → Lex → Rel A → Rel A
 (t ▹ P) ts a us = (mid : Tokens) × (ts ≡ t ∷ mid) × P mid a us
 
--- a token after a phrase
+-- a token after a phrase: `P ◃ t` stands for what P stands for
 infixl 31 ◌◃◌
--- `P ◃ t` stands for what P stands for
 abbrev pub ◌◃◌ : {A : Type 0} → Rel A → Lex → Rel A
 (P ◃ t) ts a us = P ts a (t ∷ us)
 
--- what a phrase stands for
+-- what a phrase stands for: `f ⟨$⟩ P` stands for `f` of what P stands for
 infixr 20 ◌⟨$⟩◌
--- `f ⟨$⟩ P` stands for `f` of what P stands for
 abbrev pub ◌⟨$⟩◌ : {A B : Type 0} → (A → B) → Rel A → Rel B
 (f ⟨$⟩ P) ts b us = (a : _) × P ts a us × (f a ≡ b)
 
--- either phrase
+-- either phrase: `P ∣ Q` stands for what P or Q stands for
 infixr 10 ◌∣◌
--- `P ∣ Q` stands for what P or Q stands for
 abbrev pub ◌∣◌ : {A : Type 0} → Rel A → Rel A → Rel A
 (P ∣ Q) ts a us = P ts a us ⊎ Q ts a us
 

@@ -17,8 +17,8 @@ abbrev pub go_on : {A B : Type 0} → Outcome A → (A → Doing B) → Outcome 
 go_on (Ok x, trees) next = next x trees
 go_on (Err code, trees) next = (Err code, trees)
 
-infixl 10 ◌>>=◌
 -- one evaluation, and after its value the next, over the trees that it leaves
+infixl 10 ◌>>=◌
 abbrev pub ◌>>=◌ : {A B : Type 0} → Doing A → (A → Doing B) → Doing B
 (act >>= next) trees = go_on (act trees) next
 

@@ -42,7 +42,6 @@ viewed_code {S} store =
 
 -- its database, whether it is open, and whether its disk has returned what was written
 pub record Beginning : Type 0 where
-  -- its schema and its rows
   pub database : Database
   pub is_open : Bool
   pub is_clean : Bool
@@ -67,7 +66,7 @@ HeldDocuments b = IsStore b.database
 unfoldable pub StoodFor : Beginning → Map → Type 0
 StoodFor b m = IsStore b.database × (documents_of b.database ≡ m)
 
--- It was open, and its disk had returned what was written.
+-- It was open.
 unfoldable pub WasOpen : Beginning → Type 0
 WasOpen b = IsTrue b.is_open
 

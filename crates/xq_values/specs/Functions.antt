@@ -76,7 +76,7 @@ collection addresses = map (λ n. Node (root_of n)) (range_with_len 0 (length ad
 
 -- # 13 and 2: nodes
 
--- F&O 3.1, 13.6: fn:root, the root of the node's tree, and () for ()
+-- F&O 3.1, 13.5: fn:root, the root of the node's tree, and () for ()
 abbrev pub root : List Item → Judged (List Item)
 root = on_optional (λ x. do p ← node_argument x; Ok (Node (root_of p.tree) ∷ []))
 
