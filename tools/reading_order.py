@@ -110,12 +110,13 @@ def order_of_crates():
 
 
 def exported(crate):
-    """The names that a crate's root hands out, and its public modules."""
+    """The names that a crate's root has or hands out, and its public modules."""
     path = f"{TOP}/crates/{crate}/src/lib.rt"
     root = read(path) if os.path.exists(path) else ""
     names = set()
     for group in re.findall(r"(?s)pub use [\w:]+?::(\{.*?\}|\w+);", root):
         names.update(re.findall(r"\w+", group))
+    names.update(re.findall(r"(?m)^pub (?:struct|enum|trait) (\w+)", root))
     return names, set(re.findall(r"(?m)^pub mod (\w+);", root))
 
 
