@@ -23,9 +23,9 @@ use Rattle.xq_values.specs.Content.{label, copied, flattened, merged, without_em
 use Rattle.xq_meaning.specs.Doing.{Doing, ◌>>=◌, go_on, on_trees, in_turn, more}
 use Rattle.xq_meaning.specs.Forms.{planted}
 use Rattle.xq_expressions.specs.declared.operators.NamedNode.TheVariants as named
-use Rattle.xq_meaning.specs.Meaning.{Meaning, Frame, first_frame, answered}
+use Rattle.xq_meaning.specs.Meaning.{Meaning, Frame, first_frame}
+use Rattle.xq_meaning.proofs.Library.{answered, library, answer}
 use Rattle.xq_meaning.proofs.Writing.{num, txt, none, to, element, flwor, for_in}
-use Rattle.xq_meaning.proofs.Library.{library, answer}
 use Rattle.xq_meaning.proofs.LimitRows.{nodes_over_a_million}
 
 -- # Lists of the same values

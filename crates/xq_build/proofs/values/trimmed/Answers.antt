@@ -1,9 +1,11 @@
 use Rattle.std.proofs.Common.{sym, subst}
 use Rattle.std.specs.Str.{IsUtf8}
+use Rattle.xq_characters.specs.Characters.{is_space}
+use Rattle.xq_characters.specs.Spaces.{after_leading}
 use Rattle.xq_build.proofs.Spelling.{leading_utf8, trailing_utf8}
 use Rattle.xq_build.proofs.values.trimmed.Goals as goal
 
 pub copied_text-requires : goal.copied_text-requires
 copied_text-requires c =
-    subst IsUtf8 (sym c.before_spaces.ensures)
-    (trailing_utf8 c.after_spaces.result.now (subst IsUtf8 (sym c.after_spaces.ensures) (leading_utf8 c.as_bytes.result.now (subst IsUtf8 (sym c.as_bytes.ensures.value) c.utf8.text))))
+    subst IsUtf8 (sym c.trimmed.ensures)
+    (trailing_utf8 (after_leading is_space c.as_bytes.result.now) (leading_utf8 c.as_bytes.result.now (subst IsUtf8 (sym c.as_bytes.ensures.value) c.utf8.text)))
