@@ -60,7 +60,8 @@ def times(program, size):
     lines = ["document {element lib {}}"]
     for _, given, call in CALLS:
         repeated = "count(for $k in 1 to %d return %s)" % (CALLS_EACH, call)
-        lines += [("let $t := " + given + " return " + part).format(n=size) for part in ("count($t)", repeated)]
+        parts = ("count($t)", repeated)
+        lines += [("let $t := " + given + " return " + part).format(n=size) for part in parts]
     text = "\n".join(lines)
     done = subprocess.run([program], input=text.encode(), stdout=subprocess.PIPE, check=True)
     found = [line.split() for line in done.stdout.decode().splitlines()]
@@ -69,7 +70,8 @@ def times(program, size):
     # (a query makes its input, so turns that begin with empty caches are as the others)
     groups = [found[n:n + 2 * TURNS] for n in range(0, len(found), 2 * TURNS)]
     least = [min(int(words[0]) for words in group) / 1000 for group in groups]
-    return [(max(0.0, whole - given) / CALLS_EACH, given) for given, whole in zip(least[::2], least[1::2])]
+    pairs = zip(least[::2], least[1::2])
+    return [(max(0.0, whole - given) / CALLS_EACH, given) for given, whole in pairs]
 
 
 def main():

@@ -54,8 +54,10 @@ def asked(server, query, wanted):
 
 
 def main():
-    parser = argparse.ArgumentParser(description=__doc__, formatter_class=argparse.RawTextHelpFormatter)
-    parser.add_argument("--server", help="the server's command; the built program where none is named")
+    parser = argparse.ArgumentParser(
+        description=__doc__, formatter_class=argparse.RawTextHelpFormatter)
+    parser.add_argument(
+        "--server", help="the server's command; the built program where none is named")
     arguments = parser.parse_args()
     server = Server(arguments.server.split() if arguments.server else [built()], preexec_fn=narrow)
     server.ask(b"S", store(b"b", LIBRARY))

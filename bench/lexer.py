@@ -43,12 +43,19 @@ def repeated(piece, size):
     return piece * (size // len(piece))
 
 
+def nested(size):
+    """Comments, 100,000 in one another where there is room for so many."""
+    if size > 500_000:
+        return repeated("(: " * 100_000 + "x" + ":)" * 100_000, size)
+    return "(: " * (size // 5) + ":)" * (size // 5)
+
+
 KINDS = (
     ("names", lambda size: repeated("element-name ", size)),
     ("one name", lambda size: "a" * size),
     ("integers", lambda size: repeated("123456789 ", size)),
     ("digits of one number", lambda size: "0" * size),
-    ("nested comments", lambda size: repeated("(: " * 100_000 + "x" + ":)" * 100_000, size) if size > 500_000 else "(: " * (size // 5) + ":)" * (size // 5)),
+    ("nested comments", lambda size: nested(size)),
     ("one string", lambda size: '"%s"' % repeated('a"" &amp;', size - 2)),
     ("symbols", lambda size: repeated(":=<=>>..||", size)),
 )
@@ -57,7 +64,8 @@ KINDS = (
 def timed(program, text):
     best, tokens = None, 0
     for _ in range(5):
-        words = subprocess.run([program], input=text.encode(), stdout=subprocess.PIPE, check=True).stdout.decode().split()
+        done = subprocess.run([program], input=text.encode(), stdout=subprocess.PIPE, check=True)
+        words = done.stdout.decode().split()
         if words[0] == "refused":
             sys.exit("a text was refused")
         tokens, time = int(words[0]), max(1, int(words[1]))
@@ -76,7 +84,8 @@ def main():
                 text = make(size)
                 tokens, time = timed(program, text)
                 ratio = "%8.2f" % (time / before) if before else ""
-                print("%-22s %10d %8d %10.2f %8.1f %8s" % (name, len(text), tokens, time / 1000, len(text) / time, ratio), flush=True)
+                print("%-22s %10d %8d %10.2f %8.1f %8s" % (
+                    name, len(text), tokens, time / 1000, len(text) / time, ratio), flush=True)
                 before = time
     finally:
         shutil.rmtree(folder)

@@ -48,7 +48,8 @@ def main():
     server = sys.argv[1] if len(sys.argv) > 1 else os.path.join(TOP, "serve")
     empty, _ = timed(server, b"")
     before = {}
-    print("%10s %8s %12s %12s %8s %8s" % ("bytes", "nodes", "store ms", "read ms", "ratio", "ratio"))
+    heads = ("bytes", "nodes", "store ms", "read ms", "ratio", "ratio")
+    print("%10s %8s %12s %12s %8s %8s" % heads)
     for size in (262_144, 524_288, 1_048_576):
         text = literal(size).encode()
         nodes = text.count(b"{")
@@ -59,7 +60,7 @@ def main():
         if output != reply:
             sys.exit("the document did not come back as it was stored")
         times = ((stored - empty) * 1000, (both - stored) * 1000 / READS)
-        ratios = ["%8.2f" % (now / then) for now, then in zip(times, before)] if before else ["", ""]
+        ratios = ["%8.2f" % (now / then) for now, then in zip(times, before)] or ["", ""]
         print("%10d %8d %12.1f %12.1f %8s %8s" % (len(text), nodes, *times, *ratios))
         before = times
 

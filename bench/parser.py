@@ -43,7 +43,8 @@ def timed(program, text, wanted):
     """The number of the text's tokens, and the least time of five runs in microseconds."""
     best, tokens = None, 0
     for _ in range(5):
-        words = subprocess.run([program], input=text.encode(), stdout=subprocess.PIPE, check=True).stdout.decode().split()
+        done = subprocess.run([program], input=text.encode(), stdout=subprocess.PIPE, check=True)
+        words = done.stdout.decode().split()
         if words[0] != wanted:
             sys.exit("%s, not %s" % (words[0], wanted))
         tokens, time = int(words[1]), max(1, int(words[2]))
@@ -54,8 +55,9 @@ def timed(program, text, wanted):
 def is_parsed(program, text, kilobytes):
     """Whether the text gives an expression on a stack of that size."""
     limit = kilobytes * 1024
-    ran = subprocess.run([program], input=text.encode(), stdout=subprocess.PIPE, stderr=subprocess.DEVNULL,
-                         preexec_fn=lambda: resource.setrlimit(resource.RLIMIT_STACK, (limit, limit)))
+    ran = subprocess.run(
+        [program], input=text.encode(), stdout=subprocess.PIPE, stderr=subprocess.DEVNULL,
+        preexec_fn=lambda: resource.setrlimit(resource.RLIMIT_STACK, (limit, limit)))
     return ran.returncode == 0 and ran.stdout.startswith(b"expression")
 
 
@@ -81,7 +83,8 @@ def measure(program):
         for count in (most // 4, most // 2, most):
             tokens, time = timed(program, make(count), wanted)
             ratio = "%8.2f" % (time / before) if before and before > SHORT else ""
-            print("%-14s %10d %10s %10.2f %8s" % (name, tokens, wanted, time / 1000, ratio), flush=True)
+            print("%-14s %10d %10s %10.2f %8s" % (
+                name, tokens, wanted, time / 1000, ratio), flush=True)
             before = time
     for name, text in NESTS:
         print("%-14s %10d KB of stack" % (name, least_stack(program, text)), flush=True)

@@ -113,18 +113,23 @@ def times(command, elements, rounds):
 
 
 def main():
-    parser = argparse.ArgumentParser(description=__doc__, formatter_class=argparse.RawTextHelpFormatter)
+    parser = argparse.ArgumentParser(
+        description=__doc__, formatter_class=argparse.RawTextHelpFormatter)
     parser.add_argument("rounds", nargs="?", type=int, default=7)
-    parser.add_argument("--server", help="the server's command; the built program where none is named")
+    parser.add_argument(
+        "--server", help="the server's command; the built program where none is named")
     arguments = parser.parse_args()
     command = arguments.server.split() if arguments.server else [built()]
     with tempfile.TemporaryDirectory() as folder:
-        for where, words in (("memory", lambda n: []), ("file", lambda n: ["--file", f"{folder}/{n}.db"])):
+        places = (("memory", lambda n: []), ("file", lambda n: ["--file", f"{folder}/{n}.db"]))
+        for where, words in places:
             (small, few), (large, many) = (
                 times(command + words(n), n, arguments.rounds) for n in (10_000, 100_000)
             )
-            print(f"{where}: stored in {small:.0f} and {large:.0f} ms, {large / small:.1f} times as long")
-            print(f"{'milliseconds':20} {'10,000':>15} {'100,000':>17} {'growth':>7} {'engines':>13}")
+            print(f"{where}: stored in {small:.0f} and {large:.0f} ms, "
+                  f"{large / small:.1f} times as long")
+            print(f"{'milliseconds':20} {'10,000':>15} {'100,000':>17} "
+                  f"{'growth':>7} {'engines':>13}")
             for (name, _, one, other), (first, again), (slow, repeated) in zip(QUERIES, few, many):
                 print(
                     f"{name:20} {first:7.1f} {again:7.1f} {slow:9.1f} {repeated:7.1f}"

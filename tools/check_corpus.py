@@ -51,7 +51,8 @@ def wanted_of(row):
 def main():
     rows = [row for row in rows_of(sys.argv[1]) if row.get("e") not in OF_TEXT]
     right, total = Counter(), Counter()
-    for row, answer in zip(rows, answers_of(rows, CRATES, CRATES + ("sqlite_items",), PROGRAM), strict=True):
+    answers = answers_of(rows, CRATES, CRATES + ("sqlite_items",), PROGRAM)
+    for row, answer in zip(rows, answers, strict=True):
         wanted = wanted_of(row)
         total[wanted] += 1
         if answer == wanted:

@@ -26,7 +26,8 @@ def built():
     """The path of the program, which is proved and built first where it is not there."""
     path = TOP / "crates" / "xq_server" / "out" / "xq_server"
     if not path.exists():
-        subprocess.run([TOP / "serve"], stdin=subprocess.DEVNULL, stdout=subprocess.DEVNULL, check=True)
+        subprocess.run(
+            [TOP / "serve"], stdin=subprocess.DEVNULL, stdout=subprocess.DEVNULL, check=True)
     return path
 
 
@@ -34,8 +35,9 @@ class Server:
     """A running server. It may end or be killed at any time: what is sent then is lost."""
 
     def __init__(self, command, **how):
-        self.process = subprocess.Popen([os.fspath(word) for word in command], stdin=subprocess.PIPE,
-                                        stdout=subprocess.PIPE, stderr=subprocess.PIPE, bufsize=0, **how)
+        self.process = subprocess.Popen(
+            [os.fspath(word) for word in command], stdin=subprocess.PIPE,
+            stdout=subprocess.PIPE, stderr=subprocess.PIPE, bufsize=0, **how)
 
     def send(self, data):
         """Sends bytes, as far as the server takes them."""

@@ -56,7 +56,8 @@ def request(chance, documents):
 
 
 def send_until_killed(server, chance, documents):
-    """Sends requests, each after the reply to the one before, and gives the documents before and after the one under way."""
+    """Sends requests, each after the reply to the one before, and gives the documents before and
+    after the one under way."""
     while True:
         (kind, body), after = request(chance, documents)
         reply = server.ask(kind, body)
@@ -77,7 +78,8 @@ def main():
     times = int(sys.argv[1]) if len(sys.argv) > 1 else 200
     chance = random.Random(int(sys.argv[2]) if len(sys.argv) > 2 else time.time_ns())
     program = built()
-    counts = {"opens": 0, "before": 0, "after": 0, "neither": 0, "refused": 0, "killed before the first frame": 0}
+    counts = dict.fromkeys(
+        ("opens", "before", "after", "neither", "refused", "killed before the first frame"), 0)
     with tempfile.TemporaryDirectory() as folder:
         command = [program, "--file", pathlib.Path(folder) / "x.db"]
         before, after = {}, {}

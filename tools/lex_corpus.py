@@ -72,7 +72,8 @@ def answers_of(rows, crates, uses, program):
     folder = tempfile.mkdtemp()
     try:
         path = built(folder, crates, uses, program)
-        return subprocess.run([path], input=given, stdout=subprocess.PIPE, check=True).stdout.decode().split()
+        done = subprocess.run([path], input=given, stdout=subprocess.PIPE, check=True)
+        return done.stdout.decode().split()
     finally:
         shutil.rmtree(folder)
 

@@ -38,7 +38,8 @@ fn of<R: AllocGlobal>(rt: &R, text: &str) -> Result<&'static str, Fault> {
 def main():
     rows = [row for row in rows_of(sys.argv[1]) if row.get("e") != OF_TOKENS]
     read, refused = [0, 0], [0, 0]
-    for row, answer in zip(rows, answers_of(rows, CRATES, CRATES + ("sqlite_items",), PROGRAM), strict=True):
+    answers = answers_of(rows, CRATES, CRATES + ("sqlite_items",), PROGRAM)
+    for row, answer in zip(rows, answers, strict=True):
         is_refused = row.get("e") == OF_GRAMMAR
         wanted, count = (OF_GRAMMAR, refused) if is_refused else ("expression", read)
         count[1] += 1

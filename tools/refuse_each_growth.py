@@ -141,7 +141,9 @@ def fault(done, path=None):
             line = done.stderr.strip()
             silent = (b"xq_server: memory", b"xq_server: cannot open the store")
             if line == silent[0] or (tag == 0 and line == silent[1]):
-                return kept(path, documents) if done.returncode == 1 else f"status {done.returncode} after {line!r}"
+                if done.returncode == 1:
+                    return kept(path, documents)
+                return f"status {done.returncode} after {line!r}"
             return f"no reply to frame {tag}: {line!r}, status {done.returncode}"
         length, got, status = struct.unpack(">IIB", out[:9])
         text, out = out[9:length + 4], out[length + 4:]
@@ -165,12 +167,17 @@ def kept(path, documents):
     """What is wrong with the documents in the file, or None."""
     if path is None:
         return None
-    asked = [(b"L", b"", b"")] + [(b"Q", b"", b'doc("' + name + b'")') for name in sorted(documents)]
-    data = b"".join(struct.pack(">I", len(m)) + m for m in (message(1, *request) for request in asked))
+    reads = [(b"Q", b"", b'doc("' + name + b'")') for name in sorted(documents)]
+    asked = [(b"L", b"", b"")] + reads
+    messages = [message(1, *request) for request in asked]
+    data = b"".join(struct.pack(">I", len(m)) + m for m in messages)
     done = subprocess.run([PROGRAM, "--file", path], input=data, capture_output=True, timeout=60)
     replies = [answer(documents, *request)[:2] for request in asked]
-    wanted = b"".join(struct.pack(">IIB", len(text) + 5, 1, status) + text for status, text in replies)
-    return None if done.stdout == wanted else f"the file holds {done.stdout!r} {done.stderr!r} and not {wanted!r}"
+    wanted = b"".join(struct.pack(">IIB", len(text) + 5, 1, status) + text
+                      for status, text in replies)
+    if done.stdout == wanted:
+        return None
+    return f"the file holds {done.stdout!r} {done.stderr!r} and not {wanted!r}"
 
 
 def run(library, number, path=None, report=None):
@@ -192,7 +199,8 @@ def main():
     if not os.path.exists(PROGRAM):
         sys.exit("the program is not built: rt run in crates/xq_server")
     with tempfile.TemporaryDirectory() as folder:
-        source, library, report = (os.path.join(folder, n) for n in ("failing.c", "failing.so", "count"))
+        names = ("failing.c", "failing.so", "count")
+        source, library, report = (os.path.join(folder, name) for name in names)
         with open(source, "w") as file:
             file.write(FAILING)
         subprocess.run(["cc", "-shared", "-fPIC", "-O1", "-o", library, source, "-ldl"], check=True)

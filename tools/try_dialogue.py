@@ -23,7 +23,8 @@ def dialogue():
 
 
 def main():
-    server = subprocess.Popen(sys.argv[1:] or [TOP / "serve"], stdin=subprocess.PIPE, stdout=subprocess.PIPE)
+    server = subprocess.Popen(
+        sys.argv[1:] or [TOP / "serve"], stdin=subprocess.PIPE, stdout=subprocess.PIPE)
     wrong = 0
     for side, data in dialogue():
         if side == ">":

@@ -24,7 +24,8 @@ wrong = []
 
 def check(what, found, wanted):
     """Prints whether the one is the other."""
-    print("%-52s %s" % (what, "ok" if found == wanted else "found %r, wanted %r" % (found, wanted)), flush=True)
+    verdict = "ok" if found == wanted else "found %r, wanted %r" % (found, wanted)
+    print("%-52s %s" % (what, verdict), flush=True)
     if found != wanted:
         wrong.append(what)
 
@@ -53,7 +54,8 @@ def reads_with_sqlite(path):
     """The tables are as documented, to other readers of such files."""
     rows = sqlite3.connect("file:%s?mode=ro" % path, uri=True).execute(
         "SELECT pre, size, level, kind, name, value FROM node WHERE address = 'a' ORDER BY pre").fetchall()
-    check("sqlite3 reads its rows", (len(rows), rows[:2]), (8, [(0, 7, 0, 0, "", ""), (1, 6, 1, 1, "lib", "")]))
+    check("sqlite3 reads its rows", (len(rows), rows[:2]),
+          (8, [(0, 7, 0, 0, "", ""), (1, 6, 1, 1, "lib", "")]))
 
 
 def refuses(what, program, path, **how):
@@ -90,10 +92,12 @@ def damaged(path, copy):
 
 
 LAYOUT = "CREATE TABLE layout (edition INTEGER NOT NULL) STRICT"
-NODE = ("CREATE TABLE node (address TEXT NOT NULL, pre INTEGER NOT NULL, size INTEGER NOT NULL, level INTEGER NOT NULL, "
-        "kind INTEGER NOT NULL, name TEXT NOT NULL, value TEXT NOT NULL, PRIMARY KEY (address, pre)) STRICT")
-TURNED_NODE = ("CREATE TABLE node (value TEXT NOT NULL, name TEXT NOT NULL, kind INTEGER NOT NULL, level INTEGER NOT NULL, "
-               "size INTEGER NOT NULL, pre INTEGER NOT NULL, address TEXT NOT NULL, PRIMARY KEY (address, pre)) STRICT")
+NODE = ("CREATE TABLE node (address TEXT NOT NULL, pre INTEGER NOT NULL, size INTEGER NOT NULL, "
+        "level INTEGER NOT NULL, kind INTEGER NOT NULL, name TEXT NOT NULL, "
+        "value TEXT NOT NULL, PRIMARY KEY (address, pre)) STRICT")
+TURNED_NODE = ("CREATE TABLE node (value TEXT NOT NULL, name TEXT NOT NULL, "
+               "kind INTEGER NOT NULL, level INTEGER NOT NULL, size INTEGER NOT NULL, "
+               "pre INTEGER NOT NULL, address TEXT NOT NULL, PRIMARY KEY (address, pre)) STRICT")
 ONE = "INSERT INTO layout VALUES (1)"
 
 
@@ -109,48 +113,61 @@ def bad_files(program, folder, path):
     refuses("a directory", program, folder)
     refuses("a path in no directory", program, folder / "absent" / "x.db")
     refuses("a store with a changed byte", program, damaged(path, folder / "damaged.db"))
-    refuses("edition 9", program, written_by_sqlite(folder / "nine.db", LAYOUT, NODE, "INSERT INTO layout VALUES (9)"))
-    refuses("the table of editions alone", program, written_by_sqlite(folder / "alone.db", LAYOUT, ONE))
+    refuses("edition 9", program, written_by_sqlite(
+        folder / "nine.db", LAYOUT, NODE, "INSERT INTO layout VALUES (9)"))
+    refuses("the table of editions alone", program, written_by_sqlite(
+        folder / "alone.db", LAYOUT, ONE))
     refuses("the table of nodes alone", program, written_by_sqlite(folder / "nodes.db", NODE))
     refuses("a text that stands at the root", program, written_by_sqlite(
-        folder / "text.db", LAYOUT, NODE, ONE, "INSERT INTO node VALUES ('b', 0, 0, 0, 3, '', 'A')"))
+        folder / "text.db", LAYOUT, NODE, ONE,
+        "INSERT INTO node VALUES ('b', 0, 0, 0, 3, '', 'A')"))
     refuses("an address with a blank", program, written_by_sqlite(
-        folder / "address.db", LAYOUT, NODE, ONE, "INSERT INTO node VALUES ('b b', 0, 0, 0, 0, '', '')"))
+        folder / "address.db", LAYOUT, NODE, ONE,
+        "INSERT INTO node VALUES ('b b', 0, 0, 0, 0, '', '')"))
 
 
 def other_orders(program, folder):
-    """Tables that sqlite3 made in another order, of themselves or of their columns, are served as well."""
-    for number, made in enumerate([(NODE, LAYOUT, ONE), (LAYOUT, TURNED_NODE, ONE), (TURNED_NODE, LAYOUT, ONE)]):
+    """Tables that sqlite3 made in another order, of themselves or of their columns, are served as
+    well."""
+    orders = ((NODE, LAYOUT, ONE), (LAYOUT, TURNED_NODE, ONE), (TURNED_NODE, LAYOUT, ONE))
+    for number, made in enumerate(orders):
         path = written_by_sqlite(folder / ("order%d.db" % number), *made)
         server = Server([program, "--file", path])
-        check("tables in another order: stored", server.ask(b"S", store(b"b", LIBRARY)), (0, b"stored"))
+        check("tables in another order: stored",
+              server.ask(b"S", store(b"b", LIBRARY)), (0, b"stored"))
         check("  replaced", server.ask(b"S", store(b"b", LIBRARY)), (0, b"replaced"))
         check("  read", server.ask(b"Q", b'doc("b")'), (0, LIBRARY))
         check("  the input ends", server.end(), (0, ""))
-        check("  read after a start", Server([program, "--file", path]).ask(b"Q", b'doc("b")'), (0, LIBRARY))
+        check("  read after a start",
+              Server([program, "--file", path]).ask(b"Q", b'doc("b")'), (0, LIBRARY))
 
 
 def names_of_files(program, folder):
-    """PATH is taken as it stands; the engine can't open two kinds of names, and makes no file for them."""
+    """PATH is taken as it stands; the engine can't open two kinds of names, and makes no file for
+    them."""
     for name in (":memory:", "file:x"):
         before = sorted(os.listdir(folder))
         check("--file " + name, Server([program, "--file", name], cwd=folder).end(), REFUSED)
         check("  no file is made", sorted(os.listdir(folder)), before)
-        check("  with a folder it is a name", Server([program, "--file", "./" + name], cwd=folder).ask(b"L"), (0, b"()"))
+        check("  with a folder it is a name",
+              Server([program, "--file", "./" + name], cwd=folder).ask(b"L"), (0, b"()"))
 
 
 def taken_back(program, folder):
-    """What sqlite3 wrote into a file of the server is refused, and take_file.sh copies its documents into a new one."""
+    """What sqlite3 wrote into a file of the server is refused, and take_file.sh copies its documents
+    into a new one."""
     path = folder / "written.db"
     server = Server([program, "--file", path])
     check("a document is stored", server.ask(b"S", store(b"b", LIBRARY)), (0, b"stored"))
     check("the input ends", server.end(), (0, ""))
     written_by_sqlite(path, "UPDATE node SET value = 'C' WHERE pre = 4")
     refuses("a file that sqlite3 wrote to", program, path)
-    taken = subprocess.run([os.path.join(os.path.dirname(os.path.abspath(__file__)), "take_file.sh"), path, folder / "taken.db"],
-                           capture_output=True)
-    check("take_file.sh copies it", (taken.returncode, taken.stdout), (0, b"1 documents taken over\n"))
-    check("  the copy is served", Server([program, "--file", folder / "taken.db"]).ask(b"Q", b'doc("b")'),
+    script = os.path.join(os.path.dirname(os.path.abspath(__file__)), "take_file.sh")
+    taken = subprocess.run([script, path, folder / "taken.db"], capture_output=True)
+    check("take_file.sh copies it",
+          (taken.returncode, taken.stdout), (0, b"1 documents taken over\n"))
+    check("  the copy is served",
+          Server([program, "--file", folder / "taken.db"]).ask(b"Q", b'doc("b")'),
           (0, LIBRARY.replace(b'text {"A"}', b'text {"C"}')))
 
 
@@ -175,7 +192,8 @@ def main():
         restarts(program, path)
         reads_with_sqlite(path)
         (folder / "empty.db").touch()
-        check("an empty file holds nothing", Server([program, "--file", folder / "empty.db"]).ask(b"L"), (0, b"()"))
+        check("an empty file holds nothing",
+          Server([program, "--file", folder / "empty.db"]).ask(b"L"), (0, b"()"))
         bad_files(program, folder, path)
         other_orders(program, folder)
         names_of_files(program, folder)
@@ -185,7 +203,8 @@ def main():
             print("take_file.sh is not tried: there is no sqlite3 here")
         unwritable(program, folder, path)
     help_text = subprocess.run([program, "--help"], stdin=subprocess.DEVNULL, capture_output=True)
-    check("--help names the option", (help_text.returncode, b"--file <PATH>" in help_text.stdout), (0, True))
+    check("--help names the option",
+          (help_text.returncode, b"--file <PATH>" in help_text.stdout), (0, True))
     bad = subprocess.run([program, "--file"], stdin=subprocess.DEVNULL, capture_output=True)
     check("--file alone", (bad.returncode, bad.stderr), (2, b"xq_server: bad command line\n"))
     print("wrong: %d" % len(wrong))

@@ -29,7 +29,8 @@ counter = sys.argv[4] if len(sys.argv) > 4 else None
 
 def lines_of(*words, **environment):
     """The lines of a program, as words."""
-    done = subprocess.run(words, check=True, capture_output=True, text=True, env={**os.environ, **environment})
+    done = subprocess.run(words, check=True, capture_output=True, text=True,
+                          env={**os.environ, **environment})
     return [line.split() for line in done.stdout.splitlines()]
 
 
@@ -43,7 +44,8 @@ def run_once(times, *words):
 
 
 def times_of(rows):
-    """Microseconds of each call, the median of some runs: C's in memory and in a file, and ours on both kinds."""
+    """Microseconds of each call, the median of some runs: C's in memory and in a file, and ours on
+    both kinds."""
     words = {("c", "memory"): ("python3", os.path.join(HERE, "csqlite.py"), str(rows), ":memory:"),
              ("c", "file"): ("python3", os.path.join(HERE, "csqlite.py"), str(rows), os.path.join(folder, "c.db")),
              ("ours", "disks"): (program, "disks", str(rows), ""),
@@ -52,12 +54,14 @@ def times_of(rows):
     for _ in range(RUNS[rows]):
         for key, these in words.items():
             run_once(times[key], *these)
-    return {key: {name: statistics.median(all_of) for name, all_of in these.items()} for key, these in times.items()}
+    return {key: {name: statistics.median(all_of) for name, all_of in these.items()}
+            for key, these in times.items()}
 
 
 def report(kind, rows, ours, theirs, there):
     ratios = {name: ours[name] / theirs[name] for name in CALLS}
-    beyond = [name for name, limit in LIMITS.items() if there == "memory" and kind == "disks" and ratios[name] > limit]
+    beyond = [name for name, limit in LIMITS.items()
+              if there == "memory" and kind == "disks" and ratios[name] > limit]
     print(f"{kind:6} {rows:7}   " + "   ".join(f"{name} {ratios[name]:5.2f}" for name in CALLS)
           + f"   times C in {'a file' if there == 'file' else 'memory'}"
           + (f"   BEYOND THE LIMIT: {', '.join(beyond)}" if beyond else ""))
@@ -84,17 +88,19 @@ def compare():
 
 def resident():
     """The bytes that the process has resident, by the name of the moment."""
-    return {words[0]: int(words[2]) * PAGE for words in lines_of(program, "held", str(ROWS[-1]), "")}
+    lines = lines_of(program, "held", str(ROWS[-1]), "")
+    return {words[0]: int(words[2]) * PAGE for words in lines}
 
 
 def allocated():
-    """The bytes allocated and not freed, and those in blocks of 64 KiB, by the name of the moment."""
+    """The bytes allocated and not freed, and those in blocks of 64 KiB, by the moment's name."""
     lines = lines_of(program, "held", str(ROWS[-1]), "", LD_PRELOAD=counter)
     return {words[6]: (int(words[1]), int(words[5])) for words in lines}
 
 
 def memory():
-    """The database is the one that the last run in a file left, without its log; it never gets shorter."""
+    """The database is the one that the last run in a file left, without its log; it never gets
+    shorter."""
     size = os.path.getsize(os.path.join(folder, "ours.db"))
     print(f"memory {ROWS[-1]} rows: the database has {size / 1e6:.1f} MB")
     found = resident()
