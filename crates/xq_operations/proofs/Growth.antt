@@ -15,7 +15,7 @@ use Rattle.xq_values.specs.Readings.{item_at, items_at, IsIn, AreIn, Extends}
 use Rattle.xq_operations.specs.declared.frames.Focus.{Focus}
 use Rattle.xq_operations.specs.declared.frames.Frame.{Frame}
 use Rattle.xq_operations.specs.Views.{tuple_at, tuples_at, focus_at, frame_at, TupleIn, TuplesIn, FocusIn, FrameIn, Goes}
-use Rattle.xq_regions.proofs.Lists.{all_weaker, all_append}
+use Rattle.xq_regions.proofs.Lists.{all_weaker}
 
 pub map_same : {A B : Type 0} (f g : A → B) (P : A → Type 0) → ((x : A) → P x → f x ≡ g x) → (xs : List A) → AllByRecursion P xs → map f xs ≡ map g xs
 map_same f g P same [] h = refl

@@ -2,7 +2,6 @@
 use Rattle.std.proofs.Common.{◌≡◌, ◌++◌, List, [], ◌∷◌, map, reverse, true, false, Option, Some, None, Ok, Err, refl, sym, ◌∙◌, ap, subst}
 use Rattle.std.specs.Prelude.{if◌then◌else◌}
 use Rattle.std.specs.List.{AllByRecursion, flat_map}
-use Rattle.std.proofs.lemmas.Grind.{reverse_onto}
 use Rattle.xq_atoms.specs.declared.refusals.Code.{Code}
 use Rattle.xq_atoms.specs.declared.refusals.Code.TheVariants.{XPTY0019, XPTY0020}
 use Rattle.xq_atoms.specs.Judged.{Judged, ◌>>=◌}
@@ -28,7 +27,7 @@ use Rattle.xq_operations.specs.declared.frames.Focus.{Focus}
 use Rattle.xq_operations.specs.Views.{forget, focus_at, FocusIn, on_axis, after_double_slash}
 use Rattle.xq_operations.specs.private.Nodes.{nodes_among}
 use Rattle.xq_operations.proofs.Existing.{Exists, exists_at, is_in}
-use Rattle.xq_regions.proofs.Lists.{all_append, map_reverse, all_reverse}
+use Rattle.xq_regions.proofs.Lists.{map_reverse, all_reverse}
 
 after_node : (p : Place) (r : Judged (List Place)) → forget (r >>= (λ ps. Ok (p ∷ ps))) ≡ forget r
 after_node p (Ok ps) = refl

@@ -1,5 +1,5 @@
 -- Where a piece stands in a text.
-use Rattle.std.proofs.Common.{◌≡◌, ℕ, List, [], ◌∷◌, ◌++◌, length, Bool, true, false, ◌||◌, refl, sym, ap, nat_eq, ◌⊎◌, inl, inr, drop}
+use Rattle.std.proofs.Common.{◌≡◌, ℕ, List, [], ◌∷◌, ◌++◌, length, Bool, true, false, ◌||◌, refl, ap, nat_eq, ◌⊎◌, inl, inr, drop}
 use Rattle.std.specs.Prelude.{None}
 use Rattle.std.specs.List.{starts_with}
 use Rattle.std.specs.Str.Iter.{HasSubslice}

@@ -1,5 +1,5 @@
 -- The rows that an adoption reads, and the table that they are of.
-use Rattle.std.proofs.Common.{◌≡◌, ◌≢◌, ◌⊎◌, inl, inr, ◌+◌, ◌<◌, ◌≤◌, ℕ, ℤ, zero, suc, pos, Bool, true, false, not, cond, List, [], ◌∷◌, ◌++◌, map, filter, length, take, drop, slice_get, Option, None, Some, IsTrue, refl, sym, ap, ap₂, subst, ◌∙◌, arith, Ordering, Less, Equal, Greater, is_lt, is_gt, append-nil, append_assoc, get_or, add-one, drop-cons, length-drop}
+use Rattle.std.proofs.Common.{◌≡◌, ◌≢◌, ◌⊎◌, inl, inr, ◌+◌, ◌<◌, ◌≤◌, ℕ, ℤ, suc, pos, Bool, true, false, cond, List, [], ◌∷◌, ◌++◌, map, filter, length, take, drop, slice_get, Option, None, Some, IsTrue, refl, sym, ap, ap₂, subst, ◌∙◌, arith, Ordering, Less, Equal, Greater, is_lt, is_gt, append-nil, append_assoc, get_or, add-one, drop-cons, length-drop}
 use Rattle.std.specs.Ordering.{is_eq, ordering_reverse, ordering_then}
 use Rattle.std.specs.Cmp.{IsTotalOrder, then_total, int_cmp_is}
 use Rattle.std.specs.List.{AllByRecursion}
