@@ -10,6 +10,9 @@ for crate in xq_atoms xq_characters xq_regions xq_tuples; do
     cp -a "$top/crates/$crate" "$work/crates/"
 done
 cp "$top/bench/tuples/main.rattle" "$program/src/main.rt"
-{ grep -E '^(xq_atoms|xq_characters|xq_regions|xq_tuples):' "$top/crates.txt"; echo 'timings: xq_atoms xq_regions xq_tuples anyhow'; } > "$work/crates.txt"
+{
+    grep -E '^(xq_atoms|xq_characters|xq_regions|xq_tuples):' "$top/crates.txt"
+    echo 'timings: xq_atoms xq_regions xq_tuples anyhow'
+} > "$work/crates.txt"
 cd "$program"
 rt run

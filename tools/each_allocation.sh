@@ -4,8 +4,10 @@
 # is as it was, and the call succeeds when it is made again. A store on disks in memory may be shut
 # instead; then each later call is refused, and its files still hold the map as it was.
 #
-#   tools/each_allocation.sh [CRATE TEST..]      tests of another crate, where they are named; needs a C
-#                                                compiler; the tests are built by `rt test` first
+#   tools/each_allocation.sh [CRATE TEST..]
+#
+# CRATE and TESTs are those of another crate, where they are named. It needs a C compiler; the tests
+# are built by `rt test` first.
 set -eu
 top=$(cd "$(dirname "$0")/.." && pwd)
 work=$(mktemp -d)
@@ -62,7 +64,8 @@ C
 cc -shared -fPIC -O1 -o "$work/refuse.so" "$work/refuse.c" -ldl
 
 crate=${1:-xq_rows_tests}
-[ $# -gt 1 ] && shift || set -- tests::each_allocation_in_memory tests::each_allocation_on_memory_disks
+[ $# -gt 1 ] && shift || set -- tests::each_allocation_in_memory \
+    tests::each_allocation_on_memory_disks
 cd "$top/crates/$crate"
 program=out/${crate}_tests
 [ -x "$program" ] || rt test
@@ -70,7 +73,8 @@ for test in "$@"; do
     number=1
     while :; do
         rm -f "$work/refused"
-        if ! REFUSE=$number REFUSED="$work/refused" LD_PRELOAD="$work/refuse.so" "$program" "$test" > "$work/output" 2>&1; then
+        if ! REFUSE=$number REFUSED="$work/refused" LD_PRELOAD="$work/refuse.so" \
+            "$program" "$test" > "$work/output" 2>&1; then
             echo "$test, allocation $number: the test failed"
             cat "$work/output"
             exit 1

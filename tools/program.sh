@@ -4,6 +4,6 @@ program=$top/crates/xq_server/out/xq_server
 
 is_current() {
     [ -x "$program" ] || return 1
-    [ -z "$(find "$top/crates.txt" "$top"/crates/*/src "$top"/crates/*/specs "$top"/crates/*/proofs \
-        -type f -newer "$program" -print -quit 2>/dev/null)" ]
+    [ -z "$(find "$top/crates.txt" "$top"/crates/*/src "$top"/crates/*/specs \
+        "$top"/crates/*/proofs -type f -newer "$program" -print -quit 2>/dev/null)" ]
 }

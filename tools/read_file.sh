@@ -22,5 +22,11 @@ b|5|2|2|1|book|
 b|6|0|3|2|id|2
 b|7|0|3|3||B
 ROWS
-sqlite3 "$work/library.db" 'PRAGMA integrity_check; SELECT * FROM layout; SELECT * FROM node ORDER BY address, pre' > "$work/rows"
-diff "$work/expected" "$work/rows" && sqlite3 "$work/library.db" .schema && echo "sqlite3 sees the rows"
+sqlite3 "$work/library.db" > "$work/rows" <<'SQL'
+PRAGMA integrity_check;
+SELECT * FROM layout;
+SELECT * FROM node ORDER BY address, pre;
+SQL
+diff "$work/expected" "$work/rows"
+sqlite3 "$work/library.db" .schema
+echo "sqlite3 sees the rows"

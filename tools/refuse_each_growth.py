@@ -225,8 +225,8 @@ def main():
                 wanting += done.stdout != whole.stdout
         for line in faults:
             print(line)
-        print(f"{total} allocations; refused {len(numbers)} of them, one a run; {wanting} runs differ from that "
-              f"with ample memory; {len(faults)} faults")
+        print(f"{total} allocations; refused {len(numbers)} of them, one a run; {wanting} runs "
+              f"differ from that with ample memory; {len(faults)} faults")
         sys.exit(1 if faults else 0)
 
 

@@ -12,7 +12,8 @@ room=$(mktemp -d); trap 'rm -rf "$room"' EXIT
 git clone -q "$top" "$room/clone"
 crates=${*:-$(cd "$top/crates" && for d in */more-edits; do echo "${d%/more-edits}"; done)}
 for folder in "$top"/crates/*/out; do
-    [ -d "$folder" ] && cp -a "$folder" "$room/clone/crates/$(basename "$(dirname "$folder")")/" || true
+    crate=$(basename "$(dirname "$folder")")
+    [ -d "$folder" ] && cp -a "$folder" "$room/clone/crates/$crate/" || true
 done
 cd "$room/clone"
 for crate in $crates; do

@@ -53,7 +53,8 @@ def restarts(program, path):
 def reads_with_sqlite(path):
     """The tables are as documented, to other readers of such files."""
     rows = sqlite3.connect("file:%s?mode=ro" % path, uri=True).execute(
-        "SELECT pre, size, level, kind, name, value FROM node WHERE address = 'a' ORDER BY pre").fetchall()
+        "SELECT pre, size, level, kind, name, value FROM node WHERE address = 'a' ORDER BY pre"
+    ).fetchall()
     check("sqlite3 reads its rows", (len(rows), rows[:2]),
           (8, [(0, 7, 0, 0, "", ""), (1, 6, 1, 1, "lib", "")]))
 
@@ -154,8 +155,8 @@ def names_of_files(program, folder):
 
 
 def taken_back(program, folder):
-    """What sqlite3 wrote into a file of the server is refused, and take_file.sh copies its documents
-    into a new one."""
+    """What sqlite3 wrote into a file of the server is refused, and take_file.sh copies its
+    documents into a new one."""
     path = folder / "written.db"
     server = Server([program, "--file", path])
     check("a document is stored", server.ask(b"S", store(b"b", LIBRARY)), (0, b"stored"))

@@ -14,7 +14,9 @@ for name in xq_atoms xq_characters xq_regions xq_sources xq_memory_disk xq_rows;
     mkdir -p "$work/crates/$name"
     for part in src specs proofs out; do
         rm -rf "${work:?}/crates/$name/$part"
-        if [ -d "$top/crates/$name/$part" ]; then cp -a "$top/crates/$name/$part" "$work/crates/$name/"; fi
+        if [ -d "$top/crates/$name/$part" ]; then
+            cp -a "$top/crates/$name/$part" "$work/crates/$name/"
+        fi
     done
     grep "^$name:" "$top/crates.txt"
 done > "$work/crates.txt"

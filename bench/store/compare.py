@@ -47,7 +47,8 @@ def times_of(rows):
     """Microseconds of each call, the median of some runs: C's in memory and in a file, and ours on
     both kinds."""
     words = {("c", "memory"): ("python3", os.path.join(HERE, "csqlite.py"), str(rows), ":memory:"),
-             ("c", "file"): ("python3", os.path.join(HERE, "csqlite.py"), str(rows), os.path.join(folder, "c.db")),
+             ("c", "file"): ("python3", os.path.join(HERE, "csqlite.py"), str(rows),
+                             os.path.join(folder, "c.db")),
              ("ours", "disks"): (program, "disks", str(rows), ""),
              ("ours", "file"): (program, "file", str(rows), os.path.join(folder, "ours.db"))}
     times = {key: {} for key in words}
@@ -76,7 +77,8 @@ def compare():
             for there in others:
                 report(kind, rows, ours, found["c", there], there)
             print(f"{kind:6} {rows:7}   " + "   ".join(
-                f"{name} {ours[name] / (SINGLE if name == 'single' else 1) / 1000:.2f} ms" for name in CALLS)
+                f"{name} {ours[name] / (SINGLE if name == 'single' else 1) / 1000:.2f} ms"
+                for name in CALLS)
                 + f"   first write after the put {ours['first'] / 1000:.2f} ms")
     for kind in ("disks", "file"):
         for name in ("replace", "drop"):
@@ -110,9 +112,10 @@ def memory():
         if counter:
             held = counted[name][0] - counted["document"][0]
             disks = counted[name][1] - counted["document"][1]
-            words += [f"{held / 1e6:.1f} MB or {held / size:.2f} databases allocated and not freed, "
-                      f"{disks / 1e6:.1f} MB of it in blocks of the disks"
-                      + (f" BEYOND THE LIMIT {HELD}" if name in LIMITED and held > HELD * size else "")]
+            beyond = name in LIMITED and held > HELD * size
+            words += [f"{held / 1e6:.1f} MB or {held / size:.2f} databases allocated and not freed"
+                      f", {disks / 1e6:.1f} MB of it in blocks of the disks"
+                      + (f" BEYOND THE LIMIT {HELD}" if beyond else "")]
         more = found[name] - found["document"]
         words += [f"{more / 1e6:.1f} MB or {more / size:.2f} databases resident"]
         print(f"memory after {name}, above what was there before the store: " + "; ".join(words))

@@ -16,9 +16,9 @@ if path != ":memory:":
     base.execute("PRAGMA journal_mode=WAL")
     base.execute("PRAGMA synchronous=FULL")
 base.execute("CREATE TABLE layout (edition INTEGER NOT NULL) STRICT")
-base.execute("CREATE TABLE node (address TEXT NOT NULL, pre INTEGER NOT NULL, size INTEGER NOT NULL,"
-             " level INTEGER NOT NULL, kind INTEGER NOT NULL, name TEXT NOT NULL, value TEXT NOT NULL,"
-             " PRIMARY KEY (address, pre)) STRICT")
+base.execute("CREATE TABLE node (address TEXT NOT NULL, pre INTEGER NOT NULL,"
+             " size INTEGER NOT NULL, level INTEGER NOT NULL, kind INTEGER NOT NULL,"
+             " name TEXT NOT NULL, value TEXT NOT NULL, PRIMARY KEY (address, pre)) STRICT")
 base.execute("INSERT INTO layout VALUES (1)")
 
 

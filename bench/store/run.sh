@@ -3,7 +3,9 @@
 # file, beside C SQLite (python3's sqlite3), which replaces by one DELETE, in the same run, and
 # measures the memory that it holds.
 #
-#   bench/store/run.sh [FOLDER]       FOLDER keeps the built program from run to run (default: a new one)
+#   bench/store/run.sh [FOLDER]
+#
+# FOLDER keeps the built program from run to run (default: a new one).
 #
 # QUIET is a command under which the times are taken, as one that keeps the machine from others
 # meanwhile.
@@ -20,4 +22,6 @@ python3 "$here/compare.py" memory "$program" "$work/files" $(ls "$work/held.so" 
 
 # The engine's own store in memory deletes in time that grows with the square of the rows, so it
 # stops early.
-for rows in 1000 2000 4000 8000; do echo "memory $rows rows, microseconds:" $("$program" memory "$rows"); done
+for rows in 1000 2000 4000 8000; do
+    echo "memory $rows rows, microseconds:" $("$program" memory "$rows")
+done
