@@ -1,5 +1,5 @@
-//! From expressions to plans: the normal form, without abbreviations, and the plan, with numbered
-//! slots in place of names and scans in place of steps. Each means what the expression means.
+//! Normal forms of expressions: without abbreviations, and with one binding in a clause. Each means
+//! what its expression means.
 #![tactic(auto)]
 
 ghost use Rattle.std.specs.Prelude.{◌≡◌, IfErr, IfOk};

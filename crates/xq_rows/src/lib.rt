@@ -2,7 +2,7 @@
 //! call leaves it as it was.
 //!
 //! The tables, their statements and the words of the database end in this crate. What lies
-//! above it sees [`Store`] alone.
+//! above it sees a [`Store`] and its [`View`] alone.
 #![tactic(auto)]
 
 mod adopt;

@@ -1,7 +1,7 @@
 //! One function for each statement that a store runs, with what it does to the tables.
 //!
-//! Nothing above this file knows a text of SQL. A write runs inside a transaction, and a query
-//! outside one.
+//! Texts of SQL stand here, in `adopt` and in `tables`, and nowhere above. A write runs inside a
+//! transaction, and a query outside one.
 ghost use Rattle.std.specs.Prelude.{◌≡◌, [], ◌∷◌, map, false, string_bytes, IfOk, OnOk, IsTrue};
 ghost use Rattle.sqlite.specs.State.{HasCleanDisk};
 ghost use Rattle.sqlite.specs.Held.{state};
