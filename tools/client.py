@@ -85,5 +85,6 @@ class Server:
         return self.process.wait(), line
 
     def kill(self):
-        """Ends the process at once, wherever it is."""
+        """Ends the process at once, wherever it is, and waits until it has ended."""
         self.process.kill()
+        self.process.wait()

@@ -9,6 +9,7 @@ is well.
 """
 import os
 import pathlib
+import resource
 import shutil
 import sqlite3
 import subprocess
@@ -19,6 +20,8 @@ sys.path.insert(0, os.path.dirname(os.path.abspath(__file__)))
 from client import LIBRARY, Server, built, store
 
 REFUSED = (1, "xq_server: cannot open the store\n")
+# Bytes that no file of a server may pass: its log is made, and has room for some stores.
+FULL = 300_000
 wrong = []
 
 
@@ -172,6 +175,45 @@ def taken_back(program, folder):
           (0, LIBRARY.replace(b'text {"A"}', b'text {"C"}')))
 
 
+def full_disk(program, folder):
+    """Where the log can't grow, a store is refused, the documents are as before, and the server
+    goes on."""
+    path = folder / "full.db"
+    server = Server([program, "--file", path], restore_signals=False, preexec_fn=lambda:
+                    resource.setrlimit(resource.RLIMIT_FSIZE, (FULL, FULL)))
+    count = 0
+    while server.ask(b"S", store(b"b%d" % count, LIBRARY)) == (0, b"stored"):
+        count += 1
+    check("a file that can't grow takes some documents", count > 1, True)
+    check("  the next is not done", server.ask(b"S", store(b"c", LIBRARY)), (2, b"store"))
+    check("  no drop is either", server.ask(b"D", b"b0"), (2, b"store"))
+    counted = (0, b"%d" % count)
+    check("  the others are there", server.ask(b"Q", b"count(collection())"), counted)
+    check("  the input ends", server.end(), (0, ""))
+    again = Server([program, "--file", path])
+    check("  with room they are there", again.ask(b"Q", b"count(collection())"), counted)
+    check("  and it takes more", again.ask(b"S", store(b"c", LIBRARY)), (0, b"stored"))
+    again.end()
+
+
+def read_by_others(program, folder):
+    """Stock sqlite3 finds the file locked while a server has it; of one that was killed it reads
+    the log too, and leaves both so that the next server opens them."""
+    path = folder / "killed.db"
+    read = ("sqlite3", "-readonly", path, "SELECT count(*) FROM node")
+    server = Server([program, "--file", path])
+    check("a document is stored", server.ask(b"S", store(b"b", LIBRARY)), (0, b"stored"))
+    beside = subprocess.run(read, capture_output=True, text=True)
+    check("sqlite3 finds it locked", "database is locked" in beside.stderr, True)
+    server.kill()
+    for words in (read, read[:1] + read[2:]):
+        after = subprocess.run(words, capture_output=True, text=True)
+        check("  after a kill it reads it", after.stdout, "8\n")
+        again = Server([program, "--file", path])
+        check("  and a server opens it", again.ask(b"Q", b'doc("b")'), (0, LIBRARY))
+        again.kill()
+
+
 def unwritable(program, folder, path):
     """A file that its server may read and not write, which takes a user other than root."""
     if os.geteuid() != 0:
@@ -198,10 +240,12 @@ def main():
         bad_files(program, folder, path)
         other_orders(program, folder)
         names_of_files(program, folder)
+        full_disk(program, folder)
         if shutil.which("sqlite3"):
+            read_by_others(program, folder)
             taken_back(program, folder)
         else:
-            print("take_file.sh is not tried: there is no sqlite3 here")
+            print("sqlite3 is not here: it is not tried as a reader, and take_file.sh neither")
         unwritable(program, folder, path)
     help_text = subprocess.run([program, "--help"], stdin=subprocess.DEVNULL, capture_output=True)
     check("--help names the option",
