@@ -7,10 +7,8 @@ one second to the next; a time is the least of so many runs.
 import subprocess
 import sys
 
-# The most that a time may grow where the length doubles twice: 2.3 times each on the average; a
-# square would take 16. One doubling alone says less: where what a walk reads outgrows a cache, it
-# takes up to 2.5 times as long, while the instructions grow 1.9 times.
-MOST = 5.3
+# The most that a time may grow where the length doubles.
+MOST = 2.3
 # Microseconds too few for a ratio.
 SHORT = 100
 
@@ -42,15 +40,17 @@ def times(program, texts, wanted, runs):
 
 def measure(program, queries, wanted, runs):
     """Prints the times of queries, each a name, its greatest length and what makes a text of a
-    length; gives 0 where each grows within the bound, and 1 elsewhere."""
+    length; gives 0 where each doubling is within the bound, and 1 elsewhere."""
     within = True
     print("%-20s %10s %10s %8s" % ("query", "bytes", "ms", "ratio"))
     for name, most, make in queries:
         texts = [make(size) for size in (most // 4, most // 2, most)]
-        found = times(program, texts, wanted, runs)
-        for text, time, before in zip(texts, found, [None] + found):
-            shown = "%.2f" % (time / before) if before and before > SHORT else ""
+        before = None
+        for text, time in zip(texts, times(program, texts, wanted, runs)):
+            ratio = time / before if before and before > SHORT else None
+            within = within and (ratio is None or ratio <= MOST)
+            shown = "" if ratio is None else "%.2f" % ratio
             print("%-20s %10d %10.2f %8s" % (name, len(text), time / 1000, shown), flush=True)
-        within = within and (found[0] <= SHORT or found[-1] <= MOST * found[0])
-    print("two doublings at most %.1f times: %s" % (MOST, "yes" if within else "no"))
+            before = time
+    print("each doubling at most %.1f times: %s" % (MOST, "yes" if within else "no"))
     return 0 if within else 1
