@@ -107,6 +107,14 @@ impl Fragment {
         &self.nodes
     }
 
+    /// The rows, to keep.
+    pub fn into_rows(self) -> Vec<NodeRow>
+        ensures { Encodes result.items self }
+    {
+        let Fragment { nodes } = self;
+        nodes
+    }
+
     /// Whether the tree is a document.
     pub fn is_document(&self) -> bool
         ensures { IsTrue result ↔ (self.now.root.kind ≡ Kind.Document) }
