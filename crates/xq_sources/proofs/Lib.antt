@@ -1,3 +1,4 @@
 pub mod AttributeRows
 pub mod Intervals
 pub mod ReadRows
+pub mod Rising

@@ -3,4 +3,5 @@ pub mod Sources
 pub mod Lenders
 pub mod Parents
 pub mod AttributeRows
+pub mod Addresses
 pub mod private

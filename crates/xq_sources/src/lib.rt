@@ -1,6 +1,7 @@
 //! Where trees are read from: sources, which give copies of rows, and lenders, which lend them.
 #![tactic(auto)]
 
+mod addresses;
 mod attributes;
 mod fragments;
 mod guides;
@@ -9,6 +10,7 @@ mod meters;
 mod rows;
 mod sources;
 
+pub use addresses::Addresses;
 pub use attributes::count_attributes;
 pub use fragments::Fragments;
 pub use guides::Guide;
