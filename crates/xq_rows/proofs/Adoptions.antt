@@ -1,5 +1,5 @@
 -- What an adoption comes to, from what it does to the tables.
-use Rattle.std.proofs.Common.{◌≡◌, IsTrue, sym, ap, subst}
+use Rattle.std.proofs.Common.{◌≡◌, ◌||◌, Bool, true, false, Option, Some, None, IfSome, IsTrue, refl, sym, ap, subst, ◌∙◌, arith}
 use Rattle.std.specs.FinMap.{empty}
 use Rattle.sqlite_trees.specs.declared.store.Store.{Ghosts}
 use Rattle.sqlite.specs.Held.{Held, state}
@@ -8,7 +8,10 @@ use Rattle.xq_rows.specs.private.Adopt.{IsAdopted, IsNoStore}
 use Rattle.xq_rows.specs.Adoption.{IsBlank, HasTables, HasOneTable}
 use Rattle.xq_rows.specs.Documents.{IsReady, IsClean, IsOpen, IsUp, HoldsDocuments, StandsFor, documents, documents_in, IsStore}
 use Rattle.xq_rows.proofs.Maps.{no_documents}
-use Rattle.xq_rows.specs.Tables.{node_rows}
+use Rattle.xq_rows.specs.Tables.{node_rows, no_schema, IsStoreSchema}
+use Rattle.xq_rows.specs.declared.shelves.Shelf.{Shelf}
+use Rattle.xq_rows.specs.private.Keeps.{AreOf, IsKeeping, Keeps, StaysOutside}
+use Rattle.xq_rows.specs.private.Statements.{IsEmptyStore}
 
 module _ {S : Type 0} (g : Ghosts S) (conn new : Held S) where
   module _ (ends : HasCleanDisk (state g new) → IsTrue (state g new).is_open) where
@@ -44,3 +47,54 @@ module _ {S : Type 0} (g : Ghosts S) (conn new : Held S) where
   pub kept_up : (IsReady (state g new) → (state g new).now ≡ (state g conn).now) → IsUp g new → (state g new).now ≡ (state g conn).now
   unfolding IsUp
   kept_up kept up = kept up
+
+-- What is kept of the database was read after the adoption, which is `mid`.
+module _ {S : Type 0} (g : Ghosts S) (conn mid new : Held S) (one : StaysOutside g conn mid) (two : StaysOutside g mid new) (blank tables : Bool) (was_blank : IsTrue blank → (state g conn).now.schema ≡ no_schema)
+    (had_tables : IsTrue tables → IsStoreSchema (state g conn).now.schema) (same : IsReady (state g new) → (IsTrue tables → IsStoreSchema (state g mid).now.schema) → (state g new).now ≡ (state g mid).now)
+    (did : IsReady (state g mid) → IsAdopted (state g conn).now (state g mid).now) where
+  mid_ready : IsReady (state g new) → IsReady (state g mid)
+  mid_ready ready = let c = two.clean in let was : HasCleanDisk (state g mid) = omega (arith, c, ready.0) in (was, two.was_open ready)
+
+  pub both_outside : StaysOutside g conn new
+  both_outside = record {
+    mode = two.mode;
+    clean = (let c = one.clean in let d = two.clean in omega (arith, c, d));
+    was_open = λ ready. one.was_open (mid_ready ready);
+  }
+
+  pub ends_on : (HasCleanDisk (state g mid) → IsTrue (state g mid).is_open) → (HasCleanDisk (state g new) → IsTrue (state g mid).is_open → IsTrue (state g new).is_open) → HasCleanDisk (state g new) → IsTrue (state g new).is_open
+  ends_on first second clean = let c = two.clean in let was : HasCleanDisk (state g mid) = omega (arith, c, clean) in second clean (first was)
+
+  still : IsReady (state g new) → (state g new).now ≡ (state g mid).now
+  still ready = same ready (λ has. subst (λ db. IsStoreSchema db.schema) (sym ((did (mid_ready ready)).found (had_tables has)).0) (had_tables has))
+
+  pub adopted_on : IsReady (state g new) → IsAdopted (state g conn).now (state g new).now
+  adopted_on ready = subst (IsAdopted (state g conn).now) (sym (still ready)) (did (mid_ready ready))
+
+  pub kept_on : IsTrue tables → IsReady (state g new) → (state g new).now ≡ (state g conn).now
+  kept_on has ready = ((adopted_on ready).found (had_tables has)).0
+
+  own_adopted : IsTrue (blank || tables) → IsReady (state g new) → IsStore (state g new).now
+  own_adopted own ready = go blank refl
+    where
+      go : (b : Bool) → blank ≡ b → IsStore (state g new).now
+      go true e = ((adopted_on ready).made (was_blank e)).0
+      go false e = (
+          let has : IsTrue tables = sym (ap (λ b. b || tables) e) ∙ own in
+          let found = (adopted_on ready).found (had_tables has) in
+          subst IsStore (sym found.0) found.1)
+
+  pub keeping_adopted : (shelf : Option Shelf) → (IsReady (state g new) → (IsTrue blank → IsEmptyStore (state g mid).now) → (IsTrue tables → IsStore (state g mid).now) → IfSome shelf (λ s. AreOf (state g mid).now s.addresses.value s.fronts.items))
+      → IfSome shelf (λ s. IsTrue (blank || tables)) → IsKeeping g new (blank || tables) shelf
+  keeping_adopted shelf of own = record { outside = two.mode; own = own_adopted; keeps = go shelf of own }
+    where
+      go : (shelf : Option Shelf) → (IsReady (state g new) → (IsTrue blank → IsEmptyStore (state g mid).now) → (IsTrue tables → IsStore (state g mid).now) → IfSome shelf (λ s. AreOf (state g mid).now s.addresses.value s.fronts.items))
+          → IfSome shelf (λ s. IsTrue (blank || tables)) → Keeps g new (blank || tables) shelf
+      go None of own = tt
+      go (Some s) of own = record {
+        own = own;
+        of = λ ready. (
+            let adopted = did (mid_ready ready) in
+            subst (λ db. AreOf db s.addresses.value s.fronts.items) (sym (still ready))
+            (of ready (λ b. adopted.made (was_blank b)) (λ has. (let found = adopted.found (had_tables has) in subst IsStore (sym found.0) found.1))));
+      }

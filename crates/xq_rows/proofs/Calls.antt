@@ -177,6 +177,10 @@ module _ {S : Type 0} (g : Ghosts S) (new : Held S) where
   unfolding IsClean IsOpen
   leaves_open ends clean = ends clean
 
+pub on_ok_clean : {S A B : Type 0} (g : Ghosts S) (new : Held S) (r : Result A B) → (HasCleanDisk (state g new) → OnOk r (IsTrue (state g new).is_open)) → IsClean g new → OnOk r (IsOpen g new)
+unfolding IsClean IsOpen
+on_ok_clean g new r ends clean = ends clean
+
 -- a new store
 module _ {S : Type 0} (g : Ghosts S) (store : Held S) (ready : IsReady (state g store)) (made : IsEmptyStore (state g store).now) where
   pub new_clean : IsClean g store

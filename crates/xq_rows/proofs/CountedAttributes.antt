@@ -1,5 +1,5 @@
 -- The attributes of a node, by the rows that are kept of a tree.
-use Rattle.std.proofs.Common.{◌≡◌, ◌+◌, ◌<◌, ◌≤◌, ℕ, Bool, true, false, not, List, length, map, take, sym, subst, arith, Vec, Global, Option, Some, None, IfSome}
+use Rattle.std.proofs.Common.{◌≡◌, ◌+◌, ◌<◌, ◌≤◌, ℕ, Bool, true, false, not, List, length, map, take, sym, subst, arith, Option, Some, None, IfSome}
 use Rattle.sqlite_trees.specs.declared.store.Store.{Ghosts}
 use Rattle.xq_regions.specs.Tree.{Tree, IsTree, is_attribute}
 use Rattle.xq_regions.specs.Rows.{Row, rows, row_of}
@@ -9,6 +9,7 @@ use Rattle.xq_sources.specs.AttributeRows.{AreAttributeRows}
 use Rattle.xq_sources.specs.Sources.{tree_at as nth_tree}
 use Rattle.xq_rows.specs.Documents.{IsClean}
 use Rattle.xq_rows.specs.Views.{Beginning, HeldDocuments, Viewed, trees_under}
+use Rattle.xq_rows.specs.declared.shelves.Front.{Front}
 use Rattle.xq_rows.specs.private.Shelves.{IsFront, IsShelved, front_at}
 use Rattle.xq_rows.proofs.FrontLaws.{as_many, front_is}
 use Rattle.xq_rows.proofs.Lends.{is_held_tree}
@@ -36,7 +37,7 @@ counted-first n xs v number a =
 counted-of-front : (t : Tree) (rs : List NodeRow) → IsFront t rs → (v number : ℕ) → AreAttributeRows (map row_of rs) v number → AreAttributeRows (rows t) v number
 counted-of-front t rs front v number a = counted-first (length rs) (rows t) v number (subst (λ xs. AreAttributeRows xs v number) (first-rows t rs front) a)
 
-module _ {S : Type 0} (g : Ghosts S) (b : Beginning) (v : Viewed S) (fronts : List (Vec NodeRow Global)) (stays : Bool) (is : IsShelved g b v fronts stays) (clean : IsClean g v.store) (held : HeldDocuments b) (tree node : ℕ) where
+module _ {S : Type 0} (g : Ghosts S) (b : Beginning) (v : Viewed S) (fronts : List Front) (stays : Bool) (is : IsShelved g b v fronts stays) (clean : IsClean g v.store) (held : HeldDocuments b) (tree node : ℕ) where
   abbrev trees : List Tree
   trees = trees_under b v.addresses
 

@@ -1,5 +1,5 @@
 -- The first rows of a tree: what they lend, and what is read on.
-use Rattle.std.proofs.Common.{◌≡◌, ◌+◌, ◌-◌, ◌≤◌, ◌<◌, ℕ, zero, suc, Bool, false, List, [], ◌∷◌, ◌++◌, length, map, take, drop, inl, inr, get_or, set, length-append, Result, Ok, Err, OnOk, refl, sym, ap, subst, ◌∙◌, arith, Vec, Global}
+use Rattle.std.proofs.Common.{◌≡◌, ◌+◌, ◌-◌, ◌≤◌, ◌<◌, ℕ, zero, suc, Bool, false, List, [], ◌∷◌, ◌++◌, length, map, take, drop, inl, inr, get_or, set, length-append, Result, Ok, Err, OnOk, refl, sym, ap, subst, ◌∙◌, arith}
 use Rattle.std.specs.Prelude.{filter, cond, nat_lt, nat_le}
 use Rattle.std.specs.List.{enumerate_from, AllByRecursion}
 use Rattle.std.proofs.lemmas.Bool.{and_left}
@@ -14,6 +14,7 @@ use Rattle.xq_sources.specs.Sources.{encloses, rows_between, rows_enclosing, tre
 use Rattle.xq_sources.proofs.Intervals.{between-places}
 use Rattle.xq_rows.proofs.Loads.{length-labels}
 use Rattle.xq_rows.proofs.ViewLaws.{one_placed}
+use Rattle.xq_rows.specs.declared.shelves.Front.{Front}
 use Rattle.xq_rows.specs.private.Shelves.{AreFronts, HasReached, IsFront, Reaches, front_at, run_of}
 
 -- # Lists
@@ -80,7 +81,7 @@ length-first zero xs = omega arith
 length-first (suc n) [] = omega arith
 length-first (suc n) (x ∷ xs) = let more = length-first n xs in omega (arith, more)
 
-all-first : {X : Type 0} (n : ℕ) (xs : List X) → length xs ≤ n → take n xs ≡ xs
+pub all-first : {X : Type 0} (n : ℕ) (xs : List X) → length xs ≤ n → take n xs ≡ xs
 all-first zero [] h = refl
 all-first zero (x ∷ xs) h = absurd (omega (arith, h))
 all-first (suc n) [] h = refl
@@ -182,7 +183,7 @@ module _ (t : Tree) (kept : List NodeRow) (front : IsFront t kept) where
 
 -- # The first rows of each tree
 
-pub front_is : (trees : List Tree) (fronts : List (Vec NodeRow Global)) (i : ℕ) → AreFronts trees fronts → i < length fronts → IsFront (tree_at trees i) (front_at fronts i)
+pub front_is : (trees : List Tree) (fronts : List Front) (i : ℕ) → AreFronts trees fronts → i < length fronts → IsFront (tree_at trees i) (front_at fronts i)
 front_is [] [] i are h = absurd (omega (arith, h))
 front_is [] (f ∷ fronts) i are h = elim are [ ]
 front_is (t ∷ trees) [] i are h = elim are [ ]
@@ -190,26 +191,26 @@ front_is (t ∷ trees) (f ∷ fronts) zero are h = are.0
 front_is (t ∷ trees) (f ∷ fronts) (suc i) are h = front_is trees fronts i are.1 (omega (arith, h))
 
 -- that of a list which was looked up
-pub its_front : (trees : List Tree) (fronts : List (Vec NodeRow Global)) (i : ℕ) (v : Vec NodeRow Global) → AreFronts trees fronts → i < length fronts → v ≡ get_or fronts i v → IsFront (tree_at trees i) v.items
+pub its_front : (trees : List Tree) (fronts : List Front) (i : ℕ) (v : Front) → AreFronts trees fronts → i < length fronts → v ≡ get_or fronts i v → IsFront (tree_at trees i) v.rows.items
 its_front [] [] i v are h e = absurd (omega (arith, h))
 its_front [] (f ∷ fronts) i v are h e = elim are [ ]
 its_front (t ∷ trees) [] i v are h e = elim are [ ]
-its_front (t ∷ trees) (f ∷ fronts) zero v are h e = subst (λ (v : Vec NodeRow Global). IsFront t v.items) (sym e) are.0
+its_front (t ∷ trees) (f ∷ fronts) zero v are h e = subst (λ (v : Front). IsFront t v.rows.items) (sym e) are.0
 its_front (t ∷ trees) (f ∷ fronts) (suc i) v are h e = its_front trees fronts i v are.1 (omega (arith, h)) e
 
-pub as_many : (trees : List Tree) (fronts : List (Vec NodeRow Global)) → AreFronts trees fronts → length fronts ≡ length trees
+pub as_many : (trees : List Tree) (fronts : List Front) → AreFronts trees fronts → length fronts ≡ length trees
 as_many [] [] are = refl
 as_many [] (f ∷ fronts) are = elim are [ ]
 as_many (t ∷ trees) [] are = elim are [ ]
 as_many (t ∷ trees) (f ∷ fronts) are = ap suc (as_many trees fronts are.1)
 
 -- a tree of which rows are kept is there
-pub has_front : (fronts : List (Vec NodeRow Global)) (tree place : ℕ) → place < length (front_at fronts tree) → tree < length fronts
+pub has_front : (fronts : List Front) (tree place : ℕ) → place < length (front_at fronts tree) → tree < length fronts
 has_front [] tree place h = absurd (omega (arith, h))
 has_front (front ∷ fronts) zero place h = omega arith
 has_front (front ∷ fronts) (suc tree) place h = let more = has_front fronts tree place h in omega (arith, more)
 
-pub reached_in : (trees : List Tree) (fronts : List (Vec NodeRow Global)) (tree place : ℕ) → AreFronts trees fronts → place < length (front_at fronts tree) → HasReached trees fronts tree place
+pub reached_in : (trees : List Tree) (fronts : List Front) (tree place : ℕ) → AreFronts trees fronts → place < length (front_at fronts tree) → HasReached trees fronts tree place
 reached_in trees fronts tree place are h = record {
   tree_in = let many = as_many trees fronts are in let there = has_front fronts tree place h in omega (arith, many, there);
   reaches = inl h;
@@ -218,25 +219,25 @@ reached_in trees fronts tree place are h = record {
 pub none_yet : (t : Tree) (rows : List NodeRow) → rows ≡ [] → IsFront t rows
 none_yet t rows e = subst (IsFront t) (sym e) refl
 
-pub empty_fronts : (trees : List Tree) (fronts : List (Vec NodeRow Global)) → length trees ≡ length fronts → AllByRecursion (λ (v : Vec NodeRow Global). v.items ≡ []) fronts → AreFronts trees fronts
+pub empty_fronts : (trees : List Tree) (fronts : List Front) → length trees ≡ length fronts → AllByRecursion (λ (v : Front). v.rows.items ≡ []) fronts → AreFronts trees fronts
 empty_fronts [] [] n h = tt
 empty_fronts [] (f ∷ fronts) n h = absurd (omega (arith, n))
 empty_fronts (t ∷ trees) [] n h = absurd (omega (arith, n))
-empty_fronts (t ∷ trees) (f ∷ fronts) n h = (none_yet t f.items h.0, empty_fronts trees fronts (omega (arith, n)) h.1)
+empty_fronts (t ∷ trees) (f ∷ fronts) n h = (none_yet t f.rows.items h.0, empty_fronts trees fronts (omega (arith, n)) h.1)
 
 pub all_pushed : {X : Type 0} (P : X → Type 0) (xs : List X) (x : X) → AllByRecursion P xs → P x → AllByRecursion P (xs ++ x ∷ [])
 all_pushed P [] x all h = (h, tt)
 all_pushed P (y ∷ xs) x all h = (all.0, all_pushed P xs x all.1 h)
 
 -- one list is another
-pub fronts_set : (trees : List Tree) (fronts : List (Vec NodeRow Global)) (i : ℕ) (v : Vec NodeRow Global) → AreFronts trees fronts → IsFront (tree_at trees i) v.items → AreFronts trees (set fronts i v)
+pub fronts_set : (trees : List Tree) (fronts : List Front) (i : ℕ) (v : Front) → AreFronts trees fronts → IsFront (tree_at trees i) v.rows.items → AreFronts trees (set fronts i v)
 fronts_set [] [] i v are h = are
 fronts_set [] (f ∷ fronts) i v are h = elim are [ ]
 fronts_set (t ∷ trees) [] i v are h = elim are [ ]
 fronts_set (t ∷ trees) (f ∷ fronts) zero v are h = (h, are.1)
 fronts_set (t ∷ trees) (f ∷ fronts) (suc i) v are h = (are.0, fronts_set trees fronts i v are.1 h)
 
-pub front_set : (fronts : List (Vec NodeRow Global)) (i : ℕ) (v : Vec NodeRow Global) → i < length fronts → front_at (set fronts i v) i ≡ v.items
+pub front_set : (fronts : List Front) (i : ℕ) (v : Front) → i < length fronts → front_at (set fronts i v) i ≡ v.rows.items
 front_set [] i v h = absurd (omega (arith, h))
 front_set (f ∷ fronts) zero v h = refl
 front_set (f ∷ fronts) (suc i) v h = front_set fronts i v (omega (arith, h))

@@ -1,17 +1,32 @@
 -- What a store keeps, over what it does to its connection.
-use Rattle.std.proofs.Common.{◌≡◌, ◌≤◌, ℕ, suc, List, [], ◌∷◌, length, String, Global, Option, Some, None, IsTrue, map, string_bytes, refl, sym, ap, subst, ◌∙◌, arith}
+use Rattle.std.proofs.Common.{◌≡◌, ◌≤◌, ℕ, suc, List, [], ◌∷◌, length, String, Global, Option, Some, None, Bool, true, false, Result, Ok, Err, OnOk, IfOk, IfSome, IsTrue, map, string_bytes, refl, sym, ap, subst, ◌∙◌, arith}
 use Rattle.std.specs.FinMap.{keys}
 use Rattle.sqlite_trees.specs.View.{doubt}
 use Rattle.sqlite_trees.specs.declared.store.Store.{Ghosts}
 use Rattle.sqlite.specs.Held.{Held, state}
 use Rattle.sqlite.specs.State.{HasCleanDisk}
-use Rattle.xq_regions.specs.Tree.{Tree}
-use Rattle.xq_rows.specs.declared.fronts.Shelf.{Shelf}
-use Rattle.xq_rows.specs.Documents.{IsReady, IsClean, IsOpen, IsUp, IsStore, HoldsDocuments, Map, StandsFor, documents_in}
+use Rattle.xq_regions.specs.Tree.{Tree, IsDocument}
+use Rattle.xq_rows.specs.declared.shelves.Shelf.{Shelf}
+use Rattle.xq_rows.specs.Documents.{IsReady, IsClean, IsOpen, IsUp, IsStore, HoldsDocuments, Map, StandsFor, documents_in, is_at}
 use Rattle.xq_rows.specs.Tables.{node_rows, IsStoreSchema}
 use Rattle.xq_rows.specs.Views.{Beginning, HeldDocuments, StoodFor, Viewed, beginning, trees_under}
-use Rattle.xq_rows.specs.private.Keeps.{AreOf, IsKept, Keeps, LeavesAlone}
-use Rattle.xq_rows.specs.private.Shelves.{AreFronts, IsShelved}
+use Rattle.xq_rows.specs.private.Keeps.{AreOf, IsKeeping, IsKept, Keeps, KeepsShelf, LeavesAlone, StaysOutside}
+use Rattle.xq_rows.specs.declared.shelves.Front.{Front}
+use Rattle.xq_rows.specs.private.Shelves.{AreFronts, HasDropped as ShelfHasDropped, HasPut, IsFront, IsShelved}
+use Rattle.xq_rows.specs.private.Statements.{Deletes, IsEmptyStore, Puts}
+use Rattle.xq_rows.specs.Nodes.{cells}
+use Rattle.xq_atoms.specs.Address.{IsAddress}
+use Rattle.xq_regions.specs.Rows.{Encodes, placed, placed_rows}
+use Rattle.xq_regions.specs.declared.NodeRow.{NodeRow}
+use Rattle.xq_rows.proofs.Calls.{encoded}
+use Rattle.sqlite.specs.Effect.{Database}
+use Rattle.xq_rows.proofs.Maps.{no_keys, store_drops, store_puts}
+use Rattle.xq_rows.proofs.Shelving.{kept_drop, kept_put}
+
+-- a shelf without an address
+pub empty_of : (db : Database) (shelf : Shelf) → IsEmptyStore db → (shelf.addresses.value ≡ []) × (shelf.fronts.items ≡ []) → AreOf db shelf.addresses.value shelf.fronts.items
+empty_of db s none are =
+    subst (λ l. AreOf db l s.fronts.items) (sym are.0) (subst (AreOf db []) (sym are.1) (record { listed = no_keys db none.1; rows = tt }))
 
 module _ {S : Type 0} (g : Ghosts S) where
   -- # Calls that leave the tables alone
@@ -57,16 +72,86 @@ module _ {S : Type 0} (g : Ghosts S) where
         let e = alone.same ready held.0.schema in
         (subst IsStore (sym e) held.0, ap (λ db. documents_in (node_rows db)) e ∙ held.1)
 
-    -- what is kept stays so
-    pub keeps_on : (shelf : Option Shelf) → Keeps g old shelf → Keeps g new shelf
-    keeps_on None keeps = tt
-    keeps_on (Some shelf) keeps = record {
-      own = λ ready. (let was = was_ready ready in subst (λ db. IsStoreSchema db.schema) (sym (alone.same ready (keeps.own was))) (keeps.own was));
-      holds = λ ready is. (
-          let was = was_ready ready in
-          let e = alone.same ready (keeps.own was) in
-          subst (λ db. AreOf db (map string_bytes shelf.addresses.items) shelf.fronts.items) (sym e) (keeps.holds was (subst IsStore e is)));
+  -- # What is true of a store, after a call
+
+  module _ (conn new : Held S) (stays : StaysOutside g conn new) (is_own : Bool) (shelf : Option Shelf) (keeping : IsKeeping g conn is_own shelf) where
+    pub early : IsReady (state g new) → IsReady (state g conn)
+    early ready = let c = stays.clean in let was : HasCleanDisk (state g conn) = omega (arith, c, ready.0) in (was, stays.was_open ready)
+
+    -- a call that leaves the tables alone, where they are those that a store makes
+    module _ (same : IsReady (state g new) → IsStoreSchema (state g conn).now.schema → (state g new).now ≡ (state g conn).now) where
+      own_on : IsTrue is_own → IsReady (state g new) → IsStore (state g new).now
+      own_on own ready = let is = keeping.own own (early ready) in subst IsStore (sym (same ready is.schema)) is
+
+      keeps_on : (kept : Option Shelf) → Keeps g conn is_own kept → Keeps g new is_own kept
+      keeps_on None keeps = tt
+      keeps_on (Some kept) keeps = record {
+        own = keeps.own;
+        of = λ ready. subst (λ db. AreOf db kept.addresses.value kept.fronts.items) (sym (same ready (keeping.own keeps.own (early ready)).schema)) (keeps.of (early ready));
+      }
+
+      pub forgets : IsKeeping g new is_own None
+      forgets = record { outside = stays.mode; own = own_on; keeps = tt }
+
+      pub goes_on : IsKeeping g new is_own shelf
+      goes_on = record { outside = stays.mode; own = own_on; keeps = keeps_on shelf keeping.keeps }
+
+    -- a document was put
+    pub has_put : (a : List ℕ) → IsAddress a → (t : Tree) → IsDocument t → (rows : List NodeRow) → Encodes rows t → (replaced : Bool) → (IsReady (state g new) → Puts a (map cells (map placed rows)) (state g conn).now (state g new).now replaced)
+        → (front : Front) → IsFront t front.rows.items → (later : Option Shelf) → IfSome later (λ l. (earlier : Shelf) × (shelf ≡ Some earlier) × HasPut earlier l a front) → IsKeeping g new is_own later
+    has_put a good t is rows encodes replaced did front own later edited = record {
+      outside = stays.mode;
+      own = λ it ready. (
+          let was = keeping.own it (early ready) in
+          let puts = puts_tree ready was in
+          store_puts a good t is (state g conn).now puts.0 (state g new).now puts.1 puts.2 was);
+      keeps = kept later edited;
     }
+      where
+        puts_tree : (ready : IsReady (state g new)) → Puts a (map cells (placed_rows t)) (state g conn).now (state g new).now replaced
+        puts_tree ready = subst (λ l. Puts a (map cells l) (state g conn).now (state g new).now replaced) (encoded rows t encodes) (did ready)
+
+        kept : (later : Option Shelf) → IfSome later (λ l. (earlier : Shelf) × (shelf ≡ Some earlier) × HasPut earlier l a front) → Keeps g new is_own later
+        kept None edited = tt
+        kept (Some l) edited =
+            let before : KeepsShelf g conn is_own edited.0 = subst (Keeps g conn is_own) edited.1 keeping.keeps in
+            record {
+              own = before.own;
+              of = λ ready. (
+                  let was = keeping.own before.own (early ready) in
+                  let puts = puts_tree ready was in
+                  kept_put a good t is (state g conn).now puts.0 (state g new).now puts.1 puts.2 was edited.0 l front edited.2 own (before.of (early ready)));
+            }
+
+    -- a document was dropped
+    pub has_dropped : (a : List ℕ) (count : ℕ) → (IsReady (state g new) → Deletes (is_at a) (state g conn).now (state g new).now count)
+        → (later : Option Shelf) → IfSome later (λ l. (earlier : Shelf) × (shelf ≡ Some earlier) × ShelfHasDropped earlier l a) → IsKeeping g new is_own later
+    has_dropped a count did later edited = record {
+      outside = stays.mode;
+      own = λ it ready. (
+          let was = keeping.own it (early ready) in
+          store_drops a (state g conn).now (state g new).now (did ready was.schema was.apart was.ints).0 was);
+      keeps = kept later edited;
+    }
+      where
+        kept : (later : Option Shelf) → IfSome later (λ l. (earlier : Shelf) × (shelf ≡ Some earlier) × ShelfHasDropped earlier l a) → Keeps g new is_own later
+        kept None edited = tt
+        kept (Some l) edited =
+            let before : KeepsShelf g conn is_own edited.0 = subst (Keeps g conn is_own) edited.1 keeping.keeps in
+            record {
+              own = before.own;
+              of = λ ready. (
+                  let was = keeping.own before.own (early ready) in
+                  kept_drop a (state g conn).now (state g new).now (did ready was.schema was.apart was.ints).0 was edited.0 l edited.2 (before.of (early ready)));
+            }
+
+  -- a new store, of which no address is kept
+  pub keeping_empty : (conn : Held S) → conn.in_transaction ≡ false → IsEmptyStore (state g conn).now → (shelf : Option Shelf) → IfSome shelf (λ s. (s.addresses.value ≡ []) × (s.fronts.items ≡ [])) → IsKeeping g conn true shelf
+  keeping_empty conn mode made shelf are = record { outside = mode; own = λ _ _. made.0; keeps = go shelf are }
+    where
+      go : (shelf : Option Shelf) → IfSome shelf (λ s. (s.addresses.value ≡ []) × (s.fronts.items ≡ [])) → Keeps g conn true shelf
+      go None are = tt
+      go (Some s) are = record { own = refl; of = λ _. empty_of (state g conn).now s made are }
 
   -- # What is taken
 
@@ -75,53 +160,73 @@ module _ {S : Type 0} (g : Ghosts S) where
   unfolding HoldsDocuments StandsFor
   held_stands store holds opened = (holds, refl)
 
-  module _ (conn old new : Held S) (is : conn ≡ old) (clean : doubt (state g conn).is_clean ≤ doubt (state g new).is_clean) (opens : IsReady (state g new) → IsTrue (state g conn).is_open) (shelf : Shelf)
-      (kept : IsKept g conn shelf) where
-    early : IsReady (state g new) → IsReady (state g conn)
-    early ready = let was : HasCleanDisk (state g conn) = omega (arith, clean, ready.0) in (was, opens ready)
-
-    pub taken : (HasCleanDisk (state g new) → IsTrue (state g new).is_open) → IsClean g new → HoldsDocuments g old → AreOf (state g old).now (map string_bytes shelf.addresses.items) shelf.fronts.items
+  module _ (conn old new : Held S) (is : conn ≡ old) (stays : StaysOutside g conn new) (is_own : Bool) (before : Option Shelf) (keeping : IsKeeping g conn is_own before) (shelf : Shelf)
+      (kept : KeepsShelf g conn is_own shelf) where
+    pub taken : (HasCleanDisk (state g new) → IsTrue (state g new).is_open) → IsClean g new → HoldsDocuments g old → AreOf (state g old).now shelf.addresses.value shelf.fronts.items
     unfolding IsClean HoldsDocuments
-    taken ends now holds = subst (λ (h : Held S). IsStore (state g h).now → AreOf (state g h).now (map string_bytes shelf.addresses.items) shelf.fronts.items) is (kept.holds (early (now, ends now))) holds
+    taken ends now holds = subst (λ (h : Held S). AreOf (state g h).now shelf.addresses.value shelf.fronts.items) is (kept.of (early conn new stays is_own before keeping (now, ends now)))
 
     pub taken_own : IsUp g new → IsStoreSchema (state g old).now.schema
     unfolding IsUp
-    taken_own ready = subst (λ (h : Held S). IsStoreSchema (state g h).now.schema) is (kept.own (early ready))
+    taken_own ready = subst (λ (h : Held S). IsStoreSchema (state g h).now.schema) is (keeping.own kept.own (early conn new stays is_own before keeping ready)).schema
+
+  -- the addresses were listed
+  pub taken_anew : {E : Type 0} (conn old new : Held S) → conn ≡ old → (r : Result Shelf E) → (IsReady (state g new) → IsStore (state g conn).now → IfOk r (λ shelf. AreOf (state g conn).now shelf.addresses.value shelf.fronts.items))
+      → (HasCleanDisk (state g new) → OnOk r (IsTrue (state g new).is_open)) → IsClean g new → HoldsDocuments g old → IfOk r (λ shelf. AreOf (state g old).now shelf.addresses.value shelf.fronts.items)
+  unfolding IsClean HoldsDocuments
+  taken_anew conn old new is (Err e) of ends now holds = tt
+  taken_anew conn old new is (Ok shelf) of ends now holds = subst (λ (h : Held S). IsStore (state g h).now → AreOf (state g h).now shelf.addresses.value shelf.fronts.items) is (of (now, ends now)) holds
+
+  -- what was taken may be kept
+  pub taken_kept : (old new : Held S) → LeavesAlone g old new → (shelf : Shelf) → (IsClean g new → HoldsDocuments g old → AreOf (state g old).now shelf.addresses.value shelf.fronts.items) → (IsUp g new → IsStoreSchema (state g old).now.schema) → IsKept g new shelf
+  unfolding IsClean HoldsDocuments IsUp
+  taken_kept old new alone shelf of own = record {
+    holds = λ ready is. (
+        let e = alone.same ready (own ready) in
+        subst (λ db. AreOf db shelf.addresses.value shelf.fronts.items) (sym e) (of ready.0 (subst IsStore e is)));
+  }
+
+  -- they are the addresses of the map
+  pub listed_keys : (old new : Held S) → LeavesAlone g old new → (IsClean g new → IsOpen g new) → (addresses : List (List ℕ)) → (fronts : List Front) → (IsClean g new → HoldsDocuments g old → AreOf (state g old).now addresses fronts)
+      → IsClean g new → (m : Map) → StandsFor g old m → addresses ≡ keys m
+  unfolding StandsFor IsOpen HoldsDocuments IsClean
+  listed_keys old new alone answered addresses fronts of clean m stands =
+      let held = stands (alone.was_open (clean, answered clean)) in
+      (of clean held.0).listed ∙ ap keys held.1
 
   -- # A view
 
   module _ (b : Beginning) (old new : Held S) (same : beginning g old ≡ b) (alone : LeavesAlone g old new) (answered : IsClean g new → IsOpen g new) (shelf : Shelf)
-      (of : IsClean g new → HoldsDocuments g old → AreOf (state g old).now (map string_bytes shelf.addresses.items) shelf.fronts.items) where
+      (of : IsClean g new → HoldsDocuments g old → AreOf (state g old).now shelf.addresses.value shelf.fronts.items) where
     pub opened_before : IsClean g new → IsOpen g old
     opened_before clean = alone_open old new alone clean (answered clean)
 
-    pub all_named : IsClean g new → (m : Map) → StandsFor g old m → map string_bytes shelf.addresses.items ≡ keys m
+    pub all_named : IsClean g new → (m : Map) → StandsFor g old m → shelf.addresses.value ≡ keys m
     unfolding StandsFor IsOpen HoldsDocuments
     all_named clean m stands = let held = stands (opened_before clean) in (of clean held.0).listed ∙ ap keys held.1
 
-    pub own_rows : IsClean g new → HeldDocuments b → AreFronts (trees_under b (map string_bytes shelf.addresses.items)) shelf.fronts.items
+    pub own_rows : IsClean g new → HeldDocuments b → AreFronts (trees_under b shelf.addresses.value) shelf.fronts.items
     unfolding HeldDocuments HoldsDocuments beginning
     own_rows clean held =
-        let rows : IsStore (beginning g old).database → AreFronts (trees_under (beginning g old) (map string_bytes shelf.addresses.items)) shelf.fronts.items = λ is. (of clean is).rows in
-        subst (λ b. IsStore b.database → AreFronts (trees_under b (map string_bytes shelf.addresses.items)) shelf.fronts.items) same rows held
+        let rows : IsStore (beginning g old).database → AreFronts (trees_under (beginning g old) shelf.addresses.value) shelf.fronts.items = λ is. (of clean is).rows in
+        subst (λ b. IsStore b.database → AreFronts (trees_under b shelf.addresses.value) shelf.fronts.items) same rows held
 
     pub may_stay : (IsUp g new → IsTrue shelf.stays → IsStoreSchema (state g old).now.schema) → IsTrue shelf.stays → IsReady (state g new) → IsStoreSchema b.database.schema × ((state g new).now ≡ b.database)
     unfolding IsUp beginning
     may_stay own stays ready = let e = own ready stays in (subst (λ b. IsStoreSchema b.database.schema) same e, alone.same ready e ∙ ap (λ b. b.database) same)
 
   -- what a view gives back may be kept
-  pub given_back : (b : Beginning) (v : Viewed S) (shelf : Shelf) → v.addresses ≡ map string_bytes shelf.addresses.items → IsShelved g b v shelf.fronts.items shelf.stays → IsTrue shelf.stays → IsKept g v.store shelf
+  pub given_back : (b : Beginning) (v : Viewed S) (shelf : Shelf) → v.addresses ≡ shelf.addresses.value → IsShelved g b v shelf.fronts.items shelf.stays → IsTrue shelf.stays → IsKept g v.store shelf
   unfolding StoodFor HeldDocuments IsClean
   given_back b v shelf named is stays = record {
-    own = λ ready. (let it = is.stays stays ready in subst (λ db. IsStoreSchema db.schema) (sym it.1) it.0);
     holds = λ ready held. (
         let e = (is.stays stays ready).1 in
         let began = subst IsStore e held in
-        let there : AreOf b.database (map string_bytes shelf.addresses.items) shelf.fronts.items = record {
+        let there : AreOf b.database shelf.addresses.value shelf.fronts.items = record {
           listed = sym named ∙ is.view.listed ready.0 (documents_in (node_rows b.database)) (began, refl);
           rows = subst (λ l. AreFronts (trees_under b l) shelf.fronts.items) named (is.rows ready.0 began);
         } in
-        subst (λ db. AreOf db (map string_bytes shelf.addresses.items) shelf.fronts.items) (sym e) there);
+        subst (λ db. AreOf db shelf.addresses.value shelf.fronts.items) (sym e) there);
   }
 
   -- reads leave what may stay

@@ -1,16 +1,16 @@
 -- What a view lends once it has read on.
-use Rattle.std.proofs.Common.{◌≡◌, ◌<◌, ℕ, zero, suc, Bool, IsTrue, Some, List, [], ◌∷◌, length, map, refl, sym, ap, subst, ◌∙◌, arith, Vec, Global}
+use Rattle.std.proofs.Common.{◌≡◌, ◌<◌, ℕ, zero, suc, Bool, IsTrue, Some, List, [], ◌∷◌, length, map, refl, sym, ap, subst, ◌∙◌, arith}
 use Rattle.std.specs.Prelude.{filter, slice_get}
 use Rattle.sqlite_trees.specs.declared.store.Store.{Ghosts}
 use Rattle.sqlite.specs.Held.{Held}
 use Rattle.xq_regions.specs.Tree.{Tree, IsTree}
 use Rattle.xq_regions.specs.Rows.{Row, rows, row_at, placed}
-use Rattle.xq_regions.specs.declared.NodeRow.{NodeRow}
 use Rattle.xq_sources.specs.Lenders.{IsRun, places_above}
 use Rattle.xq_sources.specs.Meters.{Readings}
 use Rattle.xq_sources.specs.Sources.{HasTree, HasNode, encloses, rows_between, tree_at as nth_tree}
 use Rattle.xq_rows.specs.Documents.{Map, IsClean, StandsFor}
 use Rattle.xq_rows.specs.Views.{Beginning, HeldDocuments, IsView, Viewed, trees_under}
+use Rattle.xq_rows.specs.declared.shelves.Front.{Front}
 use Rattle.xq_rows.specs.private.Shelves.{AreFronts, AreListed, HasReached, IsFront, IsShelved, front_at, run_of}
 use Rattle.xq_rows.proofs.FrontLaws.{as_many, encloses_all, front_is, has_node, lends, lends_one}
 use Rattle.xq_rows.proofs.Keeping.{still_stays}
@@ -33,8 +33,8 @@ is_held_tree g b v view clean held tree in_it =
     let named = some_at v.addresses tree (omega (arith, many, in_it)) in
     is_its_tree g b v view clean held tree named.0 named.1
 
-module _ {S : Type 0} (g : Ghosts S) (b : Beginning) (v : Viewed S) (fronts : List (Vec NodeRow Global)) (may_stay : Bool) (is : IsShelved g b v fronts may_stay) (new : Held S)
-    (later : List (Vec NodeRow Global)) (was_clean : IsClean g new → IsClean g v.store) where
+module _ {S : Type 0} (g : Ghosts S) (b : Beginning) (v : Viewed S) (fronts : List Front) (may_stay : Bool) (is : IsShelved g b v fronts may_stay) (new : Held S)
+    (later : List Front) (was_clean : IsClean g new → IsClean g v.store) where
   abbrev trees : List Tree
   trees = trees_under b v.addresses
 

@@ -13,12 +13,14 @@ pub mod Keys
 pub mod Loads
 pub mod Ranges
 pub mod Calls
+pub mod FrontLaws
+pub mod MapLaws
+pub mod MapPlaces
+pub mod Shelving
 pub mod Keeping
 pub mod ViewLaws
-pub mod FrontLaws
 pub mod Lends
 pub mod MemoryFiles
-pub mod MapLaws
 pub mod AdoptReads
 pub mod CreateFaults
 pub mod Adopts

@@ -3,7 +3,7 @@ use Rattle.std.proofs.Common.{◌≡◌, ◌≢◌, ◌⊎◌, ◌||◌, ◌+◌
 use Rattle.std.specs.Ordering.{is_eq, eq_by_cmp, nat_cmp}
 use Rattle.std.specs.Cmp.{IsTotalOrder, eq_by_cmp_equiv}
 use Rattle.std.specs.Cmp.Lexicographic.{slice_cmp, nat_list_cmp_total}
-use Rattle.std.specs.FinMap.{IsAntisymmetric, nat_cmp-IsAntisymmetric, slice_cmp-IsAntisymmetric, get, insert, remove, contains_key, find, same_map, get-insert, get-remove, get-from_entries, empty}
+use Rattle.std.specs.FinMap.{IsAntisymmetric, nat_cmp-IsAntisymmetric, slice_cmp-IsAntisymmetric, get, insert, remove, contains_key, find, same_map, get-insert, get-remove, get-from_entries, empty, keys, len-empty, len-entries}
 use Rattle.std.specs.List.{AllByRecursion, list_any, enumerate_from}
 use Rattle.std.specs.List.Sorted.{IsPermutation}
 use Rattle.std.proofs.lemmas.List.Sorted.{IsPermutation-sym, length_permutation, list_any-IsPermutation}
@@ -25,7 +25,7 @@ use Rattle.xq_regions.specs.declared.Kind.{Kind}
 use Rattle.xq_regions.specs.declared.Kind.TheVariants.{Document, Element, Attribute, Text as TextNode, Comment, ProcessingInstruction}
 use Rattle.xq_rows.specs.Nodes.{cells, node_in, bytes_in}
 use Rattle.xq_regions.specs.Codes.{kind_number, kind_from}
-use Rattle.xq_rows.specs.Documents.{is_at, is_first, node_columns, rows_at, by_first, tree_at, addresses_in, documents_in, AreApart, HasAddress, HaveInts, IsIntact, IsStore}
+use Rattle.xq_rows.specs.Documents.{is_at, is_first, node_columns, rows_at, by_first, tree_at, addresses_in, documents_in, documents_of, AreApart, HasAddress, HaveInts, IsIntact, IsStore}
 use Rattle.xq_rows.specs.private.Statements.{HasDropped, HasAdded}
 use Rattle.xq_rows.proofs.Inserts.{own_address}
 use Rattle.xq_rows.proofs.Lists.{tied}
@@ -203,7 +203,14 @@ pub no_documents : (table : List Row) → table ≡ [] → documents_in table �
 unfolding documents_in
 no_documents table none = ap documents_in none
 
-apart_key : (a q : List ℕ) → q ≢ a → eq_by_cmp order q a ≡ false
+pub no_keys : (db : Database) → node_rows db ≡ [] → [] ≡ keys (documents_of db)
+no_keys db none = sym (ap keys (no_documents (node_rows db) none) ∙ ap (map (λ (e : List ℕ × Tree). e.0)) (none_of _ (sym (len-entries (empty {R = order})) ∙ len-empty order Tree)))
+  where
+    none_of : {X : Type 0} (xs : List X) → length xs ≡ 0 → xs ≡ []
+    none_of [] e = refl
+    none_of (x ∷ xs) e = absurd (omega (arith, e))
+
+pub apart_key : (a q : List ℕ) → q ≢ a → eq_by_cmp order q a ≡ false
 apart_key a q apart = go (eq_by_cmp order q a) refl
   where
     go : (b : Bool) → eq_by_cmp order q a ≡ b → eq_by_cmp order q a ≡ false
@@ -261,3 +268,15 @@ was_there a db count it e = elim (it.whole a) [
   where
     size : count ≡ length (rows_at a (node_rows db))
     size = e ∙ sym (length-map (filter (is_at a) (node_rows db)) node_columns)
+
+-- # The trees of other addresses
+
+pub tree_stays_dropped : (a : List ℕ) (old new : Database) → HasDropped (is_at a) old new → (b : List ℕ) → b ≢ a → tree_at (node_rows new) b ≡ tree_at (node_rows old) b
+tree_stays_dropped a old new h b apart = ap (λ rows. tree_of (map node_in (sort_by by_first rows))) (rows_stay a b old new apart h)
+
+module _ (a : List ℕ) (t : Tree) (old mid new : Database) (dropped : HasDropped (is_at a) old mid) (added : HasAdded a (map cells (placed_rows t)) mid new) where
+  pub tree_stays_put : (b : List ℕ) → b ≢ a → tree_at (node_rows new) b ≡ tree_at (node_rows old) b
+  tree_stays_put b apart = ap (λ rows. tree_of (map node_in (sort_by by_first rows))) (added.others b apart ∙ rows_stay a b old mid apart dropped)
+
+  pub own_tree : tree_at (node_rows new) a ≡ t
+  own_tree = tree_back t (rows_at a (node_rows new)) (IsPermutation-sym _ _ (subst (λ l. IsPermutation (l ++ map cells (placed_rows t)) (rows_at a (node_rows new))) (rows_gone a old mid dropped) added.own))

@@ -1,5 +1,5 @@
 -- Parents, by the rows that are kept of a tree.
-use Rattle.std.proofs.Common.{◌≡◌, ◌+◌, ◌<◌, ◌≤◌, ℕ, zero, suc, Bool, List, [], ◌∷◌, length, map, take, refl, sym, ap, subst, ◌∙◌, arith, Vec, Global, Option, Some, None, IfSome}
+use Rattle.std.proofs.Common.{◌≡◌, ◌+◌, ◌<◌, ◌≤◌, ℕ, zero, suc, Bool, List, [], ◌∷◌, length, map, take, refl, sym, ap, subst, ◌∙◌, arith, Option, Some, None, IfSome}
 use Rattle.std.specs.List.{enumerate_from}
 use Rattle.std.proofs.lemmas.List.{take-map, length-map}
 use Rattle.sqlite_trees.specs.declared.store.Store.{Ghosts}
@@ -10,6 +10,7 @@ use Rattle.xq_sources.specs.Parents.{IsParentRow}
 use Rattle.xq_sources.specs.Sources.{tree_at as nth_tree}
 use Rattle.xq_rows.specs.Documents.{IsClean}
 use Rattle.xq_rows.specs.Views.{Beginning, HeldDocuments, Viewed, trees_under}
+use Rattle.xq_rows.specs.declared.shelves.Front.{Front}
 use Rattle.xq_rows.specs.private.Shelves.{IsFront, IsShelved, front_at}
 use Rattle.xq_rows.proofs.FrontLaws.{front_is, has_front}
 
@@ -55,18 +56,18 @@ first-rows t rs front =
 parent-of-front : (t : Tree) (rs : List NodeRow) → IsFront t rs → (u v : ℕ) → IsParentRow (map row_of rs) u v → IsParentRow (rows t) u v
 parent-of-front t rs front u v q = parent-first (length rs) (rows t) u v (subst (λ xs. IsParentRow xs u v) (first-rows t rs front) q)
 
-pub some-front : (fronts : List (Vec NodeRow Global)) (tree v : ℕ) → v < length (map row_of (front_at fronts tree)) → tree < length fronts
+pub some-front : (fronts : List Front) (tree v : ℕ) → v < length (map row_of (front_at fronts tree)) → tree < length fronts
 some-front fronts tree v h = has_front fronts tree v (let same = length-map (front_at fronts tree) row_of in omega (arith, h, same))
 
 -- the parent that a view's rows tell
-pub told : {S : Type 0} (g : Ghosts S) (b : Beginning) (v : Viewed S) (fronts : List (Vec NodeRow Global)) (stays : Bool) → IsShelved g b v fronts stays → IsClean g v.store → HeldDocuments b → (tree place node : ℕ)
+pub told : {S : Type 0} (g : Ghosts S) (b : Beginning) (v : Viewed S) (fronts : List Front) (stays : Bool) → IsShelved g b v fronts stays → IsClean g v.store → HeldDocuments b → (tree place node : ℕ)
     → IsParentRow (map row_of (front_at fronts tree)) place node → IsParentRow (rows (nth_tree (trees_under b v.addresses) tree)) place node
 told g b v fronts stays is clean held tree place node q =
     let within = some-front fronts tree node q.there in
     parent-of-front (nth_tree (trees_under b v.addresses) tree) (front_at fronts tree) (front_is (trees_under b v.addresses) fronts tree (is.rows clean held) within) place node q
 
 -- with an answer or without one
-pub told_of : {S : Type 0} (g : Ghosts S) (b : Beginning) (v : Viewed S) (fronts : List (Vec NodeRow Global)) (stays : Bool) → IsShelved g b v fronts stays → IsClean g v.store → HeldDocuments b → (tree node : ℕ) (answer : Option ℕ)
+pub told_of : {S : Type 0} (g : Ghosts S) (b : Beginning) (v : Viewed S) (fronts : List Front) (stays : Bool) → IsShelved g b v fronts stays → IsClean g v.store → HeldDocuments b → (tree node : ℕ) (answer : Option ℕ)
     → IfSome answer (λ place. IsParentRow (map row_of (front_at fronts tree)) place node) → IfSome answer (λ place. IsParentRow (rows (nth_tree (trees_under b v.addresses) tree)) place node)
 told_of g b v fronts stays is clean held tree node None h = h
 told_of g b v fronts stays is clean held tree node (Some place) h = told g b v fronts stays is clean held tree place node h

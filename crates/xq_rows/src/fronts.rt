@@ -1,6 +1,5 @@
-//! The rows of documents that are kept in memory: of each document the first, as far as they were
-//! read.
-ghost use Rattle.std.specs.Prelude.{◌≡◌, IsTrue, List, Some, IfOk, IfSome, OnOk, filter, length, map, string_bytes};
+//! The rows that are kept of documents: lent, read on where they are wanted, and forgotten.
+ghost use Rattle.std.specs.Prelude.{◌≡◌, IsTrue, List, Some, IfOk, IfSome, OnOk, filter, map};
 ghost use Rattle.std.specs.FinMap.{get};
 ghost use Rattle.xq_regions.specs.Rows.{placed, row_of};
 ghost use Rattle.xq_regions.specs.Tree.{Tree};
@@ -10,33 +9,19 @@ ghost use Rattle.xq_rows.specs.private.Shelves.{AreFronts, AreListed, HasReached
 ghost use Rattle.xq_sources.specs.Parents.{IsParentRow};
 ghost use Rattle.xq_sources.specs.Sources.{encloses as encloses_lem};
 
+use crate::shelves::{Front, Shelf, address_at};
 use crate::stores::Store;
 use sqlite::Alter;
 use std::alloc::Global;
 use xq_atoms::Want;
 use xq_regions::NodeRow;
-use xq_sources::Guide;
 
 /// How many rows are read at a time.
 const PART: u32 = 1_024;
 
-/// How many rows are kept of all documents together. Where there are more, those of each but the
-/// one that is wanted are forgotten before it is read on.
+/// How many rows are kept of all documents together. Where there are more, those of the documents
+/// that were wanted longest ago are forgotten before one is read on.
 const MOST_KEPT: usize = 1_000_000;
-
-/// The addresses of the documents of a store, in the order of their bytes, and at the same place
-/// the first rows of each document.
-#[derive(Drop)]
-pub(crate) struct Shelf {
-    pub addresses: Vec<String>,
-    pub fronts: Vec<Vec<NodeRow>>,
-    /// Where parents lie among them, at the same places as far as there are some.
-    pub guides: Vec<Guide>,
-    /// How many rows that are in all.
-    pub kept: usize,
-    /// Whether the store may keep this when its view ends.
-    pub stays: bool,
-}
 
 /// Rows of a tree from `low` to `high`.
 #[derive(Clone, Copy)]
@@ -46,47 +31,57 @@ pub(crate) struct Run {
     pub high: u32,
 }
 
-/// Lists without a row, so many.
-pub(crate) fn no_rows(alloc: Global, count: usize) -> Result<Vec<Vec<NodeRow>>, Want>
-    ensures { IfOk result (λ fronts. (trees : List Tree) → length trees ≡ count
-        → AreFronts trees fronts.items) }
-{
-    let mut fronts = Vec::with_capacity(alloc, count)?;
-    for made in 0..count {
-        fronts.push(Vec::new(alloc))?;
+/// The tree whose rows were wanted longest ago, of those that have some, but for one tree; else
+/// that one.
+fn oldest_but(fronts: &[Front], tree: usize) -> usize {
+    let mut oldest = tree;
+    let mut wanted = u64::MAX;
+    for (other, front) in fronts.iter().enumerate() {
+        if other != tree && !front.rows.is_empty() && front.wanted < wanted {
+            oldest = other;
+            wanted = front.wanted;
+        }
     }
-    Ok(fronts)
+    oldest
 }
 
-/// Forgets the rows of each tree but one.
-fn forget_others(alloc: Global, fronts: &mut Vec<Vec<NodeRow>>, tree: usize)
+/// Forgets the rows of a tree, and tells how many they were.
+fn forget(alloc: Global, fronts: &mut Vec<Front>, tree: usize) -> usize
     ensures { (trees : List Tree) → AreFronts trees fronts.old.items
         → AreFronts trees fronts.new.items }
 {
-    for other in 0..fronts.len() {
-        if other != tree {
-            fronts[other] = Vec::new(alloc);
-        }
+    if tree >= fronts.len() {
+        return 0;
     }
+    let count = fronts[tree].rows.len();
+    fronts[tree] = Front::new(alloc);
+    count
 }
 
-/// Where too many rows are kept, forgets those of each tree but one.
+/// While too many rows are kept, forgets those of the tree that was wanted longest ago, but for one
+/// tree.
 fn make_room(alloc: Global, shelf: &mut Shelf, tree: usize)
     ensures addresses { shelf.new.addresses ≡ shelf.old.addresses }
     ensures fronts { (trees : List Tree) → AreFronts trees shelf.old.fronts.items
         → AreFronts trees shelf.new.fronts.items }
     ensures stays { shelf.new.stays ≡ shelf.old.stays }
 {
-    if shelf.kept <= MOST_KEPT {
-        return;
+    for turn in 0..shelf.fronts.len() {
+        if shelf.kept <= MOST_KEPT {
+            return;
+        }
+        let oldest = oldest_but(&shelf.fronts, tree);
+        if oldest == tree {
+            return;
+        }
+        let count = forget(alloc, &mut shelf.fronts, oldest);
+        shelf.kept = shelf.kept.saturating_sub(count);
     }
-    forget_others(alloc, &mut shelf.fronts, tree);
-    shelf.kept = front_of(&shelf.fronts, tree).len();
 }
 
 /// Reads the document of an address on, a part at a time, until its rows reach a place or are all
 /// there.
-fn read_front<S: Alter>(
+fn read_rows<S: Alter>(
     alloc: Global,
     store: &mut Store<S>,
     address: &str,
@@ -118,26 +113,31 @@ fn read_front<S: Alter>(
     Ok(())
 }
 
-/// Goes on with the guide to a tree's parents as far as its rows are kept.
-fn try_to_guide(
+/// The same of the rows that are kept of a document. Where memory is short the guide to its parents
+/// stays behind: the rows are read without it.
+fn read_front<S: Alter>(
     alloc: Global,
-    guides: &mut Vec<Guide>,
-    tree: usize,
-    rows: &[NodeRow],
-) -> Result<(), Want> {
-    for _ in guides.len()..tree.saturating_add(1) {
-        guides.push(Guide::new(alloc))?;
-    }
-    match guides.get_mut(tree) {
-        Some(guide) => guide.read_on(rows),
-        None => Ok(()),
-    }
-}
-
-/// Goes on with the guide to a tree's parents. Where memory is short it stays behind: the rows are
-/// read without it.
-fn guide_on(alloc: Global, guides: &mut Vec<Guide>, tree: usize, rows: &[NodeRow]) {
-    let _ = try_to_guide(alloc, guides, tree, rows);
+    store: &mut Store<S>,
+    address: &str,
+    front: &mut Front,
+    place: u32,
+) -> Result<(), Want>
+    ensures front { IsClean S.Store store.new → (m : Map) → StandsFor S.Store store.old m
+        → (t : Tree) → get m address.now ≡ Some t → IsFront t front.old.rows.items
+        → IsFront t front.new.rows.items }
+    ensures reaches { IsClean S.Store store.new → (m : Map) → StandsFor S.Store store.old m
+        → (t : Tree) → get m address.now ≡ Some t → IsFront t front.old.rows.items
+        → OnOk result (Reaches t place front.new.rows.items) }
+    ensures same { IsClean S.Store store.new → (m : Map) → StandsFor S.Store store.old m
+        → StandsFor S.Store store.new m }
+    ensures was_open { IsClean S.Store store.new → IsOpen S.Store store.new
+        → IsOpen S.Store store.old }
+    ensures was_clean { IsClean S.Store store.new → IsClean S.Store store.old }
+    ensures alone { LeavesAlone S.Store store.old store.new }
+{
+    let read = read_rows(alloc, store, address, &mut front.rows, place);
+    let _ = front.guide.read_on(&front.rows);
+    read
 }
 
 /// The place of the parent of a node, where the rows that are kept tell it.
@@ -145,22 +145,22 @@ pub(crate) fn parent_of(shelf: &Shelf, tree: usize, node: u32) -> Option<u32>
     ensures { IfSome result (λ place.
         IsParentRow (map row_of (front_at shelf.now.fronts.items tree)) place node) }
 {
-    let guide = shelf.guides.get(tree)?;
-    guide.parent(front_of(&shelf.fronts, tree), node)
+    let front = shelf.fronts.get(tree)?;
+    front.guide.parent(front_of(&shelf.fronts, tree), node)
 }
 
 /// The rows of a tree that are kept.
-pub(crate) fn front_of(fronts: &[Vec<NodeRow>], tree: usize) -> &[NodeRow]
+pub(crate) fn front_of(fronts: &[Front], tree: usize) -> &[NodeRow]
     ensures { result.now ≡ front_at fronts.now tree }
 {
     match fronts.get(tree) {
-        Some(front) => front,
+        Some(front) => &front.rows,
         None => &[],
     }
 }
 
 /// The rows of a run that are kept.
-pub(crate) fn kept_rows(fronts: &[Vec<NodeRow>], run: Run) -> &[NodeRow]
+pub(crate) fn kept_rows(fronts: &[Front], run: Run) -> &[NodeRow]
     ensures { result.now ≡ run_of (front_at fronts.now run.tree) run.low run.high }
 {
     rows_between(front_of(fronts, run.tree), run.low, run.high)
@@ -200,13 +200,20 @@ pub(crate) fn places_enclosing(alloc: Global, rows: &[NodeRow], node: u32) -> Re
     Ok(found)
 }
 
-/// Whether the rows that are kept of a tree reach a place.
-#[tactic(auto, using(crate::proofs::FrontLaws::reached_in))]
-fn has_reached(shelf: &Shelf, tree: usize, place: u32) -> bool
-    ensures { IsTrue result → (trees : List Tree) → AreFronts trees shelf.now.fronts.items
-        → HasReached trees shelf.now.fronts.items tree place }
+/// Whether the rows that are kept of a tree reach a place. They are wanted now.
+fn has_reached(shelf: &mut Shelf, tree: usize, place: u32) -> bool
+    ensures reached { IsTrue result → (trees : List Tree) → AreFronts trees shelf.old.fronts.items
+        → HasReached trees shelf.new.fronts.items tree place }
+    ensures fronts { (trees : List Tree) → AreFronts trees shelf.old.fronts.items
+        → AreFronts trees shelf.new.fronts.items }
+    ensures addresses { shelf.new.addresses ≡ shelf.old.addresses }
+    ensures stays { shelf.new.stays ≡ shelf.old.stays }
 {
-    front_of(&shelf.fronts, tree).len() > place as usize
+    let Some(front) = shelf.fronts.get_mut(tree) else {
+        return false;
+    };
+    front.wanted = shelf.clock;
+    front.rows.len() > place as usize
 }
 
 /// Reads a document on until its rows reach a place, or are all there. Where that is refused, the
@@ -220,10 +227,10 @@ pub(crate) fn read_on<S: Alter>(
 ) -> Result<(), Want>
     ensures addresses { shelf.new.addresses ≡ shelf.old.addresses }
     ensures fronts { IsClean S.Store store.new → (m : Map) → StandsFor S.Store store.old m
-        → (trees : List Tree) → AreListed m (map string_bytes shelf.old.addresses.items) trees
+        → (trees : List Tree) → AreListed m shelf.old.addresses.value trees
         → AreFronts trees shelf.old.fronts.items → AreFronts trees shelf.new.fronts.items }
     ensures reached { IsClean S.Store store.new → (m : Map) → StandsFor S.Store store.old m
-        → (trees : List Tree) → AreListed m (map string_bytes shelf.old.addresses.items) trees
+        → (trees : List Tree) → AreListed m shelf.old.addresses.value trees
         → AreFronts trees shelf.old.fronts.items
         → OnOk result (HasReached trees shelf.new.fronts.items tree place) }
     ensures same { IsClean S.Store store.new → (m : Map) → StandsFor S.Store store.old m
@@ -238,22 +245,17 @@ pub(crate) fn read_on<S: Alter>(
         return Ok(());
     }
     make_room(alloc, shelf, tree);
-    let Some(address) = shelf.addresses.get(tree) else {
+    let Some(address) = address_at(&shelf.addresses, tree) else {
         return Err(Want::Store);
     };
     let Some(front) = shelf.fronts.get_mut(tree) else {
         return Err(Want::Store);
     };
-    let before = front.len();
-    let read = read_front(alloc, store, address.as_str(), front, place);
-    let more = front.len().saturating_sub(before);
+    let before = front.rows.len();
+    let read = read_front(alloc, store, address, front, place);
+    let more = front.rows.len().saturating_sub(before);
     shelf.kept = shelf.kept.saturating_add(more);
+    shelf.clock = shelf.clock.saturating_add(1);
     shelf.stays &= read.is_ok();
-    guide_on(
-        alloc,
-        &mut shelf.guides,
-        tree,
-        front_of(&shelf.fronts, tree),
-    );
     read
 }

@@ -16,6 +16,7 @@ mod refusals;
 mod replacements;
 mod rows;
 mod schemas;
+mod shelves;
 mod statements;
 mod stores;
 mod tables;

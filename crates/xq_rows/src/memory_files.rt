@@ -8,6 +8,7 @@ ghost use Rattle.sqlite.specs.Steps.{IsEmpty};
 ghost use Rattle.sqlite.specs.Files.{file_state};
 
 use crate::refusals::Refusal;
+use crate::schemas::is_blank;
 use sqlite::{Connection, Error, ErrorCode, FileStore, Files, Options};
 use std::alloc::Global;
 use xq_memory_disk::MemoryDisk;
@@ -42,8 +43,7 @@ pub fn open_empty(alloc: Global) -> Result<Connection<FileStore<MemoryDisk>>, Re
         Ok(conn) => conn,
         Err((error, _files)) => return Err(Refusal(error)),
     };
-    let schema = conn.schema();
-    if schema.tables.is_empty() && schema.indexes.is_empty() && schema.views.is_empty() {
+    if is_blank(conn.schema()) {
         Ok(conn)
     } else {
         Err(Refusal(Error::SqliteFailure(ErrorCode::NotADatabase)))

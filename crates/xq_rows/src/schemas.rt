@@ -4,7 +4,7 @@
 //! beside them: of such a one nothing is kept.
 ghost use Rattle.std.specs.Prelude.{◌≡◌, ◌∷◌, [], IsTrue, None, false};
 ghost use Rattle.sqlite_value.specs.Keys.{plain};
-ghost use Rattle.xq_rows.specs.Tables.{IsStoreSchema, layout_table, required_column, node_index, node_table};
+ghost use Rattle.xq_rows.specs.Tables.{IsStoreSchema, layout_table, no_schema, required_column, node_index, node_table};
 
 use sqlite_items::Items;
 use sqlite_schema::code::Terms;
@@ -187,4 +187,11 @@ pub fn is_store_schema(schema: &Schema) -> bool
         }
         _ => false,
     }
+}
+
+/// Whether no table was made in the database.
+pub fn is_blank(schema: &Schema) -> bool
+    ensures { IsTrue result → schema.now ≡ no_schema }
+{
+    schema.tables.is_empty() && schema.indexes.is_empty() && schema.views.is_empty()
 }

@@ -4,7 +4,7 @@
 //! written), which `was_clean` takes back to the call before, and speaks of whichever map the store
 //! stands for as the call begins. A store that has shut, after a fault or where memory ran out in a
 //! commit, stands for the map that it stood for then: each later call is refused, by `answered`.
-ghost use Rattle.std.specs.Prelude.{◌≡◌, IfErr, IfOk, IfSome, IsTrue, OnErr, OnOk, Some, map, string_bytes, if◌then◌else◌, false};
+ghost use Rattle.std.specs.Prelude.{◌≡◌, ◌||◌, IfErr, IfOk, IfSome, IsTrue, OnErr, OnOk, Some, map, string_bytes, if◌then◌else◌, false};
 ghost use Rattle.std.specs.FinMap.{get, insert, remove, keys, contains_key, empty};
 ghost use Rattle.sqlite.specs.Files.{over_files};
 ghost use Rattle.sqlite.specs.Held.{state};
@@ -14,17 +14,21 @@ ghost use Rattle.xq_regions.specs.declared.Kind.TheVariants.{Document};
 ghost use Rattle.xq_rows.specs.Adoption.{IsBlank, HasTables, HasOneTable};
 ghost use Rattle.xq_regions.specs.Rows.{placed};
 ghost use Rattle.xq_regions.specs.Tree.{IsDocument, Tree};
-ghost use Rattle.xq_rows.specs.Documents.{IsClean, IsOpen, IsUp, HoldsDocuments, Map, StandsFor, documents};
-ghost use Rattle.xq_rows.specs.private.Keeps.{AreOf, IsKept, LeavesAlone};
+ghost use Rattle.sqlite.specs.State.{HasCleanDisk};
+ghost use Rattle.xq_rows.specs.declared.shelves.Shelf.{Shelf};
+ghost use Rattle.xq_rows.specs.Documents.{IsReady, IsStore, IsClean, IsOpen, IsUp, HoldsDocuments, Map, StandsFor, documents};
+ghost use Rattle.xq_rows.specs.private.Keeps.{AreOf, IsKeeping, IsKept, LeavesAlone, StaysOutside};
+ghost use Rattle.xq_rows.specs.private.Shelves.{HasDropped, HasPut};
+ghost use Rattle.xq_rows.specs.private.Statements.{IsEmptyStore};
 ghost use Rattle.xq_rows.specs.Tables.{IsStoreSchema};
 ghost use Rattle.xq_sources.specs.Sources.{rows_between, rows_enclosing};
 
 use crate::adopt::adopt_tables;
 use crate::faults::OpenFault;
-use crate::fronts::{Shelf, no_rows};
 use crate::memory_files::open_empty;
 use crate::readings::{check_open, document_of, list_addresses, nodes_above, nodes_between};
-use crate::schemas::is_store_schema;
+use crate::schemas::{is_blank, is_store_schema};
+use crate::shelves::{Front, Shelf};
 use crate::tables::make_tables;
 use crate::transactions::{drop_rows, put_rows};
 use sqlite::{Alter, Connection, FileStore, MemStore};
@@ -33,16 +37,20 @@ use std::marker::Model;
 use xq_atoms::Want;
 use xq_memory_disk::MemoryDisk;
 use xq_regions::{Fragment, NodeRow};
+use xq_sources::Addresses;
 
 /// Documents under addresses, in the tables of a database. Contracts see the store's connection,
 /// which is in no transaction, and speak of it by `IsClean`, `IsOpen` and `StandsFor`.
 ///
-/// What a view has read is kept for the next view, until a document is put or dropped or a call is
-/// refused.
+/// The list of addresses is kept, and so is what views have read, for the next view: a put or a drop
+/// changes its own place alone. Where a call is refused all of it is forgotten.
 #[derive(Drop)]
 pub struct Store<S: Alter> {
     alloc: Global,
     conn: Connection<S>,
+    /// Whether the tables are those that a store makes, and hold documents.
+    is_own: bool,
+    /// What is kept of such tables.
     shelf: Option<Shelf>,
 }
 
@@ -56,7 +64,7 @@ impl<S: Alter> Model for Store<S> {
 
     ghost view = { λ s. s.conn };
 
-    ghost invariant = { λ s. IsKeeping S.Store s.conn s.shelf };
+    ghost invariant = { λ s. IsKeeping S.Store s.conn s.is_own s.shelf };
 }
 
 /// Whether a document was new under its address.
@@ -66,6 +74,14 @@ pub enum Put {
     Stored,
     /// Another document stood there, and is gone.
     Replaced,
+}
+
+impl Put {
+    fn of(replaced: bool) -> Put
+        ensures { result ≡ (if replaced then Put.Replaced else Put.Stored) }
+    {
+        if replaced { Put::Replaced } else { Put::Stored }
+    }
 }
 
 impl Store<MemStore> {
@@ -80,7 +96,8 @@ impl Store<MemStore> {
         Ok(Store {
             alloc,
             conn,
-            shelf: None,
+            is_own: true,
+            shelf: Shelf::empty(alloc),
         })
     }
 }
@@ -102,7 +119,8 @@ impl Store<FileStore<MemoryDisk>> {
         Ok(Store {
             alloc,
             conn,
-            shelf: None,
+            is_own: true,
+            shelf: Shelf::empty(alloc),
         })
     }
 }
@@ -137,13 +155,19 @@ impl<S: Alter> Store<S> {
             → IsOpen S.Store conn) }
     {
         let mut conn = conn;
-        match adopt_tables(alloc, &mut conn) {
-            Ok(()) => Ok(Store {
+        let was_blank = is_blank(conn.schema());
+        let had_tables = is_store_schema(conn.schema());
+        if let Err(fault) = adopt_tables(alloc, &mut conn) {
+            return Err((fault, conn));
+        }
+        match first_shelf(alloc, &mut conn, was_blank, had_tables) {
+            Ok(shelf) => Ok(Store {
                 alloc,
                 conn,
-                shelf: None,
+                is_own: was_blank | had_tables,
+                shelf,
             }),
-            Err(fault) => Err((fault, conn)),
+            Err(want) => Err((OpenFault::Want(want), conn)),
         }
     }
 
@@ -158,9 +182,11 @@ impl<S: Alter> Store<S> {
             → IsOpen S.Store self.old }
         ensures was_clean { IsClean S.Store self.new → IsClean S.Store self.old }
     {
-        let shelf = self.shelf.take();
-        let addresses = list_addresses(self.alloc, &mut self.conn)?;
-        self.shelf = shelf;
+        let shelf = self.take_shelf()?;
+        let addresses = copied(self.alloc, shelf.addresses.as_slice())?;
+        if shelf.stays {
+            self.put_back(shelf);
+        }
         Ok(addresses)
     }
 
@@ -184,33 +210,11 @@ impl<S: Alter> Store<S> {
         Ok(found)
     }
 
-    /// The addresses, with no row of a document.
-    fn empty_shelf(&mut self) -> Result<Shelf, Want>
-        ensures shelf { IsClean S.Store self.new → HoldsDocuments S.Store self.old
-            → IfOk result (λ shelf. AreOf (state S.Store self.old).now
-            (map string_bytes shelf.addresses.items) shelf.fronts.items) }
-        ensures own { IfOk result (λ shelf. IsTrue shelf.stays
-            → IsStoreSchema (state S.Store self.old).now.schema) }
-        ensures answered { IsClean S.Store self.new → OnOk result (IsOpen S.Store self.new) }
-        ensures alone { LeavesAlone S.Store self.old self.new }
-    {
-        let stays = is_store_schema(self.conn.schema());
-        let addresses = list_addresses(self.alloc, &mut self.conn)?;
-        let fronts = no_rows(self.alloc, addresses.len())?;
-        Ok(Shelf {
-            addresses,
-            fronts,
-            guides: Vec::new(self.alloc),
-            kept: 0,
-            stays,
-        })
-    }
-
     /// What is kept of the documents, or their addresses with no row. Nothing is kept from then on.
     pub(crate) fn take_shelf(&mut self) -> Result<Shelf, Want>
         ensures shelf { IsClean S.Store self.new → HoldsDocuments S.Store self.old
             → IfOk result (λ shelf. AreOf (state S.Store self.old).now
-            (map string_bytes shelf.addresses.items) shelf.fronts.items) }
+            shelf.addresses.value shelf.fronts.items) }
         ensures own { IsUp S.Store self.new → IfOk result (λ shelf. IsTrue shelf.stays
             → IsStoreSchema (state S.Store self.old).now.schema) }
         ensures answered { IsClean S.Store self.new → OnOk result (IsOpen S.Store self.new) }
@@ -221,7 +225,20 @@ impl<S: Alter> Store<S> {
                 check_open(&mut self.conn)?;
                 Ok(shelf)
             }
-            None => self.empty_shelf(),
+            None => {
+                let stays = is_store_schema(self.conn.schema());
+                list_shelf(self.alloc, &mut self.conn, stays)
+            }
+        }
+    }
+
+    /// Keeps what was taken, where it may stay.
+    fn put_back(&mut self, shelf: Shelf)
+        requires { IsKept S.Store self.old shelf }
+        ensures { self.new ≡ self.old }
+    {
+        if self.is_own {
+            self.shelf = Some(shelf);
         }
     }
 
@@ -230,16 +247,9 @@ impl<S: Alter> Store<S> {
         requires { IsKept S.Store self shelf }
         ensures { result ≡ self }
     {
-        let Store {
-            alloc,
-            conn,
-            shelf: _,
-        } = self;
-        Store {
-            alloc,
-            conn,
-            shelf: Some(shelf),
-        }
+        let mut store = self;
+        store.put_back(shelf);
+        store
     }
 
     /// The rows of the address from `low` to `high`, in document order.
@@ -300,10 +310,33 @@ impl<S: Alter> Store<S> {
             → IsOpen S.Store self.old }
         ensures was_clean { IsClean S.Store self.new → IsClean S.Store self.old }
     {
-        let _outdated = self.shelf.take();
+        let kept = self.shelf.take();
         let replaced = put_rows(&mut self.conn, address, document.rows())?;
-        let put = if replaced { Put::Replaced } else { Put::Stored };
-        Ok(put)
+        self.shelf = shelf_with(kept, address, Front::new(self.alloc));
+        Ok(Put::of(replaced))
+    }
+
+    /// The same of a document that is handed over: its rows are kept for the next view, which need
+    /// not read them. After a refusal the document is gone.
+    pub fn put_owned(&mut self, address: &str, document: Fragment) -> Result<Put, Want>
+        requires address { IsAddress address.now }
+        requires document { document.root.kind ≡ Document }
+        ensures put { IsClean S.Store self.new → (m : Map) → StandsFor S.Store self.old m
+            → IfOk result (λ put. StandsFor S.Store self.new (insert m address.now document)) }
+        ensures answer { IsClean S.Store self.new → (m : Map) → StandsFor S.Store self.old m
+            → IfOk result (λ put.
+            put ≡ (if contains_key m address.now then Put.Replaced else Put.Stored)) }
+        ensures kept { IsClean S.Store self.new → (m : Map) → StandsFor S.Store self.old m
+            → OnErr result (StandsFor S.Store self.new m) }
+        ensures answered { IsClean S.Store self.new → OnOk result (IsOpen S.Store self.new) }
+        ensures was_open { IsClean S.Store self.new → IsOpen S.Store self.new
+            → IsOpen S.Store self.old }
+        ensures was_clean { IsClean S.Store self.new → IsClean S.Store self.old }
+    {
+        let shelf = self.shelf.take();
+        let replaced = put_rows(&mut self.conn, address, document.rows())?;
+        self.shelf = shelf_with(shelf, address, Front::whole(self.alloc, document));
+        Ok(Put::of(replaced))
     }
 
     /// Removes the document of the address alone, and answers whether it was there. A refusal
@@ -320,8 +353,9 @@ impl<S: Alter> Store<S> {
             → IsOpen S.Store self.old }
         ensures was_clean { IsClean S.Store self.new → IsClean S.Store self.old }
     {
-        let _dropped = self.shelf.take();
+        let shelf = self.shelf.take();
         let count = drop_rows(&mut self.conn, address)?;
+        self.shelf = shelf_without(shelf, address);
         Ok(count > 0)
     }
 
@@ -333,8 +367,88 @@ impl<S: Alter> Store<S> {
         let Store {
             alloc: _,
             conn,
+            is_own: _,
             shelf: _,
         } = self;
         conn
     }
+}
+
+/// The addresses of the documents in the tables, with no row of one.
+fn list_shelf<S: Alter>(alloc: Global, conn: &mut Connection<S>, stays: bool) -> Result<Shelf, Want>
+    requires { conn.old.in_transaction ≡ false }
+    ensures outside { StaysOutside S.Store conn.old conn.new }
+    ensures ends_open { HasCleanDisk (state S.Store conn.new)
+        → OnOk result (IsTrue (state S.Store conn.new).is_open) }
+    ensures same { IsReady (state S.Store conn.new)
+        → IsStoreSchema (state S.Store conn.old).now.schema
+        → (state S.Store conn.new).now ≡ (state S.Store conn.old).now }
+    ensures shelf { IsReady (state S.Store conn.new) → IsStore (state S.Store conn.old).now
+        → IfOk result (λ shelf. AreOf (state S.Store conn.old).now shelf.addresses.value
+        shelf.fronts.items) }
+    ensures stays { IfOk result (λ shelf. shelf.stays ≡ stays) }
+{
+    let list = list_addresses(alloc, conn)?;
+    let Some(addresses) = Addresses::from_rising(list) else {
+        return Err(Want::Store);
+    };
+    Shelf::unread(alloc, addresses, stays)
+}
+
+/// A list of the same texts.
+fn copied(alloc: Global, texts: &[String]) -> Result<Vec<String>, Want>
+    ensures { IfOk result (λ copy. map string_bytes copy.items ≡ map string_bytes texts.now) }
+{
+    Ok(texts.to_vec(alloc)?)
+}
+
+/// What is kept of a database that was adopted: of one that was blank no address, and of one that
+/// has the tables of a store those that they hold.
+fn first_shelf<S: Alter>(
+    alloc: Global,
+    conn: &mut Connection<S>,
+    was_blank: bool,
+    had_tables: bool,
+) -> Result<Option<Shelf>, Want>
+    requires { conn.old.in_transaction ≡ false }
+    ensures outside { StaysOutside S.Store conn.old conn.new }
+    ensures ends_open { HasCleanDisk (state S.Store conn.new)
+        → IsTrue (state S.Store conn.old).is_open
+        → OnOk result (IsTrue (state S.Store conn.new).is_open) }
+    ensures same { IsReady (state S.Store conn.new)
+        → (IsTrue had_tables → IsStoreSchema (state S.Store conn.old).now.schema)
+        → (state S.Store conn.new).now ≡ (state S.Store conn.old).now }
+    ensures shelf { IsReady (state S.Store conn.new)
+        → (IsTrue was_blank → IsEmptyStore (state S.Store conn.old).now)
+        → (IsTrue had_tables → IsStore (state S.Store conn.old).now)
+        → IfOk result (λ kept. IfSome kept (λ shelf. AreOf (state S.Store conn.old).now
+        shelf.addresses.value shelf.fronts.items)) }
+    ensures own { IfOk result (λ kept. IfSome kept (λ shelf.
+        IsTrue (was_blank || had_tables))) }
+    ensures err { OnErr result (IsTrue had_tables) }
+{
+    if was_blank {
+        return Ok(Shelf::empty(alloc));
+    }
+    if !had_tables {
+        return Ok(None);
+    }
+    let shelf = list_shelf(alloc, conn, true)?;
+    Ok(Some(shelf))
+}
+
+/// What is kept after a put, if anything is.
+fn shelf_with(shelf: Option<Shelf>, address: &str, front: Front) -> Option<Shelf>
+    ensures { IfSome result (λ later. (earlier : Shelf) × (shelf ≡ Some earlier)
+        × HasPut earlier later address.now front) }
+{
+    shelf?.with_document(address, front)
+}
+
+/// What is kept after a drop, if anything is.
+fn shelf_without(shelf: Option<Shelf>, address: &str) -> Option<Shelf>
+    ensures { IfSome result (λ later. (earlier : Shelf) × (shelf ≡ Some earlier)
+        × HasDropped earlier later address.now) }
+{
+    shelf?.without_document(address)
 }

@@ -6,14 +6,16 @@ ghost use Rattle.xq_rows.specs.Tables.{no_schema};
 ghost use Rattle.xq_rows.specs.Views.{Beginning, HeldDocuments, StoodFor, WasClean, WasOpen, beginning, trees_under};
 ghost use Rattle.xq_sources.specs.Meters.{no_readings};
 
-use crate::fronts::{Run, Shelf};
+use crate::fronts::Run;
+use crate::shelves::{Shelf, address_at};
 use crate::stores::Store;
 use sqlite::Alter;
 use std::alloc::Global;
 use std::marker::{Brand, Model, PhantomData};
+use std::rc::Rc;
 use xq_atoms::Want;
 use xq_regions::NodeRow;
-use xq_sources::{Meter, RowSource, TreeSource};
+use xq_sources::{Addresses, Meter, RowSource, TreeSource};
 
 /// Where a view began. A function that reads a store through a view has a parameter of this kind;
 /// its caller passes `Brand`, and picks for it the store as that call begins, by `beginning`.
@@ -39,7 +41,8 @@ impl Origin for Brand {
 /// As a source it reads rows where they lie, by a statement for each call. As a lender it keeps the
 /// first rows of each document, reads them on a part at a time where a row beyond them is wanted,
 /// and lends them without a copy. What it gives and what it lends is counted, and not what it
-/// reads. The store keeps them for its next view, as long as no document is put or dropped.
+/// reads. The store keeps them for its next views, but for those of a document that is put or
+/// dropped.
 ///
 /// Contracts see the store, the addresses, what the meter shows and what is lent.
 #[derive(Drop)]
@@ -53,7 +56,7 @@ pub struct View<S: Alter, O: Origin> {
 }
 
 impl<S: Alter, O: Origin> Model for View<S, O> {
-    ghost use Rattle.std.specs.Prelude.{map, string_bytes};
+    ghost use Rattle.std.specs.Prelude.{map};
     ghost use Rattle.xq_regions.specs.Rows.{placed};
     ghost use Rattle.xq_rows.specs.Views.{Viewed, viewed_code};
     ghost use Rattle.xq_rows.specs.private.Shelves.{IsShelved, front_at, run_of};
@@ -64,14 +67,14 @@ impl<S: Alter, O: Origin> Model for View<S, O> {
 
     ghost view = { λ v. record {
       store = v.store;
-      addresses = map string_bytes v.shelf.addresses.items;
+      addresses = v.shelf.addresses.value;
       meter = v.meter;
       lent = map placed (run_of (front_at v.shelf.fronts.items v.run.tree) v.run.low v.run.high);
     } };
 
     ghost invariant = { λ v. IsShelved S.Store O.beginning (record {
       store = v.store;
-      addresses = map string_bytes v.shelf.addresses.items;
+      addresses = v.shelf.addresses.value;
       meter = v.meter;
       lent = map placed (run_of (front_at v.shelf.fronts.items v.run.tree) v.run.low v.run.high);
     }) v.shelf.fronts.items v.shelf.stays };
@@ -124,7 +127,15 @@ impl<S: Alter, O: Origin> View<S, O> {
     pub fn addresses(&self) -> &[String]
         ensures { map string_bytes result.now ≡ self.now.addresses }
     {
-        &self.shelf.addresses
+        self.shelf.addresses.as_slice()
+    }
+
+    /// The same list, which is there as long as it is held. While it is, no document can be put or
+    /// dropped without the list being read anew.
+    pub fn shared_addresses(&self) -> Result<Rc<Addresses>, Want>
+        ensures { IfOk result (λ all. all.value ≡ self.now.addresses) }
+    {
+        Ok(self.shelf.addresses.clone()?)
     }
 
     /// Gives the store back, which stands for the map that it stood for as the view began. What was
@@ -159,7 +170,7 @@ impl<S: Alter, O: Origin> TreeSource for View<S, O> {
     ghost is_clean = { λ v. IsClean S.Store v.store × HeldDocuments O.beginning };
 
     fn trees(&self) -> usize {
-        self.shelf.addresses.len()
+        self.shelf.addresses.as_slice().len()
     }
 
     fn meter(&self) -> Meter {
@@ -175,30 +186,28 @@ impl<S: Alter, O: Origin> RowSource for View<S, O> {
         low: u32,
         high: u32,
     ) -> Result<Vec<NodeRow>, Want> {
-        let Some(address) = self.shelf.addresses.get(tree) else {
+        let Some(address) = address_at(&self.shelf.addresses, tree) else {
             return Err(Want::Store);
         };
-        let found = self.store.read_between(alloc, address.as_str(), low, high)?;
+        let found = self.store.read_between(alloc, address, low, high)?;
         self.meter = self.meter.with_rows(found.len());
         Ok(found)
     }
 
     fn enclosing(&mut self, alloc: Global, tree: usize, node: u32) -> Result<Vec<NodeRow>, Want> {
-        let Some(address) = self.shelf.addresses.get(tree) else {
+        let Some(address) = address_at(&self.shelf.addresses, tree) else {
             return Err(Want::Store);
         };
-        let found = self.store.read_above(alloc, address.as_str(), node)?;
+        let found = self.store.read_above(alloc, address, node)?;
         self.meter = self.meter.with_singles(found.len());
         Ok(found)
     }
 
     fn row(&mut self, alloc: Global, tree: usize, node: u32) -> Result<NodeRow, Want> {
-        let Some(address) = self.shelf.addresses.get(tree) else {
+        let Some(address) = address_at(&self.shelf.addresses, tree) else {
             return Err(Want::Store);
         };
-        let mut found = self
-            .store
-            .read_between(alloc, address.as_str(), node, node)?;
+        let mut found = self.store.read_between(alloc, address, node, node)?;
         let Some(row) = found.pop() else {
             return Err(Want::Store);
         };

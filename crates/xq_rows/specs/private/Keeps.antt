@@ -1,15 +1,14 @@
 -- What calls keep: of the connection, and of its documents from one view to the next.
-use Rattle.std.specs.Prelude.{◌≡◌, ◌≤◌, ⊤, ℕ, false, List, map, string_bytes, Vec, Option, Some, None, IsTrue}
+use Rattle.std.specs.Prelude.{◌≡◌, ◌≤◌, ⊤, ℕ, false, List, map, Bool, Option, Some, None, IsTrue}
 use Rattle.std.specs.FinMap.{keys}
-use Rattle.std.specs.Global.{Global}
 use Rattle.sqlite_trees.specs.declared.store.Store.{Ghosts}
 use Rattle.sqlite.specs.Effect.{Database}
 use Rattle.sqlite.specs.Held.{Held, state}
 use Rattle.sqlite.specs.State.{HasCleanDisk, KeepsCommit}
 use Rattle.sqlite.specs.declared.transaction.Transaction.{Transaction}
 use Rattle.sqlite_trees.specs.View.{doubt}
-use Rattle.xq_regions.specs.declared.NodeRow.{NodeRow}
-use Rattle.xq_rows.specs.declared.fronts.Shelf.{Shelf}
+use Rattle.xq_rows.specs.declared.shelves.Front.{Front}
+use Rattle.xq_rows.specs.declared.shelves.Shelf.{Shelf}
 use Rattle.xq_rows.specs.Documents.{IsReady, IsStore, documents_of, tree_at}
 use Rattle.xq_rows.specs.Tables.{node_rows, IsStoreSchema}
 use Rattle.xq_rows.specs.private.Shelves.{AreFronts}
@@ -38,8 +37,7 @@ pub record ReadsInside {S : Type 0} (g : Ghosts S) (old new : Transaction S) : T
       → KeepsCommit (state g old.conn.now) (state g new.conn.now)
 
 -- these are the addresses of the documents in the tables, and of each document the first rows
-pub record AreOf (db : Database) (addresses : List (List ℕ))
-    (fronts : List (Vec NodeRow Global)) : Type 0 where
+pub record AreOf (db : Database) (addresses : List (List ℕ)) (fronts : List Front) : Type 0 where
   pub listed : addresses ≡ keys (documents_of db)
   pub rows : AreFronts (map (tree_at (node_rows db)) addresses) fronts
 
@@ -50,19 +48,26 @@ pub record LeavesAlone {S : Type 0} (g : Ghosts S) (old new : Held S) : Type 0 w
   pub same : IsReady (state g new) → IsStoreSchema (state g old).now.schema
       → (state g new).now ≡ (state g old).now
 
--- A shelf is that of the documents, and the tables are those that a store makes: so what is read
--- later leaves them.
+-- a shelf is that of the documents, where the tables hold documents
 pub record IsKept {S : Type 0} (g : Ghosts S) (conn : Held S) (shelf : Shelf) : Type 0 where
-  pub own : IsReady (state g conn) → IsStoreSchema (state g conn).now.schema
   pub holds : IsReady (state g conn) → IsStore (state g conn).now
-      → AreOf (state g conn).now (map string_bytes shelf.addresses.items) shelf.fronts.items
+      → AreOf (state g conn).now shelf.addresses.value shelf.fronts.items
 
-abbrev pub Keeps : {S : Type 0} → Ghosts S → Held S → Option Shelf → Type 0
-Keeps g conn None = ⊤
-Keeps g conn (Some shelf) = IsKept g conn shelf
+-- what is kept is that of tables which hold documents
+pub record KeepsShelf {S : Type 0} (g : Ghosts S) (conn : Held S) (is_own : Bool)
+    (shelf : Shelf) : Type 0 where
+  pub own : IsTrue is_own
+  pub of : IsReady (state g conn)
+      → AreOf (state g conn).now shelf.addresses.value shelf.fronts.items
 
--- what is true of each store: its connection, and what is kept
-pub record IsKeeping {S : Type 0} (g : Ghosts S) (conn : Held S)
+abbrev pub Keeps : {S : Type 0} → Ghosts S → Held S → Bool → Option Shelf → Type 0
+Keeps g conn is_own None = ⊤
+Keeps g conn is_own (Some shelf) = KeepsShelf g conn is_own shelf
+
+-- what is true of each store: its connection, whose tables hold documents where they are its own,
+-- and what is kept
+pub record IsKeeping {S : Type 0} (g : Ghosts S) (conn : Held S) (is_own : Bool)
     (shelf : Option Shelf) : Type 0 where
   pub outside : conn.in_transaction ≡ false
-  pub keeps : Keeps g conn shelf
+  pub own : IsTrue is_own → IsReady (state g conn) → IsStore (state g conn).now
+  pub keeps : Keeps g conn is_own shelf

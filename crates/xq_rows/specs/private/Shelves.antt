@@ -1,11 +1,14 @@
 -- What is kept in memory of the documents of a store: their addresses, and of each the first rows.
-use Rattle.std.specs.Prelude.{◌≡◌, ◌<◌, ◌≤◌, ◌+◌, ◌-◌, ◌⊎◌, ⊤, ℕ, List, [], ◌∷◌, length, map, take, drop, slice_get, Vec, Option, Some, None, Bool, IsTrue}
+use Rattle.std.specs.Prelude.{◌≡◌, ◌<◌, ◌≤◌, ◌+◌, ◌-◌, ◌⊎◌, ⊤, ℕ, List, [], ◌∷◌, length, map, take, drop, slice_get, Option, Some, None, Bool, IsTrue}
 use Rattle.std.specs.FinMap.{get}
-use Rattle.std.specs.Global.{Global}
 use Rattle.sqlite_trees.specs.declared.store.Store.{Ghosts}
 use Rattle.xq_regions.specs.Tree.{Tree}
 use Rattle.xq_regions.specs.Rows.{placed, placed_rows}
 use Rattle.xq_regions.specs.declared.NodeRow.{NodeRow}
+use Rattle.xq_rows.specs.declared.shelves.Front.{Front}
+use Rattle.xq_rows.specs.declared.shelves.Shelf.{Shelf}
+use Rattle.xq_sources.specs.Addresses.{IsGap}
+use Rattle.std.specs.List.{insert, remove, slice_set as set}
 use Rattle.xq_sources.specs.Sources.{tree_at}
 use Rattle.sqlite.specs.Held.{state}
 use Rattle.xq_rows.specs.Documents.{Map, IsClean, IsReady}
@@ -20,19 +23,19 @@ IsFront t rows = map placed rows ≡ take (length rows) (placed_rows t)
 abbrev pub Reaches : Tree → ℕ → List NodeRow → Type 0
 Reaches t place rows = (place < length rows) ⊎ (length (placed_rows t) ≤ length rows)
 
--- each list has the first rows of its tree
-abbrev pub AreFronts : List Tree → List (Vec NodeRow Global) → Type 0
+-- each has the first rows of its tree
+abbrev pub AreFronts : List Tree → List Front → Type 0
 AreFronts [] [] = ⊤
 AreFronts [] (front ∷ fronts) = ⊥
 AreFronts (t ∷ trees) [] = ⊥
-AreFronts (t ∷ trees) (front ∷ fronts) = IsFront t front.items × AreFronts trees fronts
+AreFronts (t ∷ trees) (front ∷ fronts) = IsFront t front.rows.items × AreFronts trees fronts
 
 -- the rows that are kept of the tree with this number
-abbrev pub items_in : Option (Vec NodeRow Global) → List NodeRow
+abbrev pub items_in : Option Front → List NodeRow
 items_in None = []
-items_in (Some front) = front.items
+items_in (Some front) = front.rows.items
 
-abbrev pub front_at : List (Vec NodeRow Global) → ℕ → List NodeRow
+abbrev pub front_at : List Front → ℕ → List NodeRow
 front_at fronts tree = items_in (slice_get fronts tree)
 
 -- those from low to high
@@ -40,8 +43,7 @@ abbrev pub run_of : List NodeRow → ℕ → ℕ → List NodeRow
 run_of rows low high = take (high + 1 - low) (drop low rows)
 
 -- there is a tree with this number, and its rows are kept up to a place, or all of them
-pub record HasReached (trees : List Tree) (fronts : List (Vec NodeRow Global))
-    (tree place : ℕ) : Type 0 where
+pub record HasReached (trees : List Tree) (fronts : List Front) (tree place : ℕ) : Type 0 where
   pub tree_in : tree < length trees
   pub reaches : Reaches (tree_at trees tree) place (front_at fronts tree)
 
@@ -54,8 +56,28 @@ pub record AreListed (m : Map) (addresses : List (List ℕ)) (trees : List Tree)
 -- what a view keeps true of its rows, beside what it keeps true of its store: where they may stay,
 -- the tables are those that a store makes, and nothing changed them since the view began
 pub record IsShelved {S : Type 0} (g : Ghosts S) (b : Beginning) (v : Viewed S)
-    (fronts : List (Vec NodeRow Global)) (may_stay : Bool) : Type 0 where
+    (fronts : List Front) (may_stay : Bool) : Type 0 where
   pub view : IsView g b v
   pub rows : IsClean g v.store → HeldDocuments b → AreFronts (trees_under b v.addresses) fronts
   pub stays : IsTrue may_stay → IsReady (state g v.store) → IsStoreSchema b.database.schema
       × ((state g v.store).now ≡ b.database)
+
+-- # A shelf after a put and after a drop
+
+-- the front stands at the place of the address, in place of another or as one more
+pub record HasPut (old new : Shelf) (address : List ℕ) (front : Front) : Type 0 where
+  pub place : ℕ
+  pub did : ((slice_get old.addresses.value place ≡ Some address)
+      × (new.addresses.value ≡ old.addresses.value)
+      × (new.fronts.items ≡ set old.fronts.items place front))
+      ⊎ (IsGap old.addresses.value place address
+      × (new.addresses.value ≡ insert old.addresses.value place address)
+      × (new.fronts.items ≡ insert old.fronts.items place front))
+
+-- the address is gone with its front, or there was none
+pub record HasDropped (old new : Shelf) (address : List ℕ) : Type 0 where
+  pub place : ℕ
+  pub did : ((slice_get old.addresses.value place ≡ Some address)
+      × (new.addresses.value ≡ remove old.addresses.value place)
+      × (new.fronts.items ≡ remove old.fronts.items place))
+      ⊎ (IsGap old.addresses.value place address × (new ≡ old))

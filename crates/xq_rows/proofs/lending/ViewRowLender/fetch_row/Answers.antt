@@ -1,4 +1,4 @@
-use Rattle.std.proofs.Common.{◌≡◌, ◌<◌, [], ◌∷◌, Vec, Global, String, length, map, string_bytes, ap, subst, ◌∙◌}
+use Rattle.std.proofs.Common.{◌≡◌, ◌<◌, [], ◌∷◌, length, map, ap, subst, ◌∙◌, rc_value}
 use Rattle.xq_regions.specs.Rows.{placed, row_at, rows}
 use Rattle.xq_regions.specs.Tree.{IsTree}
 use Rattle.xq_sources.specs.Sources.{HasNode, tree_at as nth_tree}
@@ -9,15 +9,15 @@ use Rattle.xq_rows.proofs.lending.ViewRowLender.fetch_row.Goals as goal
 
 pub invariant_of-self : goal.invariant_of-self
 invariant_of-self g c = shelved g.S.Store g.O.Origin.beginning _ _ _ c.self.invariant c.read_on.new.store c.read_on.new.shelf.fronts.items c.read_on.ensures.was_clean c.read_on.ensures.fronts _ _ _
-    (ap (λ (v : Vec (String Global) Global). map string_bytes v.items) c.read_on.ensures.addresses) c.read_on.ensures.same _ c.read_on.ensures.stays c.read_on.ensures.alone
+    (ap rc_value c.read_on.ensures.addresses) c.read_on.ensures.same _ c.read_on.ensures.stays c.read_on.ensures.alone
 
 pub invariant_of-self-then-node-front_of : goal.invariant_of-self-then-node-front_of
 invariant_of-self-then-node-front_of g c = shelved g.S.Store g.O.Origin.beginning _ _ _ c.self.invariant c.read_on.new.store c.read_on.new.shelf.fronts.items c.read_on.ensures.was_clean c.read_on.ensures.fronts _ _ _
-    (ap (λ (v : Vec (String Global) Global). map string_bytes v.items) c.read_on.ensures.addresses) c.read_on.ensures.same _ c.read_on.ensures.stays c.read_on.ensures.alone
+    (ap rc_value c.read_on.ensures.addresses) c.read_on.ensures.same _ c.read_on.ensures.stays c.read_on.ensures.alone
 
 pub invariant_of-self-2 : goal.invariant_of-self-2
 invariant_of-self-2 g c = shelved g.S.Store g.O.Origin.beginning _ _ _ c.self.invariant c.read_on.new.store c.read_on.new.shelf.fronts.items c.read_on.ensures.was_clean c.read_on.ensures.fronts _ _ _
-    (ap (λ (v : Vec (String Global) Global). map string_bytes v.items) c.read_on.ensures.addresses) c.read_on.ensures.same _ c.read_on.ensures.stays c.read_on.ensures.alone
+    (ap rc_value c.read_on.ensures.addresses) c.read_on.ensures.same _ c.read_on.ensures.stays c.read_on.ensures.alone
 
 pub returns-clause-exists : goal.returns-clause-exists
 returns-clause-exists g c = λ clean.

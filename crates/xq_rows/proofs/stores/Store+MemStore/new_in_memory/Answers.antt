@@ -3,6 +3,7 @@ use Rattle.sqlite.specs.Held.{state}
 use Rattle.sqlite.specs.Steps.{over_memory}
 use Rattle.sqlite.proofs.Callers.{memory_is_clean}
 use Rattle.xq_rows.specs.Documents.{IsReady}
+use Rattle.xq_rows.proofs.Keeping.{keeping_empty}
 use Rattle.xq_rows.proofs.Calls.{new_clean, new_open, new_empty}
 use Rattle.xq_rows.proofs.stores.Store+MemStore.new_in_memory.Goals as goal
 
@@ -20,3 +21,8 @@ pub returns-clause-none : goal.returns-clause-none
 returns-clause-none c =
     let ready : IsReady (state over_memory c.make_tables.new.conn) = (memory_is_clean c.make_tables.new.conn, refl) in
     new_empty over_memory c.make_tables.new.conn ready (c.in_ok-make_tables.ensures.made ready c.in_ok-conn.ensures.empty.2)
+
+pub invariant_of-result : goal.invariant_of-result
+invariant_of-result c =
+    let ready : IsReady (state over_memory c.make_tables.new.conn) = (memory_is_clean c.make_tables.new.conn, refl) in
+    keeping_empty over_memory c.make_tables.new.conn c.make_tables.ensures.outside.mode (c.in_ok-make_tables.ensures.made ready c.in_ok-conn.ensures.empty.2) c.empty.result c.empty.ensures

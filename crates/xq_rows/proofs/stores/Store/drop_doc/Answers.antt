@@ -1,4 +1,7 @@
+use Rattle.std.proofs.Common.{subst, sym}
 use Rattle.xq_rows.specs.Documents.{StandsFor}
+use Rattle.xq_rows.specs.private.Keeps.{IsKeeping}
+use Rattle.xq_rows.proofs.Keeping.{has_dropped}
 use Rattle.xq_rows.proofs.Calls.{on_err, was_clean, was_open, kept_stands, drop_stands, drop_answer, leaves_open}
 use Rattle.xq_rows.proofs.stores.Store.drop_doc.Goals as goal
 
@@ -26,3 +29,8 @@ returns-clause-was_open g c = was_open g.S.Store c.self.inside.conn c.args.self.
 
 pub returns-clause-was_clean : goal.returns-clause-was_clean
 returns-clause-was_clean g c = was_clean g.S.Store c.self.inside.conn c.args.self.now c.drop_rows.new.conn c.self.view_is c.drop_rows.ensures.outside.clean
+
+pub invariant_of-self-2 : goal.invariant_of-self-2
+invariant_of-self-2 g c =
+    has_dropped g.S.Store c.self.inside.conn c.drop_rows.new.conn c.drop_rows.ensures.outside c.self.inside.is_own c.take-shelf.result (subst (IsKeeping g.S.Store c.self.inside.conn c.self.inside.is_own) (sym c.take-shelf.ensures.value) c.self.invariant)
+    c.args.address.now c.in_ok-count.count c.in_ok-count.ensures.dropped c.shelf_without.result c.shelf_without.ensures

@@ -1,9 +1,11 @@
-use Rattle.std.proofs.Common.{◌∙◌, sym, ap, if◌then◌else◌}
+use Rattle.std.proofs.Common.{◌∙◌, subst, sym, ap, if◌then◌else◌}
 use Rattle.xq_rows.specs.declared.stores.Put.TheVariants.{Replaced, Stored}
-use Rattle.xq_rows.proofs.stores.Store.put.Goals.{then-replaced, else-replaced}
 use Rattle.xq_rows.specs.Documents.{StandsFor}
 use Rattle.xq_rows.proofs.Calls.{on_err, was_clean, was_open, kept_stands, put_stands, put_answer, leaves_open}
 use Rattle.xq_rows.proofs.Parts.{few}
+use Rattle.xq_rows.proofs.FrontLaws.{none_yet}
+use Rattle.xq_rows.proofs.Keeping.{has_put}
+use Rattle.xq_rows.specs.private.Keeps.{IsKeeping}
 use Rattle.xq_rows.proofs.stores.Store.put.Goals as goal
 
 pub returns-in_err-replaced-clause-kept : goal.returns-in_err-replaced-clause-kept
@@ -16,10 +18,7 @@ returns-clause-put g c = put_stands g.S.Store c.self.inside.conn c.args.self.now
 pub returns-clause-answer : goal.returns-clause-answer
 returns-clause-answer g c clean m stands =
     let there = put_answer g.S.Store c.self.inside.conn c.args.self.now c.put_rows.new.conn c.self.view_is c.put_rows.ensures.outside.was_open c.in_ok-replaced.ensures.ends_open c.args.address.now c.requires.address c.args.document.now c.rows.result.now c.rows.ensures c.requires.document c.in_ok-replaced.replaced c.in_ok-replaced.ensures.put clean m stands in
-    elim c.if-replaced.branch [
-      | then-replaced w ↦ w.put-is ∙ ap (λ b. if b then Replaced else Stored) (sym w.if-replaced.true ∙ there)
-      | else-replaced w ↦ w.put-is ∙ ap (λ b. if b then Replaced else Stored) (sym w.if-replaced.false ∙ there)
-    ]
+    c.of.ensures ∙ ap (λ b. if b then Replaced else Stored) there
 
 pub put_rows-requires-clause-few : goal.put_rows-requires-clause-few
 put_rows-requires-clause-few g c = few c.rows.result.now c.args.document.now c.rows.ensures
@@ -38,3 +37,9 @@ returns-clause-was_open g c = was_open g.S.Store c.self.inside.conn c.args.self.
 
 pub returns-clause-was_clean : goal.returns-clause-was_clean
 returns-clause-was_clean g c = was_clean g.S.Store c.self.inside.conn c.args.self.now c.put_rows.new.conn c.self.view_is c.put_rows.ensures.outside.clean
+
+pub invariant_of-self-2 : goal.invariant_of-self-2
+invariant_of-self-2 g c =
+    has_put g.S.Store c.self.inside.conn c.put_rows.new.conn c.put_rows.ensures.outside c.self.inside.is_own c.take-kept.result (subst (IsKeeping g.S.Store c.self.inside.conn c.self.inside.is_own) (sym c.take-kept.ensures.value) c.self.invariant)
+    c.args.address.now c.requires.address c.args.document.now (record { is_tree = c.rows.ensures.is_tree; root = c.requires.document }) c.rows.result.now c.rows.ensures c.in_ok-replaced.replaced c.in_ok-replaced.ensures.put
+    c.new.result (none_yet c.args.document.now c.new.result.rows.items c.new.ensures) c.shelf_with.result c.shelf_with.ensures

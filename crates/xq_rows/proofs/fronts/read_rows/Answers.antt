@@ -2,7 +2,7 @@ use Rattle.std.proofs.Common.{◌≤◌, inr, eqb-true, sym, subst, ◌∙◌, a
 use Rattle.xq_rows.specs.private.Shelves.{IsFront}
 use Rattle.xq_rows.proofs.Keeping.{leaves_refl, leaves_then}
 use Rattle.xq_rows.proofs.FrontLaws.{read_more, read_all, empty_items}
-use Rattle.xq_rows.proofs.fronts.read_front.Goals as goal
+use Rattle.xq_rows.proofs.fronts.read_rows.Goals as goal
 
 pub loop-alloc-init : goal.loop-alloc-init
 loop-alloc-init g c = record {

@@ -4,7 +4,7 @@ use Rattle.xq_regions.specs.Tree.{Tree}
 use Rattle.xq_rows.specs.Documents.{IsClean, IsOpen, Map, StandsFor}
 use Rattle.xq_rows.specs.private.Keeps.{LeavesAlone}
 use Rattle.xq_rows.specs.private.Shelves.{IsFront}
-use Rattle.xq_rows.proofs.fronts.read_front.Given as goal
+use Rattle.xq_rows.proofs.fronts.read_rows.Given as goal
 
 abbrev pub invariant-loop-alloc : goal.invariant-loop-alloc
 invariant-loop-alloc g l = record {

@@ -1,0 +1,45 @@
+use Rattle.std.proofs.Common.{◌∙◌, subst, sym, ap, if◌then◌else◌}
+use Rattle.xq_rows.specs.declared.stores.Put.TheVariants.{Replaced, Stored}
+use Rattle.xq_rows.specs.Documents.{StandsFor}
+use Rattle.xq_rows.proofs.Calls.{on_err, was_clean, was_open, kept_stands, put_stands, put_answer, leaves_open}
+use Rattle.xq_rows.proofs.Parts.{few}
+use Rattle.xq_rows.proofs.Shelving.{whole_front}
+use Rattle.xq_rows.proofs.Keeping.{has_put}
+use Rattle.xq_rows.specs.private.Keeps.{IsKeeping}
+use Rattle.xq_rows.proofs.stores.Store.put_owned.Goals as goal
+
+pub returns-in_err-replaced-clause-kept : goal.returns-in_err-replaced-clause-kept
+returns-in_err-replaced-clause-kept g c clean m stands =
+    on_err (StandsFor g.S.Store c.put_rows.new.conn m) _ (kept_stands g.S.Store c.self.inside.conn c.args.self.now c.put_rows.new.conn c.self.view_is c.put_rows.ensures.outside.was_open c.in_err-replaced.ensures.kept clean m stands)
+
+pub returns-clause-put : goal.returns-clause-put
+returns-clause-put g c = put_stands g.S.Store c.self.inside.conn c.args.self.now c.put_rows.new.conn c.self.view_is c.put_rows.ensures.outside.was_open c.in_ok-replaced.ensures.ends_open c.args.address.now c.requires.address c.args.document c.rows.result.now c.rows.ensures c.requires.document c.in_ok-replaced.replaced c.in_ok-replaced.ensures.put
+
+pub returns-clause-answer : goal.returns-clause-answer
+returns-clause-answer g c clean m stands =
+    let there = put_answer g.S.Store c.self.inside.conn c.args.self.now c.put_rows.new.conn c.self.view_is c.put_rows.ensures.outside.was_open c.in_ok-replaced.ensures.ends_open c.args.address.now c.requires.address c.args.document c.rows.result.now c.rows.ensures c.requires.document c.in_ok-replaced.replaced c.in_ok-replaced.ensures.put clean m stands in
+    c.of.ensures ∙ ap (λ b. if b then Replaced else Stored) there
+
+pub put_rows-requires-clause-few : goal.put_rows-requires-clause-few
+put_rows-requires-clause-few g c = few c.rows.result.now c.args.document c.rows.ensures
+
+pub returns-clause-answered : goal.returns-clause-answered
+returns-clause-answered g c = leaves_open g.S.Store c.put_rows.new.conn c.in_ok-replaced.ensures.ends_open
+
+pub returns-in_err-replaced-clause-was_open : goal.returns-in_err-replaced-clause-was_open
+returns-in_err-replaced-clause-was_open g c = was_open g.S.Store c.self.inside.conn c.args.self.now c.put_rows.new.conn c.self.view_is c.put_rows.ensures.outside.was_open
+
+pub returns-in_err-replaced-clause-was_clean : goal.returns-in_err-replaced-clause-was_clean
+returns-in_err-replaced-clause-was_clean g c = was_clean g.S.Store c.self.inside.conn c.args.self.now c.put_rows.new.conn c.self.view_is c.put_rows.ensures.outside.clean
+
+pub returns-clause-was_open : goal.returns-clause-was_open
+returns-clause-was_open g c = was_open g.S.Store c.self.inside.conn c.args.self.now c.put_rows.new.conn c.self.view_is c.put_rows.ensures.outside.was_open
+
+pub returns-clause-was_clean : goal.returns-clause-was_clean
+returns-clause-was_clean g c = was_clean g.S.Store c.self.inside.conn c.args.self.now c.put_rows.new.conn c.self.view_is c.put_rows.ensures.outside.clean
+
+pub invariant_of-self-2 : goal.invariant_of-self-2
+invariant_of-self-2 g c =
+    has_put g.S.Store c.self.inside.conn c.put_rows.new.conn c.put_rows.ensures.outside c.self.inside.is_own c.take-shelf.result (subst (IsKeeping g.S.Store c.self.inside.conn c.self.inside.is_own) (sym c.take-shelf.ensures.value) c.self.invariant)
+    c.args.address.now c.requires.address c.args.document (record { is_tree = c.rows.ensures.is_tree; root = c.requires.document }) c.rows.result.now c.rows.ensures c.in_ok-replaced.replaced c.in_ok-replaced.ensures.put
+    c.whole.result (whole_front c.args.document c.whole.result.rows.items c.whole.ensures) c.shelf_with.result c.shelf_with.ensures

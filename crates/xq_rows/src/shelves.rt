@@ -1,0 +1,184 @@
+//! What a store keeps in memory of its documents: their addresses, and of each the first rows.
+ghost use Rattle.std.specs.Prelude.{◌≡◌, ◌<◌, [], List, Some, IfOk, IfSome, length, slice_get};
+ghost use Rattle.std.specs.List.{insert, remove, slice_set as set};
+ghost use Rattle.xq_sources.specs.Addresses.{IsGap};
+ghost use Rattle.xq_regions.specs.Rows.{Encodes};
+ghost use Rattle.xq_regions.specs.Tree.{Tree};
+ghost use Rattle.xq_rows.specs.private.Shelves.{AreFronts, HasDropped, HasPut};
+
+use std::alloc::Global;
+use std::rc::Rc;
+use xq_atoms::Want;
+use xq_regions::{Fragment, NodeRow};
+use xq_sources::{Addresses, Guide};
+
+/// The first rows of a document.
+#[derive(Drop)]
+pub(crate) struct Front {
+    pub rows: Vec<NodeRow>,
+    /// Where parents lie among them.
+    pub guide: Guide,
+    /// When they were wanted last, by the clock of the shelf.
+    pub wanted: u64,
+}
+
+/// The addresses of the documents of a store, in the order of their bytes, and at the same place
+/// the first rows of each document.
+#[derive(Drop)]
+pub(crate) struct Shelf {
+    pub addresses: Rc<Addresses>,
+    pub fronts: Vec<Front>,
+    /// How many rows that are in all.
+    pub kept: usize,
+    /// How often rows were wanted that had to be read, or a view began.
+    pub clock: u64,
+    /// Whether the store may keep this when its view ends.
+    pub stays: bool,
+}
+
+impl Front {
+    /// No row yet.
+    pub fn new(alloc: Global) -> Front
+        ensures { result.rows.items ≡ [] }
+    {
+        Front {
+            rows: Vec::new(alloc),
+            guide: Guide::new(alloc),
+            wanted: 0,
+        }
+    }
+
+    /// All rows of a document. Where memory is short they are without a guide.
+    pub fn whole(alloc: Global, document: Fragment) -> Front
+        ensures { Encodes result.rows.items document }
+    {
+        let rows = document.into_rows();
+        let mut guide = Guide::new(alloc);
+        let _ = guide.read_on(&rows);
+        Front {
+            rows,
+            guide,
+            wanted: 0,
+        }
+    }
+}
+
+/// The address with this number.
+pub(crate) fn address_at(addresses: &Addresses, tree: usize) -> Option<&str>
+    ensures { IfSome result (λ address. slice_get addresses.now tree ≡ Some address.now) }
+{
+    let address = addresses.as_slice().get(tree)?;
+    Some(address.as_str())
+}
+
+/// Fronts without a row, so many.
+fn no_rows(alloc: Global, count: usize) -> Result<Vec<Front>, Want>
+    ensures { IfOk result (λ fronts. (trees : List Tree) → length trees ≡ count
+        → AreFronts trees fronts.items) }
+{
+    let mut fronts = Vec::with_capacity(alloc, count)?;
+    for made in 0..count {
+        fronts.push(Front::new(alloc))?;
+    }
+    Ok(fronts)
+}
+
+impl Shelf {
+    /// No address. Where memory is short there is none.
+    pub fn empty(alloc: Global) -> Option<Shelf>
+        ensures { IfSome result (λ shelf.
+            (shelf.addresses.value ≡ []) × (shelf.fronts.items ≡ [])) }
+    {
+        Some(Shelf {
+            addresses: Rc::new(alloc, Addresses::new(alloc)).ok()?,
+            fronts: Vec::new(alloc),
+            kept: 0,
+            clock: 0,
+            stays: true,
+        })
+    }
+
+    /// These addresses, with no row of a document.
+    pub fn unread(alloc: Global, addresses: Addresses, stays: bool) -> Result<Shelf, Want>
+        ensures addresses { IfOk result (λ shelf. shelf.addresses.value ≡ addresses) }
+        ensures fronts { IfOk result (λ shelf. (trees : List Tree)
+            → length trees ≡ length addresses → AreFronts trees shelf.fronts.items) }
+        ensures stays { IfOk result (λ shelf. shelf.stays ≡ stays) }
+    {
+        let fronts = no_rows(alloc, addresses.as_slice().len())?;
+        Ok(Shelf {
+            addresses: Rc::new(alloc, addresses)?,
+            fronts,
+            kept: 0,
+            clock: 0,
+            stays,
+        })
+    }
+
+    /// The shelf after a put: the front is that of the address, which is added where it was absent.
+    /// Where memory is short there is none.
+    pub fn with_document(self, address: &str, front: Front) -> Option<Shelf>
+        ensures { IfSome result (λ later. HasPut self later address.now front) }
+    {
+        match self.addresses.search(address) {
+            Ok(place) => self.replaced(place, front),
+            Err(place) => self.added(place, address, front),
+        }
+    }
+
+    /// The shelf after a drop. Where memory is short there is none.
+    pub fn without_document(self, address: &str) -> Option<Shelf>
+        ensures { IfSome result (λ later. HasDropped self later address.now) }
+    {
+        match self.addresses.search(address) {
+            Ok(place) => self.removed(place),
+            Err(_) => Some(self),
+        }
+    }
+
+    /// The shelf with another front at a place.
+    fn replaced(mut self, place: usize, front: Front) -> Option<Shelf>
+        ensures { IfSome result (λ later. (later.addresses.value ≡ self.addresses.value)
+            × (later.fronts.items ≡ set self.fronts.items place front)) }
+    {
+        let old = self.fronts.get_mut(place)?;
+        let fewer = self.kept.saturating_sub(old.rows.len());
+        self.kept = fewer.saturating_add(front.rows.len());
+        *old = front;
+        Some(self)
+    }
+
+    /// The shelf with one address more.
+    fn added(mut self, place: usize, address: &str, front: Front) -> Option<Shelf>
+        requires { IsGap self.addresses.value place address.now }
+        ensures { IfSome result (λ later.
+            (later.addresses.value ≡ insert self.addresses.value place address.now)
+            × (later.fronts.items ≡ insert self.fronts.items place front)) }
+    {
+        if place > self.fronts.len() {
+            return None;
+        }
+        let addresses = Rc::get_mut(&mut self.addresses)?;
+        addresses.insert(place, address).ok()?;
+        self.kept = self.kept.saturating_add(front.rows.len());
+        self.fronts.insert(place, front).ok()?;
+        Some(self)
+    }
+
+    /// The shelf without the document at a place.
+    fn removed(mut self, place: usize) -> Option<Shelf>
+        requires { place < length self.addresses.value }
+        ensures { IfSome result (λ later.
+            (later.addresses.value ≡ remove self.addresses.value place)
+            × (later.fronts.items ≡ remove self.fronts.items place)) }
+    {
+        if place >= self.fronts.len() {
+            return None;
+        }
+        let addresses = Rc::get_mut(&mut self.addresses)?;
+        addresses.remove(place);
+        let front = self.fronts.remove(place);
+        self.kept = self.kept.saturating_sub(front.rows.len());
+        Some(self)
+    }
+}
