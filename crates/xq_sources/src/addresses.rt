@@ -59,8 +59,9 @@ impl Addresses {
 
     /// Where the address stands, or else where it would.
     pub fn search(&self, address: &str) -> Result<usize, usize>
-        ensures { MatchResult result (λ place. slice_get self.now place ≡ Some address.now)
+        ensures found { MatchResult result (λ place. slice_get self.now place ≡ Some address.now)
             (λ place. IsGap self.now place address.now) }
+        ensures rise { Rise self.now }
     {
         let mut low = 0;
         let mut high = self.list.len();
