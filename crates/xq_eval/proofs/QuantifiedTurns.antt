@@ -1,7 +1,7 @@
 -- A turn of a quantified expression, over the trees that it leaves.
 use Rattle.std.proofs.Common.{◌≡◌, ℕ, zero, suc, ◌+◌, ◌<◌, ◌≤◌, ◌++◌, List, [], ◌∷◌, map, take, drop, length, refl, sym, ◌∙◌, ap, subst, arith, Ok, Err, Bool, true, false, not, Option, Some, None, append_assoc, inl, inr}
 use Rattle.std.specs.List.{AllByRecursion}
-use Rattle.std.specs.Prelude.{string_bytes, IfSome}
+use Rattle.std.specs.Prelude.{IfSome}
 use Rattle.std.specs.Global.{Vec, Global}
 use Rattle.std.specs.declared.rc.Rc.{Rc}
 use Rattle.std.proofs.lemmas.Bool.{cases_lt}
@@ -191,7 +191,7 @@ pub frame_open : (f : List Tree) (frame inner : Held) (stack : Tuple ItemView) �
 frame_open f frame inner stack e focus addresses =
     let env : tuple_at f (values_of inner.slots.now) ≡ tuple_at f (values_of frame.slots.now) ++ map (take 1) (tuple_at f stack) =
     ap (tuple_at f) e ∙ map-append (items_at f) (values_of frame.slots.now) (map (take 1) stack) ∙ ap (λ s. tuple_at f (values_of frame.slots.now) ++ s) (firsts_read f stack) in
-    (λ i. record { env = env i; focus = focus_at f (focus i); addresses = map string_bytes (addresses i) }) ∙ sym (at_top-env (frame_at f frame) (tuple_at f stack))
+    (λ i. record { env = env i; focus = focus_at f (focus i); addresses = addresses i }) ∙ sym (at_top-env (frame_at f frame) (tuple_at f stack))
 
 pub frame_open_in : (f : List Tree) (frame inner : Held) (stack : Tuple ItemView) → values_of inner.slots.now ≡ values_of frame.slots.now ++ map (take 1) stack
     → inner.focus ≡ frame.focus → inner.addresses.now ≡ frame.addresses.now → FrameIn f frame → TupleIn f stack → FrameIn f inner

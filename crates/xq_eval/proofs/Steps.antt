@@ -1,6 +1,6 @@
 -- One turn of a loop from what its part gave.
 use Rattle.std.proofs.Common.{◌≡◌, ℕ, zero, suc, ◌<◌, ◌≤◌, ◌+◌, ◌++◌, List, [], ◌∷◌, map, drop, length, get_or, slice_index_or, refl, sym, ◌∙◌, ap, subst, arith, add-one, Ok, Err, Bool, true, false}
-use Rattle.std.specs.Prelude.{flat_map, string_bytes, reverse, if◌then◌else◌}
+use Rattle.std.specs.Prelude.{flat_map, reverse, if◌then◌else◌}
 use Rattle.std.specs.List.{AllByRecursion, enumerate_from, zip}
 use Rattle.std.proofs.Math.Seq.{drop-cons}
 use Rattle.std.proofs.lemmas.List.{map-append, append-nil}
@@ -152,7 +152,7 @@ pub frame_inner : (f : List Tree) (frame inner : Held_frame) (tuple : List (Rc (
     → frame_at f inner ≡ at_tuple (frame_at f frame) (tuple_at f (values_of tuple))
 frame_inner f frame inner tuple e focus addresses =
     let env = ap (tuple_at f) e ∙ map-append (items_at f) (values_of frame.slots.now) (values_of tuple) in
-    λ i. record { env = env i; focus = focus_at f (focus i); addresses = map string_bytes (addresses i) }
+    λ i. record { env = env i; focus = focus_at f (focus i); addresses = addresses i }
 
 pub frame_inner_in : (f : List Tree) (frame inner : Held_frame) (tuple : List (Rc (Vec Held) Global)) → values_of inner.slots.now ≡ values_of frame.slots.now ++ values_of tuple
     → inner.focus ≡ frame.focus → inner.addresses.now ≡ frame.addresses.now → FrameIn f frame → TupleIn f (values_of tuple) → FrameIn f inner

@@ -1,5 +1,5 @@
 //! A query's plan.
-ghost use Rattle.std.specs.Prelude.{◌≤◌, [], None, length, map, string_bytes};
+ghost use Rattle.std.specs.Prelude.{◌≤◌, [], None, length};
 ghost use Rattle.xq_meaning.specs.PlanMeaning.{Frame as Meant, plan_mean};
 ghost use Rattle.xq_operations.specs.Views.{Goes, GivesSequence};
 
@@ -10,6 +10,7 @@ use xq_atoms::Fault;
 use xq_meaning::Plan;
 use xq_operations::Frame;
 use xq_regions::Items;
+use xq_sources::Addresses;
 use xq_worlds::Growing;
 
 /// The value of a query's plan, and beside it, in `world`, the trees that it constructed, after
@@ -22,7 +23,7 @@ pub fn eval<W: Growing>(
     alloc: Global,
     plan: &Plan,
     world: &mut W,
-    addresses: &[String],
+    addresses: &Addresses,
 ) -> Result<Items, Fault>
     ensures goes { Goes (W.forest world.old) (W.forest world.new) (W.is_clean world.old)
         (W.is_clean world.new) }
@@ -31,8 +32,7 @@ pub fn eval<W: Growing>(
         → let frame : Meant = record {
           env = [];
           focus = None;
-          addresses = map string_bytes
-              addresses.now;
+          addresses = addresses.now;
         } in
         GivesSequence (plan_mean plan.now frame (W.forest world.old)) (W.forest world.new) result }
 {

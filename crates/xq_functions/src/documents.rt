@@ -1,5 +1,5 @@
 //! Documents by their addresses (F&O 3.1, section 14.6).
-ghost use Rattle.std.specs.Prelude.{◌≡◌, List, map, string_bytes, IfOk, IfErr};
+ghost use Rattle.std.specs.Prelude.{◌≡◌, List, IfOk, IfErr};
 ghost use Rattle.xq_regions.specs.Tree.{Tree};
 ghost use Rattle.xq_values.specs.Functions as Functions;
 ghost use Rattle.xq_functions.specs.Answers.{GivesItems, atomics, items_of, lent_items};
@@ -11,13 +11,15 @@ use crate::results::one;
 use std::alloc::Global;
 use xq_atoms::{Atom, Code, Fault, Want, address_ok};
 use xq_regions::{Item, Items, Node};
+use xq_sources::Addresses;
 
 /// The document node at the address (fn:doc), nothing for nothing; the first trees are the
-/// documents, in the order of `addresses`. FODC0005 for a text that is no address, FODC0002 where
-/// no document has it, XPTY0004 for more than one atom, a number or a boolean.
-pub fn doc(alloc: Global, addresses: &[String], atoms: &[Atom]) -> Result<Items, Fault>
+/// documents, in the order of `addresses`, in which the address is looked up by halves. FODC0005
+/// for a text that is no address, FODC0002 where no document has it, XPTY0004 for more than one
+/// atom, a number or a boolean.
+pub fn doc(alloc: Global, addresses: &Addresses, atoms: &[Atom]) -> Result<Items, Fault>
     ensures { (trees : List Tree) → Gives (items_of trees)
-        (Functions.doc (map string_bytes addresses.now) (atomics atoms.now)) result }
+        (Functions.doc addresses.now (atomics atoms.now)) result }
 {
     let mut items = Vec::new(alloc);
     if let Some(atom) = optional(atoms)? {
@@ -29,9 +31,9 @@ pub fn doc(alloc: Global, addresses: &[String], atoms: &[Atom]) -> Result<Items,
 
 /// Whether a document has the address (fn:doc-available); false for nothing and for a text that is
 /// no address. XPTY0004 for more than one atom, a number or a boolean.
-pub fn doc_available(alloc: Global, addresses: &[String], atoms: &[Atom]) -> Result<Items, Fault>
+pub fn doc_available(alloc: Global, addresses: &Addresses, atoms: &[Atom]) -> Result<Items, Fault>
     ensures { GivesItems
-        (Functions.doc_available (map string_bytes addresses.now) (atomics atoms.now)) result }
+        (Functions.doc_available addresses.now (atomics atoms.now)) result }
 {
     let is_there = match optional(atoms)? {
         Some(atom) => is_there(addresses, text_argument(atom)?),
@@ -41,13 +43,13 @@ pub fn doc_available(alloc: Global, addresses: &[String], atoms: &[Atom]) -> Res
 }
 
 /// All document nodes, by their addresses (fn:collection).
-pub fn collection(alloc: Global, addresses: &[String]) -> Result<Items, Want>
+pub fn collection(alloc: Global, addresses: &Addresses) -> Result<Items, Want>
     ensures nodes { IfOk result (λ items. (trees : List Tree) →
-        items_of trees items ≡ Functions.collection (map string_bytes addresses.now)) }
+        items_of trees items ≡ Functions.collection addresses.now) }
     ensures want { IfErr result (λ want. want ≡ Want.Memory) }
 {
     let mut items = Vec::new(alloc);
-    for tree in 0..addresses.len() {
+    for tree in 0..addresses.as_slice().len() {
         items.push(Item::Node(Node { tree, pre: 0 }))?;
     }
     Ok(items)
@@ -72,16 +74,16 @@ pub fn root(alloc: Global, items: &[Item]) -> Result<Items, Fault>
 }
 
 /// Whether a document has the address.
-fn is_there(addresses: &[String], address: &str) -> bool
-    ensures { result ≡ Functions.is_there (map string_bytes addresses.now) address.now }
+fn is_there(addresses: &Addresses, address: &str) -> bool
+    ensures { result ≡ Functions.is_there addresses.now address.now }
 {
     document(addresses, address).is_ok()
 }
 
 /// The number of the tree of the document at the address.
-fn document(addresses: &[String], address: &str) -> Result<usize, Code>
+fn document(addresses: &Addresses, address: &str) -> Result<usize, Code>
     ensures { Documents.document_at result
-        ≡ Functions.document (map string_bytes addresses.now) address.now }
+        ≡ Functions.document addresses.now address.now }
 {
     if !address_ok(address.as_bytes()) {
         return Err(Code::FODC0005);
@@ -89,15 +91,13 @@ fn document(addresses: &[String], address: &str) -> Result<usize, Code>
     place(addresses, address)
 }
 
-/// Where the address stands first.
-fn place(addresses: &[String], address: &str) -> Result<usize, Code>
+/// Where the address stands: at one place only, since the addresses rise.
+fn place(addresses: &Addresses, address: &str) -> Result<usize, Code>
     ensures { Documents.document_at result
-        ≡ Functions.document_from 0 (map string_bytes addresses.now) address.now }
+        ≡ Functions.document_from 0 addresses.now address.now }
 {
-    for (tree, other) in addresses.iter().enumerate() {
-        if other.as_str() == address {
-            return Ok(tree);
-        }
+    match addresses.search(address) {
+        Ok(tree) => Ok(tree),
+        Err(_) => Err(Code::FODC0002),
     }
-    Err(Code::FODC0002)
 }

@@ -5,6 +5,7 @@ use crate::samples::{Sample, answer, atoms, items};
 use xq_atoms::Fault;
 use xq_expressions::NodeComparison;
 use xq_functions::{collection, compare_nodes, doc, doc_available, root};
+use xq_sources::Addresses;
 
 #[test]
 fn nodes(rt: HostRuntime) -> Result<(), Fault> {
@@ -33,9 +34,10 @@ fn nodes(rt: HostRuntime) -> Result<(), Fault> {
 #[test]
 fn documents(rt: HostRuntime) -> Result<(), Fault> {
     let alloc = rt.alloc();
-    let mut addresses = Vec::new(alloc);
-    addresses.push(String::from_str(alloc, "a")?)?;
-    addresses.push(String::from_str(alloc, "b")?)?;
+    let mut list = Vec::new(alloc);
+    list.push(String::from_str(alloc, "a")?)?;
+    list.push(String::from_str(alloc, "b")?)?;
+    let addresses = Addresses::from_rising(list).expect(&rt, "they rise");
     for (samples, node, is_there) in [
         (&[Str("b")] as &[Sample], "node 1 0", "true()"),
         (&[Str("c")], "FODC0002", "false()"),

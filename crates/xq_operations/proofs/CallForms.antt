@@ -1,7 +1,7 @@
 -- What calls are by the kind of their function, and what they give.
-use Rattle.std.proofs.Common.{◌≡◌, ◌<◌, ◌≤◌, ◌++◌, List, [], ◌∷◌, length, map, Option, Some, None, Ok, Err, Result, string_bytes, refl, ap, arith}
+use Rattle.std.proofs.Common.{◌≡◌, ◌<◌, ◌≤◌, ◌++◌, List, [], ◌∷◌, length, map, Option, Some, None, Ok, Err, Result, refl, ap, arith}
 use Rattle.std.specs.Global.{Vec}
-use Rattle.std.proofs.lemmas.List.{length-map, length-append}
+use Rattle.std.proofs.lemmas.List.{length-append}
 use Rattle.xq_atoms.specs.declared.refusals.Code.TheVariants.{XPST0017}
 use Rattle.xq_atoms.specs.declared.refusals.Fault.{Fault}
 use Rattle.xq_atoms.specs.Atom.{Atomic}
@@ -74,11 +74,11 @@ spot_there trees addresses room None h = tt
 spot_there trees addresses room (Some here) h = exists_at trees (item_view here.item.now) h
 
 pub call_gives : (old new : List Tree) (frame : Frame) (function : Function) (views : Tuple ItemView) (r : Result (Vec Held) Fault) → new ≡ old → FrameIn old frame → TupleIn old views
-    → GivesUnlessWanting (items_of old) (fn.called function old (map string_bytes frame.addresses.now) (focus_at old frame.focus) (tuple_at old views)) r
+    → GivesUnlessWanting (items_of old) (fn.called function old frame.addresses.now (focus_at old frame.focus) (tuple_at old views)) r
     → GivesSequence (calling function (frame_at old frame) (tuple_at old views) old) new r
 call_gives old new frame function views r same inside lists h =
-    let addresses = map string_bytes frame.addresses.now in
-    let room : length addresses ≤ length old = omega (arith, inside.addresses_in, length-map frame.addresses.now string_bytes) in
+    let addresses = frame.addresses.now in
+    let room : length addresses ≤ length old = inside.addresses_in in
     gives_judged (fn.called function old addresses (focus_at old frame.focus) (tuple_at old views)) old new r same h
     (called_exists old addresses room function (focus_at old frame.focus) (tuple_at old views) (spot_there old addresses room frame.focus inside.focus_in) (all_map (AreIn old) (Exist old) (items_at old) (exist_at old) views lists))
 

@@ -1,7 +1,6 @@
 -- What a value stands for stays the same while trees are added.
 use Rattle.std.proofs.Common.{◌≡◌, ℕ, zero, suc, ◌<◌, ◌≤◌, ◌++◌, List, [], ◌∷◌, length, map, Option, Some, None, refl, sym, ◌∙◌, ap, subst, arith, length-append, append_assoc, slice_index_or}
 use Rattle.std.specs.List.{AllByRecursion}
-use Rattle.std.specs.Prelude.{string_bytes}
 use Rattle.std.proofs.lemmas.List.{append-nil}
 use Rattle.xq_regions.specs.Forest.{count}
 use Rattle.xq_regions.specs.Tree.{Tree, nodes}
@@ -98,4 +97,4 @@ module _ {old new : List Tree} (grows : Extends old new) where
   frame_grown frame h =
       let s = tuple_grown (values_of frame.slots.now) h.slots_in in
       let t = focus_grown frame.focus h.focus_in in
-      λ i. record { env = s i; focus = t i; addresses = map string_bytes frame.addresses.now }
+      λ i. record { env = s i; focus = t i; addresses = frame.addresses.now }

@@ -59,7 +59,7 @@ abbrev pub frame_at : List Tree → Frame → Meant
 frame_at trees f = record {
   env = tuple_at trees (values_of f.slots.now);
   focus = focus_at trees f.focus;
-  addresses = map string_bytes f.addresses.now;
+  addresses = f.addresses.now;
 }
 
 -- # Nodes are those of the trees

@@ -1,5 +1,5 @@
 //! Calls of functions, from the values of their arguments (F&O 3.1; XQuery 3.1, section 3.1.5).
-ghost use Rattle.std.specs.Prelude.{◌≡◌, ◌≤◌, length, map, string_bytes, IfOk};
+ghost use Rattle.std.specs.Prelude.{◌≡◌, ◌≤◌, length, map, IfOk};
 ghost use Rattle.xq_atoms.specs.Atom.{atomic_of};
 ghost use Rattle.xq_regions.specs.Items.{item_views};
 ghost use Rattle.xq_tuples.specs.Keys.{column_of};
@@ -22,7 +22,7 @@ use xq_functions::{
 };
 use xq_regions::{Item, Items};
 use xq_signatures::Function;
-use xq_sources::RowLender;
+use xq_sources::{Addresses, RowLender};
 use xq_worlds::Growing;
 
 /// The atoms of each list.
@@ -48,12 +48,12 @@ fn all_atomized<L: RowLender>(
 fn on_one<L: RowLender>(
     alloc: Global,
     source: &mut L,
-    addresses: &[String],
+    addresses: &Addresses,
     function: Function,
     items: Items,
 ) -> Result<Items, Fault>
     ensures gives { L.is_clean source.new → GivesUnlessWanting (items_of (L.forest source.old))
-        (Functions.of_one function (L.forest source.old) (map string_bytes addresses.now)
+        (Functions.of_one function (L.forest source.old) addresses.now
         (items_of (L.forest source.old) items)) result }
     ensures keeps { L.forest source.new ≡ L.forest source.old }
     ensures was_clean { L.is_clean source.new → L.is_clean source.old }
@@ -80,12 +80,12 @@ fn on_one<L: RowLender>(
 fn on_focus<L: RowLender>(
     alloc: Global,
     source: &mut L,
-    addresses: &[String],
+    addresses: &Addresses,
     function: Function,
     focus: Focus<'_>,
 ) -> Result<Items, Fault>
     ensures gives { L.is_clean source.new → GivesUnlessWanting (items_of (L.forest source.old))
-        (at_focus function (L.forest source.old) (map string_bytes addresses.now) (spot_at
+        (at_focus function (L.forest source.old) addresses.now (spot_at
         (L.forest source.old) focus.entry)) result }
     ensures keeps { L.forest source.new ≡ L.forest source.old }
     ensures was_clean { L.is_clean source.new → L.is_clean source.old }
@@ -108,8 +108,7 @@ fn on_none<L: RowLender>(
     function: Function,
 ) -> Result<Items, Fault>
     ensures gives { L.is_clean source.new → GivesUnlessWanting (items_of (L.forest source.old))
-        (Functions.of_none function (L.forest source.old) (map string_bytes
-        frame.entry.addresses.now) (focus_at (L.forest source.old) frame.entry.focus)) result }
+        (Functions.of_none function (L.forest source.old) frame.entry.addresses.now (focus_at (L.forest source.old) frame.entry.focus)) result }
     ensures keeps { L.forest source.new ≡ L.forest source.old }
     ensures was_clean { L.is_clean source.new → L.is_clean source.old }
 {

@@ -3,6 +3,7 @@ ghost use Rattle.std.specs.Prelude.{◌≡◌, ◌<◌, ◌^◌, None};
 
 use std::rc::Rc;
 use xq_regions::{Item, Items};
+use xq_sources::Addresses;
 
 /// An item with its position, from 1, and how many there are (XQuery 3.1, section 2.1.2): no more
 /// than a list can hold.
@@ -21,12 +22,12 @@ pub struct Focus<'a> {
 pub struct Frame<'a> {
     pub slots: &'a [Rc<Items>],
     pub focus: Option<Focus<'a>>,
-    pub addresses: &'a [String],
+    pub addresses: &'a Addresses,
 }
 
 impl<'a> Frame<'a> {
     /// That of a whole query: no focus.
-    pub fn outermost(slots: &'a [Rc<Items>], addresses: &'a [String]) -> Frame<'a>
+    pub fn outermost(slots: &'a [Rc<Items>], addresses: &'a Addresses) -> Frame<'a>
         ensures { result
             ≡ record { slots = slots.entry; focus = None; addresses = addresses.entry } }
     {

@@ -14,7 +14,7 @@ use xq_build::{MAX_REPLY, print_items};
 use xq_eval::eval;
 use xq_meaning::Plan;
 use xq_regions::{Fragment, Item};
-use xq_sources::RowLender;
+use xq_sources::{Addresses, RowLender};
 use xq_worlds::Growing;
 
 /// The text of the plan's value over the trees of `world`, of which the first are the documents at
@@ -28,11 +28,11 @@ pub fn ask<W: Growing>(
     alloc: Global,
     plan: &Plan,
     world: &mut W,
-    addresses: &[String],
+    addresses: &Addresses,
 ) -> Result<String, Fault>
     ensures gives { W.is_clean world.new → length addresses.now ≤ length (W.forest world.old)
         → GivesUnlessWanting string_bytes
-        (reply_text (plan_value plan.now (map string_bytes addresses.now)
+        (reply_text (plan_value plan.now addresses.now
         (W.forest world.old))) result }
     ensures short { IfOk result (λ text. string_len text ≤ longest_text) }
     ensures grows { Extends (W.forest world.old) (W.forest world.new) }
@@ -53,11 +53,11 @@ pub fn make<W: Growing>(
     alloc: Global,
     plan: &Plan,
     world: &mut W,
-    addresses: &[String],
+    addresses: &Addresses,
 ) -> Result<Fragment, Fault>
     ensures gives { W.is_clean world.new → length addresses.now ≤ length (W.forest world.old)
         → GivesUnlessWanting (λ tree. tree)
-        (made_document (plan_value plan.now (map string_bytes addresses.now)
+        (made_document (plan_value plan.now addresses.now
         (W.forest world.old))) result }
     ensures document { IfOk result (λ tree. tree.root.kind ≡ Document) }
     ensures grows { Extends (W.forest world.old) (W.forest world.new) }

@@ -4,7 +4,7 @@ use std::alloc::Global;
 use std::process::Abort;
 use xq_atoms::{Fault, Want};
 use xq_queries::{ask, make, read};
-use xq_sources::Fragments;
+use xq_sources::{Addresses, Fragments};
 use xq_worlds::Trees;
 
 /// The query that makes the document under the address `b`.
@@ -19,7 +19,7 @@ fn library(alloc: Global) -> Result<Fragments, Fault> {
         alloc,
         &plan,
         &mut Trees::new(alloc, Fragments::new(alloc)),
-        &[],
+        &Addresses::new(alloc),
     )?;
     fragments.push(tree)?;
     Ok(fragments)
@@ -28,8 +28,10 @@ fn library(alloc: Global) -> Result<Fragments, Fault> {
 /// The text of the reply to the query over the library.
 fn asked(alloc: Global, query: &str) -> Result<String, Fault> {
     let plan = read(alloc, query.as_bytes())?;
-    let mut addresses = Vec::new(alloc);
-    addresses.push(String::from_str(alloc, "b")?)?;
+    let mut addresses = Addresses::new(alloc);
+    if let Err(place) = addresses.search("b") {
+        addresses.insert(place, "b")?;
+    }
     ask(
         alloc,
         &plan,

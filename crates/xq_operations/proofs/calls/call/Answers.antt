@@ -1,4 +1,4 @@
-use Rattle.std.proofs.Common.{◌≡◌, ◌≤◌, ◌<◌, ◌∷◌, [], ap, sym, subst, map, length, string_bytes, arith}
+use Rattle.std.proofs.Common.{◌≡◌, ◌≤◌, ◌<◌, ◌∷◌, [], ap, sym, subst, map, length, arith}
 use Rattle.xq_atoms.specs.Answers.{GivesUnlessWanting}
 use Rattle.xq_functions.specs.Answers.{items_of}
 use Rattle.xq_regions.specs.Items.{item_views}
@@ -11,7 +11,7 @@ pub returns-then-len-ge2-clause-gives : goal.returns-then-len-ge2-clause-gives
 returns-then-len-ge2-clause-gives g c = λ k inside lists.
     let old = g.W.TreeSource.forest c.args.world.now in
     let frame = c.args.frame in
-    let addresses = map string_bytes frame.addresses.now in
+    let addresses = frame.addresses.now in
     let focus = focus_at old frame.focus in
     let many : 2 ≤ length c.deref.result.now = omega (arith, c.if-len-ge2.true, c.len.ensures, c.deref.ensures.len) in
     call_gives old (g.W.TreeSource.forest c.on_many.new.source) frame c.args.function (lists_of c.args.arguments) c.on_many.result c.on_many.ensures.keeps inside lists

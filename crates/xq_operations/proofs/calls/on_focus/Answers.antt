@@ -1,4 +1,4 @@
-use Rattle.std.proofs.Common.{◌∙◌, ap, sym, subst, map, string_bytes}
+use Rattle.std.proofs.Common.{◌∙◌, ap, sym, subst}
 use Rattle.xq_atoms.specs.Judged.{◌>>=◌}
 use Rattle.xq_atoms.specs.Answers.{GivesUnlessWanting}
 use Rattle.xq_functions.specs.Answers.{items_of}
@@ -10,7 +10,7 @@ use Rattle.xq_operations.proofs.calls.on_focus.Goals as goal
 pub returns-in_ok-items-in_default : goal.returns-in_ok-items-in_default
 returns-in_ok-items-in_default g c =
     let old = g.L.TreeSource.forest c.args.source.now in
-    let addresses = map string_bytes c.args.addresses.now in
+    let addresses = c.args.addresses.now in
     let function = c.args.function in
     let items = c.in_ok-items-in_default.items in
     record {
