@@ -32,8 +32,7 @@ pub fn doc(alloc: Global, addresses: &Addresses, atoms: &[Atom]) -> Result<Items
 /// Whether a document has the address (fn:doc-available); false for nothing and for a text that is
 /// no address. XPTY0004 for more than one atom, a number or a boolean.
 pub fn doc_available(alloc: Global, addresses: &Addresses, atoms: &[Atom]) -> Result<Items, Fault>
-    ensures { GivesItems
-        (Functions.doc_available addresses.now (atomics atoms.now)) result }
+    ensures { GivesItems (Functions.doc_available addresses.now (atomics atoms.now)) result }
 {
     let is_there = match optional(atoms)? {
         Some(atom) => is_there(addresses, text_argument(atom)?),
@@ -82,8 +81,7 @@ fn is_there(addresses: &Addresses, address: &str) -> bool
 
 /// The number of the tree of the document at the address.
 fn document(addresses: &Addresses, address: &str) -> Result<usize, Code>
-    ensures { Documents.document_at result
-        ≡ Functions.document addresses.now address.now }
+    ensures { Documents.document_at result ≡ Functions.document addresses.now address.now }
 {
     if !address_ok(address.as_bytes()) {
         return Err(Code::FODC0005);
@@ -93,8 +91,7 @@ fn document(addresses: &Addresses, address: &str) -> Result<usize, Code>
 
 /// Where the address stands: at one place only, since the addresses rise.
 fn place(addresses: &Addresses, address: &str) -> Result<usize, Code>
-    ensures { Documents.document_at result
-        ≡ Functions.document_from 0 addresses.now address.now }
+    ensures { Documents.document_at result ≡ Functions.document_from 0 addresses.now address.now }
 {
     match addresses.search(address) {
         Ok(tree) => Ok(tree),

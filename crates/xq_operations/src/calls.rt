@@ -53,8 +53,8 @@ fn on_one<L: RowLender>(
     items: Items,
 ) -> Result<Items, Fault>
     ensures gives { L.is_clean source.new → GivesUnlessWanting (items_of (L.forest source.old))
-        (Functions.of_one function (L.forest source.old) addresses.now
-        (items_of (L.forest source.old) items)) result }
+        (Functions.of_one function (L.forest source.old) addresses.now (items_of
+        (L.forest source.old) items)) result }
     ensures keeps { L.forest source.new ≡ L.forest source.old }
     ensures was_clean { L.is_clean source.new → L.is_clean source.old }
 {
@@ -85,8 +85,8 @@ fn on_focus<L: RowLender>(
     focus: Focus<'_>,
 ) -> Result<Items, Fault>
     ensures gives { L.is_clean source.new → GivesUnlessWanting (items_of (L.forest source.old))
-        (at_focus function (L.forest source.old) addresses.now (spot_at
-        (L.forest source.old) focus.entry)) result }
+        (at_focus function (L.forest source.old) addresses.now (spot_at (L.forest source.old)
+        focus.entry)) result }
     ensures keeps { L.forest source.new ≡ L.forest source.old }
     ensures was_clean { L.is_clean source.new → L.is_clean source.old }
 {
@@ -108,7 +108,8 @@ fn on_none<L: RowLender>(
     function: Function,
 ) -> Result<Items, Fault>
     ensures gives { L.is_clean source.new → GivesUnlessWanting (items_of (L.forest source.old))
-        (Functions.of_none function (L.forest source.old) frame.entry.addresses.now (focus_at (L.forest source.old) frame.entry.focus)) result }
+        (Functions.of_none function (L.forest source.old) frame.entry.addresses.now (focus_at
+        (L.forest source.old) frame.entry.focus)) result }
     ensures keeps { L.forest source.new ≡ L.forest source.old }
     ensures was_clean { L.is_clean source.new → L.is_clean source.old }
 {

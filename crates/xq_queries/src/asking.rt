@@ -32,8 +32,7 @@ pub fn ask<W: Growing>(
 ) -> Result<String, Fault>
     ensures gives { W.is_clean world.new → length addresses.now ≤ length (W.forest world.old)
         → GivesUnlessWanting string_bytes
-        (reply_text (plan_value plan.now addresses.now
-        (W.forest world.old))) result }
+        (reply_text (plan_value plan.now addresses.now (W.forest world.old))) result }
     ensures short { IfOk result (λ text. string_len text ≤ longest_text) }
     ensures grows { Extends (W.forest world.old) (W.forest world.new) }
     ensures was_clean { W.is_clean world.new → W.is_clean world.old }
@@ -57,8 +56,7 @@ pub fn make<W: Growing>(
 ) -> Result<Fragment, Fault>
     ensures gives { W.is_clean world.new → length addresses.now ≤ length (W.forest world.old)
         → GivesUnlessWanting (λ tree. tree)
-        (made_document (plan_value plan.now addresses.now
-        (W.forest world.old))) result }
+        (made_document (plan_value plan.now addresses.now (W.forest world.old))) result }
     ensures document { IfOk result (λ tree. tree.root.kind ≡ Document) }
     ensures grows { Extends (W.forest world.old) (W.forest world.new) }
     ensures was_clean { W.is_clean world.new → W.is_clean world.old }
