@@ -7,6 +7,8 @@ mod edge_tests;
 #[cfg(test)]
 mod file_tests;
 #[cfg(test)]
+mod many_tests;
+#[cfg(test)]
 mod refusal_rows;
 #[cfg(test)]
 mod rows;

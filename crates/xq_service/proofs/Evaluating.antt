@@ -14,27 +14,20 @@ use Rattle.xq_rows.specs.Documents.{Map, IsClean, IsOpen, StandsFor}
 use Rattle.xq_rows.specs.Views.{Beginning, HeldDocuments, StoodFor, WasClean, WasOpen, beginning}
 use Rattle.xq_service.specs.private.Work.{Makes}
 
--- a copy of each text has its bytes
-pub same_texts : (xs ys : List (String Global)) → AllZip (λ s t. string_bytes t ≡ string_bytes s) xs ys → map string_bytes ys ≡ map string_bytes xs
-same_texts [] [] e = refl
-same_texts [] (y ∷ ys) e = absurd e
-same_texts (x ∷ xs) [] e = absurd e
-same_texts (x ∷ xs) (y ∷ ys) e = ap (λ t. t ∷ map string_bytes ys) e.0 ∙ ap (λ ts. string_bytes x ∷ ts) (same_texts xs ys e.1)
-
 same_lengths : {A B : Type 0} (es : List (A × B)) → length (map (λ e. e.0) es) ≡ length (map (λ e. e.1) es)
 same_lengths [] = refl
 same_lengths (e ∷ es) = let more = same_lengths es in omega (arith, more)
 
 -- there are as many documents as addresses
-as_many : (m : Map) (addresses : List (String Global)) (trees : List Tree) → map string_bytes addresses ≡ keys m → trees ≡ values m
+as_many : (m : Map) (addresses : List (List ℕ)) (trees : List Tree) → addresses ≡ keys m → trees ≡ values m
     → length addresses ≤ length trees
 as_many m addresses trees at are =
-    let n = sym (length-map addresses string_bytes) ∙ ap length at ∙ same_lengths (entries m) ∙ sym (ap length are) in omega (arith, n)
+    let n = ap length at ∙ same_lengths (entries m) ∙ sym (ap length are) in omega (arith, n)
 
 -- what a plan's value makes over the documents of a map
-pub made_over : {P : Type 0} (makes : Judged Value → Judged P → Type 0) (plan : Plan) (m : Map) (addresses : List (String Global)) (trees : List Tree)
-    (result : Result P Fault) → map string_bytes addresses ≡ keys m → trees ≡ values m
-    → (length addresses ≤ length trees → Makes makes (plan_value plan (map string_bytes addresses) trees) result)
+pub made_over : {P : Type 0} (makes : Judged Value → Judged P → Type 0) (plan : Plan) (m : Map) (addresses : List (List ℕ)) (trees : List Tree)
+    (result : Result P Fault) → addresses ≡ keys m → trees ≡ values m
+    → (length addresses ≤ length trees → Makes makes (plan_value plan addresses trees) result)
     → Makes makes (plan_value plan (keys m) (values m)) result
 made_over makes plan m addresses trees result at are made =
     subst (λ ts. Makes makes (plan_value plan (keys m) ts) result) are

@@ -89,7 +89,7 @@ fn answer_put<S: Alter + Drop>(
     let address = good_address(address)?;
     let plan = understand(alloc, text)?;
     let document: Fragment = evaluate(alloc, store, &plan)?;
-    match store.put(address, &document)? {
+    match store.put_owned(address, document)? {
         Put::Stored => Ok(Answer::Stored),
         Put::Replaced => Ok(Answer::Replaced),
     }

@@ -2,7 +2,7 @@
 //!
 //! The documents are read through a view, which has the store meanwhile and gives it back. So
 //! nothing of a query changes a document.
-ghost use Rattle.std.specs.Prelude.{◌≡◌, IfOk, map, string_bytes};
+ghost use Rattle.std.specs.Prelude.{◌≡◌, IfOk};
 ghost use Rattle.std.specs.FinMap.{keys, values};
 ghost use Rattle.xq_queries.specs.Values.{plan_value};
 ghost use Rattle.xq_rows.specs.Documents.{IsClean, IsOpen, Map, StandsFor};
@@ -12,9 +12,9 @@ ghost use Rattle.xq_service.specs.private.Work.{Makes};
 use crate::products::Product;
 use core::mem::replace_with;
 use sqlite::Alter;
-use std::alloc::{AllocError, Global};
+use std::alloc::Global;
 use std::marker::{Brand, PhantomData};
-use xq_atoms::{Fault, Want};
+use xq_atoms::Fault;
 use xq_meaning::Plan;
 use xq_rows::{Origin, Store};
 use xq_worlds::Trees;
@@ -87,17 +87,11 @@ fn over_view<S: Alter + Drop, P: Product, O: Origin>(
         Ok(view) => view,
         Err((want, store)) => return (store, Err(Fault::Want(want))),
     };
-    let Ok(addresses) = copied(alloc, view.addresses()) else {
-        return (view.into_store(), Err(Fault::Want(Want::Memory)));
+    let addresses = match view.shared_addresses() {
+        Ok(addresses) => addresses,
+        Err(want) => return (view.into_store(), Err(Fault::Want(want))),
     };
     let mut world = Trees::new(alloc, view);
     let product = P::of(alloc, plan, &mut world, &addresses);
     (world.into_source().into_store(), product)
-}
-
-/// A list of the same texts.
-fn copied(alloc: Global, texts: &[String]) -> Result<Vec<String>, AllocError>
-    ensures { IfOk result (λ copy. map string_bytes copy.items ≡ map string_bytes texts.now) }
-{
-    texts.to_vec(alloc)
 }

@@ -1,5 +1,5 @@
 //! What is made of a query's value while its documents can be read.
-ghost use Rattle.std.specs.Prelude.{◌≤◌, IfOk, length, map, string_bytes};
+ghost use Rattle.std.specs.Prelude.{◌≤◌, IfOk, length};
 ghost use Rattle.xq_atoms.specs.Judged.{Judged};
 ghost use Rattle.xq_queries.specs.Values.{Value, plan_value};
 ghost use Rattle.xq_service.specs.private.Work.{Makes, MakesText, MakesDocument, IsShortText, HasDocumentRoot};
@@ -9,6 +9,7 @@ use xq_atoms::Fault;
 use xq_meaning::Plan;
 use xq_queries::{ask, make};
 use xq_regions::Fragment;
+use xq_sources::Addresses;
 use xq_worlds::Growing;
 
 /// The text of a reply, or a document to be stored.
@@ -25,11 +26,10 @@ pub(crate) trait Product: Sized {
         alloc: Global,
         plan: &Plan,
         world: &mut W,
-        addresses: &[String],
+        addresses: &Addresses,
     ) -> Result<Self, Fault>
         ensures made { W.is_clean world.new → length addresses.now ≤ length (W.forest world.old)
-            → Makes Self.makes (plan_value plan.now (map string_bytes addresses.now)
-            (W.forest world.old)) result }
+            → Makes Self.makes (plan_value plan.now addresses.now (W.forest world.old)) result }
         ensures sound { IfOk result Self.is_sound }
         ensures was_clean { W.is_clean world.new → W.is_clean world.old };
 }
@@ -43,7 +43,7 @@ impl Product for String {
         alloc: Global,
         plan: &Plan,
         world: &mut W,
-        addresses: &[String],
+        addresses: &Addresses,
     ) -> Result<String, Fault> {
         ask(alloc, plan, world, addresses)
     }
@@ -58,7 +58,7 @@ impl Product for Fragment {
         alloc: Global,
         plan: &Plan,
         world: &mut W,
-        addresses: &[String],
+        addresses: &Addresses,
     ) -> Result<Fragment, Fault> {
         make(alloc, plan, world, addresses)
     }
