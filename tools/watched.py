@@ -2,12 +2,14 @@
 
 from __future__ import annotations
 
+import contextlib
 import os
+import pathlib
 import signal
 import subprocess
 import sys
 import time
-from collections.abc import Callable, Sequence
+from collections.abc import Callable, Iterator, Sequence
 from typing import IO, Any
 
 SECONDS_BETWEEN_LOOKS = 0.2
@@ -44,3 +46,21 @@ def run(
         finally:
             started.terminate()
         return started.returncode
+
+
+def children(pid: int) -> list[int]:
+    """The processes that a process has begun and that have not ended."""
+    found = []
+    for path in pathlib.Path(f"/proc/{pid}/task").glob("*/children"):
+        with contextlib.suppress(OSError):
+            found += [int(it) for it in path.read_text().split()]
+    return found
+
+
+def words_below(pid: int) -> Iterator[list[str]]:
+    """The words of each process below a process."""
+    left = children(pid)
+    for child in left:
+        left += children(child)
+        with contextlib.suppress(OSError):
+            yield pathlib.Path(f"/proc/{child}/cmdline").read_text(errors="replace").split("\0")

@@ -1,13 +1,16 @@
-"""The crates of this repository, as crates.txt lists them, and the kit that `rt` belongs to."""
+"""The crates of this repository, as crates.txt lists them, their programs, and the kit of `rt`."""
 
 from __future__ import annotations
 
 import os
 import pathlib
 import shutil
+import subprocess
 from collections.abc import Iterable, Mapping
 
 TOP = pathlib.Path(__file__).resolve().parent.parent
+PROGRAM = "xq_server"
+STORED_RUN_SECONDS = 60
 
 
 def libraries(path: str | os.PathLike[str]) -> dict[str, list[str]]:
@@ -44,3 +47,11 @@ def kit_name(folder: pathlib.Path) -> str:
     """The line that names a kit, as `rt version` prints it."""
     path = folder / "KIT-ID"
     return path.read_text(encoding="utf-8").strip() if path.exists() else "a kit without a name"
+
+
+def answers_stored_run(program: pathlib.Path, crate_folder: pathlib.Path) -> bool:
+    """Whether the program answers the crate's file stdin by the bytes of its file stdout."""
+    with open(crate_folder / "stdin", "rb") as requests:
+        done = subprocess.run(
+            [program], stdin=requests, capture_output=True, timeout=STORED_RUN_SECONDS)
+    return done.returncode == 0 and done.stdout == (crate_folder / "stdout").read_bytes()

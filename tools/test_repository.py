@@ -1,10 +1,10 @@
-"""Tests of crates.py. Run them by `python3 -m unittest discover tools`."""
+"""Tests of repository.py. Run them by `python3 -m unittest discover tools`."""
 
 import pathlib
 import tempfile
 import unittest
 
-import crates
+import repository
 
 
 class Libraries(unittest.TestCase):
@@ -12,14 +12,14 @@ class Libraries(unittest.TestCase):
         with tempfile.TemporaryDirectory() as folder:
             path = pathlib.Path(folder, "crates.txt")
             path.write_text("# a line\nlow:\napp: low itoa # two\n\n")
-            self.assertEqual(crates.libraries(path), {"low": [], "app": ["low", "itoa"]})
+            self.assertEqual(repository.libraries(path), {"low": [], "app": ["low", "itoa"]})
 
     def test_those_below_come_first_and_once(self) -> None:
         listed = {"app": ["high", "low"], "low": ["itoa"], "high": ["low"], "other": []}
-        self.assertEqual(crates.all_below(["app"], listed), ["low", "high", "app"])
+        self.assertEqual(repository.all_below(["app"], listed), ["low", "high", "app"])
 
     def test_libraries_of_the_kit_are_left_out(self) -> None:
-        self.assertEqual(crates.all_below(["itoa"], {"low": ["itoa"]}), [])
+        self.assertEqual(repository.all_below(["itoa"], {"low": ["itoa"]}), [])
 
 
 if __name__ == "__main__":

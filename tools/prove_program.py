@@ -1,0 +1,123 @@
+#!/usr/bin/env python3
+"""Proves and builds the program, and says on standard error how far it is.
+
+    tools/prove_program.py [CRATE]     CRATE in the program's place, as where this is tried
+
+`rt all check` proves the crate and the libraries below it, several at a time, and keeps each in its
+folder out/ as it is done; `rt run` then builds the program over them. So a start that was
+interrupted goes on where it was, and `rt check` goes on from there as well. out/serve.log has what
+rt says; what the check of a crate says comes there as it ends.
+"""
+
+from __future__ import annotations
+
+import fcntl
+import os
+import pathlib
+import re
+import sys
+import time
+from collections.abc import Sequence
+from typing import IO
+
+import repository
+import watched
+from progress import Progress, Watch, clock, expected_minutes, say
+
+# The bytes that the largest check was seen to take, and those that hardly another one takes.
+LARGEST_CHECK, OTHER_CHECK = 4_000_000_000, 2_000_000_000
+LINES_SHOWN_OF_A_FAULT = 20
+
+
+class NotProved(Exception):
+    """Why there is no proved program."""
+
+
+def checks_at_once(processors: int, memory: int) -> int:
+    """How many checks are run side by side on so many processors, with so many bytes to spare."""
+    return max(1, min(processors, 1 + (memory - LARGEST_CHECK) // OTHER_CHECK))
+
+
+def free_memory(text: str) -> int:
+    """The bytes to spare, by the text of /proc/meminfo."""
+    found = re.search(r"^MemAvailable: *(\d+) kB", text, re.M)
+    return int(found[1]) * 1024 if found else 0
+
+
+def prove(top: pathlib.Path, crate: str, at_once: int, log_path: pathlib.Path) -> None:
+    """Proves a crate and those below it. Raises NotProved."""
+    names = repository.all_below([crate], repository.libraries(top / "crates.txt"))
+    say(f"proving {len(names)} crates, {at_once} at a time; in brackets the minutes of each so far,"
+        " and those that it took on the machine of docs/MEASURES.md")
+    minutes = expected_minutes(top / "tools" / "proof_minutes.txt")
+    with open(log_path, "wb") as log:
+        watch = Watch(Progress(names, minutes, time.monotonic()), log_path)
+        words = ["rt", "all", "check", "--jobs", str(at_once)]
+        status = watched.run(words, log, watch.look, cwd=top / "crates" / crate)
+    if status:
+        raise NotProved("a crate was not proved")
+
+
+def build(folder: pathlib.Path, log_path: pathlib.Path) -> pathlib.Path:
+    """Builds the proved program of a crate, and tries it on its stored run. Raises NotProved."""
+    say("all are proved; building the program")
+    program = folder / "out" / folder.name
+    with open(log_path, "ab") as log:
+        status = watched.run(["rt", "run"], log, cwd=folder)
+    if status or not program.exists():
+        raise NotProved("the program was not built")
+    if not repository.answers_stored_run(program, folder):
+        raise NotProved("the program does not answer its stored run")
+    return program
+
+
+def prove_and_build(top: pathlib.Path, crate: str, log_path: pathlib.Path) -> None:
+    """Proves the crates and builds the program, if the crate is one. Raises NotProved."""
+    begun, folder = time.time(), top / "crates" / crate
+    memory = free_memory(pathlib.Path("/proc/meminfo").read_text(encoding="utf-8"))
+    prove(top, crate, checks_at_once(len(os.sched_getaffinity(0)), memory), log_path)
+    if (folder / "src" / "main.rt").exists():
+        # So that sources that were changed meanwhile are newer than the program.
+        os.utime(build(folder, log_path), (begun, begun))
+    say(f"done after {clock(time.time() - begun)}")
+
+
+def lone(top: pathlib.Path) -> IO[str]:
+    """Waits until no other start proves here; what is given keeps others out until it is closed."""
+    (top / "out").mkdir(exist_ok=True)
+    lock = open(top / "out" / "serve.lock", "w", encoding="utf-8")
+    try:
+        fcntl.flock(lock, fcntl.LOCK_EX | fcntl.LOCK_NB)
+    except BlockingIOError:
+        say("another start proves the program: waiting for it")
+        fcntl.flock(lock, fcntl.LOCK_EX)
+    return lock
+
+
+def show_end(log_path: pathlib.Path) -> None:
+    """Shows the last lines of the log."""
+    lines = log_path.read_text(encoding="utf-8", errors="replace").splitlines()
+    print(*lines[-LINES_SHOWN_OF_A_FAULT:], sep="\n", file=sys.stderr)
+
+
+def main(words: Sequence[str]) -> int:
+    """Proves and builds; status 1 where that fails."""
+    watched.end_by_signals()
+    if repository.kit() is None:
+        say("the program is not built yet, and Rattle's command 'rt' is not on the PATH")
+        return 1
+    with lone(repository.TOP):
+        say("proving and building the program; out/serve.log is the log. Meanwhile ./serve"
+            " --unproved can serve, without a proof")
+        log_path = repository.TOP / "out" / "serve.log"
+        try:
+            prove_and_build(repository.TOP, words[0] if words else repository.PROGRAM, log_path)
+        except NotProved as why:
+            show_end(log_path)
+            say(f"{why}: out/serve.log says why")
+            return 1
+    return 0
+
+
+if __name__ == "__main__":
+    sys.exit(main(sys.argv[1:]))
