@@ -10,12 +10,20 @@ from collections.abc import Iterable, Mapping, Sequence
 import watched
 
 SECONDS_BETWEEN_LINES = 60
+LINES_SHOWN_OF_A_LOG = 20
 FIRST_LOOK = "a first look at all sources"
 
 
 def say(text: str) -> None:
     """Says a line to whoever started the server."""
     print(f"serve: {text}", file=sys.stderr, flush=True)
+
+
+def show_end(log: pathlib.Path) -> None:
+    """Shows the last lines of a log, where there is one."""
+    if log.exists():
+        lines = log.read_text(encoding="utf-8", errors="replace").splitlines()
+        print(*lines[-LINES_SHOWN_OF_A_LOG:], sep="\n", file=sys.stderr)
 
 
 def clock(seconds: float) -> str:

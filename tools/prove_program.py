@@ -22,11 +22,11 @@ from typing import IO
 
 import repository
 import watched
-from progress import Progress, Watch, clock, expected_minutes, say
+from progress import Progress, Watch, clock, expected_minutes, say, show_end
 
 # The bytes that the largest check was seen to take, and those that hardly another one takes.
 LARGEST_CHECK, OTHER_CHECK = 4_000_000_000, 2_000_000_000
-LINES_SHOWN_OF_A_FAULT = 20
+LOG = "out/serve.log"
 
 
 class NotProved(Exception):
@@ -71,9 +71,9 @@ def build(folder: pathlib.Path, log_path: pathlib.Path) -> pathlib.Path:
     return program
 
 
-def prove_and_build(top: pathlib.Path, crate: str, log_path: pathlib.Path) -> None:
+def prove_and_build(top: pathlib.Path, crate: str) -> None:
     """Proves the crates and builds the program, if the crate is one. Raises NotProved."""
-    begun, folder = time.time(), top / "crates" / crate
+    begun, folder, log_path = time.time(), top / "crates" / crate, top / LOG
     memory = free_memory(pathlib.Path("/proc/meminfo").read_text(encoding="utf-8"))
     prove(top, crate, checks_at_once(len(os.sched_getaffinity(0)), memory), log_path)
     if (folder / "src" / "main.rt").exists():
@@ -94,12 +94,6 @@ def lone(top: pathlib.Path) -> IO[str]:
     return lock
 
 
-def show_end(log_path: pathlib.Path) -> None:
-    """Shows the last lines of the log."""
-    lines = log_path.read_text(encoding="utf-8", errors="replace").splitlines()
-    print(*lines[-LINES_SHOWN_OF_A_FAULT:], sep="\n", file=sys.stderr)
-
-
 def main(words: Sequence[str]) -> int:
     """Proves and builds; status 1 where that fails."""
     watched.end_by_signals()
@@ -107,15 +101,17 @@ def main(words: Sequence[str]) -> int:
         say("the program is not built yet, and Rattle's command 'rt' is not on the PATH")
         return 1
     with lone(repository.TOP):
-        say("proving and building the program; out/serve.log is the log. Meanwhile ./serve"
-            " --unproved can serve, without a proof")
-        log_path = repository.TOP / "out" / "serve.log"
+        say(f"proving and building the program; {LOG} is the log. Meanwhile ./serve --unproved can"
+            " serve, without a proof")
         try:
-            prove_and_build(repository.TOP, words[0] if words else repository.PROGRAM, log_path)
-        except NotProved as why:
-            show_end(log_path)
-            say(f"{why}: out/serve.log says why")
+            prove_and_build(repository.TOP, words[0] if words else repository.PROGRAM)
+        except (NotProved, OSError) as why:
+            show_end(repository.TOP / LOG)
+            say(f"{why}: {LOG} says why")
             return 1
+        except SystemExit:
+            say("interrupted; the next start goes on where this one was")
+            raise
     return 0
 
 

@@ -51,7 +51,11 @@ def kit_name(folder: pathlib.Path) -> str:
 
 def answers_stored_run(program: pathlib.Path, crate_folder: pathlib.Path) -> bool:
     """Whether the program answers the crate's file stdin by the bytes of its file stdout."""
+    wanted = (crate_folder / "stdout").read_bytes()
     with open(crate_folder / "stdin", "rb") as requests:
-        done = subprocess.run(
-            [program], stdin=requests, capture_output=True, timeout=STORED_RUN_SECONDS)
-    return done.returncode == 0 and done.stdout == (crate_folder / "stdout").read_bytes()
+        try:
+            done = subprocess.run(
+                [program], stdin=requests, capture_output=True, timeout=STORED_RUN_SECONDS)
+        except subprocess.TimeoutExpired:
+            return False
+    return done.returncode == 0 and done.stdout == wanted

@@ -16,8 +16,8 @@ SECONDS_BETWEEN_LOOKS = 0.2
 
 
 def end_by_signals() -> None:
-    """Lets SIGTERM and SIGHUP end this process as an interrupt does: what it began is undone."""
-    for number in (signal.SIGTERM, signal.SIGHUP):
+    """Lets signals end this process by SystemExit, so that what it began is ended and undone."""
+    for number in (signal.SIGINT, signal.SIGTERM, signal.SIGHUP):
         signal.signal(number, lambda signal_number, _: sys.exit(128 + signal_number))
 
 

@@ -1,0 +1,31 @@
+"""Tests of prove_program.py. Run them by `python3 -m unittest discover tools`."""
+
+import unittest
+
+from prove_program import checks_at_once, free_memory
+
+GIGABYTE = 1_000_000_000
+
+
+class ChecksAtOnce(unittest.TestCase):
+    def test_the_largest_check_has_its_room(self) -> None:
+        self.assertEqual(checks_at_once(4, 20 * GIGABYTE), 4)
+        self.assertEqual(checks_at_once(4, 7 * GIGABYTE), 2)
+        self.assertEqual(checks_at_once(4, 5 * GIGABYTE), 1)
+
+    def test_there_is_always_one(self) -> None:
+        self.assertEqual(checks_at_once(4, 0), 1)
+        self.assertEqual(checks_at_once(1, 20 * GIGABYTE), 1)
+
+
+class FreeMemory(unittest.TestCase):
+    def test_kilobytes_of_the_line(self) -> None:
+        text = "MemTotal:       24571372 kB\nMemAvailable:   14000000 kB\nSwapTotal: 0 kB\n"
+        self.assertEqual(free_memory(text), 14_336_000_000)
+
+    def test_a_system_that_does_not_tell(self) -> None:
+        self.assertEqual(free_memory("MemTotal: 1 kB\n"), 0)
+
+
+if __name__ == "__main__":
+    unittest.main()
