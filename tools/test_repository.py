@@ -15,7 +15,7 @@ class Libraries(unittest.TestCase):
             self.assertEqual(repository.libraries(path), {"low": [], "app": ["low", "itoa"]})
 
     def test_those_below_come_first_and_once(self) -> None:
-        listed = {"app": ["high", "low"], "low": ["itoa"], "high": ["low"], "other": []}
+        listed = {"app": ["high", "low"], "low": ["itoa"], "high": ["low"], "other": ["itoa"]}
         self.assertEqual(repository.all_below(["app"], listed), ["low", "high", "app"])
 
     def test_libraries_of_the_kit_are_left_out(self) -> None:
