@@ -12,6 +12,7 @@
 set -euo pipefail
 top=$(cd "$(dirname "${BASH_SOURCE[0]}")/.." && pwd)
 cd "$top"
+# shellcheck source=SCRIPTDIR/program.sh
 . tools/program.sh
 
 fail() {
@@ -65,8 +66,8 @@ fill() {
         xargs -0 cp --parents --target-directory="$1"
     install -D --mode=755 "$program" "$1/bin/xq_server${is_unproved:+_unproved}"
     release_text >"$1/RELEASE.txt"
-    (cd "$1" && find . -type f ! -name SHA256SUMS -printf '%P\0' | sort -z | xargs -0 sha256sum \
-        >SHA256SUMS)
+    (cd "$1" && find . -type f -printf '%P\0' | sort -z | xargs -0 sha256sum) >"$room/sums"
+    mv "$room/sums" "$1/SHA256SUMS"
 }
 
 # Unpacks an archive elsewhere, and has its ./serve answer the program's stored run.
