@@ -25,44 +25,54 @@ gate_line() {
     local line
     [ -f "$1" ] || fail "there is no file $1"
     line=$(tail -n 1 "$1")
-    [[ $line =~ ^[0-9]+\ passed,\ 0\ failed$ ]] || fail "the last line of $1 is not that of a gate \
-over all crates that passed, but: $line"
+    if ! [[ $line =~ ^[0-9]+\ passed,\ 0\ failed$ ]]; then
+        fail "the last line of $1 is not that of a whole gate that passed, but: $line"
+    fi
     echo "$line"
 }
 
 # What was proved of a program in the archive, for whoever unpacks it.
 proved_text() {
-    echo "bin/xq_server was proved and built from commit $commit with"
-    echo "$kit, on $(date --reference="$program" --utc +%F)."
-    echo
-    echo "The gate, rt ci, which proves every crate anew, sees wrong bodies refused and runs all"
-    echo "tests, ended for this commit, by the log of whoever made this archive, with"
-    echo
-    echo "    $gate"
-    echo
-    echo "README.md says under \"What is proved\" what this means, and what is only tested or trusted."
+    cat <<END
+bin/xq_server was proved and built from this commit on $(date --reference="$program" --utc +%F) with
+
+    $kit
+
+The gate (rt ci), which proves every crate from nothing, sees wrong bodies refused and runs all
+tests, ended for this commit, by the log of whoever made this archive, with
+
+    $gate
+
+README.md says under "What is proved" what that is, and below it what is only tested or trusted.
+END
 }
 
 unproved_text() {
-    echo "NOTHING IN THIS ARCHIVE IS PROVED. bin/xq_server_unproved was built from commit $commit"
-    echo "with $kit before any proof. It checks itself as it runs. README.md speaks of the proved"
-    echo "program; make an archive of that for any use."
+    cat <<END
+NOTHING IN THIS ARCHIVE IS PROVED. bin/xq_server_unproved was built from this commit with
+
+    $kit
+
+before any proof. It checks itself as it runs. README.md speaks of the proved program.
+END
 }
 
 release_text() {
-    echo "xq_server, commit $commit of $(git show -s --format=%cs HEAD)"
-    echo
-    if [ -n "$is_unproved" ]; then unproved_text; else proved_text; fi
-    echo
-    echo "./serve runs the program: README.md, \"Serving\". It needs Linux on an x86-64 processor,"
-    echo "glibc 2.34 or later, and bash. ./demo shows a dialogue, and needs python3."
-    echo "sha256sum --check SHA256SUMS looks whether all files are as they were packed."
+    cat <<END
+xq_server, commit $commit of $(git show -s --format=%cs HEAD)
+
+$(if [ -n "$is_unproved" ]; then unproved_text; else proved_text; fi)
+
+./serve runs the program, as README.md says under "Serving". It needs Linux on an x86-64 processor,
+glibc 2.34 or later, and bash. ./demo shows a dialogue, and needs python3.
+sha256sum --check SHA256SUMS tells whether all files are as they were packed.
+END
 }
 
 # Fills a folder with what the archive has.
 fill() {
     git ls-files -z -- README.md CHANGELOG.md CONTRIBUTING.md 'LICEN[CS]E*' 'COPYING*' docs clients \
-        serve demo tools/client.py tools/show_run.py tools/dialogue.txt tools/try_dialogue.py |
+        xqs serve demo tools/client.py tools/show_run.py tools/dialogue.txt tools/try_dialogue.py |
         xargs -0 cp --parents --target-directory="$1"
     install -D --mode=755 "$program" "$1/bin/xq_server${is_unproved:+_unproved}"
     release_text >"$1/RELEASE.txt"
