@@ -38,8 +38,8 @@ bin/xq_server was proved and built from this commit on $(date --reference="$prog
 
     $kit
 
-The gate (rt ci), which proves every crate from nothing, sees wrong bodies refused and runs all
-tests, ended for this commit, by the log of whoever made this archive, with
+The gate (rt ci), which proves every crate, sees wrong bodies refused, and runs all tests, ended
+for this commit, by the log of whoever made this archive, with
 
     $gate
 
@@ -71,8 +71,8 @@ END
 
 # Fills a folder with what the archive has.
 fill() {
-    git ls-files -z -- README.md CHANGELOG.md CONTRIBUTING.md 'LICEN[CS]E*' 'COPYING*' docs clients \
-        xqs serve demo tools/client.py tools/show_run.py tools/dialogue.txt tools/try_dialogue.py |
+    git ls-files -z -- README.md CHANGELOG.md CONTRIBUTING.md 'LICEN[CS]E*' 'COPYING*' docs \
+        clients xqs serve demo tools/{client.py,show_run.py,dialogue.txt,try_dialogue.py} |
         xargs -0 cp --parents --target-directory="$1"
     install -D --mode=755 "$program" "$1/bin/xq_server${is_unproved:+_unproved}"
     release_text >"$1/RELEASE.txt"
