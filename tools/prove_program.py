@@ -24,8 +24,8 @@ import repository
 import watched
 from progress import Progress, Watch, clock, expected_minutes, say, show_end
 
-# The bytes that the largest check was seen to take, and those that hardly another one takes.
-LARGEST_CHECK, OTHER_CHECK = 4_000_000_000, 2_000_000_000
+# Room for each check that runs: two were seen to take 3.4 and 3.8 GB, and the others up to 1.8.
+BYTES_OF_A_CHECK = 3_500_000_000
 LOG = "out/serve.log"
 
 
@@ -35,7 +35,7 @@ class NotProved(Exception):
 
 def checks_at_once(processors: int, memory: int) -> int:
     """How many checks are run side by side on so many processors, with so many bytes to spare."""
-    return max(1, min(processors, 1 + (memory - LARGEST_CHECK) // OTHER_CHECK))
+    return max(1, min(processors, memory // BYTES_OF_A_CHECK))
 
 
 def free_memory(text: str) -> int:
@@ -47,8 +47,8 @@ def free_memory(text: str) -> int:
 def prove(top: pathlib.Path, crate: str, at_once: int, log_path: pathlib.Path) -> None:
     """Proves a crate and those below it. Raises NotProved."""
     names = repository.all_below([crate], repository.libraries(top / "crates.txt"))
-    say(f"proving {len(names)} crates, {at_once} at a time; in brackets the minutes of each so far,"
-        " and those that it took on the machine of docs/MEASURES.md")
+    say(f"crates to prove: {len(names)}, {at_once} at a time; in brackets the minutes of each so"
+        " far, and the processor minutes that it took on the machine of docs/MEASURES.md")
     minutes = expected_minutes(top / "tools" / "proof_minutes.txt")
     with open(log_path, "wb") as log:
         watch = Watch(Progress(names, minutes, time.monotonic()), log_path)

@@ -8,10 +8,11 @@ GIGABYTE = 1_000_000_000
 
 
 class ChecksAtOnce(unittest.TestCase):
-    def test_the_largest_check_has_its_room(self) -> None:
+    def test_each_has_a_processor_and_its_room(self) -> None:
         self.assertEqual(checks_at_once(4, 20 * GIGABYTE), 4)
+        self.assertEqual(checks_at_once(2, 20 * GIGABYTE), 2)
         self.assertEqual(checks_at_once(4, 7 * GIGABYTE), 2)
-        self.assertEqual(checks_at_once(4, 5 * GIGABYTE), 1)
+        self.assertEqual(checks_at_once(4, 6 * GIGABYTE), 1)
 
     def test_there_is_always_one(self) -> None:
         self.assertEqual(checks_at_once(4, 0), 1)
