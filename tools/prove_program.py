@@ -27,6 +27,8 @@ from progress import Progress, Watch, clock, expected_minutes, say, show_end
 # Room for each check that runs: two were seen to take 3.4 and 3.8 GB, and the others up to 1.8.
 BYTES_OF_A_CHECK = 3_500_000_000
 LOG = "out/serve.log"
+# The line of proof_minutes.txt that has the minutes of a whole first start by the clock.
+WHOLE = "all"
 
 
 class NotProved(Exception):
@@ -44,12 +46,18 @@ def free_memory(text: str) -> int:
     return int(found[1]) * 1024 if found else 0
 
 
+def begins(count: int, at_once: int, whole: float | None) -> str:
+    """What is said as the proof of so many crates begins; all took these minutes elsewhere."""
+    took = "" if whole is None else f"; all took {whole:.0f} by the clock there, four at a time"
+    return (f"crates to prove: {count}, {at_once} at a time; in brackets the minutes of each so far,"
+            f" and the processor minutes that it took on the machine of docs/MEASURES.md{took}")
+
+
 def prove(top: pathlib.Path, crate: str, at_once: int, log_path: pathlib.Path) -> None:
     """Proves a crate and those below it. Raises NotProved."""
     names = repository.all_below([crate], repository.libraries(top / "crates.txt"))
-    say(f"crates to prove: {len(names)}, {at_once} at a time; in brackets the minutes of each so"
-        " far, and the processor minutes that it took on the machine of docs/MEASURES.md")
     minutes = expected_minutes(top / "tools" / "proof_minutes.txt")
+    say(begins(len(names), at_once, minutes.get(WHOLE)))
     with open(log_path, "wb") as log:
         watch = Watch(Progress(names, minutes, time.monotonic()), log_path)
         words = ["rt", "all", "check", "--jobs", str(at_once)]

@@ -2,7 +2,7 @@
 
 import unittest
 
-from prove_program import checks_at_once, free_memory
+from prove_program import begins, checks_at_once, free_memory
 
 GIGABYTE = 1_000_000_000
 
@@ -17,6 +17,13 @@ class ChecksAtOnce(unittest.TestCase):
     def test_there_is_always_one(self) -> None:
         self.assertEqual(checks_at_once(4, 0), 1)
         self.assertEqual(checks_at_once(1, 20 * GIGABYTE), 1)
+
+
+class Begins(unittest.TestCase):
+    def test_what_all_took_is_said_where_it_is_known(self) -> None:
+        self.assertTrue(begins(6, 2, None).startswith("crates to prove: 6, 2 at a time; "))
+        self.assertIn("; all took 27 by the clock there", begins(6, 2, 27.4))
+        self.assertTrue(begins(6, 2, None).endswith(" of docs/MEASURES.md"))
 
 
 class FreeMemory(unittest.TestCase):
