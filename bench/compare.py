@@ -1,7 +1,8 @@
 #!/usr/bin/env python3
 """Times of the queries of bench/queries.py over two programs, over a document of 20,000 elements.
 
-    bench/compare.py PROVED OTHER [ROUNDS]     21 repetitions where none are named
+    bench/compare.py PROVED OTHER [ROUNDS]              21 repetitions where none are named
+    bench/compare.py ./serve './serve --unproved'
 
 PROVED and OTHER are commands of a server. Milliseconds of the document's store, of the first reply
 after it, and of each query the least of its repeated replies, which work beside changes least; and
