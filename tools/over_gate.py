@@ -16,26 +16,10 @@ import subprocess
 import sys
 import tempfile
 
+from repository import all_below, libraries
+
 KIT = os.environ.get("OVER_GATE_KIT") or os.path.dirname(
     os.path.dirname(os.path.realpath(shutil.which("rt") or "")))
-
-
-def libraries(path):
-    """By the names of the crates of a crates.txt, the libraries that each uses."""
-    with open(path) as file:
-        lines = [line.split("#")[0].partition(":") for line in file]
-    return {name.strip(): uses.split() for name, colon, uses in lines if colon}
-
-
-def all_below(uses, crates):
-    """These libraries of the repository, and those below them."""
-    found, left = set(), [name for name in uses if name in crates]
-    while left:
-        name = left.pop()
-        if name not in found:
-            found.add(name)
-            left += [below for below in crates[name] if below in crates]
-    return sorted(found)
 
 
 def check_words(verb, name, clone):

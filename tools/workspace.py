@@ -9,6 +9,8 @@ import shutil
 import subprocess
 import sys
 
+from repository import all_below, libraries
+
 TOP = os.path.dirname(os.path.dirname(os.path.abspath(__file__)))
 # What is timed runs as ./serve runs the program: with its settings of the allocator.
 GIGABYTE = 1 << 30
@@ -25,16 +27,7 @@ def lines_of(crates):
 
 def crates_below(uses):
     """These crates of the repository, and those that they stand on."""
-    with open(os.path.join(TOP, "crates.txt")) as lines:
-        parts = [line.split(":") for line in lines if ":" in line and line[0] != "#"]
-    below = {part[0]: part[1].split() for part in parts}
-    found, left = set(), list(uses)
-    while left:
-        crate = left.pop()
-        if crate in below and crate not in found:
-            found.add(crate)
-            left += below[crate]
-    return found
+    return set(all_below(uses, libraries(os.path.join(TOP, "crates.txt"))))
 
 
 def begin(folder, crates, leave_out=("incremental", "must-fail")):

@@ -1,0 +1,50 @@
+#!/usr/bin/env python3
+"""Times of the queries of bench/queries.py over two programs, over a document of 20,000 elements.
+
+    bench/compare.py PROVED OTHER [ROUNDS]              21 repetitions where none are named
+    bench/compare.py ./serve './serve --unproved'
+
+PROVED and OTHER are commands of a server. Milliseconds of the document's store, of the first reply
+after it, and of each query the least of its repeated replies, which work beside changes least; and
+how many times as long the other takes. The status is 1 where one takes more than three times as
+long, which is what `./serve --unproved` may take.
+"""
+
+from __future__ import annotations
+
+import sys
+from collections.abc import Sequence
+
+import queries
+
+ELEMENTS = 20_000
+MOST_TIMES = 3.0
+
+
+def least(command: str, rounds: int) -> dict[str, float]:
+    """By name, the milliseconds of the document's store, of the first reply, and of each query."""
+    server = queries.Server(command.split())
+    document = queries.document(ELEMENTS).encode()
+    spent = {"stored": queries.asked(server, b"S", queries.store(b"lib", document))}
+    spent["first reply"] = queries.asked(server, b"Q", queries.QUERIES[0][1].encode())
+    for name, query, *_ in queries.QUERIES:
+        spent[name] = min(queries.asked(server, b"Q", query.encode()) for _ in range(rounds))
+    server.end()
+    return spent
+
+
+def main(words: Sequence[str]) -> int:
+    """Prints the table; status 1 where a query takes too many times as long."""
+    if len(words) not in (2, 3):
+        sys.exit(__doc__)
+    rounds = int(words[2]) if len(words) == 3 else 21
+    proved, other = (least(command, rounds) for command in words[:2])
+    times = {name: other[name] / spent for name, spent in proved.items()}
+    print(f"{'milliseconds':20} {'proved':>9} {'other':>9} {'times':>7}")
+    for name, spent in proved.items():
+        print(f"{name:20} {spent:9.2f} {other[name]:9.2f} {times[name]:7.2f}")
+    return 1 if max(times.values()) > MOST_TIMES else 0
+
+
+if __name__ == "__main__":
+    sys.exit(main(sys.argv[1:]))

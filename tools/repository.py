@@ -1,0 +1,61 @@
+"""The crates of this repository, as crates.txt lists them, their programs, and the kit of `rt`."""
+
+from __future__ import annotations
+
+import os
+import pathlib
+import shutil
+import subprocess
+from collections.abc import Iterable, Mapping
+
+TOP = pathlib.Path(__file__).resolve().parent.parent
+PROGRAM = "xq_server"
+STORED_RUN_SECONDS = 60
+
+
+def libraries(path: str | os.PathLike[str]) -> dict[str, list[str]]:
+    """By the names of the crates of a crates.txt, the libraries that each uses."""
+    with open(path, encoding="utf-8") as file:
+        lines = [line.split("#")[0].partition(":") for line in file]
+    return {name.strip(): uses.split() for name, colon, uses in lines if colon}
+
+
+def all_below(uses: Iterable[str], crates: Mapping[str, list[str]]) -> list[str]:
+    """These crates of the repository and those below them, each after those that it uses.
+
+    Libraries of the kit, which are no keys of `crates`, are left out."""
+    found: list[str] = []
+    for name in uses:
+        if name in crates and name not in found:
+            below = all_below(crates[name], crates)
+            found += [it for it in [*below, name] if it not in found]
+    return found
+
+
+def outside(name: str, crates: Mapping[str, list[str]]) -> list[str]:
+    """The libraries of the kit that a crate of the repository names."""
+    return [it for it in crates[name] if it not in crates]
+
+
+def kit() -> pathlib.Path | None:
+    """The folder of the kit whose `rt` is on the PATH, or None where there is none."""
+    command = shutil.which("rt")
+    return pathlib.Path(command).resolve().parent.parent if command else None
+
+
+def kit_name(folder: pathlib.Path) -> str:
+    """The line that names a kit, as `rt version` prints it."""
+    path = folder / "KIT-ID"
+    return path.read_text(encoding="utf-8").strip() if path.exists() else "a kit without a name"
+
+
+def answers_stored_run(program: pathlib.Path, crate_folder: pathlib.Path) -> bool:
+    """Whether the program answers the crate's file stdin by the bytes of its file stdout."""
+    wanted = (crate_folder / "stdout").read_bytes()
+    with open(crate_folder / "stdin", "rb") as requests:
+        try:
+            done = subprocess.run(
+                [program], stdin=requests, capture_output=True, timeout=STORED_RUN_SECONDS)
+        except subprocess.TimeoutExpired:
+            return False
+    return done.returncode == 0 and done.stdout == wanted

@@ -1,0 +1,66 @@
+"""Commands that take minutes, and end with whoever waits for them."""
+
+from __future__ import annotations
+
+import contextlib
+import os
+import pathlib
+import signal
+import subprocess
+import sys
+import time
+from collections.abc import Callable, Iterator, Sequence
+from typing import IO, Any
+
+SECONDS_BETWEEN_LOOKS = 0.2
+
+
+def end_by_signals() -> None:
+    """Lets signals end this process by SystemExit, so that what it began is ended and undone."""
+    for number in (signal.SIGINT, signal.SIGTERM, signal.SIGHUP):
+        signal.signal(number, lambda signal_number, _: sys.exit(128 + signal_number))
+
+
+def run(
+    words: Sequence[str | os.PathLike[str]],
+    log: IO[bytes],
+    look: Callable[[int], None] = lambda pid: None,
+    **how: Any,
+) -> int:
+    """Runs a command on no input, with all that it says in the log, and gives its exit status.
+
+    `look` is called with its process number about five times a second. Where this process is
+    interrupted, or the one that started it has ended, the command is ended first.
+
+    Raises OSError where the command does not start, and SystemExit where the parent has ended."""
+    parent = os.getppid()
+    with subprocess.Popen(
+        words, stdin=subprocess.DEVNULL, stdout=log, stderr=subprocess.STDOUT, **how
+    ) as started:
+        try:
+            while started.poll() is None:
+                if os.getppid() != parent:
+                    sys.exit(1)
+                look(started.pid)
+                time.sleep(SECONDS_BETWEEN_LOOKS)
+        finally:
+            started.terminate()
+        return started.returncode
+
+
+def children(pid: int) -> list[int]:
+    """The processes that a process has begun and that have not ended."""
+    found = []
+    for path in pathlib.Path(f"/proc/{pid}/task").glob("*/children"):
+        with contextlib.suppress(OSError):
+            found += [int(it) for it in path.read_text().split()]
+    return found
+
+
+def words_below(pid: int) -> Iterator[list[str]]:
+    """The words of each process below a process."""
+    left = children(pid)
+    for child in left:
+        left += children(child)
+        with contextlib.suppress(OSError):
+            yield pathlib.Path(f"/proc/{child}/cmdline").read_text(errors="replace").split("\0")
