@@ -23,5 +23,5 @@ loop-tree-preserved c trees =
 
 pub returns-clause-nodes : goal.returns-clause-nodes
 returns-clause-nodes c trees =
-    let all : c.loop-tree.tree ≡ length c.as_slice.result.now = omega arith in
-    c.loop-tree.invariant trees ∙ ap (λ n. map (λ n. Node (root_of n)) (range_with_len 0 n)) (all ∙ sym (length-map c.as_slice.result.now string_bytes) ∙ ap length c.as_slice.ensures)
+    let all : c.loop-tree.tree ≡ length c.as_slice-tree-end.result.now = omega arith in
+    c.loop-tree.invariant trees ∙ ap (λ n. map (λ n. Node (root_of n)) (range_with_len 0 n)) (all ∙ sym (length-map c.as_slice-tree-end.result.now string_bytes) ∙ ap length c.as_slice-tree-end.ensures)
