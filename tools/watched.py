@@ -3,6 +3,7 @@
 from __future__ import annotations
 
 import contextlib
+import fcntl
 import os
 import pathlib
 import signal
@@ -46,6 +47,21 @@ def run(
         finally:
             started.terminate()
         return started.returncode
+
+
+def lone(path: pathlib.Path, wait: Callable[[], None]) -> IO[str]:
+    """Waits until no other process holds this file; others wait until what is given is closed.
+
+    The file is made where it is not there. `wait` is called first where another process holds it.
+    Raises OSError where the file cannot be made."""
+    path.parent.mkdir(parents=True, exist_ok=True)
+    lock = open(path, "w", encoding="utf-8")
+    try:
+        fcntl.flock(lock, fcntl.LOCK_EX | fcntl.LOCK_NB)
+    except BlockingIOError:
+        wait()
+        fcntl.flock(lock, fcntl.LOCK_EX)
+    return lock
 
 
 def children(pid: int) -> list[int]:
