@@ -14,6 +14,8 @@ from collections.abc import Callable, Iterator, Sequence
 from typing import IO, Any
 
 SECONDS_BETWEEN_LOOKS = 0.2
+# Whoever started this process, and waits for it.
+PARENT = os.getppid()
 
 
 def end_by_signals() -> None:
@@ -34,13 +36,12 @@ def run(
     interrupted, or the one that started it has ended, the command is ended first.
 
     Raises OSError where the command does not start, and SystemExit where the parent has ended."""
-    parent = os.getppid()
     with subprocess.Popen(
         words, stdin=subprocess.DEVNULL, stdout=log, stderr=subprocess.STDOUT, **how
     ) as started:
         try:
             while started.poll() is None:
-                if os.getppid() != parent:
+                if os.getppid() != PARENT:
                     sys.exit(1)
                 look(started.pid)
                 time.sleep(SECONDS_BETWEEN_LOOKS)
