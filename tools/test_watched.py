@@ -16,11 +16,11 @@ WAITS = """import sys; sys.path.insert(0, sys.argv[1]); import watched
 watched.end_by_signals()
 with open(sys.argv[2], "wb") as log:
     sys.exit(watched.run(["sh", "-c", "echo $$; exec sleep 60"], log))"""
-# A process that holds a file for a while.
-HOLDS = """import pathlib, sys, time; sys.path.insert(0, sys.argv[1]); import watched
+# A process that holds a file until its standard input ends.
+HOLDS = """import pathlib, sys; sys.path.insert(0, sys.argv[1]); import watched
 with watched.lone(pathlib.Path(sys.argv[2]), lambda: None):
     print("held", flush=True)
-    time.sleep(0.5)"""
+    sys.stdin.read()"""
 WORDS = [sys.executable, "-c", WAITS, str(pathlib.Path(__file__).parent)]
 
 
@@ -80,12 +80,12 @@ class Lone(unittest.TestCase):
         with tempfile.TemporaryDirectory() as folder:
             path = pathlib.Path(folder, "below", "lock")
             words = [sys.executable, "-c", HOLDS, str(pathlib.Path(__file__).parent), str(path)]
-            waited: list[float] = []
-            with subprocess.Popen(words, stdout=subprocess.PIPE, text=True) as holder:
-                assert holder.stdout is not None
+            pipes = {"stdin": subprocess.PIPE, "stdout": subprocess.PIPE}
+            with subprocess.Popen(words, text=True, **pipes) as holder:
+                assert holder.stdin is not None and holder.stdout is not None
                 self.assertEqual(holder.stdout.readline(), "held\n")
-                with watched.lone(path, lambda: waited.append(time.monotonic())):
-                    self.assertGreater(time.monotonic() - waited[0], 0.2)
+                with watched.lone(path, holder.stdin.close):
+                    self.assertTrue(holder.stdin.closed)
 
     def test_none_waits_where_none_holds(self) -> None:
         with tempfile.TemporaryDirectory() as folder:
