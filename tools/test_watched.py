@@ -80,8 +80,8 @@ class Lone(unittest.TestCase):
         with tempfile.TemporaryDirectory() as folder:
             path = pathlib.Path(folder, "below", "lock")
             words = [sys.executable, "-c", HOLDS, str(pathlib.Path(__file__).parent), str(path)]
-            pipes = {"stdin": subprocess.PIPE, "stdout": subprocess.PIPE}
-            with subprocess.Popen(words, text=True, **pipes) as holder:
+            pipe = subprocess.PIPE
+            with subprocess.Popen(words, stdin=pipe, stdout=pipe, text=True) as holder:
                 assert holder.stdin is not None and holder.stdout is not None
                 self.assertEqual(holder.stdout.readline(), "held\n")
                 with watched.lone(path, holder.stdin.close):
