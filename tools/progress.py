@@ -80,10 +80,9 @@ class Progress:
 class Watch:
     """Says how far a run of rt is: as a crate is done, and else once a minute."""
 
-    def __init__(self, progress: Progress, log: pathlib.Path) -> None:
-        """Of a run whose crates the progress names, and which writes this log."""
-        self.progress, self.log = progress, open(log, encoding="utf-8", errors="replace")
-        self.said = time.monotonic()
+    def __init__(self, progress: Progress, log: Iterable[str]) -> None:
+        """Of a run whose crates the progress names, and whose log gives its lines as they come."""
+        self.progress, self.log, self.said = progress, log, time.monotonic()
 
     def look(self, pid: int) -> None:
         """Looks at the log and at what the process has begun, and says what is new."""

@@ -55,10 +55,10 @@ def begins(count: int, at_once: int, whole: float | None) -> str:
 def prove(top: pathlib.Path, crate: str, at_once: int, log_path: pathlib.Path) -> None:
     """Proves a crate and those below it. Raises NotProved."""
     names = repository.all_below([crate], repository.libraries(top / "crates.txt"))
-    minutes = expected_minutes(top / "tools" / "proof_minutes.txt")
+    minutes = expected_minutes(pathlib.Path(__file__).with_name("proof_minutes.txt"))
     say(begins(len(names), at_once, minutes.get(WHOLE)))
-    with open(log_path, "wb") as log:
-        watch = Watch(Progress(names, minutes, time.monotonic()), log_path)
+    with open(log_path, "wb") as log, open(log_path, encoding="utf-8", errors="replace") as lines:
+        watch = Watch(Progress(names, minutes, time.monotonic()), lines)
         words = ["rt", "all", "check", "--jobs", str(at_once)]
         status = watched.run(words, log, watch.look, cwd=top / "crates" / crate)
     if status:
