@@ -27,8 +27,9 @@ def show_end(log: pathlib.Path) -> None:
 
 
 def clock(seconds: float) -> str:
-    """A length of time by the clock."""
-    return f"{seconds // 60:.0f} min {seconds % 60:.0f} s"
+    """A length of time by the clock, in whole seconds."""
+    minutes, rest = divmod(round(seconds), 60)
+    return f"{minutes} min {rest} s"
 
 
 def expected_minutes(path: pathlib.Path) -> dict[str, float]:
@@ -87,9 +88,9 @@ class Watch:
     def look(self, pid: int) -> None:
         """Looks at the log and at what the process has begun, and says what is new."""
         now = time.monotonic()
+        is_news = self.progress.read(self.log)
         at_work = map(crate_of, watched.words_below(pid))
         self.progress.see((it for it in at_work if it), now)
-        is_news = self.progress.read(self.log)
         if is_news or now - self.said >= SECONDS_BETWEEN_LINES:
             say(self.progress.shown(now))
             self.said = now
