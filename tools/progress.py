@@ -27,8 +27,9 @@ def show_end(log: pathlib.Path) -> None:
 
 
 def clock(seconds: float) -> str:
-    """A length of time by the clock."""
-    return f"{seconds // 60:.0f} min {seconds % 60:.0f} s"
+    """A length of time by the clock, in whole seconds."""
+    minutes, rest = divmod(round(seconds), 60)
+    return f"{minutes} min {rest} s"
 
 
 def expected_minutes(path: pathlib.Path) -> dict[str, float]:
@@ -80,17 +81,16 @@ class Progress:
 class Watch:
     """Says how far a run of rt is: as a crate is done, and else once a minute."""
 
-    def __init__(self, progress: Progress, log: pathlib.Path) -> None:
-        """Of a run whose crates the progress names, and which writes this log."""
-        self.progress, self.log = progress, open(log, encoding="utf-8", errors="replace")
-        self.said = time.monotonic()
+    def __init__(self, progress: Progress, log: Iterable[str]) -> None:
+        """Of a run whose crates the progress names, and whose log gives its lines as they come."""
+        self.progress, self.log, self.said = progress, log, time.monotonic()
 
     def look(self, pid: int) -> None:
         """Looks at the log and at what the process has begun, and says what is new."""
         now = time.monotonic()
+        is_news = self.progress.read(self.log)
         at_work = map(crate_of, watched.words_below(pid))
         self.progress.see((it for it in at_work if it), now)
-        is_news = self.progress.read(self.log)
         if is_news or now - self.said >= SECONDS_BETWEEN_LINES:
             say(self.progress.shown(now))
             self.said = now

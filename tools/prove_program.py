@@ -11,14 +11,12 @@ rt says; what the check of a crate says comes there as it ends.
 
 from __future__ import annotations
 
-import fcntl
 import os
 import pathlib
 import re
 import sys
 import time
 from collections.abc import Sequence
-from typing import IO
 
 import repository
 import watched
@@ -57,10 +55,10 @@ def begins(count: int, at_once: int, whole: float | None) -> str:
 def prove(top: pathlib.Path, crate: str, at_once: int, log_path: pathlib.Path) -> None:
     """Proves a crate and those below it. Raises NotProved."""
     names = repository.all_below([crate], repository.libraries(top / "crates.txt"))
-    minutes = expected_minutes(top / "tools" / "proof_minutes.txt")
+    minutes = expected_minutes(pathlib.Path(__file__).with_name("proof_minutes.txt"))
     say(begins(len(names), at_once, minutes.get(WHOLE)))
-    with open(log_path, "wb") as log:
-        watch = Watch(Progress(names, minutes, time.monotonic()), log_path)
+    with open(log_path, "wb") as log, open(log_path, encoding="utf-8", errors="replace") as lines:
+        watch = Watch(Progress(names, minutes, time.monotonic()), lines)
         words = ["rt", "all", "check", "--jobs", str(at_once)]
         status = watched.run(words, log, watch.look, cwd=top / "crates" / crate)
     if status:
@@ -91,25 +89,14 @@ def prove_and_build(top: pathlib.Path, crate: str) -> None:
     say(f"done after {clock(time.time() - begun)}")
 
 
-def lone(top: pathlib.Path) -> IO[str]:
-    """Waits until no other start proves here; what is given keeps others out until it is closed."""
-    (top / "out").mkdir(exist_ok=True)
-    lock = open(top / "out" / "serve.lock", "w", encoding="utf-8")
-    try:
-        fcntl.flock(lock, fcntl.LOCK_EX | fcntl.LOCK_NB)
-    except BlockingIOError:
-        say("another start proves the program: waiting for it")
-        fcntl.flock(lock, fcntl.LOCK_EX)
-    return lock
-
-
 def main(words: Sequence[str]) -> int:
     """Proves and builds; status 1 where that fails."""
     watched.end_by_signals()
     if repository.kit() is None:
         say("the program is not built yet, and Rattle's command 'rt' is not on the PATH")
         return 1
-    with lone(repository.TOP):
+    lock = repository.TOP / "out" / "serve.lock"
+    with watched.lone(lock, lambda: say("another start proves the program: waiting for it")):
         say(f"proving and building the program; {LOG} is the log. Meanwhile ./serve --unproved can"
             " serve, without a proof")
         try:

@@ -15,20 +15,45 @@ from build_unproved import NotBuilt
 
 AS_WATCHED = ["-O0", "-fsanitize=address"]
 KIT = ["-mllvm", "-no-x86-call-frame-opt", "-c", "-x", "ir", "module.bc", "-o", "module.o"]
-# A program whose sum leaves the bytes at its third line.
-SUM = """#![tactic(auto)]
+# A program that does, by the number of its lines and of their letters, what a check has to see.
+CHECKED = """#![tactic(auto)]
 
 use std::io;
 
 fn main(rt: HostRuntime) -> io::Result<()> {
-    let mut total: u8 = 0;
-    for _line in rt.lines(rt.alloc()) {
-        total = total + 100;
+    let mut lines: usize = 0;
+    let mut letters: usize = 0;
+    for line in rt.lines(rt.alloc()) {
+        lines = lines + 1;
+        letters = letters + line?.len();
     }
-    println!(rt; "{total}")?;
+    let table: [usize; 4] = [1, 2, 3, 4];
+    let some: Option<usize> = if letters > 5 { None } else { Some(7) };
+    let found: usize = match lines {
+        1 => table[letters],
+        2 => letters as u8 as usize,
+        3 => 100 / (letters - 3),
+        4 => letters - 5,
+        _ => some.unwrap(),
+    };
+    println!(rt; "{found}")?;
     Ok(())
 }
 """
+# What is done, the lines where it goes well, with the answer, and the lines where it does not.
+FAULTS = (
+    ("index", "a", 2, "aaaa"),
+    ("cast", "a\nb", 2, "a\n" + "b" * 255),
+    ("division", "aa\nb\nc", 100, "a\nb\nc"),
+    ("difference", "aa\nb\nc\nd", 0, "a\nb\nc\nd"),
+    ("unwrap", "a\nb\nc\nd\ne", 7, "aa\nb\nc\nd\ne"),
+)
+
+
+def ran(program: pathlib.Path, lines: str) -> tuple[int, str]:
+    """The status of a program that is given these lines, and what it prints."""
+    done = subprocess.run([program], input=f"{lines}\n", stdout=subprocess.PIPE, text=True)
+    return done.returncode, done.stdout
 
 
 class Words(unittest.TestCase):
@@ -51,13 +76,13 @@ class Place(unittest.TestCase):
         self.top = pathlib.Path(folder.name)
         self.source = self.top / "crates" / "app" / "src" / "main.rt"
         self.source.parent.mkdir(parents=True)
-        self.source.write_text(SUM)
+        self.source.write_text(CHECKED)
         (self.top / "crates.txt").write_text("app:\n")
 
     def test_a_changed_source_has_another_place(self) -> None:
         before = build_unproved.place(self.top, "app")
         self.assertEqual(before, build_unproved.place(self.top, "app"))
-        self.source.write_text(SUM.replace("100", "101"))
+        self.source.write_text(CHECKED.replace("100", "101"))
         self.assertNotEqual(before, build_unproved.place(self.top, "app"))
 
     def test_a_program_takes_the_place_of_older_ones(self) -> None:
@@ -65,21 +90,23 @@ class Place(unittest.TestCase):
         (to.parent.parent / "older").mkdir(parents=True)
         (to.parent.parent / "new").mkdir()
         build_unproved.put(self.source, to)
-        self.assertEqual(to.read_text(), SUM)
+        self.assertEqual(to.read_text(), CHECKED)
         self.assertEqual(list(to.parent.parent.iterdir()), [to.parent])
 
     @unittest.skipUnless(repository.kit(), "needs the kit")
-    def test_the_program_answers_and_stops_at_an_overflow(self) -> None:
-        (self.top / "crates" / "app" / "stdin").write_text("a\nb\n")
-        (self.top / "crates" / "app" / "stdout").write_text("200\n")
+    def test_the_program_answers_and_stops_where_a_check_fails(self) -> None:
+        (self.top / "crates" / "app" / "stdin").write_text("a\n")
+        (self.top / "crates" / "app" / "stdout").write_text("2\n")
         program = build_unproved.build(self.top, "app")
-        done = subprocess.run([program], input=b"a\nb\nc\n", capture_output=True)
-        self.assertEqual((done.returncode, done.stdout), (-signal.SIGILL, b""))
+        for name, good, answer, bad in FAULTS:
+            with self.subTest(name):
+                self.assertEqual(ran(program, good), (0, f"{answer}\n"))
+                self.assertEqual(ran(program, bad), (-signal.SIGILL, ""))
 
     @unittest.skipUnless(repository.kit(), "needs the kit")
     def test_a_program_that_fails_its_stored_run_is_not_put(self) -> None:
         (self.top / "crates" / "app" / "stdin").write_text("a\n")
-        (self.top / "crates" / "app" / "stdout").write_text("200\n")
+        (self.top / "crates" / "app" / "stdout").write_text("3\n")
         with self.assertRaises(NotBuilt):
             build_unproved.build(self.top, "app")
         self.assertFalse(build_unproved.place(self.top, "app").exists())

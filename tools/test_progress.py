@@ -46,6 +46,12 @@ class Lines(unittest.TestCase):
         self.assertEqual(so_far.shown(1), "1 of 1 crates proved, 0 min 1 s")
 
 
+class Clock(unittest.TestCase):
+    def test_seconds_are_rounded_before_they_are_minutes(self) -> None:
+        self.assertEqual(progress.clock(59.6), "1 min 0 s")
+        self.assertEqual(progress.clock(3599.4), "59 min 59 s")
+
+
 class Table(unittest.TestCase):
     def test_comments_are_left_out(self) -> None:
         with tempfile.TemporaryDirectory() as folder:

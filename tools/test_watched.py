@@ -16,6 +16,11 @@ WAITS = """import sys; sys.path.insert(0, sys.argv[1]); import watched
 watched.end_by_signals()
 with open(sys.argv[2], "wb") as log:
     sys.exit(watched.run(["sh", "-c", "echo $$; exec sleep 60"], log))"""
+# A process that holds a file until its standard input ends.
+HOLDS = """import pathlib, sys; sys.path.insert(0, sys.argv[1]); import watched
+with watched.lone(pathlib.Path(sys.argv[2]), lambda: None):
+    print("held", flush=True)
+    sys.stdin.read()"""
 WORDS = [sys.executable, "-c", WAITS, str(pathlib.Path(__file__).parent)]
 
 
@@ -68,6 +73,24 @@ class Run(unittest.TestCase):
             pid = started(self.log)
             os.kill(parent.pid, signal.SIGKILL)
         self.assertTrue(has_ended(pid))
+
+
+class Lone(unittest.TestCase):
+    def test_a_second_process_waits_and_says_so(self) -> None:
+        with tempfile.TemporaryDirectory() as folder:
+            path = pathlib.Path(folder, "below", "lock")
+            words = [sys.executable, "-c", HOLDS, str(pathlib.Path(__file__).parent), str(path)]
+            pipe = subprocess.PIPE
+            with subprocess.Popen(words, stdin=pipe, stdout=pipe, text=True) as holder:
+                assert holder.stdin is not None and holder.stdout is not None
+                self.assertEqual(holder.stdout.readline(), "held\n")
+                with watched.lone(path, holder.stdin.close):
+                    self.assertTrue(holder.stdin.closed)
+
+    def test_none_waits_where_none_holds(self) -> None:
+        with tempfile.TemporaryDirectory() as folder:
+            for _ in range(2):
+                watched.lone(pathlib.Path(folder, "lock"), self.fail).close()
 
 
 if __name__ == "__main__":

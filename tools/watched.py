@@ -3,6 +3,7 @@
 from __future__ import annotations
 
 import contextlib
+import fcntl
 import os
 import pathlib
 import signal
@@ -13,6 +14,8 @@ from collections.abc import Callable, Iterator, Sequence
 from typing import IO, Any
 
 SECONDS_BETWEEN_LOOKS = 0.2
+# Whoever started this process, and waits for it.
+PARENT = os.getppid()
 
 
 def end_by_signals() -> None:
@@ -33,19 +36,33 @@ def run(
     interrupted, or the one that started it has ended, the command is ended first.
 
     Raises OSError where the command does not start, and SystemExit where the parent has ended."""
-    parent = os.getppid()
     with subprocess.Popen(
         words, stdin=subprocess.DEVNULL, stdout=log, stderr=subprocess.STDOUT, **how
     ) as started:
         try:
             while started.poll() is None:
-                if os.getppid() != parent:
+                if os.getppid() != PARENT:
                     sys.exit(1)
                 look(started.pid)
                 time.sleep(SECONDS_BETWEEN_LOOKS)
         finally:
             started.terminate()
         return started.returncode
+
+
+def lone(path: pathlib.Path, wait: Callable[[], None]) -> IO[str]:
+    """Waits until no other process holds this file; others wait until what is given is closed.
+
+    The file is made where it is not there. `wait` is called first where another process holds it.
+    Raises OSError where the file cannot be made."""
+    path.parent.mkdir(parents=True, exist_ok=True)
+    lock = open(path, "w", encoding="utf-8")
+    try:
+        fcntl.flock(lock, fcntl.LOCK_EX | fcntl.LOCK_NB)
+    except BlockingIOError:
+        wait()
+        fcntl.flock(lock, fcntl.LOCK_EX)
+    return lock
 
 
 def children(pid: int) -> list[int]:
