@@ -12,6 +12,7 @@ use xq_service::Server;
 
 /// How many addresses there are, and how many steps.
 const DOCUMENTS: u32 = 300;
+
 const STEPS: u32 = 1_500;
 
 /// The step at which each document was stored last, where it is there.
@@ -46,7 +47,11 @@ fn stores<S: Alter + Drop>(
     step: u32,
 ) -> Result<bool, AllocError> {
     let body = store_body(alloc, address, step)?;
-    let wanted: &[u8] = if version.is_some() { b"replaced" } else { b"stored" };
+    let wanted: &[u8] = if version.is_some() {
+        b"replaced"
+    } else {
+        b"stored"
+    };
     *version = Some(step);
     is_answered(alloc, server, step, (b'S', &body), (0, wanted))
 }
@@ -78,9 +83,21 @@ fn asks<S: Alter + Drop>(
     match version {
         Some(stored) => {
             let text = format!(in alloc; "\"{stored}\"")?;
-            is_answered(alloc, server, step, (b'Q', query.as_bytes()), (0, text.as_bytes()))
+            is_answered(
+                alloc,
+                server,
+                step,
+                (b'Q', query.as_bytes()),
+                (0, text.as_bytes()),
+            )
         }
-        None => is_answered(alloc, server, step, (b'Q', query.as_bytes()), (1, b"FODC0002")),
+        None => is_answered(
+            alloc,
+            server,
+            step,
+            (b'Q', query.as_bytes()),
+            (1, b"FODC0002"),
+        ),
     }
 }
 
@@ -124,7 +141,10 @@ fn check_steps<S: Alter + Drop>(
 ) -> Result<(), Fail> {
     let mut versions = no_versions(rt.alloc())?;
     for step in 0..STEPS {
-        assert!(rt; is_right(rt.alloc(), server, &mut versions, step)?, "step {step}");
+        assert!(rt;
+            is_right(rt.alloc(), server, &mut versions, step)?,
+            "step {step}"
+        );
         if step % 100 == 99 {
             let list = listed(rt.alloc(), &versions)?;
             assert!(rt; is_answered(rt.alloc(), server, 0, (b'L', b""), (0, list.as_bytes()))?);
