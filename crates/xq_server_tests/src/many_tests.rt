@@ -25,14 +25,14 @@ fn no_versions(alloc: Global) -> Result<Versions, AllocError> {
 
 /// The address with a number: their order is that of the numbers.
 fn address_of(alloc: Global, number: u32) -> Result<String, AllocError> {
-    format!(in alloc; "d{}", number + 1_000)
+    format!(in alloc; "d{}", number.saturating_add(1_000))
 }
 
 /// The body of a store of the document that has the step as its text.
 fn store_body(alloc: Global, address: &str, step: u32) -> Result<Vec<u8>, AllocError> {
     let query = format!(in alloc; "document {{element a {{\"{step}\"}}}}")?;
     let mut body = Vec::new(alloc);
-    body.push(address.len() as u8)?;
+    body.push(u8::try_from(address.len()).unwrap_or(0))?;
     body.extend_from_slice(address.as_bytes())?;
     body.extend_from_slice(query.as_bytes())?;
     Ok(body)
@@ -108,7 +108,7 @@ fn is_right<S: Alter + Drop>(
     versions: &mut Versions,
     step: u32,
 ) -> Result<bool, AllocError> {
-    let number = step * 37 % DOCUMENTS;
+    let number = step % DOCUMENTS * 37 % DOCUMENTS;
     let address = address_of(alloc, number)?;
     let Some(version) = versions.get_mut(number as usize) else {
         return Ok(false);
@@ -128,7 +128,8 @@ fn listed(alloc: Global, versions: &[Option<u32>]) -> Result<String, AllocError>
             if !text.is_empty() {
                 text.push_str(", ")?;
             }
-            text.push_str(format!(in alloc; "\"d{}\"", number + 1_000)?.as_str())?;
+            let numbered = number.saturating_add(1_000);
+            text.push_str(format!(in alloc; "\"d{numbered}\"")?.as_str())?;
         }
     }
     Ok(text)
