@@ -1,0 +1,11 @@
+"""Tests of the client, over a real server.
+
+    cd clients/python && python3 -m unittest         or, from the root, tools/try_clients.sh
+
+`XQS_SERVER` names the command of the server, else it is the repository's ./serve.
+"""
+
+import sys
+from pathlib import Path
+
+sys.path.insert(0, str(Path(__file__).resolve().parents[1] / "src"))
