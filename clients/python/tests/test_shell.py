@@ -1,6 +1,5 @@
 """The shell: its commands, what goes on in the next line, completion, and a terminal."""
 
-import importlib.util
 import io
 import os
 import pty
@@ -9,11 +8,10 @@ import subprocess
 import sys
 import termios
 import time
-import unittest
 from contextlib import redirect_stderr, redirect_stdout
 from unittest import mock
 
-from tests.support import LIBRARY, TOP, FolderTest, ServerTest, server_command
+from tests.support import LIBRARY, TOP, FolderTest, ServerTest, needs, server_command
 from xqs.cli import main
 from xqs.session import Session, completions, is_whole
 from xqs.shell import word_before
@@ -134,7 +132,7 @@ class Terminal(FolderTest):
         self.assertIn("9\r\n", self.typed(["sum((4, 5))\r", ".quit\r"], "--plain"))
         self.assertIn("sum((4, 5))", (self.folder / "xqs" / "history").read_text())
 
-    @unittest.skipIf(importlib.util.find_spec("prompt_toolkit") is None, "no prompt_toolkit")
+    @needs("prompt_toolkit")
     def test_by_prompt_toolkit(self) -> None:
         seen = self.typed(["(1 +\r", "2)\r", ".quit\r"])
         self.assertIn("3\r\n", seen)
