@@ -11,7 +11,7 @@ import time
 from contextlib import redirect_stderr, redirect_stdout
 from unittest import mock
 
-from tests.support import LIBRARY, TOP, FolderTest, ServerTest, needs, server_command
+from tests.support import LIBRARY, TOP, FolderTest, ServerTest, server_command
 from xqs.cli import main
 from xqs.session import Session, completions, is_whole
 from xqs.shell import word_before
@@ -100,11 +100,12 @@ class Sessions(ServerTest):
             self.assertTrue(is_whole(text), text)
 
 
-class Terminal(FolderTest):
+class TerminalTest(FolderTest):
     """Runs the shell on a terminal of its own."""
 
-    def typed(self, lines: list[str], *words: str) -> str:
-        """What stands on the terminal after these lines were typed."""
+    def typed(self, lines: list[str], *words: str, marks: dict[int, str] | None = None) -> str:
+        """What stands on the terminal after these lines were typed, each once the prompt is there,
+        or what `marks` has for it in its place."""
         command = [sys.executable, "-m", "xqs", "shell", "--server", " ".join(server_command())]
         environment = {**os.environ, "PYTHONPATH": str(TOP / "clients" / "python" / "src"),
                        "XDG_STATE_HOME": str(self.folder), "TERM": "xterm", "PROMPT_TOOLKIT_NO_CPR":
@@ -115,14 +116,16 @@ class Terminal(FolderTest):
                                    env=environment, start_new_session=True)
         os.close(inner)
         seen = b""
-        for line in lines:
-            seen += until(outer, b">")
+        for number, line in enumerate(lines):
+            seen += until(outer, (marks or {}).get(number, ">").encode())
             os.write(outer, line.encode())
         seen += until(outer, None)
         process.wait(30)
         os.close(outer)
         return seen.decode(errors="replace")
 
+
+class Terminal(TerminalTest):
     def test_plain(self) -> None:
         lines = ["(1 +\r", "2)\r", "distinct-v\t((4, 4))\r", "\x04"]
         seen = self.typed(lines, "--plain")
@@ -131,12 +134,6 @@ class Terminal(FolderTest):
         self.assertIn("distinct-values((4, 4))", seen)
         self.assertIn("9\r\n", self.typed(["sum((4, 5))\r", ".quit\r"], "--plain"))
         self.assertIn("sum((4, 5))", (self.folder / "xqs" / "history").read_text())
-
-    @needs("prompt_toolkit")
-    def test_by_prompt_toolkit(self) -> None:
-        seen = self.typed(["(1 +\r", "2)\r", ".quit\r"])
-        self.assertIn("3\r\n", seen)
-        self.assertIn("(1 +", (self.folder / "xqs" / "history").read_text())
 
 
 def until(terminal: int, mark: bytes | None) -> bytes:
