@@ -225,6 +225,19 @@ class Commands(FolderTest):
                 return outcome
             time.sleep(0.2)
 
+    def test_files_that_wanted_the_store_are_tried_again(self) -> None:
+        self.write("a.xml", "<a>good</a>")
+        self.write("b.xml", "<a>x</a>")
+        wanting = Path(__file__).with_name("wanting_server.py")
+        self.words = ["--server", f"{sys.executable} {wanting}"]
+        status, out, said = self.run_command("load", self.folder / "in")
+        self.assertEqual(status, 1)
+        self.assertIn("b.xml: store: the server's database failed", out)
+        self.assertIn("1 stored, 0 refused, 1 failed", said)
+        self.write("b.xml", "<a>good</a>")
+        self.assertIn("2 stored, 0 refused", self.run_command("load", self.folder / "in")[2])
+        self.assertEqual(list((self.folder / "state").rglob("*.jsonl")), [])
+
     def test_server_that_ends_under_a_load(self) -> None:
         self.write("a.xml", "<a/>")
         self.words = ["--server", "false"]

@@ -53,21 +53,32 @@ def find(folder: Path, patterns: Sequence[str]) -> Iterator[Found]:
     """The regular files below a folder whose name matches a pattern, sorted by path."""
     for place, folders, names in os.walk(folder):
         folders.sort()
-        for name in sorted(it for it in names if any(fnmatch(it, one) for one in patterns)):
-            file = Path(place) / name
-            try:
-                found = file.stat()
-            except OSError:
-                continue
-            if stat.S_ISREG(found.st_mode):
-                yield Found(file.relative_to(folder).as_posix(), file, found)
+        wanted = sorted(it for it in names if any(fnmatch(it, one) for one in patterns))
+        found = (_found(folder, Path(place) / name) for name in wanted)
+        yield from (it for it in found if it)
+
+
+def _found(folder: Path, file: Path) -> Found | None:
+    """A file below the folder; None where it is no regular file, or is gone."""
+    try:
+        is_what = file.stat()
+    except OSError:
+        return None
+    if not stat.S_ISREG(is_what.st_mode):
+        return None
+    return Found(file.relative_to(folder).as_posix(), file, is_what)
 
 
 class Loader:
     """Stores files through one client."""
 
     def __init__(
-        self, client: Client, journal: Journal | None, progress: Progress, prefix: str, choices: XmlChoices
+        self,
+        client: Client,
+        journal: Journal | None,
+        progress: Progress,
+        prefix: str,
+        choices: XmlChoices,
     ) -> None:
         self._window = Window()
         self._sender = Sender(client, self._window)
