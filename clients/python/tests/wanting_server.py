@@ -1,5 +1,5 @@
 """A program in the place of a server: it has no document, and wants the store for each that is to
-be stored, but for those whose text has the word `good`."""
+be stored, but for those whose text has the word `good`; it ends at the word `end`."""
 
 import os
 import sys
@@ -12,6 +12,8 @@ from xqs.protocol import MAX_REQUEST, Splitter, Status, reply, tag_of  # noqa: E
 
 def answer(message: bytes) -> bytes:
     """The reply to a request."""
+    if b"end" in message:
+        sys.exit()
     if message[4:5] == b"L":
         return reply(tag_of(message), Status.DONE, b"()")
     if message[4:5] == b"S" and b"good" not in message:

@@ -2,6 +2,7 @@
 
 import argparse
 import importlib
+import io
 import os
 import sys
 from collections.abc import Callable, Sequence
@@ -102,16 +103,27 @@ def is_lasting(place: Endpoint) -> bool:
 def main(words: Sequence[str] | None = None) -> int:
     """Carries out a command, and gives its exit status: 0 done, 1 refused, 2 misused."""
     given = _parser().parse_args(words)
+    _show_any_name()
     try:
         return COMMANDS[given.command].load()(given.rest)
     except ModuleNotFoundError as error:
         print(f"xqs {given.command}: it wants the package {error.name}", file=sys.stderr)
+    except BrokenPipeError:
+        # Who read the output has gone; Python writes what is left as it ends, which is to be quiet.
+        os.dup2(os.open(os.devnull, os.O_WRONLY), sys.stdout.fileno())
     except (XqError, ValueError, OSError) as error:
         print(f"xqs {given.command}: {error}", file=sys.stderr)
     except KeyboardInterrupt:
         print(f"xqs {given.command}: interrupted", file=sys.stderr)
         return 130
     return 1
+
+
+def _show_any_name() -> None:
+    """Has names of files that are no text shown with escapes, where they would be a fault."""
+    for stream in (sys.stdout, sys.stderr):
+        if isinstance(stream, io.TextIOWrapper):
+            stream.reconfigure(errors="backslashreplace")
 
 
 def _parser() -> argparse.ArgumentParser:
