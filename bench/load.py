@@ -1,5 +1,5 @@
 #!/usr/bin/env python3
-"""How long `xqs load` takes for the XML files of a folder, and BaseX for the same, where it is there.
+"""How long `xqs load` takes for the XML files of a folder, and BaseX for the same, if it is there.
 
     bench/load.py [--server WORDS] [FOLDER]        ./serve and /usr/share where none are named
 
