@@ -22,7 +22,7 @@ from collections.abc import Callable, Sequence
 
 TOP = pathlib.Path(__file__).resolve().parent.parent
 sys.path.insert(0, str(TOP / "tools"))
-from client import Server, built, store
+from harness import Server, built, store
 
 BATCH = 100
 TURNS = 21

@@ -1,0 +1,143 @@
+"""The command `xqs`: a table of its commands, each a module that is imported when it is called."""
+
+import argparse
+import importlib
+import io
+import os
+import sys
+from collections.abc import Callable, Sequence
+from dataclasses import dataclass
+from pathlib import Path
+
+from xqs.endpoints import Command, Endpoint, endpoint
+from xqs.errors import XqError
+
+_IN_CHECKOUT = ("clients", "python", "src", "xqs")
+SERVER_VARIABLE = "XQS_SERVER"
+
+
+@dataclass(frozen=True)
+class Entry:
+    """A command: the function that carries it out, as `module:function`, and what it does.
+
+    The function takes the words after the command's own, and gives the exit status.
+    """
+
+    function: str
+    summary: str
+
+    def load(self) -> Callable[[Sequence[str]], int]:
+        """The function; ImportError where its module wants a package that is not there."""
+        module, _, name = self.function.partition(":")
+        function: Callable[[Sequence[str]], int] = getattr(importlib.import_module(module), name)
+        return function
+
+
+COMMANDS = {
+    "query": Entry("xqs.commands:query", "ask a query, and print its value"),
+    "store": Entry("xqs.commands:store", "store a file of XML or of constructors"),
+    "get": Entry("xqs.commands:get", "print a document, of any length"),
+    "drop": Entry("xqs.commands:drop", "drop documents"),
+    "list": Entry("xqs.commands:list_addresses", "print the addresses"),
+    "load": Entry("xqs.load:main", "store the XML files of a folder"),
+    "export": Entry("xqs.export:main", "write documents to a folder as files"),
+    "backup": Entry("xqs.backup:main", "write all documents to one file"),
+    "restore": Entry("xqs.backup:restore_main", "store the documents of a backup"),
+    "gc": Entry("xqs.gc:main", "drop temporary documents that a crash left"),
+    "shell": Entry("xqs.shell:main", "ask queries by hand"),
+    "mux": Entry("xqs.mux:main", "one server for many clients"),
+    "web": Entry("xqs.web:main", "HTTP on loopback, and a page"),
+}
+
+
+def checkout_server() -> Path | None:
+    """The command `serve` of the checkout that this package is run from; None where it is installed
+    elsewhere."""
+    folder = Path(__file__).resolve().parent
+    if folder.parts[-4:] != _IN_CHECKOUT:
+        return None
+    serve = folder.parents[3] / "serve"
+    return serve if serve.exists() else None
+
+
+def connection_options() -> argparse.ArgumentParser:
+    """The options that say where the server is, as a parent of a command's parser."""
+    options = argparse.ArgumentParser(add_help=False)
+    group = options.add_argument_group("the server")
+    group.add_argument(
+        "--server",
+        metavar="WHERE",
+        help="unix:PATH, tcp:PORT, or a command to start, such as './serve --file x.db'; "
+        f"else ${SERVER_VARIABLE}, else ./serve of the checkout",
+    )
+    group.add_argument(
+        "--file", metavar="PATH", help="the file of the documents, where a command is started"
+    )
+    return options
+
+
+def server_of(given: argparse.Namespace) -> Endpoint:
+    """Where the server is, by the options, the environment or the checkout.
+
+    ValueError where nothing says so, or it is no such place.
+    """
+    where = given.server or os.environ.get(SERVER_VARIABLE) or checkout_server()
+    if not where:
+        raise ValueError(f"no server is named: give --server, or set {SERVER_VARIABLE}")
+    place = endpoint(where)
+    return _with_file(place, given.file) if given.file else place
+
+
+def _with_file(place: Endpoint, file: str) -> Endpoint:
+    if not isinstance(place, Command):
+        raise ValueError(f"--file goes with a command that is started, not with {place}")
+    return Command((*place.words, "--file", file))
+
+
+def is_lasting(place: Endpoint) -> bool:
+    """Whether documents may be there after the connection's end: not where a command is started
+    that was given no words, since they live in its memory."""
+    return not isinstance(place, Command) or len(place.words) > 1
+
+
+def main(words: Sequence[str] | None = None) -> int:
+    """Carries out a command, and gives its exit status: 0 done, 1 refused, 2 misused."""
+    given = _parser().parse_args(words)
+    _show_any_name()
+    try:
+        return COMMANDS[given.command].load()(given.rest)
+    except ModuleNotFoundError as error:
+        print(f"xqs {given.command}: it wants the package {error.name}", file=sys.stderr)
+    except BrokenPipeError:
+        # Who read the output has gone; Python writes what is left as it ends, which is to be quiet.
+        os.dup2(os.open(os.devnull, os.O_WRONLY), sys.stdout.fileno())
+    except (XqError, ValueError, OSError) as error:
+        print(f"xqs {given.command}: {error}", file=sys.stderr)
+    except KeyboardInterrupt:
+        print(f"xqs {given.command}: interrupted", file=sys.stderr)
+        return 130
+    return 1
+
+
+def _show_any_name() -> None:
+    """Has names of files that are no text shown with escapes, where they would be a fault."""
+    for stream in (sys.stdout, sys.stderr):
+        if isinstance(stream, io.TextIOWrapper):
+            stream.reconfigure(errors="backslashreplace")
+
+
+def _parser() -> argparse.ArgumentParser:
+    table = "\n".join(f"  {name:9}{entry.summary}" for name, entry in COMMANDS.items())
+    parser = argparse.ArgumentParser(
+        prog="xqs",
+        description="A client of xq_server.",
+        epilog=f"commands:\n{table}\n\n'xqs COMMAND --help' says more of each.",
+        formatter_class=argparse.RawDescriptionHelpFormatter,
+    )
+    parser.add_argument("command", metavar="COMMAND", choices=COMMANDS)
+    parser.add_argument("rest", metavar="..", nargs=argparse.REMAINDER)
+    return parser
+
+
+if __name__ == "__main__":
+    sys.exit(main())

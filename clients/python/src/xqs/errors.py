@@ -1,0 +1,94 @@
+"""What can go wrong, and each code of the server in a sentence."""
+
+SENTENCES = {
+    # The text of a query, before it is evaluated.
+    "XPST0003": "the text of the query does not parse",
+    "XPST0008": "a variable is not bound",
+    "XPST0017": "there is no such function with that number of arguments",
+    "XQST0089": "'at' has the name of its own 'for' variable",
+    "XQST0090": "a character reference names no character of XML",
+    "XQST0094": "'group by' names a variable that this FLWOR does not bind",
+    # Its evaluation.
+    "XPDY0002": "there is no context item here",
+    "XPDY0050": "the root of the tree is not a document",
+    "XPTY0004": "a value of a wrong type, or a wrong number of items",
+    "XPTY0018": "a path gives nodes and atomic values together",
+    "XPTY0019": "what stands before a / is not nodes",
+    "XPTY0020": "a step begins at an item that is not a node",
+    "XQTY0024": "an attribute stands after other content",
+    "XQDY0025": "an element has two attributes of one name",
+    "XQDY0026": "a processing instruction holds ?>",
+    "XQDY0041": "the name of a processing instruction is not a name",
+    "XQDY0044": "an attribute is called xmlns",
+    "XQDY0064": "a processing instruction is called xml",
+    "XQDY0072": "a comment holds -- or ends in -",
+    "XQDY0074": "the name of an element or an attribute is not a name",
+    "FOAR0001": "a division by zero",
+    "FOAR0002": "a number is out of range",
+    "FOCA0001": "a number is too large for a decimal",
+    "FOCA0003": "a number is too large for an integer",
+    "FOCA0006": "a decimal has more than six digits after the point",
+    "FODC0002": "there is no document at that address",
+    "FODC0005": "the text is not an address",
+    "FORG0001": "the text is no value of that type",
+    "FORG0003": "zero-or-one() was given more than one item",
+    "FORG0004": "one-or-more() was given no item",
+    "FORG0005": "exactly-one() was not given exactly one item",
+    "FORG0006": "the value has no boolean value, or can't be summed or compared",
+    # The profile's own.
+    "prof:UTF8": "the query is not UTF-8",
+    "prof:DEPTH": "the query nests deeper than 128",
+    "prof:DIGITS": "a decimal literal has more than six digits after the point",
+    "prof:DOUBLE": "the standard would compute with doubles here; cast by xs:integer or xs:decimal",
+    "prof:PREFIX": "a name has a prefix; the server has no namespaces",
+    "prof:TYPE": "there is no such type",
+    "prof:RANGE": "a range has more than 1,000,000 items",
+    "prof:LEVEL": "a node would be deeper than level 100",
+    "prof:NODES": "a tree would have more than 1,000,000 nodes",
+    "prof:REPLY": "the answer is over 16,777,216 bytes; ask for it in parts",
+    "prof:FRAME": "the frame is no request",
+    "prof:LONG": "the frame is over 1,048,832 bytes",
+    "prof:ADDRESS": "the bytes are no address",
+    "prof:ABSENT": "there is no document at that address",
+    "prof:NOTDOC": "what is to be stored is not exactly one document",
+    # Of status 2.
+    "memory": "the server ran out of memory; nothing has changed, the request may be sent again",
+    "store": "the server's database failed; look at the disk, then send the request again, and "
+    "start the server anew where every request fails so",
+}
+"""The meaning of each code of status 1 and each word of status 2."""
+
+
+def sentence(code: str) -> str:
+    """A code of the server in words."""
+    return SENTENCES.get(code, "docs/LANGUAGE.md has the codes")
+
+
+class XqError(Exception):
+    """Base of what this package raises by itself."""
+
+
+class ReplyError(XqError):
+    """A reply whose status is not 0; the documents are as before."""
+
+    def __init__(self, code: str, request: str = "") -> None:
+        """`code` is the reply's text, `request` what was asked."""
+        super().__init__(f"{code}: {sentence(code)}")
+        self.code = code
+        self.request = request
+
+
+class Refused(ReplyError):
+    """Status 1: the request is at fault."""
+
+
+class Wanting(ReplyError):
+    """Status 2: memory or the store was wanting; the request may be sent again."""
+
+
+class Closed(XqError):
+    """The stream ended before the reply: the request may have been carried out, or not."""
+
+
+class Misspelt(XqError, ValueError):
+    """A reply's text that is no printed value."""

@@ -1,0 +1,135 @@
+"""Frames of requests and replies, as docs/PROTOCOL.md has them; nothing here reads or writes.
+
+All lengths are in bytes. A *message* is what follows the four bytes of a frame's length.
+"""
+
+import struct
+from collections.abc import Iterator
+from enum import Enum
+
+MAX_REQUEST = 1_048_832
+"""The longest message of a request: tag, kind and body."""
+MAX_REPLY_TEXT = 16_777_216
+"""The longest text of a reply."""
+MAX_REPLY = MAX_REPLY_TEXT + 5
+"""The longest message of a reply: tag, status and text."""
+FRAME_LIMIT = 1_000_000
+"""So many frames a server answers before it ends."""
+MAX_ADDRESS = 200
+"""The longest address."""
+MAX_NODES = 1_000_000
+"""The most nodes of a document."""
+MAX_LEVEL = 100
+"""The deepest level of a node; the document has level 0."""
+MAX_TAG = 2**32 - 1
+
+_LENGTH = struct.Struct(">I")
+_REQUEST_HEAD = struct.Struct(">IIc")
+_ADDRESS_BYTES = frozenset(
+    b"ABCDEFGHIJKLMNOPQRSTUVWXYZabcdefghijklmnopqrstuvwxyz0123456789._/-"
+)
+
+
+class Kind(bytes, Enum):
+    """The kinds of requests."""
+
+    QUERY = b"Q"
+    STORE = b"S"
+    DROP = b"D"
+    LIST = b"L"
+
+
+class Status(int, Enum):
+    """The statuses of replies."""
+
+    DONE = 0
+    REFUSED = 1
+    WANTING = 2
+
+
+class FrameFault(ValueError):
+    """A message that is too long, or too short for what it has to hold."""
+
+
+def address_bytes(address: str) -> bytes:
+    """The bytes of an address; ValueError where it is none."""
+    raw = address.encode("utf-8", "surrogatepass")
+    if not 1 <= len(raw) <= MAX_ADDRESS or not _ADDRESS_BYTES.issuperset(raw):
+        raise ValueError(
+            f"not an address: {address!r} (1 to {MAX_ADDRESS} of A-Z a-z 0-9 . _ / -)"
+        )
+    return raw
+
+
+def store_body(address: str, query: str) -> bytes:
+    """The body of a store: the address after its length, and the query.
+
+    ValueError where the address is none.
+    """
+    raw = address_bytes(address)
+    return bytes([len(raw)]) + raw + query.encode()
+
+
+def frame(tag: int, kind: Kind, body: bytes = b"") -> bytes:
+    """The frame of a request; FrameFault where it would be over the limit."""
+    length = len(body) + 5
+    if length > MAX_REQUEST:
+        raise FrameFault(f"a request of {length:,} bytes, of which {MAX_REQUEST:,} are allowed")
+    return _REQUEST_HEAD.pack(length, tag, kind.value) + body
+
+
+def reply(tag: int, status: Status, text: bytes) -> bytes:
+    """The frame of a reply, as the server writes it."""
+    return _LENGTH.pack(len(text) + 5) + _LENGTH.pack(tag) + bytes([status]) + text
+
+
+def framed(message: bytes) -> bytes:
+    """A message with its length in front."""
+    return _LENGTH.pack(len(message)) + message
+
+
+def tag_of(message: bytes) -> int:
+    """The tag of a message; FrameFault where it is too short for one."""
+    if len(message) < 5:
+        raise FrameFault(f"a message of {len(message)} bytes, which has no room for a tag")
+    tag: int = _LENGTH.unpack_from(message)[0]
+    return tag
+
+
+def with_tag(message: bytes, tag: int) -> bytes:
+    """The message with another tag."""
+    return _LENGTH.pack(tag) + message[4:]
+
+
+class Splitter:
+    """The messages of a stream that comes in any pieces."""
+
+    def __init__(self, limit: int) -> None:
+        """Messages have at most `limit` bytes."""
+        self._limit = limit
+        self._data = bytearray()
+
+    @property
+    def is_inside(self) -> bool:
+        """Whether a frame has begun that has not come whole."""
+        return bool(self._data)
+
+    def feed(self, piece: bytes) -> Iterator[bytes]:
+        """Each message that is whole once the piece has come.
+
+        FrameFault where a length is over the limit; nothing after it can be read then. The
+        iterator is to be used up before the next piece is fed.
+        """
+        self._data += piece
+        at = 0
+        try:
+            while len(self._data) - at >= 4:
+                length: int = _LENGTH.unpack_from(self._data, at)[0]
+                if length > self._limit:
+                    raise FrameFault(f"a length of {length:,} bytes, over {self._limit:,}")
+                if len(self._data) - at - 4 < length:
+                    break
+                at += 4 + length
+                yield bytes(self._data[at - length : at])
+        finally:
+            del self._data[:at]

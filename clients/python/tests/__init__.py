@@ -1,0 +1,13 @@
+"""Tests of the client, over a real server.
+
+    cd clients/python && python3 -m unittest
+
+`XQS_SERVER` names the command of the server, else it is the repository's ./serve. `XQS_LONG=1` runs
+the tests that take long, too. Those that want packages from outside the standard library lie in
+with_packages: `python3 -m unittest discover -s with_packages`.
+"""
+
+import sys
+from pathlib import Path
+
+sys.path.insert(0, str(Path(__file__).resolve().parents[1] / "src"))
