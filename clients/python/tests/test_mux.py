@@ -16,6 +16,8 @@ from tests.serving import ENDLESS, PATIENCE, SOURCES, Connection, RunningMux, st
 from tests.support import FolderTest, server_command
 
 DONE, REFUSED, WANTING = 0, 1, 2
+TEN_MILLION = b'let $x := "%s" return concat(%s)' % (b"x" * 1_000_000, b", ".join([b"$x"] * 10))
+"""A query whose value is a text of ten million characters."""
 
 
 def run_mux(*words: str) -> subprocess.CompletedProcess[str]:
@@ -88,9 +90,8 @@ class FramesTest(MuxTest):
         connection = self.client(self.mux())
         text = b'"' + b"x" * (1_048_827 - 2) + b'"'
         self.assertEqual(connection.ask(b"Q", text), (DONE, text))
-        long = b'string-join(for $x in 1 to 1000000 return "abcdefghijklmno")'
-        reply = connection.ask(b"Q", long)
-        self.assertEqual(reply and len(reply[1]), 15_000_002)
+        reply = connection.ask(b"Q", TEN_MILLION)
+        self.assertEqual(reply and len(reply[1]), 10_000_002)
 
 
 class ManyClientsTest(MuxTest):
@@ -100,10 +101,9 @@ class ManyClientsTest(MuxTest):
         mux = self.mux()
         silent = self.client(mux)
         silent.socket.settimeout(0.2)
-        big = b'string-join(for $x in 1 to 100000 return "abcdefghij")'
         with self.assertRaises(TimeoutError):
             while True:
-                silent.send(b"Q", big)
+                silent.send(b"Q", TEN_MILLION)
         failures: list[str] = []
 
         def work(number: int) -> None:
@@ -126,14 +126,14 @@ class ManyClientsTest(MuxTest):
     def test_a_client_that_sends_far_ahead_leaves_turns_to_others(self) -> None:
         mux = self.mux("--client-window", "2", "--window", "4")
         greedy, modest = self.client(mux), self.client(mux)
-        slow = b"count((1 to 300000)[. mod 2 = 0])"
-        for _ in range(60):
+        slow = b"count((1 to 50000)[. mod 2 = 0])"
+        for _ in range(40):
             greedy.send(b"Q", slow)
-        self.assertEqual((greedy.reply() or ())[1:], (DONE, b"150000"))
+        self.assertEqual((greedy.reply() or ())[1:], (DONE, b"25000"))
         begin = time.monotonic()
         self.assertEqual(modest.ask(b"Q", b"1"), (DONE, b"1"))
         waited = time.monotonic() - begin
-        for _ in range(59):
+        for _ in range(39):
             greedy.reply()
         rest = time.monotonic() - begin - waited
         self.assertLess(waited, rest / 3)
@@ -141,7 +141,7 @@ class ManyClientsTest(MuxTest):
     def test_a_client_that_reads_nothing_is_cut_off_in_time(self) -> None:
         mux = self.mux("--stall", "0.4")
         silent, other = self.client(mux), self.client(mux)
-        silent.send(b"Q", b'string-join(for $x in 1 to 1000000 return "abcdefghij")')
+        silent.send(b"Q", TEN_MILLION)
         mux.wait_for("a client that reads nothing is cut off")
         self.assertEqual(other.ask(b"Q", b"1"), (DONE, b"1"))
         self.assertLess(len(silent.read(20_000_000)), 10_000_000)
@@ -149,7 +149,7 @@ class ManyClientsTest(MuxTest):
     def test_a_client_that_reads_slowly_is_served(self) -> None:
         mux = self.mux("--stall", "0.5")
         slow = self.client(mux)
-        slow.send(b"Q", b'string-join(for $x in 1 to 1000000 return "abcdefghij")')
+        slow.send(b"Q", TEN_MILLION)
         taken = 0
         while taken < 10_000_011:
             time.sleep(0.1)
@@ -160,7 +160,7 @@ class ManyClientsTest(MuxTest):
         mux = self.mux("--held", "20000000")
         silent = [self.client(mux) for _ in range(4)]
         for connection in silent:
-            connection.send(b"Q", b'string-join(for $x in 1 to 1000000 return "abcdefghij")')
+            connection.send(b"Q", TEN_MILLION)
         mux.wait_for("of them is cut off")
         self.assertEqual(self.client(mux).ask(b"Q", b"1"), (DONE, b"1"))
 
