@@ -50,12 +50,17 @@ def is_gone(request: Request) -> bool:
     return request.peer is not None and request.peer.gone
 
 
+def is_on_file(command: Sequence[str]) -> bool:
+    """Whether the words of a server's command say that its documents live in a file."""
+    return any(word == "--file" or word.startswith("--file=") for word in command)
+
+
 class Multiplexer:
     """Serves clients by one server, which it starts, and starts again where that has to be.
 
-    `command` runs the server; where the word `--file` stands in it the documents outlive the
-    server. `say` gets each line that whoever runs this has to know. `failed` is set when the
-    server could not be started again; there is nothing left to do then but to `stop`.
+    `command` runs the server; where `--file` stands in it the documents outlive the server. `say`
+    gets each line that whoever runs this has to know. `failed` is set when the server could not be
+    started again; there is nothing left to do then but to `stop`.
     """
 
     def __init__(self, command: Sequence[str], settings: Settings,
@@ -63,7 +68,7 @@ class Multiplexer:
         self._command = command
         self._settings = settings
         self._say = say
-        self._on_file = "--file" in command
+        self._on_file = is_on_file(command)
         self._peers: dict[Peer, asyncio.Task[None]] = {}
         self._addresses: set[bytes] = set()
         self._turn = asyncio.Lock()
@@ -316,12 +321,18 @@ class Multiplexer:
                 task.cancel()
         while self._peers:
             await asyncio.wait(list(self._peers.values()))
-        for task in self._tasks:
-            task.cancel()
+        self._cancel_tasks()
         await self._backend.finish()
 
-    def abandon(self) -> None:
+    async def abandon(self) -> None:
         """Ends the server and the clients at once, whatever they wait for."""
+        self._stopping = True
+        self._cancel_tasks()
         for peer in list(self._peers):
             peer.cut()
         self._backend.kill()
+        await self._backend.ended.wait()
+
+    def _cancel_tasks(self) -> None:
+        for task in self._tasks:
+            task.cancel()

@@ -10,7 +10,7 @@ import sys
 from collections.abc import Sequence
 
 from xqs import listening
-from xqs.multiplexer import Multiplexer, Settings
+from xqs.multiplexer import Multiplexer, Settings, is_on_file
 from xqs.mux_backend import StartFailed
 
 USAGE = "xqs mux unix:PATH|tcp:PORT [OPTIONS] -- COMMAND [WORDS]"
@@ -98,7 +98,7 @@ async def drain(multiplexer: Multiplexer, again: asyncio.Event) -> None:
     hurried = asyncio.create_task(again.wait())
     await asyncio.wait([stopped, hurried], return_when=asyncio.FIRST_COMPLETED)
     if hurried.done():
-        multiplexer.abandon()
+        await multiplexer.abandon()
     hurried.cancel()
     await stopped
 
@@ -123,7 +123,7 @@ async def run(place: str, command: Sequence[str], settings: Settings) -> int:
         server.close()
         await drain(multiplexer, again)
     except BaseException:
-        multiplexer.abandon()
+        await multiplexer.abandon()
         raise
     return 1 if multiplexer.failed.is_set() else 0
 
@@ -141,7 +141,7 @@ def main(argv: Sequence[str] | None = None) -> int:
     arguments = parser.parse_args(words)
     if not command:
         parser.error(f"the command of the server stands after --, {EXAMPLE}")
-    if "--file" not in command:
+    if not is_on_file(command):
         say("the documents live in memory: they are lost whenever the server ends")
     try:
         return asyncio.run(run(arguments.place, command, settings_of(arguments)))

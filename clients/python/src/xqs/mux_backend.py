@@ -9,13 +9,14 @@ from collections.abc import Callable, Sequence
 
 from xqs import protocol
 from xqs.client import PIECE
+from xqs.errors import XqError
 from xqs.mux_peer import Request
 
 PROBE = b"Q()"
 """The kind and the body of the first frame: the server has opened its store when it answers."""
 
 
-class StartFailed(Exception):
+class StartFailed(XqError):
     """The server ended, or could not be run, before it answered its first frame."""
 
 
