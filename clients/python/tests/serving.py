@@ -96,7 +96,7 @@ class RunningMux:
         self.errors = self.folder / "errors"
         with self.errors.open("wb") as errors:
             self.process = subprocess.Popen(
-                [sys.executable, "-m", "xqs.mux", self.place, *options, "--", *self.command],
+                [sys.executable, "-m", "xqs", "mux", self.place, *options, "--", *self.command],
                 cwd=SOURCES, stdin=subprocess.DEVNULL, stdout=errors, stderr=errors)
         self.place = self.wait_for("listens at ").split()[0]
 

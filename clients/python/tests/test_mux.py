@@ -22,7 +22,7 @@ TEN_MILLION = b'let $x := "%s" return concat(%s)' % (b"x" * 1_000_000, b", ".joi
 
 def run_mux(*words: str) -> subprocess.CompletedProcess[str]:
     """Runs a multiplexer that is to end by itself."""
-    return subprocess.run([sys.executable, "-m", "xqs.mux", *words], cwd=SOURCES, text=True,
+    return subprocess.run([sys.executable, "-m", "xqs", "mux", *words], cwd=SOURCES, text=True,
                           capture_output=True, timeout=PATIENCE, check=False)
 
 
@@ -284,6 +284,35 @@ class RestartTest(MuxTest):
         self.assertIn("the server could not be started again", mux.said())
 
 
+class ShutTest(MuxTest):
+    """A server whose database shuts; `shutting_server.py` stands in for one."""
+
+    def test_a_server_whose_database_has_shut_is_started_again(self) -> None:
+        stand_in = [sys.executable, str(Path(__file__).with_name("shutting_server.py"))]
+        mux = self.enterContext(RunningMux(command=stand_in))
+        connection = self.client(mux)
+        self.assertEqual(connection.ask(b"S", store_body(b"full")), (WANTING, b"store"))
+        self.assertEqual(connection.ask(b"L"), (DONE, b"()"))
+        time.sleep(1)
+        self.assertNotIn("started again", mux.said())
+        self.assertEqual(connection.ask(b"S", store_body(b"shut")), (WANTING, b"store"))
+        mux.wait_for("the database has shut")
+        self.assertEqual(connection.ask(b"L"), (DONE, b"()"))
+        self.assertEqual(len(mux.server_ids()), 1)
+
+    def test_a_server_that_is_none_is_given_up(self) -> None:
+        reply = r"\0\0\0\7\0\0\0\1\0()"
+        mux = self.enterContext(RunningMux(command=["sh", "-c", f"printf '{reply}none'; sleep 60"]))
+        self.assertEqual(mux.process.wait(PATIENCE), 1)
+        self.assertIn("the server could not be started again", mux.said())
+
+    def test_a_reply_that_nobody_awaits_ends_its_server(self) -> None:
+        reply = r"\0\0\0\7\0\0\0\1\0()"
+        mux = self.enterContext(RunningMux(command=["sh", "-c", f"printf '{reply * 2}'; sleep 60"]))
+        self.assertEqual(mux.process.wait(PATIENCE), 1)
+        self.assertIn("ended by SIGKILL", mux.said())
+
+
 class EndTest(MuxTest):
     """Signals, and what stays after the end."""
 
@@ -366,7 +395,8 @@ class PlacesTest(MuxTest):
             self.assertEqual((place, ended.returncode), (place, 1))
 
     def test_wrong_words_and_servers_that_do_not_start(self) -> None:
-        self.assertEqual(run_mux("unix:/tmp/none").returncode, 2)
+        self.assertEqual(run_mux("--frames", "0", "unix:/tmp/none").returncode, 2)
+        self.assertEqual(run_mux("unix:/tmp/none", "--server", "unix:/tmp/other").returncode, 1)
         self.assertEqual(run_mux("unix:/tmp/none", "--seconds", "0", "--", "x").returncode, 2)
         absent = run_mux("unix:/tmp/none", "--", "/nowhere/server")
         self.assertEqual(absent.returncode, 1)

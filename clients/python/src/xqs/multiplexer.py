@@ -14,6 +14,8 @@ WANTING_STORE = bytes([Status.WANTING]) + b"store"
 READ_ONLY, TOO_SLOW = refusal("xqs:READONLY"), refusal("xqs:SECONDS")
 START_DELAYS = (0.0, 0.1, 0.5, 2.0)
 """Seconds before each try to start the server again; after the last the multiplexer gives up."""
+VAIN_STARTS = 4
+"""So many servers in turn may end before a client has sent them anything."""
 LOOK_AGAIN = 1.0
 """At most once in so many seconds the server is asked whether its database has shut."""
 BLAMELESS = 0.25
@@ -75,6 +77,7 @@ class Multiplexer:
         self._window = asyncio.Semaphore(settings.window)
         self._tasks: list[asyncio.Task[None]] = []
         self._stopping = False
+        self._vain_starts = 0
         self._looked = 0.0
         self._look: asyncio.Task[None] | None = None
         self._shut = asyncio.Event()
@@ -213,7 +216,8 @@ class Multiplexer:
         behind = self._settle(old, in_flight)
         if not self._on_file:
             self._lose_memory()
-        if not await self._start_again():
+        self._vain_starts = self._vain_starts + 1 if old.frames <= 1 else 0
+        if self._vain_starts == VAIN_STARTS or not await self._start_again():
             self._give_up()
         for request in behind:
             await self._send(request)

@@ -10,11 +10,12 @@ import sys
 from collections.abc import Sequence
 
 from xqs import listening
+from xqs.cli import connection_options, server_of
+from xqs.endpoints import Command
 from xqs.multiplexer import Multiplexer, Settings, is_on_file
-from xqs.mux_backend import StartFailed
 
-USAGE = "xqs mux unix:PATH|tcp:PORT [OPTIONS] -- COMMAND [WORDS]"
-EXAMPLE = "as in: xqs mux unix:xq.sock -- ./serve --file x.db"
+USAGE = "xqs mux [OPTIONS] unix:PATH|tcp:PORT [-- COMMAND [WORDS]]"
+EXAMPLE = "as is ./serve in: xqs mux unix:xq.sock -- ./serve --file x.db"
 DEFAULTS = Settings()
 
 
@@ -128,26 +129,34 @@ async def run(place: str, command: Sequence[str], settings: Settings) -> int:
     return 1 if multiplexer.failed.is_set() else 0
 
 
-def main(argv: Sequence[str] | None = None) -> int:
+def command_of(words: Sequence[str], given: argparse.Namespace) -> Sequence[str]:
+    """The command of the server: the words after `--`, or what the options say.
+
+    ValueError where that is no command.
+    """
+    place = Command(tuple(words)) if words else server_of(given)
+    if not isinstance(place, Command):
+        raise ValueError(f"one server is started here, and {place} is no command, {EXAMPLE}")
+    return place.words
+
+
+def main(words: Sequence[str] | None = None) -> int:
     """Runs `xqs mux` with these words; gives the exit status.
 
-    0 after a signal that ended it; 1 where the server cannot be started or nothing can listen at
-    the place; 2 for wrong words.
+    0 after a signal that ended it, 1 where the server was lost, 2 for wrong words. Raises XqError,
+    ValueError and OSError where it can't begin.
     """
-    words, command = split_command(sys.argv[1:] if argv is None else argv)
-    parser = argparse.ArgumentParser(prog="xqs mux", usage=USAGE, description=__doc__)
+    before, after = split_command(sys.argv[1:] if words is None else words)
+    parser = argparse.ArgumentParser(
+        prog="xqs mux", usage=USAGE, description=__doc__, parents=[connection_options()]
+    )
     parser.add_argument("place", metavar="unix:PATH|tcp:PORT", help="where clients connect")
     add_limits(parser)
-    arguments = parser.parse_args(words)
-    if not command:
-        parser.error(f"the command of the server stands after --, {EXAMPLE}")
+    given = parser.parse_args(before)
+    command = command_of(after, given)
     if not is_on_file(command):
         say("the documents live in memory: they are lost whenever the server ends")
-    try:
-        return asyncio.run(run(arguments.place, command, settings_of(arguments)))
-    except (StartFailed, listening.PlaceError) as error:
-        say(str(error))
-        return 1
+    return asyncio.run(run(given.place, command, settings_of(given)))
 
 
 if __name__ == "__main__":

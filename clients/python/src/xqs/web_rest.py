@@ -253,6 +253,7 @@ def _refused(refusal: HttpRefusal) -> web.Response:
 async def _add_headers(_: web.Request, response: web.StreamResponse) -> None:
     for name, value in HEADERS.items():
         response.headers.setdefault(name, value)
+    response.headers["Server"] = "xqs"
 
 
 def address_of(request: web.Request) -> str:
