@@ -134,7 +134,9 @@ class GuardTest(FolderTest):
         for host in ("127.0.0.1", "localhost:1", "[::1]", "[::1]:80", "LocalHost", "localhost:",
                      "archive.example:80"):
             check_host(host, names)
-        for host in (None, "", "evil.example", "127.0.0.2", "::1", "localhost.evil.example",
+        with self.assertRaises(HttpRefusal):
+            check_host(None, names)
+        for host in ("", "evil.example", "127.0.0.2", "::1", "localhost.evil.example",
                      "localhost:80:80", "a@localhost", "archive.example.evil.example"):
             with self.subTest(host=host), self.assertRaises(HttpRefusal):
                 check_host(host, names)

@@ -8,7 +8,8 @@ from xqs.values import Atom, Close, Event, Leaf, Open, events
 from xqs.web_status import HttpRefusal
 from xqs.xml_out import XmlWriter
 
-XML, TEXT_XML, XQUERY, JSON = "application/xml", "text/xml", "application/xquery", "application/json"
+XML, TEXT_XML = "application/xml", "text/xml"
+XQUERY, JSON = "application/xquery", "application/json"
 FORMS = (XML, TEXT_XML, XQUERY)
 """The forms of a value; the first is that of a request which asks for none."""
 LIST_FORMS = (*FORMS, JSON)
