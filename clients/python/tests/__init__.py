@@ -1,8 +1,9 @@
 """Tests of the client, over a real server.
 
-    cd clients/python && python3 -m unittest         or, from the root, tools/try_clients.sh
+    cd clients/python && python3 -m unittest
 
-`XQS_SERVER` names the command of the server, else it is the repository's ./serve.
+`XQS_SERVER` names the command of the server, else it is the repository's ./serve. `XQS_LONG=1` runs
+the tests that take long, too.
 """
 
 import sys

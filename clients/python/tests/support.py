@@ -18,6 +18,10 @@ LIBRARY = (
 """The document of docs/LANGUAGE.md's examples."""
 
 
+long_test = unittest.skipUnless(os.environ.get("XQS_LONG"), "it takes long; set XQS_LONG=1")
+"""For tests that take minutes, or gigabytes."""
+
+
 def server_command() -> list[str]:
     """The words that start a server with documents in memory."""
     return shlex.split(os.environ.get("XQS_SERVER", "")) or [str(TOP / "serve")]

@@ -1,0 +1,37 @@
+"""Addresses of documents that stand for a while: parts of a larger one, copies that are read."""
+
+import os
+import re
+import time
+
+PREFIX = "xqs.temporary/"
+"""How such an address begins; `xqs gc` drops those that a crash left."""
+_ADDRESS = re.compile(re.escape(PREFIX) + r"(\d{1,12})-[0-9a-f]+/\d+")
+
+
+class Temporary:
+    """A series of addresses that no other series has."""
+
+    def __init__(self) -> None:
+        self._start = f"{PREFIX}{int(time.time())}-{os.urandom(6).hex()}/"
+        self.count = 0
+
+    def next(self) -> str:
+        """An address that was not given before."""
+        self.count += 1
+        return f"{self._start}{self.count}"
+
+    def given(self) -> list[str]:
+        """All addresses that were given."""
+        return [f"{self._start}{number}" for number in range(1, self.count + 1)]
+
+
+def is_temporary(address: str) -> bool:
+    """Whether the address is kept for documents that stand for a while."""
+    return address.startswith(PREFIX)
+
+
+def age(address: str, now: float) -> float | None:
+    """How many seconds before `now` the series of the address began; None where it is in none."""
+    found = _ADDRESS.fullmatch(address)
+    return None if found is None else now - int(found[1])

@@ -1,0 +1,76 @@
+"""Names with a colon, which the server doesn't have, on the way in and on the way out."""
+
+from collections.abc import Callable
+from enum import StrEnum
+
+NAMESPACE = "xmlns"
+FLAT_COLON = "__"
+"""What stands for the colon in flat names: `p:a` is `p__a`, and `xmlns` is `xmlns__`."""
+
+
+class Names(StrEnum):
+    """What becomes of names with a colon, and of declarations of namespaces, on the way in."""
+
+    REFUSE = "refuse"
+    """The text is refused."""
+    FLAT = "flat"
+    """`p:a` is stored as `p__a`, and `xmlns` as `xmlns__`; to be turned back on the way out."""
+    LOCAL = "local"
+    """`p:a` is stored as `a`, and declarations are dropped; not to be turned back."""
+
+
+class NameFault(ValueError):
+    """A name that can't be stored under the choice that was made."""
+
+
+def is_declaration(name: str) -> bool:
+    """Whether an attribute of that name declares a namespace."""
+    return name == NAMESPACE or name.startswith(NAMESPACE + ":")
+
+
+def incoming(choice: Names) -> Callable[[str], str]:
+    """The function from a name of XML to the name that is stored; it raises NameFault."""
+    return {Names.REFUSE: _refused, Names.FLAT: _flat, Names.LOCAL: _local}[choice]
+
+
+def _refused(name: str) -> str:
+    if ":" in name or name == NAMESPACE:
+        raise NameFault(
+            f"the name {name} wants namespaces, which the server doesn't have; "
+            "the choices 'flat' and 'local' take it"
+        )
+    return name
+
+
+def _flat(name: str) -> str:
+    if FLAT_COLON in name:
+        raise NameFault(f"the name {name} has {FLAT_COLON}, which flat names keep for the colon")
+    if name == NAMESPACE:
+        return NAMESPACE + FLAT_COLON
+    if ":" not in name:
+        return name
+    prefix, local = _halves(name)
+    if prefix.endswith("_"):
+        raise NameFault(f"the prefix of {name} ends in _, so that flat names can't keep it apart")
+    return prefix + FLAT_COLON + local
+
+
+def _local(name: str) -> str:
+    return _halves(name)[1] if ":" in name else name
+
+
+def _halves(name: str) -> tuple[str, str]:
+    prefix, _, local = name.partition(":")
+    if not prefix or not local or ":" in local:
+        raise NameFault(f"the name {name} is not a prefix, a colon and a name")
+    return prefix, local
+
+
+def outgoing(name: str) -> str:
+    """The name of XML that a flat name stands for; a name that is not flat stays as it is."""
+    prefix, mark, local = name.partition(FLAT_COLON)
+    if not mark or not prefix:
+        return name
+    if local:
+        return f"{prefix}:{local}"
+    return prefix if prefix == NAMESPACE else name
