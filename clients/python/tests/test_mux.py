@@ -394,6 +394,13 @@ class PlacesTest(MuxTest):
             ended = run_mux(place, "--", *server_command())
             self.assertEqual((place, ended.returncode), (place, 1))
 
+    def test_a_request_of_http_is_refused(self) -> None:
+        for line in (b"POST / HTTP/1.1\r\n", b"GET / HTTP/1.1\r\n", b"OPTIONS * HTTP/1.1\r\n"):
+            connection = self.client(self.mux(place="tcp:0"))
+            connection.socket.sendall(line + b"Content-Length: 9\r\n\r\n\0\0\0\5\0\0\0\1L")
+            self.assertEqual(connection.reply(), (0, REFUSED, b"prof:LONG"))
+            self.assertIsNone(connection.reply())
+
     def test_wrong_words_and_servers_that_do_not_start(self) -> None:
         self.assertEqual(run_mux("--frames", "0", "unix:/tmp/none").returncode, 2)
         self.assertEqual(run_mux("unix:/tmp/none", "--server", "unix:/tmp/other").returncode, 1)

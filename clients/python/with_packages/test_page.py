@@ -108,6 +108,15 @@ class Results(PageTest):
         self.assertFalse(self.browser.evaluate("document.querySelector('#result').offsetParent"))
         self.picture("refusal")
 
+    def test_the_place_of_a_fault_can_be_gone_to(self) -> None:
+        self.open('let $a := "\U0001d11e" return\n  cuont($a)')
+        self.assertEqual(self.text("code"), "XPST0017")
+        self.assertIn("line 2, column 3: ", self.text("words"))
+        self.picture("place")
+        self.browser.evaluate("document.getElementById('place').click()")
+        self.assertEqual(self.browser.evaluate(
+            "[document.activeElement.id, getSelection().toString()]"), ["query", "c"])
+
     def test_markup_in_texts_shows_as_text(self) -> None:
         self.open('doc("hostile")')
         self.assertIn(f"{HOSTILE}</a>", self.rows()[1])

@@ -118,6 +118,20 @@ class Documents(WebTest):
         self.check(self.web.put("again", constructors, XQUERY), 201)
         self.check(self.web.ask("GET", asked('count(doc("again")//b)')), 200, "2400")
 
+    def test_a_document_larger_than_a_reply(self) -> None:
+        value = "&amp;" + "a long text " * 90_000
+        text = "<a>" + "".join(f'<b n="{n}">{value}</b>' for n in range(16)) + "</a>"
+        constructors = ", ".join(f'element b {{attribute n {{"{n}"}}, text {{"{value}"}}}}'
+                                 for n in range(16))
+        self.check(self.web.put("huge", text), 201)
+        got = self.web.ask("GET", "/rest/huge")
+        self.assertEqual((got.status, len(got.body), got.body == text), (200, len(text), True))
+        got = self.web.ask("GET", "/rest/huge", Accept=XQUERY)
+        self.assertTrue(got.body == f"document {{element a {{{constructors}}}}}")
+        self.check(self.web.ask("HEAD", "/rest/huge"), 200)
+        self.check(self.web.ask("GET", "/rest", Accept=XQUERY), 200, '"huge"')
+        self.check_refused(self.web.ask("GET", asked('doc("huge")')), 413, "prof:REPLY")
+
     def test_xml_that_is_refused(self) -> None:
         for text in ("<a>", "", "no XML", "<a/><b/>", BOMB):
             self.check_refused(self.web.put("x", text), 400, "xqs:REQUEST")
@@ -193,6 +207,13 @@ class Queries(WebTest):
         got = self.web.ask("PATCH", "/rest/a")
         self.check_refused(got, 405, "xqs:HTTP")
         self.assertIn("GET", got.headers["Allow"])
+
+    def test_the_place_of_a_fault_where_the_text_tells_it(self) -> None:
+        got = self.web.ask("GET", asked('let $a := 1\nreturn cout($a)', **{"$v": "x"}))
+        self.check_refused(got, 400, "XPST0017")
+        self.assertEqual(got.headers["Xqs-Place"], "2:8")
+        self.assertIn("\nline 2, column 8: ", got.body)
+        self.assertNotIn("Xqs-Place", self.web.ask("GET", asked("1 div 0")).headers)
 
     def test_forty_requests_at_once(self) -> None:
         results: list[str] = []

@@ -2,8 +2,9 @@
 
 import io
 import json
-from collections.abc import Sequence
+from collections.abc import Callable, Iterable, Sequence
 
+from xqs.constructors import ConstructorWriter
 from xqs.values import Atom, Close, Event, Leaf, Open, events
 from xqs.web_status import HttpRefusal
 from xqs.xml_out import XmlWriter
@@ -55,6 +56,15 @@ def as_xml(text: str, names: str) -> str:
     Misspelt where the text is no printed value.
     """
     return "\n".join(item for _, item in xml_items(text, names))
+
+
+def write_events(
+    steps: Iterable[Event], form: str, names: str, write: Callable[[str], object]
+) -> None:
+    """Writes the events of one document in a form, as they come."""
+    writer = ConstructorWriter(write) if form == XQUERY else XmlWriter(write, names)
+    for event in steps:
+        writer.event(event)
 
 
 def as_results(text: str, names: str) -> str:

@@ -45,6 +45,10 @@ class Asked:
             raise HttpRefusal(400, "xqs:REQUEST", f"{name} is not the name of a variable")
         self.variables[found[1]] = value
 
+    def is_whole(self) -> bool:
+        """Whether a whole document is asked for, and not some query about it."""
+        return self.text is None and not self.is_wrapped
+
     def query(self, address: str = "") -> str:
         """The query to be asked; of the document at an address, where one is given.
 

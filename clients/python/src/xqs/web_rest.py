@@ -3,6 +3,7 @@
 import asyncio
 import base64
 import hashlib
+import io
 import re
 import tempfile
 import time
@@ -16,6 +17,8 @@ from aiohttp import web
 
 from xqs import aio, client, protocol
 from xqs.endpoints import Endpoint
+from xqs.errors import Refused
+from xqs.fetch import document_events
 from xqs.stores import chunks_of, store_constructors, store_xml
 from xqs.web_forms import (
     FORMS,
@@ -29,10 +32,11 @@ from xqs.web_forms import (
     chosen,
     list_as_json,
     list_as_xml,
+    write_events,
 )
 from xqs.web_guard import CHANGES, NAMES, check_host, check_origin, check_token
 from xqs.web_query import Asked, choice, take_body
-from xqs.web_status import CODE, HttpRefusal, refusal_of
+from xqs.web_status import CODE, HttpRefusal, placed, refusal_of
 from xqs.xml_in import XmlChoices
 from xqs.xml_names import Names
 from xqs.xml_out import FLAT, KEEP
@@ -140,7 +144,7 @@ class Rest:
         policy = {"Content-Security-Policy": self._page_policy}
         return web.Response(text=self._page, content_type="text/html", headers=policy)
 
-    async def get_all(self, request: web.Request) -> web.Response:
+    async def get_all(self, request: web.Request) -> web.StreamResponse:
         """The answer to the query of the URL; the addresses, where there is none."""
         if request.query:
             return await self._answer(request, self._asked(request), "")
@@ -150,11 +154,11 @@ class Rest:
         spell = {JSON: list_as_json, XQUERY: _list_as_xquery}.get(form, list_as_xml)
         return web.Response(text=spell(addresses), content_type=form)
 
-    async def get(self, request: web.Request) -> web.Response:
+    async def get(self, request: web.Request) -> web.StreamResponse:
         """A document, or the answer to the query of the URL about it."""
         return await self._answer(request, self._asked(request), address_of(request))
 
-    async def post(self, request: web.Request) -> web.Response:
+    async def post(self, request: web.Request) -> web.StreamResponse:
         """The answer to the query of the body, about a document where there is an address."""
         asked = self._asked(request)
         body = await request.read()
@@ -174,18 +178,52 @@ class Rest:
             asked.take(name, value)
         return asked
 
-    async def _answer(self, request: web.Request, asked: Asked, address: str) -> web.Response:
+    async def _answer(
+        self, request: web.Request, asked: Asked, address: str
+    ) -> web.StreamResponse:
         form = chosen(request.headers.get("Accept"), FORMS)
         query = asked.query(address)
         async with self._client() as connection:
             begin = time.perf_counter()
-            text = await connection.query_text(query)
+            try:
+                text = await connection.query_text(query)
+            except Refused as error:
+                if error.code == "prof:REPLY" and address and asked.is_whole():
+                    return await self._answer_in_parts(request, asked, address, form)
+                raise placed(error, asked.text or "") from error
             took = time.perf_counter() - begin
         if form != XQUERY:
             spell = as_results if asked.is_wrapped else as_xml
             text = await in_thread_if(len(text) > SHORT, spell, text, asked.names)
         timing = {"Server-Timing": f"server;dur={took * 1000:.3f}"}
         return web.Response(text=text, content_type=form, headers=timing)
+
+    async def _answer_in_parts(
+        self, request: web.Request, asked: Asked, address: str, form: str
+    ) -> web.StreamResponse:
+        """A document that is too long for one reply, by way of a file."""
+        with tempfile.TemporaryFile() as file:
+            await asyncio.to_thread(self._fetch, address, form, asked.names, file)
+            response = web.StreamResponse()
+            response.content_type, response.charset = form, "utf-8"
+            response.content_length = file.tell()
+            file.seek(0)
+            await response.prepare(request)
+            while request.method != "HEAD" and (piece := file.read(SHORT)):
+                await response.write(piece)
+            await response.write_eof()
+            return response
+
+    def _fetch(self, address: str, form: str, names: str, file: BinaryIO) -> None:
+        text = io.TextIOWrapper(file, encoding="utf-8", newline="", write_through=True)
+        try:
+            with client.connect(self._place) as connection:
+                write_events(document_events(connection, address), form, names, text.write)
+        except Refused as error:
+            # What can't be copied, since nothing can be stored, can't be had in parts.
+            raise Refused("prof:REPLY") if error.code == "xqs:READONLY" else error from error
+        finally:
+            text.detach()
 
     async def put(self, request: web.Request) -> web.Response:
         """Stores a document of XML or of constructors; 201 where the address had none."""

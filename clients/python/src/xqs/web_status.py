@@ -3,6 +3,7 @@
 from collections.abc import Mapping
 from dataclasses import dataclass, field
 
+from xqs import places
 from xqs.errors import Closed, Refused, ReplyError, XqError
 from xqs.protocol import FrameFault
 
@@ -18,8 +19,9 @@ STATUSES = {
 """The status of each code that the server refuses with, where it is not BAD."""
 BAD, WANTING, UNKNOWN = 400, 503, 502
 RETRY = {"Retry-After": "1"}
-CODE = "Xqs-Code"
-"""The header that has the code of a refusal."""
+CODE, PLACE = "Xqs-Code", "Xqs-Place"
+"""The headers that have the code of a refusal, and the line and the column where a query is at
+fault, as far as its tokens tell."""
 
 
 @dataclass
@@ -57,6 +59,17 @@ def refusal_of(error: Exception, changes: bool) -> HttpRefusal | None:
         case ValueError():
             return HttpRefusal(BAD, "xqs:REQUEST", str(error))
     return None
+
+
+def placed(error: Refused, query: str) -> HttpRefusal:
+    """The refusal of a query, with the place of its fault where the text tells one."""
+    refusal = _told(error, STATUSES.get(error.code, BAD))
+    place = places.find(query, error.code)
+    if place is None:
+        return refusal
+    line, column = places.line_and_column(query, place.at)
+    sentence = f"{refusal.sentence}\nline {line}, column {column}: {place.why}"
+    return HttpRefusal(refusal.status, error.code, sentence, {PLACE: f"{line}:{column}"})
 
 
 def _told(error: ReplyError, status: int, headers: Mapping[str, str] = {}) -> HttpRefusal:
