@@ -8,7 +8,7 @@ import unittest
 from decimal import Decimal
 
 from tests.support import LIBRARY, FolderTest, ServerTest, server_command
-from xqs import Closed, FrameFault, Refused, Untyped, aio, connect, q
+from xqs import Closed, FrameFault, Item, Refused, Untyped, aio, connect, q
 from xqs.endpoints import Command, LoopbackPort, UnixSocket, endpoint
 
 
@@ -44,8 +44,8 @@ class Library(ServerTest):
     def test_values_of_ones_own_come_back_as_they_are(self) -> None:
         hostile = '") or doc("b")//* (: & &amp; \r\n\t " \' é日\U0001f600 :)'
         self.assertEqual(self.server.query(q("$a", a=hostile)), [hostile])
-        given = [-(2**63), 2**63 - 1, Decimal("-0.5"), Decimal("9" * 19 + ".999999"), False,
-                 Untyped("&")]
+        given: list[Item] = [-(2**63), 2**63 - 1, Decimal("-0.5"), Decimal("9" * 19 + ".999999"),
+                             False, Untyped("&")]
         self.assertEqual(self.server.query(q("$a", a=given)), given)
         self.server.store("b", LIBRARY)
         [book] = self.server.query(q("doc($a)//book[@id = $id]", a="b", id="2"))
@@ -125,7 +125,8 @@ def serve_one(listening: socket.socket) -> None:
     """Hands one connection to a server, and waits for its end."""
     connection, _ = listening.accept()
     with connection:
-        subprocess.run(server_command(), stdin=connection, stdout=connection, check=False)
+        subprocess.run(server_command(), stdin=connection.fileno(),
+                       stdout=connection.fileno(), check=False)
 
 
 class Asyncio(FolderTest):

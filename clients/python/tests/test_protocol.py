@@ -35,7 +35,8 @@ class Dialogue(unittest.TestCase):
 
     def test_replies_are_those_of_the_page(self) -> None:
         splitter = Splitter(protocol.MAX_REPLY)
-        replies = [(protocol.tag_of(it), it[4], it[5:]) for it in splitter.feed(dialogue("<"))]
+        messages = splitter.feed(dialogue("<"))
+        replies = [(protocol.tag_of(it), Status(it[4]), it[5:]) for it in messages]
         self.assertEqual(len(replies), 10)
         self.assertEqual(replies[0], (1, Status.DONE, b"()"))
         self.assertEqual(replies[-1], (0, Status.REFUSED, b"prof:LONG"))

@@ -73,8 +73,10 @@ class Queries(unittest.TestCase):
                          'let $a := """&amp;", $b := ((1), (100.0), (), true()) return ($a, $b\n)')
 
     def test_what_cannot_be_put_into_a_query(self) -> None:
-        for value in ("\0", "\ud800", "\ufffe", 2**63, -(2**63) - 1, Decimal("1e19"),
-                      Decimal("NaN"), Decimal("0.0000001")):
+        wrong: tuple[str | int | Decimal, ...] = ("\0", "\ud800", "\ufffe", 2**63, -(2**63) - 1,
+                                                  Decimal("1e19"), Decimal("NaN"),
+                                                  Decimal("0.0000001"))
+        for value in wrong:
             with self.subTest(value), self.assertRaises(ValueError):
                 q("$a", a=value)
         with self.assertRaises(TypeError):

@@ -250,8 +250,9 @@ class Stores(ServerTest):
         self.assertEqual(self.server.list(), [])
 
     def test_constructors_of_any_length(self) -> None:
-        text = "document {element a {" + ", ".join(
-            f'element b {{attribute n {{"{it}"}}, text {{"{"t" * 300}"}}}}' for it in range(6_000)) + "}}"
+        books = (f'element b {{attribute n {{"{it}"}}, text {{"{"t" * 300}"}}}}'
+                 for it in range(6_000))
+        text = "document {element a {" + ", ".join(books) + "}}"
         self.assertGreater(store_constructors(self.server, "x", text).parts, 1)
         self.assertEqual(self.server.query_text('doc("x")'), text)
         for wrong in ("element a {}", "1", "document {}, document {}", "document {document {}}",

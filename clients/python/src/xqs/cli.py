@@ -42,7 +42,7 @@ COMMANDS = {
     "load": Entry("xqs.load:main", "store the XML files of a folder"),
     "export": Entry("xqs.export:main", "write documents to a folder as files"),
     "backup": Entry("xqs.backup:main", "write all documents to one file"),
-    "restore": Entry("xqs.restore:main", "store the documents of a backup"),
+    "restore": Entry("xqs.backup:restore_main", "store the documents of a backup"),
     "gc": Entry("xqs.gc:main", "drop temporary documents that a crash left"),
     "shell": Entry("xqs.shell:main", "ask queries by hand"),
     "mux": Entry("xqs.mux:main", "one server for many clients"),

@@ -10,7 +10,7 @@ from typing import TypeAlias
 
 from xqs.values import Item, Node, Untyped, quoted
 
-Value: TypeAlias = Item | Iterable[Item] | None
+Value: TypeAlias = Item | Iterable[Item | None] | None
 """What a query can be given: an item, several, or none."""
 
 _NOT_XML = re.compile("[^\t\n\r\x20-\ud7ff\ue000-\ufffd\U00010000-\U0010ffff]")

@@ -13,17 +13,17 @@ class Temporary:
     """A series of addresses that no other series has."""
 
     def __init__(self) -> None:
-        self._start = f"{PREFIX}{int(time.time())}-{os.urandom(6).hex()}/"
+        self.start = f"{PREFIX}{int(time.time())}-{os.urandom(6).hex()}/"
         self.count = 0
 
     def next(self) -> str:
         """An address that was not given before."""
         self.count += 1
-        return f"{self._start}{self.count}"
+        return f"{self.start}{self.count}"
 
     def given(self) -> list[str]:
         """All addresses that were given."""
-        return [f"{self._start}{number}" for number in range(1, self.count + 1)]
+        return [f"{self.start}{number}" for number in range(1, self.count + 1)]
 
 
 def is_temporary(address: str) -> bool:

@@ -28,7 +28,7 @@ class XmlWriter:
         if names not in (KEEP, FLAT):
             raise ValueError(f"names are kept or flat, not {names!r}")
         self._write = write
-        self._name = outgoing if names == FLAT else str
+        self._name = outgoing if names == FLAT else _same
         self._open: list[str] = []
         self._in_tag = False
 
@@ -71,6 +71,10 @@ class XmlWriter:
         if kind is NodeKind.COMMENT:
             return f"<!--{value}-->"
         return f"<?{self._name(name)} {value}?>" if value else f"<?{self._name(name)}?>"
+
+
+def _same(name: str) -> str:
+    return name
 
 
 def _atom_text(atom: object) -> str:

@@ -1,0 +1,197 @@
+"""`xqs backup` and `xqs restore`: all documents as constructors in one file, and back.
+
+The file is text in UTF-8. Its first line names the form; then each document has a line `document
+BYTES SHA256 ADDRESS`, its constructor of so many bytes, and a line feed; the last line is `end
+COUNT`. The digest is that of the constructor as the server prints it.
+"""
+
+import argparse
+import hashlib
+import os
+import sys
+import tempfile
+from collections.abc import Iterator, Sequence
+from dataclasses import dataclass
+from pathlib import Path
+from typing import IO, BinaryIO
+
+from xqs.cli import connection_options, server_of
+from xqs.client import Client, connect
+from xqs.constructors import write_constructors
+from xqs.errors import Refused, XqError
+from xqs.fetch import document_events
+from xqs.stores import store_constructors
+from xqs.temporary import is_temporary
+
+FORM = b"xqs backup 1\n"
+_IN_MEMORY = 32_000_000
+_PIECE = 1 << 20
+
+
+class NoBackup(XqError, ValueError):
+    """A file that is no whole backup, or one that was changed."""
+
+
+@dataclass(frozen=True)
+class Entry:
+    """A document of a backup: its address, the digest of its constructor, and where that stands in
+    the file, in bytes."""
+
+    address: str
+    digest: str
+    start: int
+    size: int
+
+
+def digest_of(client: Client, address: str) -> str:
+    """The digest of a document, whatever its length."""
+    digest = hashlib.sha256()
+    write_constructors(
+        document_events(client, address), lambda text: digest.update(text.encode())
+    )
+    return digest.hexdigest()
+
+
+def back_up(client: Client, file: BinaryIO) -> int:
+    """Writes all documents but temporary ones; how many."""
+    file.write(FORM)
+    addresses = [it for it in client.list() if not is_temporary(it)]
+    for address in addresses:
+        _write_entry(client, address, file)
+    file.write(f"end {len(addresses)}\n".encode())
+    return len(addresses)
+
+
+def _write_entry(client: Client, address: str, file: BinaryIO) -> None:
+    digest = hashlib.sha256()
+    with tempfile.SpooledTemporaryFile(_IN_MEMORY) as held:
+
+        def write(text: str) -> None:
+            data = text.encode()
+            digest.update(data)
+            held.write(data)
+
+        write_constructors(document_events(client, address), write)
+        file.write(f"document {held.tell()} {digest.hexdigest()} {address}\n".encode())
+        held.seek(0)
+        _copy(held, file)
+    file.write(b"\n")
+
+
+def _copy(source: IO[bytes], target: BinaryIO) -> None:
+    while piece := source.read(_PIECE):
+        target.write(piece)
+
+
+def entries(file: BinaryIO) -> Iterator[Entry]:
+    """The documents of a backup, each judged by its digest; NoBackup."""
+    if file.readline() != FORM:
+        raise NoBackup("the file is no backup of this form")
+    count = 0
+    while (line := file.readline()).startswith(b"document "):
+        entry = _entry(line, file.tell())
+        if _digest(file, entry.size) != entry.digest or file.read(1) != b"\n":
+            raise NoBackup(f"the backup's document {entry.address} is cut or was changed")
+        yield entry
+        count += 1
+        file.seek(entry.start + entry.size + 1)
+    if line != f"end {count}\n".encode() or file.read(1):
+        raise NoBackup(f"the backup is cut, or goes on, after {count} documents")
+
+
+def _entry(line: bytes, start: int) -> Entry:
+    try:
+        _, size, digest, address = line.decode("ascii").removesuffix("\n").split(" ")
+        return Entry(address, digest, start, int(size))
+    except ValueError as error:
+        raise NoBackup(f"not a line of a backup: {line[:80]!r}") from error
+
+
+def _digest(file: BinaryIO, size: int) -> str:
+    digest = hashlib.sha256()
+    left = size
+    while left and (piece := file.read(min(left, _PIECE))):
+        digest.update(piece)
+        left -= len(piece)
+    return digest.hexdigest()
+
+
+def restore(client: Client, file: BinaryIO, replace: bool) -> int:
+    """Stores the documents of a backup, and reads each back; how many.
+
+    The whole file is judged before the first document is stored. NoBackup; ValueError where an
+    address has a document already, unless these are replaced; Refused and Wanting of the server.
+    """
+    wanted = list(entries(file))
+    there = set(client.list())
+    taken = [it.address for it in wanted if it.address in there]
+    if taken and not replace:
+        raise ValueError(
+            f"{len(taken)} addresses have a document already, as {taken[0]}; --replace replaces "
+            "them"
+        )
+    for entry in wanted:
+        file.seek(entry.start)
+        store_constructors(client, entry.address, file.read(entry.size).decode())
+        if digest_of(client, entry.address) != entry.digest:
+            raise NoBackup(f"the document {entry.address} does not read back as it was")
+    return len(wanted)
+
+
+def _check_against(client: Client, file: BinaryIO) -> list[str]:
+    """The addresses whose documents are no more as the backup has them."""
+    held = {it.address: it.digest for it in entries(file)}
+    now = {it for it in client.list() if not is_temporary(it)}
+    changed = [it for it in held if it in now and digest_of(client, it) != held[it]]
+    return sorted(changed) + sorted(held.keys() ^ now)
+
+
+def main(words: Sequence[str]) -> int:
+    """Carries out `xqs backup`."""
+    parser = argparse.ArgumentParser(
+        prog="xqs backup",
+        parents=[connection_options()],
+        description="Writes all documents to one file, and reads it back. Each document is of one "
+        "moment; what was changed meanwhile is told.",
+    )
+    parser.add_argument("backup", type=Path)
+    parser.add_argument("--force", action="store_true", help="replace a file that is there")
+    given = parser.parse_args(words)
+    if given.backup.exists() and not given.force:
+        raise FileExistsError(f"{given.backup} is there already; --force replaces it")
+    part = given.backup.with_name(given.backup.name + ".part")
+    try:
+        with connect(server_of(given)) as client, open(part, "w+b") as file:
+            count = back_up(client, file)
+            file.flush()
+            os.fsync(file.fileno())
+            file.seek(0)
+            changed = _check_against(client, file)
+        os.replace(part, given.backup)
+    finally:
+        part.unlink(missing_ok=True)
+    for address in changed:
+        print(f"{address}: was changed meanwhile")
+    print(f"{count} documents, {given.backup.stat().st_size:,} bytes", file=sys.stderr)
+    return 1 if changed else 0
+
+
+def restore_main(words: Sequence[str]) -> int:
+    """Carries out `xqs restore`."""
+    parser = argparse.ArgumentParser(
+        prog="xqs restore",
+        parents=[connection_options()],
+        description="Stores the documents of a backup, and reads each back. The whole file is "
+        "judged before the first one is stored; other documents stay as they are.",
+    )
+    parser.add_argument("backup", type=Path)
+    parser.add_argument("--replace", action="store_true", help="replace documents that are there")
+    given = parser.parse_args(words)
+    with connect(server_of(given)) as client, open(given.backup, "rb") as file:
+        try:
+            count = restore(client, file, given.replace)
+        except Refused as error:
+            print(f"xqs restore: {error.request}: {error}", file=sys.stderr)
+            return 1
+    print(f"{count} documents are restored, and read back the same", file=sys.stderr)
+    return 0

@@ -1,0 +1,66 @@
+"""Events as the constructors that the server prints, character by character."""
+
+from collections.abc import Callable, Iterable
+from dataclasses import dataclass
+
+from xqs.queries import literal
+from xqs.values import Atom, Close, Event, Leaf, NodeKind, Open, leaf, opening, quoted
+
+
+@dataclass
+class ConstructorWriter:
+    """Writes the text of items as their events come.
+
+    Texts that stand side by side below a node are written as one, as they are one when the node is
+    made; so what is written of a document is what the server prints of it.
+    """
+
+    write: Callable[[str], object]
+    _depth: int = 0
+    _is_first: bool = True
+    _in_text: bool = False
+
+    def event(self, event: Event) -> None:
+        """Writes the next event."""
+        if isinstance(event, Leaf) and event.kind is NodeKind.TEXT and self._depth:
+            self._text(event.value)
+            return
+        self._end_text()
+        if isinstance(event, Close):
+            self.write("}")
+            self._depth -= 1
+            self._is_first = False
+            return
+        self._comma()
+        if isinstance(event, Open):
+            self.write(opening(event.kind, event.name))
+            self._depth += 1
+            self._is_first = True
+        elif isinstance(event, Leaf):
+            self.write(leaf(event.kind, event.name, event.value))
+        elif isinstance(event, Atom):
+            self.write(literal(event.value))
+
+    def _text(self, value: str) -> None:
+        if not self._in_text:
+            self._comma()
+            self.write('text {"')
+            self._in_text = True
+        self.write(quoted(value)[1:-1])
+
+    def _end_text(self) -> None:
+        if self._in_text:
+            self.write('"}')
+            self._in_text = False
+
+    def _comma(self) -> None:
+        if not self._is_first:
+            self.write(", ")
+        self._is_first = False
+
+
+def write_constructors(events: Iterable[Event], write: Callable[[str], object]) -> None:
+    """Writes the text of a whole value."""
+    writer = ConstructorWriter(write)
+    for event in events:
+        writer.event(event)

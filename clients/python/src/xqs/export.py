@@ -1,0 +1,108 @@
+"""`xqs export`: writes documents to a folder, each as a file of XML or of constructors."""
+
+import argparse
+import os
+import sys
+from collections.abc import Callable, Iterator, Sequence
+from contextlib import contextmanager
+from pathlib import Path
+from typing import TextIO
+
+from xqs.cli import connection_options, server_of
+from xqs.client import Client, connect
+from xqs.constructors import write_constructors
+from xqs.errors import ReplyError
+from xqs.fetch import document_events
+from xqs.paths import NoPath, path_of
+from xqs.temporary import is_temporary
+from xqs.values import Event
+from xqs.xml_out import FLAT, KEEP, NotXml, write_document
+
+SUFFIX = {"xml": ".xml", "constructors": ".xq"}
+
+
+@contextmanager
+def written(path: Path) -> Iterator[TextIO]:
+    """A file that stands under its name once it is whole, and not at all where that fails."""
+    path.parent.mkdir(parents=True, exist_ok=True)
+    whole = path.with_name(f".{path.name[:200]}.{os.getpid()}.part")
+    try:
+        with open(whole, "w", encoding="utf-8", newline="") as file:
+            yield file
+        os.replace(whole, path)
+    finally:
+        whole.unlink(missing_ok=True)
+
+
+class Exporter:
+    """Writes documents below a folder."""
+
+    def __init__(self, client: Client, folder: Path, form: str, names: str, force: bool) -> None:
+        """`form` is `xml` or `constructors`; files that are there are replaced by `force` alone."""
+        self._client, self._folder = client, folder
+        self._form, self._names, self._force = form, names, force
+        self._taken: set[Path] = set()
+
+    def file_of(self, address: str, prefix: str) -> Path:
+        """The file of a document; NoPath where there can't be one."""
+        path = Path(path_of(address.removeprefix(prefix)))
+        if not path.suffix:
+            path = path.with_name(path.name + SUFFIX[self._form])
+        file = self._folder / path
+        if file in self._taken:
+            raise NoPath(f"another document has the file {path}")
+        if os.path.lexists(file) and not self._force:
+            raise NoPath(f"the file {path} is there already; --force replaces it")
+        return file
+
+    def export(self, address: str, prefix: str = "") -> Path:
+        """Writes a document, and gives its file. NoPath, NotXml, OSError, ReplyError."""
+        file = self.file_of(address, prefix)
+        with written(file) as out:
+            self._write(document_events(self._client, address), out.write)
+        self._taken.add(file)
+        return file
+
+    def _write(self, events: Iterator[Event], write: Callable[[str], object]) -> None:
+        if self._form == "xml":
+            write_document(events, write, self._names)
+        else:
+            write_constructors(events, write)
+            write("\n")
+
+
+def main(words: Sequence[str]) -> int:
+    """Carries out the command."""
+    given = _parser().parse_args(words)
+    refused = count = 0
+    with connect(server_of(given)) as client:
+        exporter = Exporter(client, given.folder, given.form, given.names, given.force)
+        for address in client.list():
+            if not address.startswith(given.prefix) or is_temporary(address):
+                continue
+            try:
+                exporter.export(address, given.prefix)
+                count += 1
+            except (NoPath, NotXml, OSError, ReplyError) as error:
+                refused += 1
+                print(f"{address}: {error}")
+    print(f"{count} written, {refused} refused", file=sys.stderr)
+    return 1 if refused else 0
+
+
+def _parser() -> argparse.ArgumentParser:
+    words = argparse.ArgumentParser(
+        prog="xqs export",
+        parents=[connection_options()],
+        description="Writes documents below a folder, each by its address. Each is of one moment; "
+        "all of them together are, where nobody stores or drops meanwhile.",
+        epilog="Status 0: all are written; 1: some are refused, and listed with the reason.",
+    )
+    words.add_argument("folder", type=Path)
+    words.add_argument("--prefix", default="", help="those alone whose address begins so; it is "
+                       "left out of the names of files")
+    words.add_argument("--form", choices=list(SUFFIX), default="xml")
+    words.add_argument("--names", choices=[KEEP, FLAT], default=KEEP,
+                       help="flat turns p__a back into p:a, as 'load --names flat' made it")
+    words.add_argument("--force", action="store_true", help="replace files that are there")
+    return words

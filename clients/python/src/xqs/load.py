@@ -1,0 +1,248 @@
+"""`xqs load`: stores the XML files of a folder, resumes after a kill, and lists what is refused."""
+
+import argparse
+import json
+import os
+import stat
+import sys
+from collections.abc import Iterable, Iterator, Sequence
+from dataclasses import dataclass, field
+from fnmatch import fnmatch
+from pathlib import Path
+
+from xqs.cli import connection_options, is_lasting, server_of
+from xqs.client import Client, connect
+from xqs.errors import Closed, Wanting, XqError
+from xqs.journal import Journal, default_place
+from xqs.parts import Part
+from xqs.paths import address_of
+from xqs.progress import Progress
+from xqs.stores import Sender, chunks_of, xml_parts
+from xqs.temporary import Temporary, is_temporary
+from xqs.window import Window
+from xqs.xml_in import XmlChoices, XmlReader
+from xqs.xml_names import Names
+
+STORED = "stored"
+
+
+@dataclass(frozen=True)
+class Found:
+    """A file below the folder: its path there with `/` between names, and what it is."""
+
+    path: str
+    place: Path
+    stat: os.stat_result
+
+
+@dataclass
+class Outcome:
+    """What became of a load: how many files are stored, those that are refused with the reason of
+    each, and those that failed for want of memory or store, which a later run tries again."""
+
+    stored: int = 0
+    refused: dict[str, str] = field(default_factory=dict)
+    failed: dict[str, str] = field(default_factory=dict)
+
+
+def find(folder: Path, patterns: Sequence[str]) -> Iterator[Found]:
+    """The regular files below a folder whose name matches a pattern, sorted by path."""
+    for place, folders, names in os.walk(folder):
+        folders.sort()
+        for name in sorted(it for it in names if any(fnmatch(it, one) for one in patterns)):
+            file = Path(place) / name
+            try:
+                found = file.stat()
+            except OSError:
+                continue
+            if stat.S_ISREG(found.st_mode):
+                yield Found(file.relative_to(folder).as_posix(), file, found)
+
+
+class Loader:
+    """Stores files through one client."""
+
+    def __init__(
+        self, client: Client, journal: Journal, progress: Progress, prefix: str, choices: XmlChoices
+    ) -> None:
+        self._window = Window()
+        self._sender = Sender(client, self._window)
+        self._journal, self._progress = journal, progress
+        self._prefix, self._choices = prefix, choices
+        self._there = set(client.list())
+        self.outcome = Outcome()
+
+    def load(self, files: Iterable[Found]) -> Outcome:
+        """Stores the files that the journal doesn't have yet. Closed where the server ends."""
+        try:
+            for file in files:
+                if not self._is_done(file):
+                    self._store(file)
+                self._window.poll()
+        finally:
+            self._window.drain()
+        return self.outcome
+
+    def _is_done(self, file: Found) -> bool:
+        result = self._journal.result(file.path, file.stat)
+        if result is None:
+            return False
+        if result != STORED:
+            self.outcome.refused[file.path] = result
+        elif address_of(file.path, self._prefix) not in self._there:
+            return False
+        self._progress.skip(file.stat.st_size)
+        return True
+
+    def _store(self, file: Found) -> None:
+        def done(answer: str | BaseException) -> None:
+            if isinstance(answer, Closed):
+                return
+            self._note(file, answer)
+
+        temporary = Temporary()
+        try:
+            address = address_of(file.path, self._prefix)
+            reader = XmlReader(file.path, temporary, self._choices)
+            with open(file.place, "rb") as data:
+                parts = self._noted(xml_parts(reader, chunks_of(data)), temporary)
+                self._sender.send(address, parts, lambda: reader.whole, temporary, done)
+        except Closed:
+            raise
+        except (XqError, ValueError, OSError) as error:
+            self._note(file, error)
+
+    def _noted(self, parts: Iterator[Part], temporary: Temporary) -> Iterator[Part]:
+        """The parts; that there are some goes to the journal before the first one is sent."""
+        for number, part in enumerate(parts):
+            if number == 0:
+                self._journal.add_temporary(temporary.start)
+            yield part
+
+    def _note(self, file: Found, answer: str | BaseException) -> None:
+        is_refused = isinstance(answer, BaseException)
+        if isinstance(answer, Wanting):
+            self.outcome.failed[file.path] = str(answer)
+        elif isinstance(answer, BaseException):
+            self.outcome.refused[file.path] = _reason(file, answer)
+            self._journal.add(file.path, file.stat, self.outcome.refused[file.path])
+        else:
+            self.outcome.stored += 1
+            self._journal.add(file.path, file.stat, STORED)
+        self._progress.step(file.stat.st_size, is_refused)
+
+
+def _reason(file: Found, error: BaseException) -> str:
+    """Why a file is refused; a place in it stands in front."""
+    if isinstance(error, OSError):
+        return error.strerror or str(error)
+    return str(error).removeprefix(file.path)
+
+
+def parser() -> argparse.ArgumentParser:
+    """The words of the command."""
+    words = argparse.ArgumentParser(
+        prog="xqs load",
+        parents=[connection_options()],
+        description="Stores the XML files below a folder, each under the folder's prefix and its "
+        "path. What is interrupted goes on where it stopped, when the same is called again.",
+        epilog="Status 0: all are stored; 1: some are refused, and listed with reason and place.",
+    )
+    words.add_argument("folder", type=Path)
+    words.add_argument("--as", dest="prefix", default="", help="what addresses begin with")
+    words.add_argument(
+        "--match", action="append", metavar="PATTERN", help="names of files (default *.xml)"
+    )
+    xml_options(words)
+    words.add_argument("--journal", type=Path, help="where the journal lies, until all is done")
+    words.add_argument("--anew", action="store_true", help="begin anew in spite of a journal")
+    return words
+
+
+def xml_options(words: argparse.ArgumentParser) -> None:
+    """Adds the options of reading XML."""
+    words.add_argument(
+        "--names",
+        choices=[it.value for it in Names],
+        default=Names.REFUSE.value,
+        help="names with a colon: refuse the file (default), flat (p:a as p__a, turned back by "
+        "'--names flat' on the way out), or local (a alone)",
+    )
+    words.add_argument("--strip", action="store_true", help="drop texts of white space")
+    words.add_argument("--entities", action="store_true", help="expand entities of the file's own")
+
+
+def xml_choices(given: argparse.Namespace) -> XmlChoices:
+    """The choices that the options name."""
+    return XmlChoices(Names(given.names), given.strip, given.entities)
+
+
+def _head(given: argparse.Namespace, where: str) -> dict[str, str]:
+    """The first line of the journal: what is loaded, where to, and how."""
+    choices = f"names {given.names}, strip {given.strip}, entities {given.entities}"
+    return {
+        "load": str(given.folder.resolve()),
+        "as": given.prefix,
+        "to": where,
+        "match": " ".join(given.match),
+        "choices": choices,
+    }
+
+
+def main(words: Sequence[str]) -> int:
+    """Carries out the command."""
+    given = parser().parse_args(words)
+    given.match = given.match or ["*.xml"]
+    if given.prefix and not given.prefix.endswith("/"):
+        given.prefix += "/"
+    if is_temporary(given.prefix):
+        raise ValueError(f"{given.prefix} is kept for temporary documents")
+    if not given.folder.is_dir():
+        raise NotADirectoryError(f"no folder: {given.folder}")
+    place = server_of(given)
+    if not is_lasting(place):
+        print("xqs load: the documents are gone when this command ends: name a --file, or a "
+              "server that goes on", file=sys.stderr)
+    head = _head(given, str(place))
+    files = list(find(given.folder, given.match))
+    journal = Journal(given.journal or default_place(json.dumps(head)), head, given.anew)
+    progress = Progress(len(files), sum(it.stat.st_size for it in files))
+    try:
+        with connect(place) as client:
+            _drop_left(client, journal.temporary)
+            loader = Loader(client, journal, progress, given.prefix, xml_choices(given))
+            outcome = loader.load(files)
+    except (Closed, KeyboardInterrupt) as error:
+        progress.clear()
+        journal.close()
+        print(f"xqs load: {error or 'interrupted'}; the same call goes on from here, by "
+              f"{journal.path}", file=sys.stderr)
+        return 1
+    progress.clear()
+    if outcome.failed:
+        journal.close()
+    else:
+        journal.finish()
+    return _report(outcome, progress)
+
+
+def _drop_left(client: Client, starts: list[str]) -> None:
+    """Drops what a run before this one left under temporary addresses."""
+    if not starts:
+        return
+    for address in client.list():
+        if address.startswith(tuple(starts)):
+            client.drop(address)
+
+
+def _report(outcome: Outcome, progress: Progress) -> int:
+    wrong = {**outcome.refused, **outcome.failed}
+    for path, why in sorted(wrong.items()):
+        print(f"{path}{why}" if why.startswith(":") else f"{path}: {why}")
+    before = f", {progress.skipped} were done before" if progress.skipped else ""
+    print(
+        f"{outcome.stored} stored, {len(outcome.refused)} refused, {len(outcome.failed)} failed"
+        f"{before}; {progress.bytes / 1e6:.1f} MB in {progress.seconds:.1f} s",
+        file=sys.stderr,
+    )
+    return 1 if wrong else 0

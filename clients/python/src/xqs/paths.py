@@ -1,0 +1,57 @@
+"""Addresses of files, and files of addresses, so that a folder that is loaded and exported again
+has the same names.
+
+An address has letters, digits and `. _ / -` alone. Any other character of a file's name is written
+by its number, as in `_x0020_` for a space (the escapes of ISO 9075-14); and so is the `_` of a name
+that has such a text itself.
+"""
+
+import re
+from pathlib import PurePosixPath
+
+from xqs import protocol
+
+_ESCAPED = re.compile(r"_x([0-9A-F]{4,6})_")
+_TO_ESCAPE = re.compile(r"[^A-Za-z0-9._/-]|_(?=x[0-9A-F]{4,6}_)")
+_LONGEST_NAME = 255
+
+
+class NoPath(ValueError):
+    """An address that no file below a folder can stand for."""
+
+
+def _by_number(found: re.Match[str]) -> str:
+    return f"_x{ord(found[0]):04X}_"
+
+
+def _character(found: re.Match[str]) -> str:
+    number = int(found[1], 16)
+    return chr(number) if number < 0x110000 else found[0]
+
+
+def address_of(path: str, prefix: str = "") -> str:
+    """The address of a file, by its path below the folder, with `/` between names.
+
+    ValueError where it would be too long.
+    """
+    address = prefix + _TO_ESCAPE.sub(_by_number, path)
+    if len(address) > protocol.MAX_ADDRESS:
+        raise ValueError(f"its address would have {len(address)} bytes, over the limit of 200")
+    return address
+
+
+def path_of(address: str) -> PurePosixPath:
+    """The path of the file below a folder that stands for an address.
+
+    NoPath where the address begins or ends with a slash, holds `.`, `..` or nothing between two
+    slashes, or would be another one when that file is loaded.
+    """
+    path = _ESCAPED.sub(_character, address)
+    if _TO_ESCAPE.sub(_by_number, path) != address:
+        raise NoPath(f"{address} has an escape that its file would not be loaded with")
+    names = path.split("/")
+    if "" in names or "." in names or ".." in names or "\0" in path:
+        raise NoPath(f"{address} is no path below a folder")
+    if any(len(name.encode("utf-8", "surrogatepass")) > _LONGEST_NAME for name in names):
+        raise NoPath(f"{address} has a name over 255 bytes")
+    return PurePosixPath(path)
