@@ -12,7 +12,7 @@ from xqs.protocol import Kind, Status
 
 WANTING_STORE = bytes([Status.WANTING]) + b"store"
 READ_ONLY, TOO_SLOW = refusal("xqs:READONLY"), refusal("xqs:SECONDS")
-START_DELAYS = (0.0, 0.1, 0.5, 2.0)
+START_DELAYS = (0.0, 0.1, 0.5, 1.0, 2.0)
 """Seconds before each try to start the server again; after the last the multiplexer gives up."""
 VAIN_STARTS = 4
 """So many servers in turn may end before a client has sent them anything."""
