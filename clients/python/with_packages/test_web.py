@@ -348,6 +348,19 @@ class Ends(WebTest):
             self.check_refused(web.put("a", BOOK), 403, "xqs:READONLY")
             self.check_refused(web.delete("a"), 403, "xqs:READONLY")
 
+    def test_a_second_signal_ends_at_once(self) -> None:
+        with RunningWeb() as web:
+            answers: list[Answer] = []
+            thread = threading.Thread(target=lambda: answers.append(web.ask("GET", asked(ENDLESS))))
+            thread.start()
+            time.sleep(0.5)
+            web.process.terminate()
+            time.sleep(0.3)
+            self.assertIsNone(web.process.poll())
+            self.assertEqual(web.terminate(), 0)
+            thread.join(PATIENCE)
+            self.check_refused(answers[0], 503, "xqs:CLOSED")
+
     def test_sigterm_ends_it_after_the_answers(self) -> None:
         with RunningWeb() as web:
             answers: list[Answer] = []

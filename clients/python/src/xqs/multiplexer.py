@@ -82,7 +82,6 @@ class Multiplexer:
         self._look: asyncio.Task[None] | None = None
         self._shut = asyncio.Event()
         self.failed = asyncio.Event()
-        self.starts = 0
 
     async def start(self) -> None:
         """Starts the server. Raises StartFailed where it does not answer."""
@@ -93,17 +92,12 @@ class Multiplexer:
     async def _begin_backend(self) -> None:
         self._backend = await Backend.start(
             self._command, self._on_reply, self._settings.seconds)
-        self.starts += 1
-
-    @property
-    def backend(self) -> Backend:
-        """The server that runs now."""
-        return self._backend
 
     async def serve(self, reader: asyncio.StreamReader, writer: asyncio.StreamWriter) -> None:
         """Serves one connection up to its end; what `asyncio.start_server` calls."""
         if self._stopping or len(self._peers) >= self._settings.clients:
-            self._say(f"a client more than {self._settings.clients}: it is turned away")
+            if not self._stopping:
+                self._say(f"a client more than {self._settings.clients}: it is turned away")
             writer.close()
             return
         peer = Peer(reader, writer, self._settings.client_window, self._settings.unread)
@@ -327,6 +321,11 @@ class Multiplexer:
             await asyncio.wait(list(self._peers.values()))
         self._cancel_tasks()
         await self._backend.finish()
+
+    async def abandon_when(self, event: asyncio.Event) -> None:
+        """Waits for an event, and then ends the server and the clients at once."""
+        await event.wait()
+        await self.abandon()
 
     async def abandon(self) -> None:
         """Ends the server and the clients at once, whatever they wait for."""

@@ -19,9 +19,10 @@ EXAMPLE = "as is ./serve in: xqs mux unix:xq.sock -- ./serve --file x.db"
 DEFAULTS = Settings()
 
 
-def say(text: str) -> None:
-    """Prints a line for whoever runs the multiplexer."""
-    print(f"xqs mux: {text}", file=sys.stderr, flush=True)
+def say(text: str, command: str = "mux") -> None:
+    """Prints a line for whoever runs the command; nothing, where nobody reads it any more."""
+    with contextlib.suppress(OSError):
+        print(f"xqs {command}: {text}", file=sys.stderr, flush=True)
 
 
 def positive(text: str) -> int:
@@ -78,30 +79,17 @@ def split_command(argv: Sequence[str]) -> tuple[list[str], list[str]]:
     return words[:at], words[at + 1:]
 
 
-async def until_signal(failed: asyncio.Event) -> asyncio.Event:
-    """Waits for SIGTERM, SIGINT or a failure; gives an event for the next signal after that."""
+async def until_signal(failed: asyncio.Event, again: asyncio.Event) -> None:
+    """Waits for SIGTERM, SIGINT or a failure; the next signal after that sets `again`."""
     loop = asyncio.get_running_loop()
-    first, second = asyncio.Event(), asyncio.Event()
+    first = asyncio.Event()
     for number in (signal.SIGTERM, signal.SIGINT):
-        loop.add_signal_handler(
-            number, lambda: second.set() if first.is_set() else first.set())
+        loop.add_signal_handler(number, lambda: again.set() if first.is_set() else first.set())
     waits = [asyncio.create_task(event.wait()) for event in (first, failed)]
     await asyncio.wait(waits, return_when=asyncio.FIRST_COMPLETED)
     for task in waits:
         task.cancel()
     first.set()
-    return second
-
-
-async def drain(multiplexer: Multiplexer, again: asyncio.Event) -> None:
-    """Stops a multiplexer: in order, or at once when `again` is set meanwhile."""
-    stopped = asyncio.create_task(multiplexer.stop())
-    hurried = asyncio.create_task(again.wait())
-    await asyncio.wait([stopped, hurried], return_when=asyncio.FIRST_COMPLETED)
-    if hurried.done():
-        await multiplexer.abandon()
-    hurried.cancel()
-    await stopped
 
 
 async def run(place: str, command: Sequence[str], settings: Settings) -> int:
@@ -111,7 +99,8 @@ async def run(place: str, command: Sequence[str], settings: Settings) -> int:
     """
     multiplexer = Multiplexer(command, settings, say)
     await multiplexer.start()
-    listener: socket.socket | None = None
+    again = asyncio.Event()
+    hurried = asyncio.create_task(multiplexer.abandon_when(again))
     try:
         listener = listening.listen(place)
         with contextlib.ExitStack() as stack:
@@ -120,9 +109,10 @@ async def run(place: str, command: Sequence[str], settings: Settings) -> int:
                 stack.callback(listening.remove, listener, identity)
             server = await asyncio.start_server(multiplexer.serve, sock=listener)
             say(f"listens at {listening.name_of(listener)}")
-            again = await until_signal(multiplexer.failed)
+            await until_signal(multiplexer.failed, again)
         server.close()
-        await drain(multiplexer, again)
+        await multiplexer.stop()
+        hurried.cancel()
     except BaseException:
         await multiplexer.abandon()
         raise

@@ -7,11 +7,12 @@ import tempfile
 from collections.abc import AsyncIterator, Sequence
 from contextlib import asynccontextmanager
 from dataclasses import replace
+from functools import partial
 from pathlib import Path
 
 from aiohttp import web
 
-from xqs import listening
+from xqs import listening, mux
 from xqs.cli import connection_options, server_of
 from xqs.endpoints import Command, Endpoint, UnixSocket
 from xqs.multiplexer import Multiplexer, Settings, is_on_file
@@ -24,25 +25,24 @@ USAGE = "xqs web [OPTIONS] [-- COMMAND [WORDS]]"
 DEFAULTS = WebSettings()
 
 
-def say(text: str) -> None:
-    """Prints a line for whoever runs this."""
-    print(f"xqs web: {text}", file=sys.stderr, flush=True)
+say = partial(mux.say, command="web")
 
 
 @asynccontextmanager
 async def multiplexed(
-    place: Endpoint, settings: Settings
+    place: Endpoint, settings: Settings, again: asyncio.Event
 ) -> AsyncIterator[tuple[Endpoint, asyncio.Event]]:
     """Where requests can be sent at once, and what is set when no server is left.
 
-    A command is started below a multiplexer, behind a socket that only its owner can open. Raises
-    StartFailed.
+    A command is started below a multiplexer, behind a socket that only its owner can open; it ends
+    in order, or at once when `again` is set. Raises StartFailed.
     """
     if not isinstance(place, Command):
         yield place, asyncio.Event()
         return
     multiplexer = Multiplexer(place.words, settings, say)
     await multiplexer.start()
+    hurried = asyncio.create_task(multiplexer.abandon_when(again))
     with tempfile.TemporaryDirectory(prefix="xqs-web-") as folder:
         path = f"{folder}/server"
         listener = await asyncio.start_unix_server(multiplexer.serve, path)
@@ -53,6 +53,7 @@ async def multiplexed(
             raise
         listener.close()
         await multiplexer.stop()
+        hurried.cancel()
 
 
 async def run(where: str, place: Endpoint, settings: Settings, options: WebSettings) -> int:
@@ -60,7 +61,8 @@ async def run(where: str, place: Endpoint, settings: Settings, options: WebSetti
 
     Raises PlaceError, StartFailed.
     """
-    async with multiplexed(place, settings) as (server, failed):
+    again = asyncio.Event()
+    async with multiplexed(place, settings, again) as (server, failed):
         application = Rest(server, options).application()
         runner = web.AppRunner(
             application, access_log=None, max_line_size=MAX_LINE, max_field_size=MAX_LINE
@@ -70,7 +72,7 @@ async def run(where: str, place: Endpoint, settings: Settings, options: WebSetti
             listener = listening.listen(f"tcp:{where}")
             await web.SockSite(runner, listener).start()
             say(f"listens at http://{listening.name_of(listener).removeprefix('tcp:')}/")
-            await until_signal(failed)
+            await until_signal(failed, again)
         finally:
             await runner.cleanup()
     return 1 if failed.is_set() else 0

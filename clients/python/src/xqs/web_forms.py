@@ -62,9 +62,9 @@ def write_events(
     steps: Iterable[Event], form: str, names: str, write: Callable[[str], object]
 ) -> None:
     """Writes the events of one document in a form, as they come."""
-    writer = ConstructorWriter(write) if form == XQUERY else XmlWriter(write, names)
+    put = ConstructorWriter(write).event if form == XQUERY else XmlWriter(write, names).event
     for event in steps:
-        writer.event(event)
+        put(event)
 
 
 def as_results(text: str, names: str) -> str:

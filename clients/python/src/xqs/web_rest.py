@@ -1,16 +1,12 @@
 """Documents by HTTP, under BaseX's paths: /rest, /rest/ADDRESS, and a page at /."""
 
 import asyncio
-import base64
-import hashlib
 import io
-import re
 import tempfile
 import time
 from collections.abc import AsyncIterator, Awaitable, Callable
 from contextlib import asynccontextmanager
 from dataclasses import dataclass
-from importlib import resources
 from typing import BinaryIO, TypeVar, cast
 
 from aiohttp import web
@@ -35,6 +31,7 @@ from xqs.web_forms import (
     write_events,
 )
 from xqs.web_guard import CHANGES, NAMES, check_host, check_origin, check_token
+from xqs.web_page import page
 from xqs.web_query import Asked, choice, take_body
 from xqs.web_status import CODE, HttpRefusal, placed, refusal_of
 from xqs.xml_in import XmlChoices
@@ -203,7 +200,7 @@ class Rest:
     ) -> web.StreamResponse:
         """A document that is too long for one reply, by way of a file."""
         with tempfile.TemporaryFile() as file:
-            await asyncio.to_thread(self._fetch, address, form, asked.names, file)
+            await asyncio.to_thread(self._fetch, address, form, asked.names, cast(BinaryIO, file))
             response = web.StreamResponse()
             response.content_type, response.charset = form, "utf-8"
             response.content_length = file.tell()
@@ -320,21 +317,3 @@ def decoded(body: bytes) -> str:
         return body.decode()
     except UnicodeDecodeError as error:
         raise HttpRefusal(400, "prof:UTF8", str(error)) from error
-
-
-def page() -> tuple[str, str]:
-    """The page, and the policy by which a browser runs its own script and style and no other."""
-    text = resources.files("xqs").joinpath("page.html").read_text(encoding="utf-8")
-    policy = (
-        "default-src 'none'; connect-src 'self'; img-src data:; base-uri 'none'; "
-        f"form-action 'none'; frame-ancestors 'none'; script-src {_digest(text, 'script')}; "
-        f"style-src {_digest(text, 'style')}; require-trusted-types-for 'script'"
-    )
-    return text, policy
-
-
-def _digest(text: str, element: str) -> str:
-    found = re.search(rf"<{element}>(.*?)</{element}>", text, re.DOTALL)
-    content = found[1] if found else ""
-    digest = hashlib.sha256(content.encode()).digest()
-    return f"'sha256-{base64.b64encode(digest).decode()}'"
