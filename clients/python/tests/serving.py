@@ -144,4 +144,6 @@ class RunningMux:
             except subprocess.TimeoutExpired:
                 self.process.kill()
                 self.process.wait()
+        said = self.said()
         self._folder.cleanup()
+        assert "Traceback" not in said and "exception" not in said, said

@@ -1,6 +1,7 @@
 """The multiplexer before the server of XQS_SERVER: frames, limits, ends and restarts."""
 
 import os
+import random
 import signal
 import socket
 import stat
@@ -92,6 +93,36 @@ class FramesTest(MuxTest):
         self.assertEqual(connection.ask(b"Q", text), (DONE, text))
         reply = connection.ask(b"Q", TEN_MILLION)
         self.assertEqual(reply and len(reply[1]), 10_000_002)
+
+
+class HostileTest(MuxTest):
+    """Connections that are nobody's program."""
+
+    def test_bytes_of_chance_and_ends_of_chance(self) -> None:
+        chance = random.Random(50)
+        mux = self.mux("--clients", "1000")
+        for _ in range(300):
+            connection = self.client(mux)
+            data = chance.randbytes(chance.choice([0, 1, 3, 4, 5, 8, 9, 200, 70_000]))
+            if chance.random() < 0.7:
+                data = struct.pack(">I", chance.choice([0, 4, 5, 9, len(data), 1_048_832])) + data
+            try:
+                connection.socket.sendall(data)
+                if chance.random() < 0.3:
+                    connection.socket.shutdown(socket.SHUT_WR)
+            except OSError:
+                pass
+            if chance.random() < 0.5:
+                connection.socket.close()
+        self.assertEqual(self.client(mux).ask(b"Q", b"1"), (DONE, b"1"))
+
+    def test_clients_that_go_before_their_replies(self) -> None:
+        mux = self.mux("--window", "3", "--client-window", "2")
+        for number in range(60):
+            with mux.connect() as connection:
+                for _ in range(number % 5):
+                    connection.send(b"Q", b"count((1 to 20000)[. mod 2 = 0])")
+        self.assertEqual(self.client(mux).ask(b"Q", b"1"), (DONE, b"1"))
 
 
 class ManyClientsTest(MuxTest):

@@ -104,4 +104,6 @@ class RunningWeb:
             except subprocess.TimeoutExpired:
                 self.process.kill()
                 self.process.wait()
+        said = self.said()
         self._folder.cleanup()
+        assert "Traceback" not in said and "exception" not in said, said

@@ -266,7 +266,7 @@ class Policy(PageTest):
                             "rgb(255, 0, 0)")
 
     def test_a_page_of_elsewhere_gets_nothing(self) -> None:
-        elsewhere = http.server.HTTPServer(("127.0.0.1", 0), Elsewhere)
+        elsewhere = http.server.ThreadingHTTPServer(("127.0.0.1", 0), Elsewhere)
         thread = threading.Thread(target=elsewhere.serve_forever)
         thread.start()
         self.addCleanup(thread.join)

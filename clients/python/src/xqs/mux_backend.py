@@ -2,6 +2,7 @@
 
 import asyncio
 import collections
+import contextlib
 import os
 import signal
 import time
@@ -106,7 +107,14 @@ class Backend:
         if self._alarm:
             self._alarm.cancel()
         await self.process.wait()
+        await self._close_input()
         self.ended.set()
+
+    async def _close_input(self) -> None:
+        assert self.process.stdin is not None
+        self.process.stdin.close()
+        with contextlib.suppress(OSError):
+            await self.process.stdin.wait_closed()
 
     def _take(self, number: int, message: bytes) -> None:
         if not self.in_flight or protocol.tag_of(message) != number:
