@@ -14,7 +14,7 @@ import time
 
 TOP = pathlib.Path(__file__).resolve().parent.parent
 sys.path.insert(0, str(TOP / "tools"))
-from client import LIBRARY, Server, built, store
+from harness import LIBRARY, Server, built, store
 
 STACK = 8 * 1024 * 1024
 

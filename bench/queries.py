@@ -17,7 +17,7 @@ import time
 
 TOP = pathlib.Path(__file__).resolve().parent.parent
 sys.path.insert(0, str(TOP / "tools"))
-from client import Server, built, store
+from harness import Server, built, store
 
 ELEMENTS_OF_A_SHELF = 109
 DOCUMENT = """document {element lib {

@@ -15,7 +15,7 @@ import time
 
 TOP = pathlib.Path(__file__).resolve().parent.parent
 sys.path.insert(0, str(TOP / "tools"))
-from client import LIBRARY, Server, built, frame, store
+from harness import LIBRARY, Server, built, frame, store
 
 REQUESTS = [("L", b"L", b""), ('doc("b")', b"Q", b'doc("b")'), ("S", b"S", store(b"b", LIBRARY))]
 ROWS = 50_000

@@ -18,7 +18,7 @@ import threading
 import time
 
 sys.path.insert(0, os.path.dirname(os.path.abspath(__file__)))
-from client import LIBRARY, Server, built, store
+from harness import LIBRARY, Server, built, store
 
 ADDRESSES = [b"a", b"b", b"c/d"]
 LATEST_KILL = 0.2

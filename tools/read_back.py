@@ -17,7 +17,7 @@ import os
 import shlex
 import sys
 
-import client
+import harness
 
 LONGEST = 1048576
 
@@ -43,7 +43,7 @@ def sets_of(paths):
 def answers(server, documents, queries):
     """The texts that the server answers to the queries, over these documents alone."""
     for address, text in documents.items():
-        server.ask(b"S", client.store(address.encode(), text.encode()))
+        server.ask(b"S", harness.store(address.encode(), text.encode()))
     for query in queries:
         status, text = server.ask(b"Q", query.encode())
         if status != 0:
@@ -58,8 +58,8 @@ def main():
     words.add_argument("corpus", nargs="+")
     words.add_argument("--server")
     given = words.parse_args()
-    command = shlex.split(given.server) if given.server else [client.built()]
-    server, empty = client.Server(command), client.Server(command)
+    command = shlex.split(given.server) if given.server else [harness.built()]
+    server, empty = harness.Server(command), harness.Server(command)
     count = long = 0
     for documents, queries in sets_of(given.corpus):
         for query, text in answers(server, documents, queries):

@@ -17,7 +17,7 @@ import sys
 import tempfile
 
 sys.path.insert(0, os.path.dirname(os.path.abspath(__file__)))
-from client import LIBRARY, Server, built, store
+from harness import LIBRARY, Server, built, store
 
 REFUSED = (1, "xq_server: cannot open the store\n")
 # Bytes that no file of a server may pass: its log is made, and has room for some stores.

@@ -221,7 +221,7 @@ class Commands(FolderTest):
         end = time.monotonic() + 30
         while True:
             outcome = self.run_command(*words)
-            if "ended" not in outcome[2] or time.monotonic() > end:
+            if "refused" in outcome[2] or time.monotonic() > end:
                 return outcome
             time.sleep(0.2)
 

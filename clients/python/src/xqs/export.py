@@ -43,6 +43,24 @@ class Exporter:
         self._form, self._names, self._force = form, names, force
         self._taken: set[Path] = set()
 
+    @property
+    def count(self) -> int:
+        """How many documents were written."""
+        return len(self._taken)
+
+    def export_all(self, prefix: str = "") -> dict[str, str]:
+        """Writes the documents whose address begins so, but temporary ones; those that can't be
+        written, with the reason of each."""
+        refused: dict[str, str] = {}
+        for address in self._client.list():
+            if not address.startswith(prefix) or is_temporary(address):
+                continue
+            try:
+                self.export(address, prefix)
+            except (NoPath, NotXml, OSError, ReplyError) as error:
+                refused[address] = str(error)
+        return refused
+
     def file_of(self, address: str, prefix: str) -> Path:
         """The file of a document; NoPath where there can't be one."""
         path = Path(path_of(address.removeprefix(prefix)))
@@ -74,19 +92,12 @@ class Exporter:
 def main(words: Sequence[str]) -> int:
     """Carries out the command."""
     given = _parser().parse_args(words)
-    refused = count = 0
     with connect(server_of(given)) as client:
         exporter = Exporter(client, given.folder, given.form, given.names, given.force)
-        for address in client.list():
-            if not address.startswith(given.prefix) or is_temporary(address):
-                continue
-            try:
-                exporter.export(address, given.prefix)
-                count += 1
-            except (NoPath, NotXml, OSError, ReplyError) as error:
-                refused += 1
-                print(f"{address}: {error}")
-    print(f"{count} written, {refused} refused", file=sys.stderr)
+        refused = exporter.export_all(given.prefix)
+    for address, why in refused.items():
+        print(f"{address}: {why}")
+    print(f"{exporter.count} written, {len(refused)} refused", file=sys.stderr)
     return 1 if refused else 0
 
 

@@ -44,6 +44,10 @@ class Outcome:
     refused: dict[str, str] = field(default_factory=dict)
     failed: dict[str, str] = field(default_factory=dict)
 
+    def wrong(self) -> dict[str, str]:
+        """The files that are not stored, with the reason of each."""
+        return {**self.refused, **self.failed}
+
 
 def find(folder: Path, patterns: Sequence[str]) -> Iterator[Found]:
     """The regular files below a folder whose name matches a pattern, sorted by path."""
@@ -63,7 +67,7 @@ class Loader:
     """Stores files through one client."""
 
     def __init__(
-        self, client: Client, journal: Journal, progress: Progress, prefix: str, choices: XmlChoices
+        self, client: Client, journal: Journal | None, progress: Progress, prefix: str, choices: XmlChoices
     ) -> None:
         self._window = Window()
         self._sender = Sender(client, self._window)
@@ -84,7 +88,7 @@ class Loader:
         return self.outcome
 
     def _is_done(self, file: Found) -> bool:
-        result = self._journal.result(file.path, file.stat)
+        result = self._journal.result(file.path, file.stat) if self._journal else None
         if result is None:
             return False
         if result != STORED:
@@ -115,7 +119,7 @@ class Loader:
     def _noted(self, parts: Iterator[Part], temporary: Temporary) -> Iterator[Part]:
         """The parts; that there are some goes to the journal before the first one is sent."""
         for number, part in enumerate(parts):
-            if number == 0:
+            if number == 0 and self._journal:
                 self._journal.add_temporary(temporary.start)
             yield part
 
@@ -125,10 +129,11 @@ class Loader:
             self.outcome.failed[file.path] = str(answer)
         elif isinstance(answer, BaseException):
             self.outcome.refused[file.path] = _reason(file, answer)
-            self._journal.add(file.path, file.stat, self.outcome.refused[file.path])
         else:
             self.outcome.stored += 1
-            self._journal.add(file.path, file.stat, STORED)
+        if self._journal and not isinstance(answer, Wanting):
+            result = self.outcome.refused.get(file.path, STORED)
+            self._journal.add(file.path, file.stat, result)
         self._progress.step(file.stat.st_size, is_refused)
 
 
@@ -137,6 +142,27 @@ def _reason(file: Found, error: BaseException) -> str:
     if isinstance(error, OSError):
         return error.strerror or str(error)
     return str(error).removeprefix(file.path)
+
+
+def load_folder(client: Client, folder: Path, prefix: str, choices: XmlChoices) -> Outcome:
+    """Stores the XML files of a folder at once, without a journal. Closed; NotADirectoryError."""
+    if not folder.is_dir():
+        raise NotADirectoryError(f"no folder: {folder}")
+    files = list(find(folder, ["*.xml"]))
+    progress = Progress(len(files), sum(it.stat.st_size for it in files))
+    try:
+        return Loader(client, None, progress, whole_prefix(prefix), choices).load(files)
+    finally:
+        progress.clear()
+
+
+def whole_prefix(prefix: str) -> str:
+    """What addresses begin with; a slash ends it. ValueError where it is kept for temporary
+    documents."""
+    whole = prefix if not prefix or prefix.endswith("/") else prefix + "/"
+    if is_temporary(whole):
+        raise ValueError(f"{whole} is kept for temporary documents")
+    return whole
 
 
 def parser() -> argparse.ArgumentParser:
@@ -193,10 +219,7 @@ def main(words: Sequence[str]) -> int:
     """Carries out the command."""
     given = parser().parse_args(words)
     given.match = given.match or ["*.xml"]
-    if given.prefix and not given.prefix.endswith("/"):
-        given.prefix += "/"
-    if is_temporary(given.prefix):
-        raise ValueError(f"{given.prefix} is kept for temporary documents")
+    given.prefix = whole_prefix(given.prefix)
     if not given.folder.is_dir():
         raise NotADirectoryError(f"no folder: {given.folder}")
     place = server_of(given)
@@ -236,7 +259,7 @@ def _drop_left(client: Client, starts: list[str]) -> None:
 
 
 def _report(outcome: Outcome, progress: Progress) -> int:
-    wrong = {**outcome.refused, **outcome.failed}
+    wrong = outcome.wrong()
     for path, why in sorted(wrong.items()):
         print(f"{path}{why}" if why.startswith(":") else f"{path}: {why}")
     before = f", {progress.skipped} were done before" if progress.skipped else ""

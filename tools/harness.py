@@ -1,4 +1,7 @@
-"""A client of the server: requests go as frames, replies come as (status, text)."""
+"""A harness for the scripts: a server that is run, frames to it, replies as (status, text).
+
+It knows one tag and ends the script where a reply has another. Programs use clients/python.
+"""
 
 import os
 import pathlib

@@ -1,0 +1,151 @@
+"""`xqs shell`: queries by hand. What it does without a terminal is in `session`; here are lines,
+history and completion, by prompt_toolkit where that is there, else by the standard library."""
+
+import argparse
+import importlib.util
+import os
+import pydoc
+import shutil
+import sys
+from collections.abc import Callable, Iterator, Sequence
+from pathlib import Path
+
+from xqs.cli import connection_options, is_lasting, server_of
+from xqs.client import connect
+from xqs.session import Session, completions, is_whole
+
+PROMPT, MORE = "xqs> ", "...> "
+_WORD = "_-.:$/@"
+"""Characters of a word that is completed, beside letters and digits."""
+
+
+def history_path() -> Path:
+    """The file of what was typed before, in the user's folder for states of programs."""
+    state = os.environ.get("XDG_STATE_HOME") or Path.home() / ".local" / "state"
+    path = Path(state) / "xqs" / "history"
+    path.parent.mkdir(parents=True, exist_ok=True)
+    return path
+
+
+def word_before(text: str) -> str:
+    """The word at the end of a text that may be completed: of a string its beginning."""
+    at = len(text)
+    while at and (text[at - 1].isalnum() or text[at - 1] in _WORD):
+        at -= 1
+    return text[at:]
+
+
+def main(words: Sequence[str]) -> int:
+    """Carries out the command."""
+    given = _parser().parse_args(words)
+    place = server_of(given)
+    with connect(place) as client:
+        session = Session(client, _printer(given.pager), xml=given.xml, names=given.names)
+        if given.command is not None:
+            return 0 if session.run(given.command) else 1
+        if not sys.stdin.isatty():
+            return _run_lines(session, sys.stdin)
+        print(f"{place}; .help says more" + (
+            "" if is_lasting(place) else "; the documents are gone at the end"))
+        for text in _typed(session, given.plain):
+            if not session.run(text) and session.is_ended:
+                break
+    return 0
+
+
+def _parser() -> argparse.ArgumentParser:
+    words = argparse.ArgumentParser(
+        prog="xqs shell",
+        parents=[connection_options()],
+        description="Asks queries by hand. A query runs at Enter where its brackets, strings and "
+        "comments are closed, else it goes on in the next line; .help lists the commands.",
+    )
+    words.add_argument("-c", "--command", help="carry out this query or command, and end")
+    words.add_argument("--xml", action="store_true", help="begin with nodes as XML")
+    words.add_argument("--names", choices=["keep", "flat"], default="keep",
+                       help="flat turns p__a into p:a where nodes are XML")
+    words.add_argument("--plain", action="store_true", help="don't use prompt_toolkit")
+    words.add_argument("--pager", action=argparse.BooleanOptionalAction, default=True,
+                       help="show long replies by $PAGER, on a terminal")
+    return words
+
+
+def _printer(pages: bool) -> Callable[[str], None]:
+    """What shows an answer: a pager, where it is longer than the terminal."""
+
+    def show(text: str) -> None:
+        columns, lines = shutil.get_terminal_size()
+        height = sum(len(line) // columns + 1 for line in text.split("\n"))
+        if pages and sys.stdout.isatty() and height >= lines:
+            pydoc.pager(text)
+        else:
+            print(text)
+
+    return show
+
+
+def _run_lines(session: Session, lines: Iterator[str]) -> int:
+    """Carries out what comes from a file or a pipe; status 1 where something was refused."""
+    pending, status = "", 0
+    for line in lines:
+        pending += line
+        if is_whole(pending):
+            status |= not session.run(pending)
+            pending = ""
+        if session.is_ended:
+            return status
+    if pending.strip():
+        status |= not session.run(pending)
+    return status
+
+
+def _typed(session: Session, plain: bool) -> Iterator[str]:
+    """What the user types, text by text, to the end."""
+    if plain or importlib.util.find_spec("prompt_toolkit") is None:
+        return _by_readline(session)
+    from xqs.toolkit import typed
+
+    return typed(session, history_path(), word_before, (PROMPT, MORE))
+
+
+def _by_readline(session: Session) -> Iterator[str]:
+    try:
+        import readline
+    except ImportError:
+        yield from _by_input(lambda: None)
+        return
+    path = history_path()
+    if path.exists():
+        readline.read_history_file(path)
+
+    def complete(word: str, number: int) -> str | None:
+        before = readline.get_line_buffer()[: readline.get_endidx()]
+        found = completions(session, word_before(before), before)
+        start = len(word_before(before)) - len(word)
+        return found[number][start:] if number < len(found) else None
+
+    readline.set_completer(complete)
+    readline.set_completer_delims(" \t\n()[]{},\"'=<>|+*")
+    readline.parse_and_bind("tab: complete")
+    try:
+        yield from _by_input(lambda: readline.write_history_file(path))
+    finally:
+        readline.set_completer(None)
+
+
+def _by_input(keep: Callable[[], None]) -> Iterator[str]:
+    pending = ""
+    while True:
+        try:
+            pending += input(MORE if pending else PROMPT) + "\n"
+        except KeyboardInterrupt:
+            pending = ""
+            print()
+            continue
+        except EOFError:
+            print()
+            return
+        if is_whole(pending):
+            keep()
+            yield pending
+            pending = ""

@@ -1,0 +1,187 @@
+"""The shell: its commands, what goes on in the next line, completion, and a terminal."""
+
+import io
+import os
+import pty
+import select
+import subprocess
+import sys
+import termios
+import time
+from contextlib import redirect_stderr, redirect_stdout
+from unittest import mock
+
+from tests.support import LIBRARY, TOP, FolderTest, ServerTest, server_command
+from xqs.cli import main
+from xqs.session import Session, completions, is_whole
+from xqs.shell import word_before
+
+
+class Sessions(ServerTest):
+    def setUp(self) -> None:
+        super().setUp()
+        self.shown: list[str] = []
+        self.said: list[str] = []
+        self.session = Session(self.server, self.shown.append, say=self.said.append)
+        self.server.store("b", LIBRARY)
+
+    def asked(self, text: str) -> str:
+        """What is shown, or else said, of a text."""
+        self.shown.clear()
+        self.said.clear()
+        self.session.run(text)
+        return "\n".join(self.shown + self.said)
+
+    def test_queries(self) -> None:
+        self.assertEqual(self.asked('doc("b")//book[1]\n'),
+                         'element book {attribute id {"1"}, text {"A"}}')
+        self.assertEqual(self.asked("  "), "")
+        self.assertEqual(self.asked(".xml on"), "")
+        self.assertEqual(self.asked('doc("b")//book, 2'),
+                         '<book id="1">A</book>\n<book id="2">B</book>\n2')
+        self.assertIn("FODC0002: there is no document", self.asked('doc("zz")'))
+        self.assertIn("1:1: there is no function conut; the nearest is count",
+                      self.asked("conut(1)"))
+
+    def test_documents(self) -> None:
+        file = self.folder / "a b.xml"
+        file.write_text("<p:a xmlns:p='u'/>")
+        self.assertIn("wants namespaces", self.asked(f'.store x "{file}"'))
+        self.assertEqual(self.asked(".names flat"), "")
+        self.assertEqual(self.asked(f'.store x "{file}"'), "stored")
+        self.assertEqual(self.asked(".list"), "b\nx")
+        self.assertEqual(self.asked(".list x"), "x")
+        self.assertEqual(self.asked(".get x"),
+                         'document {element p__a {attribute xmlns__p {"u"}}}')
+        self.asked(".xml on")
+        self.assertEqual(self.asked(".get x"), '<p:a xmlns:p="u"/>')
+        self.assertEqual(self.asked(f'.load "{self.folder}" in'), "1 stored, 0 refused")
+        self.assertEqual(self.asked(".list in"), "in/a_x0020_b.xml")
+        target = self.folder / "out"
+        self.assertEqual(self.asked(f".export {target}"), "3 written, 0 refused")
+        self.assertTrue((target / "in" / "a b.xml").exists())
+        self.assertEqual(self.asked(".drop x b"), "dropped")
+        self.assertIn("prof:ABSENT", self.asked(".drop x"))
+
+    def test_read(self) -> None:
+        file = self.folder / "script"
+        file.write_text(f'.names flat\n\n1,\n2\n\n.read {file}\n\n(3,\n\n4)\n.timing on\n5\n')
+        self.assertEqual(self.asked(f".read {file}").splitlines()[:1], ["1, 2"])
+        self.assertIn("reads itself", self.said[0])
+        file.write_text("(3,\n\n4)\n.timing on\n5\n")
+        self.assertEqual(self.asked(f".read {file}").splitlines()[:2], ["3, 4", "5"])
+        self.assertRegex(self.said[0], r"\A\d\.\d{3} s\Z")
+
+    def test_misuse(self) -> None:
+        self.assertIn(".drop ADDRESS ..", self.asked(".drop"))
+        self.assertIn("on or off", self.asked(".xml maybe"))
+        self.assertIn("No such file", self.asked(".read /nothing/there"))
+        self.assertIn("no folder", self.asked(".load /nothing/there"))
+        self.assertIn(".quit", self.asked(".help"))
+        self.assertFalse(self.session.run(".quit"))
+        self.assertTrue(self.session.is_ended)
+
+    def test_completion(self) -> None:
+        def completed(text: str) -> list[str]:
+            return completions(self.session, word_before(text), text)
+
+        self.server.store("books/one", "document {}")
+        self.assertEqual(completed('count(doc("b'), ["b", "books/one"])
+        self.assertEqual(completed(".drop bo"), ["books/one"])
+        self.assertEqual(completed("1 + substring-"), ["substring-after", "substring-before"])
+        self.assertEqual(completed(".l"), [".list", ".load"])
+        self.assertEqual(completed("xs:i"), ["xs:integer"])
+        self.assertEqual(completed("1 + "), [])
+
+    def test_what_goes_on_in_the_next_line(self) -> None:
+        for text in ("(1,", 'doc("b', "(: ", "element a {"):
+            self.assertFalse(is_whole(text), text)
+        for text in ("1", "(1, 2)", ".store x it's", ".", ""):
+            self.assertTrue(is_whole(text), text)
+
+
+class TerminalTest(FolderTest):
+    """Runs the shell on a terminal of its own."""
+
+    def typed(self, lines: list[str], *words: str, marks: dict[int, str] | None = None) -> str:
+        """What stands on the terminal after these lines were typed, each once the prompt is there,
+        or what `marks` has for it in its place."""
+        command = [sys.executable, "-m", "xqs", "shell", "--server", " ".join(server_command())]
+        environment = {**os.environ, "PYTHONPATH": str(TOP / "clients" / "python" / "src"),
+                       "XDG_STATE_HOME": str(self.folder), "TERM": "xterm", "PROMPT_TOOLKIT_NO_CPR":
+                       "1"}
+        outer, inner = pty.openpty()
+        termios.tcsetwinsize(inner, (24, 80))
+        process = subprocess.Popen([*command, *words], stdin=inner, stdout=inner, stderr=inner,
+                                   env=environment, start_new_session=True)
+        os.close(inner)
+        seen = b""
+        for number, line in enumerate(lines):
+            seen += until(outer, (marks or {}).get(number, ">").encode())
+            os.write(outer, line.encode())
+        seen += until(outer, None)
+        process.wait(30)
+        os.close(outer)
+        return seen.decode(errors="replace")
+
+
+class Terminal(TerminalTest):
+    def test_plain(self) -> None:
+        lines = ["(1 +\r", "2)\r", "distinct-v\t((4, 4))\r", "\x04"]
+        seen = self.typed(lines, "--plain")
+        self.assertIn("3\r\n", seen)
+        self.assertIn("...> ", seen)
+        self.assertIn("distinct-values((4, 4))", seen)
+        self.assertIn("9\r\n", self.typed(["sum((4, 5))\r", ".quit\r"], "--plain"))
+        self.assertIn("sum((4, 5))", (self.folder / "xqs" / "history").read_text())
+
+
+def until(terminal: int, mark: bytes | None) -> bytes:
+    """What comes from a terminal up to a mark, or to its end."""
+    seen, end = b"", time.monotonic() + 30
+    while time.monotonic() < end:
+        if not select.select([terminal], [], [], 1)[0]:
+            continue
+        try:
+            piece = os.read(terminal, 1 << 16)
+        except OSError:
+            return seen
+        seen += piece
+        if not piece or (mark and mark in seen):
+            return seen
+    raise TimeoutError(f"{mark!r} does not come: {seen!r}")
+
+
+class TerminalText(io.StringIO):
+    """An output that says it is a terminal."""
+
+    def isatty(self) -> bool:
+        return True
+
+
+class Lines(FolderTest):
+    def run_with(self, text: str, *words: str) -> tuple[int, str, str]:
+        """The status of the shell over these lines, its output, and what it says."""
+        out, said = io.StringIO(), io.StringIO()
+        with mock.patch("sys.stdin", io.StringIO(text)), redirect_stdout(out):
+            with redirect_stderr(said):
+                status = main(["shell", "--server", " ".join(server_command()), *words])
+        return status, out.getvalue(), said.getvalue()
+
+    def test_lines_of_a_pipe(self) -> None:
+        self.assertEqual(self.run_with("1 + 1\n(2,\n3)\n.quit\n4\n")[1], "2\n2, 3\n")
+        self.assertEqual(self.run_with("1 + 1")[:2], (0, "2\n"))
+        status, _, said = self.run_with("(1\n")
+        self.assertEqual(status, 1)
+        self.assertIn("this ( is not closed", said)
+
+    def test_long_answer_goes_to_the_pager(self) -> None:
+        with mock.patch("sys.stdout", new=TerminalText()), mock.patch("pydoc.pager") as pager:
+            main(["shell", "--server", " ".join(server_command()), "-c", "1 to 2000"])
+            main(["shell", "--server", " ".join(server_command()), "-c", "1 to 3"])
+            main(["shell", "--server", " ".join(server_command()), "-c", "1 to 2000", "--no-pager"])
+        self.assertEqual(pager.call_count, 1)
+
+    def test_one_command(self) -> None:
+        self.assertEqual(self.run_with("", "-c", "element a {}", "--xml")[:2], (0, "<a/>\n"))
+        self.assertEqual(self.run_with("", "-c", "a b")[0], 1)
