@@ -27,7 +27,9 @@ from dataclasses import dataclass, field
 TOP = pathlib.Path(__file__).resolve().parent.parent
 CLIENT = TOP / "clients" / "python"
 PYTHONS = (sys.executable, "/usr/bin/python3")
-PACKAGES = {"test_web": ("aiohttp",), "test_page": ("aiohttp",), "test_shell": ("prompt_toolkit",)}
+PACKAGES = {
+    "test_page": ("aiohttp",), "test_toolkit": ("prompt_toolkit",), "test_web": ("aiohttp",)
+}
 """The Python packages that the client's long tests want, by their files."""
 PROGRAMS = {"test_page": ("chromium",)}
 LAST_LINES = 60
@@ -82,13 +84,16 @@ def proved(given: Given) -> str:
 
 
 def client_trials(given: Given) -> Iterator[Trial]:
-    """The client's tests that want packages of Debian's, a file each."""
+    """The client's tests that take long, and those that want packages of Debian's."""
+    server = {"XQS_SERVER": shlex.join(given.server)}
+    tests = ["python3", "-m", "unittest"]
+    long = server | {"XQS_LONG": "1", "XQS_STANDARD_LIBRARY": "1"}
+    yield Trial("client_long", tests, wants=served, folder=CLIENT, environment=long)
     for path in sorted((CLIENT / "with_packages").glob("test_*.py")):
-        words = ["-m", "unittest", "discover", "-s", "with_packages", "-p", path.name]
+        words = [*tests, "discover", "-s", "with_packages", "-p", path.name]
         yield Trial(
-            f"client_{path.stem.removeprefix('test_')}", ["python3", *words],
-            PACKAGES.get(path.stem, ()), PROGRAMS.get(path.stem, ()), served, CLIENT,
-            {"XQS_SERVER": shlex.join(given.server)})
+            f"client_{path.stem.removeprefix('test_')}", words, PACKAGES.get(path.stem, ()),
+            PROGRAMS.get(path.stem, ()), served, CLIENT, server)
 
 
 def program_trials(given: Given) -> Iterator[Trial]:
