@@ -14,7 +14,7 @@ import unittest
 from pathlib import Path
 
 from tests.serving import ENDLESS, PATIENCE, SOURCES, Connection, RunningMux, store_body
-from tests.support import FolderTest, server_command
+from tests.support import FolderTest, long_test, server_command
 
 DONE, REFUSED, WANTING = 0, 1, 2
 TEN_MILLION = b'let $x := "%s" return concat(%s)' % (b"x" * 1_000_000, b", ".join([b"$x"] * 10))
@@ -230,6 +230,28 @@ class RestartTest(MuxTest):
         self.assertIn("exit status 0, after 50 frames", mux.said())
         self.assertNotIn("frame limit", mux.said())
 
+    @long_test
+    def test_the_limit_of_the_server_itself_is_not_met(self) -> None:
+        mux = self.mux()
+        connection = self.client(mux)
+        self.assertEqual(connection.ask(b"S", store_body(b"a")), (DONE, b"stored"))
+        count, piece = 1_010_000, struct.pack(">IIc", 6, 9, b"Q") + b"1"
+
+        def send() -> None:
+            for _ in range(count // 1000):
+                connection.socket.sendall(piece * 1000)
+
+        thread = threading.Thread(target=send)
+        thread.start()
+        reply = struct.pack(">IIB", 6, 9, DONE) + b"1"
+        for _ in range(count // 1000):
+            self.assertEqual(connection.read(len(reply) * 1000), reply * 1000)
+        thread.join()
+        self.assertIn("exit status 0, after 999000 frames", mux.said())
+        self.assertNotIn("frame limit", mux.said())
+        connection.tag = 8
+        self.assertEqual(connection.ask(b"L"), (DONE, b'"a"'))
+
     def test_a_killed_server_on_a_file_is_replaced(self) -> None:
         mux = self.mux()
         connection = self.client(mux)
@@ -421,6 +443,11 @@ class PlacesTest(MuxTest):
         mux = self.mux(place="tcp:0")
         self.assertTrue(mux.place.startswith("tcp:127.0.0.1:"), mux.place)
         self.assertEqual(self.client(mux).ask(b"Q", b"1"), (DONE, b"1"))
+        self.assertEqual(self.client(self.mux(place="tcp:localhost:0")).ask(b"Q", b"1"),
+                         (DONE, b"1"))
+        if socket.has_ipv6:
+            mux = self.mux(place="tcp:[::1]:0")
+            self.assertEqual(self.client(mux).ask(b"Q", b"1"), (DONE, b"1"))
         for place in ("tcp:0.0.0.0:0", "tcp:example.org:7000", "tcp:70000", "tcp:", "x", "unix:"):
             ended = run_mux(place, "--", *server_command())
             self.assertEqual((place, ended.returncode), (place, 1))

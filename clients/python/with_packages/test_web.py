@@ -4,14 +4,16 @@ import json
 import os
 import signal
 import socket
+import subprocess
+import sys
 import threading
 import time
 import unittest
 import urllib.parse
 
 import tests  # noqa: F401 (puts the package on the path)
-from tests.serving import PATIENCE, RunningMux
-from tests.support import FolderTest
+from tests.serving import PATIENCE, SOURCES, RunningMux
+from tests.support import FolderTest, server_command
 
 try:
     import aiohttp  # noqa: F401 (the package under test wants it)
@@ -315,6 +317,45 @@ class Limits(WebTest):
         text = '<p:a xmlns:p="urn:p"/>'
         self.check(self.web.put("n", text), 201)
         self.check(self.web.ask("GET", "/rest/n"), 200, text)
+
+
+class Words(FolderTest):
+    """Words of the command line that are refused, and names of the server."""
+
+    def ended(self, *words: str) -> subprocess.CompletedProcess[str]:
+        """Runs the command, which is to end by itself."""
+        command = [sys.executable, "-m", "xqs", "web", *words, "--", *server_command()]
+        return subprocess.run(command, cwd=SOURCES, capture_output=True, text=True,
+                              stdin=subprocess.DEVNULL, timeout=PATIENCE, check=False)
+
+    def test_other_hosts_are_not_listened_at(self) -> None:
+        for place in ("0.0.0.0:0", "example.org:80", "x"):
+            ended = self.ended("--listen", place)
+            self.assertEqual((place, ended.returncode), (place, 1), ended.stderr)
+            self.assertNotIn("Traceback", ended.stderr)
+
+    def test_a_token_that_others_can_read_is_refused(self) -> None:
+        path = self.folder / "token"
+        path.write_text("long-enough-to-be-one")
+        path.chmod(0o644)
+        ended = self.ended("--listen", "0", "--token-file", str(path))
+        self.assertEqual(ended.returncode, 1)
+        self.assertIn("others may read it", ended.stderr)
+
+    def test_a_server_that_does_not_start_is_told(self) -> None:
+        command = [sys.executable, "-m", "xqs", "web", "--listen", "0", "--", *server_command(),
+                   "--file", "/nowhere/x.db"]
+        ended = subprocess.run(command, cwd=SOURCES, capture_output=True, text=True,
+                               timeout=PATIENCE, check=False)
+        self.assertEqual(ended.returncode, 1)
+        self.assertIn("cannot open the store", ended.stderr)
+
+    def test_another_name_of_the_server(self) -> None:
+        with RunningWeb("--host", "Archive.example") as web:
+            for origin in ("http://archive.example", "https://archive.example"):
+                got = web.ask("GET", "/rest", Host="archive.example", Origin=origin)
+                self.assertEqual(got.status, 200)
+            self.assertEqual(web.ask("GET", "/rest", Host="b.archive.example").status, 403)
 
 
 class Ends(WebTest):
