@@ -3,12 +3,14 @@
 import asyncio
 import socket
 import subprocess
+import sys
 import threading
 import unittest
 from decimal import Decimal
+from pathlib import Path
 
 from tests.support import LIBRARY, FolderTest, ServerTest, server_command
-from xqs import Closed, FrameFault, Item, Refused, Untyped, aio, connect, q
+from xqs import Closed, FrameFault, Item, Refused, Untyped, Wanting, aio, connect, q
 from xqs.endpoints import Command, LoopbackPort, UnixSocket, endpoint
 
 
@@ -100,6 +102,14 @@ class Ends(FolderTest):
             with self.assertRaises(Closed):
                 client.query("1")
             client.close()
+
+    def test_wanting_is_told_apart_from_a_refusal(self) -> None:
+        wanting = Path(__file__).with_name("wanting_server.py")
+        with connect([sys.executable, wanting]) as client:
+            with self.assertRaises(Wanting) as caught:
+                client.store("a", "document {}")
+            self.assertEqual(caught.exception.code, "store")
+            self.assertNotIsInstance(caught.exception, Refused)
 
     def test_unix_socket(self) -> None:
         path = str(self.folder / "xq.sock")

@@ -225,12 +225,47 @@ class Commands(FolderTest):
                 return outcome
             time.sleep(0.2)
 
+    def test_files_that_wanted_the_store_are_tried_again(self) -> None:
+        self.write("a.xml", "<a>good</a>")
+        self.write("b.xml", "<a>x</a>")
+        wanting = Path(__file__).with_name("wanting_server.py")
+        self.words = ["--server", f"{sys.executable} {wanting}"]
+        status, out, said = self.run_command("load", self.folder / "in")
+        self.assertEqual(status, 1)
+        self.assertIn("b.xml: store: the server's database failed", out)
+        self.assertIn("1 stored, 0 refused, 1 failed", said)
+        self.write("b.xml", "<a>good</a>")
+        self.assertIn("2 stored, 0 refused", self.run_command("load", self.folder / "in")[2])
+        self.assertEqual(list((self.folder / "state").rglob("*.jsonl")), [])
+
     def test_server_that_ends_under_a_load(self) -> None:
         self.write("a.xml", "<a/>")
-        self.words = ["--server", "false"]
-        status, _, said = self.run_command("load", self.folder / "in")
+        wanting = Path(__file__).with_name("wanting_server.py")
+        self.write("b.xml", "<a>end</a>")
+        for command in ("false", f"{sys.executable} {wanting}"):
+            self.words = ["--server", command]
+            status, _, said = self.run_command("load", self.folder / "in")
+            self.assertEqual(status, 1)
+            self.assertIn("the same call goes on from here", said)
+        self.assertEqual(len(list((self.folder / "state").rglob("*.jsonl"))), 2)
+
+    def test_what_is_no_file_is_listed(self) -> None:
+        self.write("a.xml", "<a/>")
+        os.mkfifo(self.folder / "in" / "pipe.xml")
+        (self.folder / "in" / "gone.xml").symlink_to("nothing")
+        (self.folder / "in" / os.fsdecode(b"\xff.xml")).write_text("<a>")
+        status, out, _ = self.run_command("load", self.folder / "in")
         self.assertEqual(status, 1)
-        self.assertIn("the same call goes on from here", said)
+        self.assertEqual(ascii(out).count("\\n"), 3)
+        self.assertIn("gone.xml: No such file", out)
+        self.assertIn("pipe.xml: not a regular file", out)
+
+    def test_output_that_nobody_reads(self) -> None:
+        command = [sys.executable, "-m", "xqs", "query", *self.words, "1 to 100000"]
+        environment = {**os.environ, "PYTHONPATH": str(TOP / "clients" / "python" / "src")}
+        done = subprocess.run(["sh", "-c", '"$@" | head -c 5', "sh", *command], env=environment,
+                              capture_output=True)
+        self.assertEqual((done.stdout, done.stderr), (b"1, 2,", b""))
 
 
 class Journals(FolderTest):

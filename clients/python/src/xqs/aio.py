@@ -1,6 +1,7 @@
 """The client for asyncio. Methods, results and errors are those of `client.Client`."""
 
 import asyncio
+from collections.abc import Iterator
 from types import TracebackType
 
 from xqs import protocol
@@ -94,13 +95,16 @@ class AsyncClient:
         self._ended = self._ended or why
         self._in_flight.end(why)
 
+    def _settle(self, messages: Iterator[bytes]) -> None:
+        for message in messages:
+            self._in_flight.settle(message)
+
     async def _read_replies(self) -> None:
         why = "the stream ended"
         splitter = protocol.Splitter(protocol.MAX_REPLY)
         try:
             while piece := await self._reader.read(PIECE):
-                for message in splitter.feed(piece):
-                    self._in_flight.settle(message)
+                self._settle(splitter.feed(piece))
         except (protocol.FrameFault, KeyError) as error:
             why = f"the stream is no server's ({error})"
         except OSError as error:

@@ -2,17 +2,17 @@
 
 import argparse
 import importlib
+import io
 import os
 import sys
 from collections.abc import Callable, Sequence
 from dataclasses import dataclass
 from pathlib import Path
 
-from xqs.endpoints import Endpoint, endpoint
+from xqs.endpoints import Command, Endpoint, endpoint
 from xqs.errors import XqError
 
-CHECKOUT = Path(__file__).resolve().parents[4]
-"""The repository's root, where the package is run from a checkout."""
+_IN_CHECKOUT = ("clients", "python", "src", "xqs")
 SERVER_VARIABLE = "XQS_SERVER"
 
 
@@ -50,6 +50,16 @@ COMMANDS = {
 }
 
 
+def checkout_server() -> Path | None:
+    """The command `serve` of the checkout that this package is run from; None where it is installed
+    elsewhere."""
+    folder = Path(__file__).resolve().parent
+    if folder.parts[-4:] != _IN_CHECKOUT:
+        return None
+    serve = folder.parents[3] / "serve"
+    return serve if serve.exists() else None
+
+
 def connection_options() -> argparse.ArgumentParser:
     """The options that say where the server is, as a parent of a command's parser."""
     options = argparse.ArgumentParser(add_help=False)
@@ -71,19 +81,14 @@ def server_of(given: argparse.Namespace) -> Endpoint:
 
     ValueError where nothing says so, or it is no such place.
     """
-    where = given.server or os.environ.get(SERVER_VARIABLE)
-    if where:
-        place = endpoint(where)
-    elif (CHECKOUT / "serve").exists():
-        place = endpoint([CHECKOUT / "serve"])
-    else:
+    where = given.server or os.environ.get(SERVER_VARIABLE) or checkout_server()
+    if not where:
         raise ValueError(f"no server is named: give --server, or set {SERVER_VARIABLE}")
+    place = endpoint(where)
     return _with_file(place, given.file) if given.file else place
 
 
 def _with_file(place: Endpoint, file: str) -> Endpoint:
-    from xqs.endpoints import Command
-
     if not isinstance(place, Command):
         raise ValueError(f"--file goes with a command that is started, not with {place}")
     return Command((*place.words, "--file", file))
@@ -92,24 +97,33 @@ def _with_file(place: Endpoint, file: str) -> Endpoint:
 def is_lasting(place: Endpoint) -> bool:
     """Whether documents may be there after the connection's end: not where a command is started
     that was given no words, since they live in its memory."""
-    from xqs.endpoints import Command
-
     return not isinstance(place, Command) or len(place.words) > 1
 
 
 def main(words: Sequence[str] | None = None) -> int:
     """Carries out a command, and gives its exit status: 0 done, 1 refused, 2 misused."""
     given = _parser().parse_args(words)
+    _show_any_name()
     try:
         return COMMANDS[given.command].load()(given.rest)
     except ModuleNotFoundError as error:
         print(f"xqs {given.command}: it wants the package {error.name}", file=sys.stderr)
+    except BrokenPipeError:
+        # Who read the output has gone; Python writes what is left as it ends, which is to be quiet.
+        os.dup2(os.open(os.devnull, os.O_WRONLY), sys.stdout.fileno())
     except (XqError, ValueError, OSError) as error:
         print(f"xqs {given.command}: {error}", file=sys.stderr)
     except KeyboardInterrupt:
         print(f"xqs {given.command}: interrupted", file=sys.stderr)
         return 130
     return 1
+
+
+def _show_any_name() -> None:
+    """Has names of files that are no text shown with escapes, where they would be a fault."""
+    for stream in (sys.stdout, sys.stderr):
+        if isinstance(stream, io.TextIOWrapper):
+            stream.reconfigure(errors="backslashreplace")
 
 
 def _parser() -> argparse.ArgumentParser:

@@ -4,7 +4,7 @@ import os
 import socket
 import subprocess
 import threading
-from collections.abc import Callable
+from collections.abc import Callable, Iterator
 from types import TracebackType
 
 from xqs import protocol
@@ -122,13 +122,16 @@ class Client:
     ) -> None:
         self.close()
 
+    def _messages(self) -> Iterator[bytes]:
+        splitter = protocol.Splitter(protocol.MAX_REPLY)
+        while piece := self._stream.read(PIECE):
+            yield from splitter.feed(piece)
+
     def _read_replies(self) -> None:
         why = "the stream ended"
-        splitter = protocol.Splitter(protocol.MAX_REPLY)
         try:
-            while piece := self._stream.read(PIECE):
-                for message in splitter.feed(piece):
-                    self._in_flight.settle(message)
+            for message in self._messages():
+                self._in_flight.settle(message)
         except (protocol.FrameFault, KeyError) as error:
             why = f"the stream is no server's ({error})"
         except (OSError, ValueError) as error:

@@ -24,6 +24,7 @@ from xqs.xml_in import XmlChoices, XmlReader
 from xqs.xml_names import Names
 
 STORED = "stored"
+XML_FILES = "*.xml"
 
 
 @dataclass(frozen=True)
@@ -49,31 +50,65 @@ class Outcome:
         return {**self.refused, **self.failed}
 
 
-def find(folder: Path, patterns: Sequence[str]) -> Iterator[Found]:
-    """The regular files below a folder whose name matches a pattern, sorted by path."""
-    for place, folders, names in os.walk(folder):
-        folders.sort()
-        for name in sorted(it for it in names if any(fnmatch(it, one) for one in patterns)):
-            file = Path(place) / name
-            try:
-                found = file.stat()
-            except OSError:
-                continue
-            if stat.S_ISREG(found.st_mode):
-                yield Found(file.relative_to(folder).as_posix(), file, found)
+class Search:
+    """The files below a folder whose name matches a pattern, sorted by path: `found`, and in
+    `refused` what can't be read or is no regular file, with the reason of each."""
+
+    def __init__(self, folder: Path, patterns: Sequence[str]) -> None:
+        """NotADirectoryError where there is no such folder."""
+        if not folder.is_dir():
+            raise NotADirectoryError(f"no folder: {folder}")
+        self._folder, self._patterns = folder, patterns
+        self.found: list[Found] = []
+        self.refused: dict[str, str] = {}
+        for place, folders, names in os.walk(folder, onerror=self._refuse):
+            folders.sort()
+            self._add(Path(place), sorted(names))
+
+    @property
+    def size(self) -> int:
+        """How many bytes the files have."""
+        return sum(it.stat.st_size for it in self.found)
+
+    def _add(self, place: Path, names: list[str]) -> None:
+        for name in names:
+            if any(fnmatch(name, one) for one in self._patterns):
+                self._judge(place / name)
+
+    def _judge(self, file: Path) -> None:
+        path = file.relative_to(self._folder).as_posix()
+        try:
+            found = file.stat()
+        except OSError as error:
+            self._refuse(error)
+            return
+        if stat.S_ISREG(found.st_mode):
+            self.found.append(Found(path, file, found))
+        else:
+            self.refused[path] = "not a regular file"
+
+    def _refuse(self, error: OSError) -> None:
+        path = os.path.relpath(os.fsdecode(error.filename), self._folder)
+        self.refused[path] = error.strerror or str(error)
 
 
 class Loader:
     """Stores files through one client."""
 
     def __init__(
-        self, client: Client, journal: Journal | None, progress: Progress, prefix: str, choices: XmlChoices
+        self,
+        client: Client,
+        journal: Journal | None,
+        progress: Progress,
+        prefix: str,
+        choices: XmlChoices,
     ) -> None:
         self._window = Window()
         self._sender = Sender(client, self._window)
         self._journal, self._progress = journal, progress
         self._prefix, self._choices = prefix, choices
         self._there = set(client.list())
+        self._closed: Closed | None = None
         self.outcome = Outcome()
 
     def load(self, files: Iterable[Found]) -> Outcome:
@@ -85,6 +120,8 @@ class Loader:
                 self._window.poll()
         finally:
             self._window.drain()
+        if self._closed:
+            raise self._closed
         return self.outcome
 
     def _is_done(self, file: Found) -> bool:
@@ -101,8 +138,9 @@ class Loader:
     def _store(self, file: Found) -> None:
         def done(answer: str | BaseException) -> None:
             if isinstance(answer, Closed):
-                return
-            self._note(file, answer)
+                self._closed = answer
+            else:
+                self._note(file, answer)
 
         temporary = Temporary()
         try:
@@ -146,14 +184,15 @@ def _reason(file: Found, error: BaseException) -> str:
 
 def load_folder(client: Client, folder: Path, prefix: str, choices: XmlChoices) -> Outcome:
     """Stores the XML files of a folder at once, without a journal. Closed; NotADirectoryError."""
-    if not folder.is_dir():
-        raise NotADirectoryError(f"no folder: {folder}")
-    files = list(find(folder, ["*.xml"]))
-    progress = Progress(len(files), sum(it.stat.st_size for it in files))
+    search = Search(folder, [XML_FILES])
+    progress = Progress(len(search.found), search.size)
     try:
-        return Loader(client, None, progress, whole_prefix(prefix), choices).load(files)
+        loader = Loader(client, None, progress, whole_prefix(prefix), choices)
+        outcome = loader.load(search.found)
     finally:
         progress.clear()
+    outcome.refused.update(search.refused)
+    return outcome
 
 
 def whole_prefix(prefix: str) -> str:
@@ -177,7 +216,7 @@ def parser() -> argparse.ArgumentParser:
     words.add_argument("folder", type=Path)
     words.add_argument("--as", dest="prefix", default="", help="what addresses begin with")
     words.add_argument(
-        "--match", action="append", metavar="PATTERN", help="names of files (default *.xml)"
+        "--match", action="append", metavar="PATTERN", help=f"names of files (default {XML_FILES})"
     )
     xml_options(words)
     words.add_argument("--journal", type=Path, help="where the journal lies, until all is done")
@@ -218,23 +257,21 @@ def _head(given: argparse.Namespace, where: str) -> dict[str, str]:
 def main(words: Sequence[str]) -> int:
     """Carries out the command."""
     given = parser().parse_args(words)
-    given.match = given.match or ["*.xml"]
+    given.match = given.match or [XML_FILES]
     given.prefix = whole_prefix(given.prefix)
-    if not given.folder.is_dir():
-        raise NotADirectoryError(f"no folder: {given.folder}")
+    search = Search(given.folder, given.match)
     place = server_of(given)
     if not is_lasting(place):
         print("xqs load: the documents are gone when this command ends: name a --file, or a "
               "server that goes on", file=sys.stderr)
     head = _head(given, str(place))
-    files = list(find(given.folder, given.match))
     journal = Journal(given.journal or default_place(json.dumps(head)), head, given.anew)
-    progress = Progress(len(files), sum(it.stat.st_size for it in files))
+    progress = Progress(len(search.found), search.size)
     try:
         with connect(place) as client:
             _drop_left(client, journal.temporary)
             loader = Loader(client, journal, progress, given.prefix, xml_choices(given))
-            outcome = loader.load(files)
+            outcome = loader.load(search.found)
     except (Closed, KeyboardInterrupt) as error:
         progress.clear()
         journal.close()
@@ -242,6 +279,7 @@ def main(words: Sequence[str]) -> int:
               f"{journal.path}", file=sys.stderr)
         return 1
     progress.clear()
+    outcome.refused.update(search.refused)
     if outcome.failed:
         journal.close()
     else:

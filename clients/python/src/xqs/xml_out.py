@@ -91,8 +91,7 @@ def node_events(item: Item) -> Iterator[Event]:
         yield Leaf(item.kind, item.name, item.value)
     else:
         yield Open(item.kind, item.name)
-        for name, value in item.attributes.items():
-            yield Leaf(NodeKind.ATTRIBUTE, name, value)
+        yield from (Leaf(NodeKind.ATTRIBUTE, *it) for it in item.attributes.items())
         for child in item.children:
             yield from node_events(child)
         yield Close()
