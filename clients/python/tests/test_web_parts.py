@@ -2,6 +2,7 @@
 
 import os
 import stat
+import time
 import unittest
 
 from tests.support import FolderTest
@@ -22,7 +23,7 @@ from xqs.web_forms import (
 )
 from xqs.web_guard import NAMES, TokenFault, check_host, check_origin, check_token, read_token
 from xqs.web_query import Asked, take_body
-from xqs.web_status import HttpRefusal, refusal_of
+from xqs.web_status import HttpRefusal, placed, refusal_of
 
 
 class FormsTest(unittest.TestCase):
@@ -120,6 +121,14 @@ class StatusTest(unittest.TestCase):
                 assert told is not None
                 self.assertEqual((told.status, told.code), (status, code))
         self.assertIsNone(refusal_of(RuntimeError(), False))
+
+    def test_the_place_of_a_fault_is_looked_for_in_short_queries(self) -> None:
+        error = Refused("XPST0017")
+        self.assertEqual(placed(error, "1,\n cuont(1)").headers, {"Xqs-Place": "2:2"})
+        self.assertEqual(placed(error, "count(1)").headers, {})
+        begin = time.monotonic()
+        self.assertEqual(placed(error, "count(1)," * 100_000 + "cuont(1)").headers, {})
+        self.assertLess(time.monotonic() - begin, 1)
 
     def test_a_refusal_is_its_code_and_a_sentence(self) -> None:
         self.assertEqual(str(refusal_of(Refused("FOAR0001"), False)),

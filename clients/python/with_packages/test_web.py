@@ -10,6 +10,7 @@ import threading
 import time
 import unittest
 import urllib.parse
+from contextlib import suppress
 
 import tests  # noqa: F401 (puts the package on the path)
 from tests.serving import PATIENCE, SOURCES, RunningMux
@@ -32,6 +33,15 @@ XQUERY = "application/xquery"
 def asked(query: str, **parameters: str) -> str:
     """The path that asks a query."""
     return "/rest?" + urllib.parse.urlencode({"query": query, **parameters})
+
+
+def read_all(connection: socket.socket) -> bytes:
+    """What comes until the stream ends, in order or not."""
+    data = bytearray()
+    with suppress(ConnectionResetError):
+        while piece := connection.recv(1 << 16):
+            data += piece
+    return bytes(data)
 
 
 class WebTest(FolderTest):
@@ -204,7 +214,9 @@ class Queries(WebTest):
                            413, "prof:LONG")
         longer = "1" + " " * 1_100_000
         self.check_refused(self.web.ask("POST", "/rest", longer, Content_Type=XQUERY),
-                           413, "xqs:HTTP")
+                           413, "xqs:LARGE")
+        self.check(self.web.ask("GET", asked("1" + " " * 60_000)), 200, "1")
+        self.assertEqual(self.web.ask("GET", asked("1" + " " * 70_000)).status, 400)
         self.check_refused(self.web.ask("GET", "/nothing"), 404, "xqs:HTTP")
         got = self.web.ask("PATCH", "/rest/a")
         self.check_refused(got, 405, "xqs:HTTP")
@@ -289,7 +301,7 @@ class Guard(WebTest):
 class Limits(WebTest):
     """Sizes and times."""
 
-    words = ("--body", "100000", "--wait", "0.5", "--seconds", "1", "--names", "flat")
+    words = ("--body", "100000", "--wait", "0.5", "--seconds", "3", "--names", "flat")
 
     def test_a_body_has_a_limit(self) -> None:
         text = f"<a>{'x' * 100_000}</a>"
@@ -299,12 +311,23 @@ class Limits(WebTest):
 
     def test_a_body_that_does_not_come_is_not_waited_for(self) -> None:
         host, _, port = self.web.host.rpartition(":")
-        with socket.create_connection((host, int(port)), timeout=PATIENCE) as connection:
-            connection.sendall(
-                f"PUT /rest/a HTTP/1.1\r\nHost: {self.web.host}\r\nContent-Length: 100\r\n"
-                f"Authorization: Bearer {TOKEN}\r\n\r\n<a>".encode())
-            self.assertIn(b"408", connection.recv(100).split(b"\r\n")[0])
+        for method in ("PUT", "POST"):
+            with socket.create_connection((host, int(port)), timeout=PATIENCE) as connection:
+                connection.sendall(
+                    f"{method} /rest/a HTTP/1.1\r\nHost: {self.web.host}\r\n"
+                    f"Authorization: Bearer {TOKEN}\r\nContent-Length: 100\r\n\r\n<a>".encode())
+                self.assertIn(b"408", connection.recv(100).split(b"\r\n")[0])
         self.check(self.web.ask("GET", "/rest", Accept=XQUERY), 200, "()")
+
+    def test_an_answer_that_is_not_read_is_not_waited_for(self) -> None:
+        host, _, port = self.web.host.rpartition(":")
+        path = asked("string-join(for $x in 1 to 900000 return 'abcdefghij')")
+        with socket.create_connection((host, int(port)), timeout=PATIENCE) as connection:
+            connection.sendall(f"GET {path} HTTP/1.1\r\nHost: {self.web.host}\r\n\r\n".encode())
+            time.sleep(3)
+            self.assertLess(len(read_all(connection)), 9_000_000)
+        got = self.web.ask("GET", path)
+        self.assertEqual((got.status, len(got.body)), (200, 9_000_000))
 
     def test_a_slow_query_is_ended(self) -> None:
         self.check_refused(self.web.ask("GET", asked(ENDLESS)), 504, "xqs:SECONDS")

@@ -2,6 +2,7 @@
 
 import argparse
 import asyncio
+import logging
 import sys
 import tempfile
 from collections.abc import AsyncIterator, Sequence
@@ -11,6 +12,7 @@ from functools import partial
 from pathlib import Path
 
 from aiohttp import web
+from aiohttp.http import HttpProcessingError
 
 from xqs import listening, mux
 from xqs.cli import connection_options, server_of
@@ -26,6 +28,13 @@ DEFAULTS = WebSettings()
 
 
 say = partial(mux.say, command="web")
+
+
+def is_own_fault(record: logging.LogRecord) -> bool:
+    """Whether a line of aiohttp's log is about this program, and not about a request that was no
+    HTTP: any client can send those, and is told of them."""
+    error = record.exc_info[1] if record.exc_info else None
+    return not isinstance(error, HttpProcessingError)
 
 
 @asynccontextmanager
@@ -63,6 +72,7 @@ async def run(where: str, place: Endpoint, settings: Settings, options: WebSetti
     """
     again = asyncio.Event()
     async with multiplexed(place, settings, again) as (server, failed):
+        logging.getLogger("aiohttp.server").addFilter(is_own_fault)
         application = Rest(server, options).application()
         runner = web.AppRunner(
             application, access_log=None, max_line_size=MAX_LINE, max_field_size=MAX_LINE
@@ -96,7 +106,7 @@ def parser() -> argparse.ArgumentParser:
     option("--body", type=positive, metavar="BYTES", default=DEFAULTS.body,
            help="the most bytes of a document that is put (%(default)s)")
     option("--wait", type=duration, metavar="SECONDS", default=DEFAULTS.wait,
-           help="how long the next piece of a body may take (%(default)g)")
+           help="how long the next piece of a body or an answer may take (%(default)g)")
     option("--requests", type=positive, metavar="N", default=DEFAULTS.requests,
            help="requests that are carried out at once (%(default)s)")
     add_limits(result)

@@ -4,7 +4,7 @@ import asyncio
 import io
 import tempfile
 import time
-from collections.abc import AsyncIterator, Awaitable, Callable
+from collections.abc import AsyncIterator, Awaitable, Callable, Mapping
 from contextlib import asynccontextmanager
 from dataclasses import dataclass
 from typing import BinaryIO, TypeVar, cast
@@ -33,6 +33,7 @@ from xqs.web_forms import (
 from xqs.web_guard import CHANGES, NAMES, check_host, check_origin, check_token
 from xqs.web_page import page
 from xqs.web_query import Asked, choice, take_body
+from xqs.web_send import send
 from xqs.web_status import CODE, HttpRefusal, placed, refusal_of
 from xqs.xml_in import XmlChoices
 from xqs.xml_names import Names
@@ -60,8 +61,8 @@ class WebSettings:
     """Who may do what: the names of this server, and the token for changes, None for no changes.
 
     `names` is what becomes of names with a colon in XML, where a request does not say it: a choice
-    of `Names`. `body` is the most bytes of a body, `wait` the seconds for its next piece, and
-    `requests` how many are carried out at once.
+    of `Names`. `body` is the most bytes of a body, `wait` the seconds for the next piece of a body
+    or of an answer, and `requests` how many are carried out and answered at once.
     """
 
     hosts: frozenset[str] = NAMES
@@ -94,9 +95,7 @@ class Rest:
         async def guard(request: web.Request, handler: Handler) -> web.StreamResponse:
             return await self._guarded(request, handler)
 
-        application = web.Application(
-            middlewares=[guard], client_max_size=protocol.MAX_REQUEST
-        )
+        application = web.Application(middlewares=[guard])
         application.add_routes([
             web.get("/", self.get_page),
             web.get("/rest", self.get_all),
@@ -129,12 +128,11 @@ class Rest:
     @asynccontextmanager
     async def _client(self) -> AsyncIterator[aio.AsyncClient]:
         """A connection of the request's own, so that each has its turn among the others."""
-        async with self._room:
-            connection = await aio.connect(self._place)
-            try:
-                yield connection
-            finally:
-                await connection.close()
+        connection = await aio.connect(self._place)
+        try:
+            yield connection
+        finally:
+            await connection.close()
 
     async def get_page(self, _: web.Request) -> web.Response:
         """The page."""
@@ -146,10 +144,11 @@ class Rest:
         if request.query:
             return await self._answer(request, self._asked(request), "")
         form = chosen(request.headers.get("Accept"), LIST_FORMS)
-        async with self._client() as connection:
-            addresses = await connection.list()
         spell = {JSON: list_as_json, XQUERY: _list_as_xquery}.get(form, list_as_xml)
-        return web.Response(text=spell(addresses), content_type=form)
+        async with self._room:
+            async with self._client() as connection:
+                addresses = await connection.list()
+            return await self._send(request, spell(addresses), form, {})
 
     async def get(self, request: web.Request) -> web.StreamResponse:
         """A document, or the answer to the query of the URL about it."""
@@ -157,15 +156,15 @@ class Rest:
 
     async def post(self, request: web.Request) -> web.StreamResponse:
         """The answer to the query of the body, about a document where there is an address."""
-        asked = self._asked(request)
-        body = await request.read()
-        kind = content_type(request)
-        if kind == XQUERY:
-            asked.text = decoded(body)
-        elif kind in (XML, TEXT_XML):
-            take_body(asked, body)
-        else:
+        asked, kind = self._asked(request), content_type(request)
+        if kind not in (XML, TEXT_XML, XQUERY):
             raise wrong_type(kind)
+        body = io.BytesIO()
+        await self._receive(request, body, protocol.MAX_REQUEST)
+        if kind == XQUERY:
+            asked.text = decoded(body.getvalue())
+        else:
+            take_body(asked, body.getvalue())
         address = address_of(request) if "address" in request.match_info else ""
         return await self._answer(request, asked, address)
 
@@ -180,36 +179,36 @@ class Rest:
     ) -> web.StreamResponse:
         form = chosen(request.headers.get("Accept"), FORMS)
         query = asked.query(address)
-        async with self._client() as connection:
+        async with self._room:
             begin = time.perf_counter()
             try:
-                text = await connection.query_text(query)
+                async with self._client() as connection:
+                    text = await connection.query_text(query)
             except Refused as error:
                 if error.code == "prof:REPLY" and address and asked.is_whole():
                     return await self._answer_in_parts(request, asked, address, form)
                 raise placed(error, asked.text or "") from error
             took = time.perf_counter() - begin
-        if form != XQUERY:
-            spell = as_results if asked.is_wrapped else as_xml
-            text = await in_thread_if(len(text) > SHORT, spell, text, asked.names)
-        timing = {"Server-Timing": f"server;dur={took * 1000:.3f}"}
-        return web.Response(text=text, content_type=form, headers=timing)
+            if form != XQUERY:
+                spell = as_results if asked.is_wrapped else as_xml
+                text = await in_thread_if(len(text) > SHORT, spell, text, asked.names)
+            timing = {"Server-Timing": f"server;dur={took * 1000:.3f}"}
+            return await self._send(request, text, form, timing)
+
+    async def _send(
+        self, request: web.Request, text: str, form: str, headers: Mapping[str, str]
+    ) -> web.StreamResponse:
+        body = io.BytesIO(text.encode())
+        return await send(request, body, form, headers, self._settings.wait)
 
     async def _answer_in_parts(
         self, request: web.Request, asked: Asked, address: str, form: str
     ) -> web.StreamResponse:
         """A document that is too long for one reply, by way of a file."""
         with tempfile.TemporaryFile() as file:
-            await asyncio.to_thread(self._fetch, address, form, asked.names, cast(BinaryIO, file))
-            response = web.StreamResponse()
-            response.content_type, response.charset = form, "utf-8"
-            response.content_length = file.tell()
-            file.seek(0)
-            await response.prepare(request)
-            while request.method != "HEAD" and (piece := file.read(SHORT)):
-                await response.write(piece)
-            await response.write_eof()
-            return response
+            body = cast(BinaryIO, file)
+            await asyncio.to_thread(self._fetch, address, form, asked.names, body)
+            return await send(request, body, form, {}, self._settings.wait)
 
     def _fetch(self, address: str, form: str, names: str, file: BinaryIO) -> None:
         text = io.TextIOWrapper(file, encoding="utf-8", newline="", write_through=True)
@@ -231,16 +230,16 @@ class Rest:
         names = Names(choice("names", given, [it.value for it in Names]))
         with tempfile.SpooledTemporaryFile(max_size=protocol.MAX_REQUEST) as file:
             body = cast(BinaryIO, file)
-            await self._receive(request, body)
+            await self._receive(request, body, self._settings.body)
             body.seek(0)
             store = self._store_xquery if kind == XQUERY else self._store_xml
             async with self._room:
                 replaced = await asyncio.to_thread(store, address, body, names)
         return web.Response(status=200 if replaced else 201, text=_stored(replaced))
 
-    async def _receive(self, request: web.Request, body: BinaryIO) -> None:
+    async def _receive(self, request: web.Request, body: BinaryIO, most: int) -> None:
         """Takes the body of a request into a file, within the limits of size and time."""
-        size, most = request.content_length or 0, self._settings.body
+        size = request.content_length or 0
         while size <= most:
             try:
                 piece = await asyncio.wait_for(request.content.readany(), self._settings.wait)
@@ -267,7 +266,7 @@ class Rest:
     async def delete(self, request: web.Request) -> web.Response:
         """Drops a document."""
         address = address_of(request)
-        async with self._client() as connection:
+        async with self._room, self._client() as connection:
             await connection.drop(address)
         return web.Response(text="dropped\n")
 

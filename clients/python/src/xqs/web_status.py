@@ -19,6 +19,8 @@ STATUSES = {
 """The status of each code that the server refuses with, where it is not BAD."""
 BAD, WANTING, UNKNOWN = 400, 503, 502
 RETRY = {"Retry-After": "1"}
+SEARCHED = 1 << 14
+"""The place of a fault is looked for in queries of so many characters, lest others wait."""
 CODE, PLACE = "Xqs-Code", "Xqs-Place"
 """The headers that have the code of a refusal, and the line and the column where a query is at
 fault, as far as its tokens tell."""
@@ -64,7 +66,7 @@ def refusal_of(error: Exception, changes: bool) -> HttpRefusal | None:
 def placed(error: Refused, query: str) -> HttpRefusal:
     """The refusal of a query, with the place of its fault where the text tells one."""
     refusal = _told(error, STATUSES.get(error.code, BAD))
-    place = places.find(query, error.code)
+    place = places.find(query, error.code) if len(query) <= SEARCHED else None
     if place is None:
         return refusal
     line, column = places.line_and_column(query, place.at)
