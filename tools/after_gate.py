@@ -87,7 +87,7 @@ def client_trials(given: Given) -> Iterator[Trial]:
     """The client's tests that take long, and those that want packages of Debian's."""
     server = {"XQS_SERVER": shlex.join(given.server)}
     tests = ["python3", "-m", "unittest"]
-    long = server | {"XQS_LONG": "1", "XQS_STANDARD_LIBRARY": "1"}
+    long = server | {"XQS_LONG": "1"}
     yield Trial("client_long", tests, wants=served, folder=CLIENT, environment=long)
     for path in sorted((CLIENT / "with_packages").glob("test_*.py")):
         words = [*tests, "discover", "-s", "with_packages", "-p", path.name]

@@ -1,18 +1,14 @@
 """What the tests share: the server's command, a server for each class of tests, files of it."""
 
-import importlib.util
 import os
 import shlex
 import shutil
 import tempfile
 import unittest
-from collections.abc import Callable
 from pathlib import Path
-from typing import TypeVar
 
 from xqs import Client, connect
 
-T = TypeVar("T", bound=type | Callable[..., object])
 TOP = Path(__file__).resolve().parents[3]
 """The repository's root."""
 LIBRARY = (
@@ -20,14 +16,6 @@ LIBRARY = (
     'element book {attribute id {"2"}, text {"B"}}}}'
 )
 """The document of docs/LANGUAGE.md's examples."""
-
-
-def needs(*packages: str) -> Callable[[T], T]:
-    """For tests that want packages from outside the standard library: they are left out where one
-    is missing, and by XQS_STANDARD_LIBRARY=1."""
-    missing = [it for it in packages if importlib.util.find_spec(it) is None]
-    is_plain = bool(os.environ.get("XQS_STANDARD_LIBRARY"))
-    return unittest.skipIf(is_plain or bool(missing), f"it wants {', '.join(packages)}")
 
 
 long_test = unittest.skipUnless(os.environ.get("XQS_LONG"), "it takes long; set XQS_LONG=1")

@@ -182,6 +182,9 @@ class Commands(FolderTest):
     def test_misuse_is_told(self) -> None:
         self.assertEqual(self.run_command("load", self.folder / "nothing")[0], 1)
         self.assertEqual(self.run_command("load", self.folder, "--as", PREFIX)[0], 1)
+        status, _, said = self.run_command("load", self.folder, "--as", "my books")
+        self.assertEqual(status, 1)
+        self.assertIn("not an address: 'my books/'", said)
         with redirect_stderr(io.StringIO()), self.assertRaises(SystemExit) as caught:
             main(["nothing"])
         self.assertEqual(caught.exception.code, 2)

@@ -76,6 +76,15 @@ class Places(ServerTest):
         self.assertTrue(all(not refused(f"xs:{it}(1)") for it in places.TYPES))
 
 
+    def test_each_function_of_the_page_is_known(self) -> None:
+        page = (TOP / "docs" / "LANGUAGE.md").read_text()
+        section = page.partition("\n## Functions\n")[2].partition("\n## ")[0]
+        names = set(re.findall(r"\*\*([a-z][a-z-]+)", section))
+        types = set(re.findall(r"\*\*xs:(\w+)", section))
+        self.assertEqual(names - {"xs"}, places.FUNCTIONS.keys())
+        self.assertEqual(types, set(places.TYPES))
+
+
 class Shown(unittest.TestCase):
     def test_line_and_mark(self) -> None:
         self.assertEqual(places.shown("1,\n conut(2)", "XPST0017"), (

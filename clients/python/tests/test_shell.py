@@ -1,5 +1,6 @@
 """The shell: its commands, what goes on in the next line, completion, and a terminal."""
 
+import fcntl
 import io
 import os
 import pty
@@ -15,6 +16,9 @@ from tests.support import LIBRARY, TOP, FolderTest, ServerTest, server_command
 from xqs.cli import main
 from xqs.session import Session, completions, is_whole
 from xqs.shell import word_before
+
+
+INTERRUPT = "\x03"
 
 
 class Sessions(ServerTest):
@@ -113,21 +117,23 @@ class TerminalTest(FolderTest):
         outer, inner = pty.openpty()
         termios.tcsetwinsize(inner, (24, 80))
         process = subprocess.Popen([*command, *words], stdin=inner, stdout=inner, stderr=inner,
-                                   env=environment, start_new_session=True)
+                                   env=environment, start_new_session=True,
+                                   preexec_fn=lambda: fcntl.ioctl(0, termios.TIOCSCTTY, 0))
         os.close(inner)
-        seen = b""
+        screen = Screen(outer)
         for number, line in enumerate(lines):
-            seen += until(outer, (marks or {}).get(number, ">").encode())
+            screen.wait_for((marks or {}).get(number, ">").encode())
+            time.sleep(0.5 if line == INTERRUPT else 0)
             os.write(outer, line.encode())
-        seen += until(outer, None)
+        screen.wait_for(None)
         process.wait(30)
         os.close(outer)
-        return seen.decode(errors="replace")
+        return screen.seen.decode(errors="replace")
 
 
 class Terminal(TerminalTest):
     def test_plain(self) -> None:
-        lines = ["(1 +\r", "2)\r", "distinct-v\t((4, 4))\r", "\x04"]
+        lines = ["(1 +\r", "2)\r", "distinct-v\t((4, 4))\r", ".quit\r"]
         seen = self.typed(lines, "--plain")
         self.assertIn("3\r\n", seen)
         self.assertIn("...> ", seen)
@@ -136,20 +142,42 @@ class Terminal(TerminalTest):
         self.assertIn("sum((4, 5))", (self.folder / "xqs" / "history").read_text())
 
 
-def until(terminal: int, mark: bytes | None) -> bytes:
-    """What comes from a terminal up to a mark, or to its end."""
-    seen, end = b"", time.monotonic() + 30
-    while time.monotonic() < end:
-        if not select.select([terminal], [], [], 1)[0]:
-            continue
+    def test_interrupts_leave_the_server(self) -> None:
+        slow = "count(for $a in 1 to 1000, $b in 1 to 900 return string($a))\r"
+        lines = ["(1", INTERRUPT, "2 + 3\r", slow, INTERRUPT, "3 + 4\r", ".quit\r"]
+        marks = {1: "(1", 4: "string($a))\r\n", 5: "interrupted", 6: "7\r\n"}
+        seen = self.typed(lines, "--plain", marks=marks)
+        self.assertIn("5\r\n", seen)
+        self.assertIn("7\r\n", seen)
+
+
+class Screen:
+    """What came from a terminal so far."""
+
+    def __init__(self, terminal: int) -> None:
+        self._terminal, self._at = terminal, 0
+        self.seen = b""
+
+    def wait_for(self, mark: bytes | None) -> None:
+        """Reads up to the next such mark, or to the end."""
+        end = time.monotonic() + 30
+        while time.monotonic() < end:
+            found = -1 if mark is None else self.seen.find(mark, self._at)
+            if mark is not None and found >= 0:
+                self._at = found + len(mark)
+                return
+            if select.select([self._terminal], [], [], 1)[0] and not self._read():
+                return
+        raise TimeoutError(f"{mark!r} does not come: {self.seen!r}")
+
+    def _read(self) -> bool:
+        """Whether something came, and not the end."""
         try:
-            piece = os.read(terminal, 1 << 16)
+            piece = os.read(self._terminal, 1 << 16)
         except OSError:
-            return seen
-        seen += piece
-        if not piece or (mark and mark in seen):
-            return seen
-    raise TimeoutError(f"{mark!r} does not come: {seen!r}")
+            return False
+        self.seen += piece
+        return bool(piece)
 
 
 class TerminalText(io.StringIO):

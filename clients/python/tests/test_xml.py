@@ -1,13 +1,14 @@
 """XML in and out: canonical forms, places of refusals, documents in parts."""
 
 import asyncio
+import io
 import unittest
 from xml.etree import ElementTree
 
 from tests.support import ServerTest, long_test, server_command
 from xqs import Node, Refused, aio, values
 from xqs.parts import DocumentText, TooLarge
-from xqs.stores import store_constructors, store_xml, store_xml_async
+from xqs.stores import chunks_of, store_constructors, store_xml, store_xml_async
 from xqs.temporary import Temporary
 from xqs.values import events
 from xqs.xml_in import XmlChoices, XmlFault, XmlReader
@@ -204,6 +205,14 @@ class Parts(unittest.TestCase):
             document.open("a")
         with self.assertRaises(TooLarge):
             document.attribute("x", "1")
+
+
+class Chunks(unittest.TestCase):
+    def test_pieces_grow_so_that_long_tokens_are_not_read_again_too_often(self) -> None:
+        pieces = [len(it) for it in chunks_of(io.BytesIO(b"x" * 20_000_000))]
+        self.assertEqual(sum(pieces), 20_000_000)
+        self.assertEqual(pieces[0], 1 << 16)
+        self.assertLess(len(pieces), 40)
 
 
 class Stores(ServerTest):

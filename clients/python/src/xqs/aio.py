@@ -124,6 +124,7 @@ async def connect(where: Where) -> AsyncClient:
         stdin=asyncio.subprocess.PIPE,
         stdout=asyncio.subprocess.PIPE,
         limit=PIECE,
+        process_group=0,
     )
     assert process.stdin is not None and process.stdout is not None
     return AsyncClient(process.stdout, process.stdin, process)

@@ -120,7 +120,10 @@ class Client:
         error: BaseException | None,
         trace: TracebackType | None,
     ) -> None:
-        self.close()
+        if kind is not None and issubclass(kind, KeyboardInterrupt):
+            self.kill()
+        else:
+            self.close()
 
     def _messages(self) -> Iterator[bytes]:
         splitter = protocol.Splitter(protocol.MAX_REPLY)
@@ -195,8 +198,13 @@ class ProcessStream(Stream):
     process: subprocess.Popen[bytes]
 
     def __init__(self, command: Command) -> None:
+        # In a group of its own: Ctrl+C at a terminal is for whoever asks, and not for the server.
         self.process = subprocess.Popen(
-            command.words, stdin=subprocess.PIPE, stdout=subprocess.PIPE, bufsize=0
+            command.words,
+            stdin=subprocess.PIPE,
+            stdout=subprocess.PIPE,
+            bufsize=0,
+            process_group=0,
         )
         assert self.process.stdin is not None and self.process.stdout is not None
         self._in, self._out = self.process.stdin, self.process.stdout

@@ -17,6 +17,7 @@ from xqs.journal import Journal, default_place
 from xqs.parts import Part
 from xqs.paths import address_of
 from xqs.progress import Progress
+from xqs.protocol import address_bytes
 from xqs.stores import Sender, chunks_of, xml_parts
 from xqs.temporary import Temporary, is_temporary
 from xqs.window import Window
@@ -196,9 +197,12 @@ def load_folder(client: Client, folder: Path, prefix: str, choices: XmlChoices) 
 
 
 def whole_prefix(prefix: str) -> str:
-    """What addresses begin with; a slash ends it. ValueError where it is kept for temporary
-    documents."""
-    whole = prefix if not prefix or prefix.endswith("/") else prefix + "/"
+    """What addresses begin with; a slash ends it. ValueError where no address begins so, or it is
+    kept for temporary documents."""
+    if not prefix:
+        return prefix
+    whole = prefix if prefix.endswith("/") else prefix + "/"
+    address_bytes(whole)
     if is_temporary(whole):
         raise ValueError(f"{whole} is kept for temporary documents")
     return whole

@@ -48,9 +48,18 @@ def main(words: Sequence[str]) -> int:
         print(f"{place}; .help says more" + (
             "" if is_lasting(place) else "; the documents are gone at the end"))
         for text in _typed(session, given.plain):
-            if not session.run(text) and session.is_ended:
+            _run_typed(session, text)
+            if session.is_ended:
                 break
     return 0
+
+
+def _run_typed(session: Session, text: str) -> None:
+    try:
+        session.run(text)
+    except KeyboardInterrupt:
+        print("interrupted; a query can't be called back, so what you ask next waits for its end",
+              file=sys.stderr)
 
 
 def _parser() -> argparse.ArgumentParser:
@@ -138,6 +147,9 @@ def _by_input(keep: Callable[[], None]) -> Iterator[str]:
     while True:
         try:
             pending += input(MORE if pending else PROMPT) + "\n"
+            if not is_whole(pending):
+                continue
+            keep()
         except KeyboardInterrupt:
             pending = ""
             print()
@@ -145,7 +157,5 @@ def _by_input(keep: Callable[[], None]) -> Iterator[str]:
         except EOFError:
             print()
             return
-        if is_whole(pending):
-            keep()
-            yield pending
-            pending = ""
+        yield pending
+        pending = ""

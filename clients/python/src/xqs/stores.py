@@ -21,8 +21,8 @@ from xqs.values import Close, Event, NodeKind, Open, events
 from xqs.window import Window
 from xqs.xml_in import XmlChoices, XmlReader
 
-CHUNK = 1 << 16
-"""So many bytes of a file are read at once."""
+CHUNK, LONGEST_CHUNK = 1 << 16, 1 << 24
+"""So many bytes of a file are read at once, at least and at most."""
 
 
 @dataclass
@@ -36,8 +36,14 @@ class Stored:
 
 
 def chunks_of(file: BinaryIO) -> Iterator[bytes]:
-    """The bytes of a file, piece by piece."""
-    while piece := file.read(CHUNK):
+    """The bytes of a file, piece by piece.
+
+    Pieces grow with what was read: the parser looks at a comment or a tag that is not whole from
+    its beginning with each piece, and would take the square of its length over pieces of one size.
+    """
+    total = 0
+    while piece := file.read(min(max(CHUNK, total // 4), LONGEST_CHUNK)):
+        total += len(piece)
         yield piece
 
 
