@@ -49,10 +49,15 @@ def ahead(streams: list[Stream]) -> None:
 def in_turn(streams: list[Stream]) -> None:
     """Each request after the reply to the one before, of each client."""
     for _ in range(COUNT // len(streams)):
-        for stream in streams:
-            stream.write(FRAME)
-        for stream in streams:
-            stream.take(REPLY)
+        ask_all(streams)
+
+
+def ask_all(streams: list[Stream]) -> None:
+    """A request of each client, and then the replies."""
+    for stream in streams:
+        stream.write(FRAME)
+    for stream in streams:
+        stream.take(REPLY)
 
 
 def rate(work: Callable[[list[Stream]], None], streams: list[Stream]) -> float:
@@ -72,6 +77,13 @@ def direct(command: list[str], work: Callable[[list[Stream]], None]) -> float:
     return measured
 
 
+def connected(path: str) -> socket.socket:
+    """A connection to the multiplexer."""
+    connection = socket.socket(socket.AF_UNIX)
+    connection.connect(path)
+    return connection
+
+
 def multiplexed(command: list[str], work: Callable[[list[Stream]], None], clients: int) -> float:
     """The rate of so many clients behind the multiplexer."""
     with tempfile.TemporaryDirectory() as folder:
@@ -80,12 +92,8 @@ def multiplexed(command: list[str], work: Callable[[list[Stream]], None], client
         mux = subprocess.Popen(words, stderr=subprocess.DEVNULL)
         while not os.path.exists(path):
             time.sleep(0.05)
-        sockets = [socket.socket(socket.AF_UNIX) for _ in range(clients)]
-        for connection in sockets:
-            connection.connect(path)
+        sockets = [connected(path) for _ in range(clients)]
         measured = rate(work, [Stream(it.sendall, it.recv) for it in sockets])
-        for connection in sockets:
-            connection.close()
         mux.terminate()
         mux.wait()
     return measured

@@ -198,8 +198,8 @@ def main() -> int:
     left_out = {trial.name: why for trial in trials if (why := missing(trial, given))}
     wanted = chosen(trials, words.names)
     if words.list:
-        for trial in wanted:
-            print(f"{trial.name:16}{left_out.get(trial.name, shlex.join(trial.words))}")
+        lines = [f"{it.name:16}{left_out.get(it.name, shlex.join(it.words))}" for it in wanted]
+        print("\n".join(lines))
         return 0
     results = [run(trial) for trial in wanted if trial.name not in left_out]
     for trial in wanted:

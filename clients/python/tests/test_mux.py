@@ -167,7 +167,7 @@ class ManyClientsTest(MuxTest):
         for _ in range(39):
             greedy.reply()
         rest = time.monotonic() - begin - waited
-        self.assertLess(waited, rest / 3)
+        self.assertLess(waited, rest / 2)
 
     def test_a_client_that_reads_nothing_is_cut_off_in_time(self) -> None:
         mux = self.mux("--stall", "0.4")
@@ -265,7 +265,7 @@ class RestartTest(MuxTest):
         mux = self.mux()
         asking, storing, listing = (self.client(mux) for _ in range(3))
         asking.send(b"Q", ENDLESS)
-        time.sleep(0.3)
+        time.sleep(0.6)
         storing.send(b"S", store_body(b"a"))
         listing.send(b"L")
         time.sleep(0.3)
@@ -281,7 +281,7 @@ class RestartTest(MuxTest):
         storing.send(b"Q", b"1")
         storing.send(b"S", store_body(b"a", b"document {" + ENDLESS + b"}"))
         storing.send(b"S", store_body(b"behind"))
-        time.sleep(0.3)
+        time.sleep(0.6)
         other.send(b"Q", b"2")
         mux.kill_server()
         self.assertEqual(storing.reply(), (1, DONE, b"1"))
@@ -375,7 +375,7 @@ class EndTest(MuxTest):
         self.assertEqual(idle.ask(b"Q", b"1"), (DONE, b"1"))
         busy.send(b"Q", b"count((1 to 1000000)[. mod 2 = 0])")
         busy.send(b"S", store_body(b"a"))
-        time.sleep(0.1)
+        time.sleep(0.4)
         self.assertEqual(mux.terminate(), 0)
         self.assertEqual(busy.reply(), (1, DONE, b"500000"))
         self.assertEqual(busy.reply(), (2, DONE, b"stored"))
@@ -387,7 +387,7 @@ class EndTest(MuxTest):
         mux = self.mux()
         connection = self.client(mux)
         connection.send(b"Q", ENDLESS)
-        time.sleep(0.2)
+        time.sleep(0.5)
         mux.process.send_signal(signal.SIGTERM)
         time.sleep(0.2)
         self.assertIsNone(mux.process.poll())

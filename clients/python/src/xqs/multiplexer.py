@@ -290,10 +290,7 @@ class Multiplexer:
             await asyncio.sleep(min(1.0, self._settings.stall / 4))
             now = time.monotonic()
             taken = {peer: self._progress(peer, taken.get(peer), now) for peer in self._peers}
-            for peer in [peer for peer, (_, since) in taken.items()
-                         if now - since > self._settings.stall]:
-                self._say("a client that reads nothing is cut off")
-                peer.cut()
+            self._cut_stalled({peer: now - since for peer, (_, since) in taken.items()})
             self._cut_largest()
 
     @staticmethod
@@ -302,6 +299,12 @@ class Multiplexer:
         if before is None or taken != before[0] or not peer.unread():
             return taken, now
         return before
+
+    def _cut_stalled(self, waited: dict[Peer, float]) -> None:
+        for peer in waited:
+            if waited[peer] > self._settings.stall:
+                self._say("a client that reads nothing is cut off")
+                peer.cut()
 
     def _cut_largest(self) -> None:
         unread = {peer: peer.unread() for peer in self._peers}
@@ -314,9 +317,7 @@ class Multiplexer:
     async def stop(self) -> None:
         """Answers the frames that were read, ends the clients and then the server."""
         self._stopping = True
-        for peer, task in self._peers.items():
-            if peer.waits_for_frame:
-                task.cancel()
+        self._dismiss_idle()
         while self._peers:
             await asyncio.wait(list(self._peers.values()))
         self._cancel_tasks()
@@ -335,6 +336,12 @@ class Multiplexer:
             peer.cut()
         self._backend.kill()
         await self._backend.ended.wait()
+
+    def _dismiss_idle(self) -> None:
+        """Has those who wait for a client's next frame wait no longer."""
+        for peer, task in self._peers.items():
+            if peer.waits_for_frame:
+                task.cancel()
 
     def _cancel_tasks(self) -> None:
         for task in self._tasks:

@@ -13,6 +13,7 @@ from xqs import listening
 from xqs.cli import connection_options, server_of
 from xqs.endpoints import Command
 from xqs.multiplexer import Multiplexer, Settings, is_on_file
+from xqs.waiting import first_set
 
 USAGE = "xqs mux [OPTIONS] unix:PATH|tcp:PORT [-- COMMAND [WORDS]]"
 EXAMPLE = "as is ./serve in: xqs mux unix:xq.sock -- ./serve --file x.db"
@@ -85,10 +86,7 @@ async def until_signal(failed: asyncio.Event, again: asyncio.Event) -> None:
     first = asyncio.Event()
     for number in (signal.SIGTERM, signal.SIGINT):
         loop.add_signal_handler(number, lambda: again.set() if first.is_set() else first.set())
-    waits = [asyncio.create_task(event.wait()) for event in (first, failed)]
-    await asyncio.wait(waits, return_when=asyncio.FIRST_COMPLETED)
-    for task in waits:
-        task.cancel()
+    await first_set(first, failed)
     first.set()
 
 

@@ -6,12 +6,13 @@ import contextlib
 import os
 import signal
 import time
-from collections.abc import Callable, Sequence
+from collections.abc import Callable, Iterator, Sequence
 
 from xqs import protocol
 from xqs.client import PIECE
 from xqs.errors import XqError
 from xqs.mux_peer import Request
+from xqs.waiting import first_set
 
 PROBE = b"Q()"
 """The kind and the body of the first frame: the server has opened its store when it answers."""
@@ -37,6 +38,7 @@ class Backend:
         self.frames = 0
         self.overdue: Request | None = None
         self.ended = asyncio.Event()
+        self._answered = 0
         self._front_since = 0.0
         self._on_reply = on_reply
         self._seconds = seconds
@@ -69,12 +71,7 @@ class Backend:
 
     async def _probe(self, answered: asyncio.Event) -> None:
         await self.send(Request(None, 0, PROBE))
-        waits = [asyncio.create_task(event.wait()) for event in (answered, self.ended)]
-        try:
-            await asyncio.wait(waits, return_when=asyncio.FIRST_COMPLETED)
-        finally:
-            for task in waits:
-                task.cancel()
+        await first_set(answered, self.ended)
         if not answered.is_set():
             raise StartFailed(f"the server ended as it started: {self.status()}")
 
@@ -96,12 +93,9 @@ class Backend:
     async def _read(self) -> None:
         assert self.process.stdout is not None
         splitter = protocol.Splitter(protocol.MAX_REPLY)
-        answered = 0
         try:
             while piece := await self.process.stdout.read(PIECE):
-                for message in splitter.feed(piece):
-                    answered += 1
-                    self._take(answered, message)
+                self._take_all(splitter.feed(piece))
         except (OSError, protocol.FrameFault):
             self.kill()
         if self._alarm:
@@ -116,12 +110,15 @@ class Backend:
         with contextlib.suppress(OSError):
             await self.process.stdin.wait_closed()
 
-    def _take(self, number: int, message: bytes) -> None:
-        if not self.in_flight or protocol.tag_of(message) != number:
-            raise protocol.FrameFault("a reply that no request awaits")
-        request = self.in_flight.popleft()
-        self._watch_front()
-        self._on_reply(request, message[4:])
+    def _take_all(self, messages: Iterator[bytes]) -> None:
+        """Takes replies; FrameFault for one that no request awaits."""
+        for message in messages:
+            self._answered += 1
+            if not self.in_flight or protocol.tag_of(message) != self._answered:
+                raise protocol.FrameFault("a reply that no request awaits")
+            request = self.in_flight.popleft()
+            self._watch_front()
+            self._on_reply(request, message[4:])
 
     def _watch_front(self) -> None:
         if self._alarm:

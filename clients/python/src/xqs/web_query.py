@@ -79,6 +79,7 @@ class _Builder(ElementTree.TreeBuilder):
     """Refuses a text with a DOCTYPE, by which entities could be declared."""
 
     def doctype(self, name: str, public: str | None, system: str | None) -> None:
+        """What the parser calls where it meets one."""
         raise HttpRefusal(400, "xqs:XML", "a query has no DOCTYPE")
 
 
