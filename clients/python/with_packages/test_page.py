@@ -149,6 +149,27 @@ class Results(PageTest):
         self.browser.evaluate("document.querySelector('.more').click()")
         self.assertEqual(len(self.rows()), 401)
 
+    def test_many_documents_are_filtered(self) -> None:
+        self.open()
+        self.browser.wait_for("list.addresses.length > 0")
+        self.browser.evaluate(
+            "list.addresses = Array.from({length: 2000}, (_, n) => `d/${n}`); showDocuments()")
+        self.assertEqual(self.browser.evaluate("document.querySelectorAll('#documents li').length"),
+                         500)
+        self.assertEqual(self.text("hidden-documents"), "1,500 more: filter them")
+        self.browser.evaluate("document.getElementById('filter').focus()")
+        self.browser.type("d/199")
+        self.assertEqual(self.text("documents").split(), [
+            "d/199", *[f"d/199{n}" for n in range(10)]])
+
+    def test_a_query_before_is_gone_back_to(self) -> None:
+        self.open("1 + 1")
+        self.browser.evaluate("document.getElementById('query').value = '2 + 2'; run()")
+        self.browser.wait_for("state.text === '4'")
+        self.browser.evaluate("history.back()")
+        self.browser.wait_for("state.text === '2'")
+        self.assertEqual(self.browser.evaluate("document.getElementById('query').value"), "1 + 1")
+
     def test_a_long_text_is_cut_until_it_is_asked_for(self) -> None:
         self.open('string-join(for $x in 1 to 100000 return "abcdefghij")')
         self.assertIn("999700 more characters", self.rows()[0])
