@@ -52,6 +52,10 @@ SENTENCES = {
     "prof:ABSENT": "there is no document at that address",
     "prof:NOTDOC": "what is to be stored is not exactly one document",
     # Of status 2.
+    # What `xqs mux` refuses by itself.
+    "xqs:READONLY": "nothing can be stored or dropped here; the multiplexer runs with --read-only",
+    "xqs:SECONDS": "the query took longer than --seconds of the multiplexer allows",
+    # Status 2.
     "memory": "the server ran out of memory; nothing has changed, the request may be sent again",
     "store": "the server's database failed; look at the disk, then send the request again, and "
     "start the server anew where every request fails so",

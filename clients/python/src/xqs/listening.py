@@ -1,0 +1,108 @@
+"""Where a server of many clients listens: a Unix socket, or a port of loopback."""
+
+import os
+import pathlib
+import socket
+import stat
+
+from xqs.endpoints import LoopbackPort, UnixSocket, endpoint
+from xqs.errors import XqError
+
+BACKLOG = 128
+
+
+class PlaceError(XqError):
+    """A place where nothing can listen, and why."""
+
+
+def listen(where: str) -> socket.socket:
+    """A socket that listens at `unix:PATH`, `tcp:PORT` or `tcp:HOST:PORT`.
+
+    A Unix socket can be opened by its owner alone (mode 0600); a file of a socket where nobody
+    listens any more is replaced. HOST has to be loopback, and is 127.0.0.1 where none is named;
+    port 0 is any that is free. Raises PlaceError.
+    """
+    try:
+        place = endpoint(where)
+        if isinstance(place, UnixSocket):
+            return listen_unix(place.path)
+        if isinstance(place, LoopbackPort):
+            return listen_port(place)
+    except OSError as error:
+        raise PlaceError(f"{where}: {error.strerror or error}") from error
+    except ValueError as error:
+        raise PlaceError(f"{where}: {error}") from error
+    raise PlaceError(f"{where}: neither unix:PATH nor tcp:PORT")
+
+
+def listen_unix(path: str) -> socket.socket:
+    """A Unix socket that listens at the path, with mode 0600. Raises PlaceError and OSError."""
+    remove_stale(path)
+    listener = socket.socket(socket.AF_UNIX, socket.SOCK_STREAM)
+    before = os.umask(0o177)
+    try:
+        listener.bind(path)
+        listener.listen(BACKLOG)
+    except OSError:
+        listener.close()
+        raise
+    finally:
+        os.umask(before)
+    return listener
+
+
+def remove_stale(path: str) -> None:
+    """Removes the file of a socket at which nobody listens. Raises PlaceError and OSError."""
+    try:
+        mode = os.lstat(path).st_mode
+    except FileNotFoundError:
+        return
+    if not stat.S_ISSOCK(mode):
+        raise PlaceError(f"unix:{path}: a file stands there that is no socket")
+    with socket.socket(socket.AF_UNIX, socket.SOCK_STREAM) as probe:
+        try:
+            probe.connect(path)
+        except ConnectionRefusedError:
+            os.unlink(path)
+            return
+    raise PlaceError(f"unix:{path}: another program listens there")
+
+
+def listen_port(place: LoopbackPort) -> socket.socket:
+    """A socket that listens at the port. Raises OSError."""
+    family = socket.AF_INET6 if ":" in place.host else socket.AF_INET
+    listener = socket.socket(family, socket.SOCK_STREAM)
+    try:
+        listener.setsockopt(socket.SOL_SOCKET, socket.SO_REUSEADDR, 1)
+        listener.bind(("127.0.0.1" if place.host == "localhost" else place.host, place.port))
+        listener.listen(BACKLOG)
+    except OSError:
+        listener.close()
+        raise
+    return listener
+
+
+def name_of(listener: socket.socket) -> str:
+    """The place at which a socket listens, as `connect` takes it."""
+    address = listener.getsockname()
+    if listener.family == socket.AF_UNIX:
+        return f"unix:{address}"
+    host = f"[{address[0]}]" if listener.family == socket.AF_INET6 else address[0]
+    return f"tcp:{host}:{address[1]}"
+
+
+def remove(listener: socket.socket, identity: tuple[int, int] | None) -> None:
+    """Removes the file of a Unix socket, if it still is the one of that device and number."""
+    if identity is not None:
+        path = pathlib.Path(listener.getsockname())
+        try:
+            if identity_of(path) == identity:
+                path.unlink()
+        except OSError:
+            pass
+
+
+def identity_of(path: pathlib.Path) -> tuple[int, int]:
+    """The device and the number of a file. Raises OSError."""
+    status = path.lstat()
+    return status.st_dev, status.st_ino

@@ -1,0 +1,151 @@
+"""`xqs mux`: one server for many clients, behind a Unix socket or a port of loopback."""
+
+import argparse
+import asyncio
+import contextlib
+import pathlib
+import signal
+import socket
+import sys
+from collections.abc import Sequence
+
+from xqs import listening
+from xqs.cli import connection_options, server_of
+from xqs.endpoints import Command
+from xqs.multiplexer import Multiplexer, Settings, is_on_file
+from xqs.waiting import first_set
+
+USAGE = "xqs mux [OPTIONS] unix:PATH|tcp:PORT [-- COMMAND [WORDS]]"
+EXAMPLE = "as is ./serve in: xqs mux unix:xq.sock -- ./serve --file x.db"
+DEFAULTS = Settings()
+
+
+def say(text: str, command: str = "mux") -> None:
+    """Prints a line for whoever runs the command; nothing, where nobody reads it any more."""
+    with contextlib.suppress(OSError):
+        print(f"xqs {command}: {text}", file=sys.stderr, flush=True)
+
+
+def positive(text: str) -> int:
+    """A whole number from 1, for argparse."""
+    number = int(text)
+    if number < 1:
+        raise ValueError
+    return number
+
+
+def duration(text: str) -> float:
+    """A number of seconds above 0, for argparse."""
+    number = float(text)
+    if not 0 < number < 1e9:
+        raise ValueError
+    return number
+
+
+def add_limits(parser: argparse.ArgumentParser) -> None:
+    """Adds the options of a multiplexer's limits, which `settings_of` reads."""
+    limit = parser.add_argument_group("limits").add_argument
+    limit("--seconds", type=duration, metavar="N",
+          help="end the server, and start it again, when it works on one request for longer")
+    limit("--clients", type=positive, metavar="N", default=DEFAULTS.clients,
+          help="clients at once (%(default)s); more are turned away")
+    limit("--window", type=positive, metavar="N", default=DEFAULTS.window,
+          help="frames of all clients that wait for replies (%(default)s)")
+    limit("--client-window", type=positive, metavar="N", default=DEFAULTS.client_window,
+          help="frames of one client that wait for replies (%(default)s)")
+    limit("--unread", type=positive, metavar="BYTES", default=DEFAULTS.unread,
+          help="a client's unread replies above which its next frame waits (%(default)s)")
+    limit("--held", type=positive, metavar="BYTES", default=DEFAULTS.held,
+          help="all unread replies above which the client with most is cut off (%(default)s)")
+    limit("--stall", type=duration, metavar="SECONDS", default=DEFAULTS.stall,
+          help="cut off a client that takes nothing of its replies for so long (%(default)g)")
+    limit("--frames", type=positive, metavar="N", default=DEFAULTS.frames,
+          help="start the server again after so many frames (%(default)s)")
+    parser.add_argument("--read-only", action="store_true", help="refuse stores and drops")
+
+
+def settings_of(arguments: argparse.Namespace) -> Settings:
+    """The settings that the options of `add_limits` make."""
+    return Settings(
+        clients=arguments.clients, window=arguments.window,
+        client_window=arguments.client_window, frames=arguments.frames, unread=arguments.unread,
+        held=arguments.held, stall=arguments.stall, seconds=arguments.seconds,
+        read_only=arguments.read_only)
+
+
+def split_command(argv: Sequence[str]) -> tuple[list[str], list[str]]:
+    """The words before the first `--`, and those after it."""
+    words = list(argv)
+    at = words.index("--") if "--" in words else len(words)
+    return words[:at], words[at + 1:]
+
+
+async def until_signal(failed: asyncio.Event, again: asyncio.Event) -> None:
+    """Waits for SIGTERM, SIGINT or a failure; the next signal after that sets `again`."""
+    loop = asyncio.get_running_loop()
+    first = asyncio.Event()
+    for number in (signal.SIGTERM, signal.SIGINT):
+        loop.add_signal_handler(number, lambda: again.set() if first.is_set() else first.set())
+    await first_set(first, failed)
+    first.set()
+
+
+async def run(place: str, command: Sequence[str], settings: Settings) -> int:
+    """Serves clients at the place until a signal; gives the exit status.
+
+    Raises StartFailed and PlaceError.
+    """
+    multiplexer = Multiplexer(command, settings, say)
+    await multiplexer.start()
+    again = asyncio.Event()
+    hurried = asyncio.create_task(multiplexer.abandon_when(again))
+    try:
+        listener = listening.listen(place)
+        with contextlib.ExitStack() as stack:
+            if listener.family == socket.AF_UNIX:
+                identity = listening.identity_of(pathlib.Path(listener.getsockname()))
+                stack.callback(listening.remove, listener, identity)
+            server = await asyncio.start_server(multiplexer.serve, sock=listener)
+            say(f"listens at {listening.name_of(listener)}")
+            await until_signal(multiplexer.failed, again)
+        server.close()
+        await multiplexer.stop()
+        hurried.cancel()
+    except BaseException:
+        await multiplexer.abandon()
+        raise
+    return 1 if multiplexer.failed.is_set() else 0
+
+
+def command_of(words: Sequence[str], given: argparse.Namespace) -> Sequence[str]:
+    """The command of the server: the words after `--`, or what the options say.
+
+    ValueError where that is no command.
+    """
+    place = Command(tuple(words)) if words else server_of(given)
+    if not isinstance(place, Command):
+        raise ValueError(f"one server is started here, and {place} is no command, {EXAMPLE}")
+    return place.words
+
+
+def main(words: Sequence[str] | None = None) -> int:
+    """Runs `xqs mux` with these words; gives the exit status.
+
+    0 after a signal that ended it, 1 where the server was lost, 2 for wrong words. Raises XqError,
+    ValueError and OSError where it can't begin.
+    """
+    before, after = split_command(sys.argv[1:] if words is None else words)
+    parser = argparse.ArgumentParser(
+        prog="xqs mux", usage=USAGE, description=__doc__, parents=[connection_options()]
+    )
+    parser.add_argument("place", metavar="unix:PATH|tcp:PORT", help="where clients connect")
+    add_limits(parser)
+    given = parser.parse_args(before)
+    command = command_of(after, given)
+    if not is_on_file(command):
+        say("the documents live in memory: they are lost whenever the server ends")
+    return asyncio.run(run(given.place, command, settings_of(given)))
+
+
+if __name__ == "__main__":
+    sys.exit(main())

@@ -1,0 +1,162 @@
+"""One run of the server below the multiplexer: from its start to its end."""
+
+import asyncio
+import collections
+import contextlib
+import os
+import signal
+import time
+from collections.abc import Callable, Iterator, Sequence
+
+from xqs import protocol
+from xqs.client import PIECE
+from xqs.errors import XqError
+from xqs.mux_peer import Request
+from xqs.waiting import first_set
+
+PROBE = b"Q()"
+"""The kind and the body of the first frame: the server has opened its store when it answers."""
+
+
+class StartFailed(XqError):
+    """The server ended, or could not be run, before it answered its first frame."""
+
+
+class Backend:
+    """A server that runs: frames go in, and each reply is given to `on_reply` with its request.
+
+    `in_flight` has the requests without a reply, in the order of their frames. The server carries
+    out one frame after the other, so that of these only the first may have been carried out when
+    it ends. `frames` counts what was sent to it. With `seconds` the server is killed when it works
+    on one request for longer, and `overdue` is that request.
+    """
+
+    def __init__(self, process: asyncio.subprocess.Process,
+                 on_reply: Callable[[Request, bytes], None], seconds: float | None) -> None:
+        self.process = process
+        self.in_flight: collections.deque[Request] = collections.deque()
+        self.frames = 0
+        self.overdue: Request | None = None
+        self.ended = asyncio.Event()
+        self._answered = 0
+        self._front_since = 0.0
+        self._on_reply = on_reply
+        self._seconds = seconds
+        self._alarm: asyncio.TimerHandle | None = None
+        self._task = asyncio.create_task(self._read())
+
+    @classmethod
+    async def start(cls, command: Sequence[str], on_reply: Callable[[Request, bytes], None],
+                    seconds: float | None) -> "Backend":
+        """Runs the command, and waits until it has answered a frame, so that its store is open.
+
+        Raises StartFailed. The server is a process group of its own, so that a signal from the
+        terminal reaches the multiplexer alone.
+        """
+        try:
+            process = await asyncio.create_subprocess_exec(
+                *command, stdin=asyncio.subprocess.PIPE, stdout=asyncio.subprocess.PIPE,
+                limit=PIECE, process_group=0)
+        except OSError as error:
+            raise StartFailed(f"{command[0]}: {error.strerror or error}") from error
+        answered = asyncio.Event()
+        backend = cls(process, lambda request, reply: answered.set(), None)
+        try:
+            await backend._probe(answered)
+        except BaseException:
+            backend.kill()
+            raise
+        backend._on_reply, backend._seconds = on_reply, seconds
+        return backend
+
+    async def _probe(self, answered: asyncio.Event) -> None:
+        await self.send(Request(None, 0, PROBE))
+        await first_set(answered, self.ended)
+        if not answered.is_set():
+            raise StartFailed(f"the server ended as it started: {self.status()}")
+
+    async def send(self, request: Request) -> None:
+        """Sends a request, and waits until the pipe has taken it or the server has ended."""
+        self.in_flight.append(request)
+        self.frames += 1
+        if len(self.in_flight) == 1:
+            self._watch_front()
+        assert self.process.stdin is not None
+        message = protocol.with_tag(bytes(4) + request.payload, self.frames)
+        self.process.stdin.write(protocol.framed(message))
+        request.unsent = len(self.in_flight) == 1 and self.process.stdin.is_closing()
+        try:
+            await self.process.stdin.drain()
+        except OSError:
+            pass
+
+    async def _read(self) -> None:
+        assert self.process.stdout is not None
+        splitter = protocol.Splitter(protocol.MAX_REPLY)
+        try:
+            while piece := await self.process.stdout.read(PIECE):
+                self._take_all(splitter.feed(piece))
+        except (OSError, protocol.FrameFault):
+            self.kill()
+        if self._alarm:
+            self._alarm.cancel()
+        await self.process.wait()
+        await self._close_input()
+        self.ended.set()
+
+    async def _close_input(self) -> None:
+        assert self.process.stdin is not None
+        self.process.stdin.close()
+        with contextlib.suppress(OSError):
+            await self.process.stdin.wait_closed()
+
+    def _take_all(self, messages: Iterator[bytes]) -> None:
+        """Takes replies; FrameFault for one that no request awaits."""
+        for message in messages:
+            self._answered += 1
+            if not self.in_flight or protocol.tag_of(message) != self._answered:
+                raise protocol.FrameFault("a reply that no request awaits")
+            request = self.in_flight.popleft()
+            self._watch_front()
+            self._on_reply(request, message[4:])
+
+    def _watch_front(self) -> None:
+        if self._alarm:
+            self._alarm.cancel()
+            self._alarm = None
+        self._front_since = time.monotonic()
+        if self._seconds is not None and self.in_flight:
+            front = self.in_flight[0]
+            loop = asyncio.get_running_loop()
+            self._alarm = loop.call_later(self._seconds, self._too_slow, front)
+
+    def _too_slow(self, request: Request) -> None:
+        self.overdue = request
+        self.kill()
+
+    def worked(self) -> float:
+        """For how many seconds the server has been at the first request in flight."""
+        return time.monotonic() - self._front_since
+
+    async def finish(self) -> None:
+        """Ends the server's input, and waits until it has answered what it has and has ended."""
+        assert self.process.stdin is not None
+        self.process.stdin.close()
+        await self.ended.wait()
+
+    def kill(self) -> None:
+        """Ends the server at once, with whatever it started."""
+        if self.process.returncode is None:
+            try:
+                os.killpg(self.process.pid, signal.SIGKILL)
+            except ProcessLookupError:
+                pass
+
+    def status(self) -> str:
+        """How the process ended, in words."""
+        code = self.process.returncode
+        if code is None:
+            return "it runs"
+        if code < 0:
+            return f"ended by {signal.Signals(-code).name}"
+        return f"exit status {code}"

@@ -1,0 +1,152 @@
+"""One client of the multiplexer: the frames that it sends, and its replies in their order."""
+
+import asyncio
+import collections
+import dataclasses
+
+from xqs import protocol
+from xqs.protocol import Kind, Status
+
+SHORTEST = 5
+"""A frame's least length: a tag and a kind."""
+
+
+def refusal(code: str) -> bytes:
+    """The status and the text of a reply that refuses a request."""
+    return bytes([Status.REFUSED]) + code.encode()
+
+
+@dataclasses.dataclass(eq=False, slots=True)
+class Request:
+    """A frame on its way: whose it is, its tag as the client gave it, and its kind and body.
+
+    `reply` is the status and the text of its reply, once there is one. A request without a peer is
+    the multiplexer's own. `unsent` says that no byte of it can have reached the server, `repeated`
+    that it has been sent once more.
+    """
+
+    peer: "Peer | None"
+    tag: int
+    payload: bytes
+    reply: bytes | None = None
+    unsent: bool = False
+    repeated: bool = False
+
+    @property
+    def kind(self) -> bytes:
+        """The letter of the request's kind."""
+        return self.payload[:1]
+
+    def changes(self) -> bool:
+        """Whether the request may change documents."""
+        return self.kind in (Kind.STORE, Kind.DROP)
+
+
+class Peer:
+    """A connection of a client.
+
+    Replies leave in the order of the client's frames, also those that the multiplexer makes
+    itself. `window` is how many of its frames may wait for their replies, `unread` how many bytes
+    of replies may wait for the client to read them before its next frame is taken.
+    """
+
+    def __init__(self, reader: asyncio.StreamReader, writer: asyncio.StreamWriter,
+                 window: int, unread: int) -> None:
+        self._reader = reader
+        self._writer = writer
+        self._pending: collections.deque[Request] = collections.deque()
+        self._room = asyncio.Semaphore(window)
+        self._idle = asyncio.Event()
+        self._idle.set()
+        self._written = 0
+        self._ended = False
+        self.gone = False
+        self.waits_for_frame = False
+        writer.transport.set_write_buffer_limits(high=unread)
+
+    async def next_request(self) -> Request | None:
+        """The next frame of the client; None where its stream ends, inside a frame too.
+
+        A frame that is too short for a tag, or too long, comes back with its refusal as its reply;
+        after one that is too long nothing more is read.
+        """
+        if self._ended:
+            return None
+        self.waits_for_frame = True
+        try:
+            length = int.from_bytes(await self._reader.readexactly(4), "big")
+            if length > protocol.MAX_REQUEST:
+                self._ended = True
+                return Request(self, 0, b"", refusal("prof:LONG"))
+            message = await self._reader.readexactly(length)
+        except (asyncio.IncompleteReadError, OSError):
+            return None
+        finally:
+            self.waits_for_frame = False
+        if length < SHORTEST:
+            return Request(self, 0, b"", refusal("prof:FRAME"))
+        return Request(self, protocol.tag_of(message), message[4:])
+
+    async def expect(self, request: Request) -> None:
+        """Takes a request into the order of the replies, as soon as the client's limits allow.
+
+        Raises OSError where the client has gone.
+        """
+        await self._room.acquire()
+        await self._writer.drain()
+        if self.gone:
+            raise ConnectionResetError("the connection was ended")
+        self._pending.append(request)
+        self._idle.clear()
+        self._flush()
+
+    def answer(self, request: Request, reply: bytes) -> None:
+        """Gives a request its reply, which leaves once those before it have left."""
+        request.reply = reply
+        self._flush()
+
+    def _flush(self) -> None:
+        while self._pending and self._pending[0].reply is not None:
+            request = self._pending.popleft()
+            self._room.release()
+            self._write(protocol.with_tag(bytes(4) + (request.reply or b""), request.tag))
+        if not self._pending:
+            self._idle.set()
+
+    def _write(self, message: bytes) -> None:
+        if not self.gone:
+            data = protocol.framed(message)
+            self._written += len(data)
+            self._writer.write(data)
+
+    def unread(self) -> int:
+        """The bytes of replies that wait for the client to read them."""
+        return self._writer.transport.get_write_buffer_size()
+
+    def taken(self) -> int:
+        """The bytes of replies that have left for the client so far."""
+        return self._written - self.unread()
+
+    def end(self) -> None:
+        """Ends the connection once the replies that are there have left; frames are dropped."""
+        self.gone = True
+        while self._pending:
+            self._pending.pop()
+            self._room.release()
+        self._idle.set()
+        self._writer.close()
+
+    def cut(self) -> None:
+        """Ends the connection at once: what the client has not read is lost."""
+        self.end()
+        self._writer.transport.abort()
+
+    async def finish(self) -> None:
+        """Waits until each request has its reply and these have left, and ends the connection."""
+        await self._idle.wait()
+        self.gone = True
+        self._writer.close()
+        try:
+            await self._writer.wait_closed()
+        except OSError:
+            pass

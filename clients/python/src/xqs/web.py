@@ -1,0 +1,136 @@
+"""`xqs web`: documents by HTTP on loopback, and a page to look at them."""
+
+import argparse
+import asyncio
+import logging
+import sys
+import tempfile
+from collections.abc import AsyncIterator, Sequence
+from contextlib import asynccontextmanager
+from dataclasses import replace
+from functools import partial
+from pathlib import Path
+
+from aiohttp import web
+from aiohttp.http import HttpProcessingError
+
+from xqs import listening, mux
+from xqs.cli import connection_options, server_of
+from xqs.endpoints import Command, Endpoint, UnixSocket
+from xqs.multiplexer import Multiplexer, Settings, is_on_file
+from xqs.mux import add_limits, duration, positive, settings_of, split_command, until_signal
+from xqs.web_guard import NAMES, read_token
+from xqs.web_rest import MAX_LINE, Rest, WebSettings
+from xqs.xml_names import Names
+
+USAGE = "xqs web [OPTIONS] [-- COMMAND [WORDS]]"
+DEFAULTS = WebSettings()
+
+
+say = partial(mux.say, command="web")
+
+
+def is_own_fault(record: logging.LogRecord) -> bool:
+    """Whether a line of aiohttp's log is about this program, and not about a request that was no
+    HTTP: any client can send those, and is told of them."""
+    error = record.exc_info[1] if record.exc_info else None
+    return not isinstance(error, HttpProcessingError)
+
+
+@asynccontextmanager
+async def multiplexed(
+    place: Endpoint, settings: Settings, again: asyncio.Event
+) -> AsyncIterator[tuple[Endpoint, asyncio.Event]]:
+    """Where requests can be sent at once, and what is set when no server is left.
+
+    A command is started below a multiplexer, behind a socket that only its owner can open; it ends
+    in order, or at once when `again` is set. Raises StartFailed.
+    """
+    if not isinstance(place, Command):
+        yield place, asyncio.Event()
+        return
+    multiplexer = Multiplexer(place.words, settings, say)
+    await multiplexer.start()
+    hurried = asyncio.create_task(multiplexer.abandon_when(again))
+    with tempfile.TemporaryDirectory(prefix="xqs-web-") as folder:
+        path = f"{folder}/server"
+        listener = await asyncio.start_unix_server(multiplexer.serve, path)
+        try:
+            yield UnixSocket(path), multiplexer.failed
+        except BaseException:
+            await multiplexer.abandon()
+            raise
+        listener.close()
+        await multiplexer.stop()
+        hurried.cancel()
+
+
+async def run(where: str, place: Endpoint, settings: Settings, options: WebSettings) -> int:
+    """Serves HTTP at the port of loopback until a signal; gives the exit status.
+
+    Raises PlaceError, StartFailed.
+    """
+    again = asyncio.Event()
+    async with multiplexed(place, settings, again) as (server, failed):
+        logging.getLogger("aiohttp.server").addFilter(is_own_fault)
+        application = Rest(server, options).application()
+        runner = web.AppRunner(
+            application, access_log=None, max_line_size=MAX_LINE, max_field_size=MAX_LINE
+        )
+        await runner.setup()
+        try:
+            listener = listening.listen(f"tcp:{where}")
+            await web.SockSite(runner, listener).start()
+            say(f"listens at http://{listening.name_of(listener).removeprefix('tcp:')}/")
+            await until_signal(failed, again)
+        finally:
+            await runner.cleanup()
+    return 1 if failed.is_set() else 0
+
+
+def parser() -> argparse.ArgumentParser:
+    """The words of the command."""
+    result = argparse.ArgumentParser(
+        prog="xqs web", usage=USAGE, description=__doc__, parents=[connection_options()]
+    )
+    option = result.add_argument
+    option("--listen", metavar="[HOST:]PORT", default="127.0.0.1:8984",
+           help="the port of loopback (%(default)s)")
+    option("--token-file", metavar="F", type=Path,
+           help="allow stores and drops to whoever sends the token in this file, which is made "
+           "where it is not there; without it there are none")
+    option("--host", metavar="NAME", action="append", default=[],
+           help="another name of this server, as behind a proxy")
+    option("--names", choices=[it.value for it in Names], default=DEFAULTS.names.value,
+           help="what becomes of names with a colon, where a request does not say it")
+    option("--body", type=positive, metavar="BYTES", default=DEFAULTS.body,
+           help="the most bytes of a document that is put (%(default)s)")
+    option("--wait", type=duration, metavar="SECONDS", default=DEFAULTS.wait,
+           help="how long the next piece of a body or an answer may take (%(default)g)")
+    option("--requests", type=positive, metavar="N", default=DEFAULTS.requests,
+           help="requests that are carried out at once (%(default)s)")
+    add_limits(result)
+    return result
+
+
+def main(words: Sequence[str] | None = None) -> int:
+    """Runs `xqs web` with these words; gives the exit status.
+
+    0 after a signal that ended it, 1 where the server was lost, 2 for wrong words. Raises XqError,
+    ValueError and OSError where it can't begin.
+    """
+    before, command = split_command(sys.argv[1:] if words is None else words)
+    given = parser().parse_args(before)
+    place = Command(tuple(command)) if command else server_of(given)
+    token = read_token(given.token_file) if given.token_file else None
+    options = replace(
+        DEFAULTS, hosts=NAMES | {name.lower() for name in given.host}, token=token,
+        names=Names(given.names), body=given.body, wait=given.wait, requests=given.requests,
+    )
+    if isinstance(place, Command) and not is_on_file(place.words):
+        say("the documents live in memory: they are lost whenever the server ends")
+    return asyncio.run(run(given.listen, place, settings_of(given), options))
+
+
+if __name__ == "__main__":
+    sys.exit(main())

@@ -1,0 +1,98 @@
+"""Who may ask: names of this machine, pages of its own, and for changes whoever has the token.
+
+A page of elsewhere that runs in a browser on this machine can send requests to it, also under a
+name of its own that it has pointed here. So the name that a request was sent to has to be known,
+and a request that a browser says another page has made is refused.
+"""
+
+import hmac
+import os
+import secrets
+import stat
+from collections.abc import Mapping
+from pathlib import Path
+
+from xqs.errors import XqError
+from xqs.web_status import HttpRefusal
+
+NAMES = frozenset(("127.0.0.1", "localhost", "[::1]"))
+"""The names under which a server on loopback may be called, at any port."""
+READS = frozenset(("GET", "HEAD"))
+CHANGES = frozenset(("PUT", "DELETE"))
+OWN_PAGES = ("same-origin", "none")
+"""What a browser says of a request of the page itself, or of whoever sits before it."""
+LEAST_TOKEN = 16
+"""A token has at least so many characters."""
+
+
+class TokenFault(XqError):
+    """A file of a token that can't be used, and why."""
+
+
+def name_of_host(host: str) -> str:
+    """The name in a Host header, without its port, in small letters."""
+    name, colon, port = host.rpartition(":")
+    return (name if colon and (port.isdigit() or not port) else host).lower()
+
+
+def check_host(host: str | None, names: frozenset[str]) -> None:
+    """Refuses a request that was sent to a name that is not ours."""
+    if not host or name_of_host(host) not in names:
+        raise HttpRefusal(403, "xqs:HOST", f"this server is not called {host or 'nothing'}")
+
+
+def check_origin(method: str, path: str, headers: Mapping[str, str]) -> None:
+    """Refuses a request that a page of elsewhere has made; following a link to `/` is none."""
+    site = headers.get("Sec-Fetch-Site")
+    is_visit = path == "/" and method in READS and headers.get("Sec-Fetch-Mode") == "navigate"
+    if site is not None and site not in OWN_PAGES and not is_visit:
+        raise HttpRefusal(403, "xqs:ORIGIN", f"a page of elsewhere has asked ({site})")
+    origin = headers.get("Origin")
+    scheme, _, place = (origin or "").partition("://")
+    if origin is not None and (scheme not in ("http", "https") or place != headers.get("Host")):
+        raise HttpRefusal(403, "xqs:ORIGIN", f"a page of {origin} has asked")
+
+
+def check_token(method: str, given: str | None, token: str | None) -> None:
+    """Refuses a change without the token, and every change where there is no token."""
+    if method not in CHANGES:
+        return
+    if token is None:
+        raise HttpRefusal(
+            403, "xqs:READONLY", "nothing can be stored or dropped here without --token-file"
+        )
+    scheme, _, word = (given or "").partition(" ")
+    if scheme.lower() != "bearer" or not hmac.compare_digest(
+        word.strip().encode(errors="replace"), token.encode()
+    ):
+        raise HttpRefusal(
+            401, "xqs:TOKEN", "a store or a drop wants Authorization: Bearer TOKEN",
+            {"WWW-Authenticate": 'Bearer realm="xqs"'},
+        )
+
+
+def read_token(path: Path) -> str:
+    """The token in a file of its owner; a new one, where there is no file yet.
+
+    Raises TokenFault where others may read the file, or it holds no token, and OSError.
+    """
+    try:
+        new = os.open(path, os.O_WRONLY | os.O_CREAT | os.O_EXCL, 0o600)
+    except FileExistsError:
+        return _token_of(path)
+    token = secrets.token_urlsafe(32)
+    with os.fdopen(new, "w", encoding="ascii") as file:
+        file.write(token + "\n")
+    return token
+
+
+def _token_of(path: Path) -> str:
+    with path.open("rb") as file:
+        mode = stat.S_IMODE(os.fstat(file.fileno()).st_mode)
+        token = file.read(1 << 12).decode("utf-8", "replace").strip()
+    if mode & 0o077:
+        raise TokenFault(f"{path}: others may read it (mode {mode:04o}); chmod 600 mends that")
+    if len(token) < LEAST_TOKEN or not token.isascii() or not token.isprintable() or " " in token:
+        raise TokenFault(
+            f"{path}: a token is one line of {LEAST_TOKEN} or more visible ASCII characters")
+    return token

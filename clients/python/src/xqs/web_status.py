@@ -1,0 +1,86 @@
+"""What HTTP says of a request that was not done."""
+
+from collections.abc import Mapping
+from dataclasses import dataclass, field
+
+from xqs import places
+from xqs.errors import Closed, Refused, ReplyError, XqError
+from xqs.protocol import FrameFault
+
+STATUSES = {
+    "FODC0002": 404,
+    "prof:ABSENT": 404,
+    "prof:LONG": 413,
+    "prof:NODES": 413,
+    "prof:REPLY": 413,
+    "xqs:READONLY": 403,
+    "xqs:SECONDS": 504,
+}
+"""The status of each code that the server refuses with, where it is not BAD."""
+BAD, WANTING, UNKNOWN = 400, 503, 502
+RETRY = {"Retry-After": "1"}
+SEARCHED = 1 << 14
+"""The place of a fault is looked for in queries of so many characters, lest others wait."""
+CODE, PLACE = "Xqs-Code", "Xqs-Place"
+"""The headers that have the code of a refusal, and the line and the column where a query is at
+fault, as far as its tokens tell."""
+
+
+@dataclass
+class HttpRefusal(XqError):
+    """A request that is answered with a status, a code and a sentence."""
+
+    status: int
+    code: str
+    sentence: str
+    headers: Mapping[str, str] = field(default_factory=dict)
+
+    def __str__(self) -> str:
+        return f"{self.code}: {self.sentence}"
+
+
+def refusal_of(error: Exception, changes: bool) -> HttpRefusal | None:
+    """The refusal by which an error of the client is told; None where it is no such error.
+
+    `changes` says whether the request was to store or to drop: where its connection ended without
+    a reply, it may have been carried out.
+    """
+    match error:
+        case HttpRefusal():
+            return error
+        case Refused():
+            return _told(error, STATUSES.get(error.code, BAD))
+        case ReplyError():
+            return _told(error, WANTING, RETRY)
+        case Closed():
+            return _closed(error, changes)
+        case FrameFault():
+            return HttpRefusal(413, "prof:LONG", str(error))
+        case OSError():
+            return HttpRefusal(WANTING, "xqs:SERVER", f"no server answers ({error})", RETRY)
+        case ValueError():
+            return HttpRefusal(BAD, "xqs:REQUEST", str(error))
+    return None
+
+
+def placed(error: Refused, query: str) -> HttpRefusal:
+    """The refusal of a query, with the place of its fault where the text tells one."""
+    refusal = _told(error, STATUSES.get(error.code, BAD))
+    place = places.find(query, error.code) if len(query) <= SEARCHED else None
+    if place is None:
+        return refusal
+    line, column = places.line_and_column(query, place.at)
+    sentence = f"{refusal.sentence}\nline {line}, column {column}: {place.why}"
+    return HttpRefusal(refusal.status, error.code, sentence, {PLACE: f"{line}:{column}"})
+
+
+def _told(error: ReplyError, status: int, headers: Mapping[str, str] = {}) -> HttpRefusal:
+    sentence = str(error).removeprefix(f"{error.code}: ")
+    return HttpRefusal(status, error.code, sentence, headers)
+
+
+def _closed(error: Closed, changes: bool) -> HttpRefusal:
+    if changes:
+        sentence = f"{error}; it may have been carried out, so look before you send it again"
+        return HttpRefusal(UNKNOWN, "xqs:CLOSED", sentence)
+    return HttpRefusal(WANTING, "xqs:CLOSED", f"{error}; it may be sent again", RETRY)

@@ -1,0 +1,149 @@
+"""What the tests of the multiplexer stand on: one that runs, and connections to it."""
+
+import os
+import signal
+import socket
+import struct
+import subprocess
+import sys
+import tempfile
+import time
+from pathlib import Path
+
+from tests.support import server_command
+
+SOURCES = Path(__file__).resolve().parents[1] / "src"
+PATIENCE = 30.0
+# A query that takes hours and little memory.
+ENDLESS = b"every $x in 1 to 1000000, $y in 1 to 1000000 satisfies $x > 0"
+
+
+def store_body(address: bytes, query: bytes = b"document {}") -> bytes:
+    """The body of a store."""
+    return bytes([len(address)]) + address + query
+
+
+class Connection:
+    """A connection by which frames go out and replies come in, one by one."""
+
+    def __init__(self, place: str) -> None:
+        if place.startswith("unix:"):
+            self.socket = socket.socket(socket.AF_UNIX)
+            self.socket.connect(place[5:])
+        else:
+            host, port = place[4:].rsplit(":", 1)
+            self.socket = socket.create_connection((host.strip("[]"), int(port)))
+        self.socket.settimeout(PATIENCE)
+        self.tag = 0
+
+    def send(self, kind: bytes, body: bytes = b"") -> int:
+        """Sends a frame; gives its tag."""
+        self.tag += 1
+        self.socket.sendall(struct.pack(">IIc", 5 + len(body), self.tag, kind) + body)
+        return self.tag
+
+    def read(self, count: int) -> bytes:
+        """So many bytes, or fewer where the stream ends."""
+        data = bytearray()
+        while len(data) < count:
+            try:
+                piece = self.socket.recv(count - len(data))
+            except ConnectionResetError:
+                break
+            if not piece:
+                break
+            data += piece
+        return bytes(data)
+
+    def reply(self) -> tuple[int, int, bytes] | None:
+        """The tag, status and text of the next reply; None at the end of the stream."""
+        head = self.read(4)
+        if len(head) < 4:
+            return None
+        message = self.read(struct.unpack(">I", head)[0])
+        return struct.unpack(">I", message[:4])[0], message[4], message[5:]
+
+    def ask(self, kind: bytes, body: bytes = b"") -> tuple[int, bytes] | None:
+        """Sends a frame, and gives status and text of its reply; None where the stream ends."""
+        tag = self.send(kind, body)
+        reply = self.reply()
+        if reply is None:
+            return None
+        assert reply[0] == tag, (reply, tag)
+        return reply[1:]
+
+    def __enter__(self) -> "Connection":
+        return self
+
+    def __exit__(self, *_: object) -> None:
+        self.socket.close()
+
+
+class RunningMux:
+    """A multiplexer that runs, over the server of XQS_SERVER or another command.
+
+    `options` are words before the `--`; with `on_file` the documents live in a file of `folder`.
+    """
+
+    def __init__(self, *options: str, on_file: bool = True, place: str = "",
+                 command: list[str] | None = None) -> None:
+        self._folder = tempfile.TemporaryDirectory(prefix="xqs-mux-")
+        self.folder = Path(self._folder.name)
+        self.place = place or f"unix:{self.folder}/xq.sock"
+        self.command = command or server_command()
+        if on_file:
+            self.command += ["--file", str(self.folder / "x.db")]
+        self.errors = self.folder / "errors"
+        with self.errors.open("wb") as errors:
+            self.process = subprocess.Popen(
+                [sys.executable, "-m", "xqs", "mux", self.place, *options, "--", *self.command],
+                cwd=SOURCES, stdin=subprocess.DEVNULL, stdout=errors, stderr=errors)
+        self.place = self.wait_for("listens at ").split()[0]
+
+    def said(self) -> str:
+        """What the multiplexer and its servers have said so far."""
+        return self.errors.read_text()
+
+    def wait_for(self, words: str) -> str:
+        """Waits until the words are said; gives the rest of their line."""
+        end = time.monotonic() + PATIENCE
+        while words not in self.said():
+            if time.monotonic() > end or self.process.poll() is not None:
+                raise AssertionError(f"{words!r} was not said: {self.said()!r}")
+            time.sleep(0.01)
+        return self.said().split(words)[1].split("\n")[0]
+
+    def connect(self) -> "Connection":
+        """A new connection."""
+        return Connection(self.place)
+
+    def server_ids(self) -> list[int]:
+        """The process ids of the servers that run below the multiplexer."""
+        found = subprocess.run(["pgrep", "-P", str(self.process.pid)],
+                               capture_output=True, text=True, check=False)
+        return [int(word) for word in found.stdout.split()]
+
+    def kill_server(self) -> None:
+        """Ends the server below with SIGKILL."""
+        (server,) = self.server_ids()
+        os.kill(server, signal.SIGKILL)
+
+    def terminate(self) -> int:
+        """Ends the multiplexer by SIGTERM; gives its exit status."""
+        self.process.send_signal(signal.SIGTERM)
+        return self.process.wait(PATIENCE)
+
+    def __enter__(self) -> "RunningMux":
+        return self
+
+    def __exit__(self, *_: object) -> None:
+        if self.process.poll() is None:
+            self.process.send_signal(signal.SIGTERM)
+            try:
+                self.process.wait(5)
+            except subprocess.TimeoutExpired:
+                self.process.kill()
+                self.process.wait()
+        said = self.said()
+        self._folder.cleanup()
+        assert "Traceback" not in said and "exception" not in said, said

@@ -1,0 +1,109 @@
+"""`xqs web` for tests: one that runs, and requests to it."""
+
+import http.client
+import subprocess
+import sys
+import tempfile
+import time
+from collections.abc import Iterable, Mapping
+from pathlib import Path
+from typing import NamedTuple
+
+from tests.serving import PATIENCE, SOURCES
+from tests.support import file_server
+
+TOKEN = "a-token-of-the-tests-alone"
+
+
+class Answer(NamedTuple):
+    """What came back."""
+
+    status: int
+    body: str
+    headers: Mapping[str, str]
+
+
+class RunningWeb:
+    """A web server that runs, by default over a server on a file of its own.
+
+    `words` are those of the command line; with `place` it connects there and starts no server.
+    """
+
+    def __init__(self, *words: str, place: str = "", has_token: bool = True) -> None:
+        self._folder = tempfile.TemporaryDirectory(prefix="xqs-web-test-")
+        self.folder = Path(self._folder.name)
+        self.token_file = self.folder / "token"
+        if has_token:
+            self.token_file.touch(mode=0o600)
+            self.token_file.write_text(TOKEN + "\n")
+            words = (*words, "--token-file", str(self.token_file))
+        server = ["--server", place] if place else ["--", *file_server(self.folder / "x.db")]
+        self.errors = self.folder / "errors"
+        with self.errors.open("wb") as errors:
+            self.process = subprocess.Popen(
+                [sys.executable, "-m", "xqs", "web", "--listen", "0", *words, *server],
+                cwd=SOURCES, stdin=subprocess.DEVNULL, stdout=errors, stderr=errors)
+        self.url = self._wait_for("listens at ").strip()
+        self.host = self.url.removeprefix("http://").rstrip("/")
+
+    def said(self) -> str:
+        """What it has said so far."""
+        return self.errors.read_text()
+
+    def _wait_for(self, words: str) -> str:
+        end = time.monotonic() + PATIENCE
+        while words not in self.said():
+            if time.monotonic() > end or self.process.poll() is not None:
+                raise AssertionError(f"{words!r} was not said: {self.said()!r}")
+            time.sleep(0.01)
+        return self.said().split(words)[1].split("\n")[0]
+
+    def ask(self, method: str, path: str, body: str | bytes | Iterable[bytes] | None = None,
+            **headers: str) -> Answer:
+        """Sends a request, in chunks where the body comes in pieces; `_` in the name of a header
+        stands for a hyphen."""
+        connection = http.client.HTTPConnection(self.host, timeout=PATIENCE)
+        named = {name.replace("_", "-"): value for name, value in headers.items()}
+        data = body.encode() if isinstance(body, str) else body
+        try:
+            connection.request(method, path, data, named)
+            response = connection.getresponse()
+            return Answer(response.status, response.read().decode(), dict(response.getheaders()))
+        finally:
+            connection.close()
+
+    def put(self, address: str, body: str | bytes | Iterable[bytes], kind: str = "application/xml",
+            **headers: str) -> Answer:
+        """Stores a document, with the token."""
+        return self.ask("PUT", f"/rest/{address}", body, Content_Type=kind,
+                        Authorization=f"Bearer {TOKEN}", **headers)
+
+    def delete(self, address: str) -> Answer:
+        """Drops a document, with the token."""
+        return self.ask("DELETE", f"/rest/{address}", Authorization=f"Bearer {TOKEN}")
+
+    def server_id(self) -> int:
+        """The process id of the server below."""
+        found = subprocess.run(["pgrep", "-P", str(self.process.pid)],
+                               capture_output=True, text=True, check=True)
+        return int(found.stdout.split()[0])
+
+    def terminate(self) -> int:
+        """Ends it by SIGTERM; gives its exit status."""
+        self.process.terminate()
+        return self.process.wait(PATIENCE)
+
+    def __enter__(self) -> "RunningWeb":
+        return self
+
+    def __exit__(self, *_: object) -> None:
+        if self.process.poll() is None:
+            self.process.terminate()
+            try:
+                self.process.wait(5)
+            except subprocess.TimeoutExpired:
+                self.process.kill()
+                self.process.wait()
+        said = self.said()
+        self._folder.cleanup()
+        assert "Traceback" not in said and "exception" not in said, said
