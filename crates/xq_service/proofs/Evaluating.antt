@@ -1,8 +1,6 @@
 -- From a view of a store to what is made of a query's value over its documents.
-use Rattle.std.proofs.Common.{◌≡◌, ◌≤◌, List, [], ◌∷◌, map, length, Result, refl, sym, ◌∙◌, ap, subst, arith, String, Global, string_bytes}
-use Rattle.std.proofs.lemmas.List.{length-map}
+use Rattle.std.proofs.Common.{◌≡◌, ◌≤◌, ℕ, List, [], ◌∷◌, map, length, Result, refl, sym, ◌∙◌, ap, subst, arith}
 use Rattle.std.specs.FinMap.{keys, values, entries}
-use Rattle.std.specs.List.{AllZip}
 use Rattle.sqlite_trees.specs.declared.store.Store.{Ghosts}
 use Rattle.sqlite.specs.Held.{Held}
 use Rattle.xq_atoms.specs.Judged.{Judged}

@@ -28,31 +28,31 @@ returns-in_err-document-clause-tells g c = λ clean m stood. (
   c.in_err-document.ensures.same clean m stood,
 )
 
-pub returns-in_err-put-clause-tells : goal.returns-in_err-put-clause-tells
-returns-in_err-put-clause-tells g c = λ clean m stood.
-    let early = c.in_err-put.ensures.was_clean clean in (
+pub returns-in_err-put_owned-clause-tells : goal.returns-in_err-put_owned-clause-tells
+returns-in_err-put_owned-clause-tells g c = λ clean m stood.
+    let early = c.in_err-put_owned.ensures.was_clean clean in (
       m,
-      rw (handed_on c.from_residual-in_err-put.result (OfWant c.in_err-put.field-0.0) c.from_residual-in_err-put.ensures.1) (
-          put_wanted m c.args.address.now c.args.text.now c.in_ok-plan.plan c.in_err-put.field-0.0 c.in_ok-address.ensures.1 c.in_ok-plan.ensures),
-      c.in_err-put.ensures.kept clean m (c.in_ok-document.ensures.same early m stood),
+      rw (handed_on c.from_residual-in_err-put_owned.result (OfWant c.in_err-put_owned.field-0.0) c.from_residual-in_err-put_owned.ensures.1) (
+          put_wanted m c.args.address.now c.args.text.now c.in_ok-plan.plan c.in_err-put_owned.field-0.0 c.in_ok-address.ensures.1 c.in_ok-plan.ensures),
+      c.in_err-put_owned.ensures.kept clean m (c.in_ok-document.ensures.same early m stood),
     )
 
 pub returns-in-Stored-clause-tells : goal.returns-in-Stored-clause-tells
 returns-in-Stored-clause-tells g c = λ clean m stood.
-    let early = c.in_ok-put.ensures.was_clean clean in
+    let early = c.in_ok-put_owned.ensures.was_clean clean in
     let stands = c.in_ok-document.ensures.same early m stood in (
       insert m c.in_ok-address.address.now c.in_ok-document.document,
       put_told m c.args.address.now c.args.text.now c.in_ok-address.address.now c.in_ok-plan.plan c.in_ok-document.document false c.in_ok-address.ensures c.in_ok-plan.ensures
-          (c.in_ok-document.ensures.made early m stood) (was_stored _ (sym c.in-Stored.is ∙ c.in_ok-put.ensures.answer clean m stands)),
-      c.in_ok-put.ensures.put clean m stands,
+          (c.in_ok-document.ensures.made early m stood) (was_stored _ (sym c.in-Stored.is ∙ c.in_ok-put_owned.ensures.answer clean m stands)),
+      c.in_ok-put_owned.ensures.put clean m stands,
     )
 
 pub returns-clause-tells : goal.returns-clause-tells
 returns-clause-tells g c = λ clean m stood.
-    let early = c.in_ok-put.ensures.was_clean clean in
+    let early = c.in_ok-put_owned.ensures.was_clean clean in
     let stands = c.in_ok-document.ensures.same early m stood in (
       insert m c.in_ok-address.address.now c.in_ok-document.document,
       put_told m c.args.address.now c.args.text.now c.in_ok-address.address.now c.in_ok-plan.plan c.in_ok-document.document true c.in_ok-address.ensures c.in_ok-plan.ensures
-          (c.in_ok-document.ensures.made early m stood) (was_replaced _ (sym c.in-Replaced.is ∙ c.in_ok-put.ensures.answer clean m stands)),
-      c.in_ok-put.ensures.put clean m stands,
+          (c.in_ok-document.ensures.made early m stood) (was_replaced _ (sym c.in-Replaced.is ∙ c.in_ok-put_owned.ensures.answer clean m stands)),
+      c.in_ok-put_owned.ensures.put clean m stands,
     )
