@@ -23,7 +23,7 @@ import rt_all
 import watched
 from progress import Progress, Watch, clock, expected_minutes, say, show_end
 
-# Room for each check that runs: three were seen to take 3.4 to 4.5 GB, and most up to 2.
+# Room for each check that runs: four were seen to take 3.4 to 5.5 GB, and most up to 2.
 BYTES_OF_A_CHECK = 3_500_000_000
 LOG = "out/serve.log"
 # The line of proof_minutes.txt that has the minutes of a whole first start by the clock.
