@@ -3,10 +3,10 @@
 
     tools/prove_program.py [CRATE]     CRATE in the program's place, as where this is tried
 
-`rt all check` proves the crate and the libraries below it, several at a time, and keeps each in its
-folder out/ as it is done; `rt run` then builds the program over them. So a start that was
-interrupted goes on where it was, and `rt check` goes on from there as well. out/serve.log has what
-rt says; what the check of a crate says comes there as it ends.
+`rt all check` (by rt_all.py) proves the crate and the libraries below it, several at a time, and
+keeps each in its folder out/ as it is done; `rt run` then builds the program over them. So a start
+that was interrupted goes on where it was, and `rt check` goes on from there as well. out/serve.log
+has what rt says; what the check of a crate says comes there as it ends.
 """
 
 from __future__ import annotations
@@ -19,10 +19,11 @@ import time
 from collections.abc import Sequence
 
 import repository
+import rt_all
 import watched
 from progress import Progress, Watch, clock, expected_minutes, say, show_end
 
-# Room for each check that runs: two were seen to take 3.4 and 3.8 GB, and the others up to 1.8.
+# Room for each check that runs: four were seen to take 3.4 to 5.5 GB, and most up to 2.
 BYTES_OF_A_CHECK = 3_500_000_000
 LOG = "out/serve.log"
 # The line of proof_minutes.txt that has the minutes of a whole first start by the clock.
@@ -59,7 +60,7 @@ def prove(top: pathlib.Path, crate: str, at_once: int, log_path: pathlib.Path) -
     say(begins(len(names), at_once, minutes.get(WHOLE)))
     with open(log_path, "wb") as log, open(log_path, encoding="utf-8", errors="replace") as lines:
         watch = Watch(Progress(names, minutes, time.monotonic()), lines)
-        words = ["rt", "all", "check", "--jobs", str(at_once)]
+        words = [sys.executable, rt_all.__file__, "check", "--jobs", str(at_once)]
         status = watched.run(words, log, watch.look, cwd=top / "crates" / crate)
     if status:
         raise NotProved("a crate was not proved")
