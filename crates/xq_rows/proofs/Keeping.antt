@@ -1,5 +1,5 @@
 -- What a store keeps, over what it does to its connection.
-use Rattle.std.proofs.Common.{◌≡◌, ◌≤◌, ℕ, suc, List, [], ◌∷◌, length, String, Global, Option, Some, None, Bool, true, false, Result, Ok, Err, OnOk, IfOk, IfSome, IsTrue, map, string_bytes, refl, sym, ap, subst, ◌∙◌, arith}
+use Rattle.std.proofs.Common.{◌≡◌, ◌≤◌, ℕ, suc, List, [], ◌∷◌, length, String, Global, Option, Some, None, rc_value, Bool, true, false, Result, Ok, Err, OnOk, IfOk, IfSome, IsTrue, map, string_bytes, refl, sym, ap, subst, ◌∙◌, arith}
 use Rattle.std.specs.FinMap.{keys}
 use Rattle.sqlite_trees.specs.View.{doubt}
 use Rattle.sqlite_trees.specs.declared.store.Store.{Ghosts}
@@ -7,7 +7,7 @@ use Rattle.sqlite.specs.Held.{Held, state}
 use Rattle.sqlite.specs.State.{HasCleanDisk}
 use Rattle.xq_regions.specs.Tree.{Tree, IsDocument}
 use Rattle.xq_rows.specs.declared.shelves.Shelf.{Shelf}
-use Rattle.xq_rows.specs.Documents.{IsReady, IsClean, IsOpen, IsUp, IsStore, HoldsDocuments, Map, StandsFor, documents_in, is_at}
+use Rattle.xq_rows.specs.Documents.{IsReady, IsClean, IsOpen, IsUp, IsStore, HoldsDocuments, Map, StandsFor, documents_in, is_at, tree_at}
 use Rattle.xq_rows.specs.Tables.{node_rows, IsStoreSchema}
 use Rattle.xq_rows.specs.Views.{Beginning, HeldDocuments, StoodFor, Viewed, beginning, trees_under}
 use Rattle.xq_rows.specs.private.Keeps.{AreOf, IsKeeping, IsKept, Keeps, KeepsShelf, LeavesAlone, StaysOutside}
@@ -144,6 +144,26 @@ module _ {S : Type 0} (g : Ghosts S) where
                   let was = keeping.own before.own (early ready) in
                   kept_drop a (state g conn).now (state g new).now (did ready was.schema was.apart was.ints).0 was edited.0 l edited.2 (before.of (early ready)));
             }
+
+  -- with rows of other documents forgotten, the same is true
+  pub roomier : (conn : Held S) (is_own : Bool) (shelf later : Option Shelf) → IsKeeping g conn is_own shelf
+      → IfSome later (λ l. (earlier : Shelf) × (shelf ≡ Some earlier) × (l.addresses ≡ earlier.addresses) × ((trees : List Tree) → AreFronts trees earlier.fronts.items → AreFronts trees l.fronts.items)) → IsKeeping g conn is_own later
+  roomier conn is_own shelf later keeping roomy = record { outside = keeping.outside; own = keeping.own; keeps = go later roomy }
+    where
+      go : (later : Option Shelf) → IfSome later (λ l. (earlier : Shelf) × (shelf ≡ Some earlier) × (l.addresses ≡ earlier.addresses) × ((trees : List Tree) → AreFronts trees earlier.fronts.items → AreFronts trees l.fronts.items)) → Keeps g conn is_own later
+      go None roomy = tt
+      go (Some l) roomy =
+          let before : KeepsShelf g conn is_own roomy.0 = subst (Keeps g conn is_own) roomy.1 keeping.keeps in
+          let same : l.addresses.value ≡ roomy.0.addresses.value = ap rc_value roomy.2 in
+          record {
+            own = before.own;
+            of = λ ready. (
+                let was = before.of ready in
+                record {
+                  listed = same ∙ was.listed;
+                  rows = subst (λ ks. AreFronts (map (tree_at (node_rows (state g conn).now)) ks) l.fronts.items) (sym same) (roomy.3 _ was.rows);
+                });
+          }
 
   -- a new store, of which no address is kept
   pub keeping_empty : (conn : Held S) → conn.in_transaction ≡ false → IsEmptyStore (state g conn).now → (shelf : Option Shelf) → IfSome shelf (λ s. (s.addresses.value ≡ []) × (s.fronts.items ≡ [])) → IsKeeping g conn true shelf

@@ -4,6 +4,7 @@ ghost use Rattle.std.specs.FinMap.{get};
 ghost use Rattle.xq_regions.specs.Rows.{placed, row_of};
 ghost use Rattle.xq_regions.specs.Tree.{Tree};
 ghost use Rattle.xq_rows.specs.Documents.{IsClean, IsOpen, Map, StandsFor};
+ghost use Rattle.xq_rows.specs.declared.shelves.Shelf.{Shelf};
 ghost use Rattle.xq_rows.specs.private.Keeps.{LeavesAlone};
 ghost use Rattle.xq_rows.specs.private.Shelves.{AreFronts, AreListed, HasReached, IsFront, Reaches, front_at, run_of};
 ghost use Rattle.xq_sources.specs.Parents.{IsParentRow};
@@ -58,16 +59,16 @@ fn forget(alloc: Global, fronts: &mut Vec<Front>, tree: usize) -> usize
     count
 }
 
-/// While too many rows are kept, forgets those of the tree that was wanted longest ago, but for one
-/// tree.
-fn make_room(alloc: Global, shelf: &mut Shelf, tree: usize)
+/// While too many rows are kept, with so many that come, forgets those of the tree that was wanted
+/// longest ago, but for one tree.
+fn make_room(alloc: Global, shelf: &mut Shelf, tree: usize, coming: usize)
     ensures addresses { shelf.new.addresses ≡ shelf.old.addresses }
     ensures fronts { (trees : List Tree) → AreFronts trees shelf.old.fronts.items
         → AreFronts trees shelf.new.fronts.items }
     ensures stays { shelf.new.stays ≡ shelf.old.stays }
 {
     for turn in 0..shelf.fronts.len() {
-        if shelf.kept <= MOST_KEPT {
+        if shelf.kept.saturating_add(coming) <= MOST_KEPT {
             return;
         }
         let oldest = oldest_but(&shelf.fronts, tree);
@@ -77,6 +78,18 @@ fn make_room(alloc: Global, shelf: &mut Shelf, tree: usize)
         let count = forget(alloc, &mut shelf.fronts, oldest);
         shelf.kept = shelf.kept.saturating_sub(count);
     }
+}
+
+/// What is kept, with room for so many rows more as far as others can be forgotten.
+pub(crate) fn with_room(alloc: Global, shelf: Option<Shelf>, coming: usize) -> Option<Shelf>
+    ensures { IfSome result (λ later. (earlier : Shelf) × (shelf ≡ Some earlier)
+        × (later.addresses ≡ earlier.addresses) × ((trees : List Tree)
+        → AreFronts trees earlier.fronts.items → AreFronts trees later.fronts.items)) }
+{
+    let mut shelf = shelf?;
+    let none = shelf.fronts.len();
+    make_room(alloc, &mut shelf, none, coming);
+    Some(shelf)
 }
 
 /// Reads the document of an address on, a part at a time, until its rows reach a place or are all
@@ -244,7 +257,7 @@ pub(crate) fn read_on<S: Alter>(
     if has_reached(shelf, tree, place) {
         return Ok(());
     }
-    make_room(alloc, shelf, tree);
+    make_room(alloc, shelf, tree, 0);
     let Some(address) = address_at(&shelf.addresses, tree) else {
         return Err(Want::Store);
     };

@@ -48,8 +48,8 @@ impl Front {
         }
     }
 
-    /// All rows of a document. Where memory is short they are without a guide.
-    pub fn whole(alloc: Global, document: Fragment) -> Front
+    /// All rows of a document, wanted at a time. Where memory is short they are without a guide.
+    pub fn whole(alloc: Global, document: Fragment, wanted: u64) -> Front
         ensures { Encodes result.rows.items document }
     {
         let rows = document.into_rows();
@@ -58,8 +58,16 @@ impl Front {
         Front {
             rows,
             guide,
-            wanted: 0,
+            wanted,
         }
+    }
+}
+
+/// The time by the clock of what is kept.
+pub(crate) fn time_of(shelf: &Option<Shelf>) -> u64 {
+    match shelf {
+        Some(shelf) => shelf.clock,
+        None => 0,
     }
 }
 

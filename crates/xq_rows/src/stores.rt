@@ -25,10 +25,11 @@ ghost use Rattle.xq_sources.specs.Sources.{rows_between, rows_enclosing};
 
 use crate::adopt::adopt_tables;
 use crate::faults::OpenFault;
+use crate::fronts::with_room;
 use crate::memory_files::open_empty;
 use crate::readings::{check_open, document_of, list_addresses, nodes_above, nodes_between};
 use crate::schemas::{is_blank, is_store_schema};
-use crate::shelves::{Front, Shelf};
+use crate::shelves::{Front, Shelf, time_of};
 use crate::tables::make_tables;
 use crate::transactions::{drop_rows, put_rows};
 use sqlite::{Alter, Connection, FileStore, MemStore};
@@ -333,9 +334,11 @@ impl<S: Alter> Store<S> {
             → IsOpen S.Store self.old }
         ensures was_clean { IsClean S.Store self.new → IsClean S.Store self.old }
     {
-        let shelf = self.shelf.take();
+        let others = self.shelf.take();
         let replaced = put_rows(&mut self.conn, address, document.rows())?;
-        self.shelf = shelf_with(shelf, address, Front::whole(self.alloc, document));
+        let shelf = with_room(self.alloc, others, document.rows().len());
+        let front = Front::whole(self.alloc, document, time_of(&shelf));
+        self.shelf = shelf_with(shelf, address, front);
         Ok(Put::of(replaced))
     }
 
