@@ -180,7 +180,7 @@ def _function(found: list[Token]) -> Place | None:
         known = dict.fromkeys(TYPES, (1, 1)) if prefix == "xs" else FUNCTIONS
         if local not in known:
             return Place(token.at, f"there is no function {token.text}" + _near(local, known))
-        count = _arguments(found[number + 1 :])
+        count = _arguments(found, number + 1)
         least, most = known[local]
         if count is not None and not least <= count <= most:
             return Place(token.at, f"{token.text} takes {_numbers(least, most)}, not {count}")
@@ -192,15 +192,16 @@ def _numbers(least: int, most: int) -> str:
     return f"{many if least < most else least} argument{'' if most == 1 else 's'}"
 
 
-def _arguments(found: list[Token]) -> int | None:
-    """How many arguments stand in the bracket that begins here; None where it does not close."""
+def _arguments(found: list[Token], first: int) -> int | None:
+    """How many arguments stand in the bracket that begins there; None where it does not close."""
     depth, commas = 0, 0
-    for number, token in enumerate(found):
+    for number in range(first, len(found)):
+        token = found[number]
         if token.kind == "symbol":
             depth += (token.text in _PAIRS.values()) - (token.text in _PAIRS)
             commas += token.text == "," and depth == 1
         if depth == 0:
-            return 0 if number == 1 else commas + 1
+            return 0 if number == first + 1 else commas + 1
     return None
 
 
