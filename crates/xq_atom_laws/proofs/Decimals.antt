@@ -27,23 +27,23 @@ use Rattle.xq_atom_laws.proofs.Visible.{visible, trimmed-visible, digits-visible
 -- ---- the parts of what is printed, by the number n of millionths without its sign
 
 -- the digits before the point
-abbrev whole : ℕ → Text
+abbrev pub whole : ℕ → Text
 whole n = decimal (n / 1000000)
 
 -- as it is printed, and as it is cast to a string
-abbrev printed : ℕ → Text
+abbrev pub printed : ℕ → Text
 printed n = whole n ++ 46 ∷ at_least_zero (fraction_text n)
 
-abbrev plain : ℕ → Text
+abbrev pub plain : ℕ → Text
 plain n = whole n ++ pointed (fraction_text n)
 
 below_million : (n : ℕ) → n % 1000000 < 1000000
 below_million n = omega arith
 
-is_whole-whole : (n : ℕ) → n < 10000000000000000000000000 → is_whole (whole n) ≡ true
+pub is_whole-whole : (n : ℕ) → n < 10000000000000000000000000 → is_whole (whole n) ≡ true
 is_whole-whole n small = is_whole-decimal (n / 1000000) (omega arith)
 
-fraction-digits : (n : ℕ) → IsTrue (are_digits (fraction_text n))
+pub fraction-digits : (n : ℕ) → IsTrue (are_digits (fraction_text n))
 fraction-digits n = are_digits-without_trailing_zeros (six_digits (n % 1000000)) (are_digits-six_digits (n % 1000000) (below_million n))
 
 fraction-kept : (n : ℕ) → without_trailing_zeros (fraction_text n) ≡ fraction_text n
@@ -96,10 +96,10 @@ is_decimal-neg (suc n) small = grind (arith, nat_tests)
 
 -- ---- the literal
 
-abbrev judged_literal : Bool → ℕ → Judged ℤ
+abbrev pub judged_literal : Bool → ℕ → Judged ℤ
 judged_literal long n = if long then Err ProfDigits else only_if (is_decimal (pos n)) FOAR0002 (pos n)
 
-abbrev literal_of_parts : Text → Text → Judged ℤ
+abbrev pub literal_of_parts : Text → Text → Judged ℤ
 literal_of_parts front back = judged_literal (nat_lt 6 (length back)) (millionths_of front back)
 
 pub decimal_literal-printed : (n : ℕ) → n < 10000000000000000000000000 → decimal_literal (printed n) ≡ Ok (pos n)
@@ -109,7 +109,7 @@ decimal_literal-printed n small =
     ∙ (λ i. judged_literal (fraction-short n i) (joined n small i))
     ∙ ap (λ b. only_if b FOAR0002 (pos n)) (is_decimal-pos n small)
 
-abbrev numeric_shape : Bool → Bool → Judged ℤ → Judged ℤ → Judged Atomic
+abbrev pub numeric_shape : Bool → Bool → Judged ℤ → Judged ℤ → Judged Atomic
 numeric_shape has_digits has_point integer fractional =
     if has_digits then integer >>= (λ n. Ok (Integer n)) else if has_point then fractional >>= (λ m. Ok (Decimal m)) else Err XPST0003
 
@@ -120,7 +120,7 @@ numeric_literal-printed n small =
     let literal = decimal_literal-printed n small in
     (λ i. numeric_shape (no_integer i) (parts.number i) (integer_literal (printed n)) (literal i))
 
-abbrev signed_shape : Text → Bool → Judged Atomic
+abbrev pub signed_shape : Text → Bool → Judged Atomic
 signed_shape t negated = if negated then numeric_literal (after_sign t) >>= neg else numeric_literal t
 
 number-printed : (n : ℕ) → n < 10000000000000000000000000 → number (printed n) ≡ Ok (Decimal (pos n))
@@ -138,11 +138,11 @@ sign-pos n = ap (λ b. if b then codes "-" else []) (not_below n)
     not_below : (n : ℕ) → nat_lt n 0 ≡ false
     not_below n = grind (arith, nat_tests)
 
-print-pos : (n : ℕ) → print_decimal (pos n) ≡ printed n
+pub print-pos : (n : ℕ) → print_decimal (pos n) ≡ printed n
 print-pos n =
     ap (λ s. s ++ whole n ++ codes "." ++ at_least_zero (fraction_text n)) (sign-pos n) ∙ append_assoc (whole n) (codes ".") (at_least_zero (fraction_text n))
 
-print-minus : (k : ℕ) → print_decimal (negsuc k) ≡ 45 ∷ printed (suc k)
+pub print-minus : (k : ℕ) → print_decimal (negsuc k) ≡ 45 ∷ printed (suc k)
 print-minus k = ap (λ t. 45 ∷ t) (append_assoc (whole (suc k)) (codes ".") (at_least_zero (fraction_text (suc k))))
 
 below-pos : (n : ℕ) → IsDecimal (pos n) → n < 10000000000000000000000000
@@ -157,13 +157,13 @@ decimal-literal (negsuc k) within = ap number (print-minus k) ∙ number-minus (
 
 -- ---- the cast
 
-abbrev with_sign : Bool → ℕ → ℤ
+abbrev pub with_sign : Bool → ℕ → ℤ
 with_sign negated n = if negated then neg_ℤ (pos n) else pos n
 
-abbrev judged_cast : Bool → Bool → ℕ → Judged Atomic
+abbrev pub judged_cast : Bool → Bool → ℕ → Judged Atomic
 judged_cast negated long n = if long then Err FOCA0006 else only_if (is_decimal (with_sign negated n)) FOCA0001 (Decimal (with_sign negated n))
 
-abbrev cast_of_parts : Bool → Bool → Text → Text → Judged Atomic
+abbrev pub cast_of_parts : Bool → Bool → Text → Text → Judged Atomic
 cast_of_parts negated is_one front back =
     if not is_one then Err FORG0001 else judged_cast negated (nat_lt 6 (length back)) (millionths_of front back)
 
@@ -172,7 +172,7 @@ is_decimal-signed true n small = is_decimal-neg n small
 is_decimal-signed false n small = is_decimal-pos n small
 
 -- of a text without its sign
-abbrev cast_unsigned : Bool → Text → Judged Atomic
+abbrev pub cast_unsigned : Bool → Text → Judged Atomic
 cast_unsigned negated t = cast_of_parts negated (is_number t) (whole_part t) (fraction t)
 
 cast-parts : (negated : Bool) (t : Text) (n : ℕ) → n < 10000000000000000000000000 → Parts t (whole n) (fraction_text n)

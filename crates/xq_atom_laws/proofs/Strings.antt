@@ -21,39 +21,39 @@ use Rattle.xq_atom_laws.specs.Tokens.{IsToken}
 
 -- ---- how a character is printed
 
-abbrev piece_by : ℕ → Bool → Bool → Bool → Piece
+abbrev pub piece_by : ℕ → Bool → Bool → Bool → Piece
 piece_by c quote amp return =
     cond quote doubled (cond amp (reference ampersand) (cond return (reference (hexadecimal (68 ∷ []))) (plain c)))
 
-abbrev piece : ℕ → Piece
+abbrev pub piece : ℕ → Piece
 piece c = piece_by c (c == 34) (c == 38) (c == 13)
 
-same : (a b : ℕ) → (a == b) ≡ true → a ≡ b
+pub same : (a b : ℕ) → (a == b) ≡ true → a ≡ b
 same a b h = grind (arith, nat_tests)
 
-other : (a b : ℕ) → (a == b) ≡ false → a ≢ b
+pub other : (a b : ℕ) → (a == b) ≡ false → a ≢ b
 other a b h = grind (arith, nat_tests)
 
-is_piece-by : (c : ℕ) → is_char c ≡ true → (quote amp return : Bool) → (c == 34) ≡ quote → (c == 38) ≡ amp → IsPiece 34 (piece_by c quote amp return)
+pub is_piece-by : (c : ℕ) → is_char c ≡ true → (quote amp return : Bool) → (c == 34) ≡ quote → (c == 38) ≡ amp → IsPiece 34 (piece_by c quote amp return)
 unfolding is_char
 is_piece-by c h true amp return q a = tt
 is_piece-by c h false true return q a = (tt, refl)
 is_piece-by c h false false true q a = ((refl, omega arith), refl)
 is_piece-by c h false false false q a = λ i. not (q i) && not (a i) && h i
 
-is_piece : (c : ℕ) → is_char c ≡ true → IsPiece 34 (piece c)
+pub is_piece : (c : ℕ) → is_char c ≡ true → IsPiece 34 (piece c)
 is_piece c h = is_piece-by c h (c == 34) (c == 38) (c == 13) refl refl
 
-piece_char-by : (c : ℕ) (quote amp return : Bool) → (c == 34) ≡ quote → (c == 38) ≡ amp → (c == 13) ≡ return → piece_char 34 (piece_by c quote amp return) ≡ c
+pub piece_char-by : (c : ℕ) (quote amp return : Bool) → (c == 34) ≡ quote → (c == 38) ≡ amp → (c == 13) ≡ return → piece_char 34 (piece_by c quote amp return) ≡ c
 piece_char-by c true amp return q a r = sym (same c 34 q)
 piece_char-by c false true return q a r = sym (same c 38 a)
 piece_char-by c false false true q a r = sym (same c 13 r)
 piece_char-by c false false false q a r = refl
 
-piece_char-piece : (c : ℕ) → piece_char 34 (piece c) ≡ c
+pub piece_char-piece : (c : ℕ) → piece_char 34 (piece c) ≡ c
 piece_char-piece c = piece_char-by c (c == 34) (c == 38) (c == 13) refl refl refl
 
-piece_bytes-by : (c : ℕ) (quote amp return : Bool) → (c == 34) ≡ quote → (c == 38) ≡ amp → (c == 13) ≡ return
+pub piece_bytes-by : (c : ℕ) (quote amp return : Bool) → (c == 34) ≡ quote → (c == 38) ≡ amp → (c == 13) ≡ return
     → flat_map quoted_character (encode_utf8 c) ≡ encode_utf8_all (piece_text 34 (piece_by c quote amp return))
 unfolding lib.Utf8.encode
 piece_bytes-by c true amp return q a r = ap (λ x. flat_map quoted_character (encode_utf8 x)) (same c 34 q)
@@ -61,10 +61,10 @@ piece_bytes-by c false true return q a r = ap (λ x. flat_map quoted_character (
 piece_bytes-by c false false true q a r = ap (λ x. flat_map quoted_character (encode_utf8 x)) (same c 13 r)
 piece_bytes-by c false false false q a r = flat_map-encode c (other c 34 q) (other c 38 a) (other c 13 r) ∙ sym (append-nil (encode_utf8 c))
 
-piece_bytes : (c : ℕ) → flat_map quoted_character (encode_utf8 c) ≡ encode_utf8_all (piece_text 34 (piece c))
+pub piece_bytes : (c : ℕ) → flat_map quoted_character (encode_utf8 c) ≡ encode_utf8_all (piece_text 34 (piece c))
 piece_bytes c = piece_bytes-by c (c == 34) (c == 38) (c == 13) refl refl refl
 
-piece_scalars-by : (c : ℕ) (quote amp return : Bool) → scalar c ≡ true → scalars (piece_text 34 (piece_by c quote amp return)) ≡ true
+pub piece_scalars-by : (c : ℕ) (quote amp return : Bool) → scalar c ≡ true → scalars (piece_text 34 (piece_by c quote amp return)) ≡ true
 piece_scalars-by c true amp return h = refl
 piece_scalars-by c false true return h = refl
 piece_scalars-by c false false true h = refl
@@ -72,30 +72,30 @@ piece_scalars-by c false false false h = λ i. h i && true
 
 -- ---- how characters are printed
 
-are_pieces : (cs : Text) → list_all is_char cs ≡ true → ArePieces 34 (map piece cs)
+pub are_pieces : (cs : Text) → list_all is_char cs ≡ true → ArePieces 34 (map piece cs)
 are_pieces [] h = tt
 are_pieces (c ∷ cs) h =
     let here = and-true (is_char c) (list_all is_char cs) h in
     (is_piece c here.0, are_pieces cs here.1)
 
-content_chars-pieces : (cs : Text) → content_chars 34 (map piece cs) ≡ cs
+pub content_chars-pieces : (cs : Text) → content_chars 34 (map piece cs) ≡ cs
 content_chars-pieces [] = refl
 content_chars-pieces (c ∷ cs) = λ i. piece_char-piece c i ∷ content_chars-pieces cs i
 
-content_bytes : (cs : Text) → flat_map quoted_character (encode_utf8_all cs) ≡ encode_utf8_all (content_text 34 (map piece cs))
+pub content_bytes : (cs : Text) → flat_map quoted_character (encode_utf8_all cs) ≡ encode_utf8_all (content_text 34 (map piece cs))
 content_bytes [] = refl
 content_bytes (c ∷ cs) =
     flat_map-append quoted_character (encode_utf8 c) (encode_utf8_all cs)
     ∙ (λ i. piece_bytes c i ++ content_bytes cs i)
     ∙ sym (encodes-append (piece_text 34 (piece c)) (content_text 34 (map piece cs)))
 
-scalars-append : (xs ys : Text) → scalars xs ≡ true → scalars ys ≡ true → scalars (xs ++ ys) ≡ true
+pub scalars-append : (xs ys : Text) → scalars xs ≡ true → scalars ys ≡ true → scalars (xs ++ ys) ≡ true
 scalars-append [] ys h more = more
 scalars-append (x ∷ xs) ys h more =
     let here = and-true (scalar x) (scalars xs) h in
     (λ i. here.0 i && scalars-append xs ys here.1 more i)
 
-content_scalars : (cs : Text) → scalars cs ≡ true → scalars (content_text 34 (map piece cs)) ≡ true
+pub content_scalars : (cs : Text) → scalars cs ≡ true → scalars (content_text 34 (map piece cs)) ≡ true
 content_scalars [] h = refl
 content_scalars (c ∷ cs) h =
     let here = and-true (scalar c) (scalars cs) h in
@@ -104,19 +104,19 @@ content_scalars (c ∷ cs) h =
 -- ---- the token
 
 -- the string literal that is printed for these characters
-abbrev literal : Text → Form
+abbrev pub literal : Text → Form
 literal cs = string 34 (map piece cs)
 
-literal-bytes : (cs : Text) → quoted (encode_utf8_all cs) ≡ encode_utf8_all (form_text (literal cs))
+pub literal-bytes : (cs : Text) → quoted (encode_utf8_all cs) ≡ encode_utf8_all (form_text (literal cs))
 unfolding lib.Utf8.encode
 literal-bytes cs =
     ap (λ x. 34 ∷ x ++ 34 ∷ []) (content_bytes cs)
     ∙ ap (λ x. 34 ∷ x) (sym (encodes-append (content_text 34 (map piece cs)) (34 ∷ [])))
 
-literal-scalars : (cs : Text) → scalars cs ≡ true → scalars (form_text (literal cs)) ≡ true
+pub literal-scalars : (cs : Text) → scalars cs ≡ true → scalars (form_text (literal cs)) ≡ true
 literal-scalars cs h = scalars-append (content_text 34 (map piece cs)) (34 ∷ []) (content_scalars cs h) refl
 
-skip-quote : (t : Text) → skip 0 (34 ∷ t) ≡ Some (34 ∷ t)
+pub skip-quote : (t : Text) → skip 0 (34 ∷ t) ≡ Some (34 ∷ t)
 skip-quote [] = refl
 skip-quote (c ∷ t) = refl
 

@@ -1,5 +1,6 @@
 mod AtomRows
 pub mod Keys
+pub mod KeyOrder
 pub mod OperandsLemmas
 pub mod TextLemmas
 pub mod PrintLemmas

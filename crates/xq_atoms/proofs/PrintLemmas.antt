@@ -19,7 +19,7 @@ flat_map-high (b ∷ bs) high =
     let rest = flat_map-high bs (λ k h. high (suc k) (omega arith)) in
     (λ i. quoted_character-plain b (omega arith) (omega arith) (omega arith) i ++ rest i)
 
-high-encode : (c k : ℕ) → 128 ≤ c → k < length (encode_utf8 c) → 128 ≤ get_or (encode_utf8 c) k 0
+pub high-encode : (c k : ℕ) → 128 ≤ c → k < length (encode_utf8 c) → 128 ≤ get_or (encode_utf8 c) k 0
 high-encode c k high h =
     ⊎_elim
     (λ low. let e = inside_one c [] (encode_utf8 c) k (sym (append-nil (encode_utf8 c))) h low in absurd (omega arith))

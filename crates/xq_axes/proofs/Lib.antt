@@ -16,7 +16,6 @@ pub mod Over
 pub mod OwnNodes
 pub mod Siblings
 pub mod OnPaths
-pub mod Orders
 pub mod Merging
 pub mod Many
 pub mod Counts

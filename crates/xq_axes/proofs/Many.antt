@@ -20,13 +20,14 @@ use Rattle.xq_values.specs.declared.node_tests.Test.{Test}
 use Rattle.xq_values.specs.Items.{Place, place, nodes_at, places_from as places_of, same_node, is_among as is_among_places, in_document_order}
 use Rattle.xq_values.specs.Steps.{axis_nodes}
 use Rattle.xq_values.specs.Readings.{node_at}
-use Rattle.xq_axes.specs.Nodes.{document_order, HaveAll}
+use Rattle.xq_regions.specs.Rising.{document_order}
+use Rattle.xq_axes.specs.Nodes.{HaveAll}
 use Rattle.xq_axes.specs.private.Hits.{is_hit, is_wanted, row_passes, below_where, IsRising}
 use Rattle.xq_axes.specs.private.Many.{spot, AreThere, places_from, is_found_from, IsNext, IsGathered}
 use Rattle.xq_axes.proofs.Lists.{any_and, any_or}
 use Rattle.xq_axes.proofs.Merging.{any_map, any_here, have_one}
 use Rattle.xq_axes.proofs.OnPaths.{axis_nodes_of}
-use Rattle.xq_axes.proofs.Orders.{same_any, from_contains, order_parts, is_one_node, one_node, node_itself}
+use Rattle.xq_regions.proofs.Rising.{same_any, from_contains, order_parts, is_one_node, one_node, node_itself}
 use Rattle.xq_axes.proofs.Siblings.{one_hit}
 
 -- # Tests of some elements

@@ -18,10 +18,11 @@ use Rattle.xq_regions.proofs.AxisTable.{on_axis_is}
 use Rattle.xq_sources.specs.Sources.{tree_at, HasNode}
 use Rattle.xq_values.specs.Items.{Place, place, places_from, same_node, is_among, in_document_order}
 use Rattle.xq_values.specs.Readings.{node_at}
-use Rattle.xq_axes.specs.Nodes.{document_order, AreRising, HaveAll}
+use Rattle.xq_regions.specs.Rising.{document_order, AreRising}
+use Rattle.xq_axes.specs.Nodes.{HaveAll}
 use Rattle.xq_axes.specs.private.Many.{spot}
 use Rattle.xq_regions.proofs.Lists.{same_test}
-use Rattle.xq_axes.proofs.Orders.{same_fields, order_less, same_any, same_rising, from_contains, rising_append}
+use Rattle.xq_regions.proofs.Rising.{same_fields, order_less, same_any, same_rising, from_contains, rising_append}
 use Rattle.xq_values.proofs.PathLemmas.{map-map, filter-map, paths-range}
 use Rattle.xq_axes.proofs.Sizes.{node_of}
 

@@ -14,7 +14,7 @@ use Rattle.xq_regions.specs.declared.Axis.{Axis}
 use Rattle.xq_regions.specs.declared.Axis.TheVariants as axis
 use Rattle.xq_regions.specs.declared.items.Node.{Node}
 use Rattle.xq_sources.specs.Sources.{tree_at}
-use Rattle.xq_axes.specs.Nodes.{document_order, AreRising}
+use Rattle.xq_regions.specs.Rising.{document_order, AreRising}
 use Rattle.xq_axes.specs.Scans.{in_scan, region, places_of, AreOf}
 use Rattle.xq_axes.specs.private.Hits.{below_where, IsRising}
 use Rattle.xq_axes.specs.private.Reads.{span, span_end}
@@ -30,7 +30,7 @@ use Rattle.xq_axes.specs.declared.downward.Downward.TheVariants.{Child, Attribut
 use Rattle.xq_axes.proofs.Lists.{any_from}
 use Rattle.xq_axes.proofs.Merging.{any_map}
 use Rattle.xq_axes.proofs.OnPaths.{range-filter}
-use Rattle.xq_axes.proofs.Orders.{from_contains, same_any, order_parts}
+use Rattle.xq_regions.proofs.Rising.{from_contains, same_any, order_parts}
 use Rattle.xq_axes.proofs.Sizes.{node_of}
 
 -- the numbers from low to before m all pass

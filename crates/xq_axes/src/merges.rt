@@ -1,53 +1,18 @@
-//! Nodes in document order, each once.
-ghost use Rattle.std.specs.Prelude.{◌≡◌, ◌≤◌, ◌↔◌, ◌++◌, ◌∷◌, [], true, List, length, map};
-ghost use Rattle.std.specs.List.{Contains, IsAllAdjacentAnswer};
-ghost use Rattle.std.specs.Ordering.{is_lt};
+//! Nodes in document order, each once, over the trees that have them.
+ghost use Rattle.std.specs.Prelude.{◌≡◌, ◌≤◌, ◌↔◌, List, length, map};
+ghost use Rattle.std.specs.List.{Contains};
 ghost use Rattle.xq_regions.specs.Tree.{Tree};
+ghost use Rattle.xq_regions.specs.Rising.{AreRising};
 ghost use Rattle.xq_regions.specs.declared.items.Node.{Node as NodeLem};
 ghost use Rattle.xq_values.specs.Items.{in_document_order};
 ghost use Rattle.xq_values.specs.Readings.{node_at};
-ghost use Rattle.xq_axes.specs.Nodes.{document_order, AreRising, HaveAll};
+ghost use Rattle.xq_axes.specs.Nodes.{HaveAll};
 
-use std::cmp::Ordering;
 use xq_regions::Node;
-
-/// Document order: by the number of the tree, then by the place in it.
-fn compare(first: &Node, second: &Node) -> Ordering
-    ensures { result ≡ document_order first.now second.now }
-{
-    let trees = first.tree.cmp(&second.tree);
-    trees.then_with(|| first.pre.cmp(&second.pre))
-}
-
-/// Whether the first node comes before the second.
-#[inline]
-fn comes_before(first: &Node, second: &Node) -> bool
-    ensures { result ≡ is_lt (document_order first.now second.now) }
-{
-    (first.tree < second.tree) | (first.tree == second.tree) & (first.pre < second.pre)
-}
-
-/// Whether the node comes after each of the nodes, which rise.
-#[inline]
-pub fn comes_after(nodes: &[Node], node: &Node) -> bool
-    ensures { result ≡ true → AreRising nodes.now → AreRising (nodes.now ++ node.now ∷ []) }
-{
-    match nodes.last() {
-        Some(last) => comes_before(last, node),
-        None => true,
-    }
-}
-
-/// Whether each node comes before the next.
-pub fn rises(nodes: &[Node]) -> bool
-    ensures { IsAllAdjacentAnswer (λ x y b. b ≡ is_lt (document_order x y)) nodes.now result }
-{
-    nodes.is_sorted_by(|first, second| comes_before(first, second))
-}
 
 /// The nodes in document order (XDM 3.1, section 2.4), each once: found out by one look where they
 /// rise already. It takes no memory.
-pub fn merge(mut nodes: Vec<Node>) -> Vec<Node>
+pub fn merge(nodes: Vec<Node>) -> Vec<Node>
     ensures rising { AreRising result.items }
     ensures members { (n : NodeLem) → Contains result.items n ↔ Contains nodes.items n }
     ensures fewer { length result.items ≤ length nodes.items }
@@ -55,9 +20,5 @@ pub fn merge(mut nodes: Vec<Node>) -> Vec<Node>
         → map (node_at trees) result.items
         ≡ in_document_order trees (map (node_at trees) nodes.items) }
 {
-    if !rises(&nodes) {
-        nodes.sort_unstable_by(compare);
-        nodes.dedup();
-    }
-    nodes
+    xq_regions::merge(nodes)
 }

@@ -4,7 +4,8 @@ ghost use Rattle.xq_regions.specs.declared.Axis.TheVariants.{Descendant};
 ghost use Rattle.xq_sources.specs.Sources.{tree_at};
 ghost use Rattle.xq_values.specs.Readings.{node_at};
 ghost use Rattle.xq_axes.specs.DoubleSlash.{after_double_slash};
-ghost use Rattle.xq_axes.specs.Nodes.{AreRising, HaveAll};
+ghost use Rattle.xq_regions.specs.Rising.{AreRising};
+ghost use Rattle.xq_axes.specs.Nodes.{HaveAll};
 ghost use Rattle.xq_axes.specs.Scans.{region, places_of, AreOf};
 ghost use Rattle.xq_axes.specs.private.Standing.{AreOfTrees};
 

@@ -8,7 +8,8 @@ ghost use Rattle.xq_sources.specs.Sources.{tree_at, HasNode};
 ghost use Rattle.xq_values.specs.Items.{in_document_order};
 ghost use Rattle.xq_values.specs.Steps.{axis_nodes};
 ghost use Rattle.xq_values.specs.Readings.{node_at};
-ghost use Rattle.xq_axes.specs.Nodes.{AreRising, HaveAll};
+ghost use Rattle.xq_regions.specs.Rising.{AreRising};
+ghost use Rattle.xq_axes.specs.Nodes.{HaveAll};
 ghost use Rattle.xq_axes.specs.Scans.{region, places_of, AreOf};
 ghost use Rattle.xq_axes.specs.private.Hits.{is_wanted, below_where, IsRising};
 ghost use Rattle.xq_axes.specs.private.Many.{spot, is_found_from, AreSame, AreThere, IsNext, IsGathered, IsAt, AreKept};
@@ -16,14 +17,14 @@ ghost use Rattle.xq_axes.specs.private.Many.{spot, is_found_from, AreSame, AreTh
 use crate::attributes::search_attributes;
 use crate::backward::{Backward, search_back};
 use crate::downward::{ToChildren, ToDescendants, ToDescendantsOrSelf, search_below};
-use crate::merges::{comes_after, merge, rises};
+use crate::merges::merge;
 use crate::onward::search_on;
 use crate::parents::search_parents;
 use crate::passing::{search_above, search_after, search_before};
 use crate::selves::search_selves;
 use std::alloc::Global;
 use xq_atoms::Want;
-use xq_regions::{Axis, Node};
+use xq_regions::{Axis, Node, comes_after, rises};
 use xq_sources::RowLender;
 use xq_values::Test;
 

@@ -29,20 +29,6 @@ fn lowered_row(alloc: Global, row: &NodeRow, base: u32) -> Result<NodeRow, Want>
     })
 }
 
-/// The same row.
-fn copied_row(alloc: Global, row: &NodeRow) -> Result<NodeRow, Want>
-    ensures { IfOk result (λ copy. row_of copy ≡ row_of row.now) }
-{
-    Ok(NodeRow {
-        pre: row.pre,
-        size: row.size,
-        level: row.level,
-        kind: row.kind,
-        name: String::from_str(alloc, row.name.as_str())?,
-        value: String::from_str(alloc, row.value.as_str())?,
-    })
-}
-
 /// Adds copies of the rows, so many levels further up.
 fn append_rows(
     alloc: Global,
@@ -96,7 +82,7 @@ pub fn row_of_node<L: RowLender>(alloc: Global, source: &mut L, node: Node) -> R
 {
     source.fetch_row(alloc, node.tree, node.pre)?;
     match source.lent() {
-        [row, ..] => copied_row(alloc, row),
+        [row, ..] => row.try_clone(alloc),
         [] => Err(Want::Store),
     }
 }

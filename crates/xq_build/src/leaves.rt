@@ -3,10 +3,10 @@ ghost use Rattle.std.specs.Prelude.{◌≡◌, string_bytes, Ok};
 ghost use Rattle.xq_values.specs.Content.{attribute_tree, text_tree, comment_tree, instruction_tree, lone};
 ghost use Rattle.xq_build.specs.Gives.{GivesTree};
 
-use crate::values::{ends_with_dash, holds_an_end, holds_two_dashes, without_leading_space};
+use crate::values::without_leading_space;
 use std::alloc::Global;
 use xq_atoms::{Code, Fault, Want};
-use xq_regions::{Fragment, Kind, NodeRow};
+use xq_regions::{Fragment, Kind, NodeRow, ends_with_dash, holds_an_end, holds_two_dashes};
 
 /// The tree of one node.
 fn lone_node(alloc: Global, kind: Kind, name: String, value: String) -> Result<Fragment, Fault>

@@ -15,4 +15,4 @@ mod values;
 pub use elements::{document, element};
 pub use leaves::{attribute, comment, pi, text};
 pub use names::name_of;
-pub use printer::{MAX_REPLY, print_items};
+pub use printer::print_items;

@@ -1,6 +1,6 @@
 //! The text of a result. A node is printed from its rows: one number is kept, how many nodes are
 //! open.
-ghost use Rattle.std.specs.Prelude.{◌≡◌, ◌≤◌, ◌∷◌, [], length, map, string_bytes, OnOk};
+ghost use Rattle.std.specs.Prelude.{◌≡◌, ◌≤◌, ◌∷◌, [], length, map, string_bytes, IfOk, OnOk};
 ghost use Rattle.std.specs.Char.{encode_utf8};
 ghost use Rattle.xq_atoms.specs.Atom.{atomic_of};
 ghost use Rattle.xq_atoms.specs.Print.{print_atomic, quoted, escaped};
@@ -10,7 +10,7 @@ ghost use Rattle.xq_regions.specs.Print.{heading, content, opening, print};
 ghost use Rattle.xq_regions.specs.Levels.{flat_row};
 ghost use Rattle.xq_regions.specs.private.Printing.{closing, between, text_from};
 ghost use Rattle.xq_sources.specs.Sources.{tree_at};
-ghost use Rattle.xq_values.specs.Print.{print_item, print_items as printed_items, within_reply};
+ghost use Rattle.xq_values.specs.Print.{longest_text, print_item, print_items as printed_items, within_reply};
 ghost use Rattle.xq_values.specs.Items.{tree_below};
 ghost use Rattle.xq_values.specs.Readings.{item_at, items_at, node_at};
 ghost use Rattle.xq_atoms.specs.Answers.{GivesUnlessWanting};
@@ -25,7 +25,7 @@ use xq_regions::{Item, Kind, Node, NodeRow};
 use xq_sources::RowLender;
 
 /// The greatest length of a reply's text, in bytes.
-pub const MAX_REPLY: usize = 16_777_216;
+const MAX_REPLY: usize = 16_777_216;
 
 /// Writes the piece at the end of the text, which has at most `limit` bytes then.
 fn append(text: &mut String, limit: usize, piece: &str) -> Result<(), Fault>
@@ -286,6 +286,7 @@ fn append_others<L: RowLender>(
     ensures appends { L.is_clean source.new
         → Appends limit (each_after_comma (L.forest source.old)
         (items_at (L.forest source.old) (map item_view items.now))) result text.old text.new }
+    ensures within { OnOk result (length (string_bytes text.new) ≤ limit) }
     ensures keeps { L.forest source.new ≡ L.forest source.old }
     ensures was_clean { L.is_clean source.new → L.is_clean source.old }
 {
@@ -297,8 +298,8 @@ fn append_others<L: RowLender>(
 }
 
 /// The text of a result: its items as expressions that give them, joined by a comma and a space;
-/// `()` where there are none. It is refused as `prof:REPLY` where it is over [`MAX_REPLY`] bytes,
-/// as soon as it is.
+/// `()` where there are none. It is refused as `prof:REPLY` where it is over 16,777,216
+/// bytes, as soon as it is.
 ///
 /// A node is printed as the constructor expressions that make it and all below it (XQuery 3.1,
 /// section 3.9.3). What is promised of the answer holds where the source is clean as the call ends.
@@ -310,6 +311,7 @@ pub fn print_items<L: RowLender>(
     ensures gives { L.is_clean source.new → GivesUnlessWanting string_bytes
         (within_reply (printed_items (L.forest source.old)
         (items_at (L.forest source.old) (map item_view items.now)))) result }
+    ensures short { IfOk result (λ text. length (string_bytes text) ≤ longest_text) }
     ensures keeps { L.forest source.new ≡ L.forest source.old }
     ensures was_clean { L.is_clean source.new → L.is_clean source.old }
 {

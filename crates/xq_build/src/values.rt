@@ -1,34 +1,12 @@
-//! Tests and parts of values.
-ghost use Rattle.std.specs.Prelude.{◌≡◌, codes, string_bytes, IfErr, IfOk};
+//! Parts of values.
+ghost use Rattle.std.specs.Prelude.{◌≡◌, string_bytes, IfErr, IfOk};
 ghost use Rattle.std.specs.Str.{IsUtf8};
 ghost use Rattle.xq_characters.specs.Characters.{is_space};
 ghost use Rattle.xq_characters.specs.Spaces as Spaces;
-ghost use Rattle.xq_regions.specs.Names.{holds, ends_with_dash as ends_with_dash_lem};
 
 use std::alloc::Global;
 use xq_atoms::Want;
 use xq_characters::after_spaces;
-
-/// Whether two dashes stand side by side.
-pub fn holds_two_dashes(text: &str) -> bool
-    ensures { result ≡ holds (codes "--") text.now }
-{
-    text.contains("--")
-}
-
-/// Whether the end of a processing instruction stands in the text.
-pub fn holds_an_end(text: &str) -> bool
-    ensures { result ≡ holds (codes "?>") text.now }
-{
-    text.contains("?>")
-}
-
-/// Whether the last character is a dash.
-pub fn ends_with_dash(text: &str) -> bool
-    ensures { result ≡ ends_with_dash_lem text.now }
-{
-    matches!(text.as_bytes(), [.., b'-'])
-}
 
 /// A copy of a text by its bytes.
 fn copied_text(alloc: Global, bytes: &[u8]) -> Result<String, Want>

@@ -183,12 +183,12 @@ each_in : (f : List Tree) (at : Bool) (tuple : Tuple ItemView) (n : ℕ) (xs : L
 each_in f at tuple n [] h k = tt
 each_in f at tuple n (x ∷ xs) h k = (all_append (AreIn f) tuple (item_values Value at n x) h (item_in f at n x k.0), each_in f at tuple (n + 1) xs h k.1)
 
-pub expanded_in : (f : List Tree) (at : Bool) (tuples : List (Tuple ItemView)) (lists : List (List ItemView)) → TuplesIn f tuples → TupleIn f lists → TuplesIn f (expanded Value at tuples lists)
+pub expanded_in : (f : List Tree) (at : Bool) (tuples : List (Tuple ItemView)) (lists : List (List ItemView)) → TuplesIn f tuples → TupleIn f lists → TuplesIn f (expanded Value false at tuples lists)
 expanded_in f at [] lists h k = tt
 expanded_in f at (t ∷ ts) [] h k = tt
 expanded_in f at (t ∷ ts) (l ∷ ls) h k =
     subst (TuplesIn f) (sym (flat_map-cons (λ p. with_each Value at p.0 p.1) (t, l) (zip ts ls)))
-    (all_append (TupleIn f) (with_each Value at t l) (expanded Value at ts ls) (each_in f at t 1 l h.0 k.0) (expanded_in f at ts ls h.1 k.1))
+    (all_append (TupleIn f) (with_each Value at t l) (expanded Value false at ts ls) (each_in f at t 1 l h.0 k.0) (expanded_in f at ts ls h.1 k.1))
 
 abbrev pub same_tests : {A : Type 0} → List Tree → List A → List A
 same_tests trees tests = tests

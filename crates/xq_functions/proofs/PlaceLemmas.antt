@@ -8,9 +8,10 @@ use Rattle.std.specs.Ordering.{nat_cmp, ordering_then, ordering_reverse, is_eq, 
 use Rattle.std.specs.Cmp.{IsTotalOrder, nat_cmp_is}
 use Rattle.std.specs.declared.cmp.Ordering.TheVariants.{Less, Equal, Greater}
 use Rattle.std.proofs.lemmas.Bool.{eqb-true, eq-eqb, false≢true, and_parts, and_from, and_right, or_cases, cases_lt, or_left, or_right}
-use Rattle.xq_functions.specs.declared.spots.Spot.{Spot}
-use Rattle.xq_functions.specs.contracts.spots.SpotOrd.TheImpl.Laws as law
-use Rattle.xq_functions.specs.private.Places.{spot_cmp, same_spot, is_among, IsRising}
+use Rattle.xq_regions.specs.declared.items.Node.{Node as Spot}
+use Rattle.xq_regions.specs.contracts.items.NodeOrd.TheImpl.Laws as law
+use Rattle.xq_regions.specs.Rising.{document_order, AreRising}
+use Rattle.xq_functions.specs.private.Places.{same_spot, is_among}
 use Rattle.xq_regions.proofs.Lists.{all_append}
 
 abbrev pub spot : ℕ → ℕ → Spot
@@ -20,7 +21,7 @@ pub not_true : (b : Bool) → (b ≡ true → ⊥) → b ≡ false
 not_true true f = absurd (f refl)
 not_true false f = refl
 
-pub total : IsTotalOrder spot_cmp
+pub total : IsTotalOrder document_order
 total = law.total-law
 
 equal : (n : ℕ) → nat_cmp n n ≡ Equal
@@ -44,22 +45,22 @@ same-from s t e = let w = and_parts (s.tree == t.tree) (s.pre == t.pre) e in λ 
 pub same-self : (s : Spot) → same_spot s s ≡ true
 same-self s = and_from (s.tree == s.tree) (s.pre == s.pre) (eq-eqb s.tree s.tree refl) (eq-eqb s.pre s.pre refl)
 
-pub cmp-self : (s : Spot) → spot_cmp s s ≡ Equal
+pub cmp-self : (s : Spot) → document_order s s ≡ Equal
 cmp-self s = ap (λ o. ordering_then o (nat_cmp s.pre s.pre)) (equal s.tree) ∙ equal s.pre
 
 -- # What rises
 
-among-above : (x : Spot) (xs : List Spot) → AllByRecursion (λ y. spot_cmp x y ≡ Less) xs → (s : Spot) → is_among xs s ≡ true → spot_cmp x s ≡ Less
+among-above : (x : Spot) (xs : List Spot) → AllByRecursion (λ y. document_order x y ≡ Less) xs → (s : Spot) → is_among xs s ≡ true → document_order x s ≡ Less
 among-above x [] h s e = absurd (false≢true e)
 among-above x (y ∷ ys) h s e = ⊎_elim
-    (λ same. ap (spot_cmp x) (same-from s y same) ∙ h.0)
+    (λ same. ap (document_order x) (same-from s y same) ∙ h.0)
     (λ later. among-above x ys h.1 s later)
     (or_cases (same_spot s y) (is_among ys s) e)
 
-not_after : (x : Spot) (xs : List Spot) → AllByRecursion (λ y. spot_cmp x y ≡ Less) xs → (s : Spot) → s ≡ x → is_among xs s ≡ false
-not_after x xs h s e = not_true (is_among xs s) (λ among. Less≢Equal (sym (among-above x xs h s among) ∙ ap (spot_cmp x) e ∙ cmp-self x))
+not_after : (x : Spot) (xs : List Spot) → AllByRecursion (λ y. document_order x y ≡ Less) xs → (s : Spot) → s ≡ x → is_among xs s ≡ false
+not_after x xs h s e = not_true (is_among xs s) (λ among. Less≢Equal (sym (among-above x xs h s among) ∙ ap (document_order x) e ∙ cmp-self x))
 
-first : (x y : Spot) (xs ys : List Spot) → AllByRecursion (λ z. spot_cmp x z ≡ Less) xs → AllByRecursion (λ z. spot_cmp y z ≡ Less) ys → ((s : Spot) → is_among (x ∷ xs) s ≡ is_among (y ∷ ys) s) → x ≡ y
+first : (x y : Spot) (xs ys : List Spot) → AllByRecursion (λ z. document_order x z ≡ Less) xs → AllByRecursion (λ z. document_order y z ≡ Less) ys → ((s : Spot) → is_among (x ∷ xs) s ≡ is_among (y ∷ ys) s) → x ≡ y
 first x y xs ys hx hy same = ⊎_elim
     (λ e. same-from x y e)
     (λ x_later. ⊎_elim
@@ -68,7 +69,7 @@ first x y xs ys hx hy same = ⊎_elim
     (or_cases (same_spot y x) (is_among xs y) (same y ∙ or_left (same_spot y y) (is_among ys y) (same-self y))))
     (or_cases (same_spot x y) (is_among ys x) (sym (same x) ∙ or_left (same_spot x x) (is_among xs x) (same-self x)))
 
-rest : (x y : Spot) (xs ys : List Spot) → x ≡ y → AllByRecursion (λ z. spot_cmp x z ≡ Less) xs → AllByRecursion (λ z. spot_cmp y z ≡ Less) ys → ((s : Spot) → is_among (x ∷ xs) s ≡ is_among (y ∷ ys) s) → (s : Spot) → is_among xs s ≡ is_among ys s
+rest : (x y : Spot) (xs ys : List Spot) → x ≡ y → AllByRecursion (λ z. document_order x z ≡ Less) xs → AllByRecursion (λ z. document_order y z ≡ Less) ys → ((s : Spot) → is_among (x ∷ xs) s ≡ is_among (y ∷ ys) s) → (s : Spot) → is_among xs s ≡ is_among ys s
 rest x y xs ys is hx hy same s = by (same_spot s x) refl
   where
     by : (b : Bool) → same_spot s x ≡ b → is_among xs s ≡ is_among ys s
@@ -76,7 +77,7 @@ rest x y xs ys is hx hy same s = by (same_spot s x) refl
     by false e = ap (λ b. b || is_among xs s) (sym e) ∙ same s ∙ ap (λ b. b || is_among ys s) (ap (same_spot s) (sym is) ∙ e)
 
 -- two lists that rise and have the same places are equal
-pub unique : (xs ys : List Spot) → IsRising xs → IsRising ys → ((s : Spot) → is_among xs s ≡ is_among ys s) → xs ≡ ys
+pub unique : (xs ys : List Spot) → AreRising xs → AreRising ys → ((s : Spot) → is_among xs s ≡ is_among ys s) → xs ≡ ys
 unfolding IsStrictlySortedBy
 unique [] [] hx hy same = refl
 unique [] (y ∷ ys) hx hy same = absurd (false≢true (same y ∙ or_left (same_spot y y) (is_among ys y) (same-self y)))
@@ -119,18 +120,18 @@ among-filter f (x ∷ xs) s = by (f x) refl (same_spot s x) refl (among-filter f
 abbrev pub run : ℕ → ℕ → ℕ → List Spot
 run tree a n = map (spot tree) (range_with_len a n)
 
-run-after : (tree b a n : ℕ) → b < a → AllByRecursion (λ y. spot_cmp (spot tree b) y ≡ Less) (run tree a n)
+run-after : (tree b a n : ℕ) → b < a → AllByRecursion (λ y. document_order (spot tree b) y ≡ Less) (run tree a n)
 run-after tree b a zero h = tt
 run-after tree b a (suc n) h = (ap (λ o. ordering_then o (nat_cmp b a)) (equal tree) ∙ less b a h, run-after tree b (a + 1) n (omega (arith, h)))
 
-pub run-beyond : (m b tree a n : ℕ) → m < tree → AllByRecursion (λ y. spot_cmp (spot m b) y ≡ Less) (run tree a n)
+pub run-beyond : (m b tree a n : ℕ) → m < tree → AllByRecursion (λ y. document_order (spot m b) y ≡ Less) (run tree a n)
 run-beyond m b tree a zero h = tt
 run-beyond m b tree a (suc n) h = (ap (λ o. ordering_then o (nat_cmp b a)) (less m tree h), run-beyond m b tree (a + 1) n h)
 
-pub run-rises : (tree a n : ℕ) (more : List Spot) → ((b : ℕ) → AllByRecursion (λ y. spot_cmp (spot tree b) y ≡ Less) more) → IsRising more → IsRising (run tree a n ++ more)
+pub run-rises : (tree a n : ℕ) (more : List Spot) → ((b : ℕ) → AllByRecursion (λ y. document_order (spot tree b) y ≡ Less) more) → AreRising more → AreRising (run tree a n ++ more)
 unfolding IsStrictlySortedBy
 run-rises tree a zero more beyond rises = rises
-run-rises tree a (suc n) more beyond rises = (all_append (λ y. spot_cmp (spot tree a) y ≡ Less) (run tree (a + 1) n) more (run-after tree a (a + 1) n (omega arith)) (beyond a), run-rises tree (a + 1) n more beyond rises)
+run-rises tree a (suc n) more beyond rises = (all_append (λ y. document_order (spot tree a) y ≡ Less) (run tree (a + 1) n) more (run-after tree a (a + 1) n (omega arith)) (beyond a), run-rises tree (a + 1) n more beyond rises)
 
 pub run-among : (tree a n p : ℕ) → p < n → is_among (run tree a n) (spot tree (a + p)) ≡ true
 run-among tree a zero p h = absurd (omega (arith, h))
@@ -143,7 +144,7 @@ run-among tree a (suc n) (suc p) h =
 
 -- # What a search finds
 
-pub ties : (x y : Spot) → same_spot x y ≡ eq_by_cmp spot_cmp x y
+pub ties : (x y : Spot) → same_spot x y ≡ eq_by_cmp document_order x y
 ties = law.matches_eq-law
 
 among-at : (s : Spot) (xs : List Spot) (i : ℕ) → i < length xs → same_spot s (slice_index_or xs i s) ≡ true → is_among xs s ≡ true
@@ -151,18 +152,18 @@ among-at s [] i h e = absurd (omega (arith, h))
 among-at s (x ∷ xs) zero h e = or_left (same_spot s x) (is_among xs s) e
 among-at s (x ∷ xs) (suc i) h e = or_right (same_spot s x) (is_among xs s) (among-at s xs i (omega (arith, h)) e)
 
-equal-from : (s t : Spot) → spot_cmp t s ≡ Equal → same_spot s t ≡ true
+equal-from : (s t : Spot) → document_order t s ≡ Equal → same_spot s t ≡ true
 equal-from s t e = ties s t ∙ ap is_eq (total.antisymm s t ∙ ap ordering_reverse e)
 
-differs : (s t : Spot) → (spot_cmp t s ≡ Equal → ⊥) → same_spot s t ≡ false
-differs s t apart = not_true (same_spot s t) (λ e. apart (ap (λ u. spot_cmp u s) (sym (same-from s t e)) ∙ cmp-self s))
+differs : (s t : Spot) → (document_order t s ≡ Equal → ⊥) → same_spot s t ≡ false
+differs s t apart = not_true (same_spot s t) (λ e. apart (ap (λ u. document_order u s) (sym (same-from s t e)) ∙ cmp-self s))
 
-none-among : (s : Spot) (xs : List Spot) → ((i : ℕ) → i < length xs → spot_cmp (slice_index_or xs i s) s ≡ Equal → ⊥) → is_among xs s ≡ false
+none-among : (s : Spot) (xs : List Spot) → ((i : ℕ) → i < length xs → document_order (slice_index_or xs i s) s ≡ Equal → ⊥) → is_among xs s ≡ false
 none-among s [] apart = refl
 none-among s (x ∷ xs) apart =
     ap (λ b. b || is_among xs s) (differs s x (apart 0 (omega arith))) ∙ none-among s xs (λ i h. apart (suc i) (omega (arith, h)))
 
-pub among-search : (s : Spot) (xs : List Spot) (r : Result ℕ ℕ) → IsSorted spot_cmp xs → IsSearchInRange r (length xs) → IsBinarySearchResult (λ y. spot_cmp y s) xs r → is_ok r ≡ is_among xs s
+pub among-search : (s : Spot) (xs : List Spot) (r : Result ℕ ℕ) → IsSorted document_order xs → IsSearchInRange r (length xs) → IsBinarySearchResult (λ y. document_order y s) xs r → is_ok r ≡ is_among xs s
 among-search s xs (Ok i) up bound found = sym (among-at s xs i bound (equal-from s (slice_index_or xs i s) (found s)))
 among-search s xs (Err i) up bound found =
     let parts = found (searchable_from_sorted total (λ x. x) xs s up) in
@@ -171,11 +172,11 @@ among-search s xs (Err i) up bound found =
     (λ from. Greater≢Equal (sym (parts.1 k s from h) ∙ e))
     (cases_lt k i)))
 
-pub rising-sorted : (xs : List Spot) → IsRising xs → IsSorted spot_cmp xs
+pub rising-sorted : (xs : List Spot) → AreRising xs → IsSorted document_order xs
 unfolding IsStrictlySortedBy
 rising-sorted [] rises k d low high = absurd (omega (arith, high))
 rising-sorted (x ∷ []) rises k d low high = absurd (omega (arith, high))
 rising-sorted (x ∷ y ∷ ys) rises zero d low high = ap is_lt (total.antisymm y x ∙ ap ordering_reverse rises.0.0)
 rising-sorted (x ∷ y ∷ ys) rises (suc k) d low high =
     let e : suc k + 1 ≡ suc (k + 1) = omega arith in
-    ap (λ m. is_lt (spot_cmp (slice_index_or (x ∷ y ∷ ys) m d) (slice_index_or (y ∷ ys) k d))) e ∙ rising-sorted (y ∷ ys) rises.1 k d (omega arith) (omega (arith, high))
+    ap (λ m. is_lt (document_order (slice_index_or (x ∷ y ∷ ys) m d) (slice_index_or (y ∷ ys) k d))) e ∙ rising-sorted (y ∷ ys) rises.1 k d (omega arith) (omega (arith, high))

@@ -24,8 +24,9 @@ use Rattle.xq_values.specs.Items.{Place, Node, place, paths, places_from, is_amo
 use Rattle.xq_values.specs.Readings.{item_at, items_at, AreIn}
 use Rattle.xq_values.specs.Arguments.{all_nodes}
 use Rattle.xq_values.specs.Operators.{from_nodes, in_order, set_of, gathered, nodes_or_atoms, are_atoms, all_atoms}
-use Rattle.xq_functions.specs.declared.spots.Spot.{Spot}
-use Rattle.xq_functions.specs.private.Places.{view, place_at, all_spots, SpotsAreIn, spot_cmp, same_spot, is_among, IsRising, IsInOrder, takes, united, selected}
+use Rattle.xq_regions.specs.declared.items.Node.{Node as Spot}
+use Rattle.xq_regions.specs.Rising.{document_order, AreRising}
+use Rattle.xq_functions.specs.private.Places.{view, place_at, all_spots, SpotsAreIn, same_spot, is_among, IsInOrder, takes, united, selected}
 use Rattle.xq_functions.proofs.NodeLemmas.{stands-same}
 use Rattle.xq_values.proofs.PathLemmas.{map-map, filter-map, paths-range}
 use Rattle.xq_functions.proofs.PlaceLemmas.{spot, run, unique, among-filter, run-beyond, run-rises, run-among, same-from}
@@ -37,11 +38,11 @@ abbrev spots_from : ℕ → List Tree → List Spot
 spots_from n [] = []
 spots_from n (t ∷ ts) = run n 0 (count (nodes t)) ++ spots_from (suc n) ts
 
-from-beyond : (m b n : ℕ) (ts : List Tree) → m < n → AllByRecursion (λ y. spot_cmp (spot m b) y ≡ Less) (spots_from n ts)
+from-beyond : (m b n : ℕ) (ts : List Tree) → m < n → AllByRecursion (λ y. document_order (spot m b) y ≡ Less) (spots_from n ts)
 from-beyond m b n [] h = tt
-from-beyond m b n (t ∷ ts) h = all_append (λ y. spot_cmp (spot m b) y ≡ Less) (run n 0 (count (nodes t))) (spots_from (suc n) ts) (run-beyond m b n 0 (count (nodes t)) h) (from-beyond m b (suc n) ts (omega (arith, h)))
+from-beyond m b n (t ∷ ts) h = all_append (λ y. document_order (spot m b) y ≡ Less) (run n 0 (count (nodes t))) (spots_from (suc n) ts) (run-beyond m b n 0 (count (nodes t)) h) (from-beyond m b (suc n) ts (omega (arith, h)))
 
-from-rises : (n : ℕ) (ts : List Tree) → IsRising (spots_from n ts)
+from-rises : (n : ℕ) (ts : List Tree) → AreRising (spots_from n ts)
 unfolding IsStrictlySortedBy
 from-rises n [] = tt
 from-rises n (t ∷ ts) = run-rises n 0 (count (nodes t)) (spots_from (suc n) ts) (λ b. from-beyond n b (suc n) ts (omega arith)) (from-rises (suc n) ts)
@@ -146,7 +147,7 @@ in_document_order-spots trees spots sorted inside ordered =
     ap (filter test) (sym (from-places trees trees 0 (stand-all trees)))
     ∙ filter-map test (place_at trees) all
     ∙ ap (map (place_at trees)) (filter-same (λ s. test (place_at trees s)) (is_among spots) all (all_weaker (λ s. HasNode trees s.tree s.pre) (λ s. test (place_at trees s) ≡ is_among spots s) (among-places trees spots inside) all (from-in trees trees 0 (stand-all trees))))
-    ∙ ap (map (place_at trees)) (unique chosen sorted (IsStrictlySortedBy-filter spot_cmp (is_among spots) all (from-rises 0 trees)) ordered.rises
+    ∙ ap (map (place_at trees)) (unique chosen sorted (IsStrictlySortedBy-filter document_order (is_among spots) all (from-rises 0 trees)) ordered.rises
     (λ s. among-filter (is_among spots) all s ∙ and_known (is_among all s) (is_among spots s) (λ e. among-all trees s (among-in trees spots inside s e)) ∙ sym (ordered.same s)))
 
 pub in_order-spots : (trees : List Tree) (spots sorted : List Spot) → SpotsAreIn trees spots → IsInOrder spots sorted → items_at trees (map view sorted) ≡ in_order trees (map (place_at trees) spots)

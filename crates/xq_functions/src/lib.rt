@@ -14,7 +14,6 @@ mod nodes;
 mod results;
 mod sequences;
 mod sets;
-mod spots;
 mod texts;
 mod truths;
 

@@ -2,6 +2,7 @@
 //! section 2.4).
 ghost use Rattle.std.specs.Prelude.{◌≡◌, Bool, List, filter, map, IfOk, IfErr};
 ghost use Rattle.xq_regions.specs.Items.{item_view, item_views};
+ghost use Rattle.xq_regions.specs.Rising.{AreRising};
 ghost use Rattle.xq_regions.specs.Tree.{Tree};
 ghost use Rattle.xq_values.specs.Readings.{AreIn, items_at};
 ghost use Rattle.xq_values.specs.declared.operators.Operator.TheVariants as operators;
@@ -10,11 +11,10 @@ ghost use Rattle.xq_functions.specs.Answers.{items_of, lent_items};
 ghost use Rattle.xq_atoms.specs.Answers.{Gives};
 ghost use Rattle.xq_functions.specs.private.Places as Places;
 
-use crate::spots::Spot;
 use std::alloc::{AllocError, Global};
 use xq_atoms::{Code, Fault, Want};
 use xq_expressions::SetOperator;
-use xq_regions::{Item, Items, Node};
+use xq_regions::{Item, Items, Node, merge};
 
 /// The nodes of both operands in document order, each once. XPTY0004 for an atom.
 pub fn unite_nodes(alloc: Global, left: &[Item], right: &[Item]) -> Result<Items, Fault>
@@ -76,7 +76,7 @@ fn are_atoms(items: &[Item]) -> bool
 }
 
 /// The nodes of the left operand, and then those of the right one.
-fn united(alloc: Global, left: &[Item], right: &[Item]) -> Result<Vec<Spot>, Fault>
+fn united(alloc: Global, left: &[Item], right: &[Item]) -> Result<Vec<Node>, Fault>
     ensures { Gives (λ spots. spots.items)
         (Places.united (map item_view left.now) (map item_view right.now)) result }
 {
@@ -92,17 +92,17 @@ fn selected(
     operator: SetOperator,
     left: &[Item],
     right: &[Item],
-) -> Result<Vec<Spot>, Fault>
+) -> Result<Vec<Node>, Fault>
     ensures { Gives (λ spots. spots.items)
         (Places.selected operator (map item_view left.now) (map item_view right.now)) result }
 {
     let spots = spots_of(alloc, left, Code::XPTY0004)?;
-    let others = sorted(spots_of(alloc, right, Code::XPTY0004)?)?;
+    let others = sorted(spots_of(alloc, right, Code::XPTY0004)?);
     Ok(taken(alloc, operator, &spots, &others)?)
 }
 
 /// The places of the items, which are all nodes; the code for an atom.
-fn spots_of(alloc: Global, items: &[Item], code: Code) -> Result<Vec<Spot>, Fault>
+fn spots_of(alloc: Global, items: &[Item], code: Code) -> Result<Vec<Node>, Fault>
     ensures { Gives (λ spots. spots.items)
         (Places.all_spots code (map item_view items.now)) result }
 {
@@ -114,35 +114,30 @@ fn spots_of(alloc: Global, items: &[Item], code: Code) -> Result<Vec<Spot>, Faul
 }
 
 /// The place of a node; the code for an atom.
-fn spot_of(item: &Item, code: Code) -> Result<Spot, Code>
+fn spot_of(item: &Item, code: Code) -> Result<Node, Code>
     ensures { result ≡ Places.spot_of code (item_view item.now) }
 {
     match item {
-        Item::Node(node) => Ok(Spot {
-            tree: node.tree,
-            pre: node.pre,
-        }),
+        Item::Node(node) => Ok(*node),
         Item::Atom(_) => Err(code),
     }
 }
 
 /// The places in order, each once.
-fn sorted(mut spots: Vec<Spot>) -> Result<Vec<Spot>, AllocError>
-    ensures { IfOk result (λ sorted. Places.IsInOrder spots.items sorted.items) }
+fn sorted(spots: Vec<Node>) -> Vec<Node>
+    ensures { Places.IsInOrder spots.items result.items }
 {
-    spots.sort()?;
-    spots.dedup();
-    Ok(spots)
+    merge(spots)
 }
 
 /// The places that the operator takes, where the others rise.
 fn taken(
     alloc: Global,
     operator: SetOperator,
-    spots: &[Spot],
-    others: &[Spot],
-) -> Result<Vec<Spot>, AllocError>
-    ensures { Places.IsRising others.now → IfOk result (λ taken.
+    spots: &[Node],
+    others: &[Node],
+) -> Result<Vec<Node>, AllocError>
+    ensures { AreRising others.now → IfOk result (λ taken.
         taken.items ≡ filter (Places.takes operator others.now) spots.now) }
 {
     let mut taken = Vec::new(alloc);
@@ -155,8 +150,8 @@ fn taken(
 }
 
 /// Whether the operator takes a place, where the others rise.
-fn takes(operator: SetOperator, others: &[Spot], spot: Spot) -> bool
-    ensures { Places.IsRising others.now → result ≡ Places.takes operator others.now spot }
+fn takes(operator: SetOperator, others: &[Node], spot: Node) -> bool
+    ensures { AreRising others.now → result ≡ Places.takes operator others.now spot }
 {
     let is_among = others.binary_search(&spot).is_ok();
     match operator {
@@ -166,26 +161,22 @@ fn takes(operator: SetOperator, others: &[Spot], spot: Spot) -> bool
 }
 
 /// The nodes at the places in document order, each once.
-fn in_order(alloc: Global, spots: Vec<Spot>) -> Result<Items, Want>
+fn in_order(alloc: Global, spots: Vec<Node>) -> Result<Items, Want>
     ensures items { IfOk result (λ items. (trees : List Tree) →
         Places.SpotsAreIn trees spots.items → items_of trees items
         ≡ Operators.in_order trees (map (Places.place_at trees) spots.items)) }
     ensures want { IfErr result (λ want. want ≡ Want.Memory) }
 {
-    let spots = sorted(spots)?;
-    Ok(nodes_at(alloc, &spots)?)
+    Ok(nodes_at(alloc, &sorted(spots))?)
 }
 
 /// The nodes at the places.
-fn nodes_at(alloc: Global, spots: &[Spot]) -> Result<Items, AllocError>
+fn nodes_at(alloc: Global, spots: &[Node]) -> Result<Items, AllocError>
     ensures { IfOk result (λ items. item_views items ≡ map Places.view spots.now) }
 {
     let mut items = Vec::new(alloc);
     for spot in spots {
-        items.push(Item::Node(Node {
-            tree: spot.tree,
-            pre: spot.pre,
-        }))?;
+        items.push(Item::Node(*spot))?;
     }
     Ok(items)
 }

@@ -254,7 +254,7 @@ module _ (c : ℕ) (t : Text) where
   unfolding read_token
   token_symbol s n = rw (s.0, n, s.2) refl
 
-name_token : (w rest : Text) → IsName w → read_token (w ++ rest) ≡ Ok (read_name (w ++ rest))
+pub name_token : (w rest : Text) → IsName w → read_token (w ++ rest) ≡ Ok (read_name (w ++ rest))
 name_token [] rest is = absurd cc
 name_token (c ∷ w) rest is = token_name c (w ++ rest) (name_parts c w is).0
 
@@ -268,7 +268,7 @@ number_token n after is best o e =
     let at : read_token (number_text n ++ after) ≡ judged (read_number (number_text n ++ after)) = rw s.0.whole (token_number s.0.char s.0.more (start_no_start s.0.char s.1) s.0.begins_so) in
     at ∙ ap judged (number_read n after is best) ∙ judged_is n after o e
 
-string_token : (quote : ℕ) (t : Text) → is_quote quote ≡ true → read_token (quote ∷ t) ≡ as_string quote (content (suc (length t)) quote t)
+pub string_token : (quote : ℕ) (t : Text) → is_quote quote ≡ true → read_token (quote ∷ t) ≡ as_string quote (content (suc (length t)) quote t)
 unfolding read_string
 string_token quote t q = token_string quote t q
 

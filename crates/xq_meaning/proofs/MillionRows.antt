@@ -58,7 +58,7 @@ count_of_numbered [] i = refl
 count_of_numbered (x ∷ xs) i = ap suc (count_of_numbered xs (i + 1))
 
 abbrev tuples_of : List Item → List (Tuple Item)
-tuples_of xs = expanded Atom false ([] ∷ []) (xs ∷ [])
+tuples_of xs = expanded Atom false false ([] ∷ []) (xs ∷ [])
 
 abbrev alone : ℕ × Item → Tuple Item
 alone p = (p.1 ∷ []) ∷ []

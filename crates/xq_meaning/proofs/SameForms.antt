@@ -330,7 +330,7 @@ module _ {E F : Type 0} (frame_at : Tuple Item → Forms.Frame E) (frame_at' : T
       AllByRecursion (SameAt m p) tuples → (f : List Tree) → Forms.for_tuples at m frame_at
       tuples f ≡ Forms.for_tuples at p frame_at' tuples f
   for_tuples_same at m p tuples h f =
-      ap (λ o. go_on o (λ lists. give (expanded Atom at tuples lists)))
+      ap (λ o. go_on o (λ lists. give (expanded Atom false at tuples lists)))
       (for_each_same (λ t. m (frame_at t)) (λ t. p (frame_at' t)) tuples tuples (values_same m p
       tuples h) f)
 

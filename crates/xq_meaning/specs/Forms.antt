@@ -270,7 +270,7 @@ module _ {E : Type 0} where
       Doing (List (Tuple Item))
   for_tuples at part frame_at tuples = do
     lists ← for_each (λ t. part (frame_at t)) tuples
-    give (expanded Atom at tuples lists)
+    give (expanded Atom false at tuples lists)
 
   -- 3.12.3
   abbrev pub let_tuples : Meaning E → (Tuple Item → Frame E) → List (Tuple Item) →

@@ -31,12 +31,12 @@ module _ {X Y : Type 0} (r : X → Y) (ax : Atomic → X) (ay : Atomic → Y) (s
       let b = each_natural at tuple (n + 1) xs in
       cc
 
-  pub expanded_natural : (at : Bool) (tuples : List (Tuple X)) (lists : List (List X)) → map (map (map r)) (expanded ax at tuples lists) ≡ expanded ay at (map (map (map r)) tuples) (map (map r) lists)
+  pub expanded_natural : (at : Bool) (tuples : List (Tuple X)) (lists : List (List X)) → map (map (map r)) (expanded ax false at tuples lists) ≡ expanded ay false at (map (map (map r)) tuples) (map (map r) lists)
   expanded_natural at [] lists = refl
   expanded_natural at (t ∷ ts) [] = refl
   expanded_natural at (t ∷ ts) (l ∷ ls) =
       ap (map (map (map r))) (flat_map-cons (λ p. with_each ax at p.0 p.1) (t, l) (zip ts ls))
-      ∙ map-append (map (map r)) (with_each ax at t l) (expanded ax at ts ls)
-      ∙ ap (λ v. v ++ map (map (map r)) (expanded ax at ts ls)) (each_natural at t 1 l)
+      ∙ map-append (map (map r)) (with_each ax at t l) (expanded ax false at ts ls)
+      ∙ ap (λ v. v ++ map (map (map r)) (expanded ax false at ts ls)) (each_natural at t 1 l)
       ∙ ap (λ v. with_each ay at (map (map r) t) (map r l) ++ v) (expanded_natural at ts ls)
       ∙ sym (flat_map-cons (λ p. with_each ay at p.0 p.1) (map (map r) t, map r l) (zip (map (map (map r)) ts) (map (map r) ls)))

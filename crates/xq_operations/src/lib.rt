@@ -21,5 +21,5 @@ pub use nodes::{gather, only_nodes, root};
 pub use operators::{operate, sign};
 pub use steps::{axis_items, double_slash, in_axis_order, parents_below, scan};
 pub use values::{
-    concatenated, context_item, copied, copy, deciding, joined, opened, push_copy, single, slot,
+    concatenated, context_item, copied, deciding, joined, opened, push_copy, single, slot,
 };

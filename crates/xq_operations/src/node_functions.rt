@@ -11,7 +11,7 @@ ghost use Rattle.xq_functions.specs.declared.kinds.Argument.TheVariants.{Nodes};
 ghost use Rattle.xq_atoms.specs.Answers.{GivesUnlessWanting};
 
 use crate::atoms::atomized;
-use crate::values::{copy, single};
+use crate::values::single;
 use std::alloc::Global;
 use xq_atoms::{Atom, Code, Fault, Want, cast_str};
 use xq_axes::string_value;
@@ -131,7 +131,7 @@ pub fn context_argument<L: RowLender>(
 {
     match function {
         Function::Root | Function::Name | Function::LocalName | Function::String | Function::Data =>
-            Ok(single(alloc, copy(alloc, item)?)?),
+            Ok(single(alloc, item.try_clone(alloc)?)?),
         Function::StringLength | Function::NormalizeSpace => {
             let text = item_text(alloc, source, item)?;
             Ok(single(alloc, Item::Atom(Atom::Str(text)))?)

@@ -16,23 +16,13 @@ use xq_atoms::{Code, Fault, Want};
 use xq_expressions::Quantifier;
 use xq_regions::{Item, Items};
 
-/// The same item.
-pub fn copy(alloc: Global, item: &Item) -> Result<Item, Want>
-    ensures { IfOk result (λ copy. item_view copy ≡ item_view item.now) }
-{
-    Ok(match item {
-        Item::Node(node) => Item::Node(*node),
-        Item::Atom(atom) => Item::Atom(atom.try_clone(alloc)?),
-    })
-}
-
 /// The same items.
 pub fn copied(alloc: Global, items: &[Item]) -> Result<Items, Want>
     ensures { IfOk result (λ copies. item_views copies ≡ map item_view items.now) }
 {
     let mut copies = Vec::with_capacity(alloc, items.len())?;
     for item in items {
-        copies.push(copy(alloc, item)?)?;
+        copies.push(item.try_clone(alloc)?)?;
     }
     Ok(copies)
 }
@@ -64,7 +54,7 @@ pub fn context_item(alloc: Global, focus: Option<Focus<'_>>) -> Result<Items, Fa
 {
     match focus {
         None => Err(Fault::Code(Code::XPDY0002)),
-        Some(focus) => Ok(single(alloc, copy(alloc, focus.item)?)?),
+        Some(focus) => Ok(single(alloc, focus.item.try_clone(alloc)?)?),
     }
 }
 
@@ -89,7 +79,7 @@ pub fn opened(alloc: Global, slots: &[Rc<Items>], item: &Item) -> Result<Vec<Rc<
         ≡ values_of slots.now ++ (item_view item.now ∷ []) ∷ []) }
 {
     let mut all = slots.to_vec(alloc)?;
-    let value = single(alloc, copy(alloc, item)?)?;
+    let value = single(alloc, item.try_clone(alloc)?)?;
     all.push(Rc::new(alloc, value)?)?;
     Ok(all)
 }
@@ -101,7 +91,7 @@ pub fn push_copy(alloc: Global, items: Items, item: &Item, keeps: bool) -> Resul
 {
     let mut all = items;
     if keeps {
-        all.push(copy(alloc, item)?)?;
+        all.push(item.try_clone(alloc)?)?;
     }
     Ok(all)
 }

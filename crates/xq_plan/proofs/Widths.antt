@@ -68,12 +68,12 @@ each_wide n at t k (x ∷ xs) h =
     (length-append t (item_values Atom at k x) ∙ (λ i. h i + item_slots at k x i), each_wide n at t (k + 1) xs h)
 
 expanded_wide : (n : ℕ) (at : Bool) (tuples : List (Tuple Item)) (lists : List (List Item)) → AreWide n tuples →
-    AreWide (n + more_slots at) (expanded Atom at tuples lists)
+    AreWide (n + more_slots at) (expanded Atom false at tuples lists)
 expanded_wide n at [] lists h = tt
 expanded_wide n at (t ∷ ts) [] h = tt
 expanded_wide n at (t ∷ ts) (xs ∷ xss) h =
     subst (AreWide (n + more_slots at)) (sym (flat_map-cons (λ (p : Tuple Item × List Item). with_each Atom at p.0 p.1) (t, xs) (zip ts xss)))
-    (all_append (λ t. length t ≡ n + more_slots at) (with_each Atom at t xs) (expanded Atom at ts xss) (each_wide n at t 1 xs h.0) (expanded_wide n at ts xss h.1))
+    (all_append (λ t. length t ≡ n + more_slots at) (with_each Atom at t xs) (expanded Atom false at ts xss) (each_wide n at t 1 xs h.0) (expanded_wide n at ts xss h.1))
 
 -- # order by
 
@@ -193,7 +193,7 @@ module _ {E : Type 0} (n : ℕ) (frame_at : Tuple Item → Forms.Frame E) (tuple
   pub for_wide : (at : Bool) (m : Forms.Meaning E) (f : List Tree) →
       GivesWide (n + more_slots at) (Forms.for_tuples at m frame_at tuples f)
   for_wide at m f =
-      then_wide (n + more_slots at) (for_each (λ t. m (frame_at t)) tuples f) (λ lists. give (expanded Atom at tuples lists))
+      then_wide (n + more_slots at) (for_each (λ t. m (frame_at t)) tuples f) (λ lists. give (expanded Atom false at tuples lists))
       (λ lists g. expanded_wide n at tuples lists h)
 
   pub let_wide : (m : Forms.Meaning E) (f : List Tree) → GivesWide (n + 1) (Forms.let_tuples m frame_at tuples f)

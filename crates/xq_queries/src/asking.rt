@@ -10,7 +10,7 @@ ghost use Rattle.xq_values.specs.Print.{longest_text};
 use std::alloc::Global;
 use xq_atoms::{Code, Fault, Want};
 use xq_axes::copy;
-use xq_build::{MAX_REPLY, print_items};
+use xq_build::print_items;
 use xq_eval::eval;
 use xq_meaning::Plan;
 use xq_regions::{Fragment, Item};
@@ -38,11 +38,7 @@ pub fn ask<W: Growing>(
     ensures was_clean { W.is_clean world.new → W.is_clean world.old }
 {
     let items = eval(alloc, plan, world, addresses)?;
-    let text = print_items(alloc, world, &items)?;
-    if text.len() > MAX_REPLY {
-        return Err(Fault::Code(Code::ProfReply));
-    }
-    Ok(text)
+    print_items(alloc, world, &items)
 }
 
 /// The tree of the one document node that the plan's value is, over the trees of `world`, as for

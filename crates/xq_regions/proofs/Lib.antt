@@ -17,3 +17,6 @@ pub mod AttributeRuns
 pub mod RegionTable
 pub mod SizedRows
 pub mod Sized
+pub mod Rising
+pub mod Subtrees
+pub mod Grouping

@@ -42,9 +42,29 @@ module _ {X : Type 0} (atom : Atomic → X) where
   abbrev pub with_each : Bool → Tuple X → List X → List (Tuple X)
   with_each at tuple items = map (λ p. tuple ++ item_values at p.0 p.1) (enumerate_from 1 items)
 
-  -- 3.12.2, for: each tuple once for each item that its binding has there, in order
-  abbrev pub expanded : Bool → List (Tuple X) → List (List X) → List (Tuple X)
-  expanded at tuples lists = flat_map (λ p. with_each at p.0 p.1) (zip tuples lists)
+  -- the empty sequence, and 0 for its position where that is asked for
+  abbrev pub empty_values : Bool → Tuple X
+  empty_values at = [] ∷ (if at then (atom (Integer (pos 0)) ∷ []) ∷ [] else [])
+
+  -- the tuple once for each item, or once, with the empty sequence, where there is none
+  abbrev pub with_each_or_empty : Bool → Tuple X → List X → List (Tuple X)
+  with_each_or_empty at tuple [] = (tuple ++ empty_values at) ∷ []
+  with_each_or_empty at tuple (x ∷ items) = with_each at tuple (x ∷ items)
+
+  -- the tuple once for each item; where the empty sequence is allowed, never none
+  abbrev pub with_items : Bool → Bool → Tuple X → List X → List (Tuple X)
+  with_items allows at tuple items =
+      if allows then with_each_or_empty at tuple items else with_each at tuple items
+
+  -- 3.12.2, for: each tuple once for each item that its binding has there, in order; where it
+  -- allows the empty sequence, a tuple whose binding has no item once
+  abbrev pub expanded : Bool → Bool → List (Tuple X) → List (List X) → List (Tuple X)
+  expanded allows at tuples lists = flat_map (λ p. with_items allows at p.0 p.1) (zip tuples lists)
+
+  -- 3.12.6, count: each tuple with its number
+  abbrev pub numbered : List (Tuple X) → List (Tuple X)
+  numbered tuples =
+      map (λ p. p.1 ++ (atom (Integer (pos p.0)) ∷ []) ∷ []) (enumerate_from 1 tuples)
 
 -- Keys of groups and orders (3.12.7 and 3.12.8): at most one atomic value, and an untyped one is
 -- taken as a string

@@ -2,9 +2,11 @@
 #![tactic(auto)]
 
 ghost use Rattle.std.specs.Prelude.{◌≡◌, ◌↔◌, IfOk, IfErr, OnErr, IsTrue};
-ghost use Rattle.xq_regions.specs.Rows.{Encodes, IsEncoding};
+ghost use Rattle.xq_regions.specs.Rows.{Encodes, IsEncoding, placed};
 
+use std::alloc::Global;
 use std::marker::Model;
+use xq_atoms::Want;
 
 mod attributes;
 mod axes;
@@ -12,13 +14,16 @@ mod encodings;
 mod items;
 mod laws;
 mod levels;
+mod merges;
 mod names;
 mod values;
 
 use encodings::is_encoding;
 pub use items::{Item, Items, Node};
-pub use laws::trees_are_their_rows;
+pub use laws::{subtrees_are_trees, trees_are_their_rows};
+pub use merges::{comes_after, merge, rises};
 pub use names::is_target;
+pub use values::{ends_with_dash, holds_an_end, holds_two_dashes};
 
 /// The greatest level of a node, where the root has 0.
 pub const MAX_LEVEL: u32 = 100;
@@ -63,6 +68,23 @@ pub struct NodeRow {
     pub kind: Kind,
     pub name: String,
     pub value: String,
+}
+
+impl NodeRow {
+    /// The same row again.
+    pub fn try_clone(&self, alloc: Global) -> Result<NodeRow, Want>
+        ensures row { IfOk result (λ copy. placed copy ≡ placed self.now) }
+        ensures want { IfErr result (λ want. want ≡ Want.Memory) }
+    {
+        Ok(NodeRow {
+            pre: self.pre,
+            size: self.size,
+            level: self.level,
+            kind: self.kind,
+            name: String::from_str(alloc, self.name.as_str())?,
+            value: String::from_str(alloc, self.value.as_str())?,
+        })
+    }
 }
 
 /// The rows of one tree. Contracts see the tree.

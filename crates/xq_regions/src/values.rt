@@ -5,21 +5,21 @@ ghost use Rattle.xq_regions.specs.Names.{holds, ends_with_dash as ends_with_dash
 use crate::names::are_characters;
 
 /// Whether two dashes stand side by side.
-fn holds_two_dashes(text: &str) -> bool
+pub fn holds_two_dashes(text: &str) -> bool
     ensures { result ≡ holds (codes "--") text.now }
 {
     text.contains("--")
 }
 
 /// Whether the end of a processing instruction stands in the text.
-fn holds_an_end(text: &str) -> bool
+pub fn holds_an_end(text: &str) -> bool
     ensures { result ≡ holds (codes "?>") text.now }
 {
     text.contains("?>")
 }
 
 /// Whether the last character is a dash.
-fn ends_with_dash(text: &str) -> bool
+pub fn ends_with_dash(text: &str) -> bool
     ensures { result ≡ ends_with_dash_lem text.now }
 {
     matches!(text.as_bytes(), [.., b'-'])

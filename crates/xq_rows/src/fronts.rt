@@ -8,7 +8,6 @@ ghost use Rattle.xq_rows.specs.declared.shelves.Shelf.{Shelf};
 ghost use Rattle.xq_rows.specs.private.Keeps.{LeavesAlone};
 ghost use Rattle.xq_rows.specs.private.Shelves.{AreFronts, AreListed, HasReached, IsFront, Reaches, front_at, run_of};
 ghost use Rattle.xq_sources.specs.Parents.{IsParentRow};
-ghost use Rattle.xq_sources.specs.Sources.{encloses as encloses_lem};
 
 use crate::shelves::{Front, Shelf, address_at};
 use crate::stores::Store;
@@ -16,6 +15,7 @@ use sqlite::Alter;
 use std::alloc::Global;
 use xq_atoms::Want;
 use xq_regions::NodeRow;
+use xq_sources::rows_between;
 
 /// How many rows are read at a time.
 const PART: u32 = 1_024;
@@ -177,40 +177,6 @@ pub(crate) fn kept_rows(fronts: &[Front], run: Run) -> &[NodeRow]
     ensures { result.now ≡ run_of (front_at fronts.now run.tree) run.low run.high }
 {
     rows_between(front_of(fronts, run.tree), run.low, run.high)
-}
-
-/// The rows from `low` to `high`.
-fn rows_between(rows: &[NodeRow], low: u32, high: u32) -> &[NodeRow]
-    ensures { result.now ≡ run_of rows.now low high }
-{
-    let start = (low as usize).min(rows.len());
-    let end = (high as usize + 1).min(rows.len());
-    if start < end {
-        &rows[start..end]
-    } else {
-        &rows[..0]
-    }
-}
-
-/// Whether the row is that of a node above the node.
-fn encloses(row: &NodeRow, node: u32) -> bool
-    ensures { result ≡ encloses_lem node (placed row.now) }
-{
-    row.pre < node && node - row.pre <= row.size
-}
-
-/// The places of the rows of the nodes above the node.
-pub(crate) fn places_enclosing(alloc: Global, rows: &[NodeRow], node: u32) -> Result<Vec<u32>, Want>
-    ensures { IfOk result (λ found. found.items
-        ≡ map (λ p. p.0) (filter (encloses_lem node) (map placed rows.now))) }
-{
-    let mut found = Vec::new(alloc);
-    for row in rows {
-        if encloses(row, node) {
-            found.push(row.pre)?;
-        }
-    }
-    Ok(found)
 }
 
 /// Whether the rows that are kept of a tree reach a place. They are wanted now.

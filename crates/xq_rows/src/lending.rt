@@ -2,13 +2,13 @@
 ghost use Rattle.std.specs.Prelude.{map};
 ghost use Rattle.xq_regions.specs.Rows.{placed};
 
-use crate::fronts::{Run, front_of, kept_rows, parent_of, places_enclosing, read_on};
+use crate::fronts::{Run, front_of, kept_rows, parent_of, read_on};
 use crate::views::{Origin, View};
 use sqlite::Alter;
 use std::alloc::Global;
 use xq_atoms::Want;
 use xq_regions::NodeRow;
-use xq_sources::{RowLender, count_attributes};
+use xq_sources::{RowLender, count_attributes, places_enclosing};
 
 impl<S: Alter, O: Origin> RowLender for View<S, O> {
     ghost lent = { λ v. v.lent };

@@ -11,7 +11,8 @@ use std::{env, io};
 use xq_command::endings::outcome;
 use xq_command::tasks::Asked;
 use xq_command::words::asked;
-use xq_servers::{FileServer, MemoryServer};
+use xq_rows::Store;
+use xq_servers::{DiskStore, MemoryStore};
 use xq_service::{End, Server};
 
 /// The program ends once it has answered so many frames.
@@ -74,25 +75,32 @@ fn print_help<R: Print>(rt: &R, text: &str) -> End {
 }
 
 fn serve_in_memory<R: Input + Print + AllocGlobal>(rt: &R) -> (u8, &'static str) {
-    let Ok(mut served) = MemoryServer::new(rt.alloc()) else {
+    let Ok(MemoryStore { store }) = MemoryStore::new(rt.alloc()) else {
         return CANNOT_OPEN;
     };
-    outcome(serve(rt, &mut served.server))
-}
-
-fn serve_file(rt: &HostRuntime, path: &str) -> (u8, &'static str) {
-    let Some(mut served) = FileServer::open(rt, path) else {
-        return CANNOT_OPEN;
-    };
-    let end = serve(rt, &mut served.server);
-    let _is_closed = served.close();
+    let (store, end) = serve(rt, store);
+    let _ended = MemoryStore { store };
     outcome(end)
 }
 
-/// Answers the frames of standard input.
-fn serve<R: Input + Print + AllocGlobal, S: Alter + Drop>(rt: &R, server: &mut Server<S>) -> End {
-    match BufReader::new(rt.alloc(), rt.reader()) {
+fn serve_file(rt: &HostRuntime, path: &str) -> (u8, &'static str) {
+    let Some(DiskStore { store }) = DiskStore::open(rt, path) else {
+        return CANNOT_OPEN;
+    };
+    let (store, end) = serve(rt, store);
+    let _is_closed = DiskStore { store }.close();
+    outcome(end)
+}
+
+/// Answers the frames of standard input over the store, and gives it back.
+fn serve<R: Input + Print + AllocGlobal, S: Alter + Drop>(
+    rt: &R,
+    store: Store<S>,
+) -> (Store<S>, End) {
+    let mut server = Server::new(rt.alloc(), store);
+    let end = match BufReader::new(rt.alloc(), rt.reader()) {
         Ok(mut reader) => server.serve(&mut reader, &mut io::writer(rt), MAX_FRAMES),
         Err(_) => End::NoRoom,
-    }
+    };
+    (server.into_store(), end)
 }

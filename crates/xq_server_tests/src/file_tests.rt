@@ -4,7 +4,7 @@ use crate::rows::{LIBRARY, PUT_B};
 use crate::tests::is_answered;
 use std::fs;
 use std::test::Fail;
-use xq_servers::FileServer;
+use crate::servers::FileServer;
 
 /// The folder of the files, made anew by each test, and gone after it.
 fn make_folder(rt: &HostRuntime, folder: &str) -> Result<(), Fail> {

@@ -15,6 +15,8 @@ mod rows;
 #[cfg(test)]
 mod scripts;
 #[cfg(test)]
+mod servers;
+#[cfg(test)]
 mod serving_tests;
 #[cfg(test)]
 mod tests;

@@ -7,7 +7,7 @@ use std::alloc::{AllocError, Global};
 use std::process::Abort;
 use std::test::Fail;
 use xq_rows::Store;
-use xq_servers::MemoryServer;
+use crate::servers::MemoryServer;
 use xq_service::Server;
 
 /// How many addresses there are, and how many steps.

@@ -5,7 +5,7 @@ use crate::scripts::{Sink, Source};
 use crate::tests::{frame, inputs};
 use std::process::Abort;
 use std::test::Fail;
-use xq_servers::MemoryServer;
+use crate::servers::MemoryServer;
 use xq_service::End;
 
 /// Serves the input in pieces, and runs it, each on its server, and compares the replies and

@@ -12,7 +12,7 @@ use sqlite::Alter;
 use std::alloc::{AllocError, Global};
 use std::process::Abort;
 use std::test::Fail;
-use xq_servers::MemoryServer;
+use crate::servers::MemoryServer;
 use xq_service::{End, Server};
 
 /// The frame of a request.

@@ -1,13 +1,12 @@
-//! The two servers that the program has: one whose documents live in memory, and one whose
-//! documents live in a file.
+//! What documents lie in: a store in memory, and a store in a file, opened and closed.
 //!
 //! Their types name what their databases lie on. How such a database is dropped, with all that the
 //! engine keeps for it, is proved here, once for the program and for all tests.
 #![tactic(auto)]
 
-mod file_servers;
+mod disk_stores;
 mod files;
-mod memory_servers;
+mod memory_stores;
 
-pub use file_servers::FileServer;
-pub use memory_servers::MemoryServer;
+pub use disk_stores::DiskStore;
+pub use memory_stores::MemoryStore;

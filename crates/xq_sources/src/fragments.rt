@@ -6,7 +6,7 @@ ghost use Rattle.xq_sources.specs.Sources.{tree_at, HasTree};
 ghost use Rattle.xq_sources.specs.private.Runs.{rows_of_run};
 
 use crate::attributes::count_attributes;
-use crate::rows::{copy_enclosing, copy_row, copy_rows, places_enclosing, rows_between};
+use crate::rows::{copy_enclosing, copy_rows, places_enclosing, rows_between};
 use crate::{Guide, Meter, RowLender, RowSource, TreeSource};
 use std::alloc::Global;
 use xq_atoms::Want;
@@ -123,7 +123,7 @@ impl RowSource for Fragments {
         if node as usize >= rows.len() {
             return Err(Want::Store);
         }
-        let found = copy_row(alloc, &rows[node as usize])?;
+        let found = rows[node as usize].try_clone(alloc)?;
         self.meter = self.meter.with_singles(1);
         Ok(found)
     }

@@ -16,4 +16,5 @@ pub use fragments::Fragments;
 pub use guides::Guide;
 pub use lenders::{Buffered, RowLender};
 pub use meters::Meter;
+pub use rows::{places_enclosing, rows_between};
 pub use sources::{RowSource, TreeSource};

@@ -7,27 +7,13 @@ use std::alloc::Global;
 use xq_atoms::Want;
 use xq_regions::NodeRow;
 
-/// The same row again.
-pub fn copy_row(alloc: Global, row: &NodeRow) -> Result<NodeRow, Want>
-    ensures { IfOk result (λ copy. placed copy ≡ placed row.now) }
-{
-    Ok(NodeRow {
-        pre: row.pre,
-        size: row.size,
-        level: row.level,
-        kind: row.kind,
-        name: String::from_str(alloc, row.name.as_str())?,
-        value: String::from_str(alloc, row.value.as_str())?,
-    })
-}
-
 /// The same rows again.
 pub fn copy_rows(alloc: Global, rows: &[NodeRow]) -> Result<Vec<NodeRow>, Want>
     ensures { IfOk result (λ copies. map placed copies.items ≡ map placed rows.now) }
 {
     let mut copies = Vec::with_capacity(alloc, rows.len())?;
     for row in rows {
-        copies.push(copy_row(alloc, row)?)?;
+        copies.push(row.try_clone(alloc)?)?;
     }
     Ok(copies)
 }
@@ -47,7 +33,7 @@ pub fn copy_enclosing(alloc: Global, rows: &[NodeRow], node: u32) -> Result<Vec<
     let mut copies = Vec::new(alloc);
     for row in rows {
         if encloses(row, node) {
-            copies.push(copy_row(alloc, row)?)?;
+            copies.push(row.try_clone(alloc)?)?;
         }
     }
     Ok(copies)

@@ -14,11 +14,11 @@ use Rattle.xq_statics.specs.Faults.{fault_at, first_fault}
 use Rattle.xq_statics.specs.Gives.{Judges}
 use Rattle.xq_statics.specs.Statics.{Places, Binding, each, in_turn, binding_for}
 
-or-assoc : (a b c d : Option Code) → d ≡ option_or b c → option_or a d ≡ option_or (option_or a b) c
+pub or-assoc : (a b c d : Option Code) → d ≡ option_or b c → option_or a d ≡ option_or (option_or a b) c
 or-assoc None b c d e = e
 or-assoc (Some x) b c d e = refl
 
-first-append : (xs ys : List Place) → first_fault (xs ++ ys) ≡ option_or (first_fault xs) (first_fault ys)
+pub first-append : (xs ys : List Place) → first_fault (xs ++ ys) ≡ option_or (first_fault xs) (first_fault ys)
 first-append [] ys = refl
 first-append (x ∷ xs) ys = or-assoc (fault_at x) (first_fault xs) (first_fault ys) (first_fault (xs ++ ys)) (first-append xs ys)
 

@@ -1,4 +1,4 @@
-mod Equations
-mod Judging
+pub mod Equations
+pub mod Judging
 mod Lists
 mod WorkedRows

@@ -2,8 +2,6 @@ pub mod Lists
 pub mod Keeping
 pub mod Copies
 pub mod Refusals
-pub mod Grouping
-pub mod KeyOrder
 pub mod Placing
 pub mod Sorting
 pub mod Rules

@@ -15,8 +15,8 @@ use Rattle.xq_tuples.specs.declared.rows.Keyed.{Keyed}
 use Rattle.xq_regions.specs.Items.{ItemView}
 use Rattle.xq_tuples.specs.private.KeyRows.{keys_of}
 use Rattle.xq_tuples.specs.private.Groups.{Gathers, keyed_of, group_of, compared_of}
-use Rattle.xq_tuples.proofs.Grouping.{list_any-map, position_or_len-map, firsts-push, groups-push_new, groups-push_old}
-use Rattle.xq_tuples.proofs.KeyOrder.{key_eq_equiv}
+use Rattle.xq_regions.proofs.Grouping.{list_any-map, position_or_len-map, firsts-push, groups-push_new, groups-push_old}
+use Rattle.xq_atoms.proofs.KeyOrder.{key_eq_equiv}
 
 -- the test of the set of keys
 abbrev pub same_compared : Vec GroupKey → Vec GroupKey → Bool

@@ -34,7 +34,7 @@ numbered = (one (int 7) ∷ one (int 1) ∷ []) ∷ (one (int 8) ∷ one (int 2)
 abbrev two : List (Tuple ItemView)
 two = (one (int 7) ∷ one (int 1) ∷ one x ∷ []) ∷ (one (int 8) ∷ one (int 2) ∷ one x ∷ []) ∷ []
 
-expand_row : expanded Value true ([] ∷ []) ((Value (int 7) ∷ Value (int 8) ∷ []) ∷ []) ≡ numbered
+expand_row : expanded Value false true ([] ∷ []) ((Value (int 7) ∷ Value (int 8) ∷ []) ∷ []) ≡ numbered
 expand_row = refl
 
 column_row : map (value_at 1) numbered ≡ one (int 1) ∷ one (int 2) ∷ []

@@ -101,7 +101,7 @@ impl Tuples {
     pub fn expand(self, lists: Vec<Items>, at: bool) -> Result<Tuples, Want>
         requires { length lists.items ≡ length self }
         ensures stream { IfOk result (λ stream. stream
-            ≡ expanded AtomView at self (map item_views lists.items)) }
+            ≡ expanded AtomView false at self (map item_views lists.items)) }
         ensures want { IfErr result (λ want. want ≡ Want.Memory) }
     {
         let alloc = self.alloc;

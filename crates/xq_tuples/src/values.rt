@@ -13,17 +13,6 @@ use xq_regions::{Item, Items};
 /// tuple is copied without a copy of its items.
 pub type Tuple = Vec<Rc<Items>>;
 
-/// The same item.
-fn copy(alloc: Global, item: &Item) -> Result<Item, Want>
-    ensures value { IfOk result (λ copy. item_view copy ≡ item_view item.now) }
-    ensures want { IfErr result (λ want. want ≡ Want.Memory) }
-{
-    Ok(match item {
-        Item::Node(node) => Item::Node(*node),
-        Item::Atom(atom) => Item::Atom(atom.try_clone(alloc)?),
-    })
-}
-
 /// Adds the same items to `copies`.
 pub fn push_copies(alloc: Global, copies: &mut Items, items: &[Item]) -> Result<(), Want>
     ensures items { OnOk result (item_views copies.new ≡ item_views copies.old
@@ -31,7 +20,7 @@ pub fn push_copies(alloc: Global, copies: &mut Items, items: &[Item]) -> Result<
     ensures want { IfErr result (λ want. want ≡ Want.Memory) }
 {
     for item in items {
-        copies.push(copy(alloc, item)?)?;
+        copies.push(item.try_clone(alloc)?)?;
     }
     Ok(())
 }

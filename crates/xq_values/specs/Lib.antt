@@ -6,4 +6,5 @@ pub mod Arguments
 pub mod Items
 pub mod Texts
 pub mod Print
+pub mod Printable
 pub mod Readings

@@ -875,11 +875,11 @@ clauses::next_tuples-returns-in_err-lists-in-For-clause-gives g t c = λ clean i
     let f' = g.W.TreeSource.forest c.values.new.world in
     let e = c.in_err-lists-in-For.field-0.0 in
     let at = c.in-For.at in
-    let meant : plan_clause_mean c.args.clause.now frame (tuples_at f tuples) f ≡ go_on (for_each (λ t. plan_mean c.in-For.part (at_tuple frame t)) (tuples_at f tuples) f) (λ ls. give (expanded Atom at (tuples_at f tuples) ls)) =
+    let meant : plan_clause_mean c.args.clause.now frame (tuples_at f tuples) f ≡ go_on (for_each (λ t. plan_mean c.in-For.part (at_tuple frame t)) (tuples_at f tuples) f) (λ ls. give (expanded Atom false at (tuples_at f tuples) ls)) =
     ap (λ k. plan_clause_mean k frame (tuples_at f tuples) f) c.in-For.is ∙ ap (λ m. m frame (tuples_at f tuples) f) (clause-For at c.in-For.part) in
     subst (λ o. GivesTuples o f' c.from_residual.result) (sym meant)
     (handed_on (λ (ts : List (Tuple ItemView)). ts) tuples_at TuplesIn _ f' e c.from_residual.result c.from_residual.ensures.1
-    (go_on_stop lists_of tuple_at TupleIn (λ (ts : List (Tuple ItemView)). ts) tuples_at TuplesIn _ (λ ls. give (expanded Atom at (tuples_at f tuples) ls)) f' e (c.in_err-lists-in-For.ensures.gives clean inside tuples_in)))
+    (go_on_stop lists_of tuple_at TupleIn (λ (ts : List (Tuple ItemView)). ts) tuples_at TuplesIn _ (λ ls. give (expanded Atom false at (tuples_at f tuples) ls)) f' e (c.in_err-lists-in-For.ensures.gives clean inside tuples_in)))
 
 pub clauses::next_tuples-returns-in_ok-expand-in-For-clause-gives : goal.clauses::next_tuples-returns-in_ok-expand-in-For-clause-gives
 clauses::next_tuples-returns-in_ok-expand-in-For-clause-gives g t c = λ clean inside tuples_in.
@@ -892,12 +892,12 @@ clauses::next_tuples-returns-in_ok-expand-in-For-clause-gives g t c = λ clean i
     let lists = lists_of c.in_ok-lists-in-For.lists in
     let at = c.in-For.at in
     let values = c.in_ok-lists-in-For.ensures.gives clean inside tuples_in in
-    let stream : c.in_ok-expand-in-For.field-0 ≡ expanded Value at tuples lists = c.in_ok-expand-in-For.ensures.stream in
-    let same : tuples_at f' c.in_ok-expand-in-For.field-0 ≡ expanded Atom at (tuples_at f tuples) (tuple_at f' lists) =
-    ap (tuples_at f') stream ∙ expanded_natural (item_at f') Value Atom (λ a. refl) at tuples lists ∙ ap (λ ts. expanded Atom at ts (tuple_at f' lists)) (tuples_grown grows tuples tuples_in) in (
+    let stream : c.in_ok-expand-in-For.field-0 ≡ expanded Value false at tuples lists = c.in_ok-expand-in-For.ensures.stream in
+    let same : tuples_at f' c.in_ok-expand-in-For.field-0 ≡ expanded Atom false at (tuples_at f tuples) (tuple_at f' lists) =
+    ap (tuples_at f') stream ∙ expanded_natural (item_at f') Value Atom (λ a. refl) at tuples lists ∙ ap (λ ts. expanded Atom false at ts (tuple_at f' lists)) (tuples_grown grows tuples tuples_in) in (
       subst (TuplesIn f') (sym stream) (expanded_in f' at tuples lists (tuples_in_grown grows tuples tuples_in) values.0),
       ap (λ k. plan_clause_mean k frame (tuples_at f tuples) f) c.in-For.is ∙ ap (λ m. m frame (tuples_at f tuples) f) (clause-For at c.in-For.part)
-          ∙ ap (λ o. go_on o (λ ls. give (expanded Atom at (tuples_at f tuples) ls))) values.1 ∙ ap (λ ts. (Ok ts, f')) (sym same),
+          ∙ ap (λ o. go_on o (λ ls. give (expanded Atom false at (tuples_at f tuples) ls))) values.1 ∙ ap (λ ts. (Ok ts, f')) (sym same),
     )
 
 pub clauses::next_tuples-returns-in_ok-bind-in-Let-clause-gives : goal.clauses::next_tuples-returns-in_ok-bind-in-Let-clause-gives

@@ -1,9 +1,6 @@
 -- Nodes by their numbers of tree and their places there, in document order.
 use Rattle.std.specs.Prelude.{◌≡◌, List, ◌++◌, filter, Bool, not, ◌&&◌, ◌==◌, Ok, Err}
 use Rattle.std.specs.List.{AllByRecursion, list_any}
-use Rattle.std.specs.List.Sorted.{IsStrictlySortedBy}
-use Rattle.std.specs.Ordering.{nat_cmp, ordering_then}
-use Rattle.std.specs.declared.cmp.Ordering.{Ordering}
 use Rattle.xq_atoms.specs.declared.refusals.Code.{Code}
 use Rattle.xq_atoms.specs.declared.refusals.Code.TheVariants.{XPTY0004}
 use Rattle.xq_atoms.specs.Judged.{Judged, ◌>>=◌}
@@ -11,22 +8,23 @@ use Rattle.xq_expressions.specs.declared.operators.SetOperator.{SetOperator}
 use Rattle.xq_expressions.specs.declared.operators.SetOperator.TheVariants.{Intersect, Except}
 use Rattle.xq_regions.specs.Items.{ItemView, Place as NodeAt, Value}
 use Rattle.xq_regions.specs.Order.{path_at}
+use Rattle.xq_regions.specs.Rising.{AreRising}
 use Rattle.xq_regions.specs.Tree.{Tree}
 use Rattle.xq_sources.specs.Sources.{HasNode}
 use Rattle.xq_values.specs.Items.{Place, place, nodes_at}
 use Rattle.xq_values.specs.Arguments.{each}
-use Rattle.xq_functions.specs.declared.spots.Spot.{Spot}
+use Rattle.xq_regions.specs.declared.items.Node.{Node as Spot}
 
 -- the node at a place
 abbrev pub view : Spot → ItemView
-view s = NodeAt (record { tree = s.tree; pre = s.pre })
+view s = NodeAt s
 
 abbrev pub place_at : List Tree → Spot → Place
 place_at trees s = place s.tree (path_at (nodes_at trees s.tree) s.pre)
 
 -- the places of items that are all nodes
 abbrev pub spot_of : Code → ItemView → Judged Spot
-spot_of code (NodeAt n) = Ok (record { tree = n.tree; pre = n.pre })
+spot_of code (NodeAt n) = Ok n
 spot_of code (Value a) = Err code
 
 abbrev pub all_spots : Code → List ItemView → Judged (List Spot)
@@ -41,12 +39,6 @@ SpotsAreIn trees spots = AllByRecursion (λ s. HasNode trees s.tree s.pre) spots
 
 -- # Document order
 
-abbrev pub spot_cmp : Spot → Spot → Ordering
-spot_cmp s t = ordering_then (nat_cmp s.tree t.tree) (nat_cmp s.pre t.pre)
-
-abbrev pub IsRising : List Spot → Type 0
-IsRising spots = IsStrictlySortedBy spot_cmp spots
-
 abbrev pub same_spot : Spot → Spot → Bool
 same_spot s t = s.tree == t.tree && s.pre == t.pre
 
@@ -55,7 +47,7 @@ is_among spots s = list_any (same_spot s) spots
 
 -- the same places, each once, in order
 pub record IsInOrder (spots sorted : List Spot) : Type 0 where
-  pub rises : IsRising sorted
+  pub rises : AreRising sorted
   pub same : (s : Spot) → is_among sorted s ≡ is_among spots s
 
 -- # Operators

@@ -1,35 +1,5 @@
-use Rattle.std.proofs.Common.{rules, subst}
-use Rattle.std.specs.Ordering.{is_lt}
-use Rattle.std.proofs.lemmas.Fn.{always_returns_same}
-use Rattle.std.proofs.lemmas.List.Filters.{dedup_is}
-use Rattle.std.proofs.lemmas.List.Sorted.{ranks_by}
-use Rattle.xq_regions.specs.declared.items.Node.{Node}
-use Rattle.xq_axes.specs.Nodes.{document_order, AreRising}
-use Rattle.xq_axes.proofs.Orders.{order_total, rising_seen, deduped, is_one_node}
 use Rattle.xq_axes.proofs.Merging.{merged}
 use Rattle.xq_axes.proofs.merges.merge.Goals as goal
 
-pub returns-then-not-rises-clause-rising : goal.returns-then-not-rises-clause-rising
-returns-then-not-rises-clause-rising c =
-    (deduped c.args.nodes.items c.sort_unstable_by.new.self.items c.dedup.new.self.items c.sort_unstable_by.ensures.permutation
-    (c.sort_unstable_by.ensures.sorted (λ x y. is_lt (document_order x y)) (ranks_by order_total (λ (n : Node). n)) (always_returns_same _ _ _ (λ a r f k. search rules)))
-    (dedup_is is_one_node _ _ c.dedup.ensures.filtered)).rising
-
-pub returns-then-not-rises-clause-members : goal.returns-then-not-rises-clause-members
-returns-then-not-rises-clause-members c =
-    (deduped c.args.nodes.items c.sort_unstable_by.new.self.items c.dedup.new.self.items c.sort_unstable_by.ensures.permutation
-    (c.sort_unstable_by.ensures.sorted (λ x y. is_lt (document_order x y)) (ranks_by order_total (λ (n : Node). n)) (always_returns_same _ _ _ (λ a r f k. search rules)))
-    (dedup_is is_one_node _ _ c.dedup.ensures.filtered)).members
-
-pub returns-then-not-rises-clause-nodes : goal.returns-then-not-rises-clause-nodes
-returns-then-not-rises-clause-nodes c = λ trees have. (
-    let d = deduped c.args.nodes.items c.sort_unstable_by.new.self.items c.dedup.new.self.items c.sort_unstable_by.ensures.permutation
-    (c.sort_unstable_by.ensures.sorted (λ x y. is_lt (document_order x y)) (ranks_by order_total (λ (n : Node). n)) (always_returns_same _ _ _ (λ a r f k. search rules)))
-    (dedup_is is_one_node _ _ c.dedup.ensures.filtered) in
-    merged trees c.args.nodes.items have c.dedup.new.self.items d.rising d.members)
-
-pub returns-else-not-rises-clause-rising : goal.returns-else-not-rises-clause-rising
-returns-else-not-rises-clause-rising c = subst (λ xs. AreRising xs) c.deref.ensures.value (rising_seen c.deref.result.now c.rises.result c.rises.ensures c.if-not-rises.false)
-
-pub returns-else-not-rises-clause-nodes : goal.returns-else-not-rises-clause-nodes
-returns-else-not-rises-clause-nodes c = λ trees have. merged trees c.args.nodes.items have c.args.nodes.items (subst (λ xs. AreRising xs) c.deref.ensures.value (rising_seen c.deref.result.now c.rises.result c.rises.ensures c.if-not-rises.false)) (λ n. (λ k. k, λ k. k))
+pub returns-clause-nodes : goal.returns-clause-nodes
+returns-clause-nodes c = λ trees have. merged trees c.args.nodes.items have c.merge.result.items c.merge.ensures.rising c.merge.ensures.members

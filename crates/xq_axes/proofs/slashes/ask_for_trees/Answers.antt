@@ -6,7 +6,7 @@ use Rattle.xq_regions.specs.declared.items.Node.{Node}
 use Rattle.xq_sources.specs.Meters.{Readings}
 use Rattle.xq_sources.specs.Sources.{tree_at}
 use Rattle.xq_axes.proofs.Many.{default_at}
-use Rattle.xq_axes.proofs.Orders.{from_contains}
+use Rattle.xq_regions.proofs.Rising.{from_contains}
 use Rattle.xq_axes.proofs.slashes.ask_for_trees.Goals as goal
 
 asked_is : (asked : Option ℕ) (n : ℕ) → option_eq eqb asked (Some n) ≡ true → asked ≡ Some n

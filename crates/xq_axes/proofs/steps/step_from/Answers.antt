@@ -6,9 +6,9 @@ use Rattle.xq_axes.proofs.Many.{gathered_none, default_at, step_found, step_ther
 use Rattle.xq_sources.specs.Sources.{tree_at}
 use Rattle.xq_axes.specs.Scans.{region}
 use Rattle.xq_axes.proofs.Scans.{kept_rises, kept_region, still_one}
-use Rattle.xq_axes.specs.Nodes.{AreRising}
+use Rattle.xq_regions.specs.Rising.{AreRising}
 use Rattle.xq_axes.proofs.Merging.{merged}
-use Rattle.xq_axes.proofs.Orders.{rising_none}
+use Rattle.xq_regions.proofs.Rising.{rising_none}
 use Rattle.xq_axes.proofs.steps.step_from.Goals as goal
 
 pub loop-context-init : goal.loop-context-init

@@ -7,7 +7,7 @@ use Rattle.xq_values.specs.Operators.{all_atoms, are_atoms}
 use Rattle.xq_values.specs.Readings.{items_at}
 use Rattle.xq_functions.specs.Answers.{lent_items}
 use Rattle.xq_atoms.specs.Answers.{Gives}
-use Rattle.xq_functions.specs.declared.spots.Spot.{Spot}
+use Rattle.xq_regions.specs.declared.items.Node.{Node as Spot}
 use Rattle.xq_functions.specs.private.Places.{all_spots}
 use Rattle.xq_functions.proofs.SetLemmas.{gathered-nodes, gathered-others, nodes-in}
 use Rattle.xq_functions.proofs.sets.gather.Goals as goal

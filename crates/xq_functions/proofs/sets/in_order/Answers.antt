@@ -7,5 +7,5 @@ use Rattle.xq_functions.proofs.sets.in_order.Goals as goal
 pub returns-clause-items : goal.returns-clause-items
 returns-clause-items c trees inside =
     let sorted = c.deref.result.now in
-    let ordered = subst (IsInOrder c.args.spots.items) (sym c.deref.ensures.value) c.in_ok-spots.ensures in
+    let ordered = subst (IsInOrder c.args.spots.items) (sym c.deref.ensures.value) c.sorted.ensures in
     ap (items_at trees) c.in_ok-nodes_at.ensures ∙ in_order-spots trees c.args.spots.items sorted inside ordered

@@ -3,7 +3,7 @@ use Rattle.std.specs.Cmp.{nat_eq_equiv}
 use Rattle.std.specs.List.{list_any}
 use Rattle.std.proofs.lemmas.List.{take_more}
 use Rattle.xq_regions.specs.Tuples.{firsts}
-use Rattle.xq_tuples.proofs.Grouping.{firsts-push}
+use Rattle.xq_regions.proofs.Grouping.{firsts-push}
 use Rattle.xq_operations.proofs.clauses.distinct.Goals as goal
 use Rattle.xq_operations.proofs.clauses.distinct.Goals.{then-not-contains+in_ok-push, else-not-contains}
 

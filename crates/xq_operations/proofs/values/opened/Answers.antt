@@ -13,4 +13,4 @@ returns c =
     ap values_of c.in_ok-push.ensures.items
     ∙ map-append (λ (s : Rc (Vec Item) Global). item_views s.value) c.in_ok-all.all.items (c.in_ok-new.field-0 ∷ [])
     ∙ ap (λ xs. xs ++ item_views c.in_ok-new.field-0.value ∷ []) (values_of-clones c.args.slots.now c.in_ok-all.all.items c.in_ok-all.ensures.ok)
-    ∙ ap (λ v. values_of c.args.slots.now ++ v ∷ []) (ap item_views c.in_ok-new.ensures.ok ∙ c.in_ok-value.ensures ∙ ap (λ x. x ∷ []) c.in_ok-copy.ensures)
+    ∙ ap (λ v. values_of c.args.slots.now ++ v ∷ []) (ap item_views c.in_ok-new.ensures.ok ∙ c.in_ok-value.ensures ∙ ap (λ x. x ∷ []) c.in_ok-try_clone.ensures.item)

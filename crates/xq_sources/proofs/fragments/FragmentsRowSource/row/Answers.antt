@@ -8,5 +8,5 @@ returns-clause-exists c =
 
 pub returns-clause-found : goal.returns-clause-found
 returns-clause-found c =
-    λ _. c.in_ok-found.ensures
+    λ _. c.in_ok-found.ensures.row
     ∙ read_row _ _ c.in_ok-rows.ensures.rows c.args.node c.index-rows-node.result c.if-node-rows.false c.index-rows-node.is

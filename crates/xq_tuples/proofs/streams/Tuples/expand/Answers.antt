@@ -16,4 +16,4 @@ returns-clause-stream c =
     let ys = c.args.lists.items in
     let ended = YieldsList-end (YieldsList-from_zip (YieldsList-from_vec xs (cc) (cc)) (YieldsList-from_vec ys (cc) (cc))) c.loop-tuple.yielded c.loop-tuple.tuple-iterator c.loop-tuple.yielded_by c.next.result c.next.new.self c.in-None.is c.next.ensures.steps in
     let each = λ (p : Tuple ItemView × List ItemView). with_each Value c.args.at p.0 p.1 in
-    c.loop-tuple.invariant ∙ sym (flat_map-map each (λ p. (tuple_of p.0, item_views p.1)) c.loop-tuple.yielded) ∙ ap (flat_map each) (zip-yielded tuple_of item_views xs ys c.loop-tuple.yielded ended.0) ∙ ap (λ s. expanded Value c.args.at s (map item_views ys)) c.self.view_is
+    c.loop-tuple.invariant ∙ sym (flat_map-map each (λ p. (tuple_of p.0, item_views p.1)) c.loop-tuple.yielded) ∙ ap (flat_map each) (zip-yielded tuple_of item_views xs ys c.loop-tuple.yielded ended.0) ∙ ap (λ s. expanded Value false c.args.at s (map item_views ys)) c.self.view_is

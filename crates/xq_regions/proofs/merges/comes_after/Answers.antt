@@ -1,9 +1,9 @@
 use Rattle.std.proofs.Common.{◌≡◌, ◌-◌, ◌∙◌, get_or, length, sym, subst, arith}
 use Rattle.std.specs.declared.cmp.Ordering.TheVariants.{Less}
 use Rattle.std.proofs.lemmas.Option.{get_or_from_slice_get, slice_get-get_or}
-use Rattle.xq_axes.specs.Nodes.{document_order}
-use Rattle.xq_axes.proofs.Orders.{less_of, rising_more}
-use Rattle.xq_axes.proofs.merges.comes_after.Goals as goal
+use Rattle.xq_regions.specs.Rising.{document_order}
+use Rattle.xq_regions.proofs.Rising.{less_of, rising_more}
+use Rattle.xq_regions.proofs.merges.comes_after.Goals as goal
 
 pub returns-in-Some : goal.returns-in-Some
 returns-in-Some c = λ e up. (

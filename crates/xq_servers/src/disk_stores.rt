@@ -1,22 +1,21 @@
-//! A server whose documents live in a file.
+//! A store whose documents live in a file.
 
 use crate::files::{absent_log, has_one_byte, remove_log};
 use sqlite::{Connection, FileFrom, FileStore, Unknown};
 use xq_rows::Store;
-use xq_service::Server;
 
-/// A server whose documents live in a file, and are there at the next start.
-pub struct FileServer {
-    /// The server, to be asked.
-    pub server: Server<FileStore<FileFrom<Unknown>>>,
+/// A store whose documents live in a file, and are there at the next start.
+pub struct DiskStore {
+    /// The store, to be served.
+    pub store: Store<FileStore<FileFrom<Unknown>>>,
 }
 
-impl FileServer {
-    /// The server over the file at a path; an absent or empty file becomes an empty store. None
+impl DiskStore {
+    /// The store in the file at a path; an absent or empty file becomes an empty store. None
     /// for a file that is no store, that can't be read or written, that another program holds or
     /// that is damaged: its bytes stay, and no log is left beside it that wasn't there. A new file
     /// gets a sum on each page, so that an opening finds changed bytes.
-    pub fn open(rt: &HostRuntime, path: &str) -> Option<FileServer> {
+    pub fn open(rt: &HostRuntime, path: &str) -> Option<DiskStore> {
         if has_one_byte(rt, path) {
             return None;
         }
@@ -37,25 +36,23 @@ impl FileServer {
     /// Copies the log into the file, and says whether that could be done. A file whose log can't
     /// be copied keeps it beside itself, and the next opening reads both.
     pub fn close(self) -> bool {
-        let FileServer { server } = self;
-        server.into_store().release().close().is_ok()
+        let DiskStore { store } = self;
+        store.release().close().is_ok()
     }
 }
 
-/// The server over a database that was opened. Where it is refused it is still held as its log is
+/// The store of a database that was opened. Where it is refused it is still held as its log is
 /// removed.
 fn adopted(
     rt: &HostRuntime,
     conn: Connection<FileStore<FileFrom<Unknown>>>,
     log: Option<String>,
-) -> Option<FileServer> {
+) -> Option<DiskStore> {
     if !conn.is_autocommit() {
         return None;
     }
     match Store::adopt(rt.alloc(), conn) {
-        Ok(store) => Some(FileServer {
-            server: Server::new(rt.alloc(), store),
-        }),
+        Ok(store) => Some(DiskStore { store }),
         Err((_fault, _held)) => {
             remove_log(rt, log);
             None
@@ -64,8 +61,8 @@ fn adopted(
 }
 
 // It is written out, so that a caller does not prove again how each part is dropped.
-impl Drop for FileServer {
+impl Drop for DiskStore {
     fn drop(self) {
-        let FileServer { server: _server } = self;
+        let DiskStore { store: _store } = self;
     }
 }

@@ -16,7 +16,7 @@ use Rattle.std.proofs.lemmas.List.Folds.{Any-from_list_any, list_any-from_Any}
 use Rattle.std.proofs.lemmas.Map.Keys.{sorted_from_all_adjacent}
 use Rattle.std.proofs.lemmas.Map.Lookups.{btree_set_from_contains, exact_unsigned}
 use Rattle.xq_regions.specs.declared.items.Node.{Node}
-use Rattle.xq_axes.specs.Nodes.{document_order, AreRising}
+use Rattle.xq_regions.specs.Rising.{document_order, AreRising}
 use Rattle.xq_regions.proofs.Lists.{same_test, all_append}
 
 pub order_total : IsTotalOrder document_order

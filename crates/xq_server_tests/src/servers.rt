@@ -1,0 +1,74 @@
+//! Servers over stores in memory and in files. How their stores are dropped is written out, and so
+//! is not proved here again.
+
+use sqlite::{FileFrom, FileStore, Unknown};
+use std::alloc::Global;
+use xq_atoms::Want;
+use xq_memory_disk::MemoryDisk;
+use xq_servers::{DiskStore, MemoryStore};
+use xq_service::Server;
+
+/// A server whose documents live in memory.
+pub struct MemoryServer {
+    pub server: Server<FileStore<MemoryDisk>>,
+}
+
+impl MemoryServer {
+    /// A server without a document.
+    pub fn new(alloc: Global) -> Result<MemoryServer, Want> {
+        let MemoryStore { store } = MemoryStore::new(alloc)?;
+        Ok(MemoryServer {
+            server: Server::new(alloc, store),
+        })
+    }
+
+    /// Another server over the same documents.
+    pub fn restarted(self, alloc: Global) -> MemoryServer {
+        let MemoryServer { server } = self;
+        MemoryServer {
+            server: Server::new(alloc, server.into_store()),
+        }
+    }
+}
+
+impl Drop for MemoryServer {
+    fn drop(self) {
+        let MemoryServer { server } = self;
+        let _store = MemoryStore {
+            store: server.into_store(),
+        };
+    }
+}
+
+/// A server whose documents live in a file.
+pub struct FileServer {
+    pub server: Server<FileStore<FileFrom<Unknown>>>,
+}
+
+impl FileServer {
+    /// The server over the file at a path.
+    pub fn open(rt: &HostRuntime, path: &str) -> Option<FileServer> {
+        let DiskStore { store } = DiskStore::open(rt, path)?;
+        Some(FileServer {
+            server: Server::new(rt.alloc(), store),
+        })
+    }
+
+    /// Closes the file, and says whether its log could be copied into it.
+    pub fn close(self) -> bool {
+        let FileServer { server } = self;
+        let closing = DiskStore {
+            store: server.into_store(),
+        };
+        closing.close()
+    }
+}
+
+impl Drop for FileServer {
+    fn drop(self) {
+        let FileServer { server } = self;
+        let _store = DiskStore {
+            store: server.into_store(),
+        };
+    }
+}
