@@ -1,5 +1,5 @@
 //! The stream of tuples, and the clauses that make one stream of another.
-ghost use Rattle.std.specs.Prelude.{◌≡◌, ◌<◌, [], ◌∷◌, length, map, slice_index_or, All, IsTrue, ◌↔◌, IfOk, IfErr, Ok};
+ghost use Rattle.std.specs.Prelude.{◌≡◌, ◌<◌, [], ◌∷◌, length, map, slice_index_or, All, IsTrue, ◌↔◌, IfOk, IfErr, Ok, false};
 ghost use Rattle.xq_regions.specs.Tuples.{bound, expanded, grouped, satisfying, ordered, value_at};
 ghost use Rattle.xq_tuples.specs.Keys.{columns_of};
 ghost use Rattle.xq_atoms.specs.Answers.{IsRefusal};
