@@ -1,10 +1,10 @@
 -- The subtrees of a tree are trees.
-use Rattle.std.proofs.Common.{◌≡◌, ℕ, zero, suc, ◌+◌, ◌≤◌, List, [], ◌∷◌, arith}
-use Rattle.xq_regions.specs.Forest.{Forest, end, node, count, tops, EachNode, IsWithinHeight}
+use Rattle.std.proofs.Common.{ℕ, zero, suc, ◌≤◌, List, [], ◌∷◌, arith}
+use Rattle.xq_regions.specs.Forest.{Forest, end, node, count, EachNode, IsWithinHeight}
 use Rattle.std.specs.Prelude.{IsTrue, bytes_eq}
 use Rattle.std.specs.List.{IsDistinct}
-use Rattle.xq_regions.specs.Tree.{Label, Tree, IsTree, IsText, is_legal, is_content, attribute_names, nodes, no_label, most_levels}
-use Rattle.xq_regions.specs.Node.{HasPath, below_at, label_at, subtree}
+use Rattle.xq_regions.specs.Tree.{Label, IsText, is_legal, is_content, attribute_names, nodes, no_label, most_levels}
+use Rattle.xq_regions.specs.Node.{HasPath, below_at, label_at}
 use Rattle.xq_regions.specs.Subtrees.{SubtreesAreTrees}
 
 -- a forest within a height is within each greater one
