@@ -24,7 +24,7 @@ use Rattle.sqlite.specs.Command.TheVariants.{Select}
 use Rattle.sqlite.specs.Clock.{timed}
 use Rattle.sqlite.specs.Effect.{Database, RefusesToRead, RefusesQuery}
 use Rattle.sqlite.specs.Listing.{understood, reads_listing, listing_schema}
-use Rattle.sqlite.specs.State.{State, KeepsCommit, Shown, ShowsRows, FailsToQuery, FailsToShow, IsNotRun, IsTooLate, store_error}
+use Rattle.sqlite.specs.State.{State, KeepsCommit, Shown, ShowsRows, FailsToQuery, FailsToShow, IsNotRun, store_error}
 use Rattle.sqlite.specs.declared.error.Error.{Error}
 use Rattle.sqlite.proofs.Callers.{IsPlain, command_of, reads_as}
 use Rattle.xq_rows.specs.declared.faults.OpenFault.TheVariants.{NotAStore}
@@ -266,9 +266,6 @@ store_told Full e = absurd cc
 store_told Broken e = absurd cc
 store_told Unstorable e = absurd cc
 
-abbrev pub IsQueryRefusal : List ℕ → State → State → Error → Type 0
-IsQueryRefusal sql old new e = FailsToQuery sql [] old new e ⊎ IsTooLate sql [] old new e
-
 module _ (old new : State) (sql : List ℕ) (e : Error) (n : fault_of e ≡ NotAStore) where
   not_this : (f : Error) → e ≡ f → fault_of f ≡ NotAStore
   not_this f same = sym (ap fault_of same) ∙ n
@@ -283,40 +280,38 @@ module _ (old new : State) (sql : List ℕ) (e : Error) (n : fault_of e ≡ NotA
     refused limit db params (inr (inl h)) = let f = not_this _ h.0 in absurd cc
     refused limit db params (inr (inr h)) = let f = not_this _ h.0 in absurd cc
 
-    pub query_told : ¬ IsQueryRefusal sql old new e
+    pub query_told : ¬ FailsToQuery sql [] old new e
     unfolding FailsToQuery IsNotRun
-    query_told (inl (inl (inl (inl h, same)))) = subst IsPlain h.1 known
-    query_told (inl (inl (inl (inr (c, is, inl h), same)))) = let f = not_this _ h.1 in absurd cc
-    query_told (inl (inl (inl (inr (c, is, inr (inl h)), same)))) = let f = not_this _ h.1 in absurd cc
-    query_told (inl (inl (inl (inr (c, is, inr (inr h)), same)))) = let f = not_this _ h.1 in absurd cc
-    query_told (inl (inl (inr h))) = store_told h.0 (not_this _ h.1)
-    query_told (inl (inr (c, it, h))) =
+    query_told (inl (inl (inl h, same))) = subst IsPlain h.1 known
+    query_told (inl (inl (inr (c, is, inl h), same))) = let f = not_this _ h.1 in absurd cc
+    query_told (inl (inl (inr (c, is, inr (inl h)), same))) = let f = not_this _ h.1 in absurd cc
+    query_told (inl (inl (inr (c, is, inr (inr h)), same))) = let f = not_this _ h.1 in absurd cc
+    query_told (inl (inr h)) = store_told h.0 (not_this _ h.1)
+    query_told (inr (c, it, h)) =
         let bare = subst IsPlain it.is known in
         let given = timed [] c.formats it.now in
         let shown = subst (FailsToShow old new sql c given e) bare.0 h in
         let command : c.command ≡ Select q names = ap command_of (sym it.is) ∙ ap (λ s. command_of (understood s sql)) has ∙ is in
         refused old.step_limit shown.0 given (subst (λ k. RefusesToRead old.step_limit k shown.0 given e) command shown.2)
-    query_told (inr late) = let f = not_this _ late.4 in absurd cc
 
   -- one that has none leaves the database
-  pub unread_same : IsUnread (understood old.now.schema sql) → IsQueryRefusal sql old new e → new.now ≡ old.now
+  pub unread_same : IsUnread (understood old.now.schema sql) → FailsToQuery sql [] old new e → new.now ≡ old.now
   unfolding FailsToQuery IsNotRun
-  unread_same none (inl (inl (inl (why, same)))) = same.0.now_is
-  unread_same none (inl (inl (inr h))) = absurd (store_told h.0 (not_this _ h.1))
-  unread_same none (inl (inr (c, it, h))) = absurd (subst IsUnread it.is none)
-  unread_same none (inr late) = absurd (subst IsUnread late.1.is none)
+  unread_same none (inl (inl (why, same))) = same.0.now_is
+  unread_same none (inl (inr h)) = absurd (store_told h.0 (not_this _ h.1))
+  unread_same none (inr (c, it, h)) = absurd (subst IsUnread it.is none)
 
 -- a query that has a meaning under the two tables
 pub placed_told : (old new : State) (sql : List ℕ) (e : Error) → fault_of e ≡ NotAStore → (tree : First → ℕ) (q : ℕ → Program) (names : List (List ℕ))
     → ((first : First) → (command_of (understood (schema_of first) sql) ≡ Select (q (tree first)) names) × (reads_listing (schema_of first) sql ≡ false))
-    → ((first : First) → IsPlain (understood (schema_of first) sql)) → IsStoreSchema old.now.schema → ¬ IsQueryRefusal sql old new e
+    → ((first : First) → IsPlain (understood (schema_of first) sql)) → IsStoreSchema old.now.schema → ¬ FailsToQuery sql [] old new e
 placed_told old new sql e n tree q names are plain has =
     let place = which old.now.schema has in
     let first = place.0 in
     query_told old new sql e n (schema_of first) (q (tree first)) names place.1 (are first).0 (plain first)
 
 -- the edition cannot be read
-pub nothing_read : (old new : State) (e : Error) → IsQueryRefusal edition_query old new e → IsInputError e → SeesNothing old.now new.now
+pub nothing_read : (old new : State) (e : Error) → FailsToQuery edition_query [] old new e → IsInputError e → SeesNothing old.now new.now
 nothing_read old new e h input =
     let n : fault_of e ≡ NotAStore = ap fault_of input.1 in record {
       none = λ layout. elim layout [
@@ -328,36 +323,3 @@ nothing_read old new e h input =
         | inr has ↦ unread_same old new edition_query e n (subst (λ s. IsUnread (understood s edition_query)) (sym has) edition_missing) h
       ];
     }
-
--- # In a transaction a query commits nothing
-
-module _ (old new : State) (sql : List ℕ) (inside : IsTrue old.in_transaction) where
-  shown_kept : (rows : List Row) → Shown sql [] old new rows → KeepsCommit old new × IsTrue new.in_transaction
-  unfolding Shown
-  shown_kept rows (c, it, h) = go c.returning h
-    where
-      go : (what : Option Returning) → ShowsRows old new sql c (timed [] c.formats it.now) rows what → KeepsCommit old new × IsTrue new.in_transaction
-      go None h = (undone_kept old new (inl h.3), h.3.0.mode ∙ inside)
-      go (Some what) h =
-          let s = h.1.shown in
-          (record { was_open = λ up. s.was_open; committed = λ up. rw inside at s.committed_is }, s.mode ∙ inside)
-
-  refused_kept : (e : Error) → IsQueryRefusal sql old new e → KeepsCommit old new
-  unfolding FailsToQuery IsNotRun
-  refused_kept e (inl (inl (inl (why, same)))) = undone_kept old new (inl same)
-  refused_kept e (inl (inl (inr h))) = undone_kept old new (inr h.3)
-  refused_kept e (inl (inr (c, it, h))) = go c.returning h
-    where
-      go : (what : Option Returning) → FailsToShow old new sql c (timed [] c.formats it.now) e what → KeepsCommit old new
-      go None h = undone_kept old new (inl h.3)
-      go (Some what) (inl h) = undone_kept old new (inl h.1)
-      go (Some what) (inr h) = undone_kept old new (inr h.3)
-  refused_kept e (inr late) = undone_kept old new (inl late.5)
-
-  pub query_kept : {X : Type 0} (show : X → List Row) (r : Result X Error) → IfOk r (λ x. Shown sql [] old new (show x)) → IfErr r (IsQueryRefusal sql old new) → KeepsCommit old new
-  query_kept show (Ok x) ok err = (shown_kept (show x) ok).0
-  query_kept show (Err e) ok err = refused_kept e err
-
-  pub query_mode : {X : Type 0} (show : X → List Row) (r : Result X Error) → IfOk r (λ x. Shown sql [] old new (show x)) → OnOk r (IsTrue new.in_transaction)
-  query_mode show (Ok x) ok = (shown_kept (show x) ok).1
-  query_mode show (Err e) ok = tt

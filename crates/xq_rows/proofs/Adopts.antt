@@ -1,5 +1,5 @@
 -- The rows that an adoption reads, and the table that they are of.
-use Rattle.std.proofs.Common.{◌≡◌, ◌≢◌, ◌⊎◌, inl, inr, ◌+◌, ◌<◌, ◌≤◌, ℕ, ℤ, suc, pos, Bool, true, false, cond, List, [], ◌∷◌, ◌++◌, map, filter, length, take, drop, slice_get, Option, None, Some, IsTrue, refl, sym, ap, ap₂, subst, ◌∙◌, arith, Ordering, Less, Equal, Greater, is_lt, is_gt, append-nil, append_assoc, get_or, add-one, drop-cons, length-drop}
+use Rattle.std.proofs.Common.{◌≡◌, ◌≢◌, ◌⊎◌, inl, inr, ◌+◌, ◌<◌, ◌≤◌, ℕ, ℤ, suc, pos, Bool, true, false, cond, if◌then◌else◌, List, [], ◌∷◌, ◌++◌, map, filter, length, take, drop, slice_get, Option, None, Some, IsTrue, refl, sym, ap, ap₂, subst, ◌∙◌, arith, Ordering, Less, Equal, Greater, is_lt, is_gt, append-nil, append_assoc, get_or, add-one, drop-cons, length-drop}
 use Rattle.std.specs.Ordering.{is_eq, ordering_reverse, ordering_then}
 use Rattle.std.specs.Cmp.{IsTotalOrder, then_total, int_cmp_is}
 use Rattle.std.specs.List.{AllByRecursion}
@@ -28,7 +28,7 @@ use Rattle.xq_regions.specs.Rows.{rows as rows_of, placed_rows}
 use Rattle.xq_rows.specs.Nodes.{cells, bytes_in}
 use Rattle.xq_rows.specs.private.Columns.{node_of}
 use Rattle.xq_rows.specs.Documents.{AreApart, HaveInts, HasAddress, is_at, rows_at, by_first, IsIntact, IsStore}
-use Rattle.xq_rows.specs.private.Adopt.{addressed_node, is_under, HasOwner, by_place, run_length, IsRun, nodes_under, AreDocumentRuns, ReadsEdition, SeesEdition, IsPast, ReadsRowids, SeesRowids, AreNodes, ReadsNodes, AreDocuments, SeesNothing, SeesDocuments, IsAdopted, IsNoStore}
+use Rattle.xq_rows.specs.private.Adopt.{addressed_node, is_under, HasOwner, by_place, IsCut, AreJudged, IsRun, nodes_under, AreDocumentRuns, ReadsEdition, SeesEdition, IsPast, ReadsRowids, SeesRowids, AreNodes, SeesNodes, AreDocuments, SeesNothing, SeesDocuments, IsAdopted, IsNoStore}
 use Rattle.xq_rows.specs.private.Statements.{MakesStore}
 use Rattle.xq_rows.specs.Tables.{no_schema, node_rows, layout_rows, IsStoreSchema}
 use Rattle.xq_rows.proofs.Lists.{tied}
@@ -41,7 +41,7 @@ use Rattle.xq_regions.proofs.Lists.{all_append}
 all_moved : {X : Type 0} (P : X → Type 0) (xs ys : List X) → IsPermutation xs ys → AllByRecursion P xs → AllByRecursion P ys
 all_moved P xs ys same all = recursion_from_All P ys (All-permutation P xs ys same (All-from_recursion P xs all))
 
-all_later : {X : Type 0} (P : X → Type 0) (xs ys : List X) → AllByRecursion P (xs ++ ys) → AllByRecursion P ys
+pub all_later : {X : Type 0} (P : X → Type 0) (xs ys : List X) → AllByRecursion P (xs ++ ys) → AllByRecursion P ys
 all_later P [] ys all = all
 all_later P (x ∷ xs) ys all = all_later P xs ys all.1
 
@@ -198,12 +198,6 @@ risen_more last rows row n it is past =
       up_to = all_append (λ r. is_gt (value_cmp (rowid r) (Int n)) ≡ false) rows (row ∷ []) (all_weaker _ (λ r. is_gt (value_cmp (rowid r) (Int n)) ≡ false) (λ r h. ap is_gt h) rows below) (own, tt);
     }
 
-pub risen_next : (last : Option ℤ) (rows : List Row) (i : ℕ) (row : Row) (n : ℤ) → i < length rows → row ≡ get_or rows i row → HaveRisen last (take i rows) → Int n ≡ column row 0 → IsPast last n
-    → HaveRisen (Some n) (take (i + 1) rows)
-risen_next last rows i row n low is it id past =
-    let grown : take (i + 1) rows ≡ take i rows ++ row ∷ [] = take_more rows i row low ∙ ap (λ r. take i rows ++ r ∷ []) (sym is) in
-    subst (HaveRisen (Some n)) (sym grown) (risen_more last (take i rows) row n it id past)
-
 -- # Rows in their order
 
 place_total : IsTotalOrder by_place
@@ -241,6 +235,11 @@ addresses_rise : (rows : List Row) → IsSorted by_place rows → IsAscending At
 addresses_rise rows sorted = ascending_weaker _ AtMost (λ a b h. first_most (value_cmp (column a 6) (column b 6)) _ h) rows (rises_from by_place place_total rows sorted)
 
 -- # The run of the first address
+
+-- how many rows at the front are of the address
+abbrev pub run_length : List ℕ → List Row → ℕ
+run_length address [] = 0
+run_length address (r ∷ rows) = if is_under address r then suc (run_length address rows) else 0
 
 pub own_under : (a own : List ℕ) (r : Row) (b : Bool) → b ≡ bytes_eq own a → column r 6 ≡ Text own → b ≡ is_under a r
 own_under a own r b is text = is ∙ sym (is_eq-slice_cmp own a) ∙ ap is_eq (sym (value_cmp-Text own a)) ∙ ap (λ v. is_eq (value_cmp v (Text a))) (sym text)
@@ -290,10 +289,6 @@ turned_gt Less h = refl
 turned_gt Equal h = refl
 turned_gt Greater h = absurd cc
 
--- no address is on both sides
-abbrev pub IsCut : List Row → List Row → Type 0
-IsCut past rest = (b : List ℕ) → (filter (is_under b) past ≡ []) ⊎ (filter (is_under b) rest ≡ [])
-
 joined_none : {X : Type 0} (p : X → Bool) (xs ys : List X) → filter p (xs ++ ys) ≡ [] → filter p ys ≡ []
 joined_none p [] ys h = h
 joined_none p (x ∷ xs) ys h = go (p x) h (joined_none p xs ys)
@@ -310,7 +305,7 @@ other_owner a b r apart h = go (is_under b r) refl
     go true e = absurd (apart (let f = sym (text_is (column r 6) b e) ∙ text_is (column r 6) a h in ap bytes_in f))
 
 module _ (a : List ℕ) (first : Row) (own : column first 6 ≡ Text a) where
-  passes : (r : Row) → r ≡ first → is_under a r ≡ true
+  pub passes : (r : Row) → r ≡ first → is_under a r ≡ true
   passes r same = ap (λ v. is_eq (value_cmp v (Text a))) (ap (λ x. column x 6) same ∙ own) ∙ ap is_eq (tied_itself value_cmp_total (Text a))
 
   some_run : (rest : List Row) → slice_get rest 0 ≡ Some first → map node_of (take (run_length a rest) rest) ≢ []
@@ -400,12 +395,6 @@ module _ (a : List ℕ) (first : Row) (own : column first 6 ≡ Text a) where
       | inr ok ↦ bad (owned_first rest here (all_later HasOwner past rest told.owned), subst IsRun here_is ok)
     ]
 
--- the rows before the rest were judged
-pub record AreJudged (all rest : List Row) : Type 0 where
-  pub past : List Row
-  pub is : past ++ rest ≡ all
-  pub told : IsSorted by_place all → AreDocumentRuns past × IsCut past rest
-
 pub judged_none : (all : List Row) → AreJudged all all
 judged_none all = record { past = []; is = refl; told = λ sorted. (record { owned = tt; whole = λ b. inl refl }, λ b. inl refl) }
 
@@ -431,20 +420,6 @@ module _ (all rest : List Row) (judged : AreJudged all rest) (a : List ℕ) (fir
 
 pub judged_all : (all rest : List Row) → AreJudged all rest → rest ≡ [] → IsSorted by_place all → AreDocumentRuns all
 judged_all all rest judged none sorted = subst AreDocumentRuns (sym (append-nil judged.past) ∙ ap (λ l. judged.past ++ l) (sym none) ∙ judged.is) (judged.told sorted).0
-
-pub first_is : (rest : List Row) (first : Row) → (0 < length rest) × ((d : Row) → first ≡ get_or rest 0 d) → slice_get rest 0 ≡ Some first
-first_is [] first is = absurd (omega (arith, is.0))
-first_is (r ∷ rest) first is = ap Some (sym (is.1 r))
-
-first_owned : (rest : List Row) (first : Row) → slice_get rest 0 ≡ Some first → AllByRecursion HasOwner rest → HasOwner first
-first_owned [] first here all = absurd cc
-first_owned (r ∷ rs) first here all = let same : r ≡ first = cc in subst HasOwner same all.0
-
--- a row without a text for its address
-pub judged_stray : (all rest : List Row) → AreJudged all rest → (first : Row) → slice_get rest 0 ≡ Some first → ((a : List ℕ) → column first 6 ≢ Text a) → ¬ AreDocumentRuns all
-judged_stray all rest judged first here stray told =
-    let owner = first_owned rest first here (all_later HasOwner judged.past rest (subst (λ l. AllByRecursion HasOwner l) (sym judged.is) told.owned)) in
-    stray owner.0 owner.2
 
 -- # The table
 
@@ -503,28 +478,23 @@ module _ (table rows : List Row) (are : AreNodes table rows) where
     ];
   }
 
-pub documents_seen : (old mid new : Database) (rows : List Row) → SeesRowids old mid → ReadsNodes mid new rows → (IsSorted by_place rows → AreDocumentRuns rows) → SeesDocuments old new
-documents_seen old mid new rows ids nodes told = record {
+pub documents_seen : (old mid new : Database) → SeesRowids old mid → SeesNodes mid new → SeesDocuments old new
+documents_seen old mid new ids nodes = record {
   alone = ids.alone;
   same = λ has. nodes.same (schema has) ∙ ids.same has;
-  documents = λ has.
-      let are : AreNodes (node_rows old) rows = subst (λ (d : Database). AreNodes (node_rows d) rows) (ids.same has) (nodes.rows (schema has)) in record {
-        apart = ids.apart has;
-        ints = ids.ints has;
-        named = table_named (node_rows old) rows are (told are.sorted);
-        whole = table_whole (node_rows old) rows are (told are.sorted);
-      };
+  documents = λ has. subst (λ (d : Database). AreDocuments (node_rows d)) (ids.same has) (record {
+    apart = subst (λ (d : Database). AreApart (node_rows d)) (sym (ids.same has)) (ids.apart has);
+    ints = subst (λ (d : Database). HaveInts (node_rows d)) (sym (ids.same has)) (ids.ints has);
+    named = nodes.named (schema has);
+    whole = nodes.whole (schema has);
+  });
 }
   where
     schema : IsStoreSchema old.schema → IsStoreSchema mid.schema
     schema has = subst (λ (d : Database). IsStoreSchema d.schema) (sym (ids.same has)) has
 
-pub no_documents_seen : (old mid new : Database) (rows : List Row) → SeesRowids old mid → ReadsNodes mid new rows → (IsSorted by_place rows → ¬ AreDocumentRuns rows) → ¬ IsStore old
-no_documents_seen old mid new rows ids nodes untold store =
-    let same = ids.same store.schema in
-    let has : IsStoreSchema mid.schema = subst (λ (d : Database). IsStoreSchema d.schema) (sym same) store.schema in
-    let are : AreNodes (node_rows old) rows = subst (λ (d : Database). AreNodes (node_rows d) rows) same (nodes.rows has) in
-    untold are.sorted (told_of (node_rows old) rows are store.named store.whole)
+pub no_documents_seen : (old mid : Database) → SeesRowids old mid → ¬ IsStore mid → ¬ IsStore old
+no_documents_seen old mid ids bad store = bad (subst IsStore (sym (ids.same store.schema)) store)
 
 -- # The whole adoption
 
@@ -566,43 +536,3 @@ refused_made old mid nothing some = record {
   some = λ has. some (ap (λ (d : Database). d.schema) (nothing.same (inl has)) ∙ has);
   none = λ store. nothing.none (inr store.schema);
 }
-
-pub run_within : (a : List ℕ) (rows : List Row) → run_length a rows ≤ length rows
-run_within a [] = omega arith
-run_within a (r ∷ rs) = go (is_under a r) (run_within a rs)
-  where
-    go : (b : Bool) → run_length a rs ≤ length rs → cond b (suc (run_length a rs)) 0 ≤ suc (length rs)
-    go true h = omega (arith, h)
-    go false h = omega arith
-
-pub run_starts : (a : List ℕ) (rest : List Row) (first : Row) → slice_get rest 0 ≡ Some first → column first 6 ≡ Text a → 0 < run_length a rest
-run_starts a [] first here own = absurd cc
-run_starts a (r ∷ rs) first here own =
-    let same : r ≡ first = cc in
-    subst (λ b. 0 < cond b (suc (run_length a rs)) 0) (sym (passes a first own r same)) (omega arith)
-
--- # The length of a run, row by row
-
-after_at : (rows : List Row) (i : ℕ) (row : Row) → i < length rows → row ≡ get_or rows i row → drop i rows ≡ row ∷ drop (i + 1) rows
-after_at rows i row low is = rw (add-one, drop-cons rows i row) (ap (λ x. x ∷ drop (suc i) rows) (sym is))
-
-module _ (a : List ℕ) (rows : List Row) (i : ℕ) (so_far : run_length a rows ≡ i + run_length a (drop i rows)) where
-  pub run_out : length rows ≤ i → run_length a rows ≡ i
-  run_out out =
-      let none : drop i rows ≡ [] = no_length (drop i rows) (let size = length-drop i rows in omega (arith, size)) in
-      let last : run_length a (drop i rows) ≡ 0 = ap (run_length a) none in
-      omega (arith, so_far, last)
-
-  module _ (row : Row) (low : i < length rows) (is : row ≡ get_or rows i row) where
-    here : run_length a rows ≡ i + cond (is_under a row) (suc (run_length a (drop (i + 1) rows))) 0
-    here = so_far ∙ ap (λ l. i + run_length a l) (after_at rows i row low is)
-
-    pub run_ends : is_under a row ≡ false → run_length a rows ≡ i
-    run_ends other =
-        let stop : run_length a rows ≡ i + 0 = subst (λ b. run_length a rows ≡ i + cond b (suc (run_length a (drop (i + 1) rows))) 0) other here in
-        omega (arith, stop)
-
-    pub run_goes : is_under a row ≡ true → run_length a rows ≡ i + 1 + run_length a (drop (i + 1) rows)
-    run_goes own =
-        let next : run_length a rows ≡ i + suc (run_length a (drop (i + 1) rows)) = subst (λ b. run_length a rows ≡ i + cond b (suc (run_length a (drop (i + 1) rows))) 0) own here in
-        omega (arith, next)

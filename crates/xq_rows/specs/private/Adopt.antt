@@ -1,6 +1,5 @@
 -- What the adoption of a database tells of it.
-use Rattle.std.proofs.Common.{suc}
-use Rattle.std.specs.Prelude.{◌≡◌, ◌≢◌, ◌⊎◌, ℕ, ℤ, pos, Option, None, Some, Bool, true, false, if◌then◌else◌, List, [], ◌∷◌, map, filter, IsPermutation, IsSorted}
+use Rattle.std.specs.Prelude.{◌≡◌, ◌≢◌, ◌⊎◌, ℕ, ℤ, pos, Option, None, Some, Bool, true, false, List, [], ◌∷◌, ◌++◌, map, filter, IsPermutation, IsSorted}
 use Rattle.std.specs.declared.cmp.Ordering.{Ordering}
 use Rattle.std.specs.declared.cmp.Ordering.TheVariants.{Less}
 use Rattle.std.specs.Ordering.{is_eq, on, then_cmp}
@@ -8,15 +7,18 @@ use Rattle.std.specs.List.{AllByRecursion}
 use Rattle.sqlite_value.specs.Order.{Row, column, value_cmp}
 use Rattle.sqlite_value.specs.declared.value.Value.TheVariants.{Int, Text}
 use Rattle.sqlite_trees.specs.Tree.{rowid}
+use Rattle.sqlite_trees.specs.declared.store.Store.{Ghosts}
 use Rattle.sqlite_resolve.specs.declared.error.CompileError.{CompileError}
 use Rattle.sqlite.specs.Effect.{Database}
+use Rattle.sqlite.specs.Held.{Held}
 use Rattle.sqlite.specs.declared.error.Error.{Error}
 use Rattle.sqlite.specs.declared.error.Error.TheVariants.{SqliteFailure, SqlInputError}
 use Rattle.sqlite.specs.declared.error.ErrorCode.TheVariants.{NameTaken, OutOfMemory}
 use Rattle.xq_atoms.specs.Address.{IsAddress}
 use Rattle.xq_atoms.specs.declared.refusals.Want.TheVariants.{Memory}
 use Rattle.xq_regions.specs.Tree.{Tree, IsDocument}
-use Rattle.xq_regions.specs.Rows.{placed_rows}
+use Rattle.xq_regions.specs.Rows.{placed, placed_rows}
+use Rattle.xq_rows.specs.declared.judgements.Run.{Run}
 use Rattle.xq_rows.specs.declared.faults.OpenFault.{OpenFault}
 use Rattle.xq_rows.specs.declared.faults.OpenFault.TheVariants.{Want, NotAStore}
 use Rattle.xq_rows.specs.Adoption.{HasOne}
@@ -25,6 +27,7 @@ use Rattle.xq_rows.specs.private.Statements.{IsEmptyStore}
 use Rattle.xq_rows.specs.Nodes.{cells}
 use Rattle.xq_rows.specs.private.Columns.{node_of}
 use Rattle.xq_rows.specs.private.Refusals.{want_of}
+use Rattle.xq_rows.specs.private.Streams.{BeginsWith, GivesRows}
 use Rattle.xq_rows.specs.Tables.{no_schema, layout_schema, node_schema, node_rows, layout_rows, IsStoreSchema}
 
 -- An adoption that succeeds makes an empty store where no table was there, and takes the two tables
@@ -73,11 +76,6 @@ HasOwner r = (address : List ℕ) × IsAddress address × (column r 6 ≡ Text a
 abbrev pub by_place : Row → Row → Ordering
 by_place = then_cmp (on (λ r. column r 6) value_cmp) (on (λ r. column r 0) value_cmp)
 
--- how many rows at the front are of the address
-abbrev pub run_length : List ℕ → List Row → ℕ
-run_length address [] = 0
-run_length address (r ∷ rows) = if is_under address r then suc (run_length address rows) else 0
-
 -- these are the nodes of a document, in document order
 abbrev pub IsRun : List Row → Type 0
 IsRun nodes = (t : Tree) × IsDocument t × (nodes ≡ map cells (placed_rows t))
@@ -91,6 +89,41 @@ pub record AreDocumentRuns (rows : List Row) : Type 0 where
   pub owned : AllByRecursion HasOwner rows
   pub whole : (address : List ℕ) → (nodes_under address rows ≡ [])
       ⊎ IsRun (nodes_under address rows)
+
+-- # Rows that are judged as they are read
+
+-- no address is on both sides
+abbrev pub IsCut : List Row → List Row → Type 0
+IsCut past rest = (b : List ℕ) → (filter (is_under b) past ≡ []) ⊎ (filter (is_under b) rest ≡ [])
+
+-- the rows before the rest were judged
+pub record AreJudged (all rest : List Row) : Type 0 where
+  pub past : List Row
+  pub is : past ++ rest ≡ all
+  pub told : IsSorted by_place all → AreDocumentRuns past × IsCut past rest
+
+-- of the rows that were given those in hand are of one address, and those before them were judged,
+-- whatever rows follow
+pub record HasJudged (given : List Row) (run : Run) : Type 0 where
+  pub here : List Row
+  pub under : AllByRecursion (λ r. is_under run.address.items r ≡ true) here
+  pub read : map cells (map placed run.nodes.items) ≡ map node_of here
+  pub judged : (tail : List Row) → AreJudged (given ++ tail) (here ++ tail)
+
+-- no row is in hand, or they are those of a document under a good address
+abbrev pub IsWhole : Run → Type 0
+IsWhole run = (run.nodes.items ≡ [])
+    ⊎ (IsAddress run.address.items × IsRun (map cells (map placed run.nodes.items)))
+
+-- whatever rows follow, they are not those of documents
+abbrev pub AreNoDocuments : List Row → Type 0
+AreNoDocuments rows = (tail : List Row) → IsSorted by_place (rows ++ tail)
+    → ¬ AreDocumentRuns (rows ++ tail)
+
+-- of an answer the rows that were given are not those of documents, whatever follows, or all are not
+abbrev pub ShowsNoDocuments : {S : Type 0} → Ghosts S → Held S → Held S → Type 0
+ShowsNoDocuments g old new = BeginsWith g old new AreNoDocuments
+    ⊎ GivesRows g old new (λ given. IsSorted by_place given → ¬ AreDocumentRuns given)
 
 -- # The steps of an adoption, by the schema found
 
@@ -151,6 +184,13 @@ pub record AreNodes (table rows : List Row) : Type 0 where
 pub record ReadsNodes (old new : Database) (given : List Row) : Type 0 where
   pub same : IsStoreSchema old.schema → new ≡ old
   pub rows : IsStoreSchema old.schema → AreNodes (node_rows old) given
+
+-- they are those of documents under good addresses
+pub record SeesNodes (old new : Database) : Type 0 where
+  pub same : IsStoreSchema old.schema → new ≡ old
+  pub named : IsStoreSchema old.schema → AllByRecursion HasAddress (node_rows old)
+  pub whole : IsStoreSchema old.schema → (address : List ℕ)
+      → (rows_at address (node_rows old) ≡ []) ⊎ IsIntact (rows_at address (node_rows old))
 
 -- the rows of a table are those of documents
 pub record AreDocuments (table : List Row) : Type 0 where
