@@ -30,7 +30,7 @@ use Rattle.sqlite.proofs.Callers.{IsPlain, command_of, reads_as}
 use Rattle.xq_rows.specs.declared.faults.OpenFault.TheVariants.{NotAStore}
 use Rattle.xq_rows.specs.Tables.{no_schema, layout_schema, node_schema, IsStoreSchema, layout_rows}
 use Rattle.xq_rows.proofs.Places.{First, layout_first, node_first, schema_of, layout_tree, node_tree, which, nodes_lie, layout_lies, layout_alone, layout_not_given}
-use Rattle.xq_rows.specs.private.Adopt.{fault_of, IsInputError, addressed_node, by_place, AreNodes, ReadsEdition, ReadsRowids, ReadsNodes, SeesNothing}
+use Rattle.xq_rows.specs.private.Adopt.{fault_of, IsInputError, addressed_node, by_place, AreNodes, ReadsEdition, ReadsRowids, ReadsNodes, HasLayout}
 use Rattle.xq_rows.proofs.Texts.{IsUnread, body, key}
 use Rattle.xq_rows.proofs.Lists.{flat_map_picks}
 use Rattle.xq_rows.proofs.Creates.{undone_kept}
@@ -186,21 +186,11 @@ unread old new sql params rows none h = subst IsUnread h.1.is none
 unread_under : (schema : Schema) (old new : State) (sql : List ℕ) (params : Row) (rows : List Row) → IsUnread (understood schema sql) → Shown sql params old new rows → old.now.schema ≢ schema
 unread_under schema old new sql params rows none h has = unread old new sql params rows (subst (λ s. IsUnread (understood s sql)) (sym has) none) h
 
-as_found : (schema : Schema) (old new : State) (sql : List ℕ) (params : Row) (rows : List Row) → IsPlain (understood schema sql) → Shown sql params old new rows → old.now.schema ≡ schema → new.now ≡ old.now
-as_found schema old new sql params rows plain h has = shown_keeps old new sql params rows (subst (λ s. IsPlain (understood s sql)) (sym has) plain) h
-
-as_placed : (old new : State) (sql : List ℕ) (params : Row) (rows : List Row) → ((first : First) → IsPlain (understood (schema_of first) sql)) → Shown sql params old new rows → IsStoreSchema old.now.schema → new.now ≡ old.now
-as_placed old new sql params rows plain h has = shown_keeps old new sql params rows (plain_under old.now.schema sql plain has) h
-
-pub reads_edition : (old new : State) (rows : List Row) → Shown edition_query [] old new rows → ReadsEdition old.now new.now rows
+pub reads_edition : (old new : State) (rows : List Row) → Shown edition_query [] old new rows → ReadsEdition old.now rows
 reads_edition old new rows h = record {
   some = λ lacks. elim lacks [
     | inl has ↦ unread_under no_schema old new edition_query [] rows edition_unread h has
     | inr has ↦ unread_under node_schema old new edition_query [] rows edition_missing h has
-  ];
-  same = λ layout. elim layout [
-    | inl has ↦ as_found layout_schema old new edition_query [] rows edition_alone_plain h has
-    | inr has ↦ as_placed old new edition_query [] rows edition_found_plain h has
   ];
   rows = λ layout. elim layout [
     | inl has ↦
@@ -218,26 +208,19 @@ reads_edition old new rows h = record {
     edition_given : {table : List Row} → table ≡ layout_rows old.now → IsPermutation (map (λ r. column r 1 ∷ []) table) rows → IsPermutation (map (λ r. column r 1 ∷ []) (layout_rows old.now)) rows
     edition_given is = subst (λ t. IsPermutation (map (λ r. column r 1 ∷ []) t) rows) is
 
-pub reads_rowids : (old new : State) (rows : List Row) → Shown rowids_query [] old new rows → ReadsRowids old.now new.now rows
-reads_rowids old new rows h = record {
-  alone = unread_under layout_schema old new rowids_query [] rows rowids_unread h;
-  same = as_placed old new rowids_query [] rows rowids_plain h;
-  rows = λ has.
-      let place = which old.now.schema has in
-      let first = place.0 in
-      let it = reads_as rowids_query [] old new (schema_of first) place.1 (Select (rowids_program (node_tree first)) rowids_names) (rowids_are first).0 (rowids_plain first) (rowids_are first).1 rows h in
-      subst (λ t. IsPermutation (map (λ r. rowid r ∷ []) t) rows) (sym (nodes_lie first old.now place.1)) (rowid_rows first old.now.trees rows it.answer);
-}
+pub reads_rowids : (old new : State) (rows : List Row) → Shown rowids_query [] old new rows → ReadsRowids old.now rows
+reads_rowids old new rows h has =
+    let place = which old.now.schema has in
+    let first = place.0 in
+    let it = reads_as rowids_query [] old new (schema_of first) place.1 (Select (rowids_program (node_tree first)) rowids_names) (rowids_are first).0 (rowids_plain first) (rowids_are first).1 rows h in
+    subst (λ t. IsPermutation (map (λ r. rowid r ∷ []) t) rows) (sym (nodes_lie first old.now place.1)) (rowid_rows first old.now.trees rows it.answer)
 
-pub reads_nodes : (old new : State) (rows : List Row) → Shown nodes_query [] old new rows → ReadsNodes old.now new.now rows
-reads_nodes old new rows h = record {
-  same = as_placed old new nodes_query [] rows nodes_plain h;
-  rows = λ has.
-      let place = which old.now.schema has in
-      let first = place.0 in
-      let it = reads_as nodes_query [] old new (schema_of first) place.1 (Select (nodes_program (node_tree first)) nodes_names) (nodes_are first).0 (nodes_plain first) (nodes_are first).1 rows h in
-      subst (λ t. AreNodes t rows) (sym (nodes_lie first old.now place.1)) (nodes_given first old.now.trees rows it.answer);
-}
+pub reads_nodes : (old new : State) (rows : List Row) → Shown nodes_query [] old new rows → ReadsNodes old.now rows
+reads_nodes old new rows h has =
+    let place = which old.now.schema has in
+    let first = place.0 in
+    let it = reads_as nodes_query [] old new (schema_of first) place.1 (Select (nodes_program (node_tree first)) nodes_names) (nodes_are first).0 (nodes_plain first) (nodes_are first).1 rows h in
+    subst (λ t. AreNodes t rows) (sym (nodes_lie first old.now place.1)) (nodes_given first old.now.trees rows it.answer)
 
 -- # Refusals
 
@@ -294,13 +277,6 @@ module _ (old new : State) (sql : List ℕ) (e : Error) (n : fault_of e ≡ NotA
         let command : c.command ≡ Select q names = ap command_of (sym it.is) ∙ ap (λ s. command_of (understood s sql)) has ∙ is in
         refused old.step_limit shown.0 given (subst (λ k. RefusesToRead old.step_limit k shown.0 given e) command shown.2)
 
-  -- one that has none leaves the database
-  pub unread_same : IsUnread (understood old.now.schema sql) → FailsToQuery sql [] old new e → new.now ≡ old.now
-  unfolding FailsToQuery IsNotRun
-  unread_same none (inl (inl (why, same))) = same.0.now_is
-  unread_same none (inl (inr h)) = absurd (store_told h.0 (not_this _ h.1))
-  unread_same none (inr (c, it, h)) = absurd (subst IsUnread it.is none)
-
 -- a query that has a meaning under the two tables
 pub placed_told : (old new : State) (sql : List ℕ) (e : Error) → fault_of e ≡ NotAStore → (tree : First → ℕ) (q : ℕ → Program) (names : List (List ℕ))
     → ((first : First) → (command_of (understood (schema_of first) sql) ≡ Select (q (tree first)) names) × (reads_listing (schema_of first) sql ≡ false))
@@ -311,15 +287,10 @@ placed_told old new sql e n tree q names are plain has =
     query_told old new sql e n (schema_of first) (q (tree first)) names place.1 (are first).0 (plain first)
 
 -- the edition cannot be read
-pub nothing_read : (old new : State) (e : Error) → FailsToQuery edition_query [] old new e → IsInputError e → SeesNothing old.now new.now
-nothing_read old new e h input =
-    let n : fault_of e ≡ NotAStore = ap fault_of input.1 in record {
-      none = λ layout. elim layout [
-        | inl has ↦ query_told old new edition_query e n layout_schema (edition_program 0) edition_names has edition_alone.0 edition_alone_plain h
-        | inr has ↦ placed_told old new edition_query e n layout_tree edition_program edition_names edition_found edition_found_plain has h
-      ];
-      same = λ lacks. elim lacks [
-        | inl has ↦ unread_same old new edition_query e n (subst (λ s. IsUnread (understood s edition_query)) (sym has) edition_unread) h
-        | inr has ↦ unread_same old new edition_query e n (subst (λ s. IsUnread (understood s edition_query)) (sym has) edition_missing) h
-      ];
-    }
+pub nothing_read : (old new : State) (e : Error) → FailsToQuery edition_query [] old new e → IsInputError e → ¬ HasLayout old.now
+nothing_read old new e h input layout =
+    let n : fault_of e ≡ NotAStore = ap fault_of input.1 in
+    elim layout [
+      | inl has ↦ query_told old new edition_query e n layout_schema (edition_program 0) edition_names has edition_alone.0 edition_alone_plain h
+      | inr has ↦ placed_told old new edition_query e n layout_tree edition_program edition_names edition_found edition_found_plain has h
+    ]

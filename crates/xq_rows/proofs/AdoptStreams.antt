@@ -21,7 +21,7 @@ use Rattle.xq_rows.specs.private.Streams.{BeginsWith, GivesRows}
 use Rattle.xq_rows.proofs.Places.{node_tree, which, schema_of}
 use Rattle.xq_rows.proofs.Texts.{IsUnread}
 use Rattle.xq_rows.proofs.AdoptReads.{rowids_query, rowids_plain, rowids_unread, nodes_query, nodes_program, nodes_names, nodes_are, nodes_plain, reads_rowids, reads_nodes}
-use Rattle.xq_rows.proofs.Adopts.{rowids_seen, table_named, table_whole, told_of}
+use Rattle.xq_rows.proofs.Adopts.{apart_seen, ints_seen, table_named, table_whole, told_of}
 use Rattle.xq_rows.proofs.Selects.{plain_under}
 use Rattle.xq_rows.proofs.Streams.{gives_shown, shown_since, unchanged_itself}
 
@@ -36,18 +36,15 @@ module _ {S : Type 0} (g : Ghosts S) (old begun new : Held S) where
   begun_read sql params (inl h) none = subst IsUnread (ap (λ (d : Database). understood d.schema sql) (sym h.1.0.now_is) ∙ h.0.0.statement.is) none
   begun_read sql params (inr h) none = returns_read _ h.0 none
 
-  pub rowids_streamed : HasBegun g rowids_query [] old begun → (state g new).now ≡ (state g old).now → GivesRows g begun new (λ given. AreApart given × HaveInts given) → SeesRowids (state g old).now (state g new).now
-  rowids_streamed it same gives = record {
+  pub rowids_streamed : HasBegun g rowids_query [] old begun → GivesRows g begun new (λ given. AreApart given × HaveInts given) → SeesRowids (state g old).now
+  rowids_streamed it gives = record {
     alone = λ has. begun_read rowids_query [] it (subst (λ s. IsUnread (understood s rowids_query)) (sym has) rowids_unread);
-    same = λ has. same;
-    apart = λ has. (seen has).apart has;
-    ints = λ has. (seen has).ints has;
+    apart = λ has. let all = seen has in apart_seen (state g old).now all.0 (reads_rowids (state g old) (state g new) all.0 all.1 has) all.2.0;
+    ints = λ has. let all = seen has in ints_seen (state g old).now all.0 (reads_rowids (state g old) (state g new) all.0 all.1 has) all.2.1;
   }
     where
-      seen : IsStoreSchema old.schema → SeesRowids (state g old).now (state g new).now
-      seen has =
-          let all = gives_shown g rowids_query [] old begun it (plain_under old.schema rowids_query rowids_plain has) new (λ given. AreApart given × HaveInts given) gives in
-          rowids_seen (state g old).now (state g new).now all.0 (reads_rowids (state g old) (state g new) all.0 all.1) all.2.0 all.2.1
+      seen : IsStoreSchema old.schema → (rows : List Row) × Shown rowids_query [] (state g old) (state g new) rows × (AreApart rows × HaveInts rows)
+      seen has = gives_shown g rowids_query [] old begun it (plain_under old.schema rowids_query rowids_plain has) new (λ given. AreApart given × HaveInts given) gives
 
   module _ (it : HasBegun g nodes_query [] old begun) where
     plain : IsStoreSchema old.schema → IsPlain (understood old.schema nodes_query)
@@ -56,11 +53,10 @@ module _ {S : Type 0} (g : Ghosts S) (old begun new : Held S) where
     nodes_shown : (has : IsStoreSchema old.schema) (P : List Row → Type 0) → GivesRows g begun new P → (rows : List Row) × AreNodes (node_rows (state g old).now) rows × P rows
     nodes_shown has P gives =
         let all = gives_shown g nodes_query [] old begun it (plain has) new P gives in
-        (all.0, (reads_nodes (state g old) (state g new) all.0 all.1).rows has, all.2)
+        (all.0, reads_nodes (state g old) (state g new) all.0 all.1 has, all.2)
 
-    pub nodes_streamed : (state g new).now ≡ (state g old).now → GivesRows g begun new (λ given. IsSorted by_place given → AreDocumentRuns given) → SeesNodes (state g old).now (state g new).now
-    nodes_streamed same gives = record {
-      same = λ has. same;
+    pub nodes_streamed : GivesRows g begun new (λ given. IsSorted by_place given → AreDocumentRuns given) → SeesNodes (state g old).now
+    nodes_streamed gives = record {
       named = λ has. let all = seen has in table_named (node_rows (state g old).now) all.0 all.1 (all.2 all.1.sorted);
       whole = λ has. let all = seen has in table_whole (node_rows (state g old).now) all.0 all.1 (all.2 all.1.sorted);
     }
@@ -80,7 +76,7 @@ module _ {S : Type 0} (g : Ghosts S) (old begun new : Held S) where
         λ c db st source. subst (λ (k : Command). EndsIn k db (timed [] c.formats st.now)) (sym (ap command_of (sym st.is) ∙ ap (λ s. command_of (understood s nodes_query)) schema ∙ (nodes_are place.0).0)) tt in
         let whole = begins_shown nodes_query [] (state g new) (state g new) given.0 (given_begin g nodes_query [] new given.0 given.1) (unchanged_itself (state g new) up) ends in
         let shown = shown_since nodes_query [] (state g old) (state g new) (state g new) (given.0 ++ whole.0) (plain has) same whole.1 in
-        (given.0, whole.0, (reads_nodes (state g old) (state g new) (given.0 ++ whole.0) shown).rows has, given.2)
+        (given.0, whole.0, reads_nodes (state g old) (state g new) (given.0 ++ whole.0) shown has, given.2)
 
     pub nodes_refuted : IsTrue (state g new).is_open → ShowsNoDocuments g begun new → ¬ IsStore (state g old).now
     nodes_refuted up (inl begins) store =

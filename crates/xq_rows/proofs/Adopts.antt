@@ -28,7 +28,7 @@ use Rattle.xq_regions.specs.Rows.{rows as rows_of, placed_rows}
 use Rattle.xq_rows.specs.Nodes.{cells, bytes_in}
 use Rattle.xq_rows.specs.private.Columns.{node_of}
 use Rattle.xq_rows.specs.Documents.{AreApart, HaveInts, HasAddress, is_at, rows_at, by_first, IsIntact, IsStore}
-use Rattle.xq_rows.specs.private.Adopt.{addressed_node, is_under, HasOwner, by_place, IsCut, AreJudged, IsRun, nodes_under, AreDocumentRuns, ReadsEdition, SeesEdition, IsPast, ReadsRowids, SeesRowids, AreNodes, SeesNodes, AreDocuments, SeesNothing, SeesDocuments, IsAdopted, IsNoStore}
+use Rattle.xq_rows.specs.private.Adopt.{addressed_node, is_under, HasOwner, by_place, IsCut, AreJudged, IsRun, nodes_under, AreDocumentRuns, ReadsEdition, SeesEdition, HasLayout, IsPast, AreNodes, SeesDocuments, IsAdopted, IsNoStore}
 use Rattle.xq_rows.specs.private.Statements.{MakesStore}
 use Rattle.xq_rows.specs.Tables.{no_schema, node_rows, layout_rows, IsStoreSchema}
 use Rattle.xq_rows.proofs.Lists.{tied}
@@ -75,20 +75,19 @@ editions_moved : (table rows : List Row) → IsPermutation (map (λ r. column r 
 editions_moved table rows same =
     subst (λ l. IsPermutation l (map (λ r. column r 0) rows)) (map-map (λ r. column r 0) (λ r. column r 1 ∷ []) table) (IsPermutation-map (λ r. column r 0) _ _ same)
 
-pub edition_seen : (old new : Database) (rows : List Row) → ReadsEdition old new rows → map (λ r. column r 0) rows ≡ Int (pos 1) ∷ [] → SeesEdition old new
-edition_seen old new rows it one = record {
+pub edition_seen : (db : Database) (rows : List Row) → ReadsEdition db rows → map (λ r. column r 0) rows ≡ Int (pos 1) ∷ [] → SeesEdition db
+edition_seen db rows it one = record {
   some = it.some;
-  same = it.same;
   first = λ layout.
-      let moved = editions_moved (layout_rows old) rows (it.rows layout) in
-      one_permutation (Int (pos 1)) _ (IsPermutation-sym _ _ (subst (IsPermutation (map (λ r. column r 1) (layout_rows old))) one moved));
+      let moved = editions_moved (layout_rows db) rows (it.rows layout) in
+      one_permutation (Int (pos 1)) _ (IsPermutation-sym _ _ (subst (IsPermutation (map (λ r. column r 1) (layout_rows db))) one moved));
 }
 
-pub no_edition : (old new : Database) (rows : List Row) → ReadsEdition old new rows → ¬ (map (λ r. column r 0) rows ≡ Int (pos 1) ∷ []) → IsNoStore old
-no_edition old new rows it other = record {
+pub no_edition : (db : Database) (rows : List Row) → ReadsEdition db rows → ¬ (map (λ r. column r 0) rows ≡ Int (pos 1) ∷ []) → IsNoStore db
+no_edition db rows it other = record {
   some = λ has. it.some (inl has);
   none = λ store.
-      let moved = editions_moved (layout_rows old) rows (it.rows (inr store.schema)) in
+      let moved = editions_moved (layout_rows db) rows (it.rows (inr store.schema)) in
       other (one_permutation (Int (pos 1)) _ (subst (λ l. IsPermutation l (map (λ r. column r 0) rows)) store.layout moved));
 }
 
@@ -147,13 +146,12 @@ apart_shown : (rows : List Row) → AreApart (map (λ r. rowid r ∷ []) rows) �
 apart_shown [] up = tt
 apart_shown (r ∷ rs) up = (all_unmap (λ y. is_eq (value_cmp (rowid r) (rowid y)) ≡ false) (λ r. rowid r ∷ []) rs up.0, apart_shown rs up.1)
 
-pub rowids_seen : (old new : Database) (rows : List Row) → ReadsRowids old new rows → AreApart rows → HaveInts rows → SeesRowids old new
-rowids_seen old new rows it up ints = record {
-  alone = it.alone;
-  same = it.same;
-  apart = λ has. apart_shown (node_rows old) (apart_moved rows _ (IsPermutation-sym _ _ (it.rows has)) up);
-  ints = λ has. all_unmap (λ r. IsTrue (is_int (rowid r))) (λ r. rowid r ∷ []) (node_rows old) (all_moved (λ r. IsTrue (is_int (rowid r))) rows _ (IsPermutation-sym _ _ (it.rows has)) ints);
-}
+module _ (db : Database) (rows : List Row) (same : IsPermutation (map (λ r. rowid r ∷ []) (node_rows db)) rows) where
+  pub apart_seen : AreApart rows → AreApart (node_rows db)
+  apart_seen up = apart_shown (node_rows db) (apart_moved rows _ (IsPermutation-sym _ _ same) up)
+
+  pub ints_seen : HaveInts rows → HaveInts (node_rows db)
+  ints_seen ints = all_unmap (λ r. IsTrue (is_int (rowid r))) (λ r. rowid r ∷ []) (node_rows db) (all_moved (λ r. IsTrue (is_int (rowid r))) rows _ (IsPermutation-sym _ _ same) ints)
 
 -- each rowid is at most the last one
 abbrev pub AreUpTo : Option ℤ → List Row → Type 0
@@ -478,61 +476,25 @@ module _ (table rows : List Row) (are : AreNodes table rows) where
     ];
   }
 
-pub documents_seen : (old mid new : Database) → SeesRowids old mid → SeesNodes mid new → SeesDocuments old new
-documents_seen old mid new ids nodes = record {
-  alone = ids.alone;
-  same = λ has. nodes.same (schema has) ∙ ids.same has;
-  documents = λ has. subst (λ (d : Database). AreDocuments (node_rows d)) (ids.same has) (record {
-    apart = subst (λ (d : Database). AreApart (node_rows d)) (sym (ids.same has)) (ids.apart has);
-    ints = subst (λ (d : Database). HaveInts (node_rows d)) (sym (ids.same has)) (ids.ints has);
-    named = nodes.named (schema has);
-    whole = nodes.whole (schema has);
-  });
-}
-  where
-    schema : IsStoreSchema old.schema → IsStoreSchema mid.schema
-    schema has = subst (λ (d : Database). IsStoreSchema d.schema) (sym (ids.same has)) has
-
-pub no_documents_seen : (old mid : Database) → SeesRowids old mid → ¬ IsStore mid → ¬ IsStore old
-no_documents_seen old mid ids bad store = bad (subst IsStore (sym (ids.same store.schema)) store)
-
 -- # The whole adoption
 
-pub adopted_found : (old mid new : Database) → SeesEdition old mid → SeesDocuments mid new → IsAdopted old new
-adopted_found old mid new edition documents = record {
+pub adopted_found : (old new : Database) → SeesEdition old → SeesDocuments old → new ≡ old → IsAdopted old new
+adopted_found old new edition (ids, nodes) same = record {
   made = λ has. absurd (edition.some (inl has));
-  found = λ has.
-      let same = edition.same (inr has) in
-      let still : IsStoreSchema mid.schema = subst (λ (d : Database). IsStoreSchema d.schema) (sym same) has in
-      let are : AreDocuments (node_rows old) = subst (λ (d : Database). AreDocuments (node_rows d)) same (documents.documents still) in (
-        documents.same still ∙ same,
-        record { schema = has; layout = edition.first (inr has); apart = are.apart; ints = are.ints; named = are.named; whole = are.whole },
-      );
-  alone = λ one. elim one [
-    | inl has ↦ documents.alone (ap (λ (d : Database). d.schema) (edition.same (inl has)) ∙ has)
-    | inr has ↦ edition.some (inr has)
-  ];
+  found = λ has. (same, record { schema = has; layout = edition.first (inr has); apart = ids.apart has; ints = ids.ints has; named = nodes.named has; whole = nodes.whole has });
+  alone = λ one. elim one [ inl has ↦ ids.alone has | inr has ↦ edition.some (inr has) ];
 }
 
-pub adopted_made : (old mid new : Database) → SeesNothing old mid → MakesStore mid new → IsAdopted old new
-adopted_made old mid new nothing made = record {
-  made = λ has. made.made (ap (λ (d : Database). d.schema) (nothing.same (inl has)) ∙ has);
-  found = λ has. absurd (nothing.none (inr has));
-  alone = λ one. elim one [
-    | inl has ↦ nothing.none (inl has)
-    | inr has ↦ made.never (ap (λ (d : Database). d.schema) (nothing.same (inr has)) ∙ has)
-  ];
+pub adopted_made : (old new : Database) → ¬ HasLayout old → MakesStore old new → IsAdopted old new
+adopted_made old new nothing made = record {
+  made = made.made;
+  found = λ has. absurd (nothing (inr has));
+  alone = λ one. elim one [ inl has ↦ nothing (inl has) | inr has ↦ made.never has ];
 }
 
--- a database that holds no documents, as it was after the edition was read
-pub refused_found : (old mid : Database) → SeesEdition old mid → ¬ IsStore mid → IsNoStore old
-refused_found old mid edition bad = record {
-  some = λ has. edition.some (inl has);
-  none = λ store. bad (subst IsStore (sym (edition.same (inr store.schema))) store);
-}
+-- tables that hold no documents
+pub refused_found : (db : Database) → SeesEdition db → ¬ IsStore db → IsNoStore db
+refused_found db edition bad = record { some = λ has. edition.some (inl has); none = bad }
 
-pub refused_made : (old mid : Database) → SeesNothing old mid → mid.schema ≢ no_schema → IsNoStore old
-refused_made old mid nothing some = record {
-  some = λ has. some (ap (λ (d : Database). d.schema) (nothing.same (inl has)) ∙ has);
-  none = λ store. nothing.none (inr store.schema);
-}
+pub refused_made : (db : Database) → ¬ HasLayout db → db.schema ≢ no_schema → IsNoStore db
+refused_made db nothing some = record { some = some; none = λ store. nothing (inr store.schema) }

@@ -1,5 +1,5 @@
 -- Queries write nothing, whatever tables there are.
-use Rattle.std.proofs.Common.{◌≡◌, ℕ, List, [], Bool, true, false, Result, Ok, Err, Option, Some, None, IfOk, IfErr, IsSome, IsTrue, inl, inr, refl, sym, subst, ◌∙◌}
+use Rattle.std.proofs.Common.{◌≡◌, ℕ, List, [], Bool, true, false, Result, Ok, Err, Option, Some, None, if◌then◌else◌, IfOk, IfErr, IsSome, IsTrue, inl, inr, refl, sym, subst, ◌∙◌}
 use Rattle.sqlite_value.specs.Order.{Row}
 use Rattle.sqlite_trees.specs.declared.store.Store.{Ghosts}
 use Rattle.sqlite_schema.specs.declared.schema.Schema.{Schema}
@@ -44,7 +44,7 @@ Plan = List (List ℕ) × (Command × Option Returning)
 
 steps_silent : (with_plan : Plan → Compiled) → ((plan : Plan) → (with_plan plan).returning ≡ plan.1.1) → (formats : List (List ℕ)) (shown : Checked (Option Returning)) (c : Checked Command) → shown ≡ Ok None
     → ¬ Returns (and_then (and_then (and_then shown (λ s. and_then c (λ k. Ok (k, s)))) (λ found. Ok (formats, found))) (λ plan. Ok (with_plan plan)))
-steps_silent with_plan keeps formats shown (Ok k) is some = (let h = rw is at some in subst IsSome (keeps (formats, (k, None))) h)
+steps_silent with_plan keeps formats shown (Ok k) is some = (let h = rw is at some in absurd (let e = subst IsSome (keeps (formats, (k, None))) h in cc))
 steps_silent with_plan keeps formats shown (Err e) is some = (let h = rw is at some in h)
 
 compiled_silent : (schema : Schema) (sql : List ℕ) → ShowsNoWrite sql → ¬ Returns (compiled schema sql)
@@ -59,11 +59,11 @@ unfolding understood
 silent schema sql reads = go (reads_listing schema sql)
   where
     alone : (c : Compiled) (b : Bool) → ¬ Returns (Ok c) → ¬ Returns (if b then Ok c else Err NoSuchTable)
-    alone c true none = none
+    alone c true none some = none some
     alone c false none some = some
 
     chosen : (r : Result Compiled CompileError) → ¬ Returns r → ¬ Returns (if_select r)
-    chosen (Ok c) none = alone c (is_select c.command) none
+    chosen (Ok c) none some = alone c (is_select c.command) none some
     chosen (Err e) none some = some
 
     go : (b : Bool) → ¬ Returns (if b then if_select (compiled listing_schema sql) else compiled schema sql)
@@ -79,7 +79,7 @@ module _ (old new : State) (sql : List ℕ) (params : Row) (writes_not : ¬ Retu
     where
       go : (what : Option Returning) → c.returning ≡ what → ShowsRows old new sql c (timed params c.formats it.now) rows what → new.now ≡ old.now
       go None same h = h.3.0.now_is
-      go (Some what) same h = absurd (writes_not (subst Returns (sym it.is) (subst IsSome (sym same) tt)))
+      go (Some what) same h = absurd (writes_not (subst Returns (sym it.is) (subst IsSome (sym same) refl)))
 
   pub refused_leaves : (e : Error) → (IsTrue old.is_open → old.now ≡ old.committed) → IsTrue new.is_open → FailsToQuery sql params old new e → new.now ≡ old.now
   unfolding FailsToQuery IsNotRun
@@ -89,7 +89,7 @@ module _ (old new : State) (sql : List ℕ) (params : Row) (writes_not : ¬ Retu
     where
       go : (what : Option Returning) → c.returning ≡ what → FailsToShow old new sql c (timed params c.formats it.now) e what → new.now ≡ old.now
       go None same h = h.3.0.now_is
-      go (Some what) same h = absurd (writes_not (subst Returns (sym it.is) (subst IsSome (sym same) tt)))
+      go (Some what) same h = absurd (writes_not (subst Returns (sym it.is) (subst IsSome (sym same) refl)))
 
   -- whatever it answers
   pub query_leaves : {X : Type 0} (show : X → List Row) (r : Result X Error) → (IsTrue old.is_open → old.now ≡ old.committed) → IsTrue new.is_open → IfOk r (λ x. Shown sql params old new (show x)) → IfErr r (FailsToQuery sql params old new)

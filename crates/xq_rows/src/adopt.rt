@@ -7,7 +7,7 @@ ghost use Rattle.sqlite.specs.Held.{state};
 ghost use Rattle.sqlite_trees.specs.View.{doubt};
 ghost use Rattle.sqlite_value.specs.Order.{column};
 ghost use Rattle.sqlite_value.specs.declared.value.Value.TheVariants.{Int};
-ghost use Rattle.xq_rows.specs.private.Adopt.{IsAdopted, IsNoStore, ReadsEdition, IsInputError, IsPast, Sees, SeesDocuments, SeesNodes, SeesNothing, SeesRowids};
+ghost use Rattle.xq_rows.specs.private.Adopt.{HasLayout, IsAdopted, IsNoStore, ReadsEdition, IsInputError, IsPast, Sees, SeesDocuments, SeesNodes, SeesRowids};
 ghost use Rattle.xq_rows.specs.Documents.{AreApart, HaveInts, IsReady, IsStore};
 ghost use Rattle.xq_rows.specs.private.Statements.{MakesStore};
 ghost use Rattle.xq_rows.specs.private.Keeps.{StaysInside, StaysOutside};
@@ -30,11 +30,10 @@ fn read_layout<S: Alter>(conn: &mut Connection<S>) -> Result<Vec<Row>, Error>
     ensures same { IsReady (state S.Store conn.new)
         → (state S.Store conn.new).now ≡ (state S.Store conn.old).now }
     ensures ok { HasCleanDisk (state S.Store conn.new)
-        → IfOk result (λ rows. ReadsEdition (state S.Store conn.old).now
-        (state S.Store conn.new).now rows.items) }
+        → IfOk result (λ rows. ReadsEdition (state S.Store conn.old).now rows.items) }
     ensures err { HasCleanDisk (state S.Store conn.new)
         → IfErr result (λ e. IsInputError e
-        → SeesNothing (state S.Store conn.old).now (state S.Store conn.new).now) }
+        → ¬ (HasLayout (state S.Store conn.old).now)) }
 {
     let _settled = conn.is_autocommit();
     conn.query_all("SELECT edition FROM layout", &[])
@@ -57,8 +56,7 @@ fn has_edition<S: Alter>(conn: &mut Connection<S>) -> Result<bool, OpenFault>
     ensures same { IsReady (state S.Store conn.new)
         → (state S.Store conn.new).now ≡ (state S.Store conn.old).now }
     ensures ok { HasCleanDisk (state S.Store conn.new)
-        → IfOk result (λ found. Sees found (state S.Store conn.old).now
-        (state S.Store conn.new).now) }
+        → IfOk result (λ found. Sees found (state S.Store conn.old).now) }
     ensures err { HasCleanDisk (state S.Store conn.new)
         → IfErr result (λ fault. fault ≡ OpenFault.NotAStore
         → IsNoStore (state S.Store conn.old).now) }
@@ -133,7 +131,7 @@ fn check_rowids<S: Alter>(conn: &mut Connection<S>) -> Result<(), OpenFault>
     ensures same { IsReady (state S.Store conn.new)
         → (state S.Store conn.new).now ≡ (state S.Store conn.old).now }
     ensures ok { IsReady (state S.Store conn.new)
-        → OnOk result (SeesRowids (state S.Store conn.old).now (state S.Store conn.new).now) }
+        → OnOk result (SeesRowids (state S.Store conn.old).now) }
     ensures err { IsReady (state S.Store conn.new)
         → IfErr result (λ fault. fault ≡ OpenFault.NotAStore
         → ¬ (IsStoreSchema (state S.Store conn.old).now.schema)) }
@@ -152,7 +150,7 @@ fn check_addresses<S: Alter>(alloc: Global, conn: &mut Connection<S>) -> Result<
     ensures same { IsReady (state S.Store conn.new)
         → (state S.Store conn.new).now ≡ (state S.Store conn.old).now }
     ensures ok { IsReady (state S.Store conn.new)
-        → OnOk result (SeesNodes (state S.Store conn.old).now (state S.Store conn.new).now) }
+        → OnOk result (SeesNodes (state S.Store conn.old).now) }
     ensures err { IsReady (state S.Store conn.new)
         → IfErr result (λ fault. fault ≡ OpenFault.NotAStore
         → ¬ (IsStore (state S.Store conn.old).now)) }
@@ -174,8 +172,7 @@ fn check_nodes<S: Alter>(alloc: Global, conn: &mut Connection<S>) -> Result<(), 
     ensures same { IsReady (state S.Store conn.new)
         → (state S.Store conn.new).now ≡ (state S.Store conn.old).now }
     ensures ok { IsReady (state S.Store conn.new)
-        → OnOk result (SeesDocuments (state S.Store conn.old).now
-        (state S.Store conn.new).now) }
+        → OnOk result (SeesDocuments (state S.Store conn.old).now) }
     ensures err { IsReady (state S.Store conn.new)
         → IfErr result (λ fault. fault ≡ OpenFault.NotAStore
         → ¬ (IsStore (state S.Store conn.old).now)) }

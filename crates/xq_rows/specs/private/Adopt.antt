@@ -136,32 +136,24 @@ abbrev pub LacksLayout : Database → Type 0
 LacksLayout db = (db.schema ≡ no_schema) ⊎ (db.schema ≡ node_schema)
 
 -- the editions were read
-pub record ReadsEdition (old new : Database) (given : List Row) : Type 0 where
-  pub some : ¬ LacksLayout old
-  pub same : HasLayout old → new ≡ old
-  pub rows : HasLayout old → IsPermutation (map (λ r. column r 1 ∷ []) (layout_rows old)) given
+pub record ReadsEdition (db : Database) (given : List Row) : Type 0 where
+  pub some : ¬ LacksLayout db
+  pub rows : HasLayout db → IsPermutation (map (λ r. column r 1 ∷ []) (layout_rows db)) given
 
 -- there is one, and it is 1
-pub record SeesEdition (old new : Database) : Type 0 where
-  pub some : ¬ LacksLayout old
-  pub same : HasLayout old → new ≡ old
-  pub first : HasLayout old → map (λ r. column r 1) (layout_rows old) ≡ Int (pos 1) ∷ []
+pub record SeesEdition (db : Database) : Type 0 where
+  pub some : ¬ LacksLayout db
+  pub first : HasLayout db → map (λ r. column r 1) (layout_rows db) ≡ Int (pos 1) ∷ []
 
--- there is no table of editions
-pub record SeesNothing (old new : Database) : Type 0 where
-  pub none : ¬ HasLayout old
-  pub same : LacksLayout old → new ≡ old
-
-abbrev pub Sees : Bool → Database → Database → Type 0
-Sees true = SeesEdition
-Sees false = SeesNothing
+-- there is one that is 1, or there is no table of editions
+abbrev pub Sees : Bool → Database → Type 0
+Sees true db = SeesEdition db
+Sees false db = ¬ HasLayout db
 
 -- the rowids were read
-pub record ReadsRowids (old new : Database) (given : List Row) : Type 0 where
-  pub alone : old.schema ≢ layout_schema
-  pub same : IsStoreSchema old.schema → new ≡ old
-  pub rows : IsStoreSchema old.schema
-      → IsPermutation (map (λ r. rowid r ∷ []) (node_rows old)) given
+abbrev pub ReadsRowids : Database → List Row → Type 0
+ReadsRowids db given = IsStoreSchema db.schema
+    → IsPermutation (map (λ r. rowid r ∷ []) (node_rows db)) given
 
 -- the number is above the last one
 abbrev pub IsPast : Option ℤ → ℤ → Type 0
@@ -169,11 +161,10 @@ IsPast None n = Unit {0}
 IsPast (Some m) n = value_cmp (Int m) (Int n) ≡ Less
 
 -- they are integers, each another one
-pub record SeesRowids (old new : Database) : Type 0 where
-  pub alone : old.schema ≢ layout_schema
-  pub same : IsStoreSchema old.schema → new ≡ old
-  pub apart : IsStoreSchema old.schema → AreApart (node_rows old)
-  pub ints : IsStoreSchema old.schema → HaveInts (node_rows old)
+pub record SeesRowids (db : Database) : Type 0 where
+  pub alone : db.schema ≢ layout_schema
+  pub apart : IsStoreSchema db.schema → AreApart (node_rows db)
+  pub ints : IsStoreSchema db.schema → HaveInts (node_rows db)
 
 -- the nodes are the rows of the table, by address and number
 pub record AreNodes (table rows : List Row) : Type 0 where
@@ -181,26 +172,15 @@ pub record AreNodes (table rows : List Row) : Type 0 where
   pub sorted : IsSorted by_place rows
 
 -- they were read
-pub record ReadsNodes (old new : Database) (given : List Row) : Type 0 where
-  pub same : IsStoreSchema old.schema → new ≡ old
-  pub rows : IsStoreSchema old.schema → AreNodes (node_rows old) given
+abbrev pub ReadsNodes : Database → List Row → Type 0
+ReadsNodes db given = IsStoreSchema db.schema → AreNodes (node_rows db) given
 
 -- they are those of documents under good addresses
-pub record SeesNodes (old new : Database) : Type 0 where
-  pub same : IsStoreSchema old.schema → new ≡ old
-  pub named : IsStoreSchema old.schema → AllByRecursion HasAddress (node_rows old)
-  pub whole : IsStoreSchema old.schema → (address : List ℕ)
-      → (rows_at address (node_rows old) ≡ []) ⊎ IsIntact (rows_at address (node_rows old))
+pub record SeesNodes (db : Database) : Type 0 where
+  pub named : IsStoreSchema db.schema → AllByRecursion HasAddress (node_rows db)
+  pub whole : IsStoreSchema db.schema → (address : List ℕ)
+      → (rows_at address (node_rows db) ≡ []) ⊎ IsIntact (rows_at address (node_rows db))
 
--- the rows of a table are those of documents
-pub record AreDocuments (table : List Row) : Type 0 where
-  pub apart : AreApart table
-  pub ints : HaveInts table
-  pub named : AllByRecursion HasAddress table
-  pub whole : (address : List ℕ) → (rows_at address table ≡ []) ⊎ IsIntact (rows_at address table)
-
--- the nodes were read, and are those of documents
-pub record SeesDocuments (old new : Database) : Type 0 where
-  pub alone : old.schema ≢ layout_schema
-  pub same : IsStoreSchema old.schema → new ≡ old
-  pub documents : IsStoreSchema old.schema → AreDocuments (node_rows old)
+-- both were judged
+abbrev pub SeesDocuments : Database → Type 0
+SeesDocuments db = SeesRowids db × SeesNodes db

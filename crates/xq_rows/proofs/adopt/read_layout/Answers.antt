@@ -2,7 +2,7 @@ use Rattle.std.proofs.Common.{[], not, ap, ◌∙◌, Vec, Global}
 use Rattle.sqlite_value.specs.Order.{Row}
 use Rattle.sqlite.specs.Held.{state}
 use Rattle.sqlite.specs.State.{FailsToQuery, Shown}
-use Rattle.xq_rows.specs.private.Adopt.{ReadsEdition, SeesNothing, IsInputError}
+use Rattle.xq_rows.specs.private.Adopt.{ReadsEdition, HasLayout, IsInputError}
 use Rattle.xq_rows.proofs.AdoptReads.{edition_query, nothing_read, each_ok, each_err, reads_edition}
 use Rattle.xq_rows.proofs.Selects.{query_opens}
 use Rattle.xq_rows.proofs.Silent.{edition_reads, query_leaves, silent}
@@ -12,13 +12,13 @@ pub returns-clause-ok : goal.returns-clause-ok
 returns-clause-ok g c clean =
     let old = state g.S.Store c.args.conn.now in
     let new = state g.S.Store c.query_all.new.self in
-    each_ok (λ (v : Vec Row Global). Shown edition_query [] old new v.items) (λ (v : Vec Row Global). ReadsEdition old.now new.now v.items) c.query_all.result (λ v h. reads_edition old new v.items h) (c.query_all.ensures.ok clean)
+    each_ok (λ (v : Vec Row Global). Shown edition_query [] old new v.items) (λ (v : Vec Row Global). ReadsEdition old.now v.items) c.query_all.result (λ v h. reads_edition old new v.items h) (c.query_all.ensures.ok clean)
 
 pub returns-clause-err : goal.returns-clause-err
 returns-clause-err g c clean =
     let old = state g.S.Store c.args.conn.now in
     let new = state g.S.Store c.query_all.new.self in
-    each_err (FailsToQuery edition_query [] old new) (λ e. IsInputError e → SeesNothing old.now new.now) c.query_all.result (λ e h input. nothing_read old new e h input) (c.query_all.ensures.err clean)
+    each_err (FailsToQuery edition_query [] old new) (λ e. IsInputError e → ¬ HasLayout old.now) c.query_all.result (λ e h input. nothing_read old new e h input) (c.query_all.ensures.err clean)
 
 pub returns-clause-outside : goal.returns-clause-outside
 returns-clause-outside g c =
