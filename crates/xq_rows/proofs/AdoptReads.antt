@@ -1,5 +1,5 @@
 -- What the queries of an adoption give.
-use Rattle.std.proofs.Common.{◌≡◌, ◌≢◌, ◌⊎◌, inl, inr, ◌+◌, ◌<◌, ℕ, true, false, All, List, [], ◌∷◌, map, filter, flat_map, length, get_or, codes, Option, None, Some, Result, Ok, Err, IfOk, IfErr, OnOk, IsTrue, is_lt, refl, sym, ap, subst, subst₂, ◌∙◌, arith, Ordering}
+use Rattle.std.proofs.Common.{◌≡◌, ◌≢◌, inl, inr, ◌+◌, ◌<◌, ℕ, true, false, All, List, [], ◌∷◌, map, filter, flat_map, length, get_or, codes, Option, Result, Ok, Err, IfOk, IfErr, OnOk, is_lt, refl, sym, ap, subst, subst₂, ◌∙◌, arith, Ordering}
 use Rattle.std.specs.List.Sorted.{IsPermutation, IsSorted}
 use Rattle.std.specs.Ordering.{on, ordering_then}
 use Rattle.std.proofs.lemmas.List.{length-map}
@@ -15,7 +15,6 @@ use Rattle.sqlite_trees.specs.Tree.{Trees, rowid}
 use Rattle.sqlite_trees.proofs.ListLemmas.{map-map, all-map, all_of}
 use Rattle.sqlite_schema.specs.declared.program.Program.{Program}
 use Rattle.sqlite_schema.specs.declared.schema.Schema.{Schema}
-use Rattle.sqlite_schema.specs.declared.command.Returning.{Returning}
 use Rattle.sqlite_sql.specs.Query.{Query, IsAnswer, Output, output, key_cmp}
 use Rattle.sqlite_sql.specs.Term.{col}
 use Rattle.sqlite_sql.specs.Program.{overlay, IsProgramAnswer}
@@ -24,7 +23,7 @@ use Rattle.sqlite.specs.Command.TheVariants.{Select}
 use Rattle.sqlite.specs.Clock.{timed}
 use Rattle.sqlite.specs.Effect.{Database, RefusesToRead, RefusesQuery}
 use Rattle.sqlite.specs.Listing.{understood, reads_listing, listing_schema}
-use Rattle.sqlite.specs.State.{State, KeepsCommit, Shown, ShowsRows, FailsToQuery, FailsToShow, IsNotRun, store_error}
+use Rattle.sqlite.specs.State.{State, Shown, FailsToQuery, FailsToShow, IsNotRun, store_error}
 use Rattle.sqlite.specs.declared.error.Error.{Error}
 use Rattle.sqlite.proofs.Callers.{IsPlain, command_of, reads_as}
 use Rattle.xq_rows.specs.declared.faults.OpenFault.TheVariants.{NotAStore}
@@ -33,8 +32,7 @@ use Rattle.xq_rows.proofs.Places.{First, layout_first, node_first, schema_of, la
 use Rattle.xq_rows.specs.private.Adopt.{fault_of, IsInputError, addressed_node, by_place, AreNodes, ReadsEdition, ReadsRowids, ReadsNodes, HasLayout}
 use Rattle.xq_rows.proofs.Texts.{IsUnread, body, key}
 use Rattle.xq_rows.proofs.Lists.{flat_map_picks}
-use Rattle.xq_rows.proofs.Creates.{undone_kept}
-use Rattle.xq_rows.proofs.Selects.{selected, selected_rows, get_or-map, shown_keeps, plain_under, test, out}
+use Rattle.xq_rows.proofs.Selects.{selected, selected_rows, get_or-map, test, out}
 
 -- # What the texts mean
 

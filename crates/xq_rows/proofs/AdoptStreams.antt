@@ -1,5 +1,5 @@
 -- What the queries of an adoption give whose rows are read one at a time.
-use Rattle.std.proofs.Common.{◌≡◌, ◌≢◌, inl, inr, ℕ, List, [], ◌++◌, Result, Ok, Err, IsTrue, sym, ap, subst, ◌∙◌}
+use Rattle.std.proofs.Common.{◌≡◌, inl, inr, ℕ, List, [], ◌++◌, Result, Ok, Err, IsTrue, sym, ap, subst, ◌∙◌}
 use Rattle.std.specs.List.Sorted.{IsSorted}
 use Rattle.sqlite_value.specs.Order.{Row}
 use Rattle.sqlite_trees.specs.declared.store.Store.{Ghosts}
@@ -7,20 +7,19 @@ use Rattle.sqlite_schema.specs.declared.command.Command.{Command}
 use Rattle.sqlite_resolve.specs.declared.compiled.Compiled.{Compiled}
 use Rattle.sqlite_resolve.specs.declared.error.CompileError.{CompileError}
 use Rattle.sqlite.specs.Clock.{timed}
-use Rattle.sqlite.specs.Command.TheVariants.{Select}
 use Rattle.sqlite.specs.Effect.{Database}
 use Rattle.sqlite.specs.Given.{HasGiven, HasBegun, Returns}
 use Rattle.sqlite.specs.Held.{Held, state}
 use Rattle.sqlite.specs.Listing.{understood, reads_listing, IsSourceOf}
 use Rattle.sqlite.specs.State.{IsStatement, Shown}
 use Rattle.sqlite.proofs.Callers.{IsPlain, EndsIn, command_of, begun_plain, given_begin, begins_shown, unchanged_then}
-use Rattle.xq_rows.specs.Documents.{AreApart, HaveInts, IsReady, IsStore}
-use Rattle.xq_rows.specs.Tables.{layout_schema, node_rows, IsStoreSchema}
+use Rattle.xq_rows.specs.Documents.{AreApart, HaveInts, IsStore}
+use Rattle.xq_rows.specs.Tables.{node_rows, IsStoreSchema}
 use Rattle.xq_rows.specs.private.Adopt.{by_place, AreDocumentRuns, AreNodes, AreNoDocuments, ShowsNoDocuments, SeesRowids, SeesNodes}
 use Rattle.xq_rows.specs.private.Streams.{BeginsWith, GivesRows}
-use Rattle.xq_rows.proofs.Places.{node_tree, which, schema_of}
+use Rattle.xq_rows.proofs.Places.{which, schema_of}
 use Rattle.xq_rows.proofs.Texts.{IsUnread}
-use Rattle.xq_rows.proofs.AdoptReads.{rowids_query, rowids_plain, rowids_unread, nodes_query, nodes_program, nodes_names, nodes_are, nodes_plain, reads_rowids, reads_nodes}
+use Rattle.xq_rows.proofs.AdoptReads.{rowids_query, rowids_plain, rowids_unread, nodes_query, nodes_are, nodes_plain, reads_rowids, reads_nodes}
 use Rattle.xq_rows.proofs.Adopts.{apart_seen, ints_seen, table_named, table_whole, told_of}
 use Rattle.xq_rows.proofs.Selects.{plain_under}
 use Rattle.xq_rows.proofs.Streams.{gives_shown, shown_since, unchanged_itself}

@@ -5,7 +5,7 @@ use Rattle.std.specs.Cmp.{IsTotalOrder, then_total, int_cmp_is}
 use Rattle.std.specs.List.{AllByRecursion}
 use Rattle.std.specs.List.Sorted.{IsPermutation, IsSorted}
 use Rattle.std.proofs.lemmas.Cmp.{tied_itself, alike_right, upto, on_total}
-use Rattle.std.proofs.lemmas.List.{take-append-drop, take_more}
+use Rattle.std.proofs.lemmas.List.{take-append-drop}
 use Rattle.std.proofs.lemmas.List.Elements.{filter-append, All-from_recursion, recursion_from_All}
 use Rattle.std.proofs.lemmas.List.Sorted.{IsPermutation-map, IsPermutation-sym, IsPermutation-trans, length_permutation, All-permutation}
 use Rattle.sqlite_value.specs.Order.{Row, column, value_cmp}
@@ -30,7 +30,7 @@ use Rattle.xq_rows.specs.private.Columns.{node_of}
 use Rattle.xq_rows.specs.Documents.{AreApart, HaveInts, HasAddress, is_at, rows_at, by_first, IsIntact, IsStore}
 use Rattle.xq_rows.specs.private.Adopt.{addressed_node, is_under, HasOwner, by_place, IsCut, AreJudged, IsRun, nodes_under, AreDocumentRuns, ReadsEdition, SeesEdition, HasLayout, IsPast, AreNodes, SeesDocuments, IsAdopted, IsNoStore}
 use Rattle.xq_rows.specs.private.Statements.{MakesStore}
-use Rattle.xq_rows.specs.Tables.{no_schema, node_rows, layout_rows, IsStoreSchema}
+use Rattle.xq_rows.specs.Tables.{no_schema, node_rows, layout_rows}
 use Rattle.xq_rows.proofs.Lists.{tied}
 use Rattle.xq_rows.proofs.Maps.{text_is, same_address}
 use Rattle.xq_rows.proofs.Orders.{first_total, numbers_rise, sorted_from}

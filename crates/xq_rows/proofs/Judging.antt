@@ -1,5 +1,5 @@
 -- Rows that are judged as they are read.
-use Rattle.std.proofs.Common.{◌≡◌, ◌≢◌, ◌⊎◌, inl, inr, ℕ, suc, Bool, true, false, cond, List, [], ◌∷◌, ◌++◌, map, filter, length, take, drop, refl, sym, ap, ap₂, subst, subst₂, ◌∙◌, append-nil, append_assoc, Result, Ok, Err, IfOk}
+use Rattle.std.proofs.Common.{◌≡◌, ◌≢◌, ◌⊎◌, inl, inr, ℕ, suc, true, false, cond, List, [], ◌∷◌, ◌++◌, map, filter, length, take, drop, refl, sym, ap, ap₂, subst, subst₂, ◌∙◌, append-nil, append_assoc, Result, Ok, Err, IfOk}
 use Rattle.std.specs.List.{AllByRecursion}
 use Rattle.std.specs.List.Sorted.{IsSorted}
 use Rattle.std.specs.Ordering.{is_eq}
@@ -145,7 +145,7 @@ module _ (given : List Row) (row : Row) where
         here = it.here ++ row ∷ [];
         under = subst (λ a. AllByRecursion (λ r. is_under a r ≡ true) (it.here ++ row ∷ [])) (sym address) (all_append (λ r. is_under run.address.items r ≡ true) it.here (row ∷ []) it.under (sym own, tt));
         read = ap (λ l. map cells (map placed l)) nodes ∙ ap (map cells) (map-append placed run.nodes.items (node ∷ [])) ∙ map-append cells (map placed run.nodes.items) (placed node ∷ []) ∙ ap₂ (λ l x. l ++ x ∷ []) it.read same
-        ∙ sym (map-append node_of it.here (row ∷ []));
+            ∙ sym (map-append node_of it.here (row ∷ []));
         judged = λ tail. subst₂ AreJudged (sym (onward tail)) (sym (append_assoc it.here (row ∷ []) tail)) (it.judged (row ∷ tail));
       }
 

@@ -1,12 +1,10 @@
 -- The rows of one address, and the nodes that code reads of them.
-use Rattle.std.proofs.Common.{◌≡◌, ◌≢◌, ◌+◌, ◌<◌, ◌≤◌, ◌^◌, ℕ, zero, suc, List, [], ◌∷◌, map, length, get_or, refl, sym, ap, ap₂, subst, ◌∙◌, arith}
+use Rattle.std.proofs.Common.{◌≡◌, ◌≢◌, ◌+◌, ◌<◌, ◌≤◌, ◌^◌, ℕ, zero, suc, List, [], ◌∷◌, map, length, refl, sym, ap, ap₂, subst, ◌∙◌, arith}
 use Rattle.std.specs.List.{AllByRecursion, enumerate_from}
 use Rattle.std.specs.Str.{IsUtf8}
-use Rattle.std.proofs.lemmas.List.Elements.{All-from_recursion}
 use Rattle.sqlite_value.specs.Order.{Row, column}
 use Rattle.sqlite_value.specs.declared.value.Value.{Value}
 use Rattle.sqlite_value.specs.declared.value.Value.TheVariants.{Null}
-use Rattle.sqlite_keyed.proofs.ListLemmas.{all_unmap}
 use Rattle.xq_regions.specs.Forest.{Forest, end, node, count, labels, EachNode, IsWithinHeight}
 use Rattle.xq_regions.specs.Tree.{Label, Tree, IsDocument, IsText, nodes}
 use Rattle.xq_regions.specs.Rows.{Row as Node, rows as rows_of, measured, row_of, placed, placed_rows, AreNumbered, Encodes, IsEncoding}
@@ -15,7 +13,7 @@ use Rattle.xq_regions.proofs.Injective.{rows-injective}
 use Rattle.xq_regions.specs.declared.NodeRow.{NodeRow}
 use Rattle.xq_regions.specs.declared.Kind.TheVariants.{Document}
 use Rattle.xq_rows.specs.Nodes.{cells, node_in, number_in}
-use Rattle.xq_rows.specs.private.Columns.{node_of, IsReadable}
+use Rattle.xq_rows.specs.private.Columns.{IsReadable}
 use Rattle.xq_rows.specs.private.Adopt.{IsRun}
 use Rattle.xq_regions.proofs.Lists.{all_append}
 use Rattle.xq_rows.proofs.Calls.{encoded}

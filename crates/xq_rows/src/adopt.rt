@@ -15,8 +15,8 @@ ghost use Rattle.xq_rows.specs.private.Streams.{GivesRows, Stays};
 ghost use Rattle.xq_rows.specs.Tables.{no_schema, IsStoreSchema};
 
 use crate::faults::OpenFault;
-use crate::refusals::Refusal;
 use crate::judgements::check_runs;
+use crate::refusals::Refusal;
 use crate::tables::{make_both, write_edition};
 use sqlite::types::ValueRef;
 use sqlite::{Alter, Connection, Error, Row, Rows, Transaction};

@@ -4,7 +4,7 @@ use Rattle.sqlite.specs.Held.{state}
 use Rattle.sqlite.specs.State.{HasCleanDisk}
 use Rattle.xq_rows.specs.declared.faults.OpenFault.TheVariants.{NotAStore}
 use Rattle.xq_rows.specs.private.Adopt.{HasLayout, IsAdopted, IsNoStore, Sees, SeesDocuments, SeesEdition}
-use Rattle.xq_rows.specs.Documents.{IsReady, IsStore}
+use Rattle.xq_rows.specs.Documents.{IsStore}
 use Rattle.xq_rows.specs.private.Statements.{MakesStore}
 use Rattle.xq_rows.specs.Tables.{no_schema}
 use Rattle.xq_rows.proofs.AdoptReads.{each_err, on_ok}

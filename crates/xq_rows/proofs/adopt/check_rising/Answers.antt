@@ -1,4 +1,4 @@
-use Rattle.std.proofs.Common.{◌≡◌, ◌++◌, ◌∷◌, [], ◌∙◌, Some, List, rules}
+use Rattle.std.proofs.Common.{◌≡◌, ◌∙◌, Some, List, rules}
 use Rattle.std.proofs.lemmas.Int.{to_z-of_z}
 use mir.Val.{of_z, to_z}
 use mir.Syntax.{w64}
