@@ -120,7 +120,7 @@ abbrev pub AreNoDocuments : List Row → Type 0
 AreNoDocuments rows = (tail : List Row) → IsSorted by_place (rows ++ tail)
     → ¬ AreDocumentRuns (rows ++ tail)
 
--- of an answer the rows that were given are not those of documents, whatever follows, or all are not
+-- the rows that an answer gave so far are not those of documents, whatever follows, or all are not
 abbrev pub ShowsNoDocuments : {S : Type 0} → Ghosts S → Held S → Held S → Type 0
 ShowsNoDocuments g old new = BeginsWith g old new AreNoDocuments
     ⊎ GivesRows g old new (λ given. IsSorted by_place given → ¬ AreDocumentRuns given)
