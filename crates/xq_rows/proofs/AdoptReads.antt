@@ -1,5 +1,5 @@
 -- What the queries of an adoption give.
-use Rattle.std.proofs.Common.{◌≡◌, ◌≢◌, ◌⊎◌, inl, inr, ◌+◌, ◌<◌, ℕ, true, false, All, List, [], ◌∷◌, map, filter, flat_map, length, get_or, codes, Option, None, Some, Result, Ok, Err, IfOk, IfErr, OnOk, IsTrue, is_lt, refl, sym, ap, subst, subst₂, ◌∙◌, arith, Ordering}
+use Rattle.std.proofs.Common.{◌≡◌, ◌≢◌, inl, inr, ◌+◌, ◌<◌, ℕ, true, false, All, List, [], ◌∷◌, map, filter, flat_map, length, get_or, codes, Option, Result, Ok, Err, IfOk, IfErr, OnOk, is_lt, refl, sym, ap, subst, subst₂, ◌∙◌, arith, Ordering}
 use Rattle.std.specs.List.Sorted.{IsPermutation, IsSorted}
 use Rattle.std.specs.Ordering.{on, ordering_then}
 use Rattle.std.proofs.lemmas.List.{length-map}
@@ -15,7 +15,6 @@ use Rattle.sqlite_trees.specs.Tree.{Trees, rowid}
 use Rattle.sqlite_trees.proofs.ListLemmas.{map-map, all-map, all_of}
 use Rattle.sqlite_schema.specs.declared.program.Program.{Program}
 use Rattle.sqlite_schema.specs.declared.schema.Schema.{Schema}
-use Rattle.sqlite_schema.specs.declared.command.Returning.{Returning}
 use Rattle.sqlite_sql.specs.Query.{Query, IsAnswer, Output, output, key_cmp}
 use Rattle.sqlite_sql.specs.Term.{col}
 use Rattle.sqlite_sql.specs.Program.{overlay, IsProgramAnswer}
@@ -24,17 +23,16 @@ use Rattle.sqlite.specs.Command.TheVariants.{Select}
 use Rattle.sqlite.specs.Clock.{timed}
 use Rattle.sqlite.specs.Effect.{Database, RefusesToRead, RefusesQuery}
 use Rattle.sqlite.specs.Listing.{understood, reads_listing, listing_schema}
-use Rattle.sqlite.specs.State.{State, KeepsCommit, Shown, ShowsRows, FailsToQuery, FailsToShow, IsNotRun, IsTooLate, store_error}
+use Rattle.sqlite.specs.State.{State, Shown, FailsToQuery, FailsToShow, IsNotRun, store_error}
 use Rattle.sqlite.specs.declared.error.Error.{Error}
 use Rattle.sqlite.proofs.Callers.{IsPlain, command_of, reads_as}
 use Rattle.xq_rows.specs.declared.faults.OpenFault.TheVariants.{NotAStore}
 use Rattle.xq_rows.specs.Tables.{no_schema, layout_schema, node_schema, IsStoreSchema, layout_rows}
 use Rattle.xq_rows.proofs.Places.{First, layout_first, node_first, schema_of, layout_tree, node_tree, which, nodes_lie, layout_lies, layout_alone, layout_not_given}
-use Rattle.xq_rows.specs.private.Adopt.{fault_of, IsInputError, addressed_node, by_place, AreNodes, ReadsEdition, ReadsRowids, ReadsNodes, SeesNothing}
+use Rattle.xq_rows.specs.private.Adopt.{fault_of, IsInputError, addressed_node, by_place, AreNodes, ReadsEdition, ReadsRowids, ReadsNodes, HasLayout}
 use Rattle.xq_rows.proofs.Texts.{IsUnread, body, key}
 use Rattle.xq_rows.proofs.Lists.{flat_map_picks}
-use Rattle.xq_rows.proofs.Creates.{undone_kept}
-use Rattle.xq_rows.proofs.Selects.{selected, selected_rows, get_or-map, shown_keeps, plain_under, test, out}
+use Rattle.xq_rows.proofs.Selects.{selected, selected_rows, get_or-map, test, out}
 
 -- # What the texts mean
 
@@ -186,21 +184,11 @@ unread old new sql params rows none h = subst IsUnread h.1.is none
 unread_under : (schema : Schema) (old new : State) (sql : List ℕ) (params : Row) (rows : List Row) → IsUnread (understood schema sql) → Shown sql params old new rows → old.now.schema ≢ schema
 unread_under schema old new sql params rows none h has = unread old new sql params rows (subst (λ s. IsUnread (understood s sql)) (sym has) none) h
 
-as_found : (schema : Schema) (old new : State) (sql : List ℕ) (params : Row) (rows : List Row) → IsPlain (understood schema sql) → Shown sql params old new rows → old.now.schema ≡ schema → new.now ≡ old.now
-as_found schema old new sql params rows plain h has = shown_keeps old new sql params rows (subst (λ s. IsPlain (understood s sql)) (sym has) plain) h
-
-as_placed : (old new : State) (sql : List ℕ) (params : Row) (rows : List Row) → ((first : First) → IsPlain (understood (schema_of first) sql)) → Shown sql params old new rows → IsStoreSchema old.now.schema → new.now ≡ old.now
-as_placed old new sql params rows plain h has = shown_keeps old new sql params rows (plain_under old.now.schema sql plain has) h
-
-pub reads_edition : (old new : State) (rows : List Row) → Shown edition_query [] old new rows → ReadsEdition old.now new.now rows
+pub reads_edition : (old new : State) (rows : List Row) → Shown edition_query [] old new rows → ReadsEdition old.now rows
 reads_edition old new rows h = record {
   some = λ lacks. elim lacks [
     | inl has ↦ unread_under no_schema old new edition_query [] rows edition_unread h has
     | inr has ↦ unread_under node_schema old new edition_query [] rows edition_missing h has
-  ];
-  same = λ layout. elim layout [
-    | inl has ↦ as_found layout_schema old new edition_query [] rows edition_alone_plain h has
-    | inr has ↦ as_placed old new edition_query [] rows edition_found_plain h has
   ];
   rows = λ layout. elim layout [
     | inl has ↦
@@ -218,26 +206,19 @@ reads_edition old new rows h = record {
     edition_given : {table : List Row} → table ≡ layout_rows old.now → IsPermutation (map (λ r. column r 1 ∷ []) table) rows → IsPermutation (map (λ r. column r 1 ∷ []) (layout_rows old.now)) rows
     edition_given is = subst (λ t. IsPermutation (map (λ r. column r 1 ∷ []) t) rows) is
 
-pub reads_rowids : (old new : State) (rows : List Row) → Shown rowids_query [] old new rows → ReadsRowids old.now new.now rows
-reads_rowids old new rows h = record {
-  alone = unread_under layout_schema old new rowids_query [] rows rowids_unread h;
-  same = as_placed old new rowids_query [] rows rowids_plain h;
-  rows = λ has.
-      let place = which old.now.schema has in
-      let first = place.0 in
-      let it = reads_as rowids_query [] old new (schema_of first) place.1 (Select (rowids_program (node_tree first)) rowids_names) (rowids_are first).0 (rowids_plain first) (rowids_are first).1 rows h in
-      subst (λ t. IsPermutation (map (λ r. rowid r ∷ []) t) rows) (sym (nodes_lie first old.now place.1)) (rowid_rows first old.now.trees rows it.answer);
-}
+pub reads_rowids : (old new : State) (rows : List Row) → Shown rowids_query [] old new rows → ReadsRowids old.now rows
+reads_rowids old new rows h has =
+    let place = which old.now.schema has in
+    let first = place.0 in
+    let it = reads_as rowids_query [] old new (schema_of first) place.1 (Select (rowids_program (node_tree first)) rowids_names) (rowids_are first).0 (rowids_plain first) (rowids_are first).1 rows h in
+    subst (λ t. IsPermutation (map (λ r. rowid r ∷ []) t) rows) (sym (nodes_lie first old.now place.1)) (rowid_rows first old.now.trees rows it.answer)
 
-pub reads_nodes : (old new : State) (rows : List Row) → Shown nodes_query [] old new rows → ReadsNodes old.now new.now rows
-reads_nodes old new rows h = record {
-  same = as_placed old new nodes_query [] rows nodes_plain h;
-  rows = λ has.
-      let place = which old.now.schema has in
-      let first = place.0 in
-      let it = reads_as nodes_query [] old new (schema_of first) place.1 (Select (nodes_program (node_tree first)) nodes_names) (nodes_are first).0 (nodes_plain first) (nodes_are first).1 rows h in
-      subst (λ t. AreNodes t rows) (sym (nodes_lie first old.now place.1)) (nodes_given first old.now.trees rows it.answer);
-}
+pub reads_nodes : (old new : State) (rows : List Row) → Shown nodes_query [] old new rows → ReadsNodes old.now rows
+reads_nodes old new rows h has =
+    let place = which old.now.schema has in
+    let first = place.0 in
+    let it = reads_as nodes_query [] old new (schema_of first) place.1 (Select (nodes_program (node_tree first)) nodes_names) (nodes_are first).0 (nodes_plain first) (nodes_are first).1 rows h in
+    subst (λ t. AreNodes t rows) (sym (nodes_lie first old.now place.1)) (nodes_given first old.now.trees rows it.answer)
 
 -- # Refusals
 
@@ -266,9 +247,6 @@ store_told Full e = absurd cc
 store_told Broken e = absurd cc
 store_told Unstorable e = absurd cc
 
-abbrev pub IsQueryRefusal : List ℕ → State → State → Error → Type 0
-IsQueryRefusal sql old new e = FailsToQuery sql [] old new e ⊎ IsTooLate sql [] old new e
-
 module _ (old new : State) (sql : List ℕ) (e : Error) (n : fault_of e ≡ NotAStore) where
   not_this : (f : Error) → e ≡ f → fault_of f ≡ NotAStore
   not_this f same = sym (ap fault_of same) ∙ n
@@ -283,81 +261,34 @@ module _ (old new : State) (sql : List ℕ) (e : Error) (n : fault_of e ≡ NotA
     refused limit db params (inr (inl h)) = let f = not_this _ h.0 in absurd cc
     refused limit db params (inr (inr h)) = let f = not_this _ h.0 in absurd cc
 
-    pub query_told : ¬ IsQueryRefusal sql old new e
+    pub query_told : ¬ FailsToQuery sql [] old new e
     unfolding FailsToQuery IsNotRun
-    query_told (inl (inl (inl (inl h, same)))) = subst IsPlain h.1 known
-    query_told (inl (inl (inl (inr (c, is, inl h), same)))) = let f = not_this _ h.1 in absurd cc
-    query_told (inl (inl (inl (inr (c, is, inr (inl h)), same)))) = let f = not_this _ h.1 in absurd cc
-    query_told (inl (inl (inl (inr (c, is, inr (inr h)), same)))) = let f = not_this _ h.1 in absurd cc
-    query_told (inl (inl (inr h))) = store_told h.0 (not_this _ h.1)
-    query_told (inl (inr (c, it, h))) =
+    query_told (inl (inl (inl h, same))) = subst IsPlain h.1 known
+    query_told (inl (inl (inr (c, is, inl h), same))) = let f = not_this _ h.1 in absurd cc
+    query_told (inl (inl (inr (c, is, inr (inl h)), same))) = let f = not_this _ h.1 in absurd cc
+    query_told (inl (inl (inr (c, is, inr (inr h)), same))) = let f = not_this _ h.1 in absurd cc
+    query_told (inl (inr h)) = store_told h.0 (not_this _ h.1)
+    query_told (inr (c, it, h)) =
         let bare = subst IsPlain it.is known in
         let given = timed [] c.formats it.now in
         let shown = subst (FailsToShow old new sql c given e) bare.0 h in
         let command : c.command ≡ Select q names = ap command_of (sym it.is) ∙ ap (λ s. command_of (understood s sql)) has ∙ is in
         refused old.step_limit shown.0 given (subst (λ k. RefusesToRead old.step_limit k shown.0 given e) command shown.2)
-    query_told (inr late) = let f = not_this _ late.4 in absurd cc
-
-  -- one that has none leaves the database
-  pub unread_same : IsUnread (understood old.now.schema sql) → IsQueryRefusal sql old new e → new.now ≡ old.now
-  unfolding FailsToQuery IsNotRun
-  unread_same none (inl (inl (inl (why, same)))) = same.0.now_is
-  unread_same none (inl (inl (inr h))) = absurd (store_told h.0 (not_this _ h.1))
-  unread_same none (inl (inr (c, it, h))) = absurd (subst IsUnread it.is none)
-  unread_same none (inr late) = absurd (subst IsUnread late.1.is none)
 
 -- a query that has a meaning under the two tables
 pub placed_told : (old new : State) (sql : List ℕ) (e : Error) → fault_of e ≡ NotAStore → (tree : First → ℕ) (q : ℕ → Program) (names : List (List ℕ))
     → ((first : First) → (command_of (understood (schema_of first) sql) ≡ Select (q (tree first)) names) × (reads_listing (schema_of first) sql ≡ false))
-    → ((first : First) → IsPlain (understood (schema_of first) sql)) → IsStoreSchema old.now.schema → ¬ IsQueryRefusal sql old new e
+    → ((first : First) → IsPlain (understood (schema_of first) sql)) → IsStoreSchema old.now.schema → ¬ FailsToQuery sql [] old new e
 placed_told old new sql e n tree q names are plain has =
     let place = which old.now.schema has in
     let first = place.0 in
     query_told old new sql e n (schema_of first) (q (tree first)) names place.1 (are first).0 (plain first)
 
 -- the edition cannot be read
-pub nothing_read : (old new : State) (e : Error) → IsQueryRefusal edition_query old new e → IsInputError e → SeesNothing old.now new.now
-nothing_read old new e h input =
-    let n : fault_of e ≡ NotAStore = ap fault_of input.1 in record {
-      none = λ layout. elim layout [
-        | inl has ↦ query_told old new edition_query e n layout_schema (edition_program 0) edition_names has edition_alone.0 edition_alone_plain h
-        | inr has ↦ placed_told old new edition_query e n layout_tree edition_program edition_names edition_found edition_found_plain has h
-      ];
-      same = λ lacks. elim lacks [
-        | inl has ↦ unread_same old new edition_query e n (subst (λ s. IsUnread (understood s edition_query)) (sym has) edition_unread) h
-        | inr has ↦ unread_same old new edition_query e n (subst (λ s. IsUnread (understood s edition_query)) (sym has) edition_missing) h
-      ];
-    }
-
--- # In a transaction a query commits nothing
-
-module _ (old new : State) (sql : List ℕ) (inside : IsTrue old.in_transaction) where
-  shown_kept : (rows : List Row) → Shown sql [] old new rows → KeepsCommit old new × IsTrue new.in_transaction
-  unfolding Shown
-  shown_kept rows (c, it, h) = go c.returning h
-    where
-      go : (what : Option Returning) → ShowsRows old new sql c (timed [] c.formats it.now) rows what → KeepsCommit old new × IsTrue new.in_transaction
-      go None h = (undone_kept old new (inl h.3), h.3.0.mode ∙ inside)
-      go (Some what) h =
-          let s = h.1.shown in
-          (record { was_open = λ up. s.was_open; committed = λ up. rw inside at s.committed_is }, s.mode ∙ inside)
-
-  refused_kept : (e : Error) → IsQueryRefusal sql old new e → KeepsCommit old new
-  unfolding FailsToQuery IsNotRun
-  refused_kept e (inl (inl (inl (why, same)))) = undone_kept old new (inl same)
-  refused_kept e (inl (inl (inr h))) = undone_kept old new (inr h.3)
-  refused_kept e (inl (inr (c, it, h))) = go c.returning h
-    where
-      go : (what : Option Returning) → FailsToShow old new sql c (timed [] c.formats it.now) e what → KeepsCommit old new
-      go None h = undone_kept old new (inl h.3)
-      go (Some what) (inl h) = undone_kept old new (inl h.1)
-      go (Some what) (inr h) = undone_kept old new (inr h.3)
-  refused_kept e (inr late) = undone_kept old new (inl late.5)
-
-  pub query_kept : {X : Type 0} (show : X → List Row) (r : Result X Error) → IfOk r (λ x. Shown sql [] old new (show x)) → IfErr r (IsQueryRefusal sql old new) → KeepsCommit old new
-  query_kept show (Ok x) ok err = (shown_kept (show x) ok).0
-  query_kept show (Err e) ok err = refused_kept e err
-
-  pub query_mode : {X : Type 0} (show : X → List Row) (r : Result X Error) → IfOk r (λ x. Shown sql [] old new (show x)) → OnOk r (IsTrue new.in_transaction)
-  query_mode show (Ok x) ok = (shown_kept (show x) ok).1
-  query_mode show (Err e) ok = tt
+pub nothing_read : (old new : State) (e : Error) → FailsToQuery edition_query [] old new e → IsInputError e → ¬ HasLayout old.now
+nothing_read old new e h input layout =
+    let n : fault_of e ≡ NotAStore = ap fault_of input.1 in
+    elim layout [
+      | inl has ↦ query_told old new edition_query e n layout_schema (edition_program 0) edition_names has edition_alone.0 edition_alone_plain h
+      | inr has ↦ placed_told old new edition_query e n layout_tree edition_program edition_names edition_found edition_found_plain has h
+    ]

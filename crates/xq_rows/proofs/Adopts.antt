@@ -1,11 +1,11 @@
 -- The rows that an adoption reads, and the table that they are of.
-use Rattle.std.proofs.Common.{◌≡◌, ◌≢◌, ◌⊎◌, inl, inr, ◌+◌, ◌<◌, ◌≤◌, ℕ, ℤ, suc, pos, Bool, true, false, cond, List, [], ◌∷◌, ◌++◌, map, filter, length, take, drop, slice_get, Option, None, Some, IsTrue, refl, sym, ap, ap₂, subst, ◌∙◌, arith, Ordering, Less, Equal, Greater, is_lt, is_gt, append-nil, append_assoc, get_or, add-one, drop-cons, length-drop}
+use Rattle.std.proofs.Common.{◌≡◌, ◌≢◌, ◌⊎◌, inl, inr, ◌+◌, ◌<◌, ◌≤◌, ℕ, ℤ, suc, pos, Bool, true, false, cond, if◌then◌else◌, List, [], ◌∷◌, ◌++◌, map, filter, length, take, drop, slice_get, Option, None, Some, IsTrue, refl, sym, ap, ap₂, subst, ◌∙◌, arith, Ordering, Less, Equal, Greater, is_lt, is_gt, append-nil, append_assoc, get_or, add-one, drop-cons, length-drop}
 use Rattle.std.specs.Ordering.{is_eq, ordering_reverse, ordering_then}
 use Rattle.std.specs.Cmp.{IsTotalOrder, then_total, int_cmp_is}
 use Rattle.std.specs.List.{AllByRecursion}
 use Rattle.std.specs.List.Sorted.{IsPermutation, IsSorted}
 use Rattle.std.proofs.lemmas.Cmp.{tied_itself, alike_right, upto, on_total}
-use Rattle.std.proofs.lemmas.List.{take-append-drop, take_more}
+use Rattle.std.proofs.lemmas.List.{take-append-drop}
 use Rattle.std.proofs.lemmas.List.Elements.{filter-append, All-from_recursion, recursion_from_All}
 use Rattle.std.proofs.lemmas.List.Sorted.{IsPermutation-map, IsPermutation-sym, IsPermutation-trans, length_permutation, All-permutation}
 use Rattle.sqlite_value.specs.Order.{Row, column, value_cmp}
@@ -28,9 +28,9 @@ use Rattle.xq_regions.specs.Rows.{rows as rows_of, placed_rows}
 use Rattle.xq_rows.specs.Nodes.{cells, bytes_in}
 use Rattle.xq_rows.specs.private.Columns.{node_of}
 use Rattle.xq_rows.specs.Documents.{AreApart, HaveInts, HasAddress, is_at, rows_at, by_first, IsIntact, IsStore}
-use Rattle.xq_rows.specs.private.Adopt.{addressed_node, is_under, HasOwner, by_place, run_length, IsRun, nodes_under, AreDocumentRuns, ReadsEdition, SeesEdition, IsPast, ReadsRowids, SeesRowids, AreNodes, ReadsNodes, AreDocuments, SeesNothing, SeesDocuments, IsAdopted, IsNoStore}
+use Rattle.xq_rows.specs.private.Adopt.{addressed_node, is_under, HasOwner, by_place, IsCut, AreJudged, IsRun, nodes_under, AreDocumentRuns, ReadsEdition, SeesEdition, HasLayout, IsPast, AreNodes, SeesDocuments, IsAdopted, IsNoStore}
 use Rattle.xq_rows.specs.private.Statements.{MakesStore}
-use Rattle.xq_rows.specs.Tables.{no_schema, node_rows, layout_rows, IsStoreSchema}
+use Rattle.xq_rows.specs.Tables.{no_schema, node_rows, layout_rows}
 use Rattle.xq_rows.proofs.Lists.{tied}
 use Rattle.xq_rows.proofs.Maps.{text_is, same_address}
 use Rattle.xq_rows.proofs.Orders.{first_total, numbers_rise, sorted_from}
@@ -41,7 +41,7 @@ use Rattle.xq_regions.proofs.Lists.{all_append}
 all_moved : {X : Type 0} (P : X → Type 0) (xs ys : List X) → IsPermutation xs ys → AllByRecursion P xs → AllByRecursion P ys
 all_moved P xs ys same all = recursion_from_All P ys (All-permutation P xs ys same (All-from_recursion P xs all))
 
-all_later : {X : Type 0} (P : X → Type 0) (xs ys : List X) → AllByRecursion P (xs ++ ys) → AllByRecursion P ys
+pub all_later : {X : Type 0} (P : X → Type 0) (xs ys : List X) → AllByRecursion P (xs ++ ys) → AllByRecursion P ys
 all_later P [] ys all = all
 all_later P (x ∷ xs) ys all = all_later P xs ys all.1
 
@@ -75,20 +75,19 @@ editions_moved : (table rows : List Row) → IsPermutation (map (λ r. column r 
 editions_moved table rows same =
     subst (λ l. IsPermutation l (map (λ r. column r 0) rows)) (map-map (λ r. column r 0) (λ r. column r 1 ∷ []) table) (IsPermutation-map (λ r. column r 0) _ _ same)
 
-pub edition_seen : (old new : Database) (rows : List Row) → ReadsEdition old new rows → map (λ r. column r 0) rows ≡ Int (pos 1) ∷ [] → SeesEdition old new
-edition_seen old new rows it one = record {
+pub edition_seen : (db : Database) (rows : List Row) → ReadsEdition db rows → map (λ r. column r 0) rows ≡ Int (pos 1) ∷ [] → SeesEdition db
+edition_seen db rows it one = record {
   some = it.some;
-  same = it.same;
   first = λ layout.
-      let moved = editions_moved (layout_rows old) rows (it.rows layout) in
-      one_permutation (Int (pos 1)) _ (IsPermutation-sym _ _ (subst (IsPermutation (map (λ r. column r 1) (layout_rows old))) one moved));
+      let moved = editions_moved (layout_rows db) rows (it.rows layout) in
+      one_permutation (Int (pos 1)) _ (IsPermutation-sym _ _ (subst (IsPermutation (map (λ r. column r 1) (layout_rows db))) one moved));
 }
 
-pub no_edition : (old new : Database) (rows : List Row) → ReadsEdition old new rows → ¬ (map (λ r. column r 0) rows ≡ Int (pos 1) ∷ []) → IsNoStore old
-no_edition old new rows it other = record {
+pub no_edition : (db : Database) (rows : List Row) → ReadsEdition db rows → ¬ (map (λ r. column r 0) rows ≡ Int (pos 1) ∷ []) → IsNoStore db
+no_edition db rows it other = record {
   some = λ has. it.some (inl has);
   none = λ store.
-      let moved = editions_moved (layout_rows old) rows (it.rows (inr store.schema)) in
+      let moved = editions_moved (layout_rows db) rows (it.rows (inr store.schema)) in
       other (one_permutation (Int (pos 1)) _ (subst (λ l. IsPermutation l (map (λ r. column r 0) rows)) store.layout moved));
 }
 
@@ -147,13 +146,12 @@ apart_shown : (rows : List Row) → AreApart (map (λ r. rowid r ∷ []) rows) �
 apart_shown [] up = tt
 apart_shown (r ∷ rs) up = (all_unmap (λ y. is_eq (value_cmp (rowid r) (rowid y)) ≡ false) (λ r. rowid r ∷ []) rs up.0, apart_shown rs up.1)
 
-pub rowids_seen : (old new : Database) (rows : List Row) → ReadsRowids old new rows → AreApart rows → HaveInts rows → SeesRowids old new
-rowids_seen old new rows it up ints = record {
-  alone = it.alone;
-  same = it.same;
-  apart = λ has. apart_shown (node_rows old) (apart_moved rows _ (IsPermutation-sym _ _ (it.rows has)) up);
-  ints = λ has. all_unmap (λ r. IsTrue (is_int (rowid r))) (λ r. rowid r ∷ []) (node_rows old) (all_moved (λ r. IsTrue (is_int (rowid r))) rows _ (IsPermutation-sym _ _ (it.rows has)) ints);
-}
+module _ (db : Database) (rows : List Row) (same : IsPermutation (map (λ r. rowid r ∷ []) (node_rows db)) rows) where
+  pub apart_seen : AreApart rows → AreApart (node_rows db)
+  apart_seen up = apart_shown (node_rows db) (apart_moved rows _ (IsPermutation-sym _ _ same) up)
+
+  pub ints_seen : HaveInts rows → HaveInts (node_rows db)
+  ints_seen ints = all_unmap (λ r. IsTrue (is_int (rowid r))) (λ r. rowid r ∷ []) (node_rows db) (all_moved (λ r. IsTrue (is_int (rowid r))) rows _ (IsPermutation-sym _ _ same) ints)
 
 -- each rowid is at most the last one
 abbrev pub AreUpTo : Option ℤ → List Row → Type 0
@@ -198,12 +196,6 @@ risen_more last rows row n it is past =
       up_to = all_append (λ r. is_gt (value_cmp (rowid r) (Int n)) ≡ false) rows (row ∷ []) (all_weaker _ (λ r. is_gt (value_cmp (rowid r) (Int n)) ≡ false) (λ r h. ap is_gt h) rows below) (own, tt);
     }
 
-pub risen_next : (last : Option ℤ) (rows : List Row) (i : ℕ) (row : Row) (n : ℤ) → i < length rows → row ≡ get_or rows i row → HaveRisen last (take i rows) → Int n ≡ column row 0 → IsPast last n
-    → HaveRisen (Some n) (take (i + 1) rows)
-risen_next last rows i row n low is it id past =
-    let grown : take (i + 1) rows ≡ take i rows ++ row ∷ [] = take_more rows i row low ∙ ap (λ r. take i rows ++ r ∷ []) (sym is) in
-    subst (HaveRisen (Some n)) (sym grown) (risen_more last (take i rows) row n it id past)
-
 -- # Rows in their order
 
 place_total : IsTotalOrder by_place
@@ -241,6 +233,11 @@ addresses_rise : (rows : List Row) → IsSorted by_place rows → IsAscending At
 addresses_rise rows sorted = ascending_weaker _ AtMost (λ a b h. first_most (value_cmp (column a 6) (column b 6)) _ h) rows (rises_from by_place place_total rows sorted)
 
 -- # The run of the first address
+
+-- how many rows at the front are of the address
+abbrev pub run_length : List ℕ → List Row → ℕ
+run_length address [] = 0
+run_length address (r ∷ rows) = if is_under address r then suc (run_length address rows) else 0
 
 pub own_under : (a own : List ℕ) (r : Row) (b : Bool) → b ≡ bytes_eq own a → column r 6 ≡ Text own → b ≡ is_under a r
 own_under a own r b is text = is ∙ sym (is_eq-slice_cmp own a) ∙ ap is_eq (sym (value_cmp-Text own a)) ∙ ap (λ v. is_eq (value_cmp v (Text a))) (sym text)
@@ -290,10 +287,6 @@ turned_gt Less h = refl
 turned_gt Equal h = refl
 turned_gt Greater h = absurd cc
 
--- no address is on both sides
-abbrev pub IsCut : List Row → List Row → Type 0
-IsCut past rest = (b : List ℕ) → (filter (is_under b) past ≡ []) ⊎ (filter (is_under b) rest ≡ [])
-
 joined_none : {X : Type 0} (p : X → Bool) (xs ys : List X) → filter p (xs ++ ys) ≡ [] → filter p ys ≡ []
 joined_none p [] ys h = h
 joined_none p (x ∷ xs) ys h = go (p x) h (joined_none p xs ys)
@@ -310,7 +303,7 @@ other_owner a b r apart h = go (is_under b r) refl
     go true e = absurd (apart (let f = sym (text_is (column r 6) b e) ∙ text_is (column r 6) a h in ap bytes_in f))
 
 module _ (a : List ℕ) (first : Row) (own : column first 6 ≡ Text a) where
-  passes : (r : Row) → r ≡ first → is_under a r ≡ true
+  pub passes : (r : Row) → r ≡ first → is_under a r ≡ true
   passes r same = ap (λ v. is_eq (value_cmp v (Text a))) (ap (λ x. column x 6) same ∙ own) ∙ ap is_eq (tied_itself value_cmp_total (Text a))
 
   some_run : (rest : List Row) → slice_get rest 0 ≡ Some first → map node_of (take (run_length a rest) rest) ≢ []
@@ -400,12 +393,6 @@ module _ (a : List ℕ) (first : Row) (own : column first 6 ≡ Text a) where
       | inr ok ↦ bad (owned_first rest here (all_later HasOwner past rest told.owned), subst IsRun here_is ok)
     ]
 
--- the rows before the rest were judged
-pub record AreJudged (all rest : List Row) : Type 0 where
-  pub past : List Row
-  pub is : past ++ rest ≡ all
-  pub told : IsSorted by_place all → AreDocumentRuns past × IsCut past rest
-
 pub judged_none : (all : List Row) → AreJudged all all
 judged_none all = record { past = []; is = refl; told = λ sorted. (record { owned = tt; whole = λ b. inl refl }, λ b. inl refl) }
 
@@ -431,20 +418,6 @@ module _ (all rest : List Row) (judged : AreJudged all rest) (a : List ℕ) (fir
 
 pub judged_all : (all rest : List Row) → AreJudged all rest → rest ≡ [] → IsSorted by_place all → AreDocumentRuns all
 judged_all all rest judged none sorted = subst AreDocumentRuns (sym (append-nil judged.past) ∙ ap (λ l. judged.past ++ l) (sym none) ∙ judged.is) (judged.told sorted).0
-
-pub first_is : (rest : List Row) (first : Row) → (0 < length rest) × ((d : Row) → first ≡ get_or rest 0 d) → slice_get rest 0 ≡ Some first
-first_is [] first is = absurd (omega (arith, is.0))
-first_is (r ∷ rest) first is = ap Some (sym (is.1 r))
-
-first_owned : (rest : List Row) (first : Row) → slice_get rest 0 ≡ Some first → AllByRecursion HasOwner rest → HasOwner first
-first_owned [] first here all = absurd cc
-first_owned (r ∷ rs) first here all = let same : r ≡ first = cc in subst HasOwner same all.0
-
--- a row without a text for its address
-pub judged_stray : (all rest : List Row) → AreJudged all rest → (first : Row) → slice_get rest 0 ≡ Some first → ((a : List ℕ) → column first 6 ≢ Text a) → ¬ AreDocumentRuns all
-judged_stray all rest judged first here stray told =
-    let owner = first_owned rest first here (all_later HasOwner judged.past rest (subst (λ l. AllByRecursion HasOwner l) (sym judged.is) told.owned)) in
-    stray owner.0 owner.2
 
 -- # The table
 
@@ -503,106 +476,25 @@ module _ (table rows : List Row) (are : AreNodes table rows) where
     ];
   }
 
-pub documents_seen : (old mid new : Database) (rows : List Row) → SeesRowids old mid → ReadsNodes mid new rows → (IsSorted by_place rows → AreDocumentRuns rows) → SeesDocuments old new
-documents_seen old mid new rows ids nodes told = record {
-  alone = ids.alone;
-  same = λ has. nodes.same (schema has) ∙ ids.same has;
-  documents = λ has.
-      let are : AreNodes (node_rows old) rows = subst (λ (d : Database). AreNodes (node_rows d) rows) (ids.same has) (nodes.rows (schema has)) in record {
-        apart = ids.apart has;
-        ints = ids.ints has;
-        named = table_named (node_rows old) rows are (told are.sorted);
-        whole = table_whole (node_rows old) rows are (told are.sorted);
-      };
-}
-  where
-    schema : IsStoreSchema old.schema → IsStoreSchema mid.schema
-    schema has = subst (λ (d : Database). IsStoreSchema d.schema) (sym (ids.same has)) has
-
-pub no_documents_seen : (old mid new : Database) (rows : List Row) → SeesRowids old mid → ReadsNodes mid new rows → (IsSorted by_place rows → ¬ AreDocumentRuns rows) → ¬ IsStore old
-no_documents_seen old mid new rows ids nodes untold store =
-    let same = ids.same store.schema in
-    let has : IsStoreSchema mid.schema = subst (λ (d : Database). IsStoreSchema d.schema) (sym same) store.schema in
-    let are : AreNodes (node_rows old) rows = subst (λ (d : Database). AreNodes (node_rows d) rows) same (nodes.rows has) in
-    untold are.sorted (told_of (node_rows old) rows are store.named store.whole)
-
 -- # The whole adoption
 
-pub adopted_found : (old mid new : Database) → SeesEdition old mid → SeesDocuments mid new → IsAdopted old new
-adopted_found old mid new edition documents = record {
+pub adopted_found : (old new : Database) → SeesEdition old → SeesDocuments old → new ≡ old → IsAdopted old new
+adopted_found old new edition (ids, nodes) same = record {
   made = λ has. absurd (edition.some (inl has));
-  found = λ has.
-      let same = edition.same (inr has) in
-      let still : IsStoreSchema mid.schema = subst (λ (d : Database). IsStoreSchema d.schema) (sym same) has in
-      let are : AreDocuments (node_rows old) = subst (λ (d : Database). AreDocuments (node_rows d)) same (documents.documents still) in (
-        documents.same still ∙ same,
-        record { schema = has; layout = edition.first (inr has); apart = are.apart; ints = are.ints; named = are.named; whole = are.whole },
-      );
-  alone = λ one. elim one [
-    | inl has ↦ documents.alone (ap (λ (d : Database). d.schema) (edition.same (inl has)) ∙ has)
-    | inr has ↦ edition.some (inr has)
-  ];
+  found = λ has. (same, record { schema = has; layout = edition.first (inr has); apart = ids.apart has; ints = ids.ints has; named = nodes.named has; whole = nodes.whole has });
+  alone = λ one. elim one [ inl has ↦ ids.alone has | inr has ↦ edition.some (inr has) ];
 }
 
-pub adopted_made : (old mid new : Database) → SeesNothing old mid → MakesStore mid new → IsAdopted old new
-adopted_made old mid new nothing made = record {
-  made = λ has. made.made (ap (λ (d : Database). d.schema) (nothing.same (inl has)) ∙ has);
-  found = λ has. absurd (nothing.none (inr has));
-  alone = λ one. elim one [
-    | inl has ↦ nothing.none (inl has)
-    | inr has ↦ made.never (ap (λ (d : Database). d.schema) (nothing.same (inr has)) ∙ has)
-  ];
+pub adopted_made : (old new : Database) → ¬ HasLayout old → MakesStore old new → IsAdopted old new
+adopted_made old new nothing made = record {
+  made = made.made;
+  found = λ has. absurd (nothing (inr has));
+  alone = λ one. elim one [ inl has ↦ nothing (inl has) | inr has ↦ made.never has ];
 }
 
--- a database that holds no documents, as it was after the edition was read
-pub refused_found : (old mid : Database) → SeesEdition old mid → ¬ IsStore mid → IsNoStore old
-refused_found old mid edition bad = record {
-  some = λ has. edition.some (inl has);
-  none = λ store. bad (subst IsStore (sym (edition.same (inr store.schema))) store);
-}
+-- tables that hold no documents
+pub refused_found : (db : Database) → SeesEdition db → ¬ IsStore db → IsNoStore db
+refused_found db edition bad = record { some = λ has. edition.some (inl has); none = bad }
 
-pub refused_made : (old mid : Database) → SeesNothing old mid → mid.schema ≢ no_schema → IsNoStore old
-refused_made old mid nothing some = record {
-  some = λ has. some (ap (λ (d : Database). d.schema) (nothing.same (inl has)) ∙ has);
-  none = λ store. nothing.none (inr store.schema);
-}
-
-pub run_within : (a : List ℕ) (rows : List Row) → run_length a rows ≤ length rows
-run_within a [] = omega arith
-run_within a (r ∷ rs) = go (is_under a r) (run_within a rs)
-  where
-    go : (b : Bool) → run_length a rs ≤ length rs → cond b (suc (run_length a rs)) 0 ≤ suc (length rs)
-    go true h = omega (arith, h)
-    go false h = omega arith
-
-pub run_starts : (a : List ℕ) (rest : List Row) (first : Row) → slice_get rest 0 ≡ Some first → column first 6 ≡ Text a → 0 < run_length a rest
-run_starts a [] first here own = absurd cc
-run_starts a (r ∷ rs) first here own =
-    let same : r ≡ first = cc in
-    subst (λ b. 0 < cond b (suc (run_length a rs)) 0) (sym (passes a first own r same)) (omega arith)
-
--- # The length of a run, row by row
-
-after_at : (rows : List Row) (i : ℕ) (row : Row) → i < length rows → row ≡ get_or rows i row → drop i rows ≡ row ∷ drop (i + 1) rows
-after_at rows i row low is = rw (add-one, drop-cons rows i row) (ap (λ x. x ∷ drop (suc i) rows) (sym is))
-
-module _ (a : List ℕ) (rows : List Row) (i : ℕ) (so_far : run_length a rows ≡ i + run_length a (drop i rows)) where
-  pub run_out : length rows ≤ i → run_length a rows ≡ i
-  run_out out =
-      let none : drop i rows ≡ [] = no_length (drop i rows) (let size = length-drop i rows in omega (arith, size)) in
-      let last : run_length a (drop i rows) ≡ 0 = ap (run_length a) none in
-      omega (arith, so_far, last)
-
-  module _ (row : Row) (low : i < length rows) (is : row ≡ get_or rows i row) where
-    here : run_length a rows ≡ i + cond (is_under a row) (suc (run_length a (drop (i + 1) rows))) 0
-    here = so_far ∙ ap (λ l. i + run_length a l) (after_at rows i row low is)
-
-    pub run_ends : is_under a row ≡ false → run_length a rows ≡ i
-    run_ends other =
-        let stop : run_length a rows ≡ i + 0 = subst (λ b. run_length a rows ≡ i + cond b (suc (run_length a (drop (i + 1) rows))) 0) other here in
-        omega (arith, stop)
-
-    pub run_goes : is_under a row ≡ true → run_length a rows ≡ i + 1 + run_length a (drop (i + 1) rows)
-    run_goes own =
-        let next : run_length a rows ≡ i + suc (run_length a (drop (i + 1) rows)) = subst (λ b. run_length a rows ≡ i + cond b (suc (run_length a (drop (i + 1) rows))) 0) own here in
-        omega (arith, next)
+pub refused_made : (db : Database) → ¬ HasLayout db → db.schema ≢ no_schema → IsNoStore db
+refused_made db nothing some = record { some = some; none = λ store. nothing (inr store.schema) }

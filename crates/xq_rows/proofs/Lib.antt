@@ -29,3 +29,6 @@ pub mod Adoptions
 pub mod Parents
 pub mod CountedAttributes
 pub mod Streams
+pub mod Judging
+pub mod Silent
+pub mod AdoptStreams

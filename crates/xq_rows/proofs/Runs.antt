@@ -1,12 +1,10 @@
 -- The rows of one address, and the nodes that code reads of them.
-use Rattle.std.proofs.Common.{◌≡◌, ◌≢◌, ◌+◌, ◌<◌, ◌≤◌, ◌^◌, ℕ, zero, suc, List, [], ◌∷◌, map, length, get_or, refl, sym, ap, ap₂, subst, ◌∙◌, arith}
+use Rattle.std.proofs.Common.{◌≡◌, ◌≢◌, ◌+◌, ◌<◌, ◌≤◌, ◌^◌, ℕ, zero, suc, List, [], ◌∷◌, map, length, refl, sym, ap, ap₂, subst, ◌∙◌, arith}
 use Rattle.std.specs.List.{AllByRecursion, enumerate_from}
 use Rattle.std.specs.Str.{IsUtf8}
-use Rattle.std.proofs.lemmas.List.Elements.{All-from_recursion}
 use Rattle.sqlite_value.specs.Order.{Row, column}
 use Rattle.sqlite_value.specs.declared.value.Value.{Value}
 use Rattle.sqlite_value.specs.declared.value.Value.TheVariants.{Null}
-use Rattle.sqlite_keyed.proofs.ListLemmas.{all_unmap}
 use Rattle.xq_regions.specs.Forest.{Forest, end, node, count, labels, EachNode, IsWithinHeight}
 use Rattle.xq_regions.specs.Tree.{Label, Tree, IsDocument, IsText, nodes}
 use Rattle.xq_regions.specs.Rows.{Row as Node, rows as rows_of, measured, row_of, placed, placed_rows, AreNumbered, Encodes, IsEncoding}
@@ -15,7 +13,7 @@ use Rattle.xq_regions.proofs.Injective.{rows-injective}
 use Rattle.xq_regions.specs.declared.NodeRow.{NodeRow}
 use Rattle.xq_regions.specs.declared.Kind.TheVariants.{Document}
 use Rattle.xq_rows.specs.Nodes.{cells, node_in, number_in}
-use Rattle.xq_rows.specs.private.Columns.{node_of, IsReadable}
+use Rattle.xq_rows.specs.private.Columns.{IsReadable}
 use Rattle.xq_rows.specs.private.Adopt.{IsRun}
 use Rattle.xq_regions.proofs.Lists.{all_append}
 use Rattle.xq_rows.proofs.Calls.{encoded}
@@ -23,8 +21,8 @@ use Rattle.xq_rows.proofs.Loads.{length-labels}
 use Rattle.xq_rows.proofs.Maps.{node_back}
 
 -- nodes that were read and are those of a document
-pub encoded_run : (list : List NodeRow) (given : List Row) (t : Tree) → map cells (map placed list) ≡ map node_of given → Encodes list t → t.root.kind ≡ Document → IsRun (map node_of given)
-encoded_run list given t read it root = (t, record { is_tree = it.is_tree; root = root }, sym read ∙ ap (map cells) (encoded list t it))
+pub encoded_run : (list : List NodeRow) (t : Tree) → Encodes list t → t.root.kind ≡ Document → IsRun (map cells (map placed list))
+encoded_run list t it root = (t, record { is_tree = it.is_tree; root = root }, ap (map cells) (encoded list t it))
 
 abbrev place_in : Row → ℕ × Node
 place_in r = (number_in (column r 0), node_in r)
@@ -50,13 +48,13 @@ run_encodes list t is h =
     let it = numbered_as 0 list (rows_of t) same in record { is_tree = is.is_tree; rows = it.1; numbered = it.0 }
 
 -- rows that are those of no tree
-pub no_tree : (list : List NodeRow) (given : List Row) → map cells (map placed list) ≡ map node_of given → ¬ IsEncoding list → ¬ IsRun (map node_of given)
-no_tree list given read none run = none (run.0, run_encodes list run.0 run.1 (read ∙ run.2))
+pub no_tree : (list : List NodeRow) → ¬ IsEncoding list → ¬ IsRun (map cells (map placed list))
+no_tree list none run = none (run.0, run_encodes list run.0 run.1 run.2)
 
 -- rows that are those of a tree that is no document
-pub no_document : (list : List NodeRow) (given : List Row) (t : Tree) → map cells (map placed list) ≡ map node_of given → Encodes list t → ¬ (t.root.kind ≡ Document) → ¬ IsRun (map node_of given)
-no_document list given t read it other run =
-    let same : t ≡ run.0 = rows-injective t run.0 (sym it.rows ∙ (run_encodes list run.0 run.1 (read ∙ run.2)).rows) in
+pub no_document : (list : List NodeRow) (t : Tree) → Encodes list t → ¬ (t.root.kind ≡ Document) → ¬ IsRun (map cells (map placed list))
+no_document list t it other run =
+    let same : t ≡ run.0 = rows-injective t run.0 (sym it.rows ∙ (run_encodes list run.0 run.1 run.2).rows) in
     other (ap (λ (u : Tree). u.root.kind) same ∙ run.1.root)
 
 -- # Each row of a document can be read
@@ -79,7 +77,7 @@ all_readable : (k : ℕ) (list : List Node) → AllByRecursion IsFit list → k 
 all_readable k [] fit h = tt
 all_readable k (n ∷ ns) fit h = (((k, n), refl, small k (omega (arith, h)), fit.0.0, fit.0.1, fit.0.2, fit.0.3), all_readable (k + 1) ns fit.1 (omega (arith, h)))
 
-run_readable : (list : List Row) → IsRun list → AllByRecursion IsReadable list
+pub run_readable : (list : List Row) → IsRun list → AllByRecursion IsReadable list
 run_readable list run =
     let t = run.0 in
     let tree = run.1.is_tree in
@@ -87,15 +85,6 @@ run_readable list run =
     let room = tree.room in
     let fit = rows_fit 101 0 (nodes t) tree.texts tree.height room (omega arith) in
     subst (AllByRecursion IsReadable) (sym run.2) (all_readable 0 (rows_of t) fit (omega (arith, size, room)))
-
--- a row that cannot be read is none of a document
-pub unreadable_run : (given : List Row) → ¬ AllByRecursion IsReadable (map node_of given) → ¬ IsRun (map node_of given)
-unreadable_run given bad run = bad (run_readable (map node_of given) run)
-
-pub unreadable_at : (given : List Row) (i : ℕ) (r : Row) → i < length given → r ≡ get_or given i r → ¬ IsReadable (node_of r) → ¬ AllByRecursion IsReadable (map node_of given)
-unreadable_at given i r low is bad all =
-    let each = All-from_recursion (λ r. IsReadable (node_of r)) given (all_unmap IsReadable node_of given all) in
-    bad (subst (λ x. IsReadable (node_of x)) (sym is) (each i r low))
 
 -- a column that holds a value is there
 pub column_there : (row : Row) (at : ℕ) (v : Value) → v ≢ Null → column row at ≡ v → at < length row

@@ -213,7 +213,7 @@ shown_keeps old new sql params rows plain h =
     let it = rw none at h.2 in
     it.3.0.now_is
 
-failed_keeps : (old new : State) (too_big : Type 0) (e : Error) → (IsTrue old.is_open → old.now ≡ old.committed) → IsTrue new.is_open → Fails old new too_big e → new.now ≡ old.now
+pub failed_keeps : (old new : State) (too_big : Type 0) (e : Error) → (IsTrue old.is_open → old.now ≡ old.committed) → IsTrue new.is_open → Fails old new too_big e → new.now ≡ old.now
 failed_keeps old new too_big e settled up h = (h.3.undone up).0 ∙ sym (settled (h.3.was_open up))
 
 pub refused_keeps : (old new : State) (sql : List ℕ) (params : Row) (e : Error) → IsPlain (understood old.now.schema sql) → (IsTrue old.is_open → old.now ≡ old.committed) → IsTrue new.is_open

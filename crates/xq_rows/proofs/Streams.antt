@@ -12,13 +12,13 @@ use Rattle.sqlite.specs.State.{State, HasCleanDisk, IsUnchanged, Shown, ShowsRow
 use Rattle.sqlite.proofs.Callers.{IsPlain, begun_plain, unchanged_then}
 use Rattle.xq_rows.specs.Documents.{IsReady}
 use Rattle.xq_rows.proofs.Selects.{shown_opens}
-use Rattle.xq_rows.specs.private.Streams.{GivesRows, Stays}
+use Rattle.xq_rows.specs.private.Streams.{BeginsWith, GivesRows, Stays}
 
-unchanged_itself : (s : State) → IsTrue s.is_open → IsUnchanged s s
+pub unchanged_itself : (s : State) → IsTrue s.is_open → IsUnchanged s s
 unchanged_itself s up = (record { was_open = up; is_open = up; now_is = refl; committed_is = refl; mode = refl }, record { changes = refl; last_rowid = refl }, refl)
 
 -- an answer of a connection is one of that which it was before, where that is unchanged
-shown_since : (sql : List ℕ) (params : Row) (old mid new : State) (rows : List Row) → IsPlain (understood old.now.schema sql) → IsUnchanged old mid → Shown sql params mid new rows → Shown sql params old new rows
+pub shown_since : (sql : List ℕ) (params : Row) (old mid new : State) (rows : List Row) → IsPlain (understood old.now.schema sql) → IsUnchanged old mid → Shown sql params mid new rows → Shown sql params old new rows
 unfolding Shown
 shown_since sql params old mid new rows plain same h =
     let now : mid.now ≡ old.now = same.0.now_is in
@@ -45,6 +45,13 @@ module _ {S : Type 0} (g : Ghosts S) where
     same = λ up. unchanged_itself (state g h) up.1;
     given = λ clean sql params it. ([], it, none);
   }
+
+  -- it may give more
+  pub so_far : (first now : Held S) (P : List Row → Type 0) → IsUnderWay first now P → IsReady (state g now) → BeginsWith g first now P
+  so_far first now P it ready = record { same = it.same ready; given = it.given ready.0 }
+
+  pub gives_then : (first now : Held S) (P Q : List Row → Type 0) → ((rows : List Row) → P rows → Q rows) → GivesRows g first now P → GivesRows g first now Q
+  gives_then first now P Q then gives sql params plain began = let all = gives sql params plain began in (all.0, all.1, then all.0 all.2)
 
   module _ (first mid now : Held S) (P : List Row → Type 0) (it : IsUnderWay first mid P) (clean : doubt (state g mid).is_clean ≤ doubt (state g now).is_clean)
       (same : HasCleanDisk (state g now) → IsUnchanged (state g mid) (state g now)) where

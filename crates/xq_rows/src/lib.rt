@@ -8,6 +8,7 @@
 mod adopt;
 mod faults;
 mod fronts;
+mod judgements;
 mod laws;
 mod lending;
 mod memory_files;

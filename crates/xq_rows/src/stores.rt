@@ -130,8 +130,9 @@ impl<S: Alter> Store<S> {
     /// The store whose tables a database holds, with the documents that these stand for. Where the
     /// database holds no table they are made, and there is no document.
     ///
-    /// All of it is one transaction, and a refusal gives the connection back, with the database as
-    /// it was: [`OpenFault::NotAStore`] where other tables are there, one of the two alone, another
+    /// Tables that are there are read a row at a time, with the rows of one document in hand; they
+    /// are made in one transaction. A refusal gives the connection back, with the database as it
+    /// was: [`OpenFault::NotAStore`] where other tables are there, one of the two alone, another
     /// edition than 1, or rows that are not those of documents under good addresses, and
     /// [`OpenFault::Want`] where memory runs out or the database refuses for another cause.
     pub fn adopt(alloc: Global, conn: Connection<S>) -> Result<Store<S>, (OpenFault, Connection<S>)>

@@ -105,6 +105,42 @@ const ROWS: [(&str, Answer); 12] = [
     ("('c', 0, 0, 0, 0, 'a', '')", Answer::NotAStore),
 ];
 
+/// What the rows of several addresses are.
+const SEVERAL: [(&str, Answer); 8] = [
+    (
+        "('c', 0, 1, 0, 0, '', ''), ('a', 1, 0, 1, 1, 'x', ''), ('b', 0, 0, 0, 0, '', ''), ('a', 0, 1, 0, 0, '', ''), ('c', 1, 0, 1, 1, 'y', '')",
+        Answer::Adopted,
+    ),
+    (
+        "('a', 0, 0, 0, 0, '', ''), ('b', 0, 1, 0, 0, '', '')",
+        Answer::NotAStore,
+    ),
+    (
+        "('a', 0, 0, 0, 0, '', ''), ('b', 0, 1, 0, 0, '', ''), ('b', 1, 0, 1, 6, '', '')",
+        Answer::NotAStore,
+    ),
+    (
+        "('a', 0, 1, 0, 0, '', ''), ('b', 0, 0, 0, 0, '', '')",
+        Answer::NotAStore,
+    ),
+    (
+        "('', 0, 0, 0, 0, '', ''), ('b', 0, 0, 0, 0, '', '')",
+        Answer::NotAStore,
+    ),
+    (
+        "('a', 0, 0, 0, 0, '', ''), ('b', 0, 1, 0, 0, '', ''), ('c', 0, 0, 0, 0, '', '')",
+        Answer::NotAStore,
+    ),
+    (
+        "('a', 0, 0, 0, 0, '', ''), ('b b', 0, 0, 0, 0, '', ''), ('c', 0, 0, 0, 0, '', '')",
+        Answer::NotAStore,
+    ),
+    (
+        "('a', 0, 1, 0, 0, '', ''), ('b', 1, 0, 1, 1, 'x', '')",
+        Answer::NotAStore,
+    ),
+];
+
 /// The first columns of what a query shows, each before a line, or a dash where it is refused.
 fn shown<S: Alter>(alloc: Global, conn: &mut Connection<S>, sql: &str) -> Result<String, Fail> {
     let Ok(rows) = conn.query_all(sql, &[]) else {
@@ -191,6 +227,19 @@ fn judges_rows(rt: HostRuntime) -> Result<(), Fail> {
         answer_of(rt.alloc(), &[LAYOUT, NODE, ONE, text], None)?,
         Answer::NotAStore
     );
+    Ok(())
+}
+
+/// Wherever the bad rows stand among those of other addresses, the whole is no store.
+#[test]
+fn judges_rows_of_several_addresses(rt: HostRuntime) -> Result<(), Fail> {
+    for (rows, wanted) in SEVERAL {
+        let insert = format!(in rt.alloc(); "INSERT INTO node VALUES {rows}")?;
+        assert_eq!(rt;
+            answer_of(rt.alloc(), &[LAYOUT, NODE, ONE], Some(insert.as_str()))?,
+            wanted
+        );
+    }
     Ok(())
 }
 

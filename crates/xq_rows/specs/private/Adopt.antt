@@ -1,6 +1,5 @@
 -- What the adoption of a database tells of it.
-use Rattle.std.proofs.Common.{suc}
-use Rattle.std.specs.Prelude.{◌≡◌, ◌≢◌, ◌⊎◌, ℕ, ℤ, pos, Option, None, Some, Bool, true, false, if◌then◌else◌, List, [], ◌∷◌, map, filter, IsPermutation, IsSorted}
+use Rattle.std.specs.Prelude.{◌≡◌, ◌≢◌, ◌⊎◌, ℕ, ℤ, pos, Option, None, Some, Bool, true, false, List, [], ◌∷◌, ◌++◌, map, filter, IsPermutation, IsSorted}
 use Rattle.std.specs.declared.cmp.Ordering.{Ordering}
 use Rattle.std.specs.declared.cmp.Ordering.TheVariants.{Less}
 use Rattle.std.specs.Ordering.{is_eq, on, then_cmp}
@@ -8,15 +7,18 @@ use Rattle.std.specs.List.{AllByRecursion}
 use Rattle.sqlite_value.specs.Order.{Row, column, value_cmp}
 use Rattle.sqlite_value.specs.declared.value.Value.TheVariants.{Int, Text}
 use Rattle.sqlite_trees.specs.Tree.{rowid}
+use Rattle.sqlite_trees.specs.declared.store.Store.{Ghosts}
 use Rattle.sqlite_resolve.specs.declared.error.CompileError.{CompileError}
 use Rattle.sqlite.specs.Effect.{Database}
+use Rattle.sqlite.specs.Held.{Held}
 use Rattle.sqlite.specs.declared.error.Error.{Error}
 use Rattle.sqlite.specs.declared.error.Error.TheVariants.{SqliteFailure, SqlInputError}
 use Rattle.sqlite.specs.declared.error.ErrorCode.TheVariants.{NameTaken, OutOfMemory}
 use Rattle.xq_atoms.specs.Address.{IsAddress}
 use Rattle.xq_atoms.specs.declared.refusals.Want.TheVariants.{Memory}
 use Rattle.xq_regions.specs.Tree.{Tree, IsDocument}
-use Rattle.xq_regions.specs.Rows.{placed_rows}
+use Rattle.xq_regions.specs.Rows.{placed, placed_rows}
+use Rattle.xq_rows.specs.declared.judgements.Run.{Run}
 use Rattle.xq_rows.specs.declared.faults.OpenFault.{OpenFault}
 use Rattle.xq_rows.specs.declared.faults.OpenFault.TheVariants.{Want, NotAStore}
 use Rattle.xq_rows.specs.Adoption.{HasOne}
@@ -25,6 +27,7 @@ use Rattle.xq_rows.specs.private.Statements.{IsEmptyStore}
 use Rattle.xq_rows.specs.Nodes.{cells}
 use Rattle.xq_rows.specs.private.Columns.{node_of}
 use Rattle.xq_rows.specs.private.Refusals.{want_of}
+use Rattle.xq_rows.specs.private.Streams.{BeginsWith, GivesRows}
 use Rattle.xq_rows.specs.Tables.{no_schema, layout_schema, node_schema, node_rows, layout_rows, IsStoreSchema}
 
 -- An adoption that succeeds makes an empty store where no table was there, and takes the two tables
@@ -73,11 +76,6 @@ HasOwner r = (address : List ℕ) × IsAddress address × (column r 6 ≡ Text a
 abbrev pub by_place : Row → Row → Ordering
 by_place = then_cmp (on (λ r. column r 6) value_cmp) (on (λ r. column r 0) value_cmp)
 
--- how many rows at the front are of the address
-abbrev pub run_length : List ℕ → List Row → ℕ
-run_length address [] = 0
-run_length address (r ∷ rows) = if is_under address r then suc (run_length address rows) else 0
-
 -- these are the nodes of a document, in document order
 abbrev pub IsRun : List Row → Type 0
 IsRun nodes = (t : Tree) × IsDocument t × (nodes ≡ map cells (placed_rows t))
@@ -92,6 +90,41 @@ pub record AreDocumentRuns (rows : List Row) : Type 0 where
   pub whole : (address : List ℕ) → (nodes_under address rows ≡ [])
       ⊎ IsRun (nodes_under address rows)
 
+-- # Rows that are judged as they are read
+
+-- no address is on both sides
+abbrev pub IsCut : List Row → List Row → Type 0
+IsCut past rest = (b : List ℕ) → (filter (is_under b) past ≡ []) ⊎ (filter (is_under b) rest ≡ [])
+
+-- the rows before the rest were judged
+pub record AreJudged (all rest : List Row) : Type 0 where
+  pub past : List Row
+  pub is : past ++ rest ≡ all
+  pub told : IsSorted by_place all → AreDocumentRuns past × IsCut past rest
+
+-- of the rows that were given those in hand are of one address, and those before them were judged,
+-- whatever rows follow
+pub record HasJudged (given : List Row) (run : Run) : Type 0 where
+  pub here : List Row
+  pub under : AllByRecursion (λ r. is_under run.address.items r ≡ true) here
+  pub read : map cells (map placed run.nodes.items) ≡ map node_of here
+  pub judged : (tail : List Row) → AreJudged (given ++ tail) (here ++ tail)
+
+-- no row is in hand, or they are those of a document under a good address
+abbrev pub IsWhole : Run → Type 0
+IsWhole run = (run.nodes.items ≡ [])
+    ⊎ (IsAddress run.address.items × IsRun (map cells (map placed run.nodes.items)))
+
+-- whatever rows follow, they are not those of documents
+abbrev pub AreNoDocuments : List Row → Type 0
+AreNoDocuments rows = (tail : List Row) → IsSorted by_place (rows ++ tail)
+    → ¬ AreDocumentRuns (rows ++ tail)
+
+-- the rows that an answer gave so far are not those of documents, whatever follows, or all are not
+abbrev pub ShowsNoDocuments : {S : Type 0} → Ghosts S → Held S → Held S → Type 0
+ShowsNoDocuments g old new = BeginsWith g old new AreNoDocuments
+    ⊎ GivesRows g old new (λ given. IsSorted by_place given → ¬ AreDocumentRuns given)
+
 -- # The steps of an adoption, by the schema found
 
 -- there is a table `layout`, alone or beside `node`
@@ -103,32 +136,24 @@ abbrev pub LacksLayout : Database → Type 0
 LacksLayout db = (db.schema ≡ no_schema) ⊎ (db.schema ≡ node_schema)
 
 -- the editions were read
-pub record ReadsEdition (old new : Database) (given : List Row) : Type 0 where
-  pub some : ¬ LacksLayout old
-  pub same : HasLayout old → new ≡ old
-  pub rows : HasLayout old → IsPermutation (map (λ r. column r 1 ∷ []) (layout_rows old)) given
+pub record ReadsEdition (db : Database) (given : List Row) : Type 0 where
+  pub some : ¬ LacksLayout db
+  pub rows : HasLayout db → IsPermutation (map (λ r. column r 1 ∷ []) (layout_rows db)) given
 
 -- there is one, and it is 1
-pub record SeesEdition (old new : Database) : Type 0 where
-  pub some : ¬ LacksLayout old
-  pub same : HasLayout old → new ≡ old
-  pub first : HasLayout old → map (λ r. column r 1) (layout_rows old) ≡ Int (pos 1) ∷ []
+pub record SeesEdition (db : Database) : Type 0 where
+  pub some : ¬ LacksLayout db
+  pub first : HasLayout db → map (λ r. column r 1) (layout_rows db) ≡ Int (pos 1) ∷ []
 
--- there is no table of editions
-pub record SeesNothing (old new : Database) : Type 0 where
-  pub none : ¬ HasLayout old
-  pub same : LacksLayout old → new ≡ old
-
-abbrev pub Sees : Bool → Database → Database → Type 0
-Sees true = SeesEdition
-Sees false = SeesNothing
+-- there is one that is 1, or there is no table of editions
+abbrev pub Sees : Bool → Database → Type 0
+Sees true db = SeesEdition db
+Sees false db = ¬ HasLayout db
 
 -- the rowids were read
-pub record ReadsRowids (old new : Database) (given : List Row) : Type 0 where
-  pub alone : old.schema ≢ layout_schema
-  pub same : IsStoreSchema old.schema → new ≡ old
-  pub rows : IsStoreSchema old.schema
-      → IsPermutation (map (λ r. rowid r ∷ []) (node_rows old)) given
+abbrev pub ReadsRowids : Database → List Row → Type 0
+ReadsRowids db given = IsStoreSchema db.schema
+    → IsPermutation (map (λ r. rowid r ∷ []) (node_rows db)) given
 
 -- the number is above the last one
 abbrev pub IsPast : Option ℤ → ℤ → Type 0
@@ -136,11 +161,10 @@ IsPast None n = Unit {0}
 IsPast (Some m) n = value_cmp (Int m) (Int n) ≡ Less
 
 -- they are integers, each another one
-pub record SeesRowids (old new : Database) : Type 0 where
-  pub alone : old.schema ≢ layout_schema
-  pub same : IsStoreSchema old.schema → new ≡ old
-  pub apart : IsStoreSchema old.schema → AreApart (node_rows old)
-  pub ints : IsStoreSchema old.schema → HaveInts (node_rows old)
+pub record SeesRowids (db : Database) : Type 0 where
+  pub alone : db.schema ≢ layout_schema
+  pub apart : IsStoreSchema db.schema → AreApart (node_rows db)
+  pub ints : IsStoreSchema db.schema → HaveInts (node_rows db)
 
 -- the nodes are the rows of the table, by address and number
 pub record AreNodes (table rows : List Row) : Type 0 where
@@ -148,19 +172,15 @@ pub record AreNodes (table rows : List Row) : Type 0 where
   pub sorted : IsSorted by_place rows
 
 -- they were read
-pub record ReadsNodes (old new : Database) (given : List Row) : Type 0 where
-  pub same : IsStoreSchema old.schema → new ≡ old
-  pub rows : IsStoreSchema old.schema → AreNodes (node_rows old) given
+abbrev pub ReadsNodes : Database → List Row → Type 0
+ReadsNodes db given = IsStoreSchema db.schema → AreNodes (node_rows db) given
 
--- the rows of a table are those of documents
-pub record AreDocuments (table : List Row) : Type 0 where
-  pub apart : AreApart table
-  pub ints : HaveInts table
-  pub named : AllByRecursion HasAddress table
-  pub whole : (address : List ℕ) → (rows_at address table ≡ []) ⊎ IsIntact (rows_at address table)
+-- they are those of documents under good addresses
+pub record SeesNodes (db : Database) : Type 0 where
+  pub named : IsStoreSchema db.schema → AllByRecursion HasAddress (node_rows db)
+  pub whole : IsStoreSchema db.schema → (address : List ℕ)
+      → (rows_at address (node_rows db) ≡ []) ⊎ IsIntact (rows_at address (node_rows db))
 
--- the nodes were read, and are those of documents
-pub record SeesDocuments (old new : Database) : Type 0 where
-  pub alone : old.schema ≢ layout_schema
-  pub same : IsStoreSchema old.schema → new ≡ old
-  pub documents : IsStoreSchema old.schema → AreDocuments (node_rows old)
+-- both were judged
+abbrev pub SeesDocuments : Database → Type 0
+SeesDocuments db = SeesRowids db × SeesNodes db

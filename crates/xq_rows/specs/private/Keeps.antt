@@ -28,14 +28,6 @@ pub record StaysInside {S : Type 0} (g : Ghosts S) (old new : Transaction S) : T
   pub kept : HasCleanDisk (state g new.conn.now)
       → KeepsCommit (state g old.conn.now) (state g new.conn.now)
 
--- The same of a call that reads tables of any shape: nothing was committed where the transaction
--- was under way.
-pub record ReadsInside {S : Type 0} (g : Ghosts S) (old new : Transaction S) : Type 0 where
-  pub same_reference : new.conn.ghost_name ≡ old.conn.ghost_name
-  pub clean : doubt (state g old.conn.now).is_clean ≤ doubt (state g new.conn.now).is_clean
-  pub kept : HasCleanDisk (state g new.conn.now) → IsTrue (state g old.conn.now).in_transaction
-      → KeepsCommit (state g old.conn.now) (state g new.conn.now)
-
 -- these are the addresses of the documents in the tables, and of each document the first rows
 pub record AreOf (db : Database) (addresses : List (List ℕ)) (fronts : List Front) : Type 0 where
   pub listed : addresses ≡ keys (documents_of db)

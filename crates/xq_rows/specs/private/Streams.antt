@@ -5,7 +5,7 @@ use Rattle.sqlite_trees.specs.declared.store.Store.{Ghosts}
 use Rattle.sqlite.specs.Given.{IsPlain, HasGiven}
 use Rattle.sqlite.specs.Held.{Held, state}
 use Rattle.sqlite.specs.Listing.{understood}
-use Rattle.sqlite.specs.State.{State, Shown}
+use Rattle.sqlite.specs.State.{State, IsUnchanged, Shown}
 
 -- what is open was so before, and sees what it saw, or what was committed
 abbrev pub Stays : State → State → Type 0
@@ -16,3 +16,11 @@ abbrev pub GivesRows : {S : Type 0} → Ghosts S → Held S → Held S → (List
 GivesRows g old new P = (sql : List ℕ) → (params : Row) → IsPlain (understood old.schema sql)
     → HasGiven g sql params old []
     → (rows : List Row) × Shown sql params (state g old) (state g new) rows × P rows
+
+-- the answer of a query that had given no row begins with rows of which a property holds, and
+-- nothing is changed
+pub record BeginsWith {S : Type 0} (g : Ghosts S) (old new : Held S)
+    (P : List Row → Type 0) : Type 0 where
+  pub same : IsUnchanged (state g old) (state g new)
+  pub given : (sql : List ℕ) → (params : Row) → HasGiven g sql params old []
+      → (rows : List Row) × HasGiven g sql params new rows × P rows

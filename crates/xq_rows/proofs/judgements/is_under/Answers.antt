@@ -1,6 +1,6 @@
 use Rattle.std.proofs.Common.{refl}
 use Rattle.xq_rows.proofs.Adopts.{own_under, none_under}
-use Rattle.xq_rows.proofs.adopt.is_under.Goals as goal
+use Rattle.xq_rows.proofs.judgements.is_under.Goals as goal
 
 pub returns-in-Some : goal.returns-in-Some
 returns-in-Some c = own_under c.args.address.now c.in-Some.own.now c.args.row.now c.eq.result c.eq.ensures c.in-Some.ensures.some

@@ -1,0 +1,7 @@
+use Rattle.std.proofs.Common.{◌≡◌}
+use Rattle.xq_rows.proofs.Adopts.{HaveRisen}
+use Rattle.xq_rows.proofs.Streams.{IsUnderWay}
+use Rattle.xq_rows.proofs.adopt.check_rising.Given as goal
+
+abbrev pub invariant-loop : goal.invariant-loop
+invariant-loop g l = (l.rows.conn.ghost_name ≡ l.fn.rows.conn.ghost_name) × IsUnderWay g.S.Store l.fn.rows.conn.now l.rows.conn.now (λ given. HaveRisen l.last given)
