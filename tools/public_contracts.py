@@ -3,8 +3,8 @@
 
     tools/public_contracts.py OLD [NEW] [--rename A=B ..]     (NEW is the last commit if not given)
 
-A public function is a `pub fn` of a file below crates/*/src, outside tests; it is shown with its
-`requires` and `ensures`, white space folded. Words of OLD are renamed first. Crates and files do
+A public function is a `pub fn` of a file below crates/*/src, outside tests and what they have in
+common; it is shown with its `requires` and `ensures`, white space folded. Words of OLD are renamed first. Crates and files do
 not count, so that what moved stays the same. Lines begin with `-` for OLD alone and `+` for NEW
 alone; the last line counts.
 """
@@ -13,6 +13,8 @@ import re
 import subprocess
 import sys
 
+SOURCE = re.compile(r"crates/\w+/src/.*\.rt$")
+OF_TESTS = re.compile(r"_tests/|/xq_samples/")
 HEAD = re.compile(r"(?m)^[ \t]*pub (?:const )?fn ")
 
 
@@ -22,7 +24,7 @@ def git(*words):
 
 def sources(commit):
     names = git("ls-tree", "-r", "--name-only", commit, "crates").split("\n")
-    return [it for it in names if re.match(r"crates/\w+/src/.*\.rt$", it) and "_tests/" not in it]
+    return [it for it in names if SOURCE.match(it) and not OF_TESTS.search(it)]
 
 
 def skip_braces(text, at):

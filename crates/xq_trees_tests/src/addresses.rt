@@ -1,5 +1,6 @@
 //! Addresses added and taken out in a mixed order, each found where it stands.
 
+use std::alloc::Global;
 use std::process::Abort;
 use xq_atoms::Want;
 use xq_sources::Addresses;
@@ -27,19 +28,30 @@ fn are_found(rt: &impl Abort, addresses: &Addresses, wanted: usize) {
     }
 }
 
-#[test]
-fn addresses_are_found_by_halves(rt: HostRuntime) -> Result<(), Want> {
-    let alloc = rt.alloc();
-    let mut addresses = Addresses::new(alloc);
+/// Adds so many addresses in a mixed order.
+fn add_many(alloc: Global, addresses: &mut Addresses) -> Result<(), Want> {
     for step in 0..300_u32 {
         let number = step * 7 % 300;
-        add(&mut addresses, format!(in alloc; "{number}")?.as_str())?;
+        add(addresses, format!(in alloc; "{number}")?.as_str())?;
     }
-    are_found(&rt, &addresses, 300);
+    Ok(())
+}
+
+/// Takes every third one out.
+fn take_out_thirds(alloc: Global, addresses: &mut Addresses) -> Result<(), Want> {
     for step in 0..100_u32 {
         let number = step * 3;
-        take_out(&mut addresses, format!(in alloc; "{number}")?.as_str());
+        take_out(addresses, format!(in alloc; "{number}")?.as_str());
     }
+    Ok(())
+}
+
+#[test]
+fn addresses_are_found_by_halves(rt: HostRuntime) -> Result<(), Want> {
+    let mut addresses = Addresses::new(rt.alloc());
+    add_many(rt.alloc(), &mut addresses)?;
+    are_found(&rt, &addresses, 300);
+    take_out_thirds(rt.alloc(), &mut addresses)?;
     are_found(&rt, &addresses, 200);
     assert_eq!(rt; addresses.search("3").is_ok(), false);
     assert_eq!(rt; addresses.search("").err(), Some(0));
@@ -49,14 +61,12 @@ fn addresses_are_found_by_halves(rt: HostRuntime) -> Result<(), Want> {
 
 #[test]
 fn addresses_that_do_not_rise_are_none(rt: HostRuntime) -> Result<(), Want> {
-    let alloc = rt.alloc();
-    let mut list = Vec::new(alloc);
-    list.push(String::from_str(alloc, "b")?)?;
-    list.push(String::from_str(alloc, "a")?)?;
-    assert_eq!(rt; Addresses::from_rising(list).is_some(), false);
-    let mut list = Vec::new(alloc);
-    list.push(String::from_str(alloc, "a")?)?;
-    list.push(String::from_str(alloc, "b")?)?;
-    assert_eq!(rt; Addresses::from_rising(list).is_some(), true);
+    for (given, are_rising) in [(["b", "a"], false), (["a", "b"], true)] {
+        let mut list = Vec::new(rt.alloc());
+        for address in given {
+            list.push(String::from_str(rt.alloc(), address)?)?;
+        }
+        assert_eq!(rt; Addresses::from_rising(list).is_some(), are_rising);
+    }
     Ok(())
 }

@@ -38,24 +38,33 @@ fn push(
     Ok(())
 }
 
+/// Adds a node, and how many attributes it has.
+fn add(
+    alloc: Global,
+    (rows, wanted): (&mut Vec<NodeRow>, &mut Vec<u32>),
+    (level, kind, number): (u32, Kind, u32),
+    attributes: u32,
+) -> Result<(), AllocError> {
+    push(alloc, rows, level, kind, number)?;
+    wanted.push(attributes)?;
+    Ok(())
+}
+
 /// A library with these books, and for each of its nodes how many attributes it has.
 fn library(alloc: Global) -> Result<(Vec<NodeRow>, Vec<u32>), AllocError> {
     let mut rows = Vec::new(alloc);
     let mut wanted = Vec::new(alloc);
-    push(alloc, &mut rows, 0, Kind::Element, 0)?;
-    push(alloc, &mut rows, 1, Kind::Attribute, 0)?;
-    wanted.push(1)?;
-    wanted.push(0)?;
+    add(alloc, (&mut rows, &mut wanted), (0, Kind::Element, 0), 1)?;
+    add(alloc, (&mut rows, &mut wanted), (1, Kind::Attribute, 0), 0)?;
     for (attributes, has_text) in BOOKS {
-        push(alloc, &mut rows, 1, Kind::Element, 0)?;
-        wanted.push(attributes)?;
+        let book = (1, Kind::Element, 0);
+        add(alloc, (&mut rows, &mut wanted), book, attributes)?;
         for number in 0..attributes {
-            push(alloc, &mut rows, 2, Kind::Attribute, number)?;
-            wanted.push(0)?;
+            let attribute = (2, Kind::Attribute, number);
+            add(alloc, (&mut rows, &mut wanted), attribute, 0)?;
         }
         if has_text {
-            push(alloc, &mut rows, 2, Kind::Text, 0)?;
-            wanted.push(0)?;
+            add(alloc, (&mut rows, &mut wanted), (2, Kind::Text, 0), 0)?;
         }
     }
     Ok((rows, wanted))

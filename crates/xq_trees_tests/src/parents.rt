@@ -41,9 +41,9 @@ fn shelves(alloc: Global, shelves: u32, books: u32) -> Result<Vec<NodeRow>, Allo
     for shelf in 0..shelves {
         push(alloc, &mut rows, 1)?;
         for book in 0..books {
-            push(alloc, &mut rows, 2)?;
-            push(alloc, &mut rows, 3)?;
-            push(alloc, &mut rows, 4)?;
+            for level in 2..5 {
+                push(alloc, &mut rows, level)?;
+            }
         }
     }
     Ok(rows)
@@ -84,10 +84,10 @@ fn parents_are_told_in_deep_trees(rt: HostRuntime) -> Result<(), Want> {
 
 #[test]
 fn parents_are_told_at_the_borders_of_blocks(rt: HostRuntime) -> Result<(), Want> {
-    tells_parents(&rt, rt.alloc(), 0, 0)?;
-    tells_parents(&rt, rt.alloc(), 63, 0)?;
-    tells_parents(&rt, rt.alloc(), 64, 0)?;
-    tells_parents(&rt, rt.alloc(), 65, 62)
+    for (children, depth) in [(0, 0), (63, 0), (64, 0), (65, 62)] {
+        tells_parents(&rt, rt.alloc(), children, depth)?;
+    }
+    Ok(())
 }
 
 #[test]

@@ -2,44 +2,12 @@
 
 use std::alloc::{AllocError, Global};
 use xq_regions::{Fragment, Kind, NodeRow};
-
-/// A row with the pre, size and level of `place`.
-fn row(
-    alloc: Global,
-    place: (u32, u32, u32),
-    kind: Kind,
-    name: &str,
-    value: &str,
-) -> Result<NodeRow, AllocError> {
-    Ok(NodeRow {
-        pre: place.0,
-        size: place.1,
-        level: place.2,
-        kind,
-        name: String::from_str(alloc, name)?,
-        value: String::from_str(alloc, value)?,
-    })
-}
-
-/// The rows of the worked document.
-fn library(alloc: Global) -> Result<Vec<NodeRow>, AllocError> {
-    let mut rows = Vec::new(alloc);
-    rows.push(row(alloc, (0, 7, 0), Kind::Document, "", "")?)?;
-    rows.push(row(alloc, (1, 6, 1), Kind::Element, "lib", "")?)?;
-    rows.push(row(alloc, (2, 2, 2), Kind::Element, "book", "")?)?;
-    rows.push(row(alloc, (3, 0, 3), Kind::Attribute, "id", "1")?)?;
-    rows.push(row(alloc, (4, 0, 3), Kind::Text, "", "A")?)?;
-    rows.push(row(alloc, (5, 2, 2), Kind::Element, "book", "")?)?;
-    rows.push(row(alloc, (6, 0, 3), Kind::Attribute, "id", "2")?)?;
-    rows.push(row(alloc, (7, 0, 3), Kind::Text, "", "B")?)?;
-    Ok(rows)
-}
+use xq_samples::documents::{LIBRARY, row, rows_of};
 
 #[test]
 fn takes_the_library(rt: HostRuntime) -> Result<(), AllocError> {
-    let Ok(fragment) = Fragment::from_rows(library(rt.alloc())?) else {
-        assert!(rt; false, "the rows are those of a document");
-        return Ok(());
+    let Ok(fragment) = Fragment::from_rows(rows_of(rt.alloc(), &LIBRARY)?) else {
+        panic!(rt; "the rows are those of a document");
     };
     assert!(rt; fragment.is_document());
     assert_eq!(rt; fragment.rows().len(), 8);
@@ -62,7 +30,7 @@ fn refuses_another_row(rt: HostRuntime) -> Result<(), AllocError> {
         (3, (3, 0, 3), Kind::Comment, "", "1--"),
         (7, (7, 0, 101), Kind::Text, "", "B"),
     ] {
-        let mut rows = library(alloc)?;
+        let mut rows = rows_of(alloc, &LIBRARY)?;
         if let Some(old) = rows.get_mut(at) {
             *old = row(alloc, place, kind, name, value)?;
         }
@@ -121,20 +89,24 @@ fn wide(alloc: Global, kind: Kind, name: &str, count: u32) -> Result<Vec<NodeRow
 
 #[test]
 fn takes_many_nodes(rt: HostRuntime) -> Result<(), AllocError> {
-    let most = wide(rt.alloc(), Kind::Comment, "", 999_999)?;
-    assert!(rt; Fragment::from_rows(most).is_ok());
-    let more = wide(rt.alloc(), Kind::Comment, "", 1_000_000)?;
-    assert!(rt; Fragment::from_rows(more).is_err());
+    for (kind, name, count, is_tree) in [
+        (Kind::Comment, "", 999_999, true),
+        (Kind::Comment, "", 1_000_000, false),
+        (Kind::Attribute, "n", 20_000, true),
+    ] {
+        let rows = wide(rt.alloc(), kind, name, count)?;
+        assert_eq!(rt; Fragment::from_rows(rows).is_ok(), is_tree, "{count}");
+    }
+    Ok(())
+}
+
+#[test]
+fn refuses_a_name_twice_far_apart(rt: HostRuntime) -> Result<(), AllocError> {
     let mut attributes = wide(rt.alloc(), Kind::Attribute, "n", 20_000)?;
     if let Some(last) = attributes.last_mut() {
         last.name = String::from_str(rt.alloc(), "n0")?;
     }
-    assert!(rt;
-        Fragment::from_rows(attributes).is_err(),
-        "the first and the last have one name"
-    );
-    let attributes = wide(rt.alloc(), Kind::Attribute, "n", 20_000)?;
-    assert!(rt; Fragment::from_rows(attributes).is_ok());
+    assert!(rt; Fragment::from_rows(attributes).is_err());
     Ok(())
 }
 
@@ -150,8 +122,10 @@ fn deep(alloc: Global, levels: u32) -> Result<Vec<NodeRow>, AllocError> {
 
 #[test]
 fn takes_a_hundred_levels(rt: HostRuntime) -> Result<(), AllocError> {
-    assert!(rt; Fragment::from_rows(deep(rt.alloc(), 100)?).is_ok());
-    assert!(rt; Fragment::from_rows(deep(rt.alloc(), 101)?).is_err());
+    for (levels, is_tree) in [(100, true), (101, false)] {
+        let rows = deep(rt.alloc(), levels)?;
+        assert_eq!(rt; Fragment::from_rows(rows).is_ok(), is_tree, "{levels}");
+    }
     assert!(rt; Fragment::from_rows(Vec::new(rt.alloc())).is_err());
     Ok(())
 }

@@ -1,0 +1,21 @@
+//! Tests of trees through the public calls: fragments, sources and lenders of their rows, the axes,
+//! constructors and printed results. They stand in a crate of their own, since a crate with tests is
+//! proved twice, and over trees in memory alone; `xq_rows_tests` has those over stores.
+#![tactic(auto)]
+
+#[cfg(test)]
+mod addresses;
+#[cfg(test)]
+mod attributes;
+#[cfg(test)]
+mod axes;
+#[cfg(test)]
+mod constructors;
+#[cfg(test)]
+mod content;
+#[cfg(test)]
+mod fragments;
+#[cfg(test)]
+mod parents;
+#[cfg(test)]
+mod sources;

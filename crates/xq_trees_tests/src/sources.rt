@@ -1,0 +1,36 @@
+//! The rows of two documents, read through each trait.
+
+use std::alloc::Global;
+use std::process::Abort;
+use xq_atoms::Want;
+use xq_samples::readings::{both, wrong_gift, wrong_loan};
+use xq_sources::{Buffered, RowLender, TreeSource};
+
+/// Asserts that the lender lends and counts the rows of both documents.
+fn lends_rows<L: RowLender>(rt: &impl Abort, alloc: Global, lender: &mut L) -> Result<(), Want> {
+    assert_eq!(rt; lender.trees(), 2);
+    assert_eq!(rt; wrong_loan(alloc, lender)?, None);
+    Ok(())
+}
+
+#[test]
+fn fragments_give_their_rows(rt: HostRuntime) -> Result<(), Want> {
+    let mut fragments = both(rt.alloc())?;
+    assert_eq!(rt; fragments.trees(), 2);
+    assert_eq!(rt; wrong_gift(rt.alloc(), &mut fragments)?, None);
+    Ok(())
+}
+
+#[test]
+fn fragments_lend_their_rows(rt: HostRuntime) -> Result<(), Want> {
+    let mut fragments = both(rt.alloc())?;
+    lends_rows(&rt, rt.alloc(), &mut fragments)
+}
+
+#[test]
+fn buffered_fragments_lend_their_rows(rt: HostRuntime) -> Result<(), Want> {
+    let mut buffered = Buffered::new(rt.alloc(), both(rt.alloc())?);
+    lends_rows(&rt, rt.alloc(), &mut buffered)?;
+    assert_eq!(rt; buffered.into_source().trees(), 2);
+    Ok(())
+}
