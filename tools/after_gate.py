@@ -109,8 +109,8 @@ def program_trials(given: Given) -> Iterator[Trial]:
     yield Trial("language", ["python3", "tools/check_language.py"])
     yield Trial("corpus", ["python3", str(given.corpus / "run_corpus.py"), "--server", server],
                 wants=queried)
-    yield Trial("read_back", ["python3", "tools/read_back.py", corpus, "--server", server],
-                wants=queried)
+    read_back = ["python3", "tools/corpus.py", "read-back", corpus, "--server", server]
+    yield Trial("read_back", read_back, wants=queried)
 
 
 def library_trials(given: Given) -> Iterator[Trial]:

@@ -1,31 +1,18 @@
-#!/usr/bin/env python3
 """Sends replies back as queries: each short reply has to give itself, over no documents.
 
-    tools/read_back.py CORPUS ..          tools/read_back.py ../shared/corpus/public.jsonl
-
-Each row of a corpus with an answer, `{"s": SET, "q": QUERY, "a": ANSWER}`, is asked over the
-documents of its set, as docs.jsonl beside the corpus has them. The text of a reply that fits a
-frame is then asked of a server that keeps nothing, and its reply has to be the same text.
-`--server COMMAND` names another server than the program of this repository. Status 1 where a reply
-is no query, or gives another text.
+Each row of a corpus with an answer is asked over the documents of its set. The text of a reply that
+fits a frame is then asked of a server that keeps nothing, and its reply has to be the same text.
 """
 
-import argparse
 import collections
-import json
 import os
 import shlex
 import sys
 
 import harness
+from corpora.lines import lines_of
 
 LONGEST = 1048576
-
-
-def rows(path):
-    """The rows of a file with one JSON value a line."""
-    with open(path, encoding="utf-8", newline="\n") as file:
-        return [json.loads(line) for line in file]
 
 
 def sets_of(paths):
@@ -33,8 +20,8 @@ def sets_of(paths):
     documents, queries = {}, collections.defaultdict(list)
     for path in paths:
         beside = os.path.join(os.path.dirname(path), "docs.jsonl")
-        documents.update((row["s"], row["docs"]) for row in rows(beside))
-        for row in rows(path):
+        documents.update((row["s"], row["docs"]) for row in lines_of(beside))
+        for row in lines_of(path):
             if "a" in row:
                 queries[row["s"]].append(row["q"])
     return [(documents[name], queries[name]) for name in sorted(queries)]
@@ -53,11 +40,12 @@ def answers(server, documents, queries):
         server.ask(b"D", address.encode())
 
 
-def main():
-    words = argparse.ArgumentParser(description=__doc__.splitlines()[0])
-    words.add_argument("corpus", nargs="+")
-    words.add_argument("--server")
-    given = words.parse_args()
+def add_options(parser):
+    parser.add_argument("corpus", nargs="+", metavar="CORPUS")
+    parser.add_argument("--server", metavar="COMMAND", help="in place of this repository's program")
+
+
+def run(given):
     command = shlex.split(given.server) if given.server else [harness.built()]
     server, empty = harness.Server(command), harness.Server(command)
     count = long = 0
@@ -71,7 +59,4 @@ def main():
             if again != (0, text):
                 sys.exit("%s\nanswers %s\nwhich reads back as %s" % (query, text[:400], again))
     print("%d replies give themselves; %d are longer than a frame" % (count, long))
-
-
-if __name__ == "__main__":
-    main()
+    return 0

@@ -1,11 +1,6 @@
-#!/usr/bin/env python3
-"""Has the checker compute queries of a corpus from the definitions of crates/xq_meaning.
+"""Has the prover compute the answers of a set of a corpus, from the definitions of xq_meaning.
 
-    tools/compute_corpus.py --corpus FOLDER SET [--most N]
-
-The folder has docs.jsonl, lines of JSON with a set as s and its documents by address as docs, and
-public.jsonl, lines with the set as s, the query as q and its answer as a or its code as e. Each
-query of the set, or of its first N, becomes a row of a crate in a workspace of its own, over
+Each query of the set, or of its first N, becomes a row of a crate in a workspace of its own, over
 copies of this repository's crates and what they have built. Queries that are refused before
 evaluation are left out: the definitions say nothing of them.
 
@@ -13,7 +8,6 @@ Prints the queries whose row is refused and those that pass the checker's limit 
 its line in public.jsonl, and last 'agree N of M'.
 """
 
-import argparse
 import json
 import os
 import re
@@ -21,6 +15,7 @@ import subprocess
 import sys
 import tempfile
 
+from corpora.lines import lines_of
 from rows import documents
 from rows.files import Row, file_of
 from rows.terms import meaning
@@ -38,15 +33,9 @@ COMPUTED = re.compile(r"computed as far as they go, the two types (.*)")
 PAST_LIMIT = "stopped at the step limit"
 
 
-def lines_of(folder, name):
-    """The values of a file of lines of JSON."""
-    with open(os.path.join(folder, name)) as file:
-        return [json.loads(line) for line in file]
-
-
 def documents_of(folder, wanted):
     """The documents of a set, by address."""
-    for line in lines_of(folder, "docs.jsonl"):
+    for line in lines_of(os.path.join(folder, "docs.jsonl")):
         if line["s"] == wanted:
             return line["docs"]
     sys.exit(f"no set {wanted} in {folder}")
@@ -66,7 +55,7 @@ def is_evaluated(line):
 
 def rows_of(folder, wanted):
     """The rows of a set, each named by its line."""
-    for count, line in enumerate(lines_of(folder, "public.jsonl"), 1):
+    for count, line in enumerate(lines_of(os.path.join(folder, "public.jsonl")), 1):
         if line["s"] == wanted and is_evaluated(line):
             answer = line["a"] if "a" in line else line["e"]
             yield Row(f"line_{count}", line["q"], answer, "a" not in line)
@@ -133,16 +122,13 @@ def told(fault):
     return f"differs ({computed.group(1)})" if computed else "differs"
 
 
-def options():
-    parser = argparse.ArgumentParser(description=__doc__.partition("\n")[0])
-    parser.add_argument("--corpus", required=True, metavar="FOLDER")
-    parser.add_argument("--most", type=int, metavar="N")
+def add_options(parser):
+    parser.add_argument("corpus", metavar="FOLDER", help="has docs.jsonl and public.jsonl")
     parser.add_argument("set", metavar="SET")
-    return parser.parse_args()
+    parser.add_argument("--most", type=int, metavar="N")
 
 
-def main():
-    given = options()
+def run(given):
     documents_by_address = documents_of(given.corpus, given.set)
     rows = list(rows_of(given.corpus, given.set))[:given.most]
     with tempfile.TemporaryDirectory() as folder:
@@ -153,7 +139,3 @@ def main():
             print("%s: %s: %s" % (row.name, told(faults[row.name]), query))
     print("agree %d of %d" % (len(rows) - len(faults), len(rows)))
     return 1 if faults else 0
-
-
-if __name__ == "__main__":
-    sys.exit(main())
