@@ -5,6 +5,7 @@ program, and compares what it prints.
 """
 
 import os
+import pathlib
 import shutil
 import subprocess
 import sys
@@ -31,11 +32,18 @@ def crates_below(uses):
 
 
 def begin(folder, crates, leave_out=("incremental", "must-fail")):
-    """Makes the folder a workspace of copies of the crates and those below, with what is built."""
+    """Makes the folder a workspace of copies of the crates and those below, with what is built.
+
+    What was built in the folder before stays, so that nothing is proved twice there."""
     crates = crates_below(crates)
     for crate in crates:
-        shutil.copytree(os.path.join(TOP, "crates", crate), os.path.join(folder, "crates", crate),
-                        ignore=shutil.ignore_patterns(*leave_out))
+        copy = pathlib.Path(folder, "crates", crate)
+        for part in copy.iterdir() if copy.exists() else ():
+            if part.name != "out":
+                shutil.rmtree(part)
+        also = ("out",) if (copy / "out").exists() else ()
+        shutil.copytree(os.path.join(TOP, "crates", crate), copy, dirs_exist_ok=True,
+                        ignore=shutil.ignore_patterns(*leave_out, *also))
     shutil.copy(os.path.join(TOP, "HANDLES"), folder)
     with open(os.path.join(folder, "crates.txt"), "w") as lines:
         lines.writelines(lines_of(crates))
@@ -51,14 +59,14 @@ def copy_proofs(source, target):
                         os.path.join(into, os.path.splitext(name)[0] + ".antt"))
 
 
-def built(folder, crates, uses, source, proofs=None):
+def built(folder, crates, uses, source, proofs=None, name="program"):
     """Proves and builds the program over copies of the crates in the folder; gives its path.
 
     The folder of proofs, where there is one, holds those of the program, in files that end in .txt:
     the gate reads each .antt file outside of a crate as one that was left there."""
     begin(folder, crates)
-    program = os.path.join(folder, "crates", "program")
-    os.makedirs(os.path.join(program, "src"))
+    program = os.path.join(folder, "crates", name)
+    os.makedirs(os.path.join(program, "src"), exist_ok=True)
     if proofs and os.path.isdir(proofs):
         copy_proofs(proofs, os.path.join(program, "proofs"))
     with open(os.path.join(program, "src", "main.rt"), "w") as main:
@@ -67,19 +75,24 @@ def built(folder, crates, uses, source, proofs=None):
         shutil.copy(os.path.join(TOP, "bench", "caches.rattle"),
                     os.path.join(program, "src", "caches.rt"))
     with open(os.path.join(folder, "crates.txt"), "a") as lines:
-        lines.write("program: %s\n" % " ".join(uses))
+        lines.write("%s: %s\n" % (name, " ".join(uses)))
     done = subprocess.run(["rt", "run"], cwd=program, input=b"", capture_output=True)
-    path = os.path.join(program, "out", "program")
+    path = os.path.join(program, "out", name)
     if done.returncode or not os.path.exists(path):
         sys.exit(done.stdout.decode() + done.stderr.decode())
     return path
 
 
 def bench_program(folder, name, uses):
-    """The path of the program of bench/NAME/main.rattle, built in the folder unless it is there."""
+    """The path of the program of bench/NAME/main.rattle, built in the folder unless it is there.
+
+    Where XQ_WORKSPACE names a folder, it is built there, beside the programs of other benchmarks
+    over the same libraries, and anew."""
+    shared = os.environ.get("XQ_WORKSPACE")
     path = os.path.join(folder, "crates", "program", "out", "program")
-    if os.path.exists(path):
+    if not shared and os.path.exists(path):
         return path
     bench = os.path.join(TOP, "bench", name)
     with open(os.path.join(bench, "main.rattle")) as source:
-        return built(folder, crates_below(uses), uses, source.read(), os.path.join(bench, "proofs"))
+        return built(shared or folder, crates_below(uses), uses, source.read(),
+                     os.path.join(bench, "proofs"), f"{name}_times" if shared else "program")

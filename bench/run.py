@@ -1,0 +1,63 @@
+#!/usr/bin/env python3
+"""Runs benchmarks, one after another, over one workspace: the libraries are proved once.
+
+    bench/run.py NAME ..      bench/run.py all      bench/run.py --list
+
+Those of the libraries are built in out/bench; those of the program take the one that `./serve` has
+proved, or that --server names. What each prints goes to standard output, below its name. Status 1
+where one fails or misses a bound of its own. Beside a gate, or after one: tools/over_gate.py CLONE
+python3 bench/run.py ..
+"""
+
+import argparse
+import os
+import pathlib
+import subprocess
+import sys
+
+BENCH = pathlib.Path(__file__).resolve().parent
+sys.path.insert(0, str(BENCH.parent / "tools"))
+from workspace import bench_program
+
+# Benchmarks of the libraries that are a script of their own, and those that are a program alone.
+OF_LIBRARIES = ("lexer", "parser", "statics", "plan", "build", "functions", "evaluation", "axes",
+                "memory", "stack")
+PROGRAMS = {"regions": ("xq_regions", "anyhow"),
+            "tuples": ("xq_atoms", "xq_regions", "xq_tuples", "anyhow")}
+# Benchmarks of the program; those that stop at --server take the proved one of this clone.
+OF_PROGRAM = ("queries", "many", "hostile")
+OF_CLONE = ("literal", "serve")
+NAMES = (*PROGRAMS, *OF_LIBRARIES, *OF_PROGRAM, *OF_CLONE)
+
+
+def command_of(name: str, server: str | None) -> list[str]:
+    """What runs the benchmark."""
+    if name in PROGRAMS:
+        return [bench_program("", name, PROGRAMS[name])]
+    words = [sys.executable, str(BENCH / f"{name}.py")]
+    return [*words, "--server", server] if server and name in OF_PROGRAM else words
+
+
+def main() -> int:
+    parser = argparse.ArgumentParser(description=__doc__.partition("\n")[0])
+    parser.add_argument("names", nargs="*", metavar="NAME", choices=[*NAMES, "all", []])
+    parser.add_argument("--list", action="store_true", help="prints the names")
+    parser.add_argument("--server", metavar="COMMAND")
+    given = parser.parse_args()
+    if given.list or not given.names:
+        print(*NAMES)
+        return 0
+    os.environ["XQ_WORKSPACE"] = str(BENCH.parent / "out" / "bench")
+    os.makedirs(os.environ["XQ_WORKSPACE"], exist_ok=True)
+    failed = []
+    for name in NAMES if "all" in given.names else given.names:
+        print(f"== {name}", flush=True)
+        if subprocess.run(command_of(name, given.server), cwd=BENCH.parent).returncode:
+            failed.append(name)
+    if failed:
+        print("failed:", *failed)
+    return 1 if failed else 0
+
+
+if __name__ == "__main__":
+    sys.exit(main())
