@@ -4,9 +4,9 @@
     tools/public_contracts.py OLD [NEW] [--rename A=B ..]     (NEW is the last commit if not given)
 
 A public function is a `pub fn` of a file below crates/*/src, outside tests and what they have in
-common; it is shown with its `requires` and `ensures`, white space folded. Words of OLD are renamed first. Crates and files do
-not count, so that what moved stays the same. Lines begin with `-` for OLD alone and `+` for NEW
-alone; the last line counts.
+common; it is shown with its `requires` and `ensures`, white space folded. Words of OLD are renamed
+first. Crates and files do not count, so that what moved stays the same. Lines begin with `-` for
+OLD alone and `+` for NEW alone; the last line counts.
 """
 
 import re
