@@ -249,8 +249,8 @@ fn wrong_row<L: RowLender>(
 }
 
 /// The number of the first table that does not hold over the lender, whose first tree is the
-/// library, and that of its first row which does not: ways, steps, what is below, tests, values, and
-/// the rows of a copy.
+/// library, and that of its first row which does not: ways, steps, what is below, tests, values,
+/// and the rows of a copy.
 pub fn first_wrong<L: RowLender>(
     alloc: Global,
     source: &mut L,

@@ -1,6 +1,6 @@
 //! Tests of trees through the public calls: fragments, sources and lenders of their rows, the axes,
-//! constructors and printed results. They stand in a crate of their own, since a crate with tests is
-//! proved twice, and over trees in memory alone; `xq_rows_tests` has those over stores.
+//! constructors and printed results. They stand in a crate of their own, since a crate with tests
+//! is proved twice, and over trees in memory alone; `xq_rows_tests` has those over stores.
 #![tactic(auto)]
 
 #[cfg(test)]
