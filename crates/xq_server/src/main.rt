@@ -75,19 +75,19 @@ fn print_help<R: Print>(rt: &R, text: &str) -> End {
 }
 
 fn serve_in_memory<R: Input + Print + AllocGlobal>(rt: &R) -> (u8, &'static str) {
-    let Ok(MemoryStore { store }) = MemoryStore::new(rt.alloc()) else {
+    let Ok(memory) = MemoryStore::new(rt.alloc()) else {
         return CANNOT_OPEN;
     };
-    let (store, end) = serve(rt, store);
+    let (store, end) = serve(rt, memory.into_store());
     let _ended = MemoryStore { store };
     outcome(end)
 }
 
 fn serve_file(rt: &HostRuntime, path: &str) -> (u8, &'static str) {
-    let Some(DiskStore { store }) = DiskStore::open(rt, path) else {
+    let Some(file) = DiskStore::open(rt, path) else {
         return CANNOT_OPEN;
     };
-    let (store, end) = serve(rt, store);
+    let (store, end) = serve(rt, file.into_store());
     let _is_closed = DiskStore { store }.close();
     outcome(end)
 }

@@ -16,9 +16,9 @@ pub struct MemoryServer {
 impl MemoryServer {
     /// A server without a document.
     pub fn new(alloc: Global) -> Result<MemoryServer, Want> {
-        let MemoryStore { store } = MemoryStore::new(alloc)?;
+        let memory = MemoryStore::new(alloc)?;
         Ok(MemoryServer {
-            server: Server::new(alloc, store),
+            server: Server::new(alloc, memory.into_store()),
         })
     }
 
@@ -48,9 +48,9 @@ pub struct FileServer {
 impl FileServer {
     /// The server over the file at a path.
     pub fn open(rt: &HostRuntime, path: &str) -> Option<FileServer> {
-        let DiskStore { store } = DiskStore::open(rt, path)?;
+        let file = DiskStore::open(rt, path)?;
         Some(FileServer {
-            server: Server::new(rt.alloc(), store),
+            server: Server::new(rt.alloc(), file.into_store()),
         })
     }
 

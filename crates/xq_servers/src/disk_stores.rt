@@ -1,4 +1,5 @@
 //! A store whose documents live in a file.
+ghost use Rattle.std.specs.Prelude.{◌≡◌};
 
 use crate::files::{absent_log, has_one_byte, remove_log};
 use sqlite::{Connection, FileFrom, FileStore, Unknown};
@@ -31,6 +32,14 @@ impl DiskStore {
                 None
             }
         }
+    }
+
+    /// Gives the store itself.
+    pub fn into_store(self) -> Store<FileStore<FileFrom<Unknown>>>
+        ensures { result ≡ self.store }
+    {
+        let DiskStore { store } = self;
+        store
     }
 
     /// Copies the log into the file, and says whether that could be done. A file whose log can't

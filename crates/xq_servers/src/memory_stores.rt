@@ -1,5 +1,5 @@
 //! A store whose documents live in memory.
-ghost use Rattle.std.specs.Prelude.{IfOk};
+ghost use Rattle.std.specs.Prelude.{◌≡◌, IfOk};
 ghost use Rattle.std.specs.FinMap.{empty};
 ghost use Rattle.sqlite.specs.Files.{over_files};
 ghost use Rattle.xq_rows.specs.Documents.{IsClean, IsOpen, StandsFor};
@@ -25,6 +25,14 @@ impl MemoryStore {
     {
         let store = Store::new_on_memory_disks(alloc)?;
         Ok(MemoryStore { store })
+    }
+
+    /// Gives the store itself.
+    pub fn into_store(self) -> Store<FileStore<MemoryDisk>>
+        ensures { result ≡ self.store }
+    {
+        let MemoryStore { store } = self;
+        store
     }
 }
 
