@@ -113,7 +113,8 @@ class Brokers:
             # In the foreground, as this process; it reads nothing.
             "RABBITMQ_ALLOW_INPUT": "1", "RABBITMQ_SERVER_START_ARGS": "-noinput",
             "RABBITMQ_SERVER_ADDITIONAL_ERL_ARGS":
-                "+S 2:2 +sbwt none +sbwtdcpu none +sbwtdio none",
+                "+S 2:2 +sbwt none +sbwtdcpu none +sbwtdio none "
+                "-kernel inet_dist_use_interface {127,0,0,1}",
             "ERL_EPMD_PORT": str(self._epmd_port), "ERL_EPMD_ADDRESS": "127.0.0.1",
         }
 

@@ -184,18 +184,31 @@ def main(words: Sequence[str]) -> int:
     return 1 if changed else 0
 
 
+def _pass_state(file: BinaryIO) -> None:
+    """Leaves a file that is a node's snapshot at its backup, and another one at its beginning."""
+    # (here, since snapshots stand on backups)
+    from xqs.cluster import snapshots
+
+    if file.readline() == snapshots.FORM:
+        file.seek(0)
+        snapshots.read_state(file)
+    else:
+        file.seek(0)
+
+
 def restore_main(words: Sequence[str]) -> int:
     """Carries out `xqs restore`."""
     parser = argparse.ArgumentParser(
         prog="xqs restore",
         parents=[connection_options()],
-        description="Stores the documents of a backup, and reads each back. The whole file is "
-        "judged before the first one is stored; other documents stay as they are.",
+        description="Stores the documents of a backup, or of a node's snapshot, and reads each back. "
+        "The whole file is judged before the first one is stored; other documents stay as they are.",
     )
     parser.add_argument("backup", type=Path)
     parser.add_argument("--replace", action="store_true", help="replace documents that are there")
     given = parser.parse_args(words)
     with connect(server_of(given)) as client, open(given.backup, "rb") as file:
+        _pass_state(file)
         try:
             count = restore(client, file, given.replace)
         except Refused as error:
