@@ -73,6 +73,7 @@ class NodesTest(unittest.IsolatedAsyncioTestCase):
     """Tests with a log in memory, `self.log`, and nodes over it."""
 
     async def asyncSetUp(self) -> None:
+        asyncio.get_running_loop().set_debug(False)
         self.folder = Path(tempfile.mkdtemp(prefix="xqs-nodes-"))
         self.log = MemoryLog()
         self.nodes: list[LocalNode] = []

@@ -85,7 +85,9 @@ class Running:
     process: subprocess.Popen[bytes]
     errors: Path
 
-    def run(self, words: list[str], errors: Path, environment: dict[str, str] | None = None) -> None:
+    def run(
+        self, words: list[str], errors: Path, environment: dict[str, str] | None = None
+    ) -> None:
         """Starts the command; what it says goes to a file."""
         self.errors = errors
         with errors.open("ab") as said:

@@ -7,7 +7,7 @@ from contextlib import suppress
 from pathlib import Path
 from unittest import mock
 
-from tests.histories import History, Write, faults
+from tests.histories import History, faults
 from tests.local_nodes import COUNT_UP, LocalNode, NodesTest, planted
 from xqs.cluster import control, snapshots
 from xqs.cluster.follower import Follower
@@ -36,8 +36,10 @@ class Frames(NodesTest):
 
     async def test_refusals_come_as_of_a_server(self) -> None:
         client = await self.client(await self.begun("a"))
-        for call, code in ((client.store("c", "1"), "prof:NOTDOC"), (client.drop("c"), "prof:ABSENT"),
-                           (client.query("1 +"), "XPST0003")):
+        for call, code in (
+            (client.store("c", "1"), "prof:NOTDOC"), (client.drop("c"), "prof:ABSENT"),
+            (client.query("1 +"), "XPST0003"),
+        ):
             with self.assertRaises(Refused) as raised:
                 await call
             self.assertEqual(raised.exception.code, code)
@@ -237,7 +239,7 @@ class Beginnings(NodesTest):
 
         def slow(*words: object, **others: object) -> int:
             asyncio.run_coroutine_threadsafe(client.store("total", COUNT_UP), loop).result(20)
-            return real(*words, **others)  # type: ignore[arg-type]
+            return real(*words, **others)  # type: ignore
 
         history.counted += 1
         with mock.patch.object(follower, "between", NoLock()), \

@@ -1,14 +1,16 @@
 """What a node computes and what it keeps in files, without an engine of logs."""
 
+import contextlib
 import io
 import json
 import random
+import shlex
 import unittest
-from pathlib import Path
 
 from tests.histories import History, Read, Write, faults
-from tests.support import FolderTest, ServerTest
-from xqs import Client
+from tests.support import FolderTest, ServerTest, file_server
+from xqs import Client, connect
+from xqs.backup import restore_main
 from xqs.cluster import addresses, batches, program, snapshots, sums
 from xqs.cluster.agreement import EVERY, Agreement, Differs, Report
 from xqs.cluster.batches import MAX_BYTES, MAX_ENTRIES, Batch, NoBatch
@@ -202,7 +204,8 @@ class States(unittest.TestCase):
 
     def test_what_is_none_is_refused(self) -> None:
         text = State("log", "p").to_json()
-        for wrong in ("", "[]", "{}", text.replace("-1", '"x"'), text.replace('"seen": {}', '"seen": 3')):
+        for wrong in ("", "[]", "{}", text.replace("-1", '"x"'),
+                      text.replace('"seen": {}', '"seen": 3')):
             with self.subTest(wrong=wrong), self.assertRaises(NoState):
                 State.of_json(wrong)
 
@@ -240,6 +243,14 @@ class Snapshots(ServerTest):
             self.server.drop(address)
         self.assertEqual(snapshots.restore(self.server, snapshot), 2)
         self.assertEqual(self.documents(self.server), before)
+
+    def test_a_snapshot_is_restored_as_a_backup_is(self) -> None:
+        words = file_server(self.folder / "y.db")
+        with contextlib.redirect_stderr(io.StringIO()) as said:
+            restore_main([str(self.path), "--server", shlex.join(words)])
+        self.assertIn("2 documents are restored", said.getvalue())
+        with connect(words) as other:
+            self.assertEqual(self.documents(other), self.documents(self.server))
 
     @staticmethod
     def documents(server: Client) -> dict[str, str]:
@@ -369,7 +380,8 @@ class Histories(unittest.TestCase):
         self.assertEqual(self.faults(self.map, dict(self.map)), [])
 
     def test_unequal_maps(self) -> None:
-        self.assertIn("node 1 has another b'total'", self.faults(self.map, self.node(b"total", b"4"))[0])
+        other = self.node(b"total", b"4")
+        self.assertIn("node 1 has another b'total'", self.faults(self.map, other)[0])
         self.assertEqual(len(self.faults(self.map, {})), 2)
 
     def test_a_lost_write_and_one_that_was_carried_out_twice(self) -> None:

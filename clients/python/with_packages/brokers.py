@@ -1,4 +1,4 @@
-"""Three brokers of RabbitMQ on loopback for tests: started, killed, stopped, and ended by their ids.
+"""Brokers of RabbitMQ on loopback for tests: started, killed, stopped, and ended by their ids.
 
 Each has its own ports, its own name and its own folder, and they share an epmd of their own, so
 that nothing of a broker which the system runs is touched.

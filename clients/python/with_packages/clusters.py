@@ -1,4 +1,4 @@
-"""Nodes as processes over brokers that run, writers and readers at them, and what becomes of them."""
+"""Nodes as processes over brokers that run, and writers and readers at them."""
 
 import asyncio
 import os

@@ -32,7 +32,7 @@ from tests.serving import Connection, store_body
 from xqs import connect
 from xqs.cluster.addresses import log_address
 from xqs.cluster.snapshots import judge
-from xqs.cluster.steps import STATUS
+from xqs.cluster.steps import NAMES, STATUS
 from xqs.errors import Closed, Wanting
 
 SECONDS = float(os.environ.get("XQS_TRIAL_SECONDS", "60"))
@@ -59,7 +59,8 @@ def setUpModule() -> None:
 class ClusterTest(unittest.IsolatedAsyncioTestCase):
     """Tests with a log of their own, and nodes that end with them."""
 
-    def setUp(self) -> None:
+    async def asyncSetUp(self) -> None:
+        asyncio.get_running_loop().set_debug(False)
         self.folder = Path(tempfile.mkdtemp(prefix="xqs-cluster-"))
         self.addCleanup(shutil.rmtree, self.folder, True)
         self.log = f"log-{self.id().rpartition('.')[2]}-{time.time():.0f}"
@@ -82,8 +83,11 @@ class ClusterTest(unittest.IsolatedAsyncioTestCase):
         """Ends a node, and looks at what it said in all its lives."""
         if node.lives:
             node.end()
+        outcome = self._outcome  # type: ignore[attr-defined]
         for said in sorted(self.folder.glob(f"{node.name}-*.said")):
             text = said.read_text()
+            if not outcome.success:
+                print(f"--- {said.name}\n{text}")
             self.assertNotIn("Traceback", text, text)
             self.assertNotIn("exception", text, text)
 
@@ -129,7 +133,8 @@ class Trial(ClusterTest):
         """Kills and stops brokers in turn, and nodes; then at random. How often each."""
         kinds = [self.kill_broker, self.stop_broker]
         plan = [(kind, number) for number in range(3) for kind in kinds]
-        plan += [(self.kill_node, 0), (self.kill_server, 1), (self.end_node, 1), (self.kill_node, 2)]
+        plan += [(self.kill_node, 0), (self.kill_server, 1), (self.end_node, 1),
+                 (self.kill_node, 2)]
         counts: dict[str, int] = {}
         for kind, number in self.endless(plan):
             await asyncio.sleep(self.chance.uniform(0.5, 2.0))
@@ -198,6 +203,9 @@ class Steps(ClusterTest):
                 await asyncio.gather(*work, return_exceptions=True)
                 await self.check(nodes, writers)
                 nodes[1].terminate()
+
+    async def test_all_steps_are_tried(self) -> None:
+        self.assertEqual(set(NAMES), {*MESSAGE_STEPS, *SNAPSHOT_STEPS, *FILE_STEPS})
 
     async def pass_step(self, node: RunningNode, step: str) -> None:
         """Has the node come to the step at which it ends."""

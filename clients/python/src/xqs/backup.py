@@ -201,8 +201,9 @@ def restore_main(words: Sequence[str]) -> int:
     parser = argparse.ArgumentParser(
         prog="xqs restore",
         parents=[connection_options()],
-        description="Stores the documents of a backup, or of a node's snapshot, and reads each back. "
-        "The whole file is judged before the first one is stored; other documents stay as they are.",
+        description="Stores the documents of a backup, or of a node's snapshot, and reads each "
+        "back. The whole file is judged before the first one is stored; other documents stay as "
+        "they are.",
     )
     parser.add_argument("backup", type=Path)
     parser.add_argument("--replace", action="store_true", help="replace documents that are there")

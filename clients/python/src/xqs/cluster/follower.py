@@ -35,7 +35,7 @@ VAIN_TRIES = 3
 FILE_FRAMES = FRAME_LIMIT - 10_000
 """Frames after which a server on a file is started again."""
 MEMORY_FRAMES = 600_000
-"""Frames after which a server in memory is: its documents have to be read by those that are left."""
+"""Frames after which one in memory is: its documents have to be read by those that are left."""
 
 
 class Halted(XqError):
@@ -67,7 +67,7 @@ class Follower:
 
     Between two messages, and never within one, `between` may be held: the documents are then those
     of `state`. `reading` has the reads of clients that the server was sent, `waits_since` the time
-    at which the wait for the next message began.
+    at which the wait for the next message began. While `is_reporting` it reports its sums.
     """
 
     def __init__(self, given: Given, log: Log, outbox: Outbox, reads: "Reads",
@@ -81,7 +81,7 @@ class Follower:
         self.between = asyncio.Lock()
         self.reading: set[Request] = set()
         self.halted = ""
-        self.is_ready = self.is_ended = self.is_done = False
+        self.is_ready = self.is_ended = self.is_done = self.is_reporting = False
         self.waits_since: float | None = None
         self._backend: Backend | None = None
         self._ends: dict[int, int] = {}
@@ -312,7 +312,8 @@ class Follower:
         self.state.total = sums.after(self.state.total, entry, reply)
         if report := self.agreement.reached(self.state.place, self.state.total):
             self.state.reports = self.agreement.sums
-            self._outbox.post(report.entry())
+            if self.is_reporting:
+                self._outbox.post(report.entry())
         return reply
 
     def _hear(self, entry: bytes) -> None:
@@ -360,9 +361,7 @@ class Follower:
 
         XqError where this server can't take one.
         """
-        folder = self._given.snapshots
-        if folder is None:
-            raise XqError("the node has no folder for snapshots (--snapshots)")
+        folder = self._folder()
         async with self.between:
             if self.halted or not self.is_ready:
                 raise XqError(f"{self.name} does not follow the log")
@@ -370,6 +369,11 @@ class Follower:
                 self.backend, lambda it: snapshots.write(it, self.state, folder))
             await asyncio.to_thread(snapshots.remove_old, folder)
             return f"{path}: {count} documents of {self.state}"
+
+    def _folder(self) -> Path:
+        if self._given.snapshots is None:
+            raise XqError("the node has no folder for snapshots (--snapshots)")
+        return self._given.snapshots
 
     async def end(self) -> None:
         """Ends the server in order, and notes beside its file where it stands."""

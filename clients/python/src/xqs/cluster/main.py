@@ -129,8 +129,9 @@ def main(words: Sequence[str]) -> int:
     if folder is not None:
         folder.mkdir(parents=True, exist_ok=True)
     else:
-        say("it takes no snapshots (--snapshots): it begins at the log's beginning at each start"
-            + (" that follows no end in order" if file else ""))
+        say("without --snapshots each start "
+            + ("after an end that was not in order " if file else "")
+            + "carries out the log from its beginning")
     options = Options(
         given.name, command, given.program or name_of(command), given.servers,
         pathlib.Path(file) if file else None, folder, given.every, given.seconds, given.fresh)

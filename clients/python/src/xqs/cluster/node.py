@@ -107,6 +107,8 @@ class Node:
             failed.cancel()
             if mark.done.done() and not mark.done.exception():
                 self._is_caught_up = True
+                for follower in self.followers:
+                    follower.is_reporting = True
                 return
             if not self.failed.is_set():
                 self._say("waits for the log")
@@ -150,6 +152,7 @@ class Node:
         try:
             if self._options.snapshots and is_first:
                 self._say(await follower.take_snapshot())
+                self._snapshot_place = follower.state.place
         except (XqError, OSError, ValueError) as error:
             self._say(f"no snapshot: {error}")
         if all(it.is_done or it.halted for it in self.followers):

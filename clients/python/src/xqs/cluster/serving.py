@@ -1,4 +1,4 @@
-"""Requests that a node itself sends to its server: entries of the log, and a client's of its own."""
+"""Requests that a node itself sends to its server: entries of the log, and those of a client."""
 
 import asyncio
 import dataclasses
