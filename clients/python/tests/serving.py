@@ -1,5 +1,6 @@
 """What the tests of the multiplexer stand on: one that runs, and connections to it."""
 
+import ctypes
 import os
 import signal
 import socket
@@ -14,6 +15,7 @@ from tests.support import server_command
 
 SOURCES = Path(__file__).resolve().parents[1] / "src"
 PATIENCE = 30.0
+PR_SET_PDEATHSIG = 1
 # A query that takes hours and little memory.
 ENDLESS = b"every $x in 1 to 1000000, $y in 1 to 1000000 satisfies $x > 0"
 
@@ -79,6 +81,11 @@ class Connection:
         self.socket.close()
 
 
+def die_with_parent() -> None:
+    """Has the process of which this is called be killed when the test's ends, however it does."""
+    ctypes.CDLL(None).prctl(PR_SET_PDEATHSIG, signal.SIGKILL)
+
+
 class Running:
     """A command of the package that runs, and what it says."""
 
@@ -93,7 +100,8 @@ class Running:
         with errors.open("ab") as said:
             self.process = subprocess.Popen(
                 [sys.executable, "-m", "xqs", *words], cwd=SOURCES, stdin=subprocess.DEVNULL,
-                stdout=said, stderr=said, env=os.environ | (environment or {}))
+                stdout=said, stderr=said, env=os.environ | (environment or {}),
+                preexec_fn=die_with_parent)
 
     def said(self) -> str:
         """What the command and its servers have said so far."""

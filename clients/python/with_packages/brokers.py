@@ -15,9 +15,11 @@ import unittest
 from contextlib import suppress
 from pathlib import Path
 
+from tests.serving import die_with_parent
+
 SCRIPT = "/usr/lib/rabbitmq/bin/rabbitmq-server"
 """The package's own script; that on the path asks for its user and its folders."""
-PATIENCE = 120.0
+PATIENCE = 300.0
 """Seconds for a broker to begin, on a machine that has other work."""
 NAMES = ("a", "b", "c")
 
@@ -55,7 +57,8 @@ class Brokers:
         self._write_files()
         self._epmd = subprocess.Popen(
             ["epmd", "-port", str(epmd), "-address", "127.0.0.1"], stdin=subprocess.DEVNULL,
-            stdout=subprocess.DEVNULL, stderr=subprocess.DEVNULL, start_new_session=True)
+            stdout=subprocess.DEVNULL, stderr=subprocess.DEVNULL, start_new_session=True,
+            preexec_fn=die_with_parent)
 
     def _write_files(self) -> None:
         cookie = self.folder / ".erlang.cookie"
@@ -96,7 +99,8 @@ class Brokers:
         with open(folder / "output", "ab") as output:
             self._processes[name] = subprocess.Popen(
                 [SCRIPT], cwd=folder, env=self._environment(name), stdin=subprocess.DEVNULL,
-                stdout=output, stderr=output, start_new_session=True)
+                stdout=output, stderr=output, start_new_session=True,
+                preexec_fn=die_with_parent)
 
     def _environment(self, name: str) -> dict[str, str]:
         folder = self.folder / name

@@ -4,9 +4,7 @@ import argparse
 import asyncio
 import contextlib
 import dataclasses
-import pathlib
 import signal
-import socket
 import sys
 from collections.abc import Sequence
 
@@ -114,10 +112,7 @@ async def run(place: str, command: Sequence[str], settings: Settings) -> int:
     hurried = asyncio.create_task(multiplexer.abandon_when(again))
     try:
         listener = listening.listen(place)
-        with contextlib.ExitStack() as stack:
-            if listener.family == socket.AF_UNIX:
-                identity = listening.identity_of(pathlib.Path(listener.getsockname()))
-                stack.callback(listening.remove, listener, identity)
+        with listening.removed_at_end(listener):
             server = await asyncio.start_server(multiplexer.serve, sock=listener)
             say(f"listens at {listening.name_of(listener)}")
             await until_signal(multiplexer.failed, again)

@@ -51,9 +51,10 @@ async def run(address: LogAddress, place: str, options: Options, settings: Setti
         await node.abandon()
         raise
     finally:
-        await log.close()
         for helper in helpers:
             helper.cancel()
+        await asyncio.gather(*helpers, return_exceptions=True)
+        await log.close()
     return node.status
 
 
@@ -61,7 +62,8 @@ async def _serve(node: Node, place: str, options: Options, again: asyncio.Event)
     """Begins, and then takes clients, until a signal or until the node ends by itself."""
     listener = listening.listen(place)
     with contextlib.ExitStack() as stack:
-        _keep(listener, stack)
+        stack.callback(listener.close)
+        stack.enter_context(listening.removed_at_end(listener))
         ended = asyncio.create_task(mux.until_signal(node.failed, again))
         starting = asyncio.create_task(node.start())
         try:
@@ -85,19 +87,11 @@ async def _take_clients(
     if options.snapshots:
         path = control.control_path(options.snapshots)
         asked = listening.listen_unix(str(path))
-        _keep(asked, stack)
+        stack.enter_context(listening.removed_at_end(asked))
         actions = {"snapshot": node.take_snapshot, "end": node.end_all}
         controls = await asyncio.start_unix_server(partial(control.serve, actions), sock=asked)
         stack.callback(controls.close)
     say(f"follows the log, and listens at {listening.name_of(listener)}")
-
-
-def _keep(listener: socket.socket, stack: contextlib.ExitStack) -> None:
-    """Has the socket closed, and its file removed, at the end."""
-    stack.callback(listener.close)
-    if listener.family == socket.AF_UNIX:
-        identity = listening.identity_of(pathlib.Path(listener.getsockname()))
-        stack.callback(listening.remove, listener, identity)
 
 
 def _on_fault(loop: asyncio.AbstractEventLoop, context: dict[str, object]) -> None:
