@@ -215,7 +215,7 @@ class Beginnings(NodesTest):
         node = await self.filled()
         before = await self.documents(node)
         old = node.node.followers[0].backend
-        with mock.patch("xqs.cluster.follower.MEMORY_FRAMES", old.frames):
+        with mock.patch("xqs.cluster.upkeep.MEMORY_FRAMES", old.frames):
             await self.until(lambda: node.node.followers[0].backend is not old)
         self.assertEqual(await self.documents(node), before)
         self.assertIsNone(node.node.followers[0].halted or None)

@@ -110,21 +110,18 @@ class Writer:
 
     async def work(self, until: float, is_fresh: bool = False) -> None:
         """Writes and reads up to that time."""
-        client = await self._node.connect()
         while time.monotonic() < until and not self.faults:
+            client = await self._node.connect()
             try:
-                await asyncio.wait_for(self._step(client, is_fresh), 60)
+                while time.monotonic() < until:
+                    await asyncio.wait_for(self._step(client, is_fresh), 60)
             except (Closed, TimeoutError, OSError):
-                client = await self._again(client)
+                pass
             except XqError as error:
                 self.faults.append(f"{self.name}: {error}")
-        with suppress(OSError, XqError):
-            await client.close()
-
-    async def _again(self, client: AsyncClient) -> AsyncClient:
-        with suppress(OSError, XqError, TimeoutError):
-            await asyncio.wait_for(client.close(), 5)
-        return await self._node.connect()
+            finally:
+                with suppress(OSError, XqError, TimeoutError):
+                    await asyncio.wait_for(client.close(), 5)
 
     async def _step(self, client: AsyncClient, is_fresh: bool) -> None:
         choice = self._chance.randrange(10)

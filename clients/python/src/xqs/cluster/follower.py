@@ -1,9 +1,8 @@
 """One server that carries out the log: where it begins, each message, where it stops."""
 
 import asyncio
-import tempfile
-from collections.abc import Callable, Sequence
-from contextlib import aclosing
+from collections.abc import Callable, Iterator, Sequence
+from contextlib import aclosing, contextmanager
 from dataclasses import dataclass
 from pathlib import Path
 from typing import TYPE_CHECKING
@@ -21,7 +20,7 @@ from xqs.cluster.store_file import StoreFile
 from xqs.errors import XqError
 from xqs.mux_backend import Backend, StartFailed
 from xqs.mux_peer import Request
-from xqs.protocol import FRAME_LIMIT, Status
+from xqs.protocol import Status
 
 if TYPE_CHECKING:
     from xqs.cluster.reads import Reads
@@ -32,10 +31,6 @@ START_DELAYS = (0.0, 0.1, 0.5, 1.0, 2.0)
 """Seconds before each try to start the server again; after the last the follower gives up."""
 VAIN_TRIES = 3
 """So many servers in turn may end at one entry; then it is left to whoever looks at it."""
-FILE_FRAMES = FRAME_LIMIT - 10_000
-"""Frames after which a server on a file is started again."""
-MEMORY_FRAMES = 600_000
-"""Frames after which one in memory is: its documents have to be read by those that are left."""
 
 
 class Halted(XqError):
@@ -72,7 +67,7 @@ class Follower:
 
     def __init__(self, given: Given, log: Log, outbox: Outbox, reads: "Reads",
                  say: Callable[[str], None]) -> None:
-        self._given = given
+        self.given = given
         self._log = log
         self._outbox = outbox
         self._reads = reads
@@ -89,7 +84,7 @@ class Follower:
     @property
     def name(self) -> str:
         """How messages call it."""
-        return self._given.name
+        return self.given.name
 
     @property
     def backend(self) -> Backend:
@@ -102,10 +97,10 @@ class Follower:
 
         Raises StartFailed, CannotFollow, NotOurs, and errors of a restore.
         """
-        file = self._given.file
+        file = self.given.file
         state = await asyncio.to_thread(file.begin) if file else None
         snapshot = None if state else await self._newest()
-        self._backend = await Backend.start(self._given.command, self._on_reply, None)
+        self._backend = await self.start_server()
         try:
             if snapshot:
                 found = snapshot
@@ -117,25 +112,35 @@ class Follower:
         except BaseException:
             self.backend.kill()
             raise
-        self.agreement = Agreement(self.name, self._given.program, self.state.reports)
+        self.agreement = Agreement(self.name, self.given.program, self.state.reports)
+        self.is_ready = True
+        self._reads.changed()
+
+    async def start_server(self) -> Backend:
+        """Another process of this server's command. Raises StartFailed."""
+        return await Backend.start(self.given.command, self._on_reply, None)
+
+    def go_on_with(self, backend: Backend) -> None:
+        """Puts a process with the same documents into the place of the one that was there."""
+        self._backend = backend
         self.is_ready = True
         self._reads.changed()
 
     def _nothing(self) -> State:
-        return State(self._log.name, self._given.program)
+        return State(self._log.name, self.given.program)
 
     async def _newest(self) -> Snapshot | None:
-        folder = self._given.snapshots
+        folder = self.given.snapshots
         return await asyncio.to_thread(snapshots.newest, folder, self._say) if folder else None
 
     def _checked(self, state: State) -> State:
         """A state to begin from. Another program may go on from there, where all nodes change."""
         if state.log != self._log.name:
             raise CannotFollow(f"the documents are of the log {state.log}, not {self._log.name}")
-        if state.program != self._given.program:
-            self._say(f"{self.name}: the program {self._given.program} goes on at {state}, where "
+        if state.program != self.given.program:
+            self._say(f"{self.name}: the program {self.given.program} goes on at {state}, where "
                       f"{state.program} came to")
-            state.program, state.reports = self._given.program, {}
+            state.program, state.reports = self.given.program, {}
         return state
 
     async def run(self) -> None:
@@ -163,7 +168,8 @@ class Follower:
                 await asyncio.gather(following, ended, return_exceptions=True)
             async with self.between:
                 if self.backend.ended.is_set() and not self.halted:
-                    await self._begin_again()
+                    with self._working():
+                        await self._begin_again()
 
     async def rest(self) -> None:
         """Waits until the server ends that no longer follows the log; then nothing is left to
@@ -231,16 +237,27 @@ class Follower:
                 async with aclosing(self._log.messages(self.state.offset)) as messages:
                     self._wait_begins()
                     async for offset, message in messages:
-                        self.waits_since = None
-                        async with self.between:
-                            await self._take(offset, message)
-                        self._wait_begins()
+                        with self._working():
+                            async with self.between:
+                                await self._take(offset, message)
             except Away:
                 self.waits_since = None
                 await asyncio.sleep(AGAIN)
 
     def _wait_begins(self) -> None:
         self.waits_since = asyncio.get_running_loop().time()
+
+    @contextmanager
+    def _working(self) -> Iterator[None]:
+        """This server has something to carry out: what waits, waits for it and not for the log."""
+        self.waits_since = None
+        self._outbox.busy += 1
+        try:
+            yield
+        finally:
+            self._outbox.busy -= 1
+            self._outbox.stir()
+            self._wait_begins()
 
     async def _check_end(self) -> None:
         """That the log goes as far as this follower has come; else it is another one."""
@@ -319,61 +336,12 @@ class Follower:
     def _hear(self, entry: bytes) -> None:
         """Takes a report of another node, or an end. Raises Differs, CannotFollow."""
         program = entry[1:].decode(errors="replace")
-        if entry[:1] == EntryKind.END and program != self._given.program:
+        if entry[:1] == EntryKind.END and program != self.given.program:
             raise CannotFollow(f"all nodes ended here that ran the program {program}, and this is "
-                               f"{self._given.program}: begin from a snapshot of this place")
+                               f"{self.given.program}: begin from a snapshot of this place")
         report = Report.of(entry) if entry[:1] == EntryKind.REPORT else None
         if report and (said := self.agreement.hear(report)):
             self._say(said)
-
-    def wants_renewal(self) -> bool:
-        """Whether the server has answered so many frames that it is to be started again."""
-        limit = FILE_FRAMES if self._given.file else MEMORY_FRAMES
-        return self.is_ready and self.backend.frames >= limit
-
-    async def renew(self) -> None:
-        """Starts the server again between two messages, with the documents that it has."""
-        async with self.between:
-            old = self.backend
-            if self._given.file:
-                self.is_ready = False
-                await old.finish()
-                self._backend = await Backend.start(self._given.command, self._on_reply, None)
-                self.is_ready = True
-            else:
-                self._backend = await self._copied(old)
-                self._reads.changed()
-                await old.finish()
-        self._reads.changed()
-
-    async def _copied(self, old: Backend) -> Backend:
-        """A server in memory that has the documents of another one."""
-        with tempfile.TemporaryDirectory(prefix="xqs-node-") as room:
-            folder = Path(room)
-            await with_client(old, lambda it: snapshots.write(it, self.state, folder))
-            new = await Backend.start(self._given.command, self._on_reply, None)
-            snapshot = Snapshot(snapshots.path_of(folder, self.state.offset), self.state)
-            await with_client(new, lambda it: snapshots.restore(it, snapshot))
-        return new
-
-    async def take_snapshot(self) -> str:
-        """Takes a snapshot between two messages; what is to be said of it.
-
-        XqError where this server can't take one.
-        """
-        folder = self._folder()
-        async with self.between:
-            if self.halted or not self.is_ready:
-                raise XqError(f"{self.name} does not follow the log")
-            path, count = await with_client(
-                self.backend, lambda it: snapshots.write(it, self.state, folder))
-            await asyncio.to_thread(snapshots.remove_old, folder)
-            return f"{path}: {count} documents of {self.state}"
-
-    def _folder(self) -> Path:
-        if self._given.snapshots is None:
-            raise XqError("the node has no folder for snapshots (--snapshots)")
-        return self._given.snapshots
 
     async def end(self) -> None:
         """Ends the server in order, and notes beside its file where it stands."""
@@ -381,8 +349,8 @@ class Follower:
             return
         self.is_ready = False
         await self.backend.finish()
-        if self._given.file and not self.halted and self.backend.process.returncode == 0:
-            await asyncio.to_thread(self._given.file.end, self.state)
+        if self.given.file and not self.halted and self.backend.process.returncode == 0:
+            await asyncio.to_thread(self.given.file.end, self.state)
 
     def abandon(self) -> None:
         """Ends the server at once."""

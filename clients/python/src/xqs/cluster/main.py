@@ -152,8 +152,8 @@ def _parser() -> argparse.ArgumentParser:
     option("--servers", type=mux.positive, default=1, metavar="N",
            help="servers of this node, so that so many reads run side by side (%(default)s)")
     option("--seconds", type=mux.duration, default=Options.seconds, metavar="S",
-           help="how long a store or drop waits for the log before its client's stream is ended, "
-           "which says that it is unknown (%(default)g)")
+           help="how long a store or drop waits while nothing comes from the log, before its "
+           "client's stream is ended, which says that it is unknown (%(default)g)")
     option("--fresh", action="store_true",
            help="each read sees all that the log held when it was asked")
     option("--program", metavar="TEXT",

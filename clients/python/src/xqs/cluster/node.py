@@ -15,6 +15,7 @@ from xqs.cluster.log import Log
 from xqs.cluster.outbox import Outbox, Pending, Unknown
 from xqs.cluster.reads import WANTING_STORE, Reads
 from xqs.cluster.store_file import StoreFile
+from xqs.cluster.upkeep import renew, take_snapshot, wants_renewal
 from xqs.errors import XqError
 from xqs.mux_clients import Clients, Settings
 from xqs.mux_peer import Peer, Request
@@ -151,7 +152,7 @@ class Node:
         follower.is_done = True
         try:
             if self._options.snapshots and is_first:
-                self._say(await follower.take_snapshot())
+                self._say(await take_snapshot(follower))
                 self._snapshot_place = follower.state.place
         except (XqError, OSError, ValueError) as error:
             self._say(f"no snapshot: {error}")
@@ -220,7 +221,7 @@ class Node:
         able = [it for it in self.followers if it.is_ready and not it.halted]
         if not able:
             raise XqError("no server of this node follows the log")
-        said = await able[0].take_snapshot()
+        said = await take_snapshot(able[0])
         self._snapshot_place = able[0].state.place
         return said
 
@@ -230,8 +231,8 @@ class Node:
             await asyncio.sleep(LOOK)
             try:
                 for follower in self.followers:
-                    if follower.wants_renewal():
-                        await follower.renew()
+                    if wants_renewal(follower):
+                        await renew(follower)
                 if self._is_snapshot_due():
                     self._say(await self.take_snapshot())
             except (XqError, OSError, ValueError) as error:
@@ -275,7 +276,7 @@ class Node:
     async def _end(self, follower: Follower) -> None:
         try:
             if follower is self.followers[0] and self._wants_last_snapshot(follower):
-                self._say(await follower.take_snapshot())
+                self._say(await take_snapshot(follower))
             await follower.end()
         except (XqError, OSError, ValueError) as error:
             self._say(f"{follower.name}: {error}")

@@ -9,7 +9,7 @@ from xqs.cluster.log import Away, Log
 from xqs.cluster.steps import passed
 from xqs.errors import XqError
 
-IN_FLIGHT = 3
+IN_FLIGHT = 1
 """So many messages may wait for their confirmations; entries that come meanwhile share the next."""
 HELD_BYTES = 64 << 20
 """So many bytes of entries are on their way at once; clients with more of them wait."""
@@ -50,9 +50,10 @@ class Outbox:
     """The entries of one sender, which are numbered from 1 and sent in that order.
 
     They are sent again after each loss of the connection and each gap that is seen in the log, and
-    whoever follows leaves out what comes twice. An entry that was not answered for `seconds` is
-    given up: its client is told that it is unknown, and where it is sent once more, a mark stands
-    in its place.
+    whoever follows leaves out what comes twice. An entry is given up when it was not answered for
+    `seconds`, and the log brought nothing in that time that servers of this node had to carry out,
+    as they say by `stir` and `busy`: its client is told that it is unknown, and where it is sent
+    once more, a mark stands in its place.
     """
 
     def __init__(self, sender: str, log: Log, seconds: float) -> None:
@@ -68,6 +69,8 @@ class Outbox:
         self._work = asyncio.Event()
         self._free = asyncio.Semaphore(IN_FLIGHT)
         self._sends: set[asyncio.Task[None]] = set()
+        self._stirred = 0.0
+        self.busy = 0
 
     def __len__(self) -> int:
         return len(self._pending)
@@ -156,11 +159,19 @@ class Outbox:
         finally:
             self._free.release()
 
+    def stir(self) -> None:
+        """Something of the log was carried out: the wait for what is behind it begins anew."""
+        self._stirred = time.monotonic()
+
     async def _sweep(self) -> None:
         while True:
             await asyncio.sleep(SWEEP)
+            if self.busy:
+                self.stir()
             now = time.monotonic()
-            while self._due and (self._due[0].done.done() or self._due[0].until < now):
+            is_silent = now - self._stirred > self._seconds
+            while self._due and (self._due[0].done.done()
+                                 or is_silent and self._due[0].until < now):
                 self._give_up(self._due.popleft())
 
     def give_up_all(self) -> None:
