@@ -77,11 +77,11 @@ class Brokers:
     def _node(self, name: str) -> str:
         return f"{name}{self._epmd_port}@localhost"
 
-    def address(self, log: str, first: int = 0) -> str:
+    def address(self, log: str, first: int = 0, account: str = "guest:guest") -> str:
         """What `xqs node --log` takes for a log; another broker first for each node."""
         names = self.names[first:] + self.names[:first]
         hosts = [f"127.0.0.1:{self.ports[name]}" for name in names]
-        return f"amqp://guest:guest@{hosts[0]}/{log}" + "".join(f",{it}" for it in hosts[1:])
+        return f"amqp://{account}@{hosts[0]}/{log}" + "".join(f",{it}" for it in hosts[1:])
 
     def start_all(self) -> None:
         """Starts all, the first one alone, so that the others find it."""

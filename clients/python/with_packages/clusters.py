@@ -35,15 +35,17 @@ class RunningNode(Running):
     """A node, which keeps its name, its place and its folders over its lives."""
 
     def __init__(self, name: str, brokers: Brokers, log: str, folder: Path, *options: str,
-                 first: int = 0, command: Sequence[str] = ()) -> None:
+                 first: int = 0, command: Sequence[str] = (),
+                 account: str = "guest:guest") -> None:
         self.name = name
         self.place = f"unix:{folder}/{name}.sock"
         self.snapshots = folder / f"snapshots-{name}"
         self.snapshots.mkdir(exist_ok=True)
         self._folder = folder
         self._words = [
-            "node", "--log", brokers.address(log, first), "--listen", self.place, "--name", name,
-            "--snapshots", str(self.snapshots), *options, "--", *(command or server_command())]
+            "node", "--log", brokers.address(log, first, account), "--listen", self.place,
+            "--name", name, "--snapshots", str(self.snapshots), *options, "--",
+            *(command or server_command())]
         self.lives = 0
 
     def begin(self, end_at: str = "", is_awaited: bool = True) -> None:

@@ -6,6 +6,7 @@
 import asyncio
 import os
 import random
+import shlex
 import shutil
 import signal
 import struct
@@ -28,7 +29,8 @@ from brokers import Brokers, missing
 from clusters import SHARED, RunningNode, Writer, all_taken, value
 from tests.histories import History, faults
 from tests.local_nodes import planted
-from tests.serving import Connection, store_body
+from tests.serving import Connection, RunningMux, store_body
+from tests.support import TOP
 from xqs import connect
 from xqs.cluster.addresses import log_address
 from xqs.cluster.snapshots import judge
@@ -261,6 +263,22 @@ class Logs(ClusterTest):
         late.begin()
         self.assertEqual(await late.documents(), await node.documents())
 
+    async def test_an_account_with_the_permissions_of_the_page_is_enough(self) -> None:
+        page = (TOP / "docs" / "CLUSTER.md").read_text()
+        [line] = [it for it in page.splitlines() if "set_permissions" in it]
+        words = shlex.split(line.replace("docs", self.log))[1:]
+        brokers.control("a", "add_user", "xqs", "a-word")
+        self.addCleanup(brokers.control, "a", "delete_user", "xqs")
+        brokers.control("a", *words)
+        node = self.begun("n1", account="xqs:a-word")
+        async with await node.connect() as client:
+            self.assertFalse(await client.store("c", value(1)))
+        self.assertNotIn("a-word", node.said())
+        other = self.made("n2", account="xqs:another")
+        other.begin(is_awaited=False)
+        await asyncio.to_thread(other.wait_for, "no log at 127.0.0.1")
+        self.assertNotIn("another", other.said())
+
     async def declare_small(self) -> None:
         """Makes the log, with small segments of which few are kept."""
         where = log_address(brokers.address(self.log))
@@ -399,8 +417,12 @@ class Clients(ClusterTest):
         except (OSError, AssertionError, struct.error) as error:
             failures.append(f"{number}: {error!r}")
 
-    async def test_the_package_and_the_multiplexer_work_over_a_node(self) -> None:
+    async def test_clients_for_threads_and_the_multiplexer_work_over_a_node(self) -> None:
         node = self.begun("n1")
+        if shutil.which("socat"):
+            through = ["socat", "STDIO", f"UNIX-CONNECT:{node.place.removeprefix('unix:')}"]
+            with RunningMux(on_file=False, command=through) as mux, mux.connect() as client:
+                self.assertEqual(client.ask(b"Q", b"1 + 1"), (0, b"2"))
 
         def work() -> list[str]:
             with connect(node.place) as client:
