@@ -15,8 +15,10 @@ import tempfile
 import threading
 import time
 import unittest
+from collections.abc import Awaitable, Callable, Iterator
 from contextlib import suppress
 from pathlib import Path
+from typing import TypeAlias
 
 import tests  # noqa: F401 (puts the package on the path)
 
@@ -45,6 +47,9 @@ FILE_STEPS = ("file ended", "file noted")
 SNAPSHOT_STEPS = ("snapshot begun", "snapshot written", "snapshot named")
 MESSAGE_STEPS = ("received", "decoded", "sent", "replied", "noted", "answered", "taken",
                  "acknowledged", "published", "confirmed")
+
+Fault: TypeAlias = tuple[Callable[[int], Awaitable[None]], int]
+"""What is done to a broker or a node, and to which."""
 
 if why := missing():
     raise unittest.SkipTest(why)
@@ -132,36 +137,45 @@ class Trial(ClusterTest):
         print(f"{SECONDS:g} s, seed {SEED}: {await self.check(self.nodes, writers)}; {done}")
 
     async def trouble(self, until: float) -> str:
-        """Kills and stops brokers in turn, and nodes; then at random. How often each."""
-        kinds = [self.kill_broker, self.stop_broker]
-        plan = [(kind, number) for number in range(3) for kind in kinds]
-        plan += [(self.kill_node, 0), (self.kill_server, 1), (self.end_node, 1),
-                 (self.kill_node, 2)]
+        """One fault after the other: each broker killed and stopped in turn, nodes and their
+        servers between; then what chance says. How often each."""
+        plan: list[Fault] = [
+            (self.kill_broker, 0), (self.kill_node, 0), (self.stop_broker, 1),
+            (self.kill_server, 1), (self.kill_broker, 2), (self.end_node, 1),
+            (self.stop_broker, 0), (self.kill_node, 2), (self.kill_broker, 1),
+            (self.kill_server, 2), (self.stop_broker, 2), (self.kill_node, 1)]
         counts: dict[str, int] = {}
         for kind, number in self.endless(plan):
-            await asyncio.sleep(self.chance.uniform(0.5, 2.0))
+            await asyncio.sleep(self.chance.uniform(0.2, 1.5))
             if time.monotonic() > until - STOPPED - 4:
                 break
             await kind(number)
-            name = kind.__name__.replace("_", " ")
+            name = f"{kind.__name__.replace('_', ' ')} {number}"
             counts[name] = counts.get(name, 0) + 1
-        return ", ".join(f"{name}: {count}" for name, count in counts.items())
+        await self.all_brokers()
+        return ", ".join(f"{name}: {count}" for name, count in sorted(counts.items()))
 
-    def endless(self, plan):  # type: ignore[no-untyped-def]
+    def endless(self, plan: list[Fault]) -> Iterator[Fault]:
         """The plan, and then what chance says."""
         yield from plan
         while True:
             kind, _ = self.chance.choice(plan)
             yield kind, self.chance.randrange(3)
 
+    async def all_brokers(self) -> None:
+        """Waits until all brokers take connections: two of three are to be there at any time."""
+        for name in brokers.names:
+            await asyncio.to_thread(brokers.wait_for, name)
+
     async def kill_broker(self, number: int) -> None:
+        await self.all_brokers()
         name = brokers.names[number]
         brokers.kill(name)
         await asyncio.sleep(self.chance.uniform(0.5, 3.0))
         brokers.start(name)
-        await asyncio.to_thread(brokers.wait_for, name)
 
     async def stop_broker(self, number: int) -> None:
+        await self.all_brokers()
         name = brokers.names[number]
         brokers.signal(name, signal.SIGSTOP)
         await asyncio.sleep(STOPPED)

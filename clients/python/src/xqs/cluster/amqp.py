@@ -12,7 +12,7 @@ from aio_pika.exceptions import CONNECTION_EXCEPTIONS, ChannelNotFoundEntity
 
 from xqs.cluster.addresses import LogAddress, shown
 from xqs.cluster.batches import MARK, Batch, encode
-from xqs.cluster.log import Away
+from xqs.cluster.log import Away, CannotFollow
 from xqs.cluster.steps import passed
 
 PREFETCH = 16
@@ -202,8 +202,11 @@ def _told_as_away() -> Iterator[None]:
 
 
 def offset_of(message: AbstractIncomingMessage) -> int:
-    """The offset of a message in its stream."""
-    return int(message.headers[_OFFSET])  # type: ignore[arg-type]
+    """The offset of a message in its stream. CannotFollow where it comes from no stream."""
+    offset = message.headers.get(_OFFSET)
+    if not isinstance(offset, int):
+        raise CannotFollow("what has the log's name is a queue and no stream: name another log")
+    return offset
 
 
 def _reason(error: BaseException) -> str:

@@ -10,7 +10,7 @@ from typing import TYPE_CHECKING
 from xqs.cluster import snapshots, sums
 from xqs.cluster.agreement import Agreement, Differs, Report
 from xqs.cluster.batches import Batch, EntryKind, NoBatch, changes, decode
-from xqs.cluster.log import Away, Log
+from xqs.cluster.log import Away, CannotFollow, Log
 from xqs.cluster.outbox import Outbox
 from xqs.cluster.serving import Asked, ServerEnded, ask, with_client
 from xqs.cluster.snapshots import Snapshot
@@ -35,10 +35,6 @@ VAIN_TRIES = 3
 
 class Halted(XqError):
     """The server can't carry out what comes next in the log, and has carried out all before it."""
-
-
-class CannotFollow(XqError):
-    """The log is not one that this server can follow: a node that begins is refused."""
 
 
 class Ended(Exception):

@@ -10,6 +10,10 @@ class Away(XqError):
     """The log can't be reached now; it is tried again."""
 
 
+class CannotFollow(XqError):
+    """The log is not one that a server can follow: a node that begins is refused."""
+
+
 class Log(Protocol):
     """Messages in one order, which all see alike, each at an offset one above that before it."""
 
@@ -28,7 +32,8 @@ class Log(Protocol):
     def messages(self, after: int) -> AsyncGenerator[tuple[int, bytes], None]:
         """The messages behind an offset, each with its own, as they come; at last raises Away.
 
-        They begin later where the log no longer has the first ones.
+        They begin later where the log no longer has the first ones. Raises CannotFollow where what
+        has the log's name is no log.
         """
 
     async def first_offset(self) -> int:

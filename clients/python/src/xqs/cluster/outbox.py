@@ -108,8 +108,12 @@ class Outbox:
         while self._pending and next(iter(self._pending)) <= number:
             _, pending = self._pending.popitem(last=False)
             self._make_room(len(pending.entry))
-            if pending.number == number and not pending.done.done():
+            if pending.done.done():
+                continue
+            if pending.number == number:
                 pending.done.set_result(reply)
+            else:
+                pending.done.set_exception(Unknown("its reply was not seen"))
 
     def _make_room(self, size: int) -> None:
         self._bytes -= size

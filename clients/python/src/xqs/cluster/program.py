@@ -22,8 +22,9 @@ class NoProgram(XqError):
 def name_of(command: Sequence[str]) -> str:
     """The program's commit, or the checksum of its file where no commit is known.
 
-    A commit is known of a release, and of a checkout in which nothing was changed; what
-    `--unproved` runs is another program than the proved one. Raises NoProgram.
+    A commit is known of a release, and of a checkout; where the sources of that were changed since,
+    a checksum of the changes stands with it. What `--unproved` runs is another program than the
+    proved one. Raises NoProgram.
     """
     found = shutil.which(command[0])
     if not found:
@@ -45,13 +46,15 @@ def _release_commit(folder: Path) -> str | None:
 
 
 def _checkout_commit(folder: Path) -> str | None:
-    """The commit of a checkout; None where it is none, or its program may be another."""
+    """The last commit of a checkout that changed the sources, and a checksum of what was changed
+    since; None where it is none."""
     sources = ["crates", "crates.txt"]
+    commit = _git(folder, "log", "-1", "--format=%H", "--", *sources)
     changed = _git(folder, "status", "--porcelain", "--", *sources)
-    if changed is None or changed:
-        return None
-    # The last commit that changed the sources: others leave the program as it was.
-    return _git(folder, "log", "-1", "--format=%H", "--", *sources) or None
+    if not commit or not changed:
+        return commit
+    changes = changed + (_git(folder, "diff", "HEAD", "--", *sources) or "")
+    return f"{commit}, changed ({hashlib.sha256(changes.encode()).hexdigest()[:SHOWN]})"
 
 
 def _git(folder: Path, *words: str) -> str | None:
