@@ -260,7 +260,9 @@ class Logs(ClusterTest):
     """Logs that can't be followed, and those that can't be reached."""
 
     async def test_a_log_that_was_trimmed_is_refused_in_words(self) -> None:
-        await self.declare_small()
+        # Small segments, of which few are kept.
+        await self.declare({"x-queue-type": "stream", "x-max-length-bytes": 1_000_000,
+                            "x-stream-max-segment-size-bytes": 500_000})
         node = self.begun("n1", "--every", "1000000")
         async with await node.connect() as client:
             text = f'document {{text {{"{"x" * 200_000}"}}}}'
@@ -293,15 +295,20 @@ class Logs(ClusterTest):
         await asyncio.to_thread(other.wait_for, "no log at 127.0.0.1")
         self.assertNotIn("another", other.said())
 
-    async def declare_small(self) -> None:
-        """Makes the log, with small segments of which few are kept."""
+    async def declare(self, arguments: dict[str, str | int]) -> None:
+        """Makes a queue of the log's name."""
         where = log_address(brokers.address(self.log))
         connection = await aio_pika.connect(where.brokers[0])
         async with connection:
             channel = await connection.channel()
-            await channel.declare_queue(where.name, durable=True, arguments={
-                "x-queue-type": "stream", "x-max-length-bytes": 1_000_000,
-                "x-stream-max-segment-size-bytes": 500_000})
+            await channel.declare_queue(where.name, durable=True, arguments=arguments)
+
+    async def test_a_queue_that_is_no_stream_is_refused_in_words(self) -> None:
+        await self.declare({})
+        node = self.made("n1")
+        node.begin(is_awaited=False)
+        self.assertEqual(await asyncio.to_thread(node.process.wait, 90), 1)
+        self.assertIn("is a queue and no stream: name another log", node.said())
 
     async def test_without_two_brokers_reads_go_on_and_writes_are_unknown(self) -> None:
         node = self.made("n1")
