@@ -220,6 +220,22 @@ class Beginnings(NodesTest):
         self.assertEqual(await self.documents(node), before)
         self.assertIsNone(node.node.followers[0].halted or None)
 
+    async def test_servers_are_renewed_while_stores_come(self) -> None:
+        with mock.patch("xqs.cluster.upkeep.MEMORY_FRAMES", 40), \
+                mock.patch("xqs.cluster.upkeep.FILE_FRAMES", 40), \
+                mock.patch("xqs.cluster.node.LOOK", 0.01):
+            nodes = [await self.begun("a"), await self.begun("b", file=self.folder / "x.db")]
+            first = [node.node.followers[0].backend for node in nodes]
+            clients = [await self.client(node) for node in nodes]
+            for _ in range(30):
+                await asyncio.gather(*(it.store("total", COUNT_UP) for it in clients * 4))
+            maps = [await self.documents(node) for node in nodes]
+        self.assertEqual(maps[0], maps[1])
+        self.assertIn('"240"', maps[0]["total"])
+        for node, backend in zip(nodes, first, strict=True):
+            self.assertIsNot(node.node.followers[0].backend, backend)
+            self.assertFalse(node.has_said("is started again"), node.said)
+
     async def test_snapshots_are_taken_by_themselves(self) -> None:
         node = await self.begun("a", every=5)
         client = await self.client(node)

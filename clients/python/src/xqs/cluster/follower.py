@@ -17,7 +17,7 @@ from xqs.cluster.snapshots import Snapshot
 from xqs.cluster.state import State
 from xqs.cluster.steps import passed
 from xqs.cluster.store_file import StoreFile
-from xqs.errors import XqError
+from xqs.errors import Closed, Wanting, XqError
 from xqs.mux_backend import Backend, StartFailed
 from xqs.mux_peer import Request
 from xqs.protocol import Status
@@ -59,6 +59,7 @@ class Follower:
     Between two messages, and never within one, `between` may be held: the documents are then those
     of `state`. `reading` has the reads of clients that the server was sent, `waits_since` the time
     at which the wait for the next message began. While `is_reporting` it reports its sums.
+    `retired` is a server that ends because another one is to take its place.
     """
 
     def __init__(self, given: Given, log: Log, outbox: Outbox, reads: "Reads",
@@ -74,6 +75,7 @@ class Follower:
         self.halted = ""
         self.is_ready = self.is_ended = self.is_done = self.is_reporting = False
         self.waits_since: float | None = None
+        self.retired: Backend | None = None
         self._backend: Backend | None = None
         self._ends: dict[int, int] = {}
 
@@ -146,7 +148,7 @@ class Follower:
         """
         while not self.halted:
             following = asyncio.create_task(self._follow())
-            ended = asyncio.create_task(self.backend.ended.wait())
+            ended = asyncio.create_task(self._server_ended())
             try:
                 await asyncio.wait((following, ended), return_when=asyncio.FIRST_COMPLETED)
                 if following.done():
@@ -166,6 +168,19 @@ class Follower:
                 if self.backend.ended.is_set() and not self.halted:
                     with self._working():
                         await self._begin_again()
+
+    async def _server_ended(self) -> None:
+        """Waits until the server has ended, and no other one takes its place.
+
+        Who follows the log is stopped then, wherever it is, and must not be where a server goes on:
+        what that carried out meanwhile would be carried out again.
+        """
+        while True:
+            backend = self.backend
+            await backend.ended.wait()
+            if backend is self.backend and backend is not self.retired:
+                return
+            await asyncio.sleep(AGAIN)
 
     async def rest(self) -> None:
         """Waits until the server ends that no longer follows the log; then nothing is left to
@@ -193,7 +208,7 @@ class Follower:
             try:
                 await self.begin()
                 return
-            except (StartFailed, ServerEnded) as error:
+            except (StartFailed, Closed, Wanting, OSError) as error:
                 if number == len(START_DELAYS) - 1:
                     raise
                 self._say(str(error))

@@ -97,7 +97,14 @@ class Node:
                 self._clients.watch_unread()]
         self._tasks = [asyncio.create_task(it) for it in work]
         self._tasks += [asyncio.create_task(self._run(it)) for it in self.followers]
+        for task in self._tasks:
+            task.add_done_callback(self._on_end)
         await self._catch_up()
+
+    def _on_end(self, task: "asyncio.Task[None]") -> None:
+        """A task of the node has ended; that it failed is nobody's to wait for."""
+        if not task.cancelled() and (error := task.exception()):
+            self._fail(f"a fault of xqs node: {error!r}", 1)
 
     async def _catch_up(self) -> None:
         """Waits until a mark of this node has come back, or the node fails."""

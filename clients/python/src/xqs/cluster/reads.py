@@ -52,13 +52,14 @@ class Reads:
         await follower.backend.send(request)
 
     async def _free(self, request: Request) -> "Follower | None":
-        """A server for the read; None where its client has gone, or no server is left."""
+        """A server for the read; None where its client has gone, or no server is left that is far
+        enough or comes on."""
         while not (request.peer and request.peer.gone):
             able = [it for it in self.followers if it.is_ready and it.state.place >= self.floor]
             free = [it for it in able if len(it.reading) < self._window]
             if free:
                 return min(free, key=lambda it: len(it.reading))
-            if all(it.is_ended for it in self.followers):
+            if all(it.is_ended or it.halted and it not in able for it in self.followers):
                 return None
             self._changed.clear()
             await self._changed.wait()

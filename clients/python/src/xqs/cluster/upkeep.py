@@ -27,14 +27,17 @@ def wants_renewal(follower: Follower) -> bool:
 async def renew(follower: Follower) -> None:
     """Starts the server again between two messages, with the documents that it has."""
     async with follower.between:
-        old = follower.backend
-        if follower.given.file:
-            follower.is_ready = False
-            await old.finish()
-            follower.go_on_with(await follower.start_server())
-        else:
-            follower.go_on_with(await _copied(follower, old))
-            await old.finish()
+        follower.retired = old = follower.backend
+        try:
+            if follower.given.file:
+                follower.is_ready = False
+                await old.finish()
+                follower.go_on_with(await follower.start_server())
+            else:
+                follower.go_on_with(await _copied(follower, old))
+                await old.finish()
+        finally:
+            follower.retired = None
 
 
 async def _copied(follower: Follower, old: Backend) -> Backend:
