@@ -1,7 +1,7 @@
 #!/usr/bin/env python3
 """What a replicated log costs, and what nodes over it bring: three brokers and nodes, on loopback.
 
-    bench/cluster.py [--server WORDS] [--seconds N] [--runs N]
+    bench/cluster.py [--server WORDS] [--seconds N] [--runs N] [--elements N] [NAME ..]
 
 It wants rabbitmq-server and python3-aio-pika of Debian, and so Debian's python3. Measured in turn,
 medians of the runs: stores with 64 in flight, by one server on a file, by one node over three
@@ -21,9 +21,10 @@ import statistics
 import subprocess
 import sys
 import tempfile
-import threading
 import time
+from collections import deque
 from collections.abc import Sequence
+from concurrent.futures import ThreadPoolExecutor
 
 TOP = pathlib.Path(__file__).resolve().parent.parent
 CLIENT = TOP / "clients" / "python"
@@ -58,32 +59,24 @@ def stores(place: str | Sequence[str], seconds: float) -> float:
             waiting.append(client.store_later("b", text))
             count += 1
         taken = time.perf_counter() - begin
-        for future in waiting:
-            future.result()
     return count / taken
 
 
 def reads(places: Sequence[str], seconds: float) -> float:
     """Queries a second of several clients, which have one in flight each."""
-    clients = [connect(places[number % len(places)]) for number in range(CLIENTS)]
-    until = time.perf_counter() + seconds
-    counts = [0] * CLIENTS
-
-    def work(number: int) -> None:
-        while time.perf_counter() < until:
-            clients[number].query_text(ORDER_BY)
-            counts[number] += 1
-
     begin = time.perf_counter()
-    threads = [threading.Thread(target=work, args=(number,)) for number in range(CLIENTS)]
-    for thread in threads:
-        thread.start()
-    for thread in threads:
-        thread.join()
-    taken = time.perf_counter() - begin
-    for client in clients:
-        client.close()
-    return sum(counts) / taken
+
+    def work(number: int) -> int:
+        count = 0
+        with connect(places[number % len(places)]) as client:
+            while time.perf_counter() < begin + seconds:
+                client.query_text(ORDER_BY)
+                count += 1
+        return count
+
+    with ThreadPoolExecutor(CLIENTS) as pool:
+        count = sum(pool.map(work, range(CLIENTS)))
+    return count / (time.perf_counter() - begin)
 
 
 class Bench:
@@ -103,8 +96,7 @@ class Bench:
                  for number in range(count)]
         for node in found:
             node.begin(is_awaited=False)
-        for node in found:
-            node.wait_until_it_listens()
+        deque(map(RunningNode.wait_until_it_listens, found), 0)
         return found
 
     def judge(self, what: str, holds: bool, said: str) -> None:
@@ -131,12 +123,7 @@ class Bench:
 
     def measure_reads(self) -> None:
         """The `order by` at one node, at three, and at one of three servers."""
-        groups = [self.nodes(1), self.nodes(3), self.nodes(1, "--servers", "3")]
-        for group in groups:
-            with connect(group[0].place) as client:
-                client.store("lib", document(ELEMENTS))
-            for node in group:
-                warm(node)
+        groups = [self.filled(*it) for it in ((1,), (3,), (1, "--servers", "3"))]
         rows = [[reads([it.place for it in group], self.given.seconds * 2) for group in groups]
                 for _ in range(self.given.runs)]
         one, three, servers = (statistics.median(column) for column in zip(*rows, strict=True))
@@ -144,8 +131,15 @@ class Bench:
               f"{three:.1f}, one node of three servers {servers:.1f}")
         self.judge("reads of three nodes", three / one >= READS,
                    f"{three / one:.2f} times those of one, wanted {READS}")
-        for group in groups:
-            end(group)
+        end([node for group in groups for node in group])
+
+    def filled(self, count: int, *options: str) -> list[RunningNode]:
+        """So many nodes, each of whose servers has answered the query."""
+        group = self.nodes(count, *options)
+        with connect(group[0].place) as client:
+            client.store("lib", document(self.given.elements))
+        reads([it.place for it in group] * CLIENTS, 0.1)
+        return group
 
     def measure_beginning(self) -> None:
         """How long rows take to restore, and to begin from."""
@@ -185,12 +179,6 @@ def fill(client: Client) -> None:
         future.result()
 
 
-def warm(node: RunningNode) -> None:
-    """Has each server of a node answer the query."""
-    for _ in range(CLIENTS):
-        reads([node.place], 0.1)
-
-
 def end(nodes: Sequence[RunningNode]) -> None:
     """Ends nodes in order."""
     for node in nodes:
@@ -220,6 +208,7 @@ def main() -> int:
     parser.add_argument("--server", default=os.environ.get("XQS_SERVER") or str(TOP / "serve"))
     parser.add_argument("--seconds", type=float, default=5.0)
     parser.add_argument("--runs", type=int, default=5)
+    parser.add_argument("--elements", type=int, default=ELEMENTS)
     parser.add_argument("names", nargs="*", metavar="stores|reads|beginning")
     given = parser.parse_args()
     if why := missing():

@@ -1,6 +1,7 @@
 """The log as a stream of RabbitMQ: the one module that speaks to it, by aio_pika."""
 
 import asyncio
+import itertools
 import logging
 from collections.abc import AsyncGenerator, AsyncIterator, Callable, Iterator
 from contextlib import asynccontextmanager, contextmanager, suppress
@@ -19,8 +20,8 @@ PREFETCH = 16
 """So many messages that were not taken yet come ahead."""
 PATIENCE = 5.0
 """Seconds for an answer of a broker."""
-PAUSE = 0.3
-"""Seconds before the next broker is tried, once all have been tried in vain."""
+PAUSE = 0.2
+"""Seconds before the next broker is tried, where one was tried in vain."""
 STREAM = {"x-queue-type": "stream"}
 _OFFSET = "x-stream-offset"
 
@@ -54,20 +55,19 @@ class AmqpLog:
     async def run(self) -> None:
         """Connects to one broker after the other, for as long as this runs."""
         failed: dict[str, str] = {}
-        while True:
-            for broker in self._brokers:
-                try:
-                    await self._connect(broker)
-                except Away as error:
-                    if failed.get(broker) != str(error):
-                        self._say(f"no log at {shown(broker)}: {error}")
-                    failed[broker] = str(error)
-                    continue
-                failed.clear()
-                await self._lost.wait()
-                self._say(f"the log at {shown(broker)} is lost: {self._why}")
-                await self._disconnect()
-            await asyncio.sleep(PAUSE)
+        for broker in itertools.cycle(self._brokers):
+            try:
+                await self._connect(broker)
+            except Away as error:
+                if failed.get(broker) != str(error):
+                    self._say(f"no log at {shown(broker)}: {error}")
+                failed[broker] = str(error)
+                await asyncio.sleep(PAUSE)
+                continue
+            failed.clear()
+            await self._lost.wait()
+            self._say(f"the log at {shown(broker)} is lost: {self._why}")
+            await self._disconnect()
 
     async def _connect(self, broker: str) -> None:
         self._lost.clear()

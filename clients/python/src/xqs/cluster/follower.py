@@ -21,6 +21,7 @@ from xqs.errors import Closed, Wanting, XqError
 from xqs.mux_backend import Backend, StartFailed
 from xqs.mux_peer import Request
 from xqs.protocol import Status
+from xqs.waiting import cancelled
 
 if TYPE_CHECKING:
     from xqs.cluster.reads import Reads
@@ -161,9 +162,7 @@ class Follower:
             except ServerEnded:
                 pass
             finally:
-                for task in (following, ended):
-                    task.cancel()
-                await asyncio.gather(following, ended, return_exceptions=True)
+                await cancelled(following, ended)
             async with self.between:
                 if self.backend.ended.is_set() and not self.halted:
                     with self._working():
@@ -245,15 +244,19 @@ class Follower:
         while True:
             try:
                 await self._check_end()
-                async with aclosing(self._log.messages(self.state.offset)) as messages:
-                    self._wait_begins()
-                    async for offset, message in messages:
-                        with self._working():
-                            async with self.between:
-                                await self._take(offset, message)
+                await self._take_all()
             except Away:
                 self.waits_since = None
                 await asyncio.sleep(AGAIN)
+
+    async def _take_all(self) -> None:
+        """Takes messages until the connection ends. Raises Away then."""
+        async with aclosing(self._log.messages(self.state.offset)) as messages:
+            self._wait_begins()
+            async for offset, message in messages:
+                with self._working():
+                    async with self.between:
+                        await self._take(offset, message)
 
     def _wait_begins(self) -> None:
         self.waits_since = asyncio.get_running_loop().time()
@@ -288,6 +291,7 @@ class Follower:
                 "snapshot, which another node has")
 
     async def _take(self, offset: int, message: bytes) -> None:
+        """Takes a message; one that was taken before is left out. Raises Ended at an end."""
         passed("received")
         if offset <= self.state.offset:
             return

@@ -1,6 +1,7 @@
 """A node: clients before it, servers below it, and the log that they follow."""
 
 import asyncio
+import contextlib
 import os
 import weakref
 from collections.abc import Callable, Sequence
@@ -19,6 +20,7 @@ from xqs.cluster.upkeep import renew, take_snapshot, wants_renewal
 from xqs.errors import XqError
 from xqs.mux_clients import Clients, Settings
 from xqs.mux_peer import Peer, Request
+from xqs.waiting import cancelled
 
 IDLE = 4.0
 """Seconds without a message of the log after which a mark is written, to see that it comes."""
@@ -114,12 +116,15 @@ class Node:
             await asyncio.wait((mark.done, failed), return_when=asyncio.FIRST_COMPLETED)
             failed.cancel()
             if mark.done.done() and not mark.done.exception():
-                self._is_caught_up = True
-                for follower in self.followers:
-                    follower.is_reporting = True
+                self._note_caught_up()
                 return
             if not self.failed.is_set():
                 self._say("waits for the log")
+
+    def _note_caught_up(self) -> None:
+        self._is_caught_up = True
+        for follower in self.followers:
+            follower.is_reporting = True
 
     async def _run(self, follower: Follower) -> None:
         """Has a server follow the log; the node ends where it must not go on."""
@@ -237,9 +242,8 @@ class Node:
         while True:
             await asyncio.sleep(LOOK)
             try:
-                for follower in self.followers:
-                    if wants_renewal(follower):
-                        await renew(follower)
+                if due := next(filter(wants_renewal, self.followers), None):
+                    await renew(due)
                 if self._is_snapshot_due():
                     self._say(await self.take_snapshot())
             except (XqError, OSError, ValueError) as error:
@@ -272,15 +276,17 @@ class Node:
     async def stop(self) -> None:
         """Answers the frames that were read, ends the clients and then the servers in order."""
         await self._clients.drain()
+        async with contextlib.AsyncExitStack() as stack:
+            # (nobody is to be stopped within an entry)
+            for follower in self.followers:
+                await stack.enter_async_context(follower.between)
+            await cancelled(*self._tasks)
         for follower in self.followers:
-            await follower.between.acquire()
-        await self._end_tasks()
-        for follower in self.followers:
-            follower.between.release()
-            if not follower.is_ended:
-                await self._end(follower)
+            await self._end(follower)
 
     async def _end(self, follower: Follower) -> None:
+        if follower.is_ended:
+            return
         try:
             if follower is self.followers[0] and self._wants_last_snapshot(follower):
                 self._say(await take_snapshot(follower))
@@ -293,11 +299,6 @@ class Node:
         return bool(options.snapshots and not options.file and not follower.halted
                     and follower.state.place > self._snapshot_place)
 
-    async def _end_tasks(self) -> None:
-        for task in self._tasks:
-            task.cancel()
-        await asyncio.gather(*self._tasks, return_exceptions=True)
-
     async def abandon_when(self, event: asyncio.Event) -> None:
         """Waits for an event, and then ends the servers and the clients at once."""
         await event.wait()
@@ -306,7 +307,6 @@ class Node:
     async def abandon(self) -> None:
         """Ends the servers and the clients at once, whatever they wait for."""
         self._clients.cut_all()
-        for task in self._tasks:
-            task.cancel()
         for follower in self.followers:
             follower.abandon()
+        await cancelled(*self._tasks)

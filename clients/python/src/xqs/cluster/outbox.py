@@ -172,11 +172,12 @@ class Outbox:
             await asyncio.sleep(SWEEP)
             if self.busy:
                 self.stir()
-            now = time.monotonic()
-            is_silent = now - self._stirred > self._seconds
-            while self._due and (self._due[0].done.done()
-                                 or is_silent and self._due[0].until < now):
-                self._give_up(self._due.popleft())
+            self._give_up_due(time.monotonic())
+
+    def _give_up_due(self, now: float) -> None:
+        is_silent = now - self._stirred > self._seconds
+        while self._due and (self._due[0].done.done() or is_silent and self._due[0].until < now):
+            self._give_up(self._due.popleft())
 
     def give_up_all(self) -> None:
         """Tells all that wait that what becomes of their entries is unknown."""

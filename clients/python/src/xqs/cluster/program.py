@@ -10,7 +10,6 @@ from pathlib import Path
 from xqs.errors import XqError
 
 _RELEASE = re.compile(r"xq_server, commit ([0-9a-f]{7,40})\b")
-_PIECE = 1 << 20
 SHOWN = 16
 """So many digits of a checksum name a program."""
 
@@ -67,8 +66,5 @@ def _git(folder: Path, *words: str) -> str | None:
 
 
 def _checksum(path: Path) -> str:
-    digest = hashlib.sha256()
     with open(path, "rb") as file:
-        while piece := file.read(_PIECE):
-            digest.update(piece)
-    return digest.hexdigest()
+        return hashlib.file_digest(file, "sha256").hexdigest()

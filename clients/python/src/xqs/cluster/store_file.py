@@ -16,7 +16,6 @@ from xqs.cluster.state import NoState, State
 from xqs.cluster.steps import passed
 from xqs.errors import XqError
 
-_PIECE = 1 << 20
 _WITH_IT = ("", "-wal")
 """The file and its log, which belong together."""
 RUNNING = {"is": "running"}
@@ -79,10 +78,7 @@ class StoreFile:
     def _sum(self) -> str:
         digest = hashlib.sha256()
         for part in self._parts():
-            if part.exists():
-                with open(part, "rb") as file:
-                    while piece := file.read(_PIECE):
-                        digest.update(piece)
+            digest.update(_digest(part) if part.exists() else b"")
         return digest.hexdigest()
 
     def _set_aside(self) -> None:
@@ -102,3 +98,8 @@ class StoreFile:
             os.fsync(file.fileno())
         os.replace(part, self.note)
         sync_folder(self.path.parent)
+
+
+def _digest(path: Path) -> bytes:
+    with open(path, "rb") as file:
+        return hashlib.file_digest(file, "sha256").digest()
