@@ -19,8 +19,8 @@ from xqs.cluster import control
 from xqs.cluster.steps import VARIABLE
 from xqs.errors import Closed, Refused, Wanting, XqError
 
-BEGINNING = 90.0
-"""Seconds for a node to begin, on a machine that has other work."""
+BEGINNING = 120.0
+"""Seconds for a node to begin or to end, on a machine that has other work."""
 SHARED = "total"
 COUNT_UP = ('document {element n {(if (doc-available("total")) '
             'then xs:integer(string(doc("total")/n)) else 0) + 1}}')

@@ -28,7 +28,7 @@ except ImportError as error:
     raise unittest.SkipTest("aio_pika is not installed") from error
 
 from brokers import Brokers, missing
-from clusters import SHARED, RunningNode, Writer, all_taken, value
+from clusters import BEGINNING, SHARED, RunningNode, Writer, all_taken, value
 from tests.histories import History, faults
 from tests.local_nodes import planted
 from tests.serving import Connection, RunningMux, store_body
@@ -90,10 +90,11 @@ class ClusterTest(unittest.IsolatedAsyncioTestCase):
         """Ends a node, and looks at what it said in all its lives."""
         if node.lives:
             node.end()
-        outcome = self._outcome  # type: ignore[attr-defined]
+        result = self._outcome.result  # type: ignore[attr-defined]
+        is_failed = any(it is self for it, _ in [*result.errors, *result.failures])
         for said in sorted(self.folder.glob(f"{node.name}-*.said")):
             text = said.read_text()
-            if not outcome.success:
+            if is_failed:
                 print(f"--- {said.name}\n{text}")
             self.assertNotIn("Traceback", text, text)
             self.assertNotIn("exception", text, text)
@@ -188,7 +189,9 @@ class Trial(ClusterTest):
         await self.nodes[number].wait()
 
     async def end_node(self, number: int) -> None:
-        self.assertEqual(await asyncio.to_thread(self.nodes[number].terminate), 0)
+        process = self.nodes[number].process
+        process.send_signal(signal.SIGTERM)
+        self.assertEqual(await asyncio.to_thread(process.wait, BEGINNING), 0)
         self.nodes[number].begin(is_awaited=False)
         await self.nodes[number].wait()
 
