@@ -3,6 +3,7 @@
 import asyncio
 import random
 import shutil
+from collections import Counter
 from contextlib import suppress
 from pathlib import Path
 from unittest import mock
@@ -89,6 +90,41 @@ class Losses(NodesTest):
         maps = [await self.documents(node) for node in nodes]
         self.assertEqual(maps[0], maps[1])
         self.assertIn('"240"', maps[0]["total"])
+
+    async def test_a_node_ends_in_order_amid_faults(self) -> None:
+        chance = random.Random(64)
+        nodes = [await self.begun("a", servers=2, every=50), await self.begun("b", every=50)]
+        counts = Counter[str]()
+        work = [asyncio.create_task(self.count_up(node, counts)) for node in nodes * 3]
+        for _ in range(6):
+            await asyncio.sleep(chance.uniform(0.05, 0.3))
+            self.plant(chance.choice(nodes), chance)
+        await nodes[0].stop()
+        counts["over"] = 1
+        await asyncio.gather(*work)
+        total = int((await self.documents(nodes[1]))["total"].split('"')[1])
+        self.assertLessEqual(counts["acknowledged"], total)
+        self.assertLessEqual(total, counts["acknowledged"] + counts["unknown"])
+
+    @staticmethod
+    def plant(node: LocalNode, chance: random.Random) -> None:
+        """Ends a server of the node, or its connection to the log."""
+        if chance.random() < 0.5:
+            chance.choice(node.node.followers).backend.kill()
+        else:
+            node.link.drop("planted")
+
+    async def count_up(self, node: LocalNode, counts: Counter[str]) -> None:
+        """Counts the shared document up until all is over, by one client after the other."""
+        while not counts["over"] and not node.is_over:
+            client = await node.connect()
+            with suppress(XqError, OSError):
+                while not counts["over"]:
+                    counts["unknown"] += 1
+                    await client.store("total", COUNT_UP)
+                    counts["unknown"] -= 1
+                    counts["acknowledged"] += 1
+            await client.close()
 
     async def test_reads_go_on_without_the_log_and_writes_are_unknown(self) -> None:
         node = await self.begun("a", seconds=0.5)
