@@ -391,6 +391,7 @@ class Stops(NodesTest):
         for number in range(5):
             await client.store("c", value(number))
             self.assertEqual(await client.query('string(doc("c"))'), [str(number)])
+            self.assertIn(f"of place {number + 1}", await node.node.take_snapshot())
         held.cancel()
         with suppress(XqError, asyncio.CancelledError):
             await held

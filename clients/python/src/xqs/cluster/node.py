@@ -229,12 +229,14 @@ class Node:
         return "all nodes take a snapshot and end"
 
     async def take_snapshot(self) -> str:
-        """Takes a snapshot, by the first server that can; what is to be said of it."""
+        """Takes a snapshot, by the server that is furthest; what is to be said of it."""
         able = [it for it in self.followers if it.is_ready and not it.halted]
         if not able:
             raise XqError("no server of this node follows the log")
-        said = await take_snapshot(able[0])
-        self._snapshot_place = able[0].state.place
+        # (one that lags would hold itself up; one that is at a long query would wait for that)
+        furthest = max(able, key=lambda it: (it.state.place, -len(it.reading)))
+        said = await take_snapshot(furthest)
+        self._snapshot_place = max(self._snapshot_place, furthest.state.place)
         return said
 
     async def _watch_due(self) -> None:
@@ -281,6 +283,7 @@ class Node:
             for follower in self.followers:
                 await stack.enter_async_context(follower.between)
             await cancelled(*self._tasks)
+        await self._take_last_snapshot()
         for follower in self.followers:
             await self._end(follower)
 
@@ -288,16 +291,18 @@ class Node:
         if follower.is_ended:
             return
         try:
-            if follower is self.followers[0] and self._wants_last_snapshot(follower):
-                self._say(await take_snapshot(follower))
             await follower.end()
         except (XqError, OSError, ValueError) as error:
             self._say(f"{follower.name}: {error}")
 
-    def _wants_last_snapshot(self, follower: Follower) -> bool:
-        options = self._options
-        return bool(options.snapshots and not options.file and not follower.halted
-                    and follower.state.place > self._snapshot_place)
+    async def _take_last_snapshot(self) -> None:
+        """At an end in order, where the documents are in memory and changed since the last one."""
+        place = max(it.state.place for it in self.followers)
+        if self._options.snapshots and not self._options.file and place > self._snapshot_place:
+            try:
+                self._say(await self.take_snapshot())
+            except (XqError, OSError, ValueError) as error:
+                self._say(f"no snapshot: {error}")
 
     async def abandon_when(self, event: asyncio.Event) -> None:
         """Waits for an event, and then ends the servers and the clients at once."""
