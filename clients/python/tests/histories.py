@@ -6,6 +6,7 @@ clock; at the end the maps of all nodes are judged by it.
 """
 
 import re
+from bisect import bisect_right
 from collections import Counter
 from collections.abc import Mapping, Sequence
 from dataclasses import dataclass, field
@@ -113,14 +114,22 @@ def _repeated(address: bytes, writes: Sequence[Write]) -> list[str]:
 def _stale(history: History) -> list[str]:
     """Reads that miss a write: the reader's own that was answered before, and where the read was
     fresh, anybody's."""
-    found = []
-    for read in history.reads:
-        seen = [
-            write.value for writer, write in history.writes
-            if write.address == read.address and write.is_acknowledged
-            and write.answered <= read.sent and (read.is_fresh or writer == read.writer)
-        ]
-        if read.value < max(seen, default=0):
-            found.append(f"{read.address!r} was read as {read.value} by {read.writer}, after "
-                         f"{max(seen)} was acknowledged" + (" (fresh)" if read.is_fresh else ""))
-    return found
+    # (a document has one writer, whose values and times rise)
+    answered: dict[bytes, list[tuple[float, int, str]]] = {}
+    for writer, write in history.writes:
+        if write.is_acknowledged:
+            answered.setdefault(write.address, []).append((write.answered, write.value, writer))
+    return [fault for read in history.reads
+            if (fault := _missed(read, answered.get(read.address, [])))]
+
+
+def _missed(read: Read, answered: Sequence[tuple[float, int, str]]) -> str:
+    """What the read misses of the writes of its document, in their order; else nothing."""
+    count = bisect_right(answered, read.sent, key=lambda it: it[0])
+    if not count:
+        return ""
+    _, value, writer = answered[count - 1]
+    if read.value >= value or not (read.is_fresh or writer == read.writer):
+        return ""
+    return (f"{read.address!r} was read as {read.value} by {read.writer}, after {value} was "
+            "acknowledged" + (" (fresh)" if read.is_fresh else ""))
