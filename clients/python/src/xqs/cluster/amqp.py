@@ -9,7 +9,11 @@ from typing import TypeAlias
 
 import aio_pika
 from aio_pika.abc import AbstractChannel, AbstractConnection, AbstractIncomingMessage
-from aio_pika.exceptions import CONNECTION_EXCEPTIONS, ChannelNotFoundEntity
+from aio_pika.exceptions import (
+    CONNECTION_EXCEPTIONS,
+    ChannelNotFoundEntity,
+    ChannelPreconditionFailed,
+)
 
 from xqs.cluster.addresses import LogAddress, shown
 from xqs.cluster.batches import MARK, Batch, encode
@@ -23,6 +27,7 @@ PATIENCE = 5.0
 PAUSE = 0.2
 """Seconds before the next broker is tried, where one was tried in vain."""
 STREAM = {"x-queue-type": "stream"}
+NO_STREAM = "what has the log's name is a queue and no stream: name another log"
 _OFFSET = "x-stream-offset"
 
 Inbox: TypeAlias = "asyncio.Queue[AbstractIncomingMessage | None]"
@@ -188,7 +193,8 @@ async def _one(inbox: Inbox) -> AbstractIncomingMessage:
 
 @contextmanager
 def _told_as_away() -> Iterator[None]:
-    """Raises Away for what the package raises of a connection that does not work, or no longer."""
+    """Raises Away for what the package raises of a connection that does not work, or no longer;
+    CannotFollow where a queue takes no offset."""
     try:
         yield
     except asyncio.CancelledError as error:
@@ -197,6 +203,10 @@ def _told_as_away() -> Iterator[None]:
         if task is not None and task.cancelling():
             raise
         raise Away("the connection was closed") from error
+    except ChannelPreconditionFailed as error:
+        if _OFFSET in str(error):
+            raise CannotFollow(NO_STREAM) from error
+        raise Away(_reason(error)) from error
     except (*CONNECTION_EXCEPTIONS, TimeoutError, asyncio.InvalidStateError) as error:
         raise Away(_reason(error)) from error
 
@@ -205,7 +215,7 @@ def offset_of(message: AbstractIncomingMessage) -> int:
     """The offset of a message in its stream. CannotFollow where it comes from no stream."""
     offset = message.headers.get(_OFFSET)
     if not isinstance(offset, int):
-        raise CannotFollow("what has the log's name is a queue and no stream: name another log")
+        raise CannotFollow(NO_STREAM)
     return offset
 
 
