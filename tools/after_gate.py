@@ -28,10 +28,13 @@ TOP = pathlib.Path(__file__).resolve().parent.parent
 CLIENT = TOP / "clients" / "python"
 PYTHONS = (sys.executable, "/usr/bin/python3")
 PACKAGES = {
-    "test_page": ("aiohttp",), "test_toolkit": ("prompt_toolkit",), "test_web": ("aiohttp",)
+    "test_cluster": ("aio_pika",), "test_page": ("aiohttp",), "test_toolkit": ("prompt_toolkit",),
+    "test_web": ("aiohttp",)
 }
 """The Python packages that the client's long tests want, by their files."""
-PROGRAMS = {"test_page": ("chromium",)}
+PROGRAMS = {
+    "test_cluster": ("/usr/lib/rabbitmq/bin/rabbitmq-server", "epmd"), "test_page": ("chromium",)
+}
 LAST_LINES = 60
 
 

@@ -1,5 +1,6 @@
 """What the tests of the multiplexer stand on: one that runs, and connections to it."""
 
+import ctypes
 import os
 import signal
 import socket
@@ -14,6 +15,7 @@ from tests.support import server_command
 
 SOURCES = Path(__file__).resolve().parents[1] / "src"
 PATIENCE = 30.0
+PR_SET_PDEATHSIG = 1
 # A query that takes hours and little memory.
 ENDLESS = b"every $x in 1 to 1000000, $y in 1 to 1000000 satisfies $x > 0"
 
@@ -79,7 +81,64 @@ class Connection:
         self.socket.close()
 
 
-class RunningMux:
+def die_with_parent() -> None:
+    """Has the process of which this is called be killed when the test's ends, however it does."""
+    ctypes.CDLL(None).prctl(PR_SET_PDEATHSIG, signal.SIGKILL)
+
+
+class Running:
+    """A command of the package that runs, and what it says."""
+
+    process: subprocess.Popen[bytes]
+    errors: Path
+
+    def run(
+        self, words: list[str], errors: Path, environment: dict[str, str] | None = None
+    ) -> None:
+        """Starts the command; what it says goes to a file."""
+        self.errors = errors
+        with errors.open("ab") as said:
+            self.process = subprocess.Popen(
+                [sys.executable, "-m", "xqs", *words], cwd=SOURCES, stdin=subprocess.DEVNULL,
+                stdout=said, stderr=said, env=os.environ | (environment or {}),
+                preexec_fn=die_with_parent)
+
+    def said(self) -> str:
+        """What the command and its servers have said so far."""
+        return self.errors.read_text()
+
+    def wait_for(self, words: str, seconds: float = PATIENCE) -> str:
+        """Waits until the words are said; gives the rest of their line."""
+        end = time.monotonic() + seconds
+        while words not in self.said():
+            if time.monotonic() > end or self.process.poll() is not None:
+                raise AssertionError(f"{words!r} was not said: {self.said()!r}")
+            time.sleep(0.01)
+        return self.said().split(words)[1].split("\n")[0]
+
+    def server_ids(self) -> list[int]:
+        """The process ids of the servers that run below it."""
+        found = subprocess.run(["pgrep", "-P", str(self.process.pid)],
+                               capture_output=True, text=True, check=False)
+        return [int(word) for word in found.stdout.split()]
+
+    def terminate(self) -> int:
+        """Ends it by SIGTERM; gives its exit status."""
+        self.process.send_signal(signal.SIGTERM)
+        return self.process.wait(PATIENCE)
+
+    def end(self) -> None:
+        """Ends it, in order if that is soon."""
+        if self.process.poll() is None:
+            self.process.send_signal(signal.SIGTERM)
+            try:
+                self.process.wait(5)
+            except subprocess.TimeoutExpired:
+                self.process.kill()
+                self.process.wait()
+
+
+class RunningMux(Running):
     """A multiplexer that runs, over the server of XQS_SERVER or another command.
 
     `options` are words before the `--`; with `on_file` the documents live in a file of `folder`.
@@ -93,57 +152,23 @@ class RunningMux:
         self.command = command or server_command()
         if on_file:
             self.command += ["--file", str(self.folder / "x.db")]
-        self.errors = self.folder / "errors"
-        with self.errors.open("wb") as errors:
-            self.process = subprocess.Popen(
-                [sys.executable, "-m", "xqs", "mux", self.place, *options, "--", *self.command],
-                cwd=SOURCES, stdin=subprocess.DEVNULL, stdout=errors, stderr=errors)
+        self.run(["mux", self.place, *options, "--", *self.command], self.folder / "errors")
         self.place = self.wait_for("listens at ").split()[0]
-
-    def said(self) -> str:
-        """What the multiplexer and its servers have said so far."""
-        return self.errors.read_text()
-
-    def wait_for(self, words: str) -> str:
-        """Waits until the words are said; gives the rest of their line."""
-        end = time.monotonic() + PATIENCE
-        while words not in self.said():
-            if time.monotonic() > end or self.process.poll() is not None:
-                raise AssertionError(f"{words!r} was not said: {self.said()!r}")
-            time.sleep(0.01)
-        return self.said().split(words)[1].split("\n")[0]
 
     def connect(self) -> "Connection":
         """A new connection."""
         return Connection(self.place)
-
-    def server_ids(self) -> list[int]:
-        """The process ids of the servers that run below the multiplexer."""
-        found = subprocess.run(["pgrep", "-P", str(self.process.pid)],
-                               capture_output=True, text=True, check=False)
-        return [int(word) for word in found.stdout.split()]
 
     def kill_server(self) -> None:
         """Ends the server below with SIGKILL."""
         (server,) = self.server_ids()
         os.kill(server, signal.SIGKILL)
 
-    def terminate(self) -> int:
-        """Ends the multiplexer by SIGTERM; gives its exit status."""
-        self.process.send_signal(signal.SIGTERM)
-        return self.process.wait(PATIENCE)
-
     def __enter__(self) -> "RunningMux":
         return self
 
     def __exit__(self, *_: object) -> None:
-        if self.process.poll() is None:
-            self.process.send_signal(signal.SIGTERM)
-            try:
-                self.process.wait(5)
-            except subprocess.TimeoutExpired:
-                self.process.kill()
-                self.process.wait()
+        self.end()
         said = self.said()
         self._folder.cleanup()
         assert "Traceback" not in said and "exception" not in said, said

@@ -17,9 +17,8 @@ from typing import IO, BinaryIO
 
 from xqs.cli import connection_options, server_of
 from xqs.client import Client, connect
-from xqs.constructors import write_constructors
 from xqs.errors import Refused, XqError
-from xqs.fetch import document_events
+from xqs.fetch import write_text
 from xqs.stores import store_constructors
 from xqs.temporary import is_temporary
 
@@ -43,26 +42,32 @@ class Entry:
     size: int
 
 
-def digest_of(client: Client, address: str) -> str:
-    """The digest of a document, whatever its length."""
+def digest_of(client: Client, address: str, is_still: bool = False) -> str:
+    """The digest of a document, whatever its length; `is_still` as for `back_up`."""
     digest = hashlib.sha256()
-    write_constructors(
-        document_events(client, address), lambda text: digest.update(text.encode())
-    )
+    write_text(client, address, lambda text: digest.update(text.encode()), is_still)
     return digest.hexdigest()
 
 
-def back_up(client: Client, file: BinaryIO) -> int:
-    """Writes all documents but temporary ones; how many."""
+def back_up(client: Client, file: BinaryIO, is_still: bool = False) -> int:
+    """Writes all documents but temporary ones; how many.
+
+    With `is_still` nobody stores or drops meanwhile: then temporary ones are written too, and none
+    is copied to be read.
+    """
     file.write(FORM)
-    addresses = [it for it in client.list() if not is_temporary(it)]
+    addresses = _addresses(client, is_still)
     for address in addresses:
-        _write_entry(client, address, file)
+        _write_entry(client, address, file, is_still)
     file.write(f"end {len(addresses)}\n".encode())
     return len(addresses)
 
 
-def _write_entry(client: Client, address: str, file: BinaryIO) -> None:
+def _addresses(client: Client, is_still: bool) -> list[str]:
+    return [it for it in client.list() if is_still or not is_temporary(it)]
+
+
+def _write_entry(client: Client, address: str, file: BinaryIO, is_still: bool) -> None:
     digest = hashlib.sha256()
     with tempfile.SpooledTemporaryFile(_IN_MEMORY) as held:
 
@@ -71,7 +76,7 @@ def _write_entry(client: Client, address: str, file: BinaryIO) -> None:
             digest.update(data)
             held.write(data)
 
-        write_constructors(document_events(client, address), write)
+        write_text(client, address, write, is_still)
         file.write(f"document {held.tell()} {digest.hexdigest()} {address}\n".encode())
         held.seek(0)
         _copy(held, file)
@@ -138,11 +143,14 @@ def restore(client: Client, file: BinaryIO, replace: bool) -> int:
     return len(wanted)
 
 
-def _check_against(client: Client, file: BinaryIO) -> list[str]:
-    """The addresses whose documents are no more as the backup has them."""
+def check_against(client: Client, file: BinaryIO, is_still: bool = False) -> list[str]:
+    """The addresses whose documents are no more as the backup has them; `is_still` as for
+    `back_up`."""
     held = {it.address: it.digest for it in entries(file)}
-    now = {it for it in client.list() if not is_temporary(it)}
-    changed = [it for it in held if it in now and digest_of(client, it) != held[it]]
+    now = set(_addresses(client, is_still))
+    changed = [
+        it for it in held if it in now and digest_of(client, it, is_still) != held[it]
+    ]
     return sorted(changed) + sorted(held.keys() ^ now)
 
 
@@ -166,7 +174,7 @@ def main(words: Sequence[str]) -> int:
             file.flush()
             os.fsync(file.fileno())
             file.seek(0)
-            changed = _check_against(client, file)
+            changed = check_against(client, file)
         os.replace(part, given.backup)
     finally:
         part.unlink(missing_ok=True)
@@ -176,18 +184,32 @@ def main(words: Sequence[str]) -> int:
     return 1 if changed else 0
 
 
+def _pass_state(file: BinaryIO) -> None:
+    """Leaves a file that is a node's snapshot at its backup, and another one at its beginning."""
+    # (here, since snapshots stand on backups)
+    from xqs.cluster import snapshots
+
+    if file.readline() == snapshots.FORM:
+        file.seek(0)
+        snapshots.read_state(file)
+    else:
+        file.seek(0)
+
+
 def restore_main(words: Sequence[str]) -> int:
     """Carries out `xqs restore`."""
     parser = argparse.ArgumentParser(
         prog="xqs restore",
         parents=[connection_options()],
-        description="Stores the documents of a backup, and reads each back. The whole file is "
-        "judged before the first one is stored; other documents stay as they are.",
+        description="Stores the documents of a backup, or of a node's snapshot, and reads each "
+        "back. The whole file is judged before the first one is stored; other documents stay as "
+        "they are.",
     )
     parser.add_argument("backup", type=Path)
     parser.add_argument("--replace", action="store_true", help="replace documents that are there")
     given = parser.parse_args(words)
     with connect(server_of(given)) as client, open(given.backup, "rb") as file:
+        _pass_state(file)
         try:
             count = restore(client, file, given.replace)
         except Refused as error:

@@ -46,6 +46,8 @@ COMMANDS = {
     "gc": Entry("xqs.gc:main", "drop temporary documents that a crash left"),
     "shell": Entry("xqs.shell:main", "ask queries by hand"),
     "mux": Entry("xqs.mux:main", "one server for many clients"),
+    "node": Entry("xqs.cluster.main:main", "a server that follows a replicated log"),
+    "snapshot": Entry("xqs.cluster.main:snapshot_main", "have a node take a snapshot now"),
     "web": Entry("xqs.web:main", "HTTP on loopback, and a page"),
 }
 

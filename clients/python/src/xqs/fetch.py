@@ -5,10 +5,11 @@ so that all of it is of one moment, and asked for in parts: children by ranges o
 long texts by ranges of their characters.
 """
 
-from collections.abc import Iterator
+from collections.abc import Callable, Iterator
 from contextlib import contextmanager, suppress
 
 from xqs.client import Client
+from xqs.constructors import write_constructors
 from xqs.errors import Refused, XqError
 from xqs.queries import q
 from xqs.temporary import Temporary
@@ -27,6 +28,24 @@ def document_events(client: Client, address: str) -> Iterator[Event]:
         return
     with _copied(client, address) as copy:
         yield from _Large(client).node(f'doc("{copy}")')
+
+
+def write_text(
+    client: Client, address: str, write: Callable[[str], object], is_still: bool = False
+) -> None:
+    """Writes the constructor of a document, as the server prints it, in pieces where it is long.
+
+    With `is_still` nobody stores or drops meanwhile, and the document is read where it stands.
+    Refused as FODC0002 where there is none.
+    """
+    text = _text_or_none(client, q("doc($a)", a=address))
+    if text is not None:
+        write(text)
+    elif is_still:
+        write_constructors(_Large(client).node(f'doc("{address}")'), write)
+    else:
+        with _copied(client, address) as copy:
+            write_constructors(_Large(client).node(f'doc("{copy}")'), write)
 
 
 @contextmanager

@@ -4,6 +4,8 @@ import os
 import pathlib
 import socket
 import stat
+from collections.abc import Iterator
+from contextlib import contextmanager, suppress
 
 from xqs.endpoints import LoopbackPort, UnixSocket, endpoint
 from xqs.errors import XqError
@@ -91,15 +93,20 @@ def name_of(listener: socket.socket) -> str:
     return f"tcp:{host}:{address[1]}"
 
 
-def remove(listener: socket.socket, identity: tuple[int, int] | None) -> None:
-    """Removes the file of a Unix socket, if it still is the one of that device and number."""
-    if identity is not None:
-        path = pathlib.Path(listener.getsockname())
-        try:
+@contextmanager
+def removed_at_end(listener: socket.socket) -> Iterator[None]:
+    """At the end the file of a Unix socket is removed, if it still is the same one."""
+    if listener.family != socket.AF_UNIX:
+        yield
+        return
+    path = pathlib.Path(listener.getsockname())
+    identity = identity_of(path)
+    try:
+        yield
+    finally:
+        with suppress(OSError):
             if identity_of(path) == identity:
                 path.unlink()
-        except OSError:
-            pass
 
 
 def identity_of(path: pathlib.Path) -> tuple[int, int]:

@@ -3,16 +3,16 @@
 import argparse
 import asyncio
 import contextlib
-import pathlib
+import dataclasses
 import signal
-import socket
 import sys
 from collections.abc import Sequence
 
 from xqs import listening
 from xqs.cli import connection_options, server_of
 from xqs.endpoints import Command
-from xqs.multiplexer import Multiplexer, Settings, is_on_file
+from xqs.multiplexer import Multiplexer, is_on_file
+from xqs.mux_clients import Settings
 from xqs.waiting import first_set
 
 USAGE = "xqs mux [OPTIONS] unix:PATH|tcp:PORT [-- COMMAND [WORDS]]"
@@ -47,30 +47,41 @@ def add_limits(parser: argparse.ArgumentParser) -> None:
     limit = parser.add_argument_group("limits").add_argument
     limit("--seconds", type=duration, metavar="N",
           help="end the server, and start it again, when it works on one request for longer")
-    limit("--clients", type=positive, metavar="N", default=DEFAULTS.clients,
-          help="clients at once (%(default)s); more are turned away")
     limit("--window", type=positive, metavar="N", default=DEFAULTS.window,
           help="frames of all clients that wait for replies (%(default)s)")
-    limit("--client-window", type=positive, metavar="N", default=DEFAULTS.client_window,
-          help="frames of one client that wait for replies (%(default)s)")
-    limit("--unread", type=positive, metavar="BYTES", default=DEFAULTS.unread,
-          help="a client's unread replies above which its next frame waits (%(default)s)")
-    limit("--held", type=positive, metavar="BYTES", default=DEFAULTS.held,
-          help="all unread replies above which the client with most is cut off (%(default)s)")
-    limit("--stall", type=duration, metavar="SECONDS", default=DEFAULTS.stall,
-          help="cut off a client that takes nothing of its replies for so long (%(default)g)")
     limit("--frames", type=positive, metavar="N", default=DEFAULTS.frames,
           help="start the server again after so many frames (%(default)s)")
+    add_client_limits(parser, DEFAULTS)
+
+
+def add_client_limits(parser: argparse.ArgumentParser, defaults: Settings) -> None:
+    """Adds the options of what clients may do, which `client_settings_of` reads."""
+    limit = parser.add_argument_group("limits of clients").add_argument
+    limit("--clients", type=positive, metavar="N", default=defaults.clients,
+          help="clients at once (%(default)s); more are turned away")
+    limit("--client-window", type=positive, metavar="N", default=defaults.client_window,
+          help="frames of one client that wait for replies (%(default)s)")
+    limit("--unread", type=positive, metavar="BYTES", default=defaults.unread,
+          help="a client's unread replies above which its next frame waits (%(default)s)")
+    limit("--held", type=positive, metavar="BYTES", default=defaults.held,
+          help="all unread replies above which the client with most is cut off (%(default)s)")
+    limit("--stall", type=duration, metavar="SECONDS", default=defaults.stall,
+          help="cut off a client that takes nothing of its replies for so long (%(default)g)")
     parser.add_argument("--read-only", action="store_true", help="refuse stores and drops")
 
 
 def settings_of(arguments: argparse.Namespace) -> Settings:
     """The settings that the options of `add_limits` make."""
+    return dataclasses.replace(
+        client_settings_of(arguments), window=arguments.window, frames=arguments.frames,
+        seconds=arguments.seconds)
+
+
+def client_settings_of(arguments: argparse.Namespace) -> Settings:
+    """The settings that the options of `add_client_limits` make."""
     return Settings(
-        clients=arguments.clients, window=arguments.window,
-        client_window=arguments.client_window, frames=arguments.frames, unread=arguments.unread,
-        held=arguments.held, stall=arguments.stall, seconds=arguments.seconds,
-        read_only=arguments.read_only)
+        clients=arguments.clients, client_window=arguments.client_window, unread=arguments.unread,
+        held=arguments.held, stall=arguments.stall, read_only=arguments.read_only)
 
 
 def split_command(argv: Sequence[str]) -> tuple[list[str], list[str]]:
@@ -101,10 +112,7 @@ async def run(place: str, command: Sequence[str], settings: Settings) -> int:
     hurried = asyncio.create_task(multiplexer.abandon_when(again))
     try:
         listener = listening.listen(place)
-        with contextlib.ExitStack() as stack:
-            if listener.family == socket.AF_UNIX:
-                identity = listening.identity_of(pathlib.Path(listener.getsockname()))
-                stack.callback(listening.remove, listener, identity)
+        with listening.removed_at_end(listener):
             server = await asyncio.start_server(multiplexer.serve, sock=listener)
             say(f"listens at {listening.name_of(listener)}")
             await until_signal(multiplexer.failed, again)

@@ -17,6 +17,9 @@ from xqs.waiting import first_set
 PROBE = b"Q()"
 """The kind and the body of the first frame: the server has opened its store when it answers."""
 
+BLAMELESS = 0.25
+"""Seconds for which a server may be at a query before its end is put down to that query."""
+
 
 class StartFailed(XqError):
     """The server ended, or could not be run, before it answered its first frame."""
@@ -137,6 +140,14 @@ class Backend:
     def worked(self) -> float:
         """For how many seconds the server has been at the first request in flight."""
         return time.monotonic() - self._front_since
+
+    def is_worth_a_repetition(self, front: Request) -> bool:
+        """Whether the first request in flight, of a server that has ended, is to be sent to the
+        next one: a query, sent for the first time, that hardly made the server end."""
+        if front.changes() or front.repeated or self.overdue or self.worked() > BLAMELESS:
+            return False
+        front.repeated = True
+        return True
 
     async def finish(self) -> None:
         """Ends the server's input, and waits until it has answered what it has and has ended."""

@@ -1,6 +1,7 @@
-"""Waiting for one of several events."""
+"""Waiting for one of several events, and for tasks that are to end."""
 
 import asyncio
+from typing import Any
 
 
 async def first_set(*events: asyncio.Event) -> None:
@@ -11,3 +12,10 @@ async def first_set(*events: asyncio.Event) -> None:
     finally:
         for task in waits:
             task.cancel()
+
+
+async def cancelled(*tasks: "asyncio.Task[Any]") -> None:
+    """Cancels tasks, and waits until they have ended, however they do."""
+    for task in tasks:
+        task.cancel()
+    await asyncio.gather(*tasks, return_exceptions=True)

@@ -17,7 +17,8 @@ from aiohttp.http import HttpProcessingError
 from xqs import listening, mux
 from xqs.cli import connection_options, server_of
 from xqs.endpoints import Command, Endpoint, UnixSocket
-from xqs.multiplexer import Multiplexer, Settings, is_on_file
+from xqs.multiplexer import Multiplexer, is_on_file
+from xqs.mux_clients import Settings
 from xqs.mux import add_limits, duration, positive, settings_of, split_command, until_signal
 from xqs.web_guard import NAMES, read_token
 from xqs.web_rest import MAX_LINE, Rest, WebSettings

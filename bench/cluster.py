@@ -1,0 +1,225 @@
+#!/usr/bin/env python3
+"""What a replicated log costs, and what nodes over it bring: three brokers and nodes, on loopback.
+
+    bench/cluster.py [--server WORDS] [--seconds N] [--runs N] [--elements N] [NAME ..]
+
+It wants rabbitmq-server and python3-aio-pika of Debian, and so Debian's python3. Measured in turn,
+medians of the runs: stores with 64 in flight, by one server on a file, by one node over three
+brokers, and by one of three nodes that all follow; the `order by` of bench/queries.py, asked by six
+clients of one node, of three nodes, and of one node of three servers; and how long documents of
+100,000 rows take to restore, and a node to follow again that begins from a snapshot of them. Each
+bound that is wanted is judged; where one doesn't hold, the exit status is 1.
+"""
+
+from __future__ import annotations
+
+import argparse
+import os
+import pathlib
+import shlex
+import statistics
+import subprocess
+import sys
+import tempfile
+import time
+from collections import deque
+from collections.abc import Sequence
+from concurrent.futures import ThreadPoolExecutor
+
+TOP = pathlib.Path(__file__).resolve().parent.parent
+CLIENT = TOP / "clients" / "python"
+for folder in (TOP / "tools", TOP / "bench", CLIENT / "src", CLIENT, CLIENT / "with_packages"):
+    sys.path.insert(0, str(folder))
+
+from brokers import SCRIPT, Brokers, missing  # noqa: E402
+from clusters import RunningNode  # noqa: E402
+from harness import LIBRARY  # noqa: E402
+from queries import QUERIES, document  # noqa: E402
+
+from xqs import Client, connect  # noqa: E402
+
+FLIGHT, CLIENTS = 64, 6
+ELEMENTS = 100_000
+DOCUMENTS, ROWS = 100, 1_000
+ORDER_BY = next(query for name, query, *_ in QUERIES if name == "order by")
+STORES, READS, FOLLOWS = 0.3, 2.2, 3.0
+"""The bounds: of stores through the log to those without, of reads of three nodes to those of one,
+and of the time to follow again to that of a restore."""
+
+
+def stores(place: str | Sequence[str], seconds: float) -> float:
+    """Stores a second of one client that has so many in flight."""
+    text = LIBRARY.decode()
+    with connect(place) as client:
+        client.store("b", text)
+        waiting = [client.store_later("b", text) for _ in range(FLIGHT)]
+        count, begin = 0, time.perf_counter()
+        while time.perf_counter() - begin < seconds:
+            waiting.pop(0).result()
+            waiting.append(client.store_later("b", text))
+            count += 1
+        taken = time.perf_counter() - begin
+    return count / taken
+
+
+def reads(places: Sequence[str], seconds: float) -> float:
+    """Queries a second of several clients, which have one in flight each."""
+    begin = time.perf_counter()
+
+    def work(number: int) -> int:
+        count = 0
+        with connect(places[number % len(places)]) as client:
+            while time.perf_counter() < begin + seconds:
+                client.query_text(ORDER_BY)
+                count += 1
+        return count
+
+    with ThreadPoolExecutor(CLIENTS) as pool:
+        count = sum(pool.map(work, range(CLIENTS)))
+    return count / (time.perf_counter() - begin)
+
+
+class Bench:
+    """Brokers, a log and nodes, and what was measured of them."""
+
+    def __init__(self, brokers: Brokers, server: list[str], folder: pathlib.Path,
+                 given: argparse.Namespace) -> None:
+        self.brokers, self.server, self.folder, self.given = brokers, server, folder, given
+        self.faults: list[str] = []
+        self._logs = 0
+
+    def nodes(self, count: int, *options: str) -> list[RunningNode]:
+        """So many nodes over a log of their own."""
+        self._logs += 1
+        found = [RunningNode(f"n{self._logs}.{number}", self.brokers, f"log{self._logs}",
+                             self.folder, *options, first=number % 3, command=self.server)
+                 for number in range(count)]
+        for node in found:
+            node.begin(is_awaited=False)
+        deque(map(RunningNode.wait_until_it_listens, found), 0)
+        return found
+
+    def judge(self, what: str, holds: bool, said: str) -> None:
+        """Prints a bound, and notes it where it does not hold."""
+        print(f"{what}: {said}: {'holds' if holds else 'does NOT hold'}", flush=True)
+        if not holds:
+            self.faults.append(what)
+
+    def measure_stores(self) -> None:
+        """Stores without a log, by one node, and by one of three."""
+        alone, three = self.nodes(1), self.nodes(3)
+        rows: list[list[float]] = []
+        for run in range(self.given.runs):
+            path = self.folder / f"alone-{run}.db"
+            places = [[*self.server, "--file", str(path)], alone[0].place, three[0].place]
+            rows.append([stores(place, self.given.seconds) for place in places])
+        file, one, of_three = (statistics.median(column) for column in zip(*rows, strict=True))
+        print(f"stores a second with {FLIGHT} in flight: one server on a file {file:,.0f}, one "
+              f"node {one:,.0f}, one of three nodes {of_three:,.0f}")
+        for name, found in (("one node", one), ("one of three nodes", of_three)):
+            self.judge(f"stores through the log, {name}", found / file >= STORES,
+                       f"{found / file:.2f} of those without, wanted {STORES}")
+        end(alone + three)
+
+    def measure_reads(self) -> None:
+        """The `order by` at one node, at three, and at one of three servers."""
+        groups = [self.filled(*it) for it in ((1,), (3,), (1, "--servers", "3"))]
+        rows = [[reads([it.place for it in group], self.given.seconds * 2) for group in groups]
+                for _ in range(self.given.runs)]
+        one, three, servers = (statistics.median(column) for column in zip(*rows, strict=True))
+        print(f"`order by` a second, {CLIENTS} clients: one node {one:.1f}, three nodes "
+              f"{three:.1f}, one node of three servers {servers:.1f}")
+        self.judge("reads of three nodes", three / one >= READS,
+                   f"{three / one:.2f} times those of one, wanted {READS}")
+        end([node for group in groups for node in group])
+
+    def filled(self, count: int, *options: str) -> list[RunningNode]:
+        """So many nodes, each of whose servers has answered the query."""
+        group = self.nodes(count, *options)
+        with connect(group[0].place) as client:
+            client.store("lib", document(self.given.elements))
+        reads([it.place for it in group] * CLIENTS, 0.1)
+        return group
+
+    def measure_beginning(self) -> None:
+        """How long rows take to restore, and to begin from."""
+        [node] = self.nodes(1)
+        backup = self.folder / "x.backup"
+        with connect(node.place) as client:
+            fill(client)
+        command([*self.words("backup"), str(backup), "--server", node.place])
+        node.terminate()
+        rows = []
+        for _ in range(self.given.runs):
+            restored = command([*self.words("restore"), str(backup), "--server",
+                                shlex.join(self.server)])
+            begin = time.perf_counter()
+            node.begin()
+            rows.append((restored, time.perf_counter() - begin))
+            node.kill()
+        restored, begun = (statistics.median(column) for column in zip(*rows, strict=True))
+        print(f"{DOCUMENTS * ROWS:,} rows in {DOCUMENTS} documents: restored in {restored:.2f} s; "
+              f"a node that begins from a snapshot of them follows after {begun:.2f} s")
+        self.judge("beginning", begun / restored <= FOLLOWS,
+                   f"{begun / restored:.2f} times the restore, wanted at most {FOLLOWS}")
+
+    @staticmethod
+    def words(name: str) -> list[str]:
+        """How a command of the client is run."""
+        return [sys.executable, str(TOP / "xqs"), name]
+
+
+def fill(client: Client) -> None:
+    """Stores the rows."""
+    futures = [
+        client.store_later(f"d{number}", "document {element rows {for $n in 1 to "
+                           f"{(ROWS - 2) // 2} return element r {{text {{$n + {number}}}}}}}}}")
+        for number in range(DOCUMENTS)]
+    for future in futures:
+        future.result()
+
+
+def end(nodes: Sequence[RunningNode]) -> None:
+    """Ends nodes in order."""
+    for node in nodes:
+        node.end()
+
+
+def command(words: list[str]) -> float:
+    """Runs a command, which has to end well; its seconds."""
+    begin = time.perf_counter()
+    done = subprocess.run(words, capture_output=True, text=True, check=False)
+    if done.returncode:
+        sys.exit(f"{shlex.join(words)}: {done.stderr}")
+    return time.perf_counter() - begin
+
+
+def versions() -> str:
+    """The versions of the two packages."""
+    names = ["rabbitmq-server", "python3-aio-pika"]
+    done = subprocess.run(["dpkg-query", "-W", "-f", "${Package} ${Version}  ", *names],
+                          capture_output=True, text=True, check=False)
+    return done.stdout.strip() or f"{SCRIPT}, not of a Debian package"
+
+
+def main() -> int:
+    """Measures and judges; gives the exit status."""
+    parser = argparse.ArgumentParser(description=(__doc__ or "").splitlines()[0])
+    parser.add_argument("--server", default=os.environ.get("XQS_SERVER") or str(TOP / "serve"))
+    parser.add_argument("--seconds", type=float, default=5.0)
+    parser.add_argument("--runs", type=int, default=5)
+    parser.add_argument("--elements", type=int, default=ELEMENTS)
+    parser.add_argument("names", nargs="*", metavar="stores|reads|beginning")
+    given = parser.parse_args()
+    if why := missing():
+        sys.exit(f"cluster: {why}")
+    print(f"{versions()}; the load of the machine is {os.getloadavg()[0]:.1f}")
+    with Brokers() as brokers, tempfile.TemporaryDirectory(prefix="xqs-bench-") as room:
+        bench = Bench(brokers, shlex.split(given.server), pathlib.Path(room), given)
+        for name in given.names or ("stores", "reads", "beginning"):
+            getattr(bench, f"measure_{name}")()
+    return 1 if bench.faults else 0
+
+
+if __name__ == "__main__":
+    sys.exit(main())

@@ -1,0 +1,87 @@
+"""Where a log is: the addresses of the brokers that keep it, and its name."""
+
+import os
+import urllib.parse
+from dataclasses import dataclass
+
+VARIABLE = "XQS_LOG"
+_SCHEMES = ("amqp", "amqps")
+
+
+@dataclass(frozen=True)
+class LogAddress:
+    """The log's name, and of each broker the URL to connect to, which may hold a password."""
+
+    name: str
+    brokers: tuple[str, ...]
+
+
+def log_address(text: str) -> LogAddress:
+    """The log of `amqp://[USER:PASSWORD@]HOST[:PORT]/NAME[?vhost=V],..`, one for each broker.
+
+    A broker behind the first may be named by HOST[:PORT] alone, and then has all else of the first.
+    ValueError where the text is none.
+    """
+    first, *others = [it.strip() for it in text.split(",")]
+    begin = _split(first)
+    name = _name(begin)
+    brokers = [_broker(begin)]
+    for other in others:
+        parts = _split(other) if "://" in other else _with_host(begin, other)
+        if _name(parts) != name:
+            raise ValueError(f"two logs are named: {name} and {_name(parts)}")
+        brokers.append(_broker(parts))
+    return LogAddress(name, tuple(brokers))
+
+
+def given_log(text: str | None) -> LogAddress:
+    """The log that an option names, or the environment, where a password stands better."""
+    where = text or os.environ.get(VARIABLE)
+    if not where:
+        raise ValueError(f"no log is named: give --log, or set {VARIABLE}")
+    return log_address(where)
+
+
+def shown(broker: str) -> str:
+    """A broker's address without its account."""
+    parts = urllib.parse.urlsplit(broker)
+    host = f"[{parts.hostname}]" if ":" in (parts.hostname or "") else parts.hostname
+    return f"{host}:{parts.port}" if parts.port else str(host)
+
+
+def _split(text: str) -> urllib.parse.SplitResult:
+    parts = urllib.parse.urlsplit(text)
+    if parts.scheme not in _SCHEMES or not parts.hostname:
+        raise ValueError(f"not the address of a log: {_censored(text)} (amqp://HOST/NAME)")
+    try:
+        parts.port  # noqa: B018 (it is judged when it is asked for)
+    except ValueError as error:
+        raise ValueError(f"not the address of a log: {_censored(text)} ({error})") from error
+    return parts
+
+
+def _censored(text: str) -> str:
+    return text.rpartition("@")[2]
+
+
+def _name(parts: urllib.parse.SplitResult) -> str:
+    name = urllib.parse.unquote(parts.path.removeprefix("/"))
+    if not 1 <= len(name.encode()) <= 200 or "/" in name:
+        raise ValueError(f"the address of a log wants its name: amqp://{parts.hostname}/NAME")
+    return name
+
+
+def _with_host(first: urllib.parse.SplitResult, host: str) -> urllib.parse.SplitResult:
+    account, at, _ = first.netloc.rpartition("@")
+    return _split(first._replace(netloc=f"{account}{at}{host}").geturl())
+
+
+def _broker(parts: urllib.parse.SplitResult) -> str:
+    query = urllib.parse.parse_qs(parts.query)
+    vhost = query.pop("vhost", ["/"])[0]
+    # A silent broker is given up after three times its `timeout`, which is in seconds.
+    query.setdefault("heartbeat", ["4"])
+    query.setdefault("timeout", ["3"])
+    path = "/" if vhost == "/" else "/" + urllib.parse.quote(vhost, safe="")
+    words = urllib.parse.urlencode(query, doseq=True)
+    return parts._replace(path=path, query=words, fragment="").geturl()

@@ -1,0 +1,373 @@
+"""One server that carries out the log: where it begins, each message, where it stops."""
+
+import asyncio
+from collections.abc import Callable, Iterator, Sequence
+from contextlib import aclosing, contextmanager
+from dataclasses import dataclass
+from pathlib import Path
+from typing import TYPE_CHECKING
+
+from xqs.cluster import snapshots, sums
+from xqs.cluster.agreement import Agreement, Differs, Report
+from xqs.cluster.batches import Batch, EntryKind, NoBatch, changes, decode
+from xqs.cluster.log import Away, CannotFollow, Log
+from xqs.cluster.outbox import Outbox
+from xqs.cluster.serving import Asked, ServerEnded, ask, with_client
+from xqs.cluster.snapshots import Snapshot
+from xqs.cluster.state import State
+from xqs.cluster.steps import passed
+from xqs.cluster.store_file import StoreFile
+from xqs.errors import Closed, Wanting, XqError
+from xqs.mux_backend import Backend, StartFailed
+from xqs.mux_peer import Request
+from xqs.protocol import Status
+from xqs.waiting import cancelled
+
+if TYPE_CHECKING:
+    from xqs.cluster.reads import Reads
+
+AGAIN = 0.2
+"""Seconds before the log is asked again where it could not be reached."""
+START_DELAYS = (0.0, 0.1, 0.5, 1.0, 2.0)
+"""Seconds before each try to start the server again; after the last the follower gives up."""
+VAIN_TRIES = 3
+"""So many servers in turn may end at one entry; then it is left to whoever looks at it."""
+
+
+class Halted(XqError):
+    """The server can't carry out what comes next in the log, and has carried out all before it."""
+
+
+class Ended(Exception):
+    """The log says that all nodes end here."""
+
+
+@dataclass(frozen=True)
+class Given:
+    """What a follower is given: its name, its server's command, the program that this runs, and
+    where its documents and snapshots are."""
+
+    name: str
+    command: Sequence[str]
+    program: str
+    file: StoreFile | None
+    snapshots: Path | None
+
+
+class Follower:
+    """A server that carries out all entries of the log in their order, and what it stands at.
+
+    Between two messages, and never within one, `between` may be held: the documents are then those
+    of `state`. `reading` has the reads of clients that the server was sent, `waits_since` the time
+    at which the wait for the next message began. While `is_reporting` it reports its sums.
+    `retired` is a server that ends because another one is to take its place.
+    """
+
+    def __init__(self, given: Given, log: Log, outbox: Outbox, reads: "Reads",
+                 say: Callable[[str], None]) -> None:
+        self.given = given
+        self._log = log
+        self._outbox = outbox
+        self._reads = reads
+        self._say = say
+        self.state = self._nothing()
+        self.between = asyncio.Lock()
+        self.reading: set[Request] = set()
+        self.halted = ""
+        self.is_ready = self.is_ended = self.is_done = self.is_reporting = False
+        self.waits_since: float | None = None
+        self.retired: Backend | None = None
+        self._backend: Backend | None = None
+        self._ends: dict[int, int] = {}
+
+    @property
+    def name(self) -> str:
+        """How messages call it."""
+        return self.given.name
+
+    @property
+    def backend(self) -> Backend:
+        """The server that runs, or has ended, once one was started."""
+        assert self._backend is not None
+        return self._backend
+
+    async def begin(self) -> None:
+        """Starts the server, with the documents of the place at which it begins.
+
+        Raises StartFailed, CannotFollow, NotOurs, and errors of a restore.
+        """
+        file = self.given.file
+        state = await asyncio.to_thread(file.begin) if file else None
+        snapshot = None if state else await self._newest()
+        self._backend = await self.start_server()
+        try:
+            if snapshot:
+                found = snapshot
+                count = await with_client(self.backend, lambda it: snapshots.restore(it, found))
+                self._say(f"{self.name} begins from {found.path}: {count} documents of "
+                          f"{found.state}")
+            self.state = self._checked(
+                state or (snapshot.state if snapshot else self._nothing()))
+        except BaseException:
+            self.backend.kill()
+            raise
+        self.agreement = Agreement(self.name, self.given.program, self.state.reports)
+        self.is_ready = True
+        self._reads.changed()
+
+    async def start_server(self) -> Backend:
+        """Another process of this server's command. Raises StartFailed."""
+        return await Backend.start(self.given.command, self._on_reply, None)
+
+    def go_on_with(self, backend: Backend) -> None:
+        """Puts a process with the same documents into the place of the one that was there."""
+        self._backend = backend
+        self.is_ready = True
+        self._reads.changed()
+
+    def _nothing(self) -> State:
+        return State(self._log.name, self.given.program)
+
+    async def _newest(self) -> Snapshot | None:
+        folder = self.given.snapshots
+        return await asyncio.to_thread(snapshots.newest, folder, self._say) if folder else None
+
+    def _checked(self, state: State) -> State:
+        """A state to begin from. Another program may go on from there, where all nodes change."""
+        if state.log != self._log.name:
+            raise CannotFollow(f"the documents are of the log {state.log}, not {self._log.name}")
+        if state.program != self.given.program:
+            self._say(f"{self.name}: the program {self.given.program} goes on at {state}, where "
+                      f"{state.program} came to")
+            state.program, state.reports = self.given.program, {}
+        return state
+
+    async def run(self) -> None:
+        """Follows the log until it halts; a server that ends is started again.
+
+        Raises Ended, Differs, StartFailed, and errors of a new beginning.
+        """
+        while not self.halted:
+            following = asyncio.create_task(self._follow())
+            ended = asyncio.create_task(self._server_ended())
+            try:
+                await asyncio.wait((following, ended), return_when=asyncio.FIRST_COMPLETED)
+                if following.done():
+                    following.result()
+            except (Halted, CannotFollow) as error:
+                self._halt(str(error))
+            except Differs as error:
+                self.halted = str(error)
+                raise
+            except ServerEnded:
+                pass
+            finally:
+                await cancelled(following, ended)
+            async with self.between:
+                if self.backend.ended.is_set() and not self.halted:
+                    with self._working():
+                        await self._begin_again()
+
+    async def _server_ended(self) -> None:
+        """Waits until the server has ended, and no other one takes its place.
+
+        Who follows the log is stopped then, wherever it is, and must not be where a server goes on:
+        what that carried out meanwhile would be carried out again.
+        """
+        while True:
+            backend = self.backend
+            await backend.ended.wait()
+            if backend is self.backend and backend is not self.retired:
+                return
+            await asyncio.sleep(AGAIN)
+
+    async def rest(self) -> None:
+        """Waits until the server ends that no longer follows the log; then nothing is left to
+        answer reads with."""
+        await self.backend.ended.wait()
+        self.is_ready, self.is_ended = False, True
+        self._settle_in_flight()
+        self._reads.changed()
+
+    def _halt(self, why: str) -> None:
+        self.halted = why
+        self._say(f"{self.name} no longer follows the log, at {self.state}: {why}; reads are "
+                  "answered with the documents of that place until the node is started again "
+                  "from a snapshot")
+        self._reads.changed()
+
+    async def _begin_again(self) -> None:
+        """Starts a server in the place of one that has ended, from the newest snapshot."""
+        self.is_ready = False
+        self._say(f"{self.name}: the server is started again ({self.backend.status()}, at "
+                  f"{self.state})")
+        self._settle_in_flight()
+        for number, delay in enumerate(START_DELAYS):
+            await asyncio.sleep(delay)
+            try:
+                await self.begin()
+                return
+            except (StartFailed, Closed, Wanting, OSError) as error:
+                if number == len(START_DELAYS) - 1:
+                    raise
+                self._say(str(error))
+
+    def _settle_in_flight(self) -> None:
+        """Settles what the server that ended had: each entry is carried out anew by the next one;
+        clients' reads go back to whoever sent them."""
+        in_flight = list(self.backend.in_flight)
+        self.backend.in_flight.clear()
+        if in_flight and isinstance(in_flight[0], Asked):
+            self._ends[self.state.place] = self._ends.get(self.state.place, 0) + 1
+        for number, request in enumerate(in_flight):
+            if isinstance(request, Asked):
+                if not request.done.done():
+                    request.done.set_exception(ServerEnded())
+            elif request in self.reading:
+                self.reading.discard(request)
+                is_blamed = number == 0 and not self.backend.is_worth_a_repetition(request)
+                self._reads.returned(request, is_blamed)
+
+    def _on_reply(self, request: Request, reply: bytes) -> None:
+        if isinstance(request, Asked):
+            if not request.done.done():
+                request.done.set_result(reply)
+            return
+        if request in self.reading:
+            self.reading.discard(request)
+            self._reads.changed()
+        if request.peer and not request.peer.gone:
+            request.peer.answer(request, reply)
+
+    async def _follow(self) -> None:
+        """Takes each message of the log as it comes."""
+        while True:
+            try:
+                await self._check_end()
+                await self._take_all()
+            except Away:
+                self.waits_since = None
+                await asyncio.sleep(AGAIN)
+
+    async def _take_all(self) -> None:
+        """Takes messages until the connection ends. Raises Away then."""
+        async with aclosing(self._log.messages(self.state.offset)) as messages:
+            self._wait_begins()
+            async for offset, message in messages:
+                with self._working():
+                    async with self.between:
+                        await self._take(offset, message)
+
+    def _wait_begins(self) -> None:
+        self.waits_since = asyncio.get_running_loop().time()
+
+    @contextmanager
+    def _working(self) -> Iterator[None]:
+        """This server has something to carry out: what waits, waits for it and not for the log."""
+        self.waits_since = None
+        self._outbox.busy += 1
+        try:
+            yield
+        finally:
+            self._outbox.busy -= 1
+            self._outbox.stir()
+            self._wait_begins()
+
+    async def _check_end(self) -> None:
+        """That the log goes as far as this follower has come; else it is another one."""
+        if self.state.offset >= 0:
+            end = await self._log.end_offset()
+            if end <= self.state.offset:
+                raise CannotFollow(f"the log {self._log.name} ends at offset {end}, and the "
+                                   f"documents are of {self.state}: it is not the log that they "
+                                   "followed, or it was made anew")
+
+    async def _check_gap(self, offset: int) -> None:
+        first = await self._log.first_offset()
+        if first > self.state.offset + 1:
+            raise CannotFollow(
+                f"the log {self._log.name} begins at offset {first}, and the documents are of "
+                f"{self.state}: what lies between is no longer there, so begin from a later "
+                "snapshot, which another node has")
+
+    async def _take(self, offset: int, message: bytes) -> None:
+        """Takes a message; one that was taken before is left out. Raises Ended at an end."""
+        passed("received")
+        if offset <= self.state.offset:
+            return
+        if offset != self.state.offset + 1:
+            await self._check_gap(offset)
+        try:
+            batch = decode(message)
+        except NoBatch as error:
+            self._say(f"{self.name}: {error}, at offset {offset}: it is left out")
+            self.state.offset = offset
+            return
+        passed("decoded")
+        is_end = await self._take_batch(batch)
+        self.state.offset = offset
+        passed("taken")
+        if is_end:
+            raise Ended
+
+    async def _take_batch(self, batch: Batch) -> bool:
+        """Carries out the entries that were not seen; whether they end with an end."""
+        is_own = batch.sender == self._outbox.sender
+        if is_own and self.state.seen.is_ahead(batch):
+            self._outbox.send_again()
+        is_end = False
+        for number, entry in self.state.seen.new_entries(batch):
+            reply = await self._carry_out(entry)
+            self.state.seen.take(batch.sender, number)
+            passed("noted")
+            self._reads.changed()
+            if is_own:
+                self._reads.raise_floor(self.state.place)
+                self._outbox.came_back(number, reply)
+                passed("answered")
+            is_end = entry[:1] == EntryKind.END
+        return is_end
+
+    async def _carry_out(self, entry: bytes) -> bytes:
+        """Carries out an entry; the status and text of its reply, none of what is no change."""
+        if not changes(entry):
+            self._hear(entry)
+            return b""
+        if (ends := self._ends.get(self.state.place, 0)) >= VAIN_TRIES:
+            raise Halted(f"{ends} servers in turn ended at the next entry")
+        passed("sent")
+        reply = await ask(self.backend, entry)
+        passed("replied")
+        if reply[0] == Status.WANTING:
+            raise Halted(f"the next entry was answered with {reply[1:].decode()}")
+        self.state.place += 1
+        self.state.total = sums.after(self.state.total, entry, reply)
+        if report := self.agreement.reached(self.state.place, self.state.total):
+            self.state.reports = self.agreement.sums
+            if self.is_reporting:
+                self._outbox.post(report.entry())
+        return reply
+
+    def _hear(self, entry: bytes) -> None:
+        """Takes a report of another node, or an end. Raises Differs, CannotFollow."""
+        program = entry[1:].decode(errors="replace")
+        if entry[:1] == EntryKind.END and program != self.given.program:
+            raise CannotFollow(f"all nodes ended here that ran the program {program}, and this is "
+                               f"{self.given.program}: begin from a snapshot of this place")
+        report = Report.of(entry) if entry[:1] == EntryKind.REPORT else None
+        if report and (said := self.agreement.hear(report)):
+            self._say(said)
+
+    async def end(self) -> None:
+        """Ends the server in order, and notes beside its file where it stands."""
+        if self._backend is None:
+            return
+        self.is_ready = False
+        await self.backend.finish()
+        if self.given.file and not self.halted and self.backend.process.returncode == 0:
+            await asyncio.to_thread(self.given.file.end, self.state)
+
+    def abandon(self) -> None:
+        """Ends the server at once."""
+        if self._backend is not None:
+            self._backend.kill()

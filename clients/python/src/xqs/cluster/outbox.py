@@ -1,0 +1,191 @@
+"""What this node writes into the log: each entry from its client's frame until it comes back."""
+
+import asyncio
+import collections
+import time
+
+from xqs.cluster.batches import MARK, Batch, encode, fitting
+from xqs.cluster.log import Away, Log
+from xqs.cluster.steps import passed
+from xqs.errors import XqError
+
+IN_FLIGHT = 1
+"""So many messages may wait for their confirmations; entries that come meanwhile share the next."""
+HELD_BYTES = 64 << 20
+"""So many bytes of entries are on their way at once; clients with more of them wait."""
+SWEEP = 0.1
+"""Seconds between two looks at what has waited too long."""
+CONFIRMATION = 10.0
+"""Seconds for which a confirmation is awaited before another broker is tried."""
+
+
+class Unknown(XqError):
+    """An entry did not come back in time: it was carried out, or will be, or not."""
+
+
+class Pending:
+    """An entry on its way.
+
+    `done` gives, once it is carried out here, the status and text of its reply, no bytes of a mark;
+    or Unknown.
+    """
+
+    __slots__ = ("entry", "number", "until", "done")
+
+    def __init__(self, entry: bytes, number: int, until: float) -> None:
+        self.entry = entry
+        self.number = number
+        self.until = until
+        self.done: asyncio.Future[bytes] = asyncio.get_running_loop().create_future()
+        self.done.add_done_callback(_look_at)
+
+
+def _look_at(done: "asyncio.Future[bytes]") -> None:
+    """Looks at what became of an entry, so that nobody is told that nobody did."""
+    if not done.cancelled():
+        done.exception()
+
+
+class Outbox:
+    """The entries of one sender, which are numbered from 1 and sent in that order.
+
+    They are sent again after each loss of the connection and each gap that is seen in the log, and
+    whoever follows leaves out what comes twice. An entry is given up when it was not answered for
+    `seconds`, and the log brought nothing in that time that servers of this node had to carry out,
+    as they say by `stir` and `busy`: its client is told that it is unknown, and where it is sent
+    once more, a mark stands in its place.
+    """
+
+    def __init__(self, sender: str, log: Log, seconds: float) -> None:
+        self.sender = sender
+        self._log = log
+        self._seconds = seconds
+        self._pending: collections.OrderedDict[int, Pending] = collections.OrderedDict()
+        self._due: collections.deque[Pending] = collections.deque()
+        self._next = self._to_send = 1
+        self._bytes = 0
+        self._turn = asyncio.Lock()
+        self._has_room = asyncio.Event()
+        self._work = asyncio.Event()
+        self._free = asyncio.Semaphore(IN_FLIGHT)
+        self._sends: set[asyncio.Task[None]] = set()
+        self._stirred = 0.0
+        self.busy = 0
+
+    def __len__(self) -> int:
+        return len(self._pending)
+
+    async def put(self, entry: bytes) -> Pending:
+        """Takes an entry once there is room for it, those that wait in the order of their calls."""
+        async with self._turn:
+            while self._bytes and self._bytes + len(entry) > HELD_BYTES:
+                self._has_room.clear()
+                await self._has_room.wait()
+            return self.post(entry)
+
+    def post(self, entry: bytes) -> Pending:
+        """Takes an entry of the node itself, for which there is always room."""
+        pending = Pending(entry, self._next, time.monotonic() + self._seconds)
+        self._next += 1
+        self._pending[pending.number] = pending
+        self._due.append(pending)
+        self._bytes += len(entry)
+        self._work.set()
+        return pending
+
+    def mark(self) -> Pending:
+        """A mark behind all entries that were put so far; one that was not sent yet is shared."""
+        last = self._pending.get(self._next - 1)
+        if last and last.entry == MARK and last.number >= self._to_send and not last.done.done():
+            return last
+        return self.post(MARK)
+
+    def came_back(self, number: int, reply: bytes) -> None:
+        """An entry of this sender was carried out by a server of this node, with this reply.
+
+        Where several servers follow the log, the first one answers.
+        """
+        while self._pending and next(iter(self._pending)) <= number:
+            _, pending = self._pending.popitem(last=False)
+            self._make_room(len(pending.entry))
+            if pending.done.done():
+                continue
+            if pending.number == number:
+                pending.done.set_result(reply)
+            else:
+                pending.done.set_exception(Unknown("its reply was not seen"))
+
+    def _make_room(self, size: int) -> None:
+        self._bytes -= size
+        self._has_room.set()
+
+    def send_again(self) -> None:
+        """Has all entries that have not come back sent once more."""
+        self._to_send = next(iter(self._pending), self._next)
+        self._work.set()
+
+    async def run(self) -> None:
+        """Sends what is to be sent, as long as this runs."""
+        sweep = asyncio.create_task(self._sweep())
+        try:
+            while True:
+                await self._work.wait()
+                await self._free.acquire()
+                if not self._start_send():
+                    self._free.release()
+        finally:
+            sweep.cancel()
+
+    def _start_send(self) -> bool:
+        """Begins to send the next message; False where there is none, or no log."""
+        self._to_send = max(self._to_send, next(iter(self._pending), self._next))
+        if self._to_send >= self._next or not self._log.is_up:
+            self._work.clear()
+            return False
+        first = self._to_send
+        entries = fitting(self._pending[it].entry for it in range(first, self._next))
+        self._to_send += len(entries)
+        task = asyncio.create_task(self._send(Batch(self.sender, first, tuple(entries))))
+        self._sends.add(task)
+        task.add_done_callback(self._sends.discard)
+        return True
+
+    async def _send(self, batch: Batch) -> None:
+        """Sends a message; where that fails, it is sent again when the log is back."""
+        try:
+            passed("published")
+            await asyncio.wait_for(self._log.publish(encode(batch)), CONFIRMATION)
+            passed("confirmed")
+        except Away:
+            pass
+        except TimeoutError:
+            self._log.drop(f"no confirmation for {CONFIRMATION:g} seconds")
+        finally:
+            self._free.release()
+
+    def stir(self) -> None:
+        """Something of the log was carried out: the wait for what is behind it begins anew."""
+        self._stirred = time.monotonic()
+
+    async def _sweep(self) -> None:
+        while True:
+            await asyncio.sleep(SWEEP)
+            if self.busy:
+                self.stir()
+            self._give_up_due(time.monotonic())
+
+    def _give_up_due(self, now: float) -> None:
+        is_silent = now - self._stirred > self._seconds
+        while self._due and (self._due[0].done.done() or is_silent and self._due[0].until < now):
+            self._give_up(self._due.popleft())
+
+    def give_up_all(self) -> None:
+        """Tells all that wait that what becomes of their entries is unknown."""
+        while self._due:
+            self._give_up(self._due.popleft())
+
+    def _give_up(self, pending: Pending) -> None:
+        if not pending.done.done():
+            self._make_room(len(pending.entry) - len(MARK))
+            pending.entry = MARK
+            pending.done.set_exception(Unknown("the log did not bring it back in time"))

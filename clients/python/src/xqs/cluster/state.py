@@ -1,0 +1,53 @@
+"""How far a server has followed the log, and what has to be known to go on from there."""
+
+import json
+from dataclasses import dataclass, field
+
+from xqs.cluster import sums
+from xqs.cluster.seen import Seen
+from xqs.errors import XqError
+
+
+class NoState(XqError, ValueError):
+    """A text that is no state of a follower."""
+
+
+@dataclass
+class State:
+    """A place of the log, and what a server that has carried out all up to it needs for the rest.
+
+    `offset` is that of the last message which was taken, -1 before the first; `place` counts the
+    stores and drops that were carried out since the log's beginning, and `total` is their sum.
+    `reports` has the last sums that were reported, by place; `program` carried all this out.
+    """
+
+    log: str
+    program: str
+    offset: int = -1
+    place: int = 0
+    total: str = sums.START
+    seen: Seen = field(default_factory=Seen)
+    reports: dict[int, str] = field(default_factory=dict)
+
+    def to_json(self) -> str:
+        """The state as one line of text."""
+        return json.dumps({
+            "log": self.log, "program": self.program, "offset": self.offset, "place": self.place,
+            "sum": self.total, "seen": self.seen.numbers(),
+            "reports": {str(place): total for place, total in self.reports.items()},
+        })
+
+    @staticmethod
+    def of_json(text: str) -> "State":
+        """The state of such a text; NoState."""
+        try:
+            fields = json.loads(text)
+            seen = {str(name): int(number) for name, number in fields["seen"].items()}
+            reports = {int(place): str(total) for place, total in fields["reports"].items()}
+            return State(str(fields["log"]), str(fields["program"]), int(fields["offset"]),
+                         int(fields["place"]), str(fields["sum"]), Seen(seen), reports)
+        except (ValueError, KeyError, TypeError, AttributeError) as error:
+            raise NoState(f"no state of a follower: {text[:80]!r}") from error
+
+    def __str__(self) -> str:
+        return f"place {self.place:,} (offset {self.offset})"

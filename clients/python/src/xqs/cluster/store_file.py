@@ -1,0 +1,105 @@
+"""The file of a node's documents, and beside it the place of the log that it stands at.
+
+`X.db.node` says whether a server runs on the file, or has ended in order, and then how far it had
+followed the log and which size and sum the file has. A file that is not as it says, since a server
+was killed or something else wrote there, holds nobody knows which place: the node begins anew.
+"""
+
+import hashlib
+import json
+import os
+from dataclasses import dataclass
+from pathlib import Path
+
+from xqs.cluster.snapshots import sync_folder
+from xqs.cluster.state import NoState, State
+from xqs.cluster.steps import passed
+from xqs.errors import XqError
+
+_WITH_IT = ("", "-wal")
+"""The file and its log, which belong together."""
+RUNNING = {"is": "running"}
+
+
+class NotOurs(XqError):
+    """A file of documents that never followed a log."""
+
+
+@dataclass(frozen=True)
+class StoreFile:
+    """A file of documents that follows a log."""
+
+    path: Path
+
+    @property
+    def note(self) -> Path:
+        """The file beside it, which says where it stands."""
+        return self.path.with_name(self.path.name + ".node")
+
+    def begin(self) -> State | None:
+        """The state from which a server on the file goes on; None where it begins without
+        documents. From then on the file counts as one on which a server runs.
+
+        What is there of a server that did not end in order is set aside, as `X.db.left`. NotOurs
+        where a file is there that never followed a log.
+        """
+        state = self._ended_state()
+        if state is None:
+            if self.path.exists() and not self.note.exists():
+                raise NotOurs(f"{self.path} is there, and never followed a log: give another "
+                              "--file, and load what it has into the node")
+            self._set_aside()
+        self._write_note(RUNNING)
+        return state
+
+    def end(self, state: State) -> None:
+        """Notes that the server ended in order, at this state."""
+        passed("file ended")
+        self._write_note({"is": "ended", "state": state.to_json(), "size": self._size(),
+                          "sum": self._sum()})
+        passed("file noted")
+
+    def _ended_state(self) -> State | None:
+        try:
+            fields = json.loads(self.note.read_text())
+            if fields["is"] != "ended" or fields["size"] != self._size():
+                return None
+            state = State.of_json(fields["state"])
+            return state if fields["sum"] == self._sum() else None
+        except (OSError, ValueError, KeyError, TypeError, NoState):
+            return None
+
+    def _parts(self) -> list[Path]:
+        return [self.path.with_name(self.path.name + end) for end in _WITH_IT]
+
+    def _size(self) -> int:
+        return sum(it.stat().st_size for it in self._parts() if it.exists())
+
+    def _sum(self) -> str:
+        digest = hashlib.sha256()
+        for part in self._parts():
+            digest.update(_digest(part) if part.exists() else b"")
+        return digest.hexdigest()
+
+    def _set_aside(self) -> None:
+        left = self.path.with_name(self.path.name + ".left")
+        for part, end in zip(self._parts(), _WITH_IT, strict=True):
+            aside = left.with_name(left.name + end)
+            if part.exists():
+                os.replace(part, aside)
+            else:
+                aside.unlink(missing_ok=True)
+
+    def _write_note(self, fields: dict[str, object] | dict[str, str]) -> None:
+        part = self.note.with_name(self.note.name + ".part")
+        with open(part, "w") as file:
+            file.write(json.dumps(fields))
+            file.flush()
+            os.fsync(file.fileno())
+        os.replace(part, self.note)
+        sync_folder(self.path.parent)
+
+
+def _digest(path: Path) -> bytes:
+    with open(path, "rb") as file:
+        return hashlib.file_digest(file, "sha256").digest()

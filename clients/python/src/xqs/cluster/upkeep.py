@@ -1,0 +1,73 @@
+"""What is done to a server between two messages: snapshots of it, and another one in its place."""
+
+import asyncio
+import tempfile
+from pathlib import Path
+
+from xqs.cluster import snapshots
+from xqs.cluster.follower import Follower
+from xqs.cluster.serving import with_client
+from xqs.cluster.snapshots import Snapshot
+from xqs.errors import XqError
+from xqs.mux_backend import Backend
+from xqs.protocol import FRAME_LIMIT
+
+FILE_FRAMES = FRAME_LIMIT - 10_000
+"""Frames after which a server on a file is started again."""
+MEMORY_FRAMES = 600_000
+"""Frames after which one in memory is: its documents have to be read by those that are left."""
+
+
+def wants_renewal(follower: Follower) -> bool:
+    """Whether the server has answered so many frames that it is to be started again."""
+    limit = FILE_FRAMES if follower.given.file else MEMORY_FRAMES
+    return follower.is_ready and follower.backend.frames >= limit
+
+
+async def renew(follower: Follower) -> None:
+    """Starts the server again between two messages, with the documents that it has."""
+    async with follower.between:
+        follower.retired = old = follower.backend
+        try:
+            if follower.given.file:
+                follower.is_ready = False
+                await old.finish()
+                follower.go_on_with(await follower.start_server())
+            else:
+                follower.go_on_with(await _copied(follower, old))
+                await old.finish()
+        finally:
+            follower.retired = None
+
+
+async def _copied(follower: Follower, old: Backend) -> Backend:
+    """A server in memory that has the documents of another one."""
+    with tempfile.TemporaryDirectory(prefix="xqs-node-") as room:
+        folder, state = Path(room), follower.state
+        await with_client(old, lambda it: snapshots.write(it, state, folder))
+        new = await follower.start_server()
+        snapshot = Snapshot(snapshots.path_of(folder, state.offset), state)
+        await with_client(new, lambda it: snapshots.restore(it, snapshot))
+    return new
+
+
+async def take_snapshot(follower: Follower) -> str:
+    """Takes a snapshot between two messages; what is to be said of it.
+
+    XqError where the server does not follow the log, or has no folder for snapshots.
+    """
+    folder = _folder(follower)
+    async with follower.between:
+        if follower.halted or not follower.is_ready:
+            raise XqError(f"{follower.name} does not follow the log")
+        state = follower.state
+        path, count = await with_client(
+            follower.backend, lambda it: snapshots.write(it, state, folder))
+        await asyncio.to_thread(snapshots.remove_old, folder)
+        return f"{path}: {count} documents of {state}"
+
+
+def _folder(follower: Follower) -> Path:
+    if follower.given.snapshots is None:
+        raise XqError("the node has no folder for snapshots (--snapshots)")
+    return follower.given.snapshots

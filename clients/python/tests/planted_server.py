@@ -1,0 +1,56 @@
+"""Stands before a server, with faults: `planted_server.py WORD=ADDRESS .. -- COMMAND [WORDS]`.
+
+A store to the address of `want` is not passed on, and wants memory; one to that of `change` is
+carried out and answered as if it had been another; at one to that of `end` the server ends.
+"""
+
+import struct
+import subprocess
+import sys
+from typing import BinaryIO
+
+
+def read_message(stream: BinaryIO) -> bytes | None:
+    """The next message; None at the end."""
+    head = stream.read(4)
+    return stream.read(struct.unpack(">I", head)[0]) if len(head) == 4 else None
+
+
+def write_message(stream: BinaryIO, message: bytes) -> None:
+    """Writes a message."""
+    stream.write(struct.pack(">I", len(message)) + message)
+    stream.flush()
+
+
+def address_of(message: bytes) -> bytes:
+    """The address of a store; nothing of another request."""
+    return message[6 : 6 + message[5]] if message[4:5] == b"S" else b""
+
+
+def main() -> int:
+    """Passes frames on, up to their end; the server's status."""
+    at = sys.argv.index("--")
+    plan = dict(word.split("=") for word in sys.argv[1:at])
+    server = subprocess.Popen(sys.argv[at + 1 :], stdin=-1, stdout=-1)
+    assert server.stdin is not None and server.stdout is not None
+    while (message := read_message(sys.stdin.buffer)) is not None:
+        address = address_of(message).decode()
+        if address and address == plan.get("end"):
+            server.kill()
+            return 1
+        if address and address == plan.get("want"):
+            write_message(sys.stdout.buffer, message[:4] + b"\2memory")
+            continue
+        write_message(server.stdin, message)
+        reply = read_message(server.stdout)
+        if reply is None:
+            break
+        if address and address == plan.get("change"):
+            reply = reply[:5] + b"planted"
+        write_message(sys.stdout.buffer, reply)
+    server.stdin.close()
+    return server.wait()
+
+
+if __name__ == "__main__":
+    sys.exit(main())
