@@ -33,7 +33,7 @@ from workspace import bench_program
 
 USES = (
     "xq_atoms", "xq_regions", "xq_sources", "xq_memory_disk", "xq_rows", "xq_expressions",
-    "xq_values", "xq_axes", "sqlite", "anyhow",
+    "xq_meaning", "xq_axes", "sqlite", "anyhow",
 )
 SIZES = (10_000, 100_000)
 # Those whose growth is judged, and those that lie in the caches.

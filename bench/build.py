@@ -16,8 +16,8 @@ sys.path.insert(0, os.path.join(TOP, "tools"))
 from workspace import bench_program
 
 USES = (
-    "xq_atoms", "xq_expressions", "xq_signatures", "xq_regions", "xq_sources", "xq_values",
-    "xq_build", "sqlite_items", "indexmap",
+    "xq_atoms", "xq_expressions", "xq_regions", "xq_sources", "xq_meaning", "xq_build",
+    "sqlite_items", "indexmap",
 )
 RUNS = 15
 # as many attributes as a reply of 16 MB has room for

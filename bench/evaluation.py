@@ -21,7 +21,7 @@ sys.path[:0] = [os.path.join(TOP, "tools"), os.path.join(TOP, "bench")]
 from queries import QUERIES, document
 from workspace import bench_program
 
-USES = ("xq_atoms", "xq_queries", "xq_sources", "xq_worlds")
+USES = ("xq_atoms", "xq_queries", "xq_sources")
 # The most that a time may grow where the document grows tenfold.
 MOST = 13
 TURNS = 5

@@ -20,7 +20,7 @@ TOP = os.path.join(os.path.dirname(os.path.abspath(__file__)), "..")
 sys.path.insert(0, os.path.join(TOP, "tools"))
 from workspace import bench_program
 
-USES = ("xq_atoms", "xq_lexer", "xq_expressions", "xq_grammar", "xq_parser", "sqlite_items")
+USES = ("xq_atoms", "xq_lexer", "xq_expressions", "xq_parser", "sqlite_items")
 CHAINS = (
     ("1+1+1 ..", 500_000, "expression", lambda count: "1" + "+1" * count),
     ("/a/a ..", 300_000, "expression", lambda count: "/a" * count),

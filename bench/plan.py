@@ -19,9 +19,8 @@ from doublings import measure, of_length
 from workspace import bench_program
 
 USES = (
-    "xq_atoms", "xq_lexer", "xq_expressions", "xq_grammar", "xq_parser", "xq_signatures",
-    "xq_scopes", "xq_regions", "xq_sources", "xq_values", "xq_meaning", "xq_normal", "xq_plan",
-    "sqlite_items", "indexmap",
+    "xq_atoms", "xq_lexer", "xq_expressions", "xq_parser", "xq_regions", "xq_sources",
+    "xq_meaning", "xq_normal", "xq_plan", "sqlite_items", "indexmap",
 )
 MEGABYTE = 1_000_000
 RUNS = 15

@@ -21,7 +21,7 @@ from workspace import bench_program
 
 USES = (
     "xq_atoms", "xq_eval", "xq_expressions", "xq_meaning", "xq_queries", "xq_regions",
-    "xq_signatures", "xq_sources", "xq_values", "xq_worlds", "sqlite_items",
+    "xq_sources", "sqlite_items",
 )
 # Kilobytes between two sizes of stack that are tried, and the most that is.
 STEP, MOST = 16, 256 * 1024

@@ -17,8 +17,7 @@ sys.path[:0] = [os.path.join(TOP, "tools"), os.path.join(TOP, "bench")]
 from doublings import measure, of_length
 from workspace import bench_program
 
-USES = ("xq_atoms", "xq_lexer", "xq_expressions", "xq_grammar", "xq_parser", "xq_signatures",
-        "xq_scopes", "xq_statics", "sqlite_items")
+USES = ("xq_atoms", "xq_lexer", "xq_expressions", "xq_parser", "xq_statics", "sqlite_items")
 MEGABYTE = 1_000_000
 RUNS = 75
 

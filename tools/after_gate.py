@@ -170,7 +170,7 @@ def is_current() -> bool:
 
 def given_by(words: argparse.Namespace) -> Given:
     """What the command line gives."""
-    program = TOP / "crates" / "xq_server" / "out" / "xq_server"
+    program = TOP / "crates" / "xq_serve" / "out" / "xq_serve"
     server = shlex.split(words.server or "")
     current = is_current()
     if not server and current:

@@ -27,7 +27,7 @@ def store(address, text):
 
 def built():
     """The path of the program, which is proved and built first where it is not there."""
-    path = TOP / "crates" / "xq_server" / "out" / "xq_server"
+    path = TOP / "crates" / "xq_serve" / "out" / "xq_serve"
     if not path.exists():
         subprocess.run(
             [TOP / "serve"], stdin=subprocess.DEVNULL, stdout=subprocess.DEVNULL, check=True)

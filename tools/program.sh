@@ -1,6 +1,6 @@
 # Sourced by ./serve and ./demo: where the program is, and whether it is built of the sources as
 # they are.
-program=$top/crates/xq_server/out/xq_server
+program=$top/crates/xq_serve/out/xq_serve
 
 is_current() {
     [ -x "$program" ] || return 1

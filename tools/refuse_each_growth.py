@@ -21,7 +21,7 @@ import sys
 import tempfile
 
 TOP = os.path.dirname(os.path.dirname(os.path.abspath(__file__)))
-PROGRAM = os.path.join(TOP, "crates", "xq_server", "out", "xq_server")
+PROGRAM = os.path.join(TOP, "crates", "xq_serve", "out", "xq_serve")
 
 FAILING = r"""
 #define _GNU_SOURCE
@@ -197,7 +197,7 @@ def main():
     words.add_argument("--file", action="store_true")
     asked = words.parse_args()
     if not os.path.exists(PROGRAM):
-        sys.exit("the program is not built: rt run in crates/xq_server")
+        sys.exit("the program is not built: rt run in crates/xq_serve")
     with tempfile.TemporaryDirectory() as folder:
         names = ("failing.c", "failing.so", "count")
         source, library, report = (os.path.join(folder, name) for name in names)

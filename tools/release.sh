@@ -85,8 +85,8 @@ try() {
     mkdir "$room/tried"
     tar --extract --gzip --file="$1" --directory="$room/tried" --strip-components=1
     (cd "$room/tried" && sha256sum --check --quiet SHA256SUMS)
-    (cd / && env -i PATH=/usr/bin:/bin "$room/tried/serve") <crates/xq_server/stdin |
-        cmp - crates/xq_server/stdout
+    (cd / && env -i PATH=/usr/bin:/bin "$room/tried/serve") <crates/xq_serve/stdin |
+        cmp - crates/xq_serve/stdout
 }
 
 is_unproved=

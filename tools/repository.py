@@ -9,7 +9,7 @@ import subprocess
 from collections.abc import Iterable, Mapping
 
 TOP = pathlib.Path(__file__).resolve().parent.parent
-PROGRAM = "xq_server"
+PROGRAM = "xq_serve"
 STORED_RUN_SECONDS = 60
 
 

@@ -10,7 +10,7 @@ here=$(cd "$(dirname "$0")" && pwd)
 top=$(cd "$here/../.." && pwd)
 work=$1
 mkdir -p "$work/crates/bench/src"
-for name in xq_atoms xq_characters xq_regions xq_sources xq_memory_disk xq_rows; do
+for name in xq_atoms xq_regions xq_sources xq_memory_disk xq_rows; do
     mkdir -p "$work/crates/$name"
     for part in src specs proofs out; do
         rm -rf "${work:?}/crates/$name/$part"

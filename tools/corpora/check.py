@@ -12,8 +12,7 @@ from collections import Counter
 from corpora.lines import lines_of
 from workspace import built
 
-CRATES = ("xq_atoms", "xq_lexer", "xq_expressions", "xq_grammar", "xq_parser", "xq_signatures",
-          "xq_scopes", "xq_statics")
+CRATES = ("xq_atoms", "xq_lexer", "xq_expressions", "xq_parser", "xq_statics")
 CODES = ("XPST0003", "XQST0090", "XPST0008", "XPST0017", "XQST0089", "XQST0094", "prof:PREFIX",
          "prof:TYPE")
 PROGRAM = """\

@@ -14,7 +14,7 @@ use Rattle.xq_atoms.specs.Judged.{Judged}
 use Rattle.xq_atoms.specs.Text.{Text}
 use Rattle.xq_regions.specs.Forest.{end, node}
 use Rattle.xq_regions.specs.Tree.{Tree}
-use Rattle.xq_values.specs.Content.{label}
+use Rattle.xq_meaning.specs.Content.{label}
 use Rattle.xq_meaning.specs.Meaning.{Meaning, first_frame}
 use Rattle.xq_meaning.proofs.Writing.{utf8}
 use Rattle.xq_meaning.proofs.Library.{Nodes, answered, el, att, tex, note, ins, tree}

@@ -101,7 +101,7 @@ def imports_of(rows, answers, encodes):
     if encodes or any(map(needs_encoding, rows)):
         yield brought("Rattle.std.specs.Char", ["encode_utf8"])
     if any(map(needs_names, rows)):
-        yield brought("Rattle.xq_characters.specs.Characters", ["is_name_start", "is_name_char"])
+        yield brought("Rattle.xq_atoms.specs.Characters", ["is_name_start", "is_name_char"])
     codes = {variant_of(row.answer) for row in rows if row.is_refused}
     if codes:
         yield brought(CODES, sorted(codes))

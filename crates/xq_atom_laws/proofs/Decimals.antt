@@ -11,7 +11,7 @@ use Rattle.xq_atoms.specs.declared.refusals.Code.TheVariants.{FOAR0002, FORG0001
 use Rattle.xq_atoms.specs.Judged.{Judged, ◌>>=◌, only_if}
 use Rattle.xq_atoms.specs.Decimal.{IsDecimal, is_decimal}
 use Rattle.xq_atoms.specs.Text.{Text, are_digits, is_whole, value}
-use Rattle.xq_characters.specs.Spaces.{trimmed}
+use Rattle.xq_atoms.specs.Spaces.{trimmed}
 use Rattle.xq_atoms.specs.Literal.{is_number, whole_part, fraction, without_trailing_zeros, millionths_of, integer_literal, decimal_literal}
 use Rattle.xq_atoms.specs.Atom.{Atomic, Integer, Decimal, String}
 use Rattle.xq_atoms.specs.Arithmetic.{neg}

@@ -7,7 +7,7 @@ use Rattle.std.proofs.lemmas.Bool.Decides.{nat_tests}
 use Rattle.std.proofs.lemmas.List.{append-nil}
 use Rattle.std.proofs.lemmas.List.Folds.{list_all-append}
 use Rattle.xq_atoms.specs.Text.{Text, is_empty, are_digits, is_whole}
-use Rattle.xq_characters.specs.Characters.{is_digit}
+use Rattle.xq_atoms.specs.Characters.{is_digit}
 use Rattle.xq_atoms.specs.Literal.{is_point, is_number, whole_part, after_point, fraction, without_trailing_zeros}
 use Rattle.xq_atoms.proofs.TextLemmas.{and-true, and-false}
 

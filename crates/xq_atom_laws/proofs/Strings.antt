@@ -11,7 +11,7 @@ use Rattle.std.proofs.lemmas.Str.{chars-encodes, encodes-append, encodes-chars, 
 use Rattle.xq_atoms.specs.Print.{quoted_character, quoted}
 use Rattle.xq_atoms.proofs.TextLemmas.{and-true}
 use Rattle.xq_atoms.proofs.PrintLemmas.{flat_map-encode}
-use Rattle.xq_characters.specs.Characters.{is_char}
+use Rattle.xq_atoms.specs.Characters.{is_char}
 use Rattle.xq_lexer.specs.Chars.{Text}
 use Rattle.xq_lexer.specs.Separators.{skip}
 use Rattle.xq_lexer.specs.Lexeme.{Lex, str}

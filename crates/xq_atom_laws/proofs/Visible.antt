@@ -6,8 +6,8 @@ use Rattle.std.proofs.lemmas.Bool.{false≢true}
 use Rattle.std.proofs.lemmas.Bool.Decides.{nat_tests}
 use Rattle.std.proofs.lemmas.List.{reverse-reverse}
 use Rattle.xq_atoms.specs.Text.{Text, are_digits, is_whole}
-use Rattle.xq_characters.specs.Characters.{is_space, is_digit}
-use Rattle.xq_characters.specs.Spaces.{after_leading, before_trailing, trimmed}
+use Rattle.xq_atoms.specs.Characters.{is_space, is_digit}
+use Rattle.xq_atoms.specs.Spaces.{after_leading, before_trailing, trimmed}
 use Rattle.xq_atoms.specs.Cast.{after_sign, is_negated}
 use Rattle.xq_atoms.proofs.TextLemmas.{and-true, list_all-reverse}
 

@@ -6,7 +6,7 @@ use Rattle.std.proofs.lemmas.Bool.Decides.{nat_tests}
 use Rattle.std.proofs.lemmas.Fmt.{digits_value-decimal, length-decimal-le}
 use Rattle.std.proofs.lemmas.List.{reverse-append, reverse-reverse, length-append, length-replicate, replicate_more}
 use Rattle.xq_atoms.specs.Text.{Text, value, value_after}
-use Rattle.xq_characters.specs.Spaces.{after_leading}
+use Rattle.xq_atoms.specs.Spaces.{after_leading}
 use Rattle.xq_atoms.specs.Literal.{is_zero_digit, without_trailing_zeros}
 use Rattle.xq_atoms.specs.Cast.{six_digits}
 use Rattle.xq_atoms.proofs.TextLemmas.{digits_model}

@@ -12,7 +12,7 @@ ghost use Rattle.xq_atoms.specs.Decimal.{floored, raised, rounded};
 ghost use Rattle.xq_atoms.specs.Cast.{cast_integer, cast_decimal, text_of};
 ghost use Rattle.xq_atoms.specs.Print.{print_atomic};
 ghost use Rattle.xq_atoms.specs.Text.{text_cmp};
-ghost use Rattle.xq_characters.specs.Characters.{is_char};
+ghost use Rattle.xq_atoms.specs.Characters.{is_char};
 ghost use Rattle.xq_lexer.specs.Lexeme.{str};
 ghost use Rattle.xq_atom_laws.specs.Reading.{number, called};
 ghost use Rattle.xq_atom_laws.specs.Rounding.{IsFloor, IsCeiling, IsNearest};

@@ -5,3 +5,5 @@ pub mod OperandsLemmas
 pub mod TextLemmas
 pub mod PrintLemmas
 pub mod ReadBack
+pub mod Classes
+pub mod Names

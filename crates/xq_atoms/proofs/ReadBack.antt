@@ -6,7 +6,7 @@ use Rattle.std.proofs.lemmas.Bool.Decides.{nat_tests}
 use Rattle.xq_atoms.specs.declared.refusals.Code.TheVariants.{FORG0001, FOAR0002, FOCA0003}
 use Rattle.xq_atoms.specs.Judged.{Judged, only_if}
 use Rattle.xq_atoms.specs.Text.{Text, are_digits, is_whole, value}
-use Rattle.xq_characters.specs.Characters.{is_digit}
+use Rattle.xq_atoms.specs.Characters.{is_digit}
 use Rattle.xq_atoms.specs.Atom.{Atomic, Integer, is_integer}
 use Rattle.xq_atoms.specs.Literal.{integer_literal}
 use Rattle.xq_atoms.specs.Cast.{after_sign, is_negated, integer_of_text}

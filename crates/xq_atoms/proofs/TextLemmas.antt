@@ -10,8 +10,8 @@ use Rattle.std.proofs.lemmas.List.Folds.{list_all-append}
 use Rattle.std.proofs.lemmas.Bool.Decides.{nat_tests}
 use Rattle.std.proofs.lemmas.Str.Parse.{IsNumeralModel, numerals_by_fold, digits_value_short}
 use Rattle.xq_atoms.specs.Text.{Text, is_empty, are_digits, value, value_after}
-use Rattle.xq_characters.specs.Characters.{is_digit}
-use Rattle.xq_characters.specs.Spaces.{after_leading, before_trailing}
+use Rattle.xq_atoms.specs.Characters.{is_digit}
+use Rattle.xq_atoms.specs.Spaces.{after_leading, before_trailing}
 use Rattle.xq_atoms.specs.Literal.{without_trailing_zeros, is_zero_digit, is_number, whole_part, after_point}
 
 -- more digits give no smaller number

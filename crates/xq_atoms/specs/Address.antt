@@ -1,6 +1,6 @@
 -- The addresses that documents are stored under: 1 to 200 bytes of A-Z a-z 0-9 . _ / -
 use Rattle.std.specs.Prelude.{ℕ, ◌<◌, ◌≤◌, List, length, Bool, All, IsTrue, ◌==◌, ◌||◌}
-use Rattle.xq_characters.specs.Characters.{within, is_digit}
+use Rattle.xq_atoms.specs.Characters.{within, is_digit}
 
 -- the greatest length of an address, in bytes
 abbrev pub longest_address : ℕ

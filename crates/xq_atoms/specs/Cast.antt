@@ -5,7 +5,7 @@ use Rattle.xq_atoms.specs.declared.refusals.Code.TheVariants.{FORG0001, FOCA0001
 use Rattle.xq_atoms.specs.Judged.{Judged, only_if}
 use Rattle.xq_atoms.specs.Decimal.{one, in_millionths, is_decimal}
 use Rattle.xq_atoms.specs.Text.{Text, text_eq, is_whole, value}
-use Rattle.xq_characters.specs.Spaces.{trimmed}
+use Rattle.xq_atoms.specs.Spaces.{trimmed}
 use Rattle.xq_atoms.specs.Literal.{is_number, fraction, without_trailing_zeros, millionths}
 use Rattle.xq_atoms.specs.Atom.{Atomic, Integer, Decimal, String, Boolean, Untyped, is_integer}
 use Rattle.xq_atoms.specs.Arithmetic.{is_zero}

@@ -11,3 +11,5 @@ pub mod Cast
 pub mod Compare
 pub mod Print
 pub mod private
+pub mod Characters
+pub mod Spaces

@@ -5,7 +5,7 @@ use Rattle.xq_atoms.specs.declared.refusals.Code.TheVariants.{FOAR0002, ProfDigi
 use Rattle.xq_atoms.specs.Judged.{Judged, only_if}
 use Rattle.xq_atoms.specs.Decimal.{is_decimal}
 use Rattle.xq_atoms.specs.Text.{Text, is_whole, value}
-use Rattle.xq_characters.specs.Spaces.{before_trailing}
+use Rattle.xq_atoms.specs.Spaces.{before_trailing}
 use Rattle.xq_atoms.specs.Atom.{is_integer}
 
 -- a decimal point

@@ -5,7 +5,7 @@ use Rattle.std.specs.declared.cmp.Ordering.{Ordering}
 use Rattle.std.specs.Ordering.{nat_cmp}
 use Rattle.std.specs.Cmp.Lexicographic.{slice_cmp}
 use Rattle.std.specs.List.{list_all}
-use Rattle.xq_characters.specs.Characters.{is_digit}
+use Rattle.xq_atoms.specs.Characters.{is_digit}
 
 -- a text, by its bytes
 abbrev pub Text : Type 0

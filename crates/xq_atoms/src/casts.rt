@@ -11,9 +11,9 @@ use crate::atoms::Atom;
 use crate::decimals::Decimal;
 use crate::literals::{FRACTION_DIGITS, millionths};
 use crate::refusals::{Code, Want};
+use crate::spaces::trimmed;
 use crate::texts;
 use std::alloc::Global;
-use xq_characters::trimmed;
 
 /// The atom as an integer (F&O 3.1, section 19): a decimal is truncated towards zero, a boolean is
 /// 1 or 0, and a text is `[+-]?d+` between white space. FORG0001 for another text, FOCA0003 out of

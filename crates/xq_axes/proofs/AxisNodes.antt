@@ -16,9 +16,9 @@ use Rattle.xq_regions.specs.Tree.{Tree, nodes}
 use Rattle.xq_regions.proofs.AxisTable.{on_axis_is}
 use Rattle.xq_regions.proofs.Paths.{down, right}
 use Rattle.xq_sources.specs.Sources.{tree_at}
-use Rattle.xq_values.specs.declared.node_tests.Test.{Test}
-use Rattle.xq_values.specs.Items.{Place, place, paths, nodes_at, places_from, same_node, is_among}
-use Rattle.xq_values.specs.Steps.{passes_at, axis_nodes}
+use Rattle.xq_meaning.specs.declared.node_tests.Test.{Test}
+use Rattle.xq_meaning.specs.Items.{Place, place, paths, nodes_at, places_from, same_node, is_among}
+use Rattle.xq_meaning.specs.Steps.{passes_at, axis_nodes}
 use Rattle.xq_axes.proofs.Merging.{any_map, any_filter}
 
 -- # Some of a list

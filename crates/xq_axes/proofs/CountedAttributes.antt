@@ -12,7 +12,7 @@ use Rattle.xq_regions.specs.RegionTests.{plain_row, inside}
 use Rattle.xq_regions.specs.declared.Axis.TheVariants as axis
 use Rattle.xq_regions.proofs.Encoding.{length-rows}
 use Rattle.xq_sources.specs.AttributeRows.{AreAttributeRows}
-use Rattle.xq_values.specs.declared.node_tests.Test.{Test}
+use Rattle.xq_meaning.specs.declared.node_tests.Test.{Test}
 use Rattle.xq_axes.specs.private.Reads.{span, span_end}
 use Rattle.xq_axes.specs.private.Hits.{is_hit, is_wanted, below_where, AreUnhit, IsRising}
 use Rattle.xq_axes.specs.private.Downward.{level_of}

@@ -14,11 +14,11 @@ use Rattle.xq_regions.specs.Order.{IsAbove}
 use Rattle.xq_regions.specs.Tree.{Label, Tree, is_content, may_stand}
 use Rattle.xq_regions.specs.declared.items.Node.{Node}
 use Rattle.xq_regions.proofs.Paths.{at_place}
-use Rattle.xq_values.specs.declared.node_tests.Test.{Test}
-use Rattle.xq_values.specs.declared.node_tests.Test.TheVariants as test
-use Rattle.xq_values.specs.Items.{Place, place, nodes_at, places_from, same_node, is_among, in_document_order}
-use Rattle.xq_values.specs.Steps.{axis_nodes}
-use Rattle.xq_values.specs.Readings.{node_at}
+use Rattle.xq_meaning.specs.declared.node_tests.Test.{Test}
+use Rattle.xq_meaning.specs.declared.node_tests.Test.TheVariants as test
+use Rattle.xq_meaning.specs.Items.{Place, place, nodes_at, places_from, same_node, is_among, in_document_order}
+use Rattle.xq_meaning.specs.Steps.{axis_nodes}
+use Rattle.xq_meaning.specs.Readings.{node_at}
 use Rattle.xq_axes.specs.Nodes.{HaveAll}
 use Rattle.xq_axes.specs.DoubleSlash.{selves_and_below, after_double_slash}
 use Rattle.xq_axes.specs.private.Standing.{Stands, AreOfTrees}

@@ -16,7 +16,7 @@ use Rattle.xq_regions.specs.declared.Axis.TheVariants as axis
 use Rattle.xq_regions.proofs.Regions.{length-labels}
 use Rattle.xq_regions.proofs.RegionTable.{in_region_is}
 use Rattle.xq_sources.specs.Parents.{IsParentRow}
-use Rattle.xq_values.specs.declared.node_tests.Test.{Test}
+use Rattle.xq_meaning.specs.declared.node_tests.Test.{Test}
 use Rattle.xq_axes.specs.private.Hits.{is_among, is_hit, is_wanted, row_passes, below_where, IsRising}
 use Rattle.xq_axes.specs.private.KnownParents.{ends_before, AreTold}
 use Rattle.xq_axes.proofs.Lists.{any_from, any_at, below_where-agree, among_at, among_index, got, got_none}

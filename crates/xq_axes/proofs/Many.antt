@@ -16,10 +16,10 @@ use Rattle.xq_regions.specs.private.RegionTests.{in_region}
 use Rattle.xq_regions.specs.Rows.{rows, row_at}
 use Rattle.xq_regions.specs.Tree.{Tree, nodes}
 use Rattle.xq_sources.specs.Sources.{tree_at, HasNode}
-use Rattle.xq_values.specs.declared.node_tests.Test.{Test}
-use Rattle.xq_values.specs.Items.{Place, place, nodes_at, places_from as places_of, same_node, is_among as is_among_places, in_document_order}
-use Rattle.xq_values.specs.Steps.{axis_nodes}
-use Rattle.xq_values.specs.Readings.{node_at}
+use Rattle.xq_meaning.specs.declared.node_tests.Test.{Test}
+use Rattle.xq_meaning.specs.Items.{Place, place, nodes_at, places_from as places_of, same_node, is_among as is_among_places, in_document_order}
+use Rattle.xq_meaning.specs.Steps.{axis_nodes}
+use Rattle.xq_meaning.specs.Readings.{node_at}
 use Rattle.xq_regions.specs.Rising.{document_order}
 use Rattle.xq_axes.specs.Nodes.{HaveAll}
 use Rattle.xq_axes.specs.private.Hits.{is_hit, is_wanted, row_passes, below_where, IsRising}

@@ -16,14 +16,14 @@ use Rattle.xq_regions.specs.Order.{place_of, path_at}
 use Rattle.xq_regions.specs.Tree.{Tree, nodes}
 use Rattle.xq_regions.proofs.AxisTable.{on_axis_is}
 use Rattle.xq_sources.specs.Sources.{tree_at, HasNode}
-use Rattle.xq_values.specs.Items.{Place, place, places_from, same_node, is_among, in_document_order}
-use Rattle.xq_values.specs.Readings.{node_at}
+use Rattle.xq_meaning.specs.Items.{Place, place, places_from, same_node, is_among, in_document_order}
+use Rattle.xq_meaning.specs.Readings.{node_at}
 use Rattle.xq_regions.specs.Rising.{document_order, AreRising}
 use Rattle.xq_axes.specs.Nodes.{HaveAll}
 use Rattle.xq_axes.specs.private.Many.{spot}
 use Rattle.xq_regions.proofs.Lists.{same_test}
 use Rattle.xq_regions.proofs.Rising.{same_fields, order_less, same_any, same_rising, from_contains, rising_append}
-use Rattle.xq_values.proofs.PathLemmas.{map-map, filter-map, paths-range}
+use Rattle.xq_meaning.proofs.PathLemmas.{map-map, filter-map, paths-range}
 use Rattle.xq_axes.proofs.Sizes.{node_of}
 
 -- # All nodes of trees

@@ -14,11 +14,11 @@ use Rattle.xq_regions.specs.declared.items.Node.{Node as Spot}
 use Rattle.xq_regions.proofs.RegionTable.{region_is_axis}
 use Rattle.xq_regions.proofs.AxisTable.{on_axis_is}
 use Rattle.xq_sources.specs.Sources.{tree_at, HasNode}
-use Rattle.xq_values.specs.declared.node_tests.Test.{Test}
-use Rattle.xq_values.specs.Items.{Place, place, nodes_at}
-use Rattle.xq_values.specs.Steps.{passes_at, axis_nodes}
-use Rattle.xq_values.specs.Readings.{node_at}
-use Rattle.xq_values.proofs.PathLemmas.{map-map, range-split, filter-map, paths-range}
+use Rattle.xq_meaning.specs.declared.node_tests.Test.{Test}
+use Rattle.xq_meaning.specs.Items.{Place, place, nodes_at}
+use Rattle.xq_meaning.specs.Steps.{passes_at, axis_nodes}
+use Rattle.xq_meaning.specs.Readings.{node_at}
+use Rattle.xq_meaning.proofs.PathLemmas.{map-map, range-split, filter-map, paths-range}
 use Rattle.xq_axes.specs.private.Hits.{is_hit, is_wanted, row_passes, below_where}
 use Rattle.xq_axes.proofs.Lists.{below_where-agree}
 use Rattle.xq_regions.proofs.Lists.{same_test}

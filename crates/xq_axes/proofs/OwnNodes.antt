@@ -6,7 +6,7 @@ use Rattle.xq_regions.specs.declared.Axis.TheVariants as axis
 use Rattle.xq_regions.specs.Forest.{count}
 use Rattle.xq_regions.specs.Tree.{Tree, nodes}
 use Rattle.xq_regions.specs.Rows.{rows, row_at, row_of}
-use Rattle.xq_values.specs.declared.node_tests.Test.{Test}
+use Rattle.xq_meaning.specs.declared.node_tests.Test.{Test}
 use Rattle.xq_axes.specs.private.Hits.{is_hit, is_wanted, row_passes, below_where, IsRising, IsReached}
 use Rattle.xq_axes.proofs.Lists.{among_at, reached_none, reached_met, reached_over, reached_among, below_where-none}
 use Rattle.xq_axes.proofs.Picking.{picked}

@@ -3,10 +3,10 @@ use Rattle.std.specs.Prelude.{List}
 use Rattle.std.specs.List.{flat_map}
 use Rattle.xq_regions.specs.Tree.{Tree}
 use Rattle.xq_regions.specs.declared.Axis.TheVariants.{Child, DescendantOrSelf}
-use Rattle.xq_values.specs.Items.{Place, in_document_order}
-use Rattle.xq_values.specs.Steps.{axis_nodes}
-use Rattle.xq_values.specs.declared.node_tests.Test.{Test}
-use Rattle.xq_values.specs.declared.node_tests.Test.TheVariants.{Any}
+use Rattle.xq_meaning.specs.Items.{Place, in_document_order}
+use Rattle.xq_meaning.specs.Steps.{axis_nodes}
+use Rattle.xq_meaning.specs.declared.node_tests.Test.{Test}
+use Rattle.xq_meaning.specs.declared.node_tests.Test.TheVariants.{Any}
 
 -- these nodes and all that is below them: descendant-or-self::node()
 abbrev pub selves_and_below : List Tree → List Place → List Place

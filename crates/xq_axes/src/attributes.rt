@@ -14,9 +14,9 @@ use crate::picks::{Judge, Picker, Verdict};
 use crate::walks::walk;
 use std::alloc::Global;
 use xq_atoms::Want;
+use xq_meaning::Test;
 use xq_regions::NodeRow;
 use xq_sources::RowLender;
-use xq_values::Test;
 
 /// A context node and how many attributes it has.
 #[derive(Clone, Copy)]

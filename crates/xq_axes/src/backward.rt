@@ -3,7 +3,7 @@ ghost use Rattle.std.specs.Prelude.{◌≡◌, ◌+◌, ◌-◌, ◌<◌, ◌≤
 ghost use Rattle.xq_regions.specs.Forest.{count};
 ghost use Rattle.xq_regions.specs.Tree.{Tree, nodes};
 ghost use Rattle.xq_regions.specs.Rows.{rows, row_at};
-ghost use Rattle.xq_values.specs.declared.node_tests.Test.{Test as TestLem};
+ghost use Rattle.xq_meaning.specs.declared.node_tests.Test.{Test as TestLem};
 ghost use Rattle.xq_sources.specs.Sources.{tree_at};
 ghost use Rattle.xq_axes.specs.Scans.{region};
 ghost use Rattle.xq_axes.specs.private.Reads.{span, span_end};
@@ -19,9 +19,9 @@ use crate::tests::{is_plain, passes};
 use crate::walks::{Visitor, walk};
 use std::alloc::Global;
 use xq_atoms::Want;
+use xq_meaning::Test;
 use xq_regions::NodeRow;
 use xq_sources::RowLender;
-use xq_values::Test;
 
 /// An axis that is searched from the last context back.
 #[derive(Clone, Copy)]

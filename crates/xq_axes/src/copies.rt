@@ -1,8 +1,8 @@
 //! A copy of a node with all that is below it.
 ghost use Rattle.std.specs.Prelude.{◌≡◌, IfOk, OnOk};
 ghost use Rattle.xq_sources.specs.Sources.{HasNode};
-ghost use Rattle.xq_values.specs.Items.{tree_below};
-ghost use Rattle.xq_values.specs.Readings.{node_at};
+ghost use Rattle.xq_meaning.specs.Items.{tree_below};
+ghost use Rattle.xq_meaning.specs.Readings.{node_at};
 ghost use Rattle.xq_axes.specs.private.Reads.{AreCopied};
 
 use crate::walks::{Visitor, walk};

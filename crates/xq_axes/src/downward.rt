@@ -16,9 +16,9 @@ use crate::tests::is_plain;
 use crate::walks::walk;
 use std::alloc::Global;
 use xq_atoms::Want;
+use xq_meaning::Test;
 use xq_regions::NodeRow;
 use xq_sources::RowLender;
-use xq_values::Test;
 
 /// How many levels a tree may have.
 const LEVELS: usize = 101;

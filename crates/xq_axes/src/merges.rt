@@ -4,8 +4,8 @@ ghost use Rattle.std.specs.List.{Contains};
 ghost use Rattle.xq_regions.specs.Tree.{Tree};
 ghost use Rattle.xq_regions.specs.Rising.{AreRising};
 ghost use Rattle.xq_regions.specs.declared.items.Node.{Node as NodeLem};
-ghost use Rattle.xq_values.specs.Items.{in_document_order};
-ghost use Rattle.xq_values.specs.Readings.{node_at};
+ghost use Rattle.xq_meaning.specs.Items.{in_document_order};
+ghost use Rattle.xq_meaning.specs.Readings.{node_at};
 ghost use Rattle.xq_axes.specs.Nodes.{HaveAll};
 
 use xq_regions::Node;

@@ -17,9 +17,9 @@ use crate::tests::is_plain;
 use crate::walks::walk;
 use std::alloc::Global;
 use xq_atoms::Want;
+use xq_meaning::Test;
 use xq_regions::NodeRow;
 use xq_sources::RowLender;
-use xq_values::Test;
 
 /// The greatest place that can be asked for.
 const LAST: u64 = u32::MAX as u64;

@@ -13,8 +13,8 @@ use crate::backward::{Backward, search_back};
 use crate::selves::search_selves;
 use std::alloc::Global;
 use xq_atoms::Want;
+use xq_meaning::Test;
 use xq_sources::RowLender;
-use xq_values::Test;
 
 /// Whether all of the places, which rise, come before the place.
 fn ends_before(places: &[u32], place: u32) -> bool

@@ -9,8 +9,8 @@ ghost use Rattle.xq_axes.specs.private.Hits.{is_hit as is_hit_lem, is_wanted, ro
 use crate::tests::passes;
 use crate::walks::Visitor;
 use xq_atoms::Want;
+use xq_meaning::Test;
 use xq_regions::NodeRow;
-use xq_values::Test;
 
 /// Adds the place to those found, if it is told that it is wanted.
 pub fn push_if(found: &mut Vec<u32>, is_wanted: bool, place: u32) -> Result<(), Want>

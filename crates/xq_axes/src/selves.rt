@@ -10,8 +10,8 @@ use crate::picks::push_if;
 use crate::tests::passes;
 use std::alloc::Global;
 use xq_atoms::Want;
+use xq_meaning::Test;
 use xq_sources::RowLender;
-use xq_values::Test;
 
 /// Those of the places, which rise, whose nodes pass the test.
 pub fn search_selves<L: RowLender>(

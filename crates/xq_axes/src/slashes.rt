@@ -2,7 +2,7 @@
 ghost use Rattle.std.specs.Prelude.{◌≡◌, ◌≤◌, ◌+◌, ◌*◌, ℕ, length, map, IfOk, OnOk};
 ghost use Rattle.xq_regions.specs.declared.Axis.TheVariants.{Descendant};
 ghost use Rattle.xq_sources.specs.Sources.{tree_at};
-ghost use Rattle.xq_values.specs.Readings.{node_at};
+ghost use Rattle.xq_meaning.specs.Readings.{node_at};
 ghost use Rattle.xq_axes.specs.DoubleSlash.{after_double_slash};
 ghost use Rattle.xq_regions.specs.Rising.{AreRising};
 ghost use Rattle.xq_axes.specs.Nodes.{HaveAll};
@@ -12,9 +12,9 @@ ghost use Rattle.xq_axes.specs.private.Standing.{AreOfTrees};
 use crate::steps::step;
 use std::alloc::Global;
 use xq_atoms::Want;
+use xq_meaning::Test;
 use xq_regions::{Axis, Node};
 use xq_sources::RowLender;
-use xq_values::Test;
 
 /// Asks for a row of each tree that the nodes are of: the source promises that it is a tree.
 fn ask_for_trees<L: RowLender>(alloc: Global, source: &mut L, nodes: &[Node]) -> Result<(), Want>

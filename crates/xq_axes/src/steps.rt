@@ -5,9 +5,9 @@ ghost use Rattle.xq_regions.specs.Forest.{count};
 ghost use Rattle.xq_regions.specs.Tree.{nodes};
 ghost use Rattle.xq_regions.specs.declared.items.Node.{Node as NodeLem};
 ghost use Rattle.xq_sources.specs.Sources.{tree_at, HasNode};
-ghost use Rattle.xq_values.specs.Items.{in_document_order};
-ghost use Rattle.xq_values.specs.Steps.{axis_nodes};
-ghost use Rattle.xq_values.specs.Readings.{node_at};
+ghost use Rattle.xq_meaning.specs.Items.{in_document_order};
+ghost use Rattle.xq_meaning.specs.Steps.{axis_nodes};
+ghost use Rattle.xq_meaning.specs.Readings.{node_at};
 ghost use Rattle.xq_regions.specs.Rising.{AreRising};
 ghost use Rattle.xq_axes.specs.Nodes.{HaveAll};
 ghost use Rattle.xq_axes.specs.Scans.{region, places_of, AreOf};
@@ -24,9 +24,9 @@ use crate::passing::{search_above, search_after, search_before};
 use crate::selves::search_selves;
 use std::alloc::Global;
 use xq_atoms::Want;
+use xq_meaning::Test;
 use xq_regions::{Axis, Node, comes_after, rises};
 use xq_sources::RowLender;
-use xq_values::Test;
 
 /// The places of the nodes on the axis from one of the places, which rise, that pass the test.
 fn search<L: RowLender>(

@@ -3,12 +3,12 @@ ghost use Rattle.std.specs.Prelude.{◌≡◌, not, string_bytes};
 ghost use Rattle.xq_regions.specs.Tree.{is_attribute};
 ghost use Rattle.xq_regions.specs.Rows.{row_of};
 ghost use Rattle.xq_atoms.specs.Text.{text_eq};
-ghost use Rattle.xq_values.specs.Steps.{has_name as has_name_lem};
+ghost use Rattle.xq_meaning.specs.Steps.{has_name as has_name_lem};
 ghost use Rattle.xq_axes.specs.private.Hits.{row_passes};
 
 use xq_expressions::Text;
+use xq_meaning::Test;
 use xq_regions::{Kind, NodeRow};
-use xq_values::Test;
 
 /// Whether two names that are as long are the same.
 #[inline(never)]

@@ -6,9 +6,9 @@ use std::process::Abort;
 use xq_atoms::Want;
 use xq_axes::{axis, copy, double_slash, step, string_value};
 use xq_expressions::Text;
+use xq_meaning::Test;
 use xq_regions::{Axis, Node};
 use xq_sources::RowLender;
-use xq_values::Test;
 
 /// An axis from a node at a place, and the places of the nodes there.
 type Way = (u32, Axis, &'static [u32]);

@@ -7,9 +7,9 @@ use std::process::Abort;
 use xq_atoms::Want;
 use xq_axes::{merge, step};
 use xq_expressions::Text;
+use xq_meaning::Test;
 use xq_regions::{Axis, Node};
 use xq_sources::{Buffered, RowLender};
-use xq_values::Test;
 
 /// Makes the steps, one after another.
 fn scans<L: RowLender>(

@@ -15,9 +15,9 @@ use Rattle.xq_regions.proofs.Injective.{rows-injective}
 use Rattle.xq_regions.proofs.Printed.{leveled, flat-measured}
 use Rattle.xq_regions.proofs.Sized.{sized-tree}
 use Rattle.xq_regions.specs.private.Sizes.{sized}
-use Rattle.xq_values.specs.Texts.{joined}
-use Rattle.xq_values.specs.Content.{is_text, text_label, copied, run, spaced, flattened_after, flattened, in_front, merged, in_front_unless, is_empty_text, without_empty_texts, is_within_height, copied_as}
-use Rattle.xq_values.specs.Items.{Item, Node, Atom, tree_below}
+use Rattle.xq_meaning.specs.Texts.{joined}
+use Rattle.xq_meaning.specs.Content.{is_text, text_label, copied, run, spaced, flattened_after, flattened, in_front, merged, in_front_unless, is_empty_text, without_empty_texts, is_within_height, copied_as}
+use Rattle.xq_meaning.specs.Items.{Item, Node, Atom, tree_below}
 use Rattle.xq_build.specs.private.Leaves.{Leaf, leaves, IsRowOf}
 use Rattle.xq_regions.specs.Node.{HasPath, label_at, below_at}
 use Rattle.xq_regions.specs.Order.{path_at}
@@ -27,7 +27,7 @@ use Rattle.xq_regions.specs.declared.Kind.{Kind}
 use Rattle.xq_regions.specs.declared.Kind.TheVariants.{Document, Element, Attribute, Text as TextKind, Comment, ProcessingInstruction}
 use Rattle.xq_regions.proofs.Paths.{at_place}
 use Rattle.xq_sources.specs.Sources.{tree_at}
-use Rattle.xq_values.specs.Readings.{node_at}
+use Rattle.xq_meaning.specs.Readings.{node_at}
 use Rattle.xq_build.specs.private.Content.{so_far, open_text, longer, flattened_with, Childless, is_top_text, glued, put, merged_leaves, may_stand_first, AreApart, is_kept, labels_if, top_labels, raised, are_low}
 use Rattle.xq_build.proofs.Subtrees.{length-leveled}
 

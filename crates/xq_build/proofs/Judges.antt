@@ -13,7 +13,7 @@ use Rattle.xq_regions.specs.Forest.{Forest, count, tops}
 use Rattle.xq_regions.specs.Tree.{Label, Tree, nodes}
 use Rattle.xq_regions.specs.declared.Kind.{Kind}
 use Rattle.xq_regions.specs.declared.Kind.TheVariants.{Document, Element, Attribute, Text as TextKind, Comment, ProcessingInstruction}
-use Rattle.xq_values.specs.Content.{attribute_fault, first_fault, or_else, is_within_height, within_limits, unless_fault, built}
+use Rattle.xq_meaning.specs.Content.{attribute_fault, first_fault, or_else, is_within_height, within_limits, unless_fault, built}
 use Rattle.xq_atoms.specs.Answers.{GivesUnlessWanting}
 use Rattle.xq_build.specs.private.Leaves.{Leaf, leaves}
 use Rattle.xq_build.specs.private.Content.{top_labels, labels_if, raised, are_low, fault_from, JudgedAs, JudgesLeaf}

@@ -7,9 +7,9 @@ use Rattle.std.specs.Str.Pattern.{FindsChar}
 use Rattle.std.proofs.lemmas.Bool.Decides.{nat_tests}
 use Rattle.std.proofs.lemmas.List.{take_at, drop_at, take-append-drop, reverse-append, length-drop, drop-drop, drop_all, reverse-reverse}
 use Rattle.std.proofs.lemmas.Str.{encode_ascii, chars-append, chars_past_char, chars_from_encodes, IsUtf8-take, IsUtf8-drop, IsUtf8-from_ascii, IsCharBoundary-before_ascii, IsCharBoundary-after_ascii, IsCharBoundary-at_seam}
-use Rattle.xq_characters.specs.Characters.{is_space, is_name}
-use Rattle.xq_characters.specs.Spaces.{after_leading, before_trailing}
-use Rattle.xq_values.specs.Content.{is_colon, is_prefixed}
+use Rattle.xq_atoms.specs.Characters.{is_space, is_name}
+use Rattle.xq_atoms.specs.Spaces.{after_leading, before_trailing}
+use Rattle.xq_meaning.specs.Content.{is_colon, is_prefixed}
 
 -- # Around a colon
 

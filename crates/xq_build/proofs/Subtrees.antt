@@ -20,9 +20,9 @@ use Rattle.xq_regions.proofs.Regions.{row_at-place_of}
 use Rattle.xq_sources.specs.Sources.{rows_between, tree_at}
 use Rattle.xq_sources.specs.Lenders.{IsRun}
 use Rattle.xq_sources.proofs.Intervals.{between-places}
-use Rattle.xq_values.specs.Items.{tree_below}
-use Rattle.xq_values.specs.Readings.{node_at}
-use Rattle.xq_values.specs.Content.{copied}
+use Rattle.xq_meaning.specs.Items.{tree_below}
+use Rattle.xq_meaning.specs.Readings.{node_at}
+use Rattle.xq_meaning.specs.Content.{copied}
 use Rattle.xq_build.specs.private.Leaves.{Leaf, leaves, lowered, leaves_between, IsRowOf}
 
 -- # Parts of the rows of a tree

@@ -10,7 +10,7 @@ use Rattle.xq_atoms.specs.Text.{Text, is_empty}
 use Rattle.xq_regions.specs.Tree.{Label, is_attribute, Tree, nodes, may_stand, is_content}
 use Rattle.xq_regions.specs.declared.Kind.{Kind}
 use Rattle.xq_regions.specs.declared.Kind.TheVariants.{Document, Element, Attribute, Text as TextKind, Comment, ProcessingInstruction}
-use Rattle.xq_values.specs.Content.{is_text, attribute_fault, first_fault, or_else, copied, is_within_height, flattened, content}
+use Rattle.xq_meaning.specs.Content.{is_text, attribute_fault, first_fault, or_else, copied, is_within_height, flattened, content}
 use Rattle.xq_regions.specs.Forest.{Forest, end, node, tops, IsWithinHeight, join}
 use Rattle.xq_regions.specs.Node.{HasPath, below_at}
 use Rattle.xq_regions.specs.Order.{path_at, place_of}
@@ -25,10 +25,10 @@ use Rattle.xq_sources.specs.Sources.{rows_between, tree_at}
 use Rattle.xq_sources.specs.Lenders.{IsRun}
 use Rattle.xq_atoms.specs.Atom.{Atomic}
 use Rattle.xq_atoms.specs.Cast.{text_of}
-use Rattle.xq_values.specs.Items.{Item, Node, Atom, tree_below}
+use Rattle.xq_meaning.specs.Items.{Item, Node, Atom, tree_below}
 use Rattle.xq_regions.specs.Items.{item_view}
 use Rattle.xq_regions.specs.declared.items.Item.{Item as CodeItem}
-use Rattle.xq_values.specs.Readings.{node_at, item_at, items_at}
+use Rattle.xq_meaning.specs.Readings.{node_at, item_at, items_at}
 use Rattle.xq_build.specs.private.Leaves.{Leaf, leaves, lowered, leaves_between, IsRowOf}
 use Rattle.xq_build.proofs.Subtrees.{run_splits, whole_leaves, node_leaves, label}
 use Rattle.xq_build.proofs.Contents.{leaves-leveled, leaves-join, low_leaves, content_at, content_is, tree_content, content_leaves, flattened-with, Childless-join, Childless-open}

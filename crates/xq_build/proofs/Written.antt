@@ -17,9 +17,9 @@ use Rattle.xq_regions.specs.declared.NodeRow.{NodeRow}
 use Rattle.xq_regions.proofs.Printed.{text-rows}
 use Rattle.xq_regions.specs.declared.items.Item.{Item as CodeItem}
 use Rattle.xq_regions.specs.Items.{item_view}
-use Rattle.xq_values.specs.Items.{Item, tree_below}
-use Rattle.xq_values.specs.Readings.{item_at, items_at, node_at}
-use Rattle.xq_values.specs.Print.{print_item, print_items, within_reply}
+use Rattle.xq_meaning.specs.Items.{Item, tree_below}
+use Rattle.xq_meaning.specs.Readings.{item_at, items_at, node_at}
+use Rattle.xq_meaning.specs.Print.{print_item, print_items, within_reply}
 use Rattle.xq_regions.specs.Rows.{row_of, placed}
 use Rattle.xq_regions.specs.declared.items.Node.{Node as CodeNode}
 use Rattle.xq_sources.specs.Lenders.{IsRun}

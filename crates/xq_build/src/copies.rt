@@ -4,9 +4,9 @@ ghost use Rattle.xq_regions.specs.Tree.{nodes};
 ghost use Rattle.xq_regions.specs.Levels.{flat_row};
 ghost use Rattle.xq_regions.specs.Rows.{row_of};
 ghost use Rattle.xq_sources.specs.Sources.{tree_at};
-ghost use Rattle.xq_values.specs.Items.{tree_below};
-ghost use Rattle.xq_values.specs.Readings.{node_at};
-ghost use Rattle.xq_values.specs.Content.{copied};
+ghost use Rattle.xq_meaning.specs.Items.{tree_below};
+ghost use Rattle.xq_meaning.specs.Readings.{node_at};
+ghost use Rattle.xq_meaning.specs.Content.{copied};
 ghost use Rattle.xq_build.specs.private.Leaves.{leaves, lowered, leaves_between, IsRowOf};
 ghost use Rattle.xq_build.specs.private.Content.{Childless};
 

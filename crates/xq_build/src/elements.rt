@@ -1,8 +1,8 @@
 //! Constructors of elements and documents.
 ghost use Rattle.std.specs.Prelude.{◌≡◌, map, string_bytes};
 ghost use Rattle.xq_regions.specs.Items.{item_view};
-ghost use Rattle.xq_values.specs.Content.{element_tree, document_tree};
-ghost use Rattle.xq_values.specs.Readings.{items_at};
+ghost use Rattle.xq_meaning.specs.Content.{element_tree, document_tree};
+ghost use Rattle.xq_meaning.specs.Readings.{items_at};
 ghost use Rattle.xq_atoms.specs.Answers.{GivesUnlessWanting};
 
 use crate::content::content;

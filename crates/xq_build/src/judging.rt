@@ -3,7 +3,7 @@ ghost use Rattle.std.specs.Prelude.{◌≡◌, ◌∷◌, [], false, map, string
 ghost use Rattle.xq_regions.specs.Forest.{Forest};
 ghost use Rattle.xq_regions.specs.Tree.{Label};
 ghost use Rattle.xq_regions.specs.Levels.{flat_row};
-ghost use Rattle.xq_values.specs.Content.{attribute_fault, built as built_lem, label};
+ghost use Rattle.xq_meaning.specs.Content.{attribute_fault, built as built_lem, label};
 ghost use Rattle.xq_atoms.specs.Answers.{GivesUnlessWanting};
 ghost use Rattle.xq_build.specs.private.Content.{are_low as are_low_lem, raised as raised_lem, fault_from, names_of, JudgedAs, JudgesLeaf};
 ghost use Rattle.xq_build.specs.private.Surplus.{StandsFor};

@@ -1,6 +1,6 @@
 //! Constructors of nodes without nodes below them.
 ghost use Rattle.std.specs.Prelude.{◌≡◌, string_bytes, Ok};
-ghost use Rattle.xq_values.specs.Content.{attribute_tree, text_tree, comment_tree, instruction_tree, lone};
+ghost use Rattle.xq_meaning.specs.Content.{attribute_tree, text_tree, comment_tree, instruction_tree, lone};
 ghost use Rattle.xq_build.specs.Gives.{GivesTree};
 
 use crate::values::without_leading_space;

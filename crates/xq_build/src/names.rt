@@ -2,15 +2,14 @@
 ghost use Rattle.std.specs.Prelude.{◌≡◌, map, string_bytes};
 ghost use Rattle.std.specs.Str.{chars};
 ghost use Rattle.xq_atoms.specs.Atom.{atomic_of};
-ghost use Rattle.xq_characters.specs.Spaces.{trimmed as trimmed_lem};
-ghost use Rattle.xq_values.specs.Content.{name_of as name_of_lem, judged_name, element_name, is_prefixed as is_prefixed_lem};
+ghost use Rattle.xq_atoms.specs.Spaces.{trimmed as trimmed_lem};
+ghost use Rattle.xq_meaning.specs.Content.{name_of as name_of_lem, judged_name, element_name, is_prefixed as is_prefixed_lem};
 ghost use Rattle.xq_atoms.specs.Answers.{Gives};
 ghost use Rattle.xq_build.specs.private.Judging.{JudgesText};
 
 use crate::values::trimmed;
 use std::alloc::Global;
-use xq_atoms::{Atom, Code, Fault};
-use xq_characters::is_name;
+use xq_atoms::{Atom, Code, Fault, is_name};
 use xq_expressions::NamedNode;
 use xq_regions::is_target;
 

@@ -1,12 +1,11 @@
 //! Parts of values.
 ghost use Rattle.std.specs.Prelude.{◌≡◌, string_bytes, IfErr, IfOk};
 ghost use Rattle.std.specs.Str.{IsUtf8};
-ghost use Rattle.xq_characters.specs.Characters.{is_space};
-ghost use Rattle.xq_characters.specs.Spaces as Spaces;
+ghost use Rattle.xq_atoms.specs.Characters.{is_space};
+ghost use Rattle.xq_atoms.specs.Spaces as Spaces;
 
 use std::alloc::Global;
-use xq_atoms::Want;
-use xq_characters::after_spaces;
+use xq_atoms::{Want, after_spaces};
 
 /// A copy of a text by its bytes.
 fn copied_text(alloc: Global, bytes: &[u8]) -> Result<String, Want>
@@ -34,5 +33,5 @@ pub fn trimmed(alloc: Global, text: &str) -> Result<String, Want>
     ensures text { IfOk result (λ rest. string_bytes rest ≡ Spaces.trimmed text.now) }
     ensures want { IfErr result (λ want. want ≡ Want.Memory) }
 {
-    copied_text(alloc, xq_characters::trimmed(text.as_bytes()))
+    copied_text(alloc, xq_atoms::trimmed(text.as_bytes()))
 }

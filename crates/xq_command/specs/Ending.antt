@@ -1,7 +1,7 @@
 -- How the program ends.
 use Rattle.std.specs.Prelude.{ℕ, List, [], codes}
-use Rattle.xq_service.specs.declared.ends.End.{End}
-use Rattle.xq_service.specs.declared.ends.End.TheVariants.{Finished, Cut, TooLong, Bound, ReadFault, WriteFault, NoRoom}
+use Rattle.xq_server.specs.declared.ends.End.{End}
+use Rattle.xq_server.specs.declared.ends.End.TheVariants.{Finished, Cut, TooLong, Bound, ReadFault, WriteFault, NoRoom}
 
 -- the exit status and the line on standard error
 abbrev pub outcome : End → ℕ × List ℕ

@@ -2,7 +2,7 @@
 ghost use Rattle.std.specs.Prelude.{◌≡◌};
 ghost use Rattle.xq_command.specs.Ending.{outcome as outcome_lem};
 
-use xq_service::End;
+use xq_server::End;
 
 /// The exit status and the line on standard error of a run that ended so; no line is empty but
 /// that of a finished one.

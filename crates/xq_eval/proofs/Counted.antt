@@ -8,8 +8,8 @@ use Rattle.xq_regions.specs.Items.{item_views}
 use Rattle.xq_regions.specs.Tree.{Tree}
 use Rattle.xq_regions.specs.Tuples.{value_at}
 use Rattle.xq_tuples.specs.Views.{values_of}
-use Rattle.xq_values.specs.Readings.{items_at}
-use Rattle.xq_operations.specs.Views.{tuple_at}
+use Rattle.xq_meaning.specs.Readings.{items_at}
+use Rattle.xq_forms.specs.Views.{tuple_at}
 
 pub only_one : {A : Type 0} (xs : List A) (x : A) → length xs ≡ 1 → x ≡ get_or xs 0 x → xs ≡ x ∷ []
 only_one [] x h e = absurd (omega arith)

@@ -9,7 +9,7 @@ use Rattle.xq_regions.specs.Tree.{Tree}
 use Rattle.xq_atoms.specs.declared.refusals.Code.{Code}
 use Rattle.xq_atoms.specs.Judged.{Judged}
 use Rattle.xq_meaning.specs.Doing.{Doing, Outcome, go_on, in_turn, first_that, unless_found}
-use Rattle.xq_operations.specs.Views.{GivesAs}
+use Rattle.xq_forms.specs.Views.{GivesAs}
 use Rattle.xq_eval.specs.private.Results.{GivesPlain}
 
 -- what is left of a list begins with its element at the index

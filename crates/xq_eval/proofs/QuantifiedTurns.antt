@@ -8,20 +8,20 @@ use Rattle.std.proofs.lemmas.Bool.{cases_lt}
 use Rattle.xq_regions.specs.declared.items.Item.{Item as HeldItem}
 use Rattle.xq_tuples.specs.Views.{values_of}
 use Rattle.xq_regions.specs.Items.{item_views, ItemView}
-use Rattle.xq_operations.specs.declared.frames.Frame.{Frame as Held}
+use Rattle.xq_forms.specs.declared.frames.Frame.{Frame as Held}
 use Rattle.std.proofs.lemmas.List.{append-nil, length-append, length-map, map-append}
 use Rattle.xq_atoms.specs.declared.refusals.Fault.{Fault}
 use Rattle.xq_atoms.specs.declared.refusals.Fault.TheVariants.{Code as OfCode, Want as OfWant}
 use Rattle.xq_regions.specs.Tree.{Tree}
 use Rattle.xq_regions.specs.Tuples.{Tuple}
-use Rattle.xq_values.specs.Items.{Item}
-use Rattle.xq_values.specs.Readings.{item_at, items_at, IsIn, AreIn, Extends}
+use Rattle.xq_meaning.specs.Items.{Item}
+use Rattle.xq_meaning.specs.Readings.{item_at, items_at, IsIn, AreIn, Extends}
 use Rattle.xq_meaning.specs.Doing.{Outcome, go_on, give}
 use Rattle.xq_meaning.specs.Forms as Forms
 use Rattle.xq_meaning.specs.PlanMeaning.{Frame, Meaning}
-use Rattle.xq_operations.specs.Views.{tuple_at, focus_at, frame_at, TupleIn, FocusIn, FrameIn}
+use Rattle.xq_forms.specs.Views.{tuple_at, focus_at, frame_at, TupleIn, FocusIn, FrameIn}
 use Rattle.xq_eval.specs.private.Results.{GivesPlain}
-use Rattle.xq_operations.proofs.Growth.{tuple_grown, tuple_in_grown}
+use Rattle.xq_forms.proofs.Growth.{tuple_grown, tuple_in_grown}
 use Rattle.xq_regions.proofs.Lists.{all_append}
 use Rattle.xq_eval.specs.private.Bindings.{Falls, stays, falls, Moved}
 use Rattle.xq_eval.specs.private.Quantifying.{at_top, holds, tried, resumed, turn, unless_wanted, weigh, all_weigh, some_weigh}

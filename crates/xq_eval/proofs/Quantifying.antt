@@ -6,7 +6,7 @@ use Rattle.xq_atoms.specs.Judged.{Judged}
 use Rattle.xq_regions.specs.Tree.{Tree}
 use Rattle.xq_regions.specs.Items.{ItemView}
 use Rattle.xq_regions.specs.Tuples.{Tuple}
-use Rattle.xq_values.specs.Items.{Item}
+use Rattle.xq_meaning.specs.Items.{Item}
 use Rattle.xq_meaning.specs.Doing.{Doing, Outcome, go_on, give, first_that, unless_found}
 use Rattle.std.proofs.Math.Nat.{mul-lt-mul_of_pos_right}
 use Rattle.xq_meaning.specs.Forms as Forms

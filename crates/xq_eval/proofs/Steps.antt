@@ -18,18 +18,18 @@ use Rattle.xq_regions.specs.Tuples.{Tuple, item_values, with_each, expanded, bou
 use Rattle.xq_tuples.specs.Views.{values_of}
 use Rattle.xq_regions.specs.Items.{ItemView, Value, item_view}
 use Rattle.xq_atoms.specs.Judged.{Judged, ◌>>=◌ as ◌>>>=◌}
-use Rattle.xq_values.specs.Items.{Place, Item, Node, atomized}
-use Rattle.xq_values.specs.Arguments.{effective, all_nodes}
-use Rattle.xq_values.specs.Operators.{keeps, gathered}
-use Rattle.xq_values.specs.Functions.{Focus as Spot}
-use Rattle.xq_values.specs.Steps.{focuses, focuses_from, in_axis_order, is_reverse, axis_nodes, context_node}
-use Rattle.xq_values.specs.Content.{name_of}
-use Rattle.xq_values.specs.declared.node_tests.Test.{Test}
-use Rattle.xq_values.specs.declared.node_tests.Test.TheVariants.{Any}
+use Rattle.xq_meaning.specs.Items.{Place, Item, Node, atomized}
+use Rattle.xq_meaning.specs.Arguments.{effective, all_nodes}
+use Rattle.xq_meaning.specs.Operators.{keeps, gathered}
+use Rattle.xq_meaning.specs.Functions.{Focus as Spot}
+use Rattle.xq_meaning.specs.Steps.{focuses, focuses_from, in_axis_order, is_reverse, axis_nodes, context_node}
+use Rattle.xq_meaning.specs.Content.{name_of}
+use Rattle.xq_meaning.specs.declared.node_tests.Test.{Test}
+use Rattle.xq_meaning.specs.declared.node_tests.Test.TheVariants.{Any}
 use Rattle.xq_regions.specs.declared.Axis.{Axis}
 use Rattle.xq_regions.specs.declared.Axis.TheVariants.{Child, DescendantOrSelf}
 use Rattle.xq_expressions.specs.declared.operators.NamedNode.{NamedNode}
-use Rattle.xq_values.specs.Readings.{item_at, items_at, IsIn, AreIn, Extends}
+use Rattle.xq_meaning.specs.Readings.{item_at, items_at, IsIn, AreIn, Extends}
 use Rattle.xq_meaning.specs.Doing.{Doing, Outcome, go_on, ◌>>=◌, give, judged, on_trees, in_turn, more, one_more, collected, for_each}
 use Rattle.xq_meaning.specs.Forms as Forms
 use Rattle.xq_meaning.specs.PlanMeaning.{Frame, Meaning, ClauseMeaning, StepMeaning, at_tuple, next_clause, flwor, plan_mean, plan_step_mean}
@@ -40,11 +40,11 @@ use Rattle.xq_meaning.proofs.PlanGrowth.{plan_grows}
 use Rattle.xq_meaning.specs.declared.plans.PlanStep.{PlanStep}
 use Rattle.xq_meaning.specs.declared.plans.PlanStep.TheVariants as plan_step
 use Rattle.xq_meaning.proofs.PlanEquations.{plan-Step, step-Each, step-Scan}
-use Rattle.xq_operations.specs.declared.frames.Frame.{Frame as Held_frame}
-use Rattle.xq_operations.specs.Views.{tuple_at, focus_at, frame_at, TupleIn, TuplesIn, FocusIn, FrameIn, Goes, GivesAs, forget, on_axis, after_double_slash, parents_below, plant_named}
+use Rattle.xq_forms.specs.declared.frames.Frame.{Frame as Held_frame}
+use Rattle.xq_forms.specs.Views.{tuple_at, focus_at, frame_at, TupleIn, TuplesIn, FocusIn, FrameIn, Goes, GivesAs, forget, on_axis, after_double_slash, parents_below, plant_named}
 use Rattle.xq_eval.proofs.Loops.{stops}
-use Rattle.xq_operations.proofs.ParentsBelow.{parents_suffice}
-use Rattle.xq_operations.proofs.Growth.{items_grown, are_in_grown, tuple_grown, tuple_in_grown, item_at_grown, in_grown}
+use Rattle.xq_forms.proofs.ParentsBelow.{parents_suffice}
+use Rattle.xq_forms.proofs.Growth.{items_grown, are_in_grown, tuple_grown, tuple_in_grown, item_at_grown, in_grown}
 use Rattle.xq_regions.proofs.Lists.{all_append, all_reverse, map_reverse}
 
 -- the results of one more, at the end of those so far

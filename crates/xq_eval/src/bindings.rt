@@ -8,7 +8,7 @@ use crate::variables::Variable;
 use std::alloc::Global;
 use std::rc::Rc;
 use xq_atoms::Want;
-use xq_operations::push_copy;
+use xq_forms::push_copy;
 use xq_regions::Items;
 
 /// What the next value is taken from, and its place there: these items, or where there are none,

@@ -8,7 +8,7 @@ ghost use Rattle.xq_meaning.specs.Doing.{in_turn, one_more, for_each};
 ghost use Rattle.xq_meaning.specs.Forms as Forms;
 ghost use Rattle.xq_meaning.specs.PlanMeaning.{plan_mean, plan_clause_mean, at_tuple as meant_at, next_clause};
 ghost use Rattle.xq_eval.specs.private.Keys.{keys_at};
-ghost use Rattle.xq_operations.specs.Views.{tuple_at, tuples_at, lists_of, order_specs, frame_at, FrameIn, TupleIn, TuplesIn, Goes, GivesSequence, GivesTuples};
+ghost use Rattle.xq_forms.specs.Views.{tuple_at, tuples_at, lists_of, order_specs, frame_at, FrameIn, TupleIn, TuplesIn, Goes, GivesSequence, GivesTuples};
 ghost use Rattle.xq_eval.specs.private.Results.{GivesLists, GivesTests, GivesKeys, GivesRows};
 
 use crate::evaluation::evaluate;
@@ -16,12 +16,12 @@ use std::alloc::Global;
 use std::rc::Rc;
 use xq_atoms::{Atom, Fault};
 use xq_expressions::OrderModifier;
+use xq_forms::{Frame, atomized, group, joined, order};
 use xq_functions::effective;
 use xq_meaning::{Plan, PlanClause};
-use xq_operations::{Frame, atomized, group, joined, order};
 use xq_regions::Items;
+use xq_sources::Growing;
 use xq_tuples::Tuples;
-use xq_worlds::Growing;
 
 /// The tuples after all clauses.
 #[cycle(eval)]

@@ -4,19 +4,19 @@ ghost use Rattle.xq_atoms.specs.Text.{Text};
 ghost use Rattle.xq_regions.specs.Items.{item_view, item_views};
 ghost use Rattle.xq_regions.specs.Tree.{Tree};
 ghost use Rattle.xq_tuples.specs.Views.{values_of};
-ghost use Rattle.xq_values.specs.Functions as Functions;
-ghost use Rattle.xq_values.specs.Readings.{items_at, AreIn};
+ghost use Rattle.xq_meaning.specs.Functions as Functions;
+ghost use Rattle.xq_meaning.specs.Readings.{items_at, AreIn};
 ghost use Rattle.xq_meaning.specs.Forms as Forms;
 ghost use Rattle.xq_meaning.specs.PlanMeaning.{Frame as Meant, plan_mean};
-ghost use Rattle.xq_operations.specs.Views.{tuple_at};
+ghost use Rattle.xq_forms.specs.Views.{tuple_at};
 
 use std::alloc::Global;
 use std::rc::Rc;
 use xq_atoms::{Atom, Want};
+use xq_expressions::Function;
+use xq_forms::single;
 use xq_meaning::Plan;
-use xq_operations::single;
 use xq_regions::{Item, Items};
-use xq_signatures::Function;
 
 /// What a function that only counts gives; `None` for another function.
 fn counted(alloc: Global, function: Function, items: &[Item]) -> Result<Option<Items>, Want>

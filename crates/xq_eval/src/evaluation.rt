@@ -1,11 +1,11 @@
 //! The evaluator: the value of a plan.
 ghost use Rattle.std.specs.Prelude.{◌≡◌, List, [], ◌∷◌, map};
 ghost use Rattle.xq_regions.specs.Items.{item_view, item_views};
-ghost use Rattle.xq_values.specs.Readings.{items_at, IsIn, AreIn};
+ghost use Rattle.xq_meaning.specs.Readings.{items_at, IsIn, AreIn};
 ghost use Rattle.xq_meaning.specs.Doing.{in_turn, more, one_more, for_each, first_that};
 ghost use Rattle.xq_meaning.specs.Forms as Forms;
 ghost use Rattle.xq_meaning.specs.PlanMeaning.{plan_mean};
-ghost use Rattle.xq_operations.specs.Views.{tuple_at, lists_of, spot_at, frame_at, FrameIn, TupleIn, Goes, GivesSequence};
+ghost use Rattle.xq_forms.specs.Views.{tuple_at, lists_of, spot_at, frame_at, FrameIn, TupleIn, Goes, GivesSequence};
 ghost use Rattle.xq_eval.specs.private.Results.{GivesLists, GivesPlain};
 
 use crate::clauses::{clause_list, values};
@@ -14,16 +14,15 @@ use crate::paths::step_list;
 use crate::quantified::satisfied;
 use std::alloc::Global;
 use xq_atoms::{Atom, Fault};
-use xq_functions::{effective, keeps};
-use xq_meaning::Plan;
-use xq_operations::{
+use xq_expressions::Function;
+use xq_forms::{
     Focus, Frame, axis_items, call, concatenated, context_item, deciding, in_axis_order, named,
     node_name, operate, push_copy, root, sign, single, slot, unnamed,
 };
+use xq_functions::{effective, keeps};
+use xq_meaning::{Operator, Plan};
 use xq_regions::{Item, Items};
-use xq_signatures::Function;
-use xq_values::Operator;
-use xq_worlds::Growing;
+use xq_sources::Growing;
 
 /// The value of a plan.
 #[cycle(eval)]

@@ -3,23 +3,22 @@ ghost use Rattle.std.specs.Prelude.{◌≡◌, List, map, true, Some, IfSome};
 ghost use Rattle.std.specs.Option.{option_copied};
 ghost use Rattle.xq_meaning.specs.declared.plans.PlanStep.TheVariants as plan_step;
 ghost use Rattle.xq_regions.specs.Items.{item_view, item_views};
-ghost use Rattle.xq_values.specs.Readings.{items_at, IsIn, AreIn};
-ghost use Rattle.xq_values.specs.Steps.{focuses};
+ghost use Rattle.xq_meaning.specs.Readings.{items_at, IsIn, AreIn};
+ghost use Rattle.xq_meaning.specs.Steps.{focuses};
 ghost use Rattle.xq_meaning.specs.Doing.{in_turn, more, collected};
 ghost use Rattle.xq_meaning.specs.Forms as Forms;
 ghost use Rattle.xq_meaning.specs.PlanMeaning.{plan_mean, plan_step_mean, next_step};
-ghost use Rattle.xq_operations.specs.Views.{spot_at, frame_at, FrameIn, Goes, GivesSequence};
+ghost use Rattle.xq_forms.specs.Views.{spot_at, frame_at, FrameIn, Goes, GivesSequence};
 ghost use Rattle.xq_eval.specs.private.Children.{IsToChildren};
 
 use crate::evaluation::evaluate;
 use sqlite_items::at;
 use std::alloc::Global;
 use xq_atoms::Fault;
-use xq_meaning::{Plan, PlanStep};
-use xq_operations::{Focus, Frame, double_slash, gather, only_nodes, parents_below, scan};
+use xq_forms::{Focus, Frame, double_slash, gather, only_nodes, parents_below, scan};
+use xq_meaning::{Plan, PlanStep, Test};
 use xq_regions::{Axis, Item, Items};
-use xq_values::Test;
-use xq_worlds::Growing;
+use xq_sources::Growing;
 
 /// Whether the step is `descendant-or-self::node()`, for which `//` stands (XQuery 3.1, section
 /// 3.3.5).

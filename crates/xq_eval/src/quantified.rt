@@ -4,7 +4,7 @@ ghost use Rattle.std.specs.Prelude.{◌≡◌, ◌≤◌, [], map, drop, length,
 ghost use Rattle.xq_regions.specs.Items.{item_views};
 ghost use Rattle.xq_meaning.specs.Forms as Forms;
 ghost use Rattle.xq_meaning.specs.PlanMeaning.{plan_mean};
-ghost use Rattle.xq_operations.specs.Views.{frame_at, FrameIn, Goes};
+ghost use Rattle.xq_forms.specs.Views.{frame_at, FrameIn, Goes};
 ghost use Rattle.xq_eval.specs.private.Results.{GivesPlain};
 ghost use Rattle.xq_eval.specs.private.Quantifying.{IsOf, bindings, turn as meant_turn};
 ghost use Rattle.xq_eval.specs.private.Turns.{GivesTurn};
@@ -14,10 +14,10 @@ use crate::evaluation::{evaluate, tested};
 use std::alloc::Global;
 use std::rc::Rc;
 use xq_atoms::Fault;
+use xq_forms::Frame;
 use xq_meaning::Plan;
-use xq_operations::Frame;
 use xq_regions::Items;
-use xq_worlds::Growing;
+use xq_sources::Growing;
 
 /// Whether the test has the wanted truth for some values of the variables, those of the later ones
 /// for each of the earlier ones; nothing is evaluated after the first that have.

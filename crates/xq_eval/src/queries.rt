@@ -1,17 +1,16 @@
 //! A query's plan.
 ghost use Rattle.std.specs.Prelude.{◌≤◌, [], None, length};
 ghost use Rattle.xq_meaning.specs.PlanMeaning.{Frame as Meant, plan_mean};
-ghost use Rattle.xq_operations.specs.Views.{Goes, GivesSequence};
+ghost use Rattle.xq_forms.specs.Views.{Goes, GivesSequence};
 
 use crate::evaluation::evaluate;
 use std::alloc::Global;
 use std::rc::Rc;
 use xq_atoms::Fault;
+use xq_forms::Frame;
 use xq_meaning::Plan;
-use xq_operations::Frame;
 use xq_regions::Items;
-use xq_sources::Addresses;
-use xq_worlds::Growing;
+use xq_sources::{Addresses, Growing};
 
 /// The value of a query's plan, and beside it, in `world`, the trees that it constructed, after
 /// those that were there (XQuery 3.1, sections 2.1 and 3). `addresses` are those of the documents,

@@ -1,9 +1,13 @@
-//! Expressions of the query language, as their tokens derive them.
+//! Expressions of the query language, as their tokens derive them, the functions that they may
+//! call, and the variables in scope.
 #![tactic(auto)]
 
 mod expressions;
 mod names;
 mod operators;
+mod place;
+mod scopes;
+mod signatures;
 
 pub use expressions::{Clause, ConstructorName, Expr, GroupSpec, Step};
 pub use names::{QName, Text};
@@ -12,3 +16,5 @@ pub use operators::{
     NodeTest, OrderModifier, PathStart, ProductOperator, Quantifier, Relation, Separator,
     SetOperator, Sign, UnnamedNode,
 };
+pub use scopes::Scope;
+pub use signatures::{Arity, Function};

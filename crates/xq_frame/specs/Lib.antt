@@ -2,3 +2,6 @@ pub mod Frame
 pub mod Request
 pub mod Next
 pub mod Reply
+pub mod Taking
+pub mod Sending
+pub mod private

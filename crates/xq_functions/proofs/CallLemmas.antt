@@ -9,18 +9,18 @@ use Rattle.xq_atoms.specs.Atom.{Atomic}
 use Rattle.xq_regions.specs.declared.items.Item.{Item as CodeItem}
 use Rattle.xq_regions.specs.Items.{Value, item_views}
 use Rattle.xq_regions.specs.Tree.{Tree}
-use Rattle.xq_signatures.specs.declared.Function.{Function}
-use Rattle.xq_signatures.specs.declared.Function.TheVariants as f
+use Rattle.xq_expressions.specs.declared.signatures.Function.{Function}
+use Rattle.xq_expressions.specs.declared.signatures.Function.TheVariants as f
 use Rattle.xq_expressions.specs.declared.operators.ComparisonOperator.{ComparisonOperator}
 use Rattle.xq_expressions.specs.declared.operators.ComparisonOperator.TheVariants as comparing
-use Rattle.xq_values.specs.declared.operators.Operator.{Operator}
-use Rattle.xq_values.specs.declared.operators.Operator.TheVariants as operator
-use Rattle.xq_values.specs.Items.{Item, Atom, atomized}
-use Rattle.xq_values.specs.Readings.{items_at}
-use Rattle.xq_values.specs.Arguments.{text, optional, single, as_items, as_boolean, if_given}
-use Rattle.xq_values.specs.Texts.{joined}
-use Rattle.xq_values.specs.Functions.{Focus, piece, of_one, of_two, of_three, of_many, called, distinct_values}
-use Rattle.xq_values.specs.Operators.{operated, of_both, number_operand, sum_of, product_of, one_bound, integers, related_by}
+use Rattle.xq_meaning.specs.declared.operators.Operator.{Operator}
+use Rattle.xq_meaning.specs.declared.operators.Operator.TheVariants as operator
+use Rattle.xq_meaning.specs.Items.{Item, Atom, atomized}
+use Rattle.xq_meaning.specs.Readings.{items_at}
+use Rattle.xq_meaning.specs.Arguments.{text, optional, single, as_items, as_boolean, if_given}
+use Rattle.xq_meaning.specs.Texts.{joined}
+use Rattle.xq_meaning.specs.Functions.{Focus, piece, of_one, of_two, of_three, of_many, called, distinct_values}
+use Rattle.xq_meaning.specs.Operators.{operated, of_both, number_operand, sum_of, product_of, one_bound, integers, related_by}
 use Rattle.xq_atoms.specs.Compare.{compare_value}
 use Rattle.xq_functions.specs.Answers.{items_of}
 use Rattle.xq_functions.specs.Kinds.{argument_of, is_on_atoms}

@@ -5,8 +5,8 @@ use Rattle.xq_atoms.specs.declared.refusals.Code.TheVariants.{FORG0006}
 use Rattle.xq_atoms.specs.Judged.{Judged, ◌>>=◌, only_if}
 use Rattle.xq_atoms.specs.Atom.{Atomic, Integer, Decimal, String, Boolean, Untyped}
 use Rattle.xq_atoms.specs.Compare.{Key, Number, Characters, Truth, key, of_one_kind}
-use Rattle.xq_values.specs.Arguments.{atomic, each}
-use Rattle.xq_values.specs.Functions.{comparable, chosen, best, extreme}
+use Rattle.xq_meaning.specs.Arguments.{atomic, each}
+use Rattle.xq_meaning.specs.Functions.{comparable, chosen, best, extreme}
 use Rattle.xq_functions.specs.private.Running.{choosing}
 
 bind-const : {A B C : Type 0} (j : Judged A) (f : A → B) (k : Judged C) → ((j >>= (λ x. Ok (f x))) >>= (λ y. k)) ≡ (j >>= (λ x. k))

@@ -11,7 +11,7 @@ use Rattle.xq_atoms.proofs.Keys.{group_key_eq-is}
 use Rattle.xq_regions.specs.Items.{ItemView, Value}
 use Rattle.xq_regions.proofs.Grouping.{list_any-map, firsts-push}
 use Rattle.xq_atoms.proofs.KeyOrder.{key_eq_equiv}
-use Rattle.xq_values.specs.Functions.{distinct_values}
+use Rattle.xq_meaning.specs.Functions.{distinct_values}
 use Rattle.xq_functions.specs.private.Running.{Distinct}
 
 laws : IsEquivalence (λ (a b : Atomic). key_eq (key a) (key b))

@@ -14,8 +14,8 @@ use Rattle.xq_atoms.specs.Text.{Text, text_eq}
 use Rattle.xq_atoms.specs.Address.{IsAddress, is_address_byte}
 use Rattle.xq_sources.specs.Addresses.{IsBefore, IsGap, Rise}
 use Rattle.xq_sources.proofs.Rising.{at_all}
-use Rattle.xq_values.specs.Functions.{document_from, is_address, is_found}
-use Rattle.xq_values.specs.Items.{Node, root_of}
+use Rattle.xq_meaning.specs.Functions.{document_from, is_address, is_found}
+use Rattle.xq_meaning.specs.Items.{Node, root_of}
 
 -- # Which texts are addresses
 

@@ -9,3 +9,7 @@ pub mod ChoiceLemmas
 pub mod DistinctLemmas
 pub mod PlaceLemmas
 pub mod SetLemmas
+pub mod WordLemmas
+pub mod PositionLemmas
+pub mod TextPlaces
+pub mod JoinLemmas

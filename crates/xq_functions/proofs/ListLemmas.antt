@@ -3,7 +3,7 @@ use Rattle.std.proofs.Common.{◌≡◌, ℕ, ◌+◌, ◌<◌, List, [], ◌∷
 use Rattle.std.proofs.lemmas.List.{map_more, drop_more, take-append-drop, map-append}
 use Rattle.xq_atoms.specs.declared.refusals.Code.{Code}
 use Rattle.xq_atoms.specs.Judged.{Judged, ◌>>=◌}
-use Rattle.xq_values.specs.Arguments.{each}
+use Rattle.xq_meaning.specs.Arguments.{each}
 
 bind-ok : {A : Type 0} (j : Judged (List A)) → (j >>= (λ ys. Ok ([] ++ ys))) ≡ j
 bind-ok (Ok ys) = refl

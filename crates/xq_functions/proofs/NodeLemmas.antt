@@ -12,10 +12,10 @@ use Rattle.xq_regions.specs.Items.{ItemView, Place, Value}
 use Rattle.xq_regions.proofs.Paths.{at_place}
 use Rattle.xq_regions.proofs.RegionTable.{order_is_places}
 use Rattle.xq_sources.specs.Sources.{HasNode, tree_at}
-use Rattle.xq_values.specs.Items.{comes_first, nodes_at}
-use Rattle.xq_values.specs.Readings.{items_at, node_at, AreIn}
-use Rattle.xq_values.specs.Arguments.{boolean}
-use Rattle.xq_values.specs.Operators.{by_nodes, stand}
+use Rattle.xq_meaning.specs.Items.{comes_first, nodes_at}
+use Rattle.xq_meaning.specs.Readings.{items_at, node_at, AreIn}
+use Rattle.xq_meaning.specs.Arguments.{boolean}
+use Rattle.xq_meaning.specs.Operators.{by_nodes, stand}
 use Rattle.xq_functions.specs.private.Nodes as places
 use Rattle.xq_regions.proofs.Lists.{same_test}
 

@@ -7,8 +7,8 @@ use Rattle.xq_atoms.specs.Judged.{Judged, ◌>>=◌, only_if}
 use Rattle.xq_atoms.specs.Atom.{Atomic, Integer, Decimal, String, Boolean, Untyped, numeric, is_integer}
 use Rattle.xq_atoms.specs.Decimal.{is_decimal}
 use Rattle.xq_atoms.specs.declared.refusals.Code.TheVariants.{FOAR0002}
-use Rattle.xq_values.specs.Items.{Atom}
-use Rattle.xq_values.specs.Operators.{sign_of, with_signs, integers_from, integers, integers_within, how_many}
+use Rattle.xq_meaning.specs.Items.{Atom}
+use Rattle.xq_meaning.specs.Operators.{sign_of, with_signs, integers_from, integers, integers_within, how_many}
 use Rattle.std.proofs.lemmas.Bool.{le-leb}
 
 -- a sign judges whether it stands before a number

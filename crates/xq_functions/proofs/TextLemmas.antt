@@ -6,9 +6,9 @@ use Rattle.xq_atoms.specs.Judged.{Judged, ◌>>=◌}
 use Rattle.xq_atoms.specs.Text.{Text}
 use Rattle.xq_atoms.specs.Atom.{Atomic}
 use Rattle.xq_atoms.specs.Cast.{text_of}
-use Rattle.xq_values.specs.Texts.{joined}
-use Rattle.xq_values.specs.Arguments.{text, each}
-use Rattle.xq_values.specs.Functions.{piece}
+use Rattle.xq_meaning.specs.Texts.{joined}
+use Rattle.xq_meaning.specs.Arguments.{text, each}
+use Rattle.xq_meaning.specs.Functions.{piece}
 use Rattle.xq_functions.specs.private.Running.{concatenating}
 
 joined-cons : (t : Text) (ts : List Text) → joined [] (t ∷ ts) ≡ t ++ joined [] ts

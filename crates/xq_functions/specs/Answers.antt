@@ -9,8 +9,8 @@ use Rattle.xq_atoms.specs.Judged.{Judged}
 use Rattle.xq_regions.specs.declared.items.Item.{Item as CodeItem}
 use Rattle.xq_regions.specs.Items.{item_view, item_views}
 use Rattle.xq_regions.specs.Tree.{Tree}
-use Rattle.xq_values.specs.Items.{Item}
-use Rattle.xq_values.specs.Readings.{items_at}
+use Rattle.xq_meaning.specs.Items.{Item}
+use Rattle.xq_meaning.specs.Readings.{items_at}
 
 -- the atomic values that code holds
 abbrev pub atomics : List Atom → List Atomic

@@ -1,9 +1,9 @@
 -- What functions and operators look at: the items themselves, or their atomic values.
 use Rattle.std.specs.Prelude.{Bool, true, false}
-use Rattle.xq_signatures.specs.declared.Function.{Function}
-use Rattle.xq_signatures.specs.declared.Function.TheVariants as f
-use Rattle.xq_values.specs.declared.operators.Operator.{Operator}
-use Rattle.xq_values.specs.declared.operators.Operator.TheVariants as operator
+use Rattle.xq_expressions.specs.declared.signatures.Function.{Function}
+use Rattle.xq_expressions.specs.declared.signatures.Function.TheVariants as f
+use Rattle.xq_meaning.specs.declared.operators.Operator.{Operator}
+use Rattle.xq_meaning.specs.declared.operators.Operator.TheVariants as operator
 use Rattle.xq_expressions.specs.declared.operators.ComparisonOperator.TheVariants as comparing
 use Rattle.xq_functions.specs.declared.kinds.Argument.{Argument}
 use Rattle.xq_functions.specs.declared.kinds.Argument.TheVariants.{Missing, Items, Atoms, Nodes, Address}

@@ -4,3 +4,4 @@ pub mod Running
 pub mod Documents
 pub mod Nodes
 pub mod Places
+pub mod Words

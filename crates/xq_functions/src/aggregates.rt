@@ -2,8 +2,8 @@
 ghost use Rattle.std.specs.Prelude.{◌≡◌, ◌&&◌, pos};
 ghost use Rattle.xq_atoms.specs.Atom.{Integer, atomic_of, judged_of};
 ghost use Rattle.xq_atoms.specs.Compare as Compare;
-ghost use Rattle.xq_values.specs.Arguments as Arguments;
-ghost use Rattle.xq_values.specs.Functions as Functions;
+ghost use Rattle.xq_meaning.specs.Arguments as Arguments;
+ghost use Rattle.xq_meaning.specs.Functions as Functions;
 ghost use Rattle.xq_functions.specs.Answers.{GivesItems, atomics};
 ghost use Rattle.xq_functions.specs.private.Judgements.{judged_as};
 ghost use Rattle.xq_functions.specs.private.Running.{is_better as is_better_lem};

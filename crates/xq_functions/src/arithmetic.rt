@@ -2,8 +2,8 @@
 ghost use Rattle.std.specs.Prelude.{◌≡◌, ℕ, ◌<◌, pos, ◌+ℤ◌, ◌≤ℤ◌};
 ghost use Rattle.xq_atoms.specs.Atom as Atomics;
 ghost use Rattle.xq_atoms.specs.Atom.{atomic_of, judged_of};
-ghost use Rattle.xq_values.specs.Arguments as Arguments;
-ghost use Rattle.xq_values.specs.Operators as Operators;
+ghost use Rattle.xq_meaning.specs.Arguments as Arguments;
+ghost use Rattle.xq_meaning.specs.Operators as Operators;
 ghost use Rattle.xq_functions.specs.Answers.{GivesItems, atomics};
 ghost use Rattle.xq_functions.specs.private.Judgements.{judged_as};
 ghost use Rattle.xq_functions.specs.private.Calls as Calls;

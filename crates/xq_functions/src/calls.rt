@@ -3,9 +3,9 @@ ghost use Rattle.std.specs.Prelude.{◌≡◌, ◌≤◌, List, Option, map, len
 ghost use Rattle.xq_atoms.specs.Text.{Text};
 ghost use Rattle.xq_atoms.specs.Atom.{atomic_of};
 ghost use Rattle.xq_regions.specs.Tree.{Tree};
-ghost use Rattle.xq_values.specs.Items.{Item as ItemSeen, atomized};
-ghost use Rattle.xq_values.specs.Functions as Functions;
-ghost use Rattle.xq_values.specs.Operators as Operators;
+ghost use Rattle.xq_meaning.specs.Items.{Item as ItemSeen, atomized};
+ghost use Rattle.xq_meaning.specs.Functions as Functions;
+ghost use Rattle.xq_meaning.specs.Operators as Operators;
 ghost use Rattle.xq_functions.specs.Answers.{GivesItems, atomics, items_of};
 ghost use Rattle.xq_atoms.specs.Answers.{Gives};
 ghost use Rattle.xq_functions.specs.Kinds as Kinds;
@@ -25,10 +25,9 @@ use std::alloc::Global;
 use xq_atoms::{
     Atom, Code, Fault, abs, cast_bool, cast_dec, cast_int, cast_str, ceiling, floor, round,
 };
-use xq_expressions::{ComparisonOperator, Relation};
+use xq_expressions::{ComparisonOperator, Function, Relation};
+use xq_meaning::Operator;
 use xq_regions::Items;
-use xq_signatures::Function;
-use xq_values::Operator;
 
 /// A call with one argument of a function that looks at items whatever they are.
 pub fn call_on_items(alloc: Global, function: Function, items: Items) -> Result<Items, Fault>

@@ -1,7 +1,7 @@
 //! Comparisons of atoms (XQuery 3.1, sections 3.7.1 and 3.7.2), and the concatenation of strings.
 ghost use Rattle.std.specs.Prelude.{◌≡◌};
 ghost use Rattle.xq_atoms.specs.Atom.{atomic_of};
-ghost use Rattle.xq_values.specs.Operators as Operators;
+ghost use Rattle.xq_meaning.specs.Operators as Operators;
 ghost use Rattle.xq_functions.specs.Answers.{GivesItems, atomics};
 ghost use Rattle.xq_functions.specs.private.Calls as Calls;
 

@@ -3,7 +3,7 @@ ghost use Rattle.std.specs.Prelude.{◌≡◌, ◌++◌, ◌∷◌, [], map, IfO
 ghost use Rattle.std.specs.List.{list_any};
 ghost use Rattle.xq_atoms.specs.Atom.{atomic_of};
 ghost use Rattle.xq_regions.specs.Items.{Value, item_views};
-ghost use Rattle.xq_values.specs.Functions as Functions;
+ghost use Rattle.xq_meaning.specs.Functions as Functions;
 ghost use Rattle.xq_functions.specs.Answers.{atomics};
 
 use indexmap::IndexSet;

@@ -1,7 +1,7 @@
 //! Documents by their addresses (F&O 3.1, section 14.6).
 ghost use Rattle.std.specs.Prelude.{◌≡◌, List, IfOk, IfErr};
 ghost use Rattle.xq_regions.specs.Tree.{Tree};
-ghost use Rattle.xq_values.specs.Functions as Functions;
+ghost use Rattle.xq_meaning.specs.Functions as Functions;
 ghost use Rattle.xq_functions.specs.Answers.{GivesItems, atomics, items_of, lent_items};
 ghost use Rattle.xq_atoms.specs.Answers.{Gives};
 ghost use Rattle.xq_functions.specs.private.Documents as Documents;

@@ -2,9 +2,8 @@
 ghost use Rattle.std.specs.Prelude.{◌≡◌};
 ghost use Rattle.xq_functions.specs.Kinds as Kinds;
 
-use xq_expressions::ComparisonOperator;
-use xq_signatures::Function;
-use xq_values::Operator;
+use xq_expressions::{ComparisonOperator, Function};
+use xq_meaning::Operator;
 
 /// What a function of one argument looks at.
 #[derive(Clone, Copy, Debug, PartialEq, Eq)]

@@ -2,8 +2,8 @@
 ghost use Rattle.std.specs.Prelude.{◌≡◌, List, map};
 ghost use Rattle.xq_regions.specs.Items.{item_view};
 ghost use Rattle.xq_regions.specs.Tree.{Tree};
-ghost use Rattle.xq_values.specs.Readings.{AreIn};
-ghost use Rattle.xq_values.specs.Operators as Operators;
+ghost use Rattle.xq_meaning.specs.Readings.{AreIn};
+ghost use Rattle.xq_meaning.specs.Operators as Operators;
 ghost use Rattle.xq_functions.specs.Answers.{GivesItems, items_of, lent_items};
 ghost use Rattle.xq_atoms.specs.Answers.{Gives};
 ghost use Rattle.xq_functions.specs.private.Nodes as Nodes;

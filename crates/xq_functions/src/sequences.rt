@@ -1,7 +1,7 @@
 //! Functions on sequences (F&O 3.1, sections 14.1 and 14.2), whatever their items are.
 ghost use Rattle.std.specs.Prelude.{◌≡◌, List, reverse};
 ghost use Rattle.xq_regions.specs.Tree.{Tree};
-ghost use Rattle.xq_values.specs.Functions as Functions;
+ghost use Rattle.xq_meaning.specs.Functions as Functions;
 ghost use Rattle.xq_functions.specs.Answers.{items_of};
 ghost use Rattle.xq_functions.specs.private.Judgements.{judged_as};
 

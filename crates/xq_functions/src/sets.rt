@@ -4,9 +4,9 @@ ghost use Rattle.std.specs.Prelude.{◌≡◌, Bool, List, filter, map, IfOk, If
 ghost use Rattle.xq_regions.specs.Items.{item_view, item_views};
 ghost use Rattle.xq_regions.specs.Rising.{AreRising};
 ghost use Rattle.xq_regions.specs.Tree.{Tree};
-ghost use Rattle.xq_values.specs.Readings.{AreIn, items_at};
-ghost use Rattle.xq_values.specs.declared.operators.Operator.TheVariants as operators;
-ghost use Rattle.xq_values.specs.Operators as Operators;
+ghost use Rattle.xq_meaning.specs.Readings.{AreIn, items_at};
+ghost use Rattle.xq_meaning.specs.declared.operators.Operator.TheVariants as operators;
+ghost use Rattle.xq_meaning.specs.Operators as Operators;
 ghost use Rattle.xq_functions.specs.Answers.{items_of, lent_items};
 ghost use Rattle.xq_atoms.specs.Answers.{Gives};
 ghost use Rattle.xq_functions.specs.private.Places as Places;

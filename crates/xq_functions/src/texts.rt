@@ -2,25 +2,26 @@
 ghost use Rattle.std.specs.Prelude.{◌≡◌, List, Ok, map, flat_map, IfOk, IfErr, string_bytes};
 ghost use Rattle.xq_atoms.specs.Atom.{Atomic, atomic_of};
 ghost use Rattle.xq_atoms.specs.Cast.{text_of};
-ghost use Rattle.xq_values.specs.Arguments as Arguments;
-ghost use Rattle.xq_values.specs.Functions as Functions;
+ghost use Rattle.xq_meaning.specs.Arguments as Arguments;
+ghost use Rattle.xq_meaning.specs.Functions as Functions;
 ghost use Rattle.xq_functions.specs.Answers.{GivesItems, atomics};
 ghost use Rattle.xq_atoms.specs.Answers.{Gives};
 ghost use Rattle.xq_functions.specs.private.Calls as Calls;
 
 use crate::arguments::{one_count, one_text, optional, optional_text};
 use crate::results::one;
+use crate::{parts, positions, words};
 use std::alloc::Global;
 use xq_atoms::{Atom, Fault, cast_str};
+use xq_expressions::Function;
 use xq_regions::Items;
-use xq_signatures::Function;
 
 /// How many characters the string has (fn:string-length).
 pub fn string_length(alloc: Global, atoms: &[Atom]) -> Result<Items, Fault>
     ensures { GivesItems (Calls.string_length (atomics atoms.now)) result }
 {
     let text = optional_text(atoms)?;
-    let count = xq_texts::character_count(text) as i64;
+    let count = positions::character_count(text) as i64;
     Ok(one(alloc, Atom::Int(count))?)
 }
 
@@ -28,7 +29,7 @@ pub fn string_length(alloc: Global, atoms: &[Atom]) -> Result<Items, Fault>
 pub fn normalize_space(alloc: Global, atoms: &[Atom]) -> Result<Items, Fault>
     ensures { GivesItems (Calls.normalize_space (atomics atoms.now)) result }
 {
-    let words = xq_texts::normalized(alloc, optional_text(atoms)?)?;
+    let words = words::normalized(alloc, optional_text(atoms)?)?;
     Ok(one(alloc, Atom::Str(words))?)
 }
 
@@ -36,7 +37,7 @@ pub fn normalize_space(alloc: Global, atoms: &[Atom]) -> Result<Items, Fault>
 pub fn string_join(alloc: Global, atoms: &[Atom]) -> Result<Items, Fault>
     ensures { GivesItems (Ok (Arguments.text (flat_map text_of (atomics atoms.now)))) result }
 {
-    let joined = xq_texts::joined(alloc, "", atoms)?;
+    let joined = parts::joined(alloc, "", atoms)?;
     Ok(one(alloc, Atom::Str(joined))?)
 }
 
@@ -45,7 +46,7 @@ pub fn string_join_by(alloc: Global, atoms: &[Atom], separator: &[Atom]) -> Resu
     ensures { GivesItems
         (Functions.of_two Function.StringJoin (atomics atoms.now) (atomics separator.now)) result }
 {
-    let joined = xq_texts::joined(alloc, one_text(separator)?, atoms)?;
+    let joined = parts::joined(alloc, one_text(separator)?, atoms)?;
     Ok(one(alloc, Atom::Str(joined))?)
 }
 
@@ -56,7 +57,7 @@ pub fn contains(alloc: Global, text: &[Atom], word: &[Atom]) -> Result<Items, Fa
 {
     let text = optional_text(text)?;
     let word = optional_text(word)?;
-    Ok(one(alloc, Atom::Bool(xq_texts::contains(text, word)))?)
+    Ok(one(alloc, Atom::Bool(parts::contains(text, word)))?)
 }
 
 /// Whether the first string begins with the second (fn:starts-with).
@@ -66,7 +67,7 @@ pub fn starts_with(alloc: Global, text: &[Atom], word: &[Atom]) -> Result<Items,
 {
     let text = optional_text(text)?;
     let word = optional_text(word)?;
-    Ok(one(alloc, Atom::Bool(xq_texts::starts_with(text, word)))?)
+    Ok(one(alloc, Atom::Bool(parts::starts_with(text, word)))?)
 }
 
 /// Whether the first string ends with the second (fn:ends-with).
@@ -76,7 +77,7 @@ pub fn ends_with(alloc: Global, text: &[Atom], word: &[Atom]) -> Result<Items, F
 {
     let text = optional_text(text)?;
     let word = optional_text(word)?;
-    Ok(one(alloc, Atom::Bool(xq_texts::ends_with(text, word)))?)
+    Ok(one(alloc, Atom::Bool(parts::ends_with(text, word)))?)
 }
 
 /// What stands before the second string in the first (fn:substring-before).
@@ -86,7 +87,7 @@ pub fn substring_before(alloc: Global, text: &[Atom], word: &[Atom]) -> Result<I
 {
     let text = optional_text(text)?;
     let word = optional_text(word)?;
-    let part = String::from_str(alloc, xq_texts::before_first(text, word))?;
+    let part = String::from_str(alloc, parts::before_first(text, word))?;
     Ok(one(alloc, Atom::Str(part))?)
 }
 
@@ -97,7 +98,7 @@ pub fn substring_after(alloc: Global, text: &[Atom], word: &[Atom]) -> Result<It
 {
     let text = optional_text(text)?;
     let word = optional_text(word)?;
-    let part = String::from_str(alloc, xq_texts::after_first(text, word))?;
+    let part = String::from_str(alloc, parts::after_first(text, word))?;
     Ok(one(alloc, Atom::Str(part))?)
 }
 
@@ -108,7 +109,7 @@ pub fn substring_from(alloc: Global, text: &[Atom], first: &[Atom]) -> Result<It
 {
     let text = optional_text(text)?;
     let first = one_count(first)?;
-    let part = String::from_str(alloc, xq_texts::from_position(text, first))?;
+    let part = String::from_str(alloc, positions::from_position(text, first))?;
     Ok(one(alloc, Atom::Str(part))?)
 }
 
@@ -125,7 +126,7 @@ pub fn substring(
     let text = optional_text(text)?;
     let first = one_count(first)?;
     let length = one_count(length)?;
-    let part = String::from_str(alloc, xq_texts::between_positions(text, first, length))?;
+    let part = String::from_str(alloc, positions::between_positions(text, first, length))?;
     Ok(one(alloc, Atom::Str(part))?)
 }
 

@@ -3,8 +3,8 @@ ghost use Rattle.std.specs.Prelude.{◌≡◌, ◌<◌, ◌^◌, List};
 ghost use Rattle.xq_atoms.specs.Atom.{atomic_of};
 ghost use Rattle.xq_regions.specs.Items.{item_view};
 ghost use Rattle.xq_regions.specs.Tree.{Tree};
-ghost use Rattle.xq_values.specs.Arguments as Arguments;
-ghost use Rattle.xq_values.specs.Operators as Operators;
+ghost use Rattle.xq_meaning.specs.Arguments as Arguments;
+ghost use Rattle.xq_meaning.specs.Operators as Operators;
 ghost use Rattle.xq_functions.specs.Answers.{lent_items};
 
 use xq_atoms::{Atom, Code};

@@ -2,7 +2,7 @@
 
 use crate::rows::assert_on_atoms;
 use crate::samples::Sample::{Dec, Int, Str, Untyped};
-use xq_signatures::Function;
+use xq_expressions::Function;
 
 #[test]
 fn sums(rt: HostRuntime) {

@@ -6,7 +6,7 @@ use crate::samples::{answer, atoms};
 use xq_atoms::Fault;
 use xq_expressions::{ComparisonOperator, ProductOperator, Relation, Sign};
 use xq_functions::{operate_on_atoms, signed};
-use xq_values::Operator;
+use xq_meaning::Operator;
 
 #[test]
 fn arithmetic(rt: HostRuntime) {

@@ -4,9 +4,9 @@ use crate::samples::{Sample, answer, atoms, items};
 use std::alloc::Global;
 use std::process::Abort;
 use xq_atoms::Fault;
+use xq_expressions::Function;
 use xq_functions::{call_on_atoms, call_on_items, call_on_lists, operate_on_atoms};
-use xq_signatures::Function;
-use xq_values::Operator;
+use xq_meaning::Operator;
 
 /// What a function of one argument gives from atoms.
 fn on_atoms(alloc: Global, function: Function, samples: &[Sample]) -> Result<String, Fault> {

@@ -4,8 +4,8 @@ use crate::rows::{assert_on_atoms, assert_on_items};
 use crate::samples::Sample::{Dec, Int, Row, Str, Untyped};
 use crate::samples::items;
 use xq_atoms::Fault;
+use xq_expressions::Function;
 use xq_functions::{effective, keeps};
-use xq_signatures::Function;
 
 #[test]
 fn counts(rt: HostRuntime) {

@@ -4,8 +4,8 @@ use crate::rows::{assert_on_atoms, assert_on_three, assert_on_two};
 use crate::samples::Sample::{Bool, Dec, Int, Str, Untyped};
 use crate::samples::{answer, atoms};
 use xq_atoms::Fault;
+use xq_expressions::Function;
 use xq_functions::call_on_lists;
-use xq_signatures::Function;
 
 #[test]
 fn substring_counts_characters_from_one(rt: HostRuntime) {

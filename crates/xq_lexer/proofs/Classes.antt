@@ -2,7 +2,7 @@
 use Rattle.std.proofs.Common.{◌≡◌, ℕ, true, false, ◌⊎◌, refl, inl, inr, arith}
 use Rattle.std.specs.Prelude.{◌==◌}
 use Rattle.std.proofs.lemmas.Bool.Decides.{nat_tests}
-use Rattle.xq_characters.specs.Characters.{is_char, is_digit, is_name_start, is_name_char}
+use Rattle.xq_atoms.specs.Characters.{is_char, is_digit, is_name_start, is_name_char}
 use Rattle.xq_lexer.specs.Chars.{is_quote}
 
 pub eq_is : (a b : ℕ) → (a == b) ≡ true → a ≡ b

@@ -5,7 +5,7 @@ use Rattle.std.proofs.lemmas.List.{length-append}
 use borrow.Author.Clash.{clash}
 use Rattle.xq_atoms.specs.declared.refusals.Code.{Code}
 use Rattle.xq_atoms.specs.declared.refusals.Code.TheVariants.{XPST0003, XQST0090}
-use Rattle.xq_characters.specs.Characters.{is_char}
+use Rattle.xq_atoms.specs.Characters.{is_char}
 use Rattle.xq_lexer.specs.Chars.{Text, is_quote, begins}
 use Rattle.xq_lexer.specs.Literals.{Reference, reference_text, referred, Piece, plain, doubled, reference, IsPiece, ArePieces, piece_text, content_text}
 use Rattle.xq_lexer.specs.TokenFaults.{ContentFault}

@@ -5,13 +5,13 @@ use Rattle.std.specs.List.{list_all}
 use Rattle.std.proofs.lemmas.List.{length-append}
 use Rattle.std.proofs.lemmas.Bool.{and_parts}
 use borrow.Author.Clash.{clash}
-use Rattle.xq_characters.specs.Characters.{is_digit, is_name_start, is_name_char}
+use Rattle.xq_atoms.specs.Characters.{is_digit, is_name_start, is_name_char}
 use Rattle.xq_lexer.specs.Chars.{Text, begins}
 use Rattle.xq_lexer.specs.Literals.{Number, integer, decimal, number_text, IsNumber}
 use Rattle.xq_lexer.specs.Spelling.{Form, name, prefixed, form_text, IsName, IsForm}
 use Rattle.xq_lexer.specs.private.Reading.{span, after_name, read_name, after_digits, read_number, begins_number}
 use Rattle.xq_lexer.proofs.Spans.{parts, span_exact}
-use Rattle.xq_characters.proofs.Classes.{start_is_char}
+use Rattle.xq_atoms.proofs.Classes.{start_is_char}
 use Rattle.xq_lexer.proofs.Classes.{eq_is}
 
 -- ---- names

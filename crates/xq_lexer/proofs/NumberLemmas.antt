@@ -13,7 +13,7 @@ use Rattle.xq_atoms.specs.Text.{is_whole}
 use Rattle.xq_atoms.specs.Judged.{only_if}
 use Rattle.xq_atoms.specs.Decimal as d
 use Rattle.xq_atoms.specs.Literal.{is_point, is_number, integer_literal, decimal_literal, millionths, fraction}
-use Rattle.xq_characters.specs.Characters.{is_digit}
+use Rattle.xq_atoms.specs.Characters.{is_digit}
 use Rattle.xq_lexer.specs.Chars.{Text}
 use Rattle.xq_lexer.specs.Lexeme.{Lex, int, dec}
 use Rattle.xq_lexer.specs.Literals.{Number, integer, decimal, number_text, IsNumber, follow_fault, code_of}

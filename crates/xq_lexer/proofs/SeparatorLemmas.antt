@@ -2,7 +2,7 @@
 use Rattle.std.proofs.Common.{◌≡◌, ℕ, zero, suc, ◌+◌, ◌-◌, ◌<◌, ◌≤◌, Bool, true, false, cond, [], ◌∷◌, ◌++◌, length, Option, Some, None, refl, sym, ap, subst, arith}
 use Rattle.std.specs.Prelude.{◌==◌, nat_lt}
 use Rattle.std.proofs.lemmas.Bool.Decides.{nat_tests}
-use Rattle.xq_characters.specs.Characters.{is_char, is_space}
+use Rattle.xq_atoms.specs.Characters.{is_char, is_space}
 use Rattle.xq_lexer.specs.Chars.{Text}
 use Rattle.xq_lexer.specs.Separators.{opens, closes, skip}
 use Rattle.xq_lexer.specs.private.Reading.{skip_step, unless_open}

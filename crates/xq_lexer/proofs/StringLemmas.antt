@@ -8,7 +8,7 @@ use Rattle.std.proofs.lemmas.Bool.{cases_lt}
 use Rattle.std.proofs.lemmas.Bool.Decides.{nat_tests}
 use Rattle.xq_atoms.specs.declared.refusals.Code.{Code}
 use Rattle.xq_atoms.specs.declared.refusals.Code.TheVariants.{XQST0090}
-use Rattle.xq_characters.specs.Characters.{is_char}
+use Rattle.xq_atoms.specs.Characters.{is_char}
 use Rattle.xq_lexer.specs.Chars.{Text, is_quote}
 use Rattle.xq_lexer.specs.Lexeme.{str}
 use Rattle.xq_lexer.specs.Literals.{Reference, referred, Piece, reference, IsPiece, ArePieces, piece_text, piece_char, content_text, content_chars}

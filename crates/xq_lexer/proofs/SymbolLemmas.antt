@@ -6,7 +6,7 @@ use borrow.Author.Clash.{clash}
 use Rattle.xq_atoms.specs.declared.refusals.Code.{Code}
 use Rattle.xq_lexer.specs.declared.tokens.Symbol.{Symbol}
 use Rattle.xq_lexer.specs.declared.tokens.Symbol.TheVariants as s
-use Rattle.xq_characters.specs.Characters.{is_digit, is_name_start}
+use Rattle.xq_atoms.specs.Characters.{is_digit, is_name_start}
 use Rattle.xq_lexer.specs.Chars.{Text, is_quote, begins}
 use Rattle.xq_lexer.specs.Literals.{decimal}
 use Rattle.xq_lexer.specs.Spelling.{Form, number, symbol, symbol_text, form_text, IsForm, IsLongest}

@@ -3,7 +3,7 @@ use Rattle.std.proofs.Common.{◌≡◌, [], ◌∷◌, ◌++◌, codes, Some, N
 use Rattle.xq_atoms.specs.declared.refusals.Code.TheVariants.{XPST0003, XQST0090, FOAR0002, ProfDigits, ProfDouble}
 use Rattle.xq_lexer.specs.declared.tokens.Symbol.TheVariants as s
 use Rattle.xq_atoms.specs.Literal.{millionths}
-use Rattle.xq_characters.specs.Characters.{is_char, is_name_start, is_name_char}
+use Rattle.xq_atoms.specs.Characters.{is_char, is_name_start, is_name_char}
 use Rattle.xq_lexer.specs.Separators.{skip}
 use Rattle.xq_lexer.specs.Literals.{decimal, ampersand, plain, doubled, reference}
 use Rattle.xq_lexer.specs.Spelling.{name, prefixed, number, string, symbol}

@@ -1,6 +1,6 @@
 -- Classes of characters that tokens are told by, beside those of XML.
 use Rattle.std.specs.Prelude.{ℕ, Bool, false, ◌||◌, ◌==◌, List, [], ◌∷◌}
-use Rattle.xq_characters.specs.Characters.{within, is_digit}
+use Rattle.xq_atoms.specs.Characters.{within, is_digit}
 
 -- a text, by the code points of its characters
 abbrev pub Text : Type 0

@@ -5,7 +5,7 @@ use Rattle.std.specs.List.{list_all}
 use Rattle.xq_atoms.specs.declared.refusals.Code.{Code}
 use Rattle.xq_atoms.specs.declared.refusals.Code.TheVariants.{XPST0003, ProfDouble}
 use Rattle.xq_atoms.specs.Literal.{integer_literal, decimal_literal}
-use Rattle.xq_characters.specs.Characters.{within, is_char, is_digit, is_name_start}
+use Rattle.xq_atoms.specs.Characters.{within, is_char, is_digit, is_name_start}
 use Rattle.xq_lexer.specs.Chars.{Text, is_hex, begins}
 
 -- ---- numbers

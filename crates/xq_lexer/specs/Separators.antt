@@ -1,7 +1,7 @@
 -- White space and comments, which separate tokens and are dropped (XQuery 3.1, appendix A.2.4.1 and
 -- section 2.6).
 use Rattle.std.specs.Prelude.{ℕ, zero, suc, Bool, ◌&&◌, if◌then◌else◌, ◌==◌, [], ◌∷◌, Option, Some, None}
-use Rattle.xq_characters.specs.Characters.{is_char, is_space}
+use Rattle.xq_atoms.specs.Characters.{is_char, is_space}
 use Rattle.xq_lexer.specs.Chars.{Text}
 
 -- `(:` and `:)`

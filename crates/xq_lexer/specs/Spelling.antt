@@ -7,7 +7,7 @@ use Rattle.xq_lexer.specs.declared.tokens.Symbol.{Symbol}
 use Rattle.xq_lexer.specs.declared.tokens.Symbol.TheVariants as s
 use Rattle.xq_lexer.specs.Lexeme as l
 use Rattle.xq_lexer.specs.Lexeme.{Lex, Placed}
-use Rattle.xq_characters.specs.Characters.{is_name}
+use Rattle.xq_atoms.specs.Characters.{is_name}
 use Rattle.xq_lexer.specs.Chars.{Text, is_quote, begins}
 use Rattle.xq_lexer.specs.Separators.{skip}
 use Rattle.xq_lexer.specs.Literals.{Number, integer, decimal, number_text, IsNumber, number_fault, Piece, ArePieces, content_text, content_chars}

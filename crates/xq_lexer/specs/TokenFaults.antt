@@ -6,7 +6,7 @@ use Rattle.xq_atoms.specs.declared.refusals.Fault.{Fault}
 use Rattle.xq_atoms.specs.declared.refusals.Fault.TheVariants.{Code as OfCode, Want as OfWant}
 use Rattle.xq_atoms.specs.declared.refusals.Want.TheVariants.{Memory}
 use Rattle.xq_lexer.specs.Lexeme.{Placed}
-use Rattle.xq_characters.specs.Characters.{is_char}
+use Rattle.xq_atoms.specs.Characters.{is_char}
 use Rattle.xq_lexer.specs.Chars.{Text, is_quote, begins}
 use Rattle.xq_lexer.specs.Separators.{skip}
 use Rattle.xq_lexer.specs.Literals.{Number, number_text, IsNumber, number_fault, Reference, reference_text, IsReference, referred, Piece, ArePieces, content_text}

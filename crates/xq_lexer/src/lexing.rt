@@ -21,8 +21,7 @@ use crate::strings::string;
 use crate::symbols::{double_symbol, single_symbol};
 use crate::tokens::{Lexeme, Token};
 use std::alloc::Global;
-use xq_atoms::{Code, Fault};
-use xq_characters::is_name_start;
+use xq_atoms::{Code, Fault, is_name_start};
 
 /// The tokens that the text spells, with their places in bytes (XQuery 3.1, appendix A.2). Else
 /// the code of its first fault: XPST0003, XQST0090, prof:DOUBLE, prof:DIGITS or FOAR0002; or want

@@ -8,8 +8,7 @@ ghost use Rattle.xq_lexer.specs.private.Reading as spec;
 use crate::runs::{Class, run, text};
 use crate::tokens::Lexeme;
 use std::alloc::Global;
-use xq_atoms::Fault;
-use xq_characters::is_name_start;
+use xq_atoms::{Fault, is_name_start};
 
 /// The name at the front, or the two names with a colon between them, and what is left.
 #[tactic(auto, unfolding(crate::specs::private::Reading::read_name, crate::specs::private::Reading::after_name))]

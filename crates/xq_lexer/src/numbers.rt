@@ -3,7 +3,7 @@ ghost use Rattle.std.specs.Prelude.{◌≡◌, true, IsTrue};
 ghost use Rattle.std.specs.Bool.{OnTrue, OnFalse};
 ghost use Rattle.xq_atoms.specs.Literal.{is_number};
 ghost use Rattle.xq_atoms.specs.Text.{is_whole};
-ghost use Rattle.xq_characters.specs.Characters.{is_digit as is_digit_lem};
+ghost use Rattle.xq_atoms.specs.Characters.{is_digit as is_digit_lem};
 ghost use Rattle.xq_atoms.specs.Answers.{Gives};
 ghost use Rattle.xq_lexer.specs.private.Lexes.{GivesAlways, lexed, pointed, valued_lex};
 ghost use Rattle.xq_lexer.specs.Lexeme.{lex_of};
@@ -14,8 +14,7 @@ ghost use Rattle.xq_lexer.specs.private.Reading as spec;
 use crate::runs::{Class, run, text};
 use crate::tokens::Lexeme;
 use std::alloc::Global;
-use xq_atoms::{Code, Fault, dec_literal, int_literal};
-use xq_characters::{is_digit, is_name_start};
+use xq_atoms::{Code, Fault, dec_literal, int_literal, is_digit, is_name_start};
 
 /// Whether a number stands at the front: a digit, or a point and a digit.
 pub fn begins_number(chars: &[char]) -> bool

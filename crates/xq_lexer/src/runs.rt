@@ -7,7 +7,7 @@ ghost use Rattle.xq_lexer.specs.Spelling.{bytes as bytes_of};
 
 use crate::chars::is_hex;
 use std::alloc::{AllocError, Global};
-use xq_characters::{is_digit, is_name_char};
+use xq_atoms::{is_digit, is_name_char};
 
 /// A class of characters.
 #[derive(Clone, Copy)]

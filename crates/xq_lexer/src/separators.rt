@@ -4,8 +4,7 @@ ghost use Rattle.xq_lexer.specs.private.Lexes.{Skips};
 ghost use Rattle.xq_lexer.specs.private.Reading as spec;
 ghost use Rattle.xq_lexer.specs.Separators as sep;
 
-use xq_atoms::Code;
-use xq_characters::{is_char, is_space};
+use xq_atoms::{Code, is_char, is_space};
 
 /// What is left behind the white space and the comments at the front. XPST0003 where a comment
 /// stays open, or holds what is no character.

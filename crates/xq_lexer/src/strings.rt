@@ -10,8 +10,7 @@ ghost use Rattle.xq_lexer.specs.private.Reading as spec;
 use crate::runs::{Class, run};
 use crate::tokens::Lexeme;
 use std::alloc::Global;
-use xq_atoms::{Code, Fault};
-use xq_characters::{is_char, is_digit};
+use xq_atoms::{Code, Fault, is_char, is_digit};
 
 /// One more than the greatest number of a character: numbers are counted up to here.
 const PAST_CHARS: u32 = 0x11_0000;

@@ -3,7 +3,7 @@ use Rattle.std.specs.Prelude.{◌≡◌, refl, [], ◌∷◌, Ok, Err, codes}
 use Rattle.std.specs.Fmt.{digits}
 use Rattle.std.specs.Str.{chars}
 use Rattle.std.specs.Char.{encode_utf8}
-use Rattle.xq_characters.specs.Characters.{is_name_start, is_name_char}
+use Rattle.xq_atoms.specs.Characters.{is_name_start, is_name_char}
 use Rattle.xq_atoms.specs.declared.refusals.Code.TheVariants.{FODC0002, FODC0005, ProfDouble, XPDY0002, XPTY0004}
 use Rattle.xq_expressions.specs.declared.operators.Sign.TheVariants.{Minus}
 use Rattle.xq_expressions.specs.declared.operators.Relation.TheVariants.{Equal}

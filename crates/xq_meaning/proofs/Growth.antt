@@ -9,14 +9,14 @@ use Rattle.xq_expressions.specs.declared.operators.UnnamedNode.{UnnamedNode}
 use Rattle.xq_expressions.specs.declared.operators.Quantifier.{Quantifier}
 use Rattle.xq_regions.specs.declared.Axis.{Axis}
 use Rattle.xq_regions.specs.Tuples.{Tuple}
-use Rattle.xq_values.specs.declared.node_tests.Test.{Test}
-use Rattle.xq_signatures.specs.declared.Function.{Function}
-use Rattle.xq_values.specs.declared.operators.Operator.{Operator}
-use Rattle.xq_values.specs.Items.{Item, Node}
-use Rattle.xq_values.specs.Arguments.{all_nodes}
-use Rattle.xq_values.specs.Operators.{keeps}
-use Rattle.xq_values.specs.Content.{name_of, named_tree, unnamed_tree}
-use Rattle.xq_values.specs.Steps.{focuses, context_node, axis_nodes, in_axis_order}
+use Rattle.xq_meaning.specs.declared.node_tests.Test.{Test}
+use Rattle.xq_expressions.specs.declared.signatures.Function.{Function}
+use Rattle.xq_meaning.specs.declared.operators.Operator.{Operator}
+use Rattle.xq_meaning.specs.Items.{Item, Node}
+use Rattle.xq_meaning.specs.Arguments.{all_nodes}
+use Rattle.xq_meaning.specs.Operators.{keeps}
+use Rattle.xq_meaning.specs.Content.{name_of, named_tree, unnamed_tree}
+use Rattle.xq_meaning.specs.Steps.{focuses, context_node, axis_nodes, in_axis_order}
 use Rattle.xq_meaning.specs.Forms
 use Rattle.xq_regions.specs.Tree.{Tree}
 use Rattle.xq_meaning.specs.Doing.{Doing, Outcome, go_on, give, judged, on_trees, in_turn, more, one_more, for_each, collected, first_that, unless_found}

@@ -2,7 +2,7 @@
 use Rattle.std.specs.Prelude.{◌≡◌, refl, [], ◌∷◌, Some, Ok, Err, codes}
 use Rattle.std.specs.Fmt.{digits}
 use Rattle.std.specs.Str.{chars}
-use Rattle.xq_characters.specs.Characters.{is_name_start, is_name_char}
+use Rattle.xq_atoms.specs.Characters.{is_name_start, is_name_char}
 use Rattle.xq_atoms.specs.declared.refusals.Code.TheVariants.{FOAR0001, FOAR0002, FORG0006, ProfDouble, ProfPrefix, ProfRange, XPDY0002, XPDY0050, XPTY0004, XPTY0018, XPTY0019, XPTY0020, XQDY0025, XQDY0026, XQDY0041, XQDY0044, XQDY0064, XQDY0072, XQDY0074, XQTY0024}
 use Rattle.xq_expressions.specs.declared.operators.Sign.TheVariants.{Plus, Minus}
 use Rattle.xq_expressions.specs.declared.operators.Relation.TheVariants.{Equal, Less}

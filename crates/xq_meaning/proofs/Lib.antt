@@ -23,3 +23,4 @@ mod PlanRows
 mod LanguageRows
 mod MoreLanguageRows
 mod TwoDocumentRows
+pub mod PathLemmas

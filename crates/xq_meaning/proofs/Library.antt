@@ -6,9 +6,9 @@ use Rattle.xq_atoms.specs.Judged.{Judged}
 use Rattle.xq_atoms.specs.Text.{Text}
 use Rattle.xq_regions.specs.Forest.{Forest, end, node, join}
 use Rattle.xq_regions.specs.Tree.{Label, Tree}
-use Rattle.xq_values.specs.Content.{label}
-use Rattle.xq_values.specs.Items.{Item}
-use Rattle.xq_values.specs.Print.{print_items, within_reply}
+use Rattle.xq_meaning.specs.Content.{label}
+use Rattle.xq_meaning.specs.Items.{Item}
+use Rattle.xq_meaning.specs.Print.{print_items, within_reply}
 use Rattle.xq_meaning.specs.Doing.{Outcome}
 use Rattle.xq_meaning.specs.Meaning.{Meaning, first_frame}
 use Rattle.xq_meaning.specs.PlanMeaning

@@ -2,15 +2,15 @@
 use Rattle.std.proofs.Common.{zero, suc}
 use Rattle.std.specs.Prelude.{◌≡◌, refl, ℕ, List, [], ◌∷◌, length, Bool, true, false, nat_le, Ok, Err, codes}
 use Rattle.std.specs.Str.{chars}
-use Rattle.xq_characters.specs.Characters.{is_name_start, is_name_char}
+use Rattle.xq_atoms.specs.Characters.{is_name_start, is_name_char}
 use Rattle.xq_atoms.specs.declared.refusals.Code.TheVariants.{FOAR0001, ProfLevel, ProfNodes, ProfReply}
 use Rattle.xq_atoms.specs.Judged.{Judged}
 use Rattle.xq_atoms.specs.Text.{Text}
 use Rattle.xq_regions.specs.Forest.{count}
 use Rattle.xq_regions.specs.Tree.{Tree, nodes}
-use Rattle.xq_values.specs.Items.{Item, Node, root_of}
-use Rattle.xq_values.specs.Print.{within_reply}
-use Rattle.xq_values.specs.Content.{is_within_height, within_limits}
+use Rattle.xq_meaning.specs.Items.{Item, Node, root_of}
+use Rattle.xq_meaning.specs.Print.{within_reply}
+use Rattle.xq_meaning.specs.Content.{is_within_height, within_limits}
 use Rattle.xq_meaning.specs.Doing.{Outcome}
 use Rattle.xq_meaning.specs.Meaning.{Meaning, first_frame}
 use Rattle.xq_meaning.proofs.Writing.{num, none, seq, product, div_by, element}

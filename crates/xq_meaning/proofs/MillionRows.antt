@@ -5,7 +5,7 @@ use Rattle.std.proofs.lemmas.List.{length-map}
 use Rattle.std.specs.Prelude.{◌≡◌, refl, ℕ, ℤ, pos, ◌+ℤ◌, ◌+◌, ◌*◌, List, [], ◌∷◌, ◌++◌, map, length, Bool, true, false, None, Ok, Err, nat_le, codes, slice_index_or}
 use Rattle.std.specs.List.{enumerate_from}
 use Rattle.std.specs.Str.{chars}
-use Rattle.xq_characters.specs.Characters.{is_name_start, is_name_char}
+use Rattle.xq_atoms.specs.Characters.{is_name_start, is_name_char}
 use Rattle.xq_atoms.specs.declared.refusals.Code.TheVariants.{ProfNodes, ProfReply}
 use Rattle.xq_atoms.specs.Judged.{Judged}
 use Rattle.xq_atoms.specs.Text.{Text}
@@ -16,10 +16,10 @@ use Rattle.xq_regions.specs.Node.{subtree}
 use Rattle.xq_sources.specs.Sources.{tree_at, no_tree}
 use Rattle.xq_regions.specs.Tree.{Label, Tree, nodes}
 use Rattle.xq_regions.specs.Tuples.{Tuple, expanded}
-use Rattle.xq_values.specs.Items.{Item, Node, Atom, root_of}
-use Rattle.xq_values.specs.Operators.{how_many, integers_from}
-use Rattle.xq_values.specs.Print.{print_items}
-use Rattle.xq_values.specs.Content.{label, copied, flattened, merged, without_empty_texts, content, first_fault, is_within_height, built, named_tree}
+use Rattle.xq_meaning.specs.Items.{Item, Node, Atom, root_of}
+use Rattle.xq_meaning.specs.Operators.{how_many, integers_from}
+use Rattle.xq_meaning.specs.Print.{print_items}
+use Rattle.xq_meaning.specs.Content.{label, copied, flattened, merged, without_empty_texts, content, first_fault, is_within_height, built, named_tree}
 use Rattle.xq_meaning.specs.Doing.{Doing, ◌>>=◌, go_on, on_trees, in_turn, more}
 use Rattle.xq_meaning.specs.Forms.{planted}
 use Rattle.xq_expressions.specs.declared.operators.NamedNode.TheVariants as named

@@ -8,9 +8,9 @@ use Rattle.xq_expressions.specs.declared.operators.NamedNode.{NamedNode}
 use Rattle.xq_expressions.specs.declared.operators.UnnamedNode.{UnnamedNode}
 use Rattle.xq_expressions.specs.declared.operators.OrderModifier.{OrderModifier}
 use Rattle.xq_regions.specs.declared.Axis.{Axis}
-use Rattle.xq_signatures.specs.declared.Function.{Function}
-use Rattle.xq_values.specs.declared.node_tests.Test.{Test}
-use Rattle.xq_values.specs.declared.operators.Operator.{Operator}
+use Rattle.xq_expressions.specs.declared.signatures.Function.{Function}
+use Rattle.xq_meaning.specs.declared.node_tests.Test.{Test}
+use Rattle.xq_meaning.specs.declared.operators.Operator.{Operator}
 use Rattle.xq_meaning.specs.declared.plans.Plan.{Plan, fold-roll-Plan}
 use Rattle.xq_meaning.specs.declared.plans.PlanClause.{PlanClause, fold-roll-PlanClause}
 use Rattle.xq_meaning.specs.declared.plans.PlanStep.{PlanStep, fold-roll-PlanStep}

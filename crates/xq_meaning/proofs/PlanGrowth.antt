@@ -3,8 +3,8 @@ use Rattle.std.proofs.Common.{List, [], ◌∷◌, map, subst, sym}
 use Rattle.std.specs.List.{AllByRecursion}
 use Rattle.xq_expressions.specs.declared.operators.OrderModifier.{OrderModifier}
 use Rattle.xq_regions.specs.Tuples.{Tuple}
-use Rattle.xq_values.specs.declared.operators.Operator.{Operator}
-use Rattle.xq_values.specs.Items.{Item}
+use Rattle.xq_meaning.specs.declared.operators.Operator.{Operator}
+use Rattle.xq_meaning.specs.Items.{Item}
 use Rattle.xq_meaning.specs.Doing.{in_turn, for_each}
 use Rattle.xq_meaning.specs.Forms
 use Rattle.xq_meaning.specs.declared.plans.Plan.{Plan, map-Plan, fold-roll-Plan, ind-Plan}

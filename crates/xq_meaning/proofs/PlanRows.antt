@@ -2,7 +2,7 @@
 use Rattle.std.specs.Prelude.{◌≡◌, refl, [], ◌∷◌, Some, None, Ok, Err, codes}
 use Rattle.std.specs.Fmt.{digits}
 use Rattle.std.specs.Str.{chars}
-use Rattle.xq_characters.specs.Characters.{is_name_start, is_name_char}
+use Rattle.xq_atoms.specs.Characters.{is_name_start, is_name_char}
 use Rattle.xq_atoms.specs.declared.refusals.Code.TheVariants.{FOAR0001, ProfPrefix, XPDY0002, XPTY0004, XPTY0018, XPTY0019, XPTY0020, XQDY0041}
 use Rattle.xq_expressions.specs.declared.operators.Sign.TheVariants.{Plus, Minus}
 use Rattle.xq_expressions.specs.declared.operators.ProductOperator.TheVariants.{Times, Div, Mod}
@@ -14,9 +14,9 @@ use Rattle.xq_expressions.specs.declared.operators.Quantifier.TheVariants as qua
 use Rattle.xq_expressions.specs.declared.operators.NamedNode.TheVariants as named
 use Rattle.xq_expressions.specs.declared.operators.UnnamedNode.TheVariants as unnamed
 use Rattle.xq_regions.specs.declared.Axis.TheVariants as axis
-use Rattle.xq_signatures.specs.declared.Function.TheVariants as f
-use Rattle.xq_values.specs.declared.node_tests.Test.TheVariants as test
-use Rattle.xq_values.specs.declared.operators.Operator.TheVariants as operator
+use Rattle.xq_expressions.specs.declared.signatures.Function.TheVariants as f
+use Rattle.xq_meaning.specs.declared.node_tests.Test.TheVariants as test
+use Rattle.xq_meaning.specs.declared.operators.Operator.TheVariants as operator
 use Rattle.xq_meaning.proofs.PlanWriting as p
 use Rattle.xq_meaning.proofs.Writing.{ascending, descending, descending_greatest}
 use Rattle.xq_meaning.proofs.Library.{plan_answer as answer}

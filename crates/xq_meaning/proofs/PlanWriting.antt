@@ -8,9 +8,9 @@ use Rattle.xq_expressions.specs.declared.operators.NamedNode.{NamedNode}
 use Rattle.xq_expressions.specs.declared.operators.UnnamedNode.{UnnamedNode}
 use Rattle.xq_expressions.specs.declared.operators.OrderModifier.{OrderModifier}
 use Rattle.xq_regions.specs.declared.Axis.{Axis}
-use Rattle.xq_signatures.specs.declared.Function.{Function}
-use Rattle.xq_values.specs.declared.node_tests.Test.{Test}
-use Rattle.xq_values.specs.declared.operators.Operator.{Operator}
+use Rattle.xq_expressions.specs.declared.signatures.Function.{Function}
+use Rattle.xq_meaning.specs.declared.node_tests.Test.{Test}
+use Rattle.xq_meaning.specs.declared.operators.Operator.{Operator}
 use Rattle.xq_meaning.specs.declared.plans.Plan.TheOpen.{Plan-F, PlanClause-F, PlanStep-F}
 use Rattle.xq_meaning.specs.PlanMeaning.{Meaning, ClauseMeaning, StepMeaning, plan_form, plan_clause, plan_step}
 use Rattle.xq_meaning.proofs.Writing.{utf8}

@@ -3,7 +3,7 @@ use Rattle.std.specs.Prelude.{◌≡◌, refl, [], ◌∷◌, Ok, Err, codes}
 use Rattle.std.specs.Fmt.{digits}
 use Rattle.std.specs.Str.{chars}
 use Rattle.std.specs.Char.{encode_utf8}
-use Rattle.xq_characters.specs.Characters.{is_name_start, is_name_char}
+use Rattle.xq_atoms.specs.Characters.{is_name_start, is_name_char}
 use Rattle.xq_atoms.specs.declared.refusals.Code.TheVariants.{FOAR0001, FOCA0001, FOCA0003, FOCA0006, FODC0005, FORG0001, FORG0003, FORG0004, FORG0005, FORG0006, ProfDouble, ProfPrefix, XPDY0002, XPDY0050, XPTY0004, XPTY0018, XPTY0019, XPTY0020, XQDY0025, XQDY0026, XQDY0041, XQDY0044, XQDY0064, XQDY0072, XQDY0074}
 use Rattle.xq_meaning.proofs.Writing.{num, dec, txt, dot, seq, none, call, call_by, prefixed, sum, product, to, iff, root, path, primary, filtered, named, bare_step, child, at, element, element_by, attribute, instruction, instruction_by, document, comment, plus, div_by, slash, below}
 use Rattle.xq_meaning.proofs.Library.{answer}

@@ -11,15 +11,15 @@ use Rattle.xq_expressions.specs.declared.operators.OrderModifier.{OrderModifier}
 use Rattle.xq_regions.specs.declared.Axis.{Axis}
 use Rattle.xq_regions.specs.Tree.{Tree}
 use Rattle.xq_regions.specs.Tuples.{Tuple, expanded, bound, satisfying, ordered}
-use Rattle.xq_signatures.specs.declared.Function.{Function}
-use Rattle.xq_values.specs.declared.node_tests.Test.{Test}
-use Rattle.xq_values.specs.declared.operators.Operator.{Operator}
+use Rattle.xq_expressions.specs.declared.signatures.Function.{Function}
+use Rattle.xq_meaning.specs.declared.node_tests.Test.{Test}
+use Rattle.xq_meaning.specs.declared.operators.Operator.{Operator}
 use Rattle.xq_atoms.specs.declared.refusals.Code.TheVariants.{XPTY0019}
-use Rattle.xq_values.specs.Items.{Item, Node, Atom, atomized}
-use Rattle.xq_values.specs.Arguments.{boolean, effective, all_nodes}
-use Rattle.xq_values.specs.Functions.{Focus, called}
-use Rattle.xq_values.specs.Operators.{operated, signed, gathered, keeps}
-use Rattle.xq_values.specs.Steps.{focuses, context_node, axis_nodes, in_axis_order}
+use Rattle.xq_meaning.specs.Items.{Item, Node, Atom, atomized}
+use Rattle.xq_meaning.specs.Arguments.{boolean, effective, all_nodes}
+use Rattle.xq_meaning.specs.Functions.{Focus, called}
+use Rattle.xq_meaning.specs.Operators.{operated, signed, gathered, keeps}
+use Rattle.xq_meaning.specs.Steps.{focuses, context_node, axis_nodes, in_axis_order}
 use Rattle.xq_meaning.specs.Doing.{Doing, Outcome, go_on, give, judged, on_trees, in_turn, more, one_more, for_each, collected, first_that, unless_found}
 use Rattle.xq_meaning.specs.Forms
 use Rattle.xq_meaning.specs.Same.{frame_of}

@@ -15,21 +15,21 @@ use Rattle.xq_expressions.specs.declared.operators.EmptyOrder.{EmptyOrder}
 use Rattle.xq_expressions.specs.declared.operators.EmptyOrder.TheVariants.{Least, Greatest}
 use Rattle.xq_regions.specs.declared.Axis.{Axis}
 use Rattle.xq_regions.specs.declared.Axis.TheVariants.{DescendantOrSelf}
-use Rattle.xq_signatures.specs.declared.Function.{Function}
-use Rattle.xq_values.specs.declared.node_tests.Test.{Test}
-use Rattle.xq_values.specs.declared.node_tests.Test.TheVariants.{Any}
-use Rattle.xq_values.specs.declared.operators.Operator.{Operator}
+use Rattle.xq_expressions.specs.declared.signatures.Function.{Function}
+use Rattle.xq_meaning.specs.declared.node_tests.Test.{Test}
+use Rattle.xq_meaning.specs.declared.node_tests.Test.TheVariants.{Any}
+use Rattle.xq_meaning.specs.declared.operators.Operator.{Operator}
 use Rattle.xq_atoms.specs.Judged.{Judged}
 use Rattle.xq_atoms.specs.Text.{Text}
 use Rattle.xq_atoms.specs.Atom.{Atomic}
 use Rattle.xq_regions.specs.Tree.{Tree}
 use Rattle.xq_regions.specs.Tuples.{Tuple, OrderRule, expanded, bound, satisfying, grouped, ordered, firsts, value_at}
-use Rattle.xq_values.specs.Items.{Item, Node, Atom, root_of, atomized}
-use Rattle.xq_values.specs.Arguments.{atomic, boolean, effective, all_nodes}
-use Rattle.xq_values.specs.Functions.{Focus, called}
-use Rattle.xq_values.specs.Operators.{operated, signed, gathered, in_order, keeps}
-use Rattle.xq_values.specs.Content.{name_of, named_tree, unnamed_tree}
-use Rattle.xq_values.specs.Steps.{focuses, context_item, context_node, axis_nodes, in_axis_order, document_root}
+use Rattle.xq_meaning.specs.Items.{Item, Node, Atom, root_of, atomized}
+use Rattle.xq_meaning.specs.Arguments.{atomic, boolean, effective, all_nodes}
+use Rattle.xq_meaning.specs.Functions.{Focus, called}
+use Rattle.xq_meaning.specs.Operators.{operated, signed, gathered, in_order, keeps}
+use Rattle.xq_meaning.specs.Content.{name_of, named_tree, unnamed_tree}
+use Rattle.xq_meaning.specs.Steps.{focuses, context_item, context_node, axis_nodes, in_axis_order, document_root}
 use Rattle.xq_meaning.specs.Doing.{Doing, ◌>>=◌, give, judged, on_trees, in_turn, for_each, collected, first_that}
 
 -- 2.1: the values of the variables, the focus, and the addresses of the documents, which are the

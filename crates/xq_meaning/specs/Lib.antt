@@ -4,3 +4,13 @@ pub mod Doing
 pub mod CoreMeaning
 pub mod PlanMeaning
 pub mod Same
+pub mod Functions
+pub mod Content
+pub mod Operators
+pub mod Steps
+pub mod Arguments
+pub mod Items
+pub mod Texts
+pub mod Print
+pub mod Printable
+pub mod Readings

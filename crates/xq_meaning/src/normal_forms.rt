@@ -1,12 +1,12 @@
 //! Normal forms of expressions: calls by their function, steps with their axis, one binding in a
 //! clause, one list of operators for all chains.
 
+use crate::node_tests::Test;
+use crate::operators::Operator;
 use sqlite_items::{Boxed, Items};
 use xq_atoms::Decimal;
-use xq_expressions::{NamedNode, OrderModifier, Quantifier, Sign, Text, UnnamedNode};
+use xq_expressions::{Function, NamedNode, OrderModifier, Quantifier, Sign, Text, UnnamedNode};
 use xq_regions::Axis;
-use xq_signatures::Function;
-use xq_values::{Operator, Test};
 
 /// An expression in normal form.
 #[derive(Drop)]

@@ -4,12 +4,12 @@
 //! for each binding of its clauses so far, two for a `for` with a position, and in a quantified
 //! expression one for each binding before. So a binding needs no number: it takes the next slot.
 
+use crate::node_tests::Test;
+use crate::operators::Operator;
 use sqlite_items::{Boxed, Items};
 use xq_atoms::{Code, Decimal};
-use xq_expressions::{NamedNode, OrderModifier, Quantifier, Sign, Text, UnnamedNode};
+use xq_expressions::{Function, NamedNode, OrderModifier, Quantifier, Sign, Text, UnnamedNode};
 use xq_regions::Axis;
-use xq_signatures::Function;
-use xq_values::{Operator, Test};
 
 /// A plan.
 #[derive(Drop)]

@@ -17,7 +17,7 @@ use Rattle.xq_expressions.specs.declared.operators.PathStart.{PathStart}
 use Rattle.xq_expressions.specs.declared.operators.PathStart.TheVariants.{Relative, Root, RootAndBelow}
 use Rattle.xq_expressions.specs.declared.operators.Separator.{Separator}
 use Rattle.xq_atoms.specs.Text.{Text}
-use Rattle.xq_values.specs.declared.operators.Operator.{Operator}
+use Rattle.xq_meaning.specs.declared.operators.Operator.{Operator}
 use Rattle.xq_meaning.specs.declared.normal_forms.Core.{Core}
 use Rattle.xq_meaning.specs.declared.normal_forms.Core.TheVariants as n
 use Rattle.xq_meaning.specs.declared.normal_forms.CoreClause.{CoreClause}

@@ -1,14 +1,13 @@
 //! Functions, axes and tests by their names.
 ghost use Rattle.std.specs.Prelude.{◌≡◌, IfOk};
-ghost use Rattle.xq_signatures.specs.Signatures as signatures;
+ghost use Rattle.xq_expressions.specs.Signatures as signatures;
 ghost use Rattle.xq_meaning.specs.Meaning as meaning;
 ghost use Rattle.xq_normal.specs.private.Parts.{written_out};
 
 use std::alloc::{AllocError, Global};
-use xq_expressions::{AxisName, AxisStep, NodeTest, QName, Text};
+use xq_expressions::{AxisName, AxisStep, Function, NodeTest, QName, Text};
+use xq_meaning::Test;
 use xq_regions::Axis;
-use xq_signatures::Function;
-use xq_values::Test;
 
 /// A copy of a text.
 pub fn text(alloc: Global, text: &Text) -> Result<Text, AllocError>

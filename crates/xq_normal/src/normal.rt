@@ -1,6 +1,6 @@
 //! The normal form of each form of expression.
 ghost use Rattle.std.specs.Prelude.{◌≡◌, ◌++◌, IfOk, OnOk, List, map};
-ghost use Rattle.xq_values.specs.declared.operators.Operator.TheVariants as operator;
+ghost use Rattle.xq_meaning.specs.declared.operators.Operator.TheVariants as operator;
 ghost use Rattle.xq_meaning.specs.Meaning as meaning;
 ghost use Rattle.xq_meaning.specs.Meaning.{mean, name_mean, clause_mean, group_mean, step_mean};
 ghost use Rattle.xq_meaning.specs.CoreMeaning.{core_mean, core_clause_mean};
@@ -10,13 +10,11 @@ use crate::names::{axis_step, function, local, text};
 use sqlite_items::{Boxed, Items};
 use std::alloc::{AllocError, Global};
 use xq_expressions::{
-    Clause, ConstructorName, Expr, GroupSpec, OrderModifier, PathStart, ProductOperator, QName,
-    Separator, SetOperator, Sign, Step, Text,
+    Clause, ConstructorName, Expr, Function, GroupSpec, OrderModifier, PathStart, ProductOperator,
+    QName, Separator, SetOperator, Sign, Step, Text,
 };
-use xq_meaning::{Core, CoreClause};
+use xq_meaning::{Core, CoreClause, Operator, Test};
 use xq_regions::Axis;
-use xq_signatures::Function;
-use xq_values::{Operator, Test};
 
 /// The normal form of an expression.
 #[cycle(normal)]

@@ -7,14 +7,14 @@ use Rattle.xq_atoms.specs.declared.refusals.Code.TheVariants.{XPST0003, ProfDept
 use Rattle.xq_atoms.specs.declared.refusals.Want.TheVariants.{Memory, Store}
 use Rattle.xq_lexer.specs.Nesting.{nesting}
 use Rattle.xq_expressions.specs.declared.expressions.Expr.{Expr}
-use Rattle.xq_grammar.specs.Look.{Tokens}
-use Rattle.xq_grammar.specs.Grammar.{Derives}
-use Rattle.xq_grammar.specs.private.Reading.{query}
-use Rattle.xq_grammar.specs.private.Parses.{ParsesAs}
-use Rattle.xq_grammar.specs.Answers.{RefusesTokens}
-use Rattle.xq_grammar.proofs.Tokens.{none_some}
-use Rattle.xq_grammar.proofs.SoundLines.{query_sound}
-use Rattle.xq_grammar.proofs.Top.{query_reads, derives_one}
+use Rattle.xq_parser.specs.Look.{Tokens}
+use Rattle.xq_parser.specs.Grammar.{Derives}
+use Rattle.xq_parser.specs.private.Reading.{query}
+use Rattle.xq_parser.specs.private.Parses.{ParsesAs}
+use Rattle.xq_parser.specs.Answers.{RefusesTokens}
+use Rattle.xq_parser.proofs.Tokens.{none_some}
+use Rattle.xq_parser.proofs.SoundLines.{query_sound}
+use Rattle.xq_parser.proofs.Top.{query_reads, derives_one}
 
 pub found_by : (r : Result Expr Fault) (ts : Tokens) → ParsesAs (λ x. x) r (query 129 ts) → IfOk r (λ e. Derives ts e)
 found_by (Ok x) ts h = query_sound 129 ts x h

@@ -4,9 +4,9 @@ use Rattle.std.proofs.Common.{◌≡◌, Bool, true, false, List, Result}
 use denote.Ref.{Bor}
 use Rattle.xq_atoms.specs.declared.refusals.Fault.{Fault}
 use Rattle.xq_lexer.specs.declared.tokens.Token.{Token}
-use Rattle.xq_grammar.specs.Look.{Tokens}
-use Rattle.xq_grammar.specs.private.Reading.{Parser, choose}
-use Rattle.xq_grammar.specs.private.Parses.{Parses}
+use Rattle.xq_parser.specs.Look.{Tokens}
+use Rattle.xq_parser.specs.private.Reading.{Parser, choose}
+use Rattle.xq_parser.specs.private.Parses.{Parses}
 
 module _ {A : Type 0} (test : Tokens → Bool) (p q : Parser A) (ts : Tokens) (r : Result (A × Bor (List Token)) Fault) where
   pub gives_first : test ts ≡ true → Parses r (p ts) → Parses r (choose test p q ts)

@@ -2,3 +2,17 @@ pub mod Answering
 pub mod Choice
 pub mod Loops
 pub mod Steps
+pub mod Tokens
+pub mod Sound
+pub mod SoundLines
+pub mod Moves
+pub mod LinesMove
+pub mod Rank
+pub mod Complete
+pub mod NameLines
+pub mod PrimaryLines
+pub mod OperatorLines
+pub mod ClauseLines
+pub mod Begins
+pub mod Top
+pub mod Worked

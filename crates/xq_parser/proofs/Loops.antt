@@ -3,13 +3,13 @@ use Rattle.std.proofs.Common.{◌≡◌, ℕ, zero, suc, ◌+◌, ◌-◌, ◌<�
 use Rattle.std.proofs.lemmas.List.{append-nil}
 use Rattle.xq_lexer.specs.Lexeme.{lexemes}
 use Rattle.xq_lexer.specs.declared.tokens.Token.{Token}
-use Rattle.xq_grammar.specs.Look.{Tokens}
+use Rattle.xq_parser.specs.Look.{Tokens}
 use Rattle.xq_atoms.specs.declared.refusals.Fault.{Fault}
 use Rattle.xq_atoms.specs.declared.refusals.Fault.TheVariants.{Code as OfCode, Want as OfWant}
 use Rattle.xq_atoms.specs.declared.refusals.Code.TheVariants.{XPST0003}
 use Rattle.xq_atoms.specs.declared.refusals.Want.TheVariants.{Memory, Store}
-use Rattle.xq_grammar.specs.private.Parses.{ParsesNot}
-use Rattle.xq_grammar.specs.private.Reading.{Parser, Outcome, and_then, many_from, many}
+use Rattle.xq_parser.specs.private.Parses.{ParsesNot}
+use Rattle.xq_parser.specs.private.Reading.{Parser, Outcome, and_then, many_from, many}
 
 length-lexemes : (ts : List Token) → length (lexemes ts) ≡ length ts
 length-lexemes [] = refl

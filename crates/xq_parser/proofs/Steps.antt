@@ -9,9 +9,9 @@ use Rattle.xq_atoms.specs.declared.refusals.Code.TheVariants.{XPST0003}
 use Rattle.xq_atoms.specs.declared.refusals.Want.TheVariants.{Memory, Store}
 use Rattle.xq_lexer.specs.Lexeme.{Lex}
 use Rattle.xq_lexer.specs.declared.tokens.Token.{Token}
-use Rattle.xq_grammar.specs.Look.{Tokens}
-use Rattle.xq_grammar.specs.private.Reading.{Outcome, Parser, expect, after, mapped, choose}
-use Rattle.xq_grammar.specs.private.Parses.{ParsesNot, Parses}
+use Rattle.xq_parser.specs.Look.{Tokens}
+use Rattle.xq_parser.specs.private.Reading.{Outcome, Parser, expect, after, mapped, choose}
+use Rattle.xq_parser.specs.private.Parses.{ParsesNot, Parses}
 
 module _ {A B : Type 0} (f : A → B) (t : Lex) (p : Parser A) where
   pub reads_after : (ts mid us : Tokens) (a : A) → expect t ts ≡ Some (tt, mid) → p mid ≡ Some (a, us) → mapped f (after t p) ts ≡ Some (f a, us)

@@ -1,0 +1,5 @@
+pub mod Look
+pub mod Rel
+pub mod Grammar
+pub mod Answers
+pub mod private

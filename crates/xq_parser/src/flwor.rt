@@ -1,8 +1,8 @@
 //! Conditions, quantified expressions and FLWOR expressions (XQuery 3.1, sections 3.12 to 3.16).
 ghost use Rattle.xq_lexer.specs.Lexeme.{lexemes, symbol as symbol_lex};
 ghost use Rattle.xq_lexer.specs.declared.tokens.Symbol.TheVariants as s;
-ghost use Rattle.xq_grammar.specs.private.Reading as spec;
-ghost use Rattle.xq_grammar.specs.private.Parses.{Nests, Parses};
+ghost use Rattle.xq_parser.specs.private.Reading as spec;
+ghost use Rattle.xq_parser.specs.private.Parses.{Nests, Parses};
 
 use crate::lists::{Phrase, Repeated, commas, many};
 use crate::lookahead::{expect_symbol, expect_word, is_symbol, is_word, position, variable};
@@ -17,7 +17,7 @@ use xq_expressions::{
 };
 use xq_lexer::{Symbol, Token};
 
-#[tactic(auto, unfolding(xq_grammar::specs::private::Reading::direction_word))]
+#[tactic(auto, unfolding(crate::specs::private::Reading::direction_word))]
 fn direction_word(tokens: &[Token]) -> Result<(Direction, &[Token]), Fault>
     ensures { Parses result (spec.direction_word (lexemes tokens.now)) }
 {
@@ -28,7 +28,7 @@ fn direction_word(tokens: &[Token]) -> Result<(Direction, &[Token]), Fault>
     }
 }
 
-#[tactic(auto, unfolding(xq_grammar::specs::private::Reading::empty_words))]
+#[tactic(auto, unfolding(crate::specs::private::Reading::empty_words))]
 fn empty_words(tokens: &[Token]) -> Result<(EmptyOrder, &[Token]), Fault>
     ensures { Parses result (spec.empty_words (lexemes tokens.now)) }
 {
@@ -43,7 +43,7 @@ fn empty_words(tokens: &[Token]) -> Result<(EmptyOrder, &[Token]), Fault>
 impl<'a, F: Fn(Global, usize, &'a [Token]) -> Result<(Boxed<Expr>, &'a [Token]), Fault>> Grammar<
     F,
 > {
-    #[tactic(auto, unfolding(xq_grammar::specs::private::Reading::tested))]
+    #[tactic(auto, unfolding(crate::specs::private::Reading::tested))]
     fn tested(&self, tokens: &'a [Token]) -> Result<(Boxed<Expr>, &'a [Token]), Fault>
         requires { Nests self.now.depth (F.pre self.now.single) (F.post self.now.single) }
         ensures { Parses result (spec.tested (spec.single self.now.depth) (lexemes tokens.now)) }
@@ -54,7 +54,7 @@ impl<'a, F: Fn(Global, usize, &'a [Token]) -> Result<(Boxed<Expr>, &'a [Token]),
         Ok((test, rest))
     }
 
-    #[tactic(auto, unfolding(xq_grammar::specs::private::Reading::branches))]
+    #[tactic(auto, unfolding(crate::specs::private::Reading::branches))]
     fn branches(
         &self,
         tokens: &'a [Token],
@@ -69,7 +69,7 @@ impl<'a, F: Fn(Global, usize, &'a [Token]) -> Result<(Boxed<Expr>, &'a [Token]),
     }
 
     /// A conditional expression.
-    #[tactic(auto, unfolding(xq_grammar::specs::private::Reading::conditional))]
+    #[tactic(auto, unfolding(crate::specs::private::Reading::conditional))]
     pub(crate) fn conditional(
         &self,
         tokens: &'a [Token],
@@ -85,7 +85,7 @@ impl<'a, F: Fn(Global, usize, &'a [Token]) -> Result<(Boxed<Expr>, &'a [Token]),
     }
 
     /// A quantified expression.
-    #[tactic(auto, unfolding(xq_grammar::specs::private::Reading::quantified))]
+    #[tactic(auto, unfolding(crate::specs::private::Reading::quantified))]
     pub(crate) fn quantified(
         &self,
         tokens: &'a [Token],
@@ -103,7 +103,7 @@ impl<'a, F: Fn(Global, usize, &'a [Token]) -> Result<(Boxed<Expr>, &'a [Token]),
         ))
     }
 
-    #[tactic(auto, unfolding(xq_grammar::specs::private::Reading::order_by))]
+    #[tactic(auto, unfolding(crate::specs::private::Reading::order_by))]
     fn order_by(&self, tokens: &'a [Token]) -> Result<(Clause, &'a [Token]), Fault>
         requires { Nests self.now.depth (F.pre self.now.single) (F.post self.now.single) }
         ensures { Parses result (spec.order_by (spec.single self.now.depth) (lexemes tokens.now)) }
@@ -114,7 +114,7 @@ impl<'a, F: Fn(Global, usize, &'a [Token]) -> Result<(Boxed<Expr>, &'a [Token]),
         Ok((Clause::Order(keys), rest))
     }
 
-    #[tactic(auto, unfolding(xq_grammar::specs::private::Reading::order_clause))]
+    #[tactic(auto, unfolding(crate::specs::private::Reading::order_clause))]
     fn order_clause(&self, tokens: &'a [Token]) -> Result<(Clause, &'a [Token]), Fault>
         requires { Nests self.now.depth (F.pre self.now.single) (F.post self.now.single) }
         ensures { Parses result
@@ -143,7 +143,7 @@ impl<'a, F: Fn(Global, usize, &'a [Token]) -> Result<(Boxed<Expr>, &'a [Token]),
         }
     }
 
-    #[tactic(auto, unfolding(xq_grammar::specs::private::Reading::group_clause))]
+    #[tactic(auto, unfolding(crate::specs::private::Reading::group_clause))]
     fn group_clause(&self, tokens: &'a [Token]) -> Result<(Clause, &'a [Token]), Fault>
         requires { Nests self.now.depth (F.pre self.now.single) (F.post self.now.single) }
         ensures { Parses result
@@ -155,7 +155,7 @@ impl<'a, F: Fn(Global, usize, &'a [Token]) -> Result<(Boxed<Expr>, &'a [Token]),
         Ok((Clause::Group(variables), rest))
     }
 
-    #[tactic(auto, unfolding(xq_grammar::specs::private::Reading::filter_clause))]
+    #[tactic(auto, unfolding(crate::specs::private::Reading::filter_clause))]
     fn filter_clause(&self, tokens: &'a [Token]) -> Result<(Clause, &'a [Token]), Fault>
         requires { Nests self.now.depth (F.pre self.now.single) (F.post self.now.single) }
         ensures { Parses result
@@ -165,7 +165,7 @@ impl<'a, F: Fn(Global, usize, &'a [Token]) -> Result<(Boxed<Expr>, &'a [Token]),
         Ok((Clause::Filter(condition.into_inner()), rest))
     }
 
-    #[tactic(auto, unfolding(xq_grammar::specs::private::Reading::let_clause))]
+    #[tactic(auto, unfolding(crate::specs::private::Reading::let_clause))]
     fn let_clause(&self, tokens: &'a [Token]) -> Result<(Clause, &'a [Token]), Fault>
         requires { Nests self.now.depth (F.pre self.now.single) (F.post self.now.single) }
         ensures { Parses result
@@ -176,7 +176,7 @@ impl<'a, F: Fn(Global, usize, &'a [Token]) -> Result<(Boxed<Expr>, &'a [Token]),
         Ok((Clause::Let(bindings), rest))
     }
 
-    #[tactic(auto, unfolding(xq_grammar::specs::private::Reading::for_clause))]
+    #[tactic(auto, unfolding(crate::specs::private::Reading::for_clause))]
     fn for_clause(&self, tokens: &'a [Token]) -> Result<(Clause, &'a [Token]), Fault>
         requires { Nests self.now.depth (F.pre self.now.single) (F.post self.now.single) }
         ensures { Parses result
@@ -187,7 +187,7 @@ impl<'a, F: Fn(Global, usize, &'a [Token]) -> Result<(Boxed<Expr>, &'a [Token]),
         Ok((Clause::For(bindings), rest))
     }
 
-    #[tactic(auto, unfolding(xq_grammar::specs::private::Reading::later_clause))]
+    #[tactic(auto, unfolding(crate::specs::private::Reading::later_clause))]
     fn later_clause(&self, tokens: &'a [Token]) -> Result<(Clause, &'a [Token]), Fault>
         requires { Nests self.now.depth (F.pre self.now.single) (F.post self.now.single) }
         ensures { Parses result
@@ -202,7 +202,7 @@ impl<'a, F: Fn(Global, usize, &'a [Token]) -> Result<(Boxed<Expr>, &'a [Token]),
         }
     }
 
-    #[tactic(auto, unfolding(xq_grammar::specs::private::Reading::first_clause))]
+    #[tactic(auto, unfolding(crate::specs::private::Reading::first_clause))]
     fn first_clause(&self, tokens: &'a [Token]) -> Result<(Boxed<Clause>, &'a [Token]), Fault>
         requires { Nests self.now.depth (F.pre self.now.single) (F.post self.now.single) }
         ensures { Parses result
@@ -218,7 +218,7 @@ impl<'a, F: Fn(Global, usize, &'a [Token]) -> Result<(Boxed<Expr>, &'a [Token]),
     }
 
     /// A FLWOR expression.
-    #[tactic(auto, unfolding(xq_grammar::specs::private::Reading::flwor, xq_grammar::specs::private::Reading::clauses))]
+    #[tactic(auto, unfolding(crate::specs::private::Reading::flwor, crate::specs::private::Reading::clauses))]
     pub(crate) fn flwor(&self, tokens: &'a [Token]) -> Result<(Boxed<Expr>, &'a [Token]), Fault>
         requires { Nests self.now.depth (F.pre self.now.single) (F.post self.now.single) }
         ensures { Parses result (spec.flwor (spec.single self.now.depth) (lexemes tokens.now)) }
@@ -243,7 +243,7 @@ impl<'a, 'g, F: Fn(Global, usize, &'a [Token]) -> Result<(Boxed<Expr>, &'a [Toke
 
     ghost reader = { λ it. spec.quantifier_binding (spec.single it.0.now.depth) };
 
-    #[tactic(auto, unfolding(xq_grammar::specs::private::Reading::quantifier_binding))]
+    #[tactic(auto, unfolding(crate::specs::private::Reading::quantifier_binding))]
     fn read(&self, tokens: &'a [Token]) -> Result<((QName, Expr), &'a [Token]), Fault> {
         let (name, rest) = variable(self.0.alloc, tokens)?;
         let (value, rest) = self.0.after_word("in", rest)?;
@@ -264,7 +264,7 @@ impl<'a, 'g, F: Fn(Global, usize, &'a [Token]) -> Result<(Boxed<Expr>, &'a [Toke
 
     ghost reader = { λ it. spec.order_spec (spec.single it.0.now.depth) };
 
-    #[tactic(auto, unfolding(xq_grammar::specs::private::Reading::order_spec))]
+    #[tactic(auto, unfolding(crate::specs::private::Reading::order_spec))]
     fn read(&self, tokens: &'a [Token]) -> Result<((Expr, OrderModifier), &'a [Token]), Fault> {
         let (key, rest) = self.0.single(tokens)?;
         let (direction, rest) = direction_word(rest)?;
@@ -287,7 +287,7 @@ impl<'a, 'g, F: Fn(Global, usize, &'a [Token]) -> Result<(Boxed<Expr>, &'a [Toke
 
     ghost reader = { λ it. spec.group_spec (spec.single it.0.now.depth) };
 
-    #[tactic(auto, unfolding(xq_grammar::specs::private::Reading::group_spec))]
+    #[tactic(auto, unfolding(crate::specs::private::Reading::group_spec))]
     fn read(&self, tokens: &'a [Token]) -> Result<(GroupSpec, &'a [Token]), Fault> {
         let (name, rest) = variable(self.0.alloc, tokens)?;
         let (value, rest) = self.0.assigned(rest)?;
@@ -311,7 +311,7 @@ impl<'a, 'g, F: Fn(Global, usize, &'a [Token]) -> Result<(Boxed<Expr>, &'a [Toke
 
     ghost reader = { λ it. spec.let_binding (spec.single it.0.now.depth) };
 
-    #[tactic(auto, unfolding(xq_grammar::specs::private::Reading::let_binding))]
+    #[tactic(auto, unfolding(crate::specs::private::Reading::let_binding))]
     fn read(&self, tokens: &'a [Token]) -> Result<((QName, Expr), &'a [Token]), Fault> {
         let (name, rest) = variable(self.0.alloc, tokens)?;
         let (value, rest) = self.0.after_symbol(Symbol::Assign, rest)?;
@@ -332,7 +332,7 @@ impl<'a, 'g, F: Fn(Global, usize, &'a [Token]) -> Result<(Boxed<Expr>, &'a [Toke
 
     ghost reader = { λ it. spec.for_binding (spec.single it.0.now.depth) };
 
-    #[tactic(auto, unfolding(xq_grammar::specs::private::Reading::for_binding))]
+    #[tactic(auto, unfolding(crate::specs::private::Reading::for_binding))]
     fn read(
         &self,
         tokens: &'a [Token],
@@ -365,7 +365,7 @@ impl<
         begins_clause(tokens)
     }
 
-    #[tactic(auto, unfolding(xq_grammar::specs::private::Reading::clause_))]
+    #[tactic(auto, unfolding(crate::specs::private::Reading::clause_))]
     fn next(&self, tokens: &'a [Token]) -> Result<(Clause, &'a [Token]), Fault> {
         if is_word("for", tokens) {
             self.0.for_clause(tokens)

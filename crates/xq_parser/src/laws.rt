@@ -2,7 +2,7 @@
 ghost use Rattle.std.specs.Prelude.{◌≡◌};
 ghost use Rattle.xq_lexer.specs.Lexeme.{lexemes};
 ghost use Rattle.xq_expressions.specs.declared.expressions.Expr.{Expr as Expr_};
-ghost use Rattle.xq_grammar.specs.Grammar.{Derives};
+ghost use Rattle.xq_parser.specs.Grammar.{Derives};
 
 use xq_lexer::Token;
 

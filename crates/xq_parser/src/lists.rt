@@ -2,9 +2,9 @@
 ghost use Rattle.std.specs.Prelude.{◌≡◌, Bool, Some, ◌∷◌};
 ghost use Rattle.xq_lexer.specs.Lexeme.{lexemes, symbol as symbol_lex};
 ghost use Rattle.xq_lexer.specs.declared.tokens.Symbol.TheVariants as s;
-ghost use Rattle.xq_grammar.specs.Look.{Tokens};
-ghost use Rattle.xq_grammar.specs.private.Reading as spec;
-ghost use Rattle.xq_grammar.specs.private.Parses.{ParsesAs, Parses};
+ghost use Rattle.xq_parser.specs.Look.{Tokens};
+ghost use Rattle.xq_parser.specs.private.Reading as spec;
+ghost use Rattle.xq_parser.specs.private.Parses.{ParsesAs, Parses};
 
 use crate::lookahead::{expect_symbol, is_symbol};
 use sqlite_items::Items;
@@ -88,7 +88,7 @@ impl<'a, 'p, P: Phrase<'a>> Repeated<'a> for AfterComma<'p, P> {
         is_symbol(Symbol::Comma, tokens)
     }
 
-    #[tactic(auto, unfolding(xq_grammar::specs::private::Reading::after_comma))]
+    #[tactic(auto, unfolding(crate::specs::private::Reading::after_comma))]
     fn next(&self, tokens: &'a [Token]) -> Result<(P::Value, &'a [Token]), Fault> {
         let rest = expect_symbol(Symbol::Comma, tokens)?;
         self.0.read(rest)
@@ -96,7 +96,7 @@ impl<'a, 'p, P: Phrase<'a>> Repeated<'a> for AfterComma<'p, P> {
 }
 
 /// One phrase and more, with commas between them.
-#[tactic(auto, unfolding(xq_grammar::specs::private::Reading::commas))]
+#[tactic(auto, unfolding(crate::specs::private::Reading::commas))]
 pub(crate) fn commas<'a, P: Phrase<'a>>(
     alloc: Global,
     phrase: &P,

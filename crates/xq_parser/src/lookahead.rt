@@ -1,10 +1,10 @@
 //! What the next tokens are.
 ghost use Rattle.std.specs.Prelude.{◌≡◌, Some};
 ghost use Rattle.xq_lexer.specs.Lexeme.{lexemes, name as name_lex, symbol as symbol_lex};
-ghost use Rattle.xq_grammar.specs.Look as look;
-ghost use Rattle.xq_grammar.specs.Grammar as g;
-ghost use Rattle.xq_grammar.specs.private.Reading as spec;
-ghost use Rattle.xq_grammar.specs.private.Parses.{ParsesAs, Parses};
+ghost use Rattle.xq_parser.specs.Look as look;
+ghost use Rattle.xq_parser.specs.Grammar as g;
+ghost use Rattle.xq_parser.specs.private.Reading as spec;
+ghost use Rattle.xq_parser.specs.private.Parses.{ParsesAs, Parses};
 
 use crate::words::{
     is_constructor_word, is_named_constructor_word, is_reserved_name, named_node_word,
@@ -15,7 +15,7 @@ use xq_atoms::{Code, Fault};
 use xq_expressions::{QName, Text};
 use xq_lexer::{Lexeme, Symbol, Token};
 
-#[tactic(auto, unfolding(xq_grammar::specs::Look::same_symbol))]
+#[tactic(auto, unfolding(crate::specs::Look::same_symbol))]
 fn same_symbol(a: Symbol, b: Symbol) -> bool
     ensures { result ≡ look.same_symbol a b }
 {
@@ -23,7 +23,7 @@ fn same_symbol(a: Symbol, b: Symbol) -> bool
 }
 
 /// Whether the next token is the symbol.
-#[tactic(auto, unfolding(xq_grammar::specs::private::Reading::begins, xq_grammar::specs::Look::lookup, xq_grammar::specs::Look::same))]
+#[tactic(auto, unfolding(crate::specs::private::Reading::begins, crate::specs::Look::lookup, crate::specs::Look::same))]
 pub(crate) fn is_symbol(symbol: Symbol, tokens: &[Token]) -> bool
     ensures { result ≡ spec.is (symbol_lex symbol) (lexemes tokens.now) }
 {
@@ -40,7 +40,7 @@ pub(crate) fn is_symbol(symbol: Symbol, tokens: &[Token]) -> bool
 }
 
 /// Whether the next token is the word.
-#[tactic(auto, unfolding(xq_grammar::specs::private::Reading::begins, xq_grammar::specs::Look::lookup, xq_grammar::specs::Look::same))]
+#[tactic(auto, unfolding(crate::specs::private::Reading::begins, crate::specs::Look::lookup, crate::specs::Look::same))]
 pub(crate) fn is_word(word: &str, tokens: &[Token]) -> bool
     ensures { result ≡ spec.is (name_lex word.now) (lexemes tokens.now) }
 {
@@ -57,7 +57,7 @@ pub(crate) fn is_word(word: &str, tokens: &[Token]) -> bool
 }
 
 /// The tokens after the symbol, which is the next token.
-#[tactic(auto, unfolding(xq_grammar::specs::private::Reading::one_of, xq_grammar::specs::Look::lookup, xq_grammar::specs::Look::same))]
+#[tactic(auto, unfolding(crate::specs::private::Reading::one_of, crate::specs::Look::lookup, crate::specs::Look::same))]
 pub(crate) fn expect_symbol(symbol: Symbol, tokens: &[Token]) -> Result<&[Token], Fault>
     ensures { ParsesAs (λ x. (tt, lexemes x.now)) result
         (spec.expect (symbol_lex symbol) (lexemes tokens.now)) }
@@ -81,7 +81,7 @@ pub(crate) fn expect_symbol(symbol: Symbol, tokens: &[Token]) -> Result<&[Token]
 }
 
 /// The tokens after the word, which is the next token.
-#[tactic(auto, unfolding(xq_grammar::specs::private::Reading::one_of, xq_grammar::specs::Look::lookup, xq_grammar::specs::Look::same))]
+#[tactic(auto, unfolding(crate::specs::private::Reading::one_of, crate::specs::Look::lookup, crate::specs::Look::same))]
 pub(crate) fn expect_word<'a>(word: &str, tokens: &'a [Token]) -> Result<&'a [Token], Fault>
     ensures { ParsesAs (λ x. (tt, lexemes x.now)) result
         (spec.expect (name_lex word.now) (lexemes tokens.now)) }
@@ -130,7 +130,7 @@ fn prefixed(alloc: Global, prefix: &str, local: &str) -> Result<QName, Fault>
 }
 
 /// The name that is the next token.
-#[tactic(auto, unfolding(xq_grammar::specs::private::Reading::qname))]
+#[tactic(auto, unfolding(crate::specs::private::Reading::qname))]
 pub(crate) fn qname(alloc: Global, tokens: &[Token]) -> Result<(QName, &[Token]), Fault>
     ensures { Parses result (spec.qname (lexemes tokens.now)) }
 {
@@ -163,7 +163,7 @@ pub(crate) fn qname(alloc: Global, tokens: &[Token]) -> Result<(QName, &[Token])
 }
 
 /// The name of a call that is the next token.
-#[tactic(auto, unfolding(xq_grammar::specs::private::Reading::call_name, xq_grammar::specs::private::Reading::qname))]
+#[tactic(auto, unfolding(crate::specs::private::Reading::call_name, crate::specs::private::Reading::qname))]
 pub(crate) fn call_name(alloc: Global, tokens: &[Token]) -> Result<(QName, &[Token]), Fault>
     ensures { Parses result (spec.call_name (lexemes tokens.now)) }
 {
@@ -192,7 +192,7 @@ pub(crate) fn call_name(alloc: Global, tokens: &[Token]) -> Result<(QName, &[Tok
 }
 
 /// `$` and a name.
-#[tactic(auto, unfolding(xq_grammar::specs::private::Reading::variable))]
+#[tactic(auto, unfolding(crate::specs::private::Reading::variable))]
 pub(crate) fn variable(alloc: Global, tokens: &[Token]) -> Result<(QName, &[Token]), Fault>
     ensures { Parses result (spec.variable (lexemes tokens.now)) }
 {
@@ -201,7 +201,7 @@ pub(crate) fn variable(alloc: Global, tokens: &[Token]) -> Result<(QName, &[Toke
 }
 
 /// A variable after `at`, if the next token is this word.
-#[tactic(auto, unfolding(xq_grammar::specs::private::Reading::position))]
+#[tactic(auto, unfolding(crate::specs::private::Reading::position))]
 pub(crate) fn position(alloc: Global, tokens: &[Token]) -> Result<(Option<QName>, &[Token]), Fault>
     ensures { Parses result (spec.position (lexemes tokens.now)) }
 {
@@ -310,7 +310,7 @@ pub(crate) fn begins_axis(tokens: &[Token]) -> bool
 }
 
 /// Whether the next tokens are the name of a call and `(`.
-#[tactic(auto, unfolding(xq_grammar::specs::private::Reading::begins_call))]
+#[tactic(auto, unfolding(crate::specs::private::Reading::begins_call))]
 pub(crate) fn begins_call(tokens: &[Token]) -> bool
     ensures { result ≡ spec.begins_call (lexemes tokens.now) }
 {
@@ -372,7 +372,7 @@ fn is_constructor(word: &str, tokens: &[Token]) -> bool
 }
 
 /// Whether the next tokens begin a constructor.
-#[tactic(auto, unfolding(xq_grammar::specs::private::Reading::begins_make))]
+#[tactic(auto, unfolding(crate::specs::private::Reading::begins_make))]
 fn begins_constructor(tokens: &[Token]) -> bool
     ensures { result ≡ spec.begins_make (lexemes tokens.now) }
 {
@@ -389,7 +389,7 @@ fn begins_constructor(tokens: &[Token]) -> bool
 }
 
 /// Whether the next token alone begins a primary expression.
-#[tactic(auto, unfolding(xq_grammar::specs::private::Reading::begins_literal))]
+#[tactic(auto, unfolding(crate::specs::private::Reading::begins_literal))]
 fn begins_literal(tokens: &[Token]) -> bool
     ensures { result ≡ spec.begins_literal (lexemes tokens.now) }
 {
@@ -413,7 +413,7 @@ fn begins_literal(tokens: &[Token]) -> bool
 }
 
 /// Whether the next tokens begin a primary expression.
-#[tactic(auto, unfolding(xq_grammar::specs::private::Reading::begins_primary))]
+#[tactic(auto, unfolding(crate::specs::private::Reading::begins_primary))]
 pub(crate) fn begins_primary(tokens: &[Token]) -> bool
     ensures { result ≡ spec.begins_primary (lexemes tokens.now) }
 {
@@ -446,7 +446,7 @@ fn begins_step(tokens: &[Token]) -> bool
 }
 
 /// Whether the next token is a `/` that nothing which begins a step follows.
-#[tactic(auto, unfolding(xq_grammar::specs::private::Reading::begins_lone))]
+#[tactic(auto, unfolding(crate::specs::private::Reading::begins_lone))]
 pub(crate) fn begins_lone(tokens: &[Token]) -> bool
     ensures { result ≡ spec.begins_lone (lexemes tokens.now) }
 {
@@ -463,7 +463,7 @@ pub(crate) fn begins_lone(tokens: &[Token]) -> bool
 }
 
 /// Whether the next tokens begin a FLWOR expression.
-#[tactic(auto, unfolding(xq_grammar::specs::private::Reading::begins_flwor))]
+#[tactic(auto, unfolding(crate::specs::private::Reading::begins_flwor))]
 pub(crate) fn begins_flwor(tokens: &[Token]) -> bool
     ensures { result ≡ spec.begins_flwor (lexemes tokens.now) }
 {
@@ -484,7 +484,7 @@ pub(crate) fn begins_flwor(tokens: &[Token]) -> bool
 }
 
 /// Whether the next tokens begin a quantified expression.
-#[tactic(auto, unfolding(xq_grammar::specs::private::Reading::begins_quantified))]
+#[tactic(auto, unfolding(crate::specs::private::Reading::begins_quantified))]
 pub(crate) fn begins_quantified(tokens: &[Token]) -> bool
     ensures { result ≡ spec.begins_quantified (lexemes tokens.now) }
 {
@@ -505,7 +505,7 @@ pub(crate) fn begins_quantified(tokens: &[Token]) -> bool
 }
 
 /// Whether the next tokens begin a conditional expression.
-#[tactic(auto, unfolding(xq_grammar::specs::private::Reading::begins_if))]
+#[tactic(auto, unfolding(crate::specs::private::Reading::begins_if))]
 pub(crate) fn begins_if(tokens: &[Token]) -> bool
     ensures { result ≡ spec.begins_if (lexemes tokens.now) }
 {
@@ -526,7 +526,7 @@ pub(crate) fn begins_if(tokens: &[Token]) -> bool
 }
 
 /// Whether the next token is one of the two signs of a union.
-#[tactic(auto, unfolding(xq_grammar::specs::private::Reading::begins_union))]
+#[tactic(auto, unfolding(crate::specs::private::Reading::begins_union))]
 pub(crate) fn begins_union(tokens: &[Token]) -> bool
     ensures { result ≡ spec.begins_union (lexemes tokens.now) }
 {

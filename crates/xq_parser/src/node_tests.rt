@@ -4,8 +4,8 @@ ghost use Rattle.xq_lexer.specs.Lexeme.{lexemes, name as name_lex, symbol as sym
 ghost use Rattle.xq_lexer.specs.declared.tokens.Symbol.TheVariants as s;
 ghost use Rattle.xq_expressions.specs.declared.operators.NodeTest.TheVariants as test;
 ghost use Rattle.xq_expressions.specs.declared.operators.AxisStep.TheVariants as along;
-ghost use Rattle.xq_grammar.specs.private.Reading as spec;
-ghost use Rattle.xq_grammar.specs.private.Parses.{Parses};
+ghost use Rattle.xq_parser.specs.private.Reading as spec;
+ghost use Rattle.xq_parser.specs.private.Parses.{Parses};
 
 use crate::lookahead::{
     begins_axis, begins_name, begins_name_test, begins_nc, expect_symbol, expect_word, is_symbol,
@@ -18,7 +18,7 @@ use xq_expressions::{AxisName, AxisStep, NodeTest, QName, Text};
 use xq_lexer::{Lexeme, Symbol, Token};
 
 /// A name, `*` or nothing.
-#[tactic(auto, unfolding(xq_grammar::specs::private::Reading::name_or_any, xq_grammar::specs::private::Reading::begins, xq_grammar::specs::private::Reading::one_of, xq_grammar::specs::Look::lookup, xq_grammar::specs::Look::same, xq_grammar::specs::Look::same_symbol))]
+#[tactic(auto, unfolding(crate::specs::private::Reading::name_or_any, crate::specs::private::Reading::begins, crate::specs::private::Reading::one_of, crate::specs::Look::lookup, crate::specs::Look::same, crate::specs::Look::same_symbol))]
 fn name_or_any(alloc: Global, tokens: &[Token]) -> Result<(Option<QName>, &[Token]), Fault>
     ensures { Parses result (spec.name_or_any (lexemes tokens.now)) }
 {
@@ -39,7 +39,7 @@ fn name_or_any(alloc: Global, tokens: &[Token]) -> Result<(Option<QName>, &[Toke
 }
 
 /// A kind test that takes no argument.
-#[tactic(auto, unfolding(xq_grammar::specs::private::Reading::plain_kind))]
+#[tactic(auto, unfolding(crate::specs::private::Reading::plain_kind))]
 fn plain_kind(tokens: &[Token]) -> Result<(NodeTest, &[Token]), Fault>
     ensures { Parses result (spec.plain_kind (lexemes tokens.now)) }
 {
@@ -50,7 +50,7 @@ fn plain_kind(tokens: &[Token]) -> Result<(NodeTest, &[Token]), Fault>
 }
 
 /// A name or nothing.
-#[tactic(auto, unfolding(xq_grammar::specs::private::Reading::one_of))]
+#[tactic(auto, unfolding(crate::specs::private::Reading::one_of))]
 fn instruction_name(alloc: Global, tokens: &[Token]) -> Result<(Option<Text>, &[Token]), Fault>
     ensures { Parses result (spec.maybe spec.begins_nc spec.nc (lexemes tokens.now)) }
 {
@@ -76,7 +76,7 @@ fn instruction_argument(alloc: Global, tokens: &[Token]) -> Result<(Option<Text>
 }
 
 /// The kind test of a processing instruction.
-#[tactic(auto, unfolding(xq_grammar::specs::private::Reading::instruction_kind))]
+#[tactic(auto, unfolding(crate::specs::private::Reading::instruction_kind))]
 fn instruction_kind(alloc: Global, tokens: &[Token]) -> Result<(NodeTest, &[Token]), Fault>
     ensures { Parses result (spec.instruction_kind (lexemes tokens.now)) }
 {
@@ -86,7 +86,7 @@ fn instruction_kind(alloc: Global, tokens: &[Token]) -> Result<(NodeTest, &[Toke
 }
 
 /// A name, `*` or nothing, in parentheses.
-#[tactic(auto, unfolding(xq_grammar::specs::private::Reading::kind_argument))]
+#[tactic(auto, unfolding(crate::specs::private::Reading::kind_argument))]
 fn kind_argument(alloc: Global, tokens: &[Token]) -> Result<(Option<QName>, &[Token]), Fault>
     ensures { Parses result (spec.kind_argument (lexemes tokens.now)) }
 {
@@ -97,7 +97,7 @@ fn kind_argument(alloc: Global, tokens: &[Token]) -> Result<(Option<QName>, &[To
 }
 
 /// The kind test of an element.
-#[tactic(auto, unfolding(xq_grammar::specs::private::Reading::element_kind))]
+#[tactic(auto, unfolding(crate::specs::private::Reading::element_kind))]
 fn element_kind(alloc: Global, tokens: &[Token]) -> Result<(NodeTest, &[Token]), Fault>
     ensures { Parses result (spec.element_kind (lexemes tokens.now)) }
 {
@@ -107,7 +107,7 @@ fn element_kind(alloc: Global, tokens: &[Token]) -> Result<(NodeTest, &[Token]),
 }
 
 /// The kind test of an attribute.
-#[tactic(auto, unfolding(xq_grammar::specs::private::Reading::attribute_kind))]
+#[tactic(auto, unfolding(crate::specs::private::Reading::attribute_kind))]
 fn attribute_kind(alloc: Global, tokens: &[Token]) -> Result<(NodeTest, &[Token]), Fault>
     ensures { Parses result (spec.attribute_kind (lexemes tokens.now)) }
 {
@@ -130,7 +130,7 @@ fn named_kind(alloc: Global, tokens: &[Token]) -> Result<(NodeTest, &[Token]), F
 }
 
 /// A kind test.
-#[tactic(auto, unfolding(xq_grammar::specs::private::Reading::kind_test))]
+#[tactic(auto, unfolding(crate::specs::private::Reading::kind_test))]
 fn kind_test(alloc: Global, tokens: &[Token]) -> Result<(NodeTest, &[Token]), Fault>
     ensures { Parses result (spec.kind_test (lexemes tokens.now)) }
 {
@@ -144,7 +144,7 @@ fn kind_test(alloc: Global, tokens: &[Token]) -> Result<(NodeTest, &[Token]), Fa
 }
 
 /// `*`, the test that any name passes.
-#[tactic(auto, unfolding(xq_grammar::specs::private::Reading::one_of, xq_grammar::specs::Look::lookup, xq_grammar::specs::Look::same, xq_grammar::specs::Look::same_symbol))]
+#[tactic(auto, unfolding(crate::specs::private::Reading::one_of, crate::specs::Look::lookup, crate::specs::Look::same, crate::specs::Look::same_symbol))]
 fn any_name(tokens: &[Token]) -> Result<(NodeTest, &[Token]), Fault>
     ensures { Parses result
         (spec.one_of ((symbol_lex s.Star, test.AnyName) ∷ []) (lexemes tokens.now)) }
@@ -162,7 +162,7 @@ fn any_name(tokens: &[Token]) -> Result<(NodeTest, &[Token]), Fault>
 }
 
 /// A node test.
-#[tactic(auto, unfolding(xq_grammar::specs::private::Reading::node_test))]
+#[tactic(auto, unfolding(crate::specs::private::Reading::node_test))]
 fn node_test(alloc: Global, tokens: &[Token]) -> Result<(NodeTest, &[Token]), Fault>
     ensures { Parses result (spec.node_test (lexemes tokens.now)) }
 {
@@ -177,7 +177,7 @@ fn node_test(alloc: Global, tokens: &[Token]) -> Result<(NodeTest, &[Token]), Fa
 }
 
 /// The name of an axis, `::` and a test.
-#[tactic(auto, unfolding(xq_grammar::specs::private::Reading::along_axis))]
+#[tactic(auto, unfolding(crate::specs::private::Reading::along_axis))]
 fn along_axis(alloc: Global, tokens: &[Token]) -> Result<(AxisStep, &[Token]), Fault>
     ensures { Parses result (spec.along_axis (lexemes tokens.now)) }
 {
@@ -188,7 +188,7 @@ fn along_axis(alloc: Global, tokens: &[Token]) -> Result<(AxisStep, &[Token]), F
 }
 
 /// `@` and a test.
-#[tactic(auto, unfolding(xq_grammar::specs::private::Reading::along_attributes))]
+#[tactic(auto, unfolding(crate::specs::private::Reading::along_attributes))]
 fn along_attributes(alloc: Global, tokens: &[Token]) -> Result<(AxisStep, &[Token]), Fault>
     ensures { Parses result (spec.along_attributes (lexemes tokens.now)) }
 {
@@ -198,7 +198,7 @@ fn along_attributes(alloc: Global, tokens: &[Token]) -> Result<(AxisStep, &[Toke
 }
 
 /// `..`
-#[tactic(auto, unfolding(xq_grammar::specs::private::Reading::one_of, xq_grammar::specs::Look::lookup, xq_grammar::specs::Look::same, xq_grammar::specs::Look::same_symbol))]
+#[tactic(auto, unfolding(crate::specs::private::Reading::one_of, crate::specs::Look::lookup, crate::specs::Look::same, crate::specs::Look::same_symbol))]
 fn parent(tokens: &[Token]) -> Result<(AxisStep, &[Token]), Fault>
     ensures { Parses result
         (spec.one_of ((symbol_lex s.DoubleDot, along.Parent) ∷ []) (lexemes tokens.now)) }
@@ -216,7 +216,7 @@ fn parent(tokens: &[Token]) -> Result<(AxisStep, &[Token]), Fault>
 }
 
 /// An axis step without its predicates.
-#[tactic(auto, unfolding(xq_grammar::specs::private::Reading::axis_step))]
+#[tactic(auto, unfolding(crate::specs::private::Reading::axis_step))]
 pub(crate) fn axis_step(alloc: Global, tokens: &[Token]) -> Result<(AxisStep, &[Token]), Fault>
     ensures { Parses result (spec.axis_step (lexemes tokens.now)) }
 {

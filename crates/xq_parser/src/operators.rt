@@ -1,10 +1,10 @@
 //! Operators, from signs to disjunctions (XQuery 3.1, sections 3.4 to 3.8).
 ghost use Rattle.xq_lexer.specs.Lexeme.{lexemes, symbol as symbol_lex};
 ghost use Rattle.xq_lexer.specs.declared.tokens.Symbol.TheVariants as s;
-ghost use Rattle.xq_grammar.specs.Look as look;
-ghost use Rattle.xq_grammar.specs.Grammar as g;
-ghost use Rattle.xq_grammar.specs.private.Reading as spec;
-ghost use Rattle.xq_grammar.specs.private.Parses.{Nests, Parses};
+ghost use Rattle.xq_parser.specs.Look as look;
+ghost use Rattle.xq_parser.specs.Grammar as g;
+ghost use Rattle.xq_parser.specs.private.Reading as spec;
+ghost use Rattle.xq_parser.specs.private.Parses.{Nests, Parses};
 
 use crate::lists::{Repeated, many};
 use crate::lookahead::{begins_union, expect_symbol, expect_word, is_symbol, is_word};
@@ -24,7 +24,7 @@ impl<'a, F: Fn(Global, usize, &'a [Token]) -> Result<(Boxed<Expr>, &'a [Token]),
     F,
 > {
     /// An operand with its signs.
-    #[tactic(auto, unfolding(xq_grammar::specs::private::Reading::unary))]
+    #[tactic(auto, unfolding(crate::specs::private::Reading::unary))]
     fn unary(&self, tokens: &'a [Token]) -> Result<(Boxed<Expr>, &'a [Token]), Fault>
         requires { Nests self.now.depth (F.pre self.now.single) (F.post self.now.single) }
         ensures { Parses result (spec.unary (spec.single self.now.depth) (lexemes tokens.now)) }
@@ -35,7 +35,7 @@ impl<'a, F: Fn(Global, usize, &'a [Token]) -> Result<(Boxed<Expr>, &'a [Token]),
     }
 
     /// Intersections and differences.
-    #[tactic(auto, unfolding(xq_grammar::specs::private::Reading::inter))]
+    #[tactic(auto, unfolding(crate::specs::private::Reading::inter))]
     fn intersection(&self, tokens: &'a [Token]) -> Result<(Boxed<Expr>, &'a [Token]), Fault>
         requires { Nests self.now.depth (F.pre self.now.single) (F.post self.now.single) }
         ensures { Parses result (spec.inter (spec.single self.now.depth) (lexemes tokens.now)) }
@@ -46,7 +46,7 @@ impl<'a, F: Fn(Global, usize, &'a [Token]) -> Result<(Boxed<Expr>, &'a [Token]),
     }
 
     /// Unions.
-    #[tactic(auto, unfolding(xq_grammar::specs::private::Reading::union))]
+    #[tactic(auto, unfolding(crate::specs::private::Reading::union))]
     fn unions(&self, tokens: &'a [Token]) -> Result<(Boxed<Expr>, &'a [Token]), Fault>
         requires { Nests self.now.depth (F.pre self.now.single) (F.post self.now.single) }
         ensures { Parses result (spec.union (spec.single self.now.depth) (lexemes tokens.now)) }
@@ -57,7 +57,7 @@ impl<'a, F: Fn(Global, usize, &'a [Token]) -> Result<(Boxed<Expr>, &'a [Token]),
     }
 
     /// Products.
-    #[tactic(auto, unfolding(xq_grammar::specs::private::Reading::product))]
+    #[tactic(auto, unfolding(crate::specs::private::Reading::product))]
     fn product(&self, tokens: &'a [Token]) -> Result<(Boxed<Expr>, &'a [Token]), Fault>
         requires { Nests self.now.depth (F.pre self.now.single) (F.post self.now.single) }
         ensures { Parses result (spec.product (spec.single self.now.depth) (lexemes tokens.now)) }
@@ -68,7 +68,7 @@ impl<'a, F: Fn(Global, usize, &'a [Token]) -> Result<(Boxed<Expr>, &'a [Token]),
     }
 
     /// Sums.
-    #[tactic(auto, unfolding(xq_grammar::specs::private::Reading::sum))]
+    #[tactic(auto, unfolding(crate::specs::private::Reading::sum))]
     fn sum(&self, tokens: &'a [Token]) -> Result<(Boxed<Expr>, &'a [Token]), Fault>
         requires { Nests self.now.depth (F.pre self.now.single) (F.post self.now.single) }
         ensures { Parses result (spec.sum (spec.single self.now.depth) (lexemes tokens.now)) }
@@ -78,7 +78,7 @@ impl<'a, F: Fn(Global, usize, &'a [Token]) -> Result<(Boxed<Expr>, &'a [Token]),
         Ok((sum(self.alloc, first, more)?, rest))
     }
 
-    #[tactic(auto, unfolding(xq_grammar::specs::private::Reading::range_item))]
+    #[tactic(auto, unfolding(crate::specs::private::Reading::range_item))]
     fn range_item(&self, tokens: &'a [Token]) -> Result<(Boxed<Expr>, &'a [Token]), Fault>
         requires { Nests self.now.depth (F.pre self.now.single) (F.post self.now.single) }
         ensures { Parses result
@@ -103,7 +103,7 @@ impl<'a, F: Fn(Global, usize, &'a [Token]) -> Result<(Boxed<Expr>, &'a [Token]),
     }
 
     /// Ranges.
-    #[tactic(auto, unfolding(xq_grammar::specs::private::Reading::range))]
+    #[tactic(auto, unfolding(crate::specs::private::Reading::range))]
     fn range(&self, tokens: &'a [Token]) -> Result<(Boxed<Expr>, &'a [Token]), Fault>
         requires { Nests self.now.depth (F.pre self.now.single) (F.post self.now.single) }
         ensures { Parses result (spec.range (spec.single self.now.depth) (lexemes tokens.now)) }
@@ -114,7 +114,7 @@ impl<'a, F: Fn(Global, usize, &'a [Token]) -> Result<(Boxed<Expr>, &'a [Token]),
     }
 
     /// Concatenations.
-    #[tactic(auto, unfolding(xq_grammar::specs::private::Reading::concat))]
+    #[tactic(auto, unfolding(crate::specs::private::Reading::concat))]
     fn concat(&self, tokens: &'a [Token]) -> Result<(Boxed<Expr>, &'a [Token]), Fault>
         requires { Nests self.now.depth (F.pre self.now.single) (F.post self.now.single) }
         ensures { Parses result (spec.concat (spec.single self.now.depth) (lexemes tokens.now)) }
@@ -124,7 +124,7 @@ impl<'a, F: Fn(Global, usize, &'a [Token]) -> Result<(Boxed<Expr>, &'a [Token]),
         Ok((concatenation(self.alloc, first, more)?, rest))
     }
 
-    #[tactic(auto, unfolding(xq_grammar::specs::private::Reading::comparison_item))]
+    #[tactic(auto, unfolding(crate::specs::private::Reading::comparison_item))]
     fn comparison_item(
         &self,
         tokens: &'a [Token],
@@ -156,7 +156,7 @@ impl<'a, F: Fn(Global, usize, &'a [Token]) -> Result<(Boxed<Expr>, &'a [Token]),
     }
 
     /// Comparisons.
-    #[tactic(auto, unfolding(xq_grammar::specs::private::Reading::comparison))]
+    #[tactic(auto, unfolding(crate::specs::private::Reading::comparison))]
     fn comparison(&self, tokens: &'a [Token]) -> Result<(Boxed<Expr>, &'a [Token]), Fault>
         requires { Nests self.now.depth (F.pre self.now.single) (F.post self.now.single) }
         ensures { Parses result
@@ -168,7 +168,7 @@ impl<'a, F: Fn(Global, usize, &'a [Token]) -> Result<(Boxed<Expr>, &'a [Token]),
     }
 
     /// Conjunctions.
-    #[tactic(auto, unfolding(xq_grammar::specs::private::Reading::conjunction))]
+    #[tactic(auto, unfolding(crate::specs::private::Reading::conjunction))]
     fn conjunction(&self, tokens: &'a [Token]) -> Result<(Boxed<Expr>, &'a [Token]), Fault>
         requires { Nests self.now.depth (F.pre self.now.single) (F.post self.now.single) }
         ensures { Parses result
@@ -180,7 +180,7 @@ impl<'a, F: Fn(Global, usize, &'a [Token]) -> Result<(Boxed<Expr>, &'a [Token]),
     }
 
     /// Disjunctions.
-    #[tactic(auto, unfolding(xq_grammar::specs::private::Reading::disjunction))]
+    #[tactic(auto, unfolding(crate::specs::private::Reading::disjunction))]
     pub(crate) fn disjunction(
         &self,
         tokens: &'a [Token],
@@ -238,7 +238,7 @@ impl<
         begins::<SetOperator>(tokens)
     }
 
-    #[tactic(auto, unfolding(xq_grammar::specs::private::Reading::set_item))]
+    #[tactic(auto, unfolding(crate::specs::private::Reading::set_item))]
     fn next(&self, tokens: &'a [Token]) -> Result<((SetOperator, Expr), &'a [Token]), Fault> {
         let (operator, rest) = one_of::<SetOperator>(tokens)?;
         let (operand, rest) = self.0.unary(rest)?;
@@ -267,7 +267,7 @@ impl<
         begins_union(tokens)
     }
 
-    #[tactic(auto, unfolding(xq_grammar::specs::private::Reading::union_item))]
+    #[tactic(auto, unfolding(crate::specs::private::Reading::union_item))]
     fn next(&self, tokens: &'a [Token]) -> Result<(Expr, &'a [Token]), Fault> {
         if is_word("union", tokens) {
             let rest = expect_word("union", tokens)?;
@@ -302,7 +302,7 @@ impl<
         begins::<ProductOperator>(tokens)
     }
 
-    #[tactic(auto, unfolding(xq_grammar::specs::private::Reading::product_item))]
+    #[tactic(auto, unfolding(crate::specs::private::Reading::product_item))]
     fn next(&self, tokens: &'a [Token]) -> Result<((ProductOperator, Expr), &'a [Token]), Fault> {
         let (operator, rest) = one_of::<ProductOperator>(tokens)?;
         let (operand, rest) = self.0.unions(rest)?;
@@ -331,7 +331,7 @@ impl<
         begins::<Sign>(tokens)
     }
 
-    #[tactic(auto, unfolding(xq_grammar::specs::private::Reading::sum_item))]
+    #[tactic(auto, unfolding(crate::specs::private::Reading::sum_item))]
     fn next(&self, tokens: &'a [Token]) -> Result<((Sign, Expr), &'a [Token]), Fault> {
         let (operator, rest) = one_of::<Sign>(tokens)?;
         let (operand, rest) = self.0.product(rest)?;
@@ -360,7 +360,7 @@ impl<
         is_symbol(Symbol::DoubleBar, tokens)
     }
 
-    #[tactic(auto, unfolding(xq_grammar::specs::private::Reading::concat_item))]
+    #[tactic(auto, unfolding(crate::specs::private::Reading::concat_item))]
     fn next(&self, tokens: &'a [Token]) -> Result<(Expr, &'a [Token]), Fault> {
         let rest = expect_symbol(Symbol::DoubleBar, tokens)?;
         let (operand, rest) = self.0.range(rest)?;
@@ -389,7 +389,7 @@ impl<
         is_word("and", tokens)
     }
 
-    #[tactic(auto, unfolding(xq_grammar::specs::private::Reading::and_item))]
+    #[tactic(auto, unfolding(crate::specs::private::Reading::and_item))]
     fn next(&self, tokens: &'a [Token]) -> Result<(Expr, &'a [Token]), Fault> {
         let rest = expect_word("and", tokens)?;
         let (operand, rest) = self.0.comparison(rest)?;
@@ -418,7 +418,7 @@ impl<
         is_word("or", tokens)
     }
 
-    #[tactic(auto, unfolding(xq_grammar::specs::private::Reading::or_item))]
+    #[tactic(auto, unfolding(crate::specs::private::Reading::or_item))]
     fn next(&self, tokens: &'a [Token]) -> Result<(Expr, &'a [Token]), Fault> {
         let rest = expect_word("or", tokens)?;
         let (operand, rest) = self.0.conjunction(rest)?;

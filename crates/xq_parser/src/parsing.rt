@@ -3,10 +3,10 @@ ghost use Rattle.std.specs.Prelude.{◌≡◌, ◌≤◌, IfOk};
 ghost use Rattle.xq_lexer.specs.Lexeme.{lexemes};
 ghost use Rattle.xq_lexer.specs.Nesting.{deepest_nesting, nesting as nesting_of};
 ghost use Rattle.xq_expressions.specs.declared.expressions.Expr.{Expr as Expr_};
-ghost use Rattle.xq_grammar.specs.Grammar.{Derives};
-ghost use Rattle.xq_grammar.specs.private.Reading as spec;
-ghost use Rattle.xq_grammar.specs.private.Parses.{ParsesAs, Nests, Parses};
-ghost use Rattle.xq_grammar.specs.Answers.{RefusesTokens};
+ghost use Rattle.xq_parser.specs.Grammar.{Derives};
+ghost use Rattle.xq_parser.specs.private.Reading as spec;
+ghost use Rattle.xq_parser.specs.private.Parses.{ParsesAs, Nests, Parses};
+ghost use Rattle.xq_parser.specs.Answers.{RefusesTokens};
 
 use crate::lookahead::{begins_flwor, begins_if, begins_quantified};
 use crate::primaries::Grammar;
@@ -20,7 +20,7 @@ use xq_lexer::{MAX_NESTING, Token, nesting};
 const MAX_DEPTH: usize = MAX_NESTING as usize + 1;
 
 /// A single expression, over what reads singles that nest deeper.
-#[tactic(auto, unfolding(xq_grammar::specs::private::Reading::any))]
+#[tactic(auto, unfolding(crate::specs::private::Reading::any))]
 fn any<'a, F: Fn(Global, usize, &'a [Token]) -> Result<(Boxed<Expr>, &'a [Token]), Fault> + Copy>(
     grammar: Grammar<F>,
     tokens: &'a [Token],
@@ -59,7 +59,7 @@ fn single<'a>(
 }
 
 /// A whole expression that the tokens end with.
-#[tactic(auto, unfolding(xq_grammar::specs::private::Reading::query))]
+#[tactic(auto, unfolding(crate::specs::private::Reading::query))]
 fn query(alloc: Global, tokens: &[Token]) -> Result<Expr, Fault>
     ensures { ParsesAs (λ x. x) result (spec.query 129 (lexemes tokens.now)) }
 {

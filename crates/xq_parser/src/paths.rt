@@ -3,9 +3,9 @@ ghost use Rattle.std.specs.Prelude.{[], ◌∷◌};
 ghost use Rattle.xq_lexer.specs.Lexeme.{lexemes, symbol as symbol_lex};
 ghost use Rattle.xq_lexer.specs.declared.tokens.Symbol.TheVariants as s;
 ghost use Rattle.xq_expressions.specs.declared.expressions.Expr.TheVariants as e;
-ghost use Rattle.xq_grammar.specs.Grammar as g;
-ghost use Rattle.xq_grammar.specs.private.Reading as spec;
-ghost use Rattle.xq_grammar.specs.private.Parses.{Nests, Parses};
+ghost use Rattle.xq_parser.specs.Grammar as g;
+ghost use Rattle.xq_parser.specs.private.Reading as spec;
+ghost use Rattle.xq_parser.specs.private.Parses.{Nests, Parses};
 
 use crate::lists::{Repeated, many};
 use crate::lookahead::{begins_lone, begins_primary, expect_symbol, is_symbol};
@@ -22,7 +22,7 @@ use xq_lexer::{Lexeme, Symbol, Token};
 impl<'a, F: Fn(Global, usize, &'a [Token]) -> Result<(Boxed<Expr>, &'a [Token]), Fault>> Grammar<
     F,
 > {
-    #[tactic(auto, unfolding(xq_grammar::specs::private::Reading::predicates))]
+    #[tactic(auto, unfolding(crate::specs::private::Reading::predicates))]
     fn predicates(&self, tokens: &'a [Token]) -> Result<(Items<Expr>, &'a [Token]), Fault>
         requires { Nests self.now.depth (F.pre self.now.single) (F.post self.now.single) }
         ensures { Parses result
@@ -31,7 +31,7 @@ impl<'a, F: Fn(Global, usize, &'a [Token]) -> Result<(Boxed<Expr>, &'a [Token]),
         many(self.alloc, &Predicate(self), tokens)
     }
 
-    #[tactic(auto, unfolding(xq_grammar::specs::private::Reading::primary_step))]
+    #[tactic(auto, unfolding(crate::specs::private::Reading::primary_step))]
     fn primary_step(&self, tokens: &'a [Token]) -> Result<(Step, &'a [Token]), Fault>
         requires { Nests self.now.depth (F.pre self.now.single) (F.post self.now.single) }
         ensures { Parses result
@@ -42,7 +42,7 @@ impl<'a, F: Fn(Global, usize, &'a [Token]) -> Result<(Boxed<Expr>, &'a [Token]),
         Ok((Step::Primary(value, predicates), rest))
     }
 
-    #[tactic(auto, unfolding(xq_grammar::specs::private::Reading::predicated))]
+    #[tactic(auto, unfolding(crate::specs::private::Reading::predicated))]
     fn predicated(&self, tokens: &'a [Token]) -> Result<(Step, &'a [Token]), Fault>
         requires { Nests self.now.depth (F.pre self.now.single) (F.post self.now.single) }
         ensures { Parses result
@@ -54,7 +54,7 @@ impl<'a, F: Fn(Global, usize, &'a [Token]) -> Result<(Boxed<Expr>, &'a [Token]),
     }
 
     /// A step of a path.
-    #[tactic(auto, unfolding(xq_grammar::specs::private::Reading::step))]
+    #[tactic(auto, unfolding(crate::specs::private::Reading::step))]
     fn step(&self, tokens: &'a [Token]) -> Result<(Step, &'a [Token]), Fault>
         requires { Nests self.now.depth (F.pre self.now.single) (F.post self.now.single) }
         ensures { Parses result (spec.step (spec.single self.now.depth) (lexemes tokens.now)) }
@@ -66,7 +66,7 @@ impl<'a, F: Fn(Global, usize, &'a [Token]) -> Result<(Boxed<Expr>, &'a [Token]),
         }
     }
 
-    #[tactic(auto, unfolding(xq_grammar::specs::private::Reading::relative))]
+    #[tactic(auto, unfolding(crate::specs::private::Reading::relative))]
     fn steps(
         &self,
         tokens: &'a [Token],
@@ -79,7 +79,7 @@ impl<'a, F: Fn(Global, usize, &'a [Token]) -> Result<(Boxed<Expr>, &'a [Token]),
         Ok(((first, more), rest))
     }
 
-    #[tactic(auto, unfolding(xq_grammar::specs::private::Reading::from_root))]
+    #[tactic(auto, unfolding(crate::specs::private::Reading::from_root))]
     fn from_root(&self, tokens: &'a [Token]) -> Result<(Boxed<Expr>, &'a [Token]), Fault>
         requires { Nests self.now.depth (F.pre self.now.single) (F.post self.now.single) }
         ensures { Parses result (spec.from_root (spec.single self.now.depth) (lexemes tokens.now)) }
@@ -89,7 +89,7 @@ impl<'a, F: Fn(Global, usize, &'a [Token]) -> Result<(Boxed<Expr>, &'a [Token]),
         Ok((rooted(self.alloc, PathStart::Root, first, more)?, rest))
     }
 
-    #[tactic(auto, unfolding(xq_grammar::specs::private::Reading::from_below))]
+    #[tactic(auto, unfolding(crate::specs::private::Reading::from_below))]
     fn from_below(&self, tokens: &'a [Token]) -> Result<(Boxed<Expr>, &'a [Token]), Fault>
         requires { Nests self.now.depth (F.pre self.now.single) (F.post self.now.single) }
         ensures { Parses result
@@ -104,7 +104,7 @@ impl<'a, F: Fn(Global, usize, &'a [Token]) -> Result<(Boxed<Expr>, &'a [Token]),
     }
 
     /// A `/` alone.
-    #[tactic(auto, unfolding(xq_grammar::specs::private::Reading::one_of, xq_grammar::specs::Look::lookup, xq_grammar::specs::Look::same, xq_grammar::specs::Look::same_symbol))]
+    #[tactic(auto, unfolding(crate::specs::private::Reading::one_of, crate::specs::Look::lookup, crate::specs::Look::same, crate::specs::Look::same_symbol))]
     fn lone(&self, tokens: &'a [Token]) -> Result<(Boxed<Expr>, &'a [Token]), Fault>
         ensures { Parses result
             (spec.one_of ((symbol_lex s.Slash, e.Root) ∷ []) (lexemes tokens.now)) }
@@ -132,7 +132,7 @@ impl<'a, F: Fn(Global, usize, &'a [Token]) -> Result<(Boxed<Expr>, &'a [Token]),
     }
 
     /// A path.
-    #[tactic(auto, unfolding(xq_grammar::specs::private::Reading::path))]
+    #[tactic(auto, unfolding(crate::specs::private::Reading::path))]
     pub(crate) fn path(&self, tokens: &'a [Token]) -> Result<(Boxed<Expr>, &'a [Token]), Fault>
         requires { Nests self.now.depth (F.pre self.now.single) (F.post self.now.single) }
         ensures { Parses result (spec.path (spec.single self.now.depth) (lexemes tokens.now)) }
@@ -170,7 +170,7 @@ impl<
         is_symbol(Symbol::OpenBracket, tokens)
     }
 
-    #[tactic(auto, unfolding(xq_grammar::specs::private::Reading::predicate))]
+    #[tactic(auto, unfolding(crate::specs::private::Reading::predicate))]
     fn next(&self, tokens: &'a [Token]) -> Result<(Expr, &'a [Token]), Fault> {
         let rest = expect_symbol(Symbol::OpenBracket, tokens)?;
         let (condition, rest) = self.0.whole(rest)?;
@@ -200,7 +200,7 @@ impl<
         begins::<Separator>(tokens)
     }
 
-    #[tactic(auto, unfolding(xq_grammar::specs::private::Reading::next_step))]
+    #[tactic(auto, unfolding(crate::specs::private::Reading::next_step))]
     fn next(&self, tokens: &'a [Token]) -> Result<((Separator, Step), &'a [Token]), Fault> {
         let (separator, rest) = one_of::<Separator>(tokens)?;
         let (step, rest) = self.0.step(rest)?;

@@ -1,10 +1,10 @@
 //! Whole expressions, bodies and primary expressions (XQuery 3.1, sections 3.1 and 3.9.3).
 ghost use Rattle.xq_lexer.specs.Lexeme.{lexemes, name as name_lex, symbol as symbol_lex};
 ghost use Rattle.xq_expressions.specs.declared.expressions.Expr.TheVariants as e;
-ghost use Rattle.xq_grammar.specs.Look as look;
-ghost use Rattle.xq_grammar.specs.Grammar as g;
-ghost use Rattle.xq_grammar.specs.private.Reading as spec;
-ghost use Rattle.xq_grammar.specs.private.Parses.{Nests, Parses};
+ghost use Rattle.xq_parser.specs.Look as look;
+ghost use Rattle.xq_parser.specs.Grammar as g;
+ghost use Rattle.xq_parser.specs.private.Reading as spec;
+ghost use Rattle.xq_parser.specs.private.Parses.{Nests, Parses};
 
 use crate::lists::{AfterComma, Phrase, commas, many};
 use crate::lookahead::{
@@ -40,7 +40,7 @@ impl<'a, F: Fn(Global, usize, &'a [Token]) -> Result<(Boxed<Expr>, &'a [Token]),
     }
 
     /// One single expression and more, with commas between them.
-    #[tactic(auto, unfolding(xq_grammar::specs::private::Reading::whole))]
+    #[tactic(auto, unfolding(crate::specs::private::Reading::whole))]
     pub(crate) fn whole(&self, tokens: &'a [Token]) -> Result<(Boxed<Expr>, &'a [Token]), Fault>
         requires { Nests self.now.depth (F.pre self.now.single) (F.post self.now.single) }
         ensures { Parses result (spec.whole (spec.single self.now.depth) (lexemes tokens.now)) }
@@ -51,7 +51,7 @@ impl<'a, F: Fn(Global, usize, &'a [Token]) -> Result<(Boxed<Expr>, &'a [Token]),
     }
 
     /// A single expression after the word.
-    #[tactic(auto, unfolding(xq_grammar::specs::private::Reading::governed))]
+    #[tactic(auto, unfolding(crate::specs::private::Reading::governed))]
     pub(crate) fn after_word(
         &self,
         word: &str,
@@ -66,7 +66,7 @@ impl<'a, F: Fn(Global, usize, &'a [Token]) -> Result<(Boxed<Expr>, &'a [Token]),
     }
 
     /// A single expression after the symbol.
-    #[tactic(auto, unfolding(xq_grammar::specs::private::Reading::governed))]
+    #[tactic(auto, unfolding(crate::specs::private::Reading::governed))]
     pub(crate) fn after_symbol(
         &self,
         symbol: Symbol,
@@ -81,7 +81,7 @@ impl<'a, F: Fn(Global, usize, &'a [Token]) -> Result<(Boxed<Expr>, &'a [Token]),
     }
 
     /// Nothing before the closing symbol, or a whole expression.
-    #[tactic(auto, unfolding(xq_grammar::specs::private::Reading::inside))]
+    #[tactic(auto, unfolding(crate::specs::private::Reading::inside))]
     fn inside(
         &self,
         close: Symbol,
@@ -99,7 +99,7 @@ impl<'a, F: Fn(Global, usize, &'a [Token]) -> Result<(Boxed<Expr>, &'a [Token]),
         }
     }
 
-    #[tactic(auto, unfolding(xq_grammar::specs::private::Reading::body))]
+    #[tactic(auto, unfolding(crate::specs::private::Reading::body))]
     fn body(&self, tokens: &'a [Token]) -> Result<(Boxed<Expr>, &'a [Token]), Fault>
         requires { Nests self.now.depth (F.pre self.now.single) (F.post self.now.single) }
         ensures { Parses result (spec.body (spec.single self.now.depth) (lexemes tokens.now)) }
@@ -110,7 +110,7 @@ impl<'a, F: Fn(Global, usize, &'a [Token]) -> Result<(Boxed<Expr>, &'a [Token]),
         Ok((content, rest))
     }
 
-    #[tactic(auto, unfolding(xq_grammar::specs::private::Reading::computed))]
+    #[tactic(auto, unfolding(crate::specs::private::Reading::computed))]
     fn computed(&self, tokens: &'a [Token]) -> Result<(ConstructorName, &'a [Token]), Fault>
         requires { Nests self.now.depth (F.pre self.now.single) (F.post self.now.single) }
         ensures { Parses result (spec.computed (spec.single self.now.depth) (lexemes tokens.now)) }
@@ -121,7 +121,7 @@ impl<'a, F: Fn(Global, usize, &'a [Token]) -> Result<(Boxed<Expr>, &'a [Token]),
         Ok((ConstructorName::Computed(name), rest))
     }
 
-    #[tactic(auto, unfolding(xq_grammar::specs::private::Reading::name_of_node))]
+    #[tactic(auto, unfolding(crate::specs::private::Reading::name_of_node))]
     fn name_of_node(&self, tokens: &'a [Token]) -> Result<(ConstructorName, &'a [Token]), Fault>
         requires { Nests self.now.depth (F.pre self.now.single) (F.post self.now.single) }
         ensures { Parses result
@@ -135,7 +135,7 @@ impl<'a, F: Fn(Global, usize, &'a [Token]) -> Result<(Boxed<Expr>, &'a [Token]),
         }
     }
 
-    #[tactic(auto, unfolding(xq_grammar::specs::private::Reading::name_of_instruction))]
+    #[tactic(auto, unfolding(crate::specs::private::Reading::name_of_instruction))]
     fn name_of_instruction(
         &self,
         tokens: &'a [Token],
@@ -158,7 +158,7 @@ impl<'a, F: Fn(Global, usize, &'a [Token]) -> Result<(Boxed<Expr>, &'a [Token]),
         }
     }
 
-    #[tactic(auto, unfolding(xq_grammar::specs::private::Reading::make_named))]
+    #[tactic(auto, unfolding(crate::specs::private::Reading::make_named))]
     fn make_named(&self, tokens: &'a [Token]) -> Result<(Boxed<Expr>, &'a [Token]), Fault>
         requires { Nests self.now.depth (F.pre self.now.single) (F.post self.now.single) }
         ensures { Parses result
@@ -202,7 +202,7 @@ impl<'a, F: Fn(Global, usize, &'a [Token]) -> Result<(Boxed<Expr>, &'a [Token]),
         Ok((named_node(self.alloc, node, name, content)?, rest))
     }
 
-    #[tactic(auto, unfolding(xq_grammar::specs::private::Reading::make_instruction))]
+    #[tactic(auto, unfolding(crate::specs::private::Reading::make_instruction))]
     fn make_instruction(&self, tokens: &'a [Token]) -> Result<(Boxed<Expr>, &'a [Token]), Fault>
         requires { Nests self.now.depth (F.pre self.now.single) (F.post self.now.single) }
         ensures { Parses result
@@ -211,7 +211,7 @@ impl<'a, F: Fn(Global, usize, &'a [Token]) -> Result<(Boxed<Expr>, &'a [Token]),
         self.instruction_after("processing-instruction", tokens)
     }
 
-    #[tactic(auto, unfolding(xq_grammar::specs::private::Reading::make_unnamed))]
+    #[tactic(auto, unfolding(crate::specs::private::Reading::make_unnamed))]
     fn make_unnamed(&self, tokens: &'a [Token]) -> Result<(Boxed<Expr>, &'a [Token]), Fault>
         requires { Nests self.now.depth (F.pre self.now.single) (F.post self.now.single) }
         ensures { Parses result
@@ -238,7 +238,7 @@ impl<'a, F: Fn(Global, usize, &'a [Token]) -> Result<(Boxed<Expr>, &'a [Token]),
     }
 
     /// A constructor.
-    #[tactic(auto, unfolding(xq_grammar::specs::private::Reading::make))]
+    #[tactic(auto, unfolding(crate::specs::private::Reading::make))]
     fn make(&self, tokens: &'a [Token]) -> Result<(Boxed<Expr>, &'a [Token]), Fault>
         requires { Nests self.now.depth (F.pre self.now.single) (F.post self.now.single) }
         ensures { Parses result (spec.make (spec.single self.now.depth) (lexemes tokens.now)) }
@@ -250,7 +250,7 @@ impl<'a, F: Fn(Global, usize, &'a [Token]) -> Result<(Boxed<Expr>, &'a [Token]),
         }
     }
 
-    #[tactic(auto, unfolding(xq_grammar::specs::private::Reading::argument_list))]
+    #[tactic(auto, unfolding(crate::specs::private::Reading::argument_list))]
     fn argument_list(&self, tokens: &'a [Token]) -> Result<(Items<Expr>, &'a [Token]), Fault>
         requires { Nests self.now.depth (F.pre self.now.single) (F.post self.now.single) }
         ensures { Parses result
@@ -263,7 +263,7 @@ impl<'a, F: Fn(Global, usize, &'a [Token]) -> Result<(Boxed<Expr>, &'a [Token]),
         }
     }
 
-    #[tactic(auto, unfolding(xq_grammar::specs::private::Reading::arguments))]
+    #[tactic(auto, unfolding(crate::specs::private::Reading::arguments))]
     fn arguments(&self, tokens: &'a [Token]) -> Result<(Items<Expr>, &'a [Token]), Fault>
         requires { Nests self.now.depth (F.pre self.now.single) (F.post self.now.single) }
         ensures { Parses result (spec.arguments (spec.single self.now.depth) (lexemes tokens.now)) }
@@ -275,7 +275,7 @@ impl<'a, F: Fn(Global, usize, &'a [Token]) -> Result<(Boxed<Expr>, &'a [Token]),
     }
 
     /// A call of a function.
-    #[tactic(auto, unfolding(xq_grammar::specs::private::Reading::call))]
+    #[tactic(auto, unfolding(crate::specs::private::Reading::call))]
     fn call(&self, tokens: &'a [Token]) -> Result<(Boxed<Expr>, &'a [Token]), Fault>
         requires { Nests self.now.depth (F.pre self.now.single) (F.post self.now.single) }
         ensures { Parses result (spec.call (spec.single self.now.depth) (lexemes tokens.now)) }
@@ -286,7 +286,7 @@ impl<'a, F: Fn(Global, usize, &'a [Token]) -> Result<(Boxed<Expr>, &'a [Token]),
         Ok((Boxed::new(self.alloc, call)?, rest))
     }
 
-    #[tactic(auto, unfolding(xq_grammar::specs::private::Reading::parenthesised))]
+    #[tactic(auto, unfolding(crate::specs::private::Reading::parenthesised))]
     fn parenthesised(&self, tokens: &'a [Token]) -> Result<(Boxed<Expr>, &'a [Token]), Fault>
         requires { Nests self.now.depth (F.pre self.now.single) (F.post self.now.single) }
         ensures { Parses result
@@ -298,7 +298,7 @@ impl<'a, F: Fn(Global, usize, &'a [Token]) -> Result<(Boxed<Expr>, &'a [Token]),
         Ok((value, rest))
     }
 
-    #[tactic(auto, unfolding(xq_grammar::specs::private::Reading::call_or_make))]
+    #[tactic(auto, unfolding(crate::specs::private::Reading::call_or_make))]
     fn call_or_make(&self, tokens: &'a [Token]) -> Result<(Boxed<Expr>, &'a [Token]), Fault>
         requires { Nests self.now.depth (F.pre self.now.single) (F.post self.now.single) }
         ensures { Parses result
@@ -312,7 +312,7 @@ impl<'a, F: Fn(Global, usize, &'a [Token]) -> Result<(Boxed<Expr>, &'a [Token]),
     }
 
     /// A primary expression.
-    #[tactic(auto, unfolding(xq_grammar::specs::private::Reading::primary, xq_grammar::specs::private::Reading::begins, xq_grammar::specs::private::Reading::one_of, xq_grammar::specs::Look::lookup, xq_grammar::specs::Look::same, xq_grammar::specs::Look::same_symbol))]
+    #[tactic(auto, unfolding(crate::specs::private::Reading::primary, crate::specs::private::Reading::begins, crate::specs::private::Reading::one_of, crate::specs::Look::lookup, crate::specs::Look::same, crate::specs::Look::same_symbol))]
     pub(crate) fn primary(&self, tokens: &'a [Token]) -> Result<(Boxed<Expr>, &'a [Token]), Fault>
         requires { Nests self.now.depth (F.pre self.now.single) (F.post self.now.single) }
         ensures { Parses result (spec.primary (spec.single self.now.depth) (lexemes tokens.now)) }

@@ -1,8 +1,8 @@
 //! What phrases stand for.
 ghost use Rattle.std.specs.Prelude.{Some};
 ghost use Rattle.xq_expressions.specs.declared.expressions.Expr.TheVariants as e;
-ghost use Rattle.xq_grammar.specs.Grammar as g;
-ghost use Rattle.xq_grammar.specs.private.Parses.{ParsesAs};
+ghost use Rattle.xq_parser.specs.Grammar as g;
+ghost use Rattle.xq_parser.specs.private.Parses.{ParsesAs};
 
 use crate::lists::listed;
 use sqlite_items::{Boxed, Items};

@@ -1,12 +1,12 @@
 //! Words and symbols, and what they stand for.
-#![tactic(auto, unfolding(xq_grammar::specs::Look::lookup, xq_grammar::specs::Look::same, xq_grammar::specs::Look::same_symbol))]
+#![tactic(auto, unfolding(crate::specs::Look::lookup, crate::specs::Look::same, crate::specs::Look::same_symbol))]
 
 ghost use Rattle.std.specs.Prelude.{◌≡◌};
 ghost use Rattle.xq_lexer.specs.Lexeme.{lexemes, lex_of, name as name_lex};
-ghost use Rattle.xq_grammar.specs.Look as look;
-ghost use Rattle.xq_grammar.specs.Grammar as g;
-ghost use Rattle.xq_grammar.specs.private.Reading as spec;
-ghost use Rattle.xq_grammar.specs.private.Parses.{Parses};
+ghost use Rattle.xq_parser.specs.Look as look;
+ghost use Rattle.xq_parser.specs.Grammar as g;
+ghost use Rattle.xq_parser.specs.private.Reading as spec;
+ghost use Rattle.xq_parser.specs.private.Parses.{Parses};
 
 use xq_atoms::{Code, Fault};
 use xq_expressions::{
@@ -25,7 +25,7 @@ pub(crate) trait Listed: Sized {
 }
 
 /// What the next token stands for, and the tokens after it.
-#[tactic(auto, unfolding(xq_grammar::specs::private::Reading::one_of))]
+#[tactic(auto, unfolding(crate::specs::private::Reading::one_of))]
 pub(crate) fn one_of<T: Listed>(tokens: &[Token]) -> Result<(T, &[Token]), Fault>
     ensures { Parses result (spec.one_of T.table (lexemes tokens.now)) }
 {
@@ -39,7 +39,7 @@ pub(crate) fn one_of<T: Listed>(tokens: &[Token]) -> Result<(T, &[Token]), Fault
 }
 
 /// Whether the next token stands for something.
-#[tactic(auto, unfolding(xq_grammar::specs::private::Reading::begins))]
+#[tactic(auto, unfolding(crate::specs::private::Reading::begins))]
 pub(crate) fn begins<T: Listed + Drop>(tokens: &[Token]) -> bool
     ensures { result ≡ spec.begins T.table (lexemes tokens.now) }
 {
@@ -379,7 +379,7 @@ fn clause_word(word: &str) -> bool
 }
 
 /// Whether the next token begins a clause.
-#[tactic(auto, unfolding(xq_grammar::specs::private::Reading::begins, xq_grammar::specs::Look::lookup, xq_grammar::specs::Look::same))]
+#[tactic(auto, unfolding(crate::specs::private::Reading::begins, crate::specs::Look::lookup, crate::specs::Look::same))]
 pub(crate) fn begins_clause(tokens: &[Token]) -> bool
     ensures { result ≡ spec.begins spec.clause_words (lexemes tokens.now) }
 {

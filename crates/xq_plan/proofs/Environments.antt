@@ -6,11 +6,11 @@ use Rattle.std.specs.List.{zip}
 use Rattle.std.proofs.lemmas.List.{length-append}
 use Rattle.xq_atoms.specs.Text.{Text}
 use Rattle.xq_regions.specs.Tuples.{value_at}
-use Rattle.xq_values.specs.Items.{Item}
+use Rattle.xq_meaning.specs.Items.{Item}
 use Rattle.xq_meaning.specs.Meaning.{Environment, bind, bind_all, no_variable}
 use Rattle.xq_meaning.specs.PlanMeaning.{Slots}
 use Rattle.xq_meaning.specs.Same.{environment}
-use Rattle.xq_scopes.specs.Scopes.{last_place}
+use Rattle.xq_expressions.specs.Scopes.{last_place}
 
 abbrev Late : ℕ → Option ℕ → Type 0
 Late start None = Unit {0}

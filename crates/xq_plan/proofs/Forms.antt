@@ -8,9 +8,9 @@ use Rattle.xq_expressions.specs.declared.operators.Quantifier.{Quantifier}
 use Rattle.xq_expressions.specs.declared.operators.NamedNode.{NamedNode}
 use Rattle.xq_expressions.specs.declared.operators.UnnamedNode.{UnnamedNode}
 use Rattle.xq_regions.specs.declared.Axis.{Axis}
-use Rattle.xq_signatures.specs.declared.Function.{Function}
-use Rattle.xq_values.specs.declared.node_tests.Test.{Test}
-use Rattle.xq_values.specs.declared.operators.Operator.{Operator}
+use Rattle.xq_expressions.specs.declared.signatures.Function.{Function}
+use Rattle.xq_meaning.specs.declared.node_tests.Test.{Test}
+use Rattle.xq_meaning.specs.declared.operators.Operator.{Operator}
 use Rattle.xq_meaning.specs.declared.normal_forms.Core.{Core}
 use Rattle.xq_meaning.specs.declared.normal_forms.Core.TheVariants as core
 use Rattle.xq_meaning.specs.declared.plans.Plan.{Plan}
@@ -25,7 +25,7 @@ use Rattle.xq_meaning.specs.Same.{IsPlan, frame_of, environment}
 use Rattle.xq_meaning.proofs.CoreEquations as core_eq
 use Rattle.xq_meaning.proofs.PlanEquations as plan_eq
 use Rattle.xq_meaning.proofs.SameForms.{AreRelated, then_same, in_turn_same, Same, AllSame, SameOperand, SameBindings, call_same, sequence_same, chain_same, unary_same, or_same, and_same, conditional_same, filter_same, slash_same, step_same, named_node_same, unnamed_node_same, quantified_same}
-use Rattle.xq_scopes.specs.Scopes.{last_place}
+use Rattle.xq_expressions.specs.Scopes.{last_place}
 use Rattle.xq_plan.specs.private.Plans.{AreAll, IsOperand, IsStep, IsScanOrPart, AreRanges}
 use Rattle.xq_plan.proofs.Environments.{slot_is, no_slot_is, open_more, as_long}
 use Rattle.xq_plan.proofs.Scans.{slash_scan}

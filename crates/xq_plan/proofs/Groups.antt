@@ -8,9 +8,9 @@ use Rattle.std.proofs.lemmas.List.{take-append-drop, length-take-le, take_all}
 use Rattle.xq_atoms.specs.Text.{Text}
 use Rattle.xq_atoms.specs.Judged.{Judged, ◌>>=◌}
 use Rattle.xq_atoms.specs.declared.refusals.Code.TheVariants.{XQST0094}
-use Rattle.xq_values.specs.Arguments.{each}
+use Rattle.xq_meaning.specs.Arguments.{each}
 use Rattle.xq_meaning.specs.Meaning.{slot_from, slot_or_fault, slot_of}
-use Rattle.xq_scopes.specs.Scopes.{last_place, from_place}
+use Rattle.xq_expressions.specs.Scopes.{last_place, from_place}
 use Rattle.std.proofs.lemmas.Bool.Decides.{same_from_decides}
 use Rattle.std.proofs.lemmas.Slice.Eq.{bytes_eq-Decides}
 

@@ -18,7 +18,7 @@ use Rattle.xq_atoms.specs.Compare.{Key, Nothing, Number, Characters, Truth, key_
 use Rattle.xq_regions.specs.Tree.{Tree}
 use Rattle.xq_regions.specs.Tuples.{Tuple, Keyed, OrderRule, expanded, with_each, item_values, bound, satisfying, grouped, grouped_tuple, grouped_value, slot_key, same_keys, comparison_keys, groups, firsts, are_keys, key_rows, key_value, ordered, can_order, keys_cmp, sort_keys, sorted, inserted}
 use Rattle.xq_atoms.specs.Atom.{Atomic}
-use Rattle.xq_values.specs.Items.{Item, Atom}
+use Rattle.xq_meaning.specs.Items.{Item, Atom}
 use Rattle.xq_meaning.specs.Doing.{Doing, Outcome, go_on, give, judged, for_each}
 use Rattle.xq_meaning.specs.Forms
 use Rattle.xq_plan.specs.private.Plans.{AreWide, GivesWide}

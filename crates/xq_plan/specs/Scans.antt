@@ -2,8 +2,8 @@
 use Rattle.std.specs.Prelude.{◌≡◌, List, [], ◌∷◌, map}
 use Rattle.xq_atoms.specs.Text.{Text}
 use Rattle.xq_regions.specs.declared.Axis.{Axis}
-use Rattle.xq_signatures.specs.declared.Function.TheVariants.{Doc}
-use Rattle.xq_values.specs.declared.node_tests.Test.{Test}
+use Rattle.xq_expressions.specs.declared.signatures.Function.TheVariants.{Doc}
+use Rattle.xq_meaning.specs.declared.node_tests.Test.{Test}
 use Rattle.xq_meaning.specs.declared.normal_forms.Core.{Core}
 use Rattle.xq_meaning.specs.declared.normal_forms.Core.TheVariants as core
 use Rattle.xq_meaning.specs.declared.plans.Plan.{Plan}

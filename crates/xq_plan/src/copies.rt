@@ -3,7 +3,7 @@ ghost use Rattle.std.specs.Prelude.{◌≡◌, IfOk};
 
 use std::alloc::{AllocError, Global};
 use xq_expressions::Text;
-use xq_values::Test;
+use xq_meaning::Test;
 
 /// A copy of a text.
 pub fn text(alloc: Global, text: &Text) -> Result<Text, AllocError>

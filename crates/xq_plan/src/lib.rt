@@ -11,8 +11,8 @@ mod walk;
 
 use std::alloc::Global;
 use xq_atoms::Want;
+use xq_expressions::Scope;
 use xq_meaning::{Core, Plan};
-use xq_scopes::Scope;
 
 /// The plan of a normal form: whatever the focus, the addresses and the documents are, it gives the
 /// value or the code that the normal form gives where no variable is bound, and leaves the same

@@ -11,10 +11,8 @@ use crate::copies::{test, text};
 use sqlite_items::{Boxed, Items};
 use std::alloc::{AllocError, Global};
 use xq_atoms::Code;
-use xq_expressions::{OrderModifier, Text};
-use xq_meaning::{Core, CoreClause, Plan, PlanClause, PlanStep};
-use xq_scopes::Scope;
-use xq_values::Operator;
+use xq_expressions::{OrderModifier, Scope, Text};
+use xq_meaning::{Core, CoreClause, Operator, Plan, PlanClause, PlanStep};
 
 /// The plan of a normal form.
 #[cycle(walk)]

@@ -3,12 +3,10 @@
 use sqlite_items::{Boxed, Items};
 use std::alloc::{AllocError, Global};
 use xq_atoms::Code;
-use xq_expressions::Text;
-use xq_meaning::{Core, CoreClause, Plan, PlanClause, PlanStep};
+use xq_expressions::{Function, Text};
+use xq_meaning::{Core, CoreClause, Plan, PlanClause, PlanStep, Test};
 use xq_plan::plan;
 use xq_regions::Axis;
-use xq_signatures::Function;
-use xq_values::Test;
 
 /// The call of `doc` with this address.
 fn document(alloc: Global, address: &str) -> Result<Boxed<Core>, AllocError> {

@@ -8,8 +8,8 @@ use Rattle.xq_atoms.specs.Decimal.{is_decimal}
 use Rattle.xq_atoms.specs.Judged.{only_if}
 use Rattle.xq_atoms.specs.Literal.{fraction, millionths}
 use Rattle.xq_atoms.specs.Text.{Text, text_eq, value}
-use Rattle.xq_signatures.specs.declared.Function.{Function}
-use Rattle.xq_signatures.specs.Signatures.{arity, admits, in_library, of_type}
+use Rattle.xq_expressions.specs.declared.signatures.Function.{Function}
+use Rattle.xq_expressions.specs.Signatures.{arity, admits, in_library, of_type}
 use Rattle.xq_lexer.specs.Lexeme.{Lex}
 use Rattle.xq_lexer.specs.Chars.{begins}
 use Rattle.xq_lexer.specs.Literals.{Number, integer, decimal, begins_exponent, clings, code_of, value_fault, follow_fault, number_fault, first_fault as first_of}

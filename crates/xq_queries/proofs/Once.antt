@@ -6,7 +6,7 @@ use Rattle.xq_expressions.specs.declared.expressions.Expr.{Expr}
 use Rattle.xq_lexer.specs.Lexeme.{Lex, Placed}
 use Rattle.xq_lexer.specs.Spelling.{Spells}
 use Rattle.xq_lexer.proofs.Lists.{spells_one, spells_no_fault, one_fault}
-use Rattle.xq_grammar.proofs.Top.{derives_one}
+use Rattle.xq_parser.proofs.Top.{derives_one}
 use Rattle.xq_statics.specs.Statics.{static_fault}
 use Rattle.xq_queries.specs.Texts.{characters}
 use Rattle.xq_queries.specs.Reading.{lexemes, TokensFault, TokensRead, CharactersFault, IsRead, IsRefused, Reads}

@@ -11,8 +11,8 @@ use Rattle.xq_lexer.specs.Nesting.{nesting}
 use Rattle.xq_lexer.specs.Spelling.{Spells}
 use Rattle.xq_lexer.specs.TokenFaults.{RefusesText}
 use Rattle.xq_expressions.specs.declared.expressions.Expr.{Expr}
-use Rattle.xq_grammar.specs.Answers.{IsTokenRefusal}
-use Rattle.xq_grammar.specs.Grammar.{Derives}
+use Rattle.xq_parser.specs.Answers.{IsTokenRefusal}
+use Rattle.xq_parser.specs.Grammar.{Derives}
 use Rattle.xq_statics.specs.Gives.{Judges}
 use Rattle.xq_statics.specs.Statics.{static_fault}
 use Rattle.xq_meaning.specs.declared.normal_forms.Core.{Core}

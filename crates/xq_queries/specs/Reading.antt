@@ -11,7 +11,7 @@ use Rattle.xq_lexer.specs.Nesting.{deepest_nesting, nesting}
 use Rattle.xq_lexer.specs.Spelling.{Spells}
 use Rattle.xq_lexer.specs.TokenFaults.{HasFault}
 use Rattle.xq_expressions.specs.declared.expressions.Expr.{Expr}
-use Rattle.xq_grammar.specs.Grammar.{Derives}
+use Rattle.xq_parser.specs.Grammar.{Derives}
 use Rattle.xq_statics.specs.Statics.{static_fault}
 use Rattle.xq_queries.specs.Texts.{characters}
 

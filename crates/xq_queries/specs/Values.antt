@@ -11,8 +11,8 @@ use Rattle.xq_regions.specs.Tree.{Tree}
 use Rattle.xq_regions.specs.declared.Kind.{Kind}
 use Rattle.xq_regions.specs.declared.Kind.TheVariants.{Document, Element, Attribute, Text as TextNode, Comment, ProcessingInstruction}
 use Rattle.xq_expressions.specs.declared.expressions.Expr.{Expr}
-use Rattle.xq_values.specs.Items.{Item, Node, tree_below}
-use Rattle.xq_values.specs.Print.{print_items, within_reply}
+use Rattle.xq_meaning.specs.Items.{Item, Node, tree_below}
+use Rattle.xq_meaning.specs.Print.{print_items, within_reply}
 use Rattle.xq_meaning.specs.declared.plans.Plan.{Plan}
 use Rattle.xq_meaning.specs.Doing.{Outcome}
 use Rattle.xq_meaning.specs.Meaning.{evaluated}

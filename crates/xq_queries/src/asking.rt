@@ -3,9 +3,9 @@ ghost use Rattle.std.specs.Prelude.{◌≡◌, ◌≤◌, IfOk, IfSome, length, 
 ghost use Rattle.xq_atoms.specs.Answers.{GivesUnlessWanting};
 ghost use Rattle.xq_regions.specs.Items.{item_view};
 ghost use Rattle.xq_regions.specs.declared.Kind.TheVariants.{Document};
-ghost use Rattle.xq_values.specs.Readings.{items_at, AreIn, Extends};
+ghost use Rattle.xq_meaning.specs.Readings.{items_at, AreIn, Extends};
 ghost use Rattle.xq_queries.specs.Values.{document, made_document, or_no_document, plan_value, reply_text};
-ghost use Rattle.xq_values.specs.Print.{longest_text};
+ghost use Rattle.xq_meaning.specs.Print.{longest_text};
 
 use std::alloc::Global;
 use xq_atoms::{Code, Fault, Want};
@@ -14,8 +14,7 @@ use xq_build::print_items;
 use xq_eval::eval;
 use xq_meaning::Plan;
 use xq_regions::{Fragment, Item};
-use xq_sources::{Addresses, RowLender};
-use xq_worlds::Growing;
+use xq_sources::{Addresses, Growing, RowLender};
 
 /// The text of the plan's value over the trees of `world`, of which the first are the documents at
 /// `addresses`: its items as expressions that give them. It is refused with the code of the

@@ -4,8 +4,7 @@ use std::alloc::Global;
 use std::process::Abort;
 use xq_atoms::{Fault, Want};
 use xq_queries::{ask, make, read};
-use xq_sources::{Addresses, Fragments};
-use xq_worlds::Trees;
+use xq_sources::{Addresses, Fragments, Trees};
 
 /// The query that makes the document under the address `b`.
 const LIBRARY: &str = "document {element lib {element book {attribute id {\"1\"}, text {\"A\"}}, \

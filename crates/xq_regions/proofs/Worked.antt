@@ -4,7 +4,7 @@ use Rattle.std.specs.Prelude.{codes, encode_utf8_all}
 use Rattle.std.specs.List.{IsDistinct}
 use Rattle.std.specs.Str.{chars, IsUtf8, all_scalars}
 use Rattle.std.specs.Char.{encode_utf8}
-use Rattle.xq_characters.specs.Characters.{is_char, is_name_start, is_name_char}
+use Rattle.xq_atoms.specs.Characters.{is_char, is_name_start, is_name_char}
 use Rattle.xq_regions.specs.Forest.{Forest, end, node, EachNode}
 use Rattle.xq_regions.specs.Tree.{Label, Tree, IsText, IsTree, nodes}
 use Rattle.xq_regions.specs.Node.{subtree}

@@ -2,7 +2,7 @@
 use Rattle.std.specs.Prelude.{ℕ, ◌≡◌, ◌≤◌, List, [], ◌∷◌, Bool, true, false, not, ◌&&◌, map, filter, IsTrue}
 use Rattle.std.specs.List.{IsDistinct}
 use Rattle.std.specs.Str.{bytes_eq, chars, IsUtf8}
-use Rattle.xq_characters.specs.Characters.{is_name}
+use Rattle.xq_atoms.specs.Characters.{is_name}
 use Rattle.xq_regions.specs.Names.{is_empty, are_characters, is_attribute_name, is_comment, is_target, is_instruction}
 use Rattle.xq_regions.specs.Forest.{Forest, end, node, count, EachNode, IsWithinHeight}
 use Rattle.xq_regions.specs.declared.Kind.{Kind}

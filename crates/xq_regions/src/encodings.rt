@@ -9,7 +9,7 @@ use crate::attributes::has_distinct_names;
 use crate::names::{are_characters, is_attribute_name, is_target};
 use crate::values::{is_comment, is_instruction};
 use crate::{Kind, MAX_LEVEL, MAX_NODES, NodeRow};
-use xq_characters::is_name;
+use xq_atoms::is_name;
 
 /// Whether a node of the kind `parent` may have a child or an attribute of the kind `child`.
 fn may_stand(parent: Kind, child: Kind) -> bool

@@ -2,7 +2,7 @@
 ghost use Rattle.std.specs.Prelude.{◌≡◌};
 ghost use Rattle.xq_regions.specs.Names.{are_characters as are_characters_lem, is_attribute_name as is_attribute_name_lem, is_xml as is_xml_lem, is_target as is_target_lem};
 
-use xq_characters::{is_char, is_name};
+use xq_atoms::{is_char, is_name};
 
 /// Whether all characters may stand in a document.
 pub fn are_characters(text: &str) -> bool

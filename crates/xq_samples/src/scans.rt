@@ -5,9 +5,9 @@ use crate::documents::{BOOKS, LAST, ROWS, are_at, nodes_at};
 use std::alloc::{AllocError, Global};
 use xq_atoms::Want;
 use xq_axes::step;
+use xq_meaning::Test;
 use xq_regions::{Axis, Node};
 use xq_sources::RowLender;
-use xq_values::Test;
 
 /// The nodes that a step goes from.
 #[derive(Clone, Copy)]

@@ -3,7 +3,7 @@
 use xq_command::endings::outcome;
 use xq_command::tasks::Asked;
 use xq_command::words::asked;
-use xq_service::End;
+use xq_server::End;
 
 #[test]
 fn endings(rt: HostRuntime) {

@@ -1,10 +1,10 @@
 //! Stores in files: a service, its end, and the next over the same file.
 
 use crate::rows::{LIBRARY, PUT_B};
+use crate::servers::FileServer;
 use crate::tests::is_answered;
 use std::fs;
 use std::test::Fail;
-use crate::servers::FileServer;
 
 /// The folder of the files, made anew by each test, and gone after it.
 fn make_folder(rt: &HostRuntime, folder: &str) -> Result<(), Fail> {

@@ -1,14 +1,14 @@
 //! Three hundred documents, stored, replaced, dropped and asked in a mixed order, each reply compared
 //! with a map that is kept beside.
 
+use crate::servers::MemoryServer;
 use crate::tests::is_answered;
 use sqlite::Alter;
 use std::alloc::{AllocError, Global};
 use std::process::Abort;
 use std::test::Fail;
 use xq_rows::Store;
-use crate::servers::MemoryServer;
-use xq_service::Server;
+use xq_server::Server;
 
 /// How many addresses there are, and how many steps.
 const DOCUMENTS: u32 = 300;

@@ -5,8 +5,8 @@ use sqlite::{FileFrom, FileStore, Unknown};
 use std::alloc::Global;
 use xq_atoms::Want;
 use xq_memory_disk::MemoryDisk;
-use xq_servers::{DiskStore, MemoryStore};
-use xq_service::Server;
+use xq_server::Server;
+use xq_stores::{DiskStore, MemoryStore};
 
 /// A server whose documents live in memory.
 pub struct MemoryServer {

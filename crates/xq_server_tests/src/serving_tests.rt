@@ -2,11 +2,11 @@
 
 use crate::rows::{Row, dropping_rows, first_rows, last_rows, node_rows, path_rows};
 use crate::scripts::{Sink, Source};
+use crate::servers::MemoryServer;
 use crate::tests::{frame, inputs};
 use std::process::Abort;
 use std::test::Fail;
-use crate::servers::MemoryServer;
-use xq_service::End;
+use xq_server::End;
 
 /// Serves the input in pieces, and runs it, each on its server, and compares the replies and
 /// ends.

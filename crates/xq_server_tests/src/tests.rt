@@ -8,12 +8,12 @@ use crate::rows::{
     gives, last_rows, limit_rows, node_rows, number_rows, path_rows, range_rows, refuses,
     static_rows, tuple_rows,
 };
+use crate::servers::MemoryServer;
 use sqlite::Alter;
 use std::alloc::{AllocError, Global};
 use std::process::Abort;
 use std::test::Fail;
-use crate::servers::MemoryServer;
-use xq_service::{End, Server};
+use xq_server::{End, Server};
 
 /// The frame of a request.
 pub fn frame(alloc: Global, tag: u32, kind: u8, body: &[u8]) -> Result<Vec<u8>, AllocError> {

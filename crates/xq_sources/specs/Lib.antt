@@ -5,3 +5,4 @@ pub mod Parents
 pub mod AttributeRows
 pub mod Addresses
 pub mod private
+pub mod Sums

@@ -1,20 +1,27 @@
-//! Where trees are read from: sources, which give copies of rows, and lenders, which lend them.
+//! Where trees are read from: sources, which give copies of rows, and lenders, which lend them; and
+//! trees that grow in number, those of a source and after them those that were constructed.
 #![tactic(auto)]
 
 mod addresses;
 mod attributes;
 mod fragments;
+mod growing;
 mod guides;
 mod lenders;
 mod meters;
 mod rows;
 mod sources;
+#[cfg(test)]
+mod tests;
+mod trees;
 
 pub use addresses::Addresses;
 pub use attributes::count_attributes;
 pub use fragments::Fragments;
+pub use growing::Growing;
 pub use guides::Guide;
 pub use lenders::{Buffered, RowLender};
 pub use meters::Meter;
 pub use rows::{places_enclosing, rows_between};
 pub use sources::{RowSource, TreeSource};
+pub use trees::Trees;

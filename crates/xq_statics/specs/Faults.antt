@@ -5,8 +5,8 @@ use Rattle.std.specs.Option.{option_or}
 use Rattle.xq_atoms.specs.declared.refusals.Code.{Code}
 use Rattle.xq_atoms.specs.declared.refusals.Code.TheVariants.{XPST0008, XPST0017, XQST0089, XQST0094, ProfPrefix, ProfType}
 use Rattle.xq_atoms.specs.Text.{Text, text_eq}
-use Rattle.xq_signatures.specs.declared.Function.{Function}
-use Rattle.xq_signatures.specs.Signatures.{arity, admits, in_library, of_type}
+use Rattle.xq_expressions.specs.declared.signatures.Function.{Function}
+use Rattle.xq_expressions.specs.Signatures.{arity, admits, in_library, of_type}
 use Rattle.xq_statics.specs.Places.{Place, named, position, variable, grouping, call}
 
 -- the name is one of these

@@ -9,8 +9,7 @@ mod walk;
 
 use std::alloc::Global;
 use xq_atoms::Fault;
-use xq_expressions::Expr;
-use xq_scopes::Scope;
+use xq_expressions::{Expr, Scope};
 
 /// Whether a query may be evaluated: `Ok` where no name, variable or call of it has a static
 /// fault, and else the code of the first that has one, in the order of the text (XQuery 3.1,

@@ -6,9 +6,7 @@ ghost use Rattle.std.specs.Prelude.{drop};
 ghost use Rattle.xq_statics.specs.Statics.{test_places, axis_places};
 
 use xq_atoms::{Code, Fault};
-use xq_expressions::{AxisStep, NodeTest, QName};
-use xq_scopes::Scope;
-use xq_signatures::Function;
+use xq_expressions::{AxisStep, Function, NodeTest, QName, Scope};
 
 /// A name that is bound, tested, or given to a node.
 pub fn name(name: &QName) -> Result<(), Fault>

@@ -8,10 +8,9 @@ ghost use Rattle.xq_statics.specs.private.Parts.{fault, binding_fault};
 use crate::names::{axis, call, grouping, name, position, variable};
 use xq_atoms::Fault;
 use xq_expressions::{
-    Clause, ConstructorName, Expr, GroupSpec, OrderModifier, ProductOperator, QName, Separator,
-    SetOperator, Sign, Step,
+    Clause, ConstructorName, Expr, GroupSpec, OrderModifier, ProductOperator, QName, Scope,
+    Separator, SetOperator, Sign, Step,
 };
-use xq_scopes::Scope;
 
 /// The places of an expression.
 #[cycle(walk)]

@@ -5,6 +5,7 @@ use std::process::Abort;
 use xq_atoms::Want;
 use xq_axes::{merge, step};
 use xq_expressions::Text;
+use xq_meaning::Test;
 use xq_regions::{Axis, Node};
 use xq_samples::documents::{are_at, great_library, held, library, nodes_at, register};
 use xq_samples::scans::{
@@ -12,7 +13,6 @@ use xq_samples::scans::{
 };
 use xq_samples::tables::first_wrong;
 use xq_sources::{Buffered, RowLender};
-use xq_values::Test;
 
 /// Asserts that each of the steps holds.
 fn scans<L: RowLender>(

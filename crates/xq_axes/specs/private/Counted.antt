@@ -6,8 +6,8 @@ use Rattle.xq_regions.specs.Rows.{rows}
 use Rattle.xq_regions.specs.RegionTests.{plain_row}
 use Rattle.xq_regions.specs.declared.Axis.TheVariants as axis
 use Rattle.xq_sources.specs.AttributeRows.{AreAttributeRows}
-use Rattle.xq_values.specs.declared.node_tests.Test.{Test}
-use Rattle.xq_values.specs.declared.node_tests.Test.TheVariants as test
+use Rattle.xq_meaning.specs.declared.node_tests.Test.{Test}
+use Rattle.xq_meaning.specs.declared.node_tests.Test.TheVariants as test
 use Rattle.xq_axes.specs.declared.attributes.Counted.{Counted}
 use Rattle.xq_axes.specs.private.Hits.{is_hit}
 

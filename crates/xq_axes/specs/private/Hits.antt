@@ -6,8 +6,8 @@ use Rattle.xq_regions.specs.Tree.{Tree}
 use Rattle.xq_regions.specs.Rows.{Row, row_at, rows}
 use Rattle.xq_regions.specs.private.RegionTests.{in_region}
 use Rattle.xq_regions.specs.declared.Axis.{Axis}
-use Rattle.xq_values.specs.declared.node_tests.Test.{Test}
-use Rattle.xq_values.specs.Steps.{passes}
+use Rattle.xq_meaning.specs.declared.node_tests.Test.{Test}
+use Rattle.xq_meaning.specs.Steps.{passes}
 
 -- the place p is on the axis from one of the nodes
 abbrev pub is_hit : Axis → Tree → List ℕ → ℕ → Bool

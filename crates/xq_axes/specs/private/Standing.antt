@@ -6,7 +6,7 @@ use Rattle.xq_regions.specs.Node.{HasPath}
 use Rattle.xq_regions.specs.Tree.{Tree, IsTree, is_content}
 use Rattle.xq_regions.specs.declared.items.Node.{Node}
 use Rattle.xq_sources.specs.Sources.{tree_at}
-use Rattle.xq_values.specs.Items.{Place, nodes_at}
+use Rattle.xq_meaning.specs.Items.{Place, nodes_at}
 
 -- the node is one of such a tree
 pub record Stands (trees : List Tree) (p : Place) : Type 0 where

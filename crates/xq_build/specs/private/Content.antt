@@ -11,8 +11,8 @@ use Rattle.xq_regions.specs.Tree.{Label, Tree}
 use Rattle.xq_regions.specs.declared.Kind.{Kind}
 use Rattle.indexmap.specs.IndexSet.{IndexSet}
 use denote.Ref.{Bor}
-use Rattle.xq_values.specs.Content.{is_text, text_label, copied, first_fault}
-use Rattle.xq_values.specs.Items.{Item, Node, Atom, tree_below}
+use Rattle.xq_meaning.specs.Content.{is_text, text_label, copied, first_fault}
+use Rattle.xq_meaning.specs.Items.{Item, Node, Atom, tree_below}
 use Rattle.xq_build.specs.private.Leaves.{Leaf, leaves}
 
 -- # Items as nodes: a run of atomic values that is not closed yet is known by its text

@@ -7,9 +7,9 @@ use Rattle.xq_regions.specs.Forest.{Forest}
 use Rattle.xq_regions.specs.Tree.{Label, Tree, is_attribute, most_nodes}
 use Rattle.xq_regions.specs.declared.Kind.{Kind}
 use Rattle.xq_regions.specs.declared.items.Node.{Node}
-use Rattle.xq_values.specs.Content.{is_text, copied, flattened}
-use Rattle.xq_values.specs.Items.{Item, tree_below}
-use Rattle.xq_values.specs.Readings.{node_at}
+use Rattle.xq_meaning.specs.Content.{is_text, copied, flattened}
+use Rattle.xq_meaning.specs.Items.{Item, tree_below}
+use Rattle.xq_meaning.specs.Readings.{node_at}
 use Rattle.xq_build.specs.private.Leaves.{Leaf, leaves}
 use Rattle.xq_build.specs.private.Content.{is_top_text, is_kept, are_low, fault_from, so_far, flattened_with, Childless}
 

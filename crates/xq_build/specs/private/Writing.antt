@@ -4,8 +4,8 @@ use Rattle.std.specs.Char.{encode_utf8}
 use Rattle.xq_regions.specs.Tree.{Tree}
 use Rattle.xq_regions.specs.private.Printing.{text_from}
 use Rattle.xq_build.specs.private.Leaves.{Leaf}
-use Rattle.xq_values.specs.Items.{Item}
-use Rattle.xq_values.specs.Print.{print_item}
+use Rattle.xq_meaning.specs.Items.{Item}
+use Rattle.xq_meaning.specs.Print.{print_item}
 use Rattle.xq_atoms.specs.declared.refusals.Code.TheVariants.{ProfReply}
 use Rattle.xq_atoms.specs.declared.refusals.Fault.{Fault}
 use Rattle.xq_atoms.specs.declared.refusals.Fault.TheVariants.{Code as OfCode, Want as OfWant}

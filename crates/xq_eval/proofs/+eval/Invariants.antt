@@ -4,10 +4,10 @@ use Rattle.xq_regions.specs.Items.{item_view, item_views}
 use Rattle.xq_meaning.specs.Doing.{in_turn, more, one_more, for_each, collected, first_that}
 use Rattle.xq_meaning.specs.Forms as Forms
 use Rattle.xq_meaning.specs.PlanMeaning.{Meaning, plan_mean, plan_clause_mean, plan_step_mean, at_tuple as meant_at, next_clause, next_step}
-use Rattle.xq_values.specs.Functions.{Focus as Spot}
-use Rattle.xq_values.specs.Steps.{focuses, focuses_from}
-use Rattle.xq_values.specs.Readings.{items_at, AreIn}
-use Rattle.xq_operations.specs.Views.{tuple_at, tuples_at, lists_of, order_specs, frame_at, FrameIn, TupleIn, TuplesIn, Goes}
+use Rattle.xq_meaning.specs.Functions.{Focus as Spot}
+use Rattle.xq_meaning.specs.Steps.{focuses, focuses_from}
+use Rattle.xq_meaning.specs.Readings.{items_at, AreIn}
+use Rattle.xq_forms.specs.Views.{tuple_at, tuples_at, lists_of, order_specs, frame_at, FrameIn, TupleIn, TuplesIn, Goes}
 use Rattle.xq_tuples.specs.Keys.{column_of, columns_of}
 use Rattle.xq_tuples.specs.Views.{values_of}
 use Rattle.xq_eval.specs.private.Bindings.{stack_of}

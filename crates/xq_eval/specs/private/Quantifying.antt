@@ -2,7 +2,7 @@
 -- variables have a value, and others left: a stack has both of each, the first variable's first.
 use Rattle.std.specs.Prelude.{◌≡◌, ℕ, ◌+◌, ◌*◌, List, [], ◌∷◌, map, take, drop, length, Bool, true, false, not, Option, Some, None}
 use Rattle.std.proofs.Common.{suc, zero}
-use Rattle.xq_values.specs.Items.{Item}
+use Rattle.xq_meaning.specs.Items.{Item}
 use Rattle.xq_expressions.specs.declared.operators.Quantifier.{Quantifier}
 use Rattle.xq_meaning.specs.declared.plans.Plan.{Plan}
 use Rattle.xq_meaning.specs.declared.plans.Plan.TheVariants as plan

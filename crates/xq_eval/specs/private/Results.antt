@@ -7,9 +7,9 @@ use Rattle.xq_atoms.specs.Atom.{Atomic}
 use Rattle.xq_regions.specs.declared.items.Item.{Item as Held}
 use Rattle.xq_regions.specs.Tree.{Tree}
 use Rattle.xq_tuples.specs.Keys.{column_of, columns_of}
-use Rattle.xq_values.specs.Items.{Item}
+use Rattle.xq_meaning.specs.Items.{Item}
 use Rattle.xq_meaning.specs.Doing.{Outcome}
-use Rattle.xq_operations.specs.Views.{GivesAs, lists_of, tuple_at, TupleIn}
+use Rattle.xq_forms.specs.Views.{GivesAs, lists_of, tuple_at, TupleIn}
 
 -- a sequence for each of several expressions
 abbrev pub GivesLists : Outcome (List (List Item)) → List Tree → Result (Vec (Vec Held)) Fault →

@@ -6,10 +6,10 @@ use Rattle.xq_atoms.specs.declared.refusals.Fault.{Fault}
 use Rattle.xq_regions.specs.declared.items.Item.{Item as Held}
 use Rattle.xq_regions.specs.Items.{ItemView, item_views}
 use Rattle.xq_regions.specs.Tree.{Tree}
-use Rattle.xq_values.specs.Items.{Item}
-use Rattle.xq_values.specs.Readings.{items_at, AreIn}
+use Rattle.xq_meaning.specs.Items.{Item}
+use Rattle.xq_meaning.specs.Readings.{items_at, AreIn}
 use Rattle.xq_meaning.specs.Doing.{Outcome}
-use Rattle.xq_operations.specs.Views.{GivesAs}
+use Rattle.xq_forms.specs.Views.{GivesAs}
 
 abbrev pub values_found : Option (Rc (Vec Held) Global) → Option (List ItemView)
 values_found None = None

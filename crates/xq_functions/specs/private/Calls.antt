@@ -5,15 +5,15 @@ use Rattle.xq_atoms.specs.Judged.{Judged, ◌>>=◌}
 use Rattle.xq_atoms.specs.Atom.{Atomic, Untyped}
 use Rattle.xq_atoms.specs.Arithmetic as Arithmetic
 use Rattle.xq_atoms.specs.Cast.{cast_integer, cast_decimal, cast_boolean, text_of}
-use Rattle.xq_signatures.specs.declared.Function.{Function}
-use Rattle.xq_signatures.specs.declared.Function.TheVariants as f
-use Rattle.xq_values.specs.Texts.{normalized, character_count}
-use Rattle.xq_values.specs.Items.{Item, Atom}
-use Rattle.xq_values.specs.Arguments.{atomic, whole, text, as_items, as_boolean, single, on_optional, optional_text}
-use Rattle.xq_values.specs.Functions.{distinct_values, sum, extreme, is_less, is_greater, piece, of_two, of_three, of_many}
-use Rattle.xq_values.specs.Operators.{number_operand, sum_of, product_of, one_bound, integers, related_by, by_pairs}
-use Rattle.xq_values.specs.declared.operators.Operator.{Operator}
-use Rattle.xq_values.specs.declared.operators.Operator.TheVariants as operator
+use Rattle.xq_expressions.specs.declared.signatures.Function.{Function}
+use Rattle.xq_expressions.specs.declared.signatures.Function.TheVariants as f
+use Rattle.xq_meaning.specs.Texts.{normalized, character_count}
+use Rattle.xq_meaning.specs.Items.{Item, Atom}
+use Rattle.xq_meaning.specs.Arguments.{atomic, whole, text, as_items, as_boolean, single, on_optional, optional_text}
+use Rattle.xq_meaning.specs.Functions.{distinct_values, sum, extreme, is_less, is_greater, piece, of_two, of_three, of_many}
+use Rattle.xq_meaning.specs.Operators.{number_operand, sum_of, product_of, one_bound, integers, related_by, by_pairs}
+use Rattle.xq_meaning.specs.declared.operators.Operator.{Operator}
+use Rattle.xq_meaning.specs.declared.operators.Operator.TheVariants as operator
 use Rattle.xq_expressions.specs.declared.operators.ComparisonOperator.TheVariants as comparing
 use Rattle.xq_atoms.specs.declared.comparisons.CompOp.{CompOp}
 use Rattle.xq_atoms.specs.Compare.{compare_value}

@@ -6,8 +6,8 @@ use Rattle.xq_expressions.specs.declared.operators.NodeComparison.{NodeCompariso
 use Rattle.xq_expressions.specs.declared.operators.NodeComparison.TheVariants.{Is, Precedes, Follows}
 use Rattle.xq_regions.specs.declared.items.Node.{Node}
 use Rattle.xq_regions.specs.Items.{ItemView, Place}
-use Rattle.xq_values.specs.Items.{Item}
-use Rattle.xq_values.specs.Arguments.{boolean}
+use Rattle.xq_meaning.specs.Items.{Item}
+use Rattle.xq_meaning.specs.Arguments.{boolean}
 
 abbrev pub one_place : List ItemView → Judged Node
 one_place (Place p ∷ []) = Ok p

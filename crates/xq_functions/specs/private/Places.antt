@@ -11,8 +11,8 @@ use Rattle.xq_regions.specs.Order.{path_at}
 use Rattle.xq_regions.specs.Rising.{AreRising}
 use Rattle.xq_regions.specs.Tree.{Tree}
 use Rattle.xq_sources.specs.Sources.{HasNode}
-use Rattle.xq_values.specs.Items.{Place, place, nodes_at}
-use Rattle.xq_values.specs.Arguments.{each}
+use Rattle.xq_meaning.specs.Items.{Place, place, nodes_at}
+use Rattle.xq_meaning.specs.Arguments.{each}
 use Rattle.xq_regions.specs.declared.items.Node.{Node as Spot}
 
 -- the node at a place

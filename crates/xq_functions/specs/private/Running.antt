@@ -7,10 +7,10 @@ use Rattle.xq_regions.specs.Items.{ItemView, Value}
 use Rattle.xq_atoms.specs.Judged.{Judged, ◌>>=◌}
 use Rattle.xq_atoms.specs.Text.{Text}
 use Rattle.xq_atoms.specs.Atom.{Atomic}
-use Rattle.xq_values.specs.Items.{Item}
-use Rattle.xq_values.specs.Texts.{joined}
-use Rattle.xq_values.specs.Arguments.{atomic, text, each}
-use Rattle.xq_values.specs.Functions.{piece, comparable, best, distinct_values}
+use Rattle.xq_meaning.specs.Items.{Item}
+use Rattle.xq_meaning.specs.Texts.{joined}
+use Rattle.xq_meaning.specs.Arguments.{atomic, text, each}
+use Rattle.xq_meaning.specs.Functions.{piece, comparable, best, distinct_values}
 
 -- the texts of more lists after a text
 abbrev pub concatenating : Text → List (List Atomic) → Judged (List Item)

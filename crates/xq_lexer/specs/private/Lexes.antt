@@ -10,7 +10,7 @@ use Rattle.xq_atoms.specs.Judged.{Judged}
 use Rattle.xq_atoms.specs.Literal.{integer_literal, decimal_literal}
 use Rattle.xq_lexer.specs.declared.runs.Class.{Class}
 use Rattle.xq_lexer.specs.declared.runs.Class.TheVariants.{Name, Digit, HexDigit}
-use Rattle.xq_characters.specs.Characters.{is_char, is_digit, is_name_char}
+use Rattle.xq_atoms.specs.Characters.{is_char, is_digit, is_name_char}
 use Rattle.xq_lexer.specs.Chars.{Text, is_hex}
 use Rattle.xq_lexer.specs.Lexeme.{Lex, int, dec, placed, place_of}
 use Rattle.xq_lexer.specs.Literals.{Number, integer, decimal, Reference, referred, piece_char}

@@ -4,7 +4,7 @@ use Rattle.xq_atoms.specs.declared.refusals.Code.{Code}
 use Rattle.xq_atoms.specs.declared.refusals.Code.TheVariants.{XPST0003, XQST0090}
 use Rattle.xq_lexer.specs.declared.tokens.Symbol.{Symbol}
 use Rattle.xq_lexer.specs.declared.tokens.Symbol.TheVariants as s
-use Rattle.xq_characters.specs.Characters.{is_char, is_space, is_digit, is_name_start, is_name_char}
+use Rattle.xq_atoms.specs.Characters.{is_char, is_space, is_digit, is_name_start, is_name_char}
 use Rattle.xq_lexer.specs.Chars.{Text, is_hex, is_quote, begins}
 use Rattle.xq_lexer.specs.Separators.{opens, closes}
 use Rattle.xq_lexer.specs.Literals.{Number, integer, decimal, number_fault, Reference, less, greater, ampersand, quotation, apostrophe, numbered, hexadecimal, referred, Piece, plain, doubled, reference}

@@ -13,10 +13,10 @@ use Rattle.xq_expressions.specs.declared.operators.AxisStep.{AxisStep}
 use Rattle.xq_expressions.specs.declared.operators.AxisStep.TheVariants as step
 use Rattle.xq_regions.specs.declared.Axis.{Axis}
 use Rattle.xq_regions.specs.declared.Axis.TheVariants as axis
-use Rattle.xq_signatures.specs.Signatures.{function_named}
-use Rattle.xq_values.specs.declared.node_tests.Test.{Test}
-use Rattle.xq_values.specs.declared.node_tests.Test.TheVariants as test
-use Rattle.xq_values.specs.declared.operators.Operator.{Operator}
+use Rattle.xq_expressions.specs.Signatures.{function_named}
+use Rattle.xq_meaning.specs.declared.node_tests.Test.{Test}
+use Rattle.xq_meaning.specs.declared.node_tests.Test.TheVariants as test
+use Rattle.xq_meaning.specs.declared.operators.Operator.{Operator}
 use Rattle.xq_atoms.specs.Text.{Text}
 use Rattle.xq_meaning.specs.declared.normal_forms.Core.{Core}
 use Rattle.xq_meaning.specs.Forms

@@ -6,9 +6,9 @@ use Rattle.xq_atoms.specs.Text.{Text}
 use Rattle.xq_expressions.specs.declared.operators.OrderModifier.{OrderModifier}
 use Rattle.xq_regions.specs.Tree.{Tree}
 use Rattle.xq_regions.specs.Tuples.{Tuple}
-use Rattle.xq_values.specs.Functions.{Focus}
-use Rattle.xq_values.specs.Items.{Item}
-use Rattle.xq_values.specs.declared.operators.Operator.{Operator}
+use Rattle.xq_meaning.specs.Functions.{Focus}
+use Rattle.xq_meaning.specs.Items.{Item}
+use Rattle.xq_meaning.specs.declared.operators.Operator.{Operator}
 use Rattle.xq_meaning.specs.declared.normal_forms.Core.{Core}
 use Rattle.xq_meaning.specs.declared.normal_forms.Core.TheVariants as core
 use Rattle.xq_meaning.specs.declared.normal_forms.CoreClause.{CoreClause}

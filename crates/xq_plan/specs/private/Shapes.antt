@@ -2,8 +2,8 @@
 use Rattle.std.specs.Prelude.{◌≡◌, List, [], Option, Some, None}
 use Rattle.xq_atoms.specs.Text.{Text}
 use Rattle.xq_regions.specs.declared.Axis.{Axis}
-use Rattle.xq_signatures.specs.declared.Function.{Function}
-use Rattle.xq_values.specs.declared.node_tests.Test.{Test}
+use Rattle.xq_expressions.specs.declared.signatures.Function.{Function}
+use Rattle.xq_meaning.specs.declared.node_tests.Test.{Test}
 use Rattle.xq_meaning.specs.declared.normal_forms.Core.{Core, out-Core}
 use Rattle.xq_meaning.specs.declared.normal_forms.Core.TheOpen.{Core-F}
 use Rattle.xq_meaning.specs.declared.normal_forms.CoreClause.{CoreClause}

@@ -3,9 +3,9 @@ use Rattle.std.specs.List.{flat_map}
 use Rattle.std.proofs.lemmas.Result.{IfOk-weaker}
 use Rattle.xq_regions.specs.Tree.{Tree}
 use Rattle.xq_regions.specs.declared.Axis.TheVariants.{Descendant}
-use Rattle.xq_values.specs.Items.{in_document_order}
-use Rattle.xq_values.specs.Steps.{axis_nodes}
-use Rattle.xq_values.specs.Readings.{node_at}
+use Rattle.xq_meaning.specs.Items.{in_document_order}
+use Rattle.xq_meaning.specs.Steps.{axis_nodes}
+use Rattle.xq_meaning.specs.Readings.{node_at}
 use Rattle.xq_axes.specs.Nodes.{HaveAll}
 use Rattle.xq_axes.proofs.DoubleSlash.{double_slash_is_descendant, stand_all}
 use Rattle.xq_axes.proofs.slashes.double_slash.Goals as goal

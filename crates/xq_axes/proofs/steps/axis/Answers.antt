@@ -1,11 +1,11 @@
 use Rattle.std.proofs.Common.{ℕ, ◌++◌, map, sym, ap, ◌∙◌}
 use Rattle.xq_regions.specs.declared.items.Node.{Node}
 use Rattle.xq_regions.specs.Order.{path_at}
-use Rattle.xq_values.specs.Items.{place, nodes_at}
-use Rattle.xq_values.specs.Readings.{node_at}
+use Rattle.xq_meaning.specs.Items.{place, nodes_at}
+use Rattle.xq_meaning.specs.Readings.{node_at}
 use Rattle.xq_axes.proofs.Many.{one_there, one_rises, axis_there}
 use Rattle.xq_axes.proofs.OnPaths.{axis_nodes_of}
-use Rattle.xq_values.proofs.PathLemmas.{map-map}
+use Rattle.xq_meaning.proofs.PathLemmas.{map-map}
 use Rattle.xq_axes.proofs.steps.axis.Goals as goal
 
 pub returns-clause-nodes : goal.returns-clause-nodes

@@ -2,8 +2,8 @@ use Rattle.std.proofs.Common.{◌∙◌, ap, sym, subst, List, map}
 use Rattle.std.specs.Prelude.{filter}
 use Rattle.xq_regions.specs.Items.{item_view}
 use Rattle.xq_regions.specs.Levels.{flat_row}
-use Rattle.xq_values.specs.Content.{content}
-use Rattle.xq_values.specs.Readings.{items_at}
+use Rattle.xq_meaning.specs.Content.{content}
+use Rattle.xq_meaning.specs.Readings.{items_at}
 use Rattle.xq_build.specs.private.Leaves.{Leaf}
 use Rattle.xq_build.specs.private.Content.{is_kept}
 use Rattle.xq_build.specs.private.Surplus.{StandsFor}

@@ -5,7 +5,7 @@ use Rattle.std.proofs.lemmas.List.{drop_all}
 use Rattle.xq_regions.specs.declared.items.Item.{Item}
 use Rattle.xq_regions.specs.Items.{item_view}
 use Rattle.xq_regions.specs.Levels.{flat_row}
-use Rattle.xq_values.specs.Readings.{items_at}
+use Rattle.xq_meaning.specs.Readings.{items_at}
 use Rattle.xq_regions.specs.declared.NodeRow.{NodeRow}
 use Rattle.xq_build.specs.private.Surplus.{is_full, AreSeen}
 use Rattle.xq_build.proofs.Surpluses.{Next, alike_then, flattened_all, item_next}

@@ -3,7 +3,7 @@ use Rattle.std.specs.Prelude.{string_bytes, None, []}
 use Rattle.std.specs.Option.{option_map}
 use Rattle.xq_regions.specs.Items.{item_view}
 use Rattle.xq_regions.specs.Levels.{flat_row}
-use Rattle.xq_values.specs.Readings.{items_at}
+use Rattle.xq_meaning.specs.Readings.{items_at}
 use Rattle.xq_build.specs.private.Content.{so_far, flattened_with, Childless}
 use Rattle.xq_build.specs.private.Surplus.{Alike, AreSeen, is_full}
 use Rattle.xq_build.proofs.content.flattened.Given as goal

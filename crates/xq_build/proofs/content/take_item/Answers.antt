@@ -4,7 +4,7 @@ use Rattle.std.specs.Option.{option_map}
 use Rattle.xq_regions.specs.declared.items.Item.{Item}
 use Rattle.xq_regions.specs.Items.{item_view}
 use Rattle.xq_regions.specs.Levels.{flat_row}
-use Rattle.xq_values.specs.Readings.{item_at}
+use Rattle.xq_meaning.specs.Readings.{item_at}
 use Rattle.xq_build.specs.private.Surplus.{Takes}
 use Rattle.xq_build.proofs.Surpluses.{seen_later, took_node, took_short}
 use Rattle.xq_build.proofs.content.take_item.Goals as goal

@@ -1,6 +1,6 @@
 use Rattle.std.proofs.Common.{◌∙◌, ◌&&◌, ap, sym}
 use Rattle.std.specs.Str.{chars}
-use Rattle.xq_characters.specs.Characters.{is_name}
+use Rattle.xq_atoms.specs.Characters.{is_name}
 use Rattle.xq_build.proofs.Spelling.{no_colon, around_colon}
 use Rattle.xq_build.proofs.names.is_prefixed.Goals as goal
 

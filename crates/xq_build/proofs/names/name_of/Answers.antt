@@ -4,7 +4,7 @@ use Rattle.xq_atoms.specs.declared.atoms.Atom.{Atom}
 use Rattle.xq_atoms.specs.declared.atoms.Atom.TheVariants.{Int, Dec, Str, Bool, Untyped}
 use Rattle.xq_atoms.specs.declared.refusals.Code.TheVariants.{XPTY0004}
 use Rattle.xq_expressions.specs.declared.operators.NamedNode.{NamedNode}
-use Rattle.xq_values.specs.Content.{name_of}
+use Rattle.xq_meaning.specs.Content.{name_of}
 use Rattle.xq_build.proofs.names.name_of.Goals as goal
 
 several : (k : NamedNode) (xs : List Atom) → 2 ≤ length xs → name_of k (map atomic_of xs) ≡ Err XPTY0004

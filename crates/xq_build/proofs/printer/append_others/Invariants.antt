@@ -1,6 +1,6 @@
 use Rattle.std.proofs.Common.{◌≡◌, ◌≤◌, ◌++◌, length, string_bytes, map, drop}
 use Rattle.xq_regions.specs.Items.{item_view}
-use Rattle.xq_values.specs.Readings.{items_at}
+use Rattle.xq_meaning.specs.Readings.{items_at}
 use Rattle.xq_build.specs.private.Writing.{each_after_comma}
 use Rattle.xq_build.proofs.printer.append_others.Given as goal
 

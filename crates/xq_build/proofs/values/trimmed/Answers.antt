@@ -1,7 +1,7 @@
 use Rattle.std.proofs.Common.{sym, subst}
 use Rattle.std.specs.Str.{IsUtf8}
-use Rattle.xq_characters.specs.Characters.{is_space}
-use Rattle.xq_characters.specs.Spaces.{after_leading}
+use Rattle.xq_atoms.specs.Characters.{is_space}
+use Rattle.xq_atoms.specs.Spaces.{after_leading}
 use Rattle.xq_build.proofs.Spelling.{leading_utf8, trailing_utf8}
 use Rattle.xq_build.proofs.values.trimmed.Goals as goal
 

@@ -1,8 +1,8 @@
 use Rattle.std.proofs.Common.{◌≡◌, [], ◌∷◌, map, ap, sym, ◌∙◌, arith}
 use Rattle.xq_regions.specs.Items.{item_view}
 use Rattle.xq_regions.specs.Tuples.{value_at}
-use Rattle.xq_values.specs.Functions.{of_one}
-use Rattle.xq_values.specs.Readings.{items_at}
+use Rattle.xq_meaning.specs.Functions.{of_one}
+use Rattle.xq_meaning.specs.Readings.{items_at}
 use Rattle.xq_meaning.specs.Forms as Forms
 use Rattle.xq_meaning.specs.PlanMeaning.{plan_mean}
 use Rattle.xq_meaning.specs.declared.plans.Plan.TheVariants as plan

@@ -1,7 +1,7 @@
 use Rattle.std.proofs.Common.{◌≡◌, drop, true}
 use Rattle.xq_atoms.specs.Atom.{atomic_of}
 use Rattle.xq_atoms.specs.Compare.{key, of_one_kind}
-use Rattle.xq_values.specs.Functions.{extreme}
+use Rattle.xq_meaning.specs.Functions.{extreme}
 use Rattle.xq_functions.specs.Answers.{atomics}
 use Rattle.xq_functions.specs.private.Running.{choosing, is_better}
 use Rattle.xq_functions.proofs.aggregates.extreme.Given as goal

@@ -1,7 +1,7 @@
 use Rattle.std.proofs.Common.{◌≡◌, ◌+◌, take, drop, Ok, Err, sym, ap, ◌∙◌, arith, rules, take_all}
 use Rattle.xq_atoms.specs.Atom.{atomic_of}
-use Rattle.xq_values.specs.Arguments.{each}
-use Rattle.xq_values.specs.Functions.{summand}
+use Rattle.xq_meaning.specs.Arguments.{each}
+use Rattle.xq_meaning.specs.Functions.{summand}
 use Rattle.xq_functions.specs.Answers.{atomics}
 use Rattle.xq_functions.specs.private.Judgements.{judged_as}
 use Rattle.xq_functions.proofs.ListLemmas.{each-push, each-err, around, to_here}

@@ -1,6 +1,6 @@
 use Rattle.std.proofs.Common.{◌≡◌, take, Ok}
-use Rattle.xq_values.specs.Arguments.{each}
-use Rattle.xq_values.specs.Functions.{summand}
+use Rattle.xq_meaning.specs.Arguments.{each}
+use Rattle.xq_meaning.specs.Functions.{summand}
 use Rattle.xq_functions.specs.Answers.{atomics}
 use Rattle.xq_functions.proofs.aggregates.judge_summands.Given as goal
 

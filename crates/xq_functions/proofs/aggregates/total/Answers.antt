@@ -2,7 +2,7 @@ use Rattle.std.proofs.Common.{◌≡◌, ◌+◌, drop, Err, sym, ap, ◌∙◌,
 use Rattle.std.proofs.lemmas.List.{drop_all}
 use Rattle.xq_atoms.specs.Judged.{◌>>=◌}
 use Rattle.xq_atoms.specs.Atom.{atomic_of, judged_of}
-use Rattle.xq_values.specs.Functions.{added}
+use Rattle.xq_meaning.specs.Functions.{added}
 use Rattle.xq_functions.specs.Answers.{atomics}
 use Rattle.xq_functions.proofs.ListLemmas.{from_here}
 use Rattle.xq_functions.proofs.aggregates.total.Goals as goal

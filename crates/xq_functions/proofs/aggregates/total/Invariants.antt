@@ -1,6 +1,6 @@
 use Rattle.std.proofs.Common.{◌≡◌, drop, pos}
 use Rattle.xq_atoms.specs.Atom.{Integer, atomic_of}
-use Rattle.xq_values.specs.Functions.{added}
+use Rattle.xq_meaning.specs.Functions.{added}
 use Rattle.xq_functions.specs.Answers.{atomics}
 use Rattle.xq_functions.proofs.aggregates.total.Given as goal
 

@@ -5,9 +5,9 @@ use Rattle.xq_atoms.specs.Atom.{Integer}
 use Rattle.xq_atoms.specs.declared.atoms.Atom.TheVariants.{Int}
 use Rattle.xq_regions.specs.declared.items.Item.TheVariants.{Atom as AtomItem}
 use Rattle.xq_regions.specs.Items.{Value, item_view}
-use Rattle.xq_values.specs.Readings.{item_at, items_at}
-use Rattle.xq_values.specs.Items.{Atom}
-use Rattle.xq_values.specs.Operators.{integers_from, how_many}
+use Rattle.xq_meaning.specs.Readings.{item_at, items_at}
+use Rattle.xq_meaning.specs.Items.{Atom}
+use Rattle.xq_meaning.specs.Operators.{integers_from, how_many}
 use Rattle.xq_functions.proofs.NumberLemmas.{integers_from-push, integers-within}
 use Rattle.xq_functions.proofs.arithmetic.integers.Goals as goal
 

@@ -1,6 +1,6 @@
 use Rattle.std.proofs.Common.{◌≡◌, List}
 use Rattle.xq_regions.specs.Tree.{Tree}
-use Rattle.xq_values.specs.Operators.{integers_from}
+use Rattle.xq_meaning.specs.Operators.{integers_from}
 use Rattle.xq_functions.specs.Answers.{items_of}
 use Rattle.xq_functions.proofs.arithmetic.integers.Given as goal
 

@@ -1,6 +1,6 @@
 use Rattle.std.proofs.Common.{ap, sym, ◌∙◌, rules}
 use Rattle.xq_atoms.specs.Judged.{◌>>=◌}
-use Rattle.xq_values.specs.Operators.{one_bound, integers}
+use Rattle.xq_meaning.specs.Operators.{one_bound, integers}
 use Rattle.xq_functions.specs.Answers.{atomics, items_of}
 use Rattle.xq_atoms.specs.Answers.{Gives}
 use Rattle.xq_functions.specs.private.Calls.{on_both}

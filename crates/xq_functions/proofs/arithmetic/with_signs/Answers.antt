@@ -1,7 +1,7 @@
 use Rattle.std.proofs.Common.{◌≡◌, ◌++◌, ◌∷◌, [], Err, ap, sym, ◌∙◌, rules}
 use Rattle.xq_atoms.specs.Judged.{◌>>=◌}
 use Rattle.xq_atoms.specs.Atom.{atomic_of, judged_of}
-use Rattle.xq_values.specs.Operators.{with_signs}
+use Rattle.xq_meaning.specs.Operators.{with_signs}
 use Rattle.xq_functions.proofs.NumberLemmas.{with_signs-last}
 use Rattle.xq_functions.proofs.arithmetic.with_signs.Goals as goal
 

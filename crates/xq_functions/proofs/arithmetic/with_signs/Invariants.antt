@@ -1,6 +1,6 @@
 use Rattle.std.proofs.Common.{◌≡◌, length}
 use Rattle.xq_atoms.specs.Atom.{atomic_of}
-use Rattle.xq_values.specs.Operators.{with_signs}
+use Rattle.xq_meaning.specs.Operators.{with_signs}
 use Rattle.xq_functions.proofs.arithmetic.with_signs.Given as goal
 
 abbrev pub invariant-loop-sign : goal.invariant-loop-sign

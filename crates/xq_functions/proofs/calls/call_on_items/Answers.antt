@@ -1,8 +1,8 @@
 use Rattle.std.proofs.Common.{◌≡◌, not, ap, sym, ◌∙◌, Ok, Err, rules}
 use Rattle.xq_atoms.specs.Judged.{◌>>=◌}
-use Rattle.xq_values.specs.Arguments.{boolean, effective}
-use Rattle.xq_values.specs.Readings.{items_at}
-use Rattle.xq_values.specs.Functions as Functions
+use Rattle.xq_meaning.specs.Arguments.{boolean, effective}
+use Rattle.xq_meaning.specs.Readings.{items_at}
+use Rattle.xq_meaning.specs.Functions as Functions
 use Rattle.xq_functions.specs.Answers.{items_of, lent_items}
 use Rattle.xq_functions.proofs.AnswerLemmas.{Gives-code}
 use Rattle.xq_atoms.specs.declared.refusals.Fault.TheVariants.{Code as OfCode}

@@ -1,5 +1,5 @@
 use Rattle.std.proofs.Common.{map, ap, ◌∙◌}
-use Rattle.xq_values.specs.Functions as Functions
+use Rattle.xq_meaning.specs.Functions as Functions
 use Rattle.xq_functions.specs.Answers.{atomics, items_of}
 use Rattle.xq_functions.specs.private.Calls as Calls
 use Rattle.xq_functions.proofs.AnswerLemmas.{Gives-same}

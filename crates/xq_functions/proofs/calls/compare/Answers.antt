@@ -1,6 +1,6 @@
-use Rattle.xq_values.specs.declared.operators.Operator.TheVariants.{Comparison}
+use Rattle.xq_meaning.specs.declared.operators.Operator.TheVariants.{Comparison}
 use Rattle.std.proofs.Common.{ap}
-use Rattle.xq_values.specs.Operators as Operators
+use Rattle.xq_meaning.specs.Operators as Operators
 use Rattle.xq_functions.specs.Answers.{atomics, items_of}
 use Rattle.xq_functions.specs.private.Calls as Calls
 use Rattle.xq_functions.proofs.AnswerLemmas.{Gives-same}

@@ -1,5 +1,5 @@
 use Rattle.std.proofs.Common.{ap, ◌∙◌, Ok}
-use Rattle.xq_signatures.specs.declared.Function.TheVariants as f
+use Rattle.xq_expressions.specs.declared.signatures.Function.TheVariants as f
 use Rattle.xq_functions.specs.Answers.{atomics, items_of}
 use Rattle.xq_functions.specs.private.Calls as Calls
 use Rattle.xq_functions.proofs.AnswerLemmas.{Gives-same}

@@ -1,5 +1,5 @@
 use Rattle.std.proofs.Common.{ap}
-use Rattle.xq_values.specs.Operators as Operators
+use Rattle.xq_meaning.specs.Operators as Operators
 use Rattle.xq_functions.specs.Answers.{atomics, items_of}
 use Rattle.xq_functions.specs.private.Calls as Calls
 use Rattle.xq_functions.proofs.AnswerLemmas.{Gives-same}

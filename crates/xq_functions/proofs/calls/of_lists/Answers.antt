@@ -1,7 +1,7 @@
 use Rattle.std.specs.Global.{Vec}
 use Rattle.xq_atoms.specs.declared.atoms.Atom.{Atom}
 use Rattle.std.proofs.Common.{map, ap, sym, ◌∙◌}
-use Rattle.xq_values.specs.Functions as Functions
+use Rattle.xq_meaning.specs.Functions as Functions
 use Rattle.xq_functions.specs.Answers.{atomics, items_of}
 use Rattle.xq_functions.specs.private.Calls as Calls
 use Rattle.xq_functions.proofs.AnswerLemmas.{Gives-same}

@@ -1,4 +1,4 @@
-use Rattle.xq_values.specs.declared.operators.Operator.TheVariants.{Comparison}
+use Rattle.xq_meaning.specs.declared.operators.Operator.TheVariants.{Comparison}
 use Rattle.std.proofs.Common.{ap}
 use Rattle.xq_functions.specs.Answers.{atomics, items_of}
 use Rattle.xq_functions.specs.private.Calls as Calls

@@ -1,5 +1,5 @@
 use Rattle.std.proofs.Common.{◌≡◌, drop}
-use Rattle.xq_values.specs.Operators.{some_pair}
+use Rattle.xq_meaning.specs.Operators.{some_pair}
 use Rattle.xq_functions.specs.Answers.{atomics}
 use Rattle.xq_functions.proofs.comparisons.some_pair.Given as goal
 

@@ -1,7 +1,7 @@
 use Rattle.std.proofs.Common.{◌≡◌, ◌+◌, drop, Err, sym, ap, ◌∙◌, arith, rules}
 use Rattle.xq_atoms.specs.Judged.{◌>>=◌}
 use Rattle.xq_atoms.specs.Atom.{atomic_of}
-use Rattle.xq_values.specs.Operators.{some_with, or_rest}
+use Rattle.xq_meaning.specs.Operators.{some_with, or_rest}
 use Rattle.xq_functions.specs.Answers.{atomics}
 use Rattle.xq_functions.proofs.ListLemmas.{from_here}
 use Rattle.xq_functions.proofs.comparisons.some_with.Goals as goal

@@ -1,6 +1,6 @@
 use Rattle.std.proofs.Common.{◌≡◌, drop}
 use Rattle.xq_atoms.specs.Atom.{atomic_of}
-use Rattle.xq_values.specs.Operators.{some_with}
+use Rattle.xq_meaning.specs.Operators.{some_with}
 use Rattle.xq_functions.specs.Answers.{atomics}
 use Rattle.xq_functions.proofs.comparisons.some_with.Given as goal
 

@@ -5,8 +5,8 @@ use Rattle.std.proofs.lemmas.List.FromFn.{map-range_with_len_more}
 use Rattle.xq_regions.specs.declared.items.Node.{Node as Spot}
 use Rattle.xq_regions.specs.declared.items.Item.TheVariants.{Node as NodeItem}
 use Rattle.xq_regions.specs.Items.{Place, item_view}
-use Rattle.xq_values.specs.Items.{Item, Node, root_of}
-use Rattle.xq_values.specs.Readings.{item_at, items_at}
+use Rattle.xq_meaning.specs.Items.{Item, Node, root_of}
+use Rattle.xq_meaning.specs.Readings.{item_at, items_at}
 use Rattle.xq_functions.proofs.documents.collection.Goals as goal
 
 root_node : ℕ → Item

@@ -3,7 +3,7 @@ use Rattle.std.proofs.lemmas.Bool.{false≢true}
 use Rattle.xq_atoms.specs.declared.refusals.Code.TheVariants.{FODC0005}
 use Rattle.xq_atoms.specs.Judged.{◌>>=◌, only_if}
 use Rattle.xq_atoms.specs.Address.{IsAddress}
-use Rattle.xq_values.specs.Functions.{document_from}
+use Rattle.xq_meaning.specs.Functions.{document_from}
 use Rattle.xq_functions.proofs.DocumentLemmas.{is_address-true, is_address-false}
 use Rattle.xq_functions.proofs.documents.document.Goals as goal
 

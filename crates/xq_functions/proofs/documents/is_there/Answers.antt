@@ -1,5 +1,5 @@
 use Rattle.std.proofs.Common.{ap, ◌∙◌}
-use Rattle.xq_values.specs.Functions.{is_found}
+use Rattle.xq_meaning.specs.Functions.{is_found}
 use Rattle.xq_functions.proofs.DocumentLemmas.{is_found-is}
 use Rattle.xq_functions.proofs.documents.is_there.Goals as goal
 

@@ -1,6 +1,6 @@
 use Rattle.std.proofs.Common.{map}
 use Rattle.xq_regions.specs.Items.{item_view}
-use Rattle.xq_values.specs.Operators.{by_nodes}
+use Rattle.xq_meaning.specs.Operators.{by_nodes}
 use Rattle.xq_functions.specs.Answers.{items_of, lent_items}
 use Rattle.xq_functions.specs.private.Nodes.{by_places}
 use Rattle.xq_functions.proofs.AnswerLemmas.{Gives-same}

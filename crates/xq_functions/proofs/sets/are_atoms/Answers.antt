@@ -1,6 +1,6 @@
 use Rattle.std.proofs.Common.{◌+◌, ◌∷◌, drop, ap, sym, ◌∙◌, arith}
 use Rattle.std.proofs.lemmas.List.{drop_more, drop_all}
-use Rattle.xq_values.specs.Operators.{are_atoms}
+use Rattle.xq_meaning.specs.Operators.{are_atoms}
 use Rattle.xq_functions.specs.Answers.{lent_items}
 use Rattle.xq_functions.proofs.sets.are_atoms.Goals as goal
 

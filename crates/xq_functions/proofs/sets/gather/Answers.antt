@@ -3,8 +3,8 @@ use Rattle.std.specs.Global.{Vec}
 use Rattle.xq_atoms.specs.declared.refusals.Fault.{Fault}
 use Rattle.xq_atoms.specs.declared.refusals.Code.TheVariants.{XPTY0018}
 use Rattle.xq_regions.specs.Items.{item_view, item_views}
-use Rattle.xq_values.specs.Operators.{all_atoms, are_atoms}
-use Rattle.xq_values.specs.Readings.{items_at}
+use Rattle.xq_meaning.specs.Operators.{all_atoms, are_atoms}
+use Rattle.xq_meaning.specs.Readings.{items_at}
 use Rattle.xq_functions.specs.Answers.{lent_items}
 use Rattle.xq_atoms.specs.Answers.{Gives}
 use Rattle.xq_regions.specs.declared.items.Node.{Node as Spot}

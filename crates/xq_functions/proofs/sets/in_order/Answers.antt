@@ -1,5 +1,5 @@
 use Rattle.std.proofs.Common.{ap, sym, ◌∙◌, subst}
-use Rattle.xq_values.specs.Readings.{items_at}
+use Rattle.xq_meaning.specs.Readings.{items_at}
 use Rattle.xq_functions.specs.private.Places.{IsInOrder}
 use Rattle.xq_functions.proofs.SetLemmas.{in_order-spots}
 use Rattle.xq_functions.proofs.sets.in_order.Goals as goal

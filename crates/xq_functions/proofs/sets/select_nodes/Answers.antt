@@ -2,7 +2,7 @@ use Rattle.std.proofs.Common.{◌≡◌, Ok, Err, map, ap, sym, ◌∙◌, subst
 use Rattle.std.specs.Global.{Vec}
 use Rattle.xq_atoms.specs.Judged.{◌>>=◌}
 use Rattle.xq_regions.specs.Items.{item_view}
-use Rattle.xq_values.specs.Operators.{from_nodes, in_order, set_of}
+use Rattle.xq_meaning.specs.Operators.{from_nodes, in_order, set_of}
 use Rattle.xq_functions.specs.Answers.{items_of, lent_items}
 use Rattle.xq_regions.specs.declared.items.Node.{Node as Spot}
 use Rattle.xq_functions.specs.private.Places.{place_at, selected}

@@ -3,9 +3,9 @@ use Rattle.std.specs.Global.{Vec, Global}
 use Rattle.std.proofs.lemmas.List.{drop_more, drop_all}
 use Rattle.xq_atoms.specs.declared.atoms.Atom.{Atom}
 use Rattle.xq_atoms.specs.Atom.{Atomic}
-use Rattle.xq_values.specs.Arguments.{text}
-use Rattle.xq_values.specs.Functions as Functions
-use Rattle.xq_values.specs.Readings.{items_at}
+use Rattle.xq_meaning.specs.Arguments.{text}
+use Rattle.xq_meaning.specs.Functions as Functions
+use Rattle.xq_meaning.specs.Readings.{items_at}
 use Rattle.xq_functions.specs.Answers.{atomics, items_of}
 use Rattle.xq_functions.specs.private.Running.{concatenating}
 use Rattle.xq_functions.proofs.AnswerLemmas.{Gives-fault}

@@ -1,5 +1,5 @@
 use Rattle.std.proofs.Common.{◌≡◌, map, drop, string_bytes}
-use Rattle.xq_values.specs.Functions as Functions
+use Rattle.xq_meaning.specs.Functions as Functions
 use Rattle.xq_functions.specs.Answers.{atomics}
 use Rattle.xq_functions.specs.private.Running.{concatenating}
 use Rattle.xq_functions.proofs.texts.concat.Given as goal

@@ -1,6 +1,6 @@
 use Rattle.std.proofs.Common.{ap, sym, ◌∙◌, Ok}
-use Rattle.xq_values.specs.Arguments.{text}
-use Rattle.xq_values.specs.Readings.{items_at}
+use Rattle.xq_meaning.specs.Arguments.{text}
+use Rattle.xq_meaning.specs.Readings.{items_at}
 use Rattle.xq_functions.specs.Answers.{atomics}
 use Rattle.xq_functions.proofs.TextLemmas.{joined-texts}
 use Rattle.xq_functions.proofs.texts.string_join.Goals as goal

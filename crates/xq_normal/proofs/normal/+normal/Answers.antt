@@ -1,7 +1,7 @@
 use Rattle.std.proofs.Common.{sym, ap, ◌∙◌, map, drop, arith}
 use Rattle.std.specs.List.{flat_map}
 use Rattle.std.proofs.lemmas.List.{take_all}
-use Rattle.xq_values.specs.declared.operators.Operator.TheVariants as operator
+use Rattle.xq_meaning.specs.declared.operators.Operator.TheVariants as operator
 use Rattle.xq_meaning.specs.Meaning.{clauses, later_parts, joined_by, mean, clause_mean, group_mean}
 use Rattle.xq_meaning.specs.CoreMeaning.{core_clause_mean}
 use Rattle.xq_meaning.proofs.Equations as mean

@@ -1,6 +1,6 @@
 use Rattle.std.proofs.Common.{◌≡◌, map, take}
 use Rattle.std.specs.List.{flat_map}
-use Rattle.xq_values.specs.declared.operators.Operator.TheVariants as operator
+use Rattle.xq_meaning.specs.declared.operators.Operator.TheVariants as operator
 use Rattle.xq_meaning.specs.Meaning.{clauses, later_parts, mean, clause_mean, group_mean}
 use Rattle.xq_meaning.specs.CoreMeaning.{core_mean, core_clause_mean}
 use Rattle.xq_normal.specs.private.Parts as parts

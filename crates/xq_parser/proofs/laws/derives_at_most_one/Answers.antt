@@ -1,5 +1,5 @@
 use Rattle.xq_lexer.specs.Lexeme.{lexemes}
-use Rattle.xq_grammar.proofs.Top.{derives_one}
+use Rattle.xq_parser.proofs.Top.{derives_one}
 use Rattle.xq_parser.proofs.laws.derives_at_most_one.Goals as goal
 
 pub returns : goal.returns

@@ -2,8 +2,8 @@ use Rattle.xq_lexer.specs.Lexeme.{Lex, lexemes, symbol}
 use Rattle.xq_lexer.specs.declared.tokens.Symbol.TheVariants as s
 use Rattle.xq_expressions.specs.declared.operators.NodeTest.TheVariants as test
 use Rattle.std.proofs.Common.{List, ℕ, Option}
-use Rattle.xq_grammar.specs.Look.{word}
-use Rattle.xq_grammar.specs.private.Reading as spec
+use Rattle.xq_parser.specs.Look.{word}
+use Rattle.xq_parser.specs.private.Reading as spec
 use Rattle.xq_parser.proofs.Steps.{reads_after, fails_at_first, fails_after, handed_on}
 use Rattle.xq_parser.proofs.node_tests.instruction_kind.Goals as goal
 

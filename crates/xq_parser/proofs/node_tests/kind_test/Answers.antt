@@ -1,10 +1,10 @@
 use Rattle.std.proofs.Common.{◌≡◌, Bool, true, false, sym, subst, ◌∙◌}
 use Rattle.xq_lexer.specs.Lexeme.{lexemes}
 use Rattle.xq_expressions.specs.declared.operators.NodeTest.{NodeTest}
-use Rattle.xq_grammar.specs.Look.{Tokens, word}
-use Rattle.xq_grammar.specs.Grammar as g
-use Rattle.xq_grammar.specs.private.Reading as spec
-use Rattle.xq_grammar.specs.private.Parses.{Parses}
+use Rattle.xq_parser.specs.Look.{Tokens, word}
+use Rattle.xq_parser.specs.Grammar as g
+use Rattle.xq_parser.specs.private.Reading as spec
+use Rattle.xq_parser.specs.private.Parses.{Parses}
 use Rattle.xq_parser.proofs.Steps.{chooses_second, chooses_third}
 use Rattle.xq_parser.proofs.node_tests.kind_test.Goals as goal
 

@@ -1,5 +1,5 @@
 use Rattle.std.proofs.Common.{◌≡◌, ◌-◌, suc, refl, arith}
-use Rattle.xq_grammar.specs.private.Reading.{single}
+use Rattle.xq_parser.specs.private.Reading.{single}
 use Rattle.xq_parser.proofs.parsing.+single.Goals as goal
 
 pub returns-then-depth-eq0 : goal.returns-then-depth-eq0

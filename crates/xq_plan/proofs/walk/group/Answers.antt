@@ -2,7 +2,7 @@ use Rattle.std.proofs.Common.{◌≡◌, take, drop, None, Ok, ap, sym, ◌∙�
 use Rattle.xq_atoms.specs.declared.refusals.Code.TheVariants.{XQST0094}
 use Rattle.xq_plan.proofs.Flwor.{group_leads, refused_leads}
 use Rattle.xq_plan.proofs.Groups.{slot_found, slot_missing, slots_done}
-use Rattle.xq_scopes.specs.Scopes.{last_place, from_place}
+use Rattle.xq_expressions.specs.Scopes.{last_place, from_place}
 use Rattle.xq_plan.proofs.walk.group.Goals as goal
 
 pub returns : goal.returns

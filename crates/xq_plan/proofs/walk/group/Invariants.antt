@@ -1,5 +1,5 @@
 use Rattle.std.proofs.Common.{◌≡◌, take, drop, Ok}
-use Rattle.xq_values.specs.Arguments.{each}
+use Rattle.xq_meaning.specs.Arguments.{each}
 use Rattle.xq_meaning.specs.Meaning.{slot_of}
 use Rattle.xq_plan.proofs.walk.group.Given as goal
 

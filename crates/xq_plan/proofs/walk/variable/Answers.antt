@@ -1,6 +1,6 @@
 use Rattle.std.proofs.Common.{sym, ap, ◌∙◌, subst}
 use Rattle.xq_meaning.specs.declared.plans.Plan.TheVariants as plan
-use Rattle.xq_scopes.specs.Scopes.{last_place}
+use Rattle.xq_expressions.specs.Scopes.{last_place}
 use Rattle.xq_plan.specs.private.Plans.{IsVariable}
 use Rattle.xq_plan.proofs.Forms.{slot_plan, no_slot_plan}
 use Rattle.xq_plan.proofs.walk.variable.Goals as goal

@@ -1,4 +1,4 @@
-use Rattle.xq_grammar.specs.private.Reading as spec
+use Rattle.xq_parser.specs.private.Reading as spec
 use Rattle.xq_parser.proofs.primaries.Grammar.make_instruction.Goals as goal
 
 pub returns : goal.returns

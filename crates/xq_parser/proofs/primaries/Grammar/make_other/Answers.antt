@@ -1,7 +1,7 @@
 use Rattle.std.proofs.Common.{sym, ◌∙◌}
 use Rattle.xq_lexer.specs.Lexeme.{lexemes}
-use Rattle.xq_grammar.specs.Look.{word}
-use Rattle.xq_grammar.specs.private.Reading as spec
+use Rattle.xq_parser.specs.Look.{word}
+use Rattle.xq_parser.specs.private.Reading as spec
 use Rattle.xq_parser.proofs.Choice.{gives_first, gives_second}
 use Rattle.xq_parser.proofs.primaries.Grammar.make_other.Goals as goal
 

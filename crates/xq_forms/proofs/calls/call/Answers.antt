@@ -1,0 +1,37 @@
+use Rattle.std.proofs.Common.{◌≡◌, ◌≤◌, ◌<◌, ◌∷◌, [], ap, sym, subst, map, length, arith}
+use Rattle.xq_atoms.specs.Answers.{GivesUnlessWanting}
+use Rattle.xq_functions.specs.Answers.{items_of}
+use Rattle.xq_regions.specs.Items.{item_views}
+use Rattle.xq_meaning.specs.Functions as Functions
+use Rattle.xq_forms.specs.Views.{tuple_at, focus_at, frame_at, lists_of, calling, TupleIn, GivesSequence}
+use Rattle.xq_forms.proofs.CallForms.{call_gives, lone, nothing}
+use Rattle.xq_forms.proofs.calls.call.Goals as goal
+
+pub returns-then-len-ge2-clause-gives : goal.returns-then-len-ge2-clause-gives
+returns-then-len-ge2-clause-gives g c = λ k inside lists.
+    let old = g.W.TreeSource.forest c.args.world.now in
+    let frame = c.args.frame in
+    let addresses = frame.addresses.now in
+    let focus = focus_at old frame.focus in
+    let many : 2 ≤ length c.deref.result.now = omega (arith, c.if-len-ge2.true, c.len.ensures, c.deref.ensures.len) in
+    call_gives old (g.W.TreeSource.forest c.on_many.new.source) frame c.args.function (lists_of c.args.arguments) c.on_many.result c.on_many.ensures.keeps inside lists
+    (subst (λ l. GivesUnlessWanting (items_of old) (Functions.called c.args.function old addresses focus (tuple_at old (map item_views l))) c.on_many.result) c.deref.ensures.value (c.on_many.ensures.gives k many addresses focus))
+
+pub returns-in-Some-clause-gives : goal.returns-in-Some-clause-gives
+returns-in-Some-clause-gives g c = λ k inside lists.
+    let old = g.W.TreeSource.forest c.args.world.now in
+    let new = g.W.TreeSource.forest c.on_one.new.source in
+    let frame = c.args.frame in
+    let few : length c.args.arguments.items < 2 = omega (arith, c.if-len-ge2.false, c.len.ensures, c.args.arguments.ok.0) in
+    let views_are : lists_of c.args.arguments ≡ item_views c.in-Some.items ∷ [] = ap (map item_views) (lone c.args.arguments.items c.pop.new.self.items c.in-Some.items c.in-Some.ensures.items few) in
+    subst (λ vs. GivesSequence (calling c.args.function (frame_at old frame) (tuple_at old vs) old) new c.on_one.result) (sym views_are)
+    (call_gives old new frame c.args.function (item_views c.in-Some.items ∷ []) c.on_one.result c.on_one.ensures.keeps inside (subst (TupleIn old) views_are lists) (c.on_one.ensures.gives k))
+
+pub returns-clause-gives : goal.returns-clause-gives
+returns-clause-gives g c = λ k inside lists.
+    let old = g.W.TreeSource.forest c.args.world.now in
+    let new = g.W.TreeSource.forest c.on_none.new.source in
+    let frame = c.args.frame in
+    let none : lists_of c.args.arguments ≡ [] = ap (map item_views) (nothing c.args.arguments.items (omega (arith, c.in-None.ensures.cases.0, c.args.arguments.ok.0))) in
+    subst (λ vs. GivesSequence (calling c.args.function (frame_at old frame) (tuple_at old vs) old) new c.on_none.result) (sym none)
+    (call_gives old new frame c.args.function [] c.on_none.result c.on_none.ensures.keeps inside tt (c.on_none.ensures.gives k))

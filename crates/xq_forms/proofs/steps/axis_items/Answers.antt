@@ -1,0 +1,19 @@
+use Rattle.std.proofs.Common.{◌≡◌, ◌∙◌, ap, sym, subst, map, Ok}
+use Rattle.xq_regions.specs.Items.{Place, item_views}
+use Rattle.xq_meaning.specs.Readings.{items_at, AreIn}
+use Rattle.xq_meaning.specs.Steps.{in_axis_order}
+use Rattle.xq_forms.specs.Views.{focus_at, on_axis}
+use Rattle.xq_forms.proofs.NodeLemmas.{context_in, axis_gives}
+use Rattle.xq_forms.proofs.steps.axis_items.Goals as goal
+
+pub returns-clause-gives : goal.returns-clause-gives
+returns-clause-gives g c = λ k inside.
+    let old = g.W.TreeSource.forest c.args.world.now in
+    let focus = focus_at old c.args.frame.focus in
+    let views = item_views c.in_axis_order.result in
+    let node = c.in_ok-node.node in
+    let nodes = c.in_ok-nodes.nodes.items in
+    let has = context_in old c.args.frame.focus node inside.focus_in (c.in_ok-node.ensures old) in
+    let is = c.in_axis_order.ensures ∙ ap (in_axis_order c.args.axis) (c.in_ok-as_items.ensures ∙ ap (map Place) c.deref.ensures.value) in
+    subst (λ f. AreIn f views × (on_axis c.args.axis c.args.test.now focus old ≡ (Ok (items_at f views), f))) (sym c.axis.ensures.keeps)
+    (axis_gives old c.args.axis c.args.test.now focus node nodes views (c.in_ok-node.ensures old) (c.in_ok-nodes.ensures.nodes k has) (c.in_ok-nodes.ensures.there k has) is)

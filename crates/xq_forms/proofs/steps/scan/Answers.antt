@@ -1,0 +1,32 @@
+use Rattle.std.proofs.Common.{◌≡◌, ◌∙◌, ap, sym, subst, map, Ok, Err, rules}
+use Rattle.std.specs.List.{flat_map}
+use Rattle.xq_atoms.specs.declared.refusals.Fault.TheVariants.{Code as OfCode}
+use Rattle.xq_axes.specs.Nodes.{HaveAll}
+use Rattle.xq_regions.specs.Items.{Place, item_view, item_views}
+use Rattle.xq_meaning.specs.Items.{in_document_order}
+use Rattle.xq_meaning.specs.Readings.{node_at, items_at, AreIn}
+use Rattle.xq_meaning.specs.Steps.{axis_nodes}
+use Rattle.xq_meaning.specs.Forms as Forms
+use Rattle.xq_forms.specs.Views.{GivesSequence}
+use Rattle.xq_forms.proofs.NodeLemmas.{among_in, scan_gives, scan_stops}
+use Rattle.xq_forms.proofs.steps.scan.Goals as goal
+
+pub returns-in_err-only_nodes-clause-gives : goal.returns-in_err-only_nodes-clause-gives
+returns-in_err-only_nodes-clause-gives g c = λ k inside.
+    let old = g.W.TreeSource.forest c.args.world.now in
+    let xs = items_at old (map item_view c.args.items.now) in
+    let code = c.in_err-only_nodes.field-0.0 in
+    let is : c.from_residual.result ≡ Err (OfCode code) = search rules in
+    subst (GivesSequence (Forms.scan c.args.axis c.args.test.now xs old) old) (sym is) (scan_stops old c.args.axis c.args.test.now xs code (c.in_err-only_nodes.ensures old))
+
+pub returns-clause-gives : goal.returns-clause-gives
+returns-clause-gives g c = λ k inside.
+    let old = g.W.TreeSource.forest c.args.world.now in
+    let views = map item_view c.args.items.now in
+    let found = item_views c.in_ok-as_items.field-0 in
+    let nodes = c.in_ok-nodes.nodes.items in
+    let contexts = c.deref.ensures.value ∙ c.in_ok-contexts.ensures in
+    let have = subst (HaveAll old) (sym contexts) (among_in old views inside) in
+    let step = c.in_ok-nodes.ensures.nodes k have ∙ ap (λ ns. in_document_order old (flat_map (axis_nodes old c.args.axis c.args.test.now) (map (node_at old) ns))) contexts in
+    subst (λ f. AreIn f found × (Forms.scan c.args.axis c.args.test.now (items_at old views) old ≡ (Ok (items_at f found), f))) (sym c.step.ensures.keeps)
+    (scan_gives old c.args.axis c.args.test.now views nodes found (c.in_ok-only_nodes.ensures old) step (c.in_ok-nodes.ensures.there k have) (c.in_ok-as_items.ensures ∙ ap (map Place) c.deref-2.ensures.value))

@@ -1,0 +1,170 @@
+//! Calls of functions, from the values of their arguments (F&O 3.1; XQuery 3.1, section 3.1.5).
+ghost use Rattle.std.specs.Prelude.{◌≡◌, ◌≤◌, length, map, IfOk};
+ghost use Rattle.xq_atoms.specs.Atom.{atomic_of};
+ghost use Rattle.xq_regions.specs.Items.{item_views};
+ghost use Rattle.xq_tuples.specs.Keys.{column_of};
+ghost use Rattle.xq_meaning.specs.Items.{atomized as atomized_lem};
+ghost use Rattle.xq_meaning.specs.Functions as Functions;
+ghost use Rattle.xq_functions.specs.Answers.{items_of};
+ghost use Rattle.xq_atoms.specs.Answers.{GivesUnlessWanting};
+ghost use Rattle.xq_forms.specs.Views.{tuple_at, lists_of, spot_at, focus_at, frame_at, calling, FrameIn, TupleIn, Goes, GivesSequence};
+ghost use Rattle.xq_forms.specs.private.Calls.{at_focus};
+
+use crate::atoms::atomized;
+use crate::frames::{Focus, Frame};
+use crate::node_functions::{call_on_nodes, context_argument};
+use crate::values::single;
+use std::alloc::Global;
+use xq_atoms::{Atom, Code, Fault, Want};
+use xq_expressions::Function;
+use xq_functions::{
+    Argument, argument_of, call_on_atoms, call_on_items, call_on_lists, collection, doc,
+    doc_available,
+};
+use xq_regions::{Item, Items};
+use xq_sources::{Addresses, Growing, RowLender};
+
+/// The atoms of each list.
+fn all_atomized<L: RowLender>(
+    alloc: Global,
+    source: &mut L,
+    lists: &[Items],
+) -> Result<Vec<Vec<Atom>>, Want>
+    ensures value { L.is_clean source.new → IfOk result (λ atoms. column_of atoms
+        ≡ map (atomized_lem (L.forest source.old)) (tuple_at (L.forest source.old) (map item_views
+        lists.now))) }
+    ensures keeps { L.forest source.new ≡ L.forest source.old }
+    ensures was_clean { L.is_clean source.new → L.is_clean source.old }
+{
+    let mut atoms = Vec::with_capacity(alloc, lists.len())?;
+    for list in lists {
+        atoms.push(atomized(alloc, source, list)?)?;
+    }
+    Ok(atoms)
+}
+
+/// A call with one argument.
+fn on_one<L: RowLender>(
+    alloc: Global,
+    source: &mut L,
+    addresses: &Addresses,
+    function: Function,
+    items: Items,
+) -> Result<Items, Fault>
+    ensures gives { L.is_clean source.new → GivesUnlessWanting (items_of (L.forest source.old))
+        (Functions.of_one function (L.forest source.old) addresses.now (items_of
+        (L.forest source.old) items)) result }
+    ensures keeps { L.forest source.new ≡ L.forest source.old }
+    ensures was_clean { L.is_clean source.new → L.is_clean source.old }
+{
+    match argument_of(function) {
+        Argument::Items => call_on_items(alloc, function, items),
+        Argument::Nodes => call_on_nodes(alloc, source, function, &items),
+        Argument::Missing => Err(Fault::Code(Code::XPST0017)),
+        Argument::Atoms => {
+            let atoms = atomized(alloc, source, &items)?;
+            call_on_atoms(alloc, function, &atoms)
+        }
+        Argument::Address => {
+            let atoms = atomized(alloc, source, &items)?;
+            match function {
+                Function::Doc => doc(alloc, addresses, &atoms),
+                _ => doc_available(alloc, addresses, &atoms),
+            }
+        }
+    }
+}
+
+/// A call without arguments, at a focus.
+fn on_focus<L: RowLender>(
+    alloc: Global,
+    source: &mut L,
+    addresses: &Addresses,
+    function: Function,
+    focus: Focus<'_>,
+) -> Result<Items, Fault>
+    ensures gives { L.is_clean source.new → GivesUnlessWanting (items_of (L.forest source.old))
+        (at_focus function (L.forest source.old) addresses.now (spot_at (L.forest source.old)
+        focus.entry)) result }
+    ensures keeps { L.forest source.new ≡ L.forest source.old }
+    ensures was_clean { L.is_clean source.new → L.is_clean source.old }
+{
+    match function {
+        Function::Position => Ok(single(alloc, Item::Atom(Atom::Int(focus.position as i64)))?),
+        Function::Last => Ok(single(alloc, Item::Atom(Atom::Int(focus.last as i64)))?),
+        _ => {
+            let items = context_argument(alloc, source, function, focus.item)?;
+            on_one(alloc, source, addresses, function, items)
+        }
+    }
+}
+
+/// A call without arguments.
+fn on_none<L: RowLender>(
+    alloc: Global,
+    source: &mut L,
+    frame: Frame<'_>,
+    function: Function,
+) -> Result<Items, Fault>
+    ensures gives { L.is_clean source.new → GivesUnlessWanting (items_of (L.forest source.old))
+        (Functions.of_none function (L.forest source.old) frame.entry.addresses.now (focus_at
+        (L.forest source.old) frame.entry.focus)) result }
+    ensures keeps { L.forest source.new ≡ L.forest source.old }
+    ensures was_clean { L.is_clean source.new → L.is_clean source.old }
+{
+    match function {
+        Function::Collection => Ok(collection(alloc, frame.addresses)?),
+        Function::True => Ok(single(alloc, Item::Atom(Atom::Bool(true)))?),
+        Function::False => Ok(single(alloc, Item::Atom(Atom::Bool(false)))?),
+        _ => match frame.focus {
+            Some(focus) => on_focus(alloc, source, frame.addresses, function, focus),
+            None => Err(Fault::Code(Code::XPDY0002)),
+        },
+    }
+}
+
+/// A call with two arguments or more.
+fn on_many<L: RowLender>(
+    alloc: Global,
+    source: &mut L,
+    function: Function,
+    arguments: &[Items],
+) -> Result<Items, Fault>
+    ensures gives { L.is_clean source.new → 2 ≤ length arguments.now
+        → (addresses focus : _) → GivesUnlessWanting (items_of (L.forest source.old))
+        (Functions.called function (L.forest source.old) addresses focus (tuple_at
+        (L.forest source.old) (map item_views arguments.now))) result }
+    ensures keeps { L.forest source.new ≡ L.forest source.old }
+    ensures was_clean { L.is_clean source.new → L.is_clean source.old }
+{
+    let atoms = all_atomized(alloc, source, arguments)?;
+    call_on_lists(alloc, function, &atoms)
+}
+
+/// A call of a function with the values of its arguments. XPDY0002 where it asks for the context
+/// item, its position or the last one and there is no focus; XPST0017 where it has no form of so
+/// many arguments.
+pub fn call<W: Growing>(
+    alloc: Global,
+    world: &mut W,
+    frame: Frame<'_>,
+    function: Function,
+    arguments: Vec<Items>,
+) -> Result<Items, Fault>
+    ensures goes { Goes (W.forest world.old) (W.forest world.new) (W.is_clean world.old)
+        (W.is_clean world.new) }
+    ensures gives { W.is_clean world.new → FrameIn (W.forest world.old) frame.entry
+        → TupleIn (W.forest world.old) (lists_of arguments)
+        → GivesSequence (calling function (frame_at (W.forest world.old) frame.entry) (tuple_at
+        (W.forest world.old) (lists_of arguments)) (W.forest world.old)) (W.forest world.new)
+        result }
+{
+    let mut arguments = arguments;
+    if arguments.len() >= 2 {
+        return on_many(alloc, world, function, &arguments);
+    }
+    match arguments.pop() {
+        Some(items) => on_one(alloc, world, frame.addresses, function, items),
+        None => on_none(alloc, world, frame, function),
+    }
+}

@@ -1,0 +1,125 @@
+//! Steps along the axes (XQuery 3.1, sections 3.3.2 and 3.3.3).
+ghost use Rattle.std.specs.Prelude.{◌≡◌, map};
+ghost use Rattle.xq_regions.specs.Items.{item_view, item_views};
+ghost use Rattle.xq_meaning.specs.Steps.{in_axis_order as in_axis_order_lem, is_reverse as is_reverse_lem};
+ghost use Rattle.xq_meaning.specs.Readings.{items_at, AreIn};
+ghost use Rattle.xq_meaning.specs.Forms as Forms;
+ghost use Rattle.xq_forms.specs.Views.{focus_at, on_axis, after_double_slash, parents_below as parents_below_lem, FrameIn, Goes, GivesSequence};
+
+use crate::frames::Frame;
+use crate::nodes::{as_items, context_node, nodes_among, only_nodes};
+use std::alloc::Global;
+use xq_atoms::Fault;
+use xq_meaning::Test;
+use xq_regions::{Axis, Item, Items};
+use xq_sources::Growing;
+
+/// The nodes on an axis from the context node that pass the test, in axis order.
+pub fn axis_items<W: Growing>(
+    alloc: Global,
+    world: &mut W,
+    frame: Frame<'_>,
+    axis: Axis,
+    test: &Test,
+) -> Result<Items, Fault>
+    ensures goes { Goes (W.forest world.old) (W.forest world.new) (W.is_clean world.old)
+        (W.is_clean world.new) }
+    ensures gives { W.is_clean world.new → FrameIn (W.forest world.old) frame.entry
+        → GivesSequence (on_axis axis test.now (focus_at (W.forest world.old) frame.entry.focus)
+        (W.forest world.old)) (W.forest world.new) result }
+{
+    let node = context_node(frame.focus)?;
+    let nodes = xq_axes::axis(alloc, world, node, axis, test)?;
+    Ok(in_axis_order(axis, as_items(alloc, &nodes)?))
+}
+
+/// Whether the axis goes up or to the left.
+fn is_reverse(axis: Axis) -> bool
+    ensures { result ≡ is_reverse_lem axis }
+{
+    match axis {
+        Axis::Parent
+        | Axis::Ancestor
+        | Axis::AncestorOrSelf
+        | Axis::Preceding
+        | Axis::PrecedingSibling => true,
+        Axis::Child
+        | Axis::Descendant
+        | Axis::DescendantOrSelf
+        | Axis::SelfNode
+        | Axis::Attributes
+        | Axis::Following
+        | Axis::FollowingSibling => false,
+    }
+}
+
+/// The items from document order to axis order, or back.
+pub fn in_axis_order(axis: Axis, items: Items) -> Items
+    ensures { item_views result ≡ in_axis_order_lem axis (item_views items) }
+{
+    let mut ordered = items;
+    if is_reverse(axis) {
+        ordered.reverse();
+    }
+    ordered
+}
+
+/// The nodes on an axis from all items that pass the test, in document order, each once. XPTY0019
+/// where an item is no node.
+pub fn scan<W: Growing>(
+    alloc: Global,
+    world: &mut W,
+    items: &[Item],
+    axis: Axis,
+    test: &Test,
+) -> Result<Items, Fault>
+    ensures goes { Goes (W.forest world.old) (W.forest world.new) (W.is_clean world.old)
+        (W.is_clean world.new) }
+    ensures gives { W.is_clean world.new → AreIn (W.forest world.old) (map item_view items.now)
+        → GivesSequence (Forms.scan axis test.now (items_at (W.forest world.old) (map item_view
+        items.now)) (W.forest world.old)) (W.forest world.new) result }
+{
+    only_nodes(items)?;
+    let contexts = nodes_among(alloc, items)?;
+    let nodes = xq_axes::step(alloc, world, &contexts, axis, test)?;
+    Ok(as_items(alloc, &nodes)?)
+}
+
+/// What `//` and a step to children without predicates lead to from all items (XQuery 3.1, section
+/// 3.3.5): the two steps as one scan of what is below the items. XPTY0019 where an item is no node.
+pub fn double_slash<W: Growing>(
+    alloc: Global,
+    world: &mut W,
+    items: &[Item],
+    test: &Test,
+) -> Result<Items, Fault>
+    ensures goes { Goes (W.forest world.old) (W.forest world.new) (W.is_clean world.old)
+        (W.is_clean world.new) }
+    ensures gives { W.is_clean world.new → AreIn (W.forest world.old) (map item_view items.now)
+        → GivesSequence (after_double_slash test.now (items_at (W.forest world.old) (map item_view
+        items.now)) (W.forest world.old)) (W.forest world.new) result }
+{
+    only_nodes(items)?;
+    let contexts = nodes_among(alloc, items)?;
+    let nodes = xq_axes::double_slash(alloc, world, &contexts, test)?;
+    Ok(as_items(alloc, &nodes)?)
+}
+
+/// The nodes that `//` leads to from all items and that have a child which passes the test, in
+/// document order, each once. A step to such children after `//` gives nothing at any other node,
+/// whatever its predicates are (XQuery 3.1, section 3.3.5). XPTY0019 where an item is no node.
+pub fn parents_below<W: Growing>(
+    alloc: Global,
+    world: &mut W,
+    items: &[Item],
+    test: &Test,
+) -> Result<Items, Fault>
+    ensures goes { Goes (W.forest world.old) (W.forest world.new) (W.is_clean world.old)
+        (W.is_clean world.new) }
+    ensures gives { W.is_clean world.new → AreIn (W.forest world.old) (map item_view items.now)
+        → GivesSequence (parents_below_lem test.now (items_at (W.forest world.old) (map item_view
+        items.now)) (W.forest world.old)) (W.forest world.new) result }
+{
+    let found = double_slash(alloc, world, items, test)?;
+    scan(alloc, world, &found, Axis::Parent, &Test::Any)
+}

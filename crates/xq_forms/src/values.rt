@@ -1,0 +1,119 @@
+//! What is done with values alone: no trees are read.
+ghost use Rattle.std.specs.Prelude.{◌≡◌, ◌∷◌, [], ◌++◌, List, map, flat_map, IfOk};
+ghost use Rattle.xq_regions.specs.Tree.{Tree};
+ghost use Rattle.xq_regions.specs.Tuples.{value_at};
+ghost use Rattle.xq_regions.specs.Items.{item_view, item_views};
+ghost use Rattle.xq_tuples.specs.Views.{values_of};
+ghost use Rattle.xq_meaning.specs.Steps.{context_item as context_item_lem};
+ghost use Rattle.xq_meaning.specs.Doing.{judged};
+ghost use Rattle.xq_meaning.specs.Forms.{kept_if, deciding as deciding_lem};
+ghost use Rattle.xq_forms.specs.Views.{focus_at, FocusIn, GivesSequence};
+
+use crate::frames::Focus;
+use std::alloc::Global;
+use std::rc::Rc;
+use xq_atoms::{Code, Fault, Want};
+use xq_expressions::Quantifier;
+use xq_regions::{Item, Items};
+
+/// The same items.
+pub fn copied(alloc: Global, items: &[Item]) -> Result<Items, Want>
+    ensures { IfOk result (λ copies. item_views copies ≡ map item_view items.now) }
+{
+    let mut copies = Vec::with_capacity(alloc, items.len())?;
+    for item in items {
+        copies.push(item.try_clone(alloc)?)?;
+    }
+    Ok(copies)
+}
+
+/// One item.
+pub fn single(alloc: Global, item: Item) -> Result<Items, Want>
+    ensures { IfOk result (λ items. item_views items ≡ item_view item ∷ []) }
+{
+    let mut items = Vec::new(alloc);
+    items.push(item)?;
+    Ok(items)
+}
+
+/// The value of a slot.
+pub fn slot(alloc: Global, slots: &[Rc<Items>], slot: usize) -> Result<Items, Want>
+    ensures { IfOk result (λ items. item_views items ≡ value_at slot (values_of slots.now)) }
+{
+    if slot >= slots.len() {
+        return Ok(Vec::new(alloc));
+    }
+    copied(alloc, &slots[slot])
+}
+
+/// The context item (XQuery 3.1, section 3.1.4); XPDY0002 where there is none.
+pub fn context_item(alloc: Global, focus: Option<Focus<'_>>) -> Result<Items, Fault>
+    ensures { (trees : List Tree) → FocusIn trees focus.entry
+        → GivesSequence (judged
+        (context_item_lem (focus_at trees focus.entry)) trees) trees result }
+{
+    match focus {
+        None => Err(Fault::Code(Code::XPDY0002)),
+        Some(focus) => Ok(single(alloc, focus.item.try_clone(alloc)?)?),
+    }
+}
+
+/// The slots, and after them those of a tuple.
+pub fn joined(
+    alloc: Global,
+    slots: &[Rc<Items>],
+    tuple: &[Rc<Items>],
+) -> Result<Vec<Rc<Items>>, Want>
+    ensures { IfOk result (λ all. values_of all.items ≡ values_of slots.now ++ values_of
+        tuple.now) }
+{
+    let mut all = slots.to_vec(alloc)?;
+    let mut more = tuple.to_vec(alloc)?;
+    all.append(&mut more)?;
+    Ok(all)
+}
+
+/// The slots, and after them one that holds the item.
+pub fn opened(alloc: Global, slots: &[Rc<Items>], item: &Item) -> Result<Vec<Rc<Items>>, Want>
+    ensures { IfOk result (λ all. values_of all.items
+        ≡ values_of slots.now ++ (item_view item.now ∷ []) ∷ []) }
+{
+    let mut all = slots.to_vec(alloc)?;
+    let value = single(alloc, item.try_clone(alloc)?)?;
+    all.push(Rc::new(alloc, value)?)?;
+    Ok(all)
+}
+
+/// The items, and a copy of one more where `keeps` says so.
+pub fn push_copy(alloc: Global, items: Items, item: &Item, keeps: bool) -> Result<Items, Want>
+    ensures { IfOk result (λ all. item_views all ≡ item_views items ++ kept_if (item_view
+        item.now) keeps) }
+{
+    let mut all = items;
+    if keeps {
+        all.push(item.try_clone(alloc)?)?;
+    }
+    Ok(all)
+}
+
+/// The items of all lists.
+pub fn concatenated(alloc: Global, lists: Vec<Items>) -> Result<Items, Want>
+    ensures { IfOk result (λ items. item_views items ≡ flat_map item_views lists.items) }
+{
+    let mut items = Vec::new(alloc);
+    for list in lists {
+        let mut more = list;
+        items.append(&mut more)?;
+    }
+    Ok(items)
+}
+
+/// The answer at which a quantifier stops (XQuery 3.1, section 3.16).
+pub fn deciding(quantifier: Quantifier) -> bool
+    ensures { result ≡ deciding_lem quantifier }
+{
+    match quantifier {
+        Quantifier::Some => true,
+        Quantifier::Every => false,
+    }
+}

@@ -1,0 +1,378 @@
+-- Steps, paths and operators that are derived are read.
+use Rattle.std.proofs.Common.{◌≡◌, ℕ, zero, suc, ◌<◌, ◌≤◌, Bool, true, false, List, [], ◌∷◌, length, Some, refl, ap, subst, ◌∙◌, arith, inl, inr}
+use Rattle.std.specs.Prelude.{◌||◌}
+use Rattle.xq_lexer.specs.Lexeme.{Lex, name, prefixed, int, dec, str, symbol}
+use Rattle.xq_lexer.specs.declared.tokens.Symbol.TheVariants as s
+use Rattle.xq_expressions.specs.declared.operators.Sign.{Sign}
+use Rattle.xq_expressions.specs.declared.expressions.Expr.{Expr}
+use Rattle.xq_expressions.specs.declared.expressions.Expr.TheVariants as e
+use Rattle.xq_expressions.specs.declared.expressions.Step.{Step}
+use Rattle.xq_parser.specs.Look.{Tokens, Table, lookup, same, same_symbol, word, begins_step}
+use Rattle.xq_parser.specs.Rel.{Rel, OneOf, ◌&◌, ◌▹◌, ◌⟨$⟩◌, ◌∣◌, Many}
+use Rattle.xq_parser.specs.Grammar as g
+use Rattle.xq_parser.specs.private.Reading.{Outcome, Parser, and_then, one_of, begins, is, expect, only, many, many_from, begins_primary, begins_lone, begins_flwor, begins_quantified, begins_if, begins_union}
+use Rattle.xq_parser.specs.private.Reading as r
+use Rattle.xq_parser.proofs.Tokens.{every, every_found}
+use Rattle.xq_parser.proofs.Moves.{AllMove, one, is_plain, move-one_of, move-∣, move-many}
+use Rattle.xq_parser.proofs.LinesMove as m
+use Rattle.xq_parser.proofs.Rank.{rank, rank_of, has_rank, table_stops, begins_path, begins_phrase, step_is_path, path_is_phrase, path_no_sign, phrase_no_brace, Plain}
+use Rattle.xq_parser.proofs.NameLines.{axis_reads}
+use Rattle.xq_parser.proofs.PrimaryLines as p
+use Rattle.xq_parser.proofs.PrimaryLines.{bracket_rank, bracket_stops, close_bracket_low}
+use Rattle.xq_parser.proofs.Complete.{is_fixed, Fits, Deeper, fits_after, Reads, Item, value_is, only_at, is_at, one_of_at, begins_at, item-▹, item-one_of, reads-chain, reads-optional, reads-many, reads-&, reads-∣, reads-◃, reads-open}
+
+-- ---- ranks of the operators
+
+all_signs : every (has_rank 70) g.signs ≡ true
+unfolding rank_of
+all_signs = refl
+
+all_products : every (has_rank 80) g.product_operators ≡ true
+unfolding rank_of lookup same
+all_products = refl
+
+all_sets : every (has_rank 100) g.set_operators ≡ true
+unfolding rank_of lookup same
+all_sets = refl
+
+all_comparisons : every (has_rank 40) g.comparisons ≡ true
+unfolding rank_of lookup same
+all_comparisons = refl
+
+all_separators : every (has_rank 130) g.separators ≡ true
+unfolding rank_of
+all_separators = refl
+
+-- a token alone
+only_stops : (t : Lex) (r : ℕ) → r ≤ 200 → every (has_rank r) (only t) ≡ true → (us : Tokens) → rank us < r → is t us ≡ false
+only_stops t r high h us low = table_stops (only t) r high h us low
+
+or_rank : (rank_of (word "or") ≡ 20) × (every (has_rank 20) (only (word "or")) ≡ true)
+unfolding rank_of lookup same
+or_rank = (refl, refl)
+
+and_rank : (rank_of (word "and") ≡ 30) × (every (has_rank 30) (only (word "and")) ≡ true)
+unfolding rank_of lookup same
+and_rank = (refl, refl)
+
+concat_rank : (rank_of (symbol s.DoubleBar) ≡ 50) × (every (has_rank 50) (only (symbol s.DoubleBar)) ≡ true)
+unfolding rank_of
+concat_rank = (refl, refl)
+
+to_rank : (rank_of (word "to") ≡ 60) × (every (has_rank 60) (only (word "to")) ≡ true)
+unfolding rank_of lookup same
+to_rank = (refl, refl)
+
+union_rank : (rank_of (word "union") ≡ 90) × (every (has_rank 90) (only (word "union")) ≡ true)
+unfolding rank_of lookup same
+union_rank = (refl, refl)
+
+bar_rank : (rank_of (symbol s.Bar) ≡ 90) × (every (has_rank 90) (only (symbol s.Bar)) ≡ true)
+unfolding rank_of
+bar_rank = (refl, refl)
+
+union_stops : (us : Tokens) → rank us < 90 → begins_union us ≡ false
+unfolding begins_union
+union_stops us low = rw (only_stops (word "union") 90 (omega arith) union_rank.1 us low, only_stops (symbol s.Bar) 90 (omega arith) bar_rank.1 us low) refl
+
+no_word_at_bar : (us : Tokens) → is (word "union") (symbol s.Bar ∷ us) ≡ false
+unfolding begins lookup same
+no_word_at_bar us = refl
+
+-- what begins a step, a path, an operand
+pub record StepBegins (ts : Tokens) : Type 0 where
+  pub plain : Plain ts
+  pub step : begins_step ts ≡ true
+
+pub record PathBegins (ts : Tokens) : Type 0 where
+  pub plain : Plain ts
+  pub path : begins_path ts ≡ true
+
+pub record Begins (ts : Tokens) : Type 0 where
+  pub plain : Plain ts
+  pub phrase : begins_phrase ts ≡ true
+
+no_brace : (ts : Tokens) → Begins ts → r.begins_brace ts ≡ false
+no_brace ts b = phrase_no_brace ts b.phrase
+
+step_no_brace : (ts : Tokens) → StepBegins ts → r.begins_brace ts ≡ false
+step_no_brace ts b = phrase_no_brace ts (path_is_phrase ts (step_is_path ts b.step))
+
+slash_plain : (c : _) (ts : Tokens) → Plain (symbol c ∷ ts)
+unfolding begins_flwor begins_quantified begins_if
+slash_plain c ts = record { no_flwor = refl; no_quantified = refl; no_if = refl }
+
+lone_begins : (ts : Tokens) → begins_step ts ≡ false → begins_lone (symbol s.Slash ∷ ts) ≡ true
+unfolding begins_lone
+lone_begins ts h = rw h refl
+
+rooted_begins : (ts : Tokens) → begins_step ts ≡ true → begins_lone (symbol s.Slash ∷ ts) ≡ false
+unfolding begins_lone
+rooted_begins ts h = rw h refl
+
+-- a step begins with no slash
+step_no_slash : (ts : Tokens) → begins_step ts ≡ true → (begins_lone ts ≡ false) × (is (symbol s.Slash) ts ≡ false) × (is (symbol s.DoubleSlash) ts ≡ false)
+unfolding begins_lone begins lookup same same_symbol
+step_no_slash [] h = absurd cc
+step_no_slash (name n ∷ ts) h = (refl, refl, refl)
+step_no_slash (prefixed p n ∷ ts) h = (refl, refl, refl)
+step_no_slash (int n ∷ ts) h = (refl, refl, refl)
+step_no_slash (dec n ∷ ts) h = (refl, refl, refl)
+step_no_slash (str n ∷ ts) h = (refl, refl, refl)
+step_no_slash (symbol s.Slash ∷ ts) h = absurd cc
+step_no_slash (symbol s.DoubleSlash ∷ ts) h = absurd cc
+step_no_slash (symbol _ ∷ ts) h = (refl, refl, refl)
+
+abbrev is_sign : Lex → Bool
+is_sign (symbol s.Plus) = true
+is_sign (symbol s.Minus) = true
+is_sign _ = false
+
+sign_begins : (t : Lex) (ts : Tokens) → is_sign t ≡ true → Begins (t ∷ ts)
+sign_begins (name n) ts h = absurd cc
+sign_begins (prefixed p n) ts h = absurd cc
+sign_begins (int n) ts h = absurd cc
+sign_begins (dec n) ts h = absurd cc
+sign_begins (str n) ts h = absurd cc
+sign_begins (symbol s.Plus) ts h = record { plain = slash_plain s.Plus ts; phrase = refl }
+sign_begins (symbol s.Minus) ts h = record { plain = slash_plain s.Minus ts; phrase = refl }
+sign_begins (symbol _) ts h = absurd cc
+
+module _ (Single : Rel Expr) (single : Parser Expr) (d : ℕ) (single-moves : AllMove Single)
+    (single-begins : (ts : Tokens) (a : Expr) (us : Tokens) → Single ts a us → begins_phrase ts ≡ true)
+    (single-reads : (ts : Tokens) (a : Expr) (us : Tokens) → Single ts a us → rank us < 20 → Deeper d ts → single ts ≡ Some (a, us)) where
+  -- ---- predicates and steps
+
+  predicate_line : (any : ℕ) → Reads (Fits d) (λ ts. rank ts < 200) any (g.Predicate Single) (r.predicate single)
+  unfolding r.predicate rank
+  predicate_line any =
+      reads-open d (λ ts. rank ts < 200) (p.Phrase Single single d single-moves single-begins single-reads) any (symbol s.OpenBracket) _ _ refl (λ _ _ _. refl) (λ ts _. rw bracket_rank (omega arith))
+      (reads-◃ (Deeper d) (p.Phrase Single single d single-moves single-begins single-reads) 10 any _ _ (symbol s.CloseBracket) refl close_bracket_low (p.whole_line Single single d single-moves single-begins single-reads))
+
+  predicate_item : Item (Fits d) 200 (g.Predicate Single) (is (symbol s.OpenBracket)) (r.predicate single)
+  predicate_item = record {
+    line = predicate_line 200;
+    tests = λ ts a us w. rw w.1 (is_at (symbol s.OpenBracket) w.0 refl);
+    moves = m.predicate-moves Single single-moves;
+    shorter = λ ts a us w. let len = (m.whole-moves Single single-moves w.0 a _ w.2).shorter in rw w.1 (omega (arith, len));
+  }
+
+  predicates_line : Reads (Fits d) (λ ts. rank ts < 200) 140 (Many (g.Predicate Single)) (r.predicates single)
+  unfolding r.predicates
+  predicates_line = reads-many (Fits d) (fits_after d) 200 140 (g.Predicate Single) (is (symbol s.OpenBracket)) (r.predicate single) predicate_item (omega arith) bracket_stops
+
+  axis_at : (ts : Tokens) → begins_primary ts ≡ false → r.step single ts ≡ r.predicated single ts
+  unfolding r.step
+  axis_at ts h = rw h refl
+
+  primary_at : (ts : Tokens) → begins_primary ts ≡ true → r.step single ts ≡ r.primary_step single ts
+  unfolding r.step
+  primary_at ts h = rw h refl
+
+  step_reads : (ts : Tokens) (a : Step) (us : Tokens) → g.StepRel Single ts a us → rank us < 140 → Fits d ts → r.step single ts ≡ Some (a, us)
+  unfolding r.predicated r.primary_step
+  step_reads ts a us (inl w) low f =
+      let x = axis_reads Single ts w.0.0 w.1.0 w.1.1 (predicates_line.starts w.1.0 w.0.1 us w.1.2 low) in
+      let ps = predicates_line.reads w.1.0 w.0.1 us w.1.2 low (fits_after d ts w.1.0 (m.axis-step-moves Single single-moves ts w.0.0 w.1.0 w.1.1) f) in
+      let read : r.predicated single ts ≡ Some (a, us) = rw (x.reads, ps) (value_is us w.2) in
+      axis_at ts x.begun.no_primary ∙ read
+  step_reads ts a us (inr w) low f =
+      let x = p.primary_reads Single single d single-moves single-begins single-reads ts w.0.0 w.1.0 w.1.1 in
+      let ps = predicates_line.reads w.1.0 w.0.1 us w.1.2 low (fits_after d ts w.1.0 (m.primary-moves Single single-moves ts w.0.0 w.1.0 w.1.1) f) in
+      let read : r.primary_step single ts ≡ Some (a, us) = rw (x.reads f, ps) (value_is us w.2) in
+      primary_at ts x.begun.primary ∙ read
+
+  step_starts : (ts : Tokens) (a : Step) (us : Tokens) → g.StepRel Single ts a us → rank us < 140 → StepBegins ts
+  step_starts ts a us (inl w) low =
+      let x = axis_reads Single ts w.0.0 w.1.0 w.1.1 (predicates_line.starts w.1.0 w.0.1 us w.1.2 low) in
+      record { plain = x.begun.plain; step = x.begun.step }
+  step_starts ts a us (inr w) low =
+      let x = p.primary_reads Single single d single-moves single-begins single-reads ts w.0.0 w.1.0 w.1.1 in
+      record { plain = x.begun.plain; step = x.begun.step }
+
+  step_line : Reads (Fits d) StepBegins 140 (g.StepRel Single) (r.step single)
+  step_line = record { reads = step_reads; starts = step_starts }
+
+  -- ---- paths
+
+  next_step_item : Item (Fits d) 140 (OneOf g.separators & g.StepRel Single) (begins g.separators) (r.next_step single)
+  unfolding r.next_step
+  next_step_item = item-one_of (Fits d) StepBegins 140 130 g.separators (g.StepRel Single) (r.step single) (fits_after d) all_separators (omega arith) refl m.separators-move step_no_brace (m.step-moves Single single-moves) step_line
+
+  relative_line : Reads (Fits d) StepBegins 130 (g.Relative Single) (r.relative single)
+  unfolding r.relative
+  relative_line =
+      reads-& (Fits d) (Fits d) StepBegins (λ ts. rank ts < 140) 140 130 (g.StepRel Single) (Many (OneOf g.separators & g.StepRel Single)) (r.step single) (many (begins g.separators) (r.next_step single)) step_line
+      (reads-many (Fits d) (fits_after d) 140 130 (OneOf g.separators & g.StepRel Single) (begins g.separators) (r.next_step single) next_step_item (omega arith) (table_stops g.separators 130 (omega arith) all_separators))
+      (λ ts a us w f. fits_after d ts us (m.step-moves Single single-moves ts a us w) f)
+      (λ ts low. low)
+
+  lone_at : (ts : Tokens) → begins_lone (symbol s.Slash ∷ ts) ≡ true → r.path single (symbol s.Slash ∷ ts) ≡ Some (e.Root, ts)
+  unfolding r.path
+  lone_at ts h = let one : one_of ((symbol s.Slash, e.Root) ∷ []) (symbol s.Slash ∷ ts) ≡ Some (e.Root, ts) = only_at _ (e.Root) ts refl in rw (h, one) refl
+
+  root_at : (ts : Tokens) → begins_lone (symbol s.Slash ∷ ts) ≡ false → r.path single (symbol s.Slash ∷ ts) ≡ r.from_root single (symbol s.Slash ∷ ts)
+  unfolding r.path
+  root_at ts h = rw (h, is_at (symbol s.Slash) ts refl) refl
+
+  below_at : (ts : Tokens) → r.path single (symbol s.DoubleSlash ∷ ts) ≡ r.from_below single (symbol s.DoubleSlash ∷ ts)
+  unfolding r.path begins_lone begins lookup same same_symbol
+  below_at ts = refl
+
+  relative_at : (ts : Tokens) → begins_step ts ≡ true → r.path single ts ≡ r.mapped g.relative (r.relative single) ts
+  unfolding r.path
+  relative_at ts h = let no = step_no_slash ts h in rw (no.0, no.1, no.2) refl
+
+  path_starts : (ts : Tokens) (a : Expr) (us : Tokens) → g.Path Single ts a us → rank us < 130 → PathBegins ts
+  path_starts ts a us (inl w) low = rw w.0 (record { plain = slash_plain s.Slash us; path = refl })
+  path_starts ts a us (inr (inl w)) low = rw w.1.1 (record { plain = slash_plain s.Slash w.1.0; path = refl })
+  path_starts ts a us (inr (inr (inl w))) low = rw w.1.1 (record { plain = slash_plain s.DoubleSlash w.1.0; path = refl })
+  path_starts ts a us (inr (inr (inr w))) low = let b = relative_line.starts ts w.0 us w.1 low in record { plain = b.plain; path = step_is_path ts b.step }
+
+  path_reads : (ts : Tokens) (a : Expr) (us : Tokens) → g.Path Single ts a us → rank us < 130 → Fits d ts → r.path single ts ≡ Some (a, us)
+  unfolding r.from_root r.from_below
+  path_reads ts a us (inl w) low f = rw w.0 (lone_at us (lone_begins us w.1) ∙ value_is us w.2)
+  path_reads ts a us (inr (inl w)) low f =
+      let slash = w.1 in
+      let after = fits_after d ts slash.0 (one (symbol s.Slash) ts slash.0 refl slash.1) f in
+      let inner = relative_line.reads slash.0 w.0 us slash.2 low after in
+      let b = relative_line.starts slash.0 w.0 us slash.2 low in
+      let first : expect (symbol s.Slash) (symbol s.Slash ∷ slash.0) ≡ Some (tt, slash.0) = only_at _ tt slash.0 refl in
+      let read : r.from_root single (symbol s.Slash ∷ slash.0) ≡ Some (a, us) = rw (first, inner) (value_is us w.2) in
+      rw slash.1 (root_at slash.0 (rooted_begins slash.0 b.step) ∙ read)
+  path_reads ts a us (inr (inr (inl w))) low f =
+      let slash = w.1 in
+      let after = fits_after d ts slash.0 (one (symbol s.DoubleSlash) ts slash.0 refl slash.1) f in
+      let inner = relative_line.reads slash.0 w.0 us slash.2 low after in
+      let first : expect (symbol s.DoubleSlash) (symbol s.DoubleSlash ∷ slash.0) ≡ Some (tt, slash.0) = only_at _ tt slash.0 refl in
+      let read : r.from_below single (symbol s.DoubleSlash ∷ slash.0) ≡ Some (a, us) = rw (first, inner) (value_is us w.2) in
+      rw slash.1 (below_at slash.0 ∙ read)
+  path_reads ts a us (inr (inr (inr w))) low f =
+      let b = relative_line.starts ts w.0 us w.1 low in
+      relative_at ts b.step ∙ rw (relative_line.reads ts w.0 us w.1 low f) (value_is us w.2)
+
+  path_line : Reads (Fits d) PathBegins 130 (g.Path Single) (r.path single)
+  path_line = record { reads = path_reads; starts = path_starts }
+
+  -- ---- signs
+
+  sign_line : (ts : Tokens) (a : Sign) (us : Tokens) → OneOf g.signs ts a us → Begins ts
+  sign_line ts a us w = rw w.1 (sign_begins w.0 us (every_found is_sign g.signs w.0 a refl w.2))
+
+  signs_from : (xs : List Sign) (n : ℕ) (ts us : Tokens) → length ts ≤ n → Many (OneOf g.signs) ts xs us → begins g.signs us ≡ false → many_from (begins g.signs) (one_of g.signs) n ts ≡ Some (xs, us)
+  unfolding many_from
+  signs_from [] zero ts us len w stop = ap (λ (x : Tokens). Some ([], x)) w
+  signs_from [] (suc n) ts us len w stop = rw (w, stop) refl
+  signs_from (x ∷ xs) zero ts us len w stop = let none : length (w.1.0 ∷ w.0) ≤ 0 = subst (λ (y : Tokens). length y ≤ 0) w.1.1 len in absurd (omega (arith, none))
+  signs_from (x ∷ xs) (suc n) ts us len w stop =
+      let fewer : length (w.1.0 ∷ w.0) ≤ suc n = subst (λ (y : Tokens). length y ≤ suc n) w.1.1 len in
+      let more = signs_from xs n w.0 us (omega (arith, fewer)) w.2 stop in
+      rw (w.1.1, begins_at g.signs w.1.0 x w.0 w.1.2, one_of_at g.signs w.1.0 x w.0 w.1.2, more) refl
+
+  signs_read : (xs : List Sign) (ts us : Tokens) → Many (OneOf g.signs) ts xs us → begins g.signs us ≡ false → many (begins g.signs) (one_of g.signs) ts ≡ Some (xs, us)
+  unfolding many
+  signs_read xs ts us w stop = signs_from xs (length ts) ts us (omega arith) w stop
+
+  signs_begin : (xs : List Sign) (ts us : Tokens) → Many (OneOf g.signs) ts xs us → PathBegins us → Begins ts
+  signs_begin [] ts us w b = rw w (record { plain = b.plain; phrase = path_is_phrase us b.path })
+  signs_begin (x ∷ xs) ts us w b = sign_line ts x w.0 w.1
+
+  unary_line : Reads (Fits d) Begins 130 (g.Unary Single) (r.unary single)
+  unfolding r.unary
+  unary_line = record {
+    reads = λ ts a us w low f.
+        let b = path_starts w.1.0 w.0.1 us w.1.2 low in
+        let first = signs_read w.0.0 ts w.1.0 w.1.1 (path_no_sign w.1.0 b.path) in
+        let path = path_reads w.1.0 w.0.1 us w.1.2 low (fits_after d ts w.1.0 (move-many _ m.signs-move ts w.0.0 w.1.0 w.1.1) f) in
+        rw (first, path) (value_is us w.2);
+    starts = λ ts a us w low. signs_begin w.0.0 ts w.1.0 w.1.1 (path_starts w.1.0 w.0.1 us w.1.2 low);
+  }
+
+  -- ---- operators
+
+  chained : {A : Type 0} (follow last rank_ : ℕ) (table : Table A) (value : Expr × List (A × Expr) → Expr) (P : Rel Expr) (p : Parser Expr)
+      → every (has_rank rank_) table ≡ true → rank_ < follow → last ≤ rank_ → rank_ ≤ 200 → every is_plain table ≡ true
+      → AllMove P → Reads (Fits d) Begins follow P p
+      → Reads (Fits d) Begins last (value ⟨$⟩ P & Many (OneOf table & P)) (r.mapped value (r.both p (many (begins table) (r.both (one_of table) p))))
+  chained follow last rank_ table value P p ranks low within high all moves line =
+      reads-chain (Fits d) Begins follow last value P p (OneOf table & P) (begins table) _ (fits_after d) line moves
+      (item-one_of (Fits d) Begins follow rank_ table P p (fits_after d) ranks low all (move-one_of table all) no_brace moves line) (omega (arith, low, within))
+      (λ us low_us. table_stops table rank_ high ranks us (omega (arith, low_us, within)))
+
+  joined : (follow last : ℕ) (t : Lex) (value : Expr × List Expr → Expr) (P : Rel Expr) (p : Parser Expr)
+      → every (has_rank last) (only t) ≡ true → rank_of t < follow → last ≤ follow → last ≤ 200 → is_plain t ≡ true → is_fixed t ≡ true
+      → AllMove P → Reads (Fits d) Begins follow P p
+      → Reads (Fits d) Begins last (value ⟨$⟩ P & Many (t ▹ P)) (r.mapped value (r.both p (many (is t) (r.after t p))))
+  joined follow last t value P p ranks low within high all known moves line =
+      reads-chain (Fits d) Begins follow last value P p (t ▹ P) (is t) _ (fits_after d) line moves
+      (item-▹ (Fits d) Begins follow t P p (fits_after d) known low all no_brace moves line) within
+      (λ us low_us. table_stops (only t) last high ranks us low_us)
+
+  inter_line : Reads (Fits d) Begins 100 (g.Inter Single) (r.inter single)
+  unfolding r.inter r.set_item
+  inter_line = chained 130 100 100 g.set_operators (g.chain e.SetOperation) (g.Unary Single) (r.unary single) all_sets (omega arith) (omega arith) (omega arith) refl (m.unary-moves Single single-moves) unary_line
+
+  union_item : Item (Fits d) 100 ((word "union" ▹ g.Inter Single) ∣ (symbol s.Bar ▹ g.Inter Single)) begins_union (r.union_item single)
+  unfolding r.union_item begins_union
+  union_item = record {
+    line = reads-∣ (Fits d) (λ ts. rank ts < 100) 100 (is (word "union")) _ _ _ _ by_word.line by_bar.line
+        (λ ts a us w low. by_word.tests ts a us w)
+        (λ ts a us w low. rw w.1 (no_word_at_bar w.0));
+    tests = tested;
+    moves = move-∣ _ _ by_word.moves by_bar.moves;
+    shorter = shortened;
+  }
+    where
+      by_word : Item (Fits d) 100 (word "union" ▹ g.Inter Single) (is (word "union")) (r.after (word "union") (r.inter single))
+      by_word = item-▹ (Fits d) Begins 100 (word "union") (g.Inter Single) (r.inter single) (fits_after d) refl (rw union_rank.0 (omega arith)) refl no_brace (m.inter-moves Single single-moves) inter_line
+
+      by_bar : Item (Fits d) 100 (symbol s.Bar ▹ g.Inter Single) (is (symbol s.Bar)) (r.after (symbol s.Bar) (r.inter single))
+      by_bar = item-▹ (Fits d) Begins 100 (symbol s.Bar) (g.Inter Single) (r.inter single) (fits_after d) refl (rw bar_rank.0 (omega arith)) refl no_brace (m.inter-moves Single single-moves) inter_line
+
+      tested : (ts : Tokens) (a : Expr) (us : Tokens) → ((word "union" ▹ g.Inter Single) ∣ (symbol s.Bar ▹ g.Inter Single)) ts a us → (is (word "union") ts || is (symbol s.Bar) ts) ≡ true
+      tested ts a us (inl w) = rw (by_word.tests ts a us w) refl
+      tested ts a us (inr w) = rw (w.1, no_word_at_bar w.0) (is_at (symbol s.Bar) w.0 refl)
+
+      shortened : (ts : Tokens) (a : Expr) (us : Tokens) → ((word "union" ▹ g.Inter Single) ∣ (symbol s.Bar ▹ g.Inter Single)) ts a us → length us < length ts
+      shortened ts a us (inl w) = by_word.shorter ts a us w
+      shortened ts a us (inr w) = by_bar.shorter ts a us w
+
+  union_line : Reads (Fits d) Begins 90 (g.Union Single) (r.union single)
+  unfolding r.union
+  union_line =
+      reads-chain (Fits d) Begins 100 90 (g.several e.Union) (g.Inter Single) (r.inter single) _ begins_union (r.union_item single) (fits_after d) inter_line (m.inter-moves Single single-moves)
+      union_item (omega arith) union_stops
+
+  product_line : Reads (Fits d) Begins 80 (g.Prod Single) (r.product single)
+  unfolding r.product r.product_item
+  product_line = chained 90 80 80 g.product_operators (g.chain e.Product) (g.Union Single) (r.union single) all_products (omega arith) (omega arith) (omega arith) refl (m.union-moves Single single-moves) union_line
+
+  sum_line : Reads (Fits d) Begins 70 (g.Sum Single) (r.sum single)
+  unfolding r.sum r.sum_item
+  sum_line = chained 80 70 70 g.signs (g.chain e.Sum) (g.Prod Single) (r.product single) all_signs (omega arith) (omega arith) (omega arith) refl (m.product-moves Single single-moves) product_line
+
+  range_line : Reads (Fits d) Begins 60 (g.Range Single) (r.range single)
+  unfolding r.range r.range_item
+  range_line =
+      reads-optional (Fits d) Begins 70 60 g.ranged (g.Sum Single) (r.sum single) (word "to" ▹ g.Sum Single) (is (word "to")) _ (fits_after d) sum_line (m.sum-moves Single single-moves)
+      (item-▹ (Fits d) Begins 70 (word "to") (g.Sum Single) (r.sum single) (fits_after d) refl (rw to_rank.0 (omega arith)) refl no_brace (m.sum-moves Single single-moves) sum_line) (omega arith)
+      (λ us low. table_stops (only (word "to")) 60 (omega arith) to_rank.1 us low)
+
+  concat_line : Reads (Fits d) Begins 50 (g.Concat Single) (r.concat single)
+  unfolding r.concat r.concat_item
+  concat_line = joined 60 50 (symbol s.DoubleBar) (g.several e.Concat) (g.Range Single) (r.range single) concat_rank.1 (rw concat_rank.0 (omega arith)) (omega arith) (omega arith) refl refl (m.range-moves Single single-moves) range_line
+
+  comparison_line : Reads (Fits d) Begins 40 (g.Comp Single) (r.comparison single)
+  unfolding r.comparison r.comparison_item
+  comparison_line =
+      reads-optional (Fits d) Begins 50 40 g.compared (g.Concat Single) (r.concat single) (OneOf g.comparisons & g.Concat Single) (begins g.comparisons) _ (fits_after d) concat_line (m.concat-moves Single single-moves)
+      (item-one_of (Fits d) Begins 50 40 g.comparisons (g.Concat Single) (r.concat single) (fits_after d) all_comparisons (omega arith) refl m.comparisons-move no_brace (m.concat-moves Single single-moves) concat_line) (omega arith)
+      (table_stops g.comparisons 40 (omega arith) all_comparisons)
+
+  and_line : Reads (Fits d) Begins 30 (g.And Single) (r.conjunction single)
+  unfolding r.conjunction r.and_item
+  and_line = joined 40 30 (word "and") (g.several e.And) (g.Comp Single) (r.comparison single) and_rank.1 (rw and_rank.0 (omega arith)) (omega arith) (omega arith) refl refl (m.comparison-moves Single single-moves) comparison_line
+
+  pub or_line : Reads (Fits d) Begins 20 (g.Or Single) (r.disjunction single)
+  unfolding r.disjunction r.or_item
+  or_line = joined 30 20 (word "or") (g.several e.Or) (g.And Single) (r.conjunction single) or_rank.1 (rw or_rank.0 (omega arith)) (omega arith) (omega arith) refl refl (m.and-moves Single single-moves) and_line

@@ -1,9 +1,0 @@
-use Rattle.std.proofs.Common.{◌≡◌, ◌≤◌, length, take}
-use Rattle.xq_scopes.proofs.Scope.leave.Given as goal
-
-abbrev pub invariant-loop-self : goal.invariant-loop-self
-invariant-loop-self l =
-    (l.self ≡ take (length l.self) l.initial.self) × (l.place ≤ length l.initial.self → l.place ≤ length l.self) × (length l.initial.self ≤ l.place → length l.initial.self ≤ length l.self)
-
-abbrev pub decreases-loop-self : goal.decreases-loop-self
-decreases-loop-self l = length l.self

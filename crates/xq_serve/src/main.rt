@@ -1,0 +1,106 @@
+//! The program: answers the frames of its standard input, as they come, over a database in
+//! memory or in a file, and writes each reply to its standard output.
+#![tactic(auto)]
+
+use sqlite::Alter;
+use std::alloc::AllocError;
+use std::io::{BufReader, ErrorKind, Write};
+use std::process::ExitCode;
+use std::rt::Env;
+use std::{env, io};
+use xq_command::endings::outcome;
+use xq_command::tasks::Asked;
+use xq_command::words::asked;
+use xq_rows::Store;
+use xq_server::{End, Server};
+use xq_stores::{DiskStore, MemoryStore};
+
+/// The program ends once it has answered so many frames.
+const MAX_FRAMES: u64 = 1_000_000;
+
+/// How the program ends where there is no store to serve, whatever the cause.
+const CANNOT_OPEN: (u8, &str) = (1, "xq_server: cannot open the store");
+
+fn main(rt: HostRuntime) -> ExitCode {
+    let (status, line) = conclusion(&rt);
+    if !line.is_empty() {
+        let _ = eprintln!(rt; "{line}");
+    }
+    ExitCode::from(status)
+}
+
+/// Does the program's work, and gives its exit status and its line on standard error.
+fn conclusion(rt: &HostRuntime) -> (u8, &'static str) {
+    match asked_by_arguments(rt) {
+        Asked::InMemory => serve_in_memory(rt),
+        Asked::File(path) => serve_file(rt, path.as_str()),
+        Asked::Help(text) => outcome(print_help(rt, text.as_str())),
+        Asked::Bad => (2, "xq_server: bad command line"),
+        Asked::NoRoom => outcome(End::NoRoom),
+    }
+}
+
+fn asked_by_arguments<R: Env + AllocGlobal>(rt: &R) -> Asked {
+    let arguments = match arguments(rt) {
+        Ok(arguments) => arguments,
+        Err(fault) => return fault,
+    };
+    let words: Result<Vec<&str>, AllocError> = arguments
+        .iter()
+        .map(|word| word.as_str())
+        .collect(rt.alloc());
+    match words {
+        Ok(words) => asked(rt.alloc(), words.as_slice()),
+        Err(_) => Asked::NoRoom,
+    }
+}
+
+/// The words after the program's name. One that is no UTF-8 is none that the program knows.
+fn arguments<R: Env + AllocGlobal>(rt: &R) -> Result<Vec<String>, Asked> {
+    match env::args(rt) {
+        Ok(all) => match all.skip(1).collect(rt.alloc()) {
+            Ok(words) => Ok(words),
+            Err(_) => Err(Asked::NoRoom),
+        },
+        Err(error) if error.kind() == ErrorKind::OutOfMemory => Err(Asked::NoRoom),
+        Err(_) => Err(Asked::Bad),
+    }
+}
+
+fn print_help<R: Print>(rt: &R, text: &str) -> End {
+    match io::writer(rt).write_all(text.as_bytes()) {
+        Ok(()) => End::Finished,
+        Err(_) => End::WriteFault,
+    }
+}
+
+fn serve_in_memory<R: Input + Print + AllocGlobal>(rt: &R) -> (u8, &'static str) {
+    let Ok(memory) = MemoryStore::new(rt.alloc()) else {
+        return CANNOT_OPEN;
+    };
+    let (store, end) = serve(rt, memory.into_store());
+    let _ended = MemoryStore { store };
+    outcome(end)
+}
+
+fn serve_file(rt: &HostRuntime, path: &str) -> (u8, &'static str) {
+    let Some(file) = DiskStore::open(rt, path) else {
+        return CANNOT_OPEN;
+    };
+    let (store, end) = serve(rt, file.into_store());
+    let _is_closed = DiskStore { store }.close();
+    outcome(end)
+}
+
+/// Answers the frames of standard input over the store, and gives it back.
+fn serve<R: Input + Print + AllocGlobal, S: Alter + Drop>(
+    rt: &R,
+    store: Store<S>,
+) -> (Store<S>, End) {
+    let mut server = Server::new(rt.alloc(), store);
+    let end = match BufReader::new(rt.alloc(), rt.reader()) {
+        Ok(mut reader) => server.serve(&mut reader, &mut io::writer(rt), MAX_FRAMES),
+        Err(_) => End::NoRoom,
+    };
+    (server.into_store(), end)
+}

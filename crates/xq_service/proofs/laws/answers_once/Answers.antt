@@ -1,5 +1,0 @@
-use Rattle.xq_service.proofs.Once.{one_answer}
-use Rattle.xq_service.proofs.laws.answers_once.Goals as goal
-
-pub returns : goal.returns
-returns c = one_answer c.reads_at_most_once.ensures

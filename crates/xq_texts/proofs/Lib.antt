@@ -1,4 +1,0 @@
-pub mod WordLemmas
-pub mod PositionLemmas
-pub mod PlaceLemmas
-pub mod JoinLemmas
