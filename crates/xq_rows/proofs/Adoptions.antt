@@ -1,11 +1,11 @@
 -- What an adoption comes to, from what it does to the tables.
-use Rattle.std.proofs.Common.{◌≡◌, ◌||◌, Bool, true, false, Option, Some, None, IfSome, IsTrue, refl, sym, ap, subst, ◌∙◌, arith}
+use Rattle.std.proofs.Common.{◌≡◌, ◌≢◌, ◌⊎◌, inl, inr, Bool, true, false, Option, Some, None, IfSome, IsTrue, refl, sym, ap, subst, ◌∙◌, arith}
 use Rattle.std.specs.FinMap.{empty}
 use Rattle.sqlite_trees.specs.declared.store.Store.{Ghosts}
 use Rattle.sqlite.specs.Held.{Held, state}
 use Rattle.sqlite.specs.State.{HasCleanDisk}
 use Rattle.xq_rows.specs.private.Adopt.{IsAdopted, IsNoStore}
-use Rattle.xq_rows.specs.Adoption.{IsBlank, HasTables, HasOneTable}
+use Rattle.xq_rows.specs.Adoption.{IsBlank, HasTables}
 use Rattle.xq_rows.specs.Documents.{IsReady, IsClean, IsOpen, IsUp, HoldsDocuments, StandsFor, documents, documents_in, IsStore}
 use Rattle.xq_rows.proofs.Maps.{no_documents}
 use Rattle.xq_rows.specs.Tables.{node_rows, no_schema, IsStoreSchema}
@@ -36,10 +36,6 @@ module _ {S : Type 0} (g : Ghosts S) (conn new : Held S) where
           let found = (did (clean, ends clean)).found has in
           (found.1, λ opened. (subst IsStore (sym found.0) found.1, ap (λ db. documents_in (node_rows db)) found.0))
 
-      pub never_one : IsClean g new → ¬ HasOneTable g conn
-      unfolding IsClean HasOneTable
-      never_one clean one = (did (clean, ends clean)).alone one
-
   pub told_none : {P : Type 0} → (IsReady (state g new) → P → IsNoStore (state g conn).now) → IsUp g new → P → ¬ IsBlank g conn × ¬ HoldsDocuments g conn
   unfolding IsUp IsBlank HoldsDocuments
   told_none told up none = let no = told up none in (no.some, no.none)
@@ -48,10 +44,23 @@ module _ {S : Type 0} (g : Ghosts S) (conn new : Held S) where
   unfolding IsUp
   kept_up kept up = kept up
 
+-- its tables are others
+pub neither : {S : Type 0} (g : Ghosts S) (conn : Held S) → (state g conn).now.schema ≢ no_schema → ¬ IsStoreSchema (state g conn).now.schema → ¬ IsBlank g conn × ¬ HoldsDocuments g conn
+unfolding IsBlank HoldsDocuments
+neither g conn some other = (some, λ store. other store.schema)
+
 -- What is kept of the database was read after the adoption, which is `mid`.
-module _ {S : Type 0} (g : Ghosts S) (conn mid new : Held S) (one : StaysOutside g conn mid) (two : StaysOutside g mid new) (blank tables : Bool) (was_blank : IsTrue blank → (state g conn).now.schema ≡ no_schema)
-    (had_tables : IsTrue tables → IsStoreSchema (state g conn).now.schema) (same : IsReady (state g new) → (IsTrue tables → IsStoreSchema (state g mid).now.schema) → (state g new).now ≡ (state g mid).now)
+module _ {S : Type 0} (g : Ghosts S) (conn mid new : Held S) (one : StaysOutside g conn mid) (two : StaysOutside g mid new) (blank : Bool) (is_blank : IsTrue blank → (state g conn).now.schema ≡ no_schema)
+    (has_tables : blank ≡ false → IsStoreSchema (state g conn).now.schema) (same : IsReady (state g new) → IsStore (state g mid).now → (state g new).now ≡ (state g mid).now)
     (did : IsReady (state g mid) → IsAdopted (state g conn).now (state g mid).now) where
+  pub known : IsBlank g conn ⊎ HasTables g conn
+  unfolding IsBlank HasTables
+  known = go blank refl
+    where
+      go : (b : Bool) → blank ≡ b → ((state g conn).now.schema ≡ no_schema) ⊎ IsStoreSchema (state g conn).now.schema
+      go true e = inl (is_blank e)
+      go false e = inr (has_tables e)
+
   mid_ready : IsReady (state g new) → IsReady (state g mid)
   mid_ready ready = let c = two.clean in let was : HasCleanDisk (state g mid) = omega (arith, c, ready.0) in (was, two.was_open ready)
 
@@ -65,36 +74,27 @@ module _ {S : Type 0} (g : Ghosts S) (conn mid new : Held S) (one : StaysOutside
   pub ends_on : (HasCleanDisk (state g mid) → IsTrue (state g mid).is_open) → (HasCleanDisk (state g new) → IsTrue (state g mid).is_open → IsTrue (state g new).is_open) → HasCleanDisk (state g new) → IsTrue (state g new).is_open
   ends_on first second clean = let c = two.clean in let was : HasCleanDisk (state g mid) = omega (arith, c, clean) in second clean (first was)
 
+  mid_holds : IsReady (state g mid) → IsStore (state g mid).now
+  mid_holds ready = go blank refl
+    where
+      go : (b : Bool) → blank ≡ b → IsStore (state g mid).now
+      go true e = ((did ready).made (is_blank e)).0
+      go false e = (let found = (did ready).found (has_tables e) in subst IsStore (sym found.0) found.1)
+
   still : IsReady (state g new) → (state g new).now ≡ (state g mid).now
-  still ready = same ready (λ has. subst (λ db. IsStoreSchema db.schema) (sym ((did (mid_ready ready)).found (had_tables has)).0) (had_tables has))
+  still ready = same ready (mid_holds (mid_ready ready))
 
   pub adopted_on : IsReady (state g new) → IsAdopted (state g conn).now (state g new).now
   adopted_on ready = subst (IsAdopted (state g conn).now) (sym (still ready)) (did (mid_ready ready))
 
-  pub kept_on : IsTrue tables → IsReady (state g new) → (state g new).now ≡ (state g conn).now
-  kept_on has ready = ((adopted_on ready).found (had_tables has)).0
+  pub kept_on : blank ≡ false → IsReady (state g new) → (state g new).now ≡ (state g conn).now
+  kept_on has ready = ((adopted_on ready).found (has_tables has)).0
 
-  own_adopted : IsTrue (blank || tables) → IsReady (state g new) → IsStore (state g new).now
-  own_adopted own ready = go blank refl
+  pub keeping_adopted : (shelf : Option Shelf) → (IsReady (state g new) → IsStore (state g mid).now → (IsTrue blank → IsEmptyStore (state g mid).now) → IfSome shelf (λ s. AreOf (state g mid).now s.addresses.value s.fronts.items))
+      → IsKeeping g new shelf
+  keeping_adopted shelf of = record { outside = two.mode; holds = λ ready. subst IsStore (sym (still ready)) (mid_holds (mid_ready ready)); keeps = go shelf of }
     where
-      go : (b : Bool) → blank ≡ b → IsStore (state g new).now
-      go true e = ((adopted_on ready).made (was_blank e)).0
-      go false e = (
-          let has : IsTrue tables = sym (ap (λ b. b || tables) e) ∙ own in
-          let found = (adopted_on ready).found (had_tables has) in
-          subst IsStore (sym found.0) found.1)
-
-  pub keeping_adopted : (shelf : Option Shelf) → (IsReady (state g new) → (IsTrue blank → IsEmptyStore (state g mid).now) → (IsTrue tables → IsStore (state g mid).now) → IfSome shelf (λ s. AreOf (state g mid).now s.addresses.value s.fronts.items))
-      → IfSome shelf (λ s. IsTrue (blank || tables)) → IsKeeping g new (blank || tables) shelf
-  keeping_adopted shelf of own = record { outside = two.mode; own = own_adopted; keeps = go shelf of own }
-    where
-      go : (shelf : Option Shelf) → (IsReady (state g new) → (IsTrue blank → IsEmptyStore (state g mid).now) → (IsTrue tables → IsStore (state g mid).now) → IfSome shelf (λ s. AreOf (state g mid).now s.addresses.value s.fronts.items))
-          → IfSome shelf (λ s. IsTrue (blank || tables)) → Keeps g new (blank || tables) shelf
-      go None of own = tt
-      go (Some s) of own = record {
-        own = own;
-        of = λ ready. (
-            let adopted = did (mid_ready ready) in
-            subst (λ db. AreOf db s.addresses.value s.fronts.items) (sym (still ready))
-            (of ready (λ b. adopted.made (was_blank b)) (λ has. (let found = adopted.found (had_tables has) in subst IsStore (sym found.0) found.1))));
-      }
+      go : (shelf : Option Shelf) → (IsReady (state g new) → IsStore (state g mid).now → (IsTrue blank → IsEmptyStore (state g mid).now) → IfSome shelf (λ s. AreOf (state g mid).now s.addresses.value s.fronts.items)) → Keeps g new shelf
+      go None of = tt
+      go (Some s) of ready =
+          subst (λ db. AreOf db s.addresses.value s.fronts.items) (sym (still ready)) (of ready (mid_holds (mid_ready ready)) (λ b. (did (mid_ready ready)).made (is_blank b)))

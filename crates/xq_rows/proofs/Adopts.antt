@@ -482,14 +482,12 @@ pub adopted_found : (old new : Database) → SeesEdition old → SeesDocuments o
 adopted_found old new edition (ids, nodes) same = record {
   made = λ has. absurd (edition.some (inl has));
   found = λ has. (same, record { schema = has; layout = edition.first (inr has); apart = ids.apart has; ints = ids.ints has; named = nodes.named has; whole = nodes.whole has });
-  alone = λ one. elim one [ inl has ↦ ids.alone has | inr has ↦ edition.some (inr has) ];
 }
 
 pub adopted_made : (old new : Database) → ¬ HasLayout old → MakesStore old new → IsAdopted old new
 adopted_made old new nothing made = record {
   made = made.made;
   found = λ has. absurd (nothing (inr has));
-  alone = λ one. elim one [ inl has ↦ nothing (inl has) | inr has ↦ made.never has ];
 }
 
 -- tables that hold no documents

@@ -74,35 +74,33 @@ module _ {S : Type 0} (g : Ghosts S) where
 
   -- # What is true of a store, after a call
 
-  module _ (conn new : Held S) (stays : StaysOutside g conn new) (is_own : Bool) (shelf : Option Shelf) (keeping : IsKeeping g conn is_own shelf) where
+  module _ (conn new : Held S) (stays : StaysOutside g conn new) (shelf : Option Shelf) (keeping : IsKeeping g conn shelf) where
     pub early : IsReady (state g new) → IsReady (state g conn)
     early ready = let c = stays.clean in let was : HasCleanDisk (state g conn) = omega (arith, c, ready.0) in (was, stays.was_open ready)
 
-    -- a call that leaves the tables alone, where they are those that a store makes
+    -- a call that leaves the tables alone
     module _ (same : IsReady (state g new) → IsStoreSchema (state g conn).now.schema → (state g new).now ≡ (state g conn).now) where
-      own_on : IsTrue is_own → IsReady (state g new) → IsStore (state g new).now
-      own_on own ready = let is = keeping.own own (early ready) in subst IsStore (sym (same ready is.schema)) is
+      holds_on : IsReady (state g new) → IsStore (state g new).now
+      holds_on ready = let is = keeping.holds (early ready) in subst IsStore (sym (same ready is.schema)) is
 
-      keeps_on : (kept : Option Shelf) → Keeps g conn is_own kept → Keeps g new is_own kept
+      keeps_on : (kept : Option Shelf) → Keeps g conn kept → Keeps g new kept
       keeps_on None keeps = tt
-      keeps_on (Some kept) keeps = record {
-        own = keeps.own;
-        of = λ ready. subst (λ db. AreOf db kept.addresses.value kept.fronts.items) (sym (same ready (keeping.own keeps.own (early ready)).schema)) (keeps.of (early ready));
-      }
+      keeps_on (Some kept) keeps ready =
+          subst (λ db. AreOf db kept.addresses.value kept.fronts.items) (sym (same ready (keeping.holds (early ready)).schema)) (keeps (early ready))
 
-      pub forgets : IsKeeping g new is_own None
-      forgets = record { outside = stays.mode; own = own_on; keeps = tt }
+      pub forgets : IsKeeping g new None
+      forgets = record { outside = stays.mode; holds = holds_on; keeps = tt }
 
-      pub goes_on : IsKeeping g new is_own shelf
-      goes_on = record { outside = stays.mode; own = own_on; keeps = keeps_on shelf keeping.keeps }
+      pub goes_on : IsKeeping g new shelf
+      goes_on = record { outside = stays.mode; holds = holds_on; keeps = keeps_on shelf keeping.keeps }
 
     -- a document was put
     pub has_put : (a : List ℕ) → IsAddress a → (t : Tree) → IsDocument t → (rows : List NodeRow) → Encodes rows t → (replaced : Bool) → (IsReady (state g new) → Puts a (map cells (map placed rows)) (state g conn).now (state g new).now replaced)
-        → (front : Front) → IsFront t front.rows.items → (later : Option Shelf) → IfSome later (λ l. (earlier : Shelf) × (shelf ≡ Some earlier) × HasPut earlier l a front) → IsKeeping g new is_own later
+        → (front : Front) → IsFront t front.rows.items → (later : Option Shelf) → IfSome later (λ l. (earlier : Shelf) × (shelf ≡ Some earlier) × HasPut earlier l a front) → IsKeeping g new later
     has_put a good t is rows encodes replaced did front own later edited = record {
       outside = stays.mode;
-      own = λ it ready. (
-          let was = keeping.own it (early ready) in
+      holds = λ ready. (
+          let was = keeping.holds (early ready) in
           let puts = puts_tree ready was in
           store_puts a good t is (state g conn).now puts.0 (state g new).now puts.1 puts.2 was);
       keeps = kept later edited;
@@ -111,67 +109,55 @@ module _ {S : Type 0} (g : Ghosts S) where
         puts_tree : (ready : IsReady (state g new)) → Puts a (map cells (placed_rows t)) (state g conn).now (state g new).now replaced
         puts_tree ready = subst (λ l. Puts a (map cells l) (state g conn).now (state g new).now replaced) (encoded rows t encodes) (did ready)
 
-        kept : (later : Option Shelf) → IfSome later (λ l. (earlier : Shelf) × (shelf ≡ Some earlier) × HasPut earlier l a front) → Keeps g new is_own later
+        kept : (later : Option Shelf) → IfSome later (λ l. (earlier : Shelf) × (shelf ≡ Some earlier) × HasPut earlier l a front) → Keeps g new later
         kept None edited = tt
-        kept (Some l) edited =
-            let before : KeepsShelf g conn is_own edited.0 = subst (Keeps g conn is_own) edited.1 keeping.keeps in
-            record {
-              own = before.own;
-              of = λ ready. (
-                  let was = keeping.own before.own (early ready) in
-                  let puts = puts_tree ready was in
-                  kept_put a good t is (state g conn).now puts.0 (state g new).now puts.1 puts.2 was edited.0 l front edited.2 own (before.of (early ready)));
-            }
+        kept (Some l) edited ready =
+            let before : KeepsShelf g conn edited.0 = subst (Keeps g conn) edited.1 keeping.keeps in
+            let was = keeping.holds (early ready) in
+            let puts = puts_tree ready was in
+            kept_put a good t is (state g conn).now puts.0 (state g new).now puts.1 puts.2 was edited.0 l front edited.2 own (before (early ready))
 
     -- a document was dropped
     pub has_dropped : (a : List ℕ) (count : ℕ) → (IsReady (state g new) → Deletes (is_at a) (state g conn).now (state g new).now count)
-        → (later : Option Shelf) → IfSome later (λ l. (earlier : Shelf) × (shelf ≡ Some earlier) × ShelfHasDropped earlier l a) → IsKeeping g new is_own later
+        → (later : Option Shelf) → IfSome later (λ l. (earlier : Shelf) × (shelf ≡ Some earlier) × ShelfHasDropped earlier l a) → IsKeeping g new later
     has_dropped a count did later edited = record {
       outside = stays.mode;
-      own = λ it ready. (
-          let was = keeping.own it (early ready) in
+      holds = λ ready. (
+          let was = keeping.holds (early ready) in
           store_drops a (state g conn).now (state g new).now (did ready was.schema was.apart was.ints).0 was);
       keeps = kept later edited;
     }
       where
-        kept : (later : Option Shelf) → IfSome later (λ l. (earlier : Shelf) × (shelf ≡ Some earlier) × ShelfHasDropped earlier l a) → Keeps g new is_own later
+        kept : (later : Option Shelf) → IfSome later (λ l. (earlier : Shelf) × (shelf ≡ Some earlier) × ShelfHasDropped earlier l a) → Keeps g new later
         kept None edited = tt
-        kept (Some l) edited =
-            let before : KeepsShelf g conn is_own edited.0 = subst (Keeps g conn is_own) edited.1 keeping.keeps in
-            record {
-              own = before.own;
-              of = λ ready. (
-                  let was = keeping.own before.own (early ready) in
-                  kept_drop a (state g conn).now (state g new).now (did ready was.schema was.apart was.ints).0 was edited.0 l edited.2 (before.of (early ready)));
-            }
+        kept (Some l) edited ready =
+            let before : KeepsShelf g conn edited.0 = subst (Keeps g conn) edited.1 keeping.keeps in
+            let was = keeping.holds (early ready) in
+            kept_drop a (state g conn).now (state g new).now (did ready was.schema was.apart was.ints).0 was edited.0 l edited.2 (before (early ready))
 
   -- with rows of other documents forgotten, the same is true
-  pub roomier : (conn : Held S) (is_own : Bool) (shelf later : Option Shelf) → IsKeeping g conn is_own shelf
-      → IfSome later (λ l. (earlier : Shelf) × (shelf ≡ Some earlier) × (l.addresses ≡ earlier.addresses) × ((trees : List Tree) → AreFronts trees earlier.fronts.items → AreFronts trees l.fronts.items)) → IsKeeping g conn is_own later
-  roomier conn is_own shelf later keeping roomy = record { outside = keeping.outside; own = keeping.own; keeps = go later roomy }
+  pub roomier : (conn : Held S) (shelf later : Option Shelf) → IsKeeping g conn shelf
+      → IfSome later (λ l. (earlier : Shelf) × (shelf ≡ Some earlier) × (l.addresses ≡ earlier.addresses) × ((trees : List Tree) → AreFronts trees earlier.fronts.items → AreFronts trees l.fronts.items)) → IsKeeping g conn later
+  roomier conn shelf later keeping roomy = record { outside = keeping.outside; holds = keeping.holds; keeps = go later roomy }
     where
-      go : (later : Option Shelf) → IfSome later (λ l. (earlier : Shelf) × (shelf ≡ Some earlier) × (l.addresses ≡ earlier.addresses) × ((trees : List Tree) → AreFronts trees earlier.fronts.items → AreFronts trees l.fronts.items)) → Keeps g conn is_own later
+      go : (later : Option Shelf) → IfSome later (λ l. (earlier : Shelf) × (shelf ≡ Some earlier) × (l.addresses ≡ earlier.addresses) × ((trees : List Tree) → AreFronts trees earlier.fronts.items → AreFronts trees l.fronts.items)) → Keeps g conn later
       go None roomy = tt
-      go (Some l) roomy =
-          let before : KeepsShelf g conn is_own roomy.0 = subst (Keeps g conn is_own) roomy.1 keeping.keeps in
+      go (Some l) roomy ready =
+          let before : KeepsShelf g conn roomy.0 = subst (Keeps g conn) roomy.1 keeping.keeps in
           let same : l.addresses.value ≡ roomy.0.addresses.value = ap rc_value roomy.2 in
+          let was = before ready in
           record {
-            own = before.own;
-            of = λ ready. (
-                let was = before.of ready in
-                record {
-                  listed = same ∙ was.listed;
-                  rows = subst (λ ks. AreFronts (map (tree_at (node_rows (state g conn).now)) ks) l.fronts.items) (sym same) (roomy.3 _ was.rows);
-                });
+            listed = same ∙ was.listed;
+            rows = subst (λ ks. AreFronts (map (tree_at (node_rows (state g conn).now)) ks) l.fronts.items) (sym same) (roomy.3 _ was.rows);
           }
 
   -- a new store, of which no address is kept
-  pub keeping_empty : (conn : Held S) → conn.in_transaction ≡ false → IsEmptyStore (state g conn).now → (shelf : Option Shelf) → IfSome shelf (λ s. (s.addresses.value ≡ []) × (s.fronts.items ≡ [])) → IsKeeping g conn true shelf
-  keeping_empty conn mode made shelf are = record { outside = mode; own = λ _ _. made.0; keeps = go shelf are }
+  pub keeping_empty : (conn : Held S) → conn.in_transaction ≡ false → IsEmptyStore (state g conn).now → (shelf : Option Shelf) → IfSome shelf (λ s. (s.addresses.value ≡ []) × (s.fronts.items ≡ [])) → IsKeeping g conn shelf
+  keeping_empty conn mode made shelf are = record { outside = mode; holds = λ _. made.0; keeps = go shelf are }
     where
-      go : (shelf : Option Shelf) → IfSome shelf (λ s. (s.addresses.value ≡ []) × (s.fronts.items ≡ [])) → Keeps g conn true shelf
+      go : (shelf : Option Shelf) → IfSome shelf (λ s. (s.addresses.value ≡ []) × (s.fronts.items ≡ [])) → Keeps g conn shelf
       go None are = tt
-      go (Some s) are = record { own = refl; of = λ _. empty_of (state g conn).now s made are }
+      go (Some s) are = λ _. empty_of (state g conn).now s made are
 
   -- # What is taken
 
@@ -180,15 +166,14 @@ module _ {S : Type 0} (g : Ghosts S) where
   unfolding HoldsDocuments StandsFor
   held_stands store holds opened = (holds, refl)
 
-  module _ (conn old new : Held S) (is : conn ≡ old) (stays : StaysOutside g conn new) (is_own : Bool) (before : Option Shelf) (keeping : IsKeeping g conn is_own before) (shelf : Shelf)
-      (kept : KeepsShelf g conn is_own shelf) where
-    pub taken : (HasCleanDisk (state g new) → IsTrue (state g new).is_open) → IsClean g new → HoldsDocuments g old → AreOf (state g old).now shelf.addresses.value shelf.fronts.items
+  module _ (conn old new : Held S) (is : conn ≡ old) (stays : StaysOutside g conn new) (before : Option Shelf) (keeping : IsKeeping g conn before) where
+    pub taken : (shelf : Shelf) → KeepsShelf g conn shelf → (HasCleanDisk (state g new) → IsTrue (state g new).is_open) → IsClean g new → HoldsDocuments g old → AreOf (state g old).now shelf.addresses.value shelf.fronts.items
     unfolding IsClean HoldsDocuments
-    taken ends now holds = subst (λ (h : Held S). AreOf (state g h).now shelf.addresses.value shelf.fronts.items) is (kept.of (early conn new stays is_own before keeping (now, ends now)))
+    taken shelf kept ends now holds = subst (λ (h : Held S). AreOf (state g h).now shelf.addresses.value shelf.fronts.items) is (kept (early conn new stays before keeping (now, ends now)))
 
     pub taken_own : IsUp g new → IsStoreSchema (state g old).now.schema
     unfolding IsUp
-    taken_own ready = subst (λ (h : Held S). IsStoreSchema (state g h).now.schema) is (keeping.own kept.own (early conn new stays is_own before keeping ready)).schema
+    taken_own ready = subst (λ (h : Held S). IsStoreSchema (state g h).now.schema) is (keeping.holds (early conn new stays before keeping ready)).schema
 
   -- the addresses were listed
   pub taken_anew : {E : Type 0} (conn old new : Held S) → conn ≡ old → (r : Result Shelf E) → (IsReady (state g new) → IsStore (state g conn).now → IfOk r (λ shelf. AreOf (state g conn).now shelf.addresses.value shelf.fronts.items))

@@ -1,13 +1,8 @@
 -- What a database is that may be adopted as a store.
-use Rattle.std.specs.Prelude.{◌≡◌, ◌⊎◌}
+use Rattle.std.specs.Prelude.{◌≡◌}
 use Rattle.sqlite_trees.specs.declared.store.Store.{Ghosts}
-use Rattle.sqlite.specs.Effect.{Database}
 use Rattle.sqlite.specs.Held.{Held, state}
-use Rattle.xq_rows.specs.Tables.{no_schema, layout_schema, node_schema, IsStoreSchema}
-
--- one of the two tables stands without the other
-abbrev pub HasOne : Database → Type 0
-HasOne db = (db.schema ≡ layout_schema) ⊎ (db.schema ≡ node_schema)
+use Rattle.xq_rows.specs.Tables.{no_schema, IsStoreSchema}
 
 -- A connection whose database is to be adopted: `g` are the ghosts of what it keeps its database
 -- in.
@@ -19,7 +14,3 @@ module _ {S : Type 0} (g : Ghosts S) (conn : Held S) where
   -- its tables are the two of a store, whatever rows they have
   unfoldable pub HasTables : Type 0
   HasTables = IsStoreSchema (state g conn).now.schema
-
-  -- it has one of the two tables and not the other
-  unfoldable pub HasOneTable : Type 0
-  HasOneTable = HasOne (state g conn).now

@@ -5,3 +5,4 @@ pub mod Columns
 pub mod Adopt
 pub mod Statements
 pub mod Refusals
+pub mod Schemas

@@ -107,11 +107,10 @@ impl Shelf {
     }
 
     /// These addresses, with no row of a document.
-    pub fn unread(alloc: Global, addresses: Addresses, stays: bool) -> Result<Shelf, Want>
+    pub fn unread(alloc: Global, addresses: Addresses) -> Result<Shelf, Want>
         ensures addresses { IfOk result (λ shelf. shelf.addresses.value ≡ addresses) }
         ensures fronts { IfOk result (λ shelf. (trees : List Tree)
             → length trees ≡ length addresses → AreFronts trees shelf.fronts.items) }
-        ensures stays { IfOk result (λ shelf. shelf.stays ≡ stays) }
     {
         let fronts = no_rows(alloc, addresses.as_slice().len())?;
         Ok(Shelf {
@@ -119,7 +118,7 @@ impl Shelf {
             fronts,
             kept: 0,
             clock: 0,
-            stays,
+            stays: true,
         })
     }
 

@@ -4,14 +4,14 @@
 //! written), which `was_clean` takes back to the call before, and speaks of whichever map the store
 //! stands for as the call begins. A store that has shut, after a fault or where memory ran out in a
 //! commit, stands for the map that it stood for then: each later call is refused, by `answered`.
-ghost use Rattle.std.specs.Prelude.{◌≡◌, ◌||◌, IfErr, IfOk, IfSome, IsTrue, OnErr, OnOk, Some, map, string_bytes, if◌then◌else◌, false};
+ghost use Rattle.std.specs.Prelude.{◌≡◌, ◌⊎◌, IfErr, IfOk, IfSome, IsTrue, OnErr, OnOk, Some, map, string_bytes, if◌then◌else◌, false};
 ghost use Rattle.std.specs.FinMap.{get, insert, remove, keys, contains_key, empty};
 ghost use Rattle.sqlite.specs.Files.{over_files};
 ghost use Rattle.sqlite.specs.Held.{state};
 ghost use Rattle.sqlite.specs.Steps.{over_memory};
 ghost use Rattle.xq_atoms.specs.Address.{IsAddress};
 ghost use Rattle.xq_regions.specs.declared.Kind.TheVariants.{Document};
-ghost use Rattle.xq_rows.specs.Adoption.{IsBlank, HasTables, HasOneTable};
+ghost use Rattle.xq_rows.specs.Adoption.{IsBlank, HasTables};
 ghost use Rattle.xq_regions.specs.Rows.{placed};
 ghost use Rattle.xq_regions.specs.Tree.{IsDocument, Tree};
 ghost use Rattle.sqlite.specs.State.{HasCleanDisk};
@@ -28,7 +28,7 @@ use crate::faults::OpenFault;
 use crate::fronts::with_room;
 use crate::memory_files::open_empty;
 use crate::readings::{check_open, document_of, list_addresses, nodes_above, nodes_between};
-use crate::schemas::{is_blank, is_store_schema};
+use crate::schemas::is_new;
 use crate::shelves::{Front, Shelf, time_of};
 use crate::tables::make_tables;
 use crate::transactions::{drop_rows, put_rows};
@@ -49,9 +49,7 @@ use xq_sources::Addresses;
 pub struct Store<S: Alter> {
     alloc: Global,
     conn: Connection<S>,
-    /// Whether the tables are those that a store makes, and hold documents.
-    is_own: bool,
-    /// What is kept of such tables.
+    /// What is kept of its tables.
     shelf: Option<Shelf>,
 }
 
@@ -65,7 +63,7 @@ impl<S: Alter> Model for Store<S> {
 
     ghost view = { λ s. s.conn };
 
-    ghost invariant = { λ s. IsKeeping S.Store s.conn s.is_own s.shelf };
+    ghost invariant = { λ s. IsKeeping S.Store s.conn s.shelf };
 }
 
 /// Whether a document was new under its address.
@@ -97,7 +95,6 @@ impl Store<MemStore> {
         Ok(Store {
             alloc,
             conn,
-            is_own: true,
             shelf: Shelf::empty(alloc),
         })
     }
@@ -120,7 +117,6 @@ impl Store<FileStore<MemoryDisk>> {
         Ok(Store {
             alloc,
             conn,
-            is_own: true,
             shelf: Shelf::empty(alloc),
         })
     }
@@ -132,9 +128,10 @@ impl<S: Alter> Store<S> {
     ///
     /// Tables that are there are read a row at a time, with the rows of one document in hand; they
     /// are made in one transaction. A refusal gives the connection back, with the database as it
-    /// was: [`OpenFault::NotAStore`] where other tables are there, one of the two alone, another
-    /// edition than 1, or rows that are not those of documents under good addresses, and
-    /// [`OpenFault::Want`] where memory runs out or the database refuses for another cause.
+    /// was: [`OpenFault::NotAStore`] where it holds anything else than the two tables as a store
+    /// makes them, another edition than 1, or rows that are not those of documents under good
+    /// addresses, and [`OpenFault::Want`] where memory runs out or the database refuses for another
+    /// cause.
     pub fn adopt(alloc: Global, conn: Connection<S>) -> Result<Store<S>, (OpenFault, Connection<S>)>
         requires { conn.in_transaction ≡ false }
         ensures made { IfOk result (λ store. IsClean S.Store store → IsBlank S.Store conn
@@ -143,7 +140,7 @@ impl<S: Alter> Store<S> {
             → HoldsDocuments S.Store conn × StandsFor S.Store store (documents S.Store conn)) }
         ensures same { IfOk result (λ store. IsClean S.Store store → HasTables S.Store conn
             → (state S.Store store).now ≡ (state S.Store conn).now) }
-        ensures both { IfOk result (λ store. IsClean S.Store store → ¬ (HasOneTable S.Store conn)) }
+        ensures known { IfOk result (λ store. IsBlank S.Store conn ⊎ HasTables S.Store conn) }
         ensures open { IfOk result (λ store. IsClean S.Store store
             → IsOpen S.Store store × IsOpen S.Store conn) }
         ensures no_store { IfErr result (λ e. IsUp S.Store e.1 → e.0 ≡ OpenFault.NotAStore
@@ -157,18 +154,14 @@ impl<S: Alter> Store<S> {
             → IsOpen S.Store conn) }
     {
         let mut conn = conn;
-        let was_blank = is_blank(conn.schema());
-        let had_tables = is_store_schema(conn.schema());
+        let Some(was_blank) = is_new(conn.schema()) else {
+            return Err((OpenFault::NotAStore, conn));
+        };
         if let Err(fault) = adopt_tables(alloc, &mut conn) {
             return Err((fault, conn));
         }
-        match first_shelf(alloc, &mut conn, was_blank, had_tables) {
-            Ok(shelf) => Ok(Store {
-                alloc,
-                conn,
-                is_own: was_blank | had_tables,
-                shelf,
-            }),
+        match first_shelf(alloc, &mut conn, was_blank) {
+            Ok(shelf) => Ok(Store { alloc, conn, shelf }),
             Err(want) => Err((OpenFault::Want(want), conn)),
         }
     }
@@ -227,10 +220,7 @@ impl<S: Alter> Store<S> {
                 check_open(&mut self.conn)?;
                 Ok(shelf)
             }
-            None => {
-                let stays = is_store_schema(self.conn.schema());
-                list_shelf(self.alloc, &mut self.conn, stays)
-            }
+            None => list_shelf(self.alloc, &mut self.conn),
         }
     }
 
@@ -239,9 +229,7 @@ impl<S: Alter> Store<S> {
         requires { IsKept S.Store self.old shelf }
         ensures { self.new ≡ self.old }
     {
-        if self.is_own {
-            self.shelf = Some(shelf);
-        }
+        self.shelf = Some(shelf);
     }
 
     /// Keeps what was read of the documents.
@@ -371,7 +359,6 @@ impl<S: Alter> Store<S> {
         let Store {
             alloc: _,
             conn,
-            is_own: _,
             shelf: _,
         } = self;
         conn
@@ -379,7 +366,7 @@ impl<S: Alter> Store<S> {
 }
 
 /// The addresses of the documents in the tables, with no row of one.
-fn list_shelf<S: Alter>(alloc: Global, conn: &mut Connection<S>, stays: bool) -> Result<Shelf, Want>
+fn list_shelf<S: Alter>(alloc: Global, conn: &mut Connection<S>) -> Result<Shelf, Want>
     requires { conn.old.in_transaction ≡ false }
     ensures outside { StaysOutside S.Store conn.old conn.new }
     ensures ends_open { HasCleanDisk (state S.Store conn.new)
@@ -390,13 +377,12 @@ fn list_shelf<S: Alter>(alloc: Global, conn: &mut Connection<S>, stays: bool) ->
     ensures shelf { IsReady (state S.Store conn.new) → IsStore (state S.Store conn.old).now
         → IfOk result (λ shelf. AreOf (state S.Store conn.old).now shelf.addresses.value
         shelf.fronts.items) }
-    ensures stays { IfOk result (λ shelf. shelf.stays ≡ stays) }
 {
     let list = list_addresses(alloc, conn)?;
     let Some(addresses) = Addresses::from_rising(list) else {
         return Err(Want::Store);
     };
-    Shelf::unread(alloc, addresses, stays)
+    Shelf::unread(alloc, addresses)
 }
 
 /// A list of the same texts.
@@ -407,37 +393,29 @@ fn copied(alloc: Global, texts: &[String]) -> Result<Vec<String>, Want>
 }
 
 /// What is kept of a database that was adopted: of one that was blank no address, and of one that
-/// has the tables of a store those that they hold.
+/// had the tables of a store those that they hold.
 fn first_shelf<S: Alter>(
     alloc: Global,
     conn: &mut Connection<S>,
     was_blank: bool,
-    had_tables: bool,
 ) -> Result<Option<Shelf>, Want>
     requires { conn.old.in_transaction ≡ false }
     ensures outside { StaysOutside S.Store conn.old conn.new }
     ensures ends_open { HasCleanDisk (state S.Store conn.new)
         → IsTrue (state S.Store conn.old).is_open
         → OnOk result (IsTrue (state S.Store conn.new).is_open) }
-    ensures same { IsReady (state S.Store conn.new)
-        → (IsTrue had_tables → IsStoreSchema (state S.Store conn.old).now.schema)
+    ensures same { IsReady (state S.Store conn.new) → IsStore (state S.Store conn.old).now
         → (state S.Store conn.new).now ≡ (state S.Store conn.old).now }
-    ensures shelf { IsReady (state S.Store conn.new)
+    ensures shelf { IsReady (state S.Store conn.new) → IsStore (state S.Store conn.old).now
         → (IsTrue was_blank → IsEmptyStore (state S.Store conn.old).now)
-        → (IsTrue had_tables → IsStore (state S.Store conn.old).now)
         → IfOk result (λ kept. IfSome kept (λ shelf. AreOf (state S.Store conn.old).now
         shelf.addresses.value shelf.fronts.items)) }
-    ensures own { IfOk result (λ kept. IfSome kept (λ shelf.
-        IsTrue (was_blank || had_tables))) }
-    ensures err { OnErr result (IsTrue had_tables) }
+    ensures err { OnErr result (was_blank ≡ false) }
 {
     if was_blank {
         return Ok(Shelf::empty(alloc));
     }
-    if !had_tables {
-        return Ok(None);
-    }
-    let shelf = list_shelf(alloc, conn, true)?;
+    let shelf = list_shelf(alloc, conn)?;
     Ok(Some(shelf))
 }
 

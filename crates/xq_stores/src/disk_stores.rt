@@ -1,29 +1,45 @@
 //! A store whose documents live in a file.
-ghost use Rattle.std.specs.Prelude.{◌≡◌};
+ghost use Rattle.std.specs.Prelude.{◌≡◌, IfSome};
+ghost use Rattle.sqlite.specs.Files.{file_state, over_files};
+ghost use Rattle.sqlite.specs.Recovery.{Image};
+ghost use Rattle.sqlite.specs.Start.{FindsIn};
+ghost use Rattle.sqlite.specs.WalFiles.{image_at};
+ghost use Rattle.sqlite_wal.specs.Reads.{AreClean};
+ghost use Rattle.xq_rows.specs.Documents.{IsClean, IsOpen};
+ghost use Rattle.xq_stores.specs.Files.{IsLeftIn, StandsForFiles};
 
 use crate::files::{absent_log, has_one_byte, remove_log};
-use sqlite::{Connection, FileFrom, FileStore, Unknown};
+use sqlite::{Connection, FileFrom, FileStore, Files, Start};
 use xq_rows::Store;
 
-/// A store whose documents live in a file, and are there at the next start.
-pub struct DiskStore {
+/// A store whose documents live in a file, and are there at the next start. Its type names what is
+/// supposed of the files as they are opened; a program passes `Unknown`.
+pub struct DiskStore<S: Start> {
     /// The store, to be served.
-    pub store: Store<FileStore<FileFrom<Unknown>>>,
+    pub store: Store<FileStore<FileFrom<S>>>,
 }
 
-impl DiskStore {
+impl<S: Start> DiskStore<S> {
     /// The store in the file at a path; an absent or empty file becomes an empty store. None
     /// for a file that is no store, that can't be read or written, that another program holds or
     /// that is damaged: its bytes stay, and no log is left beside it that wasn't there. A new file
     /// gets a sum on each page, so that an opening finds changed bytes.
-    pub fn open(rt: &HostRuntime, path: &str) -> Option<DiskStore> {
+    ///
+    /// While the disk returns what was written, the store stands for the documents that the files
+    /// held.
+    pub fn open(rt: &HostRuntime, path: &str, start: S) -> Option<DiskStore<S>>
+        ensures found { IfSome result (λ disk. IsClean over_files disk.store
+            → StandsForFiles (image_at S.Start) disk.store) }
+        ensures open { IfSome result (λ disk. IsClean over_files disk.store
+            → IsOpen over_files disk.store) }
+    {
         if has_one_byte(rt, path) {
             return None;
         }
         let Ok(log) = absent_log(rt, path) else {
             return None;
         };
-        match Connection::open_from(rt, path, true, Unknown) {
+        match Connection::open_from(rt, path, true, start) {
             Ok(conn) => adopted(rt, conn, log),
             Err((_error, held)) => {
                 if held.is_some() {
@@ -35,28 +51,46 @@ impl DiskStore {
     }
 
     /// Gives the store itself.
-    pub fn into_store(self) -> Store<FileStore<FileFrom<Unknown>>>
+    pub fn into_store(self) -> Store<FileStore<FileFrom<S>>>
         ensures { result ≡ self.store }
     {
         let DiskStore { store } = self;
         store
     }
 
-    /// Copies the log into the file, and says whether that could be done. A file whose log can't
-    /// be copied keeps it beside itself, and the next opening reads both.
-    pub fn close(self) -> bool {
+    /// Copies the log into the database file, and gives both files, which close as they are let go.
+    /// None where the log can't be copied: it stays beside the database file, and the next opening
+    /// reads both.
+    pub fn close(self) -> Option<Files<FileFrom<S>>>
+        ensures { IfSome result (λ files. AreClean files.log files.db → IsLeftIn self.store files) }
+    {
         let DiskStore { store } = self;
-        store.release().close().is_ok()
+        let conn = store.release();
+        let _settled = conn.is_autocommit();
+        match conn.close_files() {
+            Ok(files) => Some(files),
+            Err((_error, left)) => {
+                drop(left.close());
+                None
+            }
+        }
     }
 }
 
 /// The store of a database that was opened. Where it is refused it is still held as its log is
 /// removed.
-fn adopted(
+fn adopted<S: Start>(
     rt: &HostRuntime,
-    conn: Connection<FileStore<FileFrom<Unknown>>>,
+    conn: Connection<FileStore<FileFrom<S>>>,
     log: Option<String>,
-) -> Option<DiskStore> {
+) -> Option<DiskStore<S>>
+    ensures found { IfSome result (λ disk. IsClean over_files disk.store → (image : Image)
+        → FindsIn image (file_state conn) → StandsForFiles image disk.store) }
+    ensures was_clean { IfSome result (λ disk. IsClean over_files disk.store
+        → IsClean over_files conn) }
+    ensures open { IfSome result (λ disk. IsClean over_files disk.store
+        → IsOpen over_files disk.store) }
+{
     if !conn.is_autocommit() {
         return None;
     }
@@ -70,7 +104,7 @@ fn adopted(
 }
 
 // It is written out, so that a caller does not prove again how each part is dropped.
-impl Drop for DiskStore {
+impl<S: Start> Drop for DiskStore<S> {
     fn drop(self) {
         let DiskStore { store: _store } = self;
     }

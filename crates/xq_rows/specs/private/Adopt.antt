@@ -21,7 +21,6 @@ use Rattle.xq_regions.specs.Rows.{placed, placed_rows}
 use Rattle.xq_rows.specs.declared.judgements.Run.{Run}
 use Rattle.xq_rows.specs.declared.faults.OpenFault.{OpenFault}
 use Rattle.xq_rows.specs.declared.faults.OpenFault.TheVariants.{Want, NotAStore}
-use Rattle.xq_rows.specs.Adoption.{HasOne}
 use Rattle.xq_rows.specs.Documents.{AreApart, HaveInts, HasAddress, rows_at, IsIntact, IsStore}
 use Rattle.xq_rows.specs.private.Statements.{IsEmptyStore}
 use Rattle.xq_rows.specs.Nodes.{cells}
@@ -31,11 +30,10 @@ use Rattle.xq_rows.specs.private.Streams.{BeginsWith, GivesRows}
 use Rattle.xq_rows.specs.Tables.{no_schema, layout_schema, node_schema, node_rows, layout_rows, IsStoreSchema}
 
 -- An adoption that succeeds makes an empty store where no table was there, and takes the two tables
--- as they stand where they hold documents. Where one of them stands alone, it never succeeds.
+-- as they stand where they hold documents.
 pub record IsAdopted (old new : Database) : Type 0 where
   pub made : old.schema ≡ no_schema → IsEmptyStore new
   pub found : IsStoreSchema old.schema → (new ≡ old) × IsStore old
-  pub alone : ¬ HasOne old
 
 -- there are tables, and they hold no documents, or are others
 pub record IsNoStore (db : Database) : Type 0 where

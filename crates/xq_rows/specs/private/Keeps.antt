@@ -1,5 +1,5 @@
 -- What calls keep: of the connection, and of its documents from one view to the next.
-use Rattle.std.specs.Prelude.{◌≡◌, ◌≤◌, ⊤, ℕ, false, List, map, Bool, Option, Some, None, IsTrue}
+use Rattle.std.specs.Prelude.{◌≡◌, ◌≤◌, ⊤, ℕ, false, List, map, Option, Some, None, IsTrue}
 use Rattle.std.specs.FinMap.{keys}
 use Rattle.sqlite_trees.specs.declared.store.Store.{Ghosts}
 use Rattle.sqlite.specs.Effect.{Database}
@@ -45,21 +45,18 @@ pub record IsKept {S : Type 0} (g : Ghosts S) (conn : Held S) (shelf : Shelf) : 
   pub holds : IsReady (state g conn) → IsStore (state g conn).now
       → AreOf (state g conn).now shelf.addresses.value shelf.fronts.items
 
--- what is kept is that of tables which hold documents
-pub record KeepsShelf {S : Type 0} (g : Ghosts S) (conn : Held S) (is_own : Bool)
-    (shelf : Shelf) : Type 0 where
-  pub own : IsTrue is_own
-  pub of : IsReady (state g conn)
-      → AreOf (state g conn).now shelf.addresses.value shelf.fronts.items
+-- what is kept is that of the tables
+abbrev pub KeepsShelf : {S : Type 0} → Ghosts S → Held S → Shelf → Type 0
+KeepsShelf g conn shelf = IsReady (state g conn)
+    → AreOf (state g conn).now shelf.addresses.value shelf.fronts.items
 
-abbrev pub Keeps : {S : Type 0} → Ghosts S → Held S → Bool → Option Shelf → Type 0
-Keeps g conn is_own None = ⊤
-Keeps g conn is_own (Some shelf) = KeepsShelf g conn is_own shelf
+abbrev pub Keeps : {S : Type 0} → Ghosts S → Held S → Option Shelf → Type 0
+Keeps g conn None = ⊤
+Keeps g conn (Some shelf) = KeepsShelf g conn shelf
 
--- what is true of each store: its connection, whose tables hold documents where they are its own,
--- and what is kept
-pub record IsKeeping {S : Type 0} (g : Ghosts S) (conn : Held S) (is_own : Bool)
-    (shelf : Option Shelf) : Type 0 where
+-- what is true of each store: its connection, whose tables hold documents, and what is kept
+pub record IsKeeping {S : Type 0} (g : Ghosts S) (conn : Held S) (shelf : Option Shelf)
+    : Type 0 where
   pub outside : conn.in_transaction ≡ false
-  pub own : IsTrue is_own → IsReady (state g conn) → IsStore (state g conn).now
-  pub keeps : Keeps g conn is_own shelf
+  pub holds : IsReady (state g conn) → IsStore (state g conn).now
+  pub keeps : Keeps g conn shelf

@@ -12,4 +12,4 @@ some_of db None none are = tt
 some_of db (Some s) none are = empty_of db s none are
 
 pub returns-then-was_blank-clause-shelf : goal.returns-then-was_blank-clause-shelf
-returns-then-was_blank-clause-shelf g c ready blank tables = some_of (state g.S.Store c.args.conn.now).now c.empty.result (blank c.if-was_blank.true) c.empty.ensures
+returns-then-was_blank-clause-shelf g c ready holds blank = some_of (state g.S.Store c.args.conn.now).now c.empty.result (blank c.if-was_blank.true) c.empty.ensures

@@ -2,68 +2,67 @@ use Rattle.std.proofs.Common.{◌≡◌, IsTrue, refl, sym, subst, ◌∙◌}
 use Rattle.xq_rows.specs.Tables.{IsStoreSchema, no_schema}
 use Rattle.sqlite.specs.Held.{state}
 use Rattle.sqlite.specs.State.{HasCleanDisk}
-use Rattle.xq_rows.proofs.Adoptions.{both_open, made_empty, found_whole, found_same, never_one, told_none, kept_up, adopted_on, both_outside, ends_on, kept_on}
+use Rattle.xq_rows.proofs.Adoptions.{both_open, made_empty, found_whole, found_same, known, told_none, neither, kept_up, adopted_on, both_outside, ends_on, kept_on}
 use Rattle.xq_rows.proofs.Calls.{was_clean, was_open}
 use Rattle.xq_rows.proofs.stores.Store.adopt.Goals as goal
 
 pub returns-in-Ok-clause-made : goal.returns-in-Ok-clause-made
 returns-in-Ok-clause-made g c =
-    let blank : IsTrue c.is_blank-was_blank.result → c.args.conn.schema ≡ no_schema = λ e. sym c.schema.ensures.value ∙ c.is_blank-was_blank.ensures e in
-    let tables : IsTrue c.is_store_schema-had_tables.result → IsStoreSchema c.args.conn.schema = λ e. subst IsStoreSchema c.schema-2.ensures.value (c.is_store_schema-had_tables.ensures e) in
-    let ends : HasCleanDisk (state g.S.Store c.first_shelf.new.conn) → IsTrue (state g.S.Store c.first_shelf.new.conn).is_open = ends_on g.S.Store c.args.conn c.adopt_tables.new.conn c.first_shelf.new.conn c.adopt_tables.ensures.outside c.first_shelf.ensures.outside c.is_blank-was_blank.result c.is_store_schema-had_tables.result blank tables c.first_shelf.ensures.same c.in_default.ensures.adopted c.in_default.ensures.ends_open c.in-Ok.ensures.ends_open in
-    made_empty g.S.Store c.args.conn c.first_shelf.new.conn ends (adopted_on g.S.Store c.args.conn c.adopt_tables.new.conn c.first_shelf.new.conn c.adopt_tables.ensures.outside c.first_shelf.ensures.outside c.is_blank-was_blank.result c.is_store_schema-had_tables.result blank tables c.first_shelf.ensures.same c.in_default.ensures.adopted)
+    let blank : IsTrue c.in-Some.was_blank → c.args.conn.schema ≡ no_schema = λ e. sym c.schema.ensures.value ∙ c.in-Some.ensures.blank e in
+    let tables : c.in-Some.was_blank ≡ false → IsStoreSchema c.args.conn.schema = λ e. subst IsStoreSchema c.schema.ensures.value (c.in-Some.ensures.tables e) in
+    let ends : HasCleanDisk (state g.S.Store c.first_shelf.new.conn) → IsTrue (state g.S.Store c.first_shelf.new.conn).is_open = ends_on g.S.Store c.args.conn c.adopt_tables.new.conn c.first_shelf.new.conn c.adopt_tables.ensures.outside c.first_shelf.ensures.outside c.in-Some.was_blank blank tables c.first_shelf.ensures.same c.in_default.ensures.adopted c.in_default.ensures.ends_open c.in-Ok.ensures.ends_open in
+    made_empty g.S.Store c.args.conn c.first_shelf.new.conn ends (adopted_on g.S.Store c.args.conn c.adopt_tables.new.conn c.first_shelf.new.conn c.adopt_tables.ensures.outside c.first_shelf.ensures.outside c.in-Some.was_blank blank tables c.first_shelf.ensures.same c.in_default.ensures.adopted)
 
 pub returns-in-Ok-clause-found : goal.returns-in-Ok-clause-found
 returns-in-Ok-clause-found g c =
-    let blank : IsTrue c.is_blank-was_blank.result → c.args.conn.schema ≡ no_schema = λ e. sym c.schema.ensures.value ∙ c.is_blank-was_blank.ensures e in
-    let tables : IsTrue c.is_store_schema-had_tables.result → IsStoreSchema c.args.conn.schema = λ e. subst IsStoreSchema c.schema-2.ensures.value (c.is_store_schema-had_tables.ensures e) in
-    let ends : HasCleanDisk (state g.S.Store c.first_shelf.new.conn) → IsTrue (state g.S.Store c.first_shelf.new.conn).is_open = ends_on g.S.Store c.args.conn c.adopt_tables.new.conn c.first_shelf.new.conn c.adopt_tables.ensures.outside c.first_shelf.ensures.outside c.is_blank-was_blank.result c.is_store_schema-had_tables.result blank tables c.first_shelf.ensures.same c.in_default.ensures.adopted c.in_default.ensures.ends_open c.in-Ok.ensures.ends_open in
-    found_whole g.S.Store c.args.conn c.first_shelf.new.conn ends (adopted_on g.S.Store c.args.conn c.adopt_tables.new.conn c.first_shelf.new.conn c.adopt_tables.ensures.outside c.first_shelf.ensures.outside c.is_blank-was_blank.result c.is_store_schema-had_tables.result blank tables c.first_shelf.ensures.same c.in_default.ensures.adopted)
+    let blank : IsTrue c.in-Some.was_blank → c.args.conn.schema ≡ no_schema = λ e. sym c.schema.ensures.value ∙ c.in-Some.ensures.blank e in
+    let tables : c.in-Some.was_blank ≡ false → IsStoreSchema c.args.conn.schema = λ e. subst IsStoreSchema c.schema.ensures.value (c.in-Some.ensures.tables e) in
+    let ends : HasCleanDisk (state g.S.Store c.first_shelf.new.conn) → IsTrue (state g.S.Store c.first_shelf.new.conn).is_open = ends_on g.S.Store c.args.conn c.adopt_tables.new.conn c.first_shelf.new.conn c.adopt_tables.ensures.outside c.first_shelf.ensures.outside c.in-Some.was_blank blank tables c.first_shelf.ensures.same c.in_default.ensures.adopted c.in_default.ensures.ends_open c.in-Ok.ensures.ends_open in
+    found_whole g.S.Store c.args.conn c.first_shelf.new.conn ends (adopted_on g.S.Store c.args.conn c.adopt_tables.new.conn c.first_shelf.new.conn c.adopt_tables.ensures.outside c.first_shelf.ensures.outside c.in-Some.was_blank blank tables c.first_shelf.ensures.same c.in_default.ensures.adopted)
 
 pub returns-in-Ok-clause-same : goal.returns-in-Ok-clause-same
 returns-in-Ok-clause-same g c =
-    let blank : IsTrue c.is_blank-was_blank.result → c.args.conn.schema ≡ no_schema = λ e. sym c.schema.ensures.value ∙ c.is_blank-was_blank.ensures e in
-    let tables : IsTrue c.is_store_schema-had_tables.result → IsStoreSchema c.args.conn.schema = λ e. subst IsStoreSchema c.schema-2.ensures.value (c.is_store_schema-had_tables.ensures e) in
-    let ends : HasCleanDisk (state g.S.Store c.first_shelf.new.conn) → IsTrue (state g.S.Store c.first_shelf.new.conn).is_open = ends_on g.S.Store c.args.conn c.adopt_tables.new.conn c.first_shelf.new.conn c.adopt_tables.ensures.outside c.first_shelf.ensures.outside c.is_blank-was_blank.result c.is_store_schema-had_tables.result blank tables c.first_shelf.ensures.same c.in_default.ensures.adopted c.in_default.ensures.ends_open c.in-Ok.ensures.ends_open in
-    found_same g.S.Store c.args.conn c.first_shelf.new.conn ends (adopted_on g.S.Store c.args.conn c.adopt_tables.new.conn c.first_shelf.new.conn c.adopt_tables.ensures.outside c.first_shelf.ensures.outside c.is_blank-was_blank.result c.is_store_schema-had_tables.result blank tables c.first_shelf.ensures.same c.in_default.ensures.adopted)
+    let blank : IsTrue c.in-Some.was_blank → c.args.conn.schema ≡ no_schema = λ e. sym c.schema.ensures.value ∙ c.in-Some.ensures.blank e in
+    let tables : c.in-Some.was_blank ≡ false → IsStoreSchema c.args.conn.schema = λ e. subst IsStoreSchema c.schema.ensures.value (c.in-Some.ensures.tables e) in
+    let ends : HasCleanDisk (state g.S.Store c.first_shelf.new.conn) → IsTrue (state g.S.Store c.first_shelf.new.conn).is_open = ends_on g.S.Store c.args.conn c.adopt_tables.new.conn c.first_shelf.new.conn c.adopt_tables.ensures.outside c.first_shelf.ensures.outside c.in-Some.was_blank blank tables c.first_shelf.ensures.same c.in_default.ensures.adopted c.in_default.ensures.ends_open c.in-Ok.ensures.ends_open in
+    found_same g.S.Store c.args.conn c.first_shelf.new.conn ends (adopted_on g.S.Store c.args.conn c.adopt_tables.new.conn c.first_shelf.new.conn c.adopt_tables.ensures.outside c.first_shelf.ensures.outside c.in-Some.was_blank blank tables c.first_shelf.ensures.same c.in_default.ensures.adopted)
 
-pub returns-in-Ok-clause-both : goal.returns-in-Ok-clause-both
-returns-in-Ok-clause-both g c =
-    let blank : IsTrue c.is_blank-was_blank.result → c.args.conn.schema ≡ no_schema = λ e. sym c.schema.ensures.value ∙ c.is_blank-was_blank.ensures e in
-    let tables : IsTrue c.is_store_schema-had_tables.result → IsStoreSchema c.args.conn.schema = λ e. subst IsStoreSchema c.schema-2.ensures.value (c.is_store_schema-had_tables.ensures e) in
-    let ends : HasCleanDisk (state g.S.Store c.first_shelf.new.conn) → IsTrue (state g.S.Store c.first_shelf.new.conn).is_open = ends_on g.S.Store c.args.conn c.adopt_tables.new.conn c.first_shelf.new.conn c.adopt_tables.ensures.outside c.first_shelf.ensures.outside c.is_blank-was_blank.result c.is_store_schema-had_tables.result blank tables c.first_shelf.ensures.same c.in_default.ensures.adopted c.in_default.ensures.ends_open c.in-Ok.ensures.ends_open in
-    never_one g.S.Store c.args.conn c.first_shelf.new.conn ends (adopted_on g.S.Store c.args.conn c.adopt_tables.new.conn c.first_shelf.new.conn c.adopt_tables.ensures.outside c.first_shelf.ensures.outside c.is_blank-was_blank.result c.is_store_schema-had_tables.result blank tables c.first_shelf.ensures.same c.in_default.ensures.adopted)
+pub returns-in-Ok-clause-known : goal.returns-in-Ok-clause-known
+returns-in-Ok-clause-known g c =
+    let blank : IsTrue c.in-Some.was_blank → c.args.conn.schema ≡ no_schema = λ e. sym c.schema.ensures.value ∙ c.in-Some.ensures.blank e in
+    let tables : c.in-Some.was_blank ≡ false → IsStoreSchema c.args.conn.schema = λ e. subst IsStoreSchema c.schema.ensures.value (c.in-Some.ensures.tables e) in
+    known g.S.Store c.args.conn c.adopt_tables.new.conn c.first_shelf.new.conn c.adopt_tables.ensures.outside c.first_shelf.ensures.outside c.in-Some.was_blank blank tables c.first_shelf.ensures.same c.in_default.ensures.adopted
 
 pub returns-in-Ok-clause-open : goal.returns-in-Ok-clause-open
 returns-in-Ok-clause-open g c =
-    let blank : IsTrue c.is_blank-was_blank.result → c.args.conn.schema ≡ no_schema = λ e. sym c.schema.ensures.value ∙ c.is_blank-was_blank.ensures e in
-    let tables : IsTrue c.is_store_schema-had_tables.result → IsStoreSchema c.args.conn.schema = λ e. subst IsStoreSchema c.schema-2.ensures.value (c.is_store_schema-had_tables.ensures e) in
-    let ends : HasCleanDisk (state g.S.Store c.first_shelf.new.conn) → IsTrue (state g.S.Store c.first_shelf.new.conn).is_open = ends_on g.S.Store c.args.conn c.adopt_tables.new.conn c.first_shelf.new.conn c.adopt_tables.ensures.outside c.first_shelf.ensures.outside c.is_blank-was_blank.result c.is_store_schema-had_tables.result blank tables c.first_shelf.ensures.same c.in_default.ensures.adopted c.in_default.ensures.ends_open c.in-Ok.ensures.ends_open in
-    both_open g.S.Store c.args.conn c.first_shelf.new.conn ends (both_outside g.S.Store c.args.conn c.adopt_tables.new.conn c.first_shelf.new.conn c.adopt_tables.ensures.outside c.first_shelf.ensures.outside c.is_blank-was_blank.result c.is_store_schema-had_tables.result blank tables c.first_shelf.ensures.same c.in_default.ensures.adopted).was_open
+    let blank : IsTrue c.in-Some.was_blank → c.args.conn.schema ≡ no_schema = λ e. sym c.schema.ensures.value ∙ c.in-Some.ensures.blank e in
+    let tables : c.in-Some.was_blank ≡ false → IsStoreSchema c.args.conn.schema = λ e. subst IsStoreSchema c.schema.ensures.value (c.in-Some.ensures.tables e) in
+    let ends : HasCleanDisk (state g.S.Store c.first_shelf.new.conn) → IsTrue (state g.S.Store c.first_shelf.new.conn).is_open = ends_on g.S.Store c.args.conn c.adopt_tables.new.conn c.first_shelf.new.conn c.adopt_tables.ensures.outside c.first_shelf.ensures.outside c.in-Some.was_blank blank tables c.first_shelf.ensures.same c.in_default.ensures.adopted c.in_default.ensures.ends_open c.in-Ok.ensures.ends_open in
+    both_open g.S.Store c.args.conn c.first_shelf.new.conn ends (both_outside g.S.Store c.args.conn c.adopt_tables.new.conn c.first_shelf.new.conn c.adopt_tables.ensures.outside c.first_shelf.ensures.outside c.in-Some.was_blank blank tables c.first_shelf.ensures.same c.in_default.ensures.adopted).was_open
 
 pub returns-in-Ok-clause-was_clean : goal.returns-in-Ok-clause-was_clean
 returns-in-Ok-clause-was_clean g c =
-    let blank : IsTrue c.is_blank-was_blank.result → c.args.conn.schema ≡ no_schema = λ e. sym c.schema.ensures.value ∙ c.is_blank-was_blank.ensures e in
-    let tables : IsTrue c.is_store_schema-had_tables.result → IsStoreSchema c.args.conn.schema = λ e. subst IsStoreSchema c.schema-2.ensures.value (c.is_store_schema-had_tables.ensures e) in
-    was_clean g.S.Store c.args.conn c.args.conn c.first_shelf.new.conn refl (both_outside g.S.Store c.args.conn c.adopt_tables.new.conn c.first_shelf.new.conn c.adopt_tables.ensures.outside c.first_shelf.ensures.outside c.is_blank-was_blank.result c.is_store_schema-had_tables.result blank tables c.first_shelf.ensures.same c.in_default.ensures.adopted).clean
+    let blank : IsTrue c.in-Some.was_blank → c.args.conn.schema ≡ no_schema = λ e. sym c.schema.ensures.value ∙ c.in-Some.ensures.blank e in
+    let tables : c.in-Some.was_blank ≡ false → IsStoreSchema c.args.conn.schema = λ e. subst IsStoreSchema c.schema.ensures.value (c.in-Some.ensures.tables e) in
+    was_clean g.S.Store c.args.conn c.args.conn c.first_shelf.new.conn refl (both_outside g.S.Store c.args.conn c.adopt_tables.new.conn c.first_shelf.new.conn c.adopt_tables.ensures.outside c.first_shelf.ensures.outside c.in-Some.was_blank blank tables c.first_shelf.ensures.same c.in_default.ensures.adopted).clean
 
 pub returns-in-Err-first_shelf-clause-kept : goal.returns-in-Err-first_shelf-clause-kept
 returns-in-Err-first_shelf-clause-kept g c up =
-    let blank : IsTrue c.is_blank-was_blank.result → c.args.conn.schema ≡ no_schema = λ e. sym c.schema.ensures.value ∙ c.is_blank-was_blank.ensures e in
-    let tables : IsTrue c.is_store_schema-had_tables.result → IsStoreSchema c.args.conn.schema = λ e. subst IsStoreSchema c.schema-2.ensures.value (c.is_store_schema-had_tables.ensures e) in
-    kept_up g.S.Store c.args.conn c.first_shelf.new.conn (kept_on g.S.Store c.args.conn c.adopt_tables.new.conn c.first_shelf.new.conn c.adopt_tables.ensures.outside c.first_shelf.ensures.outside c.is_blank-was_blank.result c.is_store_schema-had_tables.result blank tables c.first_shelf.ensures.same c.in_default.ensures.adopted c.in-Err-first_shelf.ensures.err) up
+    let blank : IsTrue c.in-Some.was_blank → c.args.conn.schema ≡ no_schema = λ e. sym c.schema.ensures.value ∙ c.in-Some.ensures.blank e in
+    let tables : c.in-Some.was_blank ≡ false → IsStoreSchema c.args.conn.schema = λ e. subst IsStoreSchema c.schema.ensures.value (c.in-Some.ensures.tables e) in
+    kept_up g.S.Store c.args.conn c.first_shelf.new.conn (kept_on g.S.Store c.args.conn c.adopt_tables.new.conn c.first_shelf.new.conn c.adopt_tables.ensures.outside c.first_shelf.ensures.outside c.in-Some.was_blank blank tables c.first_shelf.ensures.same c.in_default.ensures.adopted c.in-Err-first_shelf.ensures.err) up
 
 pub returns-in-Err-first_shelf-clause-still_clean : goal.returns-in-Err-first_shelf-clause-still_clean
 returns-in-Err-first_shelf-clause-still_clean g c =
-    let blank : IsTrue c.is_blank-was_blank.result → c.args.conn.schema ≡ no_schema = λ e. sym c.schema.ensures.value ∙ c.is_blank-was_blank.ensures e in
-    let tables : IsTrue c.is_store_schema-had_tables.result → IsStoreSchema c.args.conn.schema = λ e. subst IsStoreSchema c.schema-2.ensures.value (c.is_store_schema-had_tables.ensures e) in
-    was_clean g.S.Store c.args.conn c.args.conn c.first_shelf.new.conn refl (both_outside g.S.Store c.args.conn c.adopt_tables.new.conn c.first_shelf.new.conn c.adopt_tables.ensures.outside c.first_shelf.ensures.outside c.is_blank-was_blank.result c.is_store_schema-had_tables.result blank tables c.first_shelf.ensures.same c.in_default.ensures.adopted).clean
+    let blank : IsTrue c.in-Some.was_blank → c.args.conn.schema ≡ no_schema = λ e. sym c.schema.ensures.value ∙ c.in-Some.ensures.blank e in
+    let tables : c.in-Some.was_blank ≡ false → IsStoreSchema c.args.conn.schema = λ e. subst IsStoreSchema c.schema.ensures.value (c.in-Some.ensures.tables e) in
+    was_clean g.S.Store c.args.conn c.args.conn c.first_shelf.new.conn refl (both_outside g.S.Store c.args.conn c.adopt_tables.new.conn c.first_shelf.new.conn c.adopt_tables.ensures.outside c.first_shelf.ensures.outside c.in-Some.was_blank blank tables c.first_shelf.ensures.same c.in_default.ensures.adopted).clean
 
 pub returns-in-Err-first_shelf-clause-still_open : goal.returns-in-Err-first_shelf-clause-still_open
 returns-in-Err-first_shelf-clause-still_open g c =
-    let blank : IsTrue c.is_blank-was_blank.result → c.args.conn.schema ≡ no_schema = λ e. sym c.schema.ensures.value ∙ c.is_blank-was_blank.ensures e in
-    let tables : IsTrue c.is_store_schema-had_tables.result → IsStoreSchema c.args.conn.schema = λ e. subst IsStoreSchema c.schema-2.ensures.value (c.is_store_schema-had_tables.ensures e) in
-    was_open g.S.Store c.args.conn c.args.conn c.first_shelf.new.conn refl (both_outside g.S.Store c.args.conn c.adopt_tables.new.conn c.first_shelf.new.conn c.adopt_tables.ensures.outside c.first_shelf.ensures.outside c.is_blank-was_blank.result c.is_store_schema-had_tables.result blank tables c.first_shelf.ensures.same c.in_default.ensures.adopted).was_open
+    let blank : IsTrue c.in-Some.was_blank → c.args.conn.schema ≡ no_schema = λ e. sym c.schema.ensures.value ∙ c.in-Some.ensures.blank e in
+    let tables : c.in-Some.was_blank ≡ false → IsStoreSchema c.args.conn.schema = λ e. subst IsStoreSchema c.schema.ensures.value (c.in-Some.ensures.tables e) in
+    was_open g.S.Store c.args.conn c.args.conn c.first_shelf.new.conn refl (both_outside g.S.Store c.args.conn c.adopt_tables.new.conn c.first_shelf.new.conn c.adopt_tables.ensures.outside c.first_shelf.ensures.outside c.in-Some.was_blank blank tables c.first_shelf.ensures.same c.in_default.ensures.adopted).was_open
 
 pub returns-in-Err-clause-still_clean : goal.returns-in-Err-clause-still_clean
 returns-in-Err-clause-still_clean g c = was_clean g.S.Store c.args.conn c.args.conn c.adopt_tables.new.conn refl c.adopt_tables.ensures.outside.clean
@@ -76,3 +75,8 @@ returns-in-Err-clause-no_store g c up none = told_none g.S.Store c.args.conn c.a
 
 pub returns-in-Err-clause-kept : goal.returns-in-Err-clause-kept
 returns-in-Err-clause-kept g c up = kept_up g.S.Store c.args.conn c.adopt_tables.new.conn c.in-Err.ensures.kept up
+
+pub returns-in-None-clause-no_store : goal.returns-in-None-clause-no_store
+returns-in-None-clause-no_store g c up none =
+    let other = c.in-None.ensures.none in
+    neither g.S.Store c.args.conn (λ has. other.0 (c.schema.ensures.value ∙ has)) (λ has. other.1 (subst IsStoreSchema (sym c.schema.ensures.value) has))

@@ -32,5 +32,5 @@ returns-clause-was_clean g c = was_clean g.S.Store c.self.inside.conn c.args.sel
 
 pub invariant_of-self-2 : goal.invariant_of-self-2
 invariant_of-self-2 g c =
-    has_dropped g.S.Store c.self.inside.conn c.drop_rows.new.conn c.drop_rows.ensures.outside c.self.inside.is_own c.take-shelf.result (subst (IsKeeping g.S.Store c.self.inside.conn c.self.inside.is_own) (sym c.take-shelf.ensures.value) c.self.invariant)
+    has_dropped g.S.Store c.self.inside.conn c.drop_rows.new.conn c.drop_rows.ensures.outside c.take-shelf.result (subst (IsKeeping g.S.Store c.self.inside.conn) (sym c.take-shelf.ensures.value) c.self.invariant)
     c.args.address.now c.in_ok-count.count c.in_ok-count.ensures.dropped c.shelf_without.result c.shelf_without.ensures

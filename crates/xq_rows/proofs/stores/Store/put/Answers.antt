@@ -40,6 +40,6 @@ returns-clause-was_clean g c = was_clean g.S.Store c.self.inside.conn c.args.sel
 
 pub invariant_of-self-2 : goal.invariant_of-self-2
 invariant_of-self-2 g c =
-    has_put g.S.Store c.self.inside.conn c.put_rows.new.conn c.put_rows.ensures.outside c.self.inside.is_own c.take-kept.result (subst (IsKeeping g.S.Store c.self.inside.conn c.self.inside.is_own) (sym c.take-kept.ensures.value) c.self.invariant)
+    has_put g.S.Store c.self.inside.conn c.put_rows.new.conn c.put_rows.ensures.outside c.take-kept.result (subst (IsKeeping g.S.Store c.self.inside.conn) (sym c.take-kept.ensures.value) c.self.invariant)
     c.args.address.now c.requires.address c.args.document.now (record { is_tree = c.rows.ensures.is_tree; root = c.requires.document }) c.rows.result.now c.rows.ensures c.in_ok-replaced.replaced c.in_ok-replaced.ensures.put
     c.new.result (none_yet c.args.document.now c.new.result.rows.items c.new.ensures) c.shelf_with.result c.shelf_with.ensures

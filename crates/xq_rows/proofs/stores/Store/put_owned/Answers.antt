@@ -40,7 +40,7 @@ returns-clause-was_clean g c = was_clean g.S.Store c.self.inside.conn c.args.sel
 
 pub invariant_of-self-2 : goal.invariant_of-self-2
 invariant_of-self-2 g c =
-    has_put g.S.Store c.self.inside.conn c.put_rows.new.conn c.put_rows.ensures.outside c.self.inside.is_own c.with_room-shelf.result
-    (roomier g.S.Store c.self.inside.conn c.self.inside.is_own c.take-others.result c.with_room-shelf.result (subst (IsKeeping g.S.Store c.self.inside.conn c.self.inside.is_own) (sym c.take-others.ensures.value) c.self.invariant) c.with_room-shelf.ensures)
+    has_put g.S.Store c.self.inside.conn c.put_rows.new.conn c.put_rows.ensures.outside c.with_room-shelf.result
+    (roomier g.S.Store c.self.inside.conn c.take-others.result c.with_room-shelf.result (subst (IsKeeping g.S.Store c.self.inside.conn) (sym c.take-others.ensures.value) c.self.invariant) c.with_room-shelf.ensures)
     c.args.address.now c.requires.address c.args.document (record { is_tree = c.rows.ensures.is_tree; root = c.requires.document }) c.rows.result.now c.rows.ensures c.in_ok-replaced.replaced c.in_ok-replaced.ensures.put
     c.whole-front.result (whole_front c.args.document c.whole-front.result.rows.items c.whole-front.ensures) c.shelf_with.result c.shelf_with.ensures
