@@ -3,11 +3,12 @@
 usage: memory.py [FOLDER]    builds bench/axes/main.rattle in the folder, unless an earlier call did
 
 One process stores the document in a file, another opens it and reads all rows through a view, and
-again through a second one; then the rows are let go. The engine opens the file by itself first,
-which reads each table as a list, and then the store is adopted. For each stage: the megabytes that the process
-has resident as it ends, and the most since the stage before; and with a C compiler the megabytes
-that are allocated and not freed, the most since the stage before, and how many bytes a row that is
-above the opened store. What opening the store frees stays resident, and the rows take its place.
+again through a second one; then the rows are let go. Of the opening the engine's own part, which
+takes each table as a list, and the adoption of the store are shown apart. For each stage: the
+megabytes that the process has resident as it ends, and the most since the stage before; and with a
+C compiler the megabytes that are allocated and not freed, the most since the stage before, and how
+many bytes a row that is above the opened store. What opening the store frees stays resident, and
+the rows take its place.
 """
 
 import os
