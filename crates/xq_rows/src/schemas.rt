@@ -184,7 +184,7 @@ fn is_store_schema(schema: &Schema) -> bool
 }
 
 /// Whether no table was made in the database.
-fn is_blank(schema: &Schema) -> bool
+pub fn is_blank(schema: &Schema) -> bool
     ensures { IsTrue result ↔ (schema.now ≡ no_schema) }
 {
     schema.tables.is_empty() && schema.indexes.is_empty() && schema.views.is_empty()
