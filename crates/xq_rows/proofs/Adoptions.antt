@@ -96,5 +96,5 @@ module _ {S : Type 0} (g : Ghosts S) (conn mid new : Held S) (one : StaysOutside
     where
       go : (shelf : Option Shelf) → (IsReady (state g new) → IsStore (state g mid).now → (IsTrue blank → IsEmptyStore (state g mid).now) → IfSome shelf (λ s. AreOf (state g mid).now s.addresses.value s.fronts.items)) → Keeps g new shelf
       go None of = tt
-      go (Some s) of ready =
+      go (Some s) of = λ ready.
           subst (λ db. AreOf db s.addresses.value s.fronts.items) (sym (still ready)) (of ready (mid_holds (mid_ready ready)) (λ b. (did (mid_ready ready)).made (is_blank b)))

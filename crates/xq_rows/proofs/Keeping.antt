@@ -85,7 +85,7 @@ module _ {S : Type 0} (g : Ghosts S) where
 
       keeps_on : (kept : Option Shelf) → Keeps g conn kept → Keeps g new kept
       keeps_on None keeps = tt
-      keeps_on (Some kept) keeps ready =
+      keeps_on (Some kept) keeps = λ ready.
           subst (λ db. AreOf db kept.addresses.value kept.fronts.items) (sym (same ready (keeping.holds (early ready)).schema)) (keeps (early ready))
 
       pub forgets : IsKeeping g new None
@@ -111,7 +111,7 @@ module _ {S : Type 0} (g : Ghosts S) where
 
         kept : (later : Option Shelf) → IfSome later (λ l. (earlier : Shelf) × (shelf ≡ Some earlier) × HasPut earlier l a front) → Keeps g new later
         kept None edited = tt
-        kept (Some l) edited ready =
+        kept (Some l) edited = λ ready.
             let before : KeepsShelf g conn edited.0 = subst (Keeps g conn) edited.1 keeping.keeps in
             let was = keeping.holds (early ready) in
             let puts = puts_tree ready was in
@@ -130,7 +130,7 @@ module _ {S : Type 0} (g : Ghosts S) where
       where
         kept : (later : Option Shelf) → IfSome later (λ l. (earlier : Shelf) × (shelf ≡ Some earlier) × ShelfHasDropped earlier l a) → Keeps g new later
         kept None edited = tt
-        kept (Some l) edited ready =
+        kept (Some l) edited = λ ready.
             let before : KeepsShelf g conn edited.0 = subst (Keeps g conn) edited.1 keeping.keeps in
             let was = keeping.holds (early ready) in
             kept_drop a (state g conn).now (state g new).now (did ready was.schema was.apart was.ints).0 was edited.0 l edited.2 (before (early ready))
@@ -142,7 +142,7 @@ module _ {S : Type 0} (g : Ghosts S) where
     where
       go : (later : Option Shelf) → IfSome later (λ l. (earlier : Shelf) × (shelf ≡ Some earlier) × (l.addresses ≡ earlier.addresses) × ((trees : List Tree) → AreFronts trees earlier.fronts.items → AreFronts trees l.fronts.items)) → Keeps g conn later
       go None roomy = tt
-      go (Some l) roomy ready =
+      go (Some l) roomy = λ ready.
           let before : KeepsShelf g conn roomy.0 = subst (Keeps g conn) roomy.1 keeping.keeps in
           let same : l.addresses.value ≡ roomy.0.addresses.value = ap rc_value roomy.2 in
           let was = before ready in
