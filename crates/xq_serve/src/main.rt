@@ -2,7 +2,7 @@
 //! memory or in a file, and writes each reply to its standard output.
 #![tactic(auto)]
 
-use sqlite::{Alter, Unknown};
+use sqlite::Alter;
 use std::alloc::AllocError;
 use std::io::{BufReader, ErrorKind, Write};
 use std::process::ExitCode;
@@ -84,11 +84,11 @@ fn serve_in_memory<R: Input + Print + AllocGlobal>(rt: &R) -> (u8, &'static str)
 }
 
 fn serve_file(rt: &HostRuntime, path: &str) -> (u8, &'static str) {
-    let Some(file) = DiskStore::open(rt, path, Unknown) else {
+    let Some(file) = DiskStore::open(rt, path) else {
         return CANNOT_OPEN;
     };
     let (store, end) = serve(rt, file.into_store());
-    let _files = DiskStore { store }.close();
+    let _is_closed = DiskStore { store }.close();
     outcome(end)
 }
 

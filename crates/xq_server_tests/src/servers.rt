@@ -48,7 +48,7 @@ pub struct FileServer {
 impl FileServer {
     /// The server over the file at a path.
     pub fn open(rt: &HostRuntime, path: &str) -> Option<FileServer> {
-        let file = DiskStore::open(rt, path, Unknown)?;
+        let file = DiskStore::open(rt, path)?;
         Some(FileServer {
             server: Server::new(rt.alloc(), file.into_store()),
         })
@@ -60,7 +60,7 @@ impl FileServer {
         let closing = DiskStore {
             store: server.into_store(),
         };
-        closing.close().is_some()
+        closing.close()
     }
 }
 
