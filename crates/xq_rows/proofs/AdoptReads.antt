@@ -27,7 +27,8 @@ use Rattle.sqlite.specs.State.{State, Shown, FailsToQuery, FailsToShow, IsNotRun
 use Rattle.sqlite.specs.declared.error.Error.{Error}
 use Rattle.sqlite.proofs.Callers.{IsPlain, command_of, reads_as}
 use Rattle.xq_rows.specs.declared.faults.OpenFault.TheVariants.{NotAStore}
-use Rattle.xq_rows.specs.Tables.{no_schema, layout_schema, node_schema, IsStoreSchema, layout_rows}
+use Rattle.xq_rows.specs.private.Schemas.{layout_schema, node_schema}
+use Rattle.xq_rows.specs.Tables.{no_schema, IsStoreSchema, layout_rows}
 use Rattle.xq_rows.proofs.Places.{First, layout_first, node_first, schema_of, layout_tree, node_tree, which, nodes_lie, layout_lies, layout_alone, layout_not_given}
 use Rattle.xq_rows.specs.private.Adopt.{fault_of, IsInputError, addressed_node, by_place, AreNodes, ReadsEdition, ReadsRowids, ReadsNodes, HasLayout}
 use Rattle.xq_rows.proofs.Texts.{IsUnread, body, key}

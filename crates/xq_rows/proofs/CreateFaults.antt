@@ -27,7 +27,8 @@ use Rattle.sqlite.specs.declared.run.Mode.{Mode}
 use Rattle.sqlite.proofs.Callers.{IsPlain, command_of, statement_of}
 use Rattle.xq_rows.specs.declared.faults.OpenFault.TheVariants.{NotAStore}
 use Rattle.xq_rows.specs.private.Adopt.{fault_of}
-use Rattle.xq_rows.specs.Tables.{no_schema, layout_table, layout_schema, node_table}
+use Rattle.xq_rows.specs.private.Schemas.{layout_schema}
+use Rattle.xq_rows.specs.Tables.{no_schema, layout_table, node_table}
 use Rattle.xq_rows.proofs.AdoptReads.{store_told}
 use Rattle.xq_rows.proofs.Texts.{layout_text, layout_is, layout_plain, node_text, node_is, node_plain}
 

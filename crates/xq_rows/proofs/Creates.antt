@@ -18,7 +18,8 @@ use Rattle.std.specs.List.{AllByRecursion}
 use Rattle.xq_rows.specs.Documents.{AreApart, HasAddress, HaveInts, IsStore, rows_at}
 use Rattle.xq_rows.specs.private.Statements.{IsEmptyStore, MakesLayout, MakesNode, MakesBoth, WritesEdition}
 use Rattle.sqlite.proofs.Callers.{statement_of, runs_as, one_step}
-use Rattle.xq_rows.specs.Tables.{no_schema, layout_table, layout_schema, node_table, node_schema, turned_schema, store_schema, layout_rows, node_rows}
+use Rattle.xq_rows.specs.private.Schemas.{layout_schema, node_schema}
+use Rattle.xq_rows.specs.Tables.{no_schema, layout_table, node_table, turned_schema, store_schema, layout_rows, node_rows}
 use Rattle.xq_rows.proofs.Places.{layout_first, nodes_lie, layout_lies, layout_alone}
 use Rattle.xq_rows.proofs.Texts.{layout_text, layout_is, layout_plain, layout_beside, layout_beside_plain, makes_layout, makes_layout_beside, IsUnread, node_again, node_text, node_is, node_plain, makes_node, edition_text, edition_terms, edition_is, edition_plain}
 use Rattle.xq_rows.proofs.Deletes.{went, same_value}

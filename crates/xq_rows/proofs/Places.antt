@@ -13,7 +13,8 @@ use Rattle.sqlite.specs.Rows.{Outcome, Part, Task}
 use Rattle.sqlite.specs.declared.run.Mode.{Mode}
 use Rattle.sqlite.specs.Schema.{Schema}
 use Rattle.sqlite.specs.Table.{Table}
-use Rattle.xq_rows.specs.Tables.{layout_schema, node_table, store_schema, turned_schema, IsStoreSchema, layout_rows, node_rows}
+use Rattle.xq_rows.specs.private.Schemas.{layout_schema}
+use Rattle.xq_rows.specs.Tables.{node_table, store_schema, turned_schema, IsStoreSchema, layout_rows, node_rows}
 
 -- which of the two was made first
 pub data First : Type 0 where

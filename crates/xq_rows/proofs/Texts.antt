@@ -21,7 +21,8 @@ use Rattle.sqlite.specs.Command.{Command}
 use Rattle.sqlite.proofs.Callers.{IsPlain, command_of, statement_of}
 use Rattle.sqlite.specs.Change.{created}
 use Rattle.xq_rows.proofs.Places.{First, layout_first, node_first, schema_of, node_tree, node_place}
-use Rattle.xq_rows.specs.Tables.{no_schema, layout_table, layout_schema, node_table, node_schema, turned_schema, store_schema}
+use Rattle.xq_rows.specs.private.Schemas.{layout_schema, node_schema}
+use Rattle.xq_rows.specs.Tables.{no_schema, layout_table, node_table, turned_schema, store_schema}
 
 abbrev pub layout_text : List ℕ
 layout_text = codes "CREATE TABLE layout (edition INTEGER NOT NULL) STRICT"

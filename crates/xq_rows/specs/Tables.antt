@@ -46,10 +46,6 @@ layout_table = record {
   is_counted = false;
 }
 
--- the table `layout` alone
-abbrev pub layout_schema : Schema
-layout_schema = record { tables = layout_table ∷ []; indexes = []; views = [] }
-
 -- CREATE TABLE node (address TEXT NOT NULL, pre INTEGER NOT NULL, .., PRIMARY KEY (address, pre))
 -- STRICT
 abbrev pub node_table : Table
@@ -81,15 +77,6 @@ node_index = record {
       ∷ [];
   order = plain;
   is_unique = true;
-}
-
--- the table `node` alone
-abbrev pub node_schema : Schema
-node_schema = record {
-  tables = record node_table { tree = 0 } ∷ [];
-  indexes =
-      record node_index { tree = 1; table = 0 } ∷ [];
-  views = [];
 }
 
 -- the two tables, `node` made first

@@ -1,3 +1,4 @@
+pub mod Schemas
 pub mod Shelves
 pub mod Keeps
 pub mod Streams
@@ -5,4 +6,3 @@ pub mod Columns
 pub mod Adopt
 pub mod Statements
 pub mod Refusals
-pub mod Schemas

@@ -6,7 +6,8 @@ ghost use Rattle.xq_rows.specs.Documents.{IsReady};
 ghost use Rattle.xq_rows.specs.private.Statements.{IsEmptyStore, MakesBoth, MakesLayout, MakesNode, WritesEdition};
 ghost use Rattle.xq_rows.specs.private.Adopt.{fault_of};
 ghost use Rattle.xq_rows.specs.private.Keeps.{StaysInside, StaysOutside};
-ghost use Rattle.xq_rows.specs.Tables.{no_schema, layout_schema};
+ghost use Rattle.xq_rows.specs.private.Schemas.{layout_schema};
+ghost use Rattle.xq_rows.specs.Tables.{no_schema};
 
 use crate::faults::OpenFault;
 use crate::refusals::Refusal;

@@ -27,7 +27,8 @@ use Rattle.xq_rows.specs.Nodes.{cells}
 use Rattle.xq_rows.specs.private.Columns.{node_of}
 use Rattle.xq_rows.specs.private.Refusals.{want_of}
 use Rattle.xq_rows.specs.private.Streams.{BeginsWith, GivesRows}
-use Rattle.xq_rows.specs.Tables.{no_schema, layout_schema, node_schema, node_rows, layout_rows, IsStoreSchema}
+use Rattle.xq_rows.specs.private.Schemas.{layout_schema, node_schema}
+use Rattle.xq_rows.specs.Tables.{no_schema, node_rows, layout_rows, IsStoreSchema}
 
 -- An adoption that succeeds makes an empty store where no table was there, and takes the two tables
 -- as they stand where they hold documents.

@@ -13,7 +13,8 @@ use Rattle.xq_regions.specs.Rows.{Encodes}
 use Rattle.xq_regions.specs.declared.NodeRow.{NodeRow}
 use Rattle.xq_rows.specs.Documents.{is_at, is_first, node_columns, rows_at, by_first, AreApart, HasAddress, HaveInts, IsStore}
 use Rattle.xq_rows.specs.Nodes.{number_in}
-use Rattle.xq_rows.specs.Tables.{no_schema, layout_schema, node_schema, turned_schema, store_schema, node_rows, layout_rows, IsStoreSchema}
+use Rattle.xq_rows.specs.private.Schemas.{layout_schema, node_schema}
+use Rattle.xq_rows.specs.Tables.{no_schema, turned_schema, store_schema, node_rows, layout_rows, IsStoreSchema}
 
 -- it holds the tables and no row of a document
 abbrev pub IsEmptyStore : Database → Type 0
