@@ -1,5 +1,5 @@
 -- What a store keeps, over what it does to its connection.
-use Rattle.std.proofs.Common.{◌≡◌, ◌≤◌, ℕ, suc, List, [], ◌∷◌, length, String, Global, Option, Some, None, rc_value, Bool, true, false, Result, Ok, Err, OnOk, IfOk, IfSome, IsTrue, map, string_bytes, refl, sym, ap, subst, ◌∙◌, arith}
+use Rattle.std.proofs.Common.{◌≡◌, ◌≤◌, ℕ, suc, List, [], ◌∷◌, length, String, Global, Option, Some, None, rc_value, Bool, false, Result, Ok, Err, OnOk, IfOk, IfSome, IsTrue, map, string_bytes, refl, sym, ap, subst, ◌∙◌, arith}
 use Rattle.std.specs.FinMap.{keys}
 use Rattle.sqlite_trees.specs.View.{doubt}
 use Rattle.sqlite_trees.specs.declared.store.Store.{Ghosts}
