@@ -1,38 +1,29 @@
 -- Printed atomic values as marks.
-use Rattle.std.proofs.Common.{◌≡◌, ℕ, zero, suc, ◌+◌, ◌/◌, ◌%◌, ◌<◌, ◌≤◌, ◌^◌, Bool, true, false, not, ◌&&◌, IsTrue, List, [], ◌∷◌, ◌++◌, length, map, Option, Some, None, Result, Ok, Err, refl, sym, ap, ap₂, ◌∙◌, subst, arith, append_assoc, ◌⊎◌, inl, inr, ℤ, pos, negsuc}
-use Rattle.std.specs.Prelude.{IsUtf8, codes, encode_utf8_all, decimal as decimal_digits, ◌==◌, if◌then◌else◌, nat_abs, int_lt}
-use Rattle.std.specs.Fmt.{signed_decimal, digits}
+use Rattle.std.proofs.Common.{◌≡◌, ℕ, suc, ◌/◌, ◌<◌, ◌^◌, Bool, true, false, not, IsTrue, List, [], ◌∷◌, ◌++◌, map, Ok, refl, ap, arith, inl, inr, ℤ, pos, negsuc}
+use Rattle.std.specs.Prelude.{codes, decimal as decimal_digits, ◌==◌, if◌then◌else◌}
 use Rattle.std.specs.Ordering.{int_eq}
 use Rattle.std.specs.List.{list_all}
 use Rattle.std.specs.Str.{chars}
 use Rattle.std.proofs.lemmas.Bool.{and_parts, false≢true}
 use Rattle.std.proofs.lemmas.Bool.Decides.{nat_tests}
 use Rattle.std.proofs.lemmas.Int.{ints}
-use Rattle.std.proofs.lemmas.Fmt.{digits_value-decimal}
-use Rattle.std.proofs.lemmas.List.{append-nil}
-use Rattle.std.proofs.lemmas.Str.{encodes-append, encodes-chars}
-use Rattle.xq_atoms.specs.Text.{Text, is_whole, is_empty, are_digits, value}
+use Rattle.xq_atoms.specs.Text.{Text, is_whole, is_empty, are_digits}
 use Rattle.xq_atoms.specs.Atom.{Atomic, Integer, Decimal, String, Boolean, Untyped, is_integer}
 use Rattle.xq_atoms.specs.Decimal.{is_decimal}
-use Rattle.xq_atoms.specs.Literal.{integer_literal, decimal_literal}
-use Rattle.xq_atoms.specs.Cast.{fraction_text, six_digits}
-use Rattle.xq_atoms.specs.Print.{quoted, at_least_zero, print_integer, print_decimal, print_atomic}
-use Rattle.xq_atoms.proofs.TextLemmas.{digits_model}
+use Rattle.xq_atoms.specs.Cast.{fraction_text}
+use Rattle.xq_atoms.specs.Print.{at_least_zero}
 use Rattle.xq_atoms.proofs.ReadBack.{is_whole-decimal, integer_literal-decimal}
 use Rattle.xq_atoms.specs.Characters.{is_char, is_digit, is_name_start, is_name_char}
 use Rattle.xq_lexer.specs.Chars.{begins}
 use Rattle.xq_atom_laws.proofs.Decimals.{decimal_literal-printed, fraction-digits}
-use Rattle.xq_lexer.specs.Lexeme as l
-use Rattle.xq_lexer.specs.Lexeme.{Lex}
 use Rattle.xq_lexer.specs.declared.tokens.Symbol.TheVariants as s
-use Rattle.xq_lexer.specs.Literals.{integer, decimal, number_text}
-use Rattle.xq_lexer.specs.Spelling.{Form, name, prefixed, number, symbol, form_text, form_lex, IsName}
+use Rattle.xq_lexer.specs.Literals.{integer, decimal}
+use Rattle.xq_lexer.specs.Spelling.{name, prefixed, number, symbol, IsName}
 use Rattle.xq_lexer.specs.private.Reading.{read_token, read_name, after_name}
-use Rattle.xq_parser.specs.Look.{Tokens}
-use Rattle.xq_readback.specs.Quoted.{least, atomic_tokens, cast_tokens}
+use Rattle.xq_readback.specs.Quoted.{least}
 use Rattle.xq_meaning.specs.Printable.{IsValue}
 use Rattle.xq_atom_laws.proofs.Strings.{literal, piece, are_pieces}
-use Rattle.xq_readback.proofs.Marks.{Mark, gap, marks_text, marks_lexes, IsThere, AreThere, skip_none, called_name, open_there, closed_there, minus_there, string_there}
+use Rattle.xq_readback.proofs.Marks.{Mark, marks_text, IsThere, AreThere, skip_none, called_name, open_there, closed_there, minus_there, string_there}
 use Rattle.xq_readback.proofs.Numbers.{Ends, integer_read, decimal_read, number_there}
 
 -- the cast of a string literal of these characters
@@ -69,6 +60,7 @@ false_is : IsName (codes "false")
 unfolding is_name_start is_name_char
 false_is = refl
 
+-- the names of casts
 cast_read : (t : List ℕ) → read_token (codes "xs:untypedAtomic" ++ 40 ∷ t) ≡ Ok (prefixed (codes "xs") (codes "untypedAtomic"), 40 ∷ t)
 unfolding read_token read_name after_name is_name_start is_name_char
 cast_read t = refl
@@ -99,6 +91,7 @@ first_digit (c ∷ t) h = (c, t, refl, (and_parts (is_digit c) (list_all is_digi
 pub whole_digits : (w : Text) → is_whole w ≡ true → list_all is_digit w ≡ true
 whole_digits w h = (and_parts (not (is_empty w)) (are_digits w) h).1
 
+-- printed numbers are there, before a comma or at the end
 pub integer_there : (k : ℕ) (after : List ℕ) → k < 2 ^ 63 → Ends after → IsThere (number (integer (decimal_digits k))) after
 integer_there k after small ends =
     let is = is_whole-decimal k (omega (arith, small)) in
@@ -144,6 +137,7 @@ integers_there n true rest e h are ends = cast_there (codes "integer") (codes "-
 integers_there (pos k) false rest e h are ends = (integer_there k (marks_text rest) (below_63 k h) ends, are)
 integers_there (negsuc k) false rest e h are ends = (minus_there _, (integer_there (suc k) (marks_text rest) (below_least k h e) ends, are))
 
+-- each atomic value is
 pub atom_there : (a : Atomic) (rest : List Mark) → IsValue a → AreThere rest → Ends (marks_text rest) → AreThere (atomic_marks a ++ rest)
 atom_there (Integer n) rest h are ends = integers_there n (int_eq n least) rest refl h are ends
 atom_there (Decimal (pos k)) rest h are ends = (decimal_there k (marks_text rest) (below_decimal k h) ends, are)

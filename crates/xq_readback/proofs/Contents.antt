@@ -1,22 +1,19 @@
 -- Content that was printed from nodes builds these nodes again.
-use Rattle.std.proofs.Common.{◌≡◌, ℕ, zero, suc, ◌+◌, ◌<◌, ◌≤◌, Bool, true, false, not, ◌&&◌, cond, List, [], ◌∷◌, ◌++◌, length, map, filter, Option, Some, None, Ok, Err, refl, sym, ap, ◌∙◌, subst, arith}
-use Rattle.std.specs.Prelude.{nat_le, IsTrue, if◌then◌else◌, bytes_eq}
-use Rattle.std.specs.List.{IsDistinct, AllByRecursion, list_any, list_all}
-use Rattle.std.proofs.lemmas.Bool.{and_parts, false_from_ne_true, false≢true}
+use Rattle.std.proofs.Common.{◌≡◌, ℕ, zero, suc, ◌<◌, ◌≤◌, Bool, true, false, not, ◌&&◌, List, [], ◌∷◌, ◌++◌, length, map, None, Ok, refl, sym, ap, ◌∙◌, subst, arith}
+use Rattle.std.specs.Prelude.{nat_le, bytes_eq}
+use Rattle.std.specs.List.{IsDistinct, AllByRecursion, list_any}
+use Rattle.std.proofs.lemmas.Bool.{and_parts, false≢true}
 use Rattle.std.proofs.lemmas.Bool.Decides.{nat_tests, same_from_decides}
 use Rattle.std.proofs.lemmas.List.{get_or_append_left}
 use Rattle.std.proofs.lemmas.Slice.Eq.{bytes_eq-Decides}
-use Rattle.xq_atoms.specs.Judged.{Judged}
-use Rattle.xq_atoms.specs.Text.{Text, is_empty}
-use Rattle.xq_atoms.specs.declared.refusals.Code.{Code}
-use Rattle.xq_regions.specs.Names as names
+use Rattle.xq_atoms.specs.Text.{Text}
 use Rattle.xq_regions.specs.declared.Kind.{Kind}
 use Rattle.xq_regions.specs.declared.Kind.TheVariants as kind
-use Rattle.xq_regions.specs.Forest.{Forest, end, node, count, tops, join, EachNode, IsWithinHeight}
+use Rattle.xq_regions.specs.Forest.{Forest, end, node, count, tops, join, IsWithinHeight}
 use Rattle.xq_regions.specs.Tree.{Label, Tree, nodes, is_attribute, may_stand, may_follow, may_precede, has_text, is_content, attribute_names, most_levels, most_nodes}
 use Rattle.xq_sources.specs.Sources.{tree_at, no_tree}
-use Rattle.xq_meaning.specs.Items.{Item, Node, Atom, root_of, tree_below}
-use Rattle.xq_meaning.specs.Content.{is_text, label, copied, flattened, in_front, merged, in_front_unless, is_empty_text, without_empty_texts, content, attribute_fault, or_else, first_fault, is_within_height, within_limits, unless_fault, built}
+use Rattle.xq_meaning.specs.Items.{Item, Node, root_of}
+use Rattle.xq_meaning.specs.Content.{is_text, label, copied, flattened, in_front, merged, in_front_unless, is_empty_text, without_empty_texts, content, attribute_fault, first_fault, is_within_height, within_limits, unless_fault, built}
 
 -- the tree with this root and these nodes below it
 abbrev pub tree : Label → Forest Label → Tree
@@ -34,6 +31,7 @@ AreMade trees (n ∷ ns) end = ⊥
 AreMade trees (n ∷ ns) (node a below beside) =
     (n < length trees) × (tree_at trees n ≡ tree a below) × AreMade trees ns beside
 
+-- a tree keeps its number when others are added
 pub tree_more : (trees more : List Tree) (n : ℕ) → n < length trees → tree_at (trees ++ more) n ≡ tree_at trees n
 tree_more trees more n h = get_or_append_left trees more no_tree n h
 
@@ -50,6 +48,7 @@ pub record Parts (parent a : Label) (beside : List Label) : Type 0 where
   pub precedes : may_precede a.kind beside ≡ true
   pub others : is_content parent beside ≡ true
 
+-- what content says of its first node and of the others
 pub parts_of : (parent a : Label) (beside : List Label) → is_content parent (a ∷ beside) ≡ true → Parts parent a beside
 parts_of parent a beside h =
     let one = and_parts (may_stand parent.kind a.kind) _ h in
@@ -72,6 +71,7 @@ no_document k kind.ProcessingInstruction h = refl
 
 -- # Flattened: each item is one node with all below it
 
+-- a node that is no document is copied as it is
 copied_plain : (k : Kind) (name value : Text) (below : Forest Label) → is_document k ≡ false → copied (tree (label k name value) below) ≡ node (label k name value) below end
 copied_plain kind.Document name value below h = absurd (false≢true (sym h))
 copied_plain kind.Element name value below h = refl
@@ -80,6 +80,7 @@ copied_plain kind.Text name value below h = refl
 copied_plain kind.Comment name value below h = refl
 copied_plain kind.ProcessingInstruction name value below h = refl
 
+-- the roots of trees, flattened, are their nodes
 flattened-made : (trees : List Tree) (ns : List ℕ) (parent : Label) (f : Forest Label) → AreMade trees ns f → is_content parent (tops f) ≡ true → flattened trees (roots ns) ≡ f
 flattened-made trees [] parent end m h = refl
 flattened-made trees [] parent (node a below beside) m h = absurd m
@@ -105,10 +106,12 @@ not_both_texts kind.Attribute l h = refl
 not_both_texts kind.Comment l h = refl
 not_both_texts kind.ProcessingInstruction l h = refl
 
+-- a node that may stand before others is put before them
 in_front-apart : (a : Label) (below beside : Forest Label) → may_precede a.kind (tops beside) ≡ true → in_front a below beside ≡ node a below beside
 in_front-apart a below end h = refl
 in_front-apart a below (node b below_b beside) h = rw (not_both_texts a.kind b.kind h) refl
 
+-- content has no texts to merge
 merged-content : (parent : Label) (f : Forest Label) → is_content parent (tops f) ≡ true → merged f ≡ f
 merged-content parent end h = refl
 merged-content parent (node a below beside) h =
@@ -126,6 +129,7 @@ no_empty_text kind.Attribute name value h = refl
 no_empty_text kind.Comment name value h = refl
 no_empty_text kind.ProcessingInstruction name value h = refl
 
+-- content has no empty texts to drop
 all_kept : (parent : Label) (f : Forest Label) → is_content parent (tops f) ≡ true → without_empty_texts f ≡ f
 all_kept parent end h = refl
 all_kept parent (node a below beside) h =
@@ -133,6 +137,7 @@ all_kept parent (node a below beside) h =
     ap (λ b. in_front_unless b a below (without_empty_texts beside)) (no_empty_text a.kind a.name a.value p.text)
     ∙ ap (node a below) (all_kept parent beside p.others)
 
+-- the content of roots of trees is their nodes
 pub content-made : (trees : List Tree) (ns : List ℕ) (parent : Label) (f : Forest Label) → AreMade trees ns f → is_content parent (tops f) ≡ true → content trees (roots ns) ≡ f
 content-made trees ns parent f m h =
     ap (λ (g : Forest Label). without_empty_texts (merged g)) (flattened-made trees ns parent f m h)
@@ -140,6 +145,7 @@ content-made trees ns parent f m h =
 
 -- # The attributes come first, and their names differ
 
+-- equality of bytes is symmetric
 pub swapped : (a b : Text) → bytes_eq a b ≡ bytes_eq b a
 swapped a b = same_from_decides (bytes_eq a b) (bytes_eq b a) (bytes_eq-Decides a b) ((λ e. sym ((bytes_eq-Decides b a).0 e)), (λ e. (bytes_eq-Decides b a).1 (sym e)))
 
@@ -169,6 +175,7 @@ stays_late k kind.Text e h = refl
 stays_late k kind.Comment e h = refl
 stays_late k kind.ProcessingInstruction e h = refl
 
+-- after a node that is no attribute no attribute is judged
 late_none : (parent : Label) (k : Kind) (earlier : List Text) (labels : List Label) → is_attribute k ≡ false → may_precede k labels ≡ true → is_content parent labels ≡ true → first_fault parent.kind earlier true labels ≡ None
 late_none parent k earlier [] e before h = refl
 late_none parent k earlier (a ∷ labels) e before h =
@@ -193,6 +200,7 @@ attribute_is kind.Text h = absurd (false≢true h)
 attribute_is kind.Comment h = absurd (false≢true h)
 attribute_is kind.ProcessingInstruction h = absurd (false≢true h)
 
+-- the attributes of content have no fault
 no_fault : (parent : Label) (earlier : List Text) (labels : List Label) → is_content parent labels ≡ true → AreOthers earlier (attribute_names labels) → IsDistinct bytes_eq (attribute_names labels) → first_fault parent.kind earlier false labels ≡ None
 unfolding IsDistinct
 no_fault parent earlier [] h others distinct = refl
@@ -223,6 +231,7 @@ within n end h = refl
 within zero (node a below beside) h = absurd h
 within (suc n) (node a below beside) h = rw (within n below h.0, within (suc n) beside h.1) refl
 
+-- a tree within the limits is let through
 pub fits : (t : Tree) → IsWithinHeight most_levels (nodes t) → count (nodes t) ≤ most_nodes → within_limits t ≡ Ok t
 fits t h room =
     let few : nat_le (count (nodes t)) most_nodes ≡ true = grind (arith, nat_tests) in
@@ -237,6 +246,7 @@ pub record IsBuilt (a : Label) (below : Forest Label) : Type 0 where
   pub height : IsWithinHeight most_levels (nodes (tree a below))
   pub room : count (nodes (tree a below)) ≤ most_nodes
 
+-- an element or a document is built of its content again
 pub built-again : (trees : List Tree) (ns : List ℕ) (a : Label) (below : Forest Label) → AreMade trees ns below → IsBuilt a below → built a (content trees (roots ns)) ≡ Ok (tree a below)
 built-again trees ns a below m is =
     ap (built a) (content-made trees ns a below m is.content)

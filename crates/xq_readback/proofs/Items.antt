@@ -1,5 +1,5 @@
 -- What a result is quoted as gives the result again.
-use Rattle.std.proofs.Common.{◌≡◌, ℕ, ◌<◌, List, [], ◌∷◌, ◌++◌, length, map, Ok, refl, sym, ap, ap₂, ◌∙◌, subst, append_assoc}
+use Rattle.std.proofs.Common.{◌≡◌, List, [], ◌∷◌, ◌++◌, map, Ok, refl, sym, ap, ap₂, ◌∙◌, subst, append_assoc}
 use Rattle.std.proofs.lemmas.List.{append-nil}
 use Rattle.std.specs.Prelude.{codes}
 use Rattle.xq_atoms.specs.Text.{Text}
@@ -11,12 +11,12 @@ use Rattle.xq_meaning.specs.Texts.{joined}
 use Rattle.xq_meaning.specs.Print.{print_item, print_items}
 use Rattle.xq_meaning.specs.Doing.{Outcome, go_on, give, in_turn, more}
 use Rattle.xq_meaning.specs.Meaning.{Frame, Meaning, mean, first_frame}
-use Rattle.xq_readback.specs.Quoted.{quoted_item, quoted_items}
+use Rattle.xq_readback.specs.Quoted.{quoted_item}
 use Rattle.xq_meaning.specs.Printable.{ArePrintable}
 use Rattle.xq_readback.specs.Same.{SameItems}
-use Rattle.xq_readback.specs.Readback.{GivesAgain, QuotedGives}
+use Rattle.xq_readback.specs.Readback.{QuotedGives}
 use Rattle.xq_readback.proofs.Contents.{tree_more}
-use Rattle.xq_readback.proofs.Nodes.{Gives, whole-is, TreeGives, tree_gives}
+use Rattle.xq_readback.proofs.Nodes.{Gives, whole-is, tree_gives}
 use Rattle.xq_readback.proofs.Values.{value-gives}
 
 abbrev Done : Type 0
@@ -38,6 +38,7 @@ next_is trees x xs frame others now done items y last one rest =
     ap (λ (o : Done). go_on (go_on o (λ (ys : List Item). give (done ++ ys))) (λ (next : List Item). in_turn (more (λ (part : Meaning). part frame)) next (map mean (map (quoted_item trees) xs)))) one
     ∙ rest ∙ (λ i. (Ok (append_assoc done (y ∷ []) items i), last))
 
+-- items are given again, one after another
 pub items_give : (trees : List Tree) (xs : List Item) → ArePrintable trees xs → (frame : Frame) (others : List Tree) (done : List Item) → ItemsGive trees xs frame others done
 items_give trees [] are frame others done =
     (let p = sym (append-nil done) in let q = sym (append-nil others) in record { items = []; added = []; is = (λ i. (Ok (p i), q i)); same = tt })
@@ -83,6 +84,7 @@ same_text trees (x ∷ xs) others (y ∷ ys) same = ap (joined (codes ", ")) (sa
 
 -- ---- the law
 
+-- the law
 pub quoted_gives : QuotedGives
 quoted_gives = λ trees xs are addresses others.
     (let given = items_give trees xs are (first_frame addresses) others [] in

@@ -1,20 +1,16 @@
 -- Tokens as they are printed, some with a space after them, and that each is read where it stands.
-use Rattle.std.proofs.Common.{◌≡◌, ℕ, zero, suc, ◌+◌, ◌-◌, ◌<◌, ◌≤◌, Bool, true, false, cond, not, ◌&&◌, List, [], ◌∷◌, ◌++◌, length, map, Option, Some, None, Result, Ok, Err, refl, sym, ap, ◌∙◌, subst, arith, append_assoc, ◌⊎◌, inl, inr}
-use Rattle.std.specs.Prelude.{codes, encode_utf8_all, ◌==◌, ◌||◌}
-use Rattle.std.specs.List.{list_all}
-use Rattle.std.proofs.lemmas.Bool.{and_parts, false≢true, false_from_ne_true}
+use Rattle.std.proofs.Common.{◌≡◌, ℕ, suc, ◌+◌, ◌-◌, ◌≤◌, Bool, true, false, List, [], ◌∷◌, ◌++◌, length, map, Some, Ok, refl, sym, ap, ◌∙◌, subst, arith, append_assoc, ◌⊎◌, inl, inr}
+use Rattle.std.specs.Prelude.{◌==◌}
+use Rattle.std.proofs.lemmas.Bool.{false≢true, false_from_ne_true}
 use Rattle.std.proofs.lemmas.Bool.Decides.{nat_tests}
-use Rattle.xq_atoms.specs.declared.refusals.Code.{Code}
-use Rattle.xq_atoms.specs.Characters.{is_space, is_digit, is_name, is_name_start, is_name_char}
-use Rattle.xq_lexer.specs.Chars.{Text, begins, is_quote}
+use Rattle.xq_atoms.specs.Characters.{is_space, is_name_start, is_name_char}
+use Rattle.xq_lexer.specs.Chars.{Text, begins}
 use Rattle.xq_lexer.specs.Separators.{skip}
-use Rattle.xq_lexer.specs.Lexeme as l
 use Rattle.xq_lexer.specs.Lexeme.{Lex, Placed}
-use Rattle.xq_lexer.specs.declared.tokens.Symbol.{Symbol}
 use Rattle.xq_lexer.specs.declared.tokens.Symbol.TheVariants as s
-use Rattle.xq_lexer.specs.Literals.{Number, integer, decimal, number_text, IsNumber, number_fault, Piece, ArePieces, content_text}
-use Rattle.xq_lexer.specs.Spelling.{Form, name, prefixed, number, string, symbol, symbol_text, form_text, form_lex, IsName, IsForm, Next, Before, Spells, bytes}
-use Rattle.xq_lexer.specs.private.Reading.{span, after_name, read_name, read_string, content, as_string, read_symbol, read_token}
+use Rattle.xq_lexer.specs.Literals.{Piece, ArePieces, content_text}
+use Rattle.xq_lexer.specs.Spelling.{Form, name, string, symbol, form_text, form_lex, IsName, Before, Spells, bytes}
+use Rattle.xq_lexer.specs.private.Reading.{after_name, read_name, as_string, read_symbol, read_token}
 use Rattle.xq_lexer.proofs.Spans.{span_exact}
 use Rattle.xq_lexer.proofs.Forms.{name_parts, name_chars}
 use Rattle.xq_lexer.proofs.Contents.{content_read}
@@ -49,6 +45,7 @@ pub record IsThere (f : Form) (after : Text) : Type 0 where
   pub read : read_token (first ∷ rest) ≡ Ok (f, after)
   pub skipped : skip 0 (first ∷ rest) ≡ Some (first ∷ rest)
 
+-- each of the marks is read where it stands
 abbrev pub AreThere : List Mark → Type 0
 AreThere [] = Unit {0}
 AreThere (m ∷ ms) = IsThere m.0 (gap m.1 ++ marks_text ms) × AreThere ms
@@ -62,6 +59,7 @@ Spaced text z = (text ≡ z) ⊎ (text ≡ 32 ∷ z)
 skip_space : (c : ℕ) (t : Text) → skip 0 (32 ∷ c ∷ t) ≡ skip 0 (c ∷ t)
 skip_space c t = refl
 
+-- what is read there is the longest token
 found : (f : Form) (after : Text) (t : IsThere f after) → Found (t.first ∷ t.rest) f after
 found f after t = subst (Means (t.first ∷ t.rest)) t.read (token_means t.first t.rest)
 
@@ -89,6 +87,7 @@ nothing_left : (text : Text) → Spaced text [] → skip 0 text ≡ Some []
 nothing_left text (inl same) = ap (skip 0) same
 nothing_left text (inr same) = ap (skip 0) same
 
+-- marks that are there, by their places
 place : (total : ℕ) (text : Text) (ms : List Mark) → AreThere ms → Spaced text (marks_text ms) → bytes text ≤ total → Placing total text ms
 place total text [] are spaced room = record { tokens = []; rest = text; before = refl; ends = nothing_left text spaced; lexes = refl }
 place total text (m ∷ ms) are spaced room =
@@ -155,12 +154,15 @@ read_name-stops : (w : Text) (c : ℕ) (t : Text) → IsName w → is_name_char 
 unfolding read_name
 read_name-stops w c t is stops colon = rw (span_exact is_name_char w (c ∷ t) (name_chars w is) stops) (after_name-stops w c t colon)
 
+-- names, before what ends them
 pub name_there : (w : Text) (c : ℕ) (t : Text) → IsName w → is_name_char c ≡ false → (c == 58) ≡ false → IsThere (name w) (c ∷ t)
 name_there [] c t is stops colon = absurd (false≢true is)
 name_there (a ∷ w) c t is stops colon =
     let start = (name_parts a w is).0 in
     record {
-      first = a; rest = w ++ c ∷ t; whole = refl;
+      first = a;
+      rest = w ++ c ∷ t;
+      whole = refl;
       read = name_token (a ∷ w) (c ∷ t) is ∙ ap (λ (x : Form × Text). Ok x) (read_name-stops (a ∷ w) c t is stops colon);
       skipped = skip_none a (w ++ c ∷ t) (start_no_space a start) (start_no_paren a start);
     }
@@ -231,11 +233,13 @@ closed_there t = record { first = 41; rest = t; whole = refl; read = read_closed
 
 -- ---- strings
 
+-- a string literal, before what does not double its quote
 pub string_there : (ps : List Piece) (after : Text) → ArePieces 34 ps → begins (λ c. c == 34) after ≡ false → IsThere (string 34 ps) after
 string_there ps after are stops =
     let t = content_text 34 ps ++ 34 ∷ after in
     record {
-      first = 34; rest = t;
+      first = 34;
+      rest = t;
       whole = ap (λ (u : Text). 34 ∷ u) (append_assoc (content_text 34 ps) (34 ∷ []) after);
       read = string_token 34 t refl ∙ ap (as_string 34) (content_read 34 ps after (suc (length t)) refl are stops (omega arith));
       skipped = skip_none 34 t refl refl;

@@ -1,12 +1,12 @@
 -- A printed result nests no deeper than a query may.
-use Rattle.std.proofs.Common.{◌≡◌, ℕ, zero, suc, ◌+◌, ◌≤◌, ◌<◌, max, Bool, true, false, List, [], ◌∷◌, ◌++◌, refl, sym, ap, ◌∙◌, subst, arith, ◌⊎◌, inl, inr, ⊎_elim, ℤ, pos}
+use Rattle.std.proofs.Common.{ℕ, zero, suc, ◌+◌, ◌≤◌, max, Bool, true, false, List, [], ◌∷◌, ◌++◌, arith, ⊎_elim, ℤ, pos}
 use Rattle.std.specs.Prelude.{codes, int_lt, nat_abs, if◌then◌else◌}
 use Rattle.std.specs.Ordering.{int_eq}
 use Rattle.std.proofs.Math.Nat.{max-eq_left, max-eq_right}
 use Rattle.std.proofs.lemmas.Bool.{cases_lt}
 use Rattle.xq_atoms.specs.Text.{Text}
 use Rattle.xq_atoms.specs.Atom.{Atomic, Integer, Decimal, String, Boolean, Untyped}
-use Rattle.xq_lexer.specs.Lexeme.{Lex, name, prefixed, int, dec, str, symbol}
+use Rattle.xq_lexer.specs.Lexeme.{Lex, int, dec, symbol}
 use Rattle.xq_lexer.specs.declared.tokens.Symbol.TheVariants as s
 use Rattle.xq_lexer.specs.Nesting.{nesting, greatest, deepest_nesting}
 use Rattle.xq_lexer.proofs.NestingLemmas.{at_most_greatest}
@@ -47,6 +47,7 @@ pub record NodesNest (f : Forest Label) (rest : Tokens) (at : ℕ) (saved : List
   pub first : greatest at saved (node_tokens [] f rest) ≤ bound
   pub others : greatest at saved (node_tokens (symbol s.Comma ∷ []) f rest) ≤ bound
 
+-- nodes nest as deep as they are high
 nodes_nest : (height : ℕ) (f : Forest Label) → IsWithinHeight height f → (rest : Tokens) (at : ℕ) (saved : List ℕ) (bound : ℕ) → at + height ≤ bound → greatest at saved rest ≤ bound → NodesNest f rest at saved bound
 nodes_nest height end high rest at saved bound room h = record { first = h; others = h }
 nodes_nest zero (node a below beside) high rest at saved bound room h = absurd high
@@ -79,6 +80,7 @@ integer_nests : (n : ℤ) (b : Bool) (rest : Tokens) (at : ℕ) (saved : List �
 integer_nests n true rest at saved bound room h = cast_nests (codes "integer") (codes "-9223372036854775808") rest at saved bound room h
 integer_nests n false rest at saved bound room h = let low : at ≤ bound = omega (arith, room) in sign_nests (int_lt n (pos 0)) (int (pos (nat_abs n))) rest at saved bound low (both at _ bound low h)
 
+-- an atomic value nests one level at most
 value_nests : (a : Atomic) (rest : Tokens) (at : ℕ) (saved : List ℕ) (bound : ℕ) → at + 1 ≤ bound → greatest at saved rest ≤ bound → greatest at saved (atomic_tokens a ++ rest) ≤ bound
 value_nests (Integer n) rest at saved bound room h = integer_nests n (int_eq n least) rest at saved bound room h
 value_nests (Decimal m) rest at saved bound room h = let low : at ≤ bound = omega (arith, room) in sign_nests (int_lt m (pos 0)) (dec (pos (nat_abs m))) rest at saved bound low (both at _ bound low h)
@@ -96,6 +98,7 @@ more_nest : (trees : List Tree) (xs : List Item) → ArePrintable trees xs → g
 more_nest trees [] are = omega arith
 more_nest trees (x ∷ xs) are = both 0 _ deepest_nesting (omega arith) (item_nests trees x xs are (more_tokens trees xs) (more_nest trees xs are.1))
 
+-- a result nests within the limit
 pub items_nest : (trees : List Tree) (xs : List Item) → ArePrintable trees xs → nesting (items_tokens trees xs) ≤ deepest_nesting
 items_nest trees [] are = omega arith
 items_nest trees (x ∷ xs) are = item_nests trees x xs are (more_tokens trees xs) (more_nest trees xs are.1)

@@ -1,5 +1,5 @@
 -- What nodes are quoted as makes them again.
-use Rattle.std.proofs.Common.{◌≡◌, ℕ, zero, suc, ◌+◌, ◌<◌, ◌≤◌, Bool, true, false, not, ◌&&◌, List, [], ◌∷◌, ◌++◌, length, map, Option, Some, None, Ok, Err, refl, sym, ap, ◌∙◌, subst, arith, append_assoc}
+use Rattle.std.proofs.Common.{◌≡◌, ℕ, zero, suc, ◌<◌, ◌≤◌, true, false, not, List, [], ◌∷◌, ◌++◌, length, map, Some, Ok, Err, refl, sym, ap, ◌∙◌, subst, arith, append_assoc}
 use Rattle.std.specs.Prelude.{IsTrue, IsUtf8, bytes_eq, codes}
 use Rattle.std.specs.List.{IsDistinct}
 use Rattle.std.specs.Str.{chars}
@@ -12,7 +12,7 @@ use Rattle.xq_atoms.specs.Text.{Text}
 use Rattle.xq_atoms.specs.Atom.{String}
 use Rattle.xq_regions.specs.declared.Kind.{Kind}
 use Rattle.xq_regions.specs.declared.Kind.TheVariants as kind
-use Rattle.xq_regions.specs.Names.{is_empty, are_characters, is_attribute_name, is_comment, is_target, is_instruction, begins_with_space, holds}
+use Rattle.xq_regions.specs.Names.{is_empty, are_characters, is_attribute_name, is_target, is_instruction, begins_with_space, holds}
 use Rattle.xq_regions.specs.Forest.{Forest, end, node, count, tops, EachNode, IsWithinHeight}
 use Rattle.xq_regions.specs.Tree.{Label, Tree, nodes, is_content, attribute_names, is_legal, IsText, IsTree, most_levels, most_nodes}
 use Rattle.xq_sources.specs.Sources.{tree_at, no_tree}
@@ -30,7 +30,7 @@ use Rattle.xq_meaning.specs.Doing.{Outcome, go_on, give, in_turn, more, collecte
 use Rattle.xq_meaning.specs.Meaning.{Frame, Meaning, form_meaning, mean}
 use Rattle.xq_meaning.proofs.Equations as mean
 use Rattle.xq_readback.specs.Quoted.{whole, written, made, quoted_nodes, quoted_tree}
-use Rattle.xq_readback.proofs.Contents.{tree, roots, AreMade, tree_more, Parts, parts_of, IsBuilt, built-again}
+use Rattle.xq_readback.proofs.Contents.{tree, roots, AreMade, tree_more, parts_of, IsBuilt, built-again}
 use Rattle.xq_regions.proofs.Subtrees.{higher}
 use Rattle.xq_readback.proofs.Names.{element-name, attribute-name, target-name, not-false}
 use Rattle.xq_readback.proofs.Values.{text-gives}
@@ -44,6 +44,7 @@ Gives x frame trees xs now = ◌≡◌ {A = Done} (mean x frame trees) (Ok xs, n
 
 -- ---- the constructors
 
+-- a constructor with a name, by its name, its content and its tree
 pub named-gives : (k : NamedNode) (n : Text) (x : Expr) (frame : Frame) (trees now : List Tree) (xs : List Item) (t : Tree)
     → name_of k (String n ∷ []) ≡ Ok n → Gives x frame trees xs now → named_tree k n now xs ≡ Ok t
     → Gives (e.Named k (written n) x) frame trees (Node (root_of (length now)) ∷ []) (now ++ t ∷ [])
@@ -52,6 +53,7 @@ named-gives k n x frame trees now xs t good part is =
     (mean.mean-Named k (written n) x ∙ ap (λ (m : Meaning). form_meaning (Expr-F.Named k m (mean x))) (mean.name-Literal (unprefixed n)))
     ∙ rw (good, part, is) refl
 
+-- a constructor without a name, by its content and its tree
 pub unnamed-gives : (k : UnnamedNode) (x : Expr) (frame : Frame) (trees now : List Tree) (xs : List Item) (t : Tree)
     → Gives x frame trees xs now → unnamed_tree k now xs ≡ Ok (Some t)
     → Gives (e.Unnamed k x) frame trees (Node (root_of (length now)) ∷ []) (now ++ t ∷ [])
@@ -64,6 +66,7 @@ one_alone : (o : Done) → go_on (go_on o (λ (ys : List Item). give ([] ++ ys))
 one_alone (Ok xs, f) = refl
 one_alone (Err code, f) = refl
 
+-- several expressions as one mean them one after another
 pub whole-is : (xs : List Expr) (frame : Frame) (trees : List Tree) → mean (whole xs) frame trees ≡ collected (λ (part : Meaning). part frame) (map mean xs) trees
 whole-is [] frame trees = ap (λ (m : Meaning). m frame trees) (mean.mean-Sequence [])
 whole-is (x ∷ []) frame trees = sym (one_alone (mean x frame trees))
@@ -104,6 +107,7 @@ Made k n v below frame trees now =
 none_given : (frame : Frame) (trees now : List Tree) → AreGiven end frame trees now → trees ≡ now
 none_given frame trees now g = ap (λ (o : Done). o.1) g.is
 
+-- each node is made again of what is made below it
 pub node-gives : (k : Kind) (n v : Text) (below : Forest Label) (frame : Frame) (trees now : List Tree) → IsNode (label k n v) below → AreGiven below frame trees now → Made k n v below frame trees now
 node-gives kind.Document [] [] below frame trees now is given =
     unnamed-gives unnamed.Document (whole (quoted_nodes below)) frame trees now (roots given.numbers) (tree (label kind.Document [] []) below)
@@ -151,19 +155,30 @@ pub record AreNodes (height : ℕ) (f : Forest Label) : Type 0 where
   pub low : height ≤ most_levels
   pub room : count f ≤ most_nodes
 
+-- the nodes of a tree
 pub are_nodes : (t : Tree) → IsTree t → AreNodes most_levels (nodes t)
 are_nodes t is = record { texts = is.texts; legal = is.legal; content = is.content; names = is.names; high = is.height; low = omega arith; room = is.room }
 
 below_are : (height : ℕ) (a : Label) (below beside : Forest Label) → AreNodes (suc height) (node a below beside) → AreNodes height below
 below_are height a below beside w = record {
-  texts = w.texts.1.0; legal = w.legal.1.0; content = w.content.1.0; names = w.names.1.0;
-  high = w.high.0; low = (let l = w.low in omega (arith, l)); room = (let r = w.room in omega (arith, r));
+  texts = w.texts.1.0;
+  legal = w.legal.1.0;
+  content = w.content.1.0;
+  names = w.names.1.0;
+  high = w.high.0;
+  low = (let l = w.low in omega (arith, l));
+  room = (let r = w.room in omega (arith, r));
 }
 
 beside_are : (height : ℕ) (a : Label) (below beside : Forest Label) → AreNodes (suc height) (node a below beside) → AreNodes (suc height) beside
 beside_are height a below beside w = record {
-  texts = w.texts.1.1; legal = w.legal.1.1; content = w.content.1.1; names = w.names.1.1;
-  high = w.high.1; low = w.low; room = (let r = w.room in omega (arith, r));
+  texts = w.texts.1.1;
+  legal = w.legal.1.1;
+  content = w.content.1.1;
+  names = w.names.1.1;
+  high = w.high.1;
+  low = w.low;
+  room = (let r = w.room in omega (arith, r));
 }
 
 is_node : (height : ℕ) (a : Label) (below beside : Forest Label) → AreNodes (suc height) (node a below beside) → IsNode a below
@@ -199,6 +214,7 @@ trees_are : (trees inner : List Tree) (t : Tree) (outer : List Tree) → ((trees
 trees_are trees inner t outer =
     append_assoc (trees ++ inner) (t ∷ []) outer ∙ append_assoc trees inner (t ∷ outer)
 
+-- a node is made after what is below it, and before what is beside it
 step_gives : (a : Label) (below beside : Forest Label) (frame : Frame) (trees : List Tree) (done : List Item) → IsNode a below
     → (inner : NodesGive below frame trees [])
     → NodesGive beside frame ((trees ++ inner.added) ++ tree a below ∷ []) (done ++ Node (root_of (length (trees ++ inner.added))) ∷ [])
@@ -218,6 +234,7 @@ step_gives a below beside frame trees done is inner outer =
       are = subst (λ (ts : List Tree). AreMade ts (length now ∷ outer.numbers) (node a below beside)) p ((stands_last now outer.added t).0, (stands_last now outer.added t).1, outer.are);
     }
 
+-- nodes side by side are made again, by recursion on them
 pub nodes_give : (height : ℕ) (f : Forest Label) → AreNodes height f → (frame : Frame) (trees : List Tree) (done : List Item) → NodesGive f frame trees done
 nodes_give height end w frame trees done =
     (let p = sym (append-nil done) in let q = sym (append-nil trees) in record { numbers = []; added = []; is = (λ i. (Ok (p i), q i)); are = tt })
@@ -229,6 +246,7 @@ nodes_give (suc height) (node a below beside) w frame trees done =
 
 -- ---- a tree
 
+-- the tree with this number is made again
 pub record TreeGives (t : Tree) (frame : Frame) (trees : List Tree) : Type 0 where
   pub number : ℕ
   pub added : List Tree

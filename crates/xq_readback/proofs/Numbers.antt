@@ -1,24 +1,14 @@
 -- Printed numbers are read where they stand.
-use Rattle.std.proofs.Common.{◌≡◌, ℕ, zero, suc, ◌+◌, ◌<◌, ◌≤◌, ◌^◌, Bool, true, false, cond, not, ◌&&◌, IsTrue, List, [], ◌∷◌, ◌++◌, length, Option, Some, None, Result, Ok, Err, refl, sym, ap, ◌∙◌, arith, append_assoc, ◌⊎◌, inl, inr, pos}
-use Rattle.std.specs.Prelude.{decimal as decimal_digits, ◌==◌, nat_lt, if◌then◌else◌}
+use Rattle.std.proofs.Common.{◌≡◌, ℕ, true, false, [], ◌∷◌, ◌++◌, None, Ok, refl, sym, ap, ◌∙◌, arith, append_assoc, ◌⊎◌, inl, inr}
+use Rattle.std.specs.Prelude.{◌==◌}
 use Rattle.std.specs.List.{list_all}
-use Rattle.std.proofs.lemmas.Bool.{and_parts, false≢true}
 use Rattle.std.proofs.lemmas.Bool.Decides.{nat_tests}
-use Rattle.std.proofs.lemmas.Fmt.{digits_value-decimal}
-use Rattle.xq_atoms.specs.declared.refusals.Code.{Code}
-use Rattle.xq_atoms.specs.declared.refusals.Code.TheVariants.{FOAR0002, ProfDigits}
-use Rattle.xq_atoms.specs.Text.{is_whole, is_empty, are_digits, value}
-use Rattle.xq_atoms.specs.Literal.{integer_literal, decimal_literal}
-use Rattle.xq_atoms.proofs.TextLemmas.{digits_model}
-use Rattle.xq_atoms.proofs.ReadBack.{is_whole-decimal, integer_literal-decimal}
 use Rattle.xq_atoms.specs.Characters.{is_space, is_digit, is_name_start}
 use Rattle.xq_atoms.proofs.Classes.{digit_no_start}
 use Rattle.xq_lexer.specs.Chars.{Text, begins}
-use Rattle.xq_lexer.specs.Separators.{skip}
-use Rattle.xq_lexer.specs.Lexeme as l
-use Rattle.xq_lexer.specs.Literals.{Number, integer, decimal, number_text, number_fault, follow_fault, value_fault, first_fault, code_of}
-use Rattle.xq_lexer.specs.Spelling.{Form, number, form_text, form_lex}
-use Rattle.xq_lexer.specs.private.Reading.{after_digits, read_number, judged, unless_fault, read_token}
+use Rattle.xq_lexer.specs.Literals.{Number, integer, decimal, number_text, number_fault, follow_fault, value_fault}
+use Rattle.xq_lexer.specs.Spelling.{number}
+use Rattle.xq_lexer.specs.private.Reading.{after_digits, read_number, judged, read_token}
 use Rattle.xq_lexer.proofs.Spans.{span_exact}
 use Rattle.xq_readback.proofs.Marks.{IsThere, skip_none}
 
@@ -46,10 +36,12 @@ whole_read w (c ∷ t) (inl e) = absurd cc
 whole_read w [] (inr e) = refl
 whole_read w (c ∷ t) (inr e) = let same : c ≡ 44 = cc (e.1) in rw same refl
 
+-- digits, before an end
 pub integer_read : (w after : Text) → list_all is_digit w ≡ true → Ends after → ◌≡◌ {A = Number × Text} (read_number (w ++ after)) (integer w, after)
 unfolding read_number
 integer_read w after all ends = rw (span_exact is_digit w after all (ends_digit after ends)) (whole_read w after ends)
 
+-- digits with a point, before an end
 pub decimal_read : (w f after : Text) → list_all is_digit w ≡ true → list_all is_digit f ≡ true → Ends after → ◌≡◌ {A = Number × Text} (read_number ((w ++ 46 ∷ f) ++ after)) (decimal w f, after)
 unfolding read_number after_digits
 decimal_read w f after all more ends =
@@ -73,7 +65,9 @@ number_there n c t after text digit read ends good =
     let whole : number_text n ++ after ≡ c ∷ (t ++ after) = ap (λ (u : Text). u ++ after) text in
     let none = digit_no_space c digit in
     record {
-      first = c; rest = t ++ after; whole = whole;
+      first = c;
+      rest = t ++ after;
+      whole = whole;
       read = number_token c (t ++ after) digit ∙ ap (λ (u : Text). judged (read_number u)) (sym whole) ∙ ap judged read ∙ judged_good n after (rw (ends_follow after ends, good) refl);
       skipped = skip_none c (t ++ after) none.0 none.1;
     }

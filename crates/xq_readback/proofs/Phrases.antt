@@ -1,11 +1,11 @@
 -- The tokens of a printed result derive its quoted expression.
-use Rattle.std.proofs.Common.{◌≡◌, ℕ, zero, suc, ◌≤◌, Bool, true, false, List, [], ◌∷◌, ◌++◌, map, Option, Some, None, refl, sym, ap, ◌∙◌, inl, inr, ℤ, pos}
+use Rattle.std.proofs.Common.{◌≡◌, ℕ, zero, suc, Bool, true, false, List, [], ◌∷◌, ◌++◌, map, Some, None, refl, inl, inr, ℤ, pos}
 use Rattle.std.specs.Prelude.{IsTrue, codes, int_lt, nat_abs, if◌then◌else◌}
 use Rattle.std.specs.Ordering.{int_eq}
 use Rattle.std.proofs.lemmas.Bool.{false≢true}
 use Rattle.xq_atoms.specs.Text.{Text}
 use Rattle.xq_atoms.specs.Atom.{Atomic, Integer, Decimal, String, Boolean, Untyped}
-use Rattle.xq_lexer.specs.Lexeme.{Lex, name, prefixed, int, dec, str, symbol}
+use Rattle.xq_lexer.specs.Lexeme.{Lex, int, dec, str, symbol}
 use Rattle.xq_lexer.specs.declared.tokens.Symbol.TheVariants as s
 use Rattle.xq_expressions.specs.declared.names.QName.{QName}
 use Rattle.xq_expressions.specs.declared.expressions.Expr.{Expr}
@@ -21,15 +21,16 @@ use Rattle.xq_parser.specs.Grammar as g
 use Rattle.xq_regions.specs.declared.Kind.{Kind}
 use Rattle.xq_regions.specs.declared.Kind.TheVariants as kind
 use Rattle.xq_regions.specs.Forest.{Forest, end, node, tops, EachNode, IsWithinHeight}
-use Rattle.xq_regions.specs.Tree.{Label, Tree, nodes, is_content, most_levels}
+use Rattle.xq_regions.specs.Tree.{Label, Tree, is_content}
 use Rattle.xq_meaning.specs.Items.{Item, Node, Atom, tree_below}
 use Rattle.xq_meaning.specs.Content.{label}
-use Rattle.xq_readback.specs.Quoted.{cast, least, with_sign, quoted_integer, quoted_atomic, whole, written, made, quoted_nodes, quoted_item, quoted_items, in_parentheses, cast_tokens, sign_tokens, integer_tokens, atomic_tokens, opening_tokens, node_tokens, item_tokens, more_tokens, items_tokens}
+use Rattle.xq_readback.specs.Quoted.{cast, least, with_sign, quoted_atomic, whole, written, made, quoted_nodes, quoted_item, quoted_items, in_parentheses, cast_tokens, sign_tokens, atomic_tokens, opening_tokens, node_tokens, item_tokens, more_tokens, items_tokens}
 use Rattle.xq_meaning.specs.Printable.{ArePrintable}
 use Rattle.xq_readback.proofs.Contents.{parts_of}
 
 -- ---- from a primary expression up to a single one
 
+-- a primary expression alone is a relative path
 alone : (x : Expr) → g.relative (g.primary_step (x, []), []) ≡ x
 alone x = rw (step.outs-Primary x []) refl
 
@@ -46,6 +47,7 @@ module _ (S : Rel Expr) where
   any_of : (ts us : Tokens) (y : Expr) → g.Sum S ts y us → g.Any S ts y us
   any_of ts us y u = inr (inr (inr ((y, []), (us, ((y, []), (us, ((y, None), (us, ((y, []), (us, ((y, None), (us, u, refl), refl), refl), refl), refl), refl), refl), refl), refl), refl)))
 
+  -- from a primary expression with signs up to a single one
   pub signed : (signs : List Sign) (ts mid us : Tokens) (x : Expr) → Many (OneOf g.signs) ts signs mid → g.Primary S mid x us → g.Any S ts (g.signed (signs, x)) us
   signed signs ts mid us x m p = any_of ts us (g.signed (signs, x)) (sum ts us (g.signed (signs, x)) (unary signs ts mid us x m p))
 
@@ -74,6 +76,7 @@ module _ (S : Rel Expr) where
 
   -- ---- wholes
 
+  -- an expression and others are several, or it alone
   pub several : (x : Expr) (xs : List Expr) → g.several e.Sequence (x, xs) ≡ whole (x ∷ xs)
   several x [] = refl
   several x (y ∷ more) = refl
@@ -117,6 +120,7 @@ false_calls = refl
 
 -- ---- constructors
 
+-- what may stand between braces
 abbrev Inner : ℕ → Rel Expr
 Inner h = empty (e.Sequence []) ∣ g.Whole (g.Single h)
 
@@ -159,10 +163,12 @@ AreShaped f = EachNode (λ a below. IsTrue (is_content a below)) f
 abbrev comma : Tokens
 comma = symbol s.Comma ∷ []
 
+-- nodes after an opening brace, and after other nodes
 pub record NodesDerive (h : ℕ) (f : Forest Label) (us : Tokens) : Type 0 where
   pub first : Inner (suc h) (node_tokens [] f us) (whole (quoted_nodes f)) us
   pub others : Many (symbol s.Comma ▹ g.Single (suc h)) (node_tokens comma f us) (quoted_nodes f) us
 
+-- nodes within a height derive at the depth above it
 nodes_derive : (h : ℕ) (f : Forest Label) → IsWithinHeight h f → AreShaped f → (us : Tokens) → NodesDerive h f us
 nodes_derive h end high shaped us = record { first = inl (refl, refl); others = refl }
 nodes_derive zero (node a below beside) high shaped us = absurd high
@@ -206,6 +212,7 @@ integer_single : (h : ℕ) (n : ℤ) (b : Bool) (us : Tokens)
 integer_single h n true us = cast_single h (codes "integer") (codes "-9223372036854775808") us
 integer_single h n false us = signed_single (suc h) (int_lt n (pos 0)) (int (pos (nat_abs n))) (e.Int (pos (nat_abs n))) us (int_primary (g.Single (suc h)) (pos (nat_abs n)) us)
 
+-- atomic values, each at the depth of a cast
 value_single : (h : ℕ) (a : Atomic) (us : Tokens) → g.Single (suc (suc h)) (atomic_tokens a ++ us) (quoted_atomic a) us
 value_single h (Integer n) us = integer_single h n (int_eq n least) us
 value_single h (Decimal m) us = signed_single (suc h) (int_lt m (pos 0)) (dec (pos (nat_abs m))) (e.Dec (pos (nat_abs m))) us (dec_primary (g.Single (suc h)) (pos (nat_abs m)) us)
@@ -230,6 +237,7 @@ more_derive : (trees : List Tree) (xs : List Item) → ArePrintable trees xs →
 more_derive trees [] are = refl
 more_derive trees (x ∷ xs) are = (more_tokens trees xs, (_, refl, item_single trees x xs are (more_tokens trees xs)), more_derive trees xs are.1)
 
+-- the tokens of a result derive it
 pub items_derive : (trees : List Tree) (xs : List Item) → ArePrintable trees xs → g.Derives (items_tokens trees xs) (quoted_items trees xs)
 items_derive trees [] are = (suc (suc 100), one_whole Deep _ [] _ (primary (g.Single (suc 100)) _ [] _ (none_primary (g.Single (suc 100)) [])))
 items_derive trees (x ∷ xs) are =

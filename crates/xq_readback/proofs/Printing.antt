@@ -1,25 +1,21 @@
 -- A printed result as marks: tokens, and where a space stands after one.
-use Rattle.std.proofs.Common.{◌≡◌, ℕ, suc, Bool, true, false, List, [], ◌∷◌, ◌++◌, length, map, refl, sym, ap, ap₂, ◌∙◌, append_assoc}
-use Rattle.std.specs.Prelude.{IsTrue, IsUtf8, codes, encode_utf8_all, encode_utf8}
-use Rattle.std.specs.List.{list_all}
+use Rattle.std.proofs.Common.{◌≡◌, ℕ, true, false, List, [], ◌∷◌, ◌++◌, refl, sym, ap, ap₂, ◌∙◌, append_assoc}
+use Rattle.std.specs.Prelude.{IsUtf8, codes, encode_utf8_all, encode_utf8}
 use Rattle.std.specs.Str.{chars}
-use Rattle.std.proofs.lemmas.Bool.{and_parts, false≢true}
 use Rattle.std.proofs.lemmas.List.{append-nil}
 use Rattle.std.proofs.lemmas.Str.{encodes-append, encodes-chars}
 use Rattle.xq_atoms.specs.Print.{quoted}
 use Rattle.xq_atoms.specs.Text.{Text}
-use Rattle.xq_atoms.specs.Characters.{is_char, is_name, is_name_start, is_name_char}
 use Rattle.xq_lexer.specs.Lexeme as l
 use Rattle.xq_lexer.specs.Lexeme.{Lex}
 use Rattle.xq_lexer.specs.declared.tokens.Symbol.TheVariants as s
-use Rattle.xq_lexer.specs.Literals.{content_text, content_chars}
-use Rattle.xq_lexer.specs.Spelling.{Form, name, symbol, form_text, form_lex}
-use Rattle.xq_parser.specs.Look.{Tokens, word}
+use Rattle.xq_lexer.specs.Spelling.{name, symbol, form_text, form_lex}
+use Rattle.xq_parser.specs.Look.{word}
 use Rattle.xq_regions.specs.declared.Kind.{Kind}
 use Rattle.xq_regions.specs.declared.Kind.TheVariants as kind
-use Rattle.xq_regions.specs.Forest.{Forest, end, node, tops, EachNode}
-use Rattle.xq_regions.specs.Tree.{Label, Tree, nodes, IsText}
-use Rattle.xq_regions.specs.Print.{word as kind_word, heading, content, opening, listed, comma}
+use Rattle.xq_regions.specs.Forest.{Forest, end, node, EachNode}
+use Rattle.xq_regions.specs.Tree.{Label, IsText}
+use Rattle.xq_regions.specs.Print.{opening, listed, comma}
 use Rattle.xq_meaning.specs.Content.{label}
 use Rattle.xq_readback.specs.Quoted.{opening_tokens, node_tokens}
 use Rattle.xq_atom_laws.proofs.Strings.{literal, literal-bytes, content_chars-pieces}
@@ -57,6 +53,7 @@ literal_lex v text = ap l.str (ap encode_utf8_all (content_chars-pieces (chars v
 name_lex : (n : Text) → IsUtf8 n → form_lex (name (chars n)) ≡ l.name n
 name_lex n text = ap l.name (encodes-chars n text)
 
+-- the tokens of the opening marks
 opening_lexes : (k : Kind) (n v : Text) → IsUtf8 n → IsUtf8 v → marks_lexes (opening_marks k n v) ≡ opening_tokens k n v
 unfolding lib.Utf8.encode
 opening_lexes kind.Document n v p q = refl
@@ -69,6 +66,7 @@ opening_lexes kind.ProcessingInstruction n v p q = ap₂ (λ x y. word "processi
 abbrev AreTexts : Forest Label → Type 0
 AreTexts f = EachNode (λ a below. IsText a) f
 
+-- the tokens of the marks of nodes are those of their expression
 pub node_lexes : (before : List Mark) (f : Forest Label) (after : List Mark) → AreTexts f → marks_lexes (node_marks before f after) ≡ node_tokens (marks_lexes before) f (marks_lexes after)
 node_lexes before end after t = refl
 node_lexes before (node a below beside) after t =
@@ -104,6 +102,7 @@ named_bytes n rest text = encodes-append (chars n) rest ∙ ap (λ (x : Text). x
 pub valued_bytes : (v : Text) → IsUtf8 v → encode_utf8_all (form_text (literal (chars v)) ++ []) ≡ quoted v
 valued_bytes v text = ap encode_utf8_all (append-nil (form_text (literal (chars v)))) ∙ literal_bytes v text
 
+-- the text of the opening marks
 opening_bytes : (k : Kind) (n v : Text) → IsUtf8 n → IsUtf8 v → marks_bytes (opening_marks k n v) ≡ opening (label k n v)
 unfolding lib.Utf8.encode
 opening_bytes kind.Document n v p q = refl
@@ -121,6 +120,7 @@ opening_bytes kind.ProcessingInstruction n v p q =
 abbrev Before : List Mark → Text → Type 0
 Before ms t = marks_bytes ms ≡ t
 
+-- the text of the marks of nodes is their print
 pub node_bytes : (before : List Mark) (text : Text) → Before before text → (f : Forest Label) (after : List Mark) → AreTexts f → marks_bytes (node_marks before f after) ≡ listed text f ++ marks_bytes after
 unfolding lib.Utf8.encode
 node_bytes before text is end after t = refl

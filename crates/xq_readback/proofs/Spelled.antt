@@ -1,18 +1,8 @@
 -- A printed result spells the tokens of its quoted expression.
-use Rattle.std.proofs.Common.{◌≡◌, ℕ, zero, suc, ◌+◌, ◌/◌, ◌<◌, ◌^◌, Bool, true, false, IsTrue, List, [], ◌∷◌, ◌++◌, length, map, Option, Some, None, Result, Ok, Err, refl, sym, ap, ap₂, ◌∙◌, subst, arith, append_assoc, ◌⊎◌, inl, inr, ℤ, pos, negsuc}
-use Rattle.std.specs.Prelude.{IsUtf8, codes, encode_utf8_all, decimal as decimal_digits, if◌then◌else◌, nat_abs, int_lt}
-use Rattle.std.specs.Ordering.{int_eq}
-use Rattle.std.specs.Str.{chars}
-use Rattle.std.proofs.lemmas.List.{append-nil}
-use Rattle.std.proofs.lemmas.Str.{encodes-append, encodes-chars, chars-encodes}
-use Rattle.xq_atoms.specs.Text.{Text}
-use Rattle.xq_atoms.specs.Atom.{Atomic, Integer, Decimal, String, Boolean, Untyped}
-use Rattle.xq_lexer.specs.Lexeme as l
-use Rattle.xq_lexer.specs.Lexeme.{Lex, Placed}
+use Rattle.std.proofs.Common.{true, false, List, [], ◌∷◌, ◌++◌, refl, inl, inr}
 use Rattle.xq_lexer.specs.declared.tokens.Symbol.TheVariants as s
 use Rattle.xq_lexer.specs.Spelling.{symbol}
 use Rattle.xq_regions.specs.Tree.{Tree, nodes}
-use Rattle.xq_regions.specs.Forest.{node, end}
 use Rattle.xq_meaning.specs.Items.{Item, Node, Atom, tree_below}
 use Rattle.xq_meaning.specs.Printable.{ArePrintable}
 use Rattle.xq_readback.proofs.Marks.{Mark, marks_text, AreThere, comma_there, open_there, closed_there}
@@ -34,6 +24,7 @@ abbrev pub items_marks : List Tree → List Item → List Mark
 items_marks trees [] = (symbol s.OpenParenthesis, false) ∷ (symbol s.CloseParenthesis, false) ∷ []
 items_marks trees (x ∷ xs) = item_marks trees x (more_marks trees xs)
 
+-- what follows an item is a comma or the end
 more_ends : (trees : List Tree) (xs : List Item) → Ends (marks_text (more_marks trees xs))
 more_ends trees [] = inl refl
 more_ends trees (x ∷ xs) = inr (32 ∷ marks_text (item_marks trees x (more_marks trees xs)), refl)
@@ -46,6 +37,7 @@ more_there : (trees : List Tree) (xs : List Item) → ArePrintable trees xs → 
 more_there trees [] are = tt
 more_there trees (x ∷ xs) are = (comma_there _, item_there trees x xs are (more_marks trees xs) (more_there trees xs are.1) (more_ends trees xs))
 
+-- the marks of a result are there
 pub items_there : (trees : List Tree) (xs : List Item) → ArePrintable trees xs → AreThere (items_marks trees xs)
 items_there trees [] are = (open_there 41 [] refl, (closed_there [], tt))
 items_there trees (x ∷ xs) are = item_there trees x xs are (more_marks trees xs) (more_there trees xs are.1) (more_ends trees xs)

@@ -1,22 +1,22 @@
 -- The marks of a printed result are there: each token is read where it stands.
-use Rattle.std.proofs.Common.{◌≡◌, ℕ, zero, suc, ◌<◌, ◌≤◌, ◌^◌, Bool, true, false, not, ◌&&◌, IsTrue, List, [], ◌∷◌, ◌++◌, length, map, Some, None, Ok, Err, refl, sym, ap, ap₂, ◌∙◌, subst, arith, ◌⊎◌, inl, inr, ℤ, pos, negsuc}
-use Rattle.std.specs.Prelude.{IsUtf8, codes, encode_utf8_all, decimal as decimal_digits, ◌==◌}
+use Rattle.std.proofs.Common.{◌≡◌, ℕ, true, false, IsTrue, List, [], ◌∷◌, ◌++◌, map, refl}
+use Rattle.std.specs.Prelude.{codes}
 use Rattle.std.specs.List.{list_all}
 use Rattle.std.specs.Str.{chars}
 use Rattle.std.proofs.lemmas.Bool.{and_parts, false≢true}
 use Rattle.xq_atoms.specs.Text.{Text}
 use Rattle.xq_atoms.specs.Characters.{is_char, is_name, is_name_start, is_name_char}
 use Rattle.xq_lexer.specs.declared.tokens.Symbol.TheVariants as s
-use Rattle.xq_lexer.specs.Spelling.{Form, name, symbol, form_text, form_lex, IsName}
+use Rattle.xq_lexer.specs.Spelling.{symbol, IsName}
 use Rattle.xq_regions.specs.declared.Kind.{Kind}
 use Rattle.xq_regions.specs.declared.Kind.TheVariants as kind
-use Rattle.xq_regions.specs.Names.{are_characters, is_empty, is_attribute_name, is_comment, is_target, is_instruction, is_xml}
+use Rattle.xq_regions.specs.Names.{are_characters, is_empty, is_attribute_name, is_comment, is_target, is_instruction}
 use Rattle.xq_regions.specs.Forest.{Forest, end, node, tops, EachNode}
-use Rattle.xq_regions.specs.Tree.{Label, Tree, nodes, is_content, is_legal}
+use Rattle.xq_regions.specs.Tree.{Label, is_content, is_legal}
 use Rattle.xq_meaning.specs.Content.{label}
 use Rattle.xq_readback.proofs.Contents.{parts_of}
 use Rattle.xq_atom_laws.proofs.Strings.{literal, piece, are_pieces}
-use Rattle.xq_readback.proofs.Marks.{Mark, gap, marks_text, IsThere, AreThere, spaced_name, brace_there, close_there, comma_there, string_there}
+use Rattle.xq_readback.proofs.Marks.{Mark, marks_text, IsThere, AreThere, spaced_name, brace_there, close_there, comma_there, string_there}
 use Rattle.xq_readback.proofs.Printing.{opening_marks, comma_marks, node_marks}
 
 -- the words are names
@@ -51,6 +51,7 @@ closed_literal v t h = string_there (map piece (chars v)) (125 ∷ t) (are_piece
 abbrev closing : List Mark → List Mark
 closing rest = (symbol s.CloseBrace, false) ∷ rest
 
+-- what opens a node is there before what is below it
 opening_there : (k : Kind) (n v : Text) (below : Forest Label) (rest : List Mark) → is_legal k n v ≡ true → is_content (label k n v) (tops below) ≡ true
     → AreThere (node_marks [] below (closing rest)) → AreThere (opening_marks k n v ++ node_marks [] below (closing rest))
 opening_there kind.Document n v below rest legal c inner = (spaced_name (codes "document") _ document_is, (brace_there _, inner))
@@ -82,6 +83,7 @@ pub record NodesThere (f : Forest Label) (after : List Mark) : Type 0 where
   pub first : AreThere (node_marks [] f after)
   pub others : AreThere (node_marks comma_marks f after)
 
+-- the marks of nodes are there
 pub nodes_there : (f : Forest Label) → AreLegal f → AreShaped f → (after : List Mark) → AreThere after → NodesThere f after
 nodes_there end legal shaped after are = record { first = are; others = are }
 nodes_there (node a below beside) legal shaped after are =

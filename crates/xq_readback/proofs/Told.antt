@@ -1,24 +1,23 @@
 -- The marks of a printed result: their tokens are those of its quoted expression, and their text is the print.
-use Rattle.std.proofs.Common.{◌≡◌, ℕ, zero, suc, ◌+◌, ◌/◌, ◌<◌, ◌^◌, Bool, true, false, IsTrue, List, [], ◌∷◌, ◌++◌, length, map, Result, Ok, Err, refl, sym, ap, ap₂, ◌∙◌, subst, arith, append_assoc, ℤ, pos, negsuc}
+use Rattle.std.proofs.Common.{◌≡◌, ℕ, suc, ◌/◌, ◌<◌, ◌^◌, Bool, true, false, List, [], ◌∷◌, ◌++◌, length, map, Ok, Err, refl, sym, ap, ap₂, ◌∙◌, subst, arith, append_assoc, ℤ, pos, negsuc}
 use Rattle.std.specs.Prelude.{IsUtf8, codes, encode_utf8_all, decimal as decimal_digits, if◌then◌else◌, nat_abs, nat_lt, int_lt}
-use Rattle.std.specs.Fmt.{signed_decimal, digits}
+use Rattle.std.specs.Fmt.{signed_decimal}
 use Rattle.std.specs.Ordering.{int_eq}
 use Rattle.std.specs.List.{list_all}
 use Rattle.std.specs.Str.{chars}
 use Rattle.std.proofs.lemmas.Bool.{false≢true}
-use Rattle.std.proofs.lemmas.Bool.Decides.{nat_tests}
 use Rattle.std.proofs.lemmas.Fmt.{digits_value-decimal}
-use Rattle.std.proofs.lemmas.List.{append-nil, length-append}
-use Rattle.std.proofs.lemmas.Str.{encodes-append, encodes-chars, chars_from_encodes}
+use Rattle.std.proofs.lemmas.List.{append-nil}
+use Rattle.std.proofs.lemmas.Str.{encodes-append, chars_from_encodes}
 use Rattle.xq_atoms.specs.declared.refusals.Code.{Code}
 use Rattle.xq_atoms.specs.declared.refusals.Code.TheVariants.{FOAR0002, ProfDigits}
 use Rattle.xq_atoms.specs.Judged.{Judged, only_if}
-use Rattle.xq_atoms.specs.Text.{Text, value}
+use Rattle.xq_atoms.specs.Text.{Text}
 use Rattle.xq_atoms.specs.Atom.{Atomic, Integer, Decimal, String, Boolean, Untyped, is_integer}
 use Rattle.xq_atoms.specs.Decimal.{is_decimal}
-use Rattle.xq_atoms.specs.Literal.{decimal_literal, millionths, fraction}
-use Rattle.xq_atoms.specs.Cast.{fraction_text, sign_text}
-use Rattle.xq_atoms.specs.Print.{quoted, at_least_zero, print_integer, print_decimal, print_atomic}
+use Rattle.xq_atoms.specs.Literal.{millionths, fraction}
+use Rattle.xq_atoms.specs.Cast.{fraction_text}
+use Rattle.xq_atoms.specs.Print.{quoted, at_least_zero, print_decimal, print_atomic}
 use Rattle.xq_atoms.proofs.TextLemmas.{digits_model}
 use Rattle.xq_atoms.proofs.ReadBack.{is_whole-decimal}
 use Rattle.xq_atom_laws.proofs.Decimals.{printed, decimal_literal-printed, print-pos, print-minus}
@@ -26,7 +25,7 @@ use Rattle.xq_atoms.specs.Characters.{is_digit}
 use Rattle.xq_lexer.specs.Lexeme as l
 use Rattle.xq_lexer.specs.Lexeme.{Lex, Placed}
 use Rattle.xq_lexer.specs.declared.tokens.Symbol.TheVariants as s
-use Rattle.xq_lexer.specs.Literals.{integer, decimal, number_text, IsNumber}
+use Rattle.xq_lexer.specs.Literals.{integer, decimal, IsNumber}
 use Rattle.xq_lexer.specs.Spelling.{symbol, form_text, form_lex, Spells}
 use Rattle.xq_lexer.proofs.NumberLemmas.{number_encoded}
 use Rattle.xq_regions.specs.Tree.{Tree, nodes}
@@ -96,6 +95,7 @@ unfolding lib.Utf8.encode
 truth_lexes true ms = refl
 truth_lexes false ms = refl
 
+-- each atomic value has its tokens
 atom_lexes : (a : Atomic) (ms : List Mark) → IsValue a → marks_lexes (atomic_marks a ++ ms) ≡ atomic_tokens a ++ marks_lexes ms
 atom_lexes (Integer n) ms h = integers_lexes n (int_eq n least) (int_lt n (pos 0)) ms refl refl h
 atom_lexes (Decimal m) ms h = decimals_lexes m (int_lt m (pos 0)) ms refl h
@@ -150,6 +150,7 @@ unfolding lib.Utf8.encode
 truth_bytes true = refl
 truth_bytes false = refl
 
+-- each atomic value has its print
 atom_bytes : (a : Atomic) → IsValue a → marks_bytes (atomic_marks a) ≡ print_atomic a
 atom_bytes (Integer n) h = integers_bytes n (int_eq n least) refl h
 atom_bytes (Decimal m) h = decimals_bytes m h
@@ -197,6 +198,7 @@ items_bytes trees (x ∷ xs) are = tail_bytes trees x xs are
 spelled_as : (text print : List ℕ) (ls ms : List Lex) → text ≡ print → ls ≡ ms → (tokens : List Placed) × Spells text tokens × (lexemes tokens ≡ ls) → (tokens : List Placed) × Spells print tokens × (lexemes tokens ≡ ms)
 spelled_as text print ls ms same are found = subst (λ (t : List ℕ). (tokens : List Placed) × Spells t tokens × (lexemes tokens ≡ ms)) same (found.0, found.1, found.2 ∙ are)
 
+-- the law
 pub print_spells : PrintSpells
 print_spells = λ trees xs are text.
     spelled_as (marks_text (items_marks trees xs)) (chars (print_items trees xs)) (marks_lexes (items_marks trees xs)) (items_tokens trees xs)

@@ -1,5 +1,5 @@
 -- A quoted expression has no static fault.
-use Rattle.std.proofs.Common.{◌≡◌, ℕ, zero, suc, Bool, true, false, List, [], ◌∷◌, ◌++◌, map, Option, Some, None, Ok, refl, sym, ap, ◌∙◌, ℤ, pos}
+use Rattle.std.proofs.Common.{◌≡◌, Bool, true, false, List, [], ◌∷◌, ◌++◌, map, Some, None, refl, ap, ◌∙◌, ℤ, pos}
 use Rattle.std.specs.Prelude.{codes, int_lt, nat_abs, if◌then◌else◌}
 use Rattle.std.specs.Ordering.{int_eq}
 use Rattle.xq_atoms.specs.Text.{Text}
@@ -24,7 +24,7 @@ use Rattle.xq_regions.specs.declared.Kind.TheVariants as kind
 use Rattle.xq_regions.specs.Forest.{Forest, end, node}
 use Rattle.xq_regions.specs.Tree.{Label, Tree}
 use Rattle.xq_meaning.specs.Items.{Item, Node, Atom, tree_below}
-use Rattle.xq_readback.specs.Quoted.{cast, least, with_sign, quoted_integer, quoted_atomic, whole, written, made, quoted_nodes, quoted_item, quoted_items}
+use Rattle.xq_readback.specs.Quoted.{cast, least, with_sign, quoted_atomic, whole, written, made, quoted_nodes, quoted_item, quoted_items}
 
 -- no place of it has a fault, whatever variables are in scope
 abbrev IsUnfaulted : Expr → Type 0
@@ -34,6 +34,7 @@ abbrev AreUnfaulted : List Expr → Type 0
 AreUnfaulted [] = Unit {0}
 AreUnfaulted (x ∷ xs) = IsUnfaulted x × AreUnfaulted xs
 
+-- two parts without a fault
 both : (xs ys : List Place) → first_fault xs ≡ None → first_fault ys ≡ None → first_fault (xs ++ ys) ≡ None
 both xs ys h k = first-append xs ys ∙ ap (λ o. option_or o (first_fault ys)) h ∙ k
 
@@ -57,6 +58,7 @@ named_none k n x h names =
 unnamed_none : (k : UnnamedNode) (x : Expr) → IsUnfaulted x → IsUnfaulted (e.Unnamed k x)
 unnamed_none k x h names = ap (λ (f : Places). first_fault (f names)) (at.places-Unnamed k x) ∙ h names
 
+-- a constructor of parts without a fault
 made_none : (k : Kind) (n v : Text) (xs : List Expr) → AreUnfaulted xs → IsUnfaulted (made k n v xs)
 made_none kind.Document n v xs h = unnamed_none unnamed.Document (whole xs) (whole_none xs h)
 made_none kind.Element n v xs h = named_none named.Element n (whole xs) (whole_none xs h)
@@ -71,6 +73,7 @@ nodes_none (node a below beside) = (made_none a.kind a.name a.value (quoted_node
 
 -- ---- atomic values
 
+-- a cast whose name is known
 cast_none : (n v : Text) → call_fault (Some (codes "xs")) n 1 ≡ None → IsUnfaulted (cast n v)
 cast_none n v h names =
     ap (λ (f : Places). first_fault (f names)) (at.places-Call (with_prefix (codes "xs") n) (e.Str v ∷ []) ∙ ap (λ (f : Places). form_places (Expr-F.Call (with_prefix (codes "xs") n) (f ∷ []))) (at.places-Str v))
@@ -113,5 +116,6 @@ all_none : (trees : List Tree) (xs : List Item) → AreUnfaulted (map (quoted_it
 all_none trees [] = tt
 all_none trees (x ∷ xs) = (item_none trees x, all_none trees xs)
 
+-- no result has a fault
 pub items_unfaulted : (trees : List Tree) (xs : List Item) → static_fault (quoted_items trees xs) ≡ None
 items_unfaulted trees xs = whole_none (map (quoted_item trees) xs) (all_none trees xs) []

@@ -1,11 +1,9 @@
 -- What atomic values are quoted as gives them again.
-use Rattle.std.proofs.Common.{◌≡◌, ℕ, suc, ◌^◌, ◌<◌, ◌≤◌, Bool, true, false, not, ◌&&◌, List, [], ◌∷◌, ◌++◌, map, ℤ, pos, negsuc, neg_ℤ, None, Ok, Err, arith, refl, sym, ap, ◌∙◌, subst}
+use Rattle.std.proofs.Common.{◌≡◌, ℕ, suc, Bool, true, false, List, [], ◌∷◌, ℤ, pos, negsuc, Ok, arith, refl, sym, ap, ◌∙◌, subst}
 use Rattle.std.specs.Prelude.{codes, if◌then◌else◌, int_lt, nat_abs}
-use Rattle.std.specs.Fmt.{digits}
 use Rattle.std.specs.Ordering.{int_eq}
 use Rattle.std.proofs.lemmas.Bool.Decides.{nat_tests}
 use Rattle.std.proofs.lemmas.Bool.{false≢true}
-use Rattle.std.proofs.lemmas.Int.{ints}
 use Rattle.xq_atoms.specs.Text.{Text}
 use Rattle.xq_atoms.specs.Atom.{Atomic, Integer, Decimal, String, Boolean, Untyped, is_integer}
 use Rattle.xq_atoms.specs.Decimal.{is_decimal}
@@ -40,6 +38,7 @@ least_is : (n : ℤ) → int_eq n least ≡ true → n ≡ least
 least_is n h = grind (arith, nat_tests)
 
 module _ (frame : Frame) (trees : List Tree) where
+  -- literals give their values
   pub text-gives : (t : Text) → GivesItems (e.Str t) frame trees (Atom (String t) ∷ [])
   text-gives t = ap (λ (m : Meaning). m frame trees) (mean.mean-Str t)
 
@@ -49,6 +48,7 @@ module _ (frame : Frame) (trees : List Tree) where
   dec-gives : (m : ℤ) → GivesItems (e.Dec m) frame trees (Atom (Decimal m) ∷ [])
   dec-gives m = ap (λ (x : Meaning). x frame trees) (mean.mean-Dec m)
 
+  -- casts of literals give theirs; that of a concrete text computes
   untyped-gives : (t : Text) → GivesItems (cast (codes "untypedAtomic") t) frame trees (Atom (Untyped t) ∷ [])
   untyped-gives t =
       ap (λ (m : Meaning). m frame trees)
@@ -65,6 +65,7 @@ module _ (frame : Frame) (trees : List Tree) where
   true-gives true = ap (λ (m : Meaning). m frame trees) (mean.mean-Call (unprefixed (codes "true")) [])
   true-gives false = ap (λ (m : Meaning). m frame trees) (mean.mean-Call (unprefixed (codes "false")) [])
 
+  -- a minus before a literal
   minus : (x : Expr) (m : Meaning) → mean x ≡ m → mean (e.Unary (Minus ∷ []) x) frame trees ≡ Forms.unary (Minus ∷ []) m frame trees
   minus x m is = ap (λ (f : Meaning). f frame trees) (mean.mean-Unary (Minus ∷ []) x ∙ ap (λ (f : Meaning). form_meaning (Expr-F.Unary (Minus ∷ []) f)) is)
 
@@ -74,6 +75,7 @@ module _ (frame : Frame) (trees : List Tree) where
   minus-dec : (k : ℕ) → is_decimal (negsuc k) ≡ true → GivesItems (e.Unary (Minus ∷ []) (e.Dec (pos (suc k)))) frame trees (Atom (Decimal (negsuc k)) ∷ [])
   minus-dec k h = minus (e.Dec (pos (suc k))) (form_meaning (Expr-F.Dec (pos (suc k)))) (mean.mean-Dec (pos (suc k))) ∙ rw h refl
 
+  -- an integer by whether it is the least, and below zero
   integer_at : (n : ℤ) (b c : Bool) → int_eq n least ≡ b → int_lt n (pos 0) ≡ c → is_integer n ≡ true
       → GivesItems (if b then cast (codes "integer") (codes "-9223372036854775808") else with_sign c (e.Int (pos (nat_abs n)))) frame trees (Atom (Integer n) ∷ [])
   integer_at n true c same l h = subst (λ n. GivesItems (cast (codes "integer") (codes "-9223372036854775808")) frame trees (Atom (Integer n) ∷ [])) (sym (least_is n same)) least-gives
@@ -94,6 +96,7 @@ module _ (frame : Frame) (trees : List Tree) where
   decimal-gives : (m : ℤ) → is_decimal m ≡ true → GivesItems (quoted_atomic (Decimal m)) frame trees (Atom (Decimal m) ∷ [])
   decimal-gives m h = decimal_at m (int_lt m (pos 0)) refl h
 
+  -- each atomic value is given again
   pub value-gives : (a : Atomic) → IsValue a → GivesItems (quoted_atomic a) frame trees (Atom a ∷ [])
   value-gives (Integer n) h = integer-gives n h
   value-gives (Decimal m) h = decimal-gives m h

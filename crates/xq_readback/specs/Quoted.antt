@@ -1,6 +1,6 @@
 -- The quoted expression of a result: what its printed form says, as an expression and as tokens
 -- (XQuery 3.1, sections 3.1.1, 3.1.5, 3.5 and 3.9.3).
-use Rattle.std.specs.Prelude.{ℕ, ◌^◌, ℤ, pos, neg_ℤ, nat_abs, int_lt, List, [], ◌∷◌, ◌++◌, map, Bool, codes, if◌then◌else◌}
+use Rattle.std.specs.Prelude.{◌^◌, ℤ, pos, neg_ℤ, nat_abs, int_lt, List, [], ◌∷◌, ◌++◌, map, Bool, codes, if◌then◌else◌}
 use Rattle.std.specs.Ordering.{int_eq}
 use Rattle.xq_atoms.specs.Text.{Text}
 use Rattle.xq_atoms.specs.Atom.{Atomic, Integer, Decimal, String, Boolean, Untyped}
