@@ -4,11 +4,13 @@ ghost use Rattle.xq_atoms.specs.Answers.{GivesUnlessWanting};
 ghost use Rattle.xq_regions.specs.Items.{item_view};
 ghost use Rattle.xq_regions.specs.declared.Kind.TheVariants.{Document};
 ghost use Rattle.xq_meaning.specs.Readings.{items_at, AreIn, Extends};
+ghost use Rattle.xq_queries.specs.ReadBack.{HaveNumbersInRange};
 ghost use Rattle.xq_queries.specs.Values.{document, made_document, or_no_document, plan_value, reply_text};
 ghost use Rattle.xq_meaning.specs.Print.{longest_text};
+ghost use Rattle.xq_queries.specs.private.Ranges.{IsViewInRange, AreViewsInRange};
 
 use std::alloc::Global;
-use xq_atoms::{Code, Fault, Want};
+use xq_atoms::{Atom, Code, Fault, Want};
 use xq_axes::copy;
 use xq_build::print_items;
 use xq_eval::eval;
@@ -18,7 +20,8 @@ use xq_sources::{Addresses, Growing, RowLender};
 
 /// The text of the plan's value over the trees of `world`, of which the first are the documents at
 /// `addresses`: its items as expressions that give them. It is refused with the code of the
-/// plan's error, or as `prof:REPLY` where the text is over 16,777,216 bytes.
+/// plan's error, or as `prof:REPLY` where the text is over 16,777,216 bytes. Where there is a text,
+/// the numbers of the value are within the bounds of their types.
 ///
 /// `Want::Memory` where a growth was refused; `Want::Store` where the trees could not be read. What
 /// was constructed stays in `world`. What is promised holds where `world` is clean as the call
@@ -33,11 +36,39 @@ pub fn ask<W: Growing>(
         → GivesUnlessWanting string_bytes
         (reply_text (plan_value plan.now addresses.now (W.forest world.old))) result }
     ensures short { IfOk result (λ text. string_len text ≤ longest_text) }
+    ensures in_range { W.is_clean world.new → length addresses.now ≤ length (W.forest world.old)
+        → IfOk result (λ text. HaveNumbersInRange
+        (plan_value plan.now addresses.now (W.forest world.old))) }
     ensures grows { Extends (W.forest world.old) (W.forest world.new) }
     ensures was_clean { W.is_clean world.new → W.is_clean world.old }
 {
     let items = eval(alloc, plan, world, addresses)?;
+    are_in_range(&items);
     print_items(alloc, world, &items)
+}
+
+/// Nothing: a number is within the bounds of its type.
+fn is_in_range(item: &Item)
+    ensures { IsViewInRange (item_view item.now) }
+{
+    match item {
+        Item::Atom(Atom::Int(integer)) => {
+            let _integer = *integer;
+        }
+        Item::Atom(Atom::Dec(decimal)) => {
+            let _millionths = decimal.millionths();
+        }
+        Item::Atom(_) | Item::Node(_) => {}
+    }
+}
+
+/// The same of each item.
+fn are_in_range(items: &[Item])
+    ensures { AreViewsInRange (map item_view items.now) }
+{
+    for item in items {
+        is_in_range(item);
+    }
 }
 
 /// The tree of the one document node that the plan's value is, over the trees of `world`, as for

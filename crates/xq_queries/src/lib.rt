@@ -8,5 +8,5 @@ mod lines;
 mod reading;
 
 pub use asking::{ask, make};
-pub use laws::{faults_come_later, reads_at_most_once};
+pub use laws::{faults_come_later, reads_at_most_once, reads_back, values_are_printable};
 pub use reading::read;

@@ -1,4 +1,4 @@
-//! Queries asked over one stored document.
+//! Queries asked over one stored document, and their replies asked again over none.
 
 use std::alloc::Global;
 use std::process::Abort;
@@ -48,11 +48,27 @@ fn answer(alloc: Global, query: &str) -> Result<String, Want> {
     }
 }
 
-/// Asserts that each query has its answer.
+/// The text of the reply to a text that is asked over no documents.
+fn asked_again(alloc: Global, text: &str) -> Result<String, Fault> {
+    let plan = read(alloc, text.as_bytes())?;
+    ask(
+        alloc,
+        &plan,
+        &mut Trees::new(alloc, Fragments::new(alloc)),
+        &Addresses::new(alloc),
+    )
+}
+
+/// Asserts that each query has its answer, and that a reply, asked as a query over no documents,
+/// gives itself.
 pub fn assert_answers(rt: &(impl Abort + AllocGlobal), rows: &[(&str, &str)]) {
     for (query, wanted) in rows {
         let found = answer(rt.alloc(), query).expect(rt, wanted);
         assert_eq!(rt; found.as_str(), *wanted, "{query}");
+        if asked(rt.alloc(), query).is_ok() {
+            let again = asked_again(rt.alloc(), wanted).expect(rt, query);
+            assert_eq!(rt; again.as_str(), *wanted, "{query}");
+        }
     }
 }
 

@@ -1,0 +1,12 @@
+pub mod Characters
+pub mod Holding
+pub mod Trees
+pub mod Functions
+pub mod Contents
+pub mod Tuples
+pub mod Forms
+pub mod Clauses
+pub mod Expressions
+pub mod Reading
+pub mod Phrases
+pub mod Queries

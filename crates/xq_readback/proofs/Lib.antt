@@ -1,0 +1,16 @@
+pub mod Contents
+pub mod Names
+pub mod Values
+pub mod Nodes
+pub mod Items
+pub mod Phrases
+pub mod Nests
+pub mod Unfaulted
+pub mod Derived
+pub mod Marks
+pub mod Numbers
+pub mod Printing
+pub mod There
+pub mod Atoms
+pub mod Spelled
+pub mod Told
