@@ -7,9 +7,9 @@ use std::alloc::Global;
 use std::test::Fail;
 use xq_rows::{OpenFault, Put, Store};
 
-const LAYOUT: &str = "CREATE TABLE layout (edition INTEGER NOT NULL) STRICT";
+pub const LAYOUT: &str = "CREATE TABLE layout (edition INTEGER NOT NULL) STRICT";
 
-const NODE: &str =
+pub const NODE: &str =
     "CREATE TABLE node (address TEXT NOT NULL, pre INTEGER NOT NULL, size INTEGER NOT NULL, level INTEGER NOT NULL, kind INTEGER NOT NULL, name TEXT NOT NULL, value TEXT NOT NULL, PRIMARY KEY (address, pre)) STRICT";
 
 /// The same columns in another order.
@@ -19,12 +19,12 @@ const TURNED_NODE: &str =
 /// A table that no store has.
 const OTHER: &str = "CREATE TABLE other (a INTEGER) STRICT";
 
-const ONE: &str = "INSERT INTO layout VALUES (1)";
+pub const ONE: &str = "INSERT INTO layout VALUES (1)";
 
 const DOCUMENT: &str = "INSERT INTO node VALUES ('b', 0, 0, 0, 0, '', '')";
 
 /// The rows of the document of two books, under `b`.
-const LIBRARY: &str =
+pub const BOOKS: &str =
     "INSERT INTO node VALUES ('b', 0, 7, 0, 0, '', ''), ('b', 1, 6, 1, 1, 'lib', ''), ('b', 2, 2, 2, 1, 'book', ''), ('b', 3, 0, 3, 2, 'id', '1'), ('b', 4, 0, 3, 3, '', 'A'), ('b', 5, 2, 2, 1, 'book', ''), ('b', 6, 0, 3, 2, 'id', '2'), ('b', 7, 0, 3, 3, '', 'B')";
 
 /// The tables, made in the order of a store's own, and in the other.
@@ -320,7 +320,7 @@ const FOUND_AGAIN: [Call; 6] = [
 fn node_made_first(rt: HostRuntime) -> Result<(), Fail> {
     let documents = Documents::new(rt.alloc())?;
     let mut conn = Connection::open_in_memory(rt.alloc())?;
-    for statement in [NODE, LIBRARY, LAYOUT, ONE] {
+    for statement in [NODE, BOOKS, LAYOUT, ONE] {
         let _count = conn.execute(statement, &[])?;
     }
     let mut store = adopted(rt.alloc(), conn)?;

@@ -5,6 +5,8 @@
 #[cfg(test)]
 mod adopt_tests;
 #[cfg(test)]
+mod adoption_tests;
+#[cfg(test)]
 mod calls;
 #[cfg(test)]
 mod documents;

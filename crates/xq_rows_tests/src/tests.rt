@@ -71,7 +71,7 @@ fn released(rt: HostRuntime) -> Result<(), Fail> {
 }
 
 /// Tried again where an allocation was refused.
-fn documents_again(alloc: Global) -> Result<Documents, Want> {
+pub fn documents_again(alloc: Global) -> Result<Documents, Want> {
     match Documents::new(alloc) {
         Ok(documents) => Ok(documents),
         Err(_want) => Documents::new(alloc),
@@ -101,7 +101,7 @@ fn each_allocation_on_memory_disks(rt: HostRuntime) -> Result<(), Fail> {
     match fate_of_calls(&mut store, &documents) {
         Fate::Up => Ok(()),
         Fate::Shut(before) => {
-            let mut conn = opened_again(rt.alloc(), store)?;
+            let mut conn = opened_again(rt.alloc(), store.release())?;
             assert_eq!(rt;
                 table_rows(rt.alloc(), &mut conn)?.as_str(),
                 rows_of(before)
@@ -120,13 +120,13 @@ fn rows_of(named: Option<Named>) -> &'static str {
     }
 }
 
-/// Opens the database in the files of a store, as after the end of a process that had them on a
-/// disk.
-fn opened_again(
+/// Opens the database in the files of a connection, as after the end of a process that had them on
+/// a disk.
+pub fn opened_again(
     alloc: Global,
-    store: Store<FileStore<MemoryDisk>>,
+    conn: Connection<FileStore<MemoryDisk>>,
 ) -> Result<Connection<FileStore<MemoryDisk>>, Fail> {
-    let files = match store.release().close_files() {
+    let files = match conn.close_files() {
         Ok(files) => files,
         Err((_error, shut)) => shut.close(),
     };
