@@ -1,4 +1,5 @@
 pub mod Telling
+pub mod Again
 pub mod Running
 pub mod Serving
 pub mod Once

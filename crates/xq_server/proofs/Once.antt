@@ -21,7 +21,7 @@ module _ (once : ReadsAtMostOnce) where
   pub not_both : (text : List ℕ) (q : Query) (code : Code) → Reads text (Ok q) → Reads text (Err code) → ⊥
   not_both text q code reads fault = let same = once text (Ok q) (Err code) reads fault in cc
 
-  read_once : (text : List ℕ) (q r : Query) → Reads text (Ok q) → Reads text (Ok r) → q ≡ r
+  pub read_once : (text : List ℕ) (q r : Query) → Reads text (Ok q) → Reads text (Ok r) → q ≡ r
   read_once text q r first other = ap (query_in q) (once text (Ok q) (Ok r) first other)
 
   fault_once : (text : List ℕ) (c d : Code) → Reads text (Err c) → Reads text (Err d) → c ≡ d

@@ -1,17 +1,18 @@
 -- From one answered frame to a whole run.
-use Rattle.std.proofs.Common.{◌≡◌, ℕ, ◌+◌, ◌-◌, ◌≤◌, List, [], ◌∷◌, ◌++◌, length, take, drop, refl, length-drop, sym, ◌∙◌, ap, subst, arith, inl, inr, codes, append_assoc, lit≤, Result, Ok, Err, string_bytes}
+use Rattle.std.proofs.Common.{◌≡◌, ℕ, ◌+◌, ◌-◌, ◌<◌, ◌≤◌, List, [], ◌∷◌, ◌++◌, length, take, drop, refl, length-drop, sym, ◌∙◌, ap, subst, arith, inl, inr, codes, append_assoc, lit≤, Result, Ok, Err, string_bytes}
 use Rattle.std.proofs.lemmas.List.{append-nil}
 use Rattle.std.proofs.lemmas.Grind.{flat_map-append, common_steps}
 use Rattle.std.proofs.Math.Seq.{drop-append_seam, take-length}
 use Rattle.std.specs.List.{flat_map, AllByRecursion}
 use Rattle.xq_frame.specs.Frame.{frame_bytes, IsMessage}
-use Rattle.xq_frame.specs.Request.{RequestMeaning, request_meaning, message_meaning}
+use Rattle.xq_frame.specs.Request.{RequestMeaning, query, put, remove as remove_one, list, bad, request_meaning, message_meaning}
 use Rattle.xq_frame.specs.Next.{Starts, IsFrameOf}
 use Rattle.xq_frame.specs.declared.frames.Frame.{Frame}
 use Rattle.xq_rows.specs.Documents.{Map}
 use Rattle.xq_atoms.specs.Code.{code_text, want_text}
 use Rattle.xq_frame.specs.Reply.{longest_text}
 use Rattle.xq_server.specs.Step.{Step}
+use Rattle.xq_server.specs.ReadBack.{ReadsBackFrom}
 use Rattle.xq_server.specs.private.Work.{Tells, Writes, IsShort}
 use Rattle.xq_server.specs.Run.{Reply, bytes_of, written, IsReplyTo, AreReplies, Run, Ran, RanOver, Answered}
 use Rattle.xq_atoms.specs.declared.refusals.Fault.{Fault}
@@ -32,46 +33,58 @@ pub record Says (before after : List ℕ) (tag : ℕ) (told : Result Answer Faul
   pub status : r.status ≤ 2
   pub short : length r.text ≤ longest_text
   pub step : (m : Map) (asks : RequestMeaning) (new : Map) → Tells m asks new told → Step m asks new r.status r.text
+  pub read_back : (m : Map) (asks : RequestMeaning) (new : Map) → Tells m asks new told → ReadsBackFrom m asks r.status r.text
+
+-- what has another status than 0 need not read back
+no_success : (m : Map) (asks : RequestMeaning) (status : ℕ) (text : List ℕ) → 0 < status → ReadsBackFrom m asks status text
+no_success m (query asked) status text h = λ zero. absurd (omega (arith, h, zero))
+no_success m (put address asked) status text h = tt
+no_success m (remove_one address) status text h = tt
+no_success m list status text h = tt
+no_success m bad status text h = tt
 
 pub replied : (before after : List ℕ) (tag : ℕ) (told : Result Answer Fault) → IsShort told → Writes before after tag told → (r : Reply) × Says before after tag told r
 replied before after tag (Ok (Text t)) short w = elim w [
   | inl out ↦ (
     record { tag = tag; status = 0; text = string_bytes t },
-    record { out = out; tagged = refl; status = lit≤ tt; short = short; step = λ m asks new tells. inl tells.0 },
+    record { out = out; tagged = refl; status = lit≤ tt; short = short; step = λ m asks new tells. inl tells.0.0; read_back = λ m asks new tells. tells.0.1 },
   )
   | inr out ↦ (
     record { tag = tag; status = 2; text = want_text Memory },
-    record { out = out; tagged = refl; status = lit≤ tt; short = lit≤ tt; step = λ m asks new tells. inr (Memory, tells.1, refl, refl, tells.2) },
+    record { out = out; tagged = refl; status = lit≤ tt; short = lit≤ tt; step = λ m asks new tells. inr (Memory, tells.1, refl, refl, tells.2); read_back = λ m asks new tells. no_success m asks 2 (want_text Memory) (omega arith) },
   )
 ]
 replied before after tag (Ok Stored) short w = (
   record { tag = tag; status = 0; text = codes "stored" },
-  record { out = w; tagged = refl; status = lit≤ tt; short = lit≤ tt; step = λ m asks new tells. inl tells },
+  record { out = w; tagged = refl; status = lit≤ tt; short = lit≤ tt; step = λ m asks new tells. inl tells.0; read_back = λ m asks new tells. tells.1 },
 )
 replied before after tag (Ok Replaced) short w = (
   record { tag = tag; status = 0; text = codes "replaced" },
-  record { out = w; tagged = refl; status = lit≤ tt; short = lit≤ tt; step = λ m asks new tells. inl tells },
+  record { out = w; tagged = refl; status = lit≤ tt; short = lit≤ tt; step = λ m asks new tells. inl tells.0; read_back = λ m asks new tells. tells.1 },
 )
 replied before after tag (Ok Dropped) short w = (
   record { tag = tag; status = 0; text = codes "dropped" },
-  record { out = w; tagged = refl; status = lit≤ tt; short = lit≤ tt; step = λ m asks new tells. inl tells },
+  record { out = w; tagged = refl; status = lit≤ tt; short = lit≤ tt; step = λ m asks new tells. inl tells.0; read_back = λ m asks new tells. tells.1 },
 )
 replied before after tag (Err (OfCode code)) short w = (
   record { tag = tag; status = 1; text = code_text code },
-  record { out = w.0; tagged = refl; status = lit≤ tt; short = w.1; step = λ m asks new tells. inl tells },
+  record { out = w.0; tagged = refl; status = lit≤ tt; short = w.1; step = λ m asks new tells. inl tells; read_back = λ m asks new tells. no_success m asks 1 (code_text code) (omega arith) },
 )
 replied before after tag (Err (OfWant want)) short w = (
   record { tag = tag; status = 2; text = want_text want },
-  record { out = w; tagged = refl; status = lit≤ tt; short = want_short want; step = λ m asks new tells. inr (want, tells.0, refl, refl, tells.1) },
+  record { out = w; tagged = refl; status = lit≤ tt; short = want_short want; step = λ m asks new tells. inr (want, tells.0, refl, refl, tells.1); read_back = λ m asks new tells. no_success m asks 2 (want_text want) (omega arith) },
 )
 
 -- a run goes on by one frame
 more_run : (m mid new : Map) (messages : List (List ℕ)) (replies : List Reply) (message : List ℕ) (r : Reply) → Run m messages replies mid
-    → Step mid (message_meaning message) new r.status r.text → Run m (messages ++ message ∷ []) (replies ++ r ∷ []) new
-more_run m mid new [] [] message r run step = (new, (subst (λ k. Step k (message_meaning message) new r.status r.text) run step, refl))
-more_run m mid new (b ∷ messages) (s ∷ replies) message r run step = (run.0, (run.1.0, more_run run.0 mid new messages replies message r run.1.1 step))
-more_run m mid new [] (s ∷ replies) message r run step = absurd run
-more_run m mid new (b ∷ messages) [] message r run step = absurd run
+    → Step mid (message_meaning message) new r.status r.text → ReadsBackFrom mid (message_meaning message) r.status r.text
+    → Run m (messages ++ message ∷ []) (replies ++ r ∷ []) new
+more_run m mid new [] [] message r run step back =
+    (new, (subst (λ k. Step k (message_meaning message) new r.status r.text) run step, subst (λ k. ReadsBackFrom k (message_meaning message) r.status r.text) run back, refl))
+more_run m mid new (b ∷ messages) (s ∷ replies) message r run step back =
+    (run.0, (run.1.0, run.1.1, more_run run.0 mid new messages replies message r run.1.2 step back))
+more_run m mid new [] (s ∷ replies) message r run step back = absurd run
+more_run m mid new (b ∷ messages) [] message r run step back = absurd run
 
 more_replies : (messages : List (List ℕ)) (replies : List Reply) (message : List ℕ) (r : Reply) → AreReplies messages replies → IsReplyTo message r
     → AreReplies (messages ++ message ∷ []) (replies ++ r ∷ [])
@@ -128,7 +141,12 @@ module _ {D : Type 0} (clean : D → Type 0) (stands : D → Map → Type 0) whe
     run = λ h m stood.
         let so_far = ran.run (answered.was_clean h) m stood in
         let next = answered.step h so_far.0 so_far.2 in
-        (next.0, more_run m so_far.0 next.0 messages replies message r so_far.1 (subst (λ a. Step so_far.0 a next.0 r.status r.text) same.request next.1), next.2);
+        let back = answered.read_back h so_far.0 so_far.2 in (
+          next.0,
+          more_run m so_far.0 next.0 messages replies message r so_far.1 (subst (λ a. Step so_far.0 a next.0 r.status r.text) same.request next.1)
+              (subst (λ a. ReadsBackFrom so_far.0 a r.status r.text) same.request back),
+          next.2,
+        );
   }
 
   -- one more frame
@@ -163,4 +181,7 @@ module _ {D : Type 0} (clean : D → Type 0) (stands : D → Map → Type 0) whe
     step = λ h m stood.
         let did = tells h m (subst (λ d. stands d m) (sym view) stood) in
         (did.0, says.step m asks did.0 did.1, did.2);
+    read_back = λ h m stood.
+        let did = tells h m (subst (λ d. stands d m) (sym view) stood) in
+        says.read_back m asks did.0 did.1;
   }

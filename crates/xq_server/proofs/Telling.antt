@@ -6,7 +6,7 @@ use Rattle.std.specs.Ordering.{is_eq, eq_by_cmp}
 use Rattle.std.specs.declared.cmp.Ordering.{Ordering}
 use Rattle.std.specs.declared.cmp.Ordering.TheVariants.{Less, Equal, Greater}
 use Rattle.std.proofs.lemmas.Bool.{cases_lt}
-use Rattle.std.proofs.lemmas.Str.{IsUtf8-from_ascii}
+use Rattle.std.proofs.lemmas.Str.{IsUtf8-from_ascii, IsUtf8-string_bytes}
 use Rattle.std.specs.Str.{IsUtf8}
 use Rattle.xq_atoms.specs.Address.{IsAddress, is_address_byte}
 use Rattle.xq_atoms.specs.Judged.{Judged, only_if}
@@ -19,6 +19,8 @@ use Rattle.xq_atoms.specs.declared.refusals.Want.TheVariants.{Memory, Store}
 use Rattle.xq_regions.specs.Tree.{Tree}
 use Rattle.xq_meaning.specs.declared.plans.Plan.{Plan}
 use Rattle.xq_queries.specs.Reading.{ReadsAtMostOnce, FaultsComeLater}
+use Rattle.xq_printable.specs.Legible.{AreTrees}
+use Rattle.xq_queries.specs.ReadBack.{ReadsBack, ValuesArePrintable}
 use Rattle.xq_queries.specs.Values.{Plans, Value, plan_value, printed, reply_text as text_of, document, or_no_document, made_document}
 use Rattle.xq_rows.specs.Documents.{Map}
 use Rattle.xq_rows.specs.declared.stores.Put.TheVariants.{Stored as Fresh, Replaced as Other}
@@ -27,9 +29,10 @@ use Rattle.xq_server.specs.Meaning.{value}
 use Rattle.xq_server.specs.Answer.{Outcome, Answers, CarriesOut, RefusesRequest, success, refusal, query_outcome, put_outcome, put_document, put_word, remove_outcome}
 use Rattle.xq_frame.specs.Reply.{longest_text}
 use Rattle.xq_server.specs.Step.{MayWant}
-use Rattle.xq_server.specs.private.Work.{Tells, Understands, Makes, MakesText, MakesDocument}
+use Rattle.xq_server.specs.private.Work.{Tells, Understands, Makes, MakesText, MakesDocument, TellsText}
 use Rattle.xq_server.specs.declared.answers.Answer.TheVariants.{Text}
 use Rattle.xq_server.proofs.Once.{not_both}
+use Rattle.xq_server.proofs.Again.{reply_reads_back, plan_printable}
 
 -- any want may come where nothing is refused before the documents matter
 pub any_want : (asked : RequestMeaning) → ((code : Code) → RefusesRequest asked code → ⊥) → (want : Want) → MayWant asked want
@@ -108,10 +111,10 @@ nothing_removed m address given was good had none =
     )
 
 pub one_removed : (m : Map) (address given : List ℕ) (was : Bool) → (given ≡ address) × IsAddress address
-    → was ≡ contains_key m given → was ≡ true → Answers m (remove_one address) (success (remove m given) (codes "dropped"))
+    → was ≡ contains_key m given → was ≡ true → TellsText m (remove_one address) (remove m given) (codes "dropped")
 one_removed m address given was good had there =
     let here : contains_key m address ≡ true = ap (contains_key m) (sym good.0) ∙ sym had ∙ there in
-    inr (good.1, ap (λ a. success (remove m a) (codes "dropped")) good.0 ∙ sym (ap (λ b. remove_outcome b m address) here))
+    (inr (good.1, ap (λ a. success (remove m a) (codes "dropped")) good.0 ∙ sym (ap (λ b. remove_outcome b m address) here)), tt)
 
 -- the want of a call on the store, where the address is good
 pub remove_wanted : (address : List ℕ) (want : Want) → IsAddress address → MayWant (remove_one address) want
@@ -147,11 +150,15 @@ carries_query m text plan said understands is = (
   sym (queried_as m (value understands.0 m) ∙ ap (λ v. told_as m (text_of v)) (sym (understands.2 (keys m) (values m))) ∙ ap (told_as m) is),
 )
 
-pub query_told : (m : Map) (text : List ℕ) (plan : Plan) (printed' : String Global) → Understands text (Ok plan)
-    → Makes MakesText (plan_value plan (keys m) (values m)) (Ok printed') → Tells m (query text) m (Ok (Text printed'))
+pub query_told : ReadsAtMostOnce → ReadsBack → ValuesArePrintable → (m : Map) (text : List ℕ) (plan : Plan) (printed' : String Global) → Understands text (Ok plan)
+    → AreTrees (values m) → Makes MakesText (plan_value plan (keys m) (values m)) (Ok printed') → Tells m (query text) m (Ok (Text printed'))
 unfolding told_as
-query_told m text plan printed' understands makes =
-    (inr (carries_query m text plan (Ok (string_bytes printed')) understands makes), query_wants text plan understands Memory, refl)
+query_told once back printable m text plan printed' understands are makes =
+    let answers : Answers m (query text) (success m (string_bytes printed')) = inr (carries_query m text plan (Ok (string_bytes printed')) understands makes.0) in (
+      (answers, reply_reads_back once back m text (string_bytes printed') answers (plan_printable once printable m text plan understands are makes.1) (IsUtf8-string_bytes printed')),
+      query_wants text plan understands Memory,
+      refl,
+    )
 
 pub query_refused : (m : Map) (text : List ℕ) (plan : Plan) (fault : Fault) → Understands text (Ok plan)
     → Makes MakesText (plan_value plan (keys m) (values m)) (Err fault) → Tells m (query text) m (Err fault)
@@ -209,12 +216,14 @@ put_wanted m address text plan want good understands = (put_wants address text g
 
 pub put_told : (m : Map) (address text given : List ℕ) (plan : Plan) (tree : Tree) (was : Bool) → (given ≡ address) × IsAddress address
     → Understands text (Ok plan) → Makes MakesDocument (plan_value plan (keys m) (values m)) (Ok tree) → contains_key m given ≡ was
-    → Answers m (put address text) (success (insert m given tree) (put_word was))
+    → TellsText m (put address text) (insert m given tree) (put_word was)
 unfolding stored_as
-put_told m address text given plan tree was good understands makes had =
-    subst (λ a. Answers m (put address text) (success (insert m a tree) (put_word was))) (sym good.0)
-    (subst (λ w. Answers m (put address text) (success (insert m address tree) (put_word w))) (ap (contains_key m) (sym good.0) ∙ had)
-    (inr (carries_put m address text plan (Ok tree) good.1 understands makes)))
+put_told m address text given plan tree was good understands makes had = (
+  subst (λ a. Answers m (put address text) (success (insert m a tree) (put_word was))) (sym good.0)
+      (subst (λ w. Answers m (put address text) (success (insert m address tree) (put_word w))) (ap (contains_key m) (sym good.0) ∙ had)
+      (inr (carries_put m address text plan (Ok tree) good.1 understands makes))),
+  tt,
+)
 
 pub was_stored : (there : Bool) → Fresh ≡ (if there then Other else Fresh) → there ≡ false
 was_stored true e = absurd (cc)

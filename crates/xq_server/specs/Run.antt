@@ -9,6 +9,7 @@ use Rattle.xq_frame.specs.Frame.{frame_bytes, IsMessage, IsTooLong, IsCut}
 use Rattle.xq_frame.specs.Reply.{reply_bytes, longest_text}
 use Rattle.xq_frame.specs.Request.{RequestMeaning, message_meaning, message_tag}
 use Rattle.xq_server.specs.Step.{Step}
+use Rattle.xq_server.specs.ReadBack.{ReadsBackFrom}
 use Rattle.xq_server.specs.declared.ends.End.{End}
 use Rattle.xq_server.specs.declared.ends.End.TheVariants.{Finished, Cut, TooLong, Bound, ReadFault, WriteFault, NoRoom}
 
@@ -39,11 +40,12 @@ AreReplies (message ∷ messages) (reply ∷ replies) = IsReplyTo message reply
 AreReplies [] (reply ∷ replies) = ⊥
 AreReplies (message ∷ messages) [] = ⊥
 
--- each reply is that of a step over the documents that the steps before it left
+-- each reply is that of a step over the documents that the steps before it left, and reads back
 abbrev pub Run : Map → List (List ℕ) → List Reply → Map → Type 0
 Run m [] [] new = new ≡ m
 Run m (message ∷ messages) (reply ∷ replies) new =
     (mid : Map) × (Step m (message_meaning message) mid reply.status reply.text
+    × ReadsBackFrom m (message_meaning message) reply.status reply.text
     × Run mid messages replies new)
 Run m [] (reply ∷ replies) new = ⊥
 Run m (message ∷ messages) [] new = ⊥
@@ -72,7 +74,8 @@ EndsRun WriteFault rest last = ⊥
 -- stands where the store is clean at the end.
 module _ {D : Type 0} (clean : D → Type 0) (stands : D → Map → Type 0) where
   -- One frame answered: its reply is added to the output. Over the documents that the store stood
-  -- for the reply is that of a step, and the store stands for the documents that the step leaves.
+  -- for the reply is that of a step, which reads back, and the store stands for the documents that
+  -- the step leaves.
   pub record Answered (old new : D) (tag : ℕ) (asked : RequestMeaning) (before after : List ℕ)
       (reply : Reply) : Type 0 where
     pub out : after ≡ before ++ bytes_of reply
@@ -82,6 +85,8 @@ module _ {D : Type 0} (clean : D → Type 0) (stands : D → Map → Type 0) whe
     pub was_clean : clean new → clean old
     pub step : clean new → (m : Map) → stands old m → (later : Map)
         × Step m asked later reply.status reply.text × stands new later
+    pub read_back : clean new → (m : Map) → stands old m
+        → ReadsBackFrom m asked reply.status reply.text
 
   -- these frames were answered by these replies
   pub record Ran (old new : D) (messages : List (List ℕ)) (replies : List Reply) : Type 0 where

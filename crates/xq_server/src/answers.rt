@@ -13,6 +13,7 @@ use sqlite::Alter;
 use std::alloc::Global;
 use xq_atoms::{Code, Fault, address_ok};
 use xq_frame::Request;
+use xq_queries::{reads_at_most_once, reads_back, values_are_printable};
 use xq_regions::Fragment;
 use xq_rows::{Put, Store};
 
@@ -67,6 +68,9 @@ fn answer_query<S: Alter + Drop>(
         → IsOpen S.Store store.old }
     ensures short { IsShort result }
 {
+    reads_at_most_once();
+    reads_back();
+    values_are_printable();
     let plan = understand(alloc, text)?;
     let printed: String = evaluate(alloc, store, &plan)?;
     Ok(Answer::Text(printed))

@@ -4,6 +4,7 @@
 //! nothing of a query changes a document.
 ghost use Rattle.std.specs.Prelude.{◌≡◌, IfOk};
 ghost use Rattle.std.specs.FinMap.{keys, values};
+ghost use Rattle.xq_printable.specs.Legible.{AreTrees};
 ghost use Rattle.xq_queries.specs.Values.{plan_value};
 ghost use Rattle.xq_rows.specs.Documents.{IsClean, IsOpen, Map, StandsFor};
 ghost use Rattle.xq_rows.specs.Views.{beginning};
@@ -19,7 +20,8 @@ use xq_meaning::Plan;
 use xq_rows::{Origin, Store};
 use xq_sources::Trees;
 
-/// What the plan's value makes over the documents of the store, which stay as they are.
+/// What the plan's value makes over the documents of the store, which stay as they are. Where it
+/// makes a product, the documents are trees.
 pub(crate) fn evaluate<S: Alter + Drop, P: Product>(
     alloc: Global,
     store: &mut Store<S>,
@@ -28,6 +30,8 @@ pub(crate) fn evaluate<S: Alter + Drop, P: Product>(
     ensures made { IsClean S.Store store.new → (m : Map) → StandsFor S.Store store.old m
         → Makes P.makes (plan_value plan.now (keys m) (values m)) result }
     ensures sound { IfOk result P.is_sound }
+    ensures trees { IsClean S.Store store.new → (m : Map) → StandsFor S.Store store.old m
+        → IfOk result (λ product. AreTrees (values m)) }
     ensures same { IsClean S.Store store.new → (m : Map) → StandsFor S.Store store.old m
         → StandsFor S.Store store.new m }
     ensures was_clean { IsClean S.Store store.new → IsClean S.Store store.old }
@@ -58,6 +62,8 @@ fn product_of<S: Alter + Drop, P: Product>(
     ensures made { IsClean S.Store result.0 → (m : Map) → StandsFor S.Store store m
         → Makes P.makes (plan_value question.entry.plan.now (keys m) (values m)) result.1 }
     ensures sound { IfOk result.1 P.is_sound }
+    ensures trees { IsClean S.Store result.0 → (m : Map) → StandsFor S.Store store m
+        → IfOk result.1 (λ product. AreTrees (values m)) }
     ensures same { IsClean S.Store result.0 → (m : Map) → StandsFor S.Store store m
         → StandsFor S.Store result.0 m }
     ensures was_clean { IsClean S.Store result.0 → IsClean S.Store store }
@@ -77,6 +83,8 @@ fn over_view<S: Alter + Drop, P: Product, O: Origin>(
     ensures made { IsClean S.Store result.0 → (m : Map) → StandsFor S.Store store m
         → Makes P.makes (plan_value plan.now (keys m) (values m)) result.1 }
     ensures sound { IfOk result.1 P.is_sound }
+    ensures trees { IsClean S.Store result.0 → (m : Map) → StandsFor S.Store store m
+        → IfOk result.1 (λ product. AreTrees (values m)) }
     ensures same { IsClean S.Store result.0 → (m : Map) → StandsFor S.Store store m
         → StandsFor S.Store result.0 m }
     ensures was_clean { IsClean S.Store result.0 → IsClean S.Store store }

@@ -55,7 +55,9 @@ impl<S: Alter> Server<S> {
 
 impl<S: Alter + Drop> Server<S> {
     /// Carries one frame out, and adds its reply to the output. It fails only where the output
-    /// has no room for 32 more bytes, and then nothing has changed.
+    /// has no room for 32 more bytes, and then nothing has changed. The text of a query's reply, of
+    /// at most 1,048,576 bytes, is a query with an equal value and the same reply over any
+    /// documents.
     pub fn answer(&mut self, frame: &Frame<'_>, out: &mut Vec<u8>) -> Result<(), Want>
         ensures ok { OnOk result ((reply : Reply)
             × Answered (IsClean S.Store) (StandsFor S.Store) self.old self.new

@@ -14,9 +14,11 @@ use Rattle.xq_rows.specs.Documents.{Map}
 use Rattle.xq_frame.specs.Reply.{reply_bytes, longest_text}
 use Rattle.xq_frame.specs.Request.{RequestMeaning, query}
 use Rattle.xq_queries.specs.Values.{IsPlanOf, Value, reply_text, made_document}
+use Rattle.xq_queries.specs.ReadBack.{HaveNumbersInRange}
 use Rattle.xq_server.specs.Meaning.{Query, Reads}
 use Rattle.xq_server.specs.Answer.{Answers, success, refusal}
 use Rattle.xq_server.specs.Step.{MayWant}
+use Rattle.xq_server.specs.ReadBack.{ReadsBackFrom}
 use Rattle.xq_server.specs.declared.answers.Answer.{Answer}
 use Rattle.xq_server.specs.declared.answers.Answer.TheVariants.{Text, Stored, Replaced, Dropped}
 
@@ -35,9 +37,9 @@ Makes makes v (Ok product) = makes v (Ok product)
 Makes makes v (Err (OfCode code)) = makes v (Err code)
 Makes makes v (Err (OfWant want)) = ⊤
 
--- the text of the reply, or the code
+-- the text of the reply, where the value's numbers are in range, or the code
 abbrev pub MakesText : Judged Value → Judged (String Global) → Type 0
-MakesText v (Ok text) = reply_text v ≡ Ok (string_bytes text)
+MakesText v (Ok text) = (reply_text v ≡ Ok (string_bytes text)) × HaveNumbersInRange v
 MakesText v (Err code) = reply_text v ≡ Err code
 
 -- the document, or the code
@@ -51,13 +53,17 @@ IsShortText text = string_len text ≤ longest_text
 abbrev pub HasDocumentRoot : Tree → Type 0
 HasDocumentRoot tree = tree.root.kind ≡ Document
 
+-- what is told with success, and reads back
+abbrev pub TellsText : Map → RequestMeaning → Map → List ℕ → Type 0
+TellsText m asked new text = Answers m asked (success new text) × ReadsBackFrom m asked 0 text
+
 -- a request is answered, or refused; memory may still be wanting for a text, which changes nothing
 abbrev pub Tells : Map → RequestMeaning → Map → Result Answer Fault → Type 0
 Tells m asked new (Ok (Text text)) =
-    Answers m asked (success new (string_bytes text)) × MayWant asked Memory × (new ≡ m)
-Tells m asked new (Ok Stored) = Answers m asked (success new (codes "stored"))
-Tells m asked new (Ok Replaced) = Answers m asked (success new (codes "replaced"))
-Tells m asked new (Ok Dropped) = Answers m asked (success new (codes "dropped"))
+    TellsText m asked new (string_bytes text) × MayWant asked Memory × (new ≡ m)
+Tells m asked new (Ok Stored) = TellsText m asked new (codes "stored")
+Tells m asked new (Ok Replaced) = TellsText m asked new (codes "replaced")
+Tells m asked new (Ok Dropped) = TellsText m asked new (codes "dropped")
 Tells m asked new (Err (OfCode code)) = Answers m asked (refusal new code)
 Tells m asked new (Err (OfWant want)) = MayWant asked want × (new ≡ m)
 

@@ -13,4 +13,5 @@ returns-in_err-printed-clause-tells g c = λ clean m stood.
 
 pub returns-clause-tells : goal.returns-clause-tells
 returns-clause-tells g c = λ clean m stood.
-    query_told m c.args.text.now c.in_ok-plan.plan c.in_ok-printed.printed c.in_ok-plan.ensures (c.in_ok-printed.ensures.made clean m stood)
+    query_told c.reads_at_most_once.ensures c.reads_back.ensures c.values_are_printable.ensures
+    m c.args.text.now c.in_ok-plan.plan c.in_ok-printed.printed c.in_ok-plan.ensures (c.in_ok-printed.ensures.trees clean m stood) (c.in_ok-printed.ensures.made clean m stood)

@@ -1,7 +1,9 @@
 use Rattle.std.proofs.Common.{◌∙◌, subst}
+use Rattle.std.specs.FinMap.{values}
+use Rattle.xq_printable.specs.Legible.{AreTrees}
 use Rattle.xq_rows.specs.Documents.{IsClean}
 use Rattle.xq_rows.specs.Views.{HeldDocuments}
-use Rattle.xq_server.proofs.Evaluating.{was_clean, was_open, stood, held, made_over}
+use Rattle.xq_server.proofs.Evaluating.{was_clean, was_open, stood, held, made_over, if_any, stood_trees}
 use Rattle.xq_server.proofs.evaluations.over_view.Goals as goal
 
 pub returns-in-Err-shared_addresses-clause-was_clean : goal.returns-in-Err-shared_addresses-clause-was_clean
@@ -24,6 +26,12 @@ returns-clause-made g c = λ clean m stands.
     (c.deref.ensures ∙ c.in-Ok-shared_addresses.ensures ∙ c.in-Ok.ensures.addresses view_at_start.0 m stood_for)
     (c.new-world.ensures.forest ∙ c.in-Ok.ensures.trees view_at_start.0 m stood_for)
     (c.of-product.ensures.made world_at_end)
+
+-- the documents of such a store are trees
+pub returns-clause-trees : goal.returns-clause-trees
+returns-clause-trees g c = λ clean m stands.
+    let stood_for = stood g.S.Store g.O.Origin.beginning c.args.store c.requires (c.into_store-2.ensures.was_open clean) m stands in
+    if_any c.of-product.result (AreTrees (values m)) (stood_trees g.O.Origin.beginning m stood_for)
 
 pub returns-clause-same : goal.returns-clause-same
 returns-clause-same g c = λ clean m stands.
