@@ -24,8 +24,14 @@ reads_back print_spells tokens_derive quoted_gives = λ v are text addresses oth
     let lines = plain_lines (printed v) (items_plain v.1 v.0 are) in
     record {
       expression = quoted_items v.1 v.0;
-      reads = (text, (spelled.0, subst (λ (t : List ℕ). Spells (chars t) spelled.0) (sym lines) spelled.1,
-          subst (λ (ls : List Lex). TokensRead ls (quoted_items v.1 v.0)) (sym spelled.2) derived));
+      reads = (
+        text,
+        (
+          spelled.0,
+          subst (λ (t : List ℕ). Spells (chars t) spelled.0) (sym lines) spelled.1,
+          subst (λ (ls : List Lex). TokensRead ls (quoted_items v.1 v.0)) (sym spelled.2) derived,
+        ),
+      );
       again = (given.items, others ++ given.added);
       is = ap value_of given.is;
       same = given.same;

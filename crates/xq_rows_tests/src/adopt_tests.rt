@@ -57,7 +57,12 @@ const TABLES: [Judged; 15] = [
         Answer::NotAStore,
     ),
     (
-        &[LAYOUT, NODE, ONE, "CREATE VIEW names AS SELECT name FROM node"],
+        &[
+            LAYOUT,
+            NODE,
+            ONE,
+            "CREATE VIEW names AS SELECT name FROM node",
+        ],
         Answer::NotAStore,
     ),
     (&[LAYOUT], Answer::NotAStore),

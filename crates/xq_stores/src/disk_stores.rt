@@ -81,9 +81,7 @@ pub fn open_store<S: Start>(
 
 /// Copies the log into the database file, and gives both files, which close as they are let go. None
 /// where the log can't be copied: it stays beside the database file, and the next opening reads both.
-pub fn close_store<S: Start>(
-    store: Store<FileStore<FileFrom<S>>>,
-) -> Option<Files<FileFrom<S>>>
+pub fn close_store<S: Start>(store: Store<FileStore<FileFrom<S>>>) -> Option<Files<FileFrom<S>>>
     ensures { IfSome result (λ files. AreClean ⟦<FileFrom<S> as Disk>⟧ files.log files.db
         → IsLeftIn store files) }
 {
