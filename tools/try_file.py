@@ -122,6 +122,12 @@ def bad_files(program, folder, path):
     refuses("the table of editions alone", program, written_by_sqlite(
         folder / "alone.db", LAYOUT, ONE))
     refuses("the table of nodes alone", program, written_by_sqlite(folder / "nodes.db", NODE))
+    refuses("columns in another order", program, written_by_sqlite(
+        folder / "columns.db", LAYOUT, TURNED_NODE, ONE))
+    refuses("a table that no store has", program, written_by_sqlite(
+        folder / "other.db", "CREATE TABLE other (a INTEGER) STRICT"))
+    refuses("an index that no store has", program, written_by_sqlite(
+        folder / "index.db", LAYOUT, NODE, ONE, "CREATE INDEX by_name ON node (name)"))
     refuses("a text that stands at the root", program, written_by_sqlite(
         folder / "text.db", LAYOUT, NODE, ONE,
         "INSERT INTO node VALUES ('b', 0, 0, 0, 3, '', 'A')"))
@@ -131,9 +137,8 @@ def bad_files(program, folder, path):
 
 
 def other_orders(program, folder):
-    """Tables that sqlite3 made in another order, of themselves or of their columns, are served as
-    well."""
-    orders = ((NODE, LAYOUT, ONE), (LAYOUT, TURNED_NODE, ONE), (TURNED_NODE, LAYOUT, ONE))
+    """Tables that sqlite3 made are served, in either order."""
+    orders = ((LAYOUT, NODE, ONE), (NODE, LAYOUT, ONE))
     for number, made in enumerate(orders):
         path = written_by_sqlite(folder / ("order%d.db" % number), *made)
         server = Server([program, "--file", path])
