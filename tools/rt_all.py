@@ -49,9 +49,9 @@ def use_lanes(library: types.ModuleType) -> None:
         pools.append(lanes.Lanes(at_once, chain))
         return pools[-1]
 
-    def built(crate: Any, flags: Sequence[str], **named: Any) -> int:
+    def built(crate: Any, flags: Sequence[str], *rest: Any, **named: Any) -> int:
         own = ["--jobs", f"{pools[0].share(crate)}"] if pools else [*flags]
-        return int(build(crate, own, **named))
+        return int(build(crate, own, *rest, **named))
 
     setattr(library, "ThreadPoolExecutor", begun)
     setattr(library.Crate, "build_rlib", built)
