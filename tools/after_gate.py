@@ -1,12 +1,13 @@
 #!/usr/bin/env python3
 """Runs what is only tested and needs more than the gate: Debian packages, a corpus, sqlite3, time.
 
-    tools/after_gate.py [--server COMMAND] [--gate CLONE] [--corpus FOLDER] [NAME ..]
+    tools/after_gate.py [--server COMMAND] [--gate CLONE] [--corpus FOLDER] [--long] [NAME ..]
 
 Without names all trials are run; `--list` prints them. COMMAND starts a server with documents in
 memory; without it that is the program which ./serve built, if it is of the sources as they are.
 With CLONE, in which `rt ci` ran, the trials that build programs of their own build them over what
-that gate proved (tools/over_gate.py). FOLDER is the corpus, which lies beside this repository.
+that gate proved (tools/over_gate.py). FOLDER is the corpus, which lies beside this repository. With
+--long the soak lasts an hour, and a minute otherwise.
 
 Nothing is installed. A trial whose needs are not there is left out, and the last lines say which
 and why. What a trial prints is shown where it fails. The status is 1 where one failed.
@@ -35,17 +36,32 @@ PACKAGES = {
 PROGRAMS = {
     "test_cluster": ("/usr/lib/rabbitmq/bin/rabbitmq-server", "epmd"), "test_page": ("chromium",)
 }
+ALLOCATIONS = {
+    "allocations": [],
+    "allocations_adoption": [
+        "xq_rows_tests", "adoption_tests::each_allocation_in_memory",
+        "adoption_tests::each_allocation_on_memory_disks",
+    ],
+    "allocations_queries": [
+        "xq_queries_tests", "rows::each_allocation_of_paths",
+        "rows::each_allocation_of_children_below", "rows::each_allocation_of_flwor",
+        "rows::each_allocation_of_constructors", "rows::each_allocation_of_values",
+        "rows::each_allocation_of_refusals",
+    ],
+}
+"""The tests of which each allocation is refused in turn; without words those of a store's calls."""
 LAST_LINES = 60
 
 
 @dataclass(frozen=True)
 class Given:
-    """What the command line gives: the server's words, a clone with a gate, the corpus."""
+    """What the command line gives: the server's words, a clone with a gate, the corpus, a length."""
 
     server: list[str]
     gate: str | None
     corpus: pathlib.Path
     is_built: bool
+    is_long: bool
 
 
 @dataclass(frozen=True)
@@ -109,6 +125,9 @@ def program_trials(given: Given) -> Iterator[Trial]:
     growths = ["python3", "tools/refuse_each_growth.py"]
     yield Trial("growths", growths, (), ("cc",), built)
     yield Trial("growths_file", [*growths, "--file"], (), ("cc",), built)
+    seconds = "3600" if given.is_long else "60"
+    yield Trial("soak", ["python3", "tools/soak.py", "--seconds", seconds], wants=built)
+    yield Trial("limits", ["python3", "bench/limits.py"], wants=built)
     yield Trial("language", ["python3", "tools/check_language.py"])
     yield Trial("corpus", ["python3", str(given.corpus / "run_corpus.py"), "--server", server],
                 wants=queried)
@@ -120,7 +139,9 @@ def library_trials(given: Given) -> Iterator[Trial]:
     """The scripts that build a program of their own over proved libraries."""
     over = ["python3", "tools/over_gate.py", given.gate or ""]
     yield Trial("stock_reader", [*over, "tools/read_file.sh"], (), ("rt", "sqlite3"), proved)
-    yield Trial("allocations", [*over, "tools/each_allocation.sh"], (), ("rt", "cc"), proved)
+    for name, words in ALLOCATIONS.items():
+        tests = [*over, "tools/each_allocation.sh", *words]
+        yield Trial(name, tests, (), ("rt", "cc"), proved)
     yield Trial("views", [*over, "python3", "tools/try_view.py"], (), ("rt",), proved)
 
 
@@ -176,7 +197,8 @@ def given_by(words: argparse.Namespace) -> Given:
     if not server and current:
         server = [str(program)]
     corpus = pathlib.Path(words.corpus).resolve()
-    return Given(server, words.gate and os.path.abspath(words.gate), corpus, current)
+    gate = words.gate and os.path.abspath(words.gate)
+    return Given(server, gate, corpus, current, words.long)
 
 
 def chosen(trials: list[Trial], names: list[str]) -> list[Trial]:
@@ -193,6 +215,7 @@ def main() -> int:
     parser.add_argument("--server", metavar="COMMAND", default=os.environ.get("XQS_SERVER"))
     parser.add_argument("--gate", metavar="CLONE")
     parser.add_argument("--corpus", metavar="FOLDER", default=TOP.parent / "shared" / "corpus")
+    parser.add_argument("--long", action="store_true")
     parser.add_argument("--list", action="store_true")
     parser.add_argument("names", nargs="*", metavar="NAME")
     words = parser.parse_args()
@@ -201,7 +224,7 @@ def main() -> int:
     left_out = {trial.name: why for trial in trials if (why := missing(trial, given))}
     wanted = chosen(trials, words.names)
     if words.list:
-        lines = [f"{it.name:16}{left_out.get(it.name, shlex.join(it.words))}" for it in wanted]
+        lines = [f"{it.name:22}{left_out.get(it.name, shlex.join(it.words))}" for it in wanted]
         print("\n".join(lines))
         return 0
     results = [run(trial) for trial in wanted if trial.name not in left_out]
