@@ -133,6 +133,8 @@ def program_trials(given: Given) -> Iterator[Trial]:
                 wants=queried)
     read_back = ["python3", "tools/corpus.py", "read-back", corpus, "--server", server]
     yield Trial("read_back", read_back, wants=queried)
+    yield Trial("read_back_rows", ["python3", "tools/read_rows_back.py", "--server", server],
+                wants=queried)
 
 
 def library_trials(given: Given) -> Iterator[Trial]:
