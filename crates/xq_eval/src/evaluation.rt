@@ -2,7 +2,7 @@
 ghost use Rattle.std.specs.Prelude.{◌≡◌, List, [], ◌∷◌, map};
 ghost use Rattle.xq_regions.specs.Items.{item_view, item_views};
 ghost use Rattle.xq_meaning.specs.Readings.{items_at, IsIn, AreIn};
-ghost use Rattle.xq_meaning.specs.Doing.{in_turn, more, one_more, for_each, first_that};
+ghost use Rattle.xq_meaning.specs.Doing.{in_turn, more, one_more, first_that};
 ghost use Rattle.xq_meaning.specs.Forms as Forms;
 ghost use Rattle.xq_meaning.specs.PlanMeaning.{plan_mean};
 ghost use Rattle.xq_forms.specs.Views.{tuple_at, lists_of, spot_at, frame_at, FrameIn, TupleIn, Goes, GivesSequence};
@@ -10,8 +10,9 @@ ghost use Rattle.xq_eval.specs.private.Results.{GivesLists, GivesPlain};
 
 use crate::clauses::{clause_list, values};
 use crate::counting::counted_variable;
-use crate::paths::step_list;
+use crate::paths::{map_list, step_list};
 use crate::quantified::satisfied;
+use sqlite_items::Items as PlanItems;
 use std::alloc::Global;
 use xq_atoms::{Atom, Fault};
 use xq_expressions::Function;
@@ -102,6 +103,14 @@ pub fn evaluate<W: Growing>(
             unnamed(alloc, world, *kind, &content)
         }
         Plan::Call(function, parts) => called(alloc, world, frame, *function, parts.as_slice()),
+        Plan::Arrow(first, calls) => {
+            let items = evaluate(alloc, world, frame, first.get())?;
+            call_list(alloc, world, frame, items, calls.as_slice())
+        }
+        Plan::Map(start, parts) => {
+            let items = evaluate(alloc, world, frame, start.get())?;
+            map_list(alloc, world, frame, items, parts.as_slice())
+        }
         Plan::Quantified(which, ranges, test) => {
             let wanted = deciding(*which);
             let ranges = ranges.as_slice();
@@ -345,25 +354,78 @@ fn called<W: Growing>(
     if let Some(items) = counted_variable(alloc, frame.slots, function, parts)? {
         return Ok(items);
     }
-    let values = arguments(alloc, world, frame, parts)?;
+    let values = arguments(alloc, world, frame, Vec::new(alloc), parts)?;
     call(alloc, world, frame, function, values)
 }
 
-/// The value of each argument.
+/// What the calls after arrows give, one after another.
+#[cycle(eval)]
+fn call_list<W: Growing>(
+    alloc: Global,
+    world: &mut W,
+    frame: Frame<'_>,
+    first: Items,
+    calls: &[(Function, PlanItems<Plan>)],
+) -> Result<Items, Fault>
+    ensures goes { Goes (W.forest world.old) (W.forest world.new) (W.is_clean world.old)
+        (W.is_clean world.new) }
+    ensures gives { W.is_clean world.new → FrameIn (W.forest world.old) frame.entry
+        → AreIn (W.forest world.old) (item_views first)
+        → GivesSequence (in_turn (Forms.next_call (frame_at (W.forest world.old) frame.entry))
+        (items_at (W.forest world.old) (item_views first)) (map (λ (function, parts). (
+          function,
+          map plan_mean parts,
+        )) calls.now) (W.forest world.old)) (W.forest world.new) result }
+{
+    let mut value = first;
+    for (function, parts) in calls {
+        value = next_call(alloc, world, frame, value, *function, parts.as_slice())?;
+    }
+    Ok(value)
+}
+
+/// What one call gives, whose first argument has a value already.
+#[cycle(eval)]
+fn next_call<W: Growing>(
+    alloc: Global,
+    world: &mut W,
+    frame: Frame<'_>,
+    items: Items,
+    function: Function,
+    parts: &[Plan],
+) -> Result<Items, Fault>
+    ensures goes { Goes (W.forest world.old) (W.forest world.new) (W.is_clean world.old)
+        (W.is_clean world.new) }
+    ensures gives { W.is_clean world.new → FrameIn (W.forest world.old) frame.entry
+        → AreIn (W.forest world.old) (item_views items)
+        → GivesSequence (Forms.next_call (frame_at (W.forest world.old) frame.entry) (items_at
+        (W.forest world.old) (item_views items)) (function, map plan_mean parts.now)
+        (W.forest world.old)) (W.forest world.new) result }
+{
+    let mut first = Vec::new(alloc);
+    first.push(items)?;
+    let values = arguments(alloc, world, frame, first, parts)?;
+    call(alloc, world, frame, function, values)
+}
+
+/// The values of the arguments so far, and that of each other.
 #[cycle(eval)]
 fn arguments<W: Growing>(
     alloc: Global,
     world: &mut W,
     frame: Frame<'_>,
+    done: Vec<Items>,
     parts: &[Plan],
 ) -> Result<Vec<Items>, Fault>
     ensures goes { Goes (W.forest world.old) (W.forest world.new) (W.is_clean world.old)
         (W.is_clean world.new) }
     ensures gives { W.is_clean world.new → FrameIn (W.forest world.old) frame.entry
-        → GivesLists (for_each (λ part. part (frame_at (W.forest world.old) frame.entry)) (map
-        plan_mean parts.now) (W.forest world.old)) (W.forest world.new) result }
+        → TupleIn (W.forest world.old) (lists_of done)
+        → GivesLists (in_turn (one_more (λ part. part (frame_at (W.forest world.old) frame.entry)))
+        (tuple_at (W.forest world.old) (lists_of done)) (map plan_mean parts.now)
+        (W.forest world.old)) (W.forest world.new) result }
 {
-    let mut lists = Vec::new(alloc);
+    let mut lists = done;
     for part in parts {
         lists = next_argument(alloc, world, frame, lists, part)?;
     }

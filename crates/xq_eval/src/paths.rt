@@ -1,4 +1,4 @@
-//! What follows the slashes of a path (XQuery 3.1, section 3.3).
+//! What follows the slashes of a path, and simple maps (XQuery 3.1, sections 3.3 and 3.19).
 ghost use Rattle.std.specs.Prelude.{◌≡◌, List, map, true, Some, IfSome};
 ghost use Rattle.std.specs.Option.{option_copied};
 ghost use Rattle.xq_meaning.specs.declared.plans.PlanStep.TheVariants as plan_step;
@@ -134,6 +134,30 @@ fn next_items<W: Growing>(
         }
         PlanStep::Scan(axis, test) => scan(alloc, world, &items, *axis, test),
     }
+}
+
+/// The items after each `!`, from those before it.
+#[cycle(eval)]
+pub fn map_list<W: Growing>(
+    alloc: Global,
+    world: &mut W,
+    frame: Frame<'_>,
+    items: Items,
+    parts: &[Plan],
+) -> Result<Items, Fault>
+    ensures goes { Goes (W.forest world.old) (W.forest world.new) (W.is_clean world.old)
+        (W.is_clean world.new) }
+    ensures gives { W.is_clean world.new → FrameIn (W.forest world.old) frame.entry
+        → AreIn (W.forest world.old) (item_views items)
+        → GivesSequence (in_turn (Forms.bang (frame_at (W.forest world.old) frame.entry)) (items_at
+        (W.forest world.old) (item_views items)) (map plan_mean parts.now) (W.forest world.old))
+        (W.forest world.new) result }
+{
+    let mut left = items;
+    for part in parts {
+        left = each(alloc, world, frame, &left, part)?;
+    }
+    Ok(left)
 }
 
 /// The items of a part at each item.

@@ -1,3 +1,4 @@
 pub mod Lists
 pub mod Clauses
+pub mod Arrows
 pub mod NormalForms

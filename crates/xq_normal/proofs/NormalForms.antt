@@ -10,6 +10,7 @@ use Rattle.xq_expressions.specs.declared.expressions.Clause.{Clause}
 use Rattle.xq_expressions.specs.declared.expressions.Clause.TheVariants as c
 use Rattle.xq_expressions.specs.declared.expressions.GroupSpec.{GroupSpec}
 use Rattle.xq_expressions.specs.declared.expressions.Step.{Step}
+use Rattle.xq_expressions.specs.declared.operators.AllowingEmpty.{AllowingEmpty}
 use Rattle.xq_expressions.specs.declared.operators.OrderModifier.{OrderModifier}
 use Rattle.xq_expressions.specs.declared.names.QName.{QName}
 use Rattle.xq_expressions.specs.declared.operators.Quantifier.{Quantifier}
@@ -24,7 +25,7 @@ use Rattle.xq_meaning.specs.declared.normal_forms.CoreClause.{CoreClause}
 use Rattle.xq_meaning.specs.declared.normal_forms.CoreClause.TheVariants as k
 use Rattle.xq_meaning.specs.Doing.{go_on}
 use Rattle.xq_meaning.specs.Forms
-use Rattle.xq_meaning.specs.Meaning.{Meaning, ClauseMeaning, bind, first_stream, at_tuple, clauses, for_clause, let_clause, order_clause, group_clause, group_by, local_name, later_parts, path_from, joined_by, mean, clause_mean, group_mean, step_mean}
+use Rattle.xq_meaning.specs.Meaning.{Meaning, ClauseMeaning, bind, first_stream, at_tuple, arrow, clauses, for_clause, let_clause, order_clause, group_clause, group_by, local_name, later_parts, path_from, joined_by, mean, clause_mean, group_mean, step_mean}
 use Rattle.xq_meaning.specs.CoreMeaning.{core_mean, core_clause_mean}
 use Rattle.xq_meaning.proofs.Equations as mean
 use Rattle.xq_meaning.proofs.CoreEquations as core
@@ -47,6 +48,19 @@ pub joined_is : (op : Operator) (first : Expr) (more : List Expr) (first' : Core
 joined_is op first more first' more' h k =
     core.core-Chain first' more' ∙ ap (λ m. Forms.chain m (parts.core_operands more')) h
     ∙ ap (Forms.chain (mean first)) (k ∙ sym (map-map (λ part. (op, part)) mean more))
+
+-- # Arrows and maps
+
+pub arrow_is : (expr first : Expr) (calls : List (QName × List Expr)) (value : Meaning) →
+    expr ≡ e.Arrow first calls → value ≡ mean first → arrow value (parts.calls calls) ≡ mean expr
+arrow_is expr first calls value is h =
+    ap (λ m. arrow m (parts.calls calls)) h ∙ sym (ap mean is ∙ mean.mean-Arrow first calls)
+
+pub map_is : (expr first : Expr) (more : List Expr) (first' : Core) (more' : List Core) →
+    expr ≡ e.Map first more → core_mean first' ≡ mean first → map core_mean more' ≡ map mean more →
+    core_mean (n.Map first' more') ≡ mean expr
+map_is expr first more first' more' is h k =
+    core.core-Map first' more' ∙ (λ i. Forms.simple_map (h i) (k i)) ∙ sym (ap mean is ∙ mean.mean-Map first more)
 
 -- # Clauses
 
@@ -71,10 +85,10 @@ quantified_is expr which list part list' part' is h k =
     ∙ ap (λ bs. Forms.quantified which bs (mean part)) (sym (map-map (λ (b : QName × Meaning). (bind b.0.local, b.1)) (λ (b : QName × Expr). (b.0, mean b.1)) list))
     ∙ sym (ap mean is ∙ mean.mean-Quantified which list part)
 
-pub for_is : (clause : Clause) (list : List (QName × Option QName × Expr)) → clause ≡ c.For list →
+pub for_is : (clause : Clause) (list : List (QName × AllowingEmpty × Option QName × Expr)) → clause ≡ c.For list →
     clauses (parts.ranges list) ≡ clause_mean clause
 for_is clause list is =
-    ap clauses (sym (map-map (λ (b : QName × Option QName × Meaning). for_clause b.0.local (local_name b.1) b.2) (λ (b : QName × Option QName × Expr). (b.0, b.1, mean b.2)) list))
+    ap clauses (sym (map-map (λ (b : QName × AllowingEmpty × Option QName × Meaning). for_clause b.0.local b.1 (local_name b.2) b.3) (λ (b : QName × AllowingEmpty × Option QName × Expr). (b.0, b.1, b.2, mean b.3)) list))
     ∙ sym (ap clause_mean is ∙ mean.clause-For list)
 
 pub let_is : (clause : Clause) (list : List (QName × Expr)) → clause ≡ c.Let list →

@@ -1,17 +1,17 @@
 //! The normal form of each form of expression.
-ghost use Rattle.std.specs.Prelude.{◌≡◌, ◌++◌, IfOk, OnOk, List, map};
+ghost use Rattle.std.specs.Prelude.{◌≡◌, ◌∷◌, ◌++◌, IfOk, OnOk, List, map};
 ghost use Rattle.xq_meaning.specs.declared.operators.Operator.TheVariants as operator;
 ghost use Rattle.xq_meaning.specs.Meaning as meaning;
 ghost use Rattle.xq_meaning.specs.Meaning.{mean, name_mean, clause_mean, group_mean, step_mean};
 ghost use Rattle.xq_meaning.specs.CoreMeaning.{core_mean, core_clause_mean};
 ghost use Rattle.xq_normal.specs.private.Parts as parts;
 
-use crate::names::{axis_step, function, local, text};
+use crate::names::{axis_step, called, local, text};
 use sqlite_items::{Boxed, Items};
 use std::alloc::{AllocError, Global};
 use xq_expressions::{
-    Clause, ConstructorName, Expr, Function, GroupSpec, OrderModifier, PathStart, ProductOperator,
-    QName, Separator, SetOperator, Sign, Step, Text,
+    AllowingEmpty, Clause, ConstructorName, Expr, Function, GroupSpec, OrderModifier, PathStart,
+    ProductOperator, QName, Separator, SetOperator, Sign, Step, Text,
 };
 use xq_meaning::{Core, CoreClause, Operator, Test};
 use xq_regions::Axis;
@@ -63,6 +63,14 @@ pub fn expression(alloc: Global, expr: &Expr) -> Result<Core, AllocError>
         Expr::Unary(signs, part) => {
             let signs = Items::from_slice(alloc, signs.as_slice())?;
             Ok(Core::Unary(signs, boxed(alloc, part.get())?))
+        }
+        Expr::Arrow(first, calls) => {
+            let first = expression(alloc, first.get())?;
+            arrow(alloc, first, calls.as_slice())
+        }
+        Expr::Map(first, more) => {
+            let first = boxed(alloc, first.get())?;
+            Ok(Core::Map(first, expressions(alloc, more.as_slice())?))
         }
         Expr::Path(start, first, more) => {
             let first = step(alloc, first)?;
@@ -210,14 +218,66 @@ fn set_operands(
 #[cycle(normal)]
 fn call(alloc: Global, name: &QName, arguments: &[Expr]) -> Result<Core, AllocError>
     ensures { IfOk result
-        (λ core. core_mean core ≡ parts.call_named name.now (map mean arguments.now)) }
+        (λ core. core_mean core ≡ meaning.call_named name.now (map mean arguments.now)) }
 {
-    match function(name) {
-        Some(function) if function.arity().admits(arguments.len()) => {
-            Ok(Core::Call(function, expressions(alloc, arguments)?))
-        }
-        _ => unknown_function(alloc),
+    match called(name, arguments.len()) {
+        Some(function) => Ok(Core::Call(function, expressions(alloc, arguments)?)),
+        None => unknown_function(alloc),
     }
+}
+
+/// Calls after arrows. The first is a call whose first argument stands before its arrow.
+#[cycle(normal)]
+fn arrow(alloc: Global, first: Core, calls: &[(QName, Items<Expr>)]) -> Result<Core, AllocError>
+    ensures { IfOk result
+        (λ core. core_mean core ≡ meaning.arrow (core_mean first) (parts.calls calls.now)) }
+{
+    match calls {
+        [] => Ok(first),
+        [next, more @ ..] => {
+            let value = call_on(alloc, first, &next.0, next.1.as_slice())?;
+            later_calls(alloc, value, more)
+        }
+    }
+}
+
+/// A call after an arrow, as a call with one argument more.
+#[cycle(normal)]
+fn call_on(alloc: Global, first: Core, name: &QName, arguments: &[Expr]) -> Result<Core, AllocError>
+    ensures { IfOk result (λ core. core_mean core
+        ≡ meaning.call_named name.now (core_mean first ∷ map mean arguments.now)) }
+{
+    let Some(function) = called(name, arguments.len() + 1) else {
+        return unknown_function(alloc);
+    };
+    let mut values = Items::new(alloc);
+    values.push(first)?;
+    values.append(expressions(alloc, arguments)?)?;
+    Ok(Core::Call(function, values))
+}
+
+/// The calls after a value. Where one of them is refused, so is the whole, before the value is
+/// evaluated.
+#[cycle(normal)]
+fn later_calls(
+    alloc: Global,
+    value: Core,
+    calls: &[(QName, Items<Expr>)],
+) -> Result<Core, AllocError>
+    ensures { IfOk result
+        (λ core. core_mean core ≡ meaning.arrow (core_mean value) (parts.calls calls.now)) }
+{
+    if calls.is_empty() {
+        return Ok(value);
+    }
+    let mut found = Items::new(alloc);
+    for (name, arguments) in calls {
+        let Some(function) = called(name, arguments.len() + 1) else {
+            return unknown_function(alloc);
+        };
+        found.push((function, expressions(alloc, arguments.as_slice())?))?;
+    }
+    Ok(Core::Arrow(Boxed::new(alloc, value)?, found))
 }
 
 /// A call that is always refused with XPST0017: `true` with an argument.
@@ -373,6 +433,7 @@ fn clause(alloc: Global, clause: &Clause) -> Result<Items<CoreClause>, AllocErro
         Clause::Filter(condition) => one(alloc, CoreClause::Where(expression(alloc, condition)?)),
         Clause::Group(specs) => group(alloc, specs.as_slice()),
         Clause::Order(specs) => one(alloc, CoreClause::Order(keys(alloc, specs.as_slice())?)),
+        Clause::Count(variable) => one(alloc, CoreClause::Count(text(alloc, &variable.local)?)),
     }
 }
 
@@ -390,15 +451,16 @@ fn one(alloc: Global, clause: CoreClause) -> Result<Items<CoreClause>, AllocErro
 #[cycle(normal)]
 fn ranges(
     alloc: Global,
-    list: &[(QName, Option<QName>, Expr)],
+    list: &[(QName, AllowingEmpty, Option<QName>, Expr)],
 ) -> Result<Items<CoreClause>, AllocError>
     ensures { IfOk result (λ found. map core_clause_mean found ≡ parts.ranges list.now) }
 {
     let mut found = Items::new(alloc);
-    for (variable, at, sequence) in list {
+    for (variable, empties, at, sequence) in list {
         let variable = text(alloc, &variable.local)?;
         let at = local(alloc, at)?;
-        found.push(CoreClause::For(variable, at, expression(alloc, sequence)?))?;
+        let sequence = expression(alloc, sequence)?;
+        found.push(CoreClause::For(variable, *empties, at, sequence))?;
     }
     Ok(found)
 }

@@ -6,7 +6,7 @@ use Rattle.std.proofs.lemmas.List.Folds.{flat_map-map}
 use Rattle.xq_atoms.specs.Atom.{Atomic}
 use Rattle.xq_atoms.specs.declared.refusals.Code.TheVariants.{XPTY0019}
 use Rattle.xq_atoms.specs.declared.refusals.Fault.TheVariants.{Code as OfCode}
-use Rattle.xq_regions.specs.Tuples.{Tuple, expanded, bound, satisfying}
+use Rattle.xq_regions.specs.Tuples.{Tuple, expanded, numbered, bound, satisfying}
 use Rattle.xq_regions.specs.Items.{ItemView, Value, item_view, item_views}
 use Rattle.xq_tuples.specs.Views.{values_of}
 use Rattle.xq_meaning.specs.Items.{Item, Atom, atomized}
@@ -22,7 +22,8 @@ use denote.Param.Weighed.{at_most}
 use Rattle.xq_meaning.specs.declared.plans.PlanClause.{PlanClause}
 use Rattle.xq_meaning.specs.Doing.{◌>>=◌, go_on, give, judged, on_trees, collected, in_turn, more, one_more, for_each, first_that}
 use Rattle.xq_meaning.specs.PlanMeaning.{Frame, Meaning, plan_mean, plan_clause_mean, plan_step_mean, at_tuple, next_clause, next_step}
-use Rattle.xq_meaning.proofs.PlanEquations.{plan-Root, plan-Step, plan-Named, plan-Unnamed, plan-Call, plan-Quantified, clause-Group, clause-Order, clause-Refused, step-Scan, plan-Dec, plan-Slot, plan-ContextItem, plan-Sequence, plan-Chain, plan-Unary, plan-If, plan-Or, plan-And, plan-Filter, plan-Path, plan-Flwor, step-Each, clause-For, clause-Let, clause-Where}
+use Rattle.xq_meaning.proofs.PlanEquations.{plan-Root, plan-Step, plan-Named, plan-Unnamed, plan-Call, plan-Quantified, clause-Group, clause-Order, clause-Refused, step-Scan, plan-Dec, plan-Slot, plan-ContextItem, plan-Sequence, plan-Chain, plan-Unary, plan-If, plan-Or, plan-And, plan-Filter, plan-Path, plan-Flwor, step-Each, clause-For, clause-Let, clause-Where, clause-Count, plan-Arrow, plan-Map}
+use Rattle.xq_meaning.proofs.Turns.{begun_then}
 use Rattle.xq_forms.specs.Views.{order_specs, calling, ordering, on_axis, after_double_slash, parents_below, plant_named, plant_unnamed, tuple_at, tuples_at, lists_of, spot_at, forget, frame_at, TupleIn, TuplesIn, GivesSequence, GivesTuples, FrameIn}
 use Rattle.xq_eval.specs.private.Results.{GivesKeys, GivesRows, GivesLists, GivesTests, GivesPlain}
 use Rattle.xq_forms.proofs.Growth.{extends_more, stays, value_in, frame_grown, frame_in_grown, items_grown, are_in_grown, item_at_grown, in_grown, tuple_grown, tuple_in_grown, tuples_grown, tuples_in_grown, goes_on_to}
@@ -36,8 +37,8 @@ use Rattle.xq_meaning.specs.Content.{name_of}
 use Rattle.xq_eval.specs.private.Keys.{keys_at}
 use Rattle.xq_eval.specs.private.Quantifying.{holds, at_top, turn, resumed, weigh, all_weigh, unless_wanted}
 use Rattle.std.specs.Prelude.{string_bytes, IfSome, if◌then◌else◌}
-use Rattle.xq_eval.proofs.Steps.{double_slash_is, parents_below_is, axis_order_read, axis_order_in, step_is, named_is, same_goes, more_next, tested_ok, tested_err, go_on_stop, list_next, passed_ok, passed_err, kept_read, concat, concat_read, concat_in, flwor_is, spots_left, all_at, element, left_at, frame_inner, frame_inner_in, bound_in, kept_in, expanded_in, slash_ok, slash_err, same_tests, any_tests}
-use Rattle.xq_forms.proofs.Natural.{bound_natural, kept_natural, expanded_natural}
+use Rattle.xq_eval.proofs.Steps.{double_slash_is, parents_below_is, axis_order_read, axis_order_in, step_is, named_is, same_goes, more_next, tested_ok, tested_err, go_on_stop, list_next, passed_ok, passed_err, kept_read, concat, concat_read, concat_in, flwor_is, spots_left, all_at, element, left_at, frame_inner, frame_inner_in, bound_in, kept_in, expanded_in, numbered_in, slash_ok, slash_err, same_tests, any_tests}
+use Rattle.xq_forms.proofs.Natural.{bound_natural, kept_natural, expanded_natural, numbered_natural}
 use Rattle.xq_tuples.proofs.Copies.{values_of-clones}
 use Rattle.xq_eval.specs.private.Bindings.{values_left, stack_of, Falls, Moved, MovesOn}
 use Rattle.xq_eval.specs.private.Turns.{GivesTurn, values_found, found_at, FoundIn}
@@ -875,11 +876,12 @@ clauses::next_tuples-returns-in_err-lists-in-For-clause-gives g t c = λ clean i
     let f' = g.W.TreeSource.forest c.values.new.world in
     let e = c.in_err-lists-in-For.field-0.0 in
     let at = c.in-For.at in
-    let meant : plan_clause_mean c.args.clause.now frame (tuples_at f tuples) f ≡ go_on (for_each (λ t. plan_mean c.in-For.part (at_tuple frame t)) (tuples_at f tuples) f) (λ ls. give (expanded Atom false at (tuples_at f tuples) ls)) =
-    ap (λ k. plan_clause_mean k frame (tuples_at f tuples) f) c.in-For.is ∙ ap (λ m. m frame (tuples_at f tuples) f) (clause-For at c.in-For.part) in
+    let allows = Forms.allows c.in-For.empties in
+    let meant : plan_clause_mean c.args.clause.now frame (tuples_at f tuples) f ≡ go_on (for_each (λ t. plan_mean c.in-For.part (at_tuple frame t)) (tuples_at f tuples) f) (λ ls. give (expanded Atom allows at (tuples_at f tuples) ls)) =
+    ap (λ k. plan_clause_mean k frame (tuples_at f tuples) f) c.in-For.is ∙ ap (λ m. m frame (tuples_at f tuples) f) (clause-For c.in-For.empties at c.in-For.part) in
     subst (λ o. GivesTuples o f' c.from_residual.result) (sym meant)
     (handed_on (λ (ts : List (Tuple ItemView)). ts) tuples_at TuplesIn _ f' e c.from_residual.result c.from_residual.ensures.1
-    (go_on_stop lists_of tuple_at TupleIn (λ (ts : List (Tuple ItemView)). ts) tuples_at TuplesIn _ (λ ls. give (expanded Atom false at (tuples_at f tuples) ls)) f' e (c.in_err-lists-in-For.ensures.gives clean inside tuples_in)))
+    (go_on_stop lists_of tuple_at TupleIn (λ (ts : List (Tuple ItemView)). ts) tuples_at TuplesIn _ (λ ls. give (expanded Atom allows at (tuples_at f tuples) ls)) f' e (c.in_err-lists-in-For.ensures.gives clean inside tuples_in)))
 
 pub clauses::next_tuples-returns-in_ok-expand-in-For-clause-gives : goal.clauses::next_tuples-returns-in_ok-expand-in-For-clause-gives
 clauses::next_tuples-returns-in_ok-expand-in-For-clause-gives g t c = λ clean inside tuples_in.
@@ -891,13 +893,14 @@ clauses::next_tuples-returns-in_ok-expand-in-For-clause-gives g t c = λ clean i
     let grows = c.in_ok-lists-in-For.ensures.goes.grows in
     let lists = lists_of c.in_ok-lists-in-For.lists in
     let at = c.in-For.at in
+    let allows = Forms.allows c.in-For.empties in
     let values = c.in_ok-lists-in-For.ensures.gives clean inside tuples_in in
-    let stream : c.in_ok-expand-in-For.field-0 ≡ expanded Value false at tuples lists = c.in_ok-expand-in-For.ensures.stream in
-    let same : tuples_at f' c.in_ok-expand-in-For.field-0 ≡ expanded Atom false at (tuples_at f tuples) (tuple_at f' lists) =
-    ap (tuples_at f') stream ∙ expanded_natural (item_at f') Value Atom (λ a. refl) at tuples lists ∙ ap (λ ts. expanded Atom false at ts (tuple_at f' lists)) (tuples_grown grows tuples tuples_in) in (
-      subst (TuplesIn f') (sym stream) (expanded_in f' at tuples lists (tuples_in_grown grows tuples tuples_in) values.0),
-      ap (λ k. plan_clause_mean k frame (tuples_at f tuples) f) c.in-For.is ∙ ap (λ m. m frame (tuples_at f tuples) f) (clause-For at c.in-For.part)
-          ∙ ap (λ o. go_on o (λ ls. give (expanded Atom false at (tuples_at f tuples) ls))) values.1 ∙ ap (λ ts. (Ok ts, f')) (sym same),
+    let stream : c.in_ok-expand-in-For.field-0 ≡ expanded Value allows at tuples lists = c.in_ok-expand-in-For.ensures.stream in
+    let same : tuples_at f' c.in_ok-expand-in-For.field-0 ≡ expanded Atom allows at (tuples_at f tuples) (tuple_at f' lists) =
+    ap (tuples_at f') stream ∙ expanded_natural (item_at f') Value Atom (λ a. refl) allows at tuples lists ∙ ap (λ ts. expanded Atom allows at ts (tuple_at f' lists)) (tuples_grown grows tuples tuples_in) in (
+      subst (TuplesIn f') (sym stream) (expanded_in f' allows at tuples lists (tuples_in_grown grows tuples tuples_in) values.0),
+      ap (λ k. plan_clause_mean k frame (tuples_at f tuples) f) c.in-For.is ∙ ap (λ m. m frame (tuples_at f tuples) f) (clause-For c.in-For.empties at c.in-For.part)
+          ∙ ap (λ o. go_on o (λ ls. give (expanded Atom allows at (tuples_at f tuples) ls))) values.1 ∙ ap (λ ts. (Ok ts, f')) (sym same),
     )
 
 pub clauses::next_tuples-returns-in_ok-bind-in-Let-clause-gives : goal.clauses::next_tuples-returns-in_ok-bind-in-Let-clause-gives
@@ -1719,12 +1722,12 @@ evaluation::arguments-loop-part-preserved g t c =
       goes = goes_on_to i.goes c.next_argument.ensures.goes;
       turns = turns_next _ _ _ (lists_of c.in_ok-lists.lists) (plan_mean part) _ _ i.turns (left_over plan_mean c.args.parts.now c.loop-part.part-index part (omega arith) c.part-item.is) c.next_argument.ensures.goes.was_clean
           (λ clean inside is_in.
-          let s = c.in_ok-lists.ensures.gives clean (frame_in_grown i.goes.grows held inside) is_in in
-          (s.0, ap (λ fr. one_more (λ (m : Meaning). m fr) (tuple_at f (lists_of c.loop-part.lists)) (plan_mean part) f) (sym (frame_grown i.goes.grows held inside)) ∙ s.1));
+          let s = c.in_ok-lists.ensures.gives clean (frame_in_grown i.goes.grows held inside.0) is_in in
+          (s.0, ap (λ fr. one_more (λ (m : Meaning). m fr) (tuple_at f (lists_of c.loop-part.lists)) (plan_mean part) f) (sym (frame_grown i.goes.grows held inside.0)) ∙ s.1));
     }
 
 pub evaluation::arguments-returns-in_err-lists-clause-gives : goal.evaluation::arguments-returns-in_err-lists-clause-gives
-evaluation::arguments-returns-in_err-lists-clause-gives g t c = λ clean inside.
+evaluation::arguments-returns-in_err-lists-clause-gives g t c = λ clean inside done_in.
     let i = c.loop-part.invariant in
     let part = c.part-item.result in
     let held = c.args.frame in
@@ -1733,7 +1736,7 @@ evaluation::arguments-returns-in_err-lists-clause-gives g t c = λ clean inside.
     let e = c.in_err-lists.field-0.0 in
     handed_on lists_of tuple_at TupleIn _ f' e c.from_residual.result c.from_residual.ensures.1
     (turns_stop _ _ _ lists_of tuple_at TupleIn (plan_mean part) _ f' e i.turns (left_over plan_mean c.args.parts.now c.loop-part.part-index part (omega arith) c.part-item.is) c.next_argument.ensures.goes.was_clean
-    (λ clean inside is_in. subst (λ fr. GivesLists (one_more (λ (m : Meaning). m fr) (tuple_at f (lists_of c.loop-part.lists)) (plan_mean part) f) f' (Err e)) (frame_grown i.goes.grows held inside) (c.in_err-lists.ensures.gives clean (frame_in_grown i.goes.grows held inside) is_in)) clean inside)
+    (λ clean inside is_in. subst (λ fr. GivesLists (one_more (λ (m : Meaning). m fr) (tuple_at f (lists_of c.loop-part.lists)) (plan_mean part) f) f' (Err e)) (frame_grown i.goes.grows held inside.0) (c.in_err-lists.ensures.gives clean (frame_in_grown i.goes.grows held inside.0) is_in)) clean (inside, done_in))
 
 pub evaluation::arguments-returns-in_err-lists-clause-goes : goal.evaluation::arguments-returns-in_err-lists-clause-goes
 evaluation::arguments-returns-in_err-lists-clause-goes g t c = goes_on_to c.loop-part.invariant.goes c.in_err-lists.ensures.goes
@@ -1742,8 +1745,8 @@ pub evaluation::arguments-returns-clause-goes : goal.evaluation::arguments-retur
 evaluation::arguments-returns-clause-goes g t c = c.loop-part.invariant.goes
 
 pub evaluation::arguments-returns-clause-gives : goal.evaluation::arguments-returns-clause-gives
-evaluation::arguments-returns-clause-gives g t c = λ clean inside.
-    turns_end _ _ _ c.loop-part.invariant.turns (ap (map plan_mean) (drop_all c.loop-part.part-index c.args.parts.now (omega arith))) clean inside
+evaluation::arguments-returns-clause-gives g t c = λ clean inside done_in.
+    turns_end _ _ _ c.loop-part.invariant.turns (ap (map plan_mean) (drop_all c.loop-part.part-index c.args.parts.now (omega arith))) clean (inside, done_in)
 
 pub evaluation::next_argument-returns-clause-gives : goal.evaluation::next_argument-returns-clause-gives
 evaluation::next_argument-returns-clause-gives g t c = λ clean inside done_in.
@@ -2368,9 +2371,11 @@ evaluation::called-returns-in_err-values-clause-gives g t c = λ clean inside.
     let f = g.W.TreeSource.forest c.args.world.now in
     let frame = frame_at f c.args.frame in
     let f' = g.W.TreeSource.forest c.arguments.new.world in
-    let lists = for_each (λ (part : Meaning). part frame) (map plan_mean c.args.parts.now) f in
-    cut lists_of tuple_at TupleIn item_views items_at AreIn _ lists (λ (values : List (List Item)). calling c.args.function frame values) f' c.in_err-values.field-0.0 c.from_residual-in_err-values.result refl c.from_residual-in_err-values.ensures.1
-    (c.in_err-values.ensures.gives clean inside)
+    let none : lists_of c.new.result ≡ [] = ap (map item_views) c.new.ensures.items in
+    let lists = λ (done : Tuple ItemView). in_turn (one_more (λ (part : Meaning). part frame)) (tuple_at f done) (map plan_mean c.args.parts.now) f in
+    let next = λ (values : List (List Item)). calling c.args.function frame values in
+    cut lists_of tuple_at TupleIn item_views items_at AreIn _ (lists (lists_of c.new.result)) next f' c.in_err-values.field-0.0 c.from_residual-in_err-values.result (ap (λ done. go_on (lists done) next) (sym none)) c.from_residual-in_err-values.ensures.1
+    (c.in_err-values.ensures.gives clean inside (subst (TupleIn f) (sym none) tt))
 
 pub evaluation::called-returns-clause-gives : goal.evaluation::called-returns-clause-gives
 evaluation::called-returns-clause-gives g t c = λ clean inside.
@@ -2381,10 +2386,13 @@ evaluation::called-returns-clause-gives g t c = λ clean inside.
     let f'' = g.W.TreeSource.forest c.call.new.world in
     let grows = c.in_ok-values.ensures.goes.grows in
     let function = c.args.function in
+    let none : lists_of c.new.result ≡ [] = ap (map item_views) c.new.ensures.items in
+    let all = λ (done : Tuple ItemView). in_turn (one_more (λ (part : Meaning). part frame)) (tuple_at f done) (map plan_mean c.args.parts.now) f in
     let lists = tuple_at f' (lists_of c.in_ok-values.values) in
-    let values = c.in_ok-values.ensures.gives (c.call.ensures.goes.was_clean clean) inside in
+    let values = c.in_ok-values.ensures.gives (c.call.ensures.goes.was_clean clean) inside (subst (TupleIn f) (sym none) tt) in
     let meant : Forms.call function (map plan_mean c.args.parts.now) frame f ≡ calling function (frame_at f' held) lists f' =
-    ap (λ o. go_on o (λ values. calling function frame values)) values.1 ∙ ap (λ fr. calling function fr lists f') (sym (frame_grown grows held inside)) in
+    ap (λ done. go_on (all done) (λ values. calling function frame values)) (sym none)
+    ∙ ap (λ o. go_on o (λ values. calling function frame values)) values.1 ∙ ap (λ fr. calling function fr lists f') (sym (frame_grown grows held inside)) in
     subst (λ o. GivesSequence o f'' c.call.result) (sym meant) (c.call.ensures.gives clean (frame_in_grown grows held inside) values.0)
 
 pub evaluation::called-returns-in_err-items-clause-goes : goal.evaluation::called-returns-in_err-items-clause-goes
@@ -2405,3 +2413,211 @@ evaluation::evaluate-returns-in-Call-clause-gives g t c = λ clean inside.
 
 pub evaluation::evaluate-returns-in-Call-clause-goes : goal.evaluation::evaluate-returns-in-Call-clause-goes
 evaluation::evaluate-returns-in-Call-clause-goes g t c = c.called.ensures.goes
+
+pub evaluation::next_call-returns-clause-gives : goal.evaluation::next_call-returns-clause-gives
+evaluation::next_call-returns-clause-gives g t c = λ clean inside items_in.
+    let f = g.W.TreeSource.forest c.args.world.now in
+    let held = c.args.frame in
+    let frame = frame_at f held in
+    let f' = g.W.TreeSource.forest c.arguments.new.world in
+    let f'' = g.W.TreeSource.forest c.call.new.world in
+    let grows = c.in_ok-values.ensures.goes.grows in
+    let function = c.args.function in
+    let items = item_views c.args.items in
+    let parts = map plan_mean c.args.parts.now in
+    let value = λ (part : Meaning). part frame in
+    let next = λ (values : List (List Item)). calling function frame values in
+    let one : lists_of c.push.new.self ≡ items ∷ [] = ap (map item_views) c.in_ok-push.ensures.items ∙ ap (λ l. map item_views (l ++ c.args.items ∷ [])) c.new-first.ensures.items in
+    let lists = tuple_at f' (lists_of c.in_ok-values.values) in
+    let values = c.in_ok-values.ensures.gives (c.call.ensures.goes.was_clean clean) inside (subst (TupleIn f) (sym one) (items_in, tt)) in
+    let meant : Forms.next_call frame (items_at f items) (function, parts) f ≡ calling function (frame_at f' held) lists f' =
+    sym (begun_then value (items_at f items) parts next f)
+    ∙ ap (λ done. go_on (in_turn (one_more value) (tuple_at f done) parts f) next) (sym one)
+    ∙ ap (λ o. go_on o next) values.1 ∙ ap (λ fr. calling function fr lists f') (sym (frame_grown grows held inside)) in
+    subst (λ o. GivesSequence o f'' c.call.result) (sym meant) (c.call.ensures.gives clean (frame_in_grown grows held inside) values.0)
+
+pub evaluation::next_call-returns-in_err-values-clause-gives : goal.evaluation::next_call-returns-in_err-values-clause-gives
+evaluation::next_call-returns-in_err-values-clause-gives g t c = λ clean inside items_in.
+    let f = g.W.TreeSource.forest c.args.world.now in
+    let frame = frame_at f c.args.frame in
+    let f' = g.W.TreeSource.forest c.arguments.new.world in
+    let function = c.args.function in
+    let items = item_views c.args.items in
+    let parts = map plan_mean c.args.parts.now in
+    let value = λ (part : Meaning). part frame in
+    let next = λ (values : List (List Item)). calling function frame values in
+    let one : lists_of c.push.new.self ≡ items ∷ [] = ap (map item_views) c.in_ok-push.ensures.items ∙ ap (λ l. map item_views (l ++ c.args.items ∷ [])) c.new-first.ensures.items in
+    let all = λ (done : Tuple ItemView). in_turn (one_more value) (tuple_at f done) parts f in
+    cut lists_of tuple_at TupleIn item_views items_at AreIn (Forms.next_call frame (items_at f items) (function, parts) f) (all (lists_of c.push.new.self)) next f' c.in_err-values.field-0.0 c.from_residual-in_err-values.result
+    (sym (begun_then value (items_at f items) parts next f) ∙ ap (λ done. go_on (all done) next) (sym one)) c.from_residual-in_err-values.ensures.1
+    (c.in_err-values.ensures.gives clean inside (subst (TupleIn f) (sym one) (items_in, tt)))
+
+pub evaluation::next_call-returns-in_err-push-clause-goes : goal.evaluation::next_call-returns-in_err-push-clause-goes
+evaluation::next_call-returns-in_err-push-clause-goes g t c = stays _ _
+
+pub evaluation::next_call-returns-in_err-values-clause-goes : goal.evaluation::next_call-returns-in_err-values-clause-goes
+evaluation::next_call-returns-in_err-values-clause-goes g t c = c.in_err-values.ensures.goes
+
+pub evaluation::next_call-returns-clause-goes : goal.evaluation::next_call-returns-clause-goes
+evaluation::next_call-returns-clause-goes g t c = goes_on_to c.in_ok-values.ensures.goes c.call.ensures.goes
+
+pub evaluation::call_list-loop-function-preserved : goal.evaluation::call_list-loop-function-preserved
+evaluation::call_list-loop-function-preserved g t c =
+    let i = c.loop-function.invariant in
+    let it = c.loop-function-item.result in
+    let held = c.args.frame in
+    let f = g.W.TreeSource.forest c.loop-function.world in
+    let same : map plan_mean c.as_slice.result.now ≡ map plan_mean it.1 = ap (map plan_mean) c.as_slice.ensures in
+    record {
+      goes = goes_on_to i.goes c.next_call.ensures.goes;
+      turns = turns_next _ _ _ (item_views c.in_ok-value.value) (it.0, map plan_mean it.1) _ _ i.turns (left_over (λ (op, ps). (op, map plan_mean ps)) c.args.calls.now c.loop-function.function-index it (omega arith) c.loop-function-item.is) c.next_call.ensures.goes.was_clean
+          (λ clean inside is_in.
+          let s = c.in_ok-value.ensures.gives clean (frame_in_grown i.goes.grows held inside.0) is_in in
+          (s.0, ap (λ fr. Forms.next_call fr (items_at f (item_views c.loop-function.value)) (it.0, map plan_mean it.1) f) (sym (frame_grown i.goes.grows held inside.0)) ∙ ap (λ ps. Forms.next_call (frame_at f held) (items_at f (item_views c.loop-function.value)) (it.0, ps) f) (sym same) ∙ s.1));
+    }
+
+pub evaluation::call_list-returns-in_err-value-clause-gives : goal.evaluation::call_list-returns-in_err-value-clause-gives
+evaluation::call_list-returns-in_err-value-clause-gives g t c = λ clean inside first_in.
+    let i = c.loop-function.invariant in
+    let it = c.loop-function-item.result in
+    let held = c.args.frame in
+    let f = g.W.TreeSource.forest c.loop-function.world in
+    let f' = g.W.TreeSource.forest c.next_call.new.world in
+    let same : map plan_mean c.as_slice.result.now ≡ map plan_mean it.1 = ap (map plan_mean) c.as_slice.ensures in
+    let e = c.in_err-value.field-0.0 in
+    handed_on item_views items_at AreIn _ f' e c.from_residual.result c.from_residual.ensures.1
+    (turns_stop _ _ _ item_views items_at AreIn (it.0, map plan_mean it.1) _ f' e i.turns (left_over (λ (op, ps). (op, map plan_mean ps)) c.args.calls.now c.loop-function.function-index it (omega arith) c.loop-function-item.is) c.next_call.ensures.goes.was_clean
+    (λ clean inside is_in. subst (λ fr. GivesSequence (Forms.next_call fr (items_at f (item_views c.loop-function.value)) (it.0, map plan_mean it.1) f) f' (Err e)) (frame_grown i.goes.grows held inside.0)
+    (subst (λ ps. GivesSequence (Forms.next_call (frame_at f held) (items_at f (item_views c.loop-function.value)) (it.0, ps) f) f' (Err e)) same (c.in_err-value.ensures.gives clean (frame_in_grown i.goes.grows held inside.0) is_in))) clean (inside, first_in))
+
+pub evaluation::call_list-returns-in_err-value-clause-goes : goal.evaluation::call_list-returns-in_err-value-clause-goes
+evaluation::call_list-returns-in_err-value-clause-goes g t c = goes_on_to c.loop-function.invariant.goes c.in_err-value.ensures.goes
+
+pub evaluation::call_list-returns-clause-goes : goal.evaluation::call_list-returns-clause-goes
+evaluation::call_list-returns-clause-goes g t c = c.loop-function.invariant.goes
+
+pub evaluation::call_list-returns-clause-gives : goal.evaluation::call_list-returns-clause-gives
+evaluation::call_list-returns-clause-gives g t c = λ clean inside rest_in.
+    let old = g.W.TreeSource.forest c.args.world.now in
+    turns_end _ _ _ c.loop-function.invariant.turns (ap (map (λ (op, ps). (op, map plan_mean ps))) (drop_all c.loop-function.function-index c.args.calls.now (omega arith))) clean (inside, rest_in)
+
+pub paths::map_list-loop-part-preserved : goal.paths::map_list-loop-part-preserved
+paths::map_list-loop-part-preserved g t c =
+    let i = c.loop-part.invariant in
+    let old = g.W.TreeSource.forest c.args.world.now in
+    let f = g.W.TreeSource.forest c.loop-part.world in
+    let f' = g.W.TreeSource.forest c.each.new.world in
+    let held = c.args.frame in
+    let p = c.part-item.result in
+    let left = item_views c.loop-part.left in
+    let d : map item_view c.deref.result.now ≡ left = ap (map item_view) c.deref.ensures.value in
+    record {
+      goes = goes_on_to i.goes c.each.ensures.goes;
+      turns = turns_next _ _ _ (item_views c.in_ok-left.left) (plan_mean p) _ _ i.turns (left_over plan_mean c.args.parts.now c.loop-part.part-index p (omega arith) c.part-item.is) c.each.ensures.goes.was_clean
+          (λ clean inside is_in.
+          let s = c.in_ok-left.ensures.gives clean (frame_in_grown i.goes.grows held inside.0) (subst (AreIn f) (sym d) is_in) in
+          (s.0, ap (λ fr. Forms.bang fr (items_at f left) (plan_mean p) f) (sym (frame_grown i.goes.grows held inside.0)) ∙ ap (λ xs. Forms.bang (frame_at f held) (items_at f xs) (plan_mean p) f) (sym d) ∙ s.1));
+    }
+
+pub paths::map_list-returns-in_err-left-clause-gives : goal.paths::map_list-returns-in_err-left-clause-gives
+paths::map_list-returns-in_err-left-clause-gives g t c = λ clean inside items_in.
+    let i = c.loop-part.invariant in
+    let old = g.W.TreeSource.forest c.args.world.now in
+    let f = g.W.TreeSource.forest c.loop-part.world in
+    let f' = g.W.TreeSource.forest c.each.new.world in
+    let held = c.args.frame in
+    let p = c.part-item.result in
+    let left = item_views c.loop-part.left in
+    let d : map item_view c.deref.result.now ≡ left = ap (map item_view) c.deref.ensures.value in
+    let e = c.in_err-left.field-0.0 in
+    handed_on item_views items_at AreIn _ f' e c.from_residual.result c.from_residual.ensures.1
+    (turns_stop _ _ _ item_views items_at AreIn (plan_mean p) _ f' e i.turns (left_over plan_mean c.args.parts.now c.loop-part.part-index p (omega arith) c.part-item.is) c.each.ensures.goes.was_clean
+    (λ clean inside is_in. subst (λ fr. GivesSequence (Forms.bang fr (items_at f left) (plan_mean p) f) f' (Err e)) (frame_grown i.goes.grows held inside.0)
+    (subst (λ xs. GivesSequence (Forms.bang (frame_at f held) (items_at f xs) (plan_mean p) f) f' (Err e)) d
+    (c.in_err-left.ensures.gives clean (frame_in_grown i.goes.grows held inside.0) (subst (AreIn f) (sym d) is_in)))) clean (inside, items_in))
+
+pub paths::map_list-returns-in_err-left-clause-goes : goal.paths::map_list-returns-in_err-left-clause-goes
+paths::map_list-returns-in_err-left-clause-goes g t c = goes_on_to c.loop-part.invariant.goes c.in_err-left.ensures.goes
+
+pub paths::map_list-returns-clause-goes : goal.paths::map_list-returns-clause-goes
+paths::map_list-returns-clause-goes g t c = c.loop-part.invariant.goes
+
+pub paths::map_list-returns-clause-gives : goal.paths::map_list-returns-clause-gives
+paths::map_list-returns-clause-gives g t c = λ clean inside rest_in.
+    let old = g.W.TreeSource.forest c.args.world.now in
+    turns_end _ _ _ c.loop-part.invariant.turns (ap (map plan_mean) (drop_all c.loop-part.part-index c.args.parts.now (omega arith))) clean (inside, rest_in)
+
+pub evaluation::evaluate-returns-in-Arrow-clause-gives : goal.evaluation::evaluate-returns-in-Arrow-clause-gives
+evaluation::evaluate-returns-in-Arrow-clause-gives g t c = λ clean inside.
+    let f = g.W.TreeSource.forest c.args.world.now in
+    let held = c.args.frame in
+    let frame = frame_at f held in
+    let f' = g.W.TreeSource.forest c.evaluate-in-Arrow.new.world in
+    let grows = c.in_ok-items-in-Arrow.ensures.goes.grows in
+    let first = c.in_ok-items-in-Arrow.ensures.gives (c.call_list.ensures.goes.was_clean clean) inside in
+    let second = c.call_list.ensures.gives clean (frame_in_grown grows held inside) first.0 in
+    let value : plan_mean c.in-Arrow.first frame f ≡ (Ok (items_at f' (item_views c.in_ok-items-in-Arrow.items)), f') = ap (λ p. plan_mean p frame f) (sym c.get-in-Arrow.ensures) ∙ first.1 in
+    rw (c.in-Arrow.is, plan-Arrow c.in-Arrow.first c.in-Arrow.calls, value, ← frame_grown grows held inside, ← c.as_slice-in-Arrow.ensures) second
+
+pub evaluation::evaluate-returns-in_err-items-in-Arrow-clause-gives : goal.evaluation::evaluate-returns-in_err-items-in-Arrow-clause-gives
+evaluation::evaluate-returns-in_err-items-in-Arrow-clause-gives g t c = λ clean inside.
+    let f = g.W.TreeSource.forest c.args.world.now in
+    let held = c.args.frame in
+    let frame = frame_at f held in
+    let f' = g.W.TreeSource.forest c.evaluate-in-Arrow.new.world in
+    let e = c.in_err-items-in-Arrow.field-0.0 in
+    let next = λ (xs : List Item). in_turn (Forms.next_call frame) xs (map (λ (op, ps). (op, map plan_mean ps)) c.in-Arrow.calls) in
+    cut item_views items_at AreIn item_views items_at AreIn (plan_mean c.args.plan.now frame f) (plan_mean c.get-in-Arrow.result.now frame f) next f' e c.from_residual-in_err-items-in-Arrow.result
+    (ap (λ p. plan_mean p frame f) c.in-Arrow.is ∙ ap (λ m. m frame f) (plan-Arrow c.in-Arrow.first c.in-Arrow.calls) ∙ ap (λ p. go_on (plan_mean p frame f) next) (sym c.get-in-Arrow.ensures)) c.from_residual-in_err-items-in-Arrow.ensures.1 (c.in_err-items-in-Arrow.ensures.gives clean inside)
+
+pub evaluation::evaluate-returns-in_err-items-in-Arrow-clause-goes : goal.evaluation::evaluate-returns-in_err-items-in-Arrow-clause-goes
+evaluation::evaluate-returns-in_err-items-in-Arrow-clause-goes g t c = c.in_err-items-in-Arrow.ensures.goes
+
+pub evaluation::evaluate-returns-in-Arrow-clause-goes : goal.evaluation::evaluate-returns-in-Arrow-clause-goes
+evaluation::evaluate-returns-in-Arrow-clause-goes g t c = goes_on_to c.in_ok-items-in-Arrow.ensures.goes c.call_list.ensures.goes
+
+pub evaluation::evaluate-returns-in-Map-clause-gives : goal.evaluation::evaluate-returns-in-Map-clause-gives
+evaluation::evaluate-returns-in-Map-clause-gives g t c = λ clean inside.
+    let f = g.W.TreeSource.forest c.args.world.now in
+    let held = c.args.frame in
+    let frame = frame_at f held in
+    let f' = g.W.TreeSource.forest c.evaluate-in-Map.new.world in
+    let grows = c.in_ok-items-in-Map.ensures.goes.grows in
+    let first = c.in_ok-items-in-Map.ensures.gives (c.map_list.ensures.goes.was_clean clean) inside in
+    let second = c.map_list.ensures.gives clean (frame_in_grown grows held inside) first.0 in
+    let value : plan_mean c.in-Arrow.first frame f ≡ (Ok (items_at f' (item_views c.in_ok-items-in-Map.items)), f') = ap (λ p. plan_mean p frame f) (sym c.get-in-Map.ensures) ∙ first.1 in
+    rw (c.in-Arrow.is, plan-Map c.in-Arrow.first c.in-Arrow.calls, value, ← frame_grown grows held inside, ← c.as_slice-in-Map.ensures) second
+
+pub evaluation::evaluate-returns-in_err-items-in-Map-clause-gives : goal.evaluation::evaluate-returns-in_err-items-in-Map-clause-gives
+evaluation::evaluate-returns-in_err-items-in-Map-clause-gives g t c = λ clean inside.
+    let f = g.W.TreeSource.forest c.args.world.now in
+    let held = c.args.frame in
+    let frame = frame_at f held in
+    let f' = g.W.TreeSource.forest c.evaluate-in-Map.new.world in
+    let e = c.in_err-items-in-Map.field-0.0 in
+    let next = λ (xs : List Item). in_turn (Forms.bang frame) xs (map (λ (op, ps). (op, map plan_mean ps)) c.in-Arrow.calls) in
+    cut item_views items_at AreIn item_views items_at AreIn (plan_mean c.args.plan.now frame f) (plan_mean c.get-in-Map.result.now frame f) next f' e c.from_residual-in_err-items-in-Map.result
+    (ap (λ p. plan_mean p frame f) c.in-Arrow.is ∙ ap (λ m. m frame f) (plan-Map c.in-Arrow.first c.in-Arrow.calls) ∙ ap (λ p. go_on (plan_mean p frame f) next) (sym c.get-in-Map.ensures)) c.from_residual-in_err-items-in-Map.ensures.1 (c.in_err-items-in-Map.ensures.gives clean inside)
+
+pub evaluation::evaluate-returns-in_err-items-in-Map-clause-goes : goal.evaluation::evaluate-returns-in_err-items-in-Map-clause-goes
+evaluation::evaluate-returns-in_err-items-in-Map-clause-goes g t c = c.in_err-items-in-Map.ensures.goes
+
+pub evaluation::evaluate-returns-in-Map-clause-goes : goal.evaluation::evaluate-returns-in-Map-clause-goes
+evaluation::evaluate-returns-in-Map-clause-goes g t c = goes_on_to c.in_ok-items-in-Map.ensures.goes c.map_list.ensures.goes
+
+pub clauses::next_tuples-returns-in_ok-number-in-Count-clause-gives : goal.clauses::next_tuples-returns-in_ok-number-in-Count-clause-gives
+clauses::next_tuples-returns-in_ok-number-in-Count-clause-gives g t c = λ clean inside tuples_in.
+    let f = g.W.TreeSource.forest c.args.world.now in
+    let frame = frame_at f c.args.frame in
+    let tuples = c.args.tuples in
+    let stream : c.in_ok-number-in-Count.field-0 ≡ numbered Value tuples = c.in_ok-number-in-Count.ensures.stream in (
+      subst (TuplesIn f) (sym stream) (numbered_in f tuples tuples_in),
+      ap (λ k. plan_clause_mean k frame (tuples_at f tuples) f) c.in-Count.is ∙ ap (λ m. m frame (tuples_at f tuples) f) clause-Count
+          ∙ ap (λ ts. (Ok ts, f)) (sym (ap (tuples_at f) stream ∙ numbered_natural (item_at f) Value Atom (λ a. refl) tuples)),
+    )
+
+pub clauses::next_tuples-returns-in_err-number-in-Count-clause-goes : goal.clauses::next_tuples-returns-in_err-number-in-Count-clause-goes
+clauses::next_tuples-returns-in_err-number-in-Count-clause-goes g t c = stays _ _
+
+pub clauses::next_tuples-returns-in_ok-number-in-Count-clause-goes : goal.clauses::next_tuples-returns-in_ok-number-in-Count-clause-goes
+clauses::next_tuples-returns-in_ok-number-in-Count-clause-goes g t c = stays _ _

@@ -38,6 +38,29 @@ invariant-evaluation::chain-loop-operator g l =
       turns : Turns items_at AreIn (Forms.next_operand frame) (FrameIn old l.frame × AreIn old (item_views l.fn.first)) (g.W.TreeSource.is_clean l.world) (item_views l.total) (read (drop l.operator-index l.rest)) now (in_turn (Forms.next_operand frame) (items_at old (item_views l.fn.first)) (read l.rest) old);
     }
 
+abbrev pub invariant-evaluation::call_list-loop-function : goal.invariant-evaluation::call_list-loop-function
+invariant-evaluation::call_list-loop-function g l =
+    let old = g.W.TreeSource.forest l.fn.world in
+    let now = g.W.TreeSource.forest l.world in
+    let frame = frame_at old l.frame in
+    let read = map (λ (op, ps). (op, map plan_mean ps)) in
+    record {
+      goes : Goes old now (g.W.TreeSource.is_clean l.fn.world) (g.W.TreeSource.is_clean l.world);
+      turns : Turns items_at AreIn (Forms.next_call frame) (FrameIn old l.frame × AreIn old (item_views l.fn.first)) (g.W.TreeSource.is_clean l.world) (item_views l.value) (read (drop l.function-index l.calls)) now (in_turn (Forms.next_call frame) (items_at old (item_views l.fn.first)) (read l.calls) old);
+    }
+
+abbrev pub invariant-paths::map_list-loop-part : goal.invariant-paths::map_list-loop-part
+invariant-paths::map_list-loop-part g l =
+    let old = g.W.TreeSource.forest l.fn.world in
+    let now = g.W.TreeSource.forest l.world in
+    let frame = frame_at old l.frame in
+    let inside = FrameIn old l.frame in
+    let clean = g.W.TreeSource.is_clean l.world in
+    record {
+      goes : Goes old now (g.W.TreeSource.is_clean l.fn.world) clean;
+      turns : Turns items_at AreIn (Forms.bang frame) (inside × AreIn old (item_views l.fn.items)) clean (item_views l.left) (map plan_mean (drop l.part-index l.parts)) now (in_turn (Forms.bang frame) (items_at old (item_views l.fn.items)) (map plan_mean l.parts) old);
+    }
+
 abbrev pub invariant-evaluation::filter-loop-predicate : goal.invariant-evaluation::filter-loop-predicate
 invariant-evaluation::filter-loop-predicate g l =
     let old = g.W.TreeSource.forest l.fn.world in
@@ -144,7 +167,7 @@ invariant-evaluation::arguments-loop-part g l =
     let frame = frame_at old l.frame in
     record {
       goes : Goes old now (g.W.TreeSource.is_clean l.fn.world) (g.W.TreeSource.is_clean l.world);
-      turns : Turns tuple_at TupleIn (one_more (λ (part : Meaning). part frame)) (FrameIn old l.frame) (g.W.TreeSource.is_clean l.world) (lists_of l.lists) (map plan_mean (drop l.part-index l.parts)) now (for_each (λ (part : Meaning). part frame) (map plan_mean l.parts) old);
+      turns : Turns tuple_at TupleIn (one_more (λ (part : Meaning). part frame)) (FrameIn old l.frame × TupleIn old (lists_of l.fn.done)) (g.W.TreeSource.is_clean l.world) (lists_of l.lists) (map plan_mean (drop l.part-index l.parts)) now (in_turn (one_more (λ (part : Meaning). part frame)) (tuple_at old (lists_of l.fn.done)) (map plan_mean l.parts) old);
     }
 
 abbrev pub invariant-clauses::key_rows-loop-index : goal.invariant-clauses::key_rows-loop-index

@@ -1,14 +1,19 @@
-use Rattle.std.proofs.Common.{sym, ap, ◌∙◌, map, drop, arith}
+use Rattle.std.proofs.Common.{◌≡◌, ◌+◌, ◌++◌, ◌∷◌, [], Some, None, length, sym, ap, ◌∙◌, subst, map, drop, arith}
 use Rattle.std.specs.List.{flat_map}
-use Rattle.std.proofs.lemmas.List.{take_all}
+use Rattle.std.proofs.lemmas.List.{take_all, length-map}
 use Rattle.xq_meaning.specs.declared.operators.Operator.TheVariants as operator
-use Rattle.xq_meaning.specs.Meaning.{clauses, later_parts, joined_by, mean, clause_mean, group_mean}
-use Rattle.xq_meaning.specs.CoreMeaning.{core_clause_mean}
+use Rattle.xq_expressions.specs.Signatures.{function_named}
+use Rattle.xq_meaning.specs.Forms
+use Rattle.xq_meaning.specs.Meaning.{arrow, call_named, clauses, later_parts, joined_by, mean, clause_mean, group_mean}
+use Rattle.xq_meaning.specs.CoreMeaning.{core_mean, core_clause_mean}
 use Rattle.xq_meaning.proofs.Equations as mean
+use Rattle.xq_meaning.proofs.CoreEquations as core
 use Rattle.xq_normal.specs.private.Parts as parts
+use Rattle.xq_normal.specs.private.Parts.{admitted}
 use Rattle.xq_normal.proofs.Lists.{if_ok, first_and_rest, rest_is}
 use Rattle.xq_normal.proofs.Clauses.{clauses_next}
-use Rattle.xq_normal.proofs.NormalForms.{chain_is, flwor_is, quantified_is, joined_is, for_is, let_is, order_is, group_is, path_is}
+use Rattle.xq_normal.proofs.Arrows.{CallsLeft, known, unknown, calls_begin, call_next, call_refused, calls_end}
+use Rattle.xq_normal.proofs.NormalForms.{arrow_is, map_is, chain_is, flwor_is, quantified_is, joined_is, for_is, let_is, order_is, group_is, path_is}
 use Rattle.xq_normal.proofs.normal.+normal.Goals as goal
 
 pub expression-returns-in_ok-addends-in-Sum : goal.expression-returns-in_ok-addends-in-Sum
@@ -81,3 +86,90 @@ clause-returns-in-Let t c =
 pub clause-returns-in_ok-keys-in-Order : goal.clause-returns-in_ok-keys-in-Order
 clause-returns-in_ok-keys-in-Order t c =
     if_ok c.one-in-Order.result (λ found h. h ∙ order_is c.args.clause.now c.in-Order.specs c.in_ok-keys-in-Order.field-0 c.in-Order.is (c.in_ok-keys-in-Order.ensures ∙ ap parts.keys c.as_slice-in-Order.ensures)) c.one-in-Order.ensures
+
+-- # Calls
+
+pub call-returns-in_ok-expressions-in-Some : goal.call-returns-in_ok-expressions-in-Some
+call-returns-in_ok-expressions-in-Some t c =
+    let o = function_named c.args.name.now.prefix c.args.name.now.local in
+    let values = map mean c.args.arguments.now in
+    let is : admitted o (length values) ≡ Some c.in-Some.function = ap (admitted o) (length-map c.args.arguments.now mean) ∙ sym c.called.ensures ∙ c.in-Some.is in
+    core.core-Call c.in-Some.function c.in_ok-expressions-in-Some.field-0 ∙ ap (Forms.call c.in-Some.function) c.in_ok-expressions-in-Some.ensures
+    ∙ sym (known o c.in-Some.function values is)
+
+pub call-returns-in-None : goal.call-returns-in-None
+call-returns-in-None t c =
+    let o = function_named c.args.name.now.prefix c.args.name.now.local in
+    let values = map mean c.args.arguments.now in
+    let is : admitted o (length values) ≡ None = ap (admitted o) (length-map c.args.arguments.now mean) ∙ sym c.called.ensures ∙ c.in-None.is in
+    if_ok c.unknown_function.result (λ core h. h ∙ sym (unknown o values is)) c.unknown_function.ensures
+
+pub call_on-returns : goal.call_on-returns
+call_on-returns t c =
+    let o = function_named c.args.name.now.prefix c.args.name.now.local in
+    let values = core_mean c.args.first ∷ map mean c.args.arguments.now in
+    let many : length values ≡ length c.args.arguments.now + 1 = omega (arith, length-map c.args.arguments.now mean) in
+    let is : admitted o (length values) ≡ Some c.in-Some.function = ap (admitted o) many ∙ sym c.called.ensures ∙ c.in-Some.is in
+    let others = c.in_ok-expressions.field-0 in
+    let all : c.append.new.self ≡ c.args.first ∷ others =
+    c.in_ok-append.ensures ∙ ap (λ l. l ++ others) (c.in_ok-push.ensures.ok ∙ ap (λ l. l ++ c.args.first ∷ []) c.new-values.ensures) in
+    core.core-Call c.in-Some.function c.append.new.self
+    ∙ ap (λ l. Forms.call c.in-Some.function (map core_mean l)) all
+    ∙ ap (λ ms. Forms.call c.in-Some.function (core_mean c.args.first ∷ ms)) c.in_ok-expressions.ensures
+    ∙ sym (known o c.in-Some.function values is)
+
+pub call_on-returns-in_default : goal.call_on-returns-in_default
+call_on-returns-in_default t c =
+    let o = function_named c.args.name.now.prefix c.args.name.now.local in
+    let values = core_mean c.args.first ∷ map mean c.args.arguments.now in
+    let many : length values ≡ length c.args.arguments.now + 1 = omega (arith, length-map c.args.arguments.now mean) in
+    let is : admitted o (length values) ≡ None = ap (admitted o) many ∙ sym c.called.ensures ∙ c.in_default.is in
+    if_ok c.unknown_function.result (λ core h. h ∙ sym (unknown o values is)) c.unknown_function.ensures
+
+pub arrow-returns-in_ok-value-in-len1-up : goal.arrow-returns-in_ok-value-in-len1-up
+arrow-returns-in_ok-value-in-len1-up t c =
+    let next = c.next-item.result in
+    let value = c.in_ok-value-in-len1-up.value in
+    if_ok c.later_calls.result
+    (λ found h. h
+    ∙ ap (λ l. arrow (core_mean value) (parts.calls l)) (rest_is c.args.calls.now)
+    ∙ ap (λ m. arrow m (parts.calls (drop 1 c.args.calls.now)))
+    (c.in_ok-value-in-len1-up.ensures ∙ ap (λ others. call_named next.0 (core_mean c.args.first ∷ map mean others)) c.as_slice.ensures)
+    ∙ ap (λ l. arrow (core_mean c.args.first) (parts.calls l)) (first_and_rest c.args.calls.now next (omega (arith, c.in-len1-up.len_at_least)) c.next-item.is))
+    c.later_calls.ensures
+
+pub later_calls-loop-name-init : goal.later_calls-loop-name-init
+later_calls-loop-name-init t c =
+    subst (CallsLeft (core_mean c.args.value) c.args.calls.now 0) (sym c.new-found.ensures) (calls_begin (core_mean c.args.value) c.args.calls.now)
+
+pub later_calls-loop-name-preserved : goal.later_calls-loop-name-preserved
+later_calls-loop-name-preserved t c =
+    call_next (core_mean c.args.value) c.args.calls.now c.loop-name.name-index c.loop-name.found c.loop-name-item.result c.loop-name.invariant (omega (arith, c.loop-name-test.true)) c.loop-name-item.is
+    c.in-Some.function c.in_ok-expressions.field-0 c.push.new.self
+    (sym c.called.ensures ∙ c.in-Some.is) c.in_ok-expressions.ensures c.in_ok-push.ensures.ok
+
+pub later_calls-returns-in_default : goal.later_calls-returns-in_default
+later_calls-returns-in_default t c =
+    if_ok c.unknown_function.result
+    (λ found h. h ∙ sym (call_refused (core_mean c.args.value) c.args.calls.now c.loop-name.name-index c.loop-name.found c.loop-name-item.result c.loop-name.invariant (omega (arith, c.loop-name-test.true)) c.loop-name-item.is
+    (sym c.called.ensures ∙ c.in_default.is)))
+    c.unknown_function.ensures
+
+pub later_calls-returns : goal.later_calls-returns
+later_calls-returns t c =
+    core.core-Arrow c.in_ok-new.field-0 c.loop-name.found
+    ∙ ap (λ m. Forms.arrow m (parts.core_calls c.loop-name.found)) (ap core_mean c.in_ok-new.ensures)
+    ∙ sym (calls_end (core_mean c.args.value) c.args.calls.now c.loop-name.name-index c.loop-name.found c.loop-name.invariant (omega (arith, c.loop-name-test.false)))
+
+pub expression-returns-in_ok-first-in-Arrow : goal.expression-returns-in_ok-first-in-Arrow
+expression-returns-in_ok-first-in-Arrow t c =
+    if_ok c.arrow.result
+    (λ found h. h ∙ ap (λ cs. arrow (core_mean c.in_ok-first-in-Arrow.first) (parts.calls cs)) c.as_slice-in-Arrow.ensures
+    ∙ arrow_is c.args.expr.now c.in-Arrow.first c.in-Arrow.calls (core_mean c.in_ok-first-in-Arrow.first) c.in-Arrow.is (c.in_ok-first-in-Arrow.ensures ∙ ap mean c.get-in-Arrow.ensures))
+    c.arrow.ensures
+
+pub expression-returns-in_ok-expressions-in-Map : goal.expression-returns-in_ok-expressions-in-Map
+expression-returns-in_ok-expressions-in-Map t c =
+    map_is c.args.expr.now c.in-Map.first c.in-Map.more c.in_ok-first-in-Map.first c.in_ok-expressions-in-Map.field-0 c.in-Map.is
+    (c.in_ok-first-in-Map.ensures ∙ ap mean c.get-in-Map.ensures)
+    (c.in_ok-expressions-in-Map.ensures ∙ ap (map mean) c.as_slice-in-Map.ensures)

@@ -4,6 +4,7 @@ use Rattle.xq_meaning.specs.declared.operators.Operator.TheVariants as operator
 use Rattle.xq_meaning.specs.Meaning.{clauses, later_parts, mean, clause_mean, group_mean}
 use Rattle.xq_meaning.specs.CoreMeaning.{core_mean, core_clause_mean}
 use Rattle.xq_normal.specs.private.Parts as parts
+use Rattle.xq_normal.proofs.Arrows.{CallsLeft}
 use Rattle.xq_normal.proofs.normal.+normal.Given as goal
 
 abbrev pub invariant-expressions-loop-expr : goal.invariant-expressions-loop-expr
@@ -25,6 +26,9 @@ abbrev pub invariant-set_operands-loop-operator : goal.invariant-set_operands-lo
 invariant-set_operands-loop-operator l =
     parts.core_operands l.found
     ≡ parts.operands operator.SetOperation (take l.operator-index l.operands)
+
+abbrev pub invariant-later_calls-loop-name : goal.invariant-later_calls-loop-name
+invariant-later_calls-loop-name l = CallsLeft (core_mean l.value) l.calls l.name-index l.found
 
 abbrev pub invariant-steps-loop-separator : goal.invariant-steps-loop-separator
 invariant-steps-loop-separator l =

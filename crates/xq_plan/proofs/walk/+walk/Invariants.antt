@@ -1,10 +1,14 @@
-use Rattle.xq_plan.specs.private.Plans.{IsOperand, IsKey}
+use Rattle.xq_plan.specs.private.Plans.{IsNextCall, IsOperand, IsKey}
 use Rattle.xq_plan.proofs.Walks.{AllLeft, RangesLeft, ClausesLeft}
 use Rattle.xq_plan.proofs.Shapes.{IsPart, IsStepOrScan}
 use Rattle.xq_plan.proofs.walk.+walk.Given as goal
 
 abbrev pub invariant-expressions-loop-core : goal.invariant-expressions-loop-core
 invariant-expressions-loop-core l = AllLeft IsPart l.cores l.core-index l.fn.scope l.scope l.found
+
+abbrev pub invariant-calls-loop-function : goal.invariant-calls-loop-function
+invariant-calls-loop-function l =
+    AllLeft IsNextCall l.list l.function-index l.fn.scope l.scope l.found
 
 abbrev pub invariant-operands-loop-operator : goal.invariant-operands-loop-operator
 invariant-operands-loop-operator l =
