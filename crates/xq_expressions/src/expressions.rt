@@ -49,8 +49,9 @@ pub enum Expr {
     Map(Boxed<Expr>, Items<Expr>),
     /// A lone `/`.
     Root,
-    /// Where it starts, its first step, and the others with what stands before each.
-    Path(PathStart, Step, Items<(Separator, Step)>),
+    /// Where it starts, its first step, and the others with what stands before each. The step is
+    /// boxed, since it is the largest part of all: an expression takes half as many bytes for it.
+    Path(PathStart, Boxed<Step>, Items<(Separator, Step)>),
     Int(i64),
     Dec(Decimal),
     Str(Text),

@@ -73,7 +73,7 @@ pub fn expression(alloc: Global, expr: &Expr) -> Result<Core, AllocError>
             Ok(Core::Map(first, expressions(alloc, more.as_slice())?))
         }
         Expr::Path(start, first, more) => {
-            let first = step(alloc, first)?;
+            let first = step(alloc, first.get())?;
             let later = steps(alloc, more.as_slice())?;
             path(alloc, *start, first, later)
         }

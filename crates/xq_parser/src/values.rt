@@ -217,6 +217,7 @@ pub(crate) fn rooted(
 ) -> Result<Boxed<Expr>, Fault>
     ensures { ParsesAs (λ x. x) result (Some (g.rooted start (first, more))) }
 {
+    let first = Boxed::new(alloc, first)?;
     Ok(Boxed::new(alloc, Expr::Path(start, first, more))?)
 }
 

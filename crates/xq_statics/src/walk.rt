@@ -57,7 +57,7 @@ pub fn expression<'a>(scope: &mut Scope<'a>, expr: &'a Expr) -> Result<(), Fault
             expressions(scope, more.as_slice())
         }
         Expr::Path(_, first, more) => {
-            step(scope, first)?;
+            step(scope, first.get())?;
             steps(scope, more.as_slice())
         }
         Expr::If(condition, positive, negative) => {

@@ -4,7 +4,7 @@ use Rattle.std.proofs.lemmas.List.{take_all, length-map}
 use Rattle.xq_meaning.specs.declared.operators.Operator.TheVariants as operator
 use Rattle.xq_expressions.specs.Signatures.{function_named}
 use Rattle.xq_meaning.specs.Forms
-use Rattle.xq_meaning.specs.Meaning.{arrow, call_named, clauses, later_parts, joined_by, mean, clause_mean, group_mean}
+use Rattle.xq_meaning.specs.Meaning.{arrow, call_named, clauses, later_parts, joined_by, mean, clause_mean, group_mean, step_mean}
 use Rattle.xq_meaning.specs.CoreMeaning.{core_mean, core_clause_mean}
 use Rattle.xq_meaning.proofs.Equations as mean
 use Rattle.xq_meaning.proofs.CoreEquations as core
@@ -40,7 +40,7 @@ expression-returns-in_ok-set_operands-in-SetOperation t c =
 pub expression-returns-in_ok-later-in-Path : goal.expression-returns-in_ok-later-in-Path
 expression-returns-in_ok-later-in-Path t c =
     let found = path_is c.args.expr.now c.in-Path.start c.in-Path.first c.in-Path.more c.in_ok-first-in-Path.first c.in_ok-later-in-Path.later c.in-Path.is
-    c.in_ok-first-in-Path.ensures
+    (c.in_ok-first-in-Path.ensures ∙ ap step_mean c.get-in-Path.ensures)
     (c.in_ok-later-in-Path.ensures ∙ ap (λ l. later_parts (parts.steps l)) c.as_slice-in-Path.ensures) in
     if_ok c.path.result (λ core h. h ∙ found) c.path.ensures
 

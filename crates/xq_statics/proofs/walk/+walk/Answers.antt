@@ -64,11 +64,11 @@ expression-returns-in_ok-expression-in-Map-clause-judged t c =
 
 pub expression-returns-in_err-step-in-Path-clause-judged : goal.expression-returns-in_err-step-in-Path-clause-judged
 expression-returns-in_err-step-in-Path-clause-judged t c =
-    handed_on c.from_residual-in_err-step-in-Path.result c.in_err-step-in-Path.field-0.0 _ c.from_residual-in_err-step-in-Path.ensures.1 (rw (c.in-Path.is, eq.places-Path, operators-are parts.step c.in-Path.more) (stops c.in_err-step-in-Path.field-0.0 (parts.step c.in-Path.first c.args.scope.now) (parts.steps c.in-Path.more c.args.scope.now) c.in_err-step-in-Path.ensures.judged))
+    handed_on c.from_residual-in_err-step-in-Path.result c.in_err-step-in-Path.field-0.0 _ c.from_residual-in_err-step-in-Path.ensures.1 (rw (c.in-Path.is, eq.places-Path, operators-are parts.step c.in-Path.more, ← c.get-in-Path.ensures) (stops c.in_err-step-in-Path.field-0.0 (parts.step c.get-in-Path.result.now c.args.scope.now) (parts.steps c.in-Path.more c.args.scope.now) c.in_err-step-in-Path.ensures.judged))
 
 pub expression-returns-in_ok-step-in-Path-clause-judged : goal.expression-returns-in_ok-step-in-Path-clause-judged
 expression-returns-in_ok-step-in-Path-clause-judged t c =
-    rw (c.in-Path.is, eq.places-Path, operators-are parts.step c.in-Path.more, ← c.as_slice-in-Path.ensures) (in_order c.steps.result (parts.step c.in-Path.first) (parts.steps c.as_slice-in-Path.result.now) c.args.scope.now c.step.new.scope c.in_ok-step-in-Path.ensures.judged c.in_ok-step-in-Path.ensures.kept c.steps.ensures.judged)
+    rw (c.in-Path.is, eq.places-Path, operators-are parts.step c.in-Path.more, ← c.get-in-Path.ensures, ← c.as_slice-in-Path.ensures) (in_order c.steps.result (parts.step c.get-in-Path.result.now) (parts.steps c.as_slice-in-Path.result.now) c.args.scope.now c.step.new.scope c.in_ok-step-in-Path.ensures.judged c.in_ok-step-in-Path.ensures.kept c.steps.ensures.judged)
 
 pub expression-returns-in_err-constructor_name-in-Named-clause-judged : goal.expression-returns-in_err-constructor_name-in-Named-clause-judged
 expression-returns-in_err-constructor_name-in-Named-clause-judged t c =
