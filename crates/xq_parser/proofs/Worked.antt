@@ -62,15 +62,17 @@ derived =
     ∷ (int (pos 1) ∷ symbol s.Plus ∷ int (pos 2) ∷ word "to" ∷ int (pos 3) ∷ [], e.Range (e.Sum (one 1) ((sign.Plus, one 2) ∷ [])) (one 3))
     -- element div {element for {}}/for
     ∷ (word "element" ∷ word "div" ∷ symbol s.OpenBrace ∷ word "element" ∷ word "for" ∷ symbol s.OpenBrace ∷ symbol s.CloseBrace ∷ symbol s.CloseBrace ∷ symbol s.Slash ∷ word "for" ∷ [], g.relative (g.primary_step (e.Named named.Element (literal "div") (primary (e.Named named.Element (literal "for") (e.Sequence []))), []), (separator.Slash, step_of "for") ∷ []))
-    -- for $b in a order by b descending return c
+    -- a ! b => f() => g(c)
     ∷ (
       word "a" ∷ symbol s.Bang ∷ word "b" ∷ symbol s.Arrow ∷ word "f" ∷ symbol s.OpenParenthesis ∷ symbol s.CloseParenthesis ∷ symbol s.Arrow ∷ word "g" ∷ symbol s.OpenParenthesis ∷ word "c" ∷ symbol s.CloseParenthesis ∷ [],
       e.Arrow (e.Map (bare "a") (bare "b" ∷ [])) ((g.unprefixed (codes "f"), []) ∷ (g.unprefixed (codes "g"), bare "c" ∷ []) ∷ []),
     )
+    -- for $b allowing empty at $p in a count $c return c
     ∷ (
       word "for" ∷ symbol s.Dollar ∷ word "b" ∷ word "allowing" ∷ word "empty" ∷ word "at" ∷ symbol s.Dollar ∷ word "p" ∷ word "in" ∷ word "a" ∷ word "count" ∷ symbol s.Dollar ∷ word "c" ∷ word "return" ∷ word "c" ∷ [],
       e.Flwor (clause.For ((g.unprefixed (codes "b"), allowing.Yes, Some (g.unprefixed (codes "p")), bare "a") ∷ []) ∷ clause.Count (g.unprefixed (codes "c")) ∷ []) (bare "c"),
     )
+    -- for $b in a order by b descending return c
     ∷ (word "for" ∷ symbol s.Dollar ∷ word "b" ∷ word "in" ∷ word "a" ∷ word "order" ∷ word "by" ∷ word "b" ∷ word "descending" ∷ word "return" ∷ word "c" ∷ [], e.Flwor (clause.For ((g.unprefixed (codes "b"), allowing.No, None, bare "a") ∷ []) ∷ clause.Order ((bare "b", record { direction = direction.Descending; empty = empty_order.Least }) ∷ []) ∷ []) (bare "c"))
     -- some $x in 1 satisfies $x
     ∷ (word "some" ∷ symbol s.Dollar ∷ word "x" ∷ word "in" ∷ int (pos 1) ∷ word "satisfies" ∷ symbol s.Dollar ∷ word "x" ∷ [], e.Quantified quantifier.Some ((g.unprefixed (codes "x"), one 1) ∷ []) (primary (e.Variable (g.unprefixed (codes "x")))))

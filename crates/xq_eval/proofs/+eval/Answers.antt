@@ -2585,8 +2585,8 @@ evaluation::evaluate-returns-in-Map-clause-gives g t c = λ clean inside.
     let grows = c.in_ok-items-in-Map.ensures.goes.grows in
     let first = c.in_ok-items-in-Map.ensures.gives (c.map_list.ensures.goes.was_clean clean) inside in
     let second = c.map_list.ensures.gives clean (frame_in_grown grows held inside) first.0 in
-    let value : plan_mean c.in-Arrow.first frame f ≡ (Ok (items_at f' (item_views c.in_ok-items-in-Map.items)), f') = ap (λ p. plan_mean p frame f) (sym c.get-in-Map.ensures) ∙ first.1 in
-    rw (c.in-Arrow.is, plan-Map c.in-Arrow.first c.in-Arrow.calls, value, ← frame_grown grows held inside, ← c.as_slice-in-Map.ensures) second
+    let value : plan_mean c.in-Map.start frame f ≡ (Ok (items_at f' (item_views c.in_ok-items-in-Map.items)), f') = ap (λ p. plan_mean p frame f) (sym c.get-in-Map.ensures) ∙ first.1 in
+    rw (c.in-Map.is, plan-Map c.in-Map.start c.in-Map.parts, value, ← frame_grown grows held inside, ← c.as_slice-in-Map.ensures) second
 
 pub evaluation::evaluate-returns-in_err-items-in-Map-clause-gives : goal.evaluation::evaluate-returns-in_err-items-in-Map-clause-gives
 evaluation::evaluate-returns-in_err-items-in-Map-clause-gives g t c = λ clean inside.
@@ -2595,9 +2595,9 @@ evaluation::evaluate-returns-in_err-items-in-Map-clause-gives g t c = λ clean i
     let frame = frame_at f held in
     let f' = g.W.TreeSource.forest c.evaluate-in-Map.new.world in
     let e = c.in_err-items-in-Map.field-0.0 in
-    let next = λ (xs : List Item). in_turn (Forms.bang frame) xs (map (λ (op, ps). (op, map plan_mean ps)) c.in-Arrow.calls) in
+    let next = λ (xs : List Item). in_turn (Forms.bang frame) xs (map plan_mean c.in-Map.parts) in
     cut item_views items_at AreIn item_views items_at AreIn (plan_mean c.args.plan.now frame f) (plan_mean c.get-in-Map.result.now frame f) next f' e c.from_residual-in_err-items-in-Map.result
-    (ap (λ p. plan_mean p frame f) c.in-Arrow.is ∙ ap (λ m. m frame f) (plan-Map c.in-Arrow.first c.in-Arrow.calls) ∙ ap (λ p. go_on (plan_mean p frame f) next) (sym c.get-in-Map.ensures)) c.from_residual-in_err-items-in-Map.ensures.1 (c.in_err-items-in-Map.ensures.gives clean inside)
+    (ap (λ p. plan_mean p frame f) c.in-Map.is ∙ ap (λ m. m frame f) (plan-Map c.in-Map.start c.in-Map.parts) ∙ ap (λ p. go_on (plan_mean p frame f) next) (sym c.get-in-Map.ensures)) c.from_residual-in_err-items-in-Map.ensures.1 (c.in_err-items-in-Map.ensures.gives clean inside)
 
 pub evaluation::evaluate-returns-in_err-items-in-Map-clause-goes : goal.evaluation::evaluate-returns-in_err-items-in-Map-clause-goes
 evaluation::evaluate-returns-in_err-items-in-Map-clause-goes g t c = c.in_err-items-in-Map.ensures.goes
