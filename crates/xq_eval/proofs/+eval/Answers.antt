@@ -1,4 +1,4 @@
-use Rattle.std.proofs.Common.{rules, ◌≡◌, ◌++◌, ◌+◌, List, [], ◌∷◌, map, subst, sym, ap, ◌∙◌, Ok, Err, arith, length, suc, add-one, refl, Bool, true, false, ◌<◌, ◌≤◌, ◌^◌, take, drop, not, Some}
+use Rattle.std.proofs.Common.{rules, ◌≡◌, ◌++◌, ◌+◌, ◌*◌, List, [], ◌∷◌, map, subst, sym, ap, ◌∙◌, Ok, Err, arith, length, suc, add-one, refl, Bool, true, false, ◌<◌, ◌≤◌, ◌^◌, take, drop, not, Some}
 use Rattle.std.specs.Global.{Vec, Global}
 use Rattle.std.proofs.lemmas.List.{map-append, drop_all, length-map, length-append, append-nil}
 use Rattle.xq_forms.specs.declared.frames.Frame.{Frame as Held}
@@ -18,7 +18,9 @@ use Rattle.xq_meaning.specs.Readings.{item_at, items_at, IsIn, AreIn}
 use Rattle.xq_meaning.specs.declared.plans.Plan.{Plan, size-Plan}
 use Rattle.xq_meaning.specs.declared.plans.Plan.TheVariants as plan
 use Rattle.xq_meaning.specs.declared.plans.Plan.TheViews.{sized-Quantified}
-use denote.Param.Weighed.{at_most}
+use denote.Param.Weighed.{most, at_most}
+use Prim.Native.Nat.{max}
+use Rattle.xq_expressions.specs.declared.signatures.Function.{Function}
 use Rattle.xq_meaning.specs.declared.plans.PlanClause.{PlanClause}
 use Rattle.xq_meaning.specs.Doing.{◌>>=◌, go_on, give, judged, on_trees, collected, in_turn, more, one_more, for_each, first_that}
 use Rattle.xq_meaning.specs.PlanMeaning.{Frame, Meaning, plan_mean, plan_clause_mean, plan_step_mean, at_tuple, next_clause, next_step}
@@ -2037,7 +2039,10 @@ pub paths::next_items-returns-clause-goes : goal.paths::next_items-returns-claus
 paths::next_items-returns-clause-goes g t c = c.scan.ensures.goes
 
 pub quantified::satisfied-turn-requires : goal.quantified::satisfied-turn-requires
-quantified::satisfied-turn-requires g t c = λ κs live. (omega (arith, c.decreases), (live, c.requires))
+quantified::satisfied-turn-requires g t c = λ κs live.
+    let all : 8 * size-Plan c.args.whole.now + 1 ≡ t = c.decreases in
+    let below : 8 * size-Plan c.args.whole.now < t = omega (arith, all) in
+    (below, (live, c.requires))
 
 pub quantified::turn-evaluate-requires : goal.quantified::turn-evaluate-requires
 quantified::turn-evaluate-requires g t c = λ κs live.
@@ -2046,17 +2051,23 @@ quantified::turn-evaluate-requires g t c = λ κs live.
     let among = at_most size-Plan ranges c.args.opened part (omega arith) in
     let this = ap size-Plan c.index-ranges-opened.is in
     let whole = ap size-Plan c.requires.is ∙ sized-Quantified c.requires.which ranges c.args.test.now in
-    (omega (arith, whole, among, this, c.decreases), live)
+    let all : 8 * size-Plan c.args.whole.now ≡ t = c.decreases in
+    let below : 8 * size-Plan part + 2 < t = omega (arith, all, whole, among, this) in
+    (below, live)
 
 pub quantified::turn-tested-requires : goal.quantified::turn-tested-requires
 quantified::turn-tested-requires g t c = λ κs live.
     let whole = ap size-Plan c.requires.is ∙ sized-Quantified c.requires.which c.args.ranges.now c.args.test.now in
-    (omega (arith, whole, c.decreases), live)
+    let all : 8 * size-Plan c.args.whole.now ≡ t = c.decreases in
+    let below : 8 * size-Plan c.args.test.now + 3 < t = omega (arith, all, whole) in
+    (below, live)
 
 pub evaluation::evaluate-satisfied-requires : goal.evaluation::evaluate-satisfied-requires
 evaluation::evaluate-satisfied-requires g t c = λ κs live.
     let is = c.in-Quantified.is ∙ ap (λ rs. plan.Quantified c.in-Quantified.which rs c.in-Quantified.test) (sym c.as_slice-ranges.ensures) ∙ ap (λ p. plan.Quantified c.in-Quantified.which c.as_slice-ranges.result.now p) (sym c.get-in-Quantified.ensures) in
-    (omega (arith, c.decreases), (live, record { which = c.in-Quantified.which; is = is }))
+    let all : 8 * size-Plan c.args.plan.now + 2 ≡ t = c.decreases in
+    let below : 8 * size-Plan c.args.plan.now + 1 < t = omega (arith, all) in
+    (below, (live, record { which = c.in-Quantified.which; is = is }))
 
 pub quantified::satisfied-turns-init : goal.quantified::satisfied-turns-init
 quantified::satisfied-turns-init g t c =
@@ -2460,6 +2471,16 @@ evaluation::next_call-returns-in_err-values-clause-goes g t c = c.in_err-values.
 
 pub evaluation::next_call-returns-clause-goes : goal.evaluation::next_call-returns-clause-goes
 evaluation::next_call-returns-clause-goes g t c = goes_on_to c.in_ok-values.ensures.goes c.call.ensures.goes
+
+pub evaluation::call_list-next_call-requires : goal.evaluation::call_list-next_call-requires
+evaluation::call_list-next_call-requires g t c = λ κs live.
+    let depth = λ (o : Function × List Plan). max 0 (max (most size-Plan o.1) 0) in
+    let all : 8 * most depth c.args.calls.now + 6 ≡ t = c.decreases in
+    let among = at_most depth c.args.calls.now c.loop-function.function-index c.loop-function-item.result (omega (arith, c.loop-function-test.true)) in
+    let this = ap depth c.loop-function-item.is in
+    let same = ap (most size-Plan) c.as_slice.ensures in
+    let below : 8 * most size-Plan c.as_slice.result.now + 5 < t = omega (arith, all, among, this, same) in
+    (below, live)
 
 pub evaluation::call_list-loop-function-preserved : goal.evaluation::call_list-loop-function-preserved
 evaluation::call_list-loop-function-preserved g t c =

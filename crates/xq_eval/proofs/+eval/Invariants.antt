@@ -1,4 +1,4 @@
-use Rattle.std.proofs.Common.{◌≡◌, ◌≤◌, ◌^◌, [], ◌∷◌, ◌++◌, map, take, drop, suc, length, ◌+◌}
+use Rattle.std.proofs.Common.{◌≡◌, ◌≤◌, ◌^◌, [], ◌∷◌, ◌++◌, map, take, drop, suc, length, ◌+◌, ◌*◌}
 use Rattle.std.specs.Prelude.{if◌then◌else◌}
 use Rattle.xq_regions.specs.Items.{item_view, item_views}
 use Rattle.xq_meaning.specs.Doing.{in_turn, more, one_more, for_each, collected, first_that}
@@ -213,3 +213,104 @@ invariant-quantified::satisfied-turns g l =
 
 abbrev pub decreases-quantified::satisfied-turns : goal.decreases-quantified::satisfied-turns
 decreases-quantified::satisfied-turns g l = weigh (2 ^ 64) (all_weigh (2 ^ 64)) (length l.ranges) (stack_of l.stack)
+
+-- # The recursion: a plan's depth, and at one depth who calls whom
+
+abbrev pub decreases-evaluation::evaluate : goal.decreases-evaluation::evaluate
+decreases-evaluation::evaluate g a = 8 * goal.size-evaluation::evaluate g a + 2
+
+abbrev pub decreases-evaluation::sequence : goal.decreases-evaluation::sequence
+decreases-evaluation::sequence g a = 8 * goal.size-evaluation::sequence g a + 4
+
+abbrev pub decreases-evaluation::next_part : goal.decreases-evaluation::next_part
+decreases-evaluation::next_part g a = 8 * goal.size-evaluation::next_part g a + 3
+
+abbrev pub decreases-evaluation::chain : goal.decreases-evaluation::chain
+decreases-evaluation::chain g a = 8 * goal.size-evaluation::chain g a + 4
+
+abbrev pub decreases-evaluation::next_operand : goal.decreases-evaluation::next_operand
+decreases-evaluation::next_operand g a = 8 * goal.size-evaluation::next_operand g a + 3
+
+abbrev pub decreases-evaluation::decided : goal.decreases-evaluation::decided
+decreases-evaluation::decided g a = 8 * goal.size-evaluation::decided g a + 4
+
+abbrev pub decreases-evaluation::tested : goal.decreases-evaluation::tested
+decreases-evaluation::tested g a = 8 * goal.size-evaluation::tested g a + 3
+
+abbrev pub decreases-evaluation::filter : goal.decreases-evaluation::filter
+decreases-evaluation::filter g a = 8 * goal.size-evaluation::filter g a + 5
+
+abbrev pub decreases-evaluation::keep : goal.decreases-evaluation::keep
+decreases-evaluation::keep g a = 8 * goal.size-evaluation::keep g a + 4
+
+abbrev pub decreases-evaluation::pass : goal.decreases-evaluation::pass
+decreases-evaluation::pass g a = 8 * goal.size-evaluation::pass g a + 3
+
+abbrev pub decreases-evaluation::called : goal.decreases-evaluation::called
+decreases-evaluation::called g a = 8 * goal.size-evaluation::called g a + 5
+
+abbrev pub decreases-evaluation::call_list : goal.decreases-evaluation::call_list
+decreases-evaluation::call_list g a = 8 * goal.size-evaluation::call_list g a + 6
+
+abbrev pub decreases-evaluation::next_call : goal.decreases-evaluation::next_call
+decreases-evaluation::next_call g a = 8 * goal.size-evaluation::next_call g a + 5
+
+abbrev pub decreases-evaluation::arguments : goal.decreases-evaluation::arguments
+decreases-evaluation::arguments g a = 8 * goal.size-evaluation::arguments g a + 4
+
+abbrev pub decreases-evaluation::next_argument : goal.decreases-evaluation::next_argument
+decreases-evaluation::next_argument g a = 8 * goal.size-evaluation::next_argument g a + 3
+
+abbrev pub decreases-paths::step_list : goal.decreases-paths::step_list
+decreases-paths::step_list g a = 8 * goal.size-paths::step_list g a + 6
+
+abbrev pub decreases-paths::next_items : goal.decreases-paths::next_items
+decreases-paths::next_items g a = 8 * goal.size-paths::next_items g a + 5
+
+abbrev pub decreases-paths::map_list : goal.decreases-paths::map_list
+decreases-paths::map_list g a = 8 * goal.size-paths::map_list g a + 5
+
+abbrev pub decreases-paths::each : goal.decreases-paths::each
+decreases-paths::each g a = 8 * goal.size-paths::each g a + 4
+
+abbrev pub decreases-paths::at_spot : goal.decreases-paths::at_spot
+decreases-paths::at_spot g a = 8 * goal.size-paths::at_spot g a + 3
+
+abbrev pub decreases-clauses::clause_list : goal.decreases-clauses::clause_list
+decreases-clauses::clause_list g a = 8 * goal.size-clauses::clause_list g a + 7
+
+abbrev pub decreases-clauses::next_tuples : goal.decreases-clauses::next_tuples
+decreases-clauses::next_tuples g a = 8 * goal.size-clauses::next_tuples g a + 6
+
+abbrev pub decreases-clauses::values : goal.decreases-clauses::values
+decreases-clauses::values g a = 8 * goal.size-clauses::values g a + 5
+
+abbrev pub decreases-clauses::next_value : goal.decreases-clauses::next_value
+decreases-clauses::next_value g a = 8 * goal.size-clauses::next_value g a + 4
+
+abbrev pub decreases-clauses::tests : goal.decreases-clauses::tests
+decreases-clauses::tests g a = 8 * goal.size-clauses::tests g a + 5
+
+abbrev pub decreases-clauses::next_test : goal.decreases-clauses::next_test
+decreases-clauses::next_test g a = 8 * goal.size-clauses::next_test g a + 4
+
+abbrev pub decreases-clauses::at_tuple : goal.decreases-clauses::at_tuple
+decreases-clauses::at_tuple g a = 8 * goal.size-clauses::at_tuple g a + 3
+
+abbrev pub decreases-clauses::key_rows : goal.decreases-clauses::key_rows
+decreases-clauses::key_rows g a = 8 * goal.size-clauses::key_rows g a + 6
+
+abbrev pub decreases-clauses::next_row : goal.decreases-clauses::next_row
+decreases-clauses::next_row g a = 8 * goal.size-clauses::next_row g a + 5
+
+abbrev pub decreases-clauses::keys : goal.decreases-clauses::keys
+decreases-clauses::keys g a = 8 * goal.size-clauses::keys g a + 4
+
+abbrev pub decreases-clauses::next_key : goal.decreases-clauses::next_key
+decreases-clauses::next_key g a = 8 * goal.size-clauses::next_key g a + 3
+
+abbrev pub decreases-quantified::satisfied : goal.decreases-quantified::satisfied
+decreases-quantified::satisfied g a = 8 * goal.size-quantified::satisfied g a + 1
+
+abbrev pub decreases-quantified::turn : goal.decreases-quantified::turn
+decreases-quantified::turn g a = 8 * goal.size-quantified::turn g a

@@ -1,8 +1,6 @@
-use Rattle.std.proofs.Common.{Ok, Err, ◌≡◌, ◌+◌, ◌*◌, ◌++◌, [], List, length, drop, map, Option, None, sym, ◌∙◌, ap, subst, refl, arith}
+use Rattle.std.proofs.Common.{Ok, Err, ◌≡◌, ◌<◌, ◌+◌, ◌*◌, ◌++◌, [], List, length, drop, map, Option, None, sym, ◌∙◌, ap, subst, refl, arith}
 use Rattle.xq_expressions.specs.declared.names.QName.{QName}
 use Rattle.xq_expressions.specs.declared.expressions.Expr.{Expr, size-Expr}
-use denote.Param.Weighed.{most, at_most}
-use Prim.Native.Nat.{max}
 use Rattle.xq_expressions.specs.declared.expressions.Step.{Step}
 use Rattle.xq_expressions.specs.declared.operators.AllowingEmpty.{AllowingEmpty}
 use Rattle.xq_expressions.specs.declared.operators.Sign.{Sign}
@@ -20,6 +18,8 @@ use Rattle.std.proofs.lemmas.List.{length-map}
 use Rattle.xq_statics.proofs.Equations as eq
 use Rattle.xq_statics.proofs.Judging.{stops, handed_on, in_order, first_stops, first_passes, binding_stops, binding_passes, none_bound, each_next, each_stops, each_done, turn_next, turn_stops, turn_done, turn_binds, bound_more, still_within}
 use Rattle.xq_statics.proofs.Lists.{both-are, operators-are, keys-are, assignments-are, ranges-are, calls-are}
+use denote.Param.Weighed.{most, at_most}
+use Prim.Native.Nat.{max}
 use Rattle.xq_statics.proofs.walk.+walk.Goals as goal
 
 pub expression-returns-in_err-expression-in-Sum-clause-judged : goal.expression-returns-in_err-expression-in-Sum-clause-judged
@@ -273,22 +273,22 @@ arrow_calls-returns-in_err-call-clause-judged t c =
     let call = c.loop-name-item.result in
     handed_on c.from_residual.result c.in_err-call.field-0.0 _ c.from_residual.ensures.1
     (each_stops (λ (o : QName × List Expr). arrow_call o.0 (map places o.1)) c.args.calls.now c.loop-name.name-index call c.args.scope.now c.loop-name.scope c.loop-name.invariant _ (omega (arith, c.loop-name-test.true)) c.loop-name-item.is
-    (first_stops _ (call_fault call.0.prefix call.0.local (length (map places call.1) + 1)) (first_fault (each (map places call.1) c.loop-name.scope)) (subst (λ n. Judges (Err c.in_err-call.field-0.0) (call_fault call.0.prefix call.0.local (n + 1))) (ap length c.as_slice.ensures ∙ sym (length-map call.1 places)) c.in_err-call.ensures)))
+    (first_stops _ (call_fault call.0.prefix call.0.local (length (map places call.1) + 1)) (first_fault (each (map places call.1) c.loop-name.scope)) (subst (λ n. Judges (Err c.in_err-call.field-0.0) (call_fault call.0.prefix call.0.local (n + 1))) (ap length c.as_slice-arguments.ensures ∙ sym (length-map call.1 places)) c.in_err-call.ensures)))
 
 pub arrow_calls-returns-in_err-expressions-clause-judged : goal.arrow_calls-returns-in_err-expressions-clause-judged
 arrow_calls-returns-in_err-expressions-clause-judged t c =
     let call = c.loop-name-item.result in
     handed_on c.from_residual-in_err-expressions.result c.in_err-expressions.field-0.0 _ c.from_residual-in_err-expressions.ensures.1
     (each_stops (λ (o : QName × List Expr). arrow_call o.0 (map places o.1)) c.args.calls.now c.loop-name.name-index call c.args.scope.now c.loop-name.scope c.loop-name.invariant _ (omega (arith, c.loop-name-test.true)) c.loop-name-item.is
-    (first_passes _ (call_fault call.0.prefix call.0.local (length (map places call.1) + 1)) (first_fault (each (map places call.1) c.loop-name.scope))
-    (ap (λ n. call_fault call.0.prefix call.0.local (n + 1)) (length-map call.1 places ∙ sym (ap length c.as_slice.ensures)) ∙ c.in_ok-call.ensures) (rw (← c.as_slice.ensures) c.in_err-expressions.ensures.judged)))
+    (first_passes (Err c.in_err-expressions.field-0.0) (call_fault call.0.prefix call.0.local (length (map places call.1) + 1)) (first_fault (each (map places call.1) c.loop-name.scope))
+    (ap (λ n. call_fault call.0.prefix call.0.local (n + 1)) (length-map call.1 places ∙ sym (ap length c.as_slice-arguments.ensures)) ∙ c.in_ok-call.ensures) (rw (← c.as_slice-arguments.ensures) c.in_err-expressions.ensures.judged)))
 
 pub arrow_calls-loop-name-preserved : goal.arrow_calls-loop-name-preserved
 arrow_calls-loop-name-preserved t c =
     let call = c.loop-name-item.result in
     each_next (λ (o : QName × List Expr). arrow_call o.0 (map places o.1)) c.args.calls.now c.loop-name.name-index call c.args.scope.now c.loop-name.scope c.loop-name.invariant c.expressions.new.scope (omega (arith, c.loop-name-test.true)) c.loop-name-item.is
     (first_passes (Ok tt) (call_fault call.0.prefix call.0.local (length (map places call.1) + 1)) (first_fault (each (map places call.1) c.loop-name.scope))
-    (ap (λ n. call_fault call.0.prefix call.0.local (n + 1)) (length-map call.1 places ∙ sym (ap length c.as_slice.ensures)) ∙ c.in_ok-call.ensures) (rw (← c.as_slice.ensures) c.in_ok-expressions.ensures.judged))
+    (ap (λ n. call_fault call.0.prefix call.0.local (n + 1)) (length-map call.1 places ∙ sym (ap length c.as_slice-arguments.ensures)) ∙ c.in_ok-call.ensures) (rw (← c.as_slice-arguments.ensures) c.in_ok-expressions.ensures.judged))
     c.in_ok-expressions.ensures.kept
 
 pub arrow_calls-returns-clause-judged : goal.arrow_calls-returns-clause-judged
@@ -437,9 +437,13 @@ pub ranges-returns-clause-bound : goal.ranges-returns-clause-bound
 ranges-returns-clause-bound t c =
     turn_binds (λ (b : QName × AllowingEmpty × Option QName × Expr). ranging b.0 b.2 (places b.3)) c.args.bindings.now c.loop-variable.variable-index c.args.scope.now [] c.loop-variable.scope (c.loop-variable.invariant []).0 (c.loop-variable.invariant []).1 (omega (arith, c.loop-variable-test.false))
 
+-- the others in a call after an arrow are no deeper than the calls
 pub arrow_calls-expressions-requires : goal.arrow_calls-expressions-requires
 arrow_calls-expressions-requires t c =
-    let arguments = λ (o : QName × List Expr). max 0 (most size-Expr o.1) in
-    let all : 3 * most arguments c.args.calls.now + 2 ≡ t = c.decreases in
-    let among = at_most arguments c.args.calls.now c.loop-name.name-index c.loop-name-item.result (omega (arith, c.loop-name-test.true)) in
-    (omega (arith, all, among, ap arguments c.loop-name-item.is, ap (most size-Expr) c.as_slice.ensures), tt)
+    let depth = λ (o : QName × List Expr). max 0 (max (most size-Expr o.1) 0) in
+    let all : 3 * most depth c.args.calls.now + 2 ≡ t = c.decreases in
+    let among = at_most depth c.args.calls.now c.loop-name.name-index c.loop-name-item.result (omega (arith, c.loop-name-test.true)) in
+    let this = ap depth c.loop-name-item.is in
+    let same = ap (most size-Expr) c.as_slice-arguments.ensures in
+    let below : 3 * most size-Expr c.as_slice-arguments.result.now + 1 < t = omega (arith, all, among, this, same) in
+    (below, tt)
