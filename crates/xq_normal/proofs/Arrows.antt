@@ -3,7 +3,7 @@ use Rattle.std.proofs.Common.{◌≡◌, ℕ, ◌+◌, ◌<◌, ◌≤◌, suc, 
 use Rattle.std.specs.Prelude.{if◌then◌else◌}
 use Rattle.std.proofs.Math.Seq.{drop-cons}
 use Rattle.std.proofs.lemmas.List.{map-append, length-map, drop_all}
-use Rattle.xq_expressions.specs.declared.expressions.Expr.{Expr}
+use Rattle.xq_expressions.specs.declared.expressions.Expr.{Expr, size-Expr}
 use Rattle.xq_expressions.specs.declared.names.QName.{QName}
 use Rattle.xq_expressions.specs.declared.signatures.Function.{Function}
 use Rattle.xq_expressions.specs.Signatures.{function_named, arity, admits}
@@ -13,12 +13,14 @@ use Rattle.xq_meaning.specs.Functions.{called}
 use Rattle.xq_meaning.specs.declared.normal_forms.Core.{Core}
 use Rattle.xq_meaning.specs.Doing.{Doing, Outcome, go_on, give, on_trees, in_turn, one_more}
 use Rattle.xq_meaning.specs.Forms
-use Rattle.xq_meaning.specs.Meaning.{Meaning, arrow, call_named, call_of, call_if, unknown_function, mean}
+use Rattle.xq_meaning.specs.Meaning.{Meaning, arrow, call_of, call_if, unknown_function, mean}
 use Rattle.xq_meaning.specs.CoreMeaning.{core_mean}
 use Rattle.xq_meaning.proofs.SameForms.{go_on_same}
 use Rattle.xq_meaning.proofs.Turns.{go_on_give, go_on_go_on, last_turn, begun_then}
 use Rattle.xq_normal.specs.private.Parts as parts
 use Rattle.xq_normal.specs.private.Parts.{admitted}
+use denote.Param.Weighed.{most}
+use Prim.Native.Nat.{max}
 
 -- # A call, and the call of its first argument
 
@@ -69,37 +71,37 @@ abbrev IsNone : Option Function → Type 0
 IsNone None = Unit {0}
 IsNone (Some function) = ⊥
 
-known_if : (b : Bool) (found function : Function) (values : List Meaning) →
-    (if b then Some found else None) ≡ Some function → call_if b found values ≡ Forms.call function values
-known_if true found function values e = ap (λ it. Forms.call (function_or found it) values) e
-known_if false found function values e = absurd (subst IsNone e tt)
+known_if : (b : Bool) (chosen function : Function) (values : List Meaning) →
+    (if b then Some chosen else None) ≡ Some function → call_if b chosen values ≡ Forms.call function values
+known_if true chosen function values e = ap (λ it. Forms.call (function_or chosen it) values) e
+known_if false chosen function values e = absurd (subst IsNone e tt)
 
-unknown_if : (b : Bool) (found : Function) (values : List Meaning) →
-    (if b then Some found else None) ≡ None → call_if b found values ≡ unknown_function
-unknown_if true found values e = absurd (subst IsNone (sym e) tt)
-unknown_if false found values e = refl
+unknown_if : (b : Bool) (chosen : Function) (values : List Meaning) →
+    (if b then Some chosen else None) ≡ None → call_if b chosen values ≡ unknown_function
+unknown_if true chosen values e = absurd (subst IsNone (sym e) tt)
+unknown_if false chosen values e = refl
 
 pub known : (o : Option Function) (function : Function) (values : List Meaning) →
     admitted o (length values) ≡ Some function → call_of o values ≡ Forms.call function values
 known None function values e = absurd (subst IsNone e tt)
-known (Some found) function values e = known_if (admits (arity found) (length values)) found function values e
+known (Some chosen) function values e = known_if (admits (arity chosen) (length values)) chosen function values e
 
 pub unknown : (o : Option Function) (values : List Meaning) → admitted o (length values) ≡ None →
     call_of o values ≡ unknown_function
 unknown None values e = refl
-unknown (Some found) values e = unknown_if (admits (arity found) (length values)) found values e
+unknown (Some chosen) values e = unknown_if (admits (arity chosen) (length values)) chosen values e
 
 -- what is refused stays refused in a call
 
-refused_if : (b : Bool) (found : Function) (others : List Meaning) →
-    call_if b found (unknown_function ∷ others) ≡ unknown_function
-refused_if true found others = λ i frame f. call_begun found others frame unknown_function f i
-refused_if false found others = refl
+refused_if : (b : Bool) (chosen : Function) (others : List Meaning) →
+    call_if b chosen (unknown_function ∷ others) ≡ unknown_function
+refused_if true chosen others = λ i frame f. call_begun chosen others frame unknown_function f i
+refused_if false chosen others = refl
 
 refused_call : (o : Option Function) (others : List Meaning) → call_of o (unknown_function ∷ others) ≡ unknown_function
 refused_call None others = refl
-refused_call (Some found) others =
-    refused_if (admits (arity found) (length (unknown_function ∷ others))) found others
+refused_call (Some chosen) others =
+    refused_if (admits (arity chosen) (length (unknown_function ∷ others))) chosen others
 
 pub stays_refused : (calls : List (QName × List Meaning)) → arrow unknown_function calls ≡ unknown_function
 stays_refused [] = refl
@@ -118,7 +120,7 @@ calls_begin first all = ap (λ m. arrow m (parts.calls all)) (sym (no_calls firs
 
 module _ (first : Meaning) (all : List (QName × List Expr)) (i : ℕ) (found : List (Function × List Core)) (c : QName × List Expr)
     (left : CallsLeft first all i found) (within : i < length all) (is : c ≡ get_or all i c) where
-  so_far : Meaning
+  abbrev so_far : Meaning
   so_far = Forms.arrow first (parts.core_calls found)
 
   next_of : parts.calls (drop i all) ≡ (c.0, map mean c.1) ∷ parts.calls (drop (i + 1) all)
@@ -155,3 +157,9 @@ pub calls_end : (first : Meaning) (all : List (QName × List Expr)) (i : ℕ) (f
     arrow first (parts.calls all) ≡ Forms.arrow first (parts.core_calls found)
 calls_end first all i found left h =
     left ∙ ap (λ cs. arrow (Forms.arrow first (parts.core_calls found)) (parts.calls cs)) (drop_all i all h)
+
+-- # How deep the calls are
+
+-- the other arguments of a call, as the depth of an expression has them
+abbrev pub call_depth : QName × List Expr → ℕ
+call_depth (name, others) = max 0 (max (most size-Expr others) 0)

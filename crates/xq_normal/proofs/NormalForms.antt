@@ -85,16 +85,18 @@ quantified_is expr which list part list' part' is h k =
     ∙ ap (λ bs. Forms.quantified which bs (mean part)) (sym (map-map (λ (b : QName × Meaning). (bind b.0.local, b.1)) (λ (b : QName × Expr). (b.0, mean b.1)) list))
     ∙ sym (ap mean is ∙ mean.mean-Quantified which list part)
 
-pub for_is : (clause : Clause) (list : List (QName × AllowingEmpty × Option QName × Expr)) → clause ≡ c.For list →
-    clauses (parts.ranges list) ≡ clause_mean clause
-for_is clause list is =
-    ap clauses (sym (map-map (λ (b : QName × AllowingEmpty × Option QName × Meaning). for_clause b.0.local b.1 (local_name b.2) b.3) (λ (b : QName × AllowingEmpty × Option QName × Expr). (b.0, b.1, b.2, mean b.3)) list))
+pub for_is : (clause : Clause) (list taken : List (QName × AllowingEmpty × Option QName × Expr)) (found : List CoreClause) →
+    clause ≡ c.For list → taken ≡ list → map core_clause_mean found ≡ parts.ranges taken →
+    clauses (map core_clause_mean found) ≡ clause_mean clause
+for_is clause list taken found is same h =
+    ap clauses (h ∙ ap parts.ranges same ∙ sym (map-map (λ (b : QName × AllowingEmpty × Option QName × Meaning). for_clause b.0.local b.1 (local_name b.2) b.3) (λ (b : QName × AllowingEmpty × Option QName × Expr). (b.0, b.1, b.2, mean b.3)) list))
     ∙ sym (ap clause_mean is ∙ mean.clause-For list)
 
-pub let_is : (clause : Clause) (list : List (QName × Expr)) → clause ≡ c.Let list →
-    clauses (parts.assignments list) ≡ clause_mean clause
-let_is clause list is =
-    ap clauses (sym (map-map (λ (b : QName × Meaning). let_clause b.0.local b.1) (λ (b : QName × Expr). (b.0, mean b.1)) list))
+pub let_is : (clause : Clause) (list taken : List (QName × Expr)) (found : List CoreClause) →
+    clause ≡ c.Let list → taken ≡ list → map core_clause_mean found ≡ parts.assignments taken →
+    clauses (map core_clause_mean found) ≡ clause_mean clause
+let_is clause list taken found is same h =
+    ap clauses (h ∙ ap parts.assignments same ∙ sym (map-map (λ (b : QName × Meaning). let_clause b.0.local b.1) (λ (b : QName × Expr). (b.0, mean b.1)) list))
     ∙ sym (ap clause_mean is ∙ mean.clause-Let list)
 
 pub order_is : (clause : Clause) (list : List (Expr × OrderModifier)) (list' : List (Core × OrderModifier)) →

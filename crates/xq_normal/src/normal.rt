@@ -272,10 +272,11 @@ fn later_calls(
     }
     let mut found = Items::new(alloc);
     for (name, arguments) in calls {
+        let arguments = arguments.as_slice();
         let Some(function) = called(name, arguments.len() + 1) else {
             return unknown_function(alloc);
         };
-        found.push((function, expressions(alloc, arguments.as_slice())?))?;
+        found.push((function, expressions(alloc, arguments)?))?;
     }
     Ok(Core::Arrow(Boxed::new(alloc, value)?, found))
 }

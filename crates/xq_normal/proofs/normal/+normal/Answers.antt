@@ -1,4 +1,4 @@
-use Rattle.std.proofs.Common.{◌≡◌, ◌+◌, ◌++◌, ◌∷◌, [], Some, None, length, sym, ap, ◌∙◌, subst, map, drop, arith}
+use Rattle.std.proofs.Common.{◌≡◌, ◌<◌, ◌+◌, ◌*◌, ◌++◌, ◌∷◌, [], Some, None, length, refl, sym, ap, ◌∙◌, subst, map, drop, arith}
 use Rattle.std.specs.List.{flat_map}
 use Rattle.std.proofs.lemmas.List.{take_all, length-map}
 use Rattle.xq_meaning.specs.declared.operators.Operator.TheVariants as operator
@@ -12,7 +12,10 @@ use Rattle.xq_normal.specs.private.Parts as parts
 use Rattle.xq_normal.specs.private.Parts.{admitted}
 use Rattle.xq_normal.proofs.Lists.{if_ok, first_and_rest, rest_is}
 use Rattle.xq_normal.proofs.Clauses.{clauses_next}
-use Rattle.xq_normal.proofs.Arrows.{CallsLeft, known, unknown, calls_begin, call_next, call_refused, calls_end}
+use denote.Param.Weighed.{most, at_most}
+use Rattle.xq_expressions.specs.declared.expressions.Expr.{size-Expr}
+use Rattle.xq_expressions.specs.declared.expressions.Clause.TheViews.{sized-Arrow}
+use Rattle.xq_normal.proofs.Arrows.{call_depth, CallsLeft, known, unknown, calls_begin, call_next, call_refused, calls_end}
 use Rattle.xq_normal.proofs.NormalForms.{arrow_is, map_is, chain_is, flwor_is, quantified_is, joined_is, for_is, let_is, order_is, group_is, path_is}
 use Rattle.xq_normal.proofs.normal.+normal.Goals as goal
 
@@ -77,11 +80,11 @@ expression-returns-in_ok-boxed-in-Quantified t c =
 
 pub clause-returns-in-For : goal.clause-returns-in-For
 clause-returns-in-For t c =
-    if_ok c.ranges-in-For.result (λ found h. ap clauses (h ∙ ap parts.ranges c.as_slice.ensures) ∙ for_is c.args.clause.now c.in-For.list c.in-For.is) c.ranges-in-For.ensures
+    if_ok c.ranges-in-For.result (λ found h. for_is c.args.clause.now c.in-For.list c.as_slice.result.now found c.in-For.is c.as_slice.ensures h) c.ranges-in-For.ensures
 
 pub clause-returns-in-Let : goal.clause-returns-in-Let
 clause-returns-in-Let t c =
-    if_ok c.assignments.result (λ found h. ap clauses (h ∙ ap parts.assignments c.as_slice-in-Let.ensures) ∙ let_is c.args.clause.now c.in-Let.list c.in-Let.is) c.assignments.ensures
+    if_ok c.assignments.result (λ found h. let_is c.args.clause.now c.in-Let.list c.as_slice-in-Let.result.now found c.in-Let.is c.as_slice-in-Let.ensures h) c.assignments.ensures
 
 pub clause-returns-in_ok-keys-in-Order : goal.clause-returns-in_ok-keys-in-Order
 clause-returns-in_ok-keys-in-Order t c =
@@ -139,27 +142,37 @@ arrow-returns-in_ok-value-in-len1-up t c =
     c.later_calls.ensures
 
 pub later_calls-loop-name-init : goal.later_calls-loop-name-init
-later_calls-loop-name-init t c =
-    subst (CallsLeft (core_mean c.args.value) c.args.calls.now 0) (sym c.new-found.ensures) (calls_begin (core_mean c.args.value) c.args.calls.now)
+later_calls-loop-name-init t c = record {
+  left = subst (CallsLeft (core_mean c.args.value) c.args.calls.now 0) (sym c.new-found.ensures) (calls_begin (core_mean c.args.value) c.args.calls.now);
+  kept = refl;
+}
 
 pub later_calls-loop-name-preserved : goal.later_calls-loop-name-preserved
 later_calls-loop-name-preserved t c =
-    call_next (core_mean c.args.value) c.args.calls.now c.loop-name.name-index c.loop-name.found c.loop-name-item.result c.loop-name.invariant (omega (arith, c.loop-name-test.true)) c.loop-name-item.is
-    c.in-Some.function c.in_ok-expressions.field-0 c.push.new.self
-    (sym c.called.ensures ∙ c.in-Some.is) c.in_ok-expressions.ensures c.in_ok-push.ensures.ok
+    let call = c.loop-name-item.result in
+    let same = c.as_slice-arguments.ensures in
+    let named = function_named call.0.prefix call.0.local in
+    let is : admitted named (length call.1 + 1) ≡ Some c.in-Some.function = ap (λ l. admitted named (length l + 1)) (sym same) ∙ sym c.called.ensures ∙ c.in-Some.is in
+    record {
+      left = call_next (core_mean c.args.value) c.args.calls.now c.loop-name.name-index c.loop-name.found call c.loop-name.invariant.left (omega (arith, c.loop-name-test.true)) c.loop-name-item.is
+          c.in-Some.function c.in_ok-expressions.field-0 c.push.new.self is (c.in_ok-expressions.ensures ∙ ap (map mean) same) c.in_ok-push.ensures.ok;
+      kept = c.loop-name.invariant.kept;
+    }
 
 pub later_calls-returns-in_default : goal.later_calls-returns-in_default
 later_calls-returns-in_default t c =
+    let call = c.loop-name-item.result in
+    let named = function_named call.0.prefix call.0.local in
+    let is : admitted named (length call.1 + 1) ≡ None = ap (λ l. admitted named (length l + 1)) (sym c.as_slice-arguments.ensures) ∙ sym c.called.ensures ∙ c.in_default.is in
     if_ok c.unknown_function.result
-    (λ found h. h ∙ sym (call_refused (core_mean c.args.value) c.args.calls.now c.loop-name.name-index c.loop-name.found c.loop-name-item.result c.loop-name.invariant (omega (arith, c.loop-name-test.true)) c.loop-name-item.is
-    (sym c.called.ensures ∙ c.in_default.is)))
+    (λ found h. h ∙ sym (call_refused (core_mean c.args.value) c.args.calls.now c.loop-name.name-index c.loop-name.found call c.loop-name.invariant.left (omega (arith, c.loop-name-test.true)) c.loop-name-item.is is))
     c.unknown_function.ensures
 
 pub later_calls-returns : goal.later_calls-returns
 later_calls-returns t c =
     core.core-Arrow c.in_ok-new.field-0 c.loop-name.found
-    ∙ ap (λ m. Forms.arrow m (parts.core_calls c.loop-name.found)) (ap core_mean c.in_ok-new.ensures)
-    ∙ sym (calls_end (core_mean c.args.value) c.args.calls.now c.loop-name.name-index c.loop-name.found c.loop-name.invariant (omega (arith, c.loop-name-test.false)))
+    ∙ ap (λ m. Forms.arrow m (parts.core_calls c.loop-name.found)) (ap core_mean (c.in_ok-new.ensures ∙ c.loop-name.invariant.kept))
+    ∙ sym (calls_end (core_mean c.args.value) c.args.calls.now c.loop-name.name-index c.loop-name.found c.loop-name.invariant.left (omega (arith, c.loop-name-test.false)))
 
 pub expression-returns-in_ok-first-in-Arrow : goal.expression-returns-in_ok-first-in-Arrow
 expression-returns-in_ok-first-in-Arrow t c =
@@ -173,3 +186,31 @@ expression-returns-in_ok-expressions-in-Map t c =
     map_is c.args.expr.now c.in-Map.first c.in-Map.more c.in_ok-first-in-Map.first c.in_ok-expressions-in-Map.field-0 c.in-Map.is
     (c.in_ok-first-in-Map.ensures ∙ ap mean c.get-in-Map.ensures)
     (c.in_ok-expressions-in-Map.ensures ∙ ap (map mean) c.as_slice-in-Map.ensures)
+
+-- # Measures
+
+pub expression-arrow-requires : goal.expression-arrow-requires
+expression-arrow-requires t c =
+    let at : 4 * size-Expr c.args.expr.now ≡ t = c.decreases in
+    let whole = ap size-Expr c.in-Arrow.is ∙ sized-Arrow c.in-Arrow.first c.in-Arrow.calls in
+    let same = ap (most call_depth) c.as_slice-in-Arrow.ensures in
+    let below : 4 * most call_depth c.as_slice-in-Arrow.result.now + 3 < t = omega (arith, at, whole, same) in
+    (below, tt)
+
+pub arrow-call_on-requires : goal.arrow-call_on-requires
+arrow-call_on-requires t c =
+    let at : 4 * most call_depth c.args.calls.now + 3 ≡ t = c.decreases in
+    let among = at_most call_depth c.args.calls.now 0 c.next-item.result (omega (arith, c.in-len1-up.len_at_least)) in
+    let this = ap call_depth c.next-item.is in
+    let same = ap (most size-Expr) c.as_slice.ensures in
+    let below : 4 * most size-Expr c.as_slice.result.now + 2 < t = omega (arith, at, among, this, same) in
+    (below, tt)
+
+pub later_calls-expressions-requires : goal.later_calls-expressions-requires
+later_calls-expressions-requires t c =
+    let at : 4 * most call_depth c.args.calls.now + 2 ≡ t = c.decreases in
+    let among = at_most call_depth c.args.calls.now c.loop-name.name-index c.loop-name-item.result (omega (arith, c.loop-name-test.true)) in
+    let this = ap call_depth c.loop-name-item.is in
+    let same = ap (most size-Expr) c.as_slice-arguments.ensures in
+    let below : 4 * most size-Expr c.as_slice-arguments.result.now + 1 < t = omega (arith, at, among, this, same) in
+    (below, tt)

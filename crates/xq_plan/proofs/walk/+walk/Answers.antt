@@ -1,4 +1,4 @@
-use Rattle.std.proofs.Common.{◌≡◌, ◌++◌, ◌∷◌, [], map, sym, ap, ◌∙◌, subst, refl, arith, rules, to_z, of_z, w64}
+use Rattle.std.proofs.Common.{◌≡◌, ◌<◌, ◌+◌, ◌*◌, ◌++◌, List, ◌∷◌, [], map, sym, ap, ◌∙◌, subst, refl, arith, rules, to_z, of_z, w64}
 use Rattle.xq_meaning.specs.Meaning.{position_name}
 use Rattle.xq_meaning.specs.declared.normal_forms.Core.TheVariants as core
 use Rattle.xq_meaning.specs.declared.normal_forms.CoreClause.TheVariants as clause
@@ -6,12 +6,15 @@ use Rattle.xq_meaning.specs.declared.plans.Plan.TheVariants as plan
 use Rattle.xq_meaning.specs.declared.plans.PlanClause.TheVariants as plan_clause
 use Rattle.xq_meaning.specs.Same.{IsPlan}
 use Rattle.xq_plan.specs.private.Plans.{AreAll, AreRanges, AreClauses, IsClause, IsNextCall, IsOperand, IsStep, IsKey}
-use Rattle.xq_meaning.specs.declared.normal_forms.Core.{out-Core}
+use Rattle.xq_expressions.specs.declared.signatures.Function.{Function}
+use Rattle.xq_meaning.specs.declared.normal_forms.Core.{Core, out-Core, size-Core}
 use Rattle.xq_meaning.specs.declared.normal_forms.Core.TheOpen.{Core-F}
 use Rattle.xq_plan.specs.private.Shapes.{IsLiteral, IsCall, IsScan}
 use Rattle.xq_plan.proofs.Forms as forms
 use Rattle.xq_plan.proofs.Shapes.{IsPart, IsStepOrScan, shape_at, all_are, step_shape, scan_of}
-use Rattle.xq_plan.proofs.Walks.{left_next, left_done, range_next, ranges_done, clause_next, clauses_done, for_clause, let_clause, where_clause, order_clause, count_clause, flwor_is, quantified_is, as_is, part_at, list_at, asked}
+use Rattle.xq_plan.proofs.Walks.{left_next, left_done, range_next, ranges_done, clause_next, clauses_done, for_clause, let_clause, where_clause, order_clause, flwor_is, quantified_is, as_is, part_at, list_at, asked}
+use denote.Param.Weighed.{most, at_most}
+use Prim.Native.Nat.{max}
 use Rattle.xq_plan.proofs.walk.+walk.Goals as goal
 
 pub expression-returns-in_ok-expressions-in-Sequence-clause-planned : goal.expression-returns-in_ok-expressions-in-Sequence-clause-planned
@@ -346,3 +349,14 @@ pub expression-returns-in-ContextItem-clause-shape : goal.expression-returns-in-
 expression-returns-in-ContextItem-clause-shape t c =
     shape_at c.args.core.now (Core-F.ContextItem) _ (ap out-Core (c.in-ContextItem.is) ∙ core.outs-ContextItem)
     (tt, tt, tt, tt)
+
+-- the others in a call after an arrow are no deeper than the calls
+pub calls-expressions-requires : goal.calls-expressions-requires
+calls-expressions-requires t c =
+    let depth = λ (o : Function × List Core). max 0 (max (most size-Core o.1) 0) in
+    let at : 3 * most depth c.args.list.now + 2 ≡ t = c.decreases in
+    let among = at_most depth c.args.list.now c.loop-function.function-index c.loop-function-item.result (omega (arith, c.loop-function-test.true)) in
+    let this = ap depth c.loop-function-item.is in
+    let same = ap (most size-Core) c.as_slice.ensures in
+    let below : 3 * most size-Core c.as_slice.result.now + 1 < t = omega (arith, at, among, this, same) in
+    (below, tt)
