@@ -128,11 +128,6 @@ pub spots_left : (f : List Tree) (items : List Held) (i : ℕ) (x : Held) (n : �
     → focuses_from (suc i) n (items_at f (map item_view (drop i items))) ≡ record { item = item_at f (item_view x); position = i + 1; last = n } ∷ focuses_from (suc (i + 1)) n (items_at f (map item_view (drop (i + 1) items)))
 spots_left f items i x n h is = rw add-one (ap (λ xs. focuses_from (suc i) n (items_at f (map item_view xs))) (drop-cons items i x h ∙ ap (λ y. y ∷ drop (suc i) items) (sym is)))
 
-pub all_at : {X A : Type 0} (P : A → Type 0) (view : X → A) (xs : List X) (i : ℕ) (x : X) → AllByRecursion P (map view xs) → i < length xs → x ≡ get_or xs i x → P (view x)
-all_at P view [] i x h k is = absurd (omega arith)
-all_at P view (y ∷ ys) zero x h k is = subst (λ z. P (view z)) (sym is) h.0
-all_at P view (y ∷ ys) (suc i) x h k is = all_at P view ys i x h.1 (omega arith) is
-
 pub element : {A : Type 0} (P : A → Type 0) (xs : List A) (i : ℕ) (x d : A) → AllByRecursion P xs → i < length xs → x ≡ slice_index_or xs i d → P x
 element P [] i x d h k is = absurd (omega arith)
 element P (y ∷ ys) zero x d h k is = subst P (sym is) h.0

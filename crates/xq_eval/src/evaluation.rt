@@ -1,5 +1,8 @@
 //! The evaluator: the value of a plan.
 ghost use Rattle.std.specs.Prelude.{◌≡◌, List, [], ◌∷◌, map};
+ghost use Rattle.std.specs.List.{AllByRecursion};
+ghost use Rattle.xq_atoms.specs.Text.{Text};
+ghost use Rattle.xq_meaning.specs.declared.plans.Plan.TheVariants as plan_of;
 ghost use Rattle.xq_regions.specs.Items.{item_view, item_views};
 ghost use Rattle.xq_meaning.specs.Readings.{items_at, IsIn, AreIn};
 ghost use Rattle.xq_meaning.specs.Doing.{in_turn, more, one_more, first_that};
@@ -7,6 +10,7 @@ ghost use Rattle.xq_meaning.specs.Forms as Forms;
 ghost use Rattle.xq_meaning.specs.PlanMeaning.{plan_mean};
 ghost use Rattle.xq_forms.specs.Views.{tuple_at, lists_of, spot_at, frame_at, FrameIn, TupleIn, Goes, GivesSequence};
 ghost use Rattle.xq_eval.specs.private.Results.{GivesLists, GivesPlain};
+ghost use Rattle.xq_eval.specs.private.Scanning.{IsLiteral, Scans};
 
 use crate::clauses::{clause_list, values};
 use crate::counting::counted_variable;
@@ -38,6 +42,9 @@ pub fn evaluate<W: Growing>(
     ensures gives { W.is_clean world.new → FrameIn (W.forest world.old) frame.entry
         → GivesSequence (plan_mean plan.now (frame_at (W.forest world.old) frame.entry)
         (W.forest world.old)) (W.forest world.new) result }
+    ensures reads { W.is_clean world.new → FrameIn (W.forest world.old) frame.entry
+        → Scans plan.now frame.entry.addresses.now (W.forest world.old) (W.meter world.old)
+        (W.meter world.new) }
 {
     match plan {
         Plan::Int(value) => Ok(single(alloc, Item::Atom(Atom::Int(*value)))?),
@@ -350,6 +357,9 @@ fn called<W: Growing>(
         → GivesSequence (Forms.call function (map plan_mean parts.now)
         (frame_at (W.forest world.old)
         frame.entry) (W.forest world.old)) (W.forest world.new) result }
+    ensures reads { W.is_clean world.new → FrameIn (W.forest world.old) frame.entry
+        → function ≡ Function.Doc → (t : Text) → parts.now ≡ plan_of.Str t ∷ []
+        → W.meter world.new ≡ W.meter world.old }
 {
     if let Some(items) = counted_variable(alloc, frame.slots, function, parts)? {
         return Ok(items);
@@ -424,6 +434,8 @@ fn arguments<W: Growing>(
         → GivesLists (in_turn (one_more (λ part. part (frame_at (W.forest world.old) frame.entry)))
         (tuple_at (W.forest world.old) (lists_of done)) (map plan_mean parts.now)
         (W.forest world.old)) (W.forest world.new) result }
+    ensures reads { W.is_clean world.new → FrameIn (W.forest world.old) frame.entry
+        → AllByRecursion IsLiteral parts.now → W.meter world.new ≡ W.meter world.old }
 {
     let mut lists = done;
     for part in parts {
@@ -448,6 +460,8 @@ fn next_argument<W: Growing>(
         → GivesLists (one_more (λ part. part (frame_at (W.forest world.old) frame.entry)) (tuple_at
         (W.forest world.old) (lists_of done)) (plan_mean part.now) (W.forest world.old))
         (W.forest world.new) result }
+    ensures reads { W.is_clean world.new → FrameIn (W.forest world.old) frame.entry
+        → IsLiteral part.now → W.meter world.new ≡ W.meter world.old }
 {
     let mut lists = done;
     let list = evaluate(alloc, world, frame, part)?;

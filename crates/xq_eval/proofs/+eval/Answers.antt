@@ -31,7 +31,7 @@ use Rattle.xq_eval.specs.private.Results.{GivesKeys, GivesRows, GivesLists, Give
 use Rattle.xq_forms.proofs.Growth.{extends_more, stays, value_in, frame_grown, frame_in_grown, items_grown, are_in_grown, item_at_grown, in_grown, tuple_grown, tuple_in_grown, tuples_grown, tuples_in_grown, goes_on_to}
 use Rattle.xq_regions.specs.declared.Axis.TheVariants.{Child}
 use Rattle.xq_meaning.specs.declared.plans.PlanStep.TheVariants as plan_step
-use Rattle.xq_eval.proofs.Loops.{left_over, left_from, two_left, none_taken, one_taken, turns_same, turns_two, turns_from, turns_stop_two, turns_next, turns_stop, turns_end, tries_next, tries_found, tries_stop, handed_on, stops, cut}
+use Rattle.xq_eval.proofs.Loops.{got_at, left_over, left_from, two_left, none_taken, one_taken, turns_same, turns_two, turns_from, turns_stop_two, turns_next, turns_stop, turns_end, tries_next, tries_found, tries_stop, handed_on, stops, cut}
 use Rattle.xq_atoms.specs.Text.{Text}
 use Rattle.xq_expressions.specs.declared.operators.OrderModifier.{OrderModifier}
 use Rattle.xq_tuples.specs.Keys.{atomics_of, column_of, columns_of}
@@ -39,7 +39,8 @@ use Rattle.xq_meaning.specs.Content.{name_of}
 use Rattle.xq_eval.specs.private.Keys.{keys_at}
 use Rattle.xq_eval.specs.private.Quantifying.{holds, at_top, turn, resumed, weigh, all_weigh, unless_wanted}
 use Rattle.std.specs.Prelude.{string_bytes, IfSome, if◌then◌else◌}
-use Rattle.xq_eval.proofs.Steps.{double_slash_is, parents_below_is, axis_order_read, axis_order_in, step_is, named_is, same_goes, more_next, tested_ok, tested_err, go_on_stop, list_next, passed_ok, passed_err, kept_read, concat, concat_read, concat_in, flwor_is, spots_left, all_at, element, left_at, frame_inner, frame_inner_in, bound_in, kept_in, expanded_in, numbered_in, slash_ok, slash_err, same_tests, any_tests}
+use Rattle.xq_eval.proofs.Steps.{double_slash_is, parents_below_is, axis_order_read, axis_order_in, step_is, named_is, same_goes, more_next, tested_ok, tested_err, go_on_stop, list_next, passed_ok, passed_err, kept_read, concat, concat_read, concat_in, flwor_is, spots_left, element, left_at, frame_inner, frame_inner_in, bound_in, kept_in, expanded_in, numbered_in, slash_ok, slash_err, same_tests, any_tests}
+use Rattle.xq_forms.proofs.Lists.{all_at}
 use Rattle.xq_forms.proofs.Natural.{bound_natural, kept_natural, expanded_natural, numbered_natural}
 use Rattle.xq_tuples.proofs.Copies.{values_of-clones}
 use Rattle.xq_eval.specs.private.Bindings.{values_left, stack_of, Falls, Moved, MovesOn}
@@ -47,6 +48,13 @@ use Rattle.xq_eval.specs.private.Turns.{GivesTurn, values_found, found_at, Found
 use Rattle.xq_eval.proofs.QuantifiedTurns.{At, moved_slots, moved_within, moved_lighter, turn_moves, turn_ends, turn_decides, turn_stops, frame_open, frame_open_in, some_found, none_found, turn_value, turn_tested, is_wanted, not_wanted}
 use Rattle.xq_eval.proofs.NextValues.{next_left}
 use Rattle.xq_meaning.specs.Forms as Forms
+use Rattle.std.specs.List.{AllByRecursion}
+use Rattle.std.proofs.Math.Nat.{mul-le-mul_right}
+use Rattle.xq_meaning.specs.declared.plans.Plan.{out-Plan}
+use Rattle.xq_forms.specs.Reads.{rows_of, AreOf, HasGrown}
+use Rattle.xq_eval.specs.Reads.{rows_at}
+use Rattle.xq_eval.specs.private.Scanning.{IsLiteral, IsScan}
+use Rattle.xq_eval.proofs.DocumentScans.{other_form, literal_scans, call_scans, path_scans, are_scans, not_each, no_each, grown_more, not_grown, grown_from, grown_on, once, literal_value, document_value}
 use Rattle.xq_eval.proofs.+eval.Goals as goal
 
 pub evaluation::evaluate-returns-in-ContextItem-clause-gives : goal.evaluation::evaluate-returns-in-ContextItem-clause-gives
@@ -1195,6 +1203,10 @@ paths::step_list-loop-index-preserved-then-is_taken g t c =
     record {
       goes = i.goes;
       turns = turns_same _ _ _ _ i.turns (ap (λ n. map plan_step_mean (drop n c.args.steps.now)) (one_taken c.loop-index.is_taken c.loop-index.index c.if-is_taken.true));
+      within = subst (λ n. n ≤ length c.args.steps.now) (one_taken c.loop-index.is_taken c.loop-index.index c.if-is_taken.true) i.within;
+      reads = λ clean all tree h.
+          let w = i.reads clean all tree h in
+          (w.0, subst (λ n. HasGrown (g.W.TreeSource.meter c.args.world.now) (g.W.TreeSource.meter c.loop-index.world) (n * rows_of (g.W.TreeSource.forest c.args.world.now) tree)) (one_taken c.loop-index.is_taken c.loop-index.index c.if-is_taken.true) w.1);
     }
 
 pub paths::step_list-loop-index-preserved-in-Some : goal.paths::step_list-loop-index-preserved-in-Some
@@ -1217,6 +1229,12 @@ paths::step_list-loop-index-preserved-in-Some g t c =
           (λ clean inside is_in.
           let s = c.in_ok-found.ensures.gives clean (subst (AreIn f) (sym d) is_in) in
           (s.0, double_slash_is p q test (frame_at old held) (items_at f left) f (c.is_double_slash.ensures c.if-is_double_slash.true) refl ∙ ap (λ xs. after_double_slash test (items_at f xs) f) (sym d) ∙ s.1));
+      within = (let at = got_at c.args.steps.now (n + 1) q next in omega (arith, at.0));
+      reads = λ clean all tree h.
+          let w = i.reads (c.in_ok-found.ensures.goes.was_clean clean) all tree h in
+          let of = subst (AreOf f tree) (sym d) w.0 in
+          let before = subst (λ k. HasGrown (g.W.TreeSource.meter c.args.world.now) (g.W.TreeSource.meter c.loop-index.world) (k * rows_of old tree)) (none_taken c.loop-index.is_taken n c.if-is_taken.false) w.1 in
+          (c.in_ok-found.ensures.of_tree clean tree of, grown_on old f tree n 2 (n + 1 + 1) i.goes.grows h.has_tree (omega arith) before (c.double_slash.ensures.reads clean tree of));
     }
 
 pub paths::step_list-returns-in_err-found-clause-gives : goal.paths::step_list-returns-in_err-found-clause-gives
@@ -1270,6 +1288,8 @@ paths::step_list-loop-index-preserved-in-Some-chosen_children g t c =
     record {
       goes = goes_on_to i.goes c.in_ok-parents.ensures.goes;
       turns = turns_same _ _ _ _ there (sym (left_from plan_step_mean c.args.steps.now (n + 1) q next) ∙ ap (λ k. map plan_step_mean (drop k c.args.steps.now)) (sym (none_taken c.loop-index.is_taken (n + 1) c.if-is_taken.false)));
+      within = subst (λ k. k ≤ length c.args.steps.now) (sym (none_taken c.loop-index.is_taken (n + 1) c.if-is_taken.false)) (omega arith);
+      reads = λ clean all tree h. absurd (no_each c.args.steps.now (n + 1) (plan.Step Child test some.ensures.0) next all);
     }
 
 pub paths::step_list-returns-in_err-parents-clause-gives : goal.paths::step_list-returns-in_err-parents-clause-gives
@@ -1313,6 +1333,13 @@ paths::step_list-loop-index-preserved g t c =
           (λ clean inside is_in.
           let s = c.in_ok-left.ensures.gives clean (frame_in_grown i.goes.grows held inside.0) is_in in
           (s.0, ap (λ fr. plan_step_mean p fr (items_at f left) f) (sym (frame_grown i.goes.grows held inside.0)) ∙ s.1))) (ap (λ k. map plan_step_mean (drop k c.args.steps.now)) one);
+      within = subst (λ k. k ≤ length c.args.steps.now) one (omega arith);
+      reads = λ clean all tree h.
+          let w = i.reads (c.next_items.ensures.goes.was_clean clean) all tree h in
+          let scan = element IsScan c.args.steps.now c.loop-index.index p p all (omega arith) c.index-steps-index.is in
+          let before = subst (λ k. HasGrown (g.W.TreeSource.meter c.args.world.now) (g.W.TreeSource.meter c.loop-index.world) (k * rows_of old tree)) (none_taken c.loop-index.is_taken c.loop-index.index c.if-is_taken.false) w.1 in
+          let after = grown_on old f tree c.loop-index.index 1 (c.loop-index.index + 1) i.goes.grows h.has_tree (omega arith) before (once (c.next_items.ensures.reads clean scan tree w.0)) in
+          (c.in_ok-left.ensures.of_tree clean scan tree w.0, subst (λ k. HasGrown (g.W.TreeSource.meter c.args.world.now) (g.W.TreeSource.meter c.next_items.new.world) (k * rows_of old tree)) one after);
     }
 
 pub paths::step_list-returns-in_err-left-clause-gives : goal.paths::step_list-returns-in_err-left-clause-gives
@@ -1335,6 +1362,72 @@ paths::step_list-returns-in_err-left-clause-goes g t c = goes_on_to c.loop-index
 
 pub paths::step_list-returns-clause-goes : goal.paths::step_list-returns-clause-goes
 paths::step_list-returns-clause-goes g t c = c.loop-index.invariant.goes
+
+pub paths::step_list-loop-index-init : goal.paths::step_list-loop-index-init
+paths::step_list-loop-index-init g t c = record {
+  goes = stays _ _;
+  turns = record { rest = λ clean p. (p.1, refl) };
+  within = omega arith;
+  reads = λ clean all tree h. (h, not_grown _ _ _ refl);
+}
+
+pub paths::step_list-returns-in_err-found-clause-reads : goal.paths::step_list-returns-in_err-found-clause-reads
+paths::step_list-returns-in_err-found-clause-reads g t c = λ clean all tree h.
+    let i = c.loop-index.invariant in
+    let old = g.W.TreeSource.forest c.args.world.now in
+    let f = g.W.TreeSource.forest c.loop-index.world in
+    let n = c.loop-index.index in
+    let w = i.reads (c.double_slash.ensures.goes.was_clean clean) all tree h in
+    let d : map item_view c.deref.result.now ≡ item_views c.loop-index.left = ap (map item_view) c.deref.ensures.value in
+    let at = got_at c.args.steps.now (n + 1) (plan_step.Scan Child c.in-Some.test.now) (sym c.at-next.ensures ∙ c.in-Some.ensures) in
+    let before = subst (λ k. HasGrown (g.W.TreeSource.meter c.args.world.now) (g.W.TreeSource.meter c.loop-index.world) (k * rows_of old tree)) (none_taken c.loop-index.is_taken n c.if-is_taken.false) w.1 in
+    grown_on old f tree n 2 (length c.args.steps.now) i.goes.grows h.has_tree (omega (arith, at.0)) before (c.double_slash.ensures.reads clean tree (subst (AreOf f tree) (sym d) w.0))
+
+pub paths::step_list-returns-in_err-parents-clause-reads : goal.paths::step_list-returns-in_err-parents-clause-reads
+paths::step_list-returns-in_err-parents-clause-reads g t c = λ clean all tree h.
+    let some = c.in-Some-chosen_children in
+    absurd (no_each c.args.steps.now (c.loop-index.index + 1) (plan.Step Child some.test.now some.ensures.0) (sym c.at-next.ensures ∙ some.ensures.1) all)
+
+pub paths::step_list-returns-in_err-left-clause-reads : goal.paths::step_list-returns-in_err-left-clause-reads
+paths::step_list-returns-in_err-left-clause-reads g t c = λ clean all tree h.
+    let i = c.loop-index.invariant in
+    let old = g.W.TreeSource.forest c.args.world.now in
+    let f = g.W.TreeSource.forest c.loop-index.world in
+    let n = c.loop-index.index in
+    let p = c.index-steps-index.result in
+    let w = i.reads (c.next_items.ensures.goes.was_clean clean) all tree h in
+    let scan = element IsScan c.args.steps.now n p p all (omega arith) c.index-steps-index.is in
+    let before = subst (λ k. HasGrown (g.W.TreeSource.meter c.args.world.now) (g.W.TreeSource.meter c.loop-index.world) (k * rows_of old tree)) (none_taken c.loop-index.is_taken n c.if-is_taken.false) w.1 in
+    grown_on old f tree n 1 (length c.args.steps.now) i.goes.grows h.has_tree (omega arith) before (once (c.next_items.ensures.reads clean scan tree w.0))
+
+pub paths::step_list-returns-clause-reads : goal.paths::step_list-returns-clause-reads
+paths::step_list-returns-clause-reads g t c = λ clean all tree h.
+    let i = c.loop-index.invariant in
+    grown_more (i.reads clean all tree h).1 (mul-le-mul_right (rows_of (g.W.TreeSource.forest c.args.world.now) tree) i.within)
+
+pub paths::next_items-returns-in_err-only_nodes-in-Each-clause-reads : goal.paths::next_items-returns-in_err-only_nodes-in-Each-clause-reads
+paths::next_items-returns-in_err-only_nodes-in-Each-clause-reads g t c = λ clean scan tree h. absurd (not_each c.args.step.now c.in-Each.part c.in-Each.is scan)
+
+pub paths::next_items-returns-in_err-found-in-Each-clause-reads : goal.paths::next_items-returns-in_err-found-in-Each-clause-reads
+paths::next_items-returns-in_err-found-in-Each-clause-reads g t c = λ clean scan tree h. absurd (not_each c.args.step.now c.in-Each.part c.in-Each.is scan)
+
+pub paths::next_items-returns-in-Each-clause-reads : goal.paths::next_items-returns-in-Each-clause-reads
+paths::next_items-returns-in-Each-clause-reads g t c = λ clean scan tree h. absurd (not_each c.args.step.now c.in-Each.part c.in-Each.is scan)
+
+pub paths::next_items-returns-in-Each-clause-of_tree : goal.paths::next_items-returns-in-Each-clause-of_tree
+paths::next_items-returns-in-Each-clause-of_tree g t c = λ clean scan tree h. absurd (not_each c.args.step.now c.in-Each.part c.in-Each.is scan)
+
+pub paths::next_items-returns-clause-reads : goal.paths::next_items-returns-clause-reads
+paths::next_items-returns-clause-reads g t c = λ clean scan tree h.
+    let f = g.W.TreeSource.forest c.args.world.now in
+    let d : map item_view c.deref-in-Scan.result.now ≡ item_views c.args.items = ap (map item_view) c.deref-in-Scan.ensures.value in
+    c.scan.ensures.reads clean tree (subst (AreOf f tree) (sym d) h)
+
+pub paths::next_items-returns-clause-of_tree : goal.paths::next_items-returns-clause-of_tree
+paths::next_items-returns-clause-of_tree g t c = λ clean scan tree h.
+    let f = g.W.TreeSource.forest c.args.world.now in
+    let d : map item_view c.deref-in-Scan.result.now ≡ item_views c.args.items = ap (map item_view) c.deref-in-Scan.ensures.value in
+    c.scan.ensures.of_tree clean tree (subst (AreOf f tree) (sym d) h)
 
 pub paths::step_list-returns-clause-gives : goal.paths::step_list-returns-clause-gives
 paths::step_list-returns-clause-gives g t c = λ clean inside rest_in.
@@ -1726,6 +1819,9 @@ evaluation::arguments-loop-part-preserved g t c =
           (λ clean inside is_in.
           let s = c.in_ok-lists.ensures.gives clean (frame_in_grown i.goes.grows held inside.0) is_in in
           (s.0, ap (λ fr. one_more (λ (m : Meaning). m fr) (tuple_at f (lists_of c.loop-part.lists)) (plan_mean part) f) (sym (frame_grown i.goes.grows held inside.0)) ∙ s.1));
+      reads = λ clean inside all.
+          c.next_argument.ensures.reads clean (frame_in_grown i.goes.grows held inside) (element IsLiteral c.args.parts.now c.loop-part.part-index part part all (omega arith) c.part-item.is)
+          ∙ i.reads (c.next_argument.ensures.goes.was_clean clean) inside all;
     }
 
 pub evaluation::arguments-returns-in_err-lists-clause-gives : goal.evaluation::arguments-returns-in_err-lists-clause-gives
@@ -1745,6 +1841,54 @@ evaluation::arguments-returns-in_err-lists-clause-goes g t c = goes_on_to c.loop
 
 pub evaluation::arguments-returns-clause-goes : goal.evaluation::arguments-returns-clause-goes
 evaluation::arguments-returns-clause-goes g t c = c.loop-part.invariant.goes
+
+pub evaluation::arguments-loop-part-init : goal.evaluation::arguments-loop-part-init
+evaluation::arguments-loop-part-init g t c = record {
+  goes = stays _ _;
+  turns = record { rest = λ clean p. (p.1, refl) };
+  reads = λ clean inside all. refl;
+}
+
+pub evaluation::arguments-returns-in_err-lists-clause-reads : goal.evaluation::arguments-returns-in_err-lists-clause-reads
+evaluation::arguments-returns-in_err-lists-clause-reads g t c = λ clean inside all.
+    let i = c.loop-part.invariant in
+    let part = c.part-item.result in
+    c.next_argument.ensures.reads clean (frame_in_grown i.goes.grows c.args.frame inside) (element IsLiteral c.args.parts.now c.loop-part.part-index part part all (omega arith) c.part-item.is)
+    ∙ i.reads (c.next_argument.ensures.goes.was_clean clean) inside all
+
+pub evaluation::arguments-returns-clause-reads : goal.evaluation::arguments-returns-clause-reads
+evaluation::arguments-returns-clause-reads g t c = c.loop-part.invariant.reads
+
+pub evaluation::next_argument-returns-in_err-list-clause-reads : goal.evaluation::next_argument-returns-in_err-list-clause-reads
+evaluation::next_argument-returns-in_err-list-clause-reads g t c = λ clean inside literal. (c.evaluate.ensures.reads clean inside).literal literal
+
+pub evaluation::next_argument-returns-in_err-push-clause-reads : goal.evaluation::next_argument-returns-in_err-push-clause-reads
+evaluation::next_argument-returns-in_err-push-clause-reads g t c = λ clean inside literal. (c.evaluate.ensures.reads clean inside).literal literal
+
+pub evaluation::next_argument-returns-clause-reads : goal.evaluation::next_argument-returns-clause-reads
+evaluation::next_argument-returns-clause-reads g t c = λ clean inside literal. (c.evaluate.ensures.reads clean inside).literal literal
+
+pub evaluation::called-returns-in_err-items-clause-reads : goal.evaluation::called-returns-in_err-items-clause-reads
+evaluation::called-returns-in_err-items-clause-reads g t c = λ clean inside doc text is. refl
+
+pub evaluation::called-returns-in-Some-clause-reads : goal.evaluation::called-returns-in-Some-clause-reads
+evaluation::called-returns-in-Some-clause-reads g t c = λ clean inside doc text is. refl
+
+pub evaluation::called-returns-in_err-values-clause-reads : goal.evaluation::called-returns-in_err-values-clause-reads
+evaluation::called-returns-in_err-values-clause-reads g t c = λ clean inside doc text is.
+    c.arguments.ensures.reads clean inside (subst (AllByRecursion IsLiteral) (sym is) ((text, refl), tt))
+
+pub evaluation::called-returns-clause-reads : goal.evaluation::called-returns-clause-reads
+evaluation::called-returns-clause-reads g t c = λ clean inside doc text is.
+    let f = g.W.TreeSource.forest c.args.world.now in
+    let frame = frame_at f c.args.frame in
+    let f' = g.W.TreeSource.forest c.arguments.new.world in
+    let was = c.call.ensures.goes.was_clean clean in
+    let none : lists_of c.new.result ≡ [] = ap (map item_views) c.new.ensures.items in
+    let all = λ (done : Tuple ItemView) (parts : List Plan). in_turn (one_more (λ (part : Meaning). part frame)) (tuple_at f done) (map plan_mean parts) f in
+    let values = c.in_ok-values.ensures.gives was inside (subst (TupleIn f) (sym none) tt) in
+    let one = literal_value frame f f' text (lists_of c.in_ok-values.values) (sym (ap (λ done. all done c.args.parts.now) none ∙ ap (all []) is) ∙ values.1) in
+    c.call.ensures.reads doc one.xs one.is one.all ∙ c.arguments.ensures.reads was inside (subst (AllByRecursion IsLiteral) (sym is) ((text, refl), tt))
 
 pub evaluation::arguments-returns-clause-gives : goal.evaluation::arguments-returns-clause-gives
 evaluation::arguments-returns-clause-gives g t c = λ clean inside done_in.
@@ -2642,3 +2786,172 @@ clauses::next_tuples-returns-in_err-number-in-Count-clause-goes g t c = stays _ 
 
 pub clauses::next_tuples-returns-in_ok-number-in-Count-clause-goes : goal.clauses::next_tuples-returns-in_ok-number-in-Count-clause-goes
 clauses::next_tuples-returns-in_ok-number-in-Count-clause-goes g t c = stays _ _
+
+pub evaluation::evaluate-returns-in_err-single-in-Int-clause-reads : goal.evaluation::evaluate-returns-in_err-single-in-Int-clause-reads
+evaluation::evaluate-returns-in_err-single-in-Int-clause-reads g t c = λ clean inside. other_form _ _ _ _ _ (ap out-Plan c.in-Int.is ∙ plan.outs-Int _) tt
+
+pub evaluation::evaluate-returns-in-Int-clause-reads : goal.evaluation::evaluate-returns-in-Int-clause-reads
+evaluation::evaluate-returns-in-Int-clause-reads g t c = λ clean inside. other_form _ _ _ _ _ (ap out-Plan c.in-Int.is ∙ plan.outs-Int _) tt
+
+pub evaluation::evaluate-returns-in_err-single-in-Dec-clause-reads : goal.evaluation::evaluate-returns-in_err-single-in-Dec-clause-reads
+evaluation::evaluate-returns-in_err-single-in-Dec-clause-reads g t c = λ clean inside. other_form _ _ _ _ _ (ap out-Plan c.in-Dec.is ∙ plan.outs-Dec _) tt
+
+pub evaluation::evaluate-returns-in-Dec-clause-reads : goal.evaluation::evaluate-returns-in-Dec-clause-reads
+evaluation::evaluate-returns-in-Dec-clause-reads g t c = λ clean inside. other_form _ _ _ _ _ (ap out-Plan c.in-Dec.is ∙ plan.outs-Dec _) tt
+
+pub evaluation::evaluate-returns-in_err-slot-in-Slot-clause-reads : goal.evaluation::evaluate-returns-in_err-slot-in-Slot-clause-reads
+evaluation::evaluate-returns-in_err-slot-in-Slot-clause-reads g t c = λ clean inside. other_form _ _ _ _ _ (ap out-Plan c.in-Slot.is ∙ plan.outs-Slot _) tt
+
+pub evaluation::evaluate-returns-in-Slot-clause-reads : goal.evaluation::evaluate-returns-in-Slot-clause-reads
+evaluation::evaluate-returns-in-Slot-clause-reads g t c = λ clean inside. other_form _ _ _ _ _ (ap out-Plan c.in-Slot.is ∙ plan.outs-Slot _) tt
+
+pub evaluation::evaluate-returns-in-ContextItem-clause-reads : goal.evaluation::evaluate-returns-in-ContextItem-clause-reads
+evaluation::evaluate-returns-in-ContextItem-clause-reads g t c = λ clean inside. other_form _ _ _ _ _ (ap out-Plan c.in-ContextItem.is ∙ plan.outs-ContextItem) tt
+
+pub evaluation::evaluate-returns-in-Sequence-clause-reads : goal.evaluation::evaluate-returns-in-Sequence-clause-reads
+evaluation::evaluate-returns-in-Sequence-clause-reads g t c = λ clean inside. other_form _ _ _ _ _ (ap out-Plan c.in-Sequence.is ∙ plan.outs-Sequence _) tt
+
+pub evaluation::evaluate-returns-in_err-left-in-Chain-clause-reads : goal.evaluation::evaluate-returns-in_err-left-in-Chain-clause-reads
+evaluation::evaluate-returns-in_err-left-in-Chain-clause-reads g t c = λ clean inside. other_form _ _ _ _ _ (ap out-Plan c.in-Chain.is ∙ plan.outs-Chain _ _) tt
+
+pub evaluation::evaluate-returns-in-Chain-clause-reads : goal.evaluation::evaluate-returns-in-Chain-clause-reads
+evaluation::evaluate-returns-in-Chain-clause-reads g t c = λ clean inside. other_form _ _ _ _ _ (ap out-Plan c.in-Chain.is ∙ plan.outs-Chain _ _) tt
+
+pub evaluation::evaluate-returns-in_err-items-in-Unary-clause-reads : goal.evaluation::evaluate-returns-in_err-items-in-Unary-clause-reads
+evaluation::evaluate-returns-in_err-items-in-Unary-clause-reads g t c = λ clean inside. other_form _ _ _ _ _ (ap out-Plan c.in-Unary.is ∙ plan.outs-Unary _ _) tt
+
+pub evaluation::evaluate-returns-in-Unary-clause-reads : goal.evaluation::evaluate-returns-in-Unary-clause-reads
+evaluation::evaluate-returns-in-Unary-clause-reads g t c = λ clean inside. other_form _ _ _ _ _ (ap out-Plan c.in-Unary.is ∙ plan.outs-Unary _ _) tt
+
+pub evaluation::evaluate-returns-in_err-value-in-If-clause-reads : goal.evaluation::evaluate-returns-in_err-value-in-If-clause-reads
+evaluation::evaluate-returns-in_err-value-in-If-clause-reads g t c = λ clean inside. other_form _ _ _ _ _ (ap out-Plan c.in-If.is ∙ plan.outs-If _ _ _) tt
+
+pub evaluation::evaluate-returns-in_err-effective-in-If-clause-reads : goal.evaluation::evaluate-returns-in_err-effective-in-If-clause-reads
+evaluation::evaluate-returns-in_err-effective-in-If-clause-reads g t c = λ clean inside. other_form _ _ _ _ _ (ap out-Plan c.in-If.is ∙ plan.outs-If _ _ _) tt
+
+pub evaluation::evaluate-returns-then-branch-clause-reads : goal.evaluation::evaluate-returns-then-branch-clause-reads
+evaluation::evaluate-returns-then-branch-clause-reads g t c = λ clean inside. other_form _ _ _ _ _ (ap out-Plan c.in-If.is ∙ plan.outs-If _ _ _) tt
+
+pub evaluation::evaluate-returns-in-If-clause-reads : goal.evaluation::evaluate-returns-in-If-clause-reads
+evaluation::evaluate-returns-in-If-clause-reads g t c = λ clean inside. other_form _ _ _ _ _ (ap out-Plan c.in-If.is ∙ plan.outs-If _ _ _) tt
+
+pub evaluation::evaluate-returns-in_err-answer-in-Or-clause-reads : goal.evaluation::evaluate-returns-in_err-answer-in-Or-clause-reads
+evaluation::evaluate-returns-in_err-answer-in-Or-clause-reads g t c = λ clean inside. other_form _ _ _ _ _ (ap out-Plan c.in-Or.is ∙ plan.outs-Or _) tt
+
+pub evaluation::evaluate-returns-in_err-single-in-Or-clause-reads : goal.evaluation::evaluate-returns-in_err-single-in-Or-clause-reads
+evaluation::evaluate-returns-in_err-single-in-Or-clause-reads g t c = λ clean inside. other_form _ _ _ _ _ (ap out-Plan c.in-Or.is ∙ plan.outs-Or _) tt
+
+pub evaluation::evaluate-returns-in-Or-clause-reads : goal.evaluation::evaluate-returns-in-Or-clause-reads
+evaluation::evaluate-returns-in-Or-clause-reads g t c = λ clean inside. other_form _ _ _ _ _ (ap out-Plan c.in-Or.is ∙ plan.outs-Or _) tt
+
+pub evaluation::evaluate-returns-in_err-answer-in-And-clause-reads : goal.evaluation::evaluate-returns-in_err-answer-in-And-clause-reads
+evaluation::evaluate-returns-in_err-answer-in-And-clause-reads g t c = λ clean inside. other_form _ _ _ _ _ (ap out-Plan c.in-And.is ∙ plan.outs-And _) tt
+
+pub evaluation::evaluate-returns-in_err-single-in-And-clause-reads : goal.evaluation::evaluate-returns-in_err-single-in-And-clause-reads
+evaluation::evaluate-returns-in_err-single-in-And-clause-reads g t c = λ clean inside. other_form _ _ _ _ _ (ap out-Plan c.in-And.is ∙ plan.outs-And _) tt
+
+pub evaluation::evaluate-returns-in-And-clause-reads : goal.evaluation::evaluate-returns-in-And-clause-reads
+evaluation::evaluate-returns-in-And-clause-reads g t c = λ clean inside. other_form _ _ _ _ _ (ap out-Plan c.in-And.is ∙ plan.outs-And _) tt
+
+pub evaluation::evaluate-returns-in_err-items-in-Filter-clause-reads : goal.evaluation::evaluate-returns-in_err-items-in-Filter-clause-reads
+evaluation::evaluate-returns-in_err-items-in-Filter-clause-reads g t c = λ clean inside. other_form _ _ _ _ _ (ap out-Plan c.in-Filter.is ∙ plan.outs-Filter _ _) tt
+
+pub evaluation::evaluate-returns-in-Filter-clause-reads : goal.evaluation::evaluate-returns-in-Filter-clause-reads
+evaluation::evaluate-returns-in-Filter-clause-reads g t c = λ clean inside. other_form _ _ _ _ _ (ap out-Plan c.in-Filter.is ∙ plan.outs-Filter _ _) tt
+
+pub evaluation::evaluate-returns-in_err-tuples-in-Flwor-clause-reads : goal.evaluation::evaluate-returns-in_err-tuples-in-Flwor-clause-reads
+evaluation::evaluate-returns-in_err-tuples-in-Flwor-clause-reads g t c = λ clean inside. other_form _ _ _ _ _ (ap out-Plan c.in-Flwor.is ∙ plan.outs-Flwor _ _) tt
+
+pub evaluation::evaluate-returns-in_err-lists-in-Flwor-clause-reads : goal.evaluation::evaluate-returns-in_err-lists-in-Flwor-clause-reads
+evaluation::evaluate-returns-in_err-lists-in-Flwor-clause-reads g t c = λ clean inside. other_form _ _ _ _ _ (ap out-Plan c.in-Flwor.is ∙ plan.outs-Flwor _ _) tt
+
+pub evaluation::evaluate-returns-in_err-concatenated-in-Flwor-clause-reads : goal.evaluation::evaluate-returns-in_err-concatenated-in-Flwor-clause-reads
+evaluation::evaluate-returns-in_err-concatenated-in-Flwor-clause-reads g t c = λ clean inside. other_form _ _ _ _ _ (ap out-Plan c.in-Flwor.is ∙ plan.outs-Flwor _ _) tt
+
+pub evaluation::evaluate-returns-in-Flwor-clause-reads : goal.evaluation::evaluate-returns-in-Flwor-clause-reads
+evaluation::evaluate-returns-in-Flwor-clause-reads g t c = λ clean inside. other_form _ _ _ _ _ (ap out-Plan c.in-Flwor.is ∙ plan.outs-Flwor _ _) tt
+
+pub evaluation::evaluate-returns-in-Root-clause-reads : goal.evaluation::evaluate-returns-in-Root-clause-reads
+evaluation::evaluate-returns-in-Root-clause-reads g t c = λ clean inside. other_form _ _ _ _ _ (ap out-Plan c.in-Root.is ∙ plan.outs-Root) tt
+
+pub evaluation::evaluate-returns-in_err-nodes-in-Step-clause-reads : goal.evaluation::evaluate-returns-in_err-nodes-in-Step-clause-reads
+evaluation::evaluate-returns-in_err-nodes-in-Step-clause-reads g t c = λ clean inside. other_form _ _ _ _ _ (ap out-Plan c.in-Step.is ∙ plan.outs-Step _ _ _) tt
+
+pub evaluation::evaluate-returns-in_err-kept-in-Step-clause-reads : goal.evaluation::evaluate-returns-in_err-kept-in-Step-clause-reads
+evaluation::evaluate-returns-in_err-kept-in-Step-clause-reads g t c = λ clean inside. other_form _ _ _ _ _ (ap out-Plan c.in-Step.is ∙ plan.outs-Step _ _ _) tt
+
+pub evaluation::evaluate-returns-in-Step-clause-reads : goal.evaluation::evaluate-returns-in-Step-clause-reads
+evaluation::evaluate-returns-in-Step-clause-reads g t c = λ clean inside. other_form _ _ _ _ _ (ap out-Plan c.in-Step.is ∙ plan.outs-Step _ _ _) tt
+
+pub evaluation::evaluate-returns-in_err-value-in-Named-clause-reads : goal.evaluation::evaluate-returns-in_err-value-in-Named-clause-reads
+evaluation::evaluate-returns-in_err-value-in-Named-clause-reads g t c = λ clean inside. other_form _ _ _ _ _ (ap out-Plan c.in-Named.is ∙ plan.outs-Named _ _ _) tt
+
+pub evaluation::evaluate-returns-in_err-name-in-Named-clause-reads : goal.evaluation::evaluate-returns-in_err-name-in-Named-clause-reads
+evaluation::evaluate-returns-in_err-name-in-Named-clause-reads g t c = λ clean inside. other_form _ _ _ _ _ (ap out-Plan c.in-Named.is ∙ plan.outs-Named _ _ _) tt
+
+pub evaluation::evaluate-returns-in_err-content-in-Named-clause-reads : goal.evaluation::evaluate-returns-in_err-content-in-Named-clause-reads
+evaluation::evaluate-returns-in_err-content-in-Named-clause-reads g t c = λ clean inside. other_form _ _ _ _ _ (ap out-Plan c.in-Named.is ∙ plan.outs-Named _ _ _) tt
+
+pub evaluation::evaluate-returns-in-Named-clause-reads : goal.evaluation::evaluate-returns-in-Named-clause-reads
+evaluation::evaluate-returns-in-Named-clause-reads g t c = λ clean inside. other_form _ _ _ _ _ (ap out-Plan c.in-Named.is ∙ plan.outs-Named _ _ _) tt
+
+pub evaluation::evaluate-returns-in_err-content-in-Unnamed-clause-reads : goal.evaluation::evaluate-returns-in_err-content-in-Unnamed-clause-reads
+evaluation::evaluate-returns-in_err-content-in-Unnamed-clause-reads g t c = λ clean inside. other_form _ _ _ _ _ (ap out-Plan c.in-Unnamed.is ∙ plan.outs-Unnamed _ _) tt
+
+pub evaluation::evaluate-returns-in-Unnamed-clause-reads : goal.evaluation::evaluate-returns-in-Unnamed-clause-reads
+evaluation::evaluate-returns-in-Unnamed-clause-reads g t c = λ clean inside. other_form _ _ _ _ _ (ap out-Plan c.in-Unnamed.is ∙ plan.outs-Unnamed _ _) tt
+
+pub evaluation::evaluate-returns-in_err-items-in-Arrow-clause-reads : goal.evaluation::evaluate-returns-in_err-items-in-Arrow-clause-reads
+evaluation::evaluate-returns-in_err-items-in-Arrow-clause-reads g t c = λ clean inside. other_form _ _ _ _ _ (ap out-Plan c.in-Arrow.is ∙ plan.outs-Arrow _ _) tt
+
+pub evaluation::evaluate-returns-in-Arrow-clause-reads : goal.evaluation::evaluate-returns-in-Arrow-clause-reads
+evaluation::evaluate-returns-in-Arrow-clause-reads g t c = λ clean inside. other_form _ _ _ _ _ (ap out-Plan c.in-Arrow.is ∙ plan.outs-Arrow _ _) tt
+
+pub evaluation::evaluate-returns-in_err-items-in-Map-clause-reads : goal.evaluation::evaluate-returns-in_err-items-in-Map-clause-reads
+evaluation::evaluate-returns-in_err-items-in-Map-clause-reads g t c = λ clean inside. other_form _ _ _ _ _ (ap out-Plan c.in-Map.is ∙ plan.outs-Map _ _) tt
+
+pub evaluation::evaluate-returns-in-Map-clause-reads : goal.evaluation::evaluate-returns-in-Map-clause-reads
+evaluation::evaluate-returns-in-Map-clause-reads g t c = λ clean inside. other_form _ _ _ _ _ (ap out-Plan c.in-Map.is ∙ plan.outs-Map _ _) tt
+
+pub evaluation::evaluate-returns-in_err-answer-in-Quantified-clause-reads : goal.evaluation::evaluate-returns-in_err-answer-in-Quantified-clause-reads
+evaluation::evaluate-returns-in_err-answer-in-Quantified-clause-reads g t c = λ clean inside. other_form _ _ _ _ _ (ap out-Plan c.in-Quantified.is ∙ plan.outs-Quantified _ _ _) tt
+
+pub evaluation::evaluate-returns-in_err-single-in-Quantified-clause-reads : goal.evaluation::evaluate-returns-in_err-single-in-Quantified-clause-reads
+evaluation::evaluate-returns-in_err-single-in-Quantified-clause-reads g t c = λ clean inside. other_form _ _ _ _ _ (ap out-Plan c.in-Quantified.is ∙ plan.outs-Quantified _ _ _) tt
+
+pub evaluation::evaluate-returns-clause-reads : goal.evaluation::evaluate-returns-clause-reads
+evaluation::evaluate-returns-clause-reads g t c = λ clean inside. other_form _ _ _ _ _ (ap out-Plan c.in-Quantified.is ∙ plan.outs-Quantified _ _ _) tt
+
+pub evaluation::evaluate-returns-in_err-text-in-Str-clause-reads : goal.evaluation::evaluate-returns-in_err-text-in-Str-clause-reads
+evaluation::evaluate-returns-in_err-text-in-Str-clause-reads g t c = λ clean inside. literal_scans _ _ _ _ _ (ap out-Plan c.in-Str.is ∙ plan.outs-Str _) refl
+
+pub evaluation::evaluate-returns-in_err-single-in-Str-clause-reads : goal.evaluation::evaluate-returns-in_err-single-in-Str-clause-reads
+evaluation::evaluate-returns-in_err-single-in-Str-clause-reads g t c = λ clean inside. literal_scans _ _ _ _ _ (ap out-Plan c.in-Str.is ∙ plan.outs-Str _) refl
+
+pub evaluation::evaluate-returns-in-Str-clause-reads : goal.evaluation::evaluate-returns-in-Str-clause-reads
+evaluation::evaluate-returns-in-Str-clause-reads g t c = λ clean inside. literal_scans _ _ _ _ _ (ap out-Plan c.in-Str.is ∙ plan.outs-Str _) refl
+
+pub evaluation::evaluate-returns-in-Call-clause-reads : goal.evaluation::evaluate-returns-in-Call-clause-reads
+evaluation::evaluate-returns-in-Call-clause-reads g t c = λ clean inside. call_scans _ _ _ _ _ (ap out-Plan c.in-Call.is ∙ plan.outs-Call _ _) (λ doc text parts. c.called.ensures.reads clean inside doc text (c.as_slice-in-Call.ensures ∙ parts))
+
+pub evaluation::evaluate-returns-in_err-items-in-Path-clause-reads : goal.evaluation::evaluate-returns-in_err-items-in-Path-clause-reads
+evaluation::evaluate-returns-in_err-items-in-Path-clause-reads g t c = λ clean inside.
+    path_scans _ _ _ _ _ (ap out-Plan c.in-Path.is ∙ plan.outs-Path _ _)
+    (λ address steps start parts. not_grown _ _ _ ((c.evaluate-in-Path.ensures.reads clean inside).document (address, c.get-in-Path.ensures ∙ start)))
+
+pub evaluation::evaluate-returns-in-Path-clause-reads : goal.evaluation::evaluate-returns-in-Path-clause-reads
+evaluation::evaluate-returns-in-Path-clause-reads g t c = λ clean inside.
+    let f = g.W.TreeSource.forest c.args.world.now in
+    let frame = frame_at f c.args.frame in
+    let f' = g.W.TreeSource.forest c.evaluate-in-Path.new.world in
+    let was = c.step_list.ensures.goes.was_clean clean in
+    let first = c.in_ok-items-in-Path.ensures.gives was inside in
+    path_scans _ _ _ _ _ (ap out-Plan c.in-Path.is ∙ plan.outs-Path _ _)
+    (λ address steps start parts.
+    let is = c.get-in-Path.ensures ∙ start in
+    let it = document_value frame f f' address (item_views c.in_ok-items-in-Path.items) inside.addresses_in first.0 (ap (λ p. plan_mean p frame f) (sym is) ∙ first.1) in
+    let scans = c.as_slice-in-Path.ensures ∙ parts in
+    let read = c.step_list.ensures.reads clean (subst (AllByRecursion IsScan) (sym scans) (are_scans steps)) it.0.number it.0.are in
+    let most : length c.as_slice-in-Path.result.now * rows_of f' it.0.number ≡ length steps * rows_at address frame.addresses f =
+    ap (λ n. n * rows_of f' it.0.number) (ap length scans ∙ length-map steps _) ∙ ap (λ r. length steps * r) (sym it.0.rows) ∙ ap (λ trees. length steps * rows_at address frame.addresses trees) (sym it.1) in
+    grown_from ((c.in_ok-items-in-Path.ensures.reads was inside).document (address, is)) (subst (HasGrown (g.W.TreeSource.meter c.evaluate-in-Path.new.world) (g.W.TreeSource.meter c.step_list.new.world)) most read))

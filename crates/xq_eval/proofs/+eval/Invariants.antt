@@ -1,5 +1,6 @@
-use Rattle.std.proofs.Common.{◌≡◌, ◌≤◌, ◌^◌, [], ◌∷◌, ◌++◌, map, take, drop, suc, length, ◌+◌, ◌*◌}
+use Rattle.std.proofs.Common.{◌≡◌, ℕ, ◌≤◌, ◌^◌, [], ◌∷◌, ◌++◌, map, take, drop, suc, length, ◌+◌, ◌*◌}
 use Rattle.std.specs.Prelude.{if◌then◌else◌}
+use Rattle.std.specs.List.{AllByRecursion}
 use Rattle.xq_regions.specs.Items.{item_view, item_views}
 use Rattle.xq_meaning.specs.Doing.{in_turn, more, one_more, for_each, collected, first_that}
 use Rattle.xq_meaning.specs.Forms as Forms
@@ -8,10 +9,12 @@ use Rattle.xq_meaning.specs.Functions.{Focus as Spot}
 use Rattle.xq_meaning.specs.Steps.{focuses, focuses_from}
 use Rattle.xq_meaning.specs.Readings.{items_at, AreIn}
 use Rattle.xq_forms.specs.Views.{tuple_at, tuples_at, lists_of, order_specs, frame_at, FrameIn, TupleIn, TuplesIn, Goes}
+use Rattle.xq_forms.specs.Reads.{rows_of, AreOf, HasGrown}
 use Rattle.xq_tuples.specs.Keys.{column_of, columns_of}
 use Rattle.xq_tuples.specs.Views.{values_of}
 use Rattle.xq_eval.specs.private.Bindings.{stack_of}
 use Rattle.xq_eval.specs.private.Keys.{keys_at}
+use Rattle.xq_eval.specs.private.Scanning.{IsLiteral, IsScan}
 use Rattle.xq_eval.specs.private.Quantifying.{holds, resumed, weigh, all_weigh}
 use Rattle.xq_eval.proofs.Loops.{Turns, Tries}
 use Rattle.xq_eval.proofs.Steps.{same_tests, any_tests}
@@ -134,6 +137,8 @@ invariant-paths::step_list-loop-index g l =
     record {
       goes : Goes old now (g.W.TreeSource.is_clean l.fn.world) clean;
       turns : Turns items_at AreIn (next_step frame) (inside × AreIn old (item_views l.fn.items)) clean (item_views l.left) (map plan_step_mean (drop (l.index + (if l.is_taken then 1 else 0)) l.steps)) now (in_turn (next_step frame) (items_at old (item_views l.fn.items)) (map plan_step_mean l.steps) old);
+      within : l.index + (if l.is_taken then 1 else 0) ≤ length l.steps;
+      reads : clean → AllByRecursion IsScan l.steps → (tree : ℕ) → AreOf old tree (item_views l.fn.items) → AreOf now tree (item_views l.left) × HasGrown (g.W.TreeSource.meter l.fn.world) (g.W.TreeSource.meter l.world) ((l.index + (if l.is_taken then 1 else 0)) * rows_of old tree);
     }
 
 abbrev pub invariant-paths::each-loop-index : goal.invariant-paths::each-loop-index
@@ -168,6 +173,7 @@ invariant-evaluation::arguments-loop-part g l =
     record {
       goes : Goes old now (g.W.TreeSource.is_clean l.fn.world) (g.W.TreeSource.is_clean l.world);
       turns : Turns tuple_at TupleIn (one_more (λ (part : Meaning). part frame)) (FrameIn old l.frame × TupleIn old (lists_of l.fn.done)) (g.W.TreeSource.is_clean l.world) (lists_of l.lists) (map plan_mean (drop l.part-index l.parts)) now (in_turn (one_more (λ (part : Meaning). part frame)) (tuple_at old (lists_of l.fn.done)) (map plan_mean l.parts) old);
+      reads : g.W.TreeSource.is_clean l.world → FrameIn old l.frame → AllByRecursion IsLiteral l.parts → g.W.TreeSource.meter l.world ≡ g.W.TreeSource.meter l.fn.world;
     }
 
 abbrev pub invariant-clauses::key_rows-loop-index : goal.invariant-clauses::key_rows-loop-index
