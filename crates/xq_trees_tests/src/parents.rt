@@ -4,7 +4,7 @@ use std::alloc::{AllocError, Global};
 use std::process::Abort;
 use xq_atoms::Want;
 use xq_regions::{Fragment, Kind, NodeRow};
-use xq_sources::{Fragments, RowLender};
+use xq_sources::{Fragments, RowLender, RowSource};
 
 /// Adds an element of this level.
 fn push(alloc: Global, rows: &mut Vec<NodeRow>, level: u32) -> Result<(), AllocError> {
