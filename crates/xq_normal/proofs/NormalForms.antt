@@ -1,8 +1,9 @@
 -- Each form in its normal form means what it means: one lemma a form that is not the same in both.
-use Rattle.std.proofs.Common.{◌≡◌, List, [], ◌∷◌, ◌++◌, map, Option, refl, sym, ap, ◌∙◌}
+use Rattle.std.proofs.Common.{◌≡◌, ℕ, ◌+◌, ◌<◌, List, [], ◌∷◌, ◌++◌, map, take, length, get_or, Option, refl, sym, ap, ◌∙◌}
 use Rattle.std.proofs.lemmas.Simd.{map-map}
 use Rattle.std.specs.List.{flat_map}
-use Rattle.std.proofs.lemmas.List.{map-append}
+use Rattle.std.proofs.lemmas.List.{map-append, append-nil}
+use Rattle.std.proofs.lemmas.Grind.{flat_map-append}
 use Rattle.std.proofs.lemmas.List.Folds.{flat_map-map}
 use Rattle.xq_expressions.specs.declared.expressions.Expr.{Expr}
 use Rattle.xq_expressions.specs.declared.expressions.Expr.TheVariants as e
@@ -25,11 +26,12 @@ use Rattle.xq_meaning.specs.declared.normal_forms.CoreClause.{CoreClause}
 use Rattle.xq_meaning.specs.declared.normal_forms.CoreClause.TheVariants as k
 use Rattle.xq_meaning.specs.Doing.{go_on}
 use Rattle.xq_meaning.specs.Forms
-use Rattle.xq_meaning.specs.Meaning.{Meaning, ClauseMeaning, bind, first_stream, at_tuple, arrow, clauses, for_clause, let_clause, order_clause, group_clause, group_by, local_name, later_parts, path_from, joined_by, mean, clause_mean, group_mean, step_mean}
+use Rattle.xq_meaning.specs.Meaning.{Meaning, ClauseMeaning, bind, after, first_stream, at_tuple, arrow, clauses, for_clause, let_clause, order_clause, group_clause, group_by, local_name, later_parts, path_from, joined_by, mean, clause_mean, group_mean, step_mean}
 use Rattle.xq_meaning.specs.CoreMeaning.{core_mean, core_clause_mean}
 use Rattle.xq_meaning.proofs.Equations as mean
 use Rattle.xq_meaning.proofs.CoreEquations as core
 use Rattle.xq_normal.specs.private.Parts as parts
+use Rattle.xq_normal.proofs.Lists.{take_next}
 
 -- # Chains
 
@@ -130,3 +132,16 @@ pub path_is : (expr : Expr) (start : PathStart) (first : Step) (more : List (Sep
 path_is expr start first more first' later is same h =
     (λ i. parts.path_from start (same i) (h i)) ∙ path_from_is start (step_mean first) (parts.steps more)
     ∙ sym (ap mean is ∙ mean.mean-Path start first more)
+
+-- one step more after a separator
+pub steps_next : (all : List (Separator × Step)) (i : ℕ) (done done' : List Core) (x : Core) (y : Separator × Step) →
+    map core_mean done ≡ later_parts (parts.steps (take i all)) → i < length all → y ≡ get_or all i y →
+    map core_mean done' ≡ map core_mean done ++ after y.0 (core_mean x) → core_mean x ≡ step_mean y.1 →
+    map core_mean done' ≡ later_parts (parts.steps (take (i + 1) all))
+steps_next all i done done' x y so_far h is made same =
+    let to : Separator × Step → Separator × Meaning = λ s. (s.0, step_mean s.1) in
+    made ∙ (λ j. so_far j ++ after y.0 (same j))
+    ∙ ap (λ l. later_parts (parts.steps (take i all)) ++ l) (sym (append-nil (after y.0 (step_mean y.1))))
+    ∙ sym (flat_map-append (λ (s : Separator × Meaning). after s.0 s.1) (parts.steps (take i all)) (to y ∷ []))
+    ∙ ap later_parts (sym (map-append to (take i all) (y ∷ [])))
+    ∙ ap (λ l. later_parts (parts.steps l)) (sym (take_next all i y h is))

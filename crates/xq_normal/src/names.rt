@@ -2,7 +2,8 @@
 ghost use Rattle.std.specs.Prelude.{◌≡◌, IfOk};
 ghost use Rattle.xq_expressions.specs.Signatures as signatures;
 ghost use Rattle.xq_meaning.specs.Meaning as meaning;
-ghost use Rattle.xq_normal.specs.private.Parts.{admitted, written_out};
+ghost use Rattle.xq_normal.specs.DocumentPaths.{written_out};
+ghost use Rattle.xq_normal.specs.private.Parts.{admitted};
 
 use std::alloc::{AllocError, Global};
 use xq_expressions::{AxisName, AxisStep, Function, NodeTest, QName, Text};

@@ -1,10 +1,13 @@
 //! The normal form of each form of expression.
-ghost use Rattle.std.specs.Prelude.{◌≡◌, ◌∷◌, ◌++◌, IfOk, OnOk, List, map};
+ghost use Rattle.std.specs.Prelude.{◌≡◌, [], ◌∷◌, ◌++◌, IfOk, OnOk, List, map};
+ghost use Rattle.xq_expressions.specs.declared.operators.PathStart.TheVariants.{Relative};
+ghost use Rattle.xq_expressions.specs.declared.operators.Separator.TheVariants.{Slash};
 ghost use Rattle.xq_meaning.specs.declared.operators.Operator.TheVariants as operator;
 ghost use Rattle.xq_meaning.specs.Meaning as meaning;
 ghost use Rattle.xq_meaning.specs.Meaning.{mean, name_mean, clause_mean, group_mean, step_mean};
 ghost use Rattle.xq_meaning.specs.CoreMeaning.{core_mean, core_clause_mean};
 ghost use Rattle.xq_normal.specs.private.Parts as parts;
+ghost use Rattle.xq_normal.specs.private.Shapes as shapes;
 
 use crate::names::{axis_step, called, local, text};
 use sqlite_items::{Boxed, Items};
@@ -19,7 +22,8 @@ use xq_regions::Axis;
 /// The normal form of an expression.
 #[cycle(normal)]
 pub fn expression(alloc: Global, expr: &Expr) -> Result<Core, AllocError>
-    ensures { IfOk result (λ core. core_mean core ≡ mean expr.now) }
+    ensures same { IfOk result (λ core. core_mean core ≡ mean expr.now) }
+    ensures shape { IfOk result (λ core. shapes.HasShape expr.now core) }
 {
     match expr {
         Expr::Root => Ok(Core::Root),
@@ -109,7 +113,8 @@ fn boxed(alloc: Global, expr: &Expr) -> Result<Boxed<Core>, AllocError>
 /// The normal form of each expression.
 #[cycle(normal)]
 fn expressions(alloc: Global, exprs: &[Expr]) -> Result<Items<Core>, AllocError>
-    ensures { IfOk result (λ cores. map core_mean cores ≡ map mean exprs.now) }
+    ensures same { IfOk result (λ cores. map core_mean cores ≡ map mean exprs.now) }
+    ensures literals { IfOk result (λ cores. shapes.StayLiterals exprs.now cores) }
 {
     let mut cores = Items::new(alloc);
     for expr in exprs {
@@ -217,8 +222,9 @@ fn set_operands(
 /// refused when it is evaluated, before its arguments.
 #[cycle(normal)]
 fn call(alloc: Global, name: &QName, arguments: &[Expr]) -> Result<Core, AllocError>
-    ensures { IfOk result
+    ensures same { IfOk result
         (λ core. core_mean core ≡ meaning.call_named name.now (map mean arguments.now)) }
+    ensures shape { IfOk result (λ core. shapes.StaysCall name.now arguments.now core) }
 {
     match called(name, arguments.len()) {
         Some(function) => Ok(Core::Call(function, expressions(alloc, arguments)?)),
@@ -310,8 +316,10 @@ fn path(
     first: Core,
     later: Items<Core>,
 ) -> Result<Core, AllocError>
-    ensures { IfOk result (λ core. core_mean core
+    ensures same { IfOk result (λ core. core_mean core
         ≡ parts.path_from start (core_mean first) (map core_mean later)) }
+    ensures relative { IfOk result
+        (λ core. start ≡ Relative → shapes.GoesOn first later core) }
 {
     match start {
         PathStart::Relative => path_along(alloc, first, later),
@@ -338,8 +346,9 @@ fn rooted(
 
 /// A start, and what follows each slash; a start alone is itself.
 fn path_along(alloc: Global, start: Core, found: Items<Core>) -> Result<Core, AllocError>
-    ensures { IfOk result
+    ensures same { IfOk result
         (λ core. core_mean core ≡ parts.path (core_mean start) (map core_mean found)) }
+    ensures goes_on { IfOk result (λ core. shapes.GoesOn start found core) }
 {
     if found.is_empty() {
         return Ok(start);
@@ -350,8 +359,9 @@ fn path_along(alloc: Global, start: Core, found: Items<Core>) -> Result<Core, Al
 /// What follows the slashes after the first step of a path.
 #[cycle(normal)]
 fn steps(alloc: Global, more: &[(Separator, Step)]) -> Result<Items<Core>, AllocError>
-    ensures { IfOk result
+    ensures same { IfOk result
         (λ found. map core_mean found ≡ meaning.later_parts (parts.steps more.now)) }
+    ensures plain { IfOk result (λ found. shapes.StaySteps more.now found) }
 {
     let mut found = Items::new(alloc);
     for (separator, later) in more {
@@ -367,9 +377,10 @@ fn next(
     separator: Separator,
     step: Core,
 ) -> Result<(), AllocError>
-    ensures { OnOk result
+    ensures same { OnOk result
         (map core_mean found.new
         ≡ map core_mean found.old ++ meaning.after separator (core_mean step)) }
+    ensures slash { OnOk result (separator ≡ Slash → found.new ≡ found.old ++ step ∷ []) }
 {
     match separator {
         Separator::Slash => found.push(step),
@@ -383,7 +394,8 @@ fn next(
 /// A step of a path.
 #[cycle(normal)]
 fn step(alloc: Global, step: &Step) -> Result<Core, AllocError>
-    ensures { IfOk result (λ core. core_mean core ≡ step_mean step.now) }
+    ensures same { IfOk result (λ core. core_mean core ≡ step_mean step.now) }
+    ensures plain { IfOk result (λ core. shapes.StaysStep step.now core) }
 {
     match step {
         Step::Axis(along, predicates) => {
@@ -399,8 +411,9 @@ fn step(alloc: Global, step: &Step) -> Result<Core, AllocError>
 
 /// A primary expression with its predicates; without one it is itself.
 fn filtered(alloc: Global, primary: Core, predicates: Items<Core>) -> Result<Core, AllocError>
-    ensures { IfOk result
+    ensures same { IfOk result
         (λ core. core_mean core ≡ parts.filter_of (core_mean primary) (map core_mean predicates)) }
+    ensures alone { IfOk result (λ core. predicates ≡ [] → core ≡ primary) }
 {
     if predicates.is_empty() {
         return Ok(primary);

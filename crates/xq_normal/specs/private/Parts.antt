@@ -11,28 +11,13 @@ use Rattle.xq_expressions.specs.declared.operators.Separator.{Separator}
 use Rattle.xq_expressions.specs.declared.operators.Separator.TheVariants.{Slash, DoubleSlash}
 use Rattle.xq_expressions.specs.declared.operators.PathStart.{PathStart}
 use Rattle.xq_expressions.specs.declared.operators.PathStart.TheVariants.{Relative, Root, RootAndBelow}
-use Rattle.xq_expressions.specs.declared.operators.AxisStep.{AxisStep}
-use Rattle.xq_expressions.specs.declared.operators.AxisStep.TheVariants as step
-use Rattle.xq_regions.specs.declared.Axis.{Axis}
-use Rattle.xq_regions.specs.declared.Axis.TheVariants as axis
 use Rattle.xq_expressions.specs.Signatures.{arity, admits}
-use Rattle.xq_meaning.specs.declared.node_tests.Test.{Test}
-use Rattle.xq_meaning.specs.declared.node_tests.Test.TheVariants as test
 use Rattle.xq_meaning.specs.declared.operators.Operator.{Operator}
 use Rattle.xq_atoms.specs.Text.{Text}
 use Rattle.xq_meaning.specs.declared.normal_forms.Core.{Core}
 use Rattle.xq_meaning.specs.Forms
-use Rattle.xq_meaning.specs.Meaning.{Environment, Meaning, ClauseMeaning, GroupMeaning, axis_of, test_on, default_axis, local_name, bind, after, for_clause, let_clause, mean, group_mean, step_mean}
+use Rattle.xq_meaning.specs.Meaning.{Environment, Meaning, ClauseMeaning, GroupMeaning, local_name, bind, after, for_clause, let_clause, mean, group_mean, step_mean}
 use Rattle.xq_meaning.specs.CoreMeaning.{core_mean}
-
--- the axis and the test of a step
-abbrev pub written_out : AxisStep → Axis × Test
-written_out (step.Along axis_name node_test) =
-    (axis_of axis_name, test_on (axis_of axis_name) node_test)
-written_out (step.Attribute node_test) = (axis.Attributes, test_on axis.Attributes node_test)
-written_out step.Parent = (axis.Parent, test.Any)
-written_out (step.Abbreviated node_test) =
-    (default_axis node_test, test_on (default_axis node_test) node_test)
 
 -- # Operators
 

@@ -7,10 +7,14 @@ use Rattle.xq_normal.specs.private.Parts as parts
 use Rattle.xq_expressions.specs.declared.expressions.Expr.{size-Expr}
 use denote.Param.Weighed.{most}
 use Rattle.xq_normal.proofs.Arrows.{CallsLeft, call_depth}
+use Rattle.xq_normal.proofs.Shapes.{LiteralsLeft, StepsLeft}
 use Rattle.xq_normal.proofs.normal.+normal.Given as goal
 
 abbrev pub invariant-expressions-loop-expr : goal.invariant-expressions-loop-expr
-invariant-expressions-loop-expr l = map core_mean l.cores ≡ map mean (take l.expr-index l.exprs)
+invariant-expressions-loop-expr l = record {
+  same : map core_mean l.cores ≡ map mean (take l.expr-index l.exprs);
+  literals : LiteralsLeft l.exprs l.expr-index l.cores;
+}
 
 abbrev pub invariant-following-loop-expr : goal.invariant-following-loop-expr
 invariant-following-loop-expr l =
@@ -36,8 +40,10 @@ invariant-later_calls-loop-name l = record {
 }
 
 abbrev pub invariant-steps-loop-separator : goal.invariant-steps-loop-separator
-invariant-steps-loop-separator l =
-    map core_mean l.found ≡ later_parts (parts.steps (take l.separator-index l.more))
+invariant-steps-loop-separator l = record {
+  same : map core_mean l.found ≡ later_parts (parts.steps (take l.separator-index l.more));
+  plain : StepsLeft l.more l.separator-index l.found;
+}
 
 abbrev pub invariant-clauses-loop-next : goal.invariant-clauses-loop-next
 invariant-clauses-loop-next l =
