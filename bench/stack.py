@@ -27,9 +27,10 @@ USES = (
 STEP, MOST = 16, 256 * 1024
 NESTING, DEEPER = 128, 1024
 PLANS = (
-    "sequence", "if", "then", "or", "and", "left", "right", "sign", "call", "count", "for-return",
-    "for-in", "let", "where", "order", "some-in", "satisfies", "step", "step-predicate", "start",
-    "filter", "predicate", "element", "name", "text",
+    "sequence", "if", "then", "or", "and", "left", "right", "sign", "call", "count", "arrow",
+    "arrow-argument", "map", "mapped", "for-return", "for-in", "let", "where", "order", "some-in",
+    "satisfies", "step", "step-predicate", "start", "filter", "predicate", "element", "name",
+    "text",
 )
 OPERATORS = '0 or 1 and 1 = "a" || 1 to 1 + 1 * () union () intersect - '
 # Each form: its name, what stands before and after what it nests, and what is in the middle.
@@ -48,6 +49,11 @@ QUERIES = (
     ("satisfies nest", "some $x in 1 satisfies ", "1", ""),
     ("head(nest)", "head(", "1", ")"),
     ("concat(1, nest)", "concat(1, ", "1", ")"),
+    ("nest => abs()", "(", "1", ") => abs()"),
+    ("nest => abs() => abs()", "(", "1", ") => abs() => abs()"),
+    ("1 => concat(nest)", "1 => concat(", "1", ")"),
+    ("nest ! .", "(", "1", ") ! ."),
+    ("1 ! (nest)", "1 ! (", "1", ")"),
     ("1[nest]", "1[", "1", "]"),
     ("1[1, nest]", "1[1, ", "1", "]"),
     ("self::e[nest]", "element e {}/self::e[", "1", "]"),
@@ -56,6 +62,7 @@ QUERIES = (
     ("text {nest}", "text {", "1", "}"),
     ("element {nest} {}", "element {", "'e'", "} {}"),
     ("all operators, (nest)", OPERATORS + "(", "1", ")"),
+    ("all with ! and =>", OPERATORS + "1 ! (", "1", ") => abs() => abs()"),
     ("all operators, [nest]", OPERATORS + "element e {}/self::e[", "1", "]"),
 )
 

@@ -129,8 +129,10 @@ def program_trials(given: Given) -> Iterator[Trial]:
     yield Trial("soak", ["python3", "tools/soak.py", "--seconds", seconds], wants=built)
     yield Trial("limits", ["python3", "bench/limits.py"], wants=built)
     yield Trial("language", ["python3", "tools/check_language.py"])
-    yield Trial("corpus", ["python3", str(given.corpus / "run_corpus.py"), "--server", server],
-                wants=queried)
+    ask = ["python3", str(given.corpus / "run_corpus.py"), "--server", server]
+    yield Trial("corpus", ask, wants=queried)
+    second = [str(given.corpus / name) for name in ("edition2.jsonl", "edition2docs.jsonl")]
+    yield Trial("corpus_arrows", [*ask, "--corpus", second[0], "--docs", second[1]], wants=queried)
     read_back = ["python3", "tools/corpus.py", "read-back", corpus, "--server", server]
     yield Trial("read_back", read_back, wants=queried)
     yield Trial("read_back_rows", ["python3", "tools/read_rows_back.py", "--server", server],

@@ -28,6 +28,9 @@ Product = namedtuple("Product", "first rest")
 Union = namedtuple("Union", "parts")
 SetOperation = namedtuple("SetOperation", "first rest")
 Unary = namedtuple("Unary", "signs part")
+# The calls are pairs of a name and the arguments after the first.
+Arrow = namedtuple("Arrow", "first calls")
+Map = namedtuple("Map", "parts")
 If = namedtuple("If", "condition yes no")
 Quantified = namedtuple("Quantified", "quantifier bindings condition")
 
@@ -50,12 +53,13 @@ Unnamed = namedtuple("Unnamed", "kind content")
 # FLWOR.
 Flwor = namedtuple("Flwor", "clauses result")
 For = namedtuple("For", "bindings")
-Each = namedtuple("Each", "name position range")
+Each = namedtuple("Each", "name allows_empty position range")
 Let = namedtuple("Let", "bindings")
 Binding = namedtuple("Binding", "name value")
 Where = namedtuple("Where", "condition")
 Group = namedtuple("Group", "bindings")
 Order = namedtuple("Order", "keys")
+Count = namedtuple("Count", "name")
 Key = namedtuple("Key", "part descends is_empty_greatest")
 
 
@@ -203,6 +207,9 @@ class Reader:
             return Where(self.single())
         if self.takes(word("group"), word("by")):
             return Group(self.parts(self.grouping, COMMA))
+        if self.stands(word("count"), DOLLAR):
+            self.take()
+            return Count(self.variable())
         if self.stands(word("stable"), word("order")):
             self.take()
         self.expect(word("order"), word("by"))
@@ -211,9 +218,10 @@ class Reader:
     def each(self):
         """A variable of `for`, with that of its position."""
         name = self.variable()
+        allows_empty = self.takes(word("allowing"), word("empty"))
         position = self.variable() if self.takes(word("at")) else None
         self.expect(word("in"))
-        return Each(name, position, self.single())
+        return Each(name, allows_empty, position, self.single())
 
     def assigned(self):
         """A variable of `let`."""
@@ -286,13 +294,19 @@ class Reader:
         return self.joined(Union, self.set_operation, symbol("|"), word("union"))
 
     def set_operation(self):
-        return self.chain(SetOperation, self.unary, SETS)
+        return self.chain(SetOperation, self.arrow, SETS)
+
+    def arrow(self):
+        first, calls = self.unary(), []
+        while self.takes(symbol("=>")):
+            calls.append(self.called())
+        return Arrow(first, calls) if calls else first
 
     def unary(self):
         signs = []
         while self.peek() in SIGNS:
             signs.append(SIGNS[self.take()])
-        part = self.path()
+        part = self.joined(Map, self.path, symbol("!"))
         return Unary(signs, part) if signs else part
 
     # Paths
@@ -420,10 +434,16 @@ class Reader:
         is_reserved = kind == "name" and value in RESERVED
         if is_reserved or self.peek(1) != symbol("("):
             return None
+        return Call(*self.called())
+
+    def called(self):
+        """The name of a function and its arguments."""
+        if self.peek().kind == "name" and self.peek().value in RESERVED:
+            raise Refused("XPST0003")
         name = self.name()
         self.expect(symbol("("))
         if self.takes(symbol(")")):
-            return Call(name, [])
+            return name, []
         arguments = self.parts(self.single, COMMA)
         self.expect(symbol(")"))
-        return Call(name, arguments)
+        return name, arguments

@@ -89,11 +89,20 @@ def string_term(it):
     return ("txt" if is_plain(it.text) else "txt8", quoted(it.text))
 
 
-def call_term(it):
-    prefix, local = it.name
+def called(word, name, arguments):
+    """What writes a call: one by a prefixed name has a word of its own."""
+    prefix, local = name
     if prefix is None:
-        return ("call", quoted(local), terms(it.arguments))
-    return ("call_by", ("prefixed", quoted(prefix), quoted(local)), terms(it.arguments))
+        return (word, quoted(local), terms(arguments))
+    return (f"{word}_by", ("prefixed", quoted(prefix), quoted(local)), terms(arguments))
+
+
+def call_term(it):
+    return called("call", *it)
+
+
+def arrow_term(it):
+    return ("arrow", term(it.first), [called("onto", *call) for call in it.calls])
 
 
 def named_term(it):
@@ -128,15 +137,16 @@ def named_kind_term(it):
 
 def for_term(it):
     first = it.bindings[0]
-    if len(it.bindings) == 1 and first.position is None:
+    if len(it.bindings) == 1 and first.position is None and not first.allows_empty:
         return ("for_in", spelled(first.name), term(first.range))
     return ("for_all", terms(it.bindings))
 
 
 def each_term(it):
+    name = "each_or_none" if it.allows_empty else "each"
     if it.position is None:
-        return ("each", spelled(it.name), term(it.range))
-    return ("each_at", spelled(it.name), spelled(it.position), term(it.range))
+        return (name, spelled(it.name), term(it.range))
+    return (f"{name}_at", spelled(it.name), spelled(it.position), term(it.range))
 
 
 def binding_term(it):
@@ -175,6 +185,8 @@ TERMS = {
     form.Product: chain_of("product"),
     form.Union: lambda it: ("union", terms(it.parts)),
     form.SetOperation: chain_of("sets"),
+    form.Arrow: arrow_term,
+    form.Map: lambda it: ("mapped", term(it.parts[0]), terms(it.parts[1:])),
     form.Unary: lambda it: ("unary", it.signs, term(it.part)),
     form.If: lambda it: ("iff", term(it.condition), term(it.yes), term(it.no)),
     form.Quantified: lambda it: (
@@ -197,6 +209,7 @@ TERMS = {
     form.Each: each_term,
     form.Let: let_term,
     form.Binding: binding_term,
+    form.Count: lambda it: ("count_as", spelled(it.name)),
     form.Where: lambda it: ("where_is", term(it.condition)),
     form.Group: lambda it: ("group_by", [grouping_term(part) for part in it.bindings]),
     form.Order: lambda it: ("order_by", terms(it.keys)),

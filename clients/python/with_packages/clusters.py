@@ -81,6 +81,17 @@ class RunningNode(Running):
                     return await aio.connect(self.place)
                 await asyncio.sleep(0.1)
 
+    async def store(self, address: str, query: str) -> None:
+        """Stores a document, and again where the stream ends before the reply, as it does where a
+        server of the node has ended: what is stored twice is there once. TimeoutError."""
+        async with asyncio.timeout(BEGINNING):
+            while True:
+                with suppress(Closed, OSError):
+                    async with await self.connect() as client:
+                        await client.store(address, query)
+                    return
+                await asyncio.sleep(0.1)
+
     async def documents(self) -> dict[bytes, bytes]:
         """All its documents."""
         async with await self.connect() as client:
@@ -185,5 +196,4 @@ async def all_taken(nodes: Sequence[RunningNode]) -> None:
     """
     for turn in range(2):
         for node in nodes:
-            async with await node.connect() as client:
-                await client.store("end", value(turn))
+            await node.store("end", value(turn))

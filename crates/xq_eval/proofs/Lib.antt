@@ -4,3 +4,4 @@ pub mod NextValues
 pub mod Quantifying
 pub mod QuantifiedTurns
 pub mod Steps
+pub mod DocumentScans

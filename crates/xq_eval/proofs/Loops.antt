@@ -18,7 +18,7 @@ left_over view xs i x h is =
     let e : drop i xs ≡ x ∷ drop (i + 1) xs = rw add-one (drop-cons xs i x h ∙ ap (λ y. y ∷ drop (suc i) xs) (sym is)) in
     ap (map view) e
 
-got_at : {X : Type 0} (xs : List X) (i : ℕ) (x : X) → slice_get xs i ≡ Some x → (i < length xs) × (x ≡ get_or xs i x)
+pub got_at : {X : Type 0} (xs : List X) (i : ℕ) (x : X) → slice_get xs i ≡ Some x → (i < length xs) × (x ≡ get_or xs i x)
 got_at [] i x e = absurd (none-some x e)
 got_at (y ∷ ys) zero x e = (omega arith, sym (same_Some y x e))
 got_at (y ∷ ys) (suc i) x e = let w = got_at ys i x e in (omega (arith, w.0), w.1)

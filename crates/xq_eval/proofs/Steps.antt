@@ -1,6 +1,6 @@
 -- One turn of a loop from what its part gave.
 use Rattle.std.proofs.Common.{◌≡◌, ℕ, zero, suc, ◌<◌, ◌≤◌, ◌+◌, ◌++◌, List, [], ◌∷◌, map, drop, length, get_or, slice_index_or, refl, sym, ◌∙◌, ap, subst, arith, add-one, Ok, Err, Bool, true, false}
-use Rattle.std.specs.Prelude.{flat_map, reverse, if◌then◌else◌}
+use Rattle.std.specs.Prelude.{pos, flat_map, reverse, if◌then◌else◌}
 use Rattle.std.specs.List.{AllByRecursion, enumerate_from, zip}
 use Rattle.std.proofs.Math.Seq.{drop-cons}
 use Rattle.std.proofs.lemmas.List.{map-append, append-nil}
@@ -14,9 +14,10 @@ use Rattle.xq_atoms.specs.declared.refusals.Fault.{Fault}
 use Rattle.xq_atoms.specs.declared.refusals.Fault.TheVariants.{Code as OfCode, Want as OfWant}
 use Rattle.xq_regions.specs.declared.items.Item.{Item as Held}
 use Rattle.xq_regions.specs.Tree.{Tree}
-use Rattle.xq_regions.specs.Tuples.{Tuple, item_values, with_each, expanded, bound, satisfying}
+use Rattle.xq_regions.specs.Tuples.{Tuple, item_values, empty_values, with_items, expanded, numbered, bound, satisfying}
 use Rattle.xq_tuples.specs.Views.{values_of}
 use Rattle.xq_regions.specs.Items.{ItemView, Value, item_view}
+use Rattle.xq_atoms.specs.Atom.{Integer}
 use Rattle.xq_atoms.specs.Judged.{Judged, ◌>>=◌ as ◌>>>=◌}
 use Rattle.xq_meaning.specs.Items.{Place, Item, Node, atomized}
 use Rattle.xq_meaning.specs.Arguments.{effective, all_nodes}
@@ -127,11 +128,6 @@ pub spots_left : (f : List Tree) (items : List Held) (i : ℕ) (x : Held) (n : �
     → focuses_from (suc i) n (items_at f (map item_view (drop i items))) ≡ record { item = item_at f (item_view x); position = i + 1; last = n } ∷ focuses_from (suc (i + 1)) n (items_at f (map item_view (drop (i + 1) items)))
 spots_left f items i x n h is = rw add-one (ap (λ xs. focuses_from (suc i) n (items_at f (map item_view xs))) (drop-cons items i x h ∙ ap (λ y. y ∷ drop (suc i) items) (sym is)))
 
-pub all_at : {X A : Type 0} (P : A → Type 0) (view : X → A) (xs : List X) (i : ℕ) (x : X) → AllByRecursion P (map view xs) → i < length xs → x ≡ get_or xs i x → P (view x)
-all_at P view [] i x h k is = absurd (omega arith)
-all_at P view (y ∷ ys) zero x h k is = subst (λ z. P (view z)) (sym is) h.0
-all_at P view (y ∷ ys) (suc i) x h k is = all_at P view ys i x h.1 (omega arith) is
-
 pub element : {A : Type 0} (P : A → Type 0) (xs : List A) (i : ℕ) (x d : A) → AllByRecursion P xs → i < length xs → x ≡ slice_index_or xs i d → P x
 element P [] i x d h k is = absurd (omega arith)
 element P (y ∷ ys) zero x d h k is = subst P (sym is) h.0
@@ -183,12 +179,28 @@ each_in : (f : List Tree) (at : Bool) (tuple : Tuple ItemView) (n : ℕ) (xs : L
 each_in f at tuple n [] h k = tt
 each_in f at tuple n (x ∷ xs) h k = (all_append (AreIn f) tuple (item_values Value at n x) h (item_in f at n x k.0), each_in f at tuple (n + 1) xs h k.1)
 
-pub expanded_in : (f : List Tree) (at : Bool) (tuples : List (Tuple ItemView)) (lists : List (List ItemView)) → TuplesIn f tuples → TupleIn f lists → TuplesIn f (expanded Value false at tuples lists)
-expanded_in f at [] lists h k = tt
-expanded_in f at (t ∷ ts) [] h k = tt
-expanded_in f at (t ∷ ts) (l ∷ ls) h k =
-    subst (TuplesIn f) (sym (flat_map-cons (λ p. with_each Value at p.0 p.1) (t, l) (zip ts ls)))
-    (all_append (TupleIn f) (with_each Value at t l) (expanded Value false at ts ls) (each_in f at t 1 l h.0 k.0) (expanded_in f at ts ls h.1 k.1))
+empty_in : (f : List Tree) (at : Bool) → TupleIn f (empty_values Value at)
+empty_in f true = (tt, ((tt, tt), tt))
+empty_in f false = (tt, tt)
+
+items_in : (f : List Tree) (allows at : Bool) (tuple : Tuple ItemView) (xs : List ItemView) → TupleIn f tuple → AreIn f xs → TuplesIn f (with_items Value allows at tuple xs)
+items_in f true at tuple [] h k = (all_append (AreIn f) tuple (empty_values Value at) h (empty_in f at), tt)
+items_in f true at tuple (x ∷ xs) h k = each_in f at tuple 1 (x ∷ xs) h k
+items_in f false at tuple xs h k = each_in f at tuple 1 xs h k
+
+pub expanded_in : (f : List Tree) (allows at : Bool) (tuples : List (Tuple ItemView)) (lists : List (List ItemView)) → TuplesIn f tuples → TupleIn f lists → TuplesIn f (expanded Value allows at tuples lists)
+expanded_in f allows at [] lists h k = tt
+expanded_in f allows at (t ∷ ts) [] h k = tt
+expanded_in f allows at (t ∷ ts) (l ∷ ls) h k =
+    subst (TuplesIn f) (sym (flat_map-cons (λ p. with_items Value allows at p.0 p.1) (t, l) (zip ts ls)))
+    (all_append (TupleIn f) (with_items Value allows at t l) (expanded Value allows at ts ls) (items_in f allows at t l h.0 k.0) (expanded_in f allows at ts ls h.1 k.1))
+
+numbered_from : (f : List Tree) (n : ℕ) (tuples : List (Tuple ItemView)) → TuplesIn f tuples → TuplesIn f (map (λ p. p.1 ++ (Value (Integer (pos p.0)) ∷ []) ∷ []) (enumerate_from n tuples))
+numbered_from f n [] h = tt
+numbered_from f n (t ∷ ts) h = (all_append (AreIn f) t ((Value (Integer (pos n)) ∷ []) ∷ []) h.0 ((tt, tt), tt), numbered_from f (n + 1) ts h.1)
+
+pub numbered_in : (f : List Tree) (tuples : List (Tuple ItemView)) → TuplesIn f tuples → TuplesIn f (numbered Value tuples)
+numbered_in f tuples h = numbered_from f 1 tuples h
 
 abbrev pub same_tests : {A : Type 0} → List Tree → List A → List A
 same_tests trees tests = tests

@@ -4,3 +4,4 @@ pub mod Keys
 pub mod Quantifying
 pub mod Turns
 pub mod Results
+pub mod Scanning

@@ -1,7 +1,9 @@
 //! The clauses of a FLWOR expression, each for all tuples before the next (XQuery 3.1, section
 //! 3.12).
-ghost use Rattle.std.specs.Prelude.{◌≡◌, List, [], ◌∷◌, map, length, IfOk};
+ghost use Rattle.std.specs.Prelude.{◌≡◌, List, [], ◌∷◌, map, length, IfOk, IfErr};
 ghost use Rattle.std.proofs.Common.{suc};
+ghost use Rattle.xq_regions.specs.Items.{Value as AtomView, item_views};
+ghost use Rattle.xq_regions.specs.Tuples.{expanded};
 ghost use Rattle.xq_tuples.specs.Keys.{column_of, columns_of};
 ghost use Rattle.xq_tuples.specs.Views.{values_of};
 ghost use Rattle.xq_meaning.specs.Doing.{in_turn, one_more, for_each};
@@ -14,8 +16,8 @@ ghost use Rattle.xq_eval.specs.private.Results.{GivesLists, GivesTests, GivesKey
 use crate::evaluation::evaluate;
 use std::alloc::Global;
 use std::rc::Rc;
-use xq_atoms::{Atom, Fault};
-use xq_expressions::OrderModifier;
+use xq_atoms::{Atom, Fault, Want};
+use xq_expressions::{AllowingEmpty, OrderModifier};
 use xq_forms::{Frame, atomized, group, joined, order};
 use xq_functions::effective;
 use xq_meaning::{Plan, PlanClause};
@@ -61,9 +63,9 @@ fn next_tuples<W: Growing>(
         (tuples_at (W.forest world.old) tuples) (W.forest world.old)) (W.forest world.new) result }
 {
     match clause {
-        PlanClause::For(at, part) => {
+        PlanClause::For(empties, at, part) => {
             let lists = values(alloc, world, frame, &tuples, part)?;
-            Ok(tuples.expand(lists, *at)?)
+            Ok(expand(tuples, lists, *empties, *at)?)
         }
         PlanClause::Let(part) => {
             let lists = values(alloc, world, frame, &tuples, part)?;
@@ -79,7 +81,26 @@ fn next_tuples<W: Growing>(
             let rows = key_rows(alloc, world, frame, &tuples, specs)?;
             order(alloc, tuples, specs, rows)
         }
+        PlanClause::Count => Ok(tuples.number()?),
         PlanClause::Refused(code) => Err(Fault::Code(*code)),
+    }
+}
+
+/// Each tuple once for each item of its list; where empty lists are allowed, never none.
+fn expand(
+    tuples: Tuples,
+    lists: Vec<Items>,
+    empties: AllowingEmpty,
+    at: bool,
+) -> Result<Tuples, Want>
+    requires { length lists.items ≡ length tuples }
+    ensures stream { IfOk result (λ stream. stream
+        ≡ expanded AtomView (Forms.allows empties) at tuples (map item_views lists.items)) }
+    ensures want { IfErr result (λ want. want ≡ Want.Memory) }
+{
+    match empties {
+        AllowingEmpty::No => tuples.expand(lists, at),
+        AllowingEmpty::Yes => tuples.expand_empty(lists, at),
     }
 }
 

@@ -1,17 +1,22 @@
 //! The evaluator: the value of a plan.
 ghost use Rattle.std.specs.Prelude.{◌≡◌, List, [], ◌∷◌, map};
+ghost use Rattle.std.specs.List.{AllByRecursion};
+ghost use Rattle.xq_atoms.specs.Text.{Text};
+ghost use Rattle.xq_meaning.specs.declared.plans.Plan.TheVariants as plan_of;
 ghost use Rattle.xq_regions.specs.Items.{item_view, item_views};
 ghost use Rattle.xq_meaning.specs.Readings.{items_at, IsIn, AreIn};
-ghost use Rattle.xq_meaning.specs.Doing.{in_turn, more, one_more, for_each, first_that};
+ghost use Rattle.xq_meaning.specs.Doing.{in_turn, more, one_more, first_that};
 ghost use Rattle.xq_meaning.specs.Forms as Forms;
 ghost use Rattle.xq_meaning.specs.PlanMeaning.{plan_mean};
 ghost use Rattle.xq_forms.specs.Views.{tuple_at, lists_of, spot_at, frame_at, FrameIn, TupleIn, Goes, GivesSequence};
 ghost use Rattle.xq_eval.specs.private.Results.{GivesLists, GivesPlain};
+ghost use Rattle.xq_eval.specs.private.Scanning.{IsLiteral, Scans};
 
 use crate::clauses::{clause_list, values};
 use crate::counting::counted_variable;
-use crate::paths::step_list;
+use crate::paths::{map_list, step_list};
 use crate::quantified::satisfied;
+use sqlite_items::Items as PlanItems;
 use std::alloc::Global;
 use xq_atoms::{Atom, Fault};
 use xq_expressions::Function;
@@ -37,6 +42,9 @@ pub fn evaluate<W: Growing>(
     ensures gives { W.is_clean world.new → FrameIn (W.forest world.old) frame.entry
         → GivesSequence (plan_mean plan.now (frame_at (W.forest world.old) frame.entry)
         (W.forest world.old)) (W.forest world.new) result }
+    ensures reads { W.is_clean world.new → FrameIn (W.forest world.old) frame.entry
+        → Scans plan.now frame.entry.addresses.now (W.forest world.old) (W.meter world.old)
+        (W.meter world.new) }
 {
     match plan {
         Plan::Int(value) => Ok(single(alloc, Item::Atom(Atom::Int(*value)))?),
@@ -102,6 +110,14 @@ pub fn evaluate<W: Growing>(
             unnamed(alloc, world, *kind, &content)
         }
         Plan::Call(function, parts) => called(alloc, world, frame, *function, parts.as_slice()),
+        Plan::Arrow(first, calls) => {
+            let items = evaluate(alloc, world, frame, first.get())?;
+            call_list(alloc, world, frame, items, calls.as_slice())
+        }
+        Plan::Map(start, parts) => {
+            let items = evaluate(alloc, world, frame, start.get())?;
+            map_list(alloc, world, frame, items, parts.as_slice())
+        }
         Plan::Quantified(which, ranges, test) => {
             let wanted = deciding(*which);
             let ranges = ranges.as_slice();
@@ -341,29 +357,87 @@ fn called<W: Growing>(
         → GivesSequence (Forms.call function (map plan_mean parts.now)
         (frame_at (W.forest world.old)
         frame.entry) (W.forest world.old)) (W.forest world.new) result }
+    ensures reads { W.is_clean world.new → FrameIn (W.forest world.old) frame.entry
+        → function ≡ Function.Doc → (t : Text) → parts.now ≡ plan_of.Str t ∷ []
+        → W.meter world.new ≡ W.meter world.old }
 {
     if let Some(items) = counted_variable(alloc, frame.slots, function, parts)? {
         return Ok(items);
     }
-    let values = arguments(alloc, world, frame, parts)?;
+    let values = arguments(alloc, world, frame, Vec::new(alloc), parts)?;
     call(alloc, world, frame, function, values)
 }
 
-/// The value of each argument.
+/// What the calls after arrows give, one after another.
+#[cycle(eval)]
+fn call_list<W: Growing>(
+    alloc: Global,
+    world: &mut W,
+    frame: Frame<'_>,
+    first: Items,
+    calls: &[(Function, PlanItems<Plan>)],
+) -> Result<Items, Fault>
+    ensures goes { Goes (W.forest world.old) (W.forest world.new) (W.is_clean world.old)
+        (W.is_clean world.new) }
+    ensures gives { W.is_clean world.new → FrameIn (W.forest world.old) frame.entry
+        → AreIn (W.forest world.old) (item_views first)
+        → GivesSequence (in_turn (Forms.next_call (frame_at (W.forest world.old) frame.entry))
+        (items_at (W.forest world.old) (item_views first)) (map (λ (function, parts). (
+          function,
+          map plan_mean parts,
+        )) calls.now) (W.forest world.old)) (W.forest world.new) result }
+{
+    let mut value = first;
+    for (function, parts) in calls {
+        value = next_call(alloc, world, frame, value, *function, parts.as_slice())?;
+    }
+    Ok(value)
+}
+
+/// What one call gives, whose first argument has a value already.
+#[cycle(eval)]
+fn next_call<W: Growing>(
+    alloc: Global,
+    world: &mut W,
+    frame: Frame<'_>,
+    items: Items,
+    function: Function,
+    parts: &[Plan],
+) -> Result<Items, Fault>
+    ensures goes { Goes (W.forest world.old) (W.forest world.new) (W.is_clean world.old)
+        (W.is_clean world.new) }
+    ensures gives { W.is_clean world.new → FrameIn (W.forest world.old) frame.entry
+        → AreIn (W.forest world.old) (item_views items)
+        → GivesSequence (Forms.next_call (frame_at (W.forest world.old) frame.entry) (items_at
+        (W.forest world.old) (item_views items)) (function, map plan_mean parts.now)
+        (W.forest world.old)) (W.forest world.new) result }
+{
+    let mut first = Vec::new(alloc);
+    first.push(items)?;
+    let values = arguments(alloc, world, frame, first, parts)?;
+    call(alloc, world, frame, function, values)
+}
+
+/// The values of the arguments so far, and that of each other.
 #[cycle(eval)]
 fn arguments<W: Growing>(
     alloc: Global,
     world: &mut W,
     frame: Frame<'_>,
+    done: Vec<Items>,
     parts: &[Plan],
 ) -> Result<Vec<Items>, Fault>
     ensures goes { Goes (W.forest world.old) (W.forest world.new) (W.is_clean world.old)
         (W.is_clean world.new) }
     ensures gives { W.is_clean world.new → FrameIn (W.forest world.old) frame.entry
-        → GivesLists (for_each (λ part. part (frame_at (W.forest world.old) frame.entry)) (map
-        plan_mean parts.now) (W.forest world.old)) (W.forest world.new) result }
+        → TupleIn (W.forest world.old) (lists_of done)
+        → GivesLists (in_turn (one_more (λ part. part (frame_at (W.forest world.old) frame.entry)))
+        (tuple_at (W.forest world.old) (lists_of done)) (map plan_mean parts.now)
+        (W.forest world.old)) (W.forest world.new) result }
+    ensures reads { W.is_clean world.new → FrameIn (W.forest world.old) frame.entry
+        → AllByRecursion IsLiteral parts.now → W.meter world.new ≡ W.meter world.old }
 {
-    let mut lists = Vec::new(alloc);
+    let mut lists = done;
     for part in parts {
         lists = next_argument(alloc, world, frame, lists, part)?;
     }
@@ -386,6 +460,8 @@ fn next_argument<W: Growing>(
         → GivesLists (one_more (λ part. part (frame_at (W.forest world.old) frame.entry)) (tuple_at
         (W.forest world.old) (lists_of done)) (plan_mean part.now) (W.forest world.old))
         (W.forest world.new) result }
+    ensures reads { W.is_clean world.new → FrameIn (W.forest world.old) frame.entry
+        → IsLiteral part.now → W.meter world.new ≡ W.meter world.old }
 {
     let mut lists = done;
     let list = evaluate(alloc, world, frame, part)?;

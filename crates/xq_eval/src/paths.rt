@@ -1,5 +1,6 @@
-//! What follows the slashes of a path (XQuery 3.1, section 3.3).
-ghost use Rattle.std.specs.Prelude.{◌≡◌, List, map, true, Some, IfSome};
+//! What follows the slashes of a path, and simple maps (XQuery 3.1, sections 3.3 and 3.19).
+ghost use Rattle.std.specs.Prelude.{◌≡◌, ◌*◌, ℕ, List, length, map, true, Some, IfSome, IfOk};
+ghost use Rattle.std.specs.List.{AllByRecursion};
 ghost use Rattle.std.specs.Option.{option_copied};
 ghost use Rattle.xq_meaning.specs.declared.plans.PlanStep.TheVariants as plan_step;
 ghost use Rattle.xq_regions.specs.Items.{item_view, item_views};
@@ -9,7 +10,9 @@ ghost use Rattle.xq_meaning.specs.Doing.{in_turn, more, collected};
 ghost use Rattle.xq_meaning.specs.Forms as Forms;
 ghost use Rattle.xq_meaning.specs.PlanMeaning.{plan_mean, plan_step_mean, next_step};
 ghost use Rattle.xq_forms.specs.Views.{spot_at, frame_at, FrameIn, Goes, GivesSequence};
+ghost use Rattle.xq_forms.specs.Reads.{rows_of, AreOf, HasGrown};
 ghost use Rattle.xq_eval.specs.private.Children.{IsToChildren};
+ghost use Rattle.xq_eval.specs.private.Scanning.{IsScan};
 
 use crate::evaluation::evaluate;
 use sqlite_items::at;
@@ -81,6 +84,10 @@ pub fn step_list<W: Growing>(
         → GivesSequence (in_turn (next_step (frame_at (W.forest world.old) frame.entry)) (items_at
         (W.forest world.old) (item_views items)) (map plan_step_mean steps.now)
         (W.forest world.old)) (W.forest world.new) result }
+    ensures reads { W.is_clean world.new → AllByRecursion IsScan steps.now → (tree : ℕ)
+        → AreOf (W.forest world.old) tree (item_views items)
+        → HasGrown (W.meter world.old) (W.meter world.new)
+        (length steps.now * rows_of (W.forest world.old) tree) }
 {
     let mut left = items;
     // Whether the step was taken with the one before it.
@@ -125,6 +132,12 @@ fn next_items<W: Growing>(
         → GivesSequence (plan_step_mean step.now (frame_at (W.forest world.old) frame.entry)
         (items_at
         (W.forest world.old) (item_views items)) (W.forest world.old)) (W.forest world.new) result }
+    ensures reads { W.is_clean world.new → IsScan step.now → (tree : ℕ)
+        → AreOf (W.forest world.old) tree (item_views items)
+        → HasGrown (W.meter world.old) (W.meter world.new) (rows_of (W.forest world.old) tree) }
+    ensures of_tree { W.is_clean world.new → IsScan step.now → (tree : ℕ)
+        → AreOf (W.forest world.old) tree (item_views items)
+        → IfOk result (λ found. AreOf (W.forest world.new) tree (item_views found)) }
 {
     match step {
         PlanStep::Each(part) => {
@@ -134,6 +147,30 @@ fn next_items<W: Growing>(
         }
         PlanStep::Scan(axis, test) => scan(alloc, world, &items, *axis, test),
     }
+}
+
+/// The items after each `!`, from those before it.
+#[cycle(eval)]
+pub fn map_list<W: Growing>(
+    alloc: Global,
+    world: &mut W,
+    frame: Frame<'_>,
+    items: Items,
+    parts: &[Plan],
+) -> Result<Items, Fault>
+    ensures goes { Goes (W.forest world.old) (W.forest world.new) (W.is_clean world.old)
+        (W.is_clean world.new) }
+    ensures gives { W.is_clean world.new → FrameIn (W.forest world.old) frame.entry
+        → AreIn (W.forest world.old) (item_views items)
+        → GivesSequence (in_turn (Forms.bang (frame_at (W.forest world.old) frame.entry)) (items_at
+        (W.forest world.old) (item_views items)) (map plan_mean parts.now) (W.forest world.old))
+        (W.forest world.new) result }
+{
+    let mut left = items;
+    for part in parts {
+        left = each(alloc, world, frame, &left, part)?;
+    }
+    Ok(left)
 }
 
 /// The items of a part at each item.

@@ -8,8 +8,8 @@
 
 use crate::names::{QName, Text};
 use crate::operators::{
-    AxisStep, ComparisonOperator, NamedNode, OrderModifier, PathStart, ProductOperator, Quantifier,
-    Separator, SetOperator, Sign, UnnamedNode,
+    AllowingEmpty, AxisStep, ComparisonOperator, NamedNode, OrderModifier, PathStart,
+    ProductOperator, Quantifier, Separator, SetOperator, Sign, UnnamedNode,
 };
 use sqlite_items::{Boxed, Items};
 use xq_atoms::Decimal;
@@ -42,10 +42,16 @@ pub enum Expr {
     SetOperation(Boxed<Expr>, Items<(SetOperator, Expr)>),
     /// One sign and more, the outermost first.
     Unary(Items<Sign>, Boxed<Expr>),
+    /// The first argument, and after each `=>` the name of a function with its other arguments
+    /// (XQuery 3.1, section 3.20).
+    Arrow(Boxed<Expr>, Items<(QName, Items<Expr>)>),
+    /// What is gone through, and what stands after each `!` (XQuery 3.1, section 3.19).
+    Map(Boxed<Expr>, Items<Expr>),
     /// A lone `/`.
     Root,
-    /// Where it starts, its first step, and the others with what stands before each.
-    Path(PathStart, Step, Items<(Separator, Step)>),
+    /// Where it starts, its first step, and the others with what stands before each. The step is
+    /// boxed, since it is the largest part of all: an expression takes half as many bytes for it.
+    Path(PathStart, Boxed<Step>, Items<(Separator, Step)>),
     Int(i64),
     Dec(Decimal),
     Str(Text),
@@ -71,13 +77,16 @@ pub enum ConstructorName {
 #[derive(Drop)]
 #[cycle(tree)]
 pub enum Clause {
-    /// Each variable with its positional variable, and the sequence it ranges over.
-    For(Items<(QName, Option<QName>, Expr)>),
+    /// Each variable, whether its sequence may be empty, its positional variable, and the sequence
+    /// it ranges over.
+    For(Items<(QName, AllowingEmpty, Option<QName>, Expr)>),
     Let(Items<(QName, Expr)>),
     /// The condition after `where`.
     Filter(Expr),
     Group(Items<GroupSpec>),
     Order(Items<(Expr, OrderModifier)>),
+    /// The variable of the tuples' numbers.
+    Count(QName),
 }
 
 /// A grouping variable.

@@ -12,9 +12,9 @@ mod signatures;
 pub use expressions::{Clause, ConstructorName, Expr, GroupSpec, Step};
 pub use names::{QName, Text};
 pub use operators::{
-    AxisName, AxisStep, ComparisonOperator, Direction, EmptyOrder, NamedNode, NodeComparison,
-    NodeTest, OrderModifier, PathStart, ProductOperator, Quantifier, Relation, Separator,
-    SetOperator, Sign, UnnamedNode,
+    AllowingEmpty, AxisName, AxisStep, ComparisonOperator, Direction, EmptyOrder, NamedNode,
+    NodeComparison, NodeTest, OrderModifier, PathStart, ProductOperator, Quantifier, Relation,
+    Separator, SetOperator, Sign, UnnamedNode,
 };
 pub use scopes::Scope;
 pub use signatures::{Arity, Function};

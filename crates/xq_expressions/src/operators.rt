@@ -151,3 +151,10 @@ pub struct OrderModifier {
     pub direction: Direction,
     pub empty: EmptyOrder,
 }
+
+/// What `for` makes of a tuple at which its sequence is empty: none, or with `allowing empty` one.
+#[derive(Clone, Copy, Debug, PartialEq, Eq)]
+pub enum AllowingEmpty {
+    No,
+    Yes,
+}

@@ -10,3 +10,4 @@ pub mod Giving
 pub mod Columns
 pub mod CallForms
 pub mod ParentsBelow
+pub mod OneTree

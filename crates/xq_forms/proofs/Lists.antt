@@ -1,5 +1,6 @@
 -- Lists read one element at a time.
-use Rattle.std.proofs.Common.{◌≡◌, ℕ, zero, suc, ◌+◌, ◌<◌, ◌++◌, List, [], ◌∷◌, length, map, take, drop, get_or, refl, sym, ◌∙◌, ap, add-one, arith}
+use Rattle.std.proofs.Common.{◌≡◌, ℕ, zero, suc, ◌+◌, ◌<◌, ◌++◌, List, [], ◌∷◌, length, map, take, drop, get_or, refl, sym, ◌∙◌, ap, subst, add-one, arith}
+use Rattle.std.specs.List.{AllByRecursion}
 use Rattle.std.proofs.Math.Seq.{drop-cons}
 
 pub taken_next : {A : Type 0} (xs : List A) (i : ℕ) (x : A) → i < length xs → x ≡ get_or xs i x → take (i + 1) xs ≡ take i xs ++ x ∷ []
@@ -20,3 +21,9 @@ pub left_over : {X A : Type 0} (view : X → A) (xs : List X) (i : ℕ) (x : X) 
 left_over view xs i x h is =
     let e : drop i xs ≡ x ∷ drop (i + 1) xs = rw add-one (drop-cons xs i x h ∙ ap (λ y. y ∷ drop (suc i) xs) (sym is)) in
     ap (map view) e
+
+-- what holds of all that is seen holds of what is seen at an index
+pub all_at : {X A : Type 0} (P : A → Type 0) (view : X → A) (xs : List X) (i : ℕ) (x : X) → AllByRecursion P (map view xs) → i < length xs → x ≡ get_or xs i x → P (view x)
+all_at P view [] i x h k is = absurd (omega arith)
+all_at P view (y ∷ ys) zero x h k is = subst (λ z. P (view z)) (sym is) h.0
+all_at P view (y ∷ ys) (suc i) x h k is = all_at P view ys i x h.1 (omega arith) is

@@ -5,7 +5,7 @@ use Rattle.std.specs.List.{enumerate_from, zip}
 use Rattle.std.proofs.lemmas.List.{map-append}
 use Rattle.std.proofs.lemmas.List.Concat.{flat_map-cons}
 use Rattle.xq_atoms.specs.Atom.{Atomic, Integer}
-use Rattle.xq_regions.specs.Tuples.{Tuple, item_values, with_each, expanded, bound, satisfying}
+use Rattle.xq_regions.specs.Tuples.{Tuple, item_values, empty_values, with_items, expanded, numbered, bound, satisfying}
 
 module _ {X Y : Type 0} (r : X → Y) where
   pub bound_natural : (tuples : List (Tuple X)) (values : List (List X)) → map (map (map r)) (bound tuples values) ≡ bound (map (map (map r)) tuples) (map (map r) values)
@@ -31,12 +31,32 @@ module _ {X Y : Type 0} (r : X → Y) (ax : Atomic → X) (ay : Atomic → Y) (s
       let b = each_natural at tuple (n + 1) xs in
       cc
 
-  pub expanded_natural : (at : Bool) (tuples : List (Tuple X)) (lists : List (List X)) → map (map (map r)) (expanded ax false at tuples lists) ≡ expanded ay false at (map (map (map r)) tuples) (map (map r) lists)
-  expanded_natural at [] lists = refl
-  expanded_natural at (t ∷ ts) [] = refl
-  expanded_natural at (t ∷ ts) (l ∷ ls) =
-      ap (map (map (map r))) (flat_map-cons (λ p. with_each ax at p.0 p.1) (t, l) (zip ts ls))
-      ∙ map-append (map (map r)) (with_each ax at t l) (expanded ax false at ts ls)
-      ∙ ap (λ v. v ++ map (map (map r)) (expanded ax false at ts ls)) (each_natural at t 1 l)
-      ∙ ap (λ v. with_each ay at (map (map r) t) (map r l) ++ v) (expanded_natural at ts ls)
-      ∙ sym (flat_map-cons (λ p. with_each ay at p.0 p.1) (map (map r) t, map r l) (zip (map (map (map r)) ts) (map (map r) ls)))
+  empty_natural : (at : Bool) → map (map r) (empty_values ax at) ≡ empty_values ay at
+  empty_natural true = ap (λ y. [] ∷ (y ∷ []) ∷ []) (same (Integer (pos 0)))
+  empty_natural false = refl
+
+  items_natural : (allows at : Bool) (tuple : Tuple X) (xs : List X) → map (map (map r)) (with_items ax allows at tuple xs) ≡ with_items ay allows at (map (map r) tuple) (map r xs)
+  items_natural true at tuple [] =
+      ap (λ t. t ∷ []) (map-append (map r) tuple (empty_values ax at) ∙ ap (λ v. map (map r) tuple ++ v) (empty_natural at))
+  items_natural true at tuple (x ∷ xs) = each_natural at tuple 1 (x ∷ xs)
+  items_natural false at tuple xs = each_natural at tuple 1 xs
+
+  pub expanded_natural : (allows at : Bool) (tuples : List (Tuple X)) (lists : List (List X)) → map (map (map r)) (expanded ax allows at tuples lists) ≡ expanded ay allows at (map (map (map r)) tuples) (map (map r) lists)
+  expanded_natural allows at [] lists = refl
+  expanded_natural allows at (t ∷ ts) [] = refl
+  expanded_natural allows at (t ∷ ts) (l ∷ ls) =
+      ap (map (map (map r))) (flat_map-cons (λ p. with_items ax allows at p.0 p.1) (t, l) (zip ts ls))
+      ∙ map-append (map (map r)) (with_items ax allows at t l) (expanded ax allows at ts ls)
+      ∙ ap (λ v. v ++ map (map (map r)) (expanded ax allows at ts ls)) (items_natural allows at t l)
+      ∙ ap (λ v. with_items ay allows at (map (map r) t) (map r l) ++ v) (expanded_natural allows at ts ls)
+      ∙ sym (flat_map-cons (λ p. with_items ay allows at p.0 p.1) (map (map r) t, map r l) (zip (map (map (map r)) ts) (map (map r) ls)))
+
+  numbered_from : (n : ℕ) (tuples : List (Tuple X)) → map (map (map r)) (map (λ p. p.1 ++ (ax (Integer (pos p.0)) ∷ []) ∷ []) (enumerate_from n tuples)) ≡ map (λ p. p.1 ++ (ay (Integer (pos p.0)) ∷ []) ∷ []) (enumerate_from n (map (map (map r)) tuples))
+  numbered_from n [] = refl
+  numbered_from n (t ∷ ts) =
+      let a = map-append (map r) t ((ax (Integer (pos n)) ∷ []) ∷ []) ∙ ap (λ y. map (map r) t ++ (y ∷ []) ∷ []) (same (Integer (pos n))) in
+      let b = numbered_from (n + 1) ts in
+      cc
+
+  pub numbered_natural : (tuples : List (Tuple X)) → map (map (map r)) (numbered ax tuples) ≡ numbered ay (map (map (map r)) tuples)
+  numbered_natural tuples = numbered_from 1 tuples

@@ -1,10 +1,12 @@
 //! Atomization (XQuery 3.1, section 2.4.2): each item's atom, read from the trees.
 ghost use Rattle.std.specs.Prelude.{◌≡◌, string_bytes, map, IfOk};
+ghost use Rattle.std.specs.List.{AllByRecursion};
 ghost use Rattle.xq_atoms.specs.Atom.{atomic_of};
 ghost use Rattle.xq_regions.specs.Items.{item_view};
 ghost use Rattle.xq_regions.specs.Value.{typed_by};
 ghost use Rattle.xq_meaning.specs.Items.{atomic_value, atom_of, atomized as atomized_lem};
 ghost use Rattle.xq_meaning.specs.Readings.{item_at, items_at};
+ghost use Rattle.xq_forms.specs.Reads.{IsAtom};
 
 use std::alloc::Global;
 use xq_atoms::{Atom, Want};
@@ -42,6 +44,7 @@ fn of_node<L: RowLender>(alloc: Global, source: &mut L, node: Node) -> Result<At
 fn of_item<L: RowLender>(alloc: Global, source: &mut L, item: &Item) -> Result<Atom, Want>
     ensures value { L.is_clean source.new → IfOk result (λ atom. atomic_of atom
         ≡ atom_of (L.forest source.old) (item_at (L.forest source.old) (item_view item.now))) }
+    ensures reads { IsAtom (item_view item.now) → L.meter source.new ≡ L.meter source.old }
     ensures keeps { L.forest source.new ≡ L.forest source.old }
     ensures was_clean { L.is_clean source.new → L.is_clean source.old }
 {
@@ -51,7 +54,7 @@ fn of_item<L: RowLender>(alloc: Global, source: &mut L, item: &Item) -> Result<A
     }
 }
 
-/// The atoms of the items, in order.
+/// The atoms of the items, in order. Where all are atoms, nothing is read.
 ///
 /// `Want::Store` where the source has no such node, or refuses to read it; `Want::Memory` where a
 /// growth was refused.
@@ -63,6 +66,8 @@ pub fn atomized<L: RowLender>(
     ensures value { L.is_clean source.new → IfOk result (λ atoms. map atomic_of atoms.items
         ≡ atomized_lem (L.forest source.old) (items_at (L.forest source.old) (map item_view
         items.now))) }
+    ensures reads { AllByRecursion IsAtom (map item_view items.now)
+        → L.meter source.new ≡ L.meter source.old }
     ensures keeps { L.forest source.new ≡ L.forest source.old }
     ensures was_clean { L.is_clean source.new → L.is_clean source.old }
 {

@@ -1,12 +1,14 @@
 //! Calls of functions, from the values of their arguments (F&O 3.1; XQuery 3.1, section 3.1.5).
-ghost use Rattle.std.specs.Prelude.{◌≡◌, ◌≤◌, length, map, IfOk};
+ghost use Rattle.std.specs.Prelude.{◌≡◌, ◌≤◌, ◌∷◌, [], List, length, map, IfOk};
+ghost use Rattle.std.specs.List.{AllByRecursion};
 ghost use Rattle.xq_atoms.specs.Atom.{atomic_of};
-ghost use Rattle.xq_regions.specs.Items.{item_views};
+ghost use Rattle.xq_regions.specs.Items.{ItemView, item_views};
 ghost use Rattle.xq_tuples.specs.Keys.{column_of};
 ghost use Rattle.xq_meaning.specs.Items.{atomized as atomized_lem};
 ghost use Rattle.xq_meaning.specs.Functions as Functions;
 ghost use Rattle.xq_functions.specs.Answers.{items_of};
 ghost use Rattle.xq_atoms.specs.Answers.{GivesUnlessWanting};
+ghost use Rattle.xq_forms.specs.Reads.{IsAtom};
 ghost use Rattle.xq_forms.specs.Views.{tuple_at, lists_of, spot_at, focus_at, frame_at, calling, FrameIn, TupleIn, Goes, GivesSequence};
 ghost use Rattle.xq_forms.specs.private.Calls.{at_focus};
 
@@ -54,6 +56,8 @@ fn on_one<L: RowLender>(
     ensures gives { L.is_clean source.new → GivesUnlessWanting (items_of (L.forest source.old))
         (Functions.of_one function (L.forest source.old) addresses.now (items_of
         (L.forest source.old) items)) result }
+    ensures reads { function ≡ Function.Doc → AllByRecursion IsAtom (item_views items)
+        → L.meter source.new ≡ L.meter source.old }
     ensures keeps { L.forest source.new ≡ L.forest source.old }
     ensures was_clean { L.is_clean source.new → L.is_clean source.old }
 {
@@ -143,7 +147,7 @@ fn on_many<L: RowLender>(
 
 /// A call of a function with the values of its arguments. XPDY0002 where it asks for the context
 /// item, its position or the last one and there is no focus; XPST0017 where it has no form of so
-/// many arguments.
+/// many arguments. To look up the document of an atom nothing is read.
 pub fn call<W: Growing>(
     alloc: Global,
     world: &mut W,
@@ -158,6 +162,8 @@ pub fn call<W: Growing>(
         → GivesSequence (calling function (frame_at (W.forest world.old) frame.entry) (tuple_at
         (W.forest world.old) (lists_of arguments)) (W.forest world.old)) (W.forest world.new)
         result }
+    ensures reads { function ≡ Function.Doc → (xs : List ItemView) → lists_of arguments ≡ xs ∷ []
+        → AllByRecursion IsAtom xs → W.meter world.new ≡ W.meter world.old }
 {
     let mut arguments = arguments;
     if arguments.len() >= 2 {

@@ -1,9 +1,10 @@
 //! Steps along the axes (XQuery 3.1, sections 3.3.2 and 3.3.3).
-ghost use Rattle.std.specs.Prelude.{◌≡◌, map};
+ghost use Rattle.std.specs.Prelude.{◌≡◌, ◌*◌, ℕ, map, IfOk};
 ghost use Rattle.xq_regions.specs.Items.{item_view, item_views};
 ghost use Rattle.xq_meaning.specs.Steps.{in_axis_order as in_axis_order_lem, is_reverse as is_reverse_lem};
 ghost use Rattle.xq_meaning.specs.Readings.{items_at, AreIn};
 ghost use Rattle.xq_meaning.specs.Forms as Forms;
+ghost use Rattle.xq_forms.specs.Reads.{rows_of, AreOf, HasGrown};
 ghost use Rattle.xq_forms.specs.Views.{focus_at, on_axis, after_double_slash, parents_below as parents_below_lem, FrameIn, Goes, GivesSequence};
 
 use crate::frames::Frame;
@@ -66,6 +67,9 @@ pub fn in_axis_order(axis: Axis, items: Items) -> Items
 
 /// The nodes on an axis from all items that pass the test, in document order, each once. XPTY0019
 /// where an item is no node.
+///
+/// From nodes of one tree, and no more than it has, it reads at most as many rows as the tree has,
+/// by ranges and singly, and what it finds is of that tree.
 pub fn scan<W: Growing>(
     alloc: Global,
     world: &mut W,
@@ -78,6 +82,12 @@ pub fn scan<W: Growing>(
     ensures gives { W.is_clean world.new → AreIn (W.forest world.old) (map item_view items.now)
         → GivesSequence (Forms.scan axis test.now (items_at (W.forest world.old) (map item_view
         items.now)) (W.forest world.old)) (W.forest world.new) result }
+    ensures reads { W.is_clean world.new → (tree : ℕ)
+        → AreOf (W.forest world.old) tree (map item_view items.now)
+        → HasGrown (W.meter world.old) (W.meter world.new) (rows_of (W.forest world.old) tree) }
+    ensures of_tree { W.is_clean world.new → (tree : ℕ)
+        → AreOf (W.forest world.old) tree (map item_view items.now)
+        → IfOk result (λ found. AreOf (W.forest world.new) tree (item_views found)) }
 {
     only_nodes(items)?;
     let contexts = nodes_among(alloc, items)?;
@@ -87,6 +97,9 @@ pub fn scan<W: Growing>(
 
 /// What `//` and a step to children without predicates lead to from all items (XQuery 3.1, section
 /// 3.3.5): the two steps as one scan of what is below the items. XPTY0019 where an item is no node.
+///
+/// From nodes of one tree, and no more than it has, it reads at most twice as many rows as the tree
+/// has, by ranges and singly, and what it finds is of that tree.
 pub fn double_slash<W: Growing>(
     alloc: Global,
     world: &mut W,
@@ -98,6 +111,12 @@ pub fn double_slash<W: Growing>(
     ensures gives { W.is_clean world.new → AreIn (W.forest world.old) (map item_view items.now)
         → GivesSequence (after_double_slash test.now (items_at (W.forest world.old) (map item_view
         items.now)) (W.forest world.old)) (W.forest world.new) result }
+    ensures reads { W.is_clean world.new → (tree : ℕ)
+        → AreOf (W.forest world.old) tree (map item_view items.now)
+        → HasGrown (W.meter world.old) (W.meter world.new) (2 * rows_of (W.forest world.old) tree) }
+    ensures of_tree { W.is_clean world.new → (tree : ℕ)
+        → AreOf (W.forest world.old) tree (map item_view items.now)
+        → IfOk result (λ found. AreOf (W.forest world.new) tree (item_views found)) }
 {
     only_nodes(items)?;
     let contexts = nodes_among(alloc, items)?;

@@ -52,6 +52,7 @@ row_of s.Equal = inl (record { char = 61; text = refl; listed = refl; sign = (re
 row_of s.Less = inl (record { char = 60; text = refl; listed = refl; sign = (refl, refl, refl) })
 row_of s.Greater = inl (record { char = 62; text = refl; listed = refl; sign = (refl, refl, refl) })
 row_of s.Bar = inl (record { char = 124; text = refl; listed = refl; sign = (refl, refl, refl) })
+row_of s.Bang = inl (record { char = 33; text = refl; listed = refl; sign = (refl, refl, refl) })
 row_of s.Assign = inr (record { char = 58; next = 61; text = refl; listed = refl; sign = (refl, refl, refl); no_digit = refl })
 row_of s.DoubleColon = inr (record { char = 58; next = 58; text = refl; listed = refl; sign = (refl, refl, refl); no_digit = refl })
 row_of s.DoubleSlash = inr (record { char = 47; next = 47; text = refl; listed = refl; sign = (refl, refl, refl); no_digit = refl })
@@ -62,6 +63,7 @@ row_of s.GreaterEqual = inr (record { char = 62; next = 61; text = refl; listed 
 row_of s.Precedes = inr (record { char = 60; next = 60; text = refl; listed = refl; sign = (refl, refl, refl); no_digit = refl })
 row_of s.Follows = inr (record { char = 62; next = 62; text = refl; listed = refl; sign = (refl, refl, refl); no_digit = refl })
 row_of s.DoubleBar = inr (record { char = 124; next = 124; text = refl; listed = refl; sign = (refl, refl, refl); no_digit = refl })
+row_of s.Arrow = inr (record { char = 61; next = 62; text = refl; listed = refl; sign = (refl, refl, refl); no_digit = refl })
 
 -- ---- what is listed is spelled so
 
@@ -79,7 +81,7 @@ look_up_spelled c [] all x h = absurd cc
 look_up_spelled c (row ∷ rows) all x h = look_up_at c row rows (c == row.0) refl all.0 (look_up_spelled c rows all.1) x h
 
 pub single_spelled : (c : ℕ) (x : Symbol) → single_symbol c ≡ Some x → symbol_text x ≡ c ∷ []
-single_spelled c x h = look_up_spelled c singles ((refl, (refl, (refl, (refl, (refl, (refl, (refl, (refl, (refl, (refl, (refl, (refl, (refl, (refl, (refl, (refl, (refl, (refl, tt))))))))))))))))))) x h
+single_spelled c x h = look_up_spelled c singles ((refl, (refl, (refl, (refl, (refl, (refl, (refl, (refl, (refl, (refl, (refl, (refl, (refl, (refl, (refl, (refl, (refl, (refl, (refl, tt)))))))))))))))))))) x h
 
 abbrev DoublesSpelled : List (ℕ × ℕ × Symbol) → Type 0
 DoublesSpelled [] = Unit {0}
@@ -99,7 +101,7 @@ look_up_two_spelled a b [] all x h = absurd cc
 look_up_two_spelled a b (row ∷ rows) all x h = look_up_two_at a b row rows (a == row.0 && b == row.1) refl all.0 (look_up_two_spelled a b rows all.1) x h
 
 pub double_spelled : (a b : ℕ) (x : Symbol) → double_symbol a b ≡ Some x → symbol_text x ≡ a ∷ b ∷ []
-double_spelled a b x h = look_up_two_spelled a b doubles ((refl, (refl, (refl, (refl, (refl, (refl, (refl, (refl, (refl, (refl, tt))))))))))) x h
+double_spelled a b x h = look_up_two_spelled a b doubles ((refl, (refl, (refl, (refl, (refl, (refl, (refl, (refl, (refl, (refl, (refl, tt)))))))))))) x h
 
 -- ---- the longest symbol is read
 

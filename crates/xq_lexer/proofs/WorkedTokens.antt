@@ -89,6 +89,22 @@ module _ where
   unfolding read_token read_symbol is_name_start
   lone_colon = refl
 
+  bang : read_token (codes "!!=") ≡ Ok (symbol s.Bang, codes "!=")
+  unfolding read_token read_symbol is_name_start
+  bang = refl
+
+  not_equal : read_token (codes "!=1") ≡ Ok (symbol s.NotEqual, codes "1")
+  unfolding read_token read_symbol is_name_start
+  not_equal = refl
+
+  arrow : read_token (codes "=>>") ≡ Ok (symbol s.Arrow, codes ">")
+  unfolding read_token read_symbol is_name_start
+  arrow = refl
+
+  parted_arrow : read_token (codes "= >") ≡ Ok (symbol s.Equal, codes " >")
+  unfolding read_token read_symbol is_name_start
+  parted_arrow = refl
+
   assign : read_token (codes ":=1") ≡ Ok (symbol s.Assign, codes "1")
   unfolding read_token read_symbol is_name_start
   assign = refl

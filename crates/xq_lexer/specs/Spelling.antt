@@ -42,6 +42,8 @@ symbol_text s.Precedes = codes "<<"
 symbol_text s.Follows = codes ">>"
 symbol_text s.Bar = codes "|"
 symbol_text s.DoubleBar = codes "||"
+symbol_text s.Arrow = codes "=>"
+symbol_text s.Bang = codes "!"
 
 -- a token as it is written
 pub data Form : Type 0 where

@@ -19,6 +19,7 @@ pub fn double_symbol(first: char, second: char) -> Option<Symbol>
         ('<', '<') => Some(Symbol::Precedes),
         ('>', '>') => Some(Symbol::Follows),
         ('|', '|') => Some(Symbol::DoubleBar),
+        ('=', '>') => Some(Symbol::Arrow),
         _ => None,
     }
 }
@@ -46,6 +47,7 @@ pub fn single_symbol(c: char) -> Option<Symbol>
         '<' => Some(Symbol::Less),
         '>' => Some(Symbol::Greater),
         '|' => Some(Symbol::Bar),
+        '!' => Some(Symbol::Bang),
         _ => None,
     }
 }

@@ -59,4 +59,8 @@ pub enum Symbol {
     Follows,
     Bar,
     DoubleBar,
+    /// `=>`
+    Arrow,
+    /// `!`
+    Bang,
 }

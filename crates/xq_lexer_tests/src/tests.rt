@@ -34,6 +34,24 @@ fn tokens_stand_in_their_places(rt: HostRuntime) -> Result<(), Fail> {
     Ok(())
 }
 
+/// `!=` and `=>` are the longest at their places, and no space stands in them.
+#[test]
+fn bangs_and_arrows_are_read(rt: HostRuntime) -> Result<(), Fail> {
+    assert_eq!(rt;
+        shown(rt.alloc(), "!!=!")?.as_str(),
+        "[Token { lexeme: Sym(Bang), start: 0, end: 1 }, Token { lexeme: Sym(NotEqual), start: 1, end: 3 }, Token { lexeme: Sym(Bang), start: 3, end: 4 }]"
+    );
+    assert_eq!(rt;
+        shown(rt.alloc(), "=>>=")?.as_str(),
+        "[Token { lexeme: Sym(Arrow), start: 0, end: 2 }, Token { lexeme: Sym(GreaterEqual), start: 2, end: 4 }]"
+    );
+    assert_eq!(rt;
+        shown(rt.alloc(), "= >")?.as_str(),
+        "[Token { lexeme: Sym(Equal), start: 0, end: 1 }, Token { lexeme: Sym(Greater), start: 2, end: 3 }]"
+    );
+    Ok(())
+}
+
 #[test]
 fn names_take_hyphens_and_colons(rt: HostRuntime) -> Result<(), Fail> {
     assert_eq!(rt;

@@ -1,6 +1,7 @@
 -- The meaning of a normal form at each form, from the meanings of its parts.
 use Rattle.std.specs.Prelude.{◌≡◌, ℕ, ℤ, List, map, Option}
 use Rattle.std.proofs.Common.{sym, ◌∙◌, ap}
+use Rattle.xq_expressions.specs.declared.operators.AllowingEmpty.{AllowingEmpty}
 use Rattle.xq_expressions.specs.declared.operators.Sign.{Sign}
 use Rattle.xq_expressions.specs.declared.operators.Quantifier.{Quantifier}
 use Rattle.xq_expressions.specs.declared.operators.NamedNode.{NamedNode}
@@ -96,6 +97,18 @@ core-Call a b =
     ap core_mean (sym (normal.rolls-Call a b))
     ∙ fold-roll-Core Meaning ClauseMeaning core_form core_clause (Core-F.Call a b)
 
+pub core-Arrow : (a : Core) (b : List (Function × List Core)) → core_mean (normal.Arrow a b)
+    ≡ core_form (Core-F.Arrow (core_mean a) (map (λ (x, y). (x, map core_mean y)) b))
+core-Arrow a b =
+    ap core_mean (sym (normal.rolls-Arrow a b))
+    ∙ fold-roll-Core Meaning ClauseMeaning core_form core_clause (Core-F.Arrow a b)
+
+pub core-Map : (a : Core) (b : List Core) → core_mean (normal.Map a b)
+    ≡ core_form (Core-F.Map (core_mean a) (map core_mean b))
+core-Map a b =
+    ap core_mean (sym (normal.rolls-Map a b))
+    ∙ fold-roll-Core Meaning ClauseMeaning core_form core_clause (Core-F.Map a b)
+
 pub core-Named : (a : NamedNode) (b : Core) (c : Core) → core_mean (normal.Named a b c)
     ≡ core_form (Core-F.Named a (core_mean b) (core_mean c))
 core-Named a b c =
@@ -132,13 +145,13 @@ core-Path a b =
     ap core_mean (sym (normal.rolls-Path a b))
     ∙ fold-roll-Core Meaning ClauseMeaning core_form core_clause (Core-F.Path a b)
 
-pub clause-For : (a : (List ℕ)) (b : (Option (List ℕ))) (c : Core) →
-    core_clause_mean (clause.For a b c)
-    ≡ core_clause (CoreClause-F.For a b (core_mean c))
-clause-For a b c =
-    ap core_clause_mean (sym (clause.rolls-For a b c))
+pub clause-For : (a : (List ℕ)) (b : AllowingEmpty) (c : (Option (List ℕ))) (d : Core) →
+    core_clause_mean (clause.For a b c d)
+    ≡ core_clause (CoreClause-F.For a b c (core_mean d))
+clause-For a b c d =
+    ap core_clause_mean (sym (clause.rolls-For a b c d))
     ∙ fold-roll-CoreClause Meaning ClauseMeaning core_form core_clause (CoreClause-F.For a b
-    c)
+    c d)
 
 pub clause-Let : (a : (List ℕ)) (b : Core) → core_clause_mean (clause.Let a b)
     ≡ core_clause (CoreClause-F.Let a (core_mean b))
@@ -163,3 +176,9 @@ pub clause-Order : (a : List (Core × OrderModifier)) → core_clause_mean (clau
 clause-Order a =
     ap core_clause_mean (sym (clause.rolls-Order a))
     ∙ fold-roll-CoreClause Meaning ClauseMeaning core_form core_clause (CoreClause-F.Order a)
+
+pub clause-Count : (a : (List ℕ)) → core_clause_mean (clause.Count a)
+    ≡ core_clause (CoreClause-F.Count a)
+clause-Count a =
+    ap core_clause_mean (sym (clause.rolls-Count a))
+    ∙ fold-roll-CoreClause Meaning ClauseMeaning core_form core_clause (CoreClause-F.Count a)

@@ -425,3 +425,21 @@ variable_under_a_quantifier : answer (c.flwor (c.let_be "a" (c.num 1) ∷ []) (c
     Equal)) (c.num 2) ∷ []))) ∷ []) (c.seq (c.var "a" ∷ c.var "b" ∷ [])))) ≡ Ok (codes "1, 2")
 unfolding digits chars
 variable_under_a_quantifier = refl
+
+-- (3, 1, 2) ! (. * 10)
+map_atoms : answer (c.mapped (c.seq (c.num 3 ∷ c.num 1 ∷ c.num 2 ∷ [])) (c.chain c.dot (c.op
+    (operator.Product Times) (c.num 10) ∷ []) ∷ [])) ≡ Ok (codes "30, 10, 20")
+unfolding digits chars
+map_atoms = refl
+
+-- "a" => concat("b") => string-length()
+arrow_chain : answer (c.arrow (c.call f.Concat (c.txt "a" ∷ c.txt "b" ∷ [])) ((f.StringLength, [])
+    ∷ [])) ≡ Ok (codes "2")
+unfolding digits chars
+arrow_chain = refl
+
+-- for $x allowing empty at $p in () count $c return ($p, $c)
+allowing_empty_and_count : answer (c.flwor (c.for_or_none_at "x" "p" (c.seq []) ∷ c.count_as "c" ∷
+    []) (c.seq (c.var "p" ∷ c.var "c" ∷ []))) ≡ Ok (codes "0, 1")
+unfolding digits chars
+allowing_empty_and_count = refl

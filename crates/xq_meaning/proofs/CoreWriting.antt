@@ -2,6 +2,7 @@
 -- its parts.
 use Prim.Native.String.{String}
 use Rattle.std.specs.Prelude.{ℕ, pos, List, Some, None, codes}
+use Rattle.xq_expressions.specs.declared.operators.AllowingEmpty.TheVariants as allowing
 use Rattle.xq_expressions.specs.declared.operators.Sign.{Sign}
 use Rattle.xq_expressions.specs.declared.operators.Quantifier.{Quantifier}
 use Rattle.xq_expressions.specs.declared.operators.NamedNode.{NamedNode}
@@ -43,6 +44,12 @@ seq parts = core_form (Core-F.Sequence parts)
 
 abbrev pub call : Function → List Meaning → Meaning
 call function parts = core_form (Core-F.Call function parts)
+
+abbrev pub arrow : Meaning → List (Function × List Meaning) → Meaning
+arrow first calls = core_form (Core-F.Arrow first calls)
+
+abbrev pub mapped : Meaning → List Meaning → Meaning
+mapped first parts = core_form (Core-F.Map first parts)
 
 abbrev pub op : Operator → Meaning → Operator × Meaning
 op operator part = (operator, part)
@@ -87,10 +94,17 @@ abbrev pub flwor : List ClauseMeaning → Meaning → Meaning
 flwor clauses part = core_form (Core-F.Flwor clauses part)
 
 abbrev pub for_in : String → Meaning → ClauseMeaning
-for_in s part = core_clause (CoreClause-F.For (codes s) None part)
+for_in s part = core_clause (CoreClause-F.For (codes s) allowing.No None part)
 
 abbrev pub for_at : String → String → Meaning → ClauseMeaning
-for_at s p part = core_clause (CoreClause-F.For (codes s) (Some (codes p)) part)
+for_at s p part = core_clause (CoreClause-F.For (codes s) allowing.No (Some (codes p)) part)
+
+abbrev pub for_or_none_at : String → String → Meaning → ClauseMeaning
+for_or_none_at s p part =
+    core_clause (CoreClause-F.For (codes s) allowing.Yes (Some (codes p)) part)
+
+abbrev pub count_as : String → ClauseMeaning
+count_as s = core_clause (CoreClause-F.Count (codes s))
 
 abbrev pub let_be : String → Meaning → ClauseMeaning
 let_be s part = core_clause (CoreClause-F.Let (codes s) part)

@@ -2,6 +2,7 @@
 use Rattle.std.specs.Prelude.{◌≡◌, ℕ, ℤ, List, map, Option}
 use Rattle.std.proofs.Common.{sym, ◌∙◌, ap}
 use Rattle.xq_expressions.specs.declared.names.QName.{QName}
+use Rattle.xq_expressions.specs.declared.operators.AllowingEmpty.{AllowingEmpty}
 use Rattle.xq_expressions.specs.declared.operators.Sign.{Sign}
 use Rattle.xq_expressions.specs.declared.operators.ProductOperator.{ProductOperator}
 use Rattle.xq_expressions.specs.declared.operators.SetOperator.{SetOperator}
@@ -122,6 +123,20 @@ mean-Unary a b =
     ∙ fold-roll-Expr ClauseMeaning Meaning Meaning GroupMeaning Meaning clause_meaning
     name_meaning form_meaning group_meaning step_meaning (Expr-F.Unary a b)
 
+pub mean-Arrow : (a : Expr) (b : List (QName × List Expr)) → mean (expr.Arrow a b)
+    ≡ form_meaning (Expr-F.Arrow (mean a) (map (λ (x, y). (x, map mean y)) b))
+mean-Arrow a b =
+    ap mean (sym (expr.rolls-Arrow a b))
+    ∙ fold-roll-Expr ClauseMeaning Meaning Meaning GroupMeaning Meaning clause_meaning
+    name_meaning form_meaning group_meaning step_meaning (Expr-F.Arrow a b)
+
+pub mean-Map : (a : Expr) (b : List Expr) → mean (expr.Map a b)
+    ≡ form_meaning (Expr-F.Map (mean a) (map mean b))
+mean-Map a b =
+    ap mean (sym (expr.rolls-Map a b))
+    ∙ fold-roll-Expr ClauseMeaning Meaning Meaning GroupMeaning Meaning clause_meaning
+    name_meaning form_meaning group_meaning step_meaning (Expr-F.Map a b)
+
 pub mean-Root : mean expr.Root ≡ form_meaning Expr-F.Root
 mean-Root =
     ap mean (sym expr.rolls-Root)
@@ -202,8 +217,9 @@ name-Computed a =
     clause_meaning name_meaning form_meaning group_meaning step_meaning
     (ConstructorName-F.Computed a)
 
-pub clause-For : (a : List (QName × Option QName × Expr)) → clause_mean (clause.For a)
-    ≡ clause_meaning (Clause-F.For (map (λ (x, y, z). (x, y, mean z)) a))
+pub clause-For : (a : List (QName × AllowingEmpty × Option QName × Expr)) →
+    clause_mean (clause.For a)
+    ≡ clause_meaning (Clause-F.For (map (λ (w, x, y, z). (w, x, y, mean z)) a))
 clause-For a =
     ap clause_mean (sym (clause.rolls-For a))
     ∙ fold-roll-Clause ClauseMeaning Meaning Meaning GroupMeaning Meaning clause_meaning
@@ -236,6 +252,13 @@ clause-Order a =
     ap clause_mean (sym (clause.rolls-Order a))
     ∙ fold-roll-Clause ClauseMeaning Meaning Meaning GroupMeaning Meaning clause_meaning
     name_meaning form_meaning group_meaning step_meaning (Clause-F.Order a)
+
+pub clause-Count : (a : QName) → clause_mean (clause.Count a)
+    ≡ clause_meaning (Clause-F.Count a)
+clause-Count a =
+    ap clause_mean (sym (clause.rolls-Count a))
+    ∙ fold-roll-Clause ClauseMeaning Meaning Meaning GroupMeaning Meaning clause_meaning
+    name_meaning form_meaning group_meaning step_meaning (Clause-F.Count a)
 
 pub grouping-Variable : (a : QName) → group_mean (grouping.Variable a)
     ≡ group_meaning (GroupSpec-F.«GroupSpec::Variable» a)

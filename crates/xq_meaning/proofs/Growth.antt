@@ -3,6 +3,7 @@
 use Rattle.std.proofs.Common.{◌≡◌, List, [], ◌∷◌, ◌++◌, refl, ap, ◌∙◌, Ok, Err, Bool, true, false, Option, Some, None, map, ℕ}
 use Rattle.std.specs.List.{AllByRecursion}
 use Rattle.xq_atoms.specs.declared.refusals.Code.TheVariants.{XPTY0019}
+use Rattle.xq_expressions.specs.declared.operators.AllowingEmpty.{AllowingEmpty}
 use Rattle.xq_expressions.specs.declared.operators.Sign.{Sign}
 use Rattle.xq_expressions.specs.declared.operators.NamedNode.{NamedNode}
 use Rattle.xq_expressions.specs.declared.operators.UnnamedNode.{UnnamedNode}
@@ -119,6 +120,19 @@ module _ {E : Type 0} where
       then_grows (for_each (λ (m : Forms.Meaning E). m frame) ms f) _ f (for_each_grows (λ (m :
       Forms.Meaning E). m frame) ms (in_frame ms frame h) f) (λ values g. extends_itself g)
 
+  next_call_grows : (frame : Forms.Frame E) (c : Function × List (Forms.Meaning E)) →
+      AllGrowing c.1 → (xs : List Item) → Grows (Forms.next_call frame xs c)
+  next_call_grows frame c h xs f =
+      then_grows (for_each (λ (m : Forms.Meaning E). m frame) c.1 f) _ f (for_each_grows (λ (m :
+      Forms.Meaning E). m frame) c.1 (in_frame c.1 frame h) f) (λ values g. extends_itself g)
+
+  pub arrow_grows : (m : Forms.Meaning E) (calls : List (Function × List (Forms.Meaning E))) →
+      Growing m → AllByRecursion (λ c. AllGrowing c.1) calls → Growing (Forms.arrow m calls)
+  arrow_grows m calls first h frame f =
+      then_grows (m frame f) _ f (first frame f) (in_turn_grows (Forms.next_call frame) calls
+      (all_weaker (λ c. AllGrowing c.1) _ (λ c grows xs. next_call_grows frame c grows xs) calls
+      h))
+
   pub sequence_grows : (ms : List (Forms.Meaning E)) → AllGrowing ms → Growing (Forms.sequence ms)
   sequence_grows ms h frame f =
       collected_grows (λ (m : Forms.Meaning E). m frame) ms (in_frame ms frame h) f
@@ -199,6 +213,19 @@ module _ {E : Type 0} where
       then_grows (m frame f) _ f (first frame f) (in_turn_grows (Forms.slash frame) ms (all_weaker
       Growing _ (λ part grows xs. slash_grows frame part grows xs) ms h))
 
+  bang_grows : (frame : Forms.Frame E) (m : Forms.Meaning E) → Growing m → (xs : List Item) →
+      Grows (Forms.bang frame xs m)
+  bang_grows frame m h xs =
+      collected_grows (λ item. m (Forms.in_focus frame item)) (focuses xs) (all_of (λ item.
+      Grows (m (Forms.in_focus frame item))) (λ item. h (Forms.in_focus frame item))
+      (focuses xs))
+
+  pub map_grows : (m : Forms.Meaning E) (ms : List (Forms.Meaning E)) → Growing m → AllGrowing ms →
+      Growing (Forms.simple_map m ms)
+  map_grows m ms first h frame f =
+      then_grows (m frame f) _ f (first frame f) (in_turn_grows (Forms.bang frame) ms (all_weaker
+      Growing _ (λ part grows xs. bang_grows frame part grows xs) ms h))
+
   pub named_node_grows : (kind : NamedNode) (m n : Forms.Meaning E) → Growing m → Growing n →
       Growing (Forms.named_node kind m n)
   named_node_grows kind m n h k frame f =
@@ -264,10 +291,10 @@ module _ {E : Type 0} where
       for_each_grows (λ t. m (frame_at t)) tuples (all_of (λ t. Grows (m (frame_at t))) (λ t. h
       (frame_at t)) tuples)
 
-  pub for_tuples_grows : (at : Bool) (m : Forms.Meaning E) → Growing m →
+  pub for_tuples_grows : (empties : AllowingEmpty) (at : Bool) (m : Forms.Meaning E) → Growing m →
       (frame_at : Tuple Item → Forms.Frame E) (tuples : List (Tuple Item)) → Grows
-      (Forms.for_tuples at m frame_at tuples)
-  for_tuples_grows at m h frame_at tuples f =
+      (Forms.for_tuples empties at m frame_at tuples)
+  for_tuples_grows empties at m h frame_at tuples f =
       then_grows (for_each (λ t. m (frame_at t)) tuples f) _ f (values_grow m h frame_at tuples
       f) (λ lists g. extends_itself g)
 
@@ -294,7 +321,11 @@ module _ {E : Type 0} where
       collected_grows (λ t. m (frame_at t)) tuples (all_of (λ t. Grows (m (frame_at t))) (λ t. h
       (frame_at t)) tuples)
 
--- grouping makes no tree
+-- neither numbering nor grouping makes a tree
+
+pub count_tuples_grows : (tuples : List (Tuple Item)) → Grows (Forms.count_tuples tuples)
+count_tuples_grows tuples f = extends_itself f
+
 pub group_tuples_grows : (slots : List ℕ) (tuples : List (Tuple Item)) →
     Grows (Forms.group_tuples slots tuples)
 group_tuples_grows slots tuples f = extends_itself f

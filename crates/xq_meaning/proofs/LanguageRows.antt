@@ -3,14 +3,14 @@ use Rattle.std.specs.Prelude.{◌≡◌, refl, [], ◌∷◌, Some, Ok, Err, cod
 use Rattle.std.specs.Fmt.{digits}
 use Rattle.std.specs.Str.{chars}
 use Rattle.xq_atoms.specs.Characters.{is_name_start, is_name_char}
-use Rattle.xq_atoms.specs.declared.refusals.Code.TheVariants.{FOAR0001, FOAR0002, FORG0006, ProfDouble, ProfPrefix, ProfRange, XPDY0002, XPDY0050, XPTY0004, XPTY0018, XPTY0019, XPTY0020, XQDY0025, XQDY0026, XQDY0041, XQDY0044, XQDY0064, XQDY0072, XQDY0074, XQTY0024}
+use Rattle.xq_atoms.specs.declared.refusals.Code.TheVariants.{FOAR0001, FOAR0002, FORG0006, ProfDouble, ProfPrefix, ProfRange, XPDY0002, XPDY0050, XPST0017, XPTY0004, XPTY0018, XPTY0019, XPTY0020, XQDY0025, XQDY0026, XQDY0041, XQDY0044, XQDY0064, XQDY0072, XQDY0074, XQTY0024}
 use Rattle.xq_expressions.specs.declared.operators.Sign.TheVariants.{Plus, Minus}
 use Rattle.xq_expressions.specs.declared.operators.Relation.TheVariants.{Equal, Less}
 use Rattle.xq_expressions.specs.declared.operators.ComparisonOperator.TheVariants.{Value, General, Node}
 use Rattle.xq_expressions.specs.declared.operators.NodeComparison.TheVariants.{Is, Precedes}
 use Rattle.xq_expressions.specs.declared.operators.AxisName.TheVariants as axis
 use Rattle.xq_expressions.specs.declared.operators.NodeTest.TheVariants as written
-use Rattle.xq_meaning.proofs.Writing.{bare, prefixed, num, dec, txt, var, dot, seq, none, call, call_by, plus, times, div_by, idiv_by, mod_by, intersect, without, sum, product, unary, to, concat, compare, union, sets, any_of, all_of, iff, slash, below, root, path, path_from_root, path_below_root, primary, filtered, named, along, bare_step, child, at_test, at, up, element, element_by, attribute, instruction, instruction_by, document, text, comment, flwor, let_be}
+use Rattle.xq_meaning.proofs.Writing.{bare, prefixed, num, dec, txt, var, dot, seq, none, call, call_by, onto, arrow, mapped, plus, times, div_by, idiv_by, mod_by, intersect, without, sum, product, unary, to, concat, compare, union, sets, any_of, all_of, iff, slash, below, root, path, path_from_root, path_below_root, primary, filtered, named, along, bare_step, child, at_test, at, up, element, element_by, attribute, instruction, instruction_by, document, text, comment, flwor, let_be}
 use Rattle.xq_meaning.proofs.Library.{answer}
 
 -- 1, 1.5, "a", ()
@@ -141,127 +141,178 @@ operators_8 : answer (unary (Plus ∷ []) (txt "1")) ≡ Err XPTY0004
 unfolding digits chars
 operators_8 = refl
 
--- 1 to 3, 3 to 1, xs:untypedAtomic("5") to 5
-operators_9 : answer (seq (to (num 1) (num 3) ∷ to (num 3) (num 1) ∷ to (call_by (prefixed "xs"
-    "untypedAtomic") (txt "5" ∷ [])) (num 5) ∷ [])) ≡ Ok (codes "1, 2, 3, 5")
+-- "a" => concat("b") => string-length(), -3 => abs()
+operators_9 : answer (seq (arrow (txt "a") (onto "concat" (txt "b" ∷ []) ∷ onto "string-length" []
+    ∷ []) ∷ arrow (unary (Minus ∷ []) (num 3)) (onto "abs" [] ∷ []) ∷ [])) ≡ Ok (codes "2, 3")
 unfolding digits chars
 operators_9 = refl
 
--- 1 to 1000001
-operators_10 : answer (to (num 1) (num 1000001)) ≡ Err ProfRange
+-- (1, 2, 3) => sum() + 1
+operators_10 : answer (sum (arrow (seq (num 1 ∷ num 2 ∷ num 3 ∷ [])) (onto "sum" [] ∷ [])) (plus
+    (num 1) ∷ [])) ≡ Ok (codes "7")
 unfolding digits chars
 operators_10 = refl
 
--- 1.0 to 3
-operators_11 : answer (to (dec 1000000) (num 3)) ≡ Err XPTY0004
+-- (1 div 0) => concat(xs:integer("x"))
+operators_11 : answer (arrow (product (num 1) (div_by (num 0) ∷ [])) (onto "concat" (call_by
+    (prefixed "xs" "integer") (txt "x" ∷ []) ∷ []) ∷ [])) ≡ Err FOAR0001
 unfolding digits chars
 operators_11 = refl
 
--- "a" || 1 || (), 2.0 || true()
-operators_12 : answer (seq (concat (txt "a" ∷ num 1 ∷ none ∷ []) ∷ concat (dec 2000000 ∷ call
-    "true" [] ∷ []) ∷ [])) ≡ Ok (codes "\"a1\", \"2true\"")
+-- 1 => position()
+operators_12 : answer (arrow (num 1) (onto "position" [] ∷ [])) ≡ Err XPST0017
 unfolding digits chars
 operators_12 = refl
 
--- ("a", "b") || "c"
-operators_13 : answer (concat (seq (txt "a" ∷ txt "b" ∷ []) ∷ txt "c" ∷ [])) ≡ Err XPTY0004
+-- (3, 1, 2) ! (. * 10), "a" ! position() ! last()
+operators_13 : answer (seq (mapped (seq (num 3 ∷ num 1 ∷ num 2 ∷ [])) (product dot (times (num 10)
+    ∷ []) ∷ []) ∷ mapped (txt "a") (call "position" [] ∷ call "last" [] ∷ []) ∷ [])) ≡ Ok (codes
+    "30, 10, 20, 1")
 unfolding digits chars
 operators_13 = refl
 
--- 1 eq 1.0, "a" lt "b", false() lt true(), () eq 1
-operators_14 : answer (seq (compare (Value Equal) (num 1) (dec 1000000) ∷ compare (Value Less) (txt
-    "a") (txt "b") ∷ compare (Value Less) (call "false" []) (call "true" []) ∷ compare (Value
-    Equal) none (num 1) ∷ [])) ≡ Ok (codes "true(), true(), true()")
+-- (doc("b")//book[2], doc("b")//book[1]) ! @id ! string()
+operators_14 : answer (mapped (seq (path (primary (call "doc" (txt "b" ∷ []))) (below (bare_step
+    (named "book") (num 2 ∷ [])) ∷ []) ∷ path (primary (call "doc" (txt "b" ∷ []))) (below
+    (bare_step (named "book") (num 1 ∷ [])) ∷ []) ∷ [])) (path (at "id") [] ∷ call "string" [] ∷
+    [])) ≡ Ok (codes "\"2\", \"1\"")
 unfolding digits chars
 operators_14 = refl
 
--- 1 eq "1"
-operators_15 : answer (compare (Value Equal) (num 1) (txt "1")) ≡ Err XPTY0004
+-- doc("b")//book[1] ! (@id, 1)
+operators_15 : answer (mapped (path (primary (call "doc" (txt "b" ∷ []))) (below (bare_step (named
+    "book") (num 1 ∷ [])) ∷ [])) (seq (path (at "id") [] ∷ num 1 ∷ []) ∷ [])) ≡ Ok (codes
+    "attribute id {\"1\"}, 1")
 unfolding digits chars
 operators_15 = refl
 
+-- -1 ! (. + 1)
+operators_16 : answer (unary (Minus ∷ []) (mapped (num 1) (sum dot (plus (num 1) ∷ []) ∷ []))) ≡ Ok
+    (codes "-2")
+unfolding digits chars
+operators_16 = refl
+
+-- 1 to 3, 3 to 1, xs:untypedAtomic("5") to 5
+operators_17 : answer (seq (to (num 1) (num 3) ∷ to (num 3) (num 1) ∷ to (call_by (prefixed "xs"
+    "untypedAtomic") (txt "5" ∷ [])) (num 5) ∷ [])) ≡ Ok (codes "1, 2, 3, 5")
+unfolding digits chars
+operators_17 = refl
+
+-- 1 to 1000001
+operators_18 : answer (to (num 1) (num 1000001)) ≡ Err ProfRange
+unfolding digits chars
+operators_18 = refl
+
+-- 1.0 to 3
+operators_19 : answer (to (dec 1000000) (num 3)) ≡ Err XPTY0004
+unfolding digits chars
+operators_19 = refl
+
+-- "a" || 1 || (), 2.0 || true()
+operators_20 : answer (seq (concat (txt "a" ∷ num 1 ∷ none ∷ []) ∷ concat (dec 2000000 ∷ call
+    "true" [] ∷ []) ∷ [])) ≡ Ok (codes "\"a1\", \"2true\"")
+unfolding digits chars
+operators_20 = refl
+
+-- ("a", "b") || "c"
+operators_21 : answer (concat (seq (txt "a" ∷ txt "b" ∷ []) ∷ txt "c" ∷ [])) ≡ Err XPTY0004
+unfolding digits chars
+operators_21 = refl
+
+-- 1 eq 1.0, "a" lt "b", false() lt true(), () eq 1
+operators_22 : answer (seq (compare (Value Equal) (num 1) (dec 1000000) ∷ compare (Value Less) (txt
+    "a") (txt "b") ∷ compare (Value Less) (call "false" []) (call "true" []) ∷ compare (Value
+    Equal) none (num 1) ∷ [])) ≡ Ok (codes "true(), true(), true()")
+unfolding digits chars
+operators_22 = refl
+
+-- 1 eq "1"
+operators_23 : answer (compare (Value Equal) (num 1) (txt "1")) ≡ Err XPTY0004
+unfolding digits chars
+operators_23 = refl
+
 -- (1, 2) = (2, 3), () = (), doc("b")//@id = "2"
-operators_16 : answer (seq (compare (General Equal) (seq (num 1 ∷ num 2 ∷ [])) (seq (num 2 ∷ num 3
+operators_24 : answer (seq (compare (General Equal) (seq (num 1 ∷ num 2 ∷ [])) (seq (num 2 ∷ num 3
     ∷ [])) ∷ compare (General Equal) none none ∷ compare (General Equal) (path (primary (call "doc"
     (txt "b" ∷ []))) (below (at "id") ∷ [])) (txt "2") ∷ [])) ≡ Ok (codes
     "true(), false(), true()")
 unfolding digits chars
-operators_16 = refl
+operators_24 = refl
 
 -- (1, "a") = 1
-operators_17 : answer (compare (General Equal) (seq (num 1 ∷ txt "a" ∷ [])) (num 1)) ≡ Ok (codes
+operators_25 : answer (compare (General Equal) (seq (num 1 ∷ txt "a" ∷ [])) (num 1)) ≡ Ok (codes
     "true()")
 unfolding digits chars
-operators_17 = refl
+operators_25 = refl
 
 -- ("a", 1) = 1
-operators_18 : answer (compare (General Equal) (seq (txt "a" ∷ num 1 ∷ [])) (num 1)) ≡ Err XPTY0004
+operators_26 : answer (compare (General Equal) (seq (txt "a" ∷ num 1 ∷ [])) (num 1)) ≡ Err XPTY0004
 unfolding digits chars
-operators_18 = refl
+operators_26 = refl
 
 -- doc("b")//@id = 1
-operators_19 : answer (compare (General Equal) (path (primary (call "doc" (txt "b" ∷ []))) (below
+operators_27 : answer (compare (General Equal) (path (primary (call "doc" (txt "b" ∷ []))) (below
     (at "id") ∷ [])) (num 1)) ≡ Err ProfDouble
 unfolding digits chars
-operators_19 = refl
+operators_27 = refl
 
 -- let $b := doc("b")//book return ($b[1] is $b[1], $b[1] << $b[2], () is $b[1])
-operators_20 : answer (flwor (let_be "b" (path (primary (call "doc" (txt "b" ∷ []))) (below (child
+operators_28 : answer (flwor (let_be "b" (path (primary (call "doc" (txt "b" ∷ []))) (below (child
     "book") ∷ [])) ∷ []) (seq (compare (Node Is) (path (filtered (var "b") (num 1 ∷ [])) []) (path
     (filtered (var "b") (num 1 ∷ [])) []) ∷ compare (Node Precedes) (path (filtered (var "b") (num
     1 ∷ [])) []) (path (filtered (var "b") (num 2 ∷ [])) []) ∷ compare (Node Is) none (path
     (filtered (var "b") (num 1 ∷ [])) []) ∷ []))) ≡ Ok (codes "true(), true()")
 unfolding digits chars
-operators_20 = refl
+operators_28 = refl
 
 -- 1 is doc("b")
-operators_21 : answer (compare (Node Is) (num 1) (call "doc" (txt "b" ∷ []))) ≡ Err XPTY0004
+operators_29 : answer (compare (Node Is) (num 1) (call "doc" (txt "b" ∷ []))) ≡ Err XPTY0004
 unfolding digits chars
-operators_21 = refl
+operators_29 = refl
 
 -- (doc("b")//@id | doc("b")//book[1]/@id)/string()
-operators_22 : answer (path (primary (union (path (primary (call "doc" (txt "b" ∷ []))) (below (at
+operators_30 : answer (path (primary (union (path (primary (call "doc" (txt "b" ∷ []))) (below (at
     "id") ∷ []) ∷ path (primary (call "doc" (txt "b" ∷ []))) (below (bare_step (named "book") (num
     1 ∷ [])) ∷ slash (at "id") ∷ []) ∷ []))) (slash (primary (call "string" [])) ∷ [])) ≡ Ok (codes
     "\"1\", \"2\"")
 unfolding digits chars
-operators_22 = refl
+operators_30 = refl
 
 -- doc("b")//@id except doc("b")//book[1]/@id
-operators_23 : answer (sets (path (primary (call "doc" (txt "b" ∷ []))) (below (at "id") ∷ []))
+operators_31 : answer (sets (path (primary (call "doc" (txt "b" ∷ []))) (below (at "id") ∷ []))
     (without (path (primary (call "doc" (txt "b" ∷ []))) (below (bare_step (named "book") (num 1 ∷
     [])) ∷ slash (at "id") ∷ [])) ∷ [])) ≡ Ok (codes "attribute id {\"2\"}")
 unfolding digits chars
-operators_23 = refl
+operators_31 = refl
 
 -- doc("b")//@id intersect doc("b")//book[1]/@id
-operators_24 : answer (sets (path (primary (call "doc" (txt "b" ∷ []))) (below (at "id") ∷ []))
+operators_32 : answer (sets (path (primary (call "doc" (txt "b" ∷ []))) (below (at "id") ∷ []))
     (intersect (path (primary (call "doc" (txt "b" ∷ []))) (below (bare_step (named "book") (num 1
     ∷ [])) ∷ slash (at "id") ∷ [])) ∷ [])) ≡ Ok (codes "attribute id {\"1\"}")
 unfolding digits chars
-operators_24 = refl
+operators_32 = refl
 
 -- doc("b") | 1
-operators_25 : answer (union (call "doc" (txt "b" ∷ []) ∷ num 1 ∷ [])) ≡ Err XPTY0004
+operators_33 : answer (union (call "doc" (txt "b" ∷ []) ∷ num 1 ∷ [])) ≡ Err XPTY0004
 unfolding digits chars
-operators_25 = refl
+operators_33 = refl
 
 -- 1 = 1 or 1 div 0, 1 = 2 and 1 div 0
-operators_26 : answer (seq (any_of (compare (General Equal) (num 1) (num 1) ∷ product (num 1)
+operators_34 : answer (seq (any_of (compare (General Equal) (num 1) (num 1) ∷ product (num 1)
     (div_by (num 0) ∷ []) ∷ []) ∷ all_of (compare (General Equal) (num 1) (num 2) ∷ product (num 1)
     (div_by (num 0) ∷ []) ∷ []) ∷ [])) ≡ Ok (codes "true(), false()")
 unfolding digits chars
-operators_26 = refl
+operators_34 = refl
 
 -- if (()) then 1 div 0 else 2
-operators_27 : answer (iff none (product (num 1) (div_by (num 0) ∷ [])) (num 2)) ≡ Ok (codes "2")
+operators_35 : answer (iff none (product (num 1) (div_by (num 0) ∷ [])) (num 2)) ≡ Ok (codes "2")
 unfolding digits chars
-operators_27 = refl
+operators_35 = refl
 
 -- if ((1, 2)) then 1 else 2
-operators_28 : answer (iff (seq (num 1 ∷ num 2 ∷ [])) (num 1) (num 2)) ≡ Err FORG0006
+operators_36 : answer (iff (seq (num 1 ∷ num 2 ∷ [])) (num 1) (num 2)) ≡ Err FORG0006
 unfolding digits chars
-operators_28 = refl
+operators_36 = refl
 
 -- doc("b")/lib/child::book/attribute::id
 paths_1 : answer (path (primary (call "doc" (txt "b" ∷ []))) (slash (child "lib") ∷ slash (along

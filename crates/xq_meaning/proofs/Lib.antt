@@ -2,6 +2,7 @@ pub mod Equations
 pub mod CoreEquations
 pub mod PlanEquations
 pub mod SameForms
+pub mod Turns
 pub mod Growth
 pub mod PlanGrowth
 pub mod Writing
@@ -14,6 +15,7 @@ mod OperatorRows
 mod PathRows
 mod ConstructorRows
 mod FlworRows
+mod ChainRows
 mod FunctionRows
 mod MoreFunctionRows
 mod LimitRows

@@ -9,7 +9,7 @@ use Rattle.xq_expressions.specs.declared.operators.Relation.TheVariants.{Equal}
 use Rattle.xq_expressions.specs.declared.operators.ComparisonOperator.TheVariants.{General, Node}
 use Rattle.xq_expressions.specs.declared.operators.NodeComparison.TheVariants.{Is}
 use Rattle.xq_expressions.specs.declared.operators.Quantifier.TheVariants as quantifier
-use Rattle.xq_meaning.proofs.Writing.{prefixed, num, dec, txt, txt8, var, seq, none, call, call_by, minus, times, div_by, mod_by, sum, product, unary, to, compare, quantified, slash, below, path, primary, filtered, named, bare_step, child, at, flwor, be, each, each_at, for_all, for_in, let_all, let_be, where_is, grouping, assigned, group_by, by, order_by, ascending, descending}
+use Rattle.xq_meaning.proofs.Writing.{prefixed, num, dec, txt, txt8, var, seq, none, call, call_by, plus, minus, times, div_by, mod_by, sum, product, unary, to, compare, quantified, slash, below, path, primary, filtered, named, bare_step, child, at, flwor, be, each, each_at, each_or_none_at, for_all, for_in, let_all, let_be, count_as, where_is, grouping, assigned, group_by, by, order_by, ascending, descending}
 use Rattle.xq_meaning.proofs.Library.{answer}
 
 -- for $x at $p in ("a", "b") return ($p, $x)
@@ -18,70 +18,90 @@ flwor_and_quantified_expressions_1 : answer (flwor (for_all (each_at "x" "p" (se
 unfolding digits chars
 flwor_and_quantified_expressions_1 = refl
 
--- let $x := (1, 2), $y := count($x) return ($y, $x)
-flwor_and_quantified_expressions_2 : answer (flwor (let_all (be "x" (seq (num 1 ∷ num 2 ∷ [])) ∷ be
-    "y" (call "count" (var "x" ∷ [])) ∷ []) ∷ []) (seq (var "y" ∷ var "x" ∷ []))) ≡ Ok (codes
-    "2, 1, 2")
+-- for $x allowing empty at $p in () return ($p, count($x))
+flwor_and_quantified_expressions_2 : answer (flwor (for_all (each_or_none_at "x" "p" none ∷ []) ∷
+    []) (seq (var "p" ∷ call "count" (var "x" ∷ []) ∷ []))) ≡ Ok (codes "0, 0")
 unfolding digits chars
 flwor_and_quantified_expressions_2 = refl
 
--- let $x := 1 div 0 return 1
-flwor_and_quantified_expressions_3 : answer (flwor (let_be "x" (product (num 1) (div_by (num 0) ∷
-    [])) ∷ []) (num 1)) ≡ Err FOAR0001
+-- let $x := (1, 2), $y := count($x) return ($y, $x)
+flwor_and_quantified_expressions_3 : answer (flwor (let_all (be "x" (seq (num 1 ∷ num 2 ∷ [])) ∷ be
+    "y" (call "count" (var "x" ∷ [])) ∷ []) ∷ []) (seq (var "y" ∷ var "x" ∷ []))) ≡ Ok (codes
+    "2, 1, 2")
 unfolding digits chars
 flwor_and_quantified_expressions_3 = refl
 
--- for $x in 1 to 4 where $x mod 2 = 0 return $x
-flwor_and_quantified_expressions_4 : answer (flwor (for_in "x" (to (num 1) (num 4)) ∷ where_is
-    (compare (General Equal) (product (var "x") (mod_by (num 2) ∷ [])) (num 0)) ∷ []) (var "x")) ≡
-    Ok (codes "2, 4")
+-- let $x := 1 div 0 return 1
+flwor_and_quantified_expressions_4 : answer (flwor (let_be "x" (product (num 1) (div_by (num 0) ∷
+    [])) ∷ []) (num 1)) ≡ Err FOAR0001
 unfolding digits chars
 flwor_and_quantified_expressions_4 = refl
 
--- for $x in (1, 2, 1.0) let $y := $x group by $x return ($x, count($y))
-flwor_and_quantified_expressions_5 : answer (flwor (for_in "x" (seq (num 1 ∷ num 2 ∷ dec 1000000 ∷
-    [])) ∷ let_be "y" (var "x") ∷ group_by (grouping "x" ∷ []) ∷ []) (seq (var "x" ∷ call "count"
-    (var "y" ∷ []) ∷ []))) ≡ Ok (codes "1, 2, 2, 1")
+-- for $x in 1 to 4 where $x mod 2 = 0 return $x
+flwor_and_quantified_expressions_5 : answer (flwor (for_in "x" (to (num 1) (num 4)) ∷ where_is
+    (compare (General Equal) (product (var "x") (mod_by (num 2) ∷ [])) (num 0)) ∷ []) (var "x")) ≡
+    Ok (codes "2, 4")
 unfolding digits chars
 flwor_and_quantified_expressions_5 = refl
 
--- for $x in 1 group by $k := (1, 2) return 1
-flwor_and_quantified_expressions_6 : answer (flwor (for_in "x" (num 1) ∷ group_by (assigned "k"
-    (seq (num 1 ∷ num 2 ∷ [])) ∷ []) ∷ []) (num 1)) ≡ Err XPTY0004
+-- for $x in (5, 7, 9) order by $x descending count $c return $c * 100 + $x
+flwor_and_quantified_expressions_6 : answer (flwor (for_in "x" (seq (num 5 ∷ num 7 ∷ num 9 ∷ [])) ∷
+    order_by (by (var "x") descending ∷ []) ∷ count_as "c" ∷ []) (sum (product (var "c") (times
+    (num 100) ∷ [])) (plus (var "x") ∷ []))) ≡ Ok (codes "109, 207, 305")
 unfolding digits chars
 flwor_and_quantified_expressions_6 = refl
 
--- for $x in (3, 1, 2) order by $x descending return $x
-flwor_and_quantified_expressions_7 : answer (flwor (for_in "x" (seq (num 3 ∷ num 1 ∷ num 2 ∷ [])) ∷
-    order_by (by (var "x") descending ∷ []) ∷ []) (var "x")) ≡ Ok (codes "3, 2, 1")
+-- for $x in (1, 2) count $c group by $g := $c mod 2 return $g
+flwor_and_quantified_expressions_7 : answer (flwor (for_in "x" (seq (num 1 ∷ num 2 ∷ [])) ∷
+    count_as "c" ∷ group_by (assigned "g" (product (var "c") (mod_by (num 2) ∷ [])) ∷ []) ∷ [])
+    (var "g")) ≡ Ok (codes "1, 0")
 unfolding digits chars
 flwor_and_quantified_expressions_7 = refl
 
--- for $x in (2, "a") order by $x return $x
-flwor_and_quantified_expressions_8 : answer (flwor (for_in "x" (seq (num 2 ∷ txt "a" ∷ [])) ∷
-    order_by (by (var "x") ascending ∷ []) ∷ []) (var "x")) ≡ Err XPTY0004
+-- for $x in (1, 2, 1.0) let $y := $x group by $x return ($x, count($y))
+flwor_and_quantified_expressions_8 : answer (flwor (for_in "x" (seq (num 1 ∷ num 2 ∷ dec 1000000 ∷
+    [])) ∷ let_be "y" (var "x") ∷ group_by (grouping "x" ∷ []) ∷ []) (seq (var "x" ∷ call "count"
+    (var "y" ∷ []) ∷ []))) ≡ Ok (codes "1, 2, 2, 1")
 unfolding digits chars
 flwor_and_quantified_expressions_8 = refl
 
--- for $x in (1, 2), $y in ($x, 3) return $x * $y
-flwor_and_quantified_expressions_9 : answer (flwor (for_all (each "x" (seq (num 1 ∷ num 2 ∷ [])) ∷
-    each "y" (seq (var "x" ∷ num 3 ∷ [])) ∷ []) ∷ []) (product (var "x") (times (var "y") ∷ []))) ≡
-    Ok (codes "1, 3, 4, 6")
+-- for $x in 1 group by $k := (1, 2) return 1
+flwor_and_quantified_expressions_9 : answer (flwor (for_in "x" (num 1) ∷ group_by (assigned "k"
+    (seq (num 1 ∷ num 2 ∷ [])) ∷ []) ∷ []) (num 1)) ≡ Err XPTY0004
 unfolding digits chars
 flwor_and_quantified_expressions_9 = refl
 
--- some $x in (1, 2), $y in (2, 3) satisfies $x = $y
-flwor_and_quantified_expressions_10 : answer (quantified quantifier.Some (be "x" (seq (num 1 ∷ num
-    2 ∷ [])) ∷ be "y" (seq (num 2 ∷ num 3 ∷ [])) ∷ []) (compare (General Equal) (var "x") (var
-    "y"))) ≡ Ok (codes "true()")
+-- for $x in (3, 1, 2) order by $x descending return $x
+flwor_and_quantified_expressions_10 : answer (flwor (for_in "x" (seq (num 3 ∷ num 1 ∷ num 2 ∷ []))
+    ∷ order_by (by (var "x") descending ∷ []) ∷ []) (var "x")) ≡ Ok (codes "3, 2, 1")
 unfolding digits chars
 flwor_and_quantified_expressions_10 = refl
 
--- every $x in () satisfies 1 div 0
-flwor_and_quantified_expressions_11 : answer (quantified quantifier.Every (be "x" none ∷ [])
-    (product (num 1) (div_by (num 0) ∷ []))) ≡ Ok (codes "true()")
+-- for $x in (2, "a") order by $x return $x
+flwor_and_quantified_expressions_11 : answer (flwor (for_in "x" (seq (num 2 ∷ txt "a" ∷ [])) ∷
+    order_by (by (var "x") ascending ∷ []) ∷ []) (var "x")) ≡ Err XPTY0004
 unfolding digits chars
 flwor_and_quantified_expressions_11 = refl
+
+-- for $x in (1, 2), $y in ($x, 3) return $x * $y
+flwor_and_quantified_expressions_12 : answer (flwor (for_all (each "x" (seq (num 1 ∷ num 2 ∷ [])) ∷
+    each "y" (seq (var "x" ∷ num 3 ∷ [])) ∷ []) ∷ []) (product (var "x") (times (var "y") ∷ []))) ≡
+    Ok (codes "1, 3, 4, 6")
+unfolding digits chars
+flwor_and_quantified_expressions_12 = refl
+
+-- some $x in (1, 2), $y in (2, 3) satisfies $x = $y
+flwor_and_quantified_expressions_13 : answer (quantified quantifier.Some (be "x" (seq (num 1 ∷ num
+    2 ∷ [])) ∷ be "y" (seq (num 2 ∷ num 3 ∷ [])) ∷ []) (compare (General Equal) (var "x") (var
+    "y"))) ≡ Ok (codes "true()")
+unfolding digits chars
+flwor_and_quantified_expressions_13 = refl
+
+-- every $x in () satisfies 1 div 0
+flwor_and_quantified_expressions_14 : answer (quantified quantifier.Every (be "x" none ∷ [])
+    (product (num 1) (div_by (num 0) ∷ []))) ≡ Ok (codes "true()")
+unfolding digits chars
+flwor_and_quantified_expressions_14 = refl
 
 -- doc("b")/lib/book[1]/@id
 documents_and_nodes_1 : answer (path (primary (call "doc" (txt "b" ∷ []))) (slash (child "lib") ∷

@@ -2,6 +2,7 @@
 use Rattle.std.specs.Prelude.{◌≡◌, ℕ, ℤ, List, map, Bool}
 use Rattle.std.proofs.Common.{sym, ◌∙◌, ap}
 use Rattle.xq_atoms.specs.declared.refusals.Code.{Code}
+use Rattle.xq_expressions.specs.declared.operators.AllowingEmpty.{AllowingEmpty}
 use Rattle.xq_expressions.specs.declared.operators.Sign.{Sign}
 use Rattle.xq_expressions.specs.declared.operators.Quantifier.{Quantifier}
 use Rattle.xq_expressions.specs.declared.operators.NamedNode.{NamedNode}
@@ -111,6 +112,20 @@ plan-Call a b =
     ∙ fold-roll-Plan Meaning ClauseMeaning StepMeaning plan_form plan_clause plan_step
     (Plan-F.Call a b)
 
+pub plan-Arrow : (a : Plan) (b : List (Function × List Plan)) → plan_mean (plan.Arrow a b)
+    ≡ plan_form (Plan-F.Arrow (plan_mean a) (map (λ (x, y). (x, map plan_mean y)) b))
+plan-Arrow a b =
+    ap plan_mean (sym (plan.rolls-Arrow a b))
+    ∙ fold-roll-Plan Meaning ClauseMeaning StepMeaning plan_form plan_clause plan_step
+    (Plan-F.Arrow a b)
+
+pub plan-Map : (a : Plan) (b : List Plan) → plan_mean (plan.Map a b)
+    ≡ plan_form (Plan-F.Map (plan_mean a) (map plan_mean b))
+plan-Map a b =
+    ap plan_mean (sym (plan.rolls-Map a b))
+    ∙ fold-roll-Plan Meaning ClauseMeaning StepMeaning plan_form plan_clause plan_step
+    (Plan-F.Map a b)
+
 pub plan-Named : (a : NamedNode) (b : Plan) (c : Plan) → plan_mean (plan.Named a b c)
     ≡ plan_form (Plan-F.Named a (plan_mean b) (plan_mean c))
 plan-Named a b c =
@@ -153,12 +168,12 @@ plan-Path a b =
     ∙ fold-roll-Plan Meaning ClauseMeaning StepMeaning plan_form plan_clause plan_step
     (Plan-F.Path a b)
 
-pub clause-For : (a : Bool) (b : Plan) → plan_clause_mean (clause.For a b)
-    ≡ plan_clause (PlanClause-F.For a (plan_mean b))
-clause-For a b =
-    ap plan_clause_mean (sym (clause.rolls-For a b))
+pub clause-For : (a : AllowingEmpty) (b : Bool) (c : Plan) → plan_clause_mean (clause.For a b c)
+    ≡ plan_clause (PlanClause-F.For a b (plan_mean c))
+clause-For a b c =
+    ap plan_clause_mean (sym (clause.rolls-For a b c))
     ∙ fold-roll-PlanClause Meaning ClauseMeaning StepMeaning plan_form plan_clause plan_step
-    (PlanClause-F.For a b)
+    (PlanClause-F.For a b c)
 
 pub clause-Let : (a : Plan) → plan_clause_mean (clause.Let a)
     ≡ plan_clause (PlanClause-F.Let (plan_mean a))
@@ -187,6 +202,12 @@ clause-Order a =
     ap plan_clause_mean (sym (clause.rolls-Order a))
     ∙ fold-roll-PlanClause Meaning ClauseMeaning StepMeaning plan_form plan_clause plan_step
     (PlanClause-F.Order a)
+
+pub clause-Count : plan_clause_mean clause.Count ≡ plan_clause PlanClause-F.Count
+clause-Count =
+    ap plan_clause_mean (sym clause.rolls-Count)
+    ∙ fold-roll-PlanClause Meaning ClauseMeaning StepMeaning plan_form plan_clause plan_step
+    PlanClause-F.Count
 
 pub step-Each : (a : Plan) → plan_step_mean (step.Each a)
     ≡ plan_step (PlanStep-F.Each (plan_mean a))

@@ -2,6 +2,7 @@
 use Rattle.std.proofs.Common.{List, [], ◌∷◌, map, subst, sym}
 use Rattle.std.specs.List.{AllByRecursion}
 use Rattle.xq_expressions.specs.declared.operators.OrderModifier.{OrderModifier}
+use Rattle.xq_expressions.specs.declared.signatures.Function.{Function}
 use Rattle.xq_regions.specs.Tuples.{Tuple}
 use Rattle.xq_meaning.specs.declared.operators.Operator.{Operator}
 use Rattle.xq_meaning.specs.Items.{Item}
@@ -12,7 +13,7 @@ use Rattle.xq_meaning.specs.declared.plans.PlanClause.{PlanClause, map-PlanClaus
 use Rattle.xq_meaning.specs.declared.plans.PlanStep.{PlanStep, map-PlanStep, fold-roll-PlanStep}
 use Rattle.xq_meaning.specs.declared.plans.Plan.TheOpen.{Plan-F, PlanClause-F, PlanStep-F}
 use Rattle.xq_meaning.specs.PlanMeaning.{Frame, Meaning, ClauseMeaning, StepMeaning, at_tuple, next_clause, next_step, opened, plan_form, plan_clause, plan_step, plan_mean, plan_clause_mean, plan_step_mean}
-use Rattle.xq_meaning.proofs.Growth.{Grows, Growing, AllGrowing, extends_itself, then_grows, in_turn_grows, for_each_grows, all_of, atoms_grow, call_grows, sequence_grows, chain_grows, unary_grows, or_grows, and_grows, conditional_grows, filter_grows, slash_grows, named_node_grows, unnamed_node_grows, root_grows, step_grows, quantified_grows, for_tuples_grows, let_tuples_grows, where_tuples_grows, return_grows, group_tuples_grows}
+use Rattle.xq_meaning.proofs.Growth.{Grows, Growing, AllGrowing, extends_itself, then_grows, in_turn_grows, for_each_grows, all_of, atoms_grow, call_grows, arrow_grows, sequence_grows, chain_grows, unary_grows, or_grows, and_grows, conditional_grows, filter_grows, slash_grows, map_grows, named_node_grows, unnamed_node_grows, root_grows, step_grows, quantified_grows, for_tuples_grows, let_tuples_grows, where_tuples_grows, return_grows, count_tuples_grows, group_tuples_grows}
 
 -- # What is claimed of each part
 
@@ -44,6 +45,10 @@ plans (p ∷ ps) = (p.1, plans ps)
 operands : (rest : List (Operator × P)) → AllByRecursion (λ (o : Operator × Meaning). Growing o.1) (map (λ (o : Operator × Plan). (o.0, plan_mean o.1)) (map (λ (o : Operator × P). (o.0, o.1.0)) rest))
 operands [] = tt
 operands (o ∷ rest) = (o.1.1, operands rest)
+
+calls : (cs : List (Function × List P)) → AllByRecursion (λ (c : Function × List Meaning). AllGrowing c.1) (map (λ (c : Function × List Plan). (c.0, map plan_mean c.1)) (map (λ (c : Function × List P). (c.0, map (λ e. e.0) c.1)) cs))
+calls [] = tt
+calls (c ∷ cs) = (plans c.1, calls cs)
 
 ranges : (ps : List P) → AllByRecursion (λ (b : Forms.Binding _). Growing b.1) (map (λ range. (opened, range)) (map plan_mean (map (λ e. e.0) ps)))
 ranges [] = tt
@@ -93,6 +98,8 @@ form_grows (Plan-F.Path start ss) = λ frame f.
 form_grows (Plan-F.Step axis test predicates) = step_grows axis test _ (plans predicates)
 form_grows (Plan-F.Filter start predicates) = filter_grows (plan_mean start.0) _ start.1 (plans predicates)
 form_grows (Plan-F.Call function parts) = call_grows function _ (plans parts)
+form_grows (Plan-F.Arrow first cs) = arrow_grows (plan_mean first.0) _ first.1 (calls cs)
+form_grows (Plan-F.Map start parts) = map_grows (plan_mean start.0) _ start.1 (plans parts)
 form_grows (Plan-F.Named kind name part) = named_node_grows kind (plan_mean name.0) (plan_mean part.0) name.1 part.1
 form_grows (Plan-F.Unnamed kind part) = unnamed_node_grows kind (plan_mean part.0) part.1
 
@@ -102,7 +109,7 @@ clause_parts y =
     (map-PlanClause P C S Plan PlanClause PlanStep (λ e. e.0) (λ e. e.0) (λ e. e.0) y)
 
 clause_grows : (y : PlanClause-F P C S) → ClauseGrows (plan_clause (clause_parts y))
-clause_grows (PlanClause-F.For at part) = λ frame. for_tuples_grows at (plan_mean part.0) part.1 (at_tuple frame)
+clause_grows (PlanClause-F.For empties at part) = λ frame. for_tuples_grows empties at (plan_mean part.0) part.1 (at_tuple frame)
 clause_grows (PlanClause-F.Let part) = λ frame. let_tuples_grows (plan_mean part.0) part.1 (at_tuple frame)
 clause_grows (PlanClause-F.Where part) = λ frame. where_tuples_grows (plan_mean part.0) part.1 (at_tuple frame)
 clause_grows (PlanClause-F.Group slots) = λ frame. group_tuples_grows slots
@@ -112,6 +119,7 @@ clause_grows (PlanClause-F.Order os) = λ frame tuples f.
     then_grows (for_each keys tuples f) _ f
     (for_each_grows keys tuples (all_of (λ t. Grows (keys t)) (λ t. for_each_grows (λ (spec : Meaning × OrderModifier). Forms.atoms_of spec.0 (at_tuple frame t)) parts (specs (at_tuple frame t) os)) tuples) f)
     (λ rows g. extends_itself g)
+clause_grows PlanClause-F.Count = λ frame. count_tuples_grows
 clause_grows (PlanClause-F.Refused code) = λ frame tuples f. extends_itself f
 
 abbrev step_parts : PlanStep-F P C S → PlanStep-F Meaning ClauseMeaning StepMeaning

@@ -424,3 +424,21 @@ variable_under_a_quantifier : answer (p.flwor (p.let_be (p.num 1) ∷ []) (p.flw
     ∷ []) (p.seq (p.slot 0 ∷ p.slot 1 ∷ [])))) ≡ Ok (codes "1, 2")
 unfolding digits chars
 variable_under_a_quantifier = refl
+
+-- (3, 1, 2) ! (. * 10)
+map_atoms : answer (p.mapped (p.seq (p.num 3 ∷ p.num 1 ∷ p.num 2 ∷ [])) (p.chain p.dot (p.op
+    (operator.Product Times) (p.num 10) ∷ []) ∷ [])) ≡ Ok (codes "30, 10, 20")
+unfolding digits chars
+map_atoms = refl
+
+-- "a" => concat("b") => string-length()
+arrow_chain : answer (p.arrow (p.call f.Concat (p.txt "a" ∷ p.txt "b" ∷ [])) ((f.StringLength, [])
+    ∷ [])) ≡ Ok (codes "2")
+unfolding digits chars
+arrow_chain = refl
+
+-- for $x allowing empty at $p in () count $c return ($p, $c)
+allowing_empty_and_count : answer (p.flwor (p.for_or_none_at (p.seq []) ∷ p.numbers ∷ []) (p.seq
+    (p.slot 1 ∷ p.slot 2 ∷ []))) ≡ Ok (codes "0, 1")
+unfolding digits chars
+allowing_empty_and_count = refl

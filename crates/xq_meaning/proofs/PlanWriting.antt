@@ -2,6 +2,7 @@
 -- parts.
 use Prim.Native.String.{String}
 use Rattle.std.specs.Prelude.{ℕ, pos, true, false, List, codes}
+use Rattle.xq_expressions.specs.declared.operators.AllowingEmpty.TheVariants as allowing
 use Rattle.xq_expressions.specs.declared.operators.Sign.{Sign}
 use Rattle.xq_expressions.specs.declared.operators.Quantifier.{Quantifier}
 use Rattle.xq_expressions.specs.declared.operators.NamedNode.{NamedNode}
@@ -41,6 +42,12 @@ seq parts = plan_form (Plan-F.Sequence parts)
 
 abbrev pub call : Function → List Meaning → Meaning
 call function parts = plan_form (Plan-F.Call function parts)
+
+abbrev pub arrow : Meaning → List (Function × List Meaning) → Meaning
+arrow first calls = plan_form (Plan-F.Arrow first calls)
+
+abbrev pub mapped : Meaning → List Meaning → Meaning
+mapped first parts = plan_form (Plan-F.Map first parts)
 
 abbrev pub op : Operator → Meaning → Operator × Meaning
 op operator part = (operator, part)
@@ -88,10 +95,16 @@ abbrev pub flwor : List ClauseMeaning → Meaning → Meaning
 flwor clauses part = plan_form (Plan-F.Flwor clauses part)
 
 abbrev pub for_in : Meaning → ClauseMeaning
-for_in part = plan_clause (PlanClause-F.For false part)
+for_in part = plan_clause (PlanClause-F.For allowing.No false part)
 
 abbrev pub for_at : Meaning → ClauseMeaning
-for_at part = plan_clause (PlanClause-F.For true part)
+for_at part = plan_clause (PlanClause-F.For allowing.No true part)
+
+abbrev pub for_or_none_at : Meaning → ClauseMeaning
+for_or_none_at part = plan_clause (PlanClause-F.For allowing.Yes true part)
+
+abbrev pub numbers : ClauseMeaning
+numbers = plan_clause PlanClause-F.Count
 
 abbrev pub let_be : Meaning → ClauseMeaning
 let_be part = plan_clause (PlanClause-F.Let part)

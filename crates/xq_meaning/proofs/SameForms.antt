@@ -3,6 +3,7 @@
 use Rattle.std.proofs.Common.{◌≡◌, List, [], ◌∷◌, ◌++◌, refl, ap, ◌∙◌, Ok, Err, Bool, true, false, Option, Some, map, length, suc}
 use Rattle.std.specs.List.{AllByRecursion}
 use Rattle.xq_atoms.specs.Text.{Text}
+use Rattle.xq_expressions.specs.declared.operators.AllowingEmpty.{AllowingEmpty}
 use Rattle.xq_expressions.specs.declared.operators.Sign.{Sign}
 use Rattle.xq_expressions.specs.declared.operators.Quantifier.{Quantifier}
 use Rattle.xq_expressions.specs.declared.operators.NamedNode.{NamedNode}
@@ -139,6 +140,31 @@ module _ {E F : Type 0} (addresses : List Text) (env : E) (env' : F) where
       (for_each_same (λ (m : Forms.Meaning E). m (here focus)) (λ (p : Forms.Meaning F). p
       (there focus)) ms ps (at_focus ms ps focus h) f)
 
+  -- a call after an arrow: the same function, and the same arguments
+  abbrev pub SameCall : Function × List (Forms.Meaning E) → Function × List (Forms.Meaning F) →
+      Type 0
+  SameCall x y = (x.0 ≡ y.0) × AllSame x.1 y.1
+
+  next_call_same : (focus : Option Focus) (x : Function × List (Forms.Meaning E)) (y : Function ×
+      List (Forms.Meaning F)) →
+      SameCall x y → (xs : List Item) (f : List Tree) → Forms.next_call (here focus) xs x f
+      ≡ Forms.next_call (there focus) xs y f
+  next_call_same focus x y same xs f =
+      ap (λ o. go_on o (λ values. on_trees (λ trees. called x.0 trees addresses focus (xs ∷
+      values))))
+      (for_each_same (λ (m : Forms.Meaning E). m (here focus)) (λ (p : Forms.Meaning F). p
+      (there focus)) x.1 y.1 (at_focus x.1 y.1 focus same.1) f)
+      ∙ ap (λ function. go_on (for_each (λ (p : Forms.Meaning F). p (there focus)) y.1 f) (λ values.
+      on_trees (λ trees. called function trees addresses focus (xs ∷ values)))) same.0
+
+  pub arrow_same : (m : Forms.Meaning E) (p : Forms.Meaning F) (cs : List (Function × List
+      (Forms.Meaning E))) (ds : List (Function × List (Forms.Meaning F))) →
+      Same m p → AreRelated SameCall cs ds → Same (Forms.arrow m cs) (Forms.arrow p ds)
+  arrow_same m p cs ds first h focus f =
+      then_same (m (here focus) f) (p (there focus) f) _ _ (first focus f)
+      (λ xs g. in_turn_same (Forms.next_call (here focus)) (Forms.next_call (there focus)) cs ds
+      (related_more SameCall _ (next_call_same focus) cs ds h) xs g)
+
   pub sequence_same : (ms : List (Forms.Meaning E)) (ps : List (Forms.Meaning F)) → AllSame ms ps →
       Same (Forms.sequence ms) (Forms.sequence ps)
   sequence_same ms ps h focus f =
@@ -256,6 +282,23 @@ module _ {E F : Type 0} (addresses : List Text) (env : E) (env' : F) where
       (related_more Same _ (λ n q same ys g'. slash_same focus n q same ys g') ms ps h) xs
       g)
 
+  bang_same : (focus : Option Focus) (m : Forms.Meaning E) (p : Forms.Meaning F) → Same m p →
+      (xs : List Item) (f : List Tree) → Forms.bang (here focus) xs m f ≡ Forms.bang (there
+      focus) xs p f
+  bang_same focus m p h xs f =
+      collected_same (λ item. m (Forms.in_focus (here focus) item)) (λ item. p (Forms.in_focus
+      (there focus) item)) (focuses xs) (focuses xs) (each_value_same (λ item. m
+      (Forms.in_focus (here focus) item)) (λ item. p (Forms.in_focus (there focus) item)) (λ
+      item g. h (Some item) g) (focuses xs)) f
+
+  pub map_same : (m : Forms.Meaning E) (p : Forms.Meaning F) (ms : List (Forms.Meaning E)) (ps :
+      List (Forms.Meaning F)) →
+      Same m p → AllSame ms ps → Same (Forms.simple_map m ms) (Forms.simple_map p ps)
+  map_same m p ms ps first h focus f =
+      then_same (m (here focus) f) (p (there focus) f) _ _ (first focus f)
+      (λ xs g. in_turn_same (Forms.bang (here focus)) (Forms.bang (there focus)) ms ps
+      (related_more Same _ (λ n q same ys g'. bang_same focus n q same ys g') ms ps h) xs g)
+
   pub step_same : (axis : Axis) (test : Test) (ms : List (Forms.Meaning E)) (ps : List
       (Forms.Meaning F)) →
       AllSame ms ps → Same (Forms.step axis test ms) (Forms.step axis test ps)
@@ -325,12 +368,12 @@ module _ {E F : Type 0} (frame_at : Tuple Item → Forms.Frame E) (frame_at' : T
   values_same m p [] h = tt
   values_same m p (t ∷ ts) h = (h.0, values_same m p ts h.1)
 
-  pub for_tuples_same : (at : Bool) (m : Forms.Meaning E) (p : Forms.Meaning F) (tuples : List
-      (Tuple Item)) →
-      AllByRecursion (SameAt m p) tuples → (f : List Tree) → Forms.for_tuples at m frame_at
-      tuples f ≡ Forms.for_tuples at p frame_at' tuples f
-  for_tuples_same at m p tuples h f =
-      ap (λ o. go_on o (λ lists. give (expanded Atom false at tuples lists)))
+  pub for_tuples_same : (empties : AllowingEmpty) (at : Bool) (m : Forms.Meaning E) (p :
+      Forms.Meaning F) (tuples : List (Tuple Item)) →
+      AllByRecursion (SameAt m p) tuples → (f : List Tree) → Forms.for_tuples empties at m
+      frame_at tuples f ≡ Forms.for_tuples empties at p frame_at' tuples f
+  for_tuples_same empties at m p tuples h f =
+      ap (λ o. go_on o (λ lists. give (expanded Atom (Forms.allows empties) at tuples lists)))
       (for_each_same (λ t. m (frame_at t)) (λ t. p (frame_at' t)) tuples tuples (values_same m p
       tuples h) f)
 

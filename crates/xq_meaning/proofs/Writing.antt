@@ -3,6 +3,8 @@
 use Prim.Native.String.{String}
 use Rattle.std.specs.Prelude.{ℕ, pos, List, [], ◌∷◌, Option, Some, None, codes, encode_utf8_all}
 use Rattle.xq_expressions.specs.declared.names.QName.{QName}
+use Rattle.xq_expressions.specs.declared.operators.AllowingEmpty.{AllowingEmpty}
+use Rattle.xq_expressions.specs.declared.operators.AllowingEmpty.TheVariants as allowing
 use Rattle.xq_expressions.specs.declared.operators.Sign.{Sign}
 use Rattle.xq_expressions.specs.declared.operators.Sign.TheVariants.{Plus, Minus}
 use Rattle.xq_expressions.specs.declared.operators.ProductOperator.{ProductOperator}
@@ -70,6 +72,21 @@ call s parts = form_meaning (Expr-F.Call (bare s) parts)
 
 abbrev pub call_by : QName → List Meaning → Meaning
 call_by q parts = form_meaning (Expr-F.Call q parts)
+
+-- # Arrows and maps
+
+-- a call after an arrow
+abbrev pub onto : String → List Meaning → QName × List Meaning
+onto s parts = (bare s, parts)
+
+abbrev pub onto_by : QName → List Meaning → QName × List Meaning
+onto_by q parts = (q, parts)
+
+abbrev pub arrow : Meaning → List (QName × List Meaning) → Meaning
+arrow first calls = form_meaning (Expr-F.Arrow first calls)
+
+abbrev pub mapped : Meaning → List Meaning → Meaning
+mapped first parts = form_meaning (Expr-F.Map first parts)
 
 -- # Operators
 
@@ -228,13 +245,21 @@ flwor clauses part = form_meaning (Expr-F.Flwor clauses part)
 abbrev pub be : String → Meaning → QName × Meaning
 be s part = (bare s, part)
 
-abbrev pub each : String → Meaning → QName × Option QName × Meaning
-each s part = (bare s, None, part)
+abbrev pub each : String → Meaning → QName × AllowingEmpty × Option QName × Meaning
+each s part = (bare s, allowing.No, None, part)
 
-abbrev pub each_at : String → String → Meaning → QName × Option QName × Meaning
-each_at s p part = (bare s, Some (bare p), part)
+abbrev pub each_at : String → String → Meaning → QName × AllowingEmpty × Option QName × Meaning
+each_at s p part = (bare s, allowing.No, Some (bare p), part)
 
-abbrev pub for_all : List (QName × Option QName × Meaning) → ClauseMeaning
+-- with `allowing empty`
+abbrev pub each_or_none : String → Meaning → QName × AllowingEmpty × Option QName × Meaning
+each_or_none s part = (bare s, allowing.Yes, None, part)
+
+abbrev pub each_or_none_at : String → String → Meaning →
+    QName × AllowingEmpty × Option QName × Meaning
+each_or_none_at s p part = (bare s, allowing.Yes, Some (bare p), part)
+
+abbrev pub for_all : List (QName × AllowingEmpty × Option QName × Meaning) → ClauseMeaning
 for_all bindings = clause_meaning (Clause-F.For bindings)
 
 abbrev pub for_in : String → Meaning → ClauseMeaning
@@ -245,6 +270,9 @@ let_all bindings = clause_meaning (Clause-F.Let bindings)
 
 abbrev pub let_be : String → Meaning → ClauseMeaning
 let_be s part = let_all (be s part ∷ [])
+
+abbrev pub count_as : String → ClauseMeaning
+count_as s = clause_meaning (Clause-F.Count (bare s))
 
 abbrev pub where_is : Meaning → ClauseMeaning
 where_is part = clause_meaning (Clause-F.Filter part)

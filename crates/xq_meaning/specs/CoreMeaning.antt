@@ -5,15 +5,16 @@ use Rattle.xq_meaning.specs.declared.normal_forms.CoreClause.{CoreClause, fold-C
 use Rattle.xq_meaning.specs.declared.normal_forms.Core.TheOpen.{Core-F, CoreClause-F}
 use Rattle.xq_atoms.specs.Atom.{Integer, Decimal, String}
 use Rattle.xq_meaning.specs.Forms
-use Rattle.xq_meaning.specs.Meaning.{Meaning, ClauseMeaning, variable, bind, flwor, for_clause, let_clause, where_clause, group_clause, order_clause}
+use Rattle.xq_meaning.specs.Meaning.{Meaning, ClauseMeaning, variable, bind, flwor, for_clause, let_clause, where_clause, group_clause, order_clause, count_clause}
 
 -- a clause, from the meanings of its parts
 abbrev pub core_clause : CoreClause-F Meaning ClauseMeaning → ClauseMeaning
-core_clause (CoreClause-F.For v at part) = for_clause v at part
+core_clause (CoreClause-F.For v empties at part) = for_clause v empties at part
 core_clause (CoreClause-F.Let v part) = let_clause v part
 core_clause (CoreClause-F.Where part) = where_clause part
 core_clause (CoreClause-F.Group vs) = group_clause vs
 core_clause (CoreClause-F.Order specs) = order_clause specs
+core_clause (CoreClause-F.Count v) = count_clause v
 
 -- a form, from the meanings of its parts
 abbrev pub core_form : Core-F Meaning ClauseMeaning → Meaning
@@ -23,6 +24,8 @@ core_form (Core-F.Str t) = Forms.literal (String t)
 core_form (Core-F.Variable v) = variable v
 core_form Core-F.ContextItem = Forms.context
 core_form (Core-F.Call function parts) = Forms.call function parts
+core_form (Core-F.Arrow first calls) = Forms.arrow first calls
+core_form (Core-F.Map start parts) = Forms.simple_map start parts
 core_form (Core-F.Sequence parts) = Forms.sequence parts
 core_form (Core-F.Chain first rest) = Forms.chain first rest
 core_form (Core-F.Unary signs part) = Forms.unary signs part

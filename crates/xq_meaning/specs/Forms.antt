@@ -3,6 +3,8 @@
 use Rattle.std.specs.Prelude.{ℕ, List, [], ◌∷◌, ◌++◌, map, length, Bool, true, false, Option, Some, None, Ok, if◌then◌else◌, slice_index_or, nat_eq}
 use Rattle.std.specs.List.{range_with_len, flat_map}
 use Rattle.xq_atoms.specs.declared.refusals.Code.TheVariants.{XPTY0019}
+use Rattle.xq_expressions.specs.declared.operators.AllowingEmpty.{AllowingEmpty}
+use Rattle.xq_expressions.specs.declared.operators.AllowingEmpty.TheVariants as allowing
 use Rattle.xq_expressions.specs.declared.operators.Sign.{Sign}
 use Rattle.xq_expressions.specs.declared.operators.Quantifier.{Quantifier}
 use Rattle.xq_expressions.specs.declared.operators.Quantifier.TheVariants as quantifier
@@ -23,7 +25,7 @@ use Rattle.xq_atoms.specs.Judged.{Judged}
 use Rattle.xq_atoms.specs.Text.{Text}
 use Rattle.xq_atoms.specs.Atom.{Atomic}
 use Rattle.xq_regions.specs.Tree.{Tree}
-use Rattle.xq_regions.specs.Tuples.{Tuple, OrderRule, expanded, bound, satisfying, grouped, ordered, firsts, value_at}
+use Rattle.xq_regions.specs.Tuples.{Tuple, OrderRule, expanded, numbered, bound, satisfying, grouped, ordered, firsts, value_at}
 use Rattle.xq_meaning.specs.Items.{Item, Node, Atom, root_of, atomized}
 use Rattle.xq_meaning.specs.Arguments.{atomic, boolean, effective, all_nodes}
 use Rattle.xq_meaning.specs.Functions.{Focus, called}
@@ -55,6 +57,11 @@ planted_if (Some tree) = planted tree
 -- the element alone where it is kept, else none
 abbrev pub kept_if : {A : Type 0} → A → Bool → List A
 kept_if x keep = if keep then x ∷ [] else []
+
+-- 3.12.2: whether a tuple stays where its sequence is empty
+abbrev pub allows : AllowingEmpty → Bool
+allows allowing.No = false
+allows allowing.Yes = true
 
 -- 3.12.8: how a modifier orders
 abbrev pub is_descending : Direction → Bool
@@ -126,6 +133,20 @@ module _ {E : Type 0} where
   call function parts frame = do
     values ← for_each (λ part. part frame) parts
     on_trees (λ trees. called function trees frame.addresses frame.focus values)
+
+  -- # 3.20: arrows, which group to the left: a call, whose first argument is what stands before it,
+  -- which is evaluated first
+
+  abbrev pub next_call : Frame E → List Item → Function × List (Meaning E) → Doing (List Item)
+  next_call frame xs (function, parts) = do
+    values ← for_each (λ part. part frame) parts
+    on_trees (λ trees. called function trees frame.addresses frame.focus (xs ∷ values))
+
+  -- a first value, and then the calls, one after another
+  abbrev pub arrow : Meaning E → List (Function × List (Meaning E)) → Meaning E
+  arrow first calls frame = do
+    xs ← first frame
+    in_turn (next_call frame) xs calls
 
   -- # 3.4.1: a sequence, one part after another
   abbrev pub sequence : List (Meaning E) → Meaning E
@@ -217,6 +238,20 @@ module _ {E : Type 0} where
     xs ← start frame
     in_turn (slash frame) xs parts
 
+  -- # 3.19: simple maps
+
+  -- E1 ! E2: E2 for each item of E1, and all that it gives, as it is
+  abbrev pub bang : Frame E → List Item → Meaning E → Doing (List Item)
+  bang frame xs part = collected (λ focus. part (in_focus frame focus)) (focuses xs)
+
+  -- from what a start gives, one part after another by `!`
+  abbrev pub simple_map : Meaning E → List (Meaning E) → Meaning E
+  simple_map start parts frame = do
+    xs ← start frame
+    in_turn (bang frame) xs parts
+
+  -- # 3.3: paths from a root
+
   -- a leading /
   abbrev pub root : Meaning E
   root frame = do
@@ -266,11 +301,11 @@ module _ {E : Type 0} where
   -- tuple
 
   -- 3.12.2
-  abbrev pub for_tuples : Bool → Meaning E → (Tuple Item → Frame E) → List (Tuple Item) →
-      Doing (List (Tuple Item))
-  for_tuples at part frame_at tuples = do
+  abbrev pub for_tuples : AllowingEmpty → Bool → Meaning E → (Tuple Item → Frame E) →
+      List (Tuple Item) → Doing (List (Tuple Item))
+  for_tuples empties at part frame_at tuples = do
     lists ← for_each (λ t. part (frame_at t)) tuples
-    give (expanded Atom false at tuples lists)
+    give (expanded Atom (allows empties) at tuples lists)
 
   -- 3.12.3
   abbrev pub let_tuples : Meaning E → (Tuple Item → Frame E) → List (Tuple Item) →
@@ -300,6 +335,10 @@ module _ {E : Type 0} where
   -- 3.12.9
   abbrev pub return_of : Meaning E → (Tuple Item → Frame E) → List (Tuple Item) → Doing (List Item)
   return_of part frame_at tuples = collected (λ t. part (frame_at t)) tuples
+
+-- 3.12.6
+abbrev pub count_tuples : List (Tuple Item) → Doing (List (Tuple Item))
+count_tuples tuples = give (numbered Atom tuples)
 
 -- 3.12.7: by the values of these slots, atomized
 

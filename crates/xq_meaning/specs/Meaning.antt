@@ -1,10 +1,11 @@
 -- What an expression means, as it is parsed: XQuery 3.1, over names. The tables stand at the end,
 -- one line a form.
 use Rattle.std.proofs.Common.{suc}
-use Rattle.std.specs.Prelude.{ℕ, List, [], ◌∷◌, ◌++◌, map, length, Bool, true, false, Option, Some, None, Ok, Err, if◌then◌else◌}
+use Rattle.std.specs.Prelude.{ℕ, List, [], ◌∷◌, ◌++◌, map, fold, length, Bool, true, false, Option, Some, None, Ok, Err, if◌then◌else◌}
 use Rattle.std.specs.List.{zip, flat_map}
 use Rattle.xq_atoms.specs.declared.refusals.Code.TheVariants.{XPST0017, XQST0094}
 use Rattle.xq_expressions.specs.declared.names.QName.{QName}
+use Rattle.xq_expressions.specs.declared.operators.AllowingEmpty.{AllowingEmpty}
 use Rattle.xq_expressions.specs.declared.operators.OrderModifier.{OrderModifier}
 use Rattle.xq_expressions.specs.declared.operators.PathStart.{PathStart}
 use Rattle.xq_expressions.specs.declared.operators.PathStart.TheVariants.{Relative, Root, RootAndBelow}
@@ -145,7 +146,7 @@ path_from Root first steps = Forms.path Forms.root (first ∷ later_parts steps)
 path_from RootAndBelow first steps =
     Forms.path Forms.root (Forms.self_and_below ∷ first ∷ later_parts steps)
 
--- # Calls: 3.1.5
+-- # Calls: 3.1.5 and 3.20
 
 abbrev pub unknown_function : Meaning
 unknown_function frame = refuse XPST0017
@@ -159,6 +160,14 @@ call_if false function parts = unknown_function
 abbrev pub call_of : Option Function → List Meaning → Meaning
 call_of None parts = unknown_function
 call_of (Some function) parts = call_if (admits (arity function) (length parts)) function parts
+
+-- a call by the name of its function
+abbrev pub call_named : QName → List Meaning → Meaning
+call_named q parts = call_of (function_named q.prefix q.local) parts
+
+-- E => f(E1, E2) is the call f(E, E1, E2), and so on from left to right
+abbrev pub arrow : Meaning → List (QName × List Meaning) → Meaning
+arrow first calls = fold (λ value c. call_named c.0 (value ∷ c.1)) first calls
 
 -- # FLWOR: 3.12. A stream has its tuples and the names of their slots; a later binding of a name
 -- hides an earlier one
@@ -195,10 +204,10 @@ abbrev pub is_asked : Option Text → Bool
 is_asked None = false
 is_asked (Some v) = true
 
--- 3.12.2: one binding of for, with or without a positional variable
-abbrev pub for_clause : Text → Option Text → Meaning → ClauseMeaning
-for_clause v at part frame s =
-    let next = Forms.for_tuples (is_asked at) part (at_tuple frame s.names) s.tuples in
+-- 3.12.2: one binding of for, with or without `allowing empty` and a positional variable
+abbrev pub for_clause : Text → AllowingEmpty → Option Text → Meaning → ClauseMeaning
+for_clause v empties at part frame s =
+    let next = Forms.for_tuples empties (is_asked at) part (at_tuple frame s.names) s.tuples in
     named (s.names ++ v ∷ position_name at) next
 
 -- 3.12.3: one binding of let
@@ -210,6 +219,10 @@ let_clause v part frame s =
 abbrev pub where_clause : Meaning → ClauseMeaning
 where_clause part frame s =
     named s.names (Forms.where_tuples part (at_tuple frame s.names) s.tuples)
+
+-- 3.12.6: count
+abbrev pub count_clause : Text → ClauseMeaning
+count_clause v frame s = named (s.names ++ v ∷ []) (Forms.count_tuples s.tuples)
 
 -- the last slot of that name, among those from number n on
 abbrev pub slot_from : ℕ → Option ℕ → List Text → Text → Option ℕ
@@ -264,12 +277,14 @@ group_by specs =
 abbrev pub clause_meaning : Clause-F ClauseMeaning Meaning Meaning GroupMeaning Meaning →
     ClauseMeaning
 clause_meaning (Clause-F.For bindings) =
-    clauses (map (λ (v, at, part). for_clause v.local (local_name at) part) bindings)
+    clauses (map (λ (v, empties, at, part). for_clause v.local empties (local_name at) part)
+    bindings)
 clause_meaning (Clause-F.Let bindings) =
     clauses (map (λ (v, part). let_clause v.local part) bindings)
 clause_meaning (Clause-F.Filter part) = where_clause part
 clause_meaning (Clause-F.Group specs) = group_by specs
 clause_meaning (Clause-F.Order specs) = order_clause specs
+clause_meaning (Clause-F.Count v) = count_clause v.local
 
 -- a grouping variable, bound before or assigned here
 abbrev pub group_meaning : GroupSpec-F ClauseMeaning Meaning Meaning GroupMeaning Meaning →
@@ -295,7 +310,9 @@ form_meaning (Expr-F.Dec m) = Forms.literal (Decimal m)
 form_meaning (Expr-F.Str t) = Forms.literal (String t)
 form_meaning (Expr-F.«Expr::Variable» v) = variable v.local
 form_meaning Expr-F.ContextItem = Forms.context
-form_meaning (Expr-F.Call q parts) = call_of (function_named q.prefix q.local) parts
+form_meaning (Expr-F.Call q parts) = call_named q parts
+form_meaning (Expr-F.Arrow first calls) = arrow first calls
+form_meaning (Expr-F.Map first parts) = Forms.simple_map first parts
 form_meaning (Expr-F.Sequence parts) = Forms.sequence parts
 form_meaning (Expr-F.Range left right) = Forms.chain left ((operator.Range, right) ∷ [])
 form_meaning (Expr-F.Union parts) = joined_by operator.Union parts

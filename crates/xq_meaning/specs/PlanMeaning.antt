@@ -69,11 +69,13 @@ plan_step (PlanStep-F.Scan axis test) frame xs = Forms.scan axis test xs
 
 -- a clause, from the meanings of its parts
 abbrev pub plan_clause : PlanClause-F Meaning ClauseMeaning StepMeaning → ClauseMeaning
-plan_clause (PlanClause-F.For at part) frame = Forms.for_tuples at part (at_tuple frame)
+plan_clause (PlanClause-F.For empties at part) frame =
+    Forms.for_tuples empties at part (at_tuple frame)
 plan_clause (PlanClause-F.Let part) frame = Forms.let_tuples part (at_tuple frame)
 plan_clause (PlanClause-F.Where part) frame = Forms.where_tuples part (at_tuple frame)
 plan_clause (PlanClause-F.Group slots) frame = Forms.group_tuples slots
 plan_clause (PlanClause-F.Order specs) frame = Forms.order_tuples specs (at_tuple frame)
+plan_clause PlanClause-F.Count frame = Forms.count_tuples
 plan_clause (PlanClause-F.Refused code) frame = λ tuples. refuse code
 
 -- a form, from the meanings of its parts
@@ -84,6 +86,8 @@ plan_form (Plan-F.Str t) = Forms.literal (String t)
 plan_form (Plan-F.Slot n) = slot n
 plan_form Plan-F.ContextItem = Forms.context
 plan_form (Plan-F.Call function parts) = Forms.call function parts
+plan_form (Plan-F.Arrow first calls) = Forms.arrow first calls
+plan_form (Plan-F.Map start parts) = Forms.simple_map start parts
 plan_form (Plan-F.Sequence parts) = Forms.sequence parts
 plan_form (Plan-F.Chain first rest) = Forms.chain first rest
 plan_form (Plan-F.Unary signs part) = Forms.unary signs part

@@ -5,7 +5,9 @@ use crate::node_tests::Test;
 use crate::operators::Operator;
 use sqlite_items::{Boxed, Items};
 use xq_atoms::Decimal;
-use xq_expressions::{Function, NamedNode, OrderModifier, Quantifier, Sign, Text, UnnamedNode};
+use xq_expressions::{
+    AllowingEmpty, Function, NamedNode, OrderModifier, Quantifier, Sign, Text, UnnamedNode,
+};
 use xq_regions::Axis;
 
 /// An expression in normal form.
@@ -39,6 +41,11 @@ pub enum Core {
     /// A primary expression and its predicates.
     Filter(Boxed<Core>, Items<Core>),
     Call(Function, Items<Core>),
+    /// What stands before the first arrow, and the calls after each, whose first argument is what
+    /// stands before it.
+    Arrow(Boxed<Core>, Items<(Function, Items<Core>)>),
+    /// What is gone through, and what is evaluated for each item of what stands before it.
+    Map(Boxed<Core>, Items<Core>),
     /// The name and the content; a name that is written out is a string.
     Named(NamedNode, Boxed<Core>, Boxed<Core>),
     Unnamed(UnnamedNode, Boxed<Core>),
@@ -48,11 +55,14 @@ pub enum Core {
 #[derive(Drop)]
 #[cycle(normal)]
 pub enum CoreClause {
-    /// The variable, its positional variable, and what it ranges over.
-    For(Text, Option<Text>, Core),
+    /// The variable, whether what it ranges over may be empty, its positional variable, and what it
+    /// ranges over.
+    For(Text, AllowingEmpty, Option<Text>, Core),
     Let(Text, Core),
     Where(Core),
     /// Variables of this FLWOR.
     Group(Items<Text>),
     Order(Items<(Core, OrderModifier)>),
+    /// The variable of the tuples' numbers.
+    Count(Text),
 }

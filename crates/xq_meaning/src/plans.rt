@@ -1,14 +1,17 @@
 //! Plans: normal forms with numbered slots in place of names, and with scans.
 //!
 //! A place in a plan has the slots that are open there: first those outside, then, in a FLWOR, one
-//! for each binding of its clauses so far, two for a `for` with a position, and in a quantified
-//! expression one for each binding before. So a binding needs no number: it takes the next slot.
+//! for each binding of its clauses so far, two for a `for` with a position, and one for a `count`,
+//! and in a quantified expression one for each binding before. So a binding needs no number: it
+//! takes the next slot.
 
 use crate::node_tests::Test;
 use crate::operators::Operator;
 use sqlite_items::{Boxed, Items};
 use xq_atoms::{Code, Decimal};
-use xq_expressions::{Function, NamedNode, OrderModifier, Quantifier, Sign, Text, UnnamedNode};
+use xq_expressions::{
+    AllowingEmpty, Function, NamedNode, OrderModifier, Quantifier, Sign, Text, UnnamedNode,
+};
 use xq_regions::Axis;
 
 /// A plan.
@@ -42,6 +45,11 @@ pub enum Plan {
     /// A primary expression and its predicates.
     Filter(Boxed<Plan>, Items<Plan>),
     Call(Function, Items<Plan>),
+    /// What stands before the first arrow, and the calls after each, whose first argument is what
+    /// stands before it.
+    Arrow(Boxed<Plan>, Items<(Function, Items<Plan>)>),
+    /// What is gone through, and what is evaluated for each item of what stands before it.
+    Map(Boxed<Plan>, Items<Plan>),
     /// The name and the content.
     Named(NamedNode, Boxed<Plan>, Boxed<Plan>),
     Unnamed(UnnamedNode, Boxed<Plan>),
@@ -51,13 +59,16 @@ pub enum Plan {
 #[derive(Drop)]
 #[cycle(plan)]
 pub enum PlanClause {
-    /// Whether a slot for the position follows that of the item, and what the item ranges over.
-    For(bool, Plan),
+    /// Whether what the item ranges over may be empty, whether a slot for the position follows that
+    /// of the item, and what the item ranges over.
+    For(AllowingEmpty, bool, Plan),
     Let(Plan),
     Where(Plan),
     /// By slots of the tuples, numbered from 0 for the first binding of this FLWOR.
     Group(Items<usize>),
     Order(Items<(Plan, OrderModifier)>),
+    /// A slot for the number of each tuple.
+    Count,
     /// Refused, whatever the tuples are: it groups by a variable that its FLWOR doesn't bind.
     Refused(Code),
 }

@@ -1,28 +1,10 @@
 -- Clauses one after another, and paths.
-use Rattle.std.proofs.Common.{◌≡◌, ℕ, ◌+◌, ◌<◌, ◌≤◌, List, [], ◌∷◌, ◌++◌, map, take, length, get_or, Ok, Err, refl, sym, ap, ◌∙◌}
+use Rattle.std.proofs.Common.{◌≡◌, ℕ, ◌+◌, ◌<◌, ◌≤◌, List, [], ◌∷◌, ◌++◌, map, take, length, get_or, sym, ap, ◌∙◌}
 use Rattle.std.proofs.lemmas.List.{map-append, take_all}
-use Rattle.xq_regions.specs.Tree.{Tree}
-use Rattle.xq_meaning.specs.Doing.{Doing, Outcome, go_on, give, in_turn}
+use Rattle.xq_meaning.specs.Doing.{go_on}
 use Rattle.xq_meaning.specs.Meaning.{ClauseMeaning, next_clause, clauses}
-use Rattle.xq_meaning.proofs.SameForms.{go_on_same}
+use Rattle.xq_meaning.proofs.Turns.{go_on_give, in_turn-append}
 use Rattle.xq_normal.proofs.Lists.{take_next}
-
-pub go_on_give : {A : Type 0} (o : Outcome A) → go_on o (λ x. give x) ≡ o
-go_on_give (Ok x, f) = refl
-go_on_give (Err code, f) = refl
-
-pub go_on_go_on : {A B C : Type 0} (o : Outcome A) (k : A → Doing B) (l : B → Doing C) →
-    go_on (go_on o k) l ≡ go_on o (λ x f. go_on (k x f) l)
-go_on_go_on (Ok x, f) k l = refl
-go_on_go_on (Err code, f) k l = refl
-
-pub in_turn-append : {A B : Type 0} (act : B → A → Doing B) (b : B) (xs ys : List A) (f : List Tree) →
-    in_turn act b (xs ++ ys) f ≡ go_on (in_turn act b xs f) (λ n. in_turn act n ys)
-in_turn-append act b [] ys f = refl
-in_turn-append act b (x ∷ xs) ys f =
-    go_on_same (act b x f) (λ n. in_turn act n (xs ++ ys)) (λ n g. go_on (in_turn act n xs g) (λ m.
-    in_turn act m ys)) (λ n g. in_turn-append act n xs ys g)
-    ∙ sym (go_on_go_on (act b x f) (λ n. in_turn act n xs) (λ m. in_turn act m ys))
 
 -- a clause, and then another
 abbrev pub and_then : ClauseMeaning → ClauseMeaning → ClauseMeaning

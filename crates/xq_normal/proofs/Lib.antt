@@ -1,3 +1,5 @@
 pub mod Lists
 pub mod Clauses
+pub mod Arrows
 pub mod NormalForms
+pub mod Shapes

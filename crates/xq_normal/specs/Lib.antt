@@ -1,1 +1,2 @@
+pub mod DocumentPaths
 pub mod private

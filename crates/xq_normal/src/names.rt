@@ -2,7 +2,8 @@
 ghost use Rattle.std.specs.Prelude.{◌≡◌, IfOk};
 ghost use Rattle.xq_expressions.specs.Signatures as signatures;
 ghost use Rattle.xq_meaning.specs.Meaning as meaning;
-ghost use Rattle.xq_normal.specs.private.Parts.{written_out};
+ghost use Rattle.xq_normal.specs.DocumentPaths.{written_out};
+ghost use Rattle.xq_normal.specs.private.Parts.{admitted};
 
 use std::alloc::{AllocError, Global};
 use xq_expressions::{AxisName, AxisStep, Function, NodeTest, QName, Text};
@@ -44,6 +45,17 @@ pub fn function(name: &QName) -> Option<Function>
     match name.prefix.as_ref().map(|prefix| prefix.as_str()) {
         None | Some("fn") => Function::in_library(local),
         Some("xs") => Function::of_type(local),
+        _ => None,
+    }
+}
+
+/// The function that a call of so many arguments names, if there is one.
+pub fn called(name: &QName, arguments: usize) -> Option<Function>
+    ensures { result
+        ≡ admitted (signatures.function_named name.now.prefix name.now.local) arguments }
+{
+    match function(name) {
+        Some(function) if function.arity().admits(arguments) => Some(function),
         _ => None,
     }
 }

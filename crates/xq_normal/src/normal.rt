@@ -1,17 +1,20 @@
 //! The normal form of each form of expression.
-ghost use Rattle.std.specs.Prelude.{◌≡◌, ◌++◌, IfOk, OnOk, List, map};
+ghost use Rattle.std.specs.Prelude.{◌≡◌, [], ◌∷◌, ◌++◌, IfOk, OnOk, List, map};
+ghost use Rattle.xq_expressions.specs.declared.operators.PathStart.TheVariants.{Relative};
+ghost use Rattle.xq_expressions.specs.declared.operators.Separator.TheVariants.{Slash};
 ghost use Rattle.xq_meaning.specs.declared.operators.Operator.TheVariants as operator;
 ghost use Rattle.xq_meaning.specs.Meaning as meaning;
 ghost use Rattle.xq_meaning.specs.Meaning.{mean, name_mean, clause_mean, group_mean, step_mean};
 ghost use Rattle.xq_meaning.specs.CoreMeaning.{core_mean, core_clause_mean};
 ghost use Rattle.xq_normal.specs.private.Parts as parts;
+ghost use Rattle.xq_normal.specs.private.Shapes as shapes;
 
-use crate::names::{axis_step, function, local, text};
+use crate::names::{axis_step, called, local, text};
 use sqlite_items::{Boxed, Items};
 use std::alloc::{AllocError, Global};
 use xq_expressions::{
-    Clause, ConstructorName, Expr, Function, GroupSpec, OrderModifier, PathStart, ProductOperator,
-    QName, Separator, SetOperator, Sign, Step, Text,
+    AllowingEmpty, Clause, ConstructorName, Expr, Function, GroupSpec, OrderModifier, PathStart,
+    ProductOperator, QName, Separator, SetOperator, Sign, Step, Text,
 };
 use xq_meaning::{Core, CoreClause, Operator, Test};
 use xq_regions::Axis;
@@ -19,7 +22,8 @@ use xq_regions::Axis;
 /// The normal form of an expression.
 #[cycle(normal)]
 pub fn expression(alloc: Global, expr: &Expr) -> Result<Core, AllocError>
-    ensures { IfOk result (λ core. core_mean core ≡ mean expr.now) }
+    ensures same { IfOk result (λ core. core_mean core ≡ mean expr.now) }
+    ensures shape { IfOk result (λ core. shapes.HasShape expr.now core) }
 {
     match expr {
         Expr::Root => Ok(Core::Root),
@@ -64,8 +68,16 @@ pub fn expression(alloc: Global, expr: &Expr) -> Result<Core, AllocError>
             let signs = Items::from_slice(alloc, signs.as_slice())?;
             Ok(Core::Unary(signs, boxed(alloc, part.get())?))
         }
+        Expr::Arrow(first, calls) => {
+            let first = expression(alloc, first.get())?;
+            arrow(alloc, first, calls.as_slice())
+        }
+        Expr::Map(first, more) => {
+            let first = boxed(alloc, first.get())?;
+            Ok(Core::Map(first, expressions(alloc, more.as_slice())?))
+        }
         Expr::Path(start, first, more) => {
-            let first = step(alloc, first)?;
+            let first = step(alloc, first.get())?;
             let later = steps(alloc, more.as_slice())?;
             path(alloc, *start, first, later)
         }
@@ -101,7 +113,8 @@ fn boxed(alloc: Global, expr: &Expr) -> Result<Boxed<Core>, AllocError>
 /// The normal form of each expression.
 #[cycle(normal)]
 fn expressions(alloc: Global, exprs: &[Expr]) -> Result<Items<Core>, AllocError>
-    ensures { IfOk result (λ cores. map core_mean cores ≡ map mean exprs.now) }
+    ensures same { IfOk result (λ cores. map core_mean cores ≡ map mean exprs.now) }
+    ensures literals { IfOk result (λ cores. shapes.StayLiterals exprs.now cores) }
 {
     let mut cores = Items::new(alloc);
     for expr in exprs {
@@ -209,15 +222,69 @@ fn set_operands(
 /// refused when it is evaluated, before its arguments.
 #[cycle(normal)]
 fn call(alloc: Global, name: &QName, arguments: &[Expr]) -> Result<Core, AllocError>
-    ensures { IfOk result
-        (λ core. core_mean core ≡ parts.call_named name.now (map mean arguments.now)) }
+    ensures same { IfOk result
+        (λ core. core_mean core ≡ meaning.call_named name.now (map mean arguments.now)) }
+    ensures shape { IfOk result (λ core. shapes.StaysCall name.now arguments.now core) }
 {
-    match function(name) {
-        Some(function) if function.arity().admits(arguments.len()) => {
-            Ok(Core::Call(function, expressions(alloc, arguments)?))
-        }
-        _ => unknown_function(alloc),
+    match called(name, arguments.len()) {
+        Some(function) => Ok(Core::Call(function, expressions(alloc, arguments)?)),
+        None => unknown_function(alloc),
     }
+}
+
+/// Calls after arrows. The first is a call whose first argument stands before its arrow.
+#[cycle(normal)]
+fn arrow(alloc: Global, first: Core, calls: &[(QName, Items<Expr>)]) -> Result<Core, AllocError>
+    ensures { IfOk result
+        (λ core. core_mean core ≡ meaning.arrow (core_mean first) (parts.calls calls.now)) }
+{
+    match calls {
+        [] => Ok(first),
+        [next, more @ ..] => {
+            let value = call_on(alloc, first, &next.0, next.1.as_slice())?;
+            later_calls(alloc, value, more)
+        }
+    }
+}
+
+/// A call after an arrow, as a call with one argument more.
+#[cycle(normal)]
+fn call_on(alloc: Global, first: Core, name: &QName, arguments: &[Expr]) -> Result<Core, AllocError>
+    ensures { IfOk result (λ core. core_mean core
+        ≡ meaning.call_named name.now (core_mean first ∷ map mean arguments.now)) }
+{
+    let Some(function) = called(name, arguments.len() + 1) else {
+        return unknown_function(alloc);
+    };
+    let mut values = Items::new(alloc);
+    values.push(first)?;
+    values.append(expressions(alloc, arguments)?)?;
+    Ok(Core::Call(function, values))
+}
+
+/// The calls after a value. Where one of them is refused, so is the whole, before the value is
+/// evaluated.
+#[cycle(normal)]
+fn later_calls(
+    alloc: Global,
+    value: Core,
+    calls: &[(QName, Items<Expr>)],
+) -> Result<Core, AllocError>
+    ensures { IfOk result
+        (λ core. core_mean core ≡ meaning.arrow (core_mean value) (parts.calls calls.now)) }
+{
+    if calls.is_empty() {
+        return Ok(value);
+    }
+    let mut found = Items::new(alloc);
+    for (name, arguments) in calls {
+        let arguments = arguments.as_slice();
+        let Some(function) = called(name, arguments.len() + 1) else {
+            return unknown_function(alloc);
+        };
+        found.push((function, expressions(alloc, arguments)?))?;
+    }
+    Ok(Core::Arrow(Boxed::new(alloc, value)?, found))
 }
 
 /// A call that is always refused with XPST0017: `true` with an argument.
@@ -249,8 +316,10 @@ fn path(
     first: Core,
     later: Items<Core>,
 ) -> Result<Core, AllocError>
-    ensures { IfOk result (λ core. core_mean core
+    ensures same { IfOk result (λ core. core_mean core
         ≡ parts.path_from start (core_mean first) (map core_mean later)) }
+    ensures relative { IfOk result
+        (λ core. start ≡ Relative → shapes.GoesOn first later core) }
 {
     match start {
         PathStart::Relative => path_along(alloc, first, later),
@@ -277,8 +346,9 @@ fn rooted(
 
 /// A start, and what follows each slash; a start alone is itself.
 fn path_along(alloc: Global, start: Core, found: Items<Core>) -> Result<Core, AllocError>
-    ensures { IfOk result
+    ensures same { IfOk result
         (λ core. core_mean core ≡ parts.path (core_mean start) (map core_mean found)) }
+    ensures goes_on { IfOk result (λ core. shapes.GoesOn start found core) }
 {
     if found.is_empty() {
         return Ok(start);
@@ -289,8 +359,9 @@ fn path_along(alloc: Global, start: Core, found: Items<Core>) -> Result<Core, Al
 /// What follows the slashes after the first step of a path.
 #[cycle(normal)]
 fn steps(alloc: Global, more: &[(Separator, Step)]) -> Result<Items<Core>, AllocError>
-    ensures { IfOk result
+    ensures same { IfOk result
         (λ found. map core_mean found ≡ meaning.later_parts (parts.steps more.now)) }
+    ensures plain { IfOk result (λ found. shapes.StaySteps more.now found) }
 {
     let mut found = Items::new(alloc);
     for (separator, later) in more {
@@ -306,9 +377,10 @@ fn next(
     separator: Separator,
     step: Core,
 ) -> Result<(), AllocError>
-    ensures { OnOk result
+    ensures same { OnOk result
         (map core_mean found.new
         ≡ map core_mean found.old ++ meaning.after separator (core_mean step)) }
+    ensures slash { OnOk result (separator ≡ Slash → found.new ≡ found.old ++ step ∷ []) }
 {
     match separator {
         Separator::Slash => found.push(step),
@@ -322,7 +394,8 @@ fn next(
 /// A step of a path.
 #[cycle(normal)]
 fn step(alloc: Global, step: &Step) -> Result<Core, AllocError>
-    ensures { IfOk result (λ core. core_mean core ≡ step_mean step.now) }
+    ensures same { IfOk result (λ core. core_mean core ≡ step_mean step.now) }
+    ensures plain { IfOk result (λ core. shapes.StaysStep step.now core) }
 {
     match step {
         Step::Axis(along, predicates) => {
@@ -338,8 +411,9 @@ fn step(alloc: Global, step: &Step) -> Result<Core, AllocError>
 
 /// A primary expression with its predicates; without one it is itself.
 fn filtered(alloc: Global, primary: Core, predicates: Items<Core>) -> Result<Core, AllocError>
-    ensures { IfOk result
+    ensures same { IfOk result
         (λ core. core_mean core ≡ parts.filter_of (core_mean primary) (map core_mean predicates)) }
+    ensures alone { IfOk result (λ core. predicates ≡ [] → core ≡ primary) }
 {
     if predicates.is_empty() {
         return Ok(primary);
@@ -373,6 +447,7 @@ fn clause(alloc: Global, clause: &Clause) -> Result<Items<CoreClause>, AllocErro
         Clause::Filter(condition) => one(alloc, CoreClause::Where(expression(alloc, condition)?)),
         Clause::Group(specs) => group(alloc, specs.as_slice()),
         Clause::Order(specs) => one(alloc, CoreClause::Order(keys(alloc, specs.as_slice())?)),
+        Clause::Count(variable) => one(alloc, CoreClause::Count(text(alloc, &variable.local)?)),
     }
 }
 
@@ -390,15 +465,16 @@ fn one(alloc: Global, clause: CoreClause) -> Result<Items<CoreClause>, AllocErro
 #[cycle(normal)]
 fn ranges(
     alloc: Global,
-    list: &[(QName, Option<QName>, Expr)],
+    list: &[(QName, AllowingEmpty, Option<QName>, Expr)],
 ) -> Result<Items<CoreClause>, AllocError>
     ensures { IfOk result (λ found. map core_clause_mean found ≡ parts.ranges list.now) }
 {
     let mut found = Items::new(alloc);
-    for (variable, at, sequence) in list {
+    for (variable, empties, at, sequence) in list {
         let variable = text(alloc, &variable.local)?;
         let at = local(alloc, at)?;
-        found.push(CoreClause::For(variable, at, expression(alloc, sequence)?))?;
+        let sequence = expression(alloc, sequence)?;
+        found.push(CoreClause::For(variable, *empties, at, sequence))?;
     }
     Ok(found)
 }

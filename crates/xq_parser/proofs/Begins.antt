@@ -90,11 +90,14 @@ module _ (Single : Rel Expr) where
   signs_begin [] ts us w b = rw w (path_is_phrase us b)
   signs_begin (x ∷ xs) ts us w b = rw w.1.1 (begins_of w.1.0 w.0 (every_found phrase_word g.signs w.1.0 x refl w.1.2))
 
+  map_begins : (ts : Tokens) (a : Expr) (us : Tokens) → g.Map Single ts a us → begins_path ts ≡ true
+  map_begins ts a us w = path_begins ts w.0.0 w.1.0 w.1.1
+
   unary_begins : AllBegin (g.Unary Single)
-  unary_begins ts a us w = signs_begin w.0.0 ts w.1.0 w.1.1 (path_begins w.1.0 w.0.1 us w.1.2)
+  unary_begins ts a us w = signs_begin w.0.0 ts w.1.0 w.1.1 (map_begins w.1.0 w.0.1 us w.1.2)
 
   or_begins : AllBegin (g.Or Single)
-  or_begins = first _ _ _ (first _ _ _ (first _ _ _ (first _ _ _ (first _ _ _ (first _ _ _ (first _ _ _ (first _ _ _ (first _ _ _ unary_begins))))))))
+  or_begins = first _ _ _ (first _ _ _ (first _ _ _ (first _ _ _ (first _ _ _ (first _ _ _ (first _ _ _ (first _ _ _ (first _ _ _ (first _ _ _ unary_begins)))))))))
 
   pub any_begins : (ts : Tokens) (a : Expr) (us : Tokens) → g.Any Single ts a us → begins_phrase ts ≡ true
   any_begins ts a us (inl w) = elim w.1.1 [ inl p ↦ rw p.1.1 refl | inr p ↦ rw p.1.1 refl ]

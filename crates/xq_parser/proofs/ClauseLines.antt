@@ -7,6 +7,8 @@ use Rattle.xq_lexer.specs.Nesting.{is_binder}
 use Rattle.xq_lexer.specs.declared.tokens.Symbol.TheVariants as s
 use Rattle.xq_expressions.specs.declared.names.QName.{QName}
 use Rattle.xq_expressions.specs.declared.operators.Direction.{Direction}
+use Rattle.xq_expressions.specs.declared.operators.AllowingEmpty.{AllowingEmpty}
+use Rattle.xq_expressions.specs.declared.operators.AllowingEmpty.TheVariants as allowing
 use Rattle.xq_expressions.specs.declared.operators.EmptyOrder.{EmptyOrder}
 use Rattle.xq_expressions.specs.declared.expressions.Expr.{Expr}
 use Rattle.xq_expressions.specs.declared.expressions.Clause.{Clause}
@@ -173,15 +175,31 @@ module _ (Single : Rel Expr) (single : Parser Expr) (d : ℕ) (single-moves : Al
   position_moves : AllMove (Maybe (word "at" ▹ g.Variable))
   position_moves = move-maybe _ (move-▹ _ _ refl m.variable-moves)
 
+  allowing_reads : (ts : Tokens) (a : AllowingEmpty) (us : Tokens) → g.AllowingWords Single ts a us → is (word "allowing") us ≡ false → r.allowing_words ts ≡ Some (a, us)
+  unfolding r.allowing_words
+  allowing_reads ts a us (inl w) free =
+      let first : expect (word "allowing") (word "allowing" ∷ w.0) ≡ Some (tt, w.0) = only_at _ tt w.0 refl in
+      let second : one_of ((word "empty", allowing.Yes) ∷ []) (word "empty" ∷ us) ≡ Some (allowing.Yes, us) = only_at _ allowing.Yes us refl in
+      rw (w.1, is_at (word "allowing") w.0 refl, first, w.2.0, second) (value_is us w.2.1)
+  allowing_reads ts a us (inr w) free = rw (w.0, free) (value_is us w.1)
+
+  no_allowing : (ts : Tokens) (a : Option QName) (us rest : Tokens) → Maybe (word "at" ▹ g.Variable) ts a us → us ≡ word "in" ∷ rest → is (word "allowing") ts ≡ false
+  unfolding begins lookup same
+  no_allowing ts None us rest w e = rw (w, e) refl
+  no_allowing ts (Some v) us rest w e = rw w.1 refl
+
   for_binding_line : Reads (Deeper d) Dollar 20 (g.ForB Single) (r.for_binding single)
   unfolding r.for_binding
   for_binding_line = record {
     reads = λ ts a us w low good.
         let v = w.1 in
-        let at = v.2 in
+        let al = v.2 in
+        let at = al.2 in
         let after_v = after_variable ts w.0.0 v.0 v.1 good in
-        let after_at = deeper_after d v.0 at.0 (position_moves v.0 w.0.1.0 at.0 at.1) after_v in
-        rw (variable_reads ts w.0.0 v.0 v.1, position_reads v.0 w.0.1.0 at.0 at.2.0 at.1 at.2.1, governed_reads (word "in") refl refl at.0 w.0.1.1 us at.2 low after_at) (value_is us w.2);
+        let after_al = deeper_after d v.0 al.0 (m.allowing-moves Single single-moves v.0 w.0.1.0 al.0 al.1) after_v in
+        let after_at = deeper_after d al.0 at.0 (position_moves al.0 w.0.1.1.0 at.0 at.1) after_al in
+        let free = no_allowing al.0 w.0.1.1.0 at.0 at.2.0 at.1 at.2.1 in
+        rw (variable_reads ts w.0.0 v.0 v.1, allowing_reads v.0 w.0.1.0 al.0 al.1 free, position_reads al.0 w.0.1.1.0 at.0 at.2.0 at.1 at.2.1, governed_reads (word "in") refl refl at.0 w.0.1.1.1 us at.2 low after_at) (value_is us w.2);
     starts = λ ts a us w low. (w.1.1.0, w.1.1.1);
   }
 
@@ -268,6 +286,12 @@ module _ (Single : Rel Expr) (single : Parser Expr) (d : ℕ) (single-moves : Al
       reads-▹ (Deeper d) (Deeper d) (Word (codes "stable")) (Word (codes "order")) 10 (word "stable") _ _ refl order_by_line (λ ts st good. pass_word (codes "stable") ts good)
       (λ ts b. record { rest = ts; at = refl; no_brace = rw b.at refl })
 
+  count_line : Reads (Deeper d) (Word (codes "count")) 10 (g.Count Single) (r.count_clause single)
+  unfolding r.count_clause
+  count_line =
+      reads-map _ _ _ _ _ _ (reads-▹ (Deeper d) (Deeper d) (Word (codes "count")) Dollar 10 (word "count") _ _ refl (variable_line (Deeper d) 10) (λ ts st good. pass_word (codes "count") ts good)
+      (λ ts b. record { rest = ts; at = refl; no_brace = dollar_no_brace ts b }))
+
   -- ---- which clause
 
   record Facts (n : List ℕ) : Type 0 where
@@ -305,6 +329,10 @@ module _ (Single : Rel Expr) (single : Parser Expr) (d : ℕ) (single-moves : Al
   unfolding r.clause_ r.later_clause rank_of begins lookup same
   group_facts = (record { low = refl; known = λ rest. refl }, λ rest. refl)
 
+  count_facts : Facts (codes "count") × ((rest : Tokens) → r.clause_ single (word "count" ∷ rest) ≡ r.count_clause single (word "count" ∷ rest))
+  unfolding r.clause_ r.later_clause rank_of begins lookup same
+  count_facts = (record { low = refl; known = λ rest. refl }, λ rest. refl)
+
   stable_facts : Facts (codes "stable") × ((rest : Tokens) → r.clause_ single (word "stable" ∷ rest) ≡ r.after (word "stable") (r.order_by single) (word "stable" ∷ rest))
   unfolding r.clause_ r.later_clause r.order_clause rank_of begins lookup same
   stable_facts = (record { low = refl; known = λ rest. refl }, λ rest. refl)
@@ -318,9 +346,10 @@ module _ (Single : Rel Expr) (single : Parser Expr) (d : ℕ) (single-moves : Al
   clause_reads ts a us (inr (inl w)) low = by_word (codes "let") (g.Let Single) (r.let_clause single) let_facts.0 let_facts.1 let_line ts a us w low
   clause_reads ts a us (inr (inr (inl w))) low = by_word (codes "where") (g.Filter Single) (r.filter_clause single) where_facts.0 where_facts.1 filter_line ts a us w low
   clause_reads ts a us (inr (inr (inr (inl w)))) low = by_word (codes "group") (g.Group Single) (r.group_clause single) group_facts.0 group_facts.1 group_line ts a us w low
-  clause_reads ts a us (inr (inr (inr (inr (inl w))))) low =
+  clause_reads ts a us (inr (inr (inr (inr (inl w))))) low = by_word (codes "count") (g.Count Single) (r.count_clause single) count_facts.0 count_facts.1 count_line ts a us w low
+  clause_reads ts a us (inr (inr (inr (inr (inr (inl w)))))) low =
       by_word (codes "stable") (word "stable" ▹ g.OrderBy Single) (r.after (word "stable") (r.order_by single)) stable_facts.0 stable_facts.1 stable_line ts a us w low
-  clause_reads ts a us (inr (inr (inr (inr (inr w))))) low = by_word (codes "order") (g.OrderBy Single) (r.order_by single) order_facts.0 order_facts.1 order_by_line ts a us w low
+  clause_reads ts a us (inr (inr (inr (inr (inr (inr w)))))) low = by_word (codes "order") (g.OrderBy Single) (r.order_by single) order_facts.0 order_facts.1 order_by_line ts a us w low
 
   -- each clause takes a token
   shorter-▹ : {A : Type 0} (t : Lex) (P : Rel A) → AllMove P → (ts : Tokens) (a : A) (us : Tokens) → (t ▹ P) ts a us → length us < length ts
@@ -337,16 +366,18 @@ module _ (Single : Rel Expr) (single : Parser Expr) (d : ℕ) (single-moves : Al
   clause_shorter ts a us (inr (inl w)) = shorter-▹ (word "let") _ (m.commas-move _ (m.let-binding-moves Single single-moves)) ts w.0 us w.1
   clause_shorter ts a us (inr (inr (inl w))) = shorter-▹ (word "where") _ single-moves ts w.0 us w.1
   clause_shorter ts a us (inr (inr (inr (inl w)))) = shorter-▹ (word "group") _ by_moves ts w.0 us w.1
-  clause_shorter ts a us (inr (inr (inr (inr (inl w))))) = shorter-▹ (word "stable") _ (m.order-by-moves Single single-moves) ts a us w
-  clause_shorter ts a us (inr (inr (inr (inr (inr w))))) = shorter-▹ (word "order") _ by_order_moves ts w.0 us w.1
+  clause_shorter ts a us (inr (inr (inr (inr (inl w))))) = shorter-▹ (word "count") _ m.variable-moves ts w.0 us w.1
+  clause_shorter ts a us (inr (inr (inr (inr (inr (inl w)))))) = shorter-▹ (word "stable") _ (m.order-by-moves Single single-moves) ts a us w
+  clause_shorter ts a us (inr (inr (inr (inr (inr (inr w)))))) = shorter-▹ (word "order") _ by_order_moves ts w.0 us w.1
 
   clause_tests : (ts : Tokens) (a : Clause) (us : Tokens) → g.ClauseRel Single ts a us → begins clause_words ts ≡ true
   clause_tests ts a us (inl w) = rw w.1.1 (for_facts.0.known w.1.0)
   clause_tests ts a us (inr (inl w)) = rw w.1.1 (let_facts.0.known w.1.0)
   clause_tests ts a us (inr (inr (inl w))) = rw w.1.1 (where_facts.0.known w.1.0)
   clause_tests ts a us (inr (inr (inr (inl w)))) = rw w.1.1 (group_facts.0.known w.1.0)
-  clause_tests ts a us (inr (inr (inr (inr (inl w))))) = rw w.1 (stable_facts.0.known w.0)
-  clause_tests ts a us (inr (inr (inr (inr (inr w))))) = rw w.1.1 (order_facts.0.known w.1.0)
+  clause_tests ts a us (inr (inr (inr (inr (inl w))))) = rw w.1.1 (count_facts.0.known w.1.0)
+  clause_tests ts a us (inr (inr (inr (inr (inr (inl w)))))) = rw w.1 (stable_facts.0.known w.0)
+  clause_tests ts a us (inr (inr (inr (inr (inr (inr w)))))) = rw w.1.1 (order_facts.0.known w.1.0)
 
   clause_item : Item (Deeper d) 10 (g.ClauseRel Single) (begins clause_words) (r.clause_ single)
   clause_item = record {

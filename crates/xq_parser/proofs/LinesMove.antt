@@ -99,8 +99,11 @@ module _ (Single : Rel Expr) (single-moves : AllMove Single) where
   pub arguments-moves : AllMove (g.Arguments Single)
   arguments-moves = parens-move _ (move-∣ _ _ (move-empty _) (commas-move _ single-moves))
 
+  pub called-moves : AllMove (g.Called Single)
+  called-moves = move-& _ _ call-name-moves arguments-moves
+
   pub call-moves : AllMove (g.Call Single)
-  call-moves = move-map _ _ (move-& _ _ call-name-moves arguments-moves)
+  call-moves = move-map _ _ called-moves
 
   pub parenthesised-moves : AllMove (g.Parenthesised Single)
   parenthesised-moves = parens-move _ (move-∣ _ _ (move-empty _) whole-moves)
@@ -154,11 +157,17 @@ module _ (Single : Rel Expr) (single-moves : AllMove Single) where
       move-∣ _ _ lone-moves (move-∣ _ _ (move-map _ _ (move-▹ _ _ refl relative-moves))
       (move-∣ _ _ (move-map _ _ (move-▹ _ _ refl relative-moves)) (move-map _ _ relative-moves)))
 
+  pub map-moves : AllMove (g.Map Single)
+  map-moves = move-map _ _ (move-& _ _ path-moves (move-many _ (move-▹ _ _ refl path-moves)))
+
   pub unary-moves : AllMove (g.Unary Single)
-  unary-moves = move-map _ _ (move-& _ _ (move-many _ signs-move) path-moves)
+  unary-moves = move-map _ _ (move-& _ _ (move-many _ signs-move) map-moves)
+
+  pub arrow-moves : AllMove (g.Arrow Single)
+  arrow-moves = move-map _ _ (move-& _ _ unary-moves (move-many _ (move-▹ _ _ refl called-moves)))
 
   pub inter-moves : AllMove (g.Inter Single)
-  inter-moves = move-map _ _ (move-& _ _ unary-moves (move-many _ (move-& _ _ set-operators-move unary-moves)))
+  inter-moves = move-map _ _ (move-& _ _ arrow-moves (move-many _ (move-& _ _ set-operators-move arrow-moves)))
 
   pub union-moves : AllMove (g.Union Single)
   union-moves = move-map _ _ (move-& _ _ inter-moves (move-many _ (move-∣ _ _ (move-▹ _ _ refl inter-moves) (move-▹ _ _ refl inter-moves))))
@@ -229,8 +238,11 @@ module _ (Single : Rel Expr) (single-moves : AllMove Single) where
   pub let-moves : AllMove (g.Let Single)
   let-moves = move-map _ _ (move-▹ _ _ refl (commas-move _ let-binding-moves))
 
+  pub allowing-moves : AllMove (g.AllowingWords Single)
+  allowing-moves = move-∣ _ _ (move-▹ _ _ refl (move-is _ _ refl)) (move-empty _)
+
   pub for-binding-moves : AllMove (g.ForB Single)
-  for-binding-moves = move-map _ _ (move-& _ _ variable-moves (move-& _ _ (move-maybe _ (move-▹ _ _ refl variable-moves)) (word-moves _)))
+  for-binding-moves = move-map _ _ (move-& _ _ variable-moves (move-& _ _ allowing-moves (move-& _ _ (move-maybe _ (move-▹ _ _ refl variable-moves)) (word-moves _))))
 
   pub for-moves : AllMove (g.For Single)
   for-moves = move-map _ _ (move-▹ _ _ refl (commas-move _ for-binding-moves))
@@ -238,8 +250,11 @@ module _ (Single : Rel Expr) (single-moves : AllMove Single) where
   pub first-clause-moves : AllMove (g.For Single ∣ g.Let Single)
   first-clause-moves = move-∣ _ _ for-moves let-moves
 
+  pub count-moves : AllMove (g.Count Single)
+  count-moves = move-map _ _ (move-▹ _ _ refl variable-moves)
+
   pub clause-moves : AllMove (g.ClauseRel Single)
-  clause-moves = move-∣ _ _ for-moves (move-∣ _ _ let-moves (move-∣ _ _ filter-moves (move-∣ _ _ group-moves order-moves)))
+  clause-moves = move-∣ _ _ for-moves (move-∣ _ _ let-moves (move-∣ _ _ filter-moves (move-∣ _ _ group-moves (move-∣ _ _ count-moves order-moves))))
 
   pub flwor-moves : AllMove (g.Flwor Single)
   flwor-moves = move-map _ _ (move-& _ _ first-clause-moves (move-& _ _ (move-many _ clause-moves) (word-moves _)))

@@ -71,6 +71,14 @@ bar_rank : (rank_of (symbol s.Bar) ≡ 90) × (every (has_rank 90) (only (symbol
 unfolding rank_of
 bar_rank = (refl, refl)
 
+map_rank : (rank_of (symbol s.Bang) ≡ 120) × (every (has_rank 120) (only (symbol s.Bang)) ≡ true)
+unfolding rank_of
+map_rank = (refl, refl)
+
+arrow_rank : (rank_of (symbol s.Arrow) ≡ 110) × (every (has_rank 110) (only (symbol s.Arrow)) ≡ true)
+unfolding rank_of
+arrow_rank = (refl, refl)
+
 union_stops : (us : Tokens) → rank us < 90 → begins_union us ≡ false
 unfolding begins_union
 union_stops us low = rw (only_stops (word "union") 90 (omega arith) union_rank.1 us low, only_stops (symbol s.Bar) 90 (omega arith) bar_rank.1 us low) refl
@@ -97,6 +105,12 @@ no_brace ts b = phrase_no_brace ts b.phrase
 
 step_no_brace : (ts : Tokens) → StepBegins ts → r.begins_brace ts ≡ false
 step_no_brace ts b = phrase_no_brace ts (path_is_phrase ts (step_is_path ts b.step))
+
+path_no_brace : (ts : Tokens) → PathBegins ts → r.begins_brace ts ≡ false
+path_no_brace ts b = phrase_no_brace ts (path_is_phrase ts b.path)
+
+called_no_brace : (ts : Tokens) → p.PrimaryBegins ts → r.begins_brace ts ≡ false
+called_no_brace ts b = phrase_no_brace ts (path_is_phrase ts (step_is_path ts b.step))
 
 slash_plain : (c : _) (ts : Tokens) → Plain (symbol c ∷ ts)
 unfolding begins_flwor begins_quantified begins_if
@@ -277,15 +291,22 @@ module _ (Single : Rel Expr) (single : Parser Expr) (d : ℕ) (single-moves : Al
   signs_begin [] ts us w b = rw w (record { plain = b.plain; phrase = path_is_phrase us b.path })
   signs_begin (x ∷ xs) ts us w b = sign_line ts x w.0 w.1
 
-  unary_line : Reads (Fits d) Begins 130 (g.Unary Single) (r.unary single)
+  map_line : Reads (Fits d) PathBegins 120 (g.Map Single) (r.simple_map single)
+  unfolding r.simple_map r.map_item
+  map_line =
+      reads-chain (Fits d) PathBegins 130 120 (g.chain e.Map) (g.Path Single) (r.path single) (symbol s.Bang ▹ g.Path Single) (is (symbol s.Bang)) _ (fits_after d) path_line (m.path-moves Single single-moves)
+      (item-▹ (Fits d) PathBegins 130 (symbol s.Bang) (g.Path Single) (r.path single) (fits_after d) refl (rw map_rank.0 (omega arith)) refl path_no_brace (m.path-moves Single single-moves) path_line) (omega arith)
+      (λ us low. table_stops (only (symbol s.Bang)) 120 (omega arith) map_rank.1 us low)
+
+  unary_line : Reads (Fits d) Begins 120 (g.Unary Single) (r.unary single)
   unfolding r.unary
   unary_line = record {
     reads = λ ts a us w low f.
-        let b = path_starts w.1.0 w.0.1 us w.1.2 low in
+        let b = map_line.starts w.1.0 w.0.1 us w.1.2 low in
         let first = signs_read w.0.0 ts w.1.0 w.1.1 (path_no_sign w.1.0 b.path) in
-        let path = path_reads w.1.0 w.0.1 us w.1.2 low (fits_after d ts w.1.0 (move-many _ m.signs-move ts w.0.0 w.1.0 w.1.1) f) in
+        let path = map_line.reads w.1.0 w.0.1 us w.1.2 low (fits_after d ts w.1.0 (move-many _ m.signs-move ts w.0.0 w.1.0 w.1.1) f) in
         rw (first, path) (value_is us w.2);
-    starts = λ ts a us w low. signs_begin w.0.0 ts w.1.0 w.1.1 (path_starts w.1.0 w.0.1 us w.1.2 low);
+    starts = λ ts a us w low. signs_begin w.0.0 ts w.1.0 w.1.1 (map_line.starts w.1.0 w.0.1 us w.1.2 low);
   }
 
   -- ---- operators
@@ -308,9 +329,16 @@ module _ (Single : Rel Expr) (single : Parser Expr) (d : ℕ) (single-moves : Al
       (item-▹ (Fits d) Begins follow t P p (fits_after d) known low all no_brace moves line) within
       (λ us low_us. table_stops (only t) last high ranks us low_us)
 
+  arrow_line : Reads (Fits d) Begins 110 (g.Arrow Single) (r.arrow single)
+  unfolding r.arrow r.arrow_item
+  arrow_line =
+      reads-chain (Fits d) Begins 120 110 (g.chain e.Arrow) (g.Unary Single) (r.unary single) (symbol s.Arrow ▹ g.Called Single) (is (symbol s.Arrow)) _ (fits_after d) unary_line (m.unary-moves Single single-moves)
+      (item-▹ (Fits d) p.PrimaryBegins 120 (symbol s.Arrow) (g.Called Single) (r.called single) (fits_after d) refl (rw arrow_rank.0 (omega arith)) refl called_no_brace (m.called-moves Single single-moves) (p.called_line Single single d single-moves single-begins single-reads 120)) (omega arith)
+      (λ us low. table_stops (only (symbol s.Arrow)) 110 (omega arith) arrow_rank.1 us low)
+
   inter_line : Reads (Fits d) Begins 100 (g.Inter Single) (r.inter single)
   unfolding r.inter r.set_item
-  inter_line = chained 130 100 100 g.set_operators (g.chain e.SetOperation) (g.Unary Single) (r.unary single) all_sets (omega arith) (omega arith) (omega arith) refl (m.unary-moves Single single-moves) unary_line
+  inter_line = chained 110 100 100 g.set_operators (g.chain e.SetOperation) (g.Arrow Single) (r.arrow single) all_sets (omega arith) (omega arith) (omega arith) refl (m.arrow-moves Single single-moves) arrow_line
 
   union_item : Item (Fits d) 100 ((word "union" ▹ g.Inter Single) ∣ (symbol s.Bar ▹ g.Inter Single)) begins_union (r.union_item single)
   unfolding r.union_item begins_union

@@ -312,13 +312,32 @@ module _ (Single : Rel Expr) (single : Parser Expr) (d : ℕ) (single-moves : Al
       let at : ts ≡ prefixed w.0 w.1 ∷ symbol s.OpenParenthesis ∷ rest = w.2 ∙ ap (λ (x : Tokens). prefixed w.0 w.1 ∷ x) e in
       (rw w.2 (value_is us w.3), rw at refl, rw at (record { plain = prefixed_plain w.0 w.1 (symbol s.OpenParenthesis ∷ rest); primary = refl; step = refl }), rw w.2 refl)
 
+  record CalledRead (ts : Tokens) (a : QName × List Expr) (us : Tokens) : Type 0 where
+    pub reads : Fits d ts → r.called single ts ≡ Some (a, us)
+    pub called : begins_call ts ≡ true
+    pub begun : PrimaryBegins ts
+    pub named : begins_name ts ≡ true
+
+  called_reads : (ts : Tokens) (a : QName × List Expr) (us : Tokens) → g.Called Single ts a us → CalledRead ts a us
+  unfolding r.called
+  called_reads ts a us w =
+      let line = arguments_line (suc (rank us)) in
+      let paren = line.starts w.0 a.1 us w.2 (omega arith) in
+      let n = call_name_reads ts a.0 w.0 paren.0 w.1 paren.1 in
+      record { reads = λ f. (let inner = line.reads w.0 a.1 us w.2 (omega arith) (fits_after d ts w.0 (m.call-name-moves ts a.0 w.0 w.1) f) in rw (n.0, inner) refl); called = n.1; begun = n.2; named = n.3 }
+
+  -- what stands after `=>`
+  pub called_line : (any : ℕ) → Reads (Fits d) PrimaryBegins any (g.Called Single) (r.called single)
+  called_line any = record {
+    reads = λ ts a us w low f. (called_reads ts a us w).reads f;
+    starts = λ ts a us w low. (called_reads ts a us w).begun;
+  }
+
   call_reads : (ts : Tokens) (a : Expr) (us : Tokens) → g.Call Single ts a us → CallRead ts a us
   unfolding r.call
   call_reads ts a us w =
-      let line = arguments_line (suc (rank us)) in
-      let paren = line.starts w.1.0 w.0.1 us w.1.2 (omega arith) in
-      let n = call_name_reads ts w.0.0 w.1.0 paren.0 w.1.1 paren.1 in
-      record { reads = λ f. (let inner = line.reads w.1.0 w.0.1 us w.1.2 (omega arith) (fits_after d ts w.1.0 (m.call-name-moves ts w.0.0 w.1.0 w.1.1) f) in rw (n.0, inner) (value_is us w.2)); called = n.1; begun = n.2; named = n.3 }
+      let c = called_reads ts w.0 us w.1 in
+      record { reads = λ f. rw (c.reads f) (value_is us w.2); called = c.called; begun = c.begun; named = c.named }
 
   -- ---- all primaries
 

@@ -107,9 +107,13 @@ module _ (Single : Rel Expr) (single : Parser Expr) (single_sound : IsSound Sing
   unfolding r.arguments r.argument_list
   arguments_sound = sound-after _ _ _ (sound-before _ _ _ (sound-choose _ _ _ _ _ (sound-pure _) (commas_sound _ _ single_sound)))
 
+  called_sound : IsSound (g.Called Single) (r.called single)
+  unfolding r.called
+  called_sound = sound-both _ _ _ _ call_name_sound arguments_sound
+
   call_sound : IsSound (g.Call Single) (r.call single)
   unfolding r.call
-  call_sound = sound-mapped _ _ _ (sound-both _ _ _ _ call_name_sound arguments_sound)
+  call_sound = sound-mapped _ _ _ called_sound
 
   parenthesised_sound : IsSound (g.Parenthesised Single) (r.parenthesised single)
   unfolding r.parenthesised
@@ -192,17 +196,25 @@ module _ (Single : Rel Expr) (single : Parser Expr) (single_sound : IsSound Sing
 
   -- ---- operators
 
-  unary_sound : IsSound (g.Unary Single) (r.unary single)
-  unfolding r.unary
-  unary_sound = sound-mapped _ _ _ (sound-both _ _ _ _ (sound-many _ _ _ (sound-one_of _)) path_sound)
-
   -- a first operand, and more
   chain_sound : {A B : Type 0} (value : Expr × List A → B) (P : Rel Expr) (I : Rel A) (p : Parser Expr) (test : Tokens → Bool) (i : Parser A) → IsSound P p → IsSound I i → IsSound (value ⟨$⟩ P & Many I) (r.mapped value (r.both p (r.many test i)))
   chain_sound value P I p test i sp si = sound-mapped _ _ _ (sound-both _ _ _ _ sp (sound-many _ _ _ si))
 
+  map_sound : IsSound (g.Map Single) (r.simple_map single)
+  unfolding r.simple_map r.map_item
+  map_sound = chain_sound _ _ _ _ _ _ path_sound (sound-after _ _ _ path_sound)
+
+  unary_sound : IsSound (g.Unary Single) (r.unary single)
+  unfolding r.unary
+  unary_sound = sound-mapped _ _ _ (sound-both _ _ _ _ (sound-many _ _ _ (sound-one_of _)) map_sound)
+
+  arrow_sound : IsSound (g.Arrow Single) (r.arrow single)
+  unfolding r.arrow r.arrow_item
+  arrow_sound = chain_sound _ _ _ _ _ _ unary_sound (sound-after _ _ _ called_sound)
+
   inter_sound : IsSound (g.Inter Single) (r.inter single)
   unfolding r.inter r.set_item
-  inter_sound = chain_sound _ _ _ _ _ _ unary_sound (sound-both _ _ _ _ (sound-one_of _) unary_sound)
+  inter_sound = chain_sound _ _ _ _ _ _ arrow_sound (sound-both _ _ _ _ (sound-one_of _) arrow_sound)
 
   union_sound : IsSound (g.Union Single) (r.union single)
   unfolding r.union r.union_item
@@ -275,16 +287,22 @@ module _ (Single : Rel Expr) (single : Parser Expr) (single_sound : IsSound Sing
   let_sound = sound-mapped _ _ _ (sound-after _ _ _ (commas_sound _ _ (sound-both _ _ _ _ variable_sound (governed_sound _))))
 
   for_sound : IsSound (g.For Single) (r.for_clause single)
-  unfolding r.for_clause r.for_binding r.position
+  unfolding r.for_clause r.for_binding r.position r.allowing_words
   for_sound =
       sound-mapped _ _ _ (sound-after _ _ _ (commas_sound _ _ (sound-mapped _ _ _ (sound-both _ _ _ _ variable_sound
-      (sound-both _ _ _ _ (sound-maybe _ _ _ (sound-after _ _ _ variable_sound)) (governed_sound _))))))
+      (sound-both _ _ _ _ (sound-choose _ _ _ _ _ (sound-after _ _ _ (sound-is _ _)) (sound-pure _))
+      (sound-both _ _ _ _ (sound-maybe _ _ _ (sound-after _ _ _ variable_sound)) (governed_sound _)))))))
+
+  count_sound : IsSound (g.Count Single) (r.count_clause single)
+  unfolding r.count_clause
+  count_sound = sound-mapped _ _ _ (sound-after _ _ _ variable_sound)
 
   clause_sound : IsSound (g.ClauseRel Single) (r.clause_ single)
   unfolding r.clause_ r.later_clause
   clause_sound =
       sound-choose _ _ _ _ _ for_sound (sound-choose _ _ _ _ _ let_sound
-      (sound-choose _ _ _ _ _ filter_sound (sound-choose _ _ _ _ _ group_sound order_sound)))
+      (sound-choose _ _ _ _ _ filter_sound (sound-choose _ _ _ _ _ group_sound
+      (sound-choose _ _ _ _ _ count_sound order_sound))))
 
   flwor_sound : IsSound (g.Flwor Single) (r.flwor single)
   unfolding r.flwor r.first_clause r.clauses

@@ -13,21 +13,32 @@ use Rattle.xq_parser.specs.Look.{Tokens}
 use Rattle.xq_parser.specs.private.Reading.{Outcome, Parser, expect, after, mapped, choose}
 use Rattle.xq_parser.specs.private.Parses.{ParsesNot, Parses}
 
-module _ {A B : Type 0} (f : A → B) (t : Lex) (p : Parser A) where
-  pub reads_after : (ts mid us : Tokens) (a : A) → expect t ts ≡ Some (tt, mid) → p mid ≡ Some (a, us) → mapped f (after t p) ts ≡ Some (f a, us)
-  reads_after ts mid us a e h = rw (e, h) refl
+module _ {A : Type 0} (t : Lex) (p : Parser A) where
+  pub goes_on : (ts mid : Tokens) (r : Result (A × Bor (List Token)) Fault) → expect t ts ≡ Some (tt, mid) → Parses r (p mid) → Parses r (after t p ts)
+  goes_on ts mid r e h = rw e h
 
-  pub fails_at_first : (ts : Tokens) (fault : Fault) → ParsesNot fault (expect t ts) → ParsesNot fault (mapped f (after t p) ts)
-  fails_at_first ts (OfWant Memory) h = tt
-  fails_at_first ts (OfWant Store) h = absurd h
-  fails_at_first ts (OfCode XPST0003) h = rw h refl
-  fails_at_first ts (OfCode _) h = absurd h
+  pub stops : (ts : Tokens) (fault : Fault) → ParsesNot fault (expect t ts) → ParsesNot fault (after t p ts)
+  stops ts (OfWant Memory) h = tt
+  stops ts (OfWant Store) h = absurd h
+  stops ts (OfCode XPST0003) h = rw h refl
+  stops ts (OfCode _) h = absurd h
 
-  pub fails_after : (ts mid : Tokens) (fault : Fault) → expect t ts ≡ Some (tt, mid) → ParsesNot fault (p mid) → ParsesNot fault (mapped f (after t p) ts)
-  fails_after ts mid (OfWant Memory) e h = tt
-  fails_after ts mid (OfWant Store) e h = absurd h
-  fails_after ts mid (OfCode XPST0003) e h = rw (e, h) refl
-  fails_after ts mid (OfCode _) e h = absurd h
+module _ {A B : Type 0} (f : A → B) where
+  fails_mapped : (p : Parser A) (ts : Tokens) (fault : Fault) → ParsesNot fault (p ts) → ParsesNot fault (mapped f p ts)
+  fails_mapped p ts (OfWant Memory) h = tt
+  fails_mapped p ts (OfWant Store) h = absurd h
+  fails_mapped p ts (OfCode XPST0003) h = rw h refl
+  fails_mapped p ts (OfCode _) h = absurd h
+
+  module _ (t : Lex) (p : Parser A) where
+    pub reads_after : (ts mid us : Tokens) (a : A) → expect t ts ≡ Some (tt, mid) → p mid ≡ Some (a, us) → mapped f (after t p) ts ≡ Some (f a, us)
+    reads_after ts mid us a e h = rw (e, h) refl
+
+    pub fails_at_first : (ts : Tokens) (fault : Fault) → ParsesNot fault (expect t ts) → ParsesNot fault (mapped f (after t p) ts)
+    fails_at_first ts fault h = fails_mapped (after t p) ts fault (stops t p ts fault h)
+
+    pub fails_after : (ts mid : Tokens) (fault : Fault) → expect t ts ≡ Some (tt, mid) → ParsesNot fault (p mid) → ParsesNot fault (mapped f (after t p) ts)
+    fails_after ts mid fault e h = fails_mapped (after t p) ts fault (rw e h)
 
 -- what a `?` returns
 pub handed_on : {A : Type 0} (result : Result (A × Bor (List Token)) Fault) (fault : Fault) (read : Outcome A) → IsErrAnd result (λ f. f ≡ fault) → ParsesNot fault read → Parses result read

@@ -35,6 +35,8 @@ use Rattle.xq_expressions.specs.declared.operators.UnnamedNode.{UnnamedNode}
 use Rattle.xq_expressions.specs.declared.operators.UnnamedNode.TheVariants as unnamed
 use Rattle.xq_expressions.specs.declared.operators.Direction.{Direction}
 use Rattle.xq_expressions.specs.declared.operators.Direction.TheVariants as direction
+use Rattle.xq_expressions.specs.declared.operators.AllowingEmpty.{AllowingEmpty}
+use Rattle.xq_expressions.specs.declared.operators.AllowingEmpty.TheVariants as allowing
 use Rattle.xq_expressions.specs.declared.operators.EmptyOrder.{EmptyOrder}
 use Rattle.xq_expressions.specs.declared.operators.EmptyOrder.TheVariants as empty_order
 use Rattle.xq_expressions.specs.declared.operators.OrderModifier.{OrderModifier}
@@ -71,8 +73,8 @@ abbrev pub several : (List Expr → Expr) → Expr × List Expr → Expr
 several operation (first, []) = first
 several operation (first, second ∷ more) = operation (first ∷ second ∷ more)
 
--- a first operand, and others with their operators
-abbrev pub chain : {A : Type 0} → (Expr → List (A × Expr) → Expr) → Expr × List (A × Expr) → Expr
+-- a first operand, and what follows it, if anything does
+abbrev pub chain : {A : Type 0} → (Expr → List A → Expr) → Expr × List A → Expr
 chain operation (first, []) = first
 chain operation (first, second ∷ more) = operation first (second ∷ more)
 
@@ -91,9 +93,10 @@ abbrev pub signed : List Sign × Expr → Expr
 signed ([], operand) = operand
 signed (outer ∷ inner, operand) = e.Unary (outer ∷ inner) operand
 
--- a binding of `for` with its positional variable (section 3.12.2)
-abbrev pub for_binding : QName × (Option QName × Expr) → QName × Option QName × Expr
-for_binding (variable, (position, x)) = (variable, position, x)
+-- a binding of `for`, whether it allows empty, and its positional variable (section 3.12.2)
+abbrev pub for_binding : QName × (AllowingEmpty × (Option QName × Expr)) →
+    QName × AllowingEmpty × Option QName × Expr
+for_binding (variable, (empty_too, (position, x))) = (variable, empty_too, position, x)
 
 -- a grouping variable, with a value or without (section 3.12.7)
 abbrev pub group_spec : QName × Option Expr → GroupSpec
@@ -321,9 +324,13 @@ module _ (Single : Rel Expr) where
   abbrev pub Arguments : Rel (List Expr)
   Arguments = symbol s.OpenParenthesis ▹ (empty [] ∣ Commas Single) ◃ symbol s.CloseParenthesis
 
+  -- the name of a function and its arguments (section 3.1.5)
+  abbrev pub Called : Rel (QName × List Expr)
+  Called = CallName & Arguments
+
   -- section 3.1.5
   abbrev pub Call : Rel Expr
-  Call = call ⟨$⟩ CallName & Arguments
+  Call = call ⟨$⟩ Called
 
   -- section 3.1.3
   abbrev pub Parenthesised : Rel Expr
@@ -384,13 +391,21 @@ module _ (Single : Rel Expr) where
       ∣ (rooted start.RootAndBelow ⟨$⟩ symbol s.DoubleSlash ▹ Relative)
       ∣ (relative ⟨$⟩ Relative)
 
+  -- section 3.19
+  abbrev pub Map : Rel Expr
+  Map = chain e.Map ⟨$⟩ Path & Many (symbol s.Bang ▹ Path)
+
   -- section 3.5
   abbrev pub Unary : Rel Expr
-  Unary = signed ⟨$⟩ Many (OneOf signs) & Path
+  Unary = signed ⟨$⟩ Many (OneOf signs) & Map
+
+  -- section 3.20
+  abbrev pub Arrow : Rel Expr
+  Arrow = chain e.Arrow ⟨$⟩ Unary & Many (symbol s.Arrow ▹ Called)
 
   -- intersections and differences (section 3.4.2)
   abbrev pub Inter : Rel Expr
-  Inter = chain e.SetOperation ⟨$⟩ Unary & Many (OneOf set_operators & Unary)
+  Inter = chain e.SetOperation ⟨$⟩ Arrow & Many (OneOf set_operators & Arrow)
 
   -- section 3.4.2
   abbrev pub Union : Rel Expr
@@ -480,17 +495,26 @@ module _ (Single : Rel Expr) where
   abbrev pub Let : Rel Clause
   Let = clause.Let ⟨$⟩ word "let" ▹ Commas LetB
 
+  -- section 3.12.2
+  abbrev pub AllowingWords : Rel AllowingEmpty
+  AllowingWords = (word "allowing" ▹ Is (word "empty") allowing.Yes) ∣ empty allowing.No
+
   -- a binding of `for` (section 3.12.2)
-  abbrev pub ForB : Rel (QName × Option QName × Expr)
-  ForB = for_binding ⟨$⟩ Variable & Maybe (word "at" ▹ Variable) & word "in" ▹ Single
+  abbrev pub ForB : Rel (QName × AllowingEmpty × Option QName × Expr)
+  ForB = for_binding ⟨$⟩ Variable & AllowingWords & Maybe (word "at" ▹ Variable)
+      & word "in" ▹ Single
 
   -- section 3.12.2
   abbrev pub For : Rel Clause
   For = clause.For ⟨$⟩ word "for" ▹ Commas ForB
 
+  -- section 3.12.6
+  abbrev pub Count : Rel Clause
+  Count = clause.Count ⟨$⟩ word "count" ▹ Variable
+
   -- any clause (section 3.12)
   abbrev pub ClauseRel : Rel Clause
-  ClauseRel = For ∣ Let ∣ Filter ∣ Group ∣ Order
+  ClauseRel = For ∣ Let ∣ Filter ∣ Group ∣ Count ∣ Order
 
   -- section 3.12
   abbrev pub Flwor : Rel Expr

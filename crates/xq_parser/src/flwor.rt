@@ -13,7 +13,7 @@ use sqlite_items::Boxed;
 use std::alloc::Global;
 use xq_atoms::Fault;
 use xq_expressions::{
-    Clause, Direction, EmptyOrder, Expr, GroupSpec, OrderModifier, QName, Quantifier,
+    AllowingEmpty, Clause, Direction, EmptyOrder, Expr, GroupSpec, OrderModifier, QName, Quantifier,
 };
 use xq_lexer::{Symbol, Token};
 
@@ -37,6 +37,18 @@ fn empty_words(tokens: &[Token]) -> Result<(EmptyOrder, &[Token]), Fault>
         one_of::<EmptyOrder>(rest)
     } else {
         Ok((EmptyOrder::Least, tokens))
+    }
+}
+
+#[tactic(auto, unfolding(crate::specs::private::Reading::allowing_words))]
+fn allowing_words(tokens: &[Token]) -> Result<(AllowingEmpty, &[Token]), Fault>
+    ensures { Parses result (spec.allowing_words (lexemes tokens.now)) }
+{
+    if is_word("allowing", tokens) {
+        let rest = expect_word("allowing", tokens)?;
+        one_of::<AllowingEmpty>(rest)
+    } else {
+        Ok((AllowingEmpty::No, tokens))
     }
 }
 
@@ -187,6 +199,16 @@ impl<'a, F: Fn(Global, usize, &'a [Token]) -> Result<(Boxed<Expr>, &'a [Token]),
         Ok((Clause::For(bindings), rest))
     }
 
+    #[tactic(auto, unfolding(crate::specs::private::Reading::count_clause))]
+    fn count_clause(&self, tokens: &'a [Token]) -> Result<(Clause, &'a [Token]), Fault>
+        ensures { Parses result
+            (spec.count_clause (spec.single self.now.depth) (lexemes tokens.now)) }
+    {
+        let rest = expect_word("count", tokens)?;
+        let (name, rest) = variable(self.alloc, rest)?;
+        Ok((Clause::Count(name), rest))
+    }
+
     #[tactic(auto, unfolding(crate::specs::private::Reading::later_clause))]
     fn later_clause(&self, tokens: &'a [Token]) -> Result<(Clause, &'a [Token]), Fault>
         requires { Nests self.now.depth (F.pre self.now.single) (F.post self.now.single) }
@@ -197,6 +219,8 @@ impl<'a, F: Fn(Global, usize, &'a [Token]) -> Result<(Boxed<Expr>, &'a [Token]),
             self.filter_clause(tokens)
         } else if is_word("group", tokens) {
             self.group_clause(tokens)
+        } else if is_word("count", tokens) {
+            self.count_clause(tokens)
         } else {
             self.order_clause(tokens)
         }
@@ -326,7 +350,7 @@ struct ForBinding<'g, F>(&'g Grammar<F>);
 impl<'a, 'g, F: Fn(Global, usize, &'a [Token]) -> Result<(Boxed<Expr>, &'a [Token]), Fault>> Phrase<
     'a,
 > for ForBinding<'g, F> {
-    type Value = (QName, Option<QName>, Expr);
+    type Value = (QName, AllowingEmpty, Option<QName>, Expr);
 
     ghost ready = { λ it. Nests it.0.now.depth (F.pre it.0.now.single) (F.post it.0.now.single) };
 
@@ -336,11 +360,12 @@ impl<'a, 'g, F: Fn(Global, usize, &'a [Token]) -> Result<(Boxed<Expr>, &'a [Toke
     fn read(
         &self,
         tokens: &'a [Token],
-    ) -> Result<((QName, Option<QName>, Expr), &'a [Token]), Fault> {
+    ) -> Result<((QName, AllowingEmpty, Option<QName>, Expr), &'a [Token]), Fault> {
         let (name, rest) = variable(self.0.alloc, tokens)?;
+        let (allowing, rest) = allowing_words(rest)?;
         let (position, rest) = position(self.0.alloc, rest)?;
         let (value, rest) = self.0.after_word("in", rest)?;
-        Ok(((name, position, value.into_inner()), rest))
+        Ok(((name, allowing, position, value.into_inner()), rest))
     }
 }
 

@@ -1,4 +1,4 @@
-//! Operators, from signs to disjunctions (XQuery 3.1, sections 3.4 to 3.8).
+//! Operators, from maps to disjunctions (XQuery 3.1, sections 3.4 to 3.8, 3.19 and 3.20).
 ghost use Rattle.xq_lexer.specs.Lexeme.{lexemes, symbol as symbol_lex};
 ghost use Rattle.xq_lexer.specs.declared.tokens.Symbol.TheVariants as s;
 ghost use Rattle.xq_parser.specs.Look as look;
@@ -10,19 +10,31 @@ use crate::lists::{Repeated, many};
 use crate::lookahead::{begins_union, expect_symbol, expect_word, is_symbol, is_word};
 use crate::primaries::Grammar;
 use crate::values::{
-    compared, concatenation, conjunction, disjunction, product, ranged, set_operation, signed, sum,
-    united,
+    arrow, compared, concatenation, conjunction, disjunction, product, ranged, set_operation,
+    signed, simple_map, sum, united,
 };
 use crate::words::{begins, one_of};
-use sqlite_items::Boxed;
+use sqlite_items::{Boxed, Items};
 use std::alloc::Global;
 use xq_atoms::Fault;
-use xq_expressions::{ComparisonOperator, Expr, ProductOperator, SetOperator, Sign};
+use xq_expressions::{ComparisonOperator, Expr, ProductOperator, QName, SetOperator, Sign};
 use xq_lexer::{Symbol, Token};
 
 impl<'a, F: Fn(Global, usize, &'a [Token]) -> Result<(Boxed<Expr>, &'a [Token]), Fault>> Grammar<
     F,
 > {
+    /// Paths with `!` between them.
+    #[tactic(auto, unfolding(crate::specs::private::Reading::simple_map))]
+    fn simple_map(&self, tokens: &'a [Token]) -> Result<(Boxed<Expr>, &'a [Token]), Fault>
+        requires { Nests self.now.depth (F.pre self.now.single) (F.post self.now.single) }
+        ensures { Parses result
+            (spec.simple_map (spec.single self.now.depth) (lexemes tokens.now)) }
+    {
+        let (first, rest) = self.path(tokens)?;
+        let (more, rest) = many(self.alloc, &MapItem(self), rest)?;
+        Ok((simple_map(self.alloc, first, more)?, rest))
+    }
+
     /// An operand with its signs.
     #[tactic(auto, unfolding(crate::specs::private::Reading::unary))]
     fn unary(&self, tokens: &'a [Token]) -> Result<(Boxed<Expr>, &'a [Token]), Fault>
@@ -30,8 +42,19 @@ impl<'a, F: Fn(Global, usize, &'a [Token]) -> Result<(Boxed<Expr>, &'a [Token]),
         ensures { Parses result (spec.unary (spec.single self.now.depth) (lexemes tokens.now)) }
     {
         let (signs, rest) = many(self.alloc, &NextSign, tokens)?;
-        let (operand, rest) = self.path(rest)?;
+        let (operand, rest) = self.simple_map(rest)?;
         Ok((signed(self.alloc, signs, operand)?, rest))
+    }
+
+    /// Calls after `=>`.
+    #[tactic(auto, unfolding(crate::specs::private::Reading::arrow))]
+    fn arrow(&self, tokens: &'a [Token]) -> Result<(Boxed<Expr>, &'a [Token]), Fault>
+        requires { Nests self.now.depth (F.pre self.now.single) (F.post self.now.single) }
+        ensures { Parses result (spec.arrow (spec.single self.now.depth) (lexemes tokens.now)) }
+    {
+        let (first, rest) = self.unary(tokens)?;
+        let (calls, rest) = many(self.alloc, &ArrowItem(self), rest)?;
+        Ok((arrow(self.alloc, first, calls)?, rest))
     }
 
     /// Intersections and differences.
@@ -40,7 +63,7 @@ impl<'a, F: Fn(Global, usize, &'a [Token]) -> Result<(Boxed<Expr>, &'a [Token]),
         requires { Nests self.now.depth (F.pre self.now.single) (F.post self.now.single) }
         ensures { Parses result (spec.inter (spec.single self.now.depth) (lexemes tokens.now)) }
     {
-        let (first, rest) = self.unary(tokens)?;
+        let (first, rest) = self.arrow(tokens)?;
         let (more, rest) = many(self.alloc, &SetItem(self), rest)?;
         Ok((set_operation(self.alloc, first, more)?, rest))
     }
@@ -217,6 +240,63 @@ impl<'a> Repeated<'a> for NextSign {
     }
 }
 
+/// What is mapped over the items before it.
+#[derive(Drop)]
+struct MapItem<'g, F>(&'g Grammar<F>);
+
+impl<
+    'a,
+    'g,
+    F: Fn(Global, usize, &'a [Token]) -> Result<(Boxed<Expr>, &'a [Token]), Fault>,
+> Repeated<'a> for MapItem<'g, F> {
+    type Value = Expr;
+
+    ghost ready = { λ it. Nests it.0.now.depth (F.pre it.0.now.single) (F.post it.0.now.single) };
+
+    ghost test = { spec.is (symbol_lex s.Bang) };
+
+    ghost reader = { λ it. spec.map_item (spec.single it.0.now.depth) };
+
+    fn follows(&self, tokens: &[Token]) -> bool {
+        is_symbol(Symbol::Bang, tokens)
+    }
+
+    #[tactic(auto, unfolding(crate::specs::private::Reading::map_item))]
+    fn next(&self, tokens: &'a [Token]) -> Result<(Expr, &'a [Token]), Fault> {
+        let rest = expect_symbol(Symbol::Bang, tokens)?;
+        let (part, rest) = self.0.path(rest)?;
+        Ok((part.into_inner(), rest))
+    }
+}
+
+/// A call that what stands before it is handed on to.
+#[derive(Drop)]
+struct ArrowItem<'g, F>(&'g Grammar<F>);
+
+impl<
+    'a,
+    'g,
+    F: Fn(Global, usize, &'a [Token]) -> Result<(Boxed<Expr>, &'a [Token]), Fault>,
+> Repeated<'a> for ArrowItem<'g, F> {
+    type Value = (QName, Items<Expr>);
+
+    ghost ready = { λ it. Nests it.0.now.depth (F.pre it.0.now.single) (F.post it.0.now.single) };
+
+    ghost test = { spec.is (symbol_lex s.Arrow) };
+
+    ghost reader = { λ it. spec.arrow_item (spec.single it.0.now.depth) };
+
+    fn follows(&self, tokens: &[Token]) -> bool {
+        is_symbol(Symbol::Arrow, tokens)
+    }
+
+    #[tactic(auto, unfolding(crate::specs::private::Reading::arrow_item))]
+    fn next(&self, tokens: &'a [Token]) -> Result<((QName, Items<Expr>), &'a [Token]), Fault> {
+        let rest = expect_symbol(Symbol::Arrow, tokens)?;
+        self.0.called(rest)
+    }
+}
+
 /// An operand of an intersection or difference.
 #[derive(Drop)]
 struct SetItem<'g, F>(&'g Grammar<F>);
@@ -241,7 +321,7 @@ impl<
     #[tactic(auto, unfolding(crate::specs::private::Reading::set_item))]
     fn next(&self, tokens: &'a [Token]) -> Result<((SetOperator, Expr), &'a [Token]), Fault> {
         let (operator, rest) = one_of::<SetOperator>(tokens)?;
-        let (operand, rest) = self.0.unary(rest)?;
+        let (operand, rest) = self.0.arrow(rest)?;
         Ok(((operator, operand.into_inner()), rest))
     }
 }

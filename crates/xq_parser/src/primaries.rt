@@ -274,14 +274,27 @@ impl<'a, F: Fn(Global, usize, &'a [Token]) -> Result<(Boxed<Expr>, &'a [Token]),
         Ok((arguments, rest))
     }
 
+    /// The name of a function and its arguments.
+    #[tactic(auto, unfolding(crate::specs::private::Reading::called))]
+    pub(crate) fn called(
+        &self,
+        tokens: &'a [Token],
+    ) -> Result<((QName, Items<Expr>), &'a [Token]), Fault>
+        requires { Nests self.now.depth (F.pre self.now.single) (F.post self.now.single) }
+        ensures { Parses result (spec.called (spec.single self.now.depth) (lexemes tokens.now)) }
+    {
+        let (name, rest) = call_name(self.alloc, tokens)?;
+        let (arguments, rest) = self.arguments(rest)?;
+        Ok(((name, arguments), rest))
+    }
+
     /// A call of a function.
     #[tactic(auto, unfolding(crate::specs::private::Reading::call))]
     fn call(&self, tokens: &'a [Token]) -> Result<(Boxed<Expr>, &'a [Token]), Fault>
         requires { Nests self.now.depth (F.pre self.now.single) (F.post self.now.single) }
         ensures { Parses result (spec.call (spec.single self.now.depth) (lexemes tokens.now)) }
     {
-        let (name, rest) = call_name(self.alloc, tokens)?;
-        let (arguments, rest) = self.arguments(rest)?;
+        let ((name, arguments), rest) = self.called(tokens)?;
         let call = Expr::Call(name, arguments);
         Ok((Boxed::new(self.alloc, call)?, rest))
     }

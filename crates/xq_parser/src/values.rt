@@ -133,6 +133,36 @@ pub(crate) fn set_operation(
     }
 }
 
+/// An operand, or the calls that it is handed on to.
+pub(crate) fn arrow(
+    alloc: Global,
+    first: Boxed<Expr>,
+    calls: Items<(QName, Items<Expr>)>,
+) -> Result<Boxed<Expr>, Fault>
+    ensures { ParsesAs (λ x. x) result (Some (g.chain e.Arrow (first, calls))) }
+{
+    if calls.len() == 0 {
+        Ok(first)
+    } else {
+        Ok(Boxed::new(alloc, Expr::Arrow(first, calls))?)
+    }
+}
+
+/// A path, or what is mapped over its items.
+pub(crate) fn simple_map(
+    alloc: Global,
+    first: Boxed<Expr>,
+    more: Items<Expr>,
+) -> Result<Boxed<Expr>, Fault>
+    ensures { ParsesAs (λ x. x) result (Some (g.chain e.Map (first, more))) }
+{
+    if more.len() == 0 {
+        Ok(first)
+    } else {
+        Ok(Boxed::new(alloc, Expr::Map(first, more))?)
+    }
+}
+
 /// An operand, or a comparison of two.
 pub(crate) fn compared(
     alloc: Global,
@@ -187,6 +217,7 @@ pub(crate) fn rooted(
 ) -> Result<Boxed<Expr>, Fault>
     ensures { ParsesAs (λ x. x) result (Some (g.rooted start (first, more))) }
 {
+    let first = Boxed::new(alloc, first)?;
     Ok(Boxed::new(alloc, Expr::Path(start, first, more))?)
 }
 

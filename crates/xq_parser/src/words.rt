@@ -10,8 +10,8 @@ ghost use Rattle.xq_parser.specs.private.Parses.{Parses};
 
 use xq_atoms::{Code, Fault};
 use xq_expressions::{
-    AxisName, ComparisonOperator, Direction, EmptyOrder, NamedNode, NodeComparison, NodeTest,
-    ProductOperator, Quantifier, Relation, Separator, SetOperator, Sign, UnnamedNode,
+    AllowingEmpty, AxisName, ComparisonOperator, Direction, EmptyOrder, NamedNode, NodeComparison,
+    NodeTest, ProductOperator, Quantifier, Relation, Separator, SetOperator, Sign, UnnamedNode,
 };
 use xq_lexer::{Lexeme, Symbol, Token};
 
@@ -226,6 +226,27 @@ impl Listed for EmptyOrder {
     }
 }
 
+/// `empty` after `allowing`, as a word.
+fn allowance_word(word: &str) -> Option<AllowingEmpty>
+    ensures { result ≡ look.lookup spec.allowances (name_lex word.now) }
+{
+    match word {
+        "empty" => Some(AllowingEmpty::Yes),
+        _ => None,
+    }
+}
+
+impl Listed for AllowingEmpty {
+    ghost table = { spec.allowances };
+
+    fn of(lexeme: &Lexeme) -> Option<AllowingEmpty> {
+        match lexeme {
+            Lexeme::Name(word) => allowance_word(word.as_str()),
+            _ => None,
+        }
+    }
+}
+
 /// The name of an axis, as a word.
 fn axis_name_word(word: &str) -> Option<AxisName>
     ensures { result ≡ look.lookup g.axis_names (name_lex word.now) }
@@ -375,7 +396,10 @@ pub(crate) fn is_named_constructor_word(word: &str) -> bool
 fn clause_word(word: &str) -> bool
     ensures { result ≡ spec.found (look.lookup spec.clause_words (name_lex word.now)) }
 {
-    matches!(word, "for" | "let" | "where" | "group" | "order" | "stable")
+    matches!(
+        word,
+        "for" | "let" | "where" | "group" | "count" | "order" | "stable"
+    )
 }
 
 /// Whether the next token begins a clause.

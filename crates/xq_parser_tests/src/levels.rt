@@ -27,6 +27,9 @@ pub enum Outcome {
     SetOperation(usize),
     /// The number of its signs.
     Unary(usize),
+    /// The number of its calls.
+    Arrow(usize),
+    Map(usize),
     /// The number of its steps.
     Path(usize),
     Literal,
@@ -61,6 +64,8 @@ fn level(expression: &Expr) -> Outcome {
         Expr::Union(operands) => Outcome::Union(operands.len()),
         Expr::SetOperation(_, more) => Outcome::SetOperation(with_first(more)),
         Expr::Unary(signs, _) => Outcome::Unary(signs.len()),
+        Expr::Arrow(_, calls) => Outcome::Arrow(calls.len()),
+        Expr::Map(_, more) => Outcome::Map(with_first(more)),
         Expr::Root => Outcome::Path(0),
         Expr::Path(_, _, more) => Outcome::Path(with_first(more)),
         Expr::Int(_) | Expr::Dec(_) | Expr::Str(_) => Outcome::Literal,

@@ -20,6 +20,17 @@ fn words_are_names_too(rt: HostRuntime) {
         ("if (if) then then else else", Outcome::If),
         ("for $for in for return return", Outcome::Flwor(1)),
         ("some", Outcome::Path(1)),
+        ("count", Outcome::Path(1)),
+        ("allowing/empty/count", Outcome::Path(3)),
+        ("count(count)", Outcome::Call(1)),
+        (
+            "for $count in count count $empty return count",
+            Outcome::Flwor(2),
+        ),
+        (
+            "for $allowing allowing empty in empty return allowing",
+            Outcome::Flwor(1),
+        ),
     ];
     for (text, level) in rows {
         assert_eq!(rt; outcome_of(rt.alloc(), text), level, "{text}");
@@ -48,6 +59,38 @@ fn operators_bind_in_their_order(rt: HostRuntime) {
         ("-a/b", Outcome::Unary(1)),
         ("1 + $q", Outcome::Sum(2)),
         ("1 - -2", Outcome::Sum(2)),
+    ];
+    for (text, level) in rows {
+        assert_eq!(rt; outcome_of(rt.alloc(), text), level, "{text}");
+    }
+}
+
+#[test]
+fn arrows_and_maps_bind_in_their_order(rt: HostRuntime) {
+    let rows = [
+        ("a ! b ! c", Outcome::Map(3)),
+        ("a/b ! c[1]/d", Outcome::Map(2)),
+        ("/ ! a", Outcome::Map(2)),
+        ("1!2", Outcome::Map(2)),
+        ("a ! b != c", Outcome::Comparison),
+        ("a != b", Outcome::Comparison),
+        ("-a ! b", Outcome::Unary(1)),
+        ("a => f() => p:g(1, 2)", Outcome::Arrow(2)),
+        ("/ => f()", Outcome::Arrow(1)),
+        ("-3 => abs()", Outcome::Arrow(1)),
+        ("a ! b => f()", Outcome::Arrow(1)),
+        ("a => f() intersect b => g()", Outcome::SetOperation(2)),
+        ("1 + 2 => f()", Outcome::Sum(2)),
+        ("a = > b", Outcome::Refused(Code::XPST0003)),
+        ("1 => f() ! g()", Outcome::Refused(Code::XPST0003)),
+        ("1 => f()[1]", Outcome::Refused(Code::XPST0003)),
+        ("1 => text()", Outcome::Refused(Code::XPST0003)),
+        ("1 => $f()", Outcome::Refused(Code::XPST0003)),
+        ("1 => f", Outcome::Refused(Code::XPST0003)),
+        ("1 ! -1", Outcome::Refused(Code::XPST0003)),
+        ("1 !", Outcome::Refused(Code::XPST0003)),
+        ("! 1", Outcome::Refused(Code::XPST0003)),
+        ("a ! ! b", Outcome::Refused(Code::XPST0003)),
     ];
     for (text, level) in rows {
         assert_eq!(rt; outcome_of(rt.alloc(), text), level, "{text}");
@@ -113,6 +156,14 @@ fn clauses_and_quantifiers_take_lists(rt: HostRuntime) {
         ),
         ("for $x in 1 order by $x return 4", Outcome::Flwor(2)),
         (
+            "for $x allowing empty at $p in (), $y allowing empty in 1 count $c return 4",
+            Outcome::Flwor(2),
+        ),
+        (
+            "for $x in 1 count $c order by $c count $c where $c group by $c return 4",
+            Outcome::Flwor(6),
+        ),
+        (
             "every $x in 1, $y in 2 satisfies $x = $y",
             Outcome::Quantified(2),
         ),
@@ -164,6 +215,16 @@ fn what_nothing_derives_is_refused(rt: HostRuntime) {
         "for $x in 1 order by $x descending ascending return 1",
         "for $x in 1 order by $x empty return 1",
         "for $x in 1 stable return 1",
+        "count $c",
+        "count $c return 1",
+        "for $x in 1 count c return 1",
+        "for $x in 1 count $c, $d return 1",
+        "for $x in 1 count $c := 1 return 1",
+        "for $x allowing in 1 return 1",
+        "for $x at $p allowing empty in 1 return 1",
+        "for $x allowing empty empty in 1 return 1",
+        "let $x allowing empty := 1 return 1",
+        "some $x allowing empty in 1 satisfies 1",
         "for $x in 1 group by x return 1",
         "where 1 return 1",
         "some $x satisfies 1",

@@ -4,6 +4,7 @@ use Rattle.std.specs.List.{AllByRecursion}
 use Rattle.std.proofs.lemmas.List.{length-append, map-append}
 use Rattle.xq_atoms.specs.Text.{Text}
 use Rattle.xq_atoms.specs.declared.refusals.Code.{Code}
+use Rattle.xq_expressions.specs.declared.operators.AllowingEmpty.{AllowingEmpty}
 use Rattle.xq_expressions.specs.declared.operators.OrderModifier.{OrderModifier}
 use Rattle.xq_regions.specs.Tree.{Tree}
 use Rattle.xq_regions.specs.Tuples.{Tuple}
@@ -28,11 +29,12 @@ use Rattle.xq_meaning.specs.PlanMeaning as slots_meaning
 use Rattle.xq_meaning.specs.Same.{IsPlan, frame_of, environment}
 use Rattle.xq_meaning.proofs.CoreEquations as core_eq
 use Rattle.xq_meaning.proofs.PlanEquations as plan_eq
-use Rattle.xq_meaning.proofs.SameForms.{AreRelated, go_on_same, for_tuples_same, let_tuples_same, where_tuples_same, order_tuples_same, return_same, SameAt, SameKey, SameModifier}
+use Rattle.xq_meaning.proofs.Turns.{last_turn}
+use Rattle.xq_meaning.proofs.SameForms.{AreRelated, for_tuples_same, let_tuples_same, where_tuples_same, order_tuples_same, return_same, SameAt, SameKey, SameModifier}
 use Rattle.xq_plan.specs.private.Plans.{AreAll, IsKey, AreWide, GivesWide, with_names, Follows, ClauseLeads, ClausesLead}
 use Rattle.xq_plan.proofs.Environments.{open_more, as_long}
 use Rattle.xq_plan.proofs.Forms.{related_map}
-use Rattle.xq_plan.proofs.Widths.{more_slots, for_wide, let_wide, where_wide, order_wide, group_wide}
+use Rattle.xq_plan.proofs.Widths.{more_slots, for_wide, let_wide, where_wide, order_wide, count_wide, group_wide}
 
 -- # One after another
 
@@ -117,17 +119,17 @@ module _ (outer own : List Text) where
   slots_for None v = refl
   slots_for (Some w) v = refl
 
-  pub for_leads : (v : Text) (at : Option Text) (c : Core) (p : Plan) → IsPlan (outer ++ own) c p →
-      ClauseLeads outer own (own ++ v ∷ position_name at) (clause.For v at c) (plan_clause.For (is_asked at) p)
-  for_leads v at c p is =
-      by_clause (own ++ v ∷ position_name at) (clause.For v at c) (plan_clause.For (is_asked at) p) _ _ (core_eq.clause-For v at c) (plan_eq.clause-For (is_asked at) p)
+  pub for_leads : (v : Text) (empties : AllowingEmpty) (at : Option Text) (c : Core) (p : Plan) → IsPlan (outer ++ own) c p →
+      ClauseLeads outer own (own ++ v ∷ position_name at) (clause.For v empties at c) (plan_clause.For empties (is_asked at) p)
+  for_leads v empties at c p is =
+      by_clause (own ++ v ∷ position_name at) (clause.For v empties at c) (plan_clause.For empties (is_asked at) p) _ _ (core_eq.clause-For v empties at c) (plan_eq.clause-For empties (is_asked at) p)
       (λ slots focus addresses l tuples trees w.
-      let made = Forms.for_tuples (is_asked at) (plan_mean p) (slots_at outer own slots focus addresses l) tuples trees in
+      let made = Forms.for_tuples empties (is_asked at) (plan_mean p) (slots_at outer own slots focus addresses l) tuples trees in
       record {
         same =
-            named_is (own ++ v ∷ position_name at) (Forms.for_tuples (is_asked at) (core_mean c) (names_at outer own slots focus addresses l) tuples trees)
-            ∙ ap (with_names (own ++ v ∷ position_name at)) (sym (for_tuples_same (slots_at outer own slots focus addresses l) (names_at outer own slots focus addresses l) (is_asked at) (plan_mean p) (core_mean c) tuples (at_all outer own slots focus addresses l c p is tuples w) trees));
-        wide = names_more (v ∷ position_name at) (more_slots (is_asked at)) made (slots_for at v) (for_wide (length own) (slots_at outer own slots focus addresses l) tuples w (is_asked at) (plan_mean p) trees);
+            named_is (own ++ v ∷ position_name at) (Forms.for_tuples empties (is_asked at) (core_mean c) (names_at outer own slots focus addresses l) tuples trees)
+            ∙ ap (with_names (own ++ v ∷ position_name at)) (sym (for_tuples_same (slots_at outer own slots focus addresses l) (names_at outer own slots focus addresses l) empties (is_asked at) (plan_mean p) (core_mean c) tuples (at_all outer own slots focus addresses l c p is tuples w) trees));
+        wide = names_more (v ∷ position_name at) (more_slots (is_asked at)) made (slots_for at v) (for_wide (length own) (slots_at outer own slots focus addresses l) tuples w empties (is_asked at) (plan_mean p) trees);
       })
 
   pub let_leads : (v : Text) (c : Core) (p : Plan) → IsPlan (outer ++ own) c p →
@@ -168,6 +170,15 @@ module _ (outer own : List Text) where
         wide = order_wide (length own) (slots_at outer own slots focus addresses l) tuples w (map (λ (x : Plan × OrderModifier). (plan_mean x.0, x.1)) ps) trees;
       })
 
+  pub count_leads : (v : Text) → ClauseLeads outer own (own ++ v ∷ []) (clause.Count v) plan_clause.Count
+  count_leads v =
+      by_clause (own ++ v ∷ []) (clause.Count v) plan_clause.Count _ _ (core_eq.clause-Count v) plan_eq.clause-Count
+      (λ slots focus addresses l tuples trees w.
+      record {
+        same = named_is (own ++ v ∷ []) (Forms.count_tuples tuples trees);
+        wide = names_more (v ∷ []) 1 (Forms.count_tuples tuples trees) refl (count_wide (length own) tuples trees w);
+      })
+
   pub group_leads : (vs : List Text) (found : List ℕ) → each (slot_of own) vs ≡ Ok found →
       ClauseLeads outer own own (clause.Group vs) (plan_clause.Group found)
   group_leads vs found is =
@@ -194,29 +205,6 @@ module _ (outer own : List Text) where
 
 pub none_lead : (outer own : List Text) → ClausesLead outer own own [] []
 none_lead outer own slots focus addresses l tuples trees w = record { same = refl; wide = w }
-
-in_turn-append : {A B : Type 0} (act : B → A → Doing B) (b : B) (xs ys : List A) (f : List Tree) →
-    in_turn act b (xs ++ ys) f ≡ go_on (in_turn act b xs f) (λ n. in_turn act n ys)
-in_turn-append act b [] ys f = refl
-in_turn-append act b (x ∷ xs) ys f =
-    go_on_same (act b x f) (λ n. in_turn act n (xs ++ ys)) (λ n g. go_on (in_turn act n xs g) (λ m.
-    in_turn act m ys)) (λ n g. in_turn-append act n xs ys g)
-    ∙ sym (go_on_go_on (act b x f) (λ n. in_turn act n xs) (λ m. in_turn act m ys))
-  where
-    go_on_go_on : {A B C : Type 0} (o : Outcome A) (k : A → Doing B) (l : B → Doing C) →
-        go_on (go_on o k) l ≡ go_on o (λ x f. go_on (k x f) l)
-    go_on_go_on (Ok x, f) k l = refl
-    go_on_go_on (Err code, f) k l = refl
-
-go_on_give : {A : Type 0} (o : Outcome A) → go_on o (λ x. give x) ≡ o
-go_on_give (Ok x, f) = refl
-go_on_give (Err code, f) = refl
-
-last_turn : {A B : Type 0} (act : B → A → Doing B) (b : B) (xs : List A) (y : A) (f : List Tree) →
-    in_turn act b (xs ++ y ∷ []) f ≡ go_on (in_turn act b xs f) (λ n. act n y)
-last_turn act b xs y f =
-    in_turn-append act b xs (y ∷ []) f
-    ∙ go_on_same (in_turn act b xs f) (λ n. in_turn act n (y ∷ [])) (λ n. act n y) (λ n g. go_on_give (act n y g))
 
 pub one_leads_more : (outer own mid last : List Text) (cs : List CoreClause) (ps : List PlanClause)
     (c : CoreClause) (p : PlanClause) → ClausesLead outer own mid cs ps → ClauseLeads outer mid last c p →

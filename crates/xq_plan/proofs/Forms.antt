@@ -24,9 +24,9 @@ use Rattle.xq_meaning.specs.PlanMeaning.{Slots, next_step, opened, plan_mean, pl
 use Rattle.xq_meaning.specs.Same.{IsPlan, frame_of, environment}
 use Rattle.xq_meaning.proofs.CoreEquations as core_eq
 use Rattle.xq_meaning.proofs.PlanEquations as plan_eq
-use Rattle.xq_meaning.proofs.SameForms.{AreRelated, then_same, in_turn_same, Same, AllSame, SameOperand, SameBindings, call_same, sequence_same, chain_same, unary_same, or_same, and_same, conditional_same, filter_same, slash_same, step_same, named_node_same, unnamed_node_same, quantified_same}
+use Rattle.xq_meaning.proofs.SameForms.{AreRelated, then_same, in_turn_same, Same, AllSame, SameOperand, SameBindings, call_same, sequence_same, chain_same, unary_same, arrow_same, SameCall, map_same, or_same, and_same, conditional_same, filter_same, slash_same, step_same, named_node_same, unnamed_node_same, quantified_same}
 use Rattle.xq_expressions.specs.Scopes.{last_place}
-use Rattle.xq_plan.specs.private.Plans.{AreAll, IsOperand, IsStep, IsScanOrPart, AreRanges}
+use Rattle.xq_plan.specs.private.Plans.{AreAll, IsNextCall, IsOperand, IsStep, IsScanOrPart, AreRanges}
 use Rattle.xq_plan.proofs.Environments.{slot_is, no_slot_is, open_more, as_long}
 use Rattle.xq_plan.proofs.Scans.{slash_scan}
 
@@ -93,6 +93,23 @@ module _ (names : List Text) where
   call_plan function cs ps all =
       by_form (core.Call function cs) (plan.Call function ps) _ _ (core_eq.core-Call function cs) (plan_eq.plan-Call function ps)
       (λ slots addresses h. call_same addresses slots (environment names slots) function (map plan_mean ps) (map core_mean cs) (alls cs ps all slots addresses h))
+
+  pub arrow_plan : (c : Core) (cs : List (Function × List Core)) (p : Plan) (ps : List (Function × List Plan)) →
+      IsPlan names c p → AreAll (IsNextCall names) cs ps → IsPlan names (core.Arrow c cs) (plan.Arrow p ps)
+  arrow_plan c cs p ps first all =
+      by_form (core.Arrow c cs) (plan.Arrow p ps) _ _ (core_eq.core-Arrow c cs) (plan_eq.plan-Arrow p ps)
+      (λ slots addresses h. arrow_same addresses slots (environment names slots) (plan_mean p) (core_mean c)
+      (map (λ (o : Function × List Plan). (o.0, map plan_mean o.1)) ps) (map (λ (o : Function × List Core). (o.0, map core_mean o.1)) cs)
+      (same_of c p first slots addresses h)
+      (related_map (IsNextCall names) (SameCall addresses slots (environment names slots)) (λ (o : Function × List Core). (o.0, map core_mean o.1)) (λ (o : Function × List Plan). (o.0, map plan_mean o.1))
+      (λ x y is. (is.0, alls x.1 y.1 is.1 slots addresses h)) cs ps all))
+
+  pub map_plan : (c : Core) (cs : List Core) (p : Plan) (ps : List Plan) → IsPlan names c p →
+      AreAll (IsPlan names) cs ps → IsPlan names (core.Map c cs) (plan.Map p ps)
+  map_plan c cs p ps first all =
+      by_form (core.Map c cs) (plan.Map p ps) _ _ (core_eq.core-Map c cs) (plan_eq.plan-Map p ps)
+      (λ slots addresses h. map_same addresses slots (environment names slots) (plan_mean p) (core_mean c) (map plan_mean ps) (map core_mean cs)
+      (same_of c p first slots addresses h) (alls cs ps all slots addresses h))
 
   -- # Operators
 

@@ -4,6 +4,7 @@ use Rattle.std.proofs.Math.Seq.{take-suc}
 use Rattle.std.proofs.lemmas.List.{map-append, append-nil, append_assoc, length-append, take-append-drop, take_all, drop_all, drop-append-le, take-append-le}
 use Rattle.std.specs.Option.{is_some}
 use Rattle.xq_atoms.specs.Text.{Text}
+use Rattle.xq_expressions.specs.declared.operators.AllowingEmpty.{AllowingEmpty}
 use Rattle.xq_expressions.specs.declared.operators.OrderModifier.{OrderModifier}
 use Rattle.xq_expressions.specs.declared.operators.Quantifier.{Quantifier}
 use Rattle.xq_meaning.specs.declared.normal_forms.Core.{Core}
@@ -18,7 +19,7 @@ use Rattle.xq_meaning.specs.Meaning.{position_name, is_asked}
 use Rattle.xq_meaning.specs.Same.{IsPlan}
 use Rattle.xq_plan.specs.private.Plans.{AreAll, AreRanges, IsKey, ClauseLeads, ClausesLead, IsClause, AreClauses, Extends}
 use Rattle.xq_plan.proofs.Forms.{quantified_plan}
-use Rattle.xq_plan.proofs.Flwor.{for_leads, let_leads, where_leads, order_leads, none_lead, one_leads_more, flwor_plan}
+use Rattle.xq_plan.proofs.Flwor.{for_leads, let_leads, where_leads, order_leads, count_leads, none_lead, one_leads_more, flwor_plan}
 
 pub take_next : {A : Type 0} (all : List A) (i : ℕ) (y : A) → i < length all → y ≡ get_or all i y →
     take (i + 1) all ≡ take i all ++ y ∷ []
@@ -110,12 +111,19 @@ module _ (start : ℕ) (old : List Text) (h : start ≤ length old) where
   in_both : (c : Core) (p : Plan) → IsPlan old c p → IsPlan (take start old ++ drop start old) c p
   in_both c p is = subst (λ ns. IsPlan ns c p) (sym (take-append-drop start old)) is
 
-  pub for_clause : (v : Text) (at : Option Text) (c : Core) (p : Plan) (new : List Text) → IsPlan old c p →
-      new ≡ old ++ v ∷ position_name at → IsClause start old (clause.For v at c) (plan_clause.For (is_asked at) p) new
-  for_clause v at c p new is e =
-      subst (λ ns. ClauseLeads (take start old) (drop start old) ns (clause.For v at c) (plan_clause.For (is_asked at) p))
+  pub for_clause : (v : Text) (empties : AllowingEmpty) (at : Option Text) (c : Core) (p : Plan) (new : List Text) → IsPlan old c p →
+      new ≡ old ++ v ∷ position_name at → IsClause start old (clause.For v empties at c) (plan_clause.For empties (is_asked at) p) new
+  for_clause v empties at c p new is e =
+      subst (λ ns. ClauseLeads (take start old) (drop start old) ns (clause.For v empties at c) (plan_clause.For empties (is_asked at) p))
       (sym (ap (drop start) e ∙ drop-append-le start old (v ∷ position_name at) h))
-      (for_leads (take start old) (drop start old) v at c p (in_both c p is))
+      (for_leads (take start old) (drop start old) v empties at c p (in_both c p is))
+
+  pub count_clause : (v : Text) (new : List Text) → new ≡ old ++ v ∷ [] →
+      IsClause start old (clause.Count v) plan_clause.Count new
+  count_clause v new e =
+      subst (λ ns. ClauseLeads (take start old) (drop start old) ns (clause.Count v) plan_clause.Count)
+      (sym (ap (drop start) e ∙ drop-append-le start old (v ∷ []) h))
+      (count_leads (take start old) (drop start old) v)
 
   pub let_clause : (v : Text) (c : Core) (p : Plan) (new : List Text) → IsPlan old c p →
       new ≡ old ++ v ∷ [] → IsClause start old (clause.Let v c) (plan_clause.Let p) new

@@ -1,6 +1,6 @@
 -- How many slots the tuples of a stream have, clause by clause.
 use Rattle.std.proofs.Common.{◌≡◌, ℕ, ◌+◌, List, [], ◌∷◌, ◌++◌, map, length, Bool, true, false, Ok, Err, refl, sym, ap, ◌∙◌, subst, if◌then◌else◌}
-use Rattle.std.specs.Prelude.{filter, not, nat_eq, ◌&&◌}
+use Rattle.std.specs.Prelude.{pos, filter, not, nat_eq, ◌&&◌}
 use Rattle.std.specs.List.{AllByRecursion, zip, enumerate_from, list_all}
 use Rattle.std.specs.declared.cmp.Ordering.{Ordering}
 use Rattle.std.specs.Ordering.{is_lt}
@@ -13,11 +13,12 @@ use Rattle.std.proofs.lemmas.Bool.{false≢true}
 use Rattle.std.proofs.lemmas.List.FromFn.{length-map-range_with_len}
 use Rattle.xq_atoms.specs.declared.refusals.Code.{Code}
 use Rattle.xq_atoms.specs.declared.refusals.Code.TheVariants.{XPTY0004}
+use Rattle.xq_expressions.specs.declared.operators.AllowingEmpty.{AllowingEmpty}
 use Rattle.xq_expressions.specs.declared.operators.OrderModifier.{OrderModifier}
 use Rattle.xq_atoms.specs.Compare.{Key, Nothing, Number, Characters, Truth, key_eq}
 use Rattle.xq_regions.specs.Tree.{Tree}
-use Rattle.xq_regions.specs.Tuples.{Tuple, Keyed, OrderRule, expanded, with_each, item_values, bound, satisfying, grouped, grouped_tuple, grouped_value, slot_key, same_keys, comparison_keys, groups, firsts, are_keys, key_rows, key_value, ordered, can_order, keys_cmp, sort_keys, sorted, inserted}
-use Rattle.xq_atoms.specs.Atom.{Atomic}
+use Rattle.xq_regions.specs.Tuples.{Tuple, Keyed, OrderRule, expanded, with_items, empty_values, item_values, bound, satisfying, grouped, grouped_tuple, grouped_value, slot_key, same_keys, comparison_keys, groups, firsts, are_keys, key_rows, key_value, ordered, can_order, keys_cmp, sort_keys, sorted, inserted}
+use Rattle.xq_atoms.specs.Atom.{Atomic, Integer}
 use Rattle.xq_meaning.specs.Items.{Item, Atom}
 use Rattle.xq_meaning.specs.Doing.{Doing, Outcome, go_on, give, judged, for_each}
 use Rattle.xq_meaning.specs.Forms
@@ -67,13 +68,32 @@ each_wide n at t k [] h = tt
 each_wide n at t k (x ∷ xs) h =
     (length-append t (item_values Atom at k x) ∙ (λ i. h i + item_slots at k x i), each_wide n at t (k + 1) xs h)
 
-expanded_wide : (n : ℕ) (at : Bool) (tuples : List (Tuple Item)) (lists : List (List Item)) → AreWide n tuples →
-    AreWide (n + more_slots at) (expanded Atom false at tuples lists)
-expanded_wide n at [] lists h = tt
-expanded_wide n at (t ∷ ts) [] h = tt
-expanded_wide n at (t ∷ ts) (xs ∷ xss) h =
-    subst (AreWide (n + more_slots at)) (sym (flat_map-cons (λ (p : Tuple Item × List Item). with_each Atom at p.0 p.1) (t, xs) (zip ts xss)))
-    (all_append (λ t. length t ≡ n + more_slots at) (with_each Atom at t xs) (expanded Atom false at ts xss) (each_wide n at t 1 xs h.0) (expanded_wide n at ts xss h.1))
+empty_slots : (at : Bool) → length (empty_values Atom at) ≡ more_slots at
+empty_slots true = refl
+empty_slots false = refl
+
+items_wide : (n : ℕ) (allows at : Bool) (t : Tuple Item) (xs : List Item) → length t ≡ n →
+    AreWide (n + more_slots at) (with_items Atom allows at t xs)
+items_wide n true at t [] h =
+    (length-append t (empty_values Atom at) ∙ (λ i. h i + empty_slots at i), tt)
+items_wide n true at t (x ∷ xs) h = each_wide n at t 1 (x ∷ xs) h
+items_wide n false at t xs h = each_wide n at t 1 xs h
+
+expanded_wide : (n : ℕ) (allows at : Bool) (tuples : List (Tuple Item)) (lists : List (List Item)) → AreWide n tuples →
+    AreWide (n + more_slots at) (expanded Atom allows at tuples lists)
+expanded_wide n allows at [] lists h = tt
+expanded_wide n allows at (t ∷ ts) [] h = tt
+expanded_wide n allows at (t ∷ ts) (xs ∷ xss) h =
+    subst (AreWide (n + more_slots at)) (sym (flat_map-cons (λ (p : Tuple Item × List Item). with_items Atom allows at p.0 p.1) (t, xs) (zip ts xss)))
+    (all_append (λ t. length t ≡ n + more_slots at) (with_items Atom allows at t xs) (expanded Atom allows at ts xss) (items_wide n allows at t xs h.0) (expanded_wide n allows at ts xss h.1))
+
+-- # count
+
+numbered_from : (n k : ℕ) (tuples : List (Tuple Item)) → AreWide n tuples →
+    AreWide (n + 1) (map (λ (p : ℕ × Tuple Item). p.1 ++ (Atom (Integer (pos p.0)) ∷ []) ∷ []) (enumerate_from k tuples))
+numbered_from n k [] h = tt
+numbered_from n k (t ∷ ts) h =
+    (length-append t ((Atom (Integer (pos k)) ∷ []) ∷ []) ∙ ap (λ m. m + 1) h.0, numbered_from n (k + 1) ts h.1)
 
 -- # order by
 
@@ -190,11 +210,11 @@ judged_wide n false code ts f h = tt
 -- # The clauses
 
 module _ {E : Type 0} (n : ℕ) (frame_at : Tuple Item → Forms.Frame E) (tuples : List (Tuple Item)) (h : AreWide n tuples) where
-  pub for_wide : (at : Bool) (m : Forms.Meaning E) (f : List Tree) →
-      GivesWide (n + more_slots at) (Forms.for_tuples at m frame_at tuples f)
-  for_wide at m f =
-      then_wide (n + more_slots at) (for_each (λ t. m (frame_at t)) tuples f) (λ lists. give (expanded Atom false at tuples lists))
-      (λ lists g. expanded_wide n at tuples lists h)
+  pub for_wide : (empties : AllowingEmpty) (at : Bool) (m : Forms.Meaning E) (f : List Tree) →
+      GivesWide (n + more_slots at) (Forms.for_tuples empties at m frame_at tuples f)
+  for_wide empties at m f =
+      then_wide (n + more_slots at) (for_each (λ t. m (frame_at t)) tuples f) (λ lists. give (expanded Atom (Forms.allows empties) at tuples lists))
+      (λ lists g. expanded_wide n (Forms.allows empties) at tuples lists h)
 
   pub let_wide : (m : Forms.Meaning E) (f : List Tree) → GivesWide (n + 1) (Forms.let_tuples m frame_at tuples f)
   let_wide m f =
@@ -220,6 +240,10 @@ module _ {E : Type 0} (n : ℕ) (frame_at : Tuple Item → Forms.Frame E) (tuple
           (firsts_wide n (sorted (λ p q. keys_cmp rules p.1 q.1) (zip tuples (key_rows tuples (map sort_keys columns))))
           (sorted_all (λ p. length p.0 ≡ n) (λ p q. keys_cmp rules p.1 q.1) (zip tuples (key_rows tuples (map sort_keys columns)))
           (first_wide n tuples (key_rows tuples (map sort_keys columns)) h)))
+
+pub count_wide : (n : ℕ) (tuples : List (Tuple Item)) (f : List Tree) → AreWide n tuples →
+    GivesWide (n + 1) (Forms.count_tuples tuples f)
+count_wide n tuples f h = numbered_from n 1 tuples h
 
 pub group_wide : (n : ℕ) (slots : List ℕ) (tuples : List (Tuple Item)) (f : List Tree) → AreWide n tuples →
     GivesWide n (Forms.group_tuples slots tuples f)

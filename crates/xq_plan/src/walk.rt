@@ -11,7 +11,7 @@ use crate::copies::{test, text};
 use sqlite_items::{Boxed, Items};
 use std::alloc::{AllocError, Global};
 use xq_atoms::Code;
-use xq_expressions::{OrderModifier, Scope, Text};
+use xq_expressions::{AllowingEmpty, Function, OrderModifier, Scope, Text};
 use xq_meaning::{Core, CoreClause, Operator, Plan, PlanClause, PlanStep};
 
 /// The plan of a normal form.
@@ -69,6 +69,14 @@ pub fn expression<'a>(
             let positive = boxed(alloc, scope, positive.get())?;
             let negative = boxed(alloc, scope, negative.get())?;
             Ok(conditional(condition, positive, negative))
+        }
+        Core::Arrow(first, list) => {
+            let first = boxed(alloc, scope, first.get())?;
+            Ok(Plan::Arrow(first, calls(alloc, scope, list.as_slice())?))
+        }
+        Core::Map(start, parts) => {
+            let start = boxed(alloc, scope, start.get())?;
+            Ok(Plan::Map(start, expressions(alloc, scope, parts.as_slice())?))
         }
         Core::Named(node, name, content) => {
             let name = boxed(alloc, scope, name.get())?;
@@ -139,6 +147,24 @@ fn expressions<'a>(
     let mut found = Items::new(alloc);
     for core in cores {
         found.push(expression(alloc, scope, core)?)?;
+    }
+    Ok(found)
+}
+
+/// The calls after arrows.
+#[cycle(walk)]
+fn calls<'a>(
+    alloc: Global,
+    scope: &mut Scope<'a>,
+    list: &'a [(Function, Items<Core>)],
+) -> Result<Items<(Function, Items<Plan>)>, AllocError>
+    ensures planned { IfOk result
+        (λ found. plans.AreAll (plans.IsNextCall scope.old) list.now found) }
+    ensures kept { OnOk result (scope.new ≡ scope.old) }
+{
+    let mut found = Items::new(alloc);
+    for (function, arguments) in list {
+        found.push((*function, expressions(alloc, scope, arguments.as_slice())?))?;
     }
     Ok(found)
 }
@@ -247,8 +273,8 @@ fn clause<'a>(
     ensures outer { OnOk result (plans.Extends start scope.old scope.new) }
 {
     match next {
-        CoreClause::For(variable, at, sequence) => {
-            range(alloc, scope, start, variable, at, sequence)
+        CoreClause::For(variable, empties, at, sequence) => {
+            range(alloc, scope, start, variable, *empties, at, sequence)
         }
         CoreClause::Let(variable, value) => assignment(alloc, scope, start, variable, value),
         CoreClause::Where(condition) => {
@@ -256,6 +282,7 @@ fn clause<'a>(
         }
         CoreClause::Group(variables) => group(alloc, scope, start, variables.as_slice()),
         CoreClause::Order(specs) => Ok(PlanClause::Order(keys(alloc, scope, specs.as_slice())?)),
+        CoreClause::Count(variable) => count(scope, start, variable),
     }
 }
 
@@ -266,17 +293,18 @@ fn range<'a>(
     scope: &mut Scope<'a>,
     start: usize,
     variable: &'a Text,
+    empties: AllowingEmpty,
     at: &'a Option<Text>,
     sequence: &'a Core,
 ) -> Result<PlanClause, AllocError>
     requires { start ≤ length scope.old }
     ensures planned { IfOk result (λ found. plans.IsClause start scope.old
-        (clause.For variable.now at.now sequence.now) found scope.new) }
+        (clause.For variable.now empties at.now sequence.now) found scope.new) }
     ensures outer { OnOk result (plans.Extends start scope.old scope.new) }
 {
     let sequence = expression(alloc, scope, sequence)?;
     bind(scope, variable, at)?;
-    Ok(PlanClause::For(at.is_some(), sequence))
+    Ok(PlanClause::For(empties, at.is_some(), sequence))
 }
 
 /// Brings a variable into scope, and its position, where it has one.
@@ -311,6 +339,22 @@ fn assignment<'a>(
     let value = expression(alloc, scope, value)?;
     scope.bind(variable.as_str())?;
     Ok(PlanClause::Let(value))
+}
+
+/// A variable for the number of each tuple.
+fn count<'a>(
+    scope: &mut Scope<'a>,
+    start: usize,
+    variable: &'a Text,
+) -> Result<PlanClause, AllocError>
+    requires { start ≤ length scope.old }
+    ensures planned { IfOk result (λ found. plans.IsClause start scope.old
+        (clause.Count variable.now) found scope.new) }
+    ensures outer { OnOk result (plans.Extends start scope.old scope.new) }
+{
+    let number = variable.as_str();
+    scope.bind(number)?;
+    Ok(PlanClause::Count)
 }
 
 /// Groups by variables of a FLWOR. One that it doesn't bind is refused.

@@ -4,7 +4,9 @@ use Rattle.std.specs.Prelude.{if◌then◌else◌, nat_eq}
 use Rattle.std.specs.List.{AllByRecursion, zip, flat_map}
 use Rattle.xq_atoms.specs.Text.{Text, text_eq}
 use Rattle.xq_atoms.specs.Atom.{Atomic}
+use Rattle.xq_expressions.specs.declared.names.QName.{QName}
 use Rattle.xq_expressions.specs.declared.signatures.Function.{Function}
+use Rattle.xq_expressions.specs.declared.operators.AllowingEmpty.{AllowingEmpty}
 use Rattle.xq_expressions.specs.declared.operators.OrderModifier.{OrderModifier}
 use Rattle.xq_expressions.specs.declared.operators.PathStart.{PathStart}
 use Rattle.xq_expressions.specs.declared.operators.PathStart.TheVariants.{Relative, Root, RootAndBelow}
@@ -12,7 +14,7 @@ use Rattle.xq_expressions.specs.declared.operators.Separator.{Separator}
 use Rattle.xq_expressions.specs.declared.operators.Separator.TheVariants.{Slash, DoubleSlash}
 use Rattle.xq_expressions.specs.declared.operators.AxisStep.{AxisStep}
 use Rattle.xq_expressions.specs.declared.operators.AxisStep.TheVariants as written_step
-use Rattle.xq_expressions.specs.Signatures.{admits, arity}
+use Rattle.xq_expressions.specs.Signatures.{admits, arity, function_named}
 use Rattle.xq_regions.specs.declared.Axis.TheVariants as axis
 use Rattle.xq_regions.specs.Tuples.{Tuple, ordered, firsts}
 use Rattle.xq_regions.proofs.Lists.{all_append, all_weaker}
@@ -22,10 +24,10 @@ use Rattle.xq_meaning.specs.Items.{Item}
 use Rattle.xq_meaning.specs.Arguments.{each}
 use Rattle.xq_meaning.specs.Doing.{Doing, for_each}
 use Rattle.xq_meaning.specs.Forms
-use Rattle.xq_meaning.specs.Meaning.{Environment, Frame, Meaning, bind, bind_all, variable, joined_by, axis_of, test_on, default_axis, axis_step, after, later_parts, path_from, call_if, call_of, Stream, first_stream, ClauseMeaning, at_tuple, named, is_asked, position_name, for_clause, let_clause, where_clause, slot_of, group_clause, order_clause, next_clause, clauses, flwor, GroupMeaning, group_by}
+use Rattle.xq_meaning.specs.Meaning.{Environment, Frame, Meaning, bind, bind_all, variable, joined_by, axis_of, test_on, default_axis, axis_step, after, later_parts, path_from, call_if, call_of, call_named, arrow, Stream, first_stream, ClauseMeaning, at_tuple, named, is_asked, position_name, for_clause, let_clause, where_clause, count_clause, slot_of, group_clause, order_clause, next_clause, clauses, flwor, GroupMeaning, group_by}
 use Rattle.xq_printable.specs.Legible.{IsLegible, IsLegibleItem, AreLegible}
 use Rattle.xq_printable.proofs.Holding.{any, Yields, IsAny, then_holds, judged_holds, in_turn_yields, for_each_yields, collected_yields}
-use Rattle.xq_printable.proofs.Tuples.{IsLegibleTuple, AreLegibleTuples, zip_seconds, bound_are, satisfying_are, expanded_are, grouped_are, columns_are, ordered_are}
+use Rattle.xq_printable.proofs.Tuples.{IsLegibleTuple, AreLegibleTuples, zip_seconds, bound_are, satisfying_are, expanded_are, numbered_are, grouped_are, columns_are, ordered_are}
 use Rattle.xq_printable.proofs.Forms.{IsLegibleEnvironment, IsLegibleFrame, GivesLegible, AllGiveLegible, atoms_yield, tested_yields, call_gives, sequence_gives, chain_gives, step_gives, path_gives, root_gives}
 
 -- # Names
@@ -87,6 +89,15 @@ pub call_of_gives : (function : Option Function) (ms : List Meaning) → AllGive
 call_of_gives None ms h = λ frame ok f t. tt
 call_of_gives (Some function) ms h = call_if_gives (admits (arity function) (length ms)) function ms h
 
+-- calls, each with its other arguments
+abbrev pub AllCallsGive : List (QName × List Meaning) → Type 0
+AllCallsGive calls = AllByRecursion (λ (c : QName × List Meaning). AllGiveLegible c.1) calls
+
+pub arrow_gives : (first : Meaning) (calls : List (QName × List Meaning)) → GivesLegible first → AllCallsGive calls → GivesLegible (arrow first calls)
+arrow_gives first [] h k = h
+arrow_gives first (c ∷ calls) h k =
+    arrow_gives (call_named c.0 (first ∷ c.1)) calls (call_of_gives (function_named c.0.prefix c.0.local) (first ∷ c.1) (h, k.0)) k.1
+
 -- # Clauses
 
 abbrev IsLegibleStream : Stream → Type 0
@@ -109,11 +120,11 @@ values_yield m h frame ok names tuples k =
     for_each_yields AreLegible (λ (tuple : Tuple Item). m (at_tuple frame names tuple)) tuples
     (all_weaker IsLegibleTuple _ (λ tuple legible. h (at_tuple frame names tuple) (tuple_frame frame names tuple ok legible)) tuples k)
 
-pub for_keeps : (v : Text) (at : Option Text) (m : Meaning) → GivesLegible m → KeepsLegible (for_clause v at m)
-for_keeps v at m h frame ok s k =
-    named_yields (s.names ++ v ∷ position_name at) (Forms.for_tuples (is_asked at) m (at_tuple frame s.names) s.tuples) (λ f t.
+pub for_keeps : (v : Text) (empties : AllowingEmpty) (at : Option Text) (m : Meaning) → GivesLegible m → KeepsLegible (for_clause v empties at m)
+for_keeps v empties at m h frame ok s k =
+    named_yields (s.names ++ v ∷ position_name at) (Forms.for_tuples empties (is_asked at) m (at_tuple frame s.names) s.tuples) (λ f t.
     then_holds (AllByRecursion AreLegible) AreLegibleTuples (for_each (λ (tuple : Tuple Item). m (at_tuple frame s.names tuple)) s.tuples f) _ (values_yield m h frame ok s.names s.tuples k f t)
-    (λ lists p g u. (expanded_are (is_asked at) s.tuples lists k p, u)))
+    (λ lists p g u. (expanded_are (Forms.allows empties) (is_asked at) s.tuples lists k p, u)))
 
 pub let_keeps : (v : Text) (m : Meaning) → GivesLegible m → KeepsLegible (let_clause v m)
 let_keeps v m h frame ok s k =
@@ -128,6 +139,9 @@ where_keeps m h frame ok s k =
     (for_each_yields IsAny (λ (tuple : Tuple Item). Forms.tested m (at_tuple frame s.names tuple)) s.tuples
     (all_weaker IsLegibleTuple _ (λ tuple legible. tested_yields m h (at_tuple frame s.names tuple) (tuple_frame frame s.names tuple ok legible)) s.tuples k) f t)
     (λ tests p g u. (satisfying_are IsLegibleTuple s.tuples tests k, u)))
+
+pub count_keeps : (v : Text) → KeepsLegible (count_clause v)
+count_keeps v frame ok s k = named_yields (s.names ++ v ∷ []) (Forms.count_tuples s.tuples) (λ f t. (numbered_are s.tuples k, t))
 
 group_yields : (slots : List ℕ) (tuples : List (Tuple Item)) → AreLegibleTuples tuples → Yields AreLegibleTuples (Forms.group_tuples slots tuples)
 group_yields slots tuples k f t =

@@ -4,6 +4,7 @@ use Rattle.std.specs.List.{AllByRecursion}
 use Rattle.xq_atoms.specs.Text.{Text}
 use Rattle.xq_atoms.specs.Atom.{Integer, Decimal, String}
 use Rattle.xq_expressions.specs.declared.names.QName.{QName}
+use Rattle.xq_expressions.specs.declared.operators.AllowingEmpty.{AllowingEmpty}
 use Rattle.xq_expressions.specs.declared.operators.Sign.{Sign}
 use Rattle.xq_expressions.specs.declared.operators.ProductOperator.{ProductOperator}
 use Rattle.xq_expressions.specs.declared.operators.SetOperator.{SetOperator}
@@ -32,8 +33,8 @@ use Rattle.xq_meaning.specs.Printable.{IsCharacters}
 use Rattle.xq_meaning.specs.Meaning.{Meaning, ClauseMeaning, bind, local_name, for_clause, let_clause, mean, name_mean, clause_mean, group_mean, step_mean}
 use Rattle.xq_meaning.proofs.Equations as is
 use Rattle.xq_printable.proofs.Holding.{all_map}
-use Rattle.xq_printable.proofs.Forms.{GivesLegible, AllGiveLegible, IsLegibleBinding, literal_gives, context_gives, sequence_gives, chain_gives, unary_gives, or_gives, and_gives, conditional_gives, filter_gives, root_gives, named_gives, unnamed_gives, quantified_gives}
-use Rattle.xq_printable.proofs.Clauses.{bind_legible, variable_gives, joined_gives, axis_step_gives, AllStepsGive, path_from_gives, call_of_gives, KeepsLegible, for_keeps, let_keeps, where_keeps, AllKeysGive, order_keeps, clauses_keep, flwor_gives, SpecKeeps, group_by_keeps}
+use Rattle.xq_printable.proofs.Forms.{GivesLegible, AllGiveLegible, IsLegibleBinding, literal_gives, context_gives, sequence_gives, chain_gives, unary_gives, or_gives, and_gives, conditional_gives, filter_gives, simple_map_gives, root_gives, named_gives, unnamed_gives, quantified_gives}
+use Rattle.xq_printable.proofs.Clauses.{bind_legible, variable_gives, joined_gives, axis_step_gives, AllStepsGive, path_from_gives, call_of_gives, AllCallsGive, arrow_gives, KeepsLegible, for_keeps, let_keeps, where_keeps, count_keeps, AllKeysGive, order_keeps, clauses_keep, flwor_gives, SpecKeeps, group_by_keeps}
 
 -- # What is claimed of each part
 
@@ -46,6 +47,10 @@ AreGood xs = AllByRecursion IsGood xs
 -- a part with what stands before it
 abbrev pub IsOperand : {A : Type 0} → A × Expr → Type 0
 IsOperand o = Unit {0} × IsGood o.1
+
+-- a call after `=>`, with its other arguments
+abbrev pub IsGoodCall : QName × List Expr → Type 0
+IsGoodCall c = AreGood c.1
 
 abbrev pub IsGoodName : ConstructorName → Type 0
 IsGoodName n = GivesLegible (name_mean n)
@@ -71,6 +76,10 @@ operands : {A : Type 0} (op : A → Operator) (rest : List (A × Expr)) → AllB
     → AllByRecursion (λ (o : Operator × Meaning). GivesLegible o.1) (map (λ (o : A × Meaning). (op o.0, o.1)) (map (λ (o : A × Expr). (o.0, mean o.1)) rest))
 operands op [] h = tt
 operands op (o ∷ rest) h = (h.0.1, operands op rest h.1)
+
+calls : (parts : List (QName × List Expr)) → AllByRecursion IsGoodCall parts → AllCallsGive (map (λ (c : QName × List Expr). (c.0, map mean c.1)) parts)
+calls [] h = tt
+calls (c ∷ parts) h = (meanings c.1 h.0, calls parts h.1)
 
 steps : (rest : List (Separator × Step)) → AllByRecursion (λ (s : Separator × Step). Unit {0} × IsGoodStep s.1) rest → AllStepsGive (map (λ (s : Separator × Step). (s.0, step_mean s.1)) rest)
 steps [] h = tt
@@ -122,6 +131,12 @@ product_good x rest h k = by_form (e.Product x rest) _ (is.mean-Product x rest) 
 pub unary_good : (signs : List Sign) (x : Expr) → IsGood x → IsGood (e.Unary signs x)
 unary_good signs x h = by_form (e.Unary signs x) _ (is.mean-Unary signs x) (unary_gives signs (mean x) h)
 
+pub arrow_good : (x : Expr) (parts : List (QName × List Expr)) → IsGood x → AllByRecursion IsGoodCall parts → IsGood (e.Arrow x parts)
+arrow_good x parts h k = by_form (e.Arrow x parts) _ (is.mean-Arrow x parts) (arrow_gives (mean x) _ h (calls parts k))
+
+pub map_good : (x : Expr) (xs : List Expr) → IsGood x → AreGood xs → IsGood (e.Map x xs)
+map_good x xs h k = by_form (e.Map x xs) _ (is.mean-Map x xs) (simple_map_gives (mean x) (map mean xs) h (meanings xs k))
+
 pub concat_good : (xs : List Expr) → AreGood xs → IsGood (e.Concat xs)
 concat_good xs h = by_form (e.Concat xs) _ (is.mean-Concat xs) (joined_gives operator.Concat (map mean xs) (meanings xs h))
 
@@ -166,13 +181,13 @@ computed_name_good x h = subst GivesLegible (sym (is.name-Computed x)) h
 -- # Clauses
 
 -- a binding of for
-abbrev pub IsGoodFor : QName × Option QName × Expr → Type 0
-IsGoodFor b = IsGood b.2
+abbrev pub IsGoodFor : QName × AllowingEmpty × Option QName × Expr → Type 0
+IsGoodFor b = IsGood b.3
 
-for_parts : (bindings : List (QName × Option QName × Expr)) → AllByRecursion IsGoodFor bindings
-    → AllByRecursion KeepsLegible (map (λ (b : QName × Option QName × Meaning). for_clause b.0.local (local_name b.1) b.2) (map (λ (b : QName × Option QName × Expr). (b.0, b.1, mean b.2)) bindings))
+for_parts : (bindings : List (QName × AllowingEmpty × Option QName × Expr)) → AllByRecursion IsGoodFor bindings
+    → AllByRecursion KeepsLegible (map (λ (b : QName × AllowingEmpty × Option QName × Meaning). for_clause b.0.local b.1 (local_name b.2) b.3) (map (λ (b : QName × AllowingEmpty × Option QName × Expr). (b.0, b.1, b.2, mean b.3)) bindings))
 for_parts [] h = tt
-for_parts (b ∷ bindings) h = (for_keeps b.0.local (local_name b.1) (mean b.2) h.0, for_parts bindings h.1)
+for_parts (b ∷ bindings) h = (for_keeps b.0.local b.1 (local_name b.2) (mean b.3) h.0, for_parts bindings h.1)
 
 let_parts : (bindings : List (QName × Expr)) → AllByRecursion (λ (b : QName × Expr). IsOperand b) bindings
     → AllByRecursion KeepsLegible (map (λ (b : QName × Meaning). let_clause b.0.local b.1) (map (λ (b : QName × Expr). (b.0, mean b.1)) bindings))
@@ -190,7 +205,7 @@ keys (spec ∷ specs) h = (h.0, keys specs h.1)
 by_clause : (c : Clause) (m : ClauseMeaning) → clause_mean c ≡ m → KeepsLegible m → IsGoodClause c
 by_clause c m same h = subst KeepsLegible (sym same) h
 
-pub for_good : (bindings : List (QName × Option QName × Expr)) → AllByRecursion IsGoodFor bindings → IsGoodClause (clause.For bindings)
+pub for_good : (bindings : List (QName × AllowingEmpty × Option QName × Expr)) → AllByRecursion IsGoodFor bindings → IsGoodClause (clause.For bindings)
 for_good bindings h = by_clause (clause.For bindings) _ (is.clause-For bindings) (clauses_keep _ (for_parts bindings h))
 
 pub let_good : (bindings : List (QName × Expr)) → AllByRecursion (λ (b : QName × Expr). IsOperand b) bindings → IsGoodClause (clause.Let bindings)
@@ -204,6 +219,9 @@ group_good specs h = by_clause (clause.Group specs) _ (is.clause-Group specs) (g
 
 pub order_good : (specs : List (Expr × OrderModifier)) → AllByRecursion IsGoodKey specs → IsGoodClause (clause.Order specs)
 order_good specs h = by_clause (clause.Order specs) _ (is.clause-Order specs) (order_keeps _ (keys specs h))
+
+pub count_good : (v : QName) → IsGoodClause (clause.Count v)
+count_good v = by_clause (clause.Count v) _ (is.clause-Count v) (count_keeps v.local)
 
 pub grouping_good : (q : QName) → IsGoodSpec (group.Variable q)
 grouping_good q = subst SpecKeeps (sym (is.grouping-Variable q)) tt

@@ -21,7 +21,7 @@ use Rattle.xq_meaning.specs.Functions.{Focus, called}
 use Rattle.xq_meaning.specs.Operators.{operated, signed, gathered, keeps}
 use Rattle.xq_meaning.specs.Content.{name_of, named_tree, unnamed_tree}
 use Rattle.xq_meaning.specs.Steps.{focuses_from, focuses, context_item, context_node, axis_nodes, is_reverse, in_axis_order, is_document, document_root}
-use Rattle.xq_meaning.specs.Doing.{Doing, go_on, give, in_turn, for_each, collected, first_that}
+use Rattle.xq_meaning.specs.Doing.{Doing, go_on, give, in_turn, for_each, first_that}
 use Rattle.xq_meaning.specs.Forms
 use Rattle.xq_meaning.specs.Meaning.{Environment, Frame, Meaning}
 use Rattle.xq_printable.specs.Legible.{IsLegible, IsLegibleItem, AreLegible}
@@ -180,12 +180,21 @@ step_gives direction node_test ms h frame ok f t =
     then_holds AreLegible AreLegible (in_turn (Forms.filtered frame) xs ms e) (λ ys. give (in_axis_order direction ys)) (predicates_yield frame ok ms h xs r e v) (λ ys s d w.
     (turned_legible direction ys s, w))))
 
+-- a part, on each item
+bang_yields : (frame : Frame) → IsLegibleFrame frame → (m : Meaning) → GivesLegible m → (xs : List Item) → AreLegible xs → Yields AreLegible (Forms.bang frame xs m)
+bang_yields frame ok m h xs p =
+    collected_yields IsLegibleItem (λ (focus : Focus). m (Forms.in_focus frame focus)) (focuses xs)
+    (all_weaker (λ (focus : Focus). IsLegibleItem focus.item) _ (λ focus k. h (Forms.in_focus frame focus) (in_focus frame focus ok k)) (focuses xs) (focused xs p))
+
+pub simple_map_gives : (m : Meaning) (ms : List Meaning) → GivesLegible m → AllGiveLegible ms → GivesLegible (Forms.simple_map m ms)
+simple_map_gives m ms first h frame ok f t =
+    then_holds AreLegible AreLegible (m frame f) _ (first frame ok f t) (in_turn_yields AreLegible (Forms.bang frame) ms
+    (all_weaker GivesLegible _ (λ part gives xs p. bang_yields frame ok part gives xs p) ms h))
+
 slash_yields : (frame : Frame) → IsLegibleFrame frame → (m : Meaning) → GivesLegible m → (xs : List Item) → AreLegible xs → Yields AreLegible (Forms.slash frame xs m)
 slash_yields frame ok m h xs p f t =
     then_holds (λ (ps : List Place). Unit {0}) AreLegible (all_nodes XPTY0019 xs, f) _ (judged_holds (λ (ps : List Place). Unit {0}) (all_nodes XPTY0019 xs) f (any (all_nodes XPTY0019 xs)) t) (λ places q g u.
-    then_holds AreLegible AreLegible (collected (λ (focus : Focus). m (Forms.in_focus frame focus)) (focuses xs) g) _
-    (collected_yields IsLegibleItem (λ (focus : Focus). m (Forms.in_focus frame focus)) (focuses xs)
-    (all_weaker (λ (focus : Focus). IsLegibleItem focus.item) _ (λ focus k. h (Forms.in_focus frame focus) (in_focus frame focus ok k)) (focuses xs) (focused xs p)) g u)
+    then_holds AreLegible AreLegible (Forms.bang frame xs m g) _ (bang_yields frame ok m h xs p g u)
     (λ ys r e v. judged_holds AreLegible (gathered e ys) e (gathered_answer e ys r) v))
 
 pub path_gives : (m : Meaning) (ms : List Meaning) → GivesLegible m → AllGiveLegible ms → GivesLegible (Forms.path m ms)

@@ -16,18 +16,20 @@ use Rattle.xq_expressions.specs.declared.operators.NodeTest.TheVariants as test
 use Rattle.xq_expressions.specs.declared.operators.NamedNode.TheVariants as named
 use Rattle.xq_expressions.specs.declared.operators.Direction.{Direction}
 use Rattle.xq_expressions.specs.declared.operators.Direction.TheVariants as direction
+use Rattle.xq_expressions.specs.declared.operators.AllowingEmpty.{AllowingEmpty}
+use Rattle.xq_expressions.specs.declared.operators.AllowingEmpty.TheVariants as allowing
 use Rattle.xq_expressions.specs.declared.operators.EmptyOrder.{EmptyOrder}
 use Rattle.xq_expressions.specs.declared.operators.EmptyOrder.TheVariants as empty_order
 use Rattle.xq_expressions.specs.declared.expressions.Expr.{Expr}
 use Rattle.xq_expressions.specs.declared.expressions.Expr.TheVariants as e
 use Rattle.xq_expressions.specs.declared.expressions.Step.{Step}
 use Rattle.xq_expressions.specs.declared.expressions.Step.TheVariants as step
-use Rattle.xq_parser.specs.Look.{Tokens}
+use Rattle.xq_parser.specs.Look.{Tokens, word}
 use Rattle.xq_parser.specs.Rel.{Rel, empty, OneOf, ◌▹◌, ◌◃◌, ◌⟨$⟩◌, ◌∣◌, Maybe}
 use Rattle.xq_parser.specs.Grammar as g
 use Rattle.xq_meaning.specs.Printable.{IsCharacters}
-use Rattle.xq_printable.proofs.Expressions.{IsGood, AreGood, IsOperand, IsGoodName, IsGoodClause, IsGoodSpec, IsGoodStep, IsGoodFor, IsGoodKey, int_good, dec_good, str_good, variable_good, context_good, call_good, sequence_good, range_good, union_good, set_operation_good, sum_good, product_good, unary_good, concat_good, comparison_good, or_good, and_good, root_good, path_good, named_good, unnamed_good, flwor_good, if_good, quantified_good, literal_name_good, computed_name_good, for_good, let_good, filter_good, group_good, order_good, grouping_good, assigned_good, axis_step_good, primary_step_good}
-use Rattle.xq_printable.proofs.Reading.{AreLegibleLexes, Reads, front, read-&, read-▹, read-between, read-map, read-∣, MayBe, read-maybe, read-many, read-empty, read-is, read-one_of, read-commas}
+use Rattle.xq_printable.proofs.Expressions.{IsGood, AreGood, IsOperand, IsGoodCall, IsGoodName, IsGoodClause, IsGoodSpec, IsGoodStep, IsGoodFor, IsGoodKey, int_good, dec_good, str_good, variable_good, context_good, call_good, sequence_good, range_good, union_good, set_operation_good, sum_good, product_good, unary_good, arrow_good, map_good, concat_good, comparison_good, or_good, and_good, root_good, path_good, named_good, unnamed_good, flwor_good, if_good, quantified_good, literal_name_good, computed_name_good, for_good, let_good, filter_good, group_good, order_good, count_good, grouping_good, assigned_good, axis_step_good, primary_step_good}
+use Rattle.xq_printable.proofs.Reading.{AreLegibleLexes, Reads, front, read-&, read-▹, read-between, read-map, read-weaker, read-∣, MayBe, read-maybe, read-many, read-empty, read-is, read-one_of, read-commas}
 
 -- # What phrases stand for
 
@@ -43,11 +45,10 @@ several_good : (operation : List Expr → Expr) → ((xs : List Expr) → AreGoo
 several_good operation k (first, []) h = h.0
 several_good operation k (first, second ∷ more) h = k (first ∷ second ∷ more) (h.0, h.1)
 
-chain_good : {A : Type 0} (operation : Expr → List (A × Expr) → Expr)
-    → ((x : Expr) (rest : List (A × Expr)) → IsGood x → AllByRecursion (λ (o : A × Expr). IsOperand o) rest → IsGood (operation x rest))
-    → (p : Expr × List (A × Expr)) → IsGood p.0 × AllByRecursion (λ (o : A × Expr). IsOperand o) p.1 → IsGood (g.chain operation p)
-chain_good operation k (first, []) h = h.0
-chain_good operation k (first, second ∷ more) h = k first (second ∷ more) h.0 h.1
+chain_good : {A : Type 0} (G : A → Type 0) (operation : Expr → List A → Expr) → ((x : Expr) (rest : List A) → IsGood x → AllByRecursion G rest → IsGood (operation x rest))
+    → (p : Expr × List A) → IsGood p.0 × AllByRecursion G p.1 → IsGood (g.chain operation p)
+chain_good G operation k (first, []) h = h.0
+chain_good G operation k (first, second ∷ more) h = k first (second ∷ more) h.0 h.1
 
 compared_good : (p : Expr × Option (ComparisonOperator × Expr)) → IsGood p.0 × MayBe (λ (o : ComparisonOperator × Expr). IsOperand o) p.1 → IsGood (g.compared p)
 compared_good (x, None) h = h.0
@@ -168,8 +169,11 @@ module _ (S : Rel Expr) (single : Reads IsGood S) where
   arguments_read : Reads AreGood (g.Arguments S)
   arguments_read = read-between _ _ some_arguments_read
 
+  called_reads : Reads IsGoodCall (g.Called S)
+  called_reads = read-weaker (read-& call_name_reads arguments_read) (λ c h. h.1)
+
   call_reads : Reads IsGood (g.Call S)
-  call_reads = read-map _ (read-& call_name_reads arguments_read) (λ p h. call_good p.0 p.1 h.1)
+  call_reads = read-map _ called_reads (λ c h. call_good c.0 c.1 h)
 
   parenthesised_reads : Reads IsGood (g.Parenthesised S)
   parenthesised_reads = read-between _ _ inner_reads
@@ -247,20 +251,26 @@ module _ (S : Rel Expr) (single : Reads IsGood S) where
 
   -- ---- operators
 
+  map_reads : Reads IsGood (g.Map S)
+  map_reads = read-map _ (read-& path_reads (read-many (read-▹ _ path_reads))) (chain_good IsGood e.Map map_good)
+
   unary_reads : Reads IsGood (g.Unary S)
-  unary_reads = read-map _ (read-& (read-many (read-one_of g.signs)) path_reads) signed_good
+  unary_reads = read-map _ (read-& (read-many (read-one_of g.signs)) map_reads) signed_good
+
+  arrow_reads : Reads IsGood (g.Arrow S)
+  arrow_reads = read-map _ (read-& unary_reads (read-many (read-▹ _ called_reads))) (chain_good IsGoodCall e.Arrow arrow_good)
 
   inter_reads : Reads IsGood (g.Inter S)
-  inter_reads = read-map _ (read-& unary_reads (read-many (read-& (read-one_of g.set_operators) unary_reads))) (chain_good e.SetOperation set_operation_good)
+  inter_reads = read-map _ (read-& arrow_reads (read-many (read-& (read-one_of g.set_operators) arrow_reads))) (chain_good IsOperand e.SetOperation set_operation_good)
 
   union_reads : Reads IsGood (g.Union S)
   union_reads = read-map _ (read-& inter_reads (read-many (read-∣ (read-▹ _ inter_reads) (read-▹ _ inter_reads)))) (several_good e.Union union_good)
 
   product_reads : Reads IsGood (g.Prod S)
-  product_reads = read-map _ (read-& union_reads (read-many (read-& (read-one_of g.product_operators) union_reads))) (chain_good e.Product product_good)
+  product_reads = read-map _ (read-& union_reads (read-many (read-& (read-one_of g.product_operators) union_reads))) (chain_good IsOperand e.Product product_good)
 
   sum_reads : Reads IsGood (g.Sum S)
-  sum_reads = read-map _ (read-& product_reads (read-many (read-& (read-one_of g.signs) product_reads))) (chain_good e.Sum sum_good)
+  sum_reads = read-map _ (read-& product_reads (read-many (read-& (read-one_of g.signs) product_reads))) (chain_good IsOperand e.Sum sum_good)
 
   range_reads : Reads IsGood (g.Range S)
   range_reads = read-map _ (read-& sum_reads (read-maybe (read-▹ _ sum_reads))) ranged_good
@@ -290,7 +300,7 @@ module _ (S : Rel Expr) (single : Reads IsGood S) where
   IsAssigned b = Unit {0} × IsGood b.1
 
   any_variable_reads : Reads (λ (q : QName). Unit {0}) g.Variable
-  any_variable_reads = record { gives = λ ts q us d h. (tt, (variable_reads.gives ts q us d h).1) }
+  any_variable_reads = read-weaker variable_reads (λ q h. tt)
 
   quantifier_binding_reads : Reads IsAssigned (g.QB S)
   quantifier_binding_reads = read-& any_variable_reads (read-▹ _ single)
@@ -332,14 +342,21 @@ module _ (S : Rel Expr) (single : Reads IsGood S) where
   let_reads : Reads IsGoodClause (g.Let S)
   let_reads = read-map _ (read-▹ _ (read-commas let_binding_reads)) let_good
 
+  allowing_words_read : Reads (λ (a : AllowingEmpty). Unit {0}) (g.AllowingWords S)
+  allowing_words_read = read-∣ (read-▹ _ (read-is (word "empty") allowing.Yes tt)) (read-empty allowing.No tt)
+
   for_binding_reads : Reads IsGoodFor (g.ForB S)
-  for_binding_reads = read-map _ (read-& any_variable_reads (read-& (read-maybe (read-▹ _ any_variable_reads)) (read-▹ _ single))) (λ p h. h.1.1)
+  for_binding_reads =
+      read-map _ (read-& any_variable_reads (read-& allowing_words_read (read-& (read-maybe (read-▹ _ any_variable_reads)) (read-▹ _ single)))) (λ p h. h.1.1.1)
 
   for_reads : Reads IsGoodClause (g.For S)
   for_reads = read-map _ (read-▹ _ (read-commas for_binding_reads)) for_good
 
+  count_reads : Reads IsGoodClause (g.Count S)
+  count_reads = read-map _ (read-▹ _ any_variable_reads) (λ v h. count_good v)
+
   clause_reads : Reads IsGoodClause (g.ClauseRel S)
-  clause_reads = read-∣ for_reads (read-∣ let_reads (read-∣ filter_reads (read-∣ group_reads order_reads)))
+  clause_reads = read-∣ for_reads (read-∣ let_reads (read-∣ filter_reads (read-∣ group_reads (read-∣ count_reads order_reads))))
 
   flwor_reads : Reads IsGood (g.Flwor S)
   flwor_reads =

@@ -54,6 +54,14 @@ read-map {H} f p k = record {
       (subst H d.2 (k d.0 r.0), r.1);
 }
 
+-- a property that follows from another
+pub read-weaker : {A : Type 0} {G H : A → Type 0} {P : Rel A} → Reads G P → ((a : A) → G a → H a) → Reads H P
+read-weaker p k = record {
+  gives = λ ts a us d h.
+      let r = p.gives ts a us d h in
+      (k a r.0, r.1);
+}
+
 pub read-∣ : {A : Type 0} {G : A → Type 0} {P Q : Rel A} → Reads G P → Reads G Q → Reads G (P ∣ Q)
 read-∣ p q = record {
   gives = λ ts a us d h. elim d [ inl one ↦ p.gives ts a us one h | inr other ↦ q.gives ts a us other h ];

@@ -1,5 +1,5 @@
 -- Tuple streams whose values are legible.
-use Rattle.std.proofs.Common.{ℕ, zero, suc, ◌+◌, List, [], ◌∷◌, ◌++◌, map, filter, length, Bool, true, false, Option, Some, None, Ok, Err, flat_map}
+use Rattle.std.proofs.Common.{ℕ, zero, suc, ◌+◌, pos, List, [], ◌∷◌, ◌++◌, map, filter, length, Bool, true, false, Option, Some, None, Ok, Err, flat_map}
 use Rattle.std.specs.Prelude.{IfOk, if◌then◌else◌, ◌==◌, slice_get, option_and_then, fold, position}
 use Rattle.std.specs.List.{AllByRecursion, zip, enumerate_from, range_with_len, list_all}
 use Rattle.std.specs.List as lists
@@ -9,7 +9,7 @@ use Rattle.std.specs.Ordering.{is_lt}
 use Rattle.xq_atoms.specs.Compare.{Key}
 use Rattle.xq_atoms.specs.Atom.{Atomic, Integer, Decimal, String, Boolean, Untyped}
 use Rattle.xq_regions.specs.Tree.{Tree}
-use Rattle.xq_regions.specs.Tuples.{Tuple, value_at, extended, bound, satisfying, item_values, with_items, expanded, as_string, key_value, key_rows, firsts, groups, Keyed, same_keys, slot_key, key_items, grouped_value, grouped_tuple, grouped, OrderRule, inserted, sorted, ordered, keys_cmp, sort_keys, can_order, are_keys}
+use Rattle.xq_regions.specs.Tuples.{Tuple, value_at, extended, bound, satisfying, item_values, empty_values, with_items, expanded, numbered, as_string, key_value, key_rows, firsts, groups, Keyed, same_keys, slot_key, key_items, grouped_value, grouped_tuple, grouped, OrderRule, inserted, sorted, ordered, keys_cmp, sort_keys, can_order, are_keys}
 use Rattle.xq_regions.proofs.Lists.{all_append, all_filter, all_weaker}
 use Rattle.xq_meaning.specs.Items.{Item, Atom, atomized}
 use Rattle.xq_meaning.specs.Forms
@@ -58,7 +58,7 @@ pub satisfying_are : {A : Type 0} (P : A → Type 0) (xs : List A) (tests : List
 satisfying_are {A} P xs tests h =
     all_map P (λ (p : A × Bool). p.0) (filter (λ (p : A × Bool). p.1) (zip xs tests)) (all_filter (λ (p : A × Bool). P p.0) (λ (p : A × Bool). p.1) (zip xs tests) (zip_firsts P xs tests h))
 
--- # for
+-- # for and count
 
 each_are : (at : Bool) (tuple : Tuple Item) (n : ℕ) (xs : List Item) → IsLegibleTuple tuple → AreLegible xs
     → AreLegibleTuples (map (λ (p : ℕ × Item). tuple ++ item_values Atom at p.0 p.1) (enumerate_from n xs))
@@ -69,11 +69,29 @@ each_are at tuple n (x ∷ xs) h k = (all_append AreLegible tuple (item_values A
     values_are true = ((k.0, tt), ((tt, tt), tt))
     values_are false = ((k.0, tt), tt)
 
-pub expanded_are : (at : Bool) (tuples : List (Tuple Item)) (values : List (List Item)) → AreLegibleTuples tuples → AllByRecursion AreLegible values → AreLegibleTuples (expanded Atom false at tuples values)
-expanded_are at [] values h k = tt
-expanded_are at (t ∷ ts) [] h k = tt
-expanded_are at (t ∷ ts) (xs ∷ values) h k =
-    all_append IsLegibleTuple (with_items Atom false at t xs) (expanded Atom false at ts values) (each_are at t 1 xs h.0 k.0) (expanded_are at ts values h.1 k.1)
+empty_are : (at : Bool) → IsLegibleTuple (empty_values Atom at)
+empty_are true = (tt, ((tt, tt), tt))
+empty_are false = (tt, tt)
+
+items_are : (allows at : Bool) (tuple : Tuple Item) (xs : List Item) → IsLegibleTuple tuple → AreLegible xs → AreLegibleTuples (with_items Atom allows at tuple xs)
+items_are false at tuple xs h k = each_are at tuple 1 xs h k
+items_are true at tuple [] h k = (all_append AreLegible tuple (empty_values Atom at) h (empty_are at), tt)
+items_are true at tuple (x ∷ xs) h k = each_are at tuple 1 (x ∷ xs) h k
+
+pub expanded_are : (allows at : Bool) (tuples : List (Tuple Item)) (values : List (List Item)) → AreLegibleTuples tuples → AllByRecursion AreLegible values
+    → AreLegibleTuples (expanded Atom allows at tuples values)
+expanded_are allows at [] values h k = tt
+expanded_are allows at (t ∷ ts) [] h k = tt
+expanded_are allows at (t ∷ ts) (xs ∷ values) h k =
+    all_append IsLegibleTuple (with_items Atom allows at t xs) (expanded Atom allows at ts values) (items_are allows at t xs h.0 k.0) (expanded_are allows at ts values h.1 k.1)
+
+numbered_from : (n : ℕ) (tuples : List (Tuple Item)) → AreLegibleTuples tuples
+    → AreLegibleTuples (map (λ (p : ℕ × Tuple Item). p.1 ++ (Atom (Integer (pos p.0)) ∷ []) ∷ []) (enumerate_from n tuples))
+numbered_from n [] h = tt
+numbered_from n (t ∷ ts) h = (all_append AreLegible t ((Atom (Integer (pos n)) ∷ []) ∷ []) h.0 ((tt, tt), tt), numbered_from (n + 1) ts h.1)
+
+pub numbered_are : (tuples : List (Tuple Item)) → AreLegibleTuples tuples → AreLegibleTuples (numbered Atom tuples)
+numbered_are tuples h = numbered_from 1 tuples h
 
 -- # group by
 

@@ -148,6 +148,71 @@ const FLWOR: [(&str, &str); 11] = [
     ),
 ];
 
+/// Arrows, simple maps, numbered tuples and bindings that allow the empty sequence (XQuery 3.1,
+/// sections 3.12, 3.19 and 3.20).
+const CHAINS: [(&str, &str); 27] = [
+    ("(3, 1, 2) ! (. * 10)", "30, 10, 20"),
+    (
+        "(doc(\"b\")//book[2], doc(\"b\")//book[1]) ! @id ! string()",
+        "\"2\", \"1\"",
+    ),
+    ("\"a\" ! position() ! last()", "1"),
+    ("doc(\"b\")//book[1] ! (@id, 1)", "attribute id {\"1\"}, 1"),
+    ("() ! (1 div 0), (1, 2) ! ()", "()"),
+    (". ! 1", "XPDY0002"),
+    (
+        "\"a\" => concat(\"b\") => string-length(), -3 => abs()",
+        "2, 3",
+    ),
+    ("1 + -3 => abs()", "4"),
+    ("(1, 2) ! (. * 2) => sum()", "6"),
+    ("\"b\" => doc() => count()", "1"),
+    (
+        "let $x := (1, 2) return ($x => count(), $x => exists() => not(), $x => empty())",
+        "2, false(), false()",
+    ),
+    ("(1 div 0) => concat(xs:integer(\"x\"))", "FOAR0001"),
+    (
+        "(1 div 0) => string() => concat(xs:integer(\"x\"))",
+        "FOAR0001",
+    ),
+    ("(1, 2) => count() => concat(1 div 0)", "FOAR0001"),
+    ("1 => position()", "XPST0017"),
+    ("1 => text()", "XPST0003"),
+    ("1 => $f()", "XPST0003"),
+    ("1 ! $q", "XPST0008"),
+    (
+        "for $x in (5, 7, 9) order by $x descending count $c return $c * 100 + $x",
+        "109, 207, 305",
+    ),
+    (
+        "for $x in (5, 7, 9) count $c order by $x descending return $c * 100 + $x",
+        "309, 207, 105",
+    ),
+    (
+        "for $x in (1, 2) count $c group by $g := $c mod 2 return $g",
+        "1, 0",
+    ),
+    (
+        "for $x in (1, 2, 3) count $c group by $g := $x mod 2 return ($g, $c)",
+        "1, 1, 3, 0, 2",
+    ),
+    (
+        "for $x allowing empty at $p in () return ($p, count($x))",
+        "0, 0",
+    ),
+    (
+        "for $x in (1, 2) for $y allowing empty at $p in (5, 6)[$x = 2] return ($x, $p, count($y))",
+        "1, 0, 0, 2, 1, 1, 2, 2, 1",
+    ),
+    (
+        "for $count in (1, 2) count $empty let $allowing := $count return ($empty, $allowing)",
+        "1, 1, 2, 2",
+    ),
+    ("count $c", "XPST0003"),
+    ("count $c return 1", "XPST0003"),
+];
+
 /// Constructors and their content (XQuery 3.1, section 3.9).
 const CONSTRUCTORS: [(&str, &str); 14] = [
     (
@@ -266,6 +331,11 @@ fn flwor(rt: HostRuntime) {
 }
 
 #[test]
+fn chains(rt: HostRuntime) {
+    assert_answers(&rt, &CHAINS);
+}
+
+#[test]
 fn constructors(rt: HostRuntime) {
     assert_answers(&rt, &CONSTRUCTORS);
 }
@@ -293,6 +363,11 @@ fn each_allocation_of_children_below(rt: HostRuntime) {
 #[test]
 fn each_allocation_of_flwor(rt: HostRuntime) {
     assert_answers_or_memory(&rt, &FLWOR);
+}
+
+#[test]
+fn each_allocation_of_chains(rt: HostRuntime) {
+    assert_answers_or_memory(&rt, &CHAINS);
 }
 
 #[test]

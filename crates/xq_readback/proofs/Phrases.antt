@@ -38,11 +38,17 @@ module _ (S : Rel Expr) where
   path : (ts us : Tokens) (x : Expr) → g.Primary S ts x us → g.Path S ts x us
   path ts us x p = inr (inr (inr ((g.primary_step (x, []), []), (us, inr ((x, []), (us, p, refl), refl), refl), alone x)))
 
+  map_of : (ts us : Tokens) (x : Expr) → g.Primary S ts x us → g.Map S ts x us
+  map_of ts us x p = ((x, []), (us, path ts us x p, refl), refl)
+
   unary : (signs : List Sign) (ts mid us : Tokens) (x : Expr) → Many (OneOf g.signs) ts signs mid → g.Primary S mid x us → g.Unary S ts (g.signed (signs, x)) us
-  unary signs ts mid us x m p = ((signs, x), (mid, m, path mid us x p), refl)
+  unary signs ts mid us x m p = ((signs, x), (mid, m, map_of mid us x p), refl)
+
+  arrow : (ts us : Tokens) (y : Expr) → g.Unary S ts y us → g.Arrow S ts y us
+  arrow ts us y u = ((y, []), (us, u, refl), refl)
 
   sum : (ts us : Tokens) (y : Expr) → g.Unary S ts y us → g.Sum S ts y us
-  sum ts us y u = ((y, []), (us, ((y, []), (us, ((y, []), (us, ((y, []), (us, u, refl), refl), refl), refl), refl), refl), refl), refl)
+  sum ts us y u = ((y, []), (us, ((y, []), (us, ((y, []), (us, ((y, []), (us, arrow ts us y u, refl), refl), refl), refl), refl), refl), refl), refl)
 
   any_of : (ts us : Tokens) (y : Expr) → g.Sum S ts y us → g.Any S ts y us
   any_of ts us y u = inr (inr (inr ((y, []), (us, ((y, []), (us, ((y, None), (us, ((y, []), (us, ((y, None), (us, u, refl), refl), refl), refl), refl), refl), refl), refl), refl), refl)))

@@ -1,8 +1,6 @@
 -- The first rows of a tree: what they lend, and what is read on.
-use Rattle.std.proofs.Common.{◌≡◌, ◌+◌, ◌-◌, ◌≤◌, ◌<◌, ℕ, zero, suc, Bool, false, List, [], ◌∷◌, ◌++◌, length, map, take, drop, inl, inr, get_or, set, length-append, Result, Ok, Err, OnOk, refl, sym, ap, subst, ◌∙◌, arith}
-use Rattle.std.specs.Prelude.{filter, cond, nat_lt, nat_le}
+use Rattle.std.proofs.Common.{◌≡◌, ◌+◌, ◌-◌, ◌≤◌, ◌<◌, ℕ, zero, suc, List, [], ◌∷◌, ◌++◌, length, map, take, drop, inl, inr, get_or, set, length-append, Result, Ok, Err, OnOk, refl, sym, ap, subst, ◌∙◌, arith}
 use Rattle.std.specs.List.{enumerate_from, AllByRecursion}
-use Rattle.std.proofs.lemmas.Bool.{and_left}
 use Rattle.std.proofs.lemmas.List.{take-map, drop-map, length-map}
 use Rattle.xq_regions.specs.Forest.{count}
 use Rattle.xq_regions.specs.Tree.{Tree, nodes}
@@ -10,7 +8,7 @@ use Rattle.xq_regions.specs.Rows.{Row, rows, row_at, measured, placed, placed_ro
 use Rattle.xq_regions.specs.Nesting.{count-measured}
 use Rattle.xq_regions.specs.declared.NodeRow.{NodeRow}
 use Rattle.xq_sources.specs.Lenders.{IsRun}
-use Rattle.xq_sources.specs.Sources.{encloses, rows_between, rows_enclosing, tree_at}
+use Rattle.xq_sources.specs.Sources.{rows_between, tree_at}
 use Rattle.xq_sources.proofs.Intervals.{between-places}
 use Rattle.xq_rows.proofs.Loads.{length-labels}
 use Rattle.xq_rows.proofs.ViewLaws.{one_placed}
@@ -140,27 +138,6 @@ module _ (t : Tree) (kept : List NodeRow) (front : IsFront t kept) where
 
   pub has_node : (v : ℕ) → v < length kept → v < count (nodes t)
   has_node v h = let more = within in omega (arith, h, more, sized t)
-
-  -- those of the nodes above a node
-  pub encloses_all : (v : ℕ) → Reaches t v kept → filter (encloses v) (map placed kept) ≡ rows_enclosing t v
-  encloses_all v (inl h) = ap (filter (encloses v)) front ∙ none_later (length kept) 0 v (rows t) (omega (arith, h))
-    where
-      drops : (p : ℕ × Row → Bool) (x : ℕ × Row) (xs : List (ℕ × Row)) → p x ≡ false → filter p (x ∷ xs) ≡ filter p xs
-      drops p x xs h = ap (λ b. cond b (x ∷ filter p xs) (filter p xs)) h
-
-      none_from : (s v : ℕ) (rs : List Row) → v ≤ s → [] ≡ filter (encloses v) (enumerate_from s rs)
-      none_from s v [] h = refl
-      none_from s v (r ∷ rs) h =
-          none_from (s + 1) v rs (omega (arith, h)) ∙ sym (drops (encloses v) (s, r) (enumerate_from (s + 1) rs) (and_left (nat_lt s v) (nat_le v (s + r.size)) (not_below s v h)))
-        where
-          not_below : (s v : ℕ) → v ≤ s → nat_lt s v ≡ false
-          not_below s v h = grind (arith, h)
-
-      none_later : (n s v : ℕ) (rs : List Row) → v ≤ s + n → filter (encloses v) (take n (enumerate_from s rs)) ≡ filter (encloses v) (enumerate_from s rs)
-      none_later zero s v rs h = none_from s v rs (omega (arith, h))
-      none_later (suc n) s v [] h = refl
-      none_later (suc n) s v (r ∷ rs) h = ap (λ xs. cond (encloses v (s, r)) ((s, r) ∷ xs) xs) (none_later n (s + 1) v rs (omega (arith, h)))
-  encloses_all v (inr h) = ap (filter (encloses v)) (front ∙ all-first (length kept) (placed_rows t) h)
 
   -- a part that was read follows them
   module _ (low high : ℕ) (found : List NodeRow) (at : low ≡ length kept) (past : low ≤ high) (are : map placed found ≡ rows_between t low high) where

@@ -1,18 +1,18 @@
 -- What a view lends once it has read on.
 use Rattle.std.proofs.Common.{◌≡◌, ◌<◌, ℕ, zero, suc, Bool, IsTrue, Some, List, [], ◌∷◌, length, map, refl, sym, ap, subst, ◌∙◌, arith}
-use Rattle.std.specs.Prelude.{filter, slice_get}
+use Rattle.std.specs.Prelude.{slice_get}
 use Rattle.sqlite_trees.specs.declared.store.Store.{Ghosts}
 use Rattle.sqlite.specs.Held.{Held}
 use Rattle.xq_regions.specs.Tree.{Tree, IsTree}
 use Rattle.xq_regions.specs.Rows.{Row, rows, row_at, placed}
-use Rattle.xq_sources.specs.Lenders.{IsRun, places_above}
+use Rattle.xq_sources.specs.Lenders.{IsRun}
 use Rattle.xq_sources.specs.Meters.{Readings}
-use Rattle.xq_sources.specs.Sources.{HasTree, HasNode, encloses, rows_between, tree_at as nth_tree}
+use Rattle.xq_sources.specs.Sources.{HasTree, HasNode, rows_between, tree_at as nth_tree}
 use Rattle.xq_rows.specs.Documents.{Map, IsClean, StandsFor}
 use Rattle.xq_rows.specs.Views.{Beginning, HeldDocuments, IsView, Viewed, trees_under}
 use Rattle.xq_rows.specs.declared.shelves.Front.{Front}
 use Rattle.xq_rows.specs.private.Shelves.{AreFronts, AreListed, HasReached, IsFront, IsShelved, front_at, run_of}
-use Rattle.xq_rows.proofs.FrontLaws.{as_many, encloses_all, front_is, has_node, lends, lends_one}
+use Rattle.xq_rows.proofs.FrontLaws.{as_many, front_is, has_node, lends, lends_one}
 use Rattle.xq_rows.proofs.Keeping.{still_stays}
 use Rattle.xq_rows.specs.private.Keeps.{LeavesAlone}
 use Rattle.xq_rows.proofs.ViewLaws.{began_map, is_its_tree, its_tree, stands_held}
@@ -86,9 +86,6 @@ module _ {S : Type 0} (g : Ghosts S) (b : Beginning) (v : Viewed S) (fronts : Li
 
       pub has_it : place < length (front_at later tree) → HasNode trees tree place
       has_it h = record { tree_in = reached.tree_in; node_in = has_node (nth_tree trees tree) (front_at later tree) front place h }
-
-      pub are_above : map (λ (p : ℕ × Row). p.0) (filter (encloses place) (map placed (front_at later tree))) ≡ places_above (nth_tree trees tree) place
-      are_above = ap (map (λ (p : ℕ × Row). p.0)) (encloses_all (nth_tree trees tree) (front_at later tree) front place reached.reaches)
 
       pub is_a_tree : IsTree (nth_tree trees tree)
       is_a_tree = is_held_tree g b v is.view (was_clean clean) held tree reached.tree_in

@@ -32,6 +32,13 @@ pub(crate) struct Run {
     pub high: u32,
 }
 
+/// No row of any tree.
+pub(crate) const NO_ROWS: Run = Run {
+    tree: 0,
+    low: 1,
+    high: 0,
+};
+
 /// The tree whose rows were wanted longest ago, of those that have some, but for one tree; else
 /// that one.
 fn oldest_but(fronts: &[Front], tree: usize) -> usize {

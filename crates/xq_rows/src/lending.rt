@@ -2,18 +2,19 @@
 ghost use Rattle.std.specs.Prelude.{map};
 ghost use Rattle.xq_regions.specs.Rows.{placed};
 
-use crate::fronts::{Run, front_of, kept_rows, parent_of, read_on};
+use crate::fronts::{NO_ROWS, Run, front_of, kept_rows, parent_of, read_on};
 use crate::views::{Origin, View};
 use sqlite::Alter;
 use std::alloc::Global;
 use xq_atoms::Want;
 use xq_regions::NodeRow;
-use xq_sources::{RowLender, count_attributes, places_enclosing};
+use xq_sources::{RowLender, count_attributes};
 
 impl<S: Alter, O: Origin> RowLender for View<S, O> {
     ghost lent = { λ v. v.lent };
 
     fn fetch(&mut self, alloc: Global, tree: usize, low: u32, high: u32) -> Result<(), Want> {
+        self.run = NO_ROWS;
         read_on(alloc, &mut self.store, &mut self.shelf, tree, low)?;
         self.run = Run { tree, low, high };
         let count = kept_rows(&self.shelf.fronts, self.run).len();
@@ -22,6 +23,7 @@ impl<S: Alter, O: Origin> RowLender for View<S, O> {
     }
 
     fn fetch_row(&mut self, alloc: Global, tree: usize, node: u32) -> Result<(), Want> {
+        self.run = NO_ROWS;
         read_on(alloc, &mut self.store, &mut self.shelf, tree, node)?;
         if node as usize >= front_of(&self.shelf.fronts, tree).len() {
             return Err(Want::Store);
@@ -33,13 +35,6 @@ impl<S: Alter, O: Origin> RowLender for View<S, O> {
         };
         self.meter = self.meter.with_singles(1);
         Ok(())
-    }
-
-    fn above(&mut self, alloc: Global, tree: usize, node: u32) -> Result<Vec<u32>, Want> {
-        read_on(alloc, &mut self.store, &mut self.shelf, tree, node)?;
-        let found = places_enclosing(alloc, front_of(&self.shelf.fronts, tree), node)?;
-        self.meter = self.meter.with_singles(found.len());
-        Ok(found)
     }
 
     fn parent(&self, tree: usize, node: u32) -> Option<u32> {

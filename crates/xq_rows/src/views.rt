@@ -6,7 +6,7 @@ ghost use Rattle.xq_rows.specs.Tables.{no_schema};
 ghost use Rattle.xq_rows.specs.Views.{Beginning, HeldDocuments, StoodFor, WasClean, WasOpen, beginning, trees_under};
 ghost use Rattle.xq_sources.specs.Meters.{no_readings};
 
-use crate::fronts::Run;
+use crate::fronts::{NO_ROWS, Run};
 use crate::shelves::{Shelf, address_at};
 use crate::stores::Store;
 use sqlite::Alter;
@@ -110,11 +110,7 @@ impl<S: Alter> Store<S> {
                 store,
                 shelf,
                 meter: Meter::new(),
-                run: Run {
-                    tree: 0,
-                    low: 1,
-                    high: 0,
-                },
+                run: NO_ROWS,
                 origin: PhantomData,
             }),
             Err(want) => Err((want, store)),

@@ -88,19 +88,24 @@ fn place_after(rows: &[NodeRow], from: u32, text: &str) -> Option<u32> {
     Some(next)
 }
 
-/// Whether the rows of the tree are lent, run by run, in their order, and no other.
+/// Whether the rows of the tree are lent, run by run, in their order, and no other, and what is
+/// lent is what is counted.
 fn lends_rows<L: RowLender>(
     alloc: Global,
     lender: &mut L,
     tree: usize,
     (rows, text): Comments,
 ) -> Result<bool, Want> {
+    let before = lender.meter().rows();
     let mut next = 0;
     for _ in 0..=rows {
         lender.fetch(alloc, tree, next, u32::MAX)?;
         let Some(after) = place_after(lender.lent(), next, text) else {
             return Ok(false);
         };
+        if lender.meter().rows() != before.saturating_add(u64::from(after)) {
+            return Ok(false);
+        }
         if after == next {
             return Ok(next == rows);
         }
@@ -109,7 +114,22 @@ fn lends_rows<L: RowLender>(
     Ok(false)
 }
 
-/// Reads these documents through a view, and gives the store back.
+/// Whether a row past the end of the tree is refused, and nothing is lent or counted then, though
+/// the rows of which some were lent are read on to their end.
+fn refuses_row_past_end<L: RowLender>(
+    alloc: Global,
+    lender: &mut L,
+    tree: usize,
+    rows: u32,
+) -> Result<bool, Want> {
+    lender.fetch(alloc, tree, 0, u32::MAX)?;
+    let before = lender.meter();
+    let is_refused = matches!(lender.fetch_row(alloc, tree, rows), Err(Want::Store));
+    Ok(is_refused && lender.lent().is_empty() && lender.meter() == before)
+}
+
+/// Reads these documents through a view, and gives the store back. The first is lent run by run as
+/// it is read, each other one once a refusal has read it on.
 fn viewed<S: Alter + Drop, O: Origin + Drop, R: Abort>(
     rt: &R,
     alloc: Global,
@@ -124,9 +144,11 @@ fn viewed<S: Alter + Drop, O: Origin + Drop, R: Abort>(
     };
     assert_eq!(rt; view.trees(), documents.len());
     for (tree, document) in documents.iter().enumerate() {
+        if tree > 0 {
+            assert!(rt; refuses_row_past_end(alloc, &mut view, tree, document.0)?);
+        }
         assert!(rt; lends_rows(alloc, &mut view, tree, *document)?);
-        assert!(rt; matches!(view.fetch_row(alloc, tree, document.0), Err(Want::Store)));
-        assert_eq!(rt; view.above(alloc, tree, document.0)?.len(), 0);
+        assert!(rt; refuses_row_past_end(alloc, &mut view, tree, document.0)?);
     }
     Ok(view.into_store())
 }

@@ -11,8 +11,6 @@ use xq_sources::{Fragments, Meter, RowLender, RowSource};
 enum Reading {
     /// The rows from one place to another.
     Range(u32, u32),
-    /// Those of the nodes above one.
-    Above(u32),
     /// That of a node.
     Node(u32),
 }
@@ -21,7 +19,7 @@ enum Reading {
 /// is refused.
 type Read = (Reading, usize, Option<&'static [usize]>);
 
-const READS: [Read; 20] = [
+const READS: [Read; 15] = [
     (Reading::Range(2, 4), 1, Some(&[2, 3, 4])),
     (Reading::Range(5, 7), 1, Some(&[5, 6, 7])),
     (Reading::Range(0, 7), 1, Some(&[0, 1, 2, 3, 4, 5, 6, 7])),
@@ -31,17 +29,21 @@ const READS: [Read; 20] = [
     (Reading::Range(5, 4), 1, Some(&[])),
     (Reading::Range(0, u32::MAX), 0, Some(&[0])),
     (Reading::Range(0, 0), 2, None),
-    (Reading::Above(4), 1, Some(&[0, 1, 2])),
-    (Reading::Above(7), 1, Some(&[0, 1, 5])),
-    (Reading::Above(0), 1, Some(&[])),
-    (Reading::Above(0), 0, Some(&[])),
-    (Reading::Above(0), 2, None),
     (Reading::Node(6), 1, Some(&[6])),
     (Reading::Node(7), 1, Some(&[7])),
     (Reading::Node(0), 0, Some(&[0])),
     (Reading::Node(8), 1, None),
     (Reading::Node(1), 0, None),
     (Reading::Node(0), 2, None),
+];
+
+/// The nodes whose nodes above are read, of which tree, and the places of the rows that are found.
+const ABOVE: [(u32, usize, Option<&'static [usize]>); 5] = [
+    (4, 1, Some(&[0, 1, 2])),
+    (7, 1, Some(&[0, 1, 5])),
+    (0, 1, Some(&[])),
+    (0, 0, Some(&[])),
+    (0, 2, None),
 ];
 
 /// The rows of the tree with this number.
@@ -66,15 +68,19 @@ pub fn both(alloc: Global) -> Result<Fragments, Want> {
     Ok(fragments)
 }
 
+/// Whether the meter grew by so many rows, those of a range or others.
+fn grew(before: Meter, after: Meter, rows: usize, singles: usize) -> bool {
+    after.rows().saturating_sub(before.rows()) == rows as u64
+        && after.singles().saturating_sub(before.singles()) == singles as u64
+}
+
 /// Whether the meter grew by the rows that are wanted: those of a range as such, others singly.
 fn is_counted(before: Meter, after: Meter, (reading, _, wanted): Read) -> bool {
-    let count = places_of(wanted).len() as u64;
-    let (rows, singles) = match reading {
-        Reading::Range(..) => (count, 0),
-        Reading::Above(_) | Reading::Node(_) => (0, count),
-    };
-    after.rows().saturating_sub(before.rows()) == rows
-        && after.singles().saturating_sub(before.singles()) == singles
+    let count = places_of(wanted).len();
+    match reading {
+        Reading::Range(..) => grew(before, after, count, 0),
+        Reading::Node(_) => grew(before, after, 0, count),
+    }
 }
 
 /// Whether the answer is the one that is wanted: true of the rows, or a refusal.
@@ -86,16 +92,6 @@ fn is_wanted(answer: Result<bool, Want>, wanted: Option<&[usize]>) -> Result<boo
     }
 }
 
-/// Whether the places are those that are wanted.
-fn are_places(found: &[u32], wanted: &[usize]) -> bool {
-    for (place, wanted) in found.iter().zip(wanted) {
-        if *place as usize != *wanted {
-            return false;
-        }
-    }
-    found.len() == wanted.len()
-}
-
 /// Whether the source gives the rows that are wanted.
 fn gives<S: RowSource>(
     alloc: Global,
@@ -105,7 +101,6 @@ fn gives<S: RowSource>(
     let places = places_of(wanted);
     let rows = match reading {
         Reading::Range(low, high) => source.range(alloc, tree, low, high)?,
-        Reading::Above(node) => source.enclosing(alloc, tree, node)?,
         Reading::Node(node) => {
             let mut rows = Vec::new(alloc);
             rows.push(source.row(alloc, tree, node)?)?;
@@ -115,22 +110,27 @@ fn gives<S: RowSource>(
     Ok(are_rows_at(&rows, document(tree), places))
 }
 
-/// Whether the lender lends the rows that are wanted, or tells their places.
+/// Whether the source gives the rows of the nodes above a node that are wanted.
+fn gives_above<S: RowSource>(
+    alloc: Global,
+    source: &mut S,
+    (node, tree, wanted): (u32, usize, Option<&'static [usize]>),
+) -> Result<bool, Want> {
+    let rows = source.enclosing(alloc, tree, node)?;
+    Ok(are_rows_at(&rows, document(tree), places_of(wanted)))
+}
+
+/// Whether the lender lends the rows that are wanted.
 fn lends<L: RowLender>(
     alloc: Global,
     lender: &mut L,
     (reading, tree, wanted): Read,
 ) -> Result<bool, Want> {
-    let places = places_of(wanted);
     match reading {
         Reading::Range(low, high) => lender.fetch(alloc, tree, low, high)?,
         Reading::Node(node) => lender.fetch_row(alloc, tree, node)?,
-        Reading::Above(node) => {
-            let above = lender.above(alloc, tree, node)?;
-            return Ok(are_places(&above, places));
-        }
     }
-    Ok(are_rows_at(lender.lent(), document(tree), places))
+    Ok(are_rows_at(lender.lent(), document(tree), places_of(wanted)))
 }
 
 /// The number of the first reading that the source answers or counts otherwise.
@@ -145,12 +145,26 @@ pub fn wrong_gift<S: RowSource>(alloc: Global, source: &mut S) -> Result<Option<
     Ok(None)
 }
 
-/// The number of the first reading that the lender answers or counts otherwise.
+/// The number of the first reading of nodes above one that the source answers or counts otherwise.
+pub fn wrong_above<S: RowSource>(alloc: Global, source: &mut S) -> Result<Option<usize>, Want> {
+    for (at, read) in ABOVE.iter().enumerate() {
+        let before = source.meter();
+        let holds = is_wanted(gives_above(alloc, source, *read), read.2)?;
+        if !holds || !grew(before, source.meter(), 0, places_of(read.2).len()) {
+            return Ok(Some(at));
+        }
+    }
+    Ok(None)
+}
+
+/// The number of the first reading that the lender answers or counts otherwise, or after whose
+/// refusal it lends a row.
 pub fn wrong_loan<L: RowLender>(alloc: Global, lender: &mut L) -> Result<Option<usize>, Want> {
     for (at, read) in READS.iter().enumerate() {
         let before = lender.meter();
         let holds = is_wanted(lends(alloc, lender, *read), read.2)?;
-        if !holds || !is_counted(before, lender.meter(), *read) {
+        let lent_none = read.2.is_some() || lender.lent().is_empty();
+        if !holds || !lent_none || !is_counted(before, lender.meter(), *read) {
             return Ok(Some(at));
         }
     }

@@ -1,10 +1,10 @@
 //! One request carried out over a store.
-ghost use Rattle.std.specs.Prelude.{◌≡◌, MatchResult};
+ghost use Rattle.std.specs.Prelude.{◌≡◌, IfOk, MatchResult};
 ghost use Rattle.xq_atoms.specs.Address.{IsAddress};
 ghost use Rattle.xq_atoms.specs.declared.refusals.Code.TheVariants.{ProfAddress};
 ghost use Rattle.xq_rows.specs.Documents.{IsClean, IsOpen, Map, StandsFor};
 ghost use Rattle.xq_frame.specs.Request.{request_meaning, query, put, remove as remove_one, list};
-ghost use Rattle.xq_server.specs.private.Work.{Tells, IsShort};
+ghost use Rattle.xq_server.specs.private.Work.{GivesDocument, HasDocumentRoot, Tells, IsShort};
 
 use crate::evaluations::evaluate;
 use crate::listings::listing;
@@ -76,6 +76,27 @@ fn answer_query<S: Alter + Drop>(
     Ok(Answer::Text(printed))
 }
 
+/// The document that the query of a text makes over the documents of the store, which stay as they
+/// are.
+fn document_of<S: Alter + Drop>(
+    alloc: Global,
+    store: &mut Store<S>,
+    text: &[u8],
+) -> Result<Fragment, Fault>
+    ensures made { IsClean S.Store store.new → (m : Map) → StandsFor S.Store store.old m
+        → GivesDocument text.now m result }
+    ensures document { IfOk result HasDocumentRoot }
+    ensures same { IsClean S.Store store.new → (m : Map) → StandsFor S.Store store.old m
+        → StandsFor S.Store store.new m }
+    ensures was_clean { IsClean S.Store store.new → IsClean S.Store store.old }
+    ensures was_open { IsClean S.Store store.new → IsOpen S.Store store.new
+        → IsOpen S.Store store.old }
+{
+    let plan = understand(alloc, text)?;
+    let document: Fragment = evaluate(alloc, store, &plan)?;
+    Ok(document)
+}
+
 fn answer_put<S: Alter + Drop>(
     alloc: Global,
     store: &mut Store<S>,
@@ -91,8 +112,7 @@ fn answer_put<S: Alter + Drop>(
     ensures short { IsShort result }
 {
     let address = good_address(address)?;
-    let plan = understand(alloc, text)?;
-    let document: Fragment = evaluate(alloc, store, &plan)?;
+    let document = document_of(alloc, store, text)?;
     match store.put_owned(address, document)? {
         Put::Stored => Ok(Answer::Stored),
         Put::Replaced => Ok(Answer::Replaced),

@@ -1,6 +1,6 @@
 -- What is read of the rows of a tree.
 use Rattle.std.proofs.Common.{◌≡◌, ℕ, zero, suc, ◌+◌, ◌-◌, ◌<◌, List, [], ◌∷◌, length, get_or, take, drop, map, refl, sym, ◌∙◌, ap, arith, add-one}
-use Rattle.std.specs.Prelude.{filter, slice_index}
+use Rattle.std.specs.Prelude.{filter, slice_index, Option, Some, None}
 use Rattle.std.specs.List.{enumerate_from}
 use Rattle.std.proofs.lemmas.List.{take-map, drop-map}
 use Rattle.xq_regions.specs.declared.NodeRow.{NodeRow}
@@ -9,6 +9,7 @@ use Rattle.xq_regions.specs.Forest.{count}
 use Rattle.xq_regions.specs.Rows.{row_of, row_at, rows, placed, placed_rows, AreNumbered, Encodes, measured}
 use Rattle.xq_regions.specs.Nesting.{count-measured}
 use Rattle.xq_sources.specs.Sources.{encloses, rows_between, rows_enclosing}
+use Rattle.xq_sources.specs.private.Runs.{rows_of_run}
 use Rattle.xq_sources.proofs.Intervals.{between-places}
 use Rattle.xq_regions.proofs.Walks.{length-map, row_at-map}
 use Rattle.xq_regions.proofs.Regions.{length-labels}
@@ -28,6 +29,11 @@ pub one_at : (xs : List NodeRow) (i : ℕ) → i < length xs → map placed (tak
 one_at [] i h = absurd (omega arith)
 one_at (y ∷ xs) zero h = refl
 one_at (y ∷ xs) (suc i) h = one_at xs i (omega arith)
+
+-- no row of any tree
+pub no_rows : (held : Option Tree) → rows_of_run held 1 0 ≡ []
+no_rows None = refl
+no_rows (Some t) = between-places 1 0 1 0 (rows t) refl
 
 module _ (xs : List NodeRow) (t : Tree) (encodes : Encodes xs t) where
   pub all_read : map placed xs ≡ placed_rows t

@@ -6,7 +6,7 @@ ghost use Rattle.xq_sources.specs.Sources.{tree_at, HasTree};
 ghost use Rattle.xq_sources.specs.private.Runs.{rows_of_run};
 
 use crate::attributes::count_attributes;
-use crate::rows::{copy_enclosing, copy_rows, places_enclosing, rows_between};
+use crate::rows::{copy_enclosing, copy_rows, rows_between};
 use crate::{Guide, Meter, RowLender, RowSource, TreeSource};
 use std::alloc::Global;
 use xq_atoms::Want;
@@ -19,6 +19,13 @@ struct Run {
     low: u32,
     high: u32,
 }
+
+/// No row of any tree.
+const NO_ROWS: Run = Run {
+    tree: 0,
+    low: 1,
+    high: 0,
+};
 
 /// Trees in memory, which give copies of their rows and lend the rows themselves. They are always
 /// clean.
@@ -41,15 +48,11 @@ impl Fragments {
             list: Vec::new(alloc),
             guides: Vec::new(alloc),
             meter: Meter::new(),
-            run: Run {
-                tree: 0,
-                low: 1,
-                high: 0,
-            },
+            run: NO_ROWS,
         }
     }
 
-    /// Adds a tree after the others; where it is refused, they are as before.
+    /// Adds a tree after the others; where it is refused, they are as before. No row is lent then.
     pub fn push(&mut self, tree: Fragment) -> Result<(), Want>
         ensures ok { OnOk result (⟦<Fragments as TreeSource>⟧.forest self.new
             ≡ ⟦<Fragments as TreeSource>⟧.forest self.old ++ tree ∷ []) }
@@ -57,7 +60,9 @@ impl Fragments {
             ≡ ⟦<Fragments as TreeSource>⟧.forest self.old) }
         ensures meter { ⟦<Fragments as TreeSource>⟧.meter self.new
             ≡ ⟦<Fragments as TreeSource>⟧.meter self.old }
+        ensures lent { ⟦<Fragments as RowLender>⟧.lent self.new ≡ [] }
     {
+        self.run = NO_ROWS;
         let mut guide = Guide::new(*self.guides.allocator());
         guide.read_on(tree.rows())?;
         self.guides.truncate(self.list.len());
@@ -133,6 +138,7 @@ impl RowLender for Fragments {
     ghost lent = { λ s. rows_of_run (slice_get s.list.items s.run.tree) s.run.low s.run.high };
 
     fn fetch(&mut self, _: Global, tree: usize, low: u32, high: u32) -> Result<(), Want> {
+        self.run = NO_ROWS;
         let rows = self.rows_of(tree)?;
         let count = rows_between(rows, low, high).len();
         self.run = Run { tree, low, high };
@@ -141,6 +147,7 @@ impl RowLender for Fragments {
     }
 
     fn fetch_row(&mut self, _: Global, tree: usize, node: u32) -> Result<(), Want> {
+        self.run = NO_ROWS;
         let rows = self.rows_of(tree)?;
         if node as usize >= rows.len() {
             return Err(Want::Store);
@@ -152,13 +159,6 @@ impl RowLender for Fragments {
         };
         self.meter = self.meter.with_singles(1);
         Ok(())
-    }
-
-    fn above(&mut self, alloc: Global, tree: usize, node: u32) -> Result<Vec<u32>, Want> {
-        let rows = self.rows_of(tree)?;
-        let found = places_enclosing(alloc, rows, node)?;
-        self.meter = self.meter.with_singles(found.len());
-        Ok(found)
     }
 
     fn parent(&self, tree: usize, node: u32) -> Option<u32> {

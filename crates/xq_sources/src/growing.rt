@@ -1,5 +1,5 @@
 //! Trees to which others can be added.
-ghost use Rattle.std.specs.Prelude.{◌≡◌, ◌++◌, ◌∷◌, [], OnErr, OnOk};
+ghost use Rattle.std.specs.Prelude.{◌≡◌, ◌++◌, ◌∷◌, ◌⊎◌, [], OnErr, OnOk};
 
 use crate::lenders::RowLender;
 use xq_atoms::Want;
@@ -8,10 +8,12 @@ use xq_regions::Fragment;
 /// Trees that lend their rows, and to which a constructed one can be added: all that an evaluation
 /// needs of them.
 pub trait Growing: RowLender {
-    /// Adds the tree after the others. Where it is refused, they are as before.
+    /// Adds the tree after the others. Where it is refused, they are as before. What is lent was
+    /// lent before.
     fn plant(&mut self, tree: Fragment) -> Result<(), Want>
         ensures grown { OnOk result (Self.forest self.new ≡ Self.forest self.old ++ tree ∷ []) }
         ensures kept { OnErr result (Self.forest self.new ≡ Self.forest self.old) }
         ensures meter { Self.meter self.new ≡ Self.meter self.old }
+        ensures lent { (Self.lent self.new ≡ Self.lent self.old) ⊎ (Self.lent self.new ≡ []) }
         ensures was_clean { Self.is_clean self.new → Self.is_clean self.old };
 }

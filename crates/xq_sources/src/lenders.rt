@@ -1,14 +1,12 @@
 //! Lenders of rows: what each of them promises, and a lender over any source.
-ghost use Rattle.std.specs.Prelude.{◌≡◌, ◌↔◌, ◌∷◌, [], ℕ, List, map, vec_len, IfOk, IfSome, OnErr, OnOk};
+ghost use Rattle.std.specs.Prelude.{◌≡◌, ◌↔◌, ◌∷◌, [], ℕ, List, map, IfSome, OnErr, OnOk};
 ghost use Rattle.xq_regions.specs.Tree.{IsTree};
 ghost use Rattle.xq_regions.specs.Rows.{Row, placed, row_at, rows};
 ghost use Rattle.xq_sources.specs.AttributeRows.{AreAttributeRows};
-ghost use Rattle.xq_sources.specs.Meters.{with_singles};
 ghost use Rattle.xq_sources.specs.Parents.{IsParentRow};
 ghost use Rattle.xq_sources.specs.Sources.{tree_at, HasTree, HasNode, rows_between, after_row};
-ghost use Rattle.xq_sources.specs.Lenders.{IsRun, places_above, after_fetch};
+ghost use Rattle.xq_sources.specs.Lenders.{IsRun, after_fetch};
 
-use crate::rows::places;
 use crate::{Meter, RowSource, TreeSource};
 use std::alloc::Global;
 use xq_atoms::Want;
@@ -17,13 +15,15 @@ use xq_regions::NodeRow;
 /// Trees whose rows are lent: one call makes them ready, the next lends them.
 ///
 /// A call may name any tree and any node. Where the lender is clean as the call ends, an answer
-/// tells that they exist. After a refusal nothing is promised of what is lent.
+/// tells that they exist. What is lent was counted, each row of it: it is what the last call made
+/// ready, and nothing where that was refused.
 pub trait RowLender: TreeSource {
-    /// What the last fetch made ready.
+    /// What the last call made ready.
     ghost lent: { Self → List (ℕ × Row) };
 
     /// Makes rows p with low <= p <= high ready: the first of them, one at least where there is
-    /// one. They are counted as rows of a range, and nothing is where the call is refused.
+    /// one. They are counted as rows of a range. Where the call is refused nothing is counted or
+    /// lent.
     fn fetch(&mut self, alloc: Global, tree: usize, low: u32, high: u32) -> Result<(), Want>
         ensures exists { Self.is_clean self.new
             → OnOk result (HasTree (Self.forest self.old) tree) }
@@ -32,11 +32,12 @@ pub trait RowLender: TreeSource {
             (lent self.new)) }
         ensures counts { Self.meter self.new
             ≡ after_fetch (Self.meter self.old) (lent self.new) result }
+        ensures refused { OnErr result (lent self.new ≡ []) }
         ensures keeps { Self.forest self.new ≡ Self.forest self.old }
         ensures was_clean { Self.is_clean self.new → Self.is_clean self.old };
 
-    /// Makes the row of the node ready. It is counted as a single row, and nothing is where the
-    /// call is refused.
+    /// Makes the row of the node ready. It is counted as a single row. Where the call is refused
+    /// nothing is counted or lent.
     fn fetch_row(&mut self, alloc: Global, tree: usize, node: u32) -> Result<(), Want>
         ensures exists { Self.is_clean self.new
             → OnOk result (HasNode (Self.forest self.old) tree node) }
@@ -46,20 +47,7 @@ pub trait RowLender: TreeSource {
         ensures is_tree { Self.is_clean self.new
             → OnOk result (IsTree (tree_at (Self.forest self.old) tree)) }
         ensures counts { Self.meter self.new ≡ after_row (Self.meter self.old) result }
-        ensures keeps { Self.forest self.new ≡ Self.forest self.old }
-        ensures was_clean { Self.is_clean self.new → Self.is_clean self.old };
-
-    /// The places of the nodes above the node, the root's first. They are counted as single rows;
-    /// a call that is refused may have read, and counted, some as well.
-    fn above(&mut self, alloc: Global, tree: usize, node: u32) -> Result<Vec<u32>, Want>
-        ensures exists { Self.is_clean self.new
-            → OnOk result (HasTree (Self.forest self.old) tree) }
-        ensures found { Self.is_clean self.new
-            → IfOk result (λ found. found.items
-            ≡ places_above (tree_at (Self.forest self.old) tree) node) }
-        ensures counts { IfOk result (λ found. Self.meter self.new
-            ≡ with_singles (Self.meter self.old) (vec_len found)) }
-        ensures refused { OnErr result ((Self.meter self.new).rows ≡ (Self.meter self.old).rows) }
+        ensures refused { OnErr result (lent self.new ≡ []) }
         ensures keeps { Self.forest self.new ≡ Self.forest self.old }
         ensures was_clean { Self.is_clean self.new → Self.is_clean self.old };
 
@@ -77,7 +65,7 @@ pub trait RowLender: TreeSource {
         ensures is_tree { Self.is_clean self.now → IfSome result (λ _.
             IsTree (tree_at (Self.forest self.now) tree)) };
 
-    /// The rows that the last fetch made ready, in document order.
+    /// The rows that the last call made ready, in document order.
     fn lent(&self) -> &[NodeRow]
         ensures { map placed result.now ≡ lent self.now };
 }
@@ -132,11 +120,13 @@ impl<S: RowSource + Drop> RowLender for Buffered<S> {
     ghost lent = { λ s. map placed s.buffer.items };
 
     fn fetch(&mut self, alloc: Global, tree: usize, low: u32, high: u32) -> Result<(), Want> {
+        self.buffer.clear();
         self.buffer = self.source.range(alloc, tree, low, high)?;
         Ok(())
     }
 
     fn fetch_row(&mut self, alloc: Global, tree: usize, node: u32) -> Result<(), Want> {
+        self.buffer.clear();
         let mut buffer = Vec::with_capacity(alloc, 1)?;
         let row = self.source.row(alloc, tree, node)?;
         let Ok(()) = buffer.push(row) else {
@@ -144,11 +134,6 @@ impl<S: RowSource + Drop> RowLender for Buffered<S> {
         };
         self.buffer = buffer;
         Ok(())
-    }
-
-    fn above(&mut self, alloc: Global, tree: usize, node: u32) -> Result<Vec<u32>, Want> {
-        let rows = self.source.enclosing(alloc, tree, node)?;
-        places(alloc, &rows)
     }
 
     fn parent(&self, _: usize, _: u32) -> Option<u32> {

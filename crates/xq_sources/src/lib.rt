@@ -22,6 +22,6 @@ pub use growing::Growing;
 pub use guides::Guide;
 pub use lenders::{Buffered, RowLender};
 pub use meters::Meter;
-pub use rows::{places_enclosing, rows_between};
+pub use rows::rows_between;
 pub use sources::{RowSource, TreeSource};
 pub use trees::Trees;

@@ -51,28 +51,3 @@ pub fn rows_between(rows: &[NodeRow], low: u32, high: u32) -> &[NodeRow]
         &rows[..0]
     }
 }
-
-/// The places of the rows.
-pub fn places(alloc: Global, rows: &[NodeRow]) -> Result<Vec<u32>, Want>
-    ensures { IfOk result (λ found. found.items ≡ map (λ p. p.0) (map placed rows.now)) }
-{
-    let mut found = Vec::with_capacity(alloc, rows.len())?;
-    for row in rows {
-        found.push(row.pre)?;
-    }
-    Ok(found)
-}
-
-/// The places of the rows of the nodes above the node.
-pub fn places_enclosing(alloc: Global, rows: &[NodeRow], node: u32) -> Result<Vec<u32>, Want>
-    ensures { IfOk result (λ found. found.items
-        ≡ map (λ p. p.0) (filter (encloses_lem node) (map placed rows.now))) }
-{
-    let mut found = Vec::new(alloc);
-    for row in rows {
-        if encloses(row, node) {
-            found.push(row.pre)?;
-        }
-    }
-    Ok(found)
-}

@@ -86,7 +86,8 @@ fn lends(
     assert_eq!(rt; words(alloc, trees.lent())?.as_str(), rows);
     trees.fetch_row(alloc, tree, 1)?;
     assert_eq!(rt; trees.lent().len(), 1);
-    assert_eq!(rt; trees.above(alloc, tree, 1)?.as_slice(), [0].as_slice());
+    assert!(rt; matches!(trees.fetch_row(alloc, tree, 9), Err(Want::Store)));
+    assert!(rt; trees.lent().is_empty());
     Ok(())
 }
 
@@ -113,8 +114,8 @@ fn lenders_lend_both_kinds(rt: HostRuntime) -> Result<(), Want> {
     construct(alloc, &mut trees)?;
     lends(&rt, alloc, &mut trees, 1, "constructed B ")?;
     lends(&rt, alloc, &mut trees, 0, "stored A ")?;
-    assert!(rt; matches!(trees.above(alloc, 2, 0), Err(Want::Store)));
+    assert!(rt; matches!(trees.fetch(alloc, 2, 0, 0), Err(Want::Store)));
     assert_eq!(rt; trees.meter().rows(), 4);
-    assert_eq!(rt; trees.meter().singles(), 4);
+    assert_eq!(rt; trees.meter().singles(), 2);
     Ok(())
 }

@@ -102,14 +102,6 @@ impl<S: RowLender + Drop> RowLender for Trees<S> {
         }
     }
 
-    fn above(&mut self, alloc: Global, tree: usize, node: u32) -> Result<Vec<u32>, Want> {
-        if tree < self.stored {
-            self.source.above(alloc, tree, node)
-        } else {
-            self.constructed.above(alloc, tree - self.stored, node)
-        }
-    }
-
     fn parent(&self, tree: usize, node: u32) -> Option<u32> {
         if tree < self.stored {
             self.source.parent(tree, node)

@@ -1,6 +1,7 @@
 -- The places of each form from those of its parts: an equation for each variant of the cycle of types.
 use Rattle.std.proofs.Common.{◌≡◌, ℕ, ℤ, List, map, Option, sym, ◌∙◌, ap}
 use Rattle.xq_expressions.specs.declared.names.QName.{QName}
+use Rattle.xq_expressions.specs.declared.operators.AllowingEmpty.{AllowingEmpty}
 use Rattle.xq_expressions.specs.declared.operators.Quantifier.{Quantifier}
 use Rattle.xq_expressions.specs.declared.operators.ComparisonOperator.{ComparisonOperator}
 use Rattle.xq_expressions.specs.declared.operators.Sign.{Sign}
@@ -68,6 +69,12 @@ places-SetOperation x y = ap places (sym (e.rolls-SetOperation x y)) ∙ fold-ro
 pub places-Unary : (x : List Sign) (y : Expr) → places (e.Unary x y) ≡ form_places (Expr-F.Unary x (places y))
 places-Unary x y = ap places (sym (e.rolls-Unary x y)) ∙ fold-roll-Expr Binding Places Places Binding Places clause_binding name_places form_places group_binding step_places (Expr-F.Unary x y)
 
+pub places-Arrow : (x : Expr) (y : List (QName × List Expr)) → places (e.Arrow x y) ≡ form_places (Expr-F.Arrow (places x) (map (λ (c : QName × List Expr). (c.0, map places c.1)) y))
+places-Arrow x y = ap places (sym (e.rolls-Arrow x y)) ∙ fold-roll-Expr Binding Places Places Binding Places clause_binding name_places form_places group_binding step_places (Expr-F.Arrow x y)
+
+pub places-Map : (x : Expr) (y : List Expr) → places (e.Map x y) ≡ form_places (Expr-F.Map (places x) (map places y))
+places-Map x y = ap places (sym (e.rolls-Map x y)) ∙ fold-roll-Expr Binding Places Places Binding Places clause_binding name_places form_places group_binding step_places (Expr-F.Map x y)
+
 pub places-Root : places e.Root ≡ form_places (Expr-F.Root)
 places-Root = ap places (sym e.rolls-Root) ∙ fold-roll-Expr Binding Places Places Binding Places clause_binding name_places form_places group_binding step_places Expr-F.Root
 
@@ -98,7 +105,7 @@ places-Named x y z = ap places (sym (e.rolls-Named x y z)) ∙ fold-roll-Expr Bi
 pub places-Unnamed : (x : UnnamedNode) (y : Expr) → places (e.Unnamed x y) ≡ form_places (Expr-F.Unnamed x (places y))
 places-Unnamed x y = ap places (sym (e.rolls-Unnamed x y)) ∙ fold-roll-Expr Binding Places Places Binding Places clause_binding name_places form_places group_binding step_places (Expr-F.Unnamed x y)
 
-pub clause-For : (x : List (QName × Option QName × Expr)) → clause (c.For x) ≡ clause_binding (Clause-F.For (map (λ (b : QName × Option QName × Expr). (b.0, b.1, places b.2)) x))
+pub clause-For : (x : List (QName × AllowingEmpty × Option QName × Expr)) → clause (c.For x) ≡ clause_binding (Clause-F.For (map (λ (b : QName × AllowingEmpty × Option QName × Expr). (b.0, b.1, b.2, places b.3)) x))
 clause-For x = ap clause (sym (c.rolls-For x)) ∙ fold-roll-Clause Binding Places Places Binding Places clause_binding name_places form_places group_binding step_places (Clause-F.For x)
 
 pub clause-Let : (x : List (QName × Expr)) → clause (c.Let x) ≡ clause_binding (Clause-F.Let (map (λ (b : QName × Expr). (b.0, places b.1)) x))
@@ -112,6 +119,9 @@ clause-Group x = ap clause (sym (c.rolls-Group x)) ∙ fold-roll-Clause Binding 
 
 pub clause-Order : (x : List (Expr × OrderModifier)) → clause (c.Order x) ≡ clause_binding (Clause-F.Order (map (λ (s : Expr × OrderModifier). (places s.0, s.1)) x))
 clause-Order x = ap clause (sym (c.rolls-Order x)) ∙ fold-roll-Clause Binding Places Places Binding Places clause_binding name_places form_places group_binding step_places (Clause-F.Order x)
+
+pub clause-Count : (x : QName) → clause (c.Count x) ≡ clause_binding (Clause-F.Count x)
+clause-Count x = ap clause (sym (c.rolls-Count x)) ∙ fold-roll-Clause Binding Places Places Binding Places clause_binding name_places form_places group_binding step_places (Clause-F.Count x)
 
 pub name-Literal : (x : QName) → constructor_name (n.Literal x) ≡ name_places (ConstructorName-F.Literal x)
 name-Literal x = ap constructor_name (sym (n.rolls-Literal x)) ∙ fold-roll-ConstructorName Binding Places Places Binding Places clause_binding name_places form_places group_binding step_places (ConstructorName-F.Literal x)

@@ -37,6 +37,15 @@ stops (OfWant Store) xs ys h = absurd h
 pub passes : (r : Judged) (xs ys : List Place) → first_fault xs ≡ None → Judges r (first_fault ys) → Judges r (first_fault (xs ++ ys))
 passes r xs ys h j = subst (Judges r) (sym (none-then xs ys h)) j
 
+-- the same of a place before others
+pub first_stops : (e : Fault) (first rest : Option Code) → Judges (Err e) first → Judges (Err e) (option_or first rest)
+first_stops (OfCode code) first rest h = ap (λ o. option_or o rest) h
+first_stops (OfWant Memory) first rest h = tt
+first_stops (OfWant Store) first rest h = absurd h
+
+pub first_passes : (r : Judged) (first rest : Option Code) → first ≡ None → Judges r rest → Judges r (option_or first rest)
+first_passes r first rest h j = subst (λ o. Judges r (option_or o rest)) (sym h) j
+
 -- what `?` returns
 pub handed_on : (r : Judged) (e : Fault) (fault : Option Code) → IsErrAnd r (λ f. f ≡ e) → Judges (Err e) fault → Judges r fault
 handed_on (Ok x) e fault h j = elim h [ ]

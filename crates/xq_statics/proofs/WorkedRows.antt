@@ -4,6 +4,7 @@ use Rattle.xq_atoms.specs.declared.refusals.Code.{Code}
 use Rattle.xq_atoms.specs.declared.refusals.Code.TheVariants.{XPST0008, XPST0017, XQST0089, XQST0094, ProfPrefix, ProfType}
 use Rattle.xq_atoms.specs.Text.{Text}
 use Rattle.xq_expressions.specs.declared.names.QName.{QName}
+use Rattle.xq_expressions.specs.declared.operators.AllowingEmpty.TheVariants as allowing
 use Rattle.xq_expressions.specs.declared.operators.NamedNode.TheVariants.{Element}
 use Rattle.xq_expressions.specs.declared.operators.ProductOperator.TheVariants.{Div}
 use Rattle.xq_expressions.specs.declared.operators.Quantifier.TheVariants.{Some as SomeOf}
@@ -37,10 +38,19 @@ abbrev flwor : List Binding → Places → Places
 flwor clauses part = form_places (Expr-F.Flwor clauses part)
 
 abbrev for_in : Text → Places → Binding
-for_in local part = clause_binding (Clause-F.For ((bare local, None, part) ∷ []))
+for_in local part = clause_binding (Clause-F.For ((bare local, allowing.No, None, part) ∷ []))
 
 abbrev for_at : Text → Text → Places → Binding
-for_at local at part = clause_binding (Clause-F.For ((bare local, Some (bare at), part) ∷ []))
+for_at local at part = clause_binding (Clause-F.For ((bare local, allowing.No, Some (bare at), part) ∷ []))
+
+abbrev for_or_empty_at : Text → Text → Places → Binding
+for_or_empty_at local at part = clause_binding (Clause-F.For ((bare local, allowing.Yes, Some (bare at), part) ∷ []))
+
+abbrev count_as : Text → Binding
+count_as local = clause_binding (Clause-F.Count (bare local))
+
+abbrev arrow : Places → List (QName × List Places) → Places
+arrow first calls = form_places (Expr-F.Arrow first calls)
 
 abbrev let_be : Text → Places → Binding
 let_be local part = clause_binding (Clause-F.Let ((bare local, part) ∷ []))
@@ -109,6 +119,39 @@ concat_of_one = refl
 prefixed_element : answer (form_places (Expr-F.Named Element (name_places (ConstructorName-F.Literal (prefixed (codes "p") (codes "a")))) one)) ≡ Some ProfPrefix
 prefixed_element = refl
 
+-- ---- arrows and maps
+
+-- 1 => count(), 1 => position(), 1 => concat("x"), "x" => my:f(), 1 => xs:integer()
+count_after : answer (arrow one ((bare (codes "count"), []) ∷ [])) ≡ None
+count_after = refl
+
+position_after : answer (arrow one ((bare (codes "position"), []) ∷ [])) ≡ Some XPST0017
+position_after = refl
+
+concat_after : answer (arrow one ((bare (codes "concat"), one ∷ []) ∷ [])) ≡ None
+concat_after = refl
+
+prefix_after : answer (arrow one ((prefixed (codes "my") (codes "f"), []) ∷ [])) ≡ Some ProfPrefix
+prefix_after = refl
+
+integer_after : answer (arrow one ((prefixed (codes "xs") (codes "integer"), []) ∷ [])) ≡ None
+integer_after = refl
+
+-- $q => position(): what stands before the arrow comes first
+first_before_the_call : answer (arrow (var q) ((bare (codes "position"), []) ∷ [])) ≡ Some XPST0008
+first_before_the_call = refl
+
+-- 1 => position($q), 1 => abs() => abs(1)
+name_before_its_arguments : answer (arrow one ((bare (codes "position"), var q ∷ []) ∷ [])) ≡ Some XPST0017
+name_before_its_arguments = refl
+
+second_call : answer (arrow one ((bare (codes "abs"), []) ∷ (bare (codes "abs"), one ∷ []) ∷ [])) ≡ Some XPST0017
+second_call = refl
+
+-- 1 ! $q
+unbound_in_a_map : answer (form_places (Expr-F.Map one (var q ∷ []))) ≡ Some XPST0008
+unbound_in_a_map = refl
+
 -- ---- scopes
 
 -- for $x at $x in 1 return $x
@@ -130,6 +173,26 @@ gone_after_return = refl
 -- some $x in 1, $y in $x satisfies $y
 earlier_binding : answer (form_places (Expr-F.Quantified SomeOf ((bare x, one) ∷ (bare y, var x) ∷ []) (var y))) ≡ None
 earlier_binding = refl
+
+-- for $x allowing empty at $x in 1 return 1
+same_position_or_empty : answer (flwor (for_or_empty_at x x one ∷ []) one) ≡ Some XQST0089
+same_position_or_empty = refl
+
+-- for $x in 1 count $y return $y
+counted : answer (flwor (for_in x one ∷ count_as y ∷ []) (var y)) ≡ None
+counted = refl
+
+-- (for $x in 1 count $y return 1), $y
+number_is_gone_after_return : answer (both (flwor (for_in x one ∷ count_as y ∷ []) one) (var y)) ≡ Some XPST0008
+number_is_gone_after_return = refl
+
+-- for $x in 1 count $y group by $y return $y
+grouped_by_number : answer (flwor (for_in x one ∷ count_as y ∷ group_by (spec y ∷ []) ∷ []) (var y)) ≡ None
+grouped_by_number = refl
+
+-- for $x in 1 count $p:y return 1
+prefixed_number : answer (flwor (for_in x one ∷ clause_binding (Clause-F.Count (prefixed (codes "p") y)) ∷ []) one) ≡ Some ProfPrefix
+prefixed_number = refl
 
 -- ---- grouping variables
 

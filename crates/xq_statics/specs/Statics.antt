@@ -1,6 +1,6 @@
 -- The places of an expression in the order of its text, and what is in scope at each (XQuery 3.1,
--- 2.1.1, 3.1.2, 3.12, 3.16).
-use Rattle.std.specs.Prelude.{List, [], ◌∷◌, ◌++◌, map, length, Option, Some, None}
+-- 2.1.1, 3.1.2, 3.12, 3.16, 3.20).
+use Rattle.std.specs.Prelude.{◌+◌, List, [], ◌∷◌, ◌++◌, map, length, Option, Some, None}
 use Rattle.xq_atoms.specs.declared.refusals.Code.{Code}
 use Rattle.xq_atoms.specs.Text.{Text}
 use Rattle.xq_expressions.specs.declared.names.QName.{QName}
@@ -31,6 +31,10 @@ each (part ∷ parts) names = part names ++ each parts names
 -- the same, of parts with an operator at each, which has no places
 abbrev pub with_operators : {A : Type 0} → List (A × Places) → Places
 with_operators operands = each (map (λ operand. operand.1) operands)
+
+-- a call after `=>`: one argument stands before the arrow, and the others in the call
+abbrev pub arrow_call : QName → List Places → Places
+arrow_call name arguments = λ names. call name (length arguments + 1) ∷ each arguments names
 
 -- ---- what binds variables: clauses, and the bindings in them
 
@@ -80,12 +84,16 @@ abbrev pub position_names : Option QName → List Text
 position_names None = []
 position_names (Some at) = at.local ∷ []
 
--- `$v at $p in E`
+-- `$v at $p in E`, with `allowing empty` or without
 abbrev pub ranging : QName → Option QName → Places → Binding
 ranging name at part = record {
   places = λ names bound. named name ∷ position_places name at ++ part names;
   binds = name.local ∷ position_names at;
 }
+
+-- `count $v`
+abbrev pub counting : QName → Binding
+counting name = record { places = λ names bound. named name ∷ []; binds = name.local ∷ [] }
 
 -- `$v` as a grouping variable: it stays bound
 abbrev pub grouped_by : QName → Binding
@@ -128,6 +136,9 @@ form_places (Expr-F.Product first more) = after first (with_operators more)
 form_places (Expr-F.Union parts) = each parts
 form_places (Expr-F.SetOperation first more) = after first (with_operators more)
 form_places (Expr-F.Unary signs part) = part
+form_places (Expr-F.Arrow first calls) = after first
+    (each (map (λ c. arrow_call c.0 c.1) calls))
+form_places (Expr-F.Map first more) = after first (each more)
 form_places Expr-F.Root = λ names. []
 form_places (Expr-F.Path start first more) = after first (with_operators more)
 form_places (Expr-F.Int value) = λ names. []
@@ -147,11 +158,12 @@ name_places (ConstructorName-F.Computed part) = part
 
 -- XQuery 3.1, 3.12: the places of each clause of a FLWOR, and what it binds
 abbrev pub clause_binding : Layer Clause-F → Binding
-clause_binding (Clause-F.For bindings) = in_turn (map (λ b. ranging b.0 b.1 b.2) bindings)
+clause_binding (Clause-F.For bindings) = in_turn (map (λ b. ranging b.0 b.2 b.3) bindings)
 clause_binding (Clause-F.Let bindings) = in_turn (map (λ b. assigned b.0 b.1) bindings)
 clause_binding (Clause-F.Filter part) = binds_nothing part
 clause_binding (Clause-F.Group specs) = in_turn specs
 clause_binding (Clause-F.Order specs) = binds_nothing (each (map (λ s. s.0) specs))
+clause_binding (Clause-F.Count name) = counting name
 
 -- XQuery 3.1, 3.12.7: a grouping variable, alone or bound by `:=`
 abbrev pub group_binding : Layer GroupSpec-F → Binding

@@ -1,15 +1,16 @@
 //! The walk over an expression, in the order of its text.
 ghost use Rattle.std.specs.Prelude.{◌≡◌, ◌≤◌, ◌++◌, ℕ, List, length, drop, map, OnOk};
 ghost use Rattle.xq_statics.specs.Gives.{Judges};
-ghost use Rattle.xq_statics.specs.Statics.{places, each, in_turn, assigned, ranging};
+ghost use Rattle.xq_statics.specs.Statics.{places, each, in_turn, assigned, counting, ranging};
 ghost use Rattle.xq_statics.specs.private.Parts as parts;
 ghost use Rattle.xq_statics.specs.private.Parts.{fault, binding_fault};
 
 use crate::names::{axis, call, grouping, name, position, variable};
+use sqlite_items::Items;
 use xq_atoms::Fault;
 use xq_expressions::{
-    Clause, ConstructorName, Expr, GroupSpec, OrderModifier, ProductOperator, QName, Scope,
-    Separator, SetOperator, Sign, Step,
+    AllowingEmpty, Clause, ConstructorName, Expr, GroupSpec, OrderModifier, ProductOperator, QName,
+    Scope, Separator, SetOperator, Sign, Step,
 };
 
 /// The places of an expression.
@@ -47,8 +48,16 @@ pub fn expression<'a>(scope: &mut Scope<'a>, expr: &'a Expr) -> Result<(), Fault
             expression(scope, first.get())?;
             set_operands(scope, more.as_slice())
         }
+        Expr::Arrow(first, calls) => {
+            expression(scope, first.get())?;
+            arrow_calls(scope, calls.as_slice())
+        }
+        Expr::Map(first, more) => {
+            expression(scope, first.get())?;
+            expressions(scope, more.as_slice())
+        }
         Expr::Path(_, first, more) => {
-            step(scope, first)?;
+            step(scope, first.get())?;
             steps(scope, more.as_slice())
         }
         Expr::If(condition, positive, negative) => {
@@ -125,6 +134,20 @@ fn set_operands<'a>(scope: &mut Scope<'a>, operands: &'a [(SetOperator, Expr)]) 
     Ok(())
 }
 
+/// The places of the calls after each `=>`, which have one argument more than stand in them.
+#[cycle(walk)]
+fn arrow_calls<'a>(scope: &mut Scope<'a>, calls: &'a [(QName, Items<Expr>)]) -> Result<(), Fault>
+    ensures judged { Judges result (fault (parts.arrow_calls calls.now) scope.old) }
+    ensures kept { OnOk result (scope.new ≡ scope.old) }
+{
+    for (name, arguments) in calls {
+        let arguments = arguments.as_slice();
+        call(name, arguments.len() + 1)?;
+        expressions(scope, arguments)?;
+    }
+    Ok(())
+}
+
 /// The places of the steps of a path after the first.
 #[cycle(walk)]
 fn steps<'a>(scope: &mut Scope<'a>, steps: &'a [(Separator, Step)]) -> Result<(), Fault>
@@ -196,6 +219,7 @@ fn clause<'a>(scope: &mut Scope<'a>, start: usize, clause: &'a Clause) -> Result
         Clause::Filter(condition) => expression(scope, condition),
         Clause::Group(specs) => group_specs(scope, start, specs.as_slice()),
         Clause::Order(specs) => keys(scope, specs.as_slice()),
+        Clause::Count(variable) => count(scope, variable),
     }
 }
 
@@ -229,13 +253,13 @@ fn assignment<'a>(scope: &mut Scope<'a>, variable: &'a QName, value: &'a Expr) -
 #[cycle(walk)]
 fn ranges<'a>(
     scope: &mut Scope<'a>,
-    bindings: &'a [(QName, Option<QName>, Expr)],
+    bindings: &'a [(QName, AllowingEmpty, Option<QName>, Expr)],
 ) -> Result<(), Fault>
     ensures judged { (before : List (List ℕ)) → Judges result
         (binding_fault (parts.ranges bindings.now) scope.old before) }
     ensures bound { OnOk result (scope.new ≡ scope.old ++ (parts.ranges bindings.now).binds) }
 {
-    for (variable, at, sequence) in bindings {
+    for (variable, _, at, sequence) in bindings {
         range(scope, variable, at, sequence)?;
     }
     Ok(())
@@ -293,6 +317,17 @@ fn group_spec<'a>(scope: &mut Scope<'a>, start: usize, spec: &'a GroupSpec) -> R
         GroupSpec::Variable(variable) => grouping(scope, start, variable),
         GroupSpec::Assigned(variable, value) => assignment(scope, variable, value),
     }
+}
+
+/// The place of the variable of `count`, which is in scope after it.
+fn count<'a>(scope: &mut Scope<'a>, variable: &'a QName) -> Result<(), Fault>
+    ensures judged { (before : List (List ℕ)) → Judges result
+        (binding_fault (counting variable.now) scope.old before) }
+    ensures bound { OnOk result (scope.new ≡ scope.old ++ (counting variable.now).binds) }
+{
+    name(variable)?;
+    let number = variable.local.as_str();
+    Ok(scope.bind(number)?)
 }
 
 /// The places of the keys of `order by`.

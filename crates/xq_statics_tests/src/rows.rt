@@ -28,6 +28,17 @@ fn first_fault_in_text_order_answers(rt: HostRuntime) {
         ("a[$q]/p:b", Code::XPST0008),
         ("if ($q) then p:b else 1", Code::XPST0008),
         ("for $p:x in $q return 1", Code::ProfPrefix),
+        ("$q => position()", Code::XPST0008),
+        ("1 => position($q)", Code::XPST0017),
+        ("1 => my:f($q)", Code::ProfPrefix),
+        ("1 => concat($q) => position()", Code::XPST0008),
+        ("$q ! my:f()", Code::XPST0008),
+        ("1 ! $q", Code::XPST0008),
+        ("for $x allowing empty at $x in $q return 1", Code::XQST0089),
+        (
+            "for $x in 1 count $p:c group by $q return 1",
+            Code::ProfPrefix,
+        ),
     ];
     for (text, code) in rows {
         assert_eq!(rt;
@@ -61,6 +72,9 @@ fn variables_are_in_scope(rt: HostRuntime) {
             Code::XPST0008,
         ),
         ("for $x at $x in 1 return $x", Code::XQST0089),
+        ("for $x allowing empty in $x return 1", Code::XPST0008),
+        ("(for $x in 1 count $c return $c), $c", Code::XPST0008),
+        ("for $x in $c count $c return 1", Code::XPST0008),
     ];
     for (text, code) in rows {
         assert_eq!(rt;
@@ -71,6 +85,9 @@ fn variables_are_in_scope(rt: HostRuntime) {
     }
     let passed = [
         "for $x at $p in (1, 2) return ($x, $p)",
+        "for $x allowing empty at $p in () return ($x, $p)",
+        "for $x in 1 count $c where $c order by $c count $c return ($x, $c)",
+        "for $x in 1 count $x return $x ! ($x, .)",
         "let $x := 1, $y := $x, $x := $y return $x",
         "some $x in 1, $y in $x satisfies $x = $y",
         "let $x := 1 return (let $x := $x return $x, $x)",
@@ -112,6 +129,7 @@ fn grouping_variables_are_bound_by_their_own_flwor(rt: HostRuntime) {
     }
     let passed = [
         "for $x in 1 group by $x return $x",
+        "for $x in 1 count $c group by $c return $c",
         "for $x at $p in 1 let $y := $x group by $y, $p return ($x, $y, $p)",
         "for $x in 1 group by $k := $x, $l := $k, $k return ($k, $l)",
         "let $y := 1 return for $y in 2 group by $y return $y",
@@ -141,6 +159,14 @@ fn calls_are_of_the_library(rt: HostRuntime) {
         ("fn:count(1, 2)", Code::XPST0017),
         ("my:f()", Code::ProfPrefix),
         ("my:count(1)", Code::ProfPrefix),
+        ("1 => count(2)", Code::XPST0017),
+        ("1 => true()", Code::XPST0017),
+        ("1 => concat()", Code::XPST0017),
+        ("1 => substring(2, 3, 4)", Code::XPST0017),
+        ("1 => abs() => abs(2)", Code::XPST0017),
+        ("1 => xs:integer(2)", Code::XPST0017),
+        ("1 => xs:double()", Code::ProfType),
+        ("1 => my:f()", Code::ProfPrefix),
     ];
     for (text, code) in rows {
         assert_eq!(rt;
@@ -154,6 +180,8 @@ fn calls_are_of_the_library(rt: HostRuntime) {
         "concat(1, 2, 3, 4, 5, 6), fn:concat(1, 2)",
         "substring(1, 2), substring(1, 2, 3)",
         "string(), string(1), position(), true(), root(), distinct-values(1)",
+        "1 => count() => fn:abs() => xs:string() => concat(2, 3) => string()",
+        "1 => substring(2), 1 => substring(2, 3), 1 => distinct-values()",
     ];
     for text in passed {
         assert_eq!(rt; outcome_of(rt.alloc(), text), Ok(()), "{text}");

@@ -4,7 +4,7 @@ use std::alloc::{AllocError, Global};
 use std::process::Abort;
 use xq_atoms::Want;
 use xq_regions::{Fragment, Kind, NodeRow};
-use xq_sources::{Fragments, RowLender};
+use xq_sources::{Fragments, RowLender, RowSource};
 
 /// Adds an element of this level.
 fn push(alloc: Global, rows: &mut Vec<NodeRow>, level: u32) -> Result<(), AllocError> {
@@ -58,8 +58,8 @@ fn tells_parents_in(rt: &impl Abort, alloc: Global, rows: Vec<NodeRow>) -> Resul
     let mut fragments = Fragments::new(alloc);
     fragments.push(tree)?;
     for node in 0..count {
-        let above = fragments.above(alloc, 0, node)?;
-        assert_eq!(rt; fragments.parent(0, node), above.last().copied());
+        let above = fragments.enclosing(alloc, 0, node)?;
+        assert_eq!(rt; fragments.parent(0, node), above.last().map(|row| row.pre));
     }
     assert_eq!(rt; fragments.parent(0, count), None);
     assert_eq!(rt; fragments.parent(1, 0), None);

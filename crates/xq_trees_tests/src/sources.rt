@@ -3,7 +3,7 @@
 use std::alloc::Global;
 use std::process::Abort;
 use xq_atoms::Want;
-use xq_samples::readings::{both, wrong_gift, wrong_loan};
+use xq_samples::readings::{both, wrong_above, wrong_gift, wrong_loan};
 use xq_sources::{Buffered, RowLender, TreeSource};
 
 /// Asserts that the lender lends and counts the rows of both documents.
@@ -18,6 +18,7 @@ fn fragments_give_their_rows(rt: HostRuntime) -> Result<(), Want> {
     let mut fragments = both(rt.alloc())?;
     assert_eq!(rt; fragments.trees(), 2);
     assert_eq!(rt; wrong_gift(rt.alloc(), &mut fragments)?, None);
+    assert_eq!(rt; wrong_above(rt.alloc(), &mut fragments)?, None);
     Ok(())
 }
 

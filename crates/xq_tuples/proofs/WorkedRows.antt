@@ -2,7 +2,7 @@
 use Rattle.std.specs.Prelude.{◌≡◌, refl, ℕ, ◌*◌, List, [], ◌∷◌, map, pos, true, false, Ok, Err, codes}
 use Rattle.xq_atoms.specs.declared.refusals.Code.TheVariants.{XPTY0004}
 use Rattle.xq_atoms.specs.Atom.{Atomic, Integer, Decimal, String, Untyped}
-use Rattle.xq_regions.specs.Tuples.{Tuple, OrderRule, value_at, bound, satisfying, expanded, grouped, ordered}
+use Rattle.xq_regions.specs.Tuples.{Tuple, OrderRule, value_at, bound, satisfying, expanded, numbered, grouped, ordered}
 use Rattle.xq_regions.specs.Items.{ItemView, Value}
 
 abbrev int : ℕ → Atomic
@@ -27,20 +27,31 @@ abbrev descending : List OrderRule
 descending = record { descending = true; greatest = false } ∷ []
 
 -- for $n at $p in (7, 8)
-abbrev numbered : List (Tuple ItemView)
-numbered = (one (int 7) ∷ one (int 1) ∷ []) ∷ (one (int 8) ∷ one (int 2) ∷ []) ∷ []
+abbrev counted : List (Tuple ItemView)
+counted = (one (int 7) ∷ one (int 1) ∷ []) ∷ (one (int 8) ∷ one (int 2) ∷ []) ∷ []
 
 -- and let $x := "x"
 abbrev two : List (Tuple ItemView)
 two = (one (int 7) ∷ one (int 1) ∷ one x ∷ []) ∷ (one (int 8) ∷ one (int 2) ∷ one x ∷ []) ∷ []
 
-expand_row : expanded Value false true ([] ∷ []) ((Value (int 7) ∷ Value (int 8) ∷ []) ∷ []) ≡ numbered
+expand_row : expanded Value false true ([] ∷ []) ((Value (int 7) ∷ Value (int 8) ∷ []) ∷ []) ≡ counted
 expand_row = refl
 
-column_row : map (value_at 1) numbered ≡ one (int 1) ∷ one (int 2) ∷ []
+-- for $n allowing empty at $p in (), and in (7, 8)
+expand_empty_row : expanded Value true true ([] ∷ []) ([] ∷ []) ≡ ([] ∷ one (int 0) ∷ []) ∷ []
+expand_empty_row = refl
+
+expand_items_row : expanded Value true true ([] ∷ []) ((Value (int 7) ∷ Value (int 8) ∷ []) ∷ []) ≡ counted
+expand_items_row = refl
+
+-- for $n in (7, 8) count $c
+number_row : numbered Value ((one (int 7) ∷ []) ∷ (one (int 8) ∷ []) ∷ []) ≡ counted
+number_row = refl
+
+column_row : map (value_at 1) counted ≡ one (int 1) ∷ one (int 2) ∷ []
 column_row = refl
 
-bind_row : bound numbered (one x ∷ one x ∷ []) ≡ two
+bind_row : bound counted (one x ∷ one x ∷ []) ≡ two
 bind_row = refl
 
 keep_row : satisfying two (false ∷ true ∷ []) ≡ (one (int 8) ∷ one (int 2) ∷ one x ∷ []) ∷ []

@@ -1,6 +1,6 @@
 //! The stream of tuples, and the clauses that make one stream of another.
-ghost use Rattle.std.specs.Prelude.{◌≡◌, ◌<◌, [], ◌∷◌, length, map, slice_index_or, All, IsTrue, ◌↔◌, IfOk, IfErr, Ok, false};
-ghost use Rattle.xq_regions.specs.Tuples.{bound, expanded, grouped, satisfying, ordered, value_at};
+ghost use Rattle.std.specs.Prelude.{◌≡◌, ◌<◌, [], ◌∷◌, length, map, slice_index_or, All, IsTrue, ◌↔◌, IfOk, IfErr, Ok, false, true};
+ghost use Rattle.xq_regions.specs.Tuples.{bound, expanded, grouped, numbered, satisfying, ordered, value_at};
 ghost use Rattle.xq_tuples.specs.Keys.{columns_of};
 ghost use Rattle.xq_atoms.specs.Answers.{IsRefusal};
 ghost use Rattle.xq_tuples.specs.Orders.{rule_of};
@@ -11,7 +11,7 @@ use crate::groups::{gather, joined};
 use crate::keys::{key_columns, key_rows};
 use crate::order::{sort_columns, sorted};
 use crate::rows::OrderSpec;
-use crate::values::{Tuple, push_copies, push_each};
+use crate::values::{Tuple, position_value, push_copies, push_each, push_each_or_empty};
 use std::alloc::Global;
 use std::marker::Model;
 use std::rc::Rc;
@@ -108,6 +108,37 @@ impl Tuples {
         let mut tuples = Vec::new(alloc);
         for (tuple, items) in self.tuples.into_iter().zip(lists) {
             push_each(alloc, &mut tuples, &tuple, items, at)?;
+        }
+        Ok(Tuples { alloc, tuples })
+    }
+
+    /// `for` that allows the empty sequence: as [`Tuples::expand`], and where the list at a tuple's
+    /// place is empty, the tuple stands once, with a slot that holds the empty sequence, and where
+    /// `at` asks for it another that holds 0.
+    pub fn expand_empty(self, lists: Vec<Items>, at: bool) -> Result<Tuples, Want>
+        requires { length lists.items ≡ length self }
+        ensures stream { IfOk result (λ stream. stream
+            ≡ expanded AtomView true at self (map item_views lists.items)) }
+        ensures want { IfErr result (λ want. want ≡ Want.Memory) }
+    {
+        let alloc = self.alloc;
+        let mut tuples = Vec::new(alloc);
+        for (tuple, items) in self.tuples.into_iter().zip(lists) {
+            push_each_or_empty(alloc, &mut tuples, &tuple, items, at)?;
+        }
+        Ok(Tuples { alloc, tuples })
+    }
+
+    /// `count`: the stream where each tuple has one slot more, with the tuple's number from 1.
+    pub fn number(self) -> Result<Tuples, Want>
+        ensures stream { IfOk result (λ stream. stream ≡ numbered AtomView self) }
+        ensures want { IfErr result (λ want. want ≡ Want.Memory) }
+    {
+        let alloc = self.alloc;
+        let mut tuples = Vec::new(alloc);
+        for (index, mut tuple) in self.tuples.into_iter().enumerate() {
+            tuple.push(position_value(alloc, index + 1)?)?;
+            tuples.push(tuple)?;
         }
         Ok(Tuples { alloc, tuples })
     }

@@ -1,6 +1,7 @@
 //! Values of slots: copies, and the values that a `for` clause adds to a tuple.
-ghost use Rattle.std.specs.Prelude.{◌≡◌, ◌<◌, ◌^◌, [], ◌∷◌, ◌++◌, map, IfOk, IfErr, OnOk};
-ghost use Rattle.xq_regions.specs.Tuples.{item_values, with_each};
+ghost use Rattle.std.specs.Prelude.{◌≡◌, ◌<◌, ◌^◌, [], ◌∷◌, ◌++◌, map, pos, IfOk, IfErr, OnOk};
+ghost use Rattle.xq_atoms.specs.Atom.{Integer};
+ghost use Rattle.xq_regions.specs.Tuples.{empty_values, item_values, with_each, with_each_or_empty};
 ghost use Rattle.xq_regions.specs.Items.{Value as AtomView, item_view, item_views};
 ghost use Rattle.xq_tuples.specs.Views.{values_of, tuple_of};
 
@@ -35,6 +36,30 @@ pub fn single(alloc: Global, item: Item) -> Result<Rc<Items>, Want>
     Ok(Rc::new(alloc, items)?)
 }
 
+/// The value of a position, one integer.
+pub fn position_value(alloc: Global, position: usize) -> Result<Rc<Items>, Want>
+    requires { position < 2 ^ 63 }
+    ensures value { IfOk result (λ value.
+        item_views value.value ≡ AtomView (Integer (pos position)) ∷ []) }
+    ensures want { IfErr result (λ want. want ≡ Want.Memory) }
+{
+    single(alloc, Item::Atom(Atom::Int(position as i64)))
+}
+
+/// The tuple with the empty sequence, and with 0 for its position where `at` asks for it.
+fn with_empty(alloc: Global, tuple: &[Rc<Items>], at: bool) -> Result<Tuple, Want>
+    ensures tuple { IfOk result (λ longer.
+        tuple_of longer ≡ values_of tuple.now ++ empty_values AtomView at) }
+    ensures want { IfErr result (λ want. want ≡ Want.Memory) }
+{
+    let mut extended = tuple.to_vec(alloc)?;
+    extended.push(Rc::new(alloc, Vec::new(alloc))?)?;
+    if at {
+        extended.push(position_value(alloc, 0)?)?;
+    }
+    Ok(extended)
+}
+
 /// The tuple with the item, and with its position where `at` asks for it.
 fn with_item(
     alloc: Global,
@@ -52,7 +77,7 @@ fn with_item(
     let mut longer = tuple.to_vec(alloc)?;
     longer.push(single(alloc, item)?)?;
     if at {
-        longer.push(single(alloc, Item::Atom(Atom::Int(position as i64)))?)?;
+        longer.push(position_value(alloc, position)?)?;
     }
     Ok(longer)
 }
@@ -74,4 +99,25 @@ pub fn push_each(
         tuples.push(with_item(alloc, tuple, item, index + 1, at)?)?;
     }
     Ok(())
+}
+
+/// As [`push_each`], and where there is no item, the tuple once with the empty sequence.
+pub fn push_each_or_empty(
+    alloc: Global,
+    tuples: &mut Vec<Tuple>,
+    tuple: &[Rc<Items>],
+    items: Items,
+    at: bool,
+) -> Result<(), Want>
+    ensures tuples { OnOk result (map tuple_of tuples.new.items
+        ≡ map tuple_of tuples.old.items
+        ++ with_each_or_empty AtomView at (values_of tuple.now) (item_views items)) }
+    ensures want { IfErr result (λ want. want ≡ Want.Memory) }
+{
+    if items.is_empty() {
+        tuples.push(with_empty(alloc, tuple, at)?)?;
+        Ok(())
+    } else {
+        push_each(alloc, tuples, tuple, items, at)
+    }
 }

@@ -90,6 +90,20 @@ fn for_each(rt: &impl Abort, alloc: Global, samples: &[Sample], at: bool) -> Res
     Ok(stream.expand(lists, at)?)
 }
 
+/// `for` that allows the empty sequence, as the first clause.
+fn for_each_or_empty(
+    rt: &impl Abort,
+    alloc: Global,
+    samples: &[Sample],
+    at: bool,
+) -> Result<Tuples, Fault> {
+    let stream = Tuples::one(alloc)?;
+    let mut lists = Vec::new(alloc);
+    lists.push(items(alloc, samples)?)?;
+    assert_eq!(rt; lists.len(), stream.len());
+    Ok(stream.expand_empty(lists, at)?)
+}
+
 /// `let`, where each tuple's value is one sample.
 fn bind(
     rt: &impl Abort,
@@ -194,6 +208,30 @@ fn expands_binds_and_keeps(rt: &impl Abort, alloc: Global) -> Result<(), Fault> 
     Ok(())
 }
 
+/// The tuple that `for` allowing empty makes of no item, and of two.
+fn expands_the_empty_sequence(rt: &impl Abort, alloc: Global) -> Result<(), Fault> {
+    let stream = for_each_or_empty(rt, alloc, &[], true)?;
+    assert_eq!(rt; stream.len(), 1);
+    assert_eq!(rt; counts(rt, alloc, &stream, 0)?.as_str(), "0");
+    assert_eq!(rt; returned(rt, alloc, &stream, 1)?.as_str(), "0");
+    let stream = for_each_or_empty(rt, alloc, &[], false)?;
+    assert_eq!(rt; counts(rt, alloc, &stream, 0)?.as_str(), "0");
+    assert!(rt; !stream.has_slot(1));
+    let stream = for_each_or_empty(rt, alloc, &[Sample::Int(7), Sample::Int(8)], true)?;
+    assert_eq!(rt; returned(rt, alloc, &stream, 0)?.as_str(), "7, 8");
+    assert_eq!(rt; returned(rt, alloc, &stream, 1)?.as_str(), "1, 2");
+    Ok(())
+}
+
+fn numbers(rt: &impl Abort, alloc: Global) -> Result<(), Fault> {
+    let stream = two(rt, alloc)?.number()?;
+    assert_eq!(rt; returned(rt, alloc, &stream, 0)?.as_str(), "7, 8");
+    assert_eq!(rt; returned(rt, alloc, &stream, 3)?.as_str(), "1, 2");
+    let stream = for_each(rt, alloc, &[], false)?.number()?;
+    assert_eq!(rt; stream.len(), 0);
+    Ok(())
+}
+
 fn groups(rt: &impl Abort, alloc: Global) -> Result<(), Fault> {
     let keys = column(alloc, &[Sample::Str("x"), Sample::Str("x")])?;
     let grouped = group(rt, alloc, two(rt, alloc)?, 2, keys)?;
@@ -266,6 +304,8 @@ fn worked_first_keys(rt: &impl Abort, alloc: Global) -> Result<(), Fault> {
 /// The rows of the calls, and then the clauses of worked queries.
 fn all_rows(rt: &impl Abort, alloc: Global) -> Result<(), Fault> {
     expands_binds_and_keeps(rt, alloc)?;
+    expands_the_empty_sequence(rt, alloc)?;
+    numbers(rt, alloc)?;
     groups(rt, alloc)?;
     orders(rt, alloc)?;
     worked_orders(rt, alloc)?;

@@ -1,4 +1,4 @@
-use Rattle.std.proofs.Common.{rules, ◌≡◌, ◌++◌, ◌+◌, List, [], ◌∷◌, map, subst, sym, ap, ◌∙◌, Ok, Err, arith, length, suc, add-one, refl, Bool, true, false, ◌<◌, ◌≤◌, ◌^◌, take, drop, not, Some}
+use Rattle.std.proofs.Common.{rules, ◌≡◌, ◌++◌, ◌+◌, ◌*◌, List, [], ◌∷◌, map, subst, sym, ap, ◌∙◌, Ok, Err, arith, length, suc, add-one, refl, Bool, true, false, ◌<◌, ◌≤◌, ◌^◌, take, drop, not, Some}
 use Rattle.std.specs.Global.{Vec, Global}
 use Rattle.std.proofs.lemmas.List.{map-append, drop_all, length-map, length-append, append-nil}
 use Rattle.xq_forms.specs.declared.frames.Frame.{Frame as Held}
@@ -6,7 +6,7 @@ use Rattle.std.proofs.lemmas.List.Folds.{flat_map-map}
 use Rattle.xq_atoms.specs.Atom.{Atomic}
 use Rattle.xq_atoms.specs.declared.refusals.Code.TheVariants.{XPTY0019}
 use Rattle.xq_atoms.specs.declared.refusals.Fault.TheVariants.{Code as OfCode}
-use Rattle.xq_regions.specs.Tuples.{Tuple, expanded, bound, satisfying}
+use Rattle.xq_regions.specs.Tuples.{Tuple, expanded, numbered, bound, satisfying}
 use Rattle.xq_regions.specs.Items.{ItemView, Value, item_view, item_views}
 use Rattle.xq_tuples.specs.Views.{values_of}
 use Rattle.xq_meaning.specs.Items.{Item, Atom, atomized}
@@ -18,17 +18,20 @@ use Rattle.xq_meaning.specs.Readings.{item_at, items_at, IsIn, AreIn}
 use Rattle.xq_meaning.specs.declared.plans.Plan.{Plan, size-Plan}
 use Rattle.xq_meaning.specs.declared.plans.Plan.TheVariants as plan
 use Rattle.xq_meaning.specs.declared.plans.Plan.TheViews.{sized-Quantified}
-use denote.Param.Weighed.{at_most}
+use denote.Param.Weighed.{most, at_most}
+use Prim.Native.Nat.{max}
+use Rattle.xq_expressions.specs.declared.signatures.Function.{Function}
 use Rattle.xq_meaning.specs.declared.plans.PlanClause.{PlanClause}
 use Rattle.xq_meaning.specs.Doing.{◌>>=◌, go_on, give, judged, on_trees, collected, in_turn, more, one_more, for_each, first_that}
 use Rattle.xq_meaning.specs.PlanMeaning.{Frame, Meaning, plan_mean, plan_clause_mean, plan_step_mean, at_tuple, next_clause, next_step}
-use Rattle.xq_meaning.proofs.PlanEquations.{plan-Root, plan-Step, plan-Named, plan-Unnamed, plan-Call, plan-Quantified, clause-Group, clause-Order, clause-Refused, step-Scan, plan-Dec, plan-Slot, plan-ContextItem, plan-Sequence, plan-Chain, plan-Unary, plan-If, plan-Or, plan-And, plan-Filter, plan-Path, plan-Flwor, step-Each, clause-For, clause-Let, clause-Where}
+use Rattle.xq_meaning.proofs.PlanEquations.{plan-Root, plan-Step, plan-Named, plan-Unnamed, plan-Call, plan-Quantified, clause-Group, clause-Order, clause-Refused, step-Scan, plan-Dec, plan-Slot, plan-ContextItem, plan-Sequence, plan-Chain, plan-Unary, plan-If, plan-Or, plan-And, plan-Filter, plan-Path, plan-Flwor, step-Each, clause-For, clause-Let, clause-Where, clause-Count, plan-Arrow, plan-Map}
+use Rattle.xq_meaning.proofs.Turns.{begun_then}
 use Rattle.xq_forms.specs.Views.{order_specs, calling, ordering, on_axis, after_double_slash, parents_below, plant_named, plant_unnamed, tuple_at, tuples_at, lists_of, spot_at, forget, frame_at, TupleIn, TuplesIn, GivesSequence, GivesTuples, FrameIn}
 use Rattle.xq_eval.specs.private.Results.{GivesKeys, GivesRows, GivesLists, GivesTests, GivesPlain}
 use Rattle.xq_forms.proofs.Growth.{extends_more, stays, value_in, frame_grown, frame_in_grown, items_grown, are_in_grown, item_at_grown, in_grown, tuple_grown, tuple_in_grown, tuples_grown, tuples_in_grown, goes_on_to}
 use Rattle.xq_regions.specs.declared.Axis.TheVariants.{Child}
 use Rattle.xq_meaning.specs.declared.plans.PlanStep.TheVariants as plan_step
-use Rattle.xq_eval.proofs.Loops.{left_over, left_from, two_left, none_taken, one_taken, turns_same, turns_two, turns_from, turns_stop_two, turns_next, turns_stop, turns_end, tries_next, tries_found, tries_stop, handed_on, stops, cut}
+use Rattle.xq_eval.proofs.Loops.{got_at, left_over, left_from, two_left, none_taken, one_taken, turns_same, turns_two, turns_from, turns_stop_two, turns_next, turns_stop, turns_end, tries_next, tries_found, tries_stop, handed_on, stops, cut}
 use Rattle.xq_atoms.specs.Text.{Text}
 use Rattle.xq_expressions.specs.declared.operators.OrderModifier.{OrderModifier}
 use Rattle.xq_tuples.specs.Keys.{atomics_of, column_of, columns_of}
@@ -36,14 +39,22 @@ use Rattle.xq_meaning.specs.Content.{name_of}
 use Rattle.xq_eval.specs.private.Keys.{keys_at}
 use Rattle.xq_eval.specs.private.Quantifying.{holds, at_top, turn, resumed, weigh, all_weigh, unless_wanted}
 use Rattle.std.specs.Prelude.{string_bytes, IfSome, if◌then◌else◌}
-use Rattle.xq_eval.proofs.Steps.{double_slash_is, parents_below_is, axis_order_read, axis_order_in, step_is, named_is, same_goes, more_next, tested_ok, tested_err, go_on_stop, list_next, passed_ok, passed_err, kept_read, concat, concat_read, concat_in, flwor_is, spots_left, all_at, element, left_at, frame_inner, frame_inner_in, bound_in, kept_in, expanded_in, slash_ok, slash_err, same_tests, any_tests}
-use Rattle.xq_forms.proofs.Natural.{bound_natural, kept_natural, expanded_natural}
+use Rattle.xq_eval.proofs.Steps.{double_slash_is, parents_below_is, axis_order_read, axis_order_in, step_is, named_is, same_goes, more_next, tested_ok, tested_err, go_on_stop, list_next, passed_ok, passed_err, kept_read, concat, concat_read, concat_in, flwor_is, spots_left, element, left_at, frame_inner, frame_inner_in, bound_in, kept_in, expanded_in, numbered_in, slash_ok, slash_err, same_tests, any_tests}
+use Rattle.xq_forms.proofs.Lists.{all_at}
+use Rattle.xq_forms.proofs.Natural.{bound_natural, kept_natural, expanded_natural, numbered_natural}
 use Rattle.xq_tuples.proofs.Copies.{values_of-clones}
 use Rattle.xq_eval.specs.private.Bindings.{values_left, stack_of, Falls, Moved, MovesOn}
 use Rattle.xq_eval.specs.private.Turns.{GivesTurn, values_found, found_at, FoundIn}
 use Rattle.xq_eval.proofs.QuantifiedTurns.{At, moved_slots, moved_within, moved_lighter, turn_moves, turn_ends, turn_decides, turn_stops, frame_open, frame_open_in, some_found, none_found, turn_value, turn_tested, is_wanted, not_wanted}
 use Rattle.xq_eval.proofs.NextValues.{next_left}
 use Rattle.xq_meaning.specs.Forms as Forms
+use Rattle.std.specs.List.{AllByRecursion}
+use Rattle.std.proofs.Math.Nat.{mul-le-mul_right}
+use Rattle.xq_meaning.specs.declared.plans.Plan.{out-Plan}
+use Rattle.xq_forms.specs.Reads.{rows_of, AreOf, HasGrown}
+use Rattle.xq_eval.specs.Reads.{rows_at}
+use Rattle.xq_eval.specs.private.Scanning.{IsLiteral, IsScan}
+use Rattle.xq_eval.proofs.DocumentScans.{other_form, literal_scans, call_scans, path_scans, are_scans, not_each, no_each, grown_more, not_grown, grown_from, grown_on, once, literal_value, document_value}
 use Rattle.xq_eval.proofs.+eval.Goals as goal
 
 pub evaluation::evaluate-returns-in-ContextItem-clause-gives : goal.evaluation::evaluate-returns-in-ContextItem-clause-gives
@@ -875,11 +886,12 @@ clauses::next_tuples-returns-in_err-lists-in-For-clause-gives g t c = λ clean i
     let f' = g.W.TreeSource.forest c.values.new.world in
     let e = c.in_err-lists-in-For.field-0.0 in
     let at = c.in-For.at in
-    let meant : plan_clause_mean c.args.clause.now frame (tuples_at f tuples) f ≡ go_on (for_each (λ t. plan_mean c.in-For.part (at_tuple frame t)) (tuples_at f tuples) f) (λ ls. give (expanded Atom false at (tuples_at f tuples) ls)) =
-    ap (λ k. plan_clause_mean k frame (tuples_at f tuples) f) c.in-For.is ∙ ap (λ m. m frame (tuples_at f tuples) f) (clause-For at c.in-For.part) in
+    let allows = Forms.allows c.in-For.empties in
+    let meant : plan_clause_mean c.args.clause.now frame (tuples_at f tuples) f ≡ go_on (for_each (λ t. plan_mean c.in-For.part (at_tuple frame t)) (tuples_at f tuples) f) (λ ls. give (expanded Atom allows at (tuples_at f tuples) ls)) =
+    ap (λ k. plan_clause_mean k frame (tuples_at f tuples) f) c.in-For.is ∙ ap (λ m. m frame (tuples_at f tuples) f) (clause-For c.in-For.empties at c.in-For.part) in
     subst (λ o. GivesTuples o f' c.from_residual.result) (sym meant)
     (handed_on (λ (ts : List (Tuple ItemView)). ts) tuples_at TuplesIn _ f' e c.from_residual.result c.from_residual.ensures.1
-    (go_on_stop lists_of tuple_at TupleIn (λ (ts : List (Tuple ItemView)). ts) tuples_at TuplesIn _ (λ ls. give (expanded Atom false at (tuples_at f tuples) ls)) f' e (c.in_err-lists-in-For.ensures.gives clean inside tuples_in)))
+    (go_on_stop lists_of tuple_at TupleIn (λ (ts : List (Tuple ItemView)). ts) tuples_at TuplesIn _ (λ ls. give (expanded Atom allows at (tuples_at f tuples) ls)) f' e (c.in_err-lists-in-For.ensures.gives clean inside tuples_in)))
 
 pub clauses::next_tuples-returns-in_ok-expand-in-For-clause-gives : goal.clauses::next_tuples-returns-in_ok-expand-in-For-clause-gives
 clauses::next_tuples-returns-in_ok-expand-in-For-clause-gives g t c = λ clean inside tuples_in.
@@ -891,13 +903,14 @@ clauses::next_tuples-returns-in_ok-expand-in-For-clause-gives g t c = λ clean i
     let grows = c.in_ok-lists-in-For.ensures.goes.grows in
     let lists = lists_of c.in_ok-lists-in-For.lists in
     let at = c.in-For.at in
+    let allows = Forms.allows c.in-For.empties in
     let values = c.in_ok-lists-in-For.ensures.gives clean inside tuples_in in
-    let stream : c.in_ok-expand-in-For.field-0 ≡ expanded Value false at tuples lists = c.in_ok-expand-in-For.ensures.stream in
-    let same : tuples_at f' c.in_ok-expand-in-For.field-0 ≡ expanded Atom false at (tuples_at f tuples) (tuple_at f' lists) =
-    ap (tuples_at f') stream ∙ expanded_natural (item_at f') Value Atom (λ a. refl) at tuples lists ∙ ap (λ ts. expanded Atom false at ts (tuple_at f' lists)) (tuples_grown grows tuples tuples_in) in (
-      subst (TuplesIn f') (sym stream) (expanded_in f' at tuples lists (tuples_in_grown grows tuples tuples_in) values.0),
-      ap (λ k. plan_clause_mean k frame (tuples_at f tuples) f) c.in-For.is ∙ ap (λ m. m frame (tuples_at f tuples) f) (clause-For at c.in-For.part)
-          ∙ ap (λ o. go_on o (λ ls. give (expanded Atom false at (tuples_at f tuples) ls))) values.1 ∙ ap (λ ts. (Ok ts, f')) (sym same),
+    let stream : c.in_ok-expand-in-For.field-0 ≡ expanded Value allows at tuples lists = c.in_ok-expand-in-For.ensures.stream in
+    let same : tuples_at f' c.in_ok-expand-in-For.field-0 ≡ expanded Atom allows at (tuples_at f tuples) (tuple_at f' lists) =
+    ap (tuples_at f') stream ∙ expanded_natural (item_at f') Value Atom (λ a. refl) allows at tuples lists ∙ ap (λ ts. expanded Atom allows at ts (tuple_at f' lists)) (tuples_grown grows tuples tuples_in) in (
+      subst (TuplesIn f') (sym stream) (expanded_in f' allows at tuples lists (tuples_in_grown grows tuples tuples_in) values.0),
+      ap (λ k. plan_clause_mean k frame (tuples_at f tuples) f) c.in-For.is ∙ ap (λ m. m frame (tuples_at f tuples) f) (clause-For c.in-For.empties at c.in-For.part)
+          ∙ ap (λ o. go_on o (λ ls. give (expanded Atom allows at (tuples_at f tuples) ls))) values.1 ∙ ap (λ ts. (Ok ts, f')) (sym same),
     )
 
 pub clauses::next_tuples-returns-in_ok-bind-in-Let-clause-gives : goal.clauses::next_tuples-returns-in_ok-bind-in-Let-clause-gives
@@ -1190,6 +1203,10 @@ paths::step_list-loop-index-preserved-then-is_taken g t c =
     record {
       goes = i.goes;
       turns = turns_same _ _ _ _ i.turns (ap (λ n. map plan_step_mean (drop n c.args.steps.now)) (one_taken c.loop-index.is_taken c.loop-index.index c.if-is_taken.true));
+      within = subst (λ n. n ≤ length c.args.steps.now) (one_taken c.loop-index.is_taken c.loop-index.index c.if-is_taken.true) i.within;
+      reads = λ clean all tree h.
+          let w = i.reads clean all tree h in
+          (w.0, subst (λ n. HasGrown (g.W.TreeSource.meter c.args.world.now) (g.W.TreeSource.meter c.loop-index.world) (n * rows_of (g.W.TreeSource.forest c.args.world.now) tree)) (one_taken c.loop-index.is_taken c.loop-index.index c.if-is_taken.true) w.1);
     }
 
 pub paths::step_list-loop-index-preserved-in-Some : goal.paths::step_list-loop-index-preserved-in-Some
@@ -1212,6 +1229,12 @@ paths::step_list-loop-index-preserved-in-Some g t c =
           (λ clean inside is_in.
           let s = c.in_ok-found.ensures.gives clean (subst (AreIn f) (sym d) is_in) in
           (s.0, double_slash_is p q test (frame_at old held) (items_at f left) f (c.is_double_slash.ensures c.if-is_double_slash.true) refl ∙ ap (λ xs. after_double_slash test (items_at f xs) f) (sym d) ∙ s.1));
+      within = (let at = got_at c.args.steps.now (n + 1) q next in omega (arith, at.0));
+      reads = λ clean all tree h.
+          let w = i.reads (c.in_ok-found.ensures.goes.was_clean clean) all tree h in
+          let of = subst (AreOf f tree) (sym d) w.0 in
+          let before = subst (λ k. HasGrown (g.W.TreeSource.meter c.args.world.now) (g.W.TreeSource.meter c.loop-index.world) (k * rows_of old tree)) (none_taken c.loop-index.is_taken n c.if-is_taken.false) w.1 in
+          (c.in_ok-found.ensures.of_tree clean tree of, grown_on old f tree n 2 (n + 1 + 1) i.goes.grows h.has_tree (omega arith) before (c.double_slash.ensures.reads clean tree of));
     }
 
 pub paths::step_list-returns-in_err-found-clause-gives : goal.paths::step_list-returns-in_err-found-clause-gives
@@ -1265,6 +1288,8 @@ paths::step_list-loop-index-preserved-in-Some-chosen_children g t c =
     record {
       goes = goes_on_to i.goes c.in_ok-parents.ensures.goes;
       turns = turns_same _ _ _ _ there (sym (left_from plan_step_mean c.args.steps.now (n + 1) q next) ∙ ap (λ k. map plan_step_mean (drop k c.args.steps.now)) (sym (none_taken c.loop-index.is_taken (n + 1) c.if-is_taken.false)));
+      within = subst (λ k. k ≤ length c.args.steps.now) (sym (none_taken c.loop-index.is_taken (n + 1) c.if-is_taken.false)) (omega arith);
+      reads = λ clean all tree h. absurd (no_each c.args.steps.now (n + 1) (plan.Step Child test some.ensures.0) next all);
     }
 
 pub paths::step_list-returns-in_err-parents-clause-gives : goal.paths::step_list-returns-in_err-parents-clause-gives
@@ -1308,6 +1333,13 @@ paths::step_list-loop-index-preserved g t c =
           (λ clean inside is_in.
           let s = c.in_ok-left.ensures.gives clean (frame_in_grown i.goes.grows held inside.0) is_in in
           (s.0, ap (λ fr. plan_step_mean p fr (items_at f left) f) (sym (frame_grown i.goes.grows held inside.0)) ∙ s.1))) (ap (λ k. map plan_step_mean (drop k c.args.steps.now)) one);
+      within = subst (λ k. k ≤ length c.args.steps.now) one (omega arith);
+      reads = λ clean all tree h.
+          let w = i.reads (c.next_items.ensures.goes.was_clean clean) all tree h in
+          let scan = element IsScan c.args.steps.now c.loop-index.index p p all (omega arith) c.index-steps-index.is in
+          let before = subst (λ k. HasGrown (g.W.TreeSource.meter c.args.world.now) (g.W.TreeSource.meter c.loop-index.world) (k * rows_of old tree)) (none_taken c.loop-index.is_taken c.loop-index.index c.if-is_taken.false) w.1 in
+          let after = grown_on old f tree c.loop-index.index 1 (c.loop-index.index + 1) i.goes.grows h.has_tree (omega arith) before (once (c.next_items.ensures.reads clean scan tree w.0)) in
+          (c.in_ok-left.ensures.of_tree clean scan tree w.0, subst (λ k. HasGrown (g.W.TreeSource.meter c.args.world.now) (g.W.TreeSource.meter c.next_items.new.world) (k * rows_of old tree)) one after);
     }
 
 pub paths::step_list-returns-in_err-left-clause-gives : goal.paths::step_list-returns-in_err-left-clause-gives
@@ -1330,6 +1362,72 @@ paths::step_list-returns-in_err-left-clause-goes g t c = goes_on_to c.loop-index
 
 pub paths::step_list-returns-clause-goes : goal.paths::step_list-returns-clause-goes
 paths::step_list-returns-clause-goes g t c = c.loop-index.invariant.goes
+
+pub paths::step_list-loop-index-init : goal.paths::step_list-loop-index-init
+paths::step_list-loop-index-init g t c = record {
+  goes = stays _ _;
+  turns = record { rest = λ clean p. (p.1, refl) };
+  within = omega arith;
+  reads = λ clean all tree h. (h, not_grown _ _ _ refl);
+}
+
+pub paths::step_list-returns-in_err-found-clause-reads : goal.paths::step_list-returns-in_err-found-clause-reads
+paths::step_list-returns-in_err-found-clause-reads g t c = λ clean all tree h.
+    let i = c.loop-index.invariant in
+    let old = g.W.TreeSource.forest c.args.world.now in
+    let f = g.W.TreeSource.forest c.loop-index.world in
+    let n = c.loop-index.index in
+    let w = i.reads (c.double_slash.ensures.goes.was_clean clean) all tree h in
+    let d : map item_view c.deref.result.now ≡ item_views c.loop-index.left = ap (map item_view) c.deref.ensures.value in
+    let at = got_at c.args.steps.now (n + 1) (plan_step.Scan Child c.in-Some.test.now) (sym c.at-next.ensures ∙ c.in-Some.ensures) in
+    let before = subst (λ k. HasGrown (g.W.TreeSource.meter c.args.world.now) (g.W.TreeSource.meter c.loop-index.world) (k * rows_of old tree)) (none_taken c.loop-index.is_taken n c.if-is_taken.false) w.1 in
+    grown_on old f tree n 2 (length c.args.steps.now) i.goes.grows h.has_tree (omega (arith, at.0)) before (c.double_slash.ensures.reads clean tree (subst (AreOf f tree) (sym d) w.0))
+
+pub paths::step_list-returns-in_err-parents-clause-reads : goal.paths::step_list-returns-in_err-parents-clause-reads
+paths::step_list-returns-in_err-parents-clause-reads g t c = λ clean all tree h.
+    let some = c.in-Some-chosen_children in
+    absurd (no_each c.args.steps.now (c.loop-index.index + 1) (plan.Step Child some.test.now some.ensures.0) (sym c.at-next.ensures ∙ some.ensures.1) all)
+
+pub paths::step_list-returns-in_err-left-clause-reads : goal.paths::step_list-returns-in_err-left-clause-reads
+paths::step_list-returns-in_err-left-clause-reads g t c = λ clean all tree h.
+    let i = c.loop-index.invariant in
+    let old = g.W.TreeSource.forest c.args.world.now in
+    let f = g.W.TreeSource.forest c.loop-index.world in
+    let n = c.loop-index.index in
+    let p = c.index-steps-index.result in
+    let w = i.reads (c.next_items.ensures.goes.was_clean clean) all tree h in
+    let scan = element IsScan c.args.steps.now n p p all (omega arith) c.index-steps-index.is in
+    let before = subst (λ k. HasGrown (g.W.TreeSource.meter c.args.world.now) (g.W.TreeSource.meter c.loop-index.world) (k * rows_of old tree)) (none_taken c.loop-index.is_taken n c.if-is_taken.false) w.1 in
+    grown_on old f tree n 1 (length c.args.steps.now) i.goes.grows h.has_tree (omega arith) before (once (c.next_items.ensures.reads clean scan tree w.0))
+
+pub paths::step_list-returns-clause-reads : goal.paths::step_list-returns-clause-reads
+paths::step_list-returns-clause-reads g t c = λ clean all tree h.
+    let i = c.loop-index.invariant in
+    grown_more (i.reads clean all tree h).1 (mul-le-mul_right (rows_of (g.W.TreeSource.forest c.args.world.now) tree) i.within)
+
+pub paths::next_items-returns-in_err-only_nodes-in-Each-clause-reads : goal.paths::next_items-returns-in_err-only_nodes-in-Each-clause-reads
+paths::next_items-returns-in_err-only_nodes-in-Each-clause-reads g t c = λ clean scan tree h. absurd (not_each c.args.step.now c.in-Each.part c.in-Each.is scan)
+
+pub paths::next_items-returns-in_err-found-in-Each-clause-reads : goal.paths::next_items-returns-in_err-found-in-Each-clause-reads
+paths::next_items-returns-in_err-found-in-Each-clause-reads g t c = λ clean scan tree h. absurd (not_each c.args.step.now c.in-Each.part c.in-Each.is scan)
+
+pub paths::next_items-returns-in-Each-clause-reads : goal.paths::next_items-returns-in-Each-clause-reads
+paths::next_items-returns-in-Each-clause-reads g t c = λ clean scan tree h. absurd (not_each c.args.step.now c.in-Each.part c.in-Each.is scan)
+
+pub paths::next_items-returns-in-Each-clause-of_tree : goal.paths::next_items-returns-in-Each-clause-of_tree
+paths::next_items-returns-in-Each-clause-of_tree g t c = λ clean scan tree h. absurd (not_each c.args.step.now c.in-Each.part c.in-Each.is scan)
+
+pub paths::next_items-returns-clause-reads : goal.paths::next_items-returns-clause-reads
+paths::next_items-returns-clause-reads g t c = λ clean scan tree h.
+    let f = g.W.TreeSource.forest c.args.world.now in
+    let d : map item_view c.deref-in-Scan.result.now ≡ item_views c.args.items = ap (map item_view) c.deref-in-Scan.ensures.value in
+    c.scan.ensures.reads clean tree (subst (AreOf f tree) (sym d) h)
+
+pub paths::next_items-returns-clause-of_tree : goal.paths::next_items-returns-clause-of_tree
+paths::next_items-returns-clause-of_tree g t c = λ clean scan tree h.
+    let f = g.W.TreeSource.forest c.args.world.now in
+    let d : map item_view c.deref-in-Scan.result.now ≡ item_views c.args.items = ap (map item_view) c.deref-in-Scan.ensures.value in
+    c.scan.ensures.of_tree clean tree (subst (AreOf f tree) (sym d) h)
 
 pub paths::step_list-returns-clause-gives : goal.paths::step_list-returns-clause-gives
 paths::step_list-returns-clause-gives g t c = λ clean inside rest_in.
@@ -1719,12 +1817,15 @@ evaluation::arguments-loop-part-preserved g t c =
       goes = goes_on_to i.goes c.next_argument.ensures.goes;
       turns = turns_next _ _ _ (lists_of c.in_ok-lists.lists) (plan_mean part) _ _ i.turns (left_over plan_mean c.args.parts.now c.loop-part.part-index part (omega arith) c.part-item.is) c.next_argument.ensures.goes.was_clean
           (λ clean inside is_in.
-          let s = c.in_ok-lists.ensures.gives clean (frame_in_grown i.goes.grows held inside) is_in in
-          (s.0, ap (λ fr. one_more (λ (m : Meaning). m fr) (tuple_at f (lists_of c.loop-part.lists)) (plan_mean part) f) (sym (frame_grown i.goes.grows held inside)) ∙ s.1));
+          let s = c.in_ok-lists.ensures.gives clean (frame_in_grown i.goes.grows held inside.0) is_in in
+          (s.0, ap (λ fr. one_more (λ (m : Meaning). m fr) (tuple_at f (lists_of c.loop-part.lists)) (plan_mean part) f) (sym (frame_grown i.goes.grows held inside.0)) ∙ s.1));
+      reads = λ clean inside all.
+          c.next_argument.ensures.reads clean (frame_in_grown i.goes.grows held inside) (element IsLiteral c.args.parts.now c.loop-part.part-index part part all (omega arith) c.part-item.is)
+          ∙ i.reads (c.next_argument.ensures.goes.was_clean clean) inside all;
     }
 
 pub evaluation::arguments-returns-in_err-lists-clause-gives : goal.evaluation::arguments-returns-in_err-lists-clause-gives
-evaluation::arguments-returns-in_err-lists-clause-gives g t c = λ clean inside.
+evaluation::arguments-returns-in_err-lists-clause-gives g t c = λ clean inside done_in.
     let i = c.loop-part.invariant in
     let part = c.part-item.result in
     let held = c.args.frame in
@@ -1733,7 +1834,7 @@ evaluation::arguments-returns-in_err-lists-clause-gives g t c = λ clean inside.
     let e = c.in_err-lists.field-0.0 in
     handed_on lists_of tuple_at TupleIn _ f' e c.from_residual.result c.from_residual.ensures.1
     (turns_stop _ _ _ lists_of tuple_at TupleIn (plan_mean part) _ f' e i.turns (left_over plan_mean c.args.parts.now c.loop-part.part-index part (omega arith) c.part-item.is) c.next_argument.ensures.goes.was_clean
-    (λ clean inside is_in. subst (λ fr. GivesLists (one_more (λ (m : Meaning). m fr) (tuple_at f (lists_of c.loop-part.lists)) (plan_mean part) f) f' (Err e)) (frame_grown i.goes.grows held inside) (c.in_err-lists.ensures.gives clean (frame_in_grown i.goes.grows held inside) is_in)) clean inside)
+    (λ clean inside is_in. subst (λ fr. GivesLists (one_more (λ (m : Meaning). m fr) (tuple_at f (lists_of c.loop-part.lists)) (plan_mean part) f) f' (Err e)) (frame_grown i.goes.grows held inside.0) (c.in_err-lists.ensures.gives clean (frame_in_grown i.goes.grows held inside.0) is_in)) clean (inside, done_in))
 
 pub evaluation::arguments-returns-in_err-lists-clause-goes : goal.evaluation::arguments-returns-in_err-lists-clause-goes
 evaluation::arguments-returns-in_err-lists-clause-goes g t c = goes_on_to c.loop-part.invariant.goes c.in_err-lists.ensures.goes
@@ -1741,9 +1842,57 @@ evaluation::arguments-returns-in_err-lists-clause-goes g t c = goes_on_to c.loop
 pub evaluation::arguments-returns-clause-goes : goal.evaluation::arguments-returns-clause-goes
 evaluation::arguments-returns-clause-goes g t c = c.loop-part.invariant.goes
 
+pub evaluation::arguments-loop-part-init : goal.evaluation::arguments-loop-part-init
+evaluation::arguments-loop-part-init g t c = record {
+  goes = stays _ _;
+  turns = record { rest = λ clean p. (p.1, refl) };
+  reads = λ clean inside all. refl;
+}
+
+pub evaluation::arguments-returns-in_err-lists-clause-reads : goal.evaluation::arguments-returns-in_err-lists-clause-reads
+evaluation::arguments-returns-in_err-lists-clause-reads g t c = λ clean inside all.
+    let i = c.loop-part.invariant in
+    let part = c.part-item.result in
+    c.next_argument.ensures.reads clean (frame_in_grown i.goes.grows c.args.frame inside) (element IsLiteral c.args.parts.now c.loop-part.part-index part part all (omega arith) c.part-item.is)
+    ∙ i.reads (c.next_argument.ensures.goes.was_clean clean) inside all
+
+pub evaluation::arguments-returns-clause-reads : goal.evaluation::arguments-returns-clause-reads
+evaluation::arguments-returns-clause-reads g t c = c.loop-part.invariant.reads
+
+pub evaluation::next_argument-returns-in_err-list-clause-reads : goal.evaluation::next_argument-returns-in_err-list-clause-reads
+evaluation::next_argument-returns-in_err-list-clause-reads g t c = λ clean inside literal. (c.evaluate.ensures.reads clean inside).literal literal
+
+pub evaluation::next_argument-returns-in_err-push-clause-reads : goal.evaluation::next_argument-returns-in_err-push-clause-reads
+evaluation::next_argument-returns-in_err-push-clause-reads g t c = λ clean inside literal. (c.evaluate.ensures.reads clean inside).literal literal
+
+pub evaluation::next_argument-returns-clause-reads : goal.evaluation::next_argument-returns-clause-reads
+evaluation::next_argument-returns-clause-reads g t c = λ clean inside literal. (c.evaluate.ensures.reads clean inside).literal literal
+
+pub evaluation::called-returns-in_err-items-clause-reads : goal.evaluation::called-returns-in_err-items-clause-reads
+evaluation::called-returns-in_err-items-clause-reads g t c = λ clean inside doc text is. refl
+
+pub evaluation::called-returns-in-Some-clause-reads : goal.evaluation::called-returns-in-Some-clause-reads
+evaluation::called-returns-in-Some-clause-reads g t c = λ clean inside doc text is. refl
+
+pub evaluation::called-returns-in_err-values-clause-reads : goal.evaluation::called-returns-in_err-values-clause-reads
+evaluation::called-returns-in_err-values-clause-reads g t c = λ clean inside doc text is.
+    c.arguments.ensures.reads clean inside (subst (AllByRecursion IsLiteral) (sym is) ((text, refl), tt))
+
+pub evaluation::called-returns-clause-reads : goal.evaluation::called-returns-clause-reads
+evaluation::called-returns-clause-reads g t c = λ clean inside doc text is.
+    let f = g.W.TreeSource.forest c.args.world.now in
+    let frame = frame_at f c.args.frame in
+    let f' = g.W.TreeSource.forest c.arguments.new.world in
+    let was = c.call.ensures.goes.was_clean clean in
+    let none : lists_of c.new.result ≡ [] = ap (map item_views) c.new.ensures.items in
+    let all = λ (done : Tuple ItemView) (parts : List Plan). in_turn (one_more (λ (part : Meaning). part frame)) (tuple_at f done) (map plan_mean parts) f in
+    let values = c.in_ok-values.ensures.gives was inside (subst (TupleIn f) (sym none) tt) in
+    let one = literal_value frame f f' text (lists_of c.in_ok-values.values) (sym (ap (λ done. all done c.args.parts.now) none ∙ ap (all []) is) ∙ values.1) in
+    c.call.ensures.reads doc one.xs one.is one.all ∙ c.arguments.ensures.reads was inside (subst (AllByRecursion IsLiteral) (sym is) ((text, refl), tt))
+
 pub evaluation::arguments-returns-clause-gives : goal.evaluation::arguments-returns-clause-gives
-evaluation::arguments-returns-clause-gives g t c = λ clean inside.
-    turns_end _ _ _ c.loop-part.invariant.turns (ap (map plan_mean) (drop_all c.loop-part.part-index c.args.parts.now (omega arith))) clean inside
+evaluation::arguments-returns-clause-gives g t c = λ clean inside done_in.
+    turns_end _ _ _ c.loop-part.invariant.turns (ap (map plan_mean) (drop_all c.loop-part.part-index c.args.parts.now (omega arith))) clean (inside, done_in)
 
 pub evaluation::next_argument-returns-clause-gives : goal.evaluation::next_argument-returns-clause-gives
 evaluation::next_argument-returns-clause-gives g t c = λ clean inside done_in.
@@ -2034,7 +2183,10 @@ pub paths::next_items-returns-clause-goes : goal.paths::next_items-returns-claus
 paths::next_items-returns-clause-goes g t c = c.scan.ensures.goes
 
 pub quantified::satisfied-turn-requires : goal.quantified::satisfied-turn-requires
-quantified::satisfied-turn-requires g t c = λ κs live. (omega (arith, c.decreases), (live, c.requires))
+quantified::satisfied-turn-requires g t c = λ κs live.
+    let all : 8 * size-Plan c.args.whole.now + 1 ≡ t = c.decreases in
+    let below : 8 * size-Plan c.args.whole.now < t = omega (arith, all) in
+    (below, (live, c.requires))
 
 pub quantified::turn-evaluate-requires : goal.quantified::turn-evaluate-requires
 quantified::turn-evaluate-requires g t c = λ κs live.
@@ -2043,17 +2195,23 @@ quantified::turn-evaluate-requires g t c = λ κs live.
     let among = at_most size-Plan ranges c.args.opened part (omega arith) in
     let this = ap size-Plan c.index-ranges-opened.is in
     let whole = ap size-Plan c.requires.is ∙ sized-Quantified c.requires.which ranges c.args.test.now in
-    (omega (arith, whole, among, this, c.decreases), live)
+    let all : 8 * size-Plan c.args.whole.now ≡ t = c.decreases in
+    let below : 8 * size-Plan part + 2 < t = omega (arith, all, whole, among, this) in
+    (below, live)
 
 pub quantified::turn-tested-requires : goal.quantified::turn-tested-requires
 quantified::turn-tested-requires g t c = λ κs live.
     let whole = ap size-Plan c.requires.is ∙ sized-Quantified c.requires.which c.args.ranges.now c.args.test.now in
-    (omega (arith, whole, c.decreases), live)
+    let all : 8 * size-Plan c.args.whole.now ≡ t = c.decreases in
+    let below : 8 * size-Plan c.args.test.now + 3 < t = omega (arith, all, whole) in
+    (below, live)
 
 pub evaluation::evaluate-satisfied-requires : goal.evaluation::evaluate-satisfied-requires
 evaluation::evaluate-satisfied-requires g t c = λ κs live.
     let is = c.in-Quantified.is ∙ ap (λ rs. plan.Quantified c.in-Quantified.which rs c.in-Quantified.test) (sym c.as_slice-ranges.ensures) ∙ ap (λ p. plan.Quantified c.in-Quantified.which c.as_slice-ranges.result.now p) (sym c.get-in-Quantified.ensures) in
-    (omega (arith, c.decreases), (live, record { which = c.in-Quantified.which; is = is }))
+    let all : 8 * size-Plan c.args.plan.now + 2 ≡ t = c.decreases in
+    let below : 8 * size-Plan c.args.plan.now + 1 < t = omega (arith, all) in
+    (below, (live, record { which = c.in-Quantified.which; is = is }))
 
 pub quantified::satisfied-turns-init : goal.quantified::satisfied-turns-init
 quantified::satisfied-turns-init g t c =
@@ -2368,9 +2526,11 @@ evaluation::called-returns-in_err-values-clause-gives g t c = λ clean inside.
     let f = g.W.TreeSource.forest c.args.world.now in
     let frame = frame_at f c.args.frame in
     let f' = g.W.TreeSource.forest c.arguments.new.world in
-    let lists = for_each (λ (part : Meaning). part frame) (map plan_mean c.args.parts.now) f in
-    cut lists_of tuple_at TupleIn item_views items_at AreIn _ lists (λ (values : List (List Item)). calling c.args.function frame values) f' c.in_err-values.field-0.0 c.from_residual-in_err-values.result refl c.from_residual-in_err-values.ensures.1
-    (c.in_err-values.ensures.gives clean inside)
+    let none : lists_of c.new.result ≡ [] = ap (map item_views) c.new.ensures.items in
+    let lists = λ (done : Tuple ItemView). in_turn (one_more (λ (part : Meaning). part frame)) (tuple_at f done) (map plan_mean c.args.parts.now) f in
+    let next = λ (values : List (List Item)). calling c.args.function frame values in
+    cut lists_of tuple_at TupleIn item_views items_at AreIn _ (lists (lists_of c.new.result)) next f' c.in_err-values.field-0.0 c.from_residual-in_err-values.result (ap (λ done. go_on (lists done) next) (sym none)) c.from_residual-in_err-values.ensures.1
+    (c.in_err-values.ensures.gives clean inside (subst (TupleIn f) (sym none) tt))
 
 pub evaluation::called-returns-clause-gives : goal.evaluation::called-returns-clause-gives
 evaluation::called-returns-clause-gives g t c = λ clean inside.
@@ -2381,10 +2541,13 @@ evaluation::called-returns-clause-gives g t c = λ clean inside.
     let f'' = g.W.TreeSource.forest c.call.new.world in
     let grows = c.in_ok-values.ensures.goes.grows in
     let function = c.args.function in
+    let none : lists_of c.new.result ≡ [] = ap (map item_views) c.new.ensures.items in
+    let all = λ (done : Tuple ItemView). in_turn (one_more (λ (part : Meaning). part frame)) (tuple_at f done) (map plan_mean c.args.parts.now) f in
     let lists = tuple_at f' (lists_of c.in_ok-values.values) in
-    let values = c.in_ok-values.ensures.gives (c.call.ensures.goes.was_clean clean) inside in
+    let values = c.in_ok-values.ensures.gives (c.call.ensures.goes.was_clean clean) inside (subst (TupleIn f) (sym none) tt) in
     let meant : Forms.call function (map plan_mean c.args.parts.now) frame f ≡ calling function (frame_at f' held) lists f' =
-    ap (λ o. go_on o (λ values. calling function frame values)) values.1 ∙ ap (λ fr. calling function fr lists f') (sym (frame_grown grows held inside)) in
+    ap (λ done. go_on (all done) (λ values. calling function frame values)) (sym none)
+    ∙ ap (λ o. go_on o (λ values. calling function frame values)) values.1 ∙ ap (λ fr. calling function fr lists f') (sym (frame_grown grows held inside)) in
     subst (λ o. GivesSequence o f'' c.call.result) (sym meant) (c.call.ensures.gives clean (frame_in_grown grows held inside) values.0)
 
 pub evaluation::called-returns-in_err-items-clause-goes : goal.evaluation::called-returns-in_err-items-clause-goes
@@ -2405,3 +2568,390 @@ evaluation::evaluate-returns-in-Call-clause-gives g t c = λ clean inside.
 
 pub evaluation::evaluate-returns-in-Call-clause-goes : goal.evaluation::evaluate-returns-in-Call-clause-goes
 evaluation::evaluate-returns-in-Call-clause-goes g t c = c.called.ensures.goes
+
+pub evaluation::next_call-returns-clause-gives : goal.evaluation::next_call-returns-clause-gives
+evaluation::next_call-returns-clause-gives g t c = λ clean inside items_in.
+    let f = g.W.TreeSource.forest c.args.world.now in
+    let held = c.args.frame in
+    let frame = frame_at f held in
+    let f' = g.W.TreeSource.forest c.arguments.new.world in
+    let f'' = g.W.TreeSource.forest c.call.new.world in
+    let grows = c.in_ok-values.ensures.goes.grows in
+    let function = c.args.function in
+    let items = item_views c.args.items in
+    let parts = map plan_mean c.args.parts.now in
+    let value = λ (part : Meaning). part frame in
+    let next = λ (values : List (List Item)). calling function frame values in
+    let one : lists_of c.push.new.self ≡ items ∷ [] = ap (map item_views) c.in_ok-push.ensures.items ∙ ap (λ l. map item_views (l ++ c.args.items ∷ [])) c.new-first.ensures.items in
+    let lists = tuple_at f' (lists_of c.in_ok-values.values) in
+    let values = c.in_ok-values.ensures.gives (c.call.ensures.goes.was_clean clean) inside (subst (TupleIn f) (sym one) (items_in, tt)) in
+    let meant : Forms.next_call frame (items_at f items) (function, parts) f ≡ calling function (frame_at f' held) lists f' =
+    sym (begun_then value (items_at f items) parts next f)
+    ∙ ap (λ done. go_on (in_turn (one_more value) (tuple_at f done) parts f) next) (sym one)
+    ∙ ap (λ o. go_on o next) values.1 ∙ ap (λ fr. calling function fr lists f') (sym (frame_grown grows held inside)) in
+    subst (λ o. GivesSequence o f'' c.call.result) (sym meant) (c.call.ensures.gives clean (frame_in_grown grows held inside) values.0)
+
+pub evaluation::next_call-returns-in_err-values-clause-gives : goal.evaluation::next_call-returns-in_err-values-clause-gives
+evaluation::next_call-returns-in_err-values-clause-gives g t c = λ clean inside items_in.
+    let f = g.W.TreeSource.forest c.args.world.now in
+    let frame = frame_at f c.args.frame in
+    let f' = g.W.TreeSource.forest c.arguments.new.world in
+    let function = c.args.function in
+    let items = item_views c.args.items in
+    let parts = map plan_mean c.args.parts.now in
+    let value = λ (part : Meaning). part frame in
+    let next = λ (values : List (List Item)). calling function frame values in
+    let one : lists_of c.push.new.self ≡ items ∷ [] = ap (map item_views) c.in_ok-push.ensures.items ∙ ap (λ l. map item_views (l ++ c.args.items ∷ [])) c.new-first.ensures.items in
+    let all = λ (done : Tuple ItemView). in_turn (one_more value) (tuple_at f done) parts f in
+    cut lists_of tuple_at TupleIn item_views items_at AreIn (Forms.next_call frame (items_at f items) (function, parts) f) (all (lists_of c.push.new.self)) next f' c.in_err-values.field-0.0 c.from_residual-in_err-values.result
+    (sym (begun_then value (items_at f items) parts next f) ∙ ap (λ done. go_on (all done) next) (sym one)) c.from_residual-in_err-values.ensures.1
+    (c.in_err-values.ensures.gives clean inside (subst (TupleIn f) (sym one) (items_in, tt)))
+
+pub evaluation::next_call-returns-in_err-push-clause-goes : goal.evaluation::next_call-returns-in_err-push-clause-goes
+evaluation::next_call-returns-in_err-push-clause-goes g t c = stays _ _
+
+pub evaluation::next_call-returns-in_err-values-clause-goes : goal.evaluation::next_call-returns-in_err-values-clause-goes
+evaluation::next_call-returns-in_err-values-clause-goes g t c = c.in_err-values.ensures.goes
+
+pub evaluation::next_call-returns-clause-goes : goal.evaluation::next_call-returns-clause-goes
+evaluation::next_call-returns-clause-goes g t c = goes_on_to c.in_ok-values.ensures.goes c.call.ensures.goes
+
+pub evaluation::call_list-next_call-requires : goal.evaluation::call_list-next_call-requires
+evaluation::call_list-next_call-requires g t c = λ κs live.
+    let depth = λ (o : Function × List Plan). max 0 (max (most size-Plan o.1) 0) in
+    let all : 8 * most depth c.args.calls.now + 6 ≡ t = c.decreases in
+    let among = at_most depth c.args.calls.now c.loop-function.function-index c.loop-function-item.result (omega (arith, c.loop-function-test.true)) in
+    let this = ap depth c.loop-function-item.is in
+    let same = ap (most size-Plan) c.as_slice.ensures in
+    let below : 8 * most size-Plan c.as_slice.result.now + 5 < t = omega (arith, all, among, this, same) in
+    (below, live)
+
+pub evaluation::call_list-loop-function-preserved : goal.evaluation::call_list-loop-function-preserved
+evaluation::call_list-loop-function-preserved g t c =
+    let i = c.loop-function.invariant in
+    let it = c.loop-function-item.result in
+    let held = c.args.frame in
+    let f = g.W.TreeSource.forest c.loop-function.world in
+    let same : map plan_mean c.as_slice.result.now ≡ map plan_mean it.1 = ap (map plan_mean) c.as_slice.ensures in
+    record {
+      goes = goes_on_to i.goes c.next_call.ensures.goes;
+      turns = turns_next _ _ _ (item_views c.in_ok-value.value) (it.0, map plan_mean it.1) _ _ i.turns (left_over (λ (op, ps). (op, map plan_mean ps)) c.args.calls.now c.loop-function.function-index it (omega arith) c.loop-function-item.is) c.next_call.ensures.goes.was_clean
+          (λ clean inside is_in.
+          let s = c.in_ok-value.ensures.gives clean (frame_in_grown i.goes.grows held inside.0) is_in in
+          (s.0, ap (λ fr. Forms.next_call fr (items_at f (item_views c.loop-function.value)) (it.0, map plan_mean it.1) f) (sym (frame_grown i.goes.grows held inside.0)) ∙ ap (λ ps. Forms.next_call (frame_at f held) (items_at f (item_views c.loop-function.value)) (it.0, ps) f) (sym same) ∙ s.1));
+    }
+
+pub evaluation::call_list-returns-in_err-value-clause-gives : goal.evaluation::call_list-returns-in_err-value-clause-gives
+evaluation::call_list-returns-in_err-value-clause-gives g t c = λ clean inside first_in.
+    let i = c.loop-function.invariant in
+    let it = c.loop-function-item.result in
+    let held = c.args.frame in
+    let f = g.W.TreeSource.forest c.loop-function.world in
+    let f' = g.W.TreeSource.forest c.next_call.new.world in
+    let same : map plan_mean c.as_slice.result.now ≡ map plan_mean it.1 = ap (map plan_mean) c.as_slice.ensures in
+    let e = c.in_err-value.field-0.0 in
+    handed_on item_views items_at AreIn _ f' e c.from_residual.result c.from_residual.ensures.1
+    (turns_stop _ _ _ item_views items_at AreIn (it.0, map plan_mean it.1) _ f' e i.turns (left_over (λ (op, ps). (op, map plan_mean ps)) c.args.calls.now c.loop-function.function-index it (omega arith) c.loop-function-item.is) c.next_call.ensures.goes.was_clean
+    (λ clean inside is_in. subst (λ fr. GivesSequence (Forms.next_call fr (items_at f (item_views c.loop-function.value)) (it.0, map plan_mean it.1) f) f' (Err e)) (frame_grown i.goes.grows held inside.0)
+    (subst (λ ps. GivesSequence (Forms.next_call (frame_at f held) (items_at f (item_views c.loop-function.value)) (it.0, ps) f) f' (Err e)) same (c.in_err-value.ensures.gives clean (frame_in_grown i.goes.grows held inside.0) is_in))) clean (inside, first_in))
+
+pub evaluation::call_list-returns-in_err-value-clause-goes : goal.evaluation::call_list-returns-in_err-value-clause-goes
+evaluation::call_list-returns-in_err-value-clause-goes g t c = goes_on_to c.loop-function.invariant.goes c.in_err-value.ensures.goes
+
+pub evaluation::call_list-returns-clause-goes : goal.evaluation::call_list-returns-clause-goes
+evaluation::call_list-returns-clause-goes g t c = c.loop-function.invariant.goes
+
+pub evaluation::call_list-returns-clause-gives : goal.evaluation::call_list-returns-clause-gives
+evaluation::call_list-returns-clause-gives g t c = λ clean inside rest_in.
+    let old = g.W.TreeSource.forest c.args.world.now in
+    turns_end _ _ _ c.loop-function.invariant.turns (ap (map (λ (op, ps). (op, map plan_mean ps))) (drop_all c.loop-function.function-index c.args.calls.now (omega arith))) clean (inside, rest_in)
+
+pub paths::map_list-loop-part-preserved : goal.paths::map_list-loop-part-preserved
+paths::map_list-loop-part-preserved g t c =
+    let i = c.loop-part.invariant in
+    let old = g.W.TreeSource.forest c.args.world.now in
+    let f = g.W.TreeSource.forest c.loop-part.world in
+    let f' = g.W.TreeSource.forest c.each.new.world in
+    let held = c.args.frame in
+    let p = c.part-item.result in
+    let left = item_views c.loop-part.left in
+    let d : map item_view c.deref.result.now ≡ left = ap (map item_view) c.deref.ensures.value in
+    record {
+      goes = goes_on_to i.goes c.each.ensures.goes;
+      turns = turns_next _ _ _ (item_views c.in_ok-left.left) (plan_mean p) _ _ i.turns (left_over plan_mean c.args.parts.now c.loop-part.part-index p (omega arith) c.part-item.is) c.each.ensures.goes.was_clean
+          (λ clean inside is_in.
+          let s = c.in_ok-left.ensures.gives clean (frame_in_grown i.goes.grows held inside.0) (subst (AreIn f) (sym d) is_in) in
+          (s.0, ap (λ fr. Forms.bang fr (items_at f left) (plan_mean p) f) (sym (frame_grown i.goes.grows held inside.0)) ∙ ap (λ xs. Forms.bang (frame_at f held) (items_at f xs) (plan_mean p) f) (sym d) ∙ s.1));
+    }
+
+pub paths::map_list-returns-in_err-left-clause-gives : goal.paths::map_list-returns-in_err-left-clause-gives
+paths::map_list-returns-in_err-left-clause-gives g t c = λ clean inside items_in.
+    let i = c.loop-part.invariant in
+    let old = g.W.TreeSource.forest c.args.world.now in
+    let f = g.W.TreeSource.forest c.loop-part.world in
+    let f' = g.W.TreeSource.forest c.each.new.world in
+    let held = c.args.frame in
+    let p = c.part-item.result in
+    let left = item_views c.loop-part.left in
+    let d : map item_view c.deref.result.now ≡ left = ap (map item_view) c.deref.ensures.value in
+    let e = c.in_err-left.field-0.0 in
+    handed_on item_views items_at AreIn _ f' e c.from_residual.result c.from_residual.ensures.1
+    (turns_stop _ _ _ item_views items_at AreIn (plan_mean p) _ f' e i.turns (left_over plan_mean c.args.parts.now c.loop-part.part-index p (omega arith) c.part-item.is) c.each.ensures.goes.was_clean
+    (λ clean inside is_in. subst (λ fr. GivesSequence (Forms.bang fr (items_at f left) (plan_mean p) f) f' (Err e)) (frame_grown i.goes.grows held inside.0)
+    (subst (λ xs. GivesSequence (Forms.bang (frame_at f held) (items_at f xs) (plan_mean p) f) f' (Err e)) d
+    (c.in_err-left.ensures.gives clean (frame_in_grown i.goes.grows held inside.0) (subst (AreIn f) (sym d) is_in)))) clean (inside, items_in))
+
+pub paths::map_list-returns-in_err-left-clause-goes : goal.paths::map_list-returns-in_err-left-clause-goes
+paths::map_list-returns-in_err-left-clause-goes g t c = goes_on_to c.loop-part.invariant.goes c.in_err-left.ensures.goes
+
+pub paths::map_list-returns-clause-goes : goal.paths::map_list-returns-clause-goes
+paths::map_list-returns-clause-goes g t c = c.loop-part.invariant.goes
+
+pub paths::map_list-returns-clause-gives : goal.paths::map_list-returns-clause-gives
+paths::map_list-returns-clause-gives g t c = λ clean inside rest_in.
+    let old = g.W.TreeSource.forest c.args.world.now in
+    turns_end _ _ _ c.loop-part.invariant.turns (ap (map plan_mean) (drop_all c.loop-part.part-index c.args.parts.now (omega arith))) clean (inside, rest_in)
+
+pub evaluation::evaluate-returns-in-Arrow-clause-gives : goal.evaluation::evaluate-returns-in-Arrow-clause-gives
+evaluation::evaluate-returns-in-Arrow-clause-gives g t c = λ clean inside.
+    let f = g.W.TreeSource.forest c.args.world.now in
+    let held = c.args.frame in
+    let frame = frame_at f held in
+    let f' = g.W.TreeSource.forest c.evaluate-in-Arrow.new.world in
+    let grows = c.in_ok-items-in-Arrow.ensures.goes.grows in
+    let first = c.in_ok-items-in-Arrow.ensures.gives (c.call_list.ensures.goes.was_clean clean) inside in
+    let second = c.call_list.ensures.gives clean (frame_in_grown grows held inside) first.0 in
+    let value : plan_mean c.in-Arrow.first frame f ≡ (Ok (items_at f' (item_views c.in_ok-items-in-Arrow.items)), f') = ap (λ p. plan_mean p frame f) (sym c.get-in-Arrow.ensures) ∙ first.1 in
+    rw (c.in-Arrow.is, plan-Arrow c.in-Arrow.first c.in-Arrow.calls, value, ← frame_grown grows held inside, ← c.as_slice-in-Arrow.ensures) second
+
+pub evaluation::evaluate-returns-in_err-items-in-Arrow-clause-gives : goal.evaluation::evaluate-returns-in_err-items-in-Arrow-clause-gives
+evaluation::evaluate-returns-in_err-items-in-Arrow-clause-gives g t c = λ clean inside.
+    let f = g.W.TreeSource.forest c.args.world.now in
+    let held = c.args.frame in
+    let frame = frame_at f held in
+    let f' = g.W.TreeSource.forest c.evaluate-in-Arrow.new.world in
+    let e = c.in_err-items-in-Arrow.field-0.0 in
+    let next = λ (xs : List Item). in_turn (Forms.next_call frame) xs (map (λ (op, ps). (op, map plan_mean ps)) c.in-Arrow.calls) in
+    cut item_views items_at AreIn item_views items_at AreIn (plan_mean c.args.plan.now frame f) (plan_mean c.get-in-Arrow.result.now frame f) next f' e c.from_residual-in_err-items-in-Arrow.result
+    (ap (λ p. plan_mean p frame f) c.in-Arrow.is ∙ ap (λ m. m frame f) (plan-Arrow c.in-Arrow.first c.in-Arrow.calls) ∙ ap (λ p. go_on (plan_mean p frame f) next) (sym c.get-in-Arrow.ensures)) c.from_residual-in_err-items-in-Arrow.ensures.1 (c.in_err-items-in-Arrow.ensures.gives clean inside)
+
+pub evaluation::evaluate-returns-in_err-items-in-Arrow-clause-goes : goal.evaluation::evaluate-returns-in_err-items-in-Arrow-clause-goes
+evaluation::evaluate-returns-in_err-items-in-Arrow-clause-goes g t c = c.in_err-items-in-Arrow.ensures.goes
+
+pub evaluation::evaluate-returns-in-Arrow-clause-goes : goal.evaluation::evaluate-returns-in-Arrow-clause-goes
+evaluation::evaluate-returns-in-Arrow-clause-goes g t c = goes_on_to c.in_ok-items-in-Arrow.ensures.goes c.call_list.ensures.goes
+
+pub evaluation::evaluate-returns-in-Map-clause-gives : goal.evaluation::evaluate-returns-in-Map-clause-gives
+evaluation::evaluate-returns-in-Map-clause-gives g t c = λ clean inside.
+    let f = g.W.TreeSource.forest c.args.world.now in
+    let held = c.args.frame in
+    let frame = frame_at f held in
+    let f' = g.W.TreeSource.forest c.evaluate-in-Map.new.world in
+    let grows = c.in_ok-items-in-Map.ensures.goes.grows in
+    let first = c.in_ok-items-in-Map.ensures.gives (c.map_list.ensures.goes.was_clean clean) inside in
+    let second = c.map_list.ensures.gives clean (frame_in_grown grows held inside) first.0 in
+    let value : plan_mean c.in-Map.start frame f ≡ (Ok (items_at f' (item_views c.in_ok-items-in-Map.items)), f') = ap (λ p. plan_mean p frame f) (sym c.get-in-Map.ensures) ∙ first.1 in
+    rw (c.in-Map.is, plan-Map c.in-Map.start c.in-Map.parts, value, ← frame_grown grows held inside, ← c.as_slice-in-Map.ensures) second
+
+pub evaluation::evaluate-returns-in_err-items-in-Map-clause-gives : goal.evaluation::evaluate-returns-in_err-items-in-Map-clause-gives
+evaluation::evaluate-returns-in_err-items-in-Map-clause-gives g t c = λ clean inside.
+    let f = g.W.TreeSource.forest c.args.world.now in
+    let held = c.args.frame in
+    let frame = frame_at f held in
+    let f' = g.W.TreeSource.forest c.evaluate-in-Map.new.world in
+    let e = c.in_err-items-in-Map.field-0.0 in
+    let next = λ (xs : List Item). in_turn (Forms.bang frame) xs (map plan_mean c.in-Map.parts) in
+    cut item_views items_at AreIn item_views items_at AreIn (plan_mean c.args.plan.now frame f) (plan_mean c.get-in-Map.result.now frame f) next f' e c.from_residual-in_err-items-in-Map.result
+    (ap (λ p. plan_mean p frame f) c.in-Map.is ∙ ap (λ m. m frame f) (plan-Map c.in-Map.start c.in-Map.parts) ∙ ap (λ p. go_on (plan_mean p frame f) next) (sym c.get-in-Map.ensures)) c.from_residual-in_err-items-in-Map.ensures.1 (c.in_err-items-in-Map.ensures.gives clean inside)
+
+pub evaluation::evaluate-returns-in_err-items-in-Map-clause-goes : goal.evaluation::evaluate-returns-in_err-items-in-Map-clause-goes
+evaluation::evaluate-returns-in_err-items-in-Map-clause-goes g t c = c.in_err-items-in-Map.ensures.goes
+
+pub evaluation::evaluate-returns-in-Map-clause-goes : goal.evaluation::evaluate-returns-in-Map-clause-goes
+evaluation::evaluate-returns-in-Map-clause-goes g t c = goes_on_to c.in_ok-items-in-Map.ensures.goes c.map_list.ensures.goes
+
+pub clauses::next_tuples-returns-in_ok-number-in-Count-clause-gives : goal.clauses::next_tuples-returns-in_ok-number-in-Count-clause-gives
+clauses::next_tuples-returns-in_ok-number-in-Count-clause-gives g t c = λ clean inside tuples_in.
+    let f = g.W.TreeSource.forest c.args.world.now in
+    let frame = frame_at f c.args.frame in
+    let tuples = c.args.tuples in
+    let stream : c.in_ok-number-in-Count.field-0 ≡ numbered Value tuples = c.in_ok-number-in-Count.ensures.stream in (
+      subst (TuplesIn f) (sym stream) (numbered_in f tuples tuples_in),
+      ap (λ k. plan_clause_mean k frame (tuples_at f tuples) f) c.in-Count.is ∙ ap (λ m. m frame (tuples_at f tuples) f) clause-Count
+          ∙ ap (λ ts. (Ok ts, f)) (sym (ap (tuples_at f) stream ∙ numbered_natural (item_at f) Value Atom (λ a. refl) tuples)),
+    )
+
+pub clauses::next_tuples-returns-in_err-number-in-Count-clause-goes : goal.clauses::next_tuples-returns-in_err-number-in-Count-clause-goes
+clauses::next_tuples-returns-in_err-number-in-Count-clause-goes g t c = stays _ _
+
+pub clauses::next_tuples-returns-in_ok-number-in-Count-clause-goes : goal.clauses::next_tuples-returns-in_ok-number-in-Count-clause-goes
+clauses::next_tuples-returns-in_ok-number-in-Count-clause-goes g t c = stays _ _
+
+pub evaluation::evaluate-returns-in_err-single-in-Int-clause-reads : goal.evaluation::evaluate-returns-in_err-single-in-Int-clause-reads
+evaluation::evaluate-returns-in_err-single-in-Int-clause-reads g t c = λ clean inside. other_form _ _ _ _ _ (ap out-Plan c.in-Int.is ∙ plan.outs-Int _) tt
+
+pub evaluation::evaluate-returns-in-Int-clause-reads : goal.evaluation::evaluate-returns-in-Int-clause-reads
+evaluation::evaluate-returns-in-Int-clause-reads g t c = λ clean inside. other_form _ _ _ _ _ (ap out-Plan c.in-Int.is ∙ plan.outs-Int _) tt
+
+pub evaluation::evaluate-returns-in_err-single-in-Dec-clause-reads : goal.evaluation::evaluate-returns-in_err-single-in-Dec-clause-reads
+evaluation::evaluate-returns-in_err-single-in-Dec-clause-reads g t c = λ clean inside. other_form _ _ _ _ _ (ap out-Plan c.in-Dec.is ∙ plan.outs-Dec _) tt
+
+pub evaluation::evaluate-returns-in-Dec-clause-reads : goal.evaluation::evaluate-returns-in-Dec-clause-reads
+evaluation::evaluate-returns-in-Dec-clause-reads g t c = λ clean inside. other_form _ _ _ _ _ (ap out-Plan c.in-Dec.is ∙ plan.outs-Dec _) tt
+
+pub evaluation::evaluate-returns-in_err-slot-in-Slot-clause-reads : goal.evaluation::evaluate-returns-in_err-slot-in-Slot-clause-reads
+evaluation::evaluate-returns-in_err-slot-in-Slot-clause-reads g t c = λ clean inside. other_form _ _ _ _ _ (ap out-Plan c.in-Slot.is ∙ plan.outs-Slot _) tt
+
+pub evaluation::evaluate-returns-in-Slot-clause-reads : goal.evaluation::evaluate-returns-in-Slot-clause-reads
+evaluation::evaluate-returns-in-Slot-clause-reads g t c = λ clean inside. other_form _ _ _ _ _ (ap out-Plan c.in-Slot.is ∙ plan.outs-Slot _) tt
+
+pub evaluation::evaluate-returns-in-ContextItem-clause-reads : goal.evaluation::evaluate-returns-in-ContextItem-clause-reads
+evaluation::evaluate-returns-in-ContextItem-clause-reads g t c = λ clean inside. other_form _ _ _ _ _ (ap out-Plan c.in-ContextItem.is ∙ plan.outs-ContextItem) tt
+
+pub evaluation::evaluate-returns-in-Sequence-clause-reads : goal.evaluation::evaluate-returns-in-Sequence-clause-reads
+evaluation::evaluate-returns-in-Sequence-clause-reads g t c = λ clean inside. other_form _ _ _ _ _ (ap out-Plan c.in-Sequence.is ∙ plan.outs-Sequence _) tt
+
+pub evaluation::evaluate-returns-in_err-left-in-Chain-clause-reads : goal.evaluation::evaluate-returns-in_err-left-in-Chain-clause-reads
+evaluation::evaluate-returns-in_err-left-in-Chain-clause-reads g t c = λ clean inside. other_form _ _ _ _ _ (ap out-Plan c.in-Chain.is ∙ plan.outs-Chain _ _) tt
+
+pub evaluation::evaluate-returns-in-Chain-clause-reads : goal.evaluation::evaluate-returns-in-Chain-clause-reads
+evaluation::evaluate-returns-in-Chain-clause-reads g t c = λ clean inside. other_form _ _ _ _ _ (ap out-Plan c.in-Chain.is ∙ plan.outs-Chain _ _) tt
+
+pub evaluation::evaluate-returns-in_err-items-in-Unary-clause-reads : goal.evaluation::evaluate-returns-in_err-items-in-Unary-clause-reads
+evaluation::evaluate-returns-in_err-items-in-Unary-clause-reads g t c = λ clean inside. other_form _ _ _ _ _ (ap out-Plan c.in-Unary.is ∙ plan.outs-Unary _ _) tt
+
+pub evaluation::evaluate-returns-in-Unary-clause-reads : goal.evaluation::evaluate-returns-in-Unary-clause-reads
+evaluation::evaluate-returns-in-Unary-clause-reads g t c = λ clean inside. other_form _ _ _ _ _ (ap out-Plan c.in-Unary.is ∙ plan.outs-Unary _ _) tt
+
+pub evaluation::evaluate-returns-in_err-value-in-If-clause-reads : goal.evaluation::evaluate-returns-in_err-value-in-If-clause-reads
+evaluation::evaluate-returns-in_err-value-in-If-clause-reads g t c = λ clean inside. other_form _ _ _ _ _ (ap out-Plan c.in-If.is ∙ plan.outs-If _ _ _) tt
+
+pub evaluation::evaluate-returns-in_err-effective-in-If-clause-reads : goal.evaluation::evaluate-returns-in_err-effective-in-If-clause-reads
+evaluation::evaluate-returns-in_err-effective-in-If-clause-reads g t c = λ clean inside. other_form _ _ _ _ _ (ap out-Plan c.in-If.is ∙ plan.outs-If _ _ _) tt
+
+pub evaluation::evaluate-returns-then-branch-clause-reads : goal.evaluation::evaluate-returns-then-branch-clause-reads
+evaluation::evaluate-returns-then-branch-clause-reads g t c = λ clean inside. other_form _ _ _ _ _ (ap out-Plan c.in-If.is ∙ plan.outs-If _ _ _) tt
+
+pub evaluation::evaluate-returns-in-If-clause-reads : goal.evaluation::evaluate-returns-in-If-clause-reads
+evaluation::evaluate-returns-in-If-clause-reads g t c = λ clean inside. other_form _ _ _ _ _ (ap out-Plan c.in-If.is ∙ plan.outs-If _ _ _) tt
+
+pub evaluation::evaluate-returns-in_err-answer-in-Or-clause-reads : goal.evaluation::evaluate-returns-in_err-answer-in-Or-clause-reads
+evaluation::evaluate-returns-in_err-answer-in-Or-clause-reads g t c = λ clean inside. other_form _ _ _ _ _ (ap out-Plan c.in-Or.is ∙ plan.outs-Or _) tt
+
+pub evaluation::evaluate-returns-in_err-single-in-Or-clause-reads : goal.evaluation::evaluate-returns-in_err-single-in-Or-clause-reads
+evaluation::evaluate-returns-in_err-single-in-Or-clause-reads g t c = λ clean inside. other_form _ _ _ _ _ (ap out-Plan c.in-Or.is ∙ plan.outs-Or _) tt
+
+pub evaluation::evaluate-returns-in-Or-clause-reads : goal.evaluation::evaluate-returns-in-Or-clause-reads
+evaluation::evaluate-returns-in-Or-clause-reads g t c = λ clean inside. other_form _ _ _ _ _ (ap out-Plan c.in-Or.is ∙ plan.outs-Or _) tt
+
+pub evaluation::evaluate-returns-in_err-answer-in-And-clause-reads : goal.evaluation::evaluate-returns-in_err-answer-in-And-clause-reads
+evaluation::evaluate-returns-in_err-answer-in-And-clause-reads g t c = λ clean inside. other_form _ _ _ _ _ (ap out-Plan c.in-And.is ∙ plan.outs-And _) tt
+
+pub evaluation::evaluate-returns-in_err-single-in-And-clause-reads : goal.evaluation::evaluate-returns-in_err-single-in-And-clause-reads
+evaluation::evaluate-returns-in_err-single-in-And-clause-reads g t c = λ clean inside. other_form _ _ _ _ _ (ap out-Plan c.in-And.is ∙ plan.outs-And _) tt
+
+pub evaluation::evaluate-returns-in-And-clause-reads : goal.evaluation::evaluate-returns-in-And-clause-reads
+evaluation::evaluate-returns-in-And-clause-reads g t c = λ clean inside. other_form _ _ _ _ _ (ap out-Plan c.in-And.is ∙ plan.outs-And _) tt
+
+pub evaluation::evaluate-returns-in_err-items-in-Filter-clause-reads : goal.evaluation::evaluate-returns-in_err-items-in-Filter-clause-reads
+evaluation::evaluate-returns-in_err-items-in-Filter-clause-reads g t c = λ clean inside. other_form _ _ _ _ _ (ap out-Plan c.in-Filter.is ∙ plan.outs-Filter _ _) tt
+
+pub evaluation::evaluate-returns-in-Filter-clause-reads : goal.evaluation::evaluate-returns-in-Filter-clause-reads
+evaluation::evaluate-returns-in-Filter-clause-reads g t c = λ clean inside. other_form _ _ _ _ _ (ap out-Plan c.in-Filter.is ∙ plan.outs-Filter _ _) tt
+
+pub evaluation::evaluate-returns-in_err-tuples-in-Flwor-clause-reads : goal.evaluation::evaluate-returns-in_err-tuples-in-Flwor-clause-reads
+evaluation::evaluate-returns-in_err-tuples-in-Flwor-clause-reads g t c = λ clean inside. other_form _ _ _ _ _ (ap out-Plan c.in-Flwor.is ∙ plan.outs-Flwor _ _) tt
+
+pub evaluation::evaluate-returns-in_err-lists-in-Flwor-clause-reads : goal.evaluation::evaluate-returns-in_err-lists-in-Flwor-clause-reads
+evaluation::evaluate-returns-in_err-lists-in-Flwor-clause-reads g t c = λ clean inside. other_form _ _ _ _ _ (ap out-Plan c.in-Flwor.is ∙ plan.outs-Flwor _ _) tt
+
+pub evaluation::evaluate-returns-in_err-concatenated-in-Flwor-clause-reads : goal.evaluation::evaluate-returns-in_err-concatenated-in-Flwor-clause-reads
+evaluation::evaluate-returns-in_err-concatenated-in-Flwor-clause-reads g t c = λ clean inside. other_form _ _ _ _ _ (ap out-Plan c.in-Flwor.is ∙ plan.outs-Flwor _ _) tt
+
+pub evaluation::evaluate-returns-in-Flwor-clause-reads : goal.evaluation::evaluate-returns-in-Flwor-clause-reads
+evaluation::evaluate-returns-in-Flwor-clause-reads g t c = λ clean inside. other_form _ _ _ _ _ (ap out-Plan c.in-Flwor.is ∙ plan.outs-Flwor _ _) tt
+
+pub evaluation::evaluate-returns-in-Root-clause-reads : goal.evaluation::evaluate-returns-in-Root-clause-reads
+evaluation::evaluate-returns-in-Root-clause-reads g t c = λ clean inside. other_form _ _ _ _ _ (ap out-Plan c.in-Root.is ∙ plan.outs-Root) tt
+
+pub evaluation::evaluate-returns-in_err-nodes-in-Step-clause-reads : goal.evaluation::evaluate-returns-in_err-nodes-in-Step-clause-reads
+evaluation::evaluate-returns-in_err-nodes-in-Step-clause-reads g t c = λ clean inside. other_form _ _ _ _ _ (ap out-Plan c.in-Step.is ∙ plan.outs-Step _ _ _) tt
+
+pub evaluation::evaluate-returns-in_err-kept-in-Step-clause-reads : goal.evaluation::evaluate-returns-in_err-kept-in-Step-clause-reads
+evaluation::evaluate-returns-in_err-kept-in-Step-clause-reads g t c = λ clean inside. other_form _ _ _ _ _ (ap out-Plan c.in-Step.is ∙ plan.outs-Step _ _ _) tt
+
+pub evaluation::evaluate-returns-in-Step-clause-reads : goal.evaluation::evaluate-returns-in-Step-clause-reads
+evaluation::evaluate-returns-in-Step-clause-reads g t c = λ clean inside. other_form _ _ _ _ _ (ap out-Plan c.in-Step.is ∙ plan.outs-Step _ _ _) tt
+
+pub evaluation::evaluate-returns-in_err-value-in-Named-clause-reads : goal.evaluation::evaluate-returns-in_err-value-in-Named-clause-reads
+evaluation::evaluate-returns-in_err-value-in-Named-clause-reads g t c = λ clean inside. other_form _ _ _ _ _ (ap out-Plan c.in-Named.is ∙ plan.outs-Named _ _ _) tt
+
+pub evaluation::evaluate-returns-in_err-name-in-Named-clause-reads : goal.evaluation::evaluate-returns-in_err-name-in-Named-clause-reads
+evaluation::evaluate-returns-in_err-name-in-Named-clause-reads g t c = λ clean inside. other_form _ _ _ _ _ (ap out-Plan c.in-Named.is ∙ plan.outs-Named _ _ _) tt
+
+pub evaluation::evaluate-returns-in_err-content-in-Named-clause-reads : goal.evaluation::evaluate-returns-in_err-content-in-Named-clause-reads
+evaluation::evaluate-returns-in_err-content-in-Named-clause-reads g t c = λ clean inside. other_form _ _ _ _ _ (ap out-Plan c.in-Named.is ∙ plan.outs-Named _ _ _) tt
+
+pub evaluation::evaluate-returns-in-Named-clause-reads : goal.evaluation::evaluate-returns-in-Named-clause-reads
+evaluation::evaluate-returns-in-Named-clause-reads g t c = λ clean inside. other_form _ _ _ _ _ (ap out-Plan c.in-Named.is ∙ plan.outs-Named _ _ _) tt
+
+pub evaluation::evaluate-returns-in_err-content-in-Unnamed-clause-reads : goal.evaluation::evaluate-returns-in_err-content-in-Unnamed-clause-reads
+evaluation::evaluate-returns-in_err-content-in-Unnamed-clause-reads g t c = λ clean inside. other_form _ _ _ _ _ (ap out-Plan c.in-Unnamed.is ∙ plan.outs-Unnamed _ _) tt
+
+pub evaluation::evaluate-returns-in-Unnamed-clause-reads : goal.evaluation::evaluate-returns-in-Unnamed-clause-reads
+evaluation::evaluate-returns-in-Unnamed-clause-reads g t c = λ clean inside. other_form _ _ _ _ _ (ap out-Plan c.in-Unnamed.is ∙ plan.outs-Unnamed _ _) tt
+
+pub evaluation::evaluate-returns-in_err-items-in-Arrow-clause-reads : goal.evaluation::evaluate-returns-in_err-items-in-Arrow-clause-reads
+evaluation::evaluate-returns-in_err-items-in-Arrow-clause-reads g t c = λ clean inside. other_form _ _ _ _ _ (ap out-Plan c.in-Arrow.is ∙ plan.outs-Arrow _ _) tt
+
+pub evaluation::evaluate-returns-in-Arrow-clause-reads : goal.evaluation::evaluate-returns-in-Arrow-clause-reads
+evaluation::evaluate-returns-in-Arrow-clause-reads g t c = λ clean inside. other_form _ _ _ _ _ (ap out-Plan c.in-Arrow.is ∙ plan.outs-Arrow _ _) tt
+
+pub evaluation::evaluate-returns-in_err-items-in-Map-clause-reads : goal.evaluation::evaluate-returns-in_err-items-in-Map-clause-reads
+evaluation::evaluate-returns-in_err-items-in-Map-clause-reads g t c = λ clean inside. other_form _ _ _ _ _ (ap out-Plan c.in-Map.is ∙ plan.outs-Map _ _) tt
+
+pub evaluation::evaluate-returns-in-Map-clause-reads : goal.evaluation::evaluate-returns-in-Map-clause-reads
+evaluation::evaluate-returns-in-Map-clause-reads g t c = λ clean inside. other_form _ _ _ _ _ (ap out-Plan c.in-Map.is ∙ plan.outs-Map _ _) tt
+
+pub evaluation::evaluate-returns-in_err-answer-in-Quantified-clause-reads : goal.evaluation::evaluate-returns-in_err-answer-in-Quantified-clause-reads
+evaluation::evaluate-returns-in_err-answer-in-Quantified-clause-reads g t c = λ clean inside. other_form _ _ _ _ _ (ap out-Plan c.in-Quantified.is ∙ plan.outs-Quantified _ _ _) tt
+
+pub evaluation::evaluate-returns-in_err-single-in-Quantified-clause-reads : goal.evaluation::evaluate-returns-in_err-single-in-Quantified-clause-reads
+evaluation::evaluate-returns-in_err-single-in-Quantified-clause-reads g t c = λ clean inside. other_form _ _ _ _ _ (ap out-Plan c.in-Quantified.is ∙ plan.outs-Quantified _ _ _) tt
+
+pub evaluation::evaluate-returns-clause-reads : goal.evaluation::evaluate-returns-clause-reads
+evaluation::evaluate-returns-clause-reads g t c = λ clean inside. other_form _ _ _ _ _ (ap out-Plan c.in-Quantified.is ∙ plan.outs-Quantified _ _ _) tt
+
+pub evaluation::evaluate-returns-in_err-text-in-Str-clause-reads : goal.evaluation::evaluate-returns-in_err-text-in-Str-clause-reads
+evaluation::evaluate-returns-in_err-text-in-Str-clause-reads g t c = λ clean inside. literal_scans _ _ _ _ _ (ap out-Plan c.in-Str.is ∙ plan.outs-Str _) refl
+
+pub evaluation::evaluate-returns-in_err-single-in-Str-clause-reads : goal.evaluation::evaluate-returns-in_err-single-in-Str-clause-reads
+evaluation::evaluate-returns-in_err-single-in-Str-clause-reads g t c = λ clean inside. literal_scans _ _ _ _ _ (ap out-Plan c.in-Str.is ∙ plan.outs-Str _) refl
+
+pub evaluation::evaluate-returns-in-Str-clause-reads : goal.evaluation::evaluate-returns-in-Str-clause-reads
+evaluation::evaluate-returns-in-Str-clause-reads g t c = λ clean inside. literal_scans _ _ _ _ _ (ap out-Plan c.in-Str.is ∙ plan.outs-Str _) refl
+
+pub evaluation::evaluate-returns-in-Call-clause-reads : goal.evaluation::evaluate-returns-in-Call-clause-reads
+evaluation::evaluate-returns-in-Call-clause-reads g t c = λ clean inside. call_scans _ _ _ _ _ (ap out-Plan c.in-Call.is ∙ plan.outs-Call _ _) (λ doc text parts. c.called.ensures.reads clean inside doc text (c.as_slice-in-Call.ensures ∙ parts))
+
+pub evaluation::evaluate-returns-in_err-items-in-Path-clause-reads : goal.evaluation::evaluate-returns-in_err-items-in-Path-clause-reads
+evaluation::evaluate-returns-in_err-items-in-Path-clause-reads g t c = λ clean inside.
+    path_scans _ _ _ _ _ (ap out-Plan c.in-Path.is ∙ plan.outs-Path _ _)
+    (λ address steps start parts. not_grown _ _ _ ((c.evaluate-in-Path.ensures.reads clean inside).document (address, c.get-in-Path.ensures ∙ start)))
+
+pub evaluation::evaluate-returns-in-Path-clause-reads : goal.evaluation::evaluate-returns-in-Path-clause-reads
+evaluation::evaluate-returns-in-Path-clause-reads g t c = λ clean inside.
+    let f = g.W.TreeSource.forest c.args.world.now in
+    let frame = frame_at f c.args.frame in
+    let f' = g.W.TreeSource.forest c.evaluate-in-Path.new.world in
+    let was = c.step_list.ensures.goes.was_clean clean in
+    let first = c.in_ok-items-in-Path.ensures.gives was inside in
+    path_scans _ _ _ _ _ (ap out-Plan c.in-Path.is ∙ plan.outs-Path _ _)
+    (λ address steps start parts.
+    let is = c.get-in-Path.ensures ∙ start in
+    let it = document_value frame f f' address (item_views c.in_ok-items-in-Path.items) inside.addresses_in first.0 (ap (λ p. plan_mean p frame f) (sym is) ∙ first.1) in
+    let scans = c.as_slice-in-Path.ensures ∙ parts in
+    let read = c.step_list.ensures.reads clean (subst (AllByRecursion IsScan) (sym scans) (are_scans steps)) it.0.number it.0.are in
+    let most : length c.as_slice-in-Path.result.now * rows_of f' it.0.number ≡ length steps * rows_at address frame.addresses f =
+    ap (λ n. n * rows_of f' it.0.number) (ap length scans ∙ length-map steps _) ∙ ap (λ r. length steps * r) (sym it.0.rows) ∙ ap (λ trees. length steps * rows_at address frame.addresses trees) (sym it.1) in
+    grown_from ((c.in_ok-items-in-Path.ensures.reads was inside).document (address, is)) (subst (HasGrown (g.W.TreeSource.meter c.evaluate-in-Path.new.world) (g.W.TreeSource.meter c.step_list.new.world)) most read))

@@ -1,5 +1,6 @@
-use Rattle.std.proofs.Common.{◌≡◌, ◌≤◌, ◌^◌, [], ◌∷◌, ◌++◌, map, take, drop, suc, length, ◌+◌}
+use Rattle.std.proofs.Common.{◌≡◌, ℕ, ◌≤◌, ◌^◌, [], ◌∷◌, ◌++◌, map, take, drop, suc, length, ◌+◌, ◌*◌}
 use Rattle.std.specs.Prelude.{if◌then◌else◌}
+use Rattle.std.specs.List.{AllByRecursion}
 use Rattle.xq_regions.specs.Items.{item_view, item_views}
 use Rattle.xq_meaning.specs.Doing.{in_turn, more, one_more, for_each, collected, first_that}
 use Rattle.xq_meaning.specs.Forms as Forms
@@ -8,10 +9,12 @@ use Rattle.xq_meaning.specs.Functions.{Focus as Spot}
 use Rattle.xq_meaning.specs.Steps.{focuses, focuses_from}
 use Rattle.xq_meaning.specs.Readings.{items_at, AreIn}
 use Rattle.xq_forms.specs.Views.{tuple_at, tuples_at, lists_of, order_specs, frame_at, FrameIn, TupleIn, TuplesIn, Goes}
+use Rattle.xq_forms.specs.Reads.{rows_of, AreOf, HasGrown}
 use Rattle.xq_tuples.specs.Keys.{column_of, columns_of}
 use Rattle.xq_tuples.specs.Views.{values_of}
 use Rattle.xq_eval.specs.private.Bindings.{stack_of}
 use Rattle.xq_eval.specs.private.Keys.{keys_at}
+use Rattle.xq_eval.specs.private.Scanning.{IsLiteral, IsScan}
 use Rattle.xq_eval.specs.private.Quantifying.{holds, resumed, weigh, all_weigh}
 use Rattle.xq_eval.proofs.Loops.{Turns, Tries}
 use Rattle.xq_eval.proofs.Steps.{same_tests, any_tests}
@@ -36,6 +39,29 @@ invariant-evaluation::chain-loop-operator g l =
     record {
       goes : Goes old now (g.W.TreeSource.is_clean l.fn.world) (g.W.TreeSource.is_clean l.world);
       turns : Turns items_at AreIn (Forms.next_operand frame) (FrameIn old l.frame × AreIn old (item_views l.fn.first)) (g.W.TreeSource.is_clean l.world) (item_views l.total) (read (drop l.operator-index l.rest)) now (in_turn (Forms.next_operand frame) (items_at old (item_views l.fn.first)) (read l.rest) old);
+    }
+
+abbrev pub invariant-evaluation::call_list-loop-function : goal.invariant-evaluation::call_list-loop-function
+invariant-evaluation::call_list-loop-function g l =
+    let old = g.W.TreeSource.forest l.fn.world in
+    let now = g.W.TreeSource.forest l.world in
+    let frame = frame_at old l.frame in
+    let read = map (λ (op, ps). (op, map plan_mean ps)) in
+    record {
+      goes : Goes old now (g.W.TreeSource.is_clean l.fn.world) (g.W.TreeSource.is_clean l.world);
+      turns : Turns items_at AreIn (Forms.next_call frame) (FrameIn old l.frame × AreIn old (item_views l.fn.first)) (g.W.TreeSource.is_clean l.world) (item_views l.value) (read (drop l.function-index l.calls)) now (in_turn (Forms.next_call frame) (items_at old (item_views l.fn.first)) (read l.calls) old);
+    }
+
+abbrev pub invariant-paths::map_list-loop-part : goal.invariant-paths::map_list-loop-part
+invariant-paths::map_list-loop-part g l =
+    let old = g.W.TreeSource.forest l.fn.world in
+    let now = g.W.TreeSource.forest l.world in
+    let frame = frame_at old l.frame in
+    let inside = FrameIn old l.frame in
+    let clean = g.W.TreeSource.is_clean l.world in
+    record {
+      goes : Goes old now (g.W.TreeSource.is_clean l.fn.world) clean;
+      turns : Turns items_at AreIn (Forms.bang frame) (inside × AreIn old (item_views l.fn.items)) clean (item_views l.left) (map plan_mean (drop l.part-index l.parts)) now (in_turn (Forms.bang frame) (items_at old (item_views l.fn.items)) (map plan_mean l.parts) old);
     }
 
 abbrev pub invariant-evaluation::filter-loop-predicate : goal.invariant-evaluation::filter-loop-predicate
@@ -111,6 +137,8 @@ invariant-paths::step_list-loop-index g l =
     record {
       goes : Goes old now (g.W.TreeSource.is_clean l.fn.world) clean;
       turns : Turns items_at AreIn (next_step frame) (inside × AreIn old (item_views l.fn.items)) clean (item_views l.left) (map plan_step_mean (drop (l.index + (if l.is_taken then 1 else 0)) l.steps)) now (in_turn (next_step frame) (items_at old (item_views l.fn.items)) (map plan_step_mean l.steps) old);
+      within : l.index + (if l.is_taken then 1 else 0) ≤ length l.steps;
+      reads : clean → AllByRecursion IsScan l.steps → (tree : ℕ) → AreOf old tree (item_views l.fn.items) → AreOf now tree (item_views l.left) × HasGrown (g.W.TreeSource.meter l.fn.world) (g.W.TreeSource.meter l.world) ((l.index + (if l.is_taken then 1 else 0)) * rows_of old tree);
     }
 
 abbrev pub invariant-paths::each-loop-index : goal.invariant-paths::each-loop-index
@@ -144,7 +172,8 @@ invariant-evaluation::arguments-loop-part g l =
     let frame = frame_at old l.frame in
     record {
       goes : Goes old now (g.W.TreeSource.is_clean l.fn.world) (g.W.TreeSource.is_clean l.world);
-      turns : Turns tuple_at TupleIn (one_more (λ (part : Meaning). part frame)) (FrameIn old l.frame) (g.W.TreeSource.is_clean l.world) (lists_of l.lists) (map plan_mean (drop l.part-index l.parts)) now (for_each (λ (part : Meaning). part frame) (map plan_mean l.parts) old);
+      turns : Turns tuple_at TupleIn (one_more (λ (part : Meaning). part frame)) (FrameIn old l.frame × TupleIn old (lists_of l.fn.done)) (g.W.TreeSource.is_clean l.world) (lists_of l.lists) (map plan_mean (drop l.part-index l.parts)) now (in_turn (one_more (λ (part : Meaning). part frame)) (tuple_at old (lists_of l.fn.done)) (map plan_mean l.parts) old);
+      reads : g.W.TreeSource.is_clean l.world → FrameIn old l.frame → AllByRecursion IsLiteral l.parts → g.W.TreeSource.meter l.world ≡ g.W.TreeSource.meter l.fn.world;
     }
 
 abbrev pub invariant-clauses::key_rows-loop-index : goal.invariant-clauses::key_rows-loop-index
@@ -190,3 +219,104 @@ invariant-quantified::satisfied-turns g l =
 
 abbrev pub decreases-quantified::satisfied-turns : goal.decreases-quantified::satisfied-turns
 decreases-quantified::satisfied-turns g l = weigh (2 ^ 64) (all_weigh (2 ^ 64)) (length l.ranges) (stack_of l.stack)
+
+-- # The recursion: a plan's depth, and at one depth who calls whom
+
+abbrev pub decreases-evaluation::evaluate : goal.decreases-evaluation::evaluate
+decreases-evaluation::evaluate g a = 8 * goal.size-evaluation::evaluate g a + 2
+
+abbrev pub decreases-evaluation::sequence : goal.decreases-evaluation::sequence
+decreases-evaluation::sequence g a = 8 * goal.size-evaluation::sequence g a + 4
+
+abbrev pub decreases-evaluation::next_part : goal.decreases-evaluation::next_part
+decreases-evaluation::next_part g a = 8 * goal.size-evaluation::next_part g a + 3
+
+abbrev pub decreases-evaluation::chain : goal.decreases-evaluation::chain
+decreases-evaluation::chain g a = 8 * goal.size-evaluation::chain g a + 4
+
+abbrev pub decreases-evaluation::next_operand : goal.decreases-evaluation::next_operand
+decreases-evaluation::next_operand g a = 8 * goal.size-evaluation::next_operand g a + 3
+
+abbrev pub decreases-evaluation::decided : goal.decreases-evaluation::decided
+decreases-evaluation::decided g a = 8 * goal.size-evaluation::decided g a + 4
+
+abbrev pub decreases-evaluation::tested : goal.decreases-evaluation::tested
+decreases-evaluation::tested g a = 8 * goal.size-evaluation::tested g a + 3
+
+abbrev pub decreases-evaluation::filter : goal.decreases-evaluation::filter
+decreases-evaluation::filter g a = 8 * goal.size-evaluation::filter g a + 5
+
+abbrev pub decreases-evaluation::keep : goal.decreases-evaluation::keep
+decreases-evaluation::keep g a = 8 * goal.size-evaluation::keep g a + 4
+
+abbrev pub decreases-evaluation::pass : goal.decreases-evaluation::pass
+decreases-evaluation::pass g a = 8 * goal.size-evaluation::pass g a + 3
+
+abbrev pub decreases-evaluation::called : goal.decreases-evaluation::called
+decreases-evaluation::called g a = 8 * goal.size-evaluation::called g a + 5
+
+abbrev pub decreases-evaluation::call_list : goal.decreases-evaluation::call_list
+decreases-evaluation::call_list g a = 8 * goal.size-evaluation::call_list g a + 6
+
+abbrev pub decreases-evaluation::next_call : goal.decreases-evaluation::next_call
+decreases-evaluation::next_call g a = 8 * goal.size-evaluation::next_call g a + 5
+
+abbrev pub decreases-evaluation::arguments : goal.decreases-evaluation::arguments
+decreases-evaluation::arguments g a = 8 * goal.size-evaluation::arguments g a + 4
+
+abbrev pub decreases-evaluation::next_argument : goal.decreases-evaluation::next_argument
+decreases-evaluation::next_argument g a = 8 * goal.size-evaluation::next_argument g a + 3
+
+abbrev pub decreases-paths::step_list : goal.decreases-paths::step_list
+decreases-paths::step_list g a = 8 * goal.size-paths::step_list g a + 6
+
+abbrev pub decreases-paths::next_items : goal.decreases-paths::next_items
+decreases-paths::next_items g a = 8 * goal.size-paths::next_items g a + 5
+
+abbrev pub decreases-paths::map_list : goal.decreases-paths::map_list
+decreases-paths::map_list g a = 8 * goal.size-paths::map_list g a + 5
+
+abbrev pub decreases-paths::each : goal.decreases-paths::each
+decreases-paths::each g a = 8 * goal.size-paths::each g a + 4
+
+abbrev pub decreases-paths::at_spot : goal.decreases-paths::at_spot
+decreases-paths::at_spot g a = 8 * goal.size-paths::at_spot g a + 3
+
+abbrev pub decreases-clauses::clause_list : goal.decreases-clauses::clause_list
+decreases-clauses::clause_list g a = 8 * goal.size-clauses::clause_list g a + 7
+
+abbrev pub decreases-clauses::next_tuples : goal.decreases-clauses::next_tuples
+decreases-clauses::next_tuples g a = 8 * goal.size-clauses::next_tuples g a + 6
+
+abbrev pub decreases-clauses::values : goal.decreases-clauses::values
+decreases-clauses::values g a = 8 * goal.size-clauses::values g a + 5
+
+abbrev pub decreases-clauses::next_value : goal.decreases-clauses::next_value
+decreases-clauses::next_value g a = 8 * goal.size-clauses::next_value g a + 4
+
+abbrev pub decreases-clauses::tests : goal.decreases-clauses::tests
+decreases-clauses::tests g a = 8 * goal.size-clauses::tests g a + 5
+
+abbrev pub decreases-clauses::next_test : goal.decreases-clauses::next_test
+decreases-clauses::next_test g a = 8 * goal.size-clauses::next_test g a + 4
+
+abbrev pub decreases-clauses::at_tuple : goal.decreases-clauses::at_tuple
+decreases-clauses::at_tuple g a = 8 * goal.size-clauses::at_tuple g a + 3
+
+abbrev pub decreases-clauses::key_rows : goal.decreases-clauses::key_rows
+decreases-clauses::key_rows g a = 8 * goal.size-clauses::key_rows g a + 6
+
+abbrev pub decreases-clauses::next_row : goal.decreases-clauses::next_row
+decreases-clauses::next_row g a = 8 * goal.size-clauses::next_row g a + 5
+
+abbrev pub decreases-clauses::keys : goal.decreases-clauses::keys
+decreases-clauses::keys g a = 8 * goal.size-clauses::keys g a + 4
+
+abbrev pub decreases-clauses::next_key : goal.decreases-clauses::next_key
+decreases-clauses::next_key g a = 8 * goal.size-clauses::next_key g a + 3
+
+abbrev pub decreases-quantified::satisfied : goal.decreases-quantified::satisfied
+decreases-quantified::satisfied g a = 8 * goal.size-quantified::satisfied g a + 1
+
+abbrev pub decreases-quantified::turn : goal.decreases-quantified::turn
+decreases-quantified::turn g a = 8 * goal.size-quantified::turn g a

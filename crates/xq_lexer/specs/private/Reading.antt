@@ -161,7 +161,7 @@ singles =
     ∷ (125, s.CloseBrace) ∷ (44, s.Comma) ∷ (36, s.Dollar) ∷ (47, s.Slash) ∷ (46, s.Dot)
     ∷ (64, s.At) ∷ (42, s.Star)
     ∷ (43, s.Plus) ∷ (45, s.Minus) ∷ (61, s.Equal) ∷ (60, s.Less) ∷ (62, s.Greater) ∷ (124, s.Bar)
-    ∷ []
+    ∷ (33, s.Bang) ∷ []
 
 abbrev pub single_symbol : ℕ → Option Symbol
 single_symbol c = look_up c singles
@@ -176,7 +176,7 @@ doubles =
     (58, 61, s.Assign) ∷ (58, 58, s.DoubleColon) ∷ (47, 47, s.DoubleSlash) ∷ (46, 46, s.DoubleDot)
     ∷ (33, 61, s.NotEqual)
     ∷ (60, 61, s.LessEqual) ∷ (62, 61, s.GreaterEqual) ∷ (60, 60, s.Precedes) ∷ (62, 62, s.Follows)
-    ∷ (124, 124, s.DoubleBar) ∷ []
+    ∷ (124, 124, s.DoubleBar) ∷ (61, 62, s.Arrow) ∷ []
 
 abbrev pub double_symbol : ℕ → ℕ → Option Symbol
 double_symbol a b = look_up_two a b doubles

@@ -1,36 +1,23 @@
 -- What the parts of an expression mean, as the functions of the walk take them.
-use Rattle.std.specs.Prelude.{List, [], ◌∷◌, ◌++◌, map, Option}
+use Rattle.std.specs.Prelude.{ℕ, List, [], ◌∷◌, ◌++◌, map, Option, Some, None, if◌then◌else◌}
 use Rattle.xq_expressions.specs.declared.expressions.Expr.{Expr}
 use Rattle.xq_expressions.specs.declared.expressions.GroupSpec.{GroupSpec}
 use Rattle.xq_expressions.specs.declared.expressions.Step.{Step}
 use Rattle.xq_expressions.specs.declared.names.QName.{QName}
+use Rattle.xq_expressions.specs.declared.operators.AllowingEmpty.{AllowingEmpty}
+use Rattle.xq_expressions.specs.declared.signatures.Function.{Function}
 use Rattle.xq_expressions.specs.declared.operators.OrderModifier.{OrderModifier}
 use Rattle.xq_expressions.specs.declared.operators.Separator.{Separator}
 use Rattle.xq_expressions.specs.declared.operators.Separator.TheVariants.{Slash, DoubleSlash}
 use Rattle.xq_expressions.specs.declared.operators.PathStart.{PathStart}
 use Rattle.xq_expressions.specs.declared.operators.PathStart.TheVariants.{Relative, Root, RootAndBelow}
-use Rattle.xq_expressions.specs.declared.operators.AxisStep.{AxisStep}
-use Rattle.xq_expressions.specs.declared.operators.AxisStep.TheVariants as step
-use Rattle.xq_regions.specs.declared.Axis.{Axis}
-use Rattle.xq_regions.specs.declared.Axis.TheVariants as axis
-use Rattle.xq_expressions.specs.Signatures.{function_named}
-use Rattle.xq_meaning.specs.declared.node_tests.Test.{Test}
-use Rattle.xq_meaning.specs.declared.node_tests.Test.TheVariants as test
+use Rattle.xq_expressions.specs.Signatures.{arity, admits}
 use Rattle.xq_meaning.specs.declared.operators.Operator.{Operator}
 use Rattle.xq_atoms.specs.Text.{Text}
 use Rattle.xq_meaning.specs.declared.normal_forms.Core.{Core}
 use Rattle.xq_meaning.specs.Forms
-use Rattle.xq_meaning.specs.Meaning.{Environment, Meaning, ClauseMeaning, GroupMeaning, axis_of, test_on, default_axis, local_name, bind, call_of, after, for_clause, let_clause, mean, group_mean, step_mean}
+use Rattle.xq_meaning.specs.Meaning.{Environment, Meaning, ClauseMeaning, GroupMeaning, local_name, bind, after, for_clause, let_clause, mean, group_mean, step_mean}
 use Rattle.xq_meaning.specs.CoreMeaning.{core_mean}
-
--- the axis and the test of a step
-abbrev pub written_out : AxisStep → Axis × Test
-written_out (step.Along axis_name node_test) =
-    (axis_of axis_name, test_on (axis_of axis_name) node_test)
-written_out (step.Attribute node_test) = (axis.Attributes, test_on axis.Attributes node_test)
-written_out step.Parent = (axis.Parent, test.Any)
-written_out (step.Abbreviated node_test) =
-    (default_axis node_test, test_on (default_axis node_test) node_test)
 
 -- # Operators
 
@@ -46,8 +33,18 @@ following operator = map (λ part. (operator, mean part))
 abbrev pub operation : Meaning → Operator → Meaning → Meaning
 operation left operator right = Forms.chain left ((operator, right) ∷ [])
 
-abbrev pub call_named : QName → List Meaning → Meaning
-call_named name arguments = call_of (function_named name.prefix name.local) arguments
+-- # Calls
+
+-- the function, where it takes so many arguments
+abbrev pub admitted : Option Function → ℕ → Option Function
+admitted None count = None
+admitted (Some function) count = if admits (arity function) count then Some function else None
+
+abbrev pub core_calls : List (Function × List Core) → List (Function × List Meaning)
+core_calls = map (λ (c : Function × List Core). (c.0, map core_mean c.1))
+
+abbrev pub calls : List (QName × List Expr) → List (QName × List Meaning)
+calls = map (λ (c : QName × List Expr). (c.0, map mean c.1))
 
 -- # Paths
 
@@ -71,8 +68,8 @@ filter_of primary predicates = Forms.filter_of primary predicates
 
 -- # Clauses and bindings
 
-abbrev pub ranges : List (QName × Option QName × Expr) → List ClauseMeaning
-ranges = map (λ (v, at, part). for_clause v.local (local_name at) (mean part))
+abbrev pub ranges : List (QName × AllowingEmpty × Option QName × Expr) → List ClauseMeaning
+ranges = map (λ (v, empties, at, part). for_clause v.local empties (local_name at) (mean part))
 
 abbrev pub assignments : List (QName × Expr) → List ClauseMeaning
 assignments = map (λ (v, part). let_clause v.local (mean part))

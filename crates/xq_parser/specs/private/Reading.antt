@@ -17,6 +17,8 @@ use Rattle.xq_expressions.specs.declared.operators.AxisStep.{AxisStep}
 use Rattle.xq_expressions.specs.declared.operators.AxisStep.TheVariants as along
 use Rattle.xq_expressions.specs.declared.operators.Direction.{Direction}
 use Rattle.xq_expressions.specs.declared.operators.Direction.TheVariants as direction
+use Rattle.xq_expressions.specs.declared.operators.AllowingEmpty.{AllowingEmpty}
+use Rattle.xq_expressions.specs.declared.operators.AllowingEmpty.TheVariants as allowing
 use Rattle.xq_expressions.specs.declared.operators.EmptyOrder.{EmptyOrder}
 use Rattle.xq_expressions.specs.declared.operators.EmptyOrder.TheVariants as empty_order
 use Rattle.xq_expressions.specs.declared.operators.OrderModifier.{OrderModifier}
@@ -201,7 +203,7 @@ begins_if _ = false
 abbrev pub clause_words : Table (Unit {0})
 clause_words =
     (word "for", tt) ∷ (word "let", tt) ∷ (word "where", tt) ∷ (word "group", tt)
-    ∷ (word "order", tt) ∷ (word "stable", tt) ∷ []
+    ∷ (word "count", tt) ∷ (word "order", tt) ∷ (word "stable", tt) ∷ []
 
 -- ---- names and literals
 
@@ -294,8 +296,11 @@ module _ (single : Parser Expr) where
   unfoldable pub arguments : Parser (List Expr)
   arguments = after (symbol s.OpenParenthesis) (before argument_list (symbol s.CloseParenthesis))
 
+  unfoldable pub called : Parser (QName × List Expr)
+  called = both call_name arguments
+
   unfoldable pub call : Parser Expr
-  call = mapped g.call (both call_name arguments)
+  call = mapped g.call called
 
   unfoldable pub parenthesised : Parser Expr
   parenthesised = after (symbol s.OpenParenthesis)
@@ -373,6 +378,14 @@ unfoldable pub empty_words : Parser EmptyOrder
 empty_words = choose (is (word "empty")) (after (word "empty") (one_of g.empty_orders))
     (pure empty_order.Least)
 
+-- the word after `allowing`
+abbrev pub allowances : Table AllowingEmpty
+allowances = (word "empty", allowing.Yes) ∷ []
+
+unfoldable pub allowing_words : Parser AllowingEmpty
+allowing_words = choose (is (word "allowing")) (after (word "allowing") (one_of allowances))
+    (pure allowing.No)
+
 unfoldable pub direction_word : Parser Direction
 direction_word = choose (begins g.directions) (one_of g.directions) (pure direction.Ascending)
 
@@ -415,14 +428,26 @@ module _ (single : Parser Expr) where
       (choose (is (symbol s.Slash)) from_root
       (choose (is (symbol s.DoubleSlash)) from_below (mapped g.relative relative)))
 
+  unfoldable pub map_item : Parser Expr
+  map_item = after (symbol s.Bang) path
+
+  unfoldable pub simple_map : Parser Expr
+  simple_map = mapped (g.chain e.Map) (both path (many (is (symbol s.Bang)) map_item))
+
   unfoldable pub unary : Parser Expr
-  unary = mapped g.signed (both (many (begins g.signs) (one_of g.signs)) path)
+  unary = mapped g.signed (both (many (begins g.signs) (one_of g.signs)) simple_map)
+
+  unfoldable pub arrow_item : Parser (QName × List Expr)
+  arrow_item = after (symbol s.Arrow) (called single)
+
+  unfoldable pub arrow : Parser Expr
+  arrow = mapped (g.chain e.Arrow) (both unary (many (is (symbol s.Arrow)) arrow_item))
 
   unfoldable pub set_item : Parser (SetOperator × Expr)
-  set_item = both (one_of g.set_operators) unary
+  set_item = both (one_of g.set_operators) arrow
 
   unfoldable pub inter : Parser Expr
-  inter = mapped (g.chain e.SetOperation) (both unary (many (begins g.set_operators) set_item))
+  inter = mapped (g.chain e.SetOperation) (both arrow (many (begins g.set_operators) set_item))
 
   unfoldable pub union_item : Parser Expr
   union_item = choose (is (word "union")) (after (word "union") inter) (after (symbol s.Bar) inter)
@@ -514,15 +539,20 @@ module _ (single : Parser Expr) where
   unfoldable pub let_clause : Parser Clause
   let_clause = mapped clause.Let (after (word "let") (commas let_binding))
 
-  unfoldable pub for_binding : Parser (QName × Option QName × Expr)
-  for_binding = mapped g.for_binding (both variable (both position (governed single (word "in"))))
+  unfoldable pub for_binding : Parser (QName × AllowingEmpty × Option QName × Expr)
+  for_binding = mapped g.for_binding
+      (both variable (both allowing_words (both position (governed single (word "in")))))
 
   unfoldable pub for_clause : Parser Clause
   for_clause = mapped clause.For (after (word "for") (commas for_binding))
 
+  unfoldable pub count_clause : Parser Clause
+  count_clause = mapped clause.Count (after (word "count") variable)
+
   unfoldable pub later_clause : Parser Clause
   later_clause = choose (is (word "where")) filter_clause
-      (choose (is (word "group")) group_clause order_clause)
+      (choose (is (word "group")) group_clause
+      (choose (is (word "count")) count_clause order_clause))
 
   unfoldable pub clause_ : Parser Clause
   clause_ = choose (is (word "for")) for_clause (choose (is (word "let")) let_clause later_clause)

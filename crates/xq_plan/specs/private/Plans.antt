@@ -4,6 +4,7 @@ use Rattle.std.specs.Prelude.{◌≡◌, ◌≤◌, ℕ, List, [], ◌∷◌, �
 use Rattle.std.specs.List.{AllByRecursion}
 use Rattle.xq_atoms.specs.Text.{Text}
 use Rattle.xq_expressions.specs.declared.operators.OrderModifier.{OrderModifier}
+use Rattle.xq_expressions.specs.declared.signatures.Function.{Function}
 use Rattle.xq_regions.specs.Tree.{Tree}
 use Rattle.xq_regions.specs.Tuples.{Tuple}
 use Rattle.xq_meaning.specs.Functions.{Focus}
@@ -31,6 +32,10 @@ AreAll R xs ys = ⊥
 
 abbrev pub IsOperand : List Text → Operator × Core → Operator × Plan → Type 0
 IsOperand names x y = (y.0 ≡ x.0) × IsPlan names x.1 y.1
+
+-- a call after an arrow
+abbrev pub IsNextCall : List Text → Function × List Core → Function × List Plan → Type 0
+IsNextCall names x y = (y.0 ≡ x.0) × AreAll (IsPlan names) x.1 y.1
 
 abbrev pub IsKey : List Text → Core × OrderModifier → Plan × OrderModifier → Type 0
 IsKey names x y = IsPlan names x.0 y.0 × (y.1 ≡ x.1)

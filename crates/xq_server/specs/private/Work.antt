@@ -1,6 +1,8 @@
 -- What the parts of a step ensure, before the reply is written.
 use Rattle.std.specs.Prelude.{◌≡◌, ℕ, ◌≤◌, List, ◌++◌, length, Result, Ok, Err, String, codes, string_bytes, string_len, ◌⊎◌, ⊤}
+use Rattle.std.specs.FinMap.{keys, values}
 use Rattle.std.specs.Global.{Global}
+use Rattle.xq_atoms.specs.Address.{IsAddress}
 use Rattle.xq_atoms.specs.Code.{code_text, want_text}
 use Rattle.xq_atoms.specs.declared.refusals.Code.{Code}
 use Rattle.xq_atoms.specs.declared.refusals.Fault.{Fault}
@@ -12,8 +14,8 @@ use Rattle.xq_regions.specs.Tree.{Tree}
 use Rattle.xq_regions.specs.declared.Kind.TheVariants.{Document}
 use Rattle.xq_rows.specs.Documents.{Map}
 use Rattle.xq_frame.specs.Reply.{reply_bytes, longest_text}
-use Rattle.xq_frame.specs.Request.{RequestMeaning, query}
-use Rattle.xq_queries.specs.Values.{IsPlanOf, Value, reply_text, made_document}
+use Rattle.xq_frame.specs.Request.{RequestMeaning, query, put}
+use Rattle.xq_queries.specs.Values.{IsPlanOf, Value, plan_value, reply_text, made_document}
 use Rattle.xq_queries.specs.ReadBack.{HaveNumbersInRange}
 use Rattle.xq_server.specs.Meaning.{Query, Reads}
 use Rattle.xq_server.specs.Answer.{Answers, success, refusal}
@@ -66,6 +68,14 @@ Tells m asked new (Ok Replaced) = TellsText m asked new (codes "replaced")
 Tells m asked new (Ok Dropped) = TellsText m asked new (codes "dropped")
 Tells m asked new (Err (OfCode code)) = Answers m asked (refusal new code)
 Tells m asked new (Err (OfWant want)) = MayWant asked want × (new ≡ m)
+
+-- the document that a text makes over these documents; or what a put of it is told, which leaves
+-- them as they are
+abbrev pub GivesDocument : List ℕ → Map → Result Tree Fault → Type 0
+GivesDocument text m (Ok tree) = (plan : Plan) × Understands text (Ok plan)
+    × Makes MakesDocument (plan_value plan (keys m) (values m)) (Ok tree)
+GivesDocument text m (Err fault) = (address : List ℕ) → IsAddress address →
+    Tells m (put address text) m (Err fault)
 
 -- a text is within the limit
 abbrev pub IsShort : Result Answer Fault → Type 0

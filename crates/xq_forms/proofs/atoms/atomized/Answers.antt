@@ -5,7 +5,8 @@ use Rattle.xq_regions.specs.declared.items.Item.{Item as Held}
 use Rattle.xq_regions.specs.Items.{item_view}
 use Rattle.xq_meaning.specs.Items.{atom_of}
 use Rattle.xq_meaning.specs.Readings.{item_at}
-use Rattle.xq_forms.proofs.Lists.{taken_next, thrice}
+use Rattle.xq_forms.specs.Reads.{IsAtom}
+use Rattle.xq_forms.proofs.Lists.{taken_next, thrice, all_at}
 use Rattle.xq_forms.proofs.atoms.atomized.Goals as goal
 
 pub loop-item-preserved : goal.loop-item-preserved
@@ -19,6 +20,7 @@ loop-item-preserved g c =
     let read = λ (h : Held). atom_of old (item_at old (item_view h)) in
     record {
       keeps = c.of_item.ensures.keeps ∙ i.keeps;
+      reads = λ all. c.of_item.ensures.reads (all_at IsAtom item_view items n x all (omega arith) c.item-item.is) ∙ i.reads all;
       was_clean = λ k. i.was_clean (c.of_item.ensures.was_clean k);
       value = λ k.
           let one : atomic_of atom ≡ read x = subst (λ f. atomic_of atom ≡ atom_of f (item_at f (item_view x))) i.keeps (c.in_ok-of_item.ensures.value k) in
@@ -36,3 +38,11 @@ returns-clause-value g c = λ k.
     let items = c.args.items.now in
     i.value k ∙ ap (map (λ (h : Held). atom_of old (item_at old (item_view h)))) (take_all c.loop-item.item-index items (omega arith))
     ∙ sym (thrice (atom_of old) (item_at old) item_view items)
+
+pub returns-in_err-of_item-clause-reads : goal.returns-in_err-of_item-clause-reads
+returns-in_err-of_item-clause-reads g c = λ all.
+    c.of_item.ensures.reads (all_at IsAtom item_view c.args.items.now c.loop-item.item-index c.item-item.result all (omega arith) c.item-item.is) ∙ c.loop-item.invariant.reads all
+
+pub returns-in_err-push-clause-reads : goal.returns-in_err-push-clause-reads
+returns-in_err-push-clause-reads g c = λ all.
+    c.of_item.ensures.reads (all_at IsAtom item_view c.args.items.now c.loop-item.item-index c.item-item.result all (omega arith) c.item-item.is) ∙ c.loop-item.invariant.reads all

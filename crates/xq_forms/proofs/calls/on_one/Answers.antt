@@ -1,9 +1,14 @@
 use Rattle.std.proofs.Common.{◌≡◌, ◌∙◌, ap, sym, subst, map}
+use Rattle.std.specs.List.{AllByRecursion}
+use Rattle.xq_functions.specs.Kinds.{argument_of}
+use Rattle.xq_functions.specs.declared.kinds.Argument.TheVariants.{Address, Nodes}
 use Rattle.xq_atoms.specs.Atom.{atomic_of}
 use Rattle.xq_atoms.specs.Answers.{GivesUnlessWanting}
 use Rattle.xq_functions.specs.Answers.{atomics, items_of, lent_items}
 use Rattle.xq_meaning.specs.Functions as Functions
 use Rattle.xq_meaning.specs.Items.{atomized}
+use Rattle.xq_regions.specs.Items.{item_view}
+use Rattle.xq_forms.specs.Reads.{IsAtom}
 use Rattle.xq_forms.proofs.CallForms.{one_missing, one_available}
 use Rattle.xq_forms.proofs.Giving.{told}
 use Rattle.xq_forms.proofs.calls.on_one.Goals as goal
@@ -55,6 +60,28 @@ returns g c =
           subst (λ j. GivesUnlessWanting (items_of old) j c.doc_available.result)
           (ap (Functions.doc_available addresses) read ∙ sym (one_available c.args.function old addresses xs (sym c.in-Address.ensures) c.in_default.not-Doc))
           (told (items_of old) (Functions.doc_available addresses (atomics c.deref-in_default.result.now)) c.doc_available.result (c.doc_available.ensures old));
+      reads = λ is all. c.atomized-in-Address.ensures.reads (subst (λ l. AllByRecursion IsAtom (map item_view l)) (sym c.deref-in-Address.ensures.value) all);
       keeps = c.atomized-in-Address.ensures.keeps;
       was_clean = c.atomized-in-Address.ensures.was_clean;
     }
+
+pub returns-in-Nodes-clause-reads : goal.returns-in-Nodes-clause-reads
+returns-in-Nodes-clause-reads g c = λ is all.
+    let other : Address ≡ Nodes = ap argument_of (sym is) ∙ sym c.in-Nodes.ensures in
+    absurd (cc)
+
+pub returns-in_err-atoms-in-Atoms-clause-reads : goal.returns-in_err-atoms-in-Atoms-clause-reads
+returns-in_err-atoms-in-Atoms-clause-reads g c = λ is all.
+    c.atomized.ensures.reads (subst (λ l. AllByRecursion IsAtom (map item_view l)) (sym c.deref-in-Atoms.ensures.value) all)
+
+pub returns-in-Atoms-clause-reads : goal.returns-in-Atoms-clause-reads
+returns-in-Atoms-clause-reads g c = λ is all.
+    c.atomized.ensures.reads (subst (λ l. AllByRecursion IsAtom (map item_view l)) (sym c.deref-in-Atoms.ensures.value) all)
+
+pub returns-in_err-atoms-in-Address-clause-reads : goal.returns-in_err-atoms-in-Address-clause-reads
+returns-in_err-atoms-in-Address-clause-reads g c = λ is all.
+    c.atomized-in-Address.ensures.reads (subst (λ l. AllByRecursion IsAtom (map item_view l)) (sym c.deref-in-Address.ensures.value) all)
+
+pub returns-in-Doc-clause-reads : goal.returns-in-Doc-clause-reads
+returns-in-Doc-clause-reads g c = λ is all.
+    c.atomized-in-Address.ensures.reads (subst (λ l. AllByRecursion IsAtom (map item_view l)) (sym c.deref-in-Address.ensures.value) all)

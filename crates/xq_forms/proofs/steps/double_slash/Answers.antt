@@ -5,6 +5,8 @@ use Rattle.xq_axes.specs.Nodes.{HaveAll}
 use Rattle.xq_regions.specs.Items.{Place, item_view, item_views}
 use Rattle.xq_meaning.specs.Readings.{node_at, items_at, AreIn}
 use Rattle.xq_forms.specs.Views.{GivesSequence, after_double_slash}
+use Rattle.xq_forms.specs.Reads.{AreOf}
+use Rattle.xq_forms.proofs.OneTree.{not_grown, contexts_of, contexts_have, double_slash_grown, double_slash_found}
 use Rattle.xq_forms.proofs.NodeLemmas.{among_in, double_slash_gives, double_slash_stops}
 use Rattle.xq_forms.proofs.steps.double_slash.Goals as goal
 
@@ -29,3 +31,41 @@ returns-clause-gives g c = λ k inside.
     let step = c.in_ok-nodes.ensures.nodes k have ∙ ap (λ ns. after_places old test (map (node_at old) ns)) contexts in
     subst (λ f. AreIn f found × (after_double_slash test (items_at old views) old ≡ (Ok (items_at f found), f))) (sym c.double_slash.ensures.keeps)
     (double_slash_gives old test views nodes found (c.in_ok-only_nodes.ensures old) step (c.in_ok-nodes.ensures.there k have) (c.in_ok-as_items.ensures ∙ ap (map Place) c.deref-2.ensures.value))
+
+pub returns-in_err-only_nodes-clause-reads : goal.returns-in_err-only_nodes-clause-reads
+returns-in_err-only_nodes-clause-reads g c = λ k tree h. not_grown _ _
+
+pub returns-in_err-contexts-clause-reads : goal.returns-in_err-contexts-clause-reads
+returns-in_err-contexts-clause-reads g c = λ k tree h. not_grown _ _
+
+pub returns-in_err-nodes-clause-reads : goal.returns-in_err-nodes-clause-reads
+returns-in_err-nodes-clause-reads g c = λ k tree h.
+    let old = g.W.TreeSource.forest c.args.world.now in
+    let views = map item_view c.args.items.now in
+    let contexts = c.deref.ensures.value ∙ c.in_ok-contexts.ensures in
+    double_slash_grown old tree views c.deref.result.now contexts h (g.W.TreeSource.meter c.args.world.now) (g.W.TreeSource.meter c.double_slash.new.source) (c.double_slash.ensures.rows k tree (contexts_of old tree views c.deref.result.now contexts h)) c.double_slash.ensures.singles
+
+pub returns-in_err-as_items-clause-reads : goal.returns-in_err-as_items-clause-reads
+returns-in_err-as_items-clause-reads g c = λ k tree h.
+    let old = g.W.TreeSource.forest c.args.world.now in
+    let views = map item_view c.args.items.now in
+    let contexts = c.deref.ensures.value ∙ c.in_ok-contexts.ensures in
+    double_slash_grown old tree views c.deref.result.now contexts h (g.W.TreeSource.meter c.args.world.now) (g.W.TreeSource.meter c.double_slash.new.source) (c.double_slash.ensures.rows k tree (contexts_of old tree views c.deref.result.now contexts h)) c.double_slash.ensures.singles
+
+pub returns-clause-reads : goal.returns-clause-reads
+returns-clause-reads g c = λ k tree h.
+    let old = g.W.TreeSource.forest c.args.world.now in
+    let views = map item_view c.args.items.now in
+    let contexts = c.deref.ensures.value ∙ c.in_ok-contexts.ensures in
+    double_slash_grown old tree views c.deref.result.now contexts h (g.W.TreeSource.meter c.args.world.now) (g.W.TreeSource.meter c.double_slash.new.source) (c.double_slash.ensures.rows k tree (contexts_of old tree views c.deref.result.now contexts h)) c.double_slash.ensures.singles
+
+pub returns-clause-of_tree : goal.returns-clause-of_tree
+returns-clause-of_tree g c = λ k tree h.
+    let old = g.W.TreeSource.forest c.args.world.now in
+    let views = map item_view c.args.items.now in
+    let found = item_views c.in_ok-as_items.field-0 in
+    let nodes = c.in_ok-nodes.nodes.items in
+    let contexts = c.deref.ensures.value ∙ c.in_ok-contexts.ensures in
+    let have = contexts_have old tree views c.deref.result.now contexts h in
+    subst (λ f. AreOf f tree found) (sym c.double_slash.ensures.keeps)
+    (double_slash_found old tree views c.deref.result.now contexts h c.args.test.now nodes found (c.in_ok-nodes.ensures.nodes k have) (c.in_ok-nodes.ensures.there k have) c.in_ok-nodes.ensures.rising (c.in_ok-as_items.ensures ∙ ap (map Place) c.deref-2.ensures.value))

@@ -1,17 +1,20 @@
-use Rattle.std.proofs.Common.{◌≡◌, ◌++◌, ◌∷◌, [], map, sym, ap, ◌∙◌, subst, refl, arith, rules, to_z, of_z, w64}
+use Rattle.std.proofs.Common.{◌≡◌, ◌<◌, ◌+◌, ◌*◌, ◌++◌, List, ◌∷◌, [], map, sym, ap, ◌∙◌, subst, refl, arith, rules, to_z, of_z, w64}
 use Rattle.xq_meaning.specs.Meaning.{position_name}
 use Rattle.xq_meaning.specs.declared.normal_forms.Core.TheVariants as core
 use Rattle.xq_meaning.specs.declared.normal_forms.CoreClause.TheVariants as clause
 use Rattle.xq_meaning.specs.declared.plans.Plan.TheVariants as plan
 use Rattle.xq_meaning.specs.declared.plans.PlanClause.TheVariants as plan_clause
 use Rattle.xq_meaning.specs.Same.{IsPlan}
-use Rattle.xq_plan.specs.private.Plans.{AreAll, AreRanges, AreClauses, IsClause, IsOperand, IsStep, IsKey}
-use Rattle.xq_meaning.specs.declared.normal_forms.Core.{out-Core}
+use Rattle.xq_plan.specs.private.Plans.{AreAll, AreRanges, AreClauses, IsClause, IsNextCall, IsOperand, IsStep, IsKey}
+use Rattle.xq_expressions.specs.declared.signatures.Function.{Function}
+use Rattle.xq_meaning.specs.declared.normal_forms.Core.{Core, out-Core, size-Core}
 use Rattle.xq_meaning.specs.declared.normal_forms.Core.TheOpen.{Core-F}
 use Rattle.xq_plan.specs.private.Shapes.{IsLiteral, IsCall, IsScan}
 use Rattle.xq_plan.proofs.Forms as forms
 use Rattle.xq_plan.proofs.Shapes.{IsPart, IsStepOrScan, shape_at, all_are, step_shape, scan_of}
 use Rattle.xq_plan.proofs.Walks.{left_next, left_done, range_next, ranges_done, clause_next, clauses_done, for_clause, let_clause, where_clause, order_clause, flwor_is, quantified_is, as_is, part_at, list_at, asked}
+use denote.Param.Weighed.{most, at_most}
+use Prim.Native.Nat.{max}
 use Rattle.xq_plan.proofs.walk.+walk.Goals as goal
 
 pub expression-returns-in_ok-expressions-in-Sequence-clause-planned : goal.expression-returns-in_ok-expressions-in-Sequence-clause-planned
@@ -33,6 +36,20 @@ pub expression-returns-in_ok-expressions-in-Call-clause-planned : goal.expressio
 expression-returns-in_ok-expressions-in-Call-clause-planned t c =
     as_is c.args.scope.now c.args.core.now (core.Call c.in-Call.function c.in-Call.parts) (plan.Call c.in-Call.function c.in_ok-expressions-in-Call.field-0) (c.in-Call.is)
     (forms.call_plan c.args.scope.now c.in-Call.function c.in-Call.parts c.in_ok-expressions-in-Call.field-0 (list_at IsPlan c.args.scope.now c.args.scope.now c.as_slice-in-Call.result.now c.in-Call.parts c.in_ok-expressions-in-Call.field-0 (refl) c.as_slice-in-Call.ensures c.in_ok-expressions-in-Call.ensures.planned))
+
+pub expression-returns-in_ok-calls-in-Arrow-clause-planned : goal.expression-returns-in_ok-calls-in-Arrow-clause-planned
+expression-returns-in_ok-calls-in-Arrow-clause-planned t c =
+    as_is c.args.scope.now c.args.core.now (core.Arrow c.in-Arrow.first c.in-Arrow.list) (plan.Arrow c.in_ok-first-in-Arrow.first c.in_ok-calls-in-Arrow.field-0) (c.in-Arrow.is)
+    (forms.arrow_plan c.args.scope.now c.in-Arrow.first c.in-Arrow.list c.in_ok-first-in-Arrow.first c.in_ok-calls-in-Arrow.field-0
+    (part_at c.args.scope.now c.args.scope.now c.get-in-Arrow.result.now c.in-Arrow.first c.in_ok-first-in-Arrow.first (refl) c.get-in-Arrow.ensures c.in_ok-first-in-Arrow.ensures.planned)
+    (list_at IsNextCall c.boxed-in-Arrow.new.scope c.args.scope.now c.as_slice-in-Arrow.result.now c.in-Arrow.list c.in_ok-calls-in-Arrow.field-0 (c.in_ok-first-in-Arrow.ensures.kept) c.as_slice-in-Arrow.ensures c.in_ok-calls-in-Arrow.ensures.planned))
+
+pub expression-returns-in_ok-expressions-in-Map-clause-planned : goal.expression-returns-in_ok-expressions-in-Map-clause-planned
+expression-returns-in_ok-expressions-in-Map-clause-planned t c =
+    as_is c.args.scope.now c.args.core.now (core.Map c.in-Map.start c.in-Map.parts) (plan.Map c.in_ok-start-in-Map.start c.in_ok-expressions-in-Map.field-0) (c.in-Map.is)
+    (forms.map_plan c.args.scope.now c.in-Map.start c.in-Map.parts c.in_ok-start-in-Map.start c.in_ok-expressions-in-Map.field-0
+    (part_at c.args.scope.now c.args.scope.now c.get-in-Map.result.now c.in-Map.start c.in_ok-start-in-Map.start (refl) c.get-in-Map.ensures c.in_ok-start-in-Map.ensures.planned)
+    (list_at IsPlan c.boxed-in-Map.new.scope c.args.scope.now c.as_slice-in-Map.result.now c.in-Map.parts c.in_ok-expressions-in-Map.field-0 (c.in_ok-start-in-Map.ensures.kept) c.as_slice-in-Map.ensures c.in_ok-expressions-in-Map.ensures.planned))
 
 pub expression-returns-in_ok-operands-in-Chain-clause-planned : goal.expression-returns-in_ok-operands-in-Chain-clause-planned
 expression-returns-in_ok-operands-in-Chain-clause-planned t c =
@@ -142,9 +159,9 @@ pub range-returns-clause-planned : goal.range-returns-clause-planned
 range-returns-clause-planned t c =
     let is : c.bind.new.scope ≡ c.args.scope.now ++ c.args.variable.now ∷ position_name c.args.at.now =
     c.in_ok-bind.ensures ∙ ap (λ ns. ns ++ c.args.variable.now ∷ position_name c.args.at.now) c.in_ok-sequence.ensures.kept in
-    subst (λ b. IsClause c.args.start c.args.scope.now (clause.For c.args.variable.now c.args.at.now c.args.sequence.now) (plan_clause.For b c.in_ok-sequence.sequence) c.bind.new.scope)
+    subst (λ b. IsClause c.args.start c.args.scope.now (clause.For c.args.variable.now c.args.empties c.args.at.now c.args.sequence.now) (plan_clause.For c.args.empties b c.in_ok-sequence.sequence) c.bind.new.scope)
     (sym (c.is_some.ensures ∙ asked c.args.at.now))
-    (for_clause c.args.start c.args.scope.now c.requires c.args.variable.now c.args.at.now c.args.sequence.now c.in_ok-sequence.sequence c.bind.new.scope c.in_ok-sequence.ensures.planned is)
+    (for_clause c.args.start c.args.scope.now c.requires c.args.variable.now c.args.empties c.args.at.now c.args.sequence.now c.in_ok-sequence.sequence c.bind.new.scope c.in_ok-sequence.ensures.planned is)
 
 pub assignment-returns-clause-planned : goal.assignment-returns-clause-planned
 assignment-returns-clause-planned t c =
@@ -166,6 +183,16 @@ pub expressions-returns-clause-literals : goal.expressions-returns-clause-litera
 expressions-returns-clause-literals t c =
     all_are (IsPart c.args.scope.now) IsLiteral (λ x y h. h.1) c.args.cores.now c.loop-core.found
     (left_done IsPart c.args.cores.now c.loop-core.core-index c.args.scope.now c.loop-core.scope c.loop-core.found c.loop-core.invariant (omega (arith, c.loop-core-test.false)))
+
+pub calls-loop-function-preserved : goal.calls-loop-function-preserved
+calls-loop-function-preserved t c =
+    left_next IsNextCall c.args.list.now c.loop-function.function-index c.args.scope.now c.loop-function.scope c.loop-function.found c.loop-function.invariant c.expressions.new.scope c.loop-function-item.result (c.loop-function-item.result.0, c.in_ok-expressions.field-0) c.push.new.self
+    (omega (arith, c.loop-function-test.true)) c.loop-function-item.is
+    (refl, subst (λ cs. AreAll (IsPlan c.loop-function.scope) cs c.in_ok-expressions.field-0) c.as_slice.ensures c.in_ok-expressions.ensures.planned) c.in_ok-expressions.ensures.kept c.in_ok-push.ensures.ok
+
+pub calls-returns-clause-planned : goal.calls-returns-clause-planned
+calls-returns-clause-planned t c =
+    left_done IsNextCall c.args.list.now c.loop-function.function-index c.args.scope.now c.loop-function.scope c.loop-function.found c.loop-function.invariant (omega (arith, c.loop-function-test.false))
 
 pub operands-loop-operator-preserved : goal.operands-loop-operator-preserved
 operands-loop-operator-preserved t c =
@@ -237,6 +264,16 @@ pub expression-returns-in_ok-expressions-in-Call-clause-shape : goal.expression-
 expression-returns-in_ok-expressions-in-Call-clause-shape t c =
     shape_at c.args.core.now (Core-F.Call c.in-Call.function c.in-Call.parts) _ (ap out-Core (c.in-Call.is) ∙ core.outs-Call c.in-Call.function c.in-Call.parts)
     (tt, (c.in_ok-expressions-in-Call.field-0, refl, subst (λ cs. AreAll IsLiteral cs c.in_ok-expressions-in-Call.field-0) c.as_slice-in-Call.ensures c.in_ok-expressions-in-Call.ensures.literals), tt, tt)
+
+pub expression-returns-in_ok-calls-in-Arrow-clause-shape : goal.expression-returns-in_ok-calls-in-Arrow-clause-shape
+expression-returns-in_ok-calls-in-Arrow-clause-shape t c =
+    shape_at c.args.core.now (Core-F.Arrow c.in-Arrow.first c.in-Arrow.list) _ (ap out-Core (c.in-Arrow.is) ∙ core.outs-Arrow c.in-Arrow.first c.in-Arrow.list)
+    (tt, tt, tt, tt)
+
+pub expression-returns-in_ok-expressions-in-Map-clause-shape : goal.expression-returns-in_ok-expressions-in-Map-clause-shape
+expression-returns-in_ok-expressions-in-Map-clause-shape t c =
+    shape_at c.args.core.now (Core-F.Map c.in-Map.start c.in-Map.parts) _ (ap out-Core (c.in-Map.is) ∙ core.outs-Map c.in-Map.start c.in-Map.parts)
+    (tt, tt, tt, tt)
 
 pub expression-returns-in_ok-operands-in-Chain-clause-shape : goal.expression-returns-in_ok-operands-in-Chain-clause-shape
 expression-returns-in_ok-operands-in-Chain-clause-shape t c =
@@ -312,3 +349,14 @@ pub expression-returns-in-ContextItem-clause-shape : goal.expression-returns-in-
 expression-returns-in-ContextItem-clause-shape t c =
     shape_at c.args.core.now (Core-F.ContextItem) _ (ap out-Core (c.in-ContextItem.is) ∙ core.outs-ContextItem)
     (tt, tt, tt, tt)
+
+-- the others in a call after an arrow are no deeper than the calls
+pub calls-expressions-requires : goal.calls-expressions-requires
+calls-expressions-requires t c =
+    let depth = λ (o : Function × List Core). max 0 (max (most size-Core o.1) 0) in
+    let at : 3 * most depth c.args.list.now + 2 ≡ t = c.decreases in
+    let among = at_most depth c.args.list.now c.loop-function.function-index c.loop-function-item.result (omega (arith, c.loop-function-test.true)) in
+    let this = ap depth c.loop-function-item.is in
+    let same = ap (most size-Core) c.as_slice.ensures in
+    let below : 3 * most size-Core c.as_slice.result.now + 1 < t = omega (arith, at, among, this, same) in
+    (below, tt)

@@ -1,22 +1,25 @@
-use Rattle.std.proofs.Common.{Ok, Err, ◌≡◌, ◌++◌, [], length, drop, map, Option, None, sym, ◌∙◌, ap, subst, refl, arith}
+use Rattle.std.proofs.Common.{Ok, Err, ◌≡◌, ◌<◌, ◌+◌, ◌*◌, ◌++◌, [], List, length, drop, map, Option, None, sym, ◌∙◌, ap, subst, refl, arith}
 use Rattle.xq_expressions.specs.declared.names.QName.{QName}
-use Rattle.xq_expressions.specs.declared.expressions.Expr.{Expr}
+use Rattle.xq_expressions.specs.declared.expressions.Expr.{Expr, size-Expr}
 use Rattle.xq_expressions.specs.declared.expressions.Step.{Step}
+use Rattle.xq_expressions.specs.declared.operators.AllowingEmpty.{AllowingEmpty}
 use Rattle.xq_expressions.specs.declared.operators.Sign.{Sign}
 use Rattle.xq_expressions.specs.declared.operators.ProductOperator.{ProductOperator}
 use Rattle.xq_expressions.specs.declared.operators.SetOperator.{SetOperator}
 use Rattle.xq_expressions.specs.declared.operators.Separator.{Separator}
 use Rattle.xq_expressions.specs.declared.operators.OrderModifier.{OrderModifier}
 use Rattle.xq_statics.specs.Gives.{Judges}
-use Rattle.xq_statics.specs.Statics.{places, after, axis_places, each, in_turn, assigned, ranging}
+use Rattle.xq_statics.specs.Statics.{places, after, axis_places, each, arrow_call, in_turn, assigned, ranging}
 use Rattle.xq_statics.specs.private.Parts as parts
 use Rattle.xq_statics.specs.private.Parts.{fault, binding_fault}
 use Rattle.xq_statics.specs.Faults.{first_fault, call_fault}
 use Rattle.std.specs.Option.{option_or}
 use Rattle.std.proofs.lemmas.List.{length-map}
 use Rattle.xq_statics.proofs.Equations as eq
-use Rattle.xq_statics.proofs.Judging.{stops, handed_on, in_order, binding_stops, binding_passes, none_bound, each_next, each_stops, each_done, turn_next, turn_stops, turn_done, turn_binds, bound_more, still_within}
-use Rattle.xq_statics.proofs.Lists.{both-are, operators-are, keys-are, assignments-are, ranges-are}
+use Rattle.xq_statics.proofs.Judging.{stops, handed_on, in_order, first_stops, first_passes, binding_stops, binding_passes, none_bound, each_next, each_stops, each_done, turn_next, turn_stops, turn_done, turn_binds, bound_more, still_within}
+use Rattle.xq_statics.proofs.Lists.{both-are, operators-are, keys-are, assignments-are, ranges-are, calls-are}
+use denote.Param.Weighed.{most, at_most}
+use Prim.Native.Nat.{max}
 use Rattle.xq_statics.proofs.walk.+walk.Goals as goal
 
 pub expression-returns-in_err-expression-in-Sum-clause-judged : goal.expression-returns-in_err-expression-in-Sum-clause-judged
@@ -43,13 +46,29 @@ pub expression-returns-in_ok-expression-in-SetOperation-clause-judged : goal.exp
 expression-returns-in_ok-expression-in-SetOperation-clause-judged t c =
     rw (c.in-SetOperation.is, eq.places-SetOperation, operators-are places c.in-SetOperation.more, ← c.get-in-SetOperation.ensures, ← c.as_slice-in-SetOperation.ensures) (in_order c.set_operands.result (places c.get-in-SetOperation.result.now) (parts.operands c.as_slice-in-SetOperation.result.now) c.args.scope.now c.expression-in-SetOperation.new.scope c.in_ok-expression-in-SetOperation.ensures.judged c.in_ok-expression-in-SetOperation.ensures.kept c.set_operands.ensures.judged)
 
+pub expression-returns-in_err-expression-in-Arrow-clause-judged : goal.expression-returns-in_err-expression-in-Arrow-clause-judged
+expression-returns-in_err-expression-in-Arrow-clause-judged t c =
+    handed_on c.from_residual-in_err-expression-in-Arrow.result c.in_err-expression-in-Arrow.field-0.0 _ c.from_residual-in_err-expression-in-Arrow.ensures.1 (rw (c.in-Arrow.is, eq.places-Arrow, calls-are c.in-Arrow.calls, ← c.get-in-Arrow.ensures) (stops c.in_err-expression-in-Arrow.field-0.0 (places c.get-in-Arrow.result.now c.args.scope.now) (parts.arrow_calls c.in-Arrow.calls c.args.scope.now) c.in_err-expression-in-Arrow.ensures.judged))
+
+pub expression-returns-in_ok-expression-in-Arrow-clause-judged : goal.expression-returns-in_ok-expression-in-Arrow-clause-judged
+expression-returns-in_ok-expression-in-Arrow-clause-judged t c =
+    rw (c.in-Arrow.is, eq.places-Arrow, calls-are c.in-Arrow.calls, ← c.get-in-Arrow.ensures, ← c.as_slice-in-Arrow.ensures) (in_order c.arrow_calls.result (places c.get-in-Arrow.result.now) (parts.arrow_calls c.as_slice-in-Arrow.result.now) c.args.scope.now c.expression-in-Arrow.new.scope c.in_ok-expression-in-Arrow.ensures.judged c.in_ok-expression-in-Arrow.ensures.kept c.arrow_calls.ensures.judged)
+
+pub expression-returns-in_err-expression-in-Map-clause-judged : goal.expression-returns-in_err-expression-in-Map-clause-judged
+expression-returns-in_err-expression-in-Map-clause-judged t c =
+    handed_on c.from_residual-in_err-expression-in-Map.result c.in_err-expression-in-Map.field-0.0 _ c.from_residual-in_err-expression-in-Map.ensures.1 (rw (c.in-Map.is, eq.places-Map, ← c.get-in-Map.ensures) (stops c.in_err-expression-in-Map.field-0.0 (places c.get-in-Map.result.now c.args.scope.now) (each (map places c.in-Map.more) c.args.scope.now) c.in_err-expression-in-Map.ensures.judged))
+
+pub expression-returns-in_ok-expression-in-Map-clause-judged : goal.expression-returns-in_ok-expression-in-Map-clause-judged
+expression-returns-in_ok-expression-in-Map-clause-judged t c =
+    rw (c.in-Map.is, eq.places-Map, ← c.get-in-Map.ensures, ← c.as_slice-in-Map.ensures) (in_order c.expressions-in-Map.result (places c.get-in-Map.result.now) (each (map places c.as_slice-in-Map.result.now)) c.args.scope.now c.expression-in-Map.new.scope c.in_ok-expression-in-Map.ensures.judged c.in_ok-expression-in-Map.ensures.kept c.expressions-in-Map.ensures.judged)
+
 pub expression-returns-in_err-step-in-Path-clause-judged : goal.expression-returns-in_err-step-in-Path-clause-judged
 expression-returns-in_err-step-in-Path-clause-judged t c =
-    handed_on c.from_residual-in_err-step-in-Path.result c.in_err-step-in-Path.field-0.0 _ c.from_residual-in_err-step-in-Path.ensures.1 (rw (c.in-Path.is, eq.places-Path, operators-are parts.step c.in-Path.more) (stops c.in_err-step-in-Path.field-0.0 (parts.step c.in-Path.first c.args.scope.now) (parts.steps c.in-Path.more c.args.scope.now) c.in_err-step-in-Path.ensures.judged))
+    handed_on c.from_residual-in_err-step-in-Path.result c.in_err-step-in-Path.field-0.0 _ c.from_residual-in_err-step-in-Path.ensures.1 (rw (c.in-Path.is, eq.places-Path, operators-are parts.step c.in-Path.more, ← c.get-in-Path.ensures) (stops c.in_err-step-in-Path.field-0.0 (parts.step c.get-in-Path.result.now c.args.scope.now) (parts.steps c.in-Path.more c.args.scope.now) c.in_err-step-in-Path.ensures.judged))
 
 pub expression-returns-in_ok-step-in-Path-clause-judged : goal.expression-returns-in_ok-step-in-Path-clause-judged
 expression-returns-in_ok-step-in-Path-clause-judged t c =
-    rw (c.in-Path.is, eq.places-Path, operators-are parts.step c.in-Path.more, ← c.as_slice-in-Path.ensures) (in_order c.steps.result (parts.step c.in-Path.first) (parts.steps c.as_slice-in-Path.result.now) c.args.scope.now c.step.new.scope c.in_ok-step-in-Path.ensures.judged c.in_ok-step-in-Path.ensures.kept c.steps.ensures.judged)
+    rw (c.in-Path.is, eq.places-Path, operators-are parts.step c.in-Path.more, ← c.get-in-Path.ensures, ← c.as_slice-in-Path.ensures) (in_order c.steps.result (parts.step c.get-in-Path.result.now) (parts.steps c.as_slice-in-Path.result.now) c.args.scope.now c.step.new.scope c.in_ok-step-in-Path.ensures.judged c.in_ok-step-in-Path.ensures.kept c.steps.ensures.judged)
 
 pub expression-returns-in_err-constructor_name-in-Named-clause-judged : goal.expression-returns-in_err-constructor_name-in-Named-clause-judged
 expression-returns-in_err-constructor_name-in-Named-clause-judged t c =
@@ -141,6 +160,10 @@ pub clause-returns-in-Order-clause-judged : goal.clause-returns-in-Order-clause-
 clause-returns-in-Order-clause-judged t c =
     rw (c.in-Order.is, eq.clause-Order, keys-are c.in-Order.specs, ← c.as_slice-in-Order.ensures) c.keys.ensures.judged
 
+pub clause-returns-in-Count-clause-judged : goal.clause-returns-in-Count-clause-judged
+clause-returns-in-Count-clause-judged t c =
+    rw (c.in-Count.is, eq.clause-Count) (c.count.ensures.judged (drop c.args.start c.args.scope.now))
+
 pub group_spec-returns-in-Assigned-clause-judged : goal.group_spec-returns-in-Assigned-clause-judged
 group_spec-returns-in-Assigned-clause-judged t c =
     rw (c.in-Assigned.is, eq.spec-Assigned) (c.assignment.ensures.judged (drop c.args.start c.args.scope.now))
@@ -152,6 +175,10 @@ clause-returns-in-For-clause-bound t c =
 pub clause-returns-in-Let-clause-bound : goal.clause-returns-in-Let-clause-bound
 clause-returns-in-Let-clause-bound t c =
     rw (c.in-Let.is, eq.clause-Let, assignments-are c.in-Let.bindings, ← c.as_slice-in-Let.ensures) c.assignments.ensures.bound
+
+pub clause-returns-in-Count-clause-bound : goal.clause-returns-in-Count-clause-bound
+clause-returns-in-Count-clause-bound t c =
+    rw (c.in-Count.is, eq.clause-Count) c.count.ensures.bound
 
 pub expressions-loop-expr-init : goal.expressions-loop-expr-init
 expressions-loop-expr-init t c =
@@ -236,6 +263,41 @@ set_operands-returns-clause-judged t c =
 pub set_operands-returns-clause-kept : goal.set_operands-returns-clause-kept
 set_operands-returns-clause-kept t c =
     c.loop-operand.invariant.kept
+
+pub arrow_calls-loop-name-init : goal.arrow_calls-loop-name-init
+arrow_calls-loop-name-init t c =
+    record { kept = refl; faults = refl }
+
+pub arrow_calls-returns-in_err-call-clause-judged : goal.arrow_calls-returns-in_err-call-clause-judged
+arrow_calls-returns-in_err-call-clause-judged t c =
+    let call = c.loop-name-item.result in
+    handed_on c.from_residual.result c.in_err-call.field-0.0 _ c.from_residual.ensures.1
+    (each_stops (λ (o : QName × List Expr). arrow_call o.0 (map places o.1)) c.args.calls.now c.loop-name.name-index call c.args.scope.now c.loop-name.scope c.loop-name.invariant _ (omega (arith, c.loop-name-test.true)) c.loop-name-item.is
+    (first_stops _ (call_fault call.0.prefix call.0.local (length (map places call.1) + 1)) (first_fault (each (map places call.1) c.loop-name.scope)) (subst (λ n. Judges (Err c.in_err-call.field-0.0) (call_fault call.0.prefix call.0.local (n + 1))) (ap length c.as_slice-arguments.ensures ∙ sym (length-map call.1 places)) c.in_err-call.ensures)))
+
+pub arrow_calls-returns-in_err-expressions-clause-judged : goal.arrow_calls-returns-in_err-expressions-clause-judged
+arrow_calls-returns-in_err-expressions-clause-judged t c =
+    let call = c.loop-name-item.result in
+    handed_on c.from_residual-in_err-expressions.result c.in_err-expressions.field-0.0 _ c.from_residual-in_err-expressions.ensures.1
+    (each_stops (λ (o : QName × List Expr). arrow_call o.0 (map places o.1)) c.args.calls.now c.loop-name.name-index call c.args.scope.now c.loop-name.scope c.loop-name.invariant _ (omega (arith, c.loop-name-test.true)) c.loop-name-item.is
+    (first_passes (Err c.in_err-expressions.field-0.0) (call_fault call.0.prefix call.0.local (length (map places call.1) + 1)) (first_fault (each (map places call.1) c.loop-name.scope))
+    (ap (λ n. call_fault call.0.prefix call.0.local (n + 1)) (length-map call.1 places ∙ sym (ap length c.as_slice-arguments.ensures)) ∙ c.in_ok-call.ensures) (rw (← c.as_slice-arguments.ensures) c.in_err-expressions.ensures.judged)))
+
+pub arrow_calls-loop-name-preserved : goal.arrow_calls-loop-name-preserved
+arrow_calls-loop-name-preserved t c =
+    let call = c.loop-name-item.result in
+    each_next (λ (o : QName × List Expr). arrow_call o.0 (map places o.1)) c.args.calls.now c.loop-name.name-index call c.args.scope.now c.loop-name.scope c.loop-name.invariant c.expressions.new.scope (omega (arith, c.loop-name-test.true)) c.loop-name-item.is
+    (first_passes (Ok tt) (call_fault call.0.prefix call.0.local (length (map places call.1) + 1)) (first_fault (each (map places call.1) c.loop-name.scope))
+    (ap (λ n. call_fault call.0.prefix call.0.local (n + 1)) (length-map call.1 places ∙ sym (ap length c.as_slice-arguments.ensures)) ∙ c.in_ok-call.ensures) (rw (← c.as_slice-arguments.ensures) c.in_ok-expressions.ensures.judged))
+    c.in_ok-expressions.ensures.kept
+
+pub arrow_calls-returns-clause-judged : goal.arrow_calls-returns-clause-judged
+arrow_calls-returns-clause-judged t c =
+    each_done (λ (o : QName × List Expr). arrow_call o.0 (map places o.1)) c.args.calls.now c.loop-name.name-index c.args.scope.now c.loop-name.scope c.loop-name.invariant (omega (arith, c.loop-name-test.false))
+
+pub arrow_calls-returns-clause-kept : goal.arrow_calls-returns-clause-kept
+arrow_calls-returns-clause-kept t c =
+    c.loop-name.invariant.kept
 
 pub steps-loop-next-init : goal.steps-loop-next-init
 steps-loop-next-init t c =
@@ -358,19 +420,30 @@ ranges-loop-variable-init t c =
 pub ranges-returns-in_err-range-clause-judged : goal.ranges-returns-in_err-range-clause-judged
 ranges-returns-in_err-range-clause-judged t c =
     λ before. handed_on c.from_residual.result c.in_err-range.field-0.0 _ c.from_residual.ensures.1
-    (turn_stops (λ (b : QName × Option QName × Expr). ranging b.0 b.1 (places b.2)) c.args.bindings.now c.loop-variable.variable-index c.loop-variable-item.result c.args.scope.now before c.loop-variable.scope (c.loop-variable.invariant before).0 (c.loop-variable.invariant before).1 _ (omega (arith, c.loop-variable-test.true)) c.loop-variable-item.is (c.in_err-range.ensures.judged (c.loop-variable.invariant before).0))
+    (turn_stops (λ (b : QName × AllowingEmpty × Option QName × Expr). ranging b.0 b.2 (places b.3)) c.args.bindings.now c.loop-variable.variable-index c.loop-variable-item.result c.args.scope.now before c.loop-variable.scope (c.loop-variable.invariant before).0 (c.loop-variable.invariant before).1 _ (omega (arith, c.loop-variable-test.true)) c.loop-variable-item.is (c.in_err-range.ensures.judged (c.loop-variable.invariant before).0))
 
 pub ranges-loop-variable-preserved : goal.ranges-loop-variable-preserved
 ranges-loop-variable-preserved t c =
     λ before. (
-      (c.loop-variable.invariant before).0 ++ ((λ (b : QName × Option QName × Expr). ranging b.0 b.1 (places b.2)) c.loop-variable-item.result).binds,
-      turn_next (λ (b : QName × Option QName × Expr). ranging b.0 b.1 (places b.2)) c.args.bindings.now c.loop-variable.variable-index c.loop-variable-item.result c.args.scope.now before c.loop-variable.scope (c.loop-variable.invariant before).0 (c.loop-variable.invariant before).1 c.range.new.scope _ (omega (arith, c.loop-variable-test.true)) c.loop-variable-item.is (c.in_ok-range.ensures.judged (c.loop-variable.invariant before).0) c.in_ok-range.ensures.bound refl,
+      (c.loop-variable.invariant before).0 ++ ((λ (b : QName × AllowingEmpty × Option QName × Expr). ranging b.0 b.2 (places b.3)) c.loop-variable-item.result).binds,
+      turn_next (λ (b : QName × AllowingEmpty × Option QName × Expr). ranging b.0 b.2 (places b.3)) c.args.bindings.now c.loop-variable.variable-index c.loop-variable-item.result c.args.scope.now before c.loop-variable.scope (c.loop-variable.invariant before).0 (c.loop-variable.invariant before).1 c.range.new.scope _ (omega (arith, c.loop-variable-test.true)) c.loop-variable-item.is (c.in_ok-range.ensures.judged (c.loop-variable.invariant before).0) c.in_ok-range.ensures.bound refl,
     )
 
 pub ranges-returns-clause-judged : goal.ranges-returns-clause-judged
 ranges-returns-clause-judged t c =
-    λ before. turn_done (λ (b : QName × Option QName × Expr). ranging b.0 b.1 (places b.2)) c.args.bindings.now c.loop-variable.variable-index c.args.scope.now before c.loop-variable.scope (c.loop-variable.invariant before).0 (c.loop-variable.invariant before).1 (omega (arith, c.loop-variable-test.false))
+    λ before. turn_done (λ (b : QName × AllowingEmpty × Option QName × Expr). ranging b.0 b.2 (places b.3)) c.args.bindings.now c.loop-variable.variable-index c.args.scope.now before c.loop-variable.scope (c.loop-variable.invariant before).0 (c.loop-variable.invariant before).1 (omega (arith, c.loop-variable-test.false))
 
 pub ranges-returns-clause-bound : goal.ranges-returns-clause-bound
 ranges-returns-clause-bound t c =
-    turn_binds (λ (b : QName × Option QName × Expr). ranging b.0 b.1 (places b.2)) c.args.bindings.now c.loop-variable.variable-index c.args.scope.now [] c.loop-variable.scope (c.loop-variable.invariant []).0 (c.loop-variable.invariant []).1 (omega (arith, c.loop-variable-test.false))
+    turn_binds (λ (b : QName × AllowingEmpty × Option QName × Expr). ranging b.0 b.2 (places b.3)) c.args.bindings.now c.loop-variable.variable-index c.args.scope.now [] c.loop-variable.scope (c.loop-variable.invariant []).0 (c.loop-variable.invariant []).1 (omega (arith, c.loop-variable-test.false))
+
+-- the others in a call after an arrow are no deeper than the calls
+pub arrow_calls-expressions-requires : goal.arrow_calls-expressions-requires
+arrow_calls-expressions-requires t c =
+    let depth = λ (o : QName × List Expr). max 0 (max (most size-Expr o.1) 0) in
+    let all : 3 * most depth c.args.calls.now + 2 ≡ t = c.decreases in
+    let among = at_most depth c.args.calls.now c.loop-name.name-index c.loop-name-item.result (omega (arith, c.loop-name-test.true)) in
+    let this = ap depth c.loop-name-item.is in
+    let same = ap (most size-Expr) c.as_slice-arguments.ensures in
+    let below : 3 * most size-Expr c.as_slice-arguments.result.now + 1 < t = omega (arith, all, among, this, same) in
+    (below, tt)

@@ -1,6 +1,7 @@
-use Rattle.std.proofs.Common.{◌∙◌, ap}
+use Rattle.std.proofs.Common.{◌∙◌, ap, rules}
+use Rattle.std.specs.Prelude.{slice_get}
 use Rattle.xq_sources.specs.private.Runs.{rows_of_run}
-use Rattle.xq_sources.proofs.ReadRows.{read_one, node_within}
+use Rattle.xq_sources.proofs.ReadRows.{no_rows, read_one, node_within}
 use Rattle.xq_sources.proofs.fragments.FragmentsRowLender.fetch_row.Goals as goal
 
 pub returns-clause-exists : goal.returns-clause-exists
@@ -11,3 +12,9 @@ pub returns-clause-found : goal.returns-clause-found
 returns-clause-found c =
     λ _. ap (λ held. rows_of_run held c.args.node c.args.node) c.in_ok-rows.ensures.held
     ∙ read_one _ _ c.in_ok-rows.ensures.rows c.args.node c.if-node-rows.false
+
+pub returns-in_err-rows-clause-refused : goal.returns-in_err-rows-clause-refused
+returns-in_err-rows-clause-refused c = let none = no_rows (slice_get c.args.self.now.list.items 0) in search rules
+
+pub returns-then-node-rows-clause-refused : goal.returns-then-node-rows-clause-refused
+returns-then-node-rows-clause-refused c = let none = no_rows (slice_get c.args.self.now.list.items 0) in search rules
