@@ -21,6 +21,7 @@ FAULTS = (
     ("count(1, 2)", 0, "count takes 1 argument, not 2"),
     ("concat((1, 2))", 0, "concat takes 2 or more arguments, not 1"),
     ("substring()", 0, "substring takes 2 or 3 arguments, not 0"),
+    ("1 => abs(2)", 5, "abs takes 1 argument, not 2"),
     ("let $book := 1 return $bok", 22, "nothing binds $bok; the nearest is $book"),
     ("(:) :) $x", 7, "nothing binds $x"),
     ("1, xs:date(1)", 3, "there is no type xs:date"),

@@ -34,11 +34,11 @@ FUNCTIONS: dict[str, tuple[int, int]] = {
 TYPES = ("integer", "decimal", "string", "boolean", "untypedAtomic")
 """The functions that are called after `xs:`."""
 KEYWORDS = (
-    "and", "ascending", "at", "attribute", "by", "comment", "descending", "div", "document",
-    "element", "else", "empty", "eq", "every", "except", "for", "ge", "greatest", "group", "gt",
-    "idiv", "if", "in", "intersect", "is", "le", "least", "let", "lt", "mod", "ne", "node", "or",
-    "order", "processing-instruction", "return", "satisfies", "some", "stable", "text", "then",
-    "to", "union", "where",
+    "allowing", "and", "ascending", "at", "attribute", "by", "comment", "count", "descending",
+    "div", "document", "element", "else", "empty", "eq", "every", "except", "for", "ge", "greatest",
+    "group", "gt", "idiv", "if", "in", "intersect", "is", "le", "least", "let", "lt", "mod", "ne",
+    "node", "or", "order", "processing-instruction", "return", "satisfies", "some", "stable",
+    "text", "then", "to", "union", "where",
 )
 _NO_CALLS = {"document-node", *(it for it in KEYWORDS if it not in FUNCTIONS)}
 """Names that stand before a bracket without being called: tests, `in (`, `return (`."""
@@ -54,7 +54,7 @@ _TOKEN = re.compile(
 )
 _REFERENCE = re.compile(r"&(?!(?:lt|gt|amp|quot|apos|#[0-9]+|#x[0-9a-fA-F]+);)")
 _PAIRS = {")": "(", "]": "[", "}": "{"}
-_BINDS = {"for", "let", "some", "every", "in", "at", "by", ","}
+_BINDS = {"for", "let", "some", "every", "in", "at", "by", "count", ","}
 
 
 @dataclass(frozen=True)
@@ -182,7 +182,11 @@ def _function(found: list[Token]) -> Place | None:
             return Place(token.at, f"there is no function {token.text}" + _near(local, known))
         count = _arguments(found, number + 1)
         least, most = known[local]
-        if count is not None and not least <= count <= most:
+        if count is None:
+            continue
+        # What stands before an arrow is an argument too.
+        count += number > 0 and found[number - 1].text == "=>"
+        if not least <= count <= most:
             return Place(token.at, f"{token.text} takes {_numbers(least, most)}, not {count}")
     return None
 
