@@ -10,7 +10,7 @@ pub returns-in_err-document-clause-made : goal.returns-in_err-document-clause-ma
 returns-in_err-document-clause-made g c = λ clean m stood.
     rw (handed_on c.from_residual-in_err-document.result c.in_err-document.field-0.0 c.from_residual-in_err-document.ensures.1) (
     λ address good. put_refused m address c.args.text.now c.in_ok-plan.plan c.in_err-document.field-0.0 good c.in_ok-plan.ensures
-        (c.in_err-document.ensures.made clean m stood))
+    (c.in_err-document.ensures.made clean m stood))
 
 pub returns-clause-made : goal.returns-clause-made
 returns-clause-made g c = λ clean m stood.
