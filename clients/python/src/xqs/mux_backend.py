@@ -84,12 +84,15 @@ class Backend:
         self.frames += 1
         if len(self.in_flight) == 1:
             self._watch_front()
-        assert self.process.stdin is not None
+        pipe = self.process.stdin
+        assert pipe is not None
         message = protocol.with_tag(bytes(4) + request.payload, self.frames)
-        self.process.stdin.write(protocol.framed(message))
-        request.unsent = len(self.in_flight) == 1 and self.process.stdin.is_closing()
+        # (asyncio says so on standard error where a closed pipe is written to again and again)
+        if not pipe.is_closing():
+            pipe.write(protocol.framed(message))
+        request.unsent = len(self.in_flight) == 1 and pipe.is_closing()
         try:
-            await self.process.stdin.drain()
+            await pipe.drain()
         except OSError:
             pass
 
