@@ -18,9 +18,6 @@ ghost use Rattle.xq_atom_laws.specs.Reading.{number, called};
 ghost use Rattle.xq_atom_laws.specs.Rounding.{IsFloor, IsCeiling, IsNearest};
 ghost use Rattle.xq_atom_laws.specs.Tokens.{IsToken};
 
-#[cfg(test)]
-mod tests;
-
 use xq_atoms::Decimal;
 
 /// A printed integer is a numeric literal with that value, or with a minus before it; the least

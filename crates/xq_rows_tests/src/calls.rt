@@ -70,13 +70,12 @@ pub fn is_answered<S: Alter>(
 
 fn lists<S: Alter>(store: &mut Store<S>, wanted: &[&str]) -> Result<bool, Want> {
     let addresses = store.addresses()?;
-    Ok(
-        addresses.len() == wanted.len()
-            && addresses
-                .iter()
-                .zip(wanted)
-                .all(|(address, want)| address.as_str() == *want),
-    )
+    for (address, want) in addresses.iter().zip(wanted) {
+        if address.as_str() != *want {
+            return Ok(false);
+        }
+    }
+    Ok(addresses.len() == wanted.len())
 }
 
 fn puts<S: Alter>(

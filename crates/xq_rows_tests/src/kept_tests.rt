@@ -1,19 +1,16 @@
 //! Views one after another over each kind of store: what is lent is what the store holds then,
 //! also where its tables were made in another order.
-ghost use Rattle.std.specs.Prelude.{◌≡◌};
-ghost use Rattle.xq_rows.specs.Views.{beginning};
 
 use crate::adopt_tests::{ORDERS, adopted};
 use crate::calls::{Call, first_wrong};
 use crate::documents::{Documents, Named};
+use crate::views::{Task, seen};
 use sqlite::{Alter, Connection};
 use std::alloc::Global;
-use std::marker::Brand;
 use std::process::Abort;
 use std::test::Fail;
 use xq_atoms::Want;
-use xq_rows::{Origin, Put, Store};
-use xq_sources::{RowLender, TreeSource};
+use xq_rows::{Put, Store};
 
 /// Calls of the store, and the documents of the view after them.
 type Step = (&'static [Call], &'static [Named]);
@@ -46,28 +43,6 @@ const STEPS: [Step; 9] = [
     (&[Call::Drop("B", true), Call::List(&[])], &[]),
 ];
 
-/// Reads these documents through a view, and gives the store back.
-fn viewed<S: Alter + Drop, O: Origin + Drop, R: Abort>(
-    rt: &R,
-    alloc: Global,
-    store: Store<S>,
-    documents: &[Named],
-) -> Result<Store<S>, Want>
-    requires { beginning S.Store store ≡ O.beginning }
-{
-    let mut view = match store.view::<O>() {
-        Ok(view) => view,
-        Err((want, _store)) => return Err(want),
-    };
-    assert_eq!(rt; view.trees(), documents.len());
-    for (tree, named) in documents.iter().enumerate() {
-        view.fetch(alloc, tree, 0, u32::MAX)?;
-        assert!(rt; named.are(view.lent()));
-    }
-    assert!(rt; matches!(view.fetch(alloc, documents.len(), 0, 0), Err(Want::Store)));
-    Ok(view.into_store())
-}
-
 /// Makes the calls of each step, and reads the documents after them.
 fn steps_through<S: Alter + Drop, R: Abort>(
     rt: &R,
@@ -78,7 +53,8 @@ fn steps_through<S: Alter + Drop, R: Abort>(
     let mut store = store;
     for (calls, named) in STEPS {
         assert_eq!(rt; first_wrong(&mut store, &documents, calls)?, 0);
-        store = viewed::<S, Brand, R>(rt, alloc, store, named)?;
+        let (after, _counts) = seen(rt, alloc, store, Task::Documents(named))?;
+        store = after;
     }
     Ok(())
 }

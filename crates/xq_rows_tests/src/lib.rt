@@ -1,5 +1,6 @@
-//! Tests of the store, in memory and on disks in memory. They stand in a crate of their own, since
-//! a crate with tests is proved twice.
+//! Tests of the store and of what reads its documents, in memory and on disks in memory. They stand
+//! in a crate of their own, since a crate with tests is proved twice, and in one, since each crate
+//! that lets a store go proves anew how all that the engine keeps for it is let go.
 #![tactic(auto)]
 
 #[cfg(test)]
@@ -7,13 +8,19 @@ mod adopt_tests;
 #[cfg(test)]
 mod adoption_tests;
 #[cfg(test)]
+mod axes_tests;
+#[cfg(test)]
 mod calls;
+#[cfg(test)]
+mod dead_disk_tests;
 #[cfg(test)]
 mod documents;
 #[cfg(test)]
 mod kept_tests;
 #[cfg(test)]
 mod lending_tests;
+#[cfg(test)]
+mod loans;
 #[cfg(test)]
 mod part_tests;
 #[cfg(test)]
@@ -22,3 +29,5 @@ mod refusals;
 mod tests;
 #[cfg(test)]
 mod view_tests;
+#[cfg(test)]
+mod views;

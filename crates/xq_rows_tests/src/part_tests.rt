@@ -1,22 +1,27 @@
 //! Documents of more rows than are replaced at a time.
-use sqlite::{Alter, FileStore};
+
+use sqlite::Alter;
 use std::alloc::Global;
+use std::process::Abort;
 use std::test::Fail;
 use xq_atoms::{Want, address_ok};
-use xq_memory_disk::MemoryDisk;
 use xq_regions::{Fragment, Kind, NodeRow};
 use xq_rows::{Put, Store};
+use xq_samples::documents::judged;
 
-/// The numbers of rows of documents that replace one another, around one, two and three parts of a
-/// thousand, each with the text of its comments.
-const SIZES: [(u32, &str); 7] = [
-    (2_500, "first"),
-    (1_000, "second"),
-    (3_100, "third"),
-    (1_001, "fourth"),
-    (999, "fifth"),
-    (1, "sixth"),
-    (2_000, "seventh"),
+/// Documents that are put under an address: the number of rows of each, the text of its comments,
+/// and the answer. Under `m` they replace one another, with rows around one, two and three parts of
+/// a thousand.
+const PUTS: [(&str, u32, &str, Put); 9] = [
+    ("a", 1_500, "beside", Put::Stored),
+    ("z", 1_500, "beside", Put::Stored),
+    ("m", 2_500, "first", Put::Stored),
+    ("m", 1_000, "second", Put::Replaced),
+    ("m", 3_100, "third", Put::Replaced),
+    ("m", 1_001, "fourth", Put::Replaced),
+    ("m", 999, "fifth", Put::Replaced),
+    ("m", 1, "sixth", Put::Replaced),
+    ("m", 2_000, "seventh", Put::Replaced),
 ];
 
 fn row(alloc: Global, pre: u32, rows: u32, text: &str) -> Result<NodeRow, Want> {
@@ -44,7 +49,7 @@ pub fn comments(alloc: Global, rows: u32, text: &str) -> Result<Fragment, Want> 
         let node = row(alloc, pre, rows, text)?;
         nodes.push(node)?;
     }
-    Fragment::from_rows(nodes).map_err(|_rows| Want::Store)
+    judged(nodes)
 }
 
 /// Stores a document.
@@ -60,12 +65,7 @@ pub fn put<S: Alter>(
 }
 
 /// Whether the address has the document of so many rows with this text.
-fn has(
-    store: &mut Store<FileStore<MemoryDisk>>,
-    address: &str,
-    rows: u32,
-    text: &str,
-) -> Result<bool, Want> {
+fn has<S: Alter>(store: &mut Store<S>, address: &str, rows: u32, text: &str) -> Result<bool, Want> {
     Ok(match store.load(address)? {
         Some(document) => {
             let nodes = document.rows();
@@ -76,22 +76,24 @@ fn has(
     })
 }
 
+/// Puts each document, and finds it whole.
+fn puts_each<S: Alter>(rt: &impl Abort, alloc: Global, store: &mut Store<S>) -> Result<(), Want> {
+    for (address, rows, text, wanted) in PUTS {
+        let document = comments(alloc, rows, text)?;
+        assert!(rt; put(store, address, &document)? == wanted, "{text}");
+        assert!(rt; has(store, address, rows, text)?, "{text}");
+    }
+    Ok(())
+}
+
 /// Each document replaces the one before it whole, and the documents beside it stay.
 #[test]
 fn longer_and_shorter_documents(rt: HostRuntime) -> Result<(), Fail> {
     let mut store = Store::new_on_memory_disks(rt.alloc())?;
-    let beside = comments(rt.alloc(), 1_500, "beside")?;
-    assert!(rt; put(&mut store, "a", &beside)? == Put::Stored);
-    assert!(rt; put(&mut store, "z", &beside)? == Put::Stored);
-    let mut wanted = Put::Stored;
-    for (rows, text) in SIZES {
-        let document = comments(rt.alloc(), rows, text)?;
-        assert!(rt; put(&mut store, "m", &document)? == wanted, "{text}");
-        assert!(rt; has(&mut store, "m", rows, text)?, "{text}");
-        wanted = Put::Replaced;
+    puts_each(&rt, rt.alloc(), &mut store)?;
+    for address in ["a", "z"] {
+        assert!(rt; has(&mut store, address, 1_500, "beside")?);
     }
-    assert!(rt; has(&mut store, "a", 1_500, "beside")?);
-    assert!(rt; has(&mut store, "z", 1_500, "beside")?);
     assert!(rt; store.drop_doc("m")?);
     assert!(rt; store.load("m")?.is_none());
     Ok(())

@@ -1,9 +1,11 @@
 //! The calls over both stores, and what refused allocations leave.
-use crate::calls::{CALL_ROWS, REPLACING, first_wrong};
+
+use crate::calls::{CALL_ROWS, Call, REPLACING, first_wrong};
 use crate::documents::{Documents, Named};
 use crate::refusals::{Fate, fate_of_calls};
 use sqlite::{Alter, Connection, FileStore, Options};
 use std::alloc::Global;
+use std::process::Abort;
 use std::test::Fail;
 use xq_atoms::Want;
 use xq_memory_disk::MemoryDisk;
@@ -27,43 +29,46 @@ fn table_rows<S: Alter>(alloc: Global, conn: &mut Connection<S>) -> Result<Strin
     Ok(text)
 }
 
+/// Asserts that the store answers each call as it should.
+fn answers<S: Alter>(
+    rt: &impl Abort,
+    alloc: Global,
+    store: &mut Store<S>,
+    calls: &[Call],
+) -> Result<(), Fail> {
+    let documents = Documents::new(alloc)?;
+    assert_eq!(rt; first_wrong(store, &documents, calls)?, 0);
+    Ok(())
+}
+
 #[test]
 fn calls_in_memory(rt: HostRuntime) -> Result<(), Fail> {
-    let documents = Documents::new(rt.alloc())?;
     let mut store = Store::new_in_memory(rt.alloc())?;
-    assert_eq!(rt; first_wrong(&mut store, &documents, &CALL_ROWS)?, 0);
-    Ok(())
+    answers(&rt, rt.alloc(), &mut store, &CALL_ROWS)
 }
 
 #[test]
 fn replacing_in_memory(rt: HostRuntime) -> Result<(), Fail> {
-    let documents = Documents::new(rt.alloc())?;
     let mut store = Store::new_in_memory(rt.alloc())?;
-    assert_eq!(rt; first_wrong(&mut store, &documents, &REPLACING)?, 0);
-    Ok(())
+    answers(&rt, rt.alloc(), &mut store, &REPLACING)
 }
 
 #[test]
 fn calls_on_memory_disks(rt: HostRuntime) -> Result<(), Fail> {
-    let documents = Documents::new(rt.alloc())?;
     let mut store = Store::new_on_memory_disks(rt.alloc())?;
-    assert_eq!(rt; first_wrong(&mut store, &documents, &CALL_ROWS)?, 0);
-    Ok(())
+    answers(&rt, rt.alloc(), &mut store, &CALL_ROWS)
 }
 
 #[test]
 fn replacing_on_memory_disks(rt: HostRuntime) -> Result<(), Fail> {
-    let documents = Documents::new(rt.alloc())?;
     let mut store = Store::new_on_memory_disks(rt.alloc())?;
-    assert_eq!(rt; first_wrong(&mut store, &documents, &REPLACING)?, 0);
-    Ok(())
+    answers(&rt, rt.alloc(), &mut store, &REPLACING)
 }
 
 #[test]
 fn released(rt: HostRuntime) -> Result<(), Fail> {
-    let documents = Documents::new(rt.alloc())?;
     let mut store = Store::new_in_memory(rt.alloc())?;
-    assert_eq!(rt; first_wrong(&mut store, &documents, &CALL_ROWS[..2])?, 0);
+    answers(&rt, rt.alloc(), &mut store, &CALL_ROWS[..2])?;
     let mut conn = store.release();
     assert!(rt; conn.is_autocommit());
     assert_eq!(rt; table_rows(rt.alloc(), &mut conn)?.as_str(), LIBRARY_ROWS);

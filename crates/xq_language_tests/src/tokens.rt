@@ -1,0 +1,152 @@
+//! The worked rows of tokens, and the refusal rows whose code is a token's.
+
+use std::alloc::{AllocError, Global};
+use std::process::Abort;
+use xq_atoms::{Code, Fault};
+use xq_lexer::{lex, nesting};
+
+/// The tokens as their derived debug texts, or the fault's.
+fn shown(alloc: Global, text: &str) -> Result<String, AllocError> {
+    match lex(alloc, text) {
+        Ok(tokens) => format!(in alloc; "{tokens:?}"),
+        Err(fault) => format!(in alloc; "{fault:?}"),
+    }
+}
+
+/// The code that the text is refused with.
+fn code_of(alloc: Global, text: &str) -> Option<Code> {
+    match lex(alloc, text) {
+        Err(Fault::Code(code)) => Some(code),
+        _ => None,
+    }
+}
+
+/// Asserts how the tokens of each text are shown.
+fn assert_shown(rt: &(impl Abort + AllocGlobal), rows: &[(&str, &str)]) {
+    for (text, wanted) in rows {
+        let found = shown(rt.alloc(), text).expect(rt, wanted);
+        assert_eq!(rt; found.as_str(), *wanted, "{text}");
+    }
+}
+
+#[test]
+fn tokens_stand_in_their_places(rt: HostRuntime) {
+    let rows = [
+        (
+            "a:=1",
+            "[Token { lexeme: Name(\"a\"), start: 0, end: 1 }, Token { lexeme: Sym(Assign), start: 1, end: 3 }, Token { lexeme: Int(1), start: 3, end: 4 }]",
+        ),
+        (
+            " \u{10000}\u{E9} ",
+            "[Token { lexeme: Name(\"\u{10000}\u{E9}\"), start: 1, end: 7 }]",
+        ),
+    ];
+    assert_shown(&rt, &rows);
+}
+
+/// `!=` and `=>` are the longest at their places, and no space stands in them.
+#[test]
+fn bangs_and_arrows_are_read(rt: HostRuntime) {
+    let rows = [
+        (
+            "!!=!",
+            "[Token { lexeme: Sym(Bang), start: 0, end: 1 }, Token { lexeme: Sym(NotEqual), start: 1, end: 3 }, Token { lexeme: Sym(Bang), start: 3, end: 4 }]",
+        ),
+        (
+            "=>>=",
+            "[Token { lexeme: Sym(Arrow), start: 0, end: 2 }, Token { lexeme: Sym(GreaterEqual), start: 2, end: 4 }]",
+        ),
+        (
+            "= >",
+            "[Token { lexeme: Sym(Equal), start: 0, end: 1 }, Token { lexeme: Sym(Greater), start: 2, end: 3 }]",
+        ),
+    ];
+    assert_shown(&rt, &rows);
+}
+
+#[test]
+fn names_take_hyphens_and_colons(rt: HostRuntime) {
+    let rows = [
+        ("a-1", "[Token { lexeme: Name(\"a-1\"), start: 0, end: 3 }]"),
+        (
+            "a -1",
+            "[Token { lexeme: Name(\"a\"), start: 0, end: 1 }, Token { lexeme: Sym(Minus), start: 2, end: 3 }, Token { lexeme: Int(1), start: 3, end: 4 }]",
+        ),
+        (
+            "a:b",
+            "[Token { lexeme: Prefixed { prefix: \"a\", local: \"b\" }, start: 0, end: 3 }]",
+        ),
+    ];
+    assert_shown(&rt, &rows);
+}
+
+#[test]
+fn comments_nest(rt: HostRuntime) {
+    let rows = [(
+        "(: a (: b :) c :) 1",
+        "[Token { lexeme: Int(1), start: 18, end: 19 }]",
+    )];
+    assert_shown(&rt, &rows);
+}
+
+#[test]
+fn strings_are_read(rt: HostRuntime) {
+    let rows = [(
+        "\"a\"\"&amp;&#x41;\"",
+        "[Token { lexeme: Str(\"a\\\"&A\"), start: 0, end: 16 }]",
+    )];
+    assert_shown(&rt, &rows);
+}
+
+#[test]
+fn decimals_drop_trailing_zeros(rt: HostRuntime) {
+    let rows = [(
+        "0.1000000",
+        "[Token { lexeme: Dec(Decimal { millionths: 100000 }), start: 0, end: 9 }]",
+    )];
+    assert_shown(&rt, &rows);
+}
+
+#[test]
+fn faults_have_their_codes(rt: HostRuntime) {
+    let rows = [
+        ("a :b", Code::XPST0003),
+        ("a(::):b", Code::XPST0003),
+        ("1..2", Code::XPST0003),
+        (".5.", Code::XPST0003),
+        ("1e", Code::XPST0003),
+        ("1.e5", Code::ProfDouble),
+        ("1e3", Code::ProfDouble),
+        ("1a", Code::XPST0003),
+        ("\"&#x110000;\"", Code::XQST0090),
+        ("\"&#0;\"", Code::XQST0090),
+        ("\"&x;\"", Code::XPST0003),
+        ("1 \"", Code::XPST0003),
+        ("(: a", Code::XPST0003),
+        ("0.1234567", Code::ProfDigits),
+        ("9223372036854775808", Code::FOAR0002),
+    ];
+    for (text, code) in rows {
+        assert_eq!(rt; code_of(rt.alloc(), text), Some(code), "{text}");
+    }
+}
+
+/// A number in so many brackets.
+fn enclosed(alloc: Global, brackets: u32) -> Result<String, AllocError> {
+    let mut text = String::from_str(alloc, "1")?;
+    for _ in 0..brackets {
+        text = format!(in alloc; "({text})")?;
+    }
+    Ok(text)
+}
+
+#[test]
+fn brackets_nest(rt: HostRuntime) {
+    for brackets in [2, 128, 129] {
+        let text = enclosed(rt.alloc(), brackets).expect(&rt, "a text");
+        let Ok(tokens) = lex(rt.alloc(), text.as_str()) else {
+            panic!(rt; "refused");
+        };
+        assert_eq!(rt; nesting(&tokens), brackets);
+    }
+}

@@ -1,7 +1,0 @@
-use Rattle.sqlite.specs.Files.{over_files}
-use Rattle.xq_rows.specs.Views.{beginning}
-use Rattle.xq_rows_tests.proofs.view_tests.view_on_memory_disks.Given as goal
-
--- the view begins with the store that is passed
-abbrev pub ghosts-viewed : goal.ghosts-viewed
-ghosts-viewed g a = record { beginning = beginning over_files a.store }
