@@ -48,6 +48,9 @@ ALLOCATIONS = {
         "rows::each_allocation_of_constructors", "rows::each_allocation_of_values",
         "rows::each_allocation_of_refusals",
     ],
+    "allocations_rows": [
+        "xq_server_tests", "growth_tests::each_allocation_of_the_worked_rows",
+    ],
 }
 """The tests of which each allocation is refused in turn; without words those of a store's calls."""
 LAST_LINES = 60

@@ -26,6 +26,8 @@ mod part_tests;
 #[cfg(test)]
 mod refusals;
 #[cfg(test)]
+mod stop_tests;
+#[cfg(test)]
 mod tests;
 #[cfg(test)]
 mod view_tests;

@@ -1,11 +1,15 @@
-//! Tests of the server and of the edge of the program: the worked rows of the protocol, services by
-//! scripted readers and writers, files, words and ends.
+//! Tests of the server and of the edge of the program: the worked rows of the protocol, long texts,
+//! services by scripted readers and writers, files, stops of the disk, words and ends.
 #![tactic(auto)]
 
 #[cfg(test)]
 mod edge_tests;
 #[cfg(test)]
 mod file_tests;
+#[cfg(test)]
+mod growth_tests;
+#[cfg(test)]
+mod hostile_tests;
 #[cfg(test)]
 mod many_tests;
 #[cfg(test)]
@@ -18,5 +22,7 @@ mod scripts;
 mod servers;
 #[cfg(test)]
 mod serving_tests;
+#[cfg(test)]
+mod stop_tests;
 #[cfg(test)]
 mod tests;

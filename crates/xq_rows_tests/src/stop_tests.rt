@@ -1,0 +1,107 @@
+//! A stop at each call of each file of a store: what a crash leaves are the documents before the
+//! call of the store that was under way, or those after it, and after an answer those after it.
+use crate::calls::{Call, first_wrong};
+use crate::documents::{Documents, Named};
+use std::alloc::Global;
+use std::test::Fail;
+use xq_atoms::Want;
+use xq_rows::Put;
+use xq_stops::{Run, Stop, StoppingStore, Task, wrong_run};
+
+impl Task for Call {
+    fn ask_all(
+        tasks: &[Call],
+        alloc: Global,
+        store: StoppingStore,
+    ) -> (Result<bool, Want>, StoppingStore) {
+        let mut store = store;
+        let documents = match Documents::new(alloc) {
+            Ok(documents) => documents,
+            Err(want) => return (Err(want), store),
+        };
+        match first_wrong(&mut store, &documents, tasks) {
+            Ok(wrong) => (Ok(wrong == 0), store),
+            Err(want) => (Err(want), store),
+        }
+    }
+}
+
+/// No document.
+const NOTHING: &[Call] = &[Call::List(&[])];
+
+/// A document that no call after it names.
+const OTHER: &[Call] = &[
+    Call::List(&["a/1"]),
+    Call::Load("a/1", Some(Named::Library)),
+];
+
+/// The same, and the library under `b`.
+const LIBRARY_TOO: &[Call] = &[
+    Call::List(&["a/1", "b"]),
+    Call::Load("a/1", Some(Named::Library)),
+    Call::Load("b", Some(Named::Library)),
+];
+
+/// The same, and an empty document under `b`.
+const EMPTY_TOO: &[Call] = &[
+    Call::List(&["a/1", "b"]),
+    Call::Load("a/1", Some(Named::Library)),
+    Call::Load("b", Some(Named::Empty)),
+];
+
+const PUT_OTHER: Call = Call::Put("a/1", Named::Library, Put::Stored);
+
+const PUT_LIBRARY: Call = Call::Put("b", Named::Library, Put::Stored);
+
+/// An adoption, a first put, a replacement and a drop.
+const RUNS: [Run<'static, Call>; 4] = [
+    Run {
+        first: &[],
+        asked: &[],
+        before: NOTHING,
+        after: NOTHING,
+    },
+    Run {
+        first: &[PUT_OTHER],
+        asked: &[PUT_LIBRARY],
+        before: OTHER,
+        after: LIBRARY_TOO,
+    },
+    Run {
+        first: &[PUT_OTHER, PUT_LIBRARY],
+        asked: &[Call::Put("b", Named::Empty, Put::Replaced)],
+        before: LIBRARY_TOO,
+        after: EMPTY_TOO,
+    },
+    Run {
+        first: &[PUT_OTHER, PUT_LIBRARY],
+        asked: &[Call::Drop("b", true)],
+        before: LIBRARY_TOO,
+        after: OTHER,
+    },
+];
+
+#[test]
+fn of_the_log(rt: HostRuntime) -> Result<(), Fail> {
+    assert_eq!(rt; wrong_run(rt.alloc(), &RUNS, Stop::OfLog, 128)?, None);
+    Ok(())
+}
+
+#[test]
+fn of_the_database(rt: HostRuntime) -> Result<(), Fail> {
+    assert_eq!(rt; wrong_run(rt.alloc(), &RUNS, Stop::OfDatabase, 128)?, None);
+    Ok(())
+}
+
+/// A log of one page is copied into the database at each commit.
+#[test]
+fn of_a_short_log(rt: HostRuntime) -> Result<(), Fail> {
+    assert_eq!(rt; wrong_run(rt.alloc(), &RUNS, Stop::OfLog, 1)?, None);
+    Ok(())
+}
+
+#[test]
+fn of_the_database_under_a_short_log(rt: HostRuntime) -> Result<(), Fail> {
+    assert_eq!(rt; wrong_run(rt.alloc(), &RUNS, Stop::OfDatabase, 1)?, None);
+    Ok(())
+}
