@@ -20,11 +20,13 @@ use xq_parser::parse;
 use xq_plan::plan;
 use xq_statics::check;
 
-/// A plan of the query that the bytes are. Nothing is evaluated. The plan of a path that starts with
+/// A plan of the query that the bytes are. Nothing is evaluated. That of a path which starts with
 /// `doc` of a literal and goes on by one step or more along axes, each after one slash and without
-/// predicates, is that document and as many scans (XQuery 3.1, section 3.3). Refused are, in this order, bytes
-/// that are no UTF-8, as `prof:UTF8`, the first fault of the tokens, `prof:DEPTH`, a text that the
-/// grammar doesn't derive, as XPST0003, and the first static fault in the order of the text.
+/// predicates, is the document and as many scans (XQuery 3.1, section 3.3).
+///
+/// Refused are, in this order, bytes that are no UTF-8, as `prof:UTF8`, the first fault of the
+/// tokens, `prof:DEPTH`, a text that the grammar doesn't derive, as XPST0003, and the first static
+/// fault in the order of the text.
 ///
 /// `Want::Memory` where a growth was refused; bytes that are no UTF-8 are refused without one.
 pub fn read(alloc: Global, text: &[u8]) -> Result<Plan, Fault>
