@@ -1,5 +1,6 @@
 pub mod Leaves
 pub mod Writing
+pub mod Printing
 pub mod Judging
 pub mod Content
 pub mod Surplus

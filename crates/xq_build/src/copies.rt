@@ -1,5 +1,5 @@
 //! Copies of nodes and of all that is below them, as rows whose levels begin at 0.
-ghost use Rattle.std.specs.Prelude.{◌≡◌, ◌++◌, ◌+◌, ◌∷◌, map, IfOk, OnOk};
+ghost use Rattle.std.specs.Prelude.{◌≡◌, ◌≤◌, ◌++◌, ◌+◌, ◌∷◌, map, IfOk, OnOk};
 ghost use Rattle.xq_regions.specs.Tree.{nodes};
 ghost use Rattle.xq_regions.specs.Levels.{flat_row};
 ghost use Rattle.xq_regions.specs.Rows.{row_of};
@@ -77,6 +77,8 @@ fn append_between<L: RowLender>(
 /// A copy of the node's row.
 pub fn row_of_node<L: RowLender>(alloc: Global, source: &mut L, node: Node) -> Result<NodeRow, Want>
     ensures found { L.is_clean source.new → IfOk result (IsRowOf (L.forest source.old) node) }
+    ensures rows { (L.meter source.new).rows ≡ (L.meter source.old).rows }
+    ensures singles { (L.meter source.new).singles ≤ (L.meter source.old).singles + 1 }
     ensures keeps { L.forest source.new ≡ L.forest source.old }
     ensures was_clean { L.is_clean source.new → L.is_clean source.old }
 {

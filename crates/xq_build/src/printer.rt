@@ -1,6 +1,6 @@
 //! The text of a result. A node is printed from its rows: one number is kept, how many nodes are
 //! open.
-ghost use Rattle.std.specs.Prelude.{◌≡◌, ◌≤◌, ◌∷◌, [], length, map, string_bytes, IfOk, OnOk};
+ghost use Rattle.std.specs.Prelude.{◌≡◌, ◌+◌, ◌-◌, ◌≤◌, ◌∷◌, [], length, map, string_bytes, IfOk, OnOk};
 ghost use Rattle.std.specs.Char.{encode_utf8};
 ghost use Rattle.xq_atoms.specs.Atom.{atomic_of};
 ghost use Rattle.xq_atoms.specs.Print.{print_atomic, quoted, escaped};
@@ -14,7 +14,9 @@ ghost use Rattle.xq_meaning.specs.Print.{longest_text, print_item, print_items a
 ghost use Rattle.xq_meaning.specs.Items.{tree_below};
 ghost use Rattle.xq_meaning.specs.Readings.{item_at, items_at, node_at};
 ghost use Rattle.xq_atoms.specs.Answers.{GivesUnlessWanting};
+ghost use Rattle.xq_build.specs.Reads.{ReadsItems};
 ghost use Rattle.xq_build.specs.private.Leaves.{lowered, leaves_between, IsRowOf};
+ghost use Rattle.xq_build.specs.private.Printing.{ReadsItem};
 ghost use Rattle.xq_build.specs.private.Writing.{Appends, GoesOn, each_after_comma, escape_char};
 
 use crate::copies::row_of_node;
@@ -194,6 +196,9 @@ fn append_nodes<L: RowLender>(
         (leaves_between (tree_at (L.forest source.old) tree) low high))) result
         text.old text.new }
     ensures within { OnOk result (length (string_bytes text.new) ≤ limit) }
+    ensures rows { L.is_clean source.new
+        → (L.meter source.new).rows ≤ (L.meter source.old).rows + (high + 1 - low) }
+    ensures singles { (L.meter source.new).singles ≡ (L.meter source.old).singles }
     ensures keeps { L.forest source.new ≡ L.forest source.old }
     ensures was_clean { L.is_clean source.new → L.is_clean source.old }
 {
@@ -225,6 +230,9 @@ fn append_node<L: RowLender>(
         → Appends limit (print (tree_below (L.forest source.old)
         (node_at (L.forest source.old) node))) result text.old text.new }
     ensures within { OnOk result (length (string_bytes text.new) ≤ limit) }
+    ensures rows { L.is_clean source.new
+        → (L.meter source.new).rows ≤ (L.meter source.old).rows + root.now.size }
+    ensures singles { (L.meter source.new).singles ≡ (L.meter source.old).singles }
     ensures keeps { L.forest source.new ≡ L.forest source.old }
     ensures was_clean { L.is_clean source.new → L.is_clean source.old }
 {
@@ -262,6 +270,9 @@ fn append_item<L: RowLender>(
         → Appends limit (print_item (L.forest source.old)
         (item_at (L.forest source.old) (item_view item.now))) result text.old text.new }
     ensures within { OnOk result (length (string_bytes text.new) ≤ limit) }
+    ensures reads { L.is_clean source.new → ReadsItem (L.forest source.old)
+        (item_at (L.forest source.old) (item_view item.now))
+        (L.meter source.old) (L.meter source.new) }
     ensures keeps { L.forest source.new ≡ L.forest source.old }
     ensures was_clean { L.is_clean source.new → L.is_clean source.old }
 {
@@ -287,6 +298,9 @@ fn append_others<L: RowLender>(
         → Appends limit (each_after_comma (L.forest source.old)
         (items_at (L.forest source.old) (map item_view items.now))) result text.old text.new }
     ensures within { OnOk result (length (string_bytes text.new) ≤ limit) }
+    ensures reads { L.is_clean source.new → ReadsItems (L.forest source.old)
+        (items_at (L.forest source.old) (map item_view items.now))
+        (L.meter source.old) (L.meter source.new) }
     ensures keeps { L.forest source.new ≡ L.forest source.old }
     ensures was_clean { L.is_clean source.new → L.is_clean source.old }
 {
@@ -303,6 +317,9 @@ fn append_others<L: RowLender>(
 ///
 /// A node is printed as the constructor expressions that make it and all below it (XQuery 3.1,
 /// section 3.9.3). What is promised of the answer holds where the source is clean as the call ends.
+///
+/// Whatever the outcome, it reads at most the rows below each item by ranges, each row once for
+/// each item that it is below, and the row of each item that is a node singly.
 pub fn print_items<L: RowLender>(
     alloc: Global,
     source: &mut L,
@@ -312,6 +329,9 @@ pub fn print_items<L: RowLender>(
         (within_reply (printed_items (L.forest source.old)
         (items_at (L.forest source.old) (map item_view items.now)))) result }
     ensures short { IfOk result (λ text. length (string_bytes text) ≤ longest_text) }
+    ensures reads { L.is_clean source.new → ReadsItems (L.forest source.old)
+        (items_at (L.forest source.old) (map item_view items.now))
+        (L.meter source.old) (L.meter source.new) }
     ensures keeps { L.forest source.new ≡ L.forest source.old }
     ensures was_clean { L.is_clean source.new → L.is_clean source.old }
 {

@@ -1,9 +1,8 @@
 -- The laws of printed results put together: a value is printable, and its text is read again.
-use Rattle.std.proofs.Common.{◌≡◌, ℕ, List, ◌++◌, Ok, Err, refl, sym, ap, subst, ◌∙◌}
+use Rattle.std.proofs.Common.{◌≡◌, ℕ, List, ◌++◌, Ok, Err, sym, ap, subst}
 use Rattle.std.specs.Str.{chars}
 use Rattle.xq_lexer.specs.Lexeme.{Lex}
 use Rattle.xq_lexer.specs.Spelling.{Spells}
-use Rattle.xq_regions.specs.Tree.{Tree}
 use Rattle.xq_meaning.specs.Items.{Item}
 use Rattle.xq_meaning.specs.Doing.{Outcome}
 use Rattle.xq_meaning.specs.Meaning.{evaluated}

@@ -5,3 +5,4 @@ pub mod Steps
 pub mod Returns
 pub mod Back
 pub mod Ranges
+pub mod Asked

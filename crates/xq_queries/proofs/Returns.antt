@@ -1,18 +1,17 @@
 -- A printed result has no carriage return, so its line ends are read as they are.
-use Rattle.std.proofs.Common.{◌≡◌, ℕ, suc, ◌+◌, ◌/◌, ◌<◌, ◌^◌, Bool, true, false, not, ◌&&◌, IsTrue, List, [], ◌∷◌, ◌++◌, map, refl, sym, ap, ◌∙◌, arith, ℤ, pos, negsuc}
+use Rattle.std.proofs.Common.{◌≡◌, ℕ, suc, ◌/◌, ◌<◌, ◌^◌, Bool, true, false, not, IsTrue, List, [], ◌∷◌, ◌++◌, map, refl, ap, ◌∙◌, arith, ℤ, pos, negsuc}
 use Rattle.std.specs.Prelude.{IsUtf8, codes, ◌==◌, if◌then◌else◌, decimal as decimal_digits}
 use Rattle.std.specs.Fmt.{signed_decimal}
 use Rattle.std.specs.Ordering.{int_eq}
 use Rattle.std.specs.List.{list_all}
 use Rattle.std.specs.Str.{chars}
-use Rattle.std.proofs.lemmas.Bool.{and_parts, false≢true}
+use Rattle.std.proofs.lemmas.Bool.{and_parts}
 use Rattle.std.proofs.lemmas.Bool.Decides.{nat_tests}
 use Rattle.std.proofs.lemmas.List.Folds.{list_all-append}
 use Rattle.xq_atoms.specs.Text.{Text}
 use Rattle.xq_atoms.specs.Atom.{Atomic, Integer, Decimal, String, Boolean, Untyped, is_integer}
-use Rattle.xq_atoms.specs.Decimal.{is_decimal}
 use Rattle.xq_atoms.specs.Cast.{fraction_text}
-use Rattle.xq_atoms.specs.Print.{quoted_character, escaped, quoted, at_least_zero, print_decimal, print_atomic}
+use Rattle.xq_atoms.specs.Print.{quoted_character, escaped, quoted, at_least_zero, print_atomic}
 use Rattle.xq_atoms.proofs.ReadBack.{is_whole-decimal}
 use Rattle.xq_atoms.specs.Characters.{is_digit, is_name}
 use Rattle.xq_atom_laws.proofs.Visible.{visible}

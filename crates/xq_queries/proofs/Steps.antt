@@ -1,5 +1,5 @@
 -- The steps of reading, one after another.
-use Rattle.std.proofs.Common.{◌≡◌, ◌≤◌, ℕ, List, [], ◌∷◌, refl, sym, ◌∙◌, ap, subst, None, Ok, Err, Result, inl, inr, IsErrAnd}
+use Rattle.std.proofs.Common.{◌≡◌, ◌≤◌, ℕ, List, [], ◌∷◌, map, refl, sym, ◌∙◌, ap, subst, None, Ok, Err, Result, inl, inr, IsErrAnd}
 use Rattle.std.specs.Str.{IsUtf8}
 use Rattle.xq_atoms.specs.declared.refusals.Code.TheVariants.{XPST0003, ProfDepth}
 use Rattle.xq_atoms.specs.declared.refusals.Fault.{Fault}
@@ -19,8 +19,11 @@ use Rattle.xq_meaning.specs.declared.normal_forms.Core.{Core}
 use Rattle.xq_meaning.specs.declared.plans.Plan.{Plan}
 use Rattle.xq_meaning.specs.Meaning.{first_frame}
 use Rattle.xq_meaning.specs.Same.{IsNormalForm, IsPlan}
+use Rattle.xq_normal.specs.DocumentPaths.{StaysDocumentPath, written_out}
+use Rattle.xq_plan.specs.Scans.{ScansDocument}
 use Rattle.xq_queries.specs.Texts.{characters}
 use Rattle.xq_queries.specs.Reading.{lexemes, CharactersFault, TokensFault, TokensRead}
+use Rattle.xq_queries.specs.Scans.{ScansItsDocument}
 use Rattle.xq_queries.specs.Values.{IsPlanOf, Plans, value_of}
 use Rattle.xq_queries.specs.private.Plans.{Checks, Parses, Understands}
 
@@ -64,7 +67,7 @@ check_refused ts e (OfWant Store) shallow derived judged = absurd judged
 pub read_by : (text spelled : List ℕ) (r : Result Plan Fault) → IsUtf8 text → spelled ≡ characters text
     → Understands spelled r → Plans text r
 read_by text spelled (Ok plan) utf8 same understood =
-    (understood.0, (utf8, subst (λ s. Parses s (Ok understood.0)) same understood.1), understood.2)
+    (understood.0, (utf8, subst (λ s. Parses s (Ok understood.0)) same understood.1), understood.2, understood.3)
 read_by text spelled (Err (OfCode code)) utf8 same understood =
     inr (utf8, subst (λ s. CharactersFault s code) same understood)
 read_by text spelled (Err (OfWant want)) utf8 same understood = (understood, utf8)
@@ -74,6 +77,11 @@ read_by text spelled (Err (OfWant want)) utf8 same understood = (understood, utf
 pub plan_of : (e : Expr) (core : Core) (plan : Plan) → IsNormalForm e core → IsPlan [] core plan → IsPlanOf e plan
 plan_of e core plan normal is =
     λ addresses trees. ap value_of (is [] None addresses trees refl ∙ normal (first_frame addresses) trees)
+
+-- a path from a document stays one, and then is scans
+pub scans_of : (e : Expr) (core : Core) (plan : Plan) → StaysDocumentPath e core → ScansDocument core plan → ScansItsDocument e plan
+scans_of e core plan stays scans = λ name address first more is path.
+    scans address (map written_out (first ∷ more)) (stays name address first more is path)
 
 -- ---- what is handed on
 

@@ -19,6 +19,7 @@ use Rattle.xq_meaning.specs.Meaning.{evaluated}
 use Rattle.xq_meaning.specs.PlanMeaning.{plan_mean}
 use Rattle.xq_meaning.specs.Same.{frame_of}
 use Rattle.xq_queries.specs.Reading.{IsRead, IsRefused}
+use Rattle.xq_queries.specs.Scans.{ScansItsDocument}
 
 -- items, and the trees that their nodes are of
 abbrev pub Value : Type 0
@@ -42,9 +43,10 @@ abbrev pub IsPlanOf : Expr → Plan → Type 0
 IsPlanOf e plan = (addresses : List Text) (trees : List Tree) →
     plan_value plan addresses trees ≡ value e addresses trees
 
--- what a text is read as: a plan of its expression, or a refusal; only a text in UTF-8 takes memory
+-- what a text is read as: a plan of its expression, which scans the document that a path starts at,
+-- or a refusal; only a text in UTF-8 takes memory
 abbrev pub Plans : List ℕ → Result Plan Fault → Type 0
-Plans text (Ok plan) = (e : Expr) × IsRead text e × IsPlanOf e plan
+Plans text (Ok plan) = (e : Expr) × IsRead text e × IsPlanOf e plan × ScansItsDocument e plan
 Plans text (Err (OfCode code)) = IsRefused text code
 Plans text (Err (OfWant want)) = (want ≡ Memory) × IsUtf8 text
 

@@ -5,6 +5,7 @@ ghost use Rattle.xq_regions.specs.Items.{item_view};
 ghost use Rattle.xq_regions.specs.declared.Kind.TheVariants.{Document};
 ghost use Rattle.xq_meaning.specs.Readings.{items_at, AreIn, Extends};
 ghost use Rattle.xq_queries.specs.ReadBack.{HaveNumbersInRange};
+ghost use Rattle.xq_queries.specs.Reads.{ReadsAndPrints};
 ghost use Rattle.xq_queries.specs.Values.{document, made_document, or_no_document, plan_value, reply_text};
 ghost use Rattle.xq_meaning.specs.Print.{longest_text};
 ghost use Rattle.xq_queries.specs.private.Ranges.{IsViewInRange, AreViewsInRange};
@@ -23,6 +24,10 @@ use xq_sources::{Addresses, Growing, RowLender};
 /// plan's error, or as `prof:REPLY` where the text is over 16,777,216 bytes. Where there is a text,
 /// the numbers of the value are within the bounds of their types.
 ///
+/// Where the plan is a document by its address and k scans, it reads at most k times as many rows
+/// as that document has, by ranges and singly, whatever the outcome; and to print the value at most
+/// the rows below each item by ranges, and that of each node singly.
+///
 /// `Want::Memory` where a growth was refused; `Want::Store` where the trees could not be read. What
 /// was constructed stays in `world`. What is promised holds where `world` is clean as the call
 /// ends.
@@ -39,6 +44,9 @@ pub fn ask<W: Growing>(
     ensures in_range { W.is_clean world.new → length addresses.now ≤ length (W.forest world.old)
         → IfOk result (λ text. HaveNumbersInRange
         (plan_value plan.now addresses.now (W.forest world.old))) }
+    ensures reads { W.is_clean world.new → length addresses.now ≤ length (W.forest world.old)
+        → ReadsAndPrints plan.now addresses.now (W.forest world.old) (W.meter world.old)
+        (W.meter world.new) }
     ensures grows { Extends (W.forest world.old) (W.forest world.new) }
     ensures was_clean { W.is_clean world.new → W.is_clean world.old }
 {

@@ -4,6 +4,8 @@ ghost use Rattle.std.specs.Str.{chars};
 ghost use Rattle.xq_atoms.specs.declared.refusals.Want.TheVariants.{Memory};
 ghost use Rattle.xq_lexer.specs.Lexeme.{lexemes};
 ghost use Rattle.xq_meaning.specs.Same.{IsNormalForm, IsPlan};
+ghost use Rattle.xq_normal.specs.DocumentPaths.{StaysDocumentPath};
+ghost use Rattle.xq_plan.specs.Scans.{ScansDocument};
 ghost use Rattle.xq_queries.specs.Values.{Plans};
 ghost use Rattle.xq_queries.specs.private.Plans.{Checks, Parses, Understands};
 
@@ -18,9 +20,13 @@ use xq_parser::parse;
 use xq_plan::plan;
 use xq_statics::check;
 
-/// A plan of the query that the bytes are. Nothing is evaluated. Refused are, in this order, bytes
-/// that are no UTF-8, as `prof:UTF8`, the first fault of the tokens, `prof:DEPTH`, a text that the
-/// grammar doesn't derive, as XPST0003, and the first static fault in the order of the text.
+/// A plan of the query that the bytes are. Nothing is evaluated. That of a path which starts with
+/// `doc` of a literal and goes on by one step or more along axes, each after one slash and without
+/// predicates, is the document and as many scans (XQuery 3.1, section 3.3).
+///
+/// Refused are, in this order, bytes that are no UTF-8, as `prof:UTF8`, the first fault of the
+/// tokens, `prof:DEPTH`, a text that the grammar doesn't derive, as XPST0003, and the first static
+/// fault in the order of the text.
 ///
 /// `Want::Memory` where a growth was refused; bytes that are no UTF-8 are refused without one.
 pub fn read(alloc: Global, text: &[u8]) -> Result<Plan, Fault>
@@ -62,6 +68,7 @@ fn checked(alloc: Global, tokens: &[Token]) -> Result<Expr, Fault>
 /// The normal form of the expression, which is let go here: its parts are dropped in one place.
 fn normal_form(alloc: Global, query: Expr) -> Result<Core, Want>
     ensures same { IfOk result (λ core. IsNormalForm query core) }
+    ensures document_path { IfOk result (λ core. StaysDocumentPath query core) }
     ensures want { IfErr result (λ want. want ≡ Memory) }
 {
     normalise(alloc, &query)
@@ -70,6 +77,7 @@ fn normal_form(alloc: Global, query: Expr) -> Result<Core, Want>
 /// The plan of the normal form, which is let go here.
 fn planned(alloc: Global, core: Core) -> Result<Plan, Want>
     ensures same { IfOk result (λ plan. IsPlan [] core plan) }
+    ensures scans { IfOk result (λ plan. ScansDocument core plan) }
     ensures want { IfErr result (λ want. want ≡ Memory) }
 {
     plan(alloc, &core)

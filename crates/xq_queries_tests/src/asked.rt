@@ -3,8 +3,9 @@
 use std::alloc::Global;
 use std::process::Abort;
 use xq_atoms::{Fault, Want};
+use xq_eval::eval;
 use xq_queries::{ask, make, read};
-use xq_sources::{Addresses, Fragments, Trees};
+use xq_sources::{Addresses, Fragments, Meter, TreeSource, Trees};
 
 /// The query that makes the document under the address `b`.
 const LIBRARY: &str = "document {element lib {element book {attribute id {\"1\"}, text {\"A\"}}, \
@@ -24,19 +25,40 @@ fn library(alloc: Global) -> Result<Fragments, Fault> {
     Ok(fragments)
 }
 
-/// The text of the reply to the query over the library.
-fn asked(alloc: Global, query: &str) -> Result<String, Fault> {
-    let plan = read(alloc, query.as_bytes())?;
+/// The address of the library.
+fn addresses(alloc: Global) -> Result<Addresses, Want> {
     let mut addresses = Addresses::new(alloc);
     if let Err(place) = addresses.search("b") {
         addresses.insert(place, "b")?;
     }
+    Ok(addresses)
+}
+
+/// The text of the reply to the query over the library.
+fn asked(alloc: Global, query: &str) -> Result<String, Fault> {
+    let plan = read(alloc, query.as_bytes())?;
     ask(
         alloc,
         &plan,
         &mut Trees::new(alloc, library(alloc)?),
-        &addresses,
+        &addresses(alloc)?,
     )
+}
+
+/// What the meter shows once the query was evaluated over the library, whatever its value is.
+pub fn read_to_evaluate(alloc: Global, query: &str) -> Result<Meter, Fault> {
+    let plan = read(alloc, query.as_bytes())?;
+    let mut world = Trees::new(alloc, library(alloc)?);
+    let _value = eval(alloc, &plan, &mut world, &addresses(alloc)?);
+    Ok(world.meter())
+}
+
+/// What the meter shows once its value was printed as well.
+pub fn read_to_answer(alloc: Global, query: &str) -> Result<Meter, Fault> {
+    let plan = read(alloc, query.as_bytes())?;
+    let mut world = Trees::new(alloc, library(alloc)?);
+    let _text = ask(alloc, &plan, &mut world, &addresses(alloc)?);
+    Ok(world.meter())
 }
 
 /// The text of the reply, or of the refusal. A test has ample memory, so nothing is wanting.

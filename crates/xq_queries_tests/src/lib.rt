@@ -4,4 +4,6 @@
 #[cfg(test)]
 mod asked;
 #[cfg(test)]
+mod reads;
+#[cfg(test)]
 mod rows;

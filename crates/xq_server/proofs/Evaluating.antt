@@ -20,6 +20,8 @@ use Rattle.xq_rows.specs.Tables.{node_rows}
 use Rattle.xq_rows.proofs.Keys.{values_are, get_at}
 use Rattle.xq_rows.proofs.Ranges.{own_document}
 use Rattle.xq_rows.specs.Views.{Beginning, HeldDocuments, StoodFor, WasClean, WasOpen, beginning}
+use Rattle.xq_sources.specs.Meters.{Readings, no_readings}
+use Rattle.xq_sources.specs.Sums.{sum}
 use Rattle.xq_server.specs.private.Work.{Makes, MakesText}
 
 same_lengths : {A B : Type 0} (es : List (A × B)) → length (map (λ e. e.0) es) ≡ length (map (λ e. e.1) es)
@@ -47,6 +49,17 @@ pub made_over : {P : Type 0} (makes : Judged Value → Judged P → Type 0) (pla
 made_over makes plan m addresses trees result at are made =
     subst (λ ts. Makes makes (plan_value plan (keys m) ts) result) are
     (subst (λ names. Makes makes (plan_value plan names trees) result) at (made (as_many m addresses trees at are)))
+
+-- Trees that are those of a view.
+
+pub over_trees : (P : List Tree → Type 0) (n : ℕ) (trees same : List Tree) → same ≡ trees → (n ≤ length same → P same) → n ≤ length trees → P trees
+over_trees P n trees same is holds = subst (λ ts. n ≤ length ts → P ts) is holds
+
+-- the meter of a view of which nothing was read, and that of no constructed tree, show nothing together
+pub read_from_none : (P : List Tree → Readings → Readings → Type 0) (n : ℕ) (trees same : List Tree) (before view after : Readings) → same ≡ trees → before ≡ sum view no_readings → view ≡ no_readings
+    → (n ≤ length same → P same before after) → n ≤ length trees → P trees no_readings after
+read_from_none P n trees same before view after is summed none holds fits =
+    subst (λ r. P trees r after) (summed ∙ ap (λ r. sum r no_readings) none) (over_trees (λ ts. P ts before after) n trees same is holds fits)
 
 -- A store, as it was when a view of it began.
 module _ {S : Type 0} (g : Ghosts S) (b : Beginning) (store : Held S) (same : beginning g store ≡ b) where

@@ -51,7 +51,7 @@ utf8_wants : FaultsComeLater → (text : List ℕ) → IsUtf8 text → MayWant (
 utf8_wants later text good code fault free = later text code good fault free
 
 pub understood : ReadsAtMostOnce → FaultsComeLater → (text : List ℕ) (result : Result Plan Fault) → Plans text result → Understands text result
-understood once later text (Ok plan) plans = (plans.0, plans.1, plans.2, λ code fault. not_both once text plans.0 code plans.1 fault)
+understood once later text (Ok plan) plans = (plans.0, plans.1, plans.2, λ code fault. not_both once text plans.0 code plans.1 fault, plans.3)
 understood once later text (Err (OfCode code)) plans = plans
 understood once later text (Err (OfWant want)) plans = subst (MayWant (query text)) (sym plans.0) (utf8_wants later text plans.1)
 

@@ -2,12 +2,13 @@
 //!
 //! The documents are read through a view, which has the store meanwhile and gives it back. So
 //! nothing of a query changes a document.
-ghost use Rattle.std.specs.Prelude.{◌≡◌, IfOk};
+ghost use Rattle.std.specs.Prelude.{◌≡◌, ◌≤◌, IfOk, length};
 ghost use Rattle.std.specs.FinMap.{keys, values};
 ghost use Rattle.xq_printable.specs.Legible.{AreTrees};
 ghost use Rattle.xq_queries.specs.Values.{plan_value};
 ghost use Rattle.xq_rows.specs.Documents.{IsClean, IsOpen, Map, StandsFor};
 ghost use Rattle.xq_rows.specs.Views.{beginning};
+ghost use Rattle.xq_sources.specs.Meters.{no_readings};
 ghost use Rattle.xq_server.specs.private.Work.{Makes};
 
 use crate::products::Product;
@@ -17,8 +18,8 @@ use std::alloc::Global;
 use std::marker::{Brand, PhantomData};
 use xq_atoms::Fault;
 use xq_meaning::Plan;
-use xq_rows::{Origin, Store};
-use xq_sources::Trees;
+use xq_rows::{Origin, Store, View};
+use xq_sources::{Addresses, TreeSource, Trees};
 
 /// What the plan's value makes over the documents of the store, which stay as they are. Where it
 /// makes a product, the documents are trees.
@@ -99,7 +100,36 @@ fn over_view<S: Alter + Drop, P: Product, O: Origin>(
         Ok(addresses) => addresses,
         Err(want) => return (view.into_store(), Err(Fault::Want(want))),
     };
-    let mut world = Trees::new(alloc, view);
-    let product = P::of(alloc, plan, &mut world, &addresses);
+    let (world, product) = through(alloc, view, plan, &addresses);
     (world.into_source().into_store(), product)
+}
+
+/// What the plan's value makes over the trees of a view of which nothing was read, those of the
+/// documents at `addresses`; and these trees, with those that were constructed.
+///
+/// Their meter shows what was read, since the view began with none: the rows that were asked for,
+/// each time that they were lent. What a view reads ahead of that, 1,024 rows at a time, or on the
+/// way to a place, is not asked for and not counted.
+fn through<S: Alter + Drop, P: Product, O: Origin>(
+    alloc: Global,
+    view: View<S, O>,
+    plan: &Plan,
+    addresses: &Addresses,
+) -> (Trees<View<S, O>>, Result<P, Fault>)
+    requires { view.meter ≡ no_readings }
+    ensures made { ⟦<Trees<View<S, O>> as TreeSource>⟧.is_clean result.0
+        → length addresses.now ≤ length (⟦<View<S, O> as TreeSource>⟧.forest view)
+        → Makes P.makes (plan_value plan.now addresses.now
+        (⟦<View<S, O> as TreeSource>⟧.forest view)) result.1 }
+    ensures sound { IfOk result.1 P.is_sound }
+    ensures reads { ⟦<Trees<View<S, O>> as TreeSource>⟧.is_clean result.0
+        → length addresses.now ≤ length (⟦<View<S, O> as TreeSource>⟧.forest view)
+        → P.has_read plan.now addresses.now (⟦<View<S, O> as TreeSource>⟧.forest view)
+        no_readings (⟦<Trees<View<S, O>> as TreeSource>⟧.meter result.0) }
+    ensures was_clean { ⟦<Trees<View<S, O>> as TreeSource>⟧.is_clean result.0
+        → ⟦<View<S, O> as TreeSource>⟧.is_clean view }
+{
+    let mut world = Trees::new(alloc, view);
+    let product = P::of(alloc, plan, &mut world, addresses);
+    (world, product)
 }

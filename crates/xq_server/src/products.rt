@@ -1,6 +1,11 @@
 //! What is made of a query's value while its documents can be read.
-ghost use Rattle.std.specs.Prelude.{◌≤◌, IfOk, length};
+ghost use Rattle.std.specs.Prelude.{◌≤◌, ⊤, List, IfOk, length};
 ghost use Rattle.xq_atoms.specs.Judged.{Judged};
+ghost use Rattle.xq_atoms.specs.Text.{Text};
+ghost use Rattle.xq_regions.specs.Tree.{Tree};
+ghost use Rattle.xq_sources.specs.Meters.{Readings};
+ghost use Rattle.xq_meaning.specs.declared.plans.Plan.{Plan as PlanLem};
+ghost use Rattle.xq_queries.specs.Reads.{ReadsAndPrints};
 ghost use Rattle.xq_queries.specs.Values.{Value, plan_value};
 ghost use Rattle.xq_server.specs.private.Work.{Makes, MakesText, MakesDocument, IsShortText, HasDocumentRoot};
 
@@ -19,6 +24,9 @@ pub(crate) trait Product: Sized {
     /// What a product is, whatever the documents are.
     ghost is_sound: { Self → Type 0 };
 
+    /// How much was read of the documents, by what the meter showed before and after.
+    ghost has_read: { PlanLem → List Text → List Tree → Readings → Readings → Type 0 };
+
     /// What the plan's value makes over the trees of `world`, of which the first are the documents
     /// at `addresses`.
     fn of<W: Growing>(
@@ -30,6 +38,9 @@ pub(crate) trait Product: Sized {
         ensures made { W.is_clean world.new → length addresses.now ≤ length (W.forest world.old)
             → Makes Self.makes (plan_value plan.now addresses.now (W.forest world.old)) result }
         ensures sound { IfOk result Self.is_sound }
+        ensures reads { W.is_clean world.new → length addresses.now ≤ length (W.forest world.old)
+            → Self.has_read plan.now addresses.now (W.forest world.old) (W.meter world.old)
+            (W.meter world.new) }
         ensures was_clean { W.is_clean world.new → W.is_clean world.old };
 }
 
@@ -37,6 +48,8 @@ impl Product for String {
     ghost makes = { MakesText };
 
     ghost is_sound = { IsShortText };
+
+    ghost has_read = { ReadsAndPrints };
 
     fn of<W: Growing>(
         alloc: Global,
@@ -52,6 +65,8 @@ impl Product for Fragment {
     ghost makes = { MakesDocument };
 
     ghost is_sound = { HasDocumentRoot };
+
+    ghost has_read = { λ _ _ _ _ _. ⊤ };
 
     fn of<W: Growing>(
         alloc: Global,

@@ -8,6 +8,7 @@ use Rattle.xq_lexer.specs.Spelling.{Spells}
 use Rattle.xq_expressions.specs.declared.expressions.Expr.{Expr}
 use Rattle.xq_meaning.specs.declared.plans.Plan.{Plan}
 use Rattle.xq_queries.specs.Reading.{lexemes, CharactersFault, TokensFault, TokensRead}
+use Rattle.xq_queries.specs.Scans.{ScansItsDocument}
 use Rattle.xq_queries.specs.Values.{IsPlanOf}
 
 -- the characters give this expression, or a fault
@@ -23,8 +24,10 @@ Checks tokens (Ok e) = TokensRead tokens e
 Checks tokens (Err (OfCode code)) = TokensFault tokens code
 Checks tokens (Err (OfWant want)) = want ≡ Memory
 
--- the characters give a plan of their expression, or a fault
+-- the characters give a plan of their expression, which scans the document that a path starts at,
+-- or a fault
 abbrev pub Understands : List ℕ → Result Plan Fault → Type 0
-Understands text (Ok plan) = (e : Expr) × Parses text (Ok e) × IsPlanOf e plan
+Understands text (Ok plan) =
+    (e : Expr) × Parses text (Ok e) × IsPlanOf e plan × ScansItsDocument e plan
 Understands text (Err (OfCode code)) = CharactersFault text code
 Understands text (Err (OfWant want)) = want ≡ Memory

@@ -15,6 +15,7 @@ use Rattle.xq_regions.specs.declared.Kind.TheVariants.{Document}
 use Rattle.xq_rows.specs.Documents.{Map}
 use Rattle.xq_frame.specs.Reply.{reply_bytes, longest_text}
 use Rattle.xq_frame.specs.Request.{RequestMeaning, query, put}
+use Rattle.xq_queries.specs.Scans.{ScansItsDocument}
 use Rattle.xq_queries.specs.Values.{IsPlanOf, Value, plan_value, reply_text, made_document}
 use Rattle.xq_queries.specs.ReadBack.{HaveNumbersInRange}
 use Rattle.xq_server.specs.Meaning.{Query, Reads}
@@ -24,10 +25,12 @@ use Rattle.xq_server.specs.ReadBack.{ReadsBackFrom}
 use Rattle.xq_server.specs.declared.answers.Answer.{Answer}
 use Rattle.xq_server.specs.declared.answers.Answer.TheVariants.{Text, Stored, Replaced, Dropped}
 
--- a text reads as a query that has this plan, and then it has no fault; or it is refused
+-- a text reads as a query that has this plan, which scans the document that a path starts at, and
+-- then it has no fault; or it is refused
 abbrev pub Understands : List ℕ → Result Plan Fault → Type 0
 Understands text (Ok plan) =
     (q : Query) × Reads text (Ok q) × IsPlanOf q plan × ((code : Code) → ¬ (Reads text (Err code)))
+    × ScansItsDocument q plan
 Understands text (Err (OfCode code)) = Reads text (Err code)
 Understands text (Err (OfWant want)) = MayWant (query text) want
 

@@ -16,3 +16,9 @@ returns-clause-appends g c = λ h is.
     appended c.args.limit _ _ c.append_nodes.result c.args.text.now c.append_row.new.text c.append_nodes.new.text
     (node_begun (g.L.TreeSource.forest c.args.source.now) c.args.node c.args.root.now c.in-Some.last c.in_ok-depth.depth (string_bytes c.args.text.now) (string_bytes c.append_row.new.text) is e c.in_ok-depth.ensures.0)
     (c.append_nodes.ensures.appends h))
+
+pub returns-clause-rows : goal.returns-clause-rows
+returns-clause-rows g c = λ h.
+    (let e : c.in-Some.last ≡ c.args.node.pre + c.args.root.now.size = omega (arith, c.in-Some.ensures) in
+    let r = c.append_nodes.ensures.rows h in
+    omega (arith, e, r))

@@ -1,6 +1,7 @@
 use Rattle.std.proofs.Common.{◌∙◌, string_bytes}
 use Rattle.std.specs.Global.{Global}
 use Rattle.std.proofs.lemmas.Result.{err_from_is_err_and}
+use Rattle.xq_build.proofs.Counted.{first_read, others_read}
 use Rattle.xq_build.proofs.Written.{begun, reply_refused, reply_given}
 use Rattle.xq_build.proofs.printer.print_items.Goals as goal
 
@@ -21,3 +22,17 @@ returns-clause-gives g c = λ h.
     let e = begun trees now c.args.items.now c.in-Some.first.now c.in-Some.others.now (string_bytes c.new-text.result) (string_bytes c.append_item.new.text) c.new-text.ensures.bytes c.append_item.ensures.keeps c.in-Some.ensures.cases.0 w in
     let o = c.in_ok-append_others.ensures.appends h in
     reply_given _ (string_bytes c.append_others.new.text) (o.0 ∙ e) o.1)
+
+pub returns-in_err-append_item-clause-reads : goal.returns-in_err-append_item-clause-reads
+returns-in_err-append_item-clause-reads g c = λ h.
+    first_read (g.L.TreeSource.forest c.args.source.now) c.args.items.now c.in-Some.others.now c.in-Some.first.now _ _ c.in-Some.ensures.cases.0 (c.append_item.ensures.reads h)
+
+pub returns-in_err-append_others-clause-reads : goal.returns-in_err-append_others-clause-reads
+returns-in_err-append_others-clause-reads g c = λ h.
+    others_read (g.L.TreeSource.forest c.args.source.now) (g.L.TreeSource.forest c.append_item.new.source) c.args.items.now c.in-Some.others.now c.in-Some.first.now _ (g.L.TreeSource.meter c.append_item.new.source) _
+    c.append_item.ensures.keeps c.in-Some.ensures.cases.0 (c.append_item.ensures.reads (c.append_others.ensures.was_clean h)) (c.append_others.ensures.reads h)
+
+pub returns-clause-reads : goal.returns-clause-reads
+returns-clause-reads g c = λ h.
+    others_read (g.L.TreeSource.forest c.args.source.now) (g.L.TreeSource.forest c.append_item.new.source) c.args.items.now c.in-Some.others.now c.in-Some.first.now _ (g.L.TreeSource.meter c.append_item.new.source) _
+    c.append_item.ensures.keeps c.in-Some.ensures.cases.0 (c.append_item.ensures.reads (c.append_others.ensures.was_clean h)) (c.append_others.ensures.reads h)

@@ -21,17 +21,17 @@ returns-clause-made g c = λ clean m stands.
     let stood_for = stood g.S.Store g.O.Origin.beginning c.args.store c.requires (c.into_store-2.ensures.was_open clean) m stands in
     let view_at_end : IsClean g.S.Store c.into_source.result.store × HeldDocuments g.O.Origin.beginning = (subst (IsClean g.S.Store) c.into_store-2.ensures.store clean, held g.O.Origin.beginning m stood_for) in
     let world_at_end = c.into_source.ensures.clean.0 view_at_end in
-    let view_at_start = c.new-world.ensures.clean.0 (c.of-product.ensures.was_clean world_at_end) in
-    made_over g.P.Product.makes c.args.plan.now m c.deref.result.now _ c.of-product.result
+    let view_at_start = c.through-world.ensures.was_clean world_at_end in
+    made_over g.P.Product.makes c.args.plan.now m c.deref.result.now _ c.through-world.result.1
     (c.deref.ensures ∙ c.in-Ok-shared_addresses.ensures ∙ c.in-Ok.ensures.addresses view_at_start.0 m stood_for)
-    (c.new-world.ensures.forest ∙ c.in-Ok.ensures.trees view_at_start.0 m stood_for)
-    (c.of-product.ensures.made world_at_end)
+    (c.in-Ok.ensures.trees view_at_start.0 m stood_for)
+    (c.through-world.ensures.made world_at_end)
 
 -- the documents of such a store are trees
 pub returns-clause-trees : goal.returns-clause-trees
 returns-clause-trees g c = λ clean m stands.
     let stood_for = stood g.S.Store g.O.Origin.beginning c.args.store c.requires (c.into_store-2.ensures.was_open clean) m stands in
-    if_any c.of-product.result (AreTrees (values m)) (stood_trees g.O.Origin.beginning m stood_for)
+    if_any c.through-world.result.1 (AreTrees (values m)) (stood_trees g.O.Origin.beginning m stood_for)
 
 pub returns-clause-same : goal.returns-clause-same
 returns-clause-same g c = λ clean m stands.
