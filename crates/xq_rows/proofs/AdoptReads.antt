@@ -29,7 +29,7 @@ use Rattle.sqlite.proofs.Callers.{IsPlain, command_of, reads_as}
 use Rattle.xq_rows.specs.declared.faults.OpenFault.TheVariants.{NotAStore}
 use Rattle.xq_rows.specs.private.Schemas.{layout_schema, node_schema}
 use Rattle.xq_rows.specs.Tables.{no_schema, IsStoreSchema, layout_rows}
-use Rattle.xq_rows.proofs.Places.{First, layout_first, node_first, schema_of, layout_tree, node_tree, which, nodes_lie, layout_lies, layout_alone, layout_not_given}
+use Rattle.xq_rows.proofs.Places.{First, layout_first, node_first, schema_of, layout_tree, node_tree, which, nodes_lie, layout_lies, layout_alone, not_given}
 use Rattle.xq_rows.specs.private.Adopt.{fault_of, IsInputError, addressed_node, by_place, AreNodes, ReadsEdition, ReadsRowids, ReadsNodes, HasLayout}
 use Rattle.xq_rows.proofs.Texts.{IsUnread, body, key}
 use Rattle.xq_rows.proofs.Lists.{flat_map_picks}
@@ -124,11 +124,11 @@ every : {A : Type 0} (xs : List A) → filter (λ x. true) xs ≡ xs
 every [] = refl
 every (x ∷ xs) = ap (λ l. x ∷ l) (every xs)
 
-edition_rows : (tree : ℕ) (db : Trees) → overlay db [] tree ≡ db tree → (rows : List Row) → IsProgramAnswer [] (edition_body tree) db [] rows → IsPermutation (map (λ r. column r 1 ∷ []) (db tree)) rows
-edition_rows tree db own rows got =
+edition_rows : (tree : ℕ) (db : Trees) (rows : List Row) → IsProgramAnswer [] (edition_body tree) db [] rows → IsPermutation (map (λ r. column r 1 ∷ []) (db tree)) rows
+edition_rows tree db rows got =
     let query = edition_body tree in
     let a : IsAnswer query (overlay db []) [] rows = got Null in
-    let staged : a.staged ≡ map (λ r. [] ∷ r ∷ []) (filter (λ r. true) (db tree)) = a.grouped ∙ ap (flat_map (λ r. ([] ∷ r ∷ []) ∷ [])) own ∙ flat_map_picks (λ r. true) (λ r. [] ∷ r ∷ []) (db tree) in
+    let staged : a.staged ≡ map (λ r. [] ∷ r ∷ []) (filter (λ r. true) (db tree)) = a.grouped ∙ ap (flat_map (λ r. ([] ∷ r ∷ []) ∷ [])) (not_given tree db) ∙ flat_map_picks (λ r. true) (λ r. [] ∷ r ∷ []) (db tree) in
     let kept : a.kept ≡ map (λ r. output query ([] ∷ r ∷ [])) (filter (λ r. true) (db tree)) = a.distinct ∙ ap (map (output query)) staged ∙ map-map _ _ _ in
     let moved = IsPermutation-map (λ (o : Output). o.1) _ _ (subst (λ k. IsPermutation k a.ordered) kept a.same) in
     let first : map (λ (o : Output). o.1) (map (λ r. output query ([] ∷ r ∷ [])) (filter (λ r. true) (db tree))) ≡ map (λ r. column r 1 ∷ []) (db tree) =
@@ -138,8 +138,8 @@ edition_rows tree db own rows got =
 rowid_rows : (first : First) (db : Trees) (rows : List Row) → IsProgramAnswer [] (body (node_tree first) [] (col 1 0 ∷ []) ((col 1 0, key) ∷ [])) db [] rows
     → IsPermutation (map (λ r. rowid r ∷ []) (db (node_tree first))) rows
 rowid_rows first db rows got =
-    let s = selected first [] (col 1 0 ∷ []) ((col 1 0, key) ∷ []) db [] rows got in
-    subst (λ l. IsPermutation (map (λ r. rowid r ∷ []) l) rows) (every (db (node_tree first))) (selected_rows first [] (col 1 0 ∷ []) ((col 1 0, key) ∷ []) db [] rows s)
+    let s = selected (node_tree first) [] (col 1 0 ∷ []) ((col 1 0, key) ∷ []) db [] rows got in
+    subst (λ l. IsPermutation (map (λ r. rowid r ∷ []) l) rows) (every (db (node_tree first))) (selected_rows (node_tree first) [] (col 1 0 ∷ []) ((col 1 0, key) ∷ []) db [] rows s)
 
 -- what is sorted by its keys is sorted by what the keys are of it
 sorted_as : (by : Row → Row → Ordering) (keys : List Key) (key_of : Row → Row) → ((a b : Row) → is_lt (key_cmp 0 keys (key_of a) (key_of b)) ≡ is_lt (by a b)) → (ordered : List Output)
@@ -167,12 +167,12 @@ nodes_given first db rows got =
     let project = query.project in
     let order = query.order in
     let table = db (node_tree first) in
-    let s = selected first [] project order db [] rows got in
-    let shown = filter (test first [] project order db []) table in
+    let s = selected (node_tree first) [] project order db [] rows got in
+    let shown = filter (test (node_tree first) [] project order db []) table in
     let keyed : Output → Type 0 = λ o. o.0 ≡ place_of o.1 in
-    let all : All keyed (map (out first [] project order db []) shown) = All-from_recursion keyed _ (all-map keyed (out first [] project order db []) shown (all_of (λ r. keyed (out first [] project order db [] r)) (λ r. refl) shown)) in
+    let all : All keyed (map (out (node_tree first) [] project order db []) shown) = All-from_recursion keyed _ (all-map keyed (out (node_tree first) [] project order db []) shown (all_of (λ r. keyed (out (node_tree first) [] project order db [] r)) (λ r. refl) shown)) in
     record {
-      same = subst (λ l. IsPermutation (map addressed_node l) rows) (every table) (selected_rows first [] project order db [] rows s);
+      same = subst (λ l. IsPermutation (map addressed_node l) rows) (every table) (selected_rows (node_tree first) [] project order db [] rows s);
       sorted = subst (IsSorted by_place) (sym s.shown) (sorted_as by_place (key ∷ key ∷ []) place_of same_place s.ordered (All-permutation keyed _ _ s.same all) s.sorted);
     }
 
@@ -194,13 +194,13 @@ reads_edition old new rows h = record {
   rows = λ layout. elim layout [
     | inl has ↦
         let it = reads_as edition_query [] old new layout_schema has (Select (edition_program 0) edition_names) edition_alone.0 edition_alone_plain edition_alone.1 rows h in
-        edition_given (sym (layout_alone old.now has)) (edition_rows 0 old.now.trees refl rows it.answer)
+        edition_given (sym (layout_alone old.now has)) (edition_rows 0 old.now.trees rows it.answer)
     | inr has ↦
         let place = which old.now.schema has in
         let first = place.0 in
         let tree = layout_tree first in
         let it = reads_as edition_query [] old new (schema_of first) place.1 (Select (edition_program tree) edition_names) (edition_found first).0 (edition_found_plain first) (edition_found first).1 rows h in
-        edition_given (sym (layout_lies first old.now place.1)) (edition_rows tree old.now.trees (layout_not_given first old.now.trees) rows it.answer)
+        edition_given (sym (layout_lies first old.now place.1)) (edition_rows tree old.now.trees rows it.answer)
   ];
 }
   where

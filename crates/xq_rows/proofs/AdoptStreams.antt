@@ -79,8 +79,8 @@ module _ {S : Type 0} (g : Ghosts S) (old begun new : Held S) where
 
     pub nodes_refuted : IsTrue (state g new).is_open → ShowsNoDocuments g begun new → ¬ IsStore (state g old).now
     nodes_refuted up (inl begins) store =
-        let some = nodes_begun store.schema AreNoDocuments up begins in
+        let some = nodes_begun store.sound.schema AreNoDocuments up begins in
         some.3 some.1 some.2.sorted (told_of (node_rows (state g old).now) (some.0 ++ some.1) some.2 store.named store.whole)
     nodes_refuted up (inr gives) store =
-        let all = nodes_shown store.schema (λ given. IsSorted by_place given → ¬ AreDocumentRuns given) gives in
+        let all = nodes_shown store.sound.schema (λ given. IsSorted by_place given → ¬ AreDocumentRuns given) gives in
         all.2 all.1.sorted (told_of (node_rows (state g old).now) all.0 all.1 store.named store.whole)

@@ -8,7 +8,7 @@ use Rattle.xq_rows.specs.private.Adopt.{IsAdopted, IsNoStore}
 use Rattle.xq_rows.specs.Adoption.{IsBlank, HasTables}
 use Rattle.xq_rows.specs.Documents.{IsReady, IsClean, IsOpen, IsUp, HoldsDocuments, StandsFor, documents, documents_in, IsStore}
 use Rattle.xq_rows.proofs.Maps.{no_documents}
-use Rattle.xq_rows.specs.Tables.{node_rows, no_schema, IsStoreSchema}
+use Rattle.xq_rows.specs.Tables.{shown_rows, no_schema, IsStoreSchema}
 use Rattle.xq_rows.specs.declared.shelves.Shelf.{Shelf}
 use Rattle.xq_rows.specs.private.Keeps.{AreOf, IsKeeping, Keeps, StaysOutside}
 use Rattle.xq_rows.specs.private.Statements.{IsEmptyStore}
@@ -24,7 +24,7 @@ module _ {S : Type 0} (g : Ghosts S) (conn new : Held S) where
       unfolding IsClean IsBlank StandsFor
       made_empty clean blank opened =
           let made = (did (clean, opened)).made blank in
-          (made.0, no_documents (node_rows (state g new).now) made.1)
+          (made.0, no_documents (shown_rows (state g new).now) made.1)
 
       pub found_same : IsClean g new → HasTables g conn → (state g new).now ≡ (state g conn).now
       unfolding IsClean HasTables
@@ -34,7 +34,7 @@ module _ {S : Type 0} (g : Ghosts S) (conn new : Held S) where
       unfolding IsClean HasTables HoldsDocuments documents StandsFor
       found_whole clean has =
           let found = (did (clean, ends clean)).found has in
-          (found.1, λ opened. (subst IsStore (sym found.0) found.1, ap (λ db. documents_in (node_rows db)) found.0))
+          (found.1, λ opened. (subst IsStore (sym found.0) found.1, ap (λ db. documents_in (shown_rows db)) found.0))
 
   pub told_none : {P : Type 0} → (IsReady (state g new) → P → IsNoStore (state g conn).now) → IsUp g new → P → ¬ IsBlank g conn × ¬ HoldsDocuments g conn
   unfolding IsUp IsBlank HoldsDocuments
@@ -47,7 +47,7 @@ module _ {S : Type 0} (g : Ghosts S) (conn new : Held S) where
 -- its tables are others
 pub neither : {S : Type 0} (g : Ghosts S) (conn : Held S) → (state g conn).now.schema ≢ no_schema → ¬ IsStoreSchema (state g conn).now.schema → ¬ IsBlank g conn × ¬ HoldsDocuments g conn
 unfolding IsBlank HoldsDocuments
-neither g conn some other = (some, λ store. other store.schema)
+neither g conn some other = (some, λ store. other store.sound.schema)
 
 -- What is kept of the database was read after the adoption, which is `mid`.
 module _ {S : Type 0} (g : Ghosts S) (conn mid new : Held S) (one : StaysOutside g conn mid) (two : StaysOutside g mid new) (blank : Bool) (is_blank : IsTrue blank → (state g conn).now.schema ≡ no_schema)

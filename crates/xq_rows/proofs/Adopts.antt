@@ -87,7 +87,7 @@ pub no_edition : (db : Database) (rows : List Row) → ReadsEdition db rows → 
 no_edition db rows it other = record {
   some = λ has. it.some (inl has);
   none = λ store.
-      let moved = editions_moved (layout_rows db) rows (it.rows (inr store.schema)) in
+      let moved = editions_moved (layout_rows db) rows (it.rows (inr store.sound.schema)) in
       other (one_permutation (Int (pos 1)) _ (subst (λ l. IsPermutation l (map (λ r. column r 0) rows)) store.layout moved));
 }
 
@@ -481,7 +481,7 @@ module _ (table rows : List Row) (are : AreNodes table rows) where
 pub adopted_found : (old new : Database) → SeesEdition old → SeesDocuments old → new ≡ old → IsAdopted old new
 adopted_found old new edition (ids, nodes) same = record {
   made = λ has. absurd (edition.some (inl has));
-  found = λ has. (same, record { schema = has; layout = edition.first (inr has); apart = ids.apart has; ints = ids.ints has; named = nodes.named has; whole = nodes.whole has });
+  found = λ has. (same, record { sound = record { schema = has; apart = ids.apart has; ints = ids.ints has }; layout = edition.first (inr has); named = nodes.named has; whole = nodes.whole has });
 }
 
 pub adopted_made : (old new : Database) → ¬ HasLayout old → MakesStore old new → IsAdopted old new
@@ -495,4 +495,4 @@ pub refused_found : (db : Database) → SeesEdition db → ¬ IsStore db → IsN
 refused_found db edition bad = record { some = λ has. edition.some (inl has); none = bad }
 
 pub refused_made : (db : Database) → ¬ HasLayout db → db.schema ≢ no_schema → IsNoStore db
-refused_made db nothing some = record { some = some; none = λ store. nothing (inr store.schema) }
+refused_made db nothing some = record { some = some; none = λ store. nothing (inr store.sound.schema) }

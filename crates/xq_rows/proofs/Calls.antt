@@ -14,7 +14,7 @@ use Rattle.xq_regions.specs.declared.Kind.TheVariants.{Document}
 use Rattle.xq_rows.specs.Nodes.{cells}
 use Rattle.xq_rows.specs.Documents.{Map, IsReady, IsClean, IsOpen, StandsFor, documents_in, is_at, IsStore}
 use Rattle.xq_rows.specs.private.Statements.{IsEmptyStore, AreAbove, AreAddresses, Deletes, Finds, IsRange, Puts}
-use Rattle.xq_rows.specs.Tables.{node_rows, IsStoreSchema}
+use Rattle.xq_rows.specs.Tables.{shown_rows, IsStoreSchema}
 use Rattle.sqlite_value.specs.declared.value.Value.TheVariants.{Text}
 use Rattle.xq_rows.proofs.Loads.{most, found_is}
 use Rattle.xq_rows.proofs.Keys.{keys_are}
@@ -49,7 +49,7 @@ module _ {S : Type 0} (g : Ghosts S) (conn old new : Held S) (same : conn ≡ ol
       subst (λ (h : Held S). HasCleanDisk (state g h)) same early
 
   -- what the store stands for as the call begins
-  before : (m : Map) → StandsFor g old m → IsTrue (state g conn).is_open → IsStore (state g conn).now × (documents_in (node_rows (state g conn).now) ≡ m)
+  before : (m : Map) → StandsFor g old m → IsTrue (state g conn).is_open → IsStore (state g conn).now × (documents_in (shown_rows (state g conn).now) ≡ m)
   unfolding StandsFor
   before m stands = subst (λ (h : Held S). StandsFor g h m) (sym same) stands
 
@@ -65,7 +65,7 @@ module _ {S : Type 0} (g : Ghosts S) (conn old new : Held S) (same : conn ≡ ol
     kept_stands kept clean m stands opened =
         let held = before m stands (opens (clean, opened)) in
         let stays = kept (clean, opened) in
-        (subst IsStore (sym stays) held.0, ap (λ db. documents_in (node_rows db)) stays ∙ held.1)
+        (subst IsStore (sym stays) held.0, ap (λ db. documents_in (shown_rows db)) stays ∙ held.1)
 
     -- a query leaves the database as it is
     pub read_stands : (IsReady (state g new) → IsStoreSchema (state g conn).now.schema → (state g new).now ≡ (state g conn).now)
@@ -73,8 +73,8 @@ module _ {S : Type 0} (g : Ghosts S) (conn old new : Held S) (same : conn ≡ ol
     unfolding IsClean StandsFor
     read_stands kept clean m stands opened =
         let held = before m stands (opens (clean, opened)) in
-        let stays = kept (clean, opened) (held.0.schema) in
-        (subst IsStore (sym stays) held.0, ap (λ db. documents_in (node_rows db)) stays ∙ held.1)
+        let stays = kept (clean, opened) held.0.sound.schema in
+        (subst IsStore (sym stays) held.0, ap (λ db. documents_in (shown_rows db)) stays ∙ held.1)
 
     pub loaded : {E : Type 0} (a : List ℕ) (nodes : List NodeRow) (r : Result (Option Tree) E) → (IsReady (state g new) → IsRange a 0 most (state g conn).now (map cells (map placed nodes)))
         → IfOk r (Finds nodes) → (HasCleanDisk (state g new) → IsTrue (state g new).is_open) → IsClean g new → (m : Map) → StandsFor g old m → IfOk r (λ found. found ≡ get m a)
@@ -118,7 +118,7 @@ module _ {S : Type 0} (g : Ghosts S) (conn old new : Held S) (same : conn ≡ ol
     all_listed bytes (Ok all) shown ends clean m stands =
         let ready : IsReady (state g new) = (clean, ends clean) in
         let held = before m stands (opens ready) in
-        keys_are (node_rows (state g conn).now) (bytes all) held.0.named held.0.whole (shown ready held.0.schema) ∙ ap keys held.1
+        keys_are (shown_rows (state g conn).now) (bytes all) held.0.named held.0.whole (shown ready held.0) ∙ ap keys held.1
 
     -- the rows of an address were deleted
     module _ (ends : HasCleanDisk (state g new) → IsTrue (state g new).is_open) (a : List ℕ) (count : ℕ)
@@ -129,7 +129,7 @@ module _ {S : Type 0} (g : Ghosts S) (conn old new : Held S) (same : conn ≡ ol
           let ready : IsReady (state g new) = (clean, opened) in
           let held = before m stands (opens ready) in
           let was = held.0 in
-          let dropped = (did ready was.schema was.apart was.ints).0 in
+          let dropped = (did ready was.sound).0 in
           (store_drops a (state g conn).now (state g new).now dropped was, dropped_map a (state g conn).now (state g new).now dropped was ∙ ap (λ d. remove d a) held.1)
 
       pub drop_answer : IsClean g new → (m : Map) → StandsFor g old m → nat_lt 0 count ≡ contains_key m a
@@ -138,7 +138,7 @@ module _ {S : Type 0} (g : Ghosts S) (conn old new : Held S) (same : conn ≡ ol
           let ready : IsReady (state g new) = (clean, ends clean) in
           let held = before m stands (opens ready) in
           let was = held.0 in
-          was_there a (state g conn).now count was (did ready was.schema was.apart was.ints).1 ∙ ap (λ d. contains_key d a) held.1
+          was_there a (state g conn).now count was (did ready was.sound).1 ∙ ap (λ d. contains_key d a) held.1
 
     -- the rows of a document were put in their place
     module _ (ends : HasCleanDisk (state g new) → IsTrue (state g new).is_open) (a : List ℕ) (good : IsAddress a) (t : Tree) (rs : List NodeRow) (encodes : Encodes rs t)
@@ -155,8 +155,8 @@ module _ {S : Type 0} (g : Ghosts S) (conn old new : Held S) (same : conn ≡ ol
           let ready : IsReady (state g new) = (clean, opened) in
           let held = before m stands (opens ready) in
           let it = puts ready held.0 in (
-            store_puts a good t is (state g conn).now it.0 (state g new).now it.1 it.2 held.0,
-            put_map a good t is (state g conn).now it.0 (state g new).now it.1 it.2 held.0 ∙ ap (λ d. insert d a t) held.1,
+            store_puts a good t is (state g conn).now (state g new).now it.0 held.0,
+            put_map a good t is (state g conn).now (state g new).now it.0 held.0 ∙ ap (λ d. insert d a t) held.1,
           )
 
       pub put_answer : IsClean g new → (m : Map) → StandsFor g old m → replaced ≡ contains_key m a
@@ -165,7 +165,7 @@ module _ {S : Type 0} (g : Ghosts S) (conn old new : Held S) (same : conn ≡ ol
           let ready : IsReady (state g new) = (clean, ends clean) in
           let held = before m stands (opens ready) in
           let it = puts ready held.0 in
-          it.3 ∙ was_there a (state g conn).now _ held.0 refl ∙ ap (λ d. contains_key d a) held.1
+          it.1 ∙ was_there a (state g conn).now _ held.0 refl ∙ ap (λ d. contains_key d a) held.1
 
 -- what is left open, as clauses say it
 module _ {S : Type 0} (g : Ghosts S) (new : Held S) where
@@ -193,4 +193,4 @@ module _ {S : Type 0} (g : Ghosts S) (store : Held S) (ready : IsReady (state g 
 
   pub new_empty : StandsFor g store empty
   unfolding StandsFor
-  new_empty opened = (made.0, no_documents (node_rows (state g store).now) made.1)
+  new_empty opened = (made.0, no_documents (shown_rows (state g store).now) made.1)

@@ -126,10 +126,8 @@ store_made a b d both edition has =
     let third = edition second.0 second.1 in
     let none : node_rows d ≡ [] = third.2 ∙ second.2 in
     let store : IsStore d = record {
-      schema = inl third.0;
+      sound = record { schema = inl third.0; apart = subst AreApart (sym none) tt; ints = subst HaveInts (sym none) tt };
       layout = ap (map (λ r. column r 1)) third.1;
-      apart = subst AreApart (sym none) tt;
-      ints = subst HaveInts (sym none) tt;
       named = subst (AllByRecursion HasAddress) (sym none) tt;
       whole = λ address. inl (ap (rows_at address) none);
     } in

@@ -1,14 +1,19 @@
 -- What DELETE does to the table `node`.
-use Rattle.std.proofs.Common.{◌≡◌, pos, ◌⊎◌, inl, inr, ℕ, None, Some, Ok, Err, Result, List, [], ◌∷◌, map, filter, length, Bool, true, false, refl, sym, ap, subst, ◌∙◌}
+use Rattle.std.proofs.Common.{◌≡◌, ◌≢◌, slice_get, pos, ◌⊎◌, inl, inr, ℕ, None, Some, Ok, Err, Result, List, [], ◌∷◌, map, filter, length, Bool, true, false, not, refl, sym, ap, subst, ◌∙◌}
 use Rattle.std.specs.List.Sorted.{IsPermutation}
 use Rattle.sqlite_value.specs.Order.{Row, column}
 use Rattle.sqlite_value.specs.declared.value.Value.TheVariants.{Text, Int}
 use Rattle.sqlite_trees.specs.Tree.{Trees, rowid}
 use Rattle.std.proofs.lemmas.List.Sorted.{length_permutation}
 use Rattle.sqlite_sql.specs.Program.{IsProgramAnswer}
-use Rattle.std.specs.List.{list_all}
+use Rattle.std.specs.List.{AllByRecursion, list_all}
+use Rattle.sqlite_schema.specs.declared.schema.Keys.{Keys}
+use Rattle.sqlite_rules.specs.Action.{works}
+use Rattle.sqlite.specs.Schema.{Schema}
+use Rattle.sqlite.specs.Table.{Table}
 use Rattle.sqlite_sql.specs.Term.{Term, col, holds}
 use Rattle.sqlite_keyed.specs.Lists.{delete_where}
+use Rattle.sqlite_trees.proofs.ListLemmas.{ascending-filter, all-filter}
 use Rattle.xq_rows.specs.Documents.{is_at, AreApart, HaveInts}
 use Rattle.xq_rows.proofs.Selects.{selected, selected_rows, equals_text, and_true, part_test}
 use Rattle.xq_rows.proofs.Lists.{same_test}
@@ -27,8 +32,8 @@ use Rattle.sqlite.specs.declared.error.Error.{Error}
 use Rattle.std.proofs.Common.{IfOk, IsTrue}
 use Rattle.sqlite.proofs.Callers.{IsPlain, command_of, statement_of, runs_as, one_step}
 use Rattle.xq_rows.specs.Tables.{IsStoreSchema, node_rows}
-use Rattle.xq_rows.proofs.Places.{First, schema_of, layout_tree, node_tree, node_place, node_table_of, which, nodes_lie, layout_lies, no_works, layout_stays, on_node}
-use Rattle.xq_rows.specs.private.Statements.{HasDropped, Drops, is_part}
+use Rattle.xq_rows.proofs.Places.{First, schema_of, node_tree, node_place, node_table_of, node_there, which, nodes_lie, layout_lies, no_works, layout_stays, on_table}
+use Rattle.xq_rows.specs.private.Statements.{Deletes, Drops, is_part}
 use Rattle.xq_rows.proofs.Texts.{body, term1, delete_text, delete_program, delete_is, delete_plain, part_text, part_tests, part_is, part_plain}
 use Rattle.xq_rows.proofs.Lists.{takes_out}
 
@@ -40,89 +45,94 @@ went (inr on) = on
 pub same_value : {B E : Type 0} {a b : B} → ◌≡◌ {A = Result B E} (Ok a) (Ok b) → a ≡ b
 same_value e = cc
 
--- what a DELETE by these tests does, where the rows that pass them are those that are to go
-module _ (text : List ℕ) (tests : List Term) (params : Row) (gone : Row → Bool) (passes : (r : Row) → list_all (holds (params ∷ r ∷ [])) tests ≡ gone r)
-    (is : (first : First) → command_of (understood (schema_of first) text) ≡ Delete (node_place first) (delete_program (node_tree first) tests)) (plain : (first : First) → IsPlain (understood (schema_of first) text)) where
+-- what a DELETE by these tests does to a table, where the rows that pass them are those that are to go
+module _ (under : Schema) (place : ℕ) (table : Table) (there : slice_get under.tables place ≡ Some table) (alone : (keys : Keys) (olds news : List Row) → works under keys 0 table.tree olds news ≡ [])
+    (text : List ℕ) (tests : List Term) (params : Row) (gone : Row → Bool) (passes : (r : Row) → list_all (holds (params ∷ r ∷ [])) tests ≡ gone r)
+    (is : command_of (understood under text) ≡ Delete place (delete_program table.tree tests)) (plain : IsPlain (understood under text)) where
   -- its query gives the rowids of these rows
-  found_ids : (first : First) (db : Trees) (rows : List Row) → IsProgramAnswer [] (body (node_tree first) tests (col 1 0 ∷ []) []) db params rows
-      → IsPermutation (map (λ r. rowid r ∷ []) (filter gone (db (node_tree first)))) rows
-  found_ids first db rows got =
-      let s = selected_rows first tests (col 1 0 ∷ []) [] db params rows (selected first tests (col 1 0 ∷ []) [] db params rows got) in
-      subst (λ l. IsPermutation (map (λ r. rowid r ∷ []) l) rows) (same_test _ _ passes (db (node_tree first))) s
+  found_ids : (db : Trees) (rows : List Row) → IsProgramAnswer [] (body table.tree tests (col 1 0 ∷ []) []) db params rows → IsPermutation (map (λ r. rowid r ∷ []) (filter gone (db table.tree))) rows
+  found_ids db rows got =
+      let s = selected_rows table.tree tests (col 1 0 ∷ []) [] db params rows (selected table.tree tests (col 1 0 ∷ []) [] db params rows got) in
+      subst (λ l. IsPermutation (map (λ r. rowid r ∷ []) l) rows) (same_test _ _ passes (db table.tree)) s
 
   -- what it makes of the trees
-  record DeletesIn (first : First) (old new : Database) (count : ℕ) : Type 0 where
-    schema : new.schema ≡ old.schema
-    layout : new.trees (layout_tree first) ≡ old.trees (layout_tree first)
-    nodes : new.trees (node_tree first) ≡ delete_where gone (old.trees (node_tree first))
-    counted : count ≡ length (filter gone (old.trees (node_tree first)))
+  pub record DeletesIn (old new : Database) (count : ℕ) : Type 0 where
+    pub schema : new.schema ≡ old.schema
+    pub others : AllByRecursion (λ (t : Table). t.tree ≢ table.tree → new.trees t.tree ≡ old.trees t.tree) under.tables
+    pub rows : new.trees table.tree ≡ delete_where gone (old.trees table.tree)
+    pub counted : count ≡ length (filter gone (old.trees table.tree))
 
-  deletes_in : (first : First) (old new : State) (count : ℕ) → old.now.schema ≡ schema_of first → AreApart (old.now.trees (node_tree first)) → HaveInts (old.now.trees (node_tree first))
-      → Executes text params old new (Ok count) → DeletesIn first old.now new.now count
-  deletes_in first old new count has up ints h =
+  pub deletes_in : (old new : State) (count : ℕ) → old.now.schema ≡ under → AreApart (old.now.trees table.tree) → HaveInts (old.now.trees table.tree) → Executes text params old new (Ok count) → DeletesIn old.now new.now count
+  deletes_in old new count has up ints h =
       let db = old.now.trees in
-      let tree = node_tree first in
-      let schema = schema_of first in
-      let command = Delete (node_place first) (delete_program tree tests) in
-      let w = runs_as text params old new schema has command (is first) (plain first) count h in
-      let statement = statement_of text (understood schema text) in
+      let tree = table.tree in
+      let command = Delete place (delete_program tree tests) in
+      let w = runs_as text params old new under has command is plain count h in
+      let statement = statement_of text (understood under text) in
       let changed = subst (λ s. Does old.step_limit (mode_of old) params (record old.now { schema = s }) statement None command (Ok (w.tally, new.now))) has w.changed in
-      let done = went (on_node first old.step_limit (mode_of old) params db (λ task. OnRows task (mode_of old) None command db) (Ok (w.tally, new.now)) changed) in
+      let done = went (on_table under place table there old.step_limit (mode_of old) params db (λ task. OnRows task (mode_of old) None command db) (Ok (w.tally, new.now)) changed) in
       let read = went done.1 in
       let edited = went read.2 in
       let it : Written = done.0 in
       let found : List Row = read.0 in
       let next : Trees = edited.0 in
-      let same = found_ids first db found read.1.answer in
+      let same = found_ids db found read.1.answer in
       let keys = (mode_of old).keys in
-      let e = edit_of db (node_table_of first) (ids_of found) Given 0 [] in
-      let step = one_step schema keys db next e (no_works first keys (taken_by db e) e.news) edited.1 in
+      let e = edit_of db table (ids_of found) Given 0 [] in
+      let step = one_step under keys db next e (alone keys (taken_by db e) e.news) edited.1 in
       let end = same_value (went (went done.2).2).2 in
-      let now : new.now ≡ record { schema = schema; trees = it.trees } = ap (λ (p : Tally × Database). p.1) end in
-      let trees : it.trees ≡ next = ap (λ (x : Written). x.trees) (same_value edited.2) in
-      let nodes : next tree ≡ delete_where gone (db tree) = step.rows ∙ takes_out gone (db tree) found up ints same in
+      let now : new.now ≡ record { schema = under; trees = it.trees } = ap (λ (p : Tally × Database). p.1) end in
+      let trees : new.now.trees ≡ next = ap (λ (d : Database). d.trees) now ∙ ap (λ (x : Written). x.trees) (same_value edited.2) in
+      let left : next tree ≡ delete_where gone (db tree) = step.rows ∙ takes_out gone (db tree) found up ints same in
       let rows : it.rows ≡ map (row_at (db tree)) (ids_of found) = ap (λ (x : Written). x.rows) (same_value edited.2) in
       let tally : w.tally.rows ≡ Some (length it.rows) = ap (λ (p : Tally × Database). p.0.rows) end in
       let size : length it.rows ≡ length (filter gone (db tree)) =
       ap length rows ∙ length-map (ids_of found) (row_at (db tree)) ∙ length-map found (λ r. id_in (rowid r)) ∙ length_permutation _ _ same ∙ length-map (filter gone (db tree)) (λ r. rowid r ∷ []) in record {
         schema = ap (λ (d : Database). d.schema) now ∙ sym has;
-        layout = ap (λ (d : Database). d.trees (layout_tree first)) now ∙ ap (λ (t : Trees). t (layout_tree first)) trees ∙ layout_stays first db next step.tables;
-        nodes = ap (λ (d : Database). d.trees tree) now ∙ ap (λ (t : Trees). t tree) trees ∙ nodes;
+        others = subst (λ (after : Trees). AllByRecursion (λ (t : Table). t.tree ≢ tree → after t.tree ≡ db t.tree) under.tables) (sym trees) step.tables;
+        rows = ap (λ (t : Trees). t tree) trees ∙ left;
         counted = w.counted ∙ ap (λ o. unwrap_or o 0) tally ∙ size;
       }
 
-  deletes : (old new : State) (count : ℕ) → IsStoreSchema old.now.schema → AreApart (node_rows old.now) → HaveInts (node_rows old.now) → Executes text params old new (Ok count)
-      → HasDropped gone old.now new.now × (count ≡ length (filter gone (node_rows old.now)))
-  deletes old new count has up ints h =
-      let place = which old.now.schema has in
+-- what it does inside a transaction
+pub inside : (text : List ℕ) (params : Row) (gone : Row → Bool) (old new : State) (e : Error) (r : Result ℕ Error) → ((count : ℕ) → Executes text params old new (Ok count) → Deletes gone old.now new.now count)
+    → (old.in_transaction ≡ false → r ≡ Err e) → (IsTrue old.in_transaction → ExecutesInside 0 text params old new r) → IfOk r (Drops gone old new)
+inside text params gone old new e (Err f) does ended runs = tt
+inside text params gone old new e (Ok count) does ended runs = go old.in_transaction refl
+  where
+    go : (b : Bool) → old.in_transaction ≡ b → Drops gone old new count
+    go true within =
+        let ran = runs within in
+        record { inside = ran.1; did = does count ran.0 }
+    go false outside = absurd (let e = ended outside in cc)
+
+-- of the nodes go those that pass
+module _ (text : List ℕ) (tests : List Term) (params : Row) (gone : Row → Bool) (passes : (r : Row) → list_all (holds (params ∷ r ∷ [])) tests ≡ gone r)
+    (is : (first : First) → command_of (understood (schema_of first) text) ≡ Delete (node_place first) (delete_program (node_tree first) tests)) (plain : (first : First) → IsPlain (understood (schema_of first) text)) where
+  deletes : (old new : State) (count : ℕ) → Executes text params old new (Ok count) → Deletes gone old.now new.now count
+  deletes old new count h sound =
+      let place = which old.now.schema sound.schema in
       let first = place.0 in
       let nodes = nodes_lie first old.now place.1 in
-      let it = deletes_in first old new count place.1 (subst AreApart nodes up) (subst HaveInts nodes ints) h in
-      let still = it.schema ∙ place.1 in (
+      let it = deletes_in (schema_of first) (node_place first) (node_table_of first) (node_there first) (no_works first) text tests params gone passes (is first) (plain first) old new count place.1 (subst AreApart nodes sound.apart) (subst HaveInts nodes sound.ints) h in
+      let still = it.schema ∙ place.1 in
+      let left : node_rows new.now ≡ delete_where gone (node_rows old.now) = nodes_lie first new.now still ∙ it.rows ∙ sym (ap (delete_where gone) nodes) in (
         record {
-          schema = it.schema;
-          layout = layout_lies first new.now still ∙ it.layout ∙ sym (layout_lies first old.now place.1);
-          nodes = nodes_lie first new.now still ∙ it.nodes ∙ sym (ap (delete_where gone) nodes);
+          sound = record {
+            schema = subst IsStoreSchema (sym it.schema) sound.schema;
+            apart = subst AreApart (sym left) (ascending-filter _ (λ r. not (gone r)) (node_rows old.now) sound.apart);
+            ints = subst HaveInts (sym left) (all-filter _ (λ r. not (gone r)) (node_rows old.now) sound.ints);
+          };
+          layout = layout_lies first new.now still ∙ layout_stays first old.now.trees new.now.trees it.others ∙ sym (layout_lies first old.now place.1);
+          rows = left;
         },
         it.counted ∙ sym (ap (λ l. length (filter gone l)) nodes),
       )
 
-  -- the same inside a transaction
-  inside : (old new : State) (e : Error) (r : Result ℕ Error) → (old.in_transaction ≡ false → r ≡ Err e)
-      → (IsTrue old.in_transaction → ExecutesInside 0 text params old new r) → IfOk r (Drops gone old new)
-  inside old new e (Err f) ended runs = tt
-  inside old new e (Ok count) ended runs = go old.in_transaction refl
-    where
-      go : (b : Bool) → old.in_transaction ≡ b → Drops gone old new count
-      go true within =
-          let ran = runs within in
-          record { inside = ran.1; did = λ has up ints. deletes old new count has up ints ran.0 }
-      go false outside = absurd (let e = ended outside in cc)
-
 -- the rows of an address go
 pub dropped_inside : (old new : State) (address : List ℕ) (e : Error) (r : Result ℕ Error) → (old.in_transaction ≡ false → r ≡ Err e)
     → (IsTrue old.in_transaction → ExecutesInside 0 delete_text (Text address ∷ []) old new r) → IfOk r (Drops (is_at address) old new)
-dropped_inside old new address = inside delete_text (term1 ∷ []) (Text address ∷ []) (is_at address) passes delete_is delete_plain old new
+dropped_inside old new address e r = inside delete_text (Text address ∷ []) (is_at address) old new e r (deletes delete_text (term1 ∷ []) (Text address ∷ []) (is_at address) passes delete_is delete_plain old new)
   where
     passes : (r : Row) → list_all (holds ((Text address ∷ []) ∷ r ∷ [])) (term1 ∷ []) ≡ is_at address r
     passes r = and_true _ ∙ equals_text (column r 1) address
@@ -130,4 +140,6 @@ dropped_inside old new address = inside delete_text (term1 ∷ []) (Text address
 -- those of its rows go whose numbers lie between two
 pub part_inside : (old new : State) (address : List ℕ) (low high : ℕ) (e : Error) (r : Result ℕ Error) → (old.in_transaction ≡ false → r ≡ Err e)
     → (IsTrue old.in_transaction → ExecutesInside 0 part_text (Text address ∷ Int (pos low) ∷ Int (pos high) ∷ []) old new r) → IfOk r (Drops (is_part address low high) old new)
-part_inside old new address low high = inside part_text part_tests (Text address ∷ Int (pos low) ∷ Int (pos high) ∷ []) (is_part address low high) (part_test address low high) part_is part_plain old new
+part_inside old new address low high e r =
+    let params = Text address ∷ Int (pos low) ∷ Int (pos high) ∷ [] in
+    inside part_text params (is_part address low high) old new e r (deletes part_text part_tests params (is_part address low high) (part_test address low high) part_is part_plain old new)

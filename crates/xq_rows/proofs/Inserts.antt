@@ -17,8 +17,8 @@ use Rattle.sqlite.specs.Listing.{understood}
 use Rattle.sqlite.specs.Effect.{Database}
 use Rattle.sqlite.specs.State.{State, mode_of, Executes, ExecutesInside, KeepsCommit}
 use Rattle.sqlite.proofs.Callers.{statement_of, runs_as, one_step}
-use Rattle.xq_rows.specs.Tables.{IsStoreSchema, layout_rows, node_rows}
-use Rattle.xq_rows.proofs.Places.{First, schema_of, layout_tree, node_tree, node_place, node_table_of, which, nodes_lie, layout_lies, no_works, layout_stays, on_node}
+use Rattle.xq_rows.specs.Tables.{IsStoreSchema, layout_rows, node_rows, shown_rows}
+use Rattle.xq_rows.proofs.Places.{First, schema_of, layout_tree, node_tree, node_place, node_table_of, which, nodes_lie, layout_lies, node_there, no_works, layout_stays, on_table}
 use Rattle.xq_regions.specs.Rows.{Row as Node}
 use Rattle.xq_rows.specs.Nodes.{cells}
 use Rattle.xq_regions.specs.Codes.{kind_number}
@@ -37,7 +37,7 @@ use Rattle.sqlite_trees.proofs.ListLemmas.{IsPermutation-filter}
 use Rattle.sqlite_trees.proofs.TreeLemmas.{all-put_row}
 use Rattle.sqlite.specs.declared.error.Error.{Error}
 use Rattle.std.specs.List.{AllByRecursion}
-use Rattle.xq_rows.specs.Documents.{is_at, node_columns, rows_at, AreApart, HasAddress, HaveInts}
+use Rattle.xq_rows.specs.Documents.{is_at, node_columns, rows_at, AreApart, HasAddress, HaveInts, IsSound}
 use Rattle.xq_rows.specs.private.Statements.{HasAdded, Adds}
 
 either : (b : Bool) (x : Value) → cond b x x ≡ x
@@ -66,7 +66,7 @@ news_are : (first : First) (address : List ℕ) (n : ℕ × Node) (db : Trees)
     → (edit_of db (node_table_of first) [] Chosen 0 ((Null ∷ Text address ∷ cells n) ∷ [])).news ≡ new_row address n (db (node_tree first)) ∷ []
 news_are first address n db = rw (cast_null, cast_int (pos n.0), cast_int (pos n.1.size), cast_int (pos n.1.level), cast_int (pos (kind_number n.1.label.kind))) refl
 
-one_fresh : (rows : List Row) (row : Row) → are_fresh rows (row ∷ []) ≡ true → is_taken rows row ≡ false
+pub one_fresh : (rows : List Row) (row : Row) → are_fresh rows (row ∷ []) ≡ true → is_taken rows row ≡ false
 one_fresh rows row h = go (is_taken rows row) h
   where
     go : (b : Bool) → (not b && true) ≡ true → b ≡ false
@@ -91,7 +91,7 @@ inserts_in first old new address n count has h =
     let w = runs_as insert_text params old new schema has command (insert_is first) (insert_plain first) count h in
     let text = statement_of insert_text (understood schema insert_text) in
     let changed = subst (λ s. Does old.step_limit (mode_of old) params (record old.now { schema = s }) text None command (Ok (w.tally, new.now))) has w.changed in
-    let done = went (on_node first old.step_limit (mode_of old) params db (λ task. OnRows task (mode_of old) None command db) (Ok (w.tally, new.now)) changed) in
+    let done = went (on_table schema (node_place first) (node_table_of first) (node_there first) old.step_limit (mode_of old) params db (λ task. OnRows task (mode_of old) None command db) (Ok (w.tally, new.now)) changed) in
     let now = ap (λ (p : Tally × Database). p.1) (same_value (went (went done.2).2).2) in
     let given = went done.1 in
     let written = went (went given.2).2 in
@@ -138,7 +138,7 @@ turned Less = refl
 turned Equal = refl
 turned Greater = refl
 
-not_taken : (new : Row) (rows : List Row) → is_taken rows new ≡ false → AllByRecursion (λ y. is_eq (value_cmp (rowid new) (rowid y)) ≡ false) rows
+pub not_taken : (new : Row) (rows : List Row) → is_taken rows new ≡ false → AllByRecursion (λ y. is_eq (value_cmp (rowid new) (rowid y)) ≡ false) rows
 not_taken new [] free = tt
 not_taken new (r ∷ rs) free = go (is_eq (value_cmp (rowid r) (rowid new))) refl free (not_taken new rs)
   where
@@ -179,8 +179,8 @@ other_address a b apart = go (value_cmp (Text a) (Text b)) refl
     go Equal e = absurd (apart (sym (exact_bytes a b (sym (value_cmp-Text a b) ∙ e))))
     go Greater e = refl
 
-pub adds_one : (address : List ℕ) (n : ℕ × Node) (old new : Database) → IsInserted address n old new → HasAdded address (cells n ∷ []) old new
-adds_one address n old new it =
+pub adds_one : (address : List ℕ) (n : ℕ × Node) (old new : Database) → IsSound old → IsInserted address n old new → HasAdded address (cells n ∷ []) old new
+adds_one address n old new sound it =
     let rows = node_rows old in
     let row = new_row address n rows in
     let mine : is_at address row ≡ true = own_address address in
@@ -189,34 +189,32 @@ adds_one address n old new it =
     let front : map node_columns (filter (is_at address) (rows ++ row ∷ [])) ≡ rows_at address rows ++ cells n ∷ [] =
     ap (map node_columns) (filter-append (is_at address) rows (row ∷ []) ∙ ap (λ l. filter (is_at address) rows ++ l) last) ∙ map-append node_columns (filter (is_at address) rows) (row ∷ []) in
     let nodes = it.nodes in record {
-      schema = it.schema;
+      sound = record {
+        schema = subst IsStoreSchema (sym it.schema) sound.schema;
+        apart = subst AreApart (sym nodes) (apart-put_row row rows it.fresh sound.apart);
+        ints = subst HaveInts (sym nodes) (all-put_row (λ r. IsTrue (is_int (rowid r))) row rows refl sound.ints);
+      };
       layout = it.layout;
-      apart = λ up. subst AreApart (sym nodes) (apart-put_row row rows it.fresh up);
-      ints = λ ints. subst HaveInts (sym nodes) (all-put_row (λ r. IsTrue (is_int (rowid r))) row rows refl ints);
       named = λ good all. subst (AllByRecursion HasAddress) (sym nodes) (all-put_row HasAddress row rows (address, good, refl) all);
       own = subst₂ IsPermutation front (ap (rows_at address) (sym nodes)) whole;
       others = λ b apart. ap (rows_at b) nodes ∙ ap (map node_columns) (put_passed (is_at b) row rows (other_address address b apart) it.fresh);
     }
 
-pub adds_none : (address : List ℕ) (db : Database) → HasAdded address [] db db
-adds_none address db = record {
-  schema = refl;
+pub adds_none : (address : List ℕ) (db : Database) → IsSound db → HasAdded address [] db db
+adds_none address db sound = record {
+  sound = sound;
   layout = refl;
-  apart = λ up. up;
-  ints = λ ints. ints;
   named = λ good all. all;
-  own = subst (λ l. IsPermutation l (rows_at address (node_rows db))) (sym (append-nil (rows_at address (node_rows db)))) (IsPermutation-refl _);
+  own = subst (λ l. IsPermutation l (rows_at address (shown_rows db))) (sym (append-nil (rows_at address (shown_rows db)))) (IsPermutation-refl _);
   others = λ b apart. refl;
 }
 
 pub adds_more : (address : List ℕ) (xs ys : List Row) (first mid last : Database) → HasAdded address xs first mid → HasAdded address ys mid last → HasAdded address (xs ++ ys) first last
 adds_more address xs ys first mid last p q = record {
-  schema = q.schema ∙ p.schema;
+  sound = q.sound;
   layout = q.layout ∙ p.layout;
-  apart = λ up. q.apart (p.apart up);
-  ints = λ ints. q.ints (p.ints ints);
   named = λ good all. q.named good (p.named good all);
-  own = subst (λ l. IsPermutation l (rows_at address (node_rows last))) (append_assoc (rows_at address (node_rows first)) xs ys) (IsPermutation-trans _ _ _ (IsPermutation-append_left ys _ _ p.own) q.own);
+  own = subst (λ l. IsPermutation l (rows_at address (shown_rows last))) (append_assoc (rows_at address (shown_rows first)) xs ys) (IsPermutation-trans _ _ _ (IsPermutation-append_left ys _ _ p.own) q.own);
   others = λ b apart. q.others b apart ∙ p.others b apart;
 }
 
@@ -229,17 +227,17 @@ added_inside old new address n e (Ok count) ended runs = go old.in_transaction r
     go : (b : Bool) → old.in_transaction ≡ b → Adds address (cells n ∷ []) old new
     go true inside =
         let ran = runs inside in
-        record { mode = λ _. ran.1.mode; did = λ has. adds_one address n old.now new.now (inserts old new address n count has ran.0) }
+        record { mode = λ _. ran.1.mode; did = λ sound. adds_one address n old.now new.now sound (inserts old new address n count sound.schema ran.0) }
     go false outside = absurd (let e = ended outside in cc)
 
 pub adds_then : (address : List ℕ) (xs ys : List Row) (first mid last : State) → Adds address xs first mid → Adds address ys mid last → Adds address (xs ++ ys) first last
 adds_then address xs ys first mid last p q = record {
   mode = λ inside. q.mode (p.mode inside);
-  did = λ has. let one = p.did has in adds_more address xs ys first.now mid.now last.now one (q.did (subst IsStoreSchema (sym one.schema) has));
+  did = λ sound. let one = p.did sound in adds_more address xs ys first.now mid.now last.now one (q.did one.sound);
 }
 
 pub adds_nothing : (address : List ℕ) (s : State) → Adds address [] s s
-adds_nothing address s = record { mode = λ inside. inside; did = λ has. adds_none address s.now }
+adds_nothing address s = record { mode = λ inside. inside; did = λ sound. adds_none address s.now sound }
 
 pub kept_then : (first mid last : State) → KeepsCommit first mid → KeepsCommit mid last → KeepsCommit first last
 kept_then first mid last p q = record { was_open = λ up. p.was_open (q.was_open up); committed = λ up. q.committed up ∙ p.committed (q.was_open up) }

@@ -8,7 +8,7 @@ use Rattle.sqlite.specs.State.{HasCleanDisk}
 use Rattle.xq_regions.specs.Tree.{Tree, IsDocument}
 use Rattle.xq_rows.specs.declared.shelves.Shelf.{Shelf}
 use Rattle.xq_rows.specs.Documents.{IsReady, IsClean, IsOpen, IsUp, IsStore, HoldsDocuments, Map, StandsFor, documents_in, is_at, tree_at}
-use Rattle.xq_rows.specs.Tables.{node_rows, IsStoreSchema}
+use Rattle.xq_rows.specs.Tables.{shown_rows, IsStoreSchema}
 use Rattle.xq_rows.specs.Views.{Beginning, HeldDocuments, StoodFor, Viewed, beginning, trees_under}
 use Rattle.xq_rows.specs.private.Keeps.{AreOf, IsKeeping, IsKept, Keeps, KeepsShelf, LeavesAlone, StaysOutside}
 use Rattle.xq_rows.specs.declared.shelves.Front.{Front}
@@ -69,8 +69,8 @@ module _ {S : Type 0} (g : Ghosts S) where
     alone_stands clean m stands opened =
         let ready : IsReady (state g new) = (clean, opened) in
         let held = stands (alone.was_open ready) in
-        let e = alone.same ready held.0.schema in
-        (subst IsStore (sym e) held.0, ap (λ db. documents_in (node_rows db)) e ∙ held.1)
+        let e = alone.same ready held.0.sound.schema in
+        (subst IsStore (sym e) held.0, ap (λ db. documents_in (shown_rows db)) e ∙ held.1)
 
   -- # What is true of a store, after a call
 
@@ -81,12 +81,12 @@ module _ {S : Type 0} (g : Ghosts S) where
     -- a call that leaves the tables alone
     module _ (same : IsReady (state g new) → IsStoreSchema (state g conn).now.schema → (state g new).now ≡ (state g conn).now) where
       holds_on : IsReady (state g new) → IsStore (state g new).now
-      holds_on ready = let is = keeping.holds (early ready) in subst IsStore (sym (same ready is.schema)) is
+      holds_on ready = let is = keeping.holds (early ready) in subst IsStore (sym (same ready is.sound.schema)) is
 
       keeps_on : (kept : Option Shelf) → Keeps g conn kept → Keeps g new kept
       keeps_on None keeps = tt
       keeps_on (Some kept) keeps = λ ready.
-          subst (λ db. AreOf db kept.addresses.value kept.fronts.items) (sym (same ready (keeping.holds (early ready)).schema)) (keeps (early ready))
+          subst (λ db. AreOf db kept.addresses.value kept.fronts.items) (sym (same ready (keeping.holds (early ready)).sound.schema)) (keeps (early ready))
 
       pub forgets : IsKeeping g new None
       forgets = record { outside = stays.mode; holds = holds_on; keeps = tt }
@@ -102,7 +102,7 @@ module _ {S : Type 0} (g : Ghosts S) where
       holds = λ ready. (
           let was = keeping.holds (early ready) in
           let puts = puts_tree ready was in
-          store_puts a good t is (state g conn).now puts.0 (state g new).now puts.1 puts.2 was);
+          store_puts a good t is (state g conn).now (state g new).now puts.0 was);
       keeps = kept later edited;
     }
       where
@@ -115,7 +115,7 @@ module _ {S : Type 0} (g : Ghosts S) where
             let before : KeepsShelf g conn edited.0 = subst (Keeps g conn) edited.1 keeping.keeps in
             let was = keeping.holds (early ready) in
             let puts = puts_tree ready was in
-            kept_put a good t is (state g conn).now puts.0 (state g new).now puts.1 puts.2 was edited.0 l front edited.2 own (before (early ready))
+            kept_put a good t is (state g conn).now (state g new).now puts.0 was edited.0 l front edited.2 own (before (early ready))
 
     -- a document was dropped
     pub has_dropped : (a : List ℕ) (count : ℕ) → (IsReady (state g new) → Deletes (is_at a) (state g conn).now (state g new).now count)
@@ -124,7 +124,7 @@ module _ {S : Type 0} (g : Ghosts S) where
       outside = stays.mode;
       holds = λ ready. (
           let was = keeping.holds (early ready) in
-          store_drops a (state g conn).now (state g new).now (did ready was.schema was.apart was.ints).0 was);
+          store_drops a (state g conn).now (state g new).now (did ready was.sound).0 was);
       keeps = kept later edited;
     }
       where
@@ -133,7 +133,7 @@ module _ {S : Type 0} (g : Ghosts S) where
         kept (Some l) edited = λ ready.
             let before : KeepsShelf g conn edited.0 = subst (Keeps g conn) edited.1 keeping.keeps in
             let was = keeping.holds (early ready) in
-            kept_drop a (state g conn).now (state g new).now (did ready was.schema was.apart was.ints).0 was edited.0 l edited.2 (before (early ready))
+            kept_drop a (state g conn).now (state g new).now (did ready was.sound).0 was edited.0 l edited.2 (before (early ready))
 
   -- with rows of other documents forgotten, the same is true
   pub roomier : (conn : Held S) (shelf later : Option Shelf) → IsKeeping g conn shelf
@@ -148,7 +148,7 @@ module _ {S : Type 0} (g : Ghosts S) where
           let was = before ready in
           record {
             listed = same ∙ was.listed;
-            rows = subst (λ ks. AreFronts (map (tree_at (node_rows (state g conn).now)) ks) l.fronts.items) (sym same) (roomy.3 _ was.rows);
+            rows = subst (λ ks. AreFronts (map (tree_at (shown_rows (state g conn).now)) ks) l.fronts.items) (sym same) (roomy.3 _ was.rows);
           }
 
   -- a new store, of which no address is kept
@@ -162,7 +162,7 @@ module _ {S : Type 0} (g : Ghosts S) where
   -- # What is taken
 
   -- the store stands for the documents that its tables hold
-  pub held_stands : (store : Held S) → HoldsDocuments g store → StandsFor g store (documents_in (node_rows (state g store).now))
+  pub held_stands : (store : Held S) → HoldsDocuments g store → StandsFor g store (documents_in (shown_rows (state g store).now))
   unfolding HoldsDocuments StandsFor
   held_stands store holds opened = (holds, refl)
 
@@ -173,7 +173,7 @@ module _ {S : Type 0} (g : Ghosts S) where
 
     pub taken_own : IsUp g new → IsStoreSchema (state g old).now.schema
     unfolding IsUp
-    taken_own ready = subst (λ (h : Held S). IsStoreSchema (state g h).now.schema) is (keeping.holds (early conn new stays before keeping ready)).schema
+    taken_own ready = subst (λ (h : Held S). IsStoreSchema (state g h).now.schema) is (keeping.holds (early conn new stays before keeping ready)).sound.schema
 
   -- the addresses were listed
   pub taken_anew : {E : Type 0} (conn old new : Held S) → conn ≡ old → (r : Result Shelf E) → (IsReady (state g new) → IsStore (state g conn).now → IfOk r (λ shelf. AreOf (state g conn).now shelf.addresses.value shelf.fronts.items))
@@ -228,7 +228,7 @@ module _ {S : Type 0} (g : Ghosts S) where
         let e = (is.stays stays ready).1 in
         let began = subst IsStore e held in
         let there : AreOf b.database shelf.addresses.value shelf.fronts.items = record {
-          listed = sym named ∙ is.view.listed ready.0 (documents_in (node_rows b.database)) (began, refl);
+          listed = sym named ∙ is.view.listed ready.0 (documents_in (shown_rows b.database)) (began, refl);
           rows = subst (λ l. AreFronts (trees_under b l) shelf.fronts.items) named (is.rows ready.0 began);
         } in
         subst (λ db. AreOf db shelf.addresses.value shelf.fronts.items) (sym e) there);

@@ -32,3 +32,8 @@ pub mod Streams
 pub mod Judging
 pub mod Silent
 pub mod AdoptStreams
+pub mod LabelPlaces
+pub mod LabelTexts
+pub mod Joins
+pub mod Named
+pub mod LabelInserts

@@ -26,7 +26,7 @@ use Rattle.xq_rows.specs.Documents.{is_at, node_columns, rows_at, by_first, docu
 use Rattle.xq_rows.specs.private.Statements.{is_above, is_within, AreAbove, Finds, IsPicked, IsRange}
 use Rattle.xq_rows.proofs.Maps.{get-whole, get-none, node_back, nodes_back}
 use Rattle.xq_rows.proofs.Orders.{first_total, numbers_rise}
-use Rattle.xq_rows.specs.Tables.{node_rows}
+use Rattle.xq_rows.specs.Tables.{shown_rows}
 
 -- # Each number of a row lies within the bounds
 
@@ -88,27 +88,27 @@ read_back [] = refl
 read_back (n ∷ ns) = ap₂ ◌∷◌ (node_back (placed n)) (read_back ns)
 
 pub found_is : (db : Database) (a : List ℕ) (list : List NodeRow) (found : Option Tree) → IsStore db → IsRange a 0 most db (map cells (map placed list)) → Finds list found
-    → found ≡ get (documents_in (node_rows db)) a
+    → found ≡ get (documents_in (shown_rows db)) a
 found_is db a list found store range finds = go (store.whole a) found finds
   where
-    picked : IsPicked (λ r. is_at a r && is_within 0 most r) node_columns (node_rows db) (map cells (map placed list))
-    picked = range store.schema
+    picked : IsPicked (λ r. is_at a r && is_within 0 most r) node_columns (shown_rows db) (map cells (map placed list))
+    picked = range store.sound.schema
 
-    same : IsPermutation (rows_at a (node_rows db)) (map cells (map placed list))
-    same = subst (λ l. IsPermutation l (map cells (map placed list))) (all_picked (node_rows db) a (store.whole a)) picked.same
+    same : IsPermutation (rows_at a (shown_rows db)) (map cells (map placed list))
+    same = subst (λ l. IsPermutation l (map cells (map placed list))) (all_picked (shown_rows db) a (store.whole a)) picked.same
 
-    here : (it : IsIntact (rows_at a (node_rows db))) → map row_of list ≡ rows it.tree
+    here : (it : IsIntact (rows_at a (shown_rows db))) → map row_of list ≡ rows it.tree
     here it =
         let ordered = sorted_unique by_first first_total (map cells (placed_rows it.tree)) (map cells (map placed list)) (numbers_rise 0 (rows it.tree)) (IsPermutation-trans _ _ _ (IsPermutation-sym _ _ it.same) same) picked.sorted in
         sym (read_back list) ∙ ap (map node_in) ordered ∙ nodes_back 0 (rows it.tree)
 
-    go : (rows_at a (node_rows db) ≡ []) ⊎ IsIntact (rows_at a (node_rows db)) → (found : Option Tree) → Finds list found → found ≡ get (documents_in (node_rows db)) a
-    go (inl none) None finds = sym (get-none (node_rows db) a store.named none)
+    go : (rows_at a (shown_rows db) ≡ []) ⊎ IsIntact (rows_at a (shown_rows db)) → (found : Option Tree) → Finds list found → found ≡ get (documents_in (shown_rows db)) a
+    go (inl none) None finds = sym (get-none (shown_rows db) a store.named none)
     go (inl none) (Some t) finds =
         let size : length (map cells (map placed list)) ≡ 0 = length_permutation _ _ same ∙ ap length none in
         absurd (let e : [] ≡ rows t = ap (map row_of) (sym (no_cells list size)) ∙ finds.rows in cc)
     go (inr it) None finds = absurd (let e : rows it.tree ≡ [] = sym (here it) ∙ ap (map row_of) finds in cc)
-    go (inr it) (Some t) finds = ap Some (rows-injective t it.tree (sym finds.rows ∙ here it)) ∙ sym (get-whole (node_rows db) a it.tree store.named it.same)
+    go (inr it) (Some t) finds = ap Some (rows-injective t it.tree (sym finds.rows ∙ here it)) ∙ sym (get-whole (shown_rows db) a it.tree store.named it.same)
 
 -- # The columns of each row
 
@@ -126,15 +126,15 @@ pub read_range_is : (db : Database) (a : List ℕ) (low high : ℕ) (given : Lis
     → map cells (map placed list) ≡ map node_of given → IsRange a low high db (map cells (map placed list))
 read_range_is db a low high given list range read schema =
     let it = range schema in
-    let same = read ∙ all_six (filter (λ r. is_at a r && is_within low high r) (node_rows db)) given it.same in
-    subst (IsPicked (λ r. is_at a r && is_within low high r) node_columns (node_rows db)) (sym same) it
+    let same = read ∙ all_six (filter (λ r. is_at a r && is_within low high r) (shown_rows db)) given it.same in
+    subst (IsPicked (λ r. is_at a r && is_within low high r) node_columns (shown_rows db)) (sym same) it
 
 pub above_read_is : (db : Database) (a : List ℕ) (v : ℕ) (given : List Row) (list : List NodeRow) → AreAbove a v db given
     → map cells (map placed list) ≡ map node_of given → AreAbove a v db (map cells (map placed list))
 above_read_is db a v given list shown read store =
     let it = shown store in
-    let same = read ∙ all_six (filter (λ r. is_at a r && is_above v r) (node_rows db)) given it.same in
-    subst (IsPicked (λ r. is_at a r && is_above v r) node_columns (node_rows db)) (sym same) it
+    let same = read ∙ all_six (filter (λ r. is_at a r && is_above v r) (shown_rows db)) given it.same in
+    subst (IsPicked (λ r. is_at a r && is_above v r) node_columns (shown_rows db)) (sym same) it
 
 pub above_read : {X E : Type 0} (db : Database) (a : List ℕ) (v : ℕ) (given : List Row) (list : X → List NodeRow) (r : Result X E) → AreAbove a v db given
     → IfOk r (λ nodes. map cells (map placed (list nodes)) ≡ map node_of given) → IfOk r (λ nodes. AreAbove a v db (map cells (map placed (list nodes))))

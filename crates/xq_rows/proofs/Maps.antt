@@ -1,5 +1,5 @@
 -- What the statements do to the map.
-use Rattle.std.proofs.Common.{◌≡◌, ◌≢◌, ◌⊎◌, ◌||◌, ◌+◌, ◌<◌, inl, inr, ℕ, suc, pos, Bool, true, false, not, cond, List, [], ◌∷◌, ◌++◌, map, filter, length, refl, sym, ap, subst, ◌∙◌, arith, Ordering, nat_lt, Some, None, is_some}
+use Rattle.std.proofs.Common.{◌≡◌, ◌≢◌, ◌⊎◌, ◌||◌, ◌+◌, ◌<◌, inl, inr, ℕ, suc, pos, Bool, true, false, not, cond, List, [], ◌∷◌, map, filter, length, refl, sym, ap, subst, ◌∙◌, arith, Ordering, nat_lt, Some, None, is_some}
 use Rattle.std.specs.Ordering.{is_eq, eq_by_cmp, nat_cmp}
 use Rattle.std.specs.Cmp.{IsTotalOrder, eq_by_cmp_equiv}
 use Rattle.std.specs.Cmp.Lexicographic.{slice_cmp, nat_list_cmp_total}
@@ -14,7 +14,7 @@ use Rattle.sqlite_value.specs.Order.{Row, column, value_cmp}
 use Rattle.sqlite_value.specs.declared.value.Value.{Value}
 use Rattle.sqlite_value.specs.declared.value.Value.TheVariants.{Null, Int, Real, Text, Blob}
 use Rattle.sqlite_value.proofs.OrderLemmas.{value_cmp_total, value_cmp-Null, value_cmp-Text, value_cmp-apart}
-use Rattle.sqlite_trees.proofs.ListLemmas.{filter-filter, ascending-filter, all-filter}
+use Rattle.sqlite_trees.proofs.ListLemmas.{filter-filter, all-filter}
 use Rattle.sqlite_keyed.specs.Lists.{delete_where, sort_by}
 use Rattle.sqlite.specs.Effect.{Database}
 use Rattle.xq_atoms.specs.Address.{IsAddress}
@@ -25,12 +25,12 @@ use Rattle.xq_regions.specs.declared.Kind.{Kind}
 use Rattle.xq_regions.specs.declared.Kind.TheVariants.{Document, Element, Attribute, Text as TextNode, Comment, ProcessingInstruction}
 use Rattle.xq_rows.specs.Nodes.{cells, node_in, bytes_in}
 use Rattle.xq_regions.specs.Codes.{kind_number, kind_from}
-use Rattle.xq_rows.specs.Documents.{is_at, is_first, node_columns, rows_at, by_first, tree_at, addresses_in, documents_in, documents_of, AreApart, HasAddress, HaveInts, IsIntact, IsStore}
-use Rattle.xq_rows.specs.private.Statements.{HasDropped, HasAdded}
+use Rattle.xq_rows.specs.Documents.{is_at, is_first, node_columns, rows_at, by_first, tree_at, addresses_in, documents_in, documents_of, HasAddress, IsIntact, IsStore}
+use Rattle.xq_rows.specs.private.Statements.{HasDropped, HasReplaced}
 use Rattle.xq_rows.proofs.Inserts.{own_address}
 use Rattle.xq_rows.proofs.Lists.{tied}
 use Rattle.xq_rows.proofs.Orders.{sorted_nodes}
-use Rattle.xq_rows.specs.Tables.{IsStoreSchema, node_rows}
+use Rattle.xq_rows.specs.Tables.{shown_rows}
 
 -- # Addresses
 
@@ -68,44 +68,36 @@ same_address a b = go (is_eq (value_cmp (Text a) (Text b))) refl
 
 -- # The rows of an address
 
-pub rows_gone : (a : List ℕ) (old new : Database) → HasDropped (is_at a) old new → rows_at a (node_rows new) ≡ []
-rows_gone a old new h = ap (rows_at a) h.nodes ∙ ap (map node_columns) (none_left (is_at a) (node_rows old))
+pub rows_gone : (a : List ℕ) (old new : Database) → HasDropped (is_at a) old new → rows_at a (shown_rows new) ≡ []
+rows_gone a old new h = ap (rows_at a) h.rows ∙ ap (map node_columns) (none_left (is_at a) (shown_rows old))
 
-pub rows_stay : (a b : List ℕ) (old new : Database) → b ≢ a → HasDropped (is_at a) old new → rows_at b (node_rows new) ≡ rows_at b (node_rows old)
-rows_stay a b old new apart h = ap (rows_at b) h.nodes ∙ ap (map node_columns) (filter-filter (is_at b) (λ r. not (is_at a r)) (λ r here. apart_rows a b r apart here) (node_rows old))
+pub rows_stay : (a b : List ℕ) (old new : Database) → b ≢ a → HasDropped (is_at a) old new → rows_at b (shown_rows new) ≡ rows_at b (shown_rows old)
+rows_stay a b old new apart h = ap (rows_at b) h.rows ∙ ap (map node_columns) (filter-filter (is_at b) (λ r. not (is_at a r)) (λ r here. apart_rows a b r apart here) (shown_rows old))
 
 pub store_drops : (a : List ℕ) (old new : Database) → HasDropped (is_at a) old new → IsStore old → IsStore new
 store_drops a old new h was = record {
-  schema = subst IsStoreSchema (sym h.schema) was.schema;
+  sound = h.sound;
   layout = ap (map (λ r. column r 1)) h.layout ∙ was.layout;
-  apart = subst AreApart (sym h.nodes) (ascending-filter _ (λ r. not (is_at a r)) (node_rows old) was.apart);
-  ints = subst HaveInts (sym h.nodes) (all-filter _ (λ r. not (is_at a r)) (node_rows old) was.ints);
-  named = subst (AllByRecursion HasAddress) (sym h.nodes) (all-filter _ (λ r. not (is_at a r)) (node_rows old) was.named);
+  named = subst (AllByRecursion HasAddress) (sym h.rows) (all-filter _ (λ r. not (is_at a r)) (shown_rows old) was.named);
   whole = λ b. elim (same_address a b) [
-    | inl e ↦ inl (ap (λ x. rows_at x (node_rows new)) e ∙ rows_gone a old new h)
+    | inl e ↦ inl (ap (λ x. rows_at x (shown_rows new)) e ∙ rows_gone a old new h)
     | inr apart ↦ subst (λ rows. (rows ≡ []) ⊎ IsIntact rows) (sym (rows_stay a b old new apart h)) (was.whole b)
   ];
 }
 
-module _ (a : List ℕ) (good : IsAddress a) (t : Tree) (is : IsDocument t) (old mid new : Database) (dropped : HasDropped (is_at a) old mid) (added : HasAdded a (map cells (placed_rows t)) mid new) where
-  pub own_rows : IsPermutation (rows_at a (node_rows new)) (map cells (placed_rows t))
-  own_rows = IsPermutation-sym _ _ (subst (λ l. IsPermutation (l ++ map cells (placed_rows t)) (rows_at a (node_rows new))) (rows_gone a old mid dropped) added.own)
-
-  pub other_rows : (b : List ℕ) → b ≢ a → rows_at b (node_rows new) ≡ rows_at b (node_rows old)
-  other_rows b apart = added.others b apart ∙ rows_stay a b old mid apart dropped
+module _ (a : List ℕ) (good : IsAddress a) (t : Tree) (is : IsDocument t) (old new : Database) (put : HasReplaced a (map cells (placed_rows t)) old new) where
+  own_rows : IsPermutation (rows_at a (shown_rows new)) (map cells (placed_rows t))
+  own_rows = IsPermutation-sym _ _ put.own
 
   pub store_puts : IsStore old → IsStore new
   store_puts was =
-      let between = store_drops a old mid dropped was in
-      let own : IsIntact (rows_at a (node_rows new)) = record { tree = t; is_document = is; same = own_rows } in record {
-        schema = subst IsStoreSchema (sym added.schema) between.schema;
-        layout = ap (map (λ r. column r 1)) added.layout ∙ between.layout;
-        apart = added.apart between.apart;
-        ints = added.ints between.ints;
-        named = added.named good between.named;
+      let own : IsIntact (rows_at a (shown_rows new)) = record { tree = t; is_document = is; same = own_rows } in record {
+        sound = put.sound;
+        layout = ap (map (λ r. column r 1)) put.layout ∙ was.layout;
+        named = put.named good;
         whole = λ b. elim (same_address a b) [
-          | inl e ↦ inr (subst (λ x. IsIntact (rows_at x (node_rows new))) (sym e) own)
-          | inr apart ↦ subst (λ rows. (rows ≡ []) ⊎ IsIntact rows) (sym (other_rows b apart)) (was.whole b)
+          | inl e ↦ inr (subst (λ x. IsIntact (rows_at x (shown_rows new))) (sym e) own)
+          | inr apart ↦ subst (λ rows. (rows ≡ []) ⊎ IsIntact rows) (sym (put.others b apart)) (was.whole b)
         ];
       }
 
@@ -203,8 +195,8 @@ pub no_documents : (table : List Row) → table ≡ [] → documents_in table �
 unfolding documents_in
 no_documents table none = ap documents_in none
 
-pub no_keys : (db : Database) → node_rows db ≡ [] → [] ≡ keys (documents_of db)
-no_keys db none = sym (ap keys (no_documents (node_rows db) none) ∙ ap (map (λ (e : List ℕ × Tree). e.0)) (none_of _ (sym (len-entries (empty {R = order})) ∙ len-empty order Tree)))
+pub no_keys : (db : Database) → shown_rows db ≡ [] → [] ≡ keys (documents_of db)
+no_keys db none = sym (ap keys (no_documents (shown_rows db) none) ∙ ap (map (λ (e : List ℕ × Tree). e.0)) (none_of _ (sym (len-entries (empty {R = order})) ∙ len-empty order Tree)))
   where
     none_of : {X : Type 0} (xs : List X) → length xs ≡ 0 → xs ≡ []
     none_of [] e = refl
@@ -220,63 +212,63 @@ apart_key a q apart = go (eq_by_cmp order q a) refl
 own_key : (a q : List ℕ) → q ≡ a → eq_by_cmp order q a ≡ true
 own_key a q e = ap (λ x. eq_by_cmp order x a) e ∙ ap is_eq (tied_itself order_total a)
 
-pub dropped_map : (a : List ℕ) (old new : Database) → HasDropped (is_at a) old new → IsStore old → documents_in (node_rows new) ≡ remove (documents_in (node_rows old)) a
+pub dropped_map : (a : List ℕ) (old new : Database) → HasDropped (is_at a) old new → IsStore old → documents_in (shown_rows new) ≡ remove (documents_in (shown_rows old)) a
 dropped_map a old new h was = same_map order_total order_exact _ _ each
   where
     now : IsStore new
     now = store_drops a old new h was
 
-    each : (q : List ℕ) → get (documents_in (node_rows new)) q ≡ get (remove (documents_in (node_rows old)) a) q
+    each : (q : List ℕ) → get (documents_in (shown_rows new)) q ≡ get (remove (documents_in (shown_rows old)) a) q
     each q =
         elim (same_address a q) [
-          | inl e ↦ get-none (node_rows new) q now.named (ap (λ x. rows_at x (node_rows new)) e ∙ rows_gone a old new h)
-              ∙ sym (get-remove order_total (documents_in (node_rows old)) a q ∙ ap (λ b. cond b None (get (documents_in (node_rows old)) q)) (own_key a q e))
-          | inr apart ↦ get_same q (node_rows old) (node_rows new) was.named now.named (rows_stay a q old new apart h)
-              ∙ sym (get-remove order_total (documents_in (node_rows old)) a q ∙ ap (λ b. cond b None (get (documents_in (node_rows old)) q)) (apart_key a q apart))
+          | inl e ↦ get-none (shown_rows new) q now.named (ap (λ x. rows_at x (shown_rows new)) e ∙ rows_gone a old new h)
+              ∙ sym (get-remove order_total (documents_in (shown_rows old)) a q ∙ ap (λ b. cond b None (get (documents_in (shown_rows old)) q)) (own_key a q e))
+          | inr apart ↦ get_same q (shown_rows old) (shown_rows new) was.named now.named (rows_stay a q old new apart h)
+              ∙ sym (get-remove order_total (documents_in (shown_rows old)) a q ∙ ap (λ b. cond b None (get (documents_in (shown_rows old)) q)) (apart_key a q apart))
         ]
 
-pub put_map : (a : List ℕ) (good : IsAddress a) (t : Tree) (is : IsDocument t) (old mid new : Database) → HasDropped (is_at a) old mid → HasAdded a (map cells (placed_rows t)) mid new
-    → IsStore old → documents_in (node_rows new) ≡ insert (documents_in (node_rows old)) a t
-put_map a good t is old mid new dropped added was = same_map order_total order_exact _ _ each
+pub put_map : (a : List ℕ) (good : IsAddress a) (t : Tree) (is : IsDocument t) (old new : Database) → HasReplaced a (map cells (placed_rows t)) old new
+    → IsStore old → documents_in (shown_rows new) ≡ insert (documents_in (shown_rows old)) a t
+put_map a good t is old new put was = same_map order_total order_exact _ _ each
   where
     now : IsStore new
-    now = store_puts a good t is old mid new dropped added was
+    now = store_puts a good t is old new put was
 
-    each : (q : List ℕ) → get (documents_in (node_rows new)) q ≡ get (insert (documents_in (node_rows old)) a t) q
+    each : (q : List ℕ) → get (documents_in (shown_rows new)) q ≡ get (insert (documents_in (shown_rows old)) a t) q
     each q =
         elim (same_address a q) [
-          | inl e ↦ get-whole (node_rows new) q t now.named (subst (λ x. IsPermutation (rows_at x (node_rows new)) (map cells (placed_rows t))) (sym e) (own_rows a good t is old mid new dropped added))
-              ∙ sym (get-insert order_total (documents_in (node_rows old)) a t q ∙ ap (λ b. cond b (Some t) (get (documents_in (node_rows old)) q)) (own_key a q e))
-          | inr apart ↦ get_same q (node_rows old) (node_rows new) was.named now.named (other_rows a good t is old mid new dropped added q apart)
-              ∙ sym (get-insert order_total (documents_in (node_rows old)) a t q ∙ ap (λ b. cond b (Some t) (get (documents_in (node_rows old)) q)) (apart_key a q apart))
+          | inl e ↦ get-whole (shown_rows new) q t now.named (subst (λ x. IsPermutation (rows_at x (shown_rows new)) (map cells (placed_rows t))) (sym e) (own_rows a good t is old new put))
+              ∙ sym (get-insert order_total (documents_in (shown_rows old)) a t q ∙ ap (λ b. cond b (Some t) (get (documents_in (shown_rows old)) q)) (own_key a q e))
+          | inr apart ↦ get_same q (shown_rows old) (shown_rows new) was.named now.named (put.others q apart)
+              ∙ sym (get-insert order_total (documents_in (shown_rows old)) a t q ∙ ap (λ b. cond b (Some t) (get (documents_in (shown_rows old)) q)) (apart_key a q apart))
         ]
 
 positive : (n : ℕ) → 0 < suc n
 positive n = omega arith
 
 -- the map has an address where it has rows
-pub was_there : (a : List ℕ) (db : Database) (count : ℕ) → IsStore db → count ≡ length (filter (is_at a) (node_rows db)) → nat_lt 0 count ≡ contains_key (documents_in (node_rows db)) a
+pub was_there : (a : List ℕ) (db : Database) (count : ℕ) → IsStore db → count ≡ length (filter (is_at a) (shown_rows db)) → nat_lt 0 count ≡ contains_key (documents_in (shown_rows db)) a
 unfolding tail_of
 was_there a db count it e = elim (it.whole a) [
   | inl none ↦
       let n : count ≡ 0 = size ∙ ap length none in
-      ap (nat_lt 0) n ∙ sym (ap is_some (get-none (node_rows db) a it.named none))
+      ap (nat_lt 0) n ∙ sym (ap is_some (get-none (shown_rows db) a it.named none))
   | inr some ↦
       let n : count ≡ length (map cells (placed_rows some.tree)) = size ∙ sym (length_permutation _ _ some.same) in
-      ap (nat_lt 0) n ∙ lt-ltb 0 _ (positive (length (map cells (enumerate_from 1 (tail_of (rows some.tree)))))) ∙ sym (ap is_some (get-whole (node_rows db) a some.tree it.named some.same))
+      ap (nat_lt 0) n ∙ lt-ltb 0 _ (positive (length (map cells (enumerate_from 1 (tail_of (rows some.tree)))))) ∙ sym (ap is_some (get-whole (shown_rows db) a some.tree it.named some.same))
 ]
   where
-    size : count ≡ length (rows_at a (node_rows db))
-    size = e ∙ sym (length-map (filter (is_at a) (node_rows db)) node_columns)
+    size : count ≡ length (rows_at a (shown_rows db))
+    size = e ∙ sym (length-map (filter (is_at a) (shown_rows db)) node_columns)
 
 -- # The trees of other addresses
 
-pub tree_stays_dropped : (a : List ℕ) (old new : Database) → HasDropped (is_at a) old new → (b : List ℕ) → b ≢ a → tree_at (node_rows new) b ≡ tree_at (node_rows old) b
+pub tree_stays_dropped : (a : List ℕ) (old new : Database) → HasDropped (is_at a) old new → (b : List ℕ) → b ≢ a → tree_at (shown_rows new) b ≡ tree_at (shown_rows old) b
 tree_stays_dropped a old new h b apart = ap (λ rows. tree_of (map node_in (sort_by by_first rows))) (rows_stay a b old new apart h)
 
-module _ (a : List ℕ) (t : Tree) (old mid new : Database) (dropped : HasDropped (is_at a) old mid) (added : HasAdded a (map cells (placed_rows t)) mid new) where
-  pub tree_stays_put : (b : List ℕ) → b ≢ a → tree_at (node_rows new) b ≡ tree_at (node_rows old) b
-  tree_stays_put b apart = ap (λ rows. tree_of (map node_in (sort_by by_first rows))) (added.others b apart ∙ rows_stay a b old mid apart dropped)
+module _ (a : List ℕ) (t : Tree) (old new : Database) (put : HasReplaced a (map cells (placed_rows t)) old new) where
+  pub tree_stays_put : (b : List ℕ) → b ≢ a → tree_at (shown_rows new) b ≡ tree_at (shown_rows old) b
+  tree_stays_put b apart = ap (λ rows. tree_of (map node_in (sort_by by_first rows))) (put.others b apart)
 
-  pub own_tree : tree_at (node_rows new) a ≡ t
-  own_tree = tree_back t (rows_at a (node_rows new)) (IsPermutation-sym _ _ (subst (λ l. IsPermutation (l ++ map cells (placed_rows t)) (rows_at a (node_rows new))) (rows_gone a old mid dropped) added.own))
+  pub own_tree : tree_at (shown_rows new) a ≡ t
+  own_tree = tree_back t (rows_at a (shown_rows new)) (IsPermutation-sym _ _ put.own)

@@ -13,7 +13,7 @@ use Rattle.sqlite_value.specs.Order.{Row, column, value_cmp}
 use Rattle.sqlite_value.specs.declared.value.Value.{Value}
 use Rattle.sqlite_value.specs.declared.value.Value.TheVariants.{Int}
 use Rattle.sqlite_value.proofs.OrderLemmas.{value_cmp_total, value_cmp-Int}
-use Rattle.sqlite_trees.proofs.ListLemmas.{IsPermutation-filter, filter-filter, ascending-filter, all-filter}
+use Rattle.sqlite_trees.proofs.ListLemmas.{IsPermutation-filter, filter-filter, all-filter}
 use Rattle.sqlite_keyed.specs.Lists.{delete_where}
 use Rattle.sqlite.specs.Effect.{Database}
 use Rattle.xq_atoms.specs.Address.{IsAddress}
@@ -22,15 +22,13 @@ use Rattle.xq_regions.specs.Forest.{count}
 use Rattle.xq_regions.specs.Rows.{Row as Node, rows as rows_of, row_of, measured, placed, placed_rows, AreNumbered, Encodes}
 use Rattle.xq_regions.specs.Nesting.{count-measured}
 use Rattle.xq_regions.specs.declared.NodeRow.{NodeRow}
-use Rattle.xq_rows.specs.Documents.{is_at, node_columns, rows_at, AreApart, HasAddress, HaveInts, IsStore}
+use Rattle.xq_rows.specs.Documents.{is_at, node_columns, rows_at, HasAddress, IsSound, IsStore}
 use Rattle.xq_rows.specs.Nodes.{cells}
 use Rattle.xq_rows.specs.private.Statements.{Deletes, HasDropped, HasAdded, Puts, is_part}
-use Rattle.sqlite_trees.specs.Tree.{with_tree}
-use Rattle.xq_rows.proofs.Places.{First, layout_first, node_first, schema_of, node_tree, which, nodes_lie, layout_lies}
-use Rattle.xq_rows.specs.Tables.{node_rows, layout_rows, IsStoreSchema}
+use Rattle.xq_rows.specs.Tables.{shown_rows, layout_rows}
 use Rattle.xq_rows.proofs.Lists.{both_filters, same_test}
 use Rattle.xq_rows.proofs.Loads.{length-labels}
-use Rattle.xq_rows.proofs.Maps.{apart_rows, rows_gone, rows_stay}
+use Rattle.xq_rows.proofs.Maps.{apart_rows}
 
 -- # Numbers from k on
 
@@ -132,59 +130,53 @@ rows_beside a b j k table apart = ap (map node_columns) (filter-filter (is_at b)
 
 -- of the rows of the address, the so many with numbers below k have given way to these
 pub record IsReplaced (a : List ℕ) (k deleted : ℕ) (added : List Row) (old new : Database) : Type 0 where
-  pub schema : new.schema ≡ old.schema
+  pub sound : IsSound new
   pub layout : layout_rows new ≡ layout_rows old
-  pub apart : AreApart (node_rows old) → AreApart (node_rows new)
-  pub ints : HaveInts (node_rows old) → HaveInts (node_rows new)
-  pub named : IsAddress a → AllByRecursion HasAddress (node_rows old) → AllByRecursion HasAddress (node_rows new)
-  pub own : IsPermutation (filter (is_from k) (rows_at a (node_rows old)) ++ added) (rows_at a (node_rows new))
-  pub others : (b : List ℕ) → b ≢ a → rows_at b (node_rows new) ≡ rows_at b (node_rows old)
-  pub gone : deleted + length (filter (is_from k) (rows_at a (node_rows old))) ≡ length (rows_at a (node_rows old))
+  pub named : IsAddress a → AllByRecursion HasAddress (shown_rows old) → AllByRecursion HasAddress (shown_rows new)
+  pub own : IsPermutation (filter (is_from k) (rows_at a (shown_rows old)) ++ added) (rows_at a (shown_rows new))
+  pub others : (b : List ℕ) → b ≢ a → rows_at b (shown_rows new) ≡ rows_at b (shown_rows old)
+  pub gone : deleted + length (filter (is_from k) (rows_at a (shown_rows old))) ≡ length (rows_at a (shown_rows old))
 
 -- the rows from j up to k go as well
 pub cut_more : (a : List ℕ) (j k deleted count : ℕ) (added : List Row) (old mid new : Database) → j ≤ k → AllByRecursion (λ x. is_from j x ≡ false) added
-    → IsReplaced a j deleted added old mid → HasDropped (is_part a j k) mid new → count ≡ length (filter (is_part a j k) (node_rows mid)) → IsReplaced a k (deleted + count) added old new
+    → IsReplaced a j deleted added old mid → HasDropped (is_part a j k) mid new → count ≡ length (filter (is_part a j k) (shown_rows mid)) → IsReplaced a k (deleted + count) added old new
 cut_more a j k deleted count added old mid new h below it dropped counted = record {
-  schema = dropped.schema ∙ it.schema;
+  sound = dropped.sound;
   layout = dropped.layout ∙ it.layout;
-  apart = λ up. subst AreApart (sym dropped.nodes) (ascending-filter _ (λ r. not (is_part a j k r)) (node_rows mid) (it.apart up));
-  ints = λ all. subst HaveInts (sym dropped.nodes) (all-filter _ (λ r. not (is_part a j k r)) (node_rows mid) (it.ints all));
-  named = λ good all. subst (AllByRecursion HasAddress) (sym dropped.nodes) (all-filter _ (λ r. not (is_part a j k r)) (node_rows mid) (it.named good all));
+  named = λ good all. subst (AllByRecursion HasAddress) (sym dropped.rows) (all-filter _ (λ r. not (is_part a j k r)) (shown_rows mid) (it.named good all));
   own = own;
-  others = λ b other. ap (rows_at b) dropped.nodes ∙ rows_beside a b j k (node_rows mid) other ∙ it.others b other;
+  others = λ b other. ap (rows_at b) dropped.rows ∙ rows_beside a b j k (shown_rows mid) other ∙ it.others b other;
   gone = gone;
 }
   where
     all : List Row
-    all = rows_at a (node_rows old)
+    all = rows_at a (shown_rows old)
 
     left : filter (λ x. not (is_between j k x)) (filter (is_from j) all ++ added) ≡ filter (is_from k) all ++ added
     left =
         filter-append (λ x. not (is_between j k x)) (filter (is_from j) all) added
         ∙ ap₂ ◌++◌ (both_filters (λ x. not (is_between j k x)) (is_from j) all ∙ same_test _ _ (later j k h) all) (all_pass (λ x. not (is_between j k x)) added (outside j k added below))
 
-    stay : rows_at a (node_rows new) ≡ filter (λ x. not (is_between j k x)) (rows_at a (node_rows mid))
-    stay = ap (rows_at a) dropped.nodes ∙ rows_without a j k (node_rows mid)
+    stay : rows_at a (shown_rows new) ≡ filter (λ x. not (is_between j k x)) (rows_at a (shown_rows mid))
+    stay = ap (rows_at a) dropped.rows ∙ rows_without a j k (shown_rows mid)
 
-    own : IsPermutation (filter (is_from k) all ++ added) (rows_at a (node_rows new))
+    own : IsPermutation (filter (is_from k) all ++ added) (rows_at a (shown_rows new))
     own = subst₂ IsPermutation left (sym stay) (IsPermutation-filter (λ x. not (is_between j k x)) _ _ it.own)
 
     gone : deleted + count + length (filter (is_from k) all) ≡ length all
     gone =
-        let parts = length-filter_both (is_between j k) (λ x. not (is_between j k x)) (λ x. refl) (rows_at a (node_rows mid)) in
+        let parts = length-filter_both (is_between j k) (λ x. not (is_between j k x)) (λ x. refl) (rows_at a (shown_rows mid)) in
         let sizes = length-append (filter (is_from k) all) added in
-        let cut = counted ∙ part_length a j k (node_rows mid) in
+        let cut = counted ∙ part_length a j k (shown_rows mid) in
         omega (arith, parts, length_permutation _ _ it.own, length-append (filter (is_from j) all) added, ap length stay, length_permutation _ _ own, sizes, cut, it.gone)
 
 -- and some come
 pub add_more : (a : List ℕ) (k deleted : ℕ) (added more : List Row) (old mid new : Database) → IsReplaced a k deleted added old mid → HasAdded a more mid new → IsReplaced a k deleted (added ++ more) old new
 add_more a k deleted added more old mid new it adds = record {
-  schema = adds.schema ∙ it.schema;
+  sound = adds.sound;
   layout = adds.layout ∙ it.layout;
-  apart = λ up. adds.apart (it.apart up);
-  ints = λ all. adds.ints (it.ints all);
   named = λ good all. adds.named good (it.named good all);
-  own = subst (λ l. IsPermutation l (rows_at a (node_rows new))) (append_assoc (filter (is_from k) (rows_at a (node_rows old))) added more) (IsPermutation-trans _ _ _ (IsPermutation-append_left more _ _ it.own) adds.own);
+  own = subst (λ l. IsPermutation l (rows_at a (shown_rows new))) (append_assoc (filter (is_from k) (rows_at a (shown_rows old))) added more) (IsPermutation-trans _ _ _ (IsPermutation-append_left more _ _ it.own) adds.own);
   others = λ b other. adds.others b other ∙ it.others b other;
   gone = it.gone;
 }
@@ -220,10 +212,8 @@ few rows t it = (let n = length-map rows row_of in let same = ap length it.rows 
 
 pub nothing_yet : (a : List ℕ) (db : Database) → IsStore db → IsReplaced a 0 0 [] db db
 nothing_yet a db store = record {
-  schema = refl;
+  sound = store.sound;
   layout = refl;
-  apart = λ up. up;
-  ints = λ all. all;
   named = λ good all. all;
   own = subst (λ l. IsPermutation l rows) (sym (append-nil (filter (is_from 0) rows))) whole;
   others = λ b other. refl;
@@ -231,7 +221,7 @@ nothing_yet a db store = record {
 }
   where
     rows : List Row
-    rows = rows_at a (node_rows db)
+    rows = rows_at a (shown_rows db)
 
     whole : IsPermutation (filter (is_from 0) rows) rows
     whole = elim (store.whole a) [
@@ -242,67 +232,38 @@ nothing_yet a db store = record {
           IsPermutation-trans _ _ _ (subst (IsPermutation (filter (is_from 0) rows)) all (IsPermutation-filter (is_from 0) _ _ some.same)) (IsPermutation-sym _ _ some.same)
     ]
 
-no_row_left : (a : List ℕ) (db : Database) (k : ℕ) → 1000000 ≤ k → IsStore db → filter (is_from k) (rows_at a (node_rows db)) ≡ []
+no_row_left : (a : List ℕ) (db : Database) (k : ℕ) → 1000000 ≤ k → IsStore db → filter (is_from k) (rows_at a (shown_rows db)) ≡ []
 no_row_left a db k h store = elim (store.whole a) [
   | inl none ↦ ap (filter (is_from k)) none
   | inr some ↦
       let t = some.tree in
       let size = rows_few t some.is_document.is_tree.room in
       let none : filter (is_from k) (map cells (placed_rows t)) ≡ [] = none_pass (is_from k) (map cells (placed_rows t)) (numbers_before k 0 (rows_of t) (omega (arith, size, h))) in
-      empty_from (filter (is_from k) (rows_at a (node_rows db))) (sym (length_permutation _ _ (IsPermutation-filter (is_from k) _ _ some.same)) ∙ ap length none)
+      empty_from (filter (is_from k) (rows_at a (shown_rows db))) (sym (length_permutation _ _ (IsPermutation-filter (is_from k) _ _ some.same)) ∙ ap length none)
 ]
   where
     empty_from : (xs : List Row) → length xs ≡ 0 → xs ≡ []
     empty_from [] e = refl
     empty_from (x ∷ xs) e = absurd (omega (arith, e))
 
--- the rows of the table `node` that pass a test are gone
-abbrev without_nodes : First → (Row → Bool) → Database → Database
-without_nodes first gone db = record db { trees = with_tree db.trees (node_tree first) (delete_where gone (db.trees (node_tree first))) }
-
-nodes_dropped : (first : First) (gone : Row → Bool) (db : Database) → db.schema ≡ schema_of first → HasDropped gone db (without_nodes first gone db)
-nodes_dropped layout_first gone db is = record {
-  schema = refl;
-  layout = layout_lies layout_first (without_nodes layout_first gone db) is ∙ sym (layout_lies layout_first db is);
-  nodes = nodes_lie layout_first (without_nodes layout_first gone db) is ∙ ap (delete_where gone) (sym (nodes_lie layout_first db is));
-}
-nodes_dropped node_first gone db is = record {
-  schema = refl;
-  layout = layout_lies node_first (without_nodes node_first gone db) is ∙ sym (layout_lies node_first db is);
-  nodes = nodes_lie node_first (without_nodes node_first gone db) is ∙ ap (delete_where gone) (sym (nodes_lie node_first db is));
-}
-
 -- after the last part the address has the new rows alone
 puts_all : (a : List ℕ) (k deleted : ℕ) (added : List Row) (old new : Database) (replaced : Bool) → 1000000 ≤ k → replaced ≡ nat_lt 0 deleted → IsReplaced a k deleted added old new → Puts a added old new replaced
 puts_all a k deleted added old new replaced h is done store = (
-  mid,
-  dropped,
   record {
-    schema = done.schema;
-    layout = done.layout ∙ sym dropped.layout;
-    apart = λ _. done.apart store.apart;
-    ints = λ _. done.ints store.ints;
-    named = λ good _. done.named good store.named;
-    own = subst (λ l. IsPermutation (l ++ added) (rows_at a (node_rows new))) (none ∙ sym (rows_gone a old mid dropped)) done.own;
-    others = λ b other. done.others b other ∙ sym (rows_stay a b old mid other dropped);
+    sound = done.sound;
+    layout = done.layout;
+    named = λ good. done.named good store.named;
+    own = subst (λ l. IsPermutation (l ++ added) (rows_at a (shown_rows new))) none done.own;
+    others = done.others;
   },
   is ∙ ap (nat_lt 0) all,
 )
   where
-    none : filter (is_from k) (rows_at a (node_rows old)) ≡ []
+    none : filter (is_from k) (rows_at a (shown_rows old)) ≡ []
     none = no_row_left a old k h store
 
-    place : (first : First) × (old.schema ≡ schema_of first)
-    place = which old.schema store.schema
-
-    mid : Database
-    mid = without_nodes place.0 (is_at a) old
-
-    dropped : HasDropped (is_at a) old mid
-    dropped = nodes_dropped place.0 (is_at a) old place.1
-
-    all : deleted ≡ length (filter (is_at a) (node_rows old))
-    all = (let g = done.gone in let n = ap length none in let m = length-map (filter (is_at a) (node_rows old)) node_columns in omega (arith, g, n, m))
+    all : deleted ≡ length (filter (is_at a) (shown_rows old))
+    all = (let g = done.gone in let n = ap length none in let m = length-map (filter (is_at a) (shown_rows old)) node_columns in omega (arith, g, n, m))
 
 -- # What the statements come to
 
@@ -322,16 +283,16 @@ module _ (a : List ℕ) (rows : List NodeRow) (numbered : AreNumbered 0 rows) (a
   cut : (store : IsStore old) → IsReplaced a stop ((so_far store).0 + count) (map cells (map placed (take at rows))) old mid
   cut store =
       let done = (so_far store).2 in
-      let gone = did (subst IsStoreSchema (sym done.schema) store.schema) (done.apart store.apart) (done.ints store.ints) in
+      let gone = did done.sound in
       let same : 0 + at ≡ at = omega arith in
       let below = subst (λ k. AllByRecursion (λ x. is_from k x ≡ false) (map cells (map placed (take at rows)))) same (new_before 0 at rows numbered) in
       cut_more a at stop (so_far store).0 count _ old now mid forward below done gone.0 gone.1
 
   -- a part was deleted, and one was inserted
-  pub one_part : (new : Database) → (IsStoreSchema mid.schema → HasAdded a (map cells (map placed (slice_range rows at stop))) mid new) → IsAt a rows stop next old new
+  pub one_part : (new : Database) → (IsSound mid → HasAdded a (map cells (map placed (slice_range rows at stop))) mid new) → IsAt a rows stop next old new
   one_part new adds store =
       let gone = cut store in
-      let more = add_more a stop ((so_far store).0 + count) _ _ old mid new gone (adds (subst IsStoreSchema (sym gone.schema) store.schema)) in
+      let more = add_more a stop ((so_far store).0 + count) _ _ old mid new gone (adds gone.sound) in
       ((so_far store).0 + count, some_gone (so_far store).0 (so_far store).1, subst (λ l. IsReplaced a stop ((so_far store).0 + count) l old new) (sym joined) more)
     where
       joined : map cells (map placed (take stop rows)) ≡ map cells (map placed (take at rows)) ++ map cells (map placed (slice_range rows at stop))

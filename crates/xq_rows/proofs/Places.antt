@@ -1,5 +1,5 @@
 -- Where the two tables lie, by which of them was made first.
-use Rattle.std.proofs.Common.{◌≡◌, ◌≢◌, ℕ, List, [], Option, inl, inr, refl, ap, arith}
+use Rattle.std.proofs.Common.{◌≡◌, ◌≢◌, ◌-◌, ◌^◌, nat_le, Bool, true, false, cond, unwrap_or, slice_get, ℕ, List, [], Option, Some, None, inl, inr, refl, ap, subst, arith}
 use Rattle.std.specs.List.{AllByRecursion}
 use Rattle.sqlite_value.specs.Order.{Row}
 use Rattle.sqlite_trees.specs.Tree.{Trees}
@@ -7,7 +7,7 @@ use Rattle.sqlite_schema.specs.declared.schema.Keys.{Keys}
 use Rattle.sqlite_sql.specs.Program.{overlay}
 use Rattle.sqlite_tied.specs.Compute.{everything}
 use Rattle.sqlite_rules.specs.Action.{works}
-use Rattle.sqlite.specs.Does.{Tally, OnTable}
+use Rattle.sqlite.specs.Does.{Tally, AtPlace, OnTable}
 use Rattle.sqlite.specs.Effect.{Database}
 use Rattle.sqlite.specs.Rows.{Outcome, Part, Task}
 use Rattle.sqlite.specs.declared.run.Mode.{Mode}
@@ -67,20 +67,23 @@ layout_alone db is = ap (λ s. layout_rows (record db { schema = s })) is
 
 -- # What statements find
 
-pub not_given : (first : First) (db : Trees) → overlay db [] (node_tree first) ≡ db (node_tree first)
-not_given layout_first db = refl
-not_given node_first db = refl
+-- no table is given by WITH
+pub not_given : (tree : ℕ) (db : Trees) → overlay db [] tree ≡ db tree
+not_given tree db = go (nat_le (2 ^ 31) tree)
+  where
+    go : (b : Bool) → unwrap_or (cond b (slice_get [] (tree - 2 ^ 31)) None) (db tree) ≡ db tree
+    go true = refl
+    go false = refl
 
-pub layout_not_given : (first : First) (db : Trees) → overlay db [] (layout_tree first) ≡ db (layout_tree first)
-layout_not_given layout_first db = refl
-layout_not_given node_first db = refl
+-- a statement on the rows of a table is one on these
+module _ (schema : Schema) (place : ℕ) (table : Table) (there : slice_get schema.tables place ≡ Some table) where
+  pub on_table : (limit : Option ℕ) (mode : Mode) (params : Row) (db : Trees) (P : Task → Part (Tally × Database)) (out : Outcome (Tally × Database)) → OnTable limit mode params (record { schema = schema; trees = db }) place P out
+      → P (record { limit = limit; keys = mode.keys; schema = schema; table = table; params = params }) out
+  on_table limit mode params db P out on = subst (λ o. AtPlace (λ t. P (record { limit = limit; keys = mode.keys; schema = schema; table = t; params = params })) o out) there on
 
--- a statement on the rows of the table `node` is one on these
-pub on_node : (first : First) (limit : Option ℕ) (mode : Mode) (params : Row) (db : Trees) (P : Task → Part (Tally × Database)) (out : Outcome (Tally × Database))
-    → OnTable limit mode params (record { schema = schema_of first; trees = db }) (node_place first) P out
-    → P (record { limit = limit; keys = mode.keys; schema = schema_of first; table = node_table_of first; params = params }) out
-on_node layout_first limit mode params db P out on = on
-on_node node_first limit mode params db P out on = on
+pub node_there : (first : First) → slice_get (schema_of first).tables (node_place first) ≡ Some (node_table_of first)
+node_there layout_first = refl
+node_there node_first = refl
 
 -- no foreign key acts
 pub no_works : (first : First) (keys : Keys) (olds news : List Row) → works (schema_of first) keys 0 (node_tree first) olds news ≡ []

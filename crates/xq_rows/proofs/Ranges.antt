@@ -24,7 +24,7 @@ use Rattle.sqlite.specs.State.{State, Shown}
 use Rattle.sqlite.specs.declared.error.Error.{Error}
 use Rattle.sqlite.proofs.Callers.{reads_as}
 use Rattle.xq_rows.proofs.Places.{node_tree, schema_of, which, nodes_lie}
-use Rattle.xq_rows.specs.Tables.{node_rows}
+use Rattle.xq_rows.specs.Tables.{shown_rows}
 use Rattle.xq_rows.proofs.Texts.{above_text, above_tests, above_command, above_plain, above_is as above_means}
 use Rattle.xq_rows.proofs.Selects.{picked, equals_text, at_least_int, below_int, and_true}
 use Rattle.xq_regions.specs.Forest.{Forest, end, node, count, labels}
@@ -81,17 +81,17 @@ picked_are table a t Q P list whole test picked =
     sym (places_back list) ∙ ap (map place_in) (is ∙ picks_nodes Q P test (placed_rows t)) ∙ places_back (filter P (placed_rows t))
 
 -- the document that a map has under an address
-own_whole : (db : Database) (a : List ℕ) (t : Tree) → IsStore db → get (documents_in (node_rows db)) a ≡ Some t → IsPermutation (rows_at a (node_rows db)) (map cells (placed_rows t)) × IsDocument t
+own_whole : (db : Database) (a : List ℕ) (t : Tree) → IsStore db → get (documents_in (shown_rows db)) a ≡ Some t → IsPermutation (rows_at a (shown_rows db)) (map cells (placed_rows t)) × IsDocument t
 own_whole db a t store has = go (store.whole a)
   where
-    go : (rows_at a (node_rows db) ≡ []) ⊎ IsIntact (rows_at a (node_rows db)) → IsPermutation (rows_at a (node_rows db)) (map cells (placed_rows t)) × IsDocument t
-    go (inl none) = absurd (let e : None ≡ Some t = sym (get-none (node_rows db) a store.named none) ∙ has in cc)
+    go : (rows_at a (shown_rows db) ≡ []) ⊎ IsIntact (rows_at a (shown_rows db)) → IsPermutation (rows_at a (shown_rows db)) (map cells (placed_rows t)) × IsDocument t
+    go (inl none) = absurd (let e : None ≡ Some t = sym (get-none (shown_rows db) a store.named none) ∙ has in cc)
     go (inr it) =
-        let e : Some it.tree ≡ Some t = sym (get-whole (node_rows db) a it.tree store.named it.same) ∙ has in
+        let e : Some it.tree ≡ Some t = sym (get-whole (shown_rows db) a it.tree store.named it.same) ∙ has in
         let is : it.tree ≡ t = cc in
-        (subst (λ u. IsPermutation (rows_at a (node_rows db)) (map cells (placed_rows u))) is it.same, subst IsDocument is it.is_document)
+        (subst (λ u. IsPermutation (rows_at a (shown_rows db)) (map cells (placed_rows u))) is it.same, subst IsDocument is it.is_document)
 
-pub own_document : (db : Database) (a : List ℕ) (t : Tree) → IsStore db → get (documents_in (node_rows db)) a ≡ Some t → IsTree t
+pub own_document : (db : Database) (a : List ℕ) (t : Tree) → IsStore db → get (documents_in (shown_rows db)) a ≡ Some t → IsTree t
 own_document db a t store has = (own_whole db a t store has).1.is_tree
 
 -- # By their numbers
@@ -120,17 +120,17 @@ less n most = ap is_lt (value_cmp-Int (pos n) (pos most)) ∙ go (nat_lt n most)
 abbrev ranks : ℕ → ℕ → Row → Bool
 ranks low high k = is_ge (value_cmp (column k 0) (Int (pos low))) && is_le (value_cmp (column k 0) (Int (pos high)))
 
-pub range_is : (db : Database) (a : List ℕ) (low high : ℕ) (t : Tree) (list : List (ℕ × Node)) → IsStore db → get (documents_in (node_rows db)) a ≡ Some t → IsRange a low high db (map cells list)
+pub range_is : (db : Database) (a : List ℕ) (low high : ℕ) (t : Tree) (list : List (ℕ × Node)) → IsStore db → get (documents_in (shown_rows db)) a ≡ Some t → IsRange a low high db (map cells list)
     → list ≡ rows_between t low high
 range_is db a low high t list store has range =
-    picked_are (node_rows db) a t (ranks low high) (is_between low high) list (own_whole db a t store has).0 (λ p. ap₂ ◌&&◌ (least p.0 low) (greatest p.0 high)) (range store.schema)
+    picked_are (shown_rows db) a t (ranks low high) (is_between low high) list (own_whole db a t store has).0 (λ p. ap₂ ◌&&◌ (least p.0 low) (greatest p.0 high)) (range store.sound.schema)
 
 abbrev spans : ℕ → Row → Bool
 spans v k = nat_lt (number_in (column k 0)) v && nat_le v (number_in (column k 0) + number_in (column k 1))
 
-pub above_is : (db : Database) (a : List ℕ) (v : ℕ) (t : Tree) (list : List (ℕ × Node)) → IsStore db → get (documents_in (node_rows db)) a ≡ Some t → AreAbove a v db (map cells list)
+pub above_is : (db : Database) (a : List ℕ) (v : ℕ) (t : Tree) (list : List (ℕ × Node)) → IsStore db → get (documents_in (shown_rows db)) a ≡ Some t → AreAbove a v db (map cells list)
     → list ≡ rows_enclosing t v
-above_is db a v t list store has above = picked_are (node_rows db) a t (spans v) (encloses v) list (own_whole db a t store has).0 (λ p. refl) (above store)
+above_is db a v t list store has above = picked_are (shown_rows db) a t (spans v) (encloses v) list (own_whole db a t store has).0 (λ p. refl) (above store)
 
 -- # A sum of columns is exact, since documents are small
 
@@ -197,11 +197,11 @@ same_tests p q (x ∷ xs) all = rw all.0 (ap (λ l. cond (q x) (x ∷ l) l) (sam
 
 pub aboves : (old new : State) (a : List ℕ) (v : ℕ) (rows : List Row) → Shown above_text (given a v) old new rows → AreAbove a v old.now rows
 aboves old new a v rows h store =
-    let place = which old.now.schema store.schema in
+    let place = which old.now.schema store.sound.schema in
     let first = place.0 in
     let it = reads_as above_text (given a v) old new (schema_of first) place.1 (above_command (node_tree first)) (above_means first).0 (above_plain first) (above_means first).1 rows h in
-    let all = picked first above_tests 2 (col 1 3 ∷ col 1 4 ∷ col 1 5 ∷ col 1 6 ∷ col 1 7 ∷ []) old.now.trees (given a v) rows it.answer in
-    let table = node_rows old.now in
+    let all = picked (node_tree first) above_tests 2 (col 1 3 ∷ col 1 4 ∷ col 1 5 ∷ col 1 6 ∷ col 1 7 ∷ []) old.now.trees (given a v) rows it.answer in
+    let table = shown_rows old.now in
     let got = subst (λ t. IsPicked (tested a v) node_columns t rows) (sym (nodes_lie first old.now place.1)) all in
     let tests = all_tested a v table (small_rows (rows_at a table) (store.whole a)) in
     record { same = subst (λ l. IsPermutation (map node_columns l) rows) (same_tests (tested a v) (λ r. is_at a r && is_above v r) table tests) got.same; sorted = got.sorted }

@@ -35,12 +35,12 @@ use Rattle.xq_rows.specs.Documents.{by_first, is_at, is_first, node_columns}
 use Rattle.xq_rows.specs.private.Statements.{is_within, is_part, IsPicked, IsRange, AreAddresses}
 use Rattle.std.proofs.lemmas.List.{length-map}
 
-module _ (first : First) (tests : List Term) (project : List Term) (order : List (Term × Key)) (db : Trees) (params : Row) where
+module _ (tree : ℕ) (tests : List Term) (project : List Term) (order : List (Term × Key)) (db : Trees) (params : Row) where
   abbrev table : List Row
-  table = db (node_tree first)
+  table = db tree
 
   abbrev query : Query
-  query = body (node_tree first) tests project order
+  query = body tree tests project order
 
   abbrev pub test : Row → Bool
   test r = list_all (holds (params ∷ r ∷ [])) tests
@@ -58,7 +58,7 @@ module _ (first : First) (tests : List Term) (project : List Term) (order : List
   pub selected : (rows : List Row) → IsProgramAnswer [] query db params rows → IsSelected rows
   selected rows got =
       let a : IsAnswer query (overlay db []) params rows = got Null in
-      let staged : a.staged ≡ map (λ r. params ∷ r ∷ []) (filter test table) = a.grouped ∙ ap (flat_map (λ r. cond (test r) ((params ∷ r ∷ []) ∷ []) [])) (not_given first db) ∙ flat_map_picks test (λ r. params ∷ r ∷ []) table in
+      let staged : a.staged ≡ map (λ r. params ∷ r ∷ []) (filter test table) = a.grouped ∙ ap (flat_map (λ r. cond (test r) ((params ∷ r ∷ []) ∷ []) [])) (not_given tree db) ∙ flat_map_picks test (λ r. params ∷ r ∷ []) table in
       let kept : a.kept ≡ map out (filter test table) = a.distinct ∙ ap (map (output query)) staged ∙ map-map _ _ _ in
       record { ordered = a.ordered; same = subst (λ k. IsPermutation k a.ordered) kept a.same; sorted = a.sorted; shown = a.shown }
 
@@ -129,7 +129,7 @@ lower_keys a b ka kb h =
     ap is_lt (sym (then-Equal (value_cmp (column a.1 0) (column b.1 0)))) ∙ both
 
 -- what is sorted by its keys is sorted by the first column, where that is the key
-sorted_shown : (ordered : List Output) → All (λ (o : Output). o.0 ≡ column o.1 0 ∷ []) ordered → IsSorted (on (λ (o : Output). o.0) (key_cmp 0 (key ∷ []))) ordered → IsSorted by_first (map (λ (o : Output). o.1) ordered)
+pub sorted_shown : (ordered : List Output) → All (λ (o : Output). o.0 ≡ column o.1 0 ∷ []) ordered → IsSorted (on (λ (o : Output). o.0) (key_cmp 0 (key ∷ []))) ordered → IsSorted by_first (map (λ (o : Output). o.1) ordered)
 sorted_shown ordered keyed sorted k d low high =
     let D : Output = (column d 0 ∷ [], d) in
     let within : k + 1 < length ordered = subst (λ n. k + 1 < n) (length-map ordered (λ (o : Output). o.1)) high in
@@ -140,7 +140,7 @@ sorted_shown ordered keyed sorted k d low high =
     let upper = get_or-map (λ (o : Output). o.1) ordered (k + 1) D in
     subst₂ (λ x y. is_lt (by_first x y) ≡ false) (sym upper) (sym lower) (lower_keys (get_or ordered (k + 1) D) (get_or ordered k D) next here was)
 
-module _ (first : First) (tests : List Term) (at : ℕ) (more : List Term) (db : Trees) (params : Row) where
+module _ (tree : ℕ) (tests : List Term) (at : ℕ) (more : List Term) (db : Trees) (params : Row) where
   abbrev project : List Term
   project = col 1 at ∷ more
 
@@ -150,14 +150,14 @@ module _ (first : First) (tests : List Term) (at : ℕ) (more : List Term) (db :
   abbrev keyed : Output → Type 0
   keyed o = o.0 ≡ column o.1 0 ∷ []
 
-  pub picked : (rows : List Row) → IsProgramAnswer [] (body (node_tree first) tests project order) db params rows
-      → IsPicked (λ r. list_all (holds (params ∷ r ∷ [])) tests) (λ r. eval_all project (params ∷ r ∷ [])) (db (node_tree first)) rows
+  pub picked : (rows : List Row) → IsProgramAnswer [] (body tree tests project order) db params rows
+      → IsPicked (λ r. list_all (holds (params ∷ r ∷ [])) tests) (λ r. eval_all project (params ∷ r ∷ [])) (db tree) rows
   picked rows got =
-      let s = selected first tests project order db params rows got in
-      let shown = filter (test first tests project order db params) (db (node_tree first)) in
-      let all : All keyed (map (out first tests project order db params) shown) = All-from_recursion keyed _ (all-map keyed (out first tests project order db params) shown (all_of (λ r. keyed (out first tests project order db params r)) (λ r. refl) shown)) in
+      let s = selected tree tests project order db params rows got in
+      let shown = filter (test tree tests project order db params) (db tree) in
+      let all : All keyed (map (out tree tests project order db params) shown) = All-from_recursion keyed _ (all-map keyed (out tree tests project order db params) shown (all_of (λ r. keyed (out tree tests project order db params r)) (λ r. refl) shown)) in
       record {
-        same = selected_rows first tests project order db params rows s;
+        same = selected_rows tree tests project order db params rows s;
         sorted = subst (IsSorted by_first) (sym s.shown) (sorted_shown s.ordered (All-permutation keyed _ _ s.same all) s.sorted);
       }
 
@@ -192,17 +192,17 @@ ranges old new address low high rows h has =
     let is = found.1 in
     let table = old.now.trees (node_tree first) in
     let it = reads_as range_text params old new (schema_of first) is (range_command (node_tree first)) (range_is first).0 (range_plain first) (range_is first).1 rows h in
-    let all = picked first range_tests 2 (col 1 3 ∷ col 1 4 ∷ col 1 5 ∷ col 1 6 ∷ col 1 7 ∷ []) old.now.trees params rows it.answer in
+    let all = picked (node_tree first) range_tests 2 (col 1 3 ∷ col 1 4 ∷ col 1 5 ∷ col 1 6 ∷ col 1 7 ∷ []) old.now.trees params rows it.answer in
     subst (λ t. IsPicked (λ r. is_at address r && is_within low high r) node_columns t rows) (sym (nodes_lie first old.now is)) (same_passes _ _ node_columns table rows (range_test address low high) all)
 
 pub lists : (old new : State) (rows : List Row) → Shown addresses_text [] old new rows → AreAddresses old.now rows
-lists old new rows h has =
-    let found = which old.now.schema has in
+lists old new rows h store =
+    let found = which old.now.schema store.sound.schema in
     let first = found.0 in
     let is = found.1 in
     let table = old.now.trees (node_tree first) in
     let it = reads_as addresses_text [] old new (schema_of first) is (addresses_command (node_tree first)) (addresses_is first).0 (addresses_plain first) (addresses_is first).1 rows h in
-    let all = picked first addresses_tests 1 [] old.now.trees [] rows it.answer in
+    let all = picked (node_tree first) addresses_tests 1 [] old.now.trees [] rows it.answer in
     subst (λ t. IsPicked is_first (λ r. column r 1 ∷ []) t rows) (sym (nodes_lie first old.now is)) (same_passes _ _ (λ r. column r 1 ∷ []) table rows (λ r. and_true _ ∙ equals_int (column r 2) (pos 0)) all)
 
 -- a query leaves the database

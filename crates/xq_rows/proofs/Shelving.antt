@@ -13,12 +13,12 @@ use Rattle.xq_sources.specs.Addresses.{IsBefore, IsGap, Rise}
 use Rattle.xq_sources.proofs.Rising.{at_all}
 use Rattle.xq_rows.specs.Documents.{IsStore, documents_of, is_at, tree_at}
 use Rattle.xq_rows.specs.Nodes.{cells}
-use Rattle.xq_rows.specs.Tables.{node_rows}
+use Rattle.xq_rows.specs.Tables.{shown_rows}
 use Rattle.xq_rows.specs.declared.shelves.Front.{Front}
 use Rattle.xq_rows.specs.declared.shelves.Shelf.{Shelf}
 use Rattle.xq_rows.specs.private.Keeps.{AreOf}
 use Rattle.xq_rows.specs.private.Shelves.{AreFronts, HasDropped as ShelfHasDropped, HasPut, IsFront}
-use Rattle.xq_rows.specs.private.Statements.{HasAdded, HasDropped}
+use Rattle.xq_rows.specs.private.Statements.{HasDropped, HasReplaced}
 use Rattle.xq_rows.proofs.Calls.{encoded}
 use Rattle.xq_rows.proofs.FrontLaws.{all-first}
 use Rattle.xq_rows.proofs.MapPlaces.{apart, apart_too, gap_apart, keys_drop_gap, keys_drop_there, keys_put_gap, keys_put_there, keys_rise}
@@ -75,17 +75,17 @@ module _ (f g : List ℕ → Tree) (a : List ℕ) (others : (b : List ℕ) → b
 -- # The shelf
 
 -- a document was put
-module _ (a : List ℕ) (good : IsAddress a) (t : Tree) (is : IsDocument t) (old mid new : Database) (dropped : HasDropped (is_at a) old mid) (added : HasAdded a (map cells (placed_rows t)) mid new) (was : IsStore old) where
+module _ (a : List ℕ) (good : IsAddress a) (t : Tree) (is : IsDocument t) (old new : Database) (put : HasReplaced a (map cells (placed_rows t)) old new) (was : IsStore old) where
   pub kept_put : (earlier later : Shelf) (front : Front) → HasPut earlier later a front → IsFront t front.rows.items → AreOf old earlier.addresses.value earlier.fronts.items → AreOf new later.addresses.value later.fronts.items
   kept_put earlier later front did own of =
       let m = documents_of old in
       let ks = earlier.addresses.value in
-      let f = tree_at (node_rows old) in
-      let g = tree_at (node_rows new) in
+      let f = tree_at (shown_rows old) in
+      let g = tree_at (shown_rows new) in
       let up : Rise ks = subst Rise (sym of.listed) (keys_rise m) in
-      let others = tree_stays_put a t old mid new dropped added in
-      let owns : IsFront (g a) front.rows.items = subst (λ u. IsFront u front.rows.items) (sym (own_tree a t old mid new dropped added)) own in
-      let map_is = put_map a good t is old mid new dropped added was in
+      let others = tree_stays_put a t old new put in
+      let owns : IsFront (g a) front.rows.items = subst (λ u. IsFront u front.rows.items) (sym (own_tree a t old new put)) own in
+      let map_is = put_map a good t is old new put was in
       elim did.did [
         | inl it ↦ record {
           listed = it.1 ∙ of.listed ∙ sym (keys_put_there m a t did.place (ap (λ l. slice_get l did.place) (sym of.listed) ∙ it.0)) ∙ ap keys (sym map_is);
@@ -104,8 +104,8 @@ module _ (a : List ℕ) (old new : Database) (dropped : HasDropped (is_at a) old
   kept_drop earlier later did of =
       let m = documents_of old in
       let ks = earlier.addresses.value in
-      let f = tree_at (node_rows old) in
-      let g = tree_at (node_rows new) in
+      let f = tree_at (shown_rows old) in
+      let g = tree_at (shown_rows new) in
       let up : Rise ks = subst Rise (sym of.listed) (keys_rise m) in
       let others = tree_stays_dropped a old new dropped in
       let map_is = dropped_map a old new dropped was in

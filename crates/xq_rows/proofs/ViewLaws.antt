@@ -19,7 +19,7 @@ use Rattle.xq_rows.specs.Views.{Beginning, HeldDocuments, StoodFor, Viewed, IsVi
 use Rattle.xq_rows.proofs.Keys.{values_are, get_at}
 use Rattle.xq_rows.proofs.Loads.{length-labels}
 use Rattle.xq_rows.proofs.Ranges.{own_document}
-use Rattle.xq_rows.specs.Tables.{node_rows}
+use Rattle.xq_rows.specs.Tables.{shown_rows}
 
 -- # As the view begins
 
@@ -55,7 +55,7 @@ module _ {S : Type 0} (g : Ghosts S) (b : Beginning) (store : Held S) (same : be
 pub trees_stood : (b : Beginning) (addresses : List (List ℕ)) (m : Map) → StoodFor b m → addresses ≡ keys m → trees_under b addresses ≡ values m
 unfolding StoodFor
 trees_stood b addresses m stood listed =
-    let table = node_rows b.database in
+    let table = shown_rows b.database in
     ap (map (tree_at table)) (listed ∙ ap keys (sym stood.1)) ∙ sym (values_are table stood.0.named stood.0.whole) ∙ ap values stood.1
 
 pub stood_held : (b : Beginning) (m : Map) → StoodFor b m → HeldDocuments b
@@ -81,7 +81,7 @@ looked_up (x ∷ items) zero s h e = ap (λ z. Some (string_bytes z)) (sym e)
 looked_up (x ∷ items) (suc i) s h e = looked_up items i s (omega arith) e
 
 abbrev pub began_map : Beginning → Map
-began_map b = documents_in (node_rows b.database)
+began_map b = documents_in (shown_rows b.database)
 
 module _ {S : Type 0} (g : Ghosts S) (b : Beginning) (v : Viewed S) (is : IsView g b v) where
   pub stands_held : IsClean g v.store → HeldDocuments b → StandsFor g v.store (began_map b)
@@ -100,7 +100,7 @@ module _ {S : Type 0} (g : Ghosts S) (b : Beginning) (v : Viewed S) (is : IsView
     pub its_tree : get (began_map b) a ≡ Some (nth_tree (trees_under b v.addresses) i)
     unfolding HeldDocuments
     its_tree =
-        let table = node_rows b.database in
+        let table = shown_rows b.database in
         let listed = ap (λ l. slice_get l i) (sym (is.listed clean (began_map b) stood)) ∙ here in
         get_at table held.named held.whole i a listed ∙ ap Some (sym (nth_of (tree_at table) v.addresses i a here))
 

@@ -18,7 +18,7 @@ use Rattle.xq_regions.specs.Tree.{Tree, IsDocument}
 use Rattle.xq_regions.specs.Rows.{placed_rows, tree_of}
 use Rattle.xq_atoms.specs.Address.{IsAddress}
 use Rattle.xq_rows.specs.Nodes.{cells, node_in, bytes_in}
-use Rattle.xq_rows.specs.Tables.{node_rows, layout_rows, IsStoreSchema}
+use Rattle.xq_rows.specs.Tables.{node_rows, layout_rows, shown_rows, IsStoreSchema}
 
 -- The documents by their addresses, in the order of the addresses' bytes.
 abbrev pub Map : Type 0
@@ -62,7 +62,7 @@ documents_in table = from_entries
 
 -- the map that a database stands for
 abbrev pub documents_of : Database → Map
-documents_of db = documents_in (node_rows db)
+documents_of db = documents_in (shown_rows db)
 
 -- the rows are those of one document, in some order
 pub record IsIntact (rows : List Row) : Type 0 where
@@ -82,17 +82,21 @@ HaveInts = AllByRecursion (λ r. IsTrue (is_int (rowid r)))
 abbrev pub HasAddress : Row → Type 0
 HasAddress r = (address : List ℕ) × IsAddress address × (column r 1 ≡ Text address)
 
--- The database holds the tables of edition 1, whichever was made first: `layout` with its one row,
--- 1, and `node`, in which the rows of each address are those of one document, or there are none.
-pub record IsStore (db : Database) : Type 0 where
+-- the database holds the tables of edition 1, whichever was made first, and the rowids of the nodes
+-- are integers, each another one
+pub record IsSound (db : Database) : Type 0 where
   pub schema : IsStoreSchema db.schema
-  pub layout : map (λ r. column r 1) (layout_rows db) ≡ Int (pos 1) ∷ []
-  -- the rowids are integers, each another one
   pub apart : AreApart (node_rows db)
   pub ints : HaveInts (node_rows db)
-  pub named : AllByRecursion HasAddress (node_rows db)
-  pub whole : (address : List ℕ) → (rows_at address (node_rows db) ≡ [])
-      ⊎ IsIntact (rows_at address (node_rows db))
+
+-- The tables are sound: `layout` has its one row, 1, and of the rows that they stand for those of
+-- each address are those of one document, or there are none.
+pub record IsStore (db : Database) : Type 0 where
+  pub sound : IsSound db
+  pub layout : map (λ r. column r 1) (layout_rows db) ≡ Int (pos 1) ∷ []
+  pub named : AllByRecursion HasAddress (shown_rows db)
+  pub whole : (address : List ℕ) → (rows_at address (shown_rows db) ≡ [])
+      ⊎ IsIntact (rows_at address (shown_rows db))
 
 -- the connection is open, and its disk has returned what was written
 abbrev pub IsReady : State → Type 0

@@ -1,4 +1,5 @@
 pub mod Tables
+pub mod Labels
 pub mod Nodes
 pub mod Documents
 pub mod Adoption

@@ -117,3 +117,7 @@ layout_rows = rows_named (codes "layout")
 -- the rows of the table `node`
 unfoldable pub node_rows : Database → List Row
 node_rows = rows_named (codes "node")
+
+-- the rows of nodes that the tables stand for
+abbrev pub shown_rows : Database → List Row
+shown_rows db = node_rows db

@@ -11,7 +11,7 @@ use Rattle.sqlite.specs.Held.{Held, held_code, state}
 use Rattle.xq_regions.specs.Tree.{Tree}
 use Rattle.xq_sources.specs.Meters.{Readings}
 use Rattle.xq_rows.specs.Documents.{Map, IsStore, IsClean, StandsFor, tree_at, documents_of}
-use Rattle.xq_rows.specs.Tables.{node_rows}
+use Rattle.xq_rows.specs.Tables.{shown_rows}
 
 -- # What contracts see of a view
 
@@ -78,7 +78,7 @@ WasClean b = doubt b.is_clean ≡ 0
 
 -- the documents of the addresses, as the view began
 abbrev pub trees_under : Beginning → List (List ℕ) → List Tree
-trees_under b addresses = map (tree_at (node_rows b.database)) addresses
+trees_under b addresses = map (tree_at (shown_rows b.database)) addresses
 
 -- What a view keeps true: its store stands for the map that it stood for as the view began, and its
 -- addresses are the map's.

@@ -28,7 +28,7 @@ use Rattle.xq_rows.specs.private.Columns.{node_of}
 use Rattle.xq_rows.specs.private.Refusals.{want_of}
 use Rattle.xq_rows.specs.private.Streams.{BeginsWith, GivesRows}
 use Rattle.xq_rows.specs.private.Schemas.{layout_schema, node_schema}
-use Rattle.xq_rows.specs.Tables.{no_schema, node_rows, layout_rows, IsStoreSchema}
+use Rattle.xq_rows.specs.Tables.{no_schema, node_rows, layout_rows, shown_rows, IsStoreSchema}
 
 -- An adoption that succeeds makes an empty store where no table was there, and takes the two tables
 -- as they stand where they hold documents.
@@ -176,9 +176,9 @@ ReadsNodes db given = IsStoreSchema db.schema → AreNodes (node_rows db) given
 
 -- they are those of documents under good addresses
 pub record SeesNodes (db : Database) : Type 0 where
-  pub named : IsStoreSchema db.schema → AllByRecursion HasAddress (node_rows db)
+  pub named : IsStoreSchema db.schema → AllByRecursion HasAddress (shown_rows db)
   pub whole : IsStoreSchema db.schema → (address : List ℕ)
-      → (rows_at address (node_rows db) ≡ []) ⊎ IsIntact (rows_at address (node_rows db))
+      → (rows_at address (shown_rows db) ≡ []) ⊎ IsIntact (rows_at address (shown_rows db))
 
 -- both were judged
 abbrev pub SeesDocuments : Database → Type 0

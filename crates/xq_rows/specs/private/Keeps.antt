@@ -10,7 +10,7 @@ use Rattle.sqlite_trees.specs.View.{doubt}
 use Rattle.xq_rows.specs.declared.shelves.Front.{Front}
 use Rattle.xq_rows.specs.declared.shelves.Shelf.{Shelf}
 use Rattle.xq_rows.specs.Documents.{IsReady, IsStore, documents_of, tree_at}
-use Rattle.xq_rows.specs.Tables.{node_rows, IsStoreSchema}
+use Rattle.xq_rows.specs.Tables.{shown_rows, IsStoreSchema}
 use Rattle.xq_rows.specs.private.Shelves.{AreFronts}
 
 -- A call outside of any transaction leaves none under way. The disk was clean, and the database
@@ -31,7 +31,7 @@ pub record StaysInside {S : Type 0} (g : Ghosts S) (old new : Transaction S) : T
 -- these are the addresses of the documents in the tables, and of each document the first rows
 pub record AreOf (db : Database) (addresses : List (List ℕ)) (fronts : List Front) : Type 0 where
   pub listed : addresses ≡ keys (documents_of db)
-  pub rows : AreFronts (map (tree_at (node_rows db)) addresses) fronts
+  pub rows : AreFronts (map (tree_at (shown_rows db)) addresses) fronts
 
 -- A call left the database as it was, where its tables are those that a store makes.
 pub record LeavesAlone {S : Type 0} (g : Ghosts S) (old new : Held S) : Type 0 where

@@ -11,20 +11,20 @@ use Rattle.xq_atoms.specs.Address.{IsAddress}
 use Rattle.xq_regions.specs.Tree.{Tree}
 use Rattle.xq_regions.specs.Rows.{Encodes}
 use Rattle.xq_regions.specs.declared.NodeRow.{NodeRow}
-use Rattle.xq_rows.specs.Documents.{is_at, is_first, node_columns, rows_at, by_first, AreApart, HasAddress, HaveInts, IsStore}
+use Rattle.xq_rows.specs.Documents.{is_at, is_first, node_columns, rows_at, by_first, HasAddress, IsSound, IsStore}
 use Rattle.xq_rows.specs.Nodes.{number_in}
 use Rattle.xq_rows.specs.private.Schemas.{layout_schema, node_schema}
-use Rattle.xq_rows.specs.Tables.{no_schema, turned_schema, store_schema, node_rows, layout_rows, IsStoreSchema}
+use Rattle.xq_rows.specs.Tables.{no_schema, turned_schema, store_schema, node_rows, layout_rows, shown_rows, IsStoreSchema}
 
 -- it holds the tables and no row of a document
 abbrev pub IsEmptyStore : Database → Type 0
-IsEmptyStore db = IsStore db × (node_rows db ≡ [])
+IsEmptyStore db = IsStore db × (shown_rows db ≡ [])
 
 -- the rows that pass a test are gone, and nothing else is
 pub record HasDropped (gone : Row → Bool) (old new : Database) : Type 0 where
-  pub schema : new.schema ≡ old.schema
+  pub sound : IsSound new
   pub layout : layout_rows new ≡ layout_rows old
-  pub nodes : node_rows new ≡ delete_where gone (node_rows old)
+  pub rows : shown_rows new ≡ delete_where gone (shown_rows old)
 
 -- the row is one of the address, and its number lies from low up to, and without, high
 abbrev pub is_part : List ℕ → ℕ → ℕ → Row → Bool
@@ -34,21 +34,19 @@ is_part address low high row = is_at address row
 
 -- an address has some rows more, and nothing else is changed
 pub record HasAdded (address : List ℕ) (added : List Row) (old new : Database) : Type 0 where
-  pub schema : new.schema ≡ old.schema
+  pub sound : IsSound new
   pub layout : layout_rows new ≡ layout_rows old
-  pub apart : AreApart (node_rows old) → AreApart (node_rows new)
-  pub ints : HaveInts (node_rows old) → HaveInts (node_rows new)
-  pub named : IsAddress address → AllByRecursion HasAddress (node_rows old)
-      → AllByRecursion HasAddress (node_rows new)
-  pub own : IsPermutation (rows_at address (node_rows old) ++ added)
-      (rows_at address (node_rows new))
-  pub others : (b : List ℕ) → b ≢ address → rows_at b (node_rows new) ≡ rows_at b (node_rows old)
+  pub named : IsAddress address → AllByRecursion HasAddress (shown_rows old)
+      → AllByRecursion HasAddress (shown_rows new)
+  pub own : IsPermutation (rows_at address (shown_rows old) ++ added)
+      (rows_at address (shown_rows new))
+  pub others : (b : List ℕ) → b ≢ address
+      → rows_at b (shown_rows new) ≡ rows_at b (shown_rows old)
 
 -- what a DELETE of so many rows makes of the tables of a store
 abbrev pub Deletes : (Row → Bool) → Database → Database → ℕ → Type 0
-Deletes gone old new count = IsStoreSchema old.schema → AreApart (node_rows old)
-    → HaveInts (node_rows old)
-    → HasDropped gone old new × (count ≡ length (filter gone (node_rows old)))
+Deletes gone old new count = IsSound old
+    → HasDropped gone old new × (count ≡ length (filter gone (shown_rows old)))
 
 -- DELETE inside a transaction
 pub record Drops (gone : Row → Bool) (old new : State) (count : ℕ) : Type 0 where
@@ -58,14 +56,21 @@ pub record Drops (gone : Row → Bool) (old new : State) (count : ℕ) : Type 0 
 -- one or more INSERTs inside a transaction
 pub record Adds (address : List ℕ) (added : List Row) (old new : State) : Type 0 where
   pub mode : old.in_transaction ≡ true → new.in_transaction ≡ true
-  pub did : IsStoreSchema old.now.schema → HasAdded address added old.now new.now
+  pub did : IsSound old.now → HasAdded address added old.now new.now
 
--- a whole put into a store: the rows of the address are these alone, and the answer is whether
--- there were others before
+-- the rows of an address are these alone, and nothing else is changed
+pub record HasReplaced (address : List ℕ) (rows : List Row) (old new : Database) : Type 0 where
+  pub sound : IsSound new
+  pub layout : layout_rows new ≡ layout_rows old
+  pub named : IsAddress address → AllByRecursion HasAddress (shown_rows new)
+  pub own : IsPermutation rows (rows_at address (shown_rows new))
+  pub others : (b : List ℕ) → b ≢ address
+      → rows_at b (shown_rows new) ≡ rows_at b (shown_rows old)
+
+-- a whole put into a store, which answers whether the address had rows before
 abbrev pub Puts : List ℕ → List Row → Database → Database → Bool → Type 0
-Puts address rows old new replaced = IsStore old
-    → (mid : Database) × HasDropped (is_at address) old mid × HasAdded address rows mid new
-    × (replaced ≡ nat_lt 0 (length (filter (is_at address) (node_rows old))))
+Puts address rows old new replaced = IsStore old → HasReplaced address rows old new
+    × (replaced ≡ nat_lt 0 (length (filter (is_at address) (shown_rows old))))
 
 -- the same inside a transaction
 pub record Replaces (address : List ℕ) (rows : List Row) (old new : State)
@@ -86,7 +91,7 @@ is_within low high row = is_ge (value_cmp (column row 2) (Int (pos low)))
 -- the rows of an address with numbers from low to high
 abbrev pub IsRange : List ℕ → ℕ → ℕ → Database → List Row → Type 0
 IsRange address low high db rows = IsStoreSchema db.schema
-    → IsPicked (λ r. is_at address r && is_within low high r) node_columns (node_rows db) rows
+    → IsPicked (λ r. is_at address r && is_within low high r) node_columns (shown_rows db) rows
 
 -- the row's number is below that of a node, and at least that with its size
 abbrev pub is_above : ℕ → Row → Bool
@@ -96,12 +101,12 @@ is_above node row = nat_lt (number_in (column row 2)) node
 -- the rows of an address that are those of nodes above a node
 abbrev pub AreAbove : List ℕ → ℕ → Database → List Row → Type 0
 AreAbove address node db rows = IsStore db
-    → IsPicked (λ r. is_at address r && is_above node r) node_columns (node_rows db) rows
+    → IsPicked (λ r. is_at address r && is_above node r) node_columns (shown_rows db) rows
 
 -- the addresses, one for each first row
 abbrev pub AreAddresses : Database → List Row → Type 0
-AreAddresses db rows = IsStoreSchema db.schema
-    → IsPicked is_first (λ r. column r 1 ∷ []) (node_rows db) rows
+AreAddresses db rows = IsStore db
+    → IsPicked is_first (λ r. column r 1 ∷ []) (shown_rows db) rows
 
 -- what nodes that were read stand for: nothing where there are none, or the tree whose rows they
 -- are

@@ -54,7 +54,7 @@ pub returns-in_err-rows-clause-err : goal.returns-in_err-rows-clause-err
 returns-in_err-rows-clause-err g c up =
     let failed = (rw c.in_err-rows.was at c.query.follows.holds-at-none).err up.0 in
     let p = err_from_is_err_and c.from_residual.result c.from_residual.ensures.1 in
-    rw (p.1, p.2) (λ none store. placed_told (state g.S.Store c.args.conn.now) (state g.S.Store c.query.follows.lender-at-none) nodes_query c.in_err-rows.field-0.0 none node_tree nodes_program nodes_names nodes_are nodes_plain store.schema failed)
+    rw (p.1, p.2) (λ none store. placed_told (state g.S.Store c.args.conn.now) (state g.S.Store c.query.follows.lender-at-none) nodes_query c.in_err-rows.field-0.0 none node_tree nodes_program nodes_names nodes_are nodes_plain store.sound.schema failed)
 
 pub returns-clause-ok : goal.returns-clause-ok
 returns-clause-ok g c up =

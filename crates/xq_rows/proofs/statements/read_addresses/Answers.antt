@@ -61,7 +61,7 @@ returns-clause-all g c up =
     IfOk-weaker c.rest_as_texts.result (λ (texts : Vec (String Global) Global). GivesRows g.S.Store c.in_ok-rows.rows.conn.now c.rest_as_texts.new.rows.conn.now (λ given. map Text (map string_bytes texts.items) ≡ map (λ (r : Row). column r 0) given))
     (λ (texts : Vec (String Global) Global). AreAddresses db (map (λ bytes. Text bytes ∷ []) (map string_bytes texts.items)))
     (λ texts gives has.
-    let all = gives_shown g.S.Store addresses_text [] c.args.conn.now c.in_ok-rows.rows.conn.now begun (plain has) c.rest_as_texts.new.rows.conn.now _ gives in
+    let all = gives_shown g.S.Store addresses_text [] c.args.conn.now c.in_ok-rows.rows.conn.now begun (plain has.sound.schema) c.rest_as_texts.new.rows.conn.now _ gives in
     let shown = lists (state g.S.Store c.args.conn.now) (state g.S.Store c.rest_as_texts.new.rows.conn.now) all.0 all.1 in
     read_addresses_is db all.0 (map string_bytes texts.items) shown all.2 has)
     (c.rest_as_texts.ensures.texts late.0)

@@ -4,7 +4,7 @@ use Rattle.sqlite.specs.Effect.{Database}
 use Rattle.sqlite.specs.Held.{state}
 use Rattle.xq_regions.specs.Tree.{Tree}
 use Rattle.xq_rows.specs.Documents.{documents_of, tree_at}
-use Rattle.xq_rows.specs.Tables.{node_rows}
+use Rattle.xq_rows.specs.Tables.{shown_rows}
 use Rattle.xq_rows.specs.declared.shelves.Shelf.{Shelf}
 use Rattle.std.specs.FinMap.{keys}
 use Rattle.xq_rows.specs.private.Keeps.{AreOf}
@@ -18,11 +18,11 @@ unread_of : {E : Type 0} (db : Database) (addresses : List (List ℕ)) (r : Resu
 unread_of db addresses (Err e) listed named fronts = tt
 unread_of db addresses (Ok s) listed named fronts = record {
   listed = named ∙ listed;
-  rows = fronts (map (tree_at (node_rows db)) s.addresses.value) (length-map s.addresses.value (tree_at (node_rows db)) ∙ ap length named);
+  rows = fronts (map (tree_at (shown_rows db)) s.addresses.value) (length-map s.addresses.value (tree_at (shown_rows db)) ∙ ap length named);
 }
 
 pub returns-clause-shelf : goal.returns-clause-shelf
 returns-clause-shelf g c ready is =
     let db = (state g.S.Store c.args.conn.now).now in
-    let listed = c.in-Some.ensures.some ∙ keys_are (node_rows db) (map string_bytes c.in_ok-list.list.items) is.named is.whole (c.in_ok-list.ensures.all ready is.schema) in
+    let listed = c.in-Some.ensures.some ∙ keys_are (shown_rows db) (map string_bytes c.in_ok-list.list.items) is.named is.whole (c.in_ok-list.ensures.all ready is) in
     unread_of db c.in-Some.addresses c.unread.result listed c.unread.ensures.addresses c.unread.ensures.fronts

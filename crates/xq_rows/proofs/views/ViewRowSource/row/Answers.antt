@@ -8,7 +8,7 @@ use Rattle.xq_rows.specs.private.Shelves.{front_at, run_of}
 use Rattle.xq_rows.specs.Views.{Viewed, trees_under}
 use Rattle.xq_rows.proofs.ViewLaws.{began_map, is_its_tree, its_tree, nth_in, popped, stands_now}
 use Rattle.xq_rows.proofs.views.ViewRowSource.row.Goals as goal
-use Rattle.xq_rows.specs.Tables.{node_rows}
+use Rattle.xq_rows.specs.Tables.{shown_rows}
 
 pub returns-clause-exists : goal.returns-clause-exists
 returns-clause-exists g c clean =
@@ -20,7 +20,7 @@ returns-clause-exists g c clean =
     let a = c.in-Some.address.now in
     let all = c.in_ok-found.ensures.found clean.0 (began_map b) (stands_now g.S.Store b v c.self.invariant.view early clean.1 at a here) _ (its_tree g.S.Store b v c.self.invariant.view early clean.1 at a here) in
     let one = popped (nth_tree (trees_under b v.addresses) at) c.args.node c.pop.new.self.items c.in-Some-pop.row (ap (map placed) (sym c.in-Some-pop.ensures.items) ∙ all) in
-    let is : HasNode (trees_under b v.addresses) at c.args.node = record { tree_in = nth_in (tree_at (node_rows b.database)) v.addresses at a here; node_in = one.0 } in
+    let is : HasNode (trees_under b v.addresses) at c.args.node = record { tree_in = nth_in (tree_at (shown_rows b.database)) v.addresses at a here; node_in = one.0 } in
     subst (λ (w : Viewed _). HasNode (trees_under b w.addresses) at c.args.node) c.self.view_is is
 
 pub returns-clause-found : goal.returns-clause-found

@@ -1,0 +1,182 @@
+-- What the fixed texts of edition 2 mean.
+use Rattle.std.proofs.Common.{◌≡◌, List, ℕ, [], ◌∷◌, codes, None, false, pos, negsuc, refl}
+use Rattle.sqlite.specs.Command.{Command}
+use Rattle.sqlite.specs.Command.TheVariants.{Delete, Insert, Select}
+use Rattle.sqlite.specs.Source.TheVariants.{Values}
+use Rattle.sqlite.specs.Term.{Term, lit, col, op2}
+use Rattle.sqlite.specs.Query.{Query, inner, end}
+use Rattle.sqlite.specs.Collation.TheVariants.{Binary}
+use Rattle.sqlite.specs.declared.types.Value.TheVariants.{Null, Int}
+use Rattle.sqlite_value.specs.declared.keys.Key.{Key}
+use Rattle.sqlite_sql.specs.declared.ops.BinaryOp.TheVariants.{Compare}
+use Rattle.sqlite_sql.specs.declared.ops.CompareOp.TheVariants.{Eq}
+use Rattle.sqlite_tied.specs.Compute.{everything}
+use Rattle.sqlite.specs.Listing.{understood, reads_listing}
+use Rattle.sqlite.proofs.Callers.{IsPlain, command_of}
+use Rattle.xq_rows.proofs.LabelPlaces.{Made, new, layout_first, node_first, schema_of, label_tree, label_place, node2_tree, node2_place}
+use Rattle.xq_rows.proofs.Texts.{key, body, term1, delete_program, part_tests, addresses_command, range_tests, above_tests, kept_names, insert_terms}
+
+-- # What a SELECT by a join means
+
+abbrev pub join_body : ℕ → ℕ → List Term → List Term → List (Term × Key) → Query
+join_body nodes labels tests project order = record {
+  from = inner nodes (inner labels end);
+  filter = tests;
+  group = None;
+  project = project;
+  distinct = false;
+  collations = [];
+  order = order;
+  limit = lit (Int (negsuc 0));
+  offset = lit (Int (pos 0));
+}
+
+-- the row has the label
+abbrev pub on_term : Term
+on_term = op2 (Compare Eq Binary) (col 1 6) (col 2 0)
+
+-- a node with the name of its label
+abbrev pub join_terms : List Term
+join_terms = col 1 2 ∷ col 1 3 ∷ col 1 4 ∷ col 1 5 ∷ col 2 2 ∷ col 1 7 ∷ []
+
+abbrev pub join_query : ℕ → ℕ → List Term → Query
+join_query nodes labels tests = join_body nodes labels (on_term ∷ tests) join_terms ((col 1 2, key) ∷ [])
+
+abbrev pub join_command : Made → List Term → Command
+join_command made tests = Select (record { lets = []; body = join_query (node2_tree made) (label_tree made) tests }) kept_names
+
+abbrev pub range2_text : List ℕ
+range2_text = codes "SELECT pre, size, level, kind, name, value FROM node2 INNER JOIN label ON label = id WHERE address = ?1 AND pre >= ?2 AND pre <= ?3 ORDER BY pre"
+
+pub range2_is : (made : Made) → (command_of (understood (schema_of made) range2_text) ≡ join_command made range_tests) × (reads_listing (schema_of made) range2_text ≡ false)
+unfolding understood everything
+range2_is new = (refl, refl)
+range2_is layout_first = (refl, refl)
+range2_is node_first = (refl, refl)
+
+pub range2_plain : (made : Made) → IsPlain (understood (schema_of made) range2_text)
+unfolding understood everything
+range2_plain new = (refl, refl)
+range2_plain layout_first = (refl, refl)
+range2_plain node_first = (refl, refl)
+
+abbrev pub above2_text : List ℕ
+above2_text = codes "SELECT pre, size, level, kind, name, value FROM node2 INNER JOIN label ON label = id WHERE address = ?1 AND pre < ?2 AND pre + size >= ?2 ORDER BY pre"
+
+pub above2_is : (made : Made) → (command_of (understood (schema_of made) above2_text) ≡ join_command made above_tests) × (reads_listing (schema_of made) above2_text ≡ false)
+unfolding understood everything
+above2_is new = (refl, refl)
+above2_is layout_first = (refl, refl)
+above2_is node_first = (refl, refl)
+
+pub above2_plain : (made : Made) → IsPlain (understood (schema_of made) above2_text)
+unfolding understood everything
+above2_plain new = (refl, refl)
+above2_plain layout_first = (refl, refl)
+above2_plain node_first = (refl, refl)
+
+-- # What the other statements on nodes mean
+
+abbrev pub addresses2_text : List ℕ
+addresses2_text = codes "SELECT address FROM node2 WHERE pre = 0 ORDER BY address"
+
+pub addresses2_is : (made : Made) → (command_of (understood (schema_of made) addresses2_text) ≡ addresses_command (node2_tree made)) × (reads_listing (schema_of made) addresses2_text ≡ false)
+unfolding understood everything
+addresses2_is new = (refl, refl)
+addresses2_is layout_first = (refl, refl)
+addresses2_is node_first = (refl, refl)
+
+pub addresses2_plain : (made : Made) → IsPlain (understood (schema_of made) addresses2_text)
+unfolding understood everything
+addresses2_plain new = (refl, refl)
+addresses2_plain layout_first = (refl, refl)
+addresses2_plain node_first = (refl, refl)
+
+abbrev pub delete2_text : List ℕ
+delete2_text = codes "DELETE FROM node2 WHERE address = ?1"
+
+pub delete2_is : (made : Made) → command_of (understood (schema_of made) delete2_text) ≡ Delete (node2_place made) (delete_program (node2_tree made) (term1 ∷ []))
+unfolding understood everything
+delete2_is new = refl
+delete2_is layout_first = refl
+delete2_is node_first = refl
+
+pub delete2_plain : (made : Made) → IsPlain (understood (schema_of made) delete2_text)
+unfolding understood everything
+delete2_plain new = (refl, refl)
+delete2_plain layout_first = (refl, refl)
+delete2_plain node_first = (refl, refl)
+
+abbrev pub part2_text : List ℕ
+part2_text = codes "DELETE FROM node2 WHERE address = ?1 AND pre >= ?2 AND pre < ?3"
+
+pub part2_is : (made : Made) → command_of (understood (schema_of made) part2_text) ≡ Delete (node2_place made) (delete_program (node2_tree made) part_tests)
+unfolding understood everything
+part2_is new = refl
+part2_is layout_first = refl
+part2_is node_first = refl
+
+pub part2_plain : (made : Made) → IsPlain (understood (schema_of made) part2_text)
+unfolding understood everything
+part2_plain new = (refl, refl)
+part2_plain layout_first = (refl, refl)
+part2_plain node_first = (refl, refl)
+
+abbrev pub insert2_text : List ℕ
+insert2_text = codes "INSERT INTO node2 (address, pre, size, level, kind, label, value) VALUES (?1, ?2, ?3, ?4, ?5, ?6, ?7)"
+
+pub insert2_is : (made : Made) → command_of (understood (schema_of made) insert2_text) ≡ Insert (node2_place made) (Values insert_terms 8)
+unfolding understood everything
+insert2_is new = refl
+insert2_is layout_first = refl
+insert2_is node_first = refl
+
+pub insert2_plain : (made : Made) → IsPlain (understood (schema_of made) insert2_text)
+unfolding understood everything
+insert2_plain new = (refl, refl)
+insert2_plain layout_first = (refl, refl)
+insert2_plain node_first = (refl, refl)
+
+-- # What the statements on labels mean
+
+abbrev pub number_text : List ℕ
+number_text = codes "SELECT id FROM label WHERE name = ?1"
+
+abbrev pub number_tests : List Term
+number_tests = op2 (Compare Eq Binary) (col 1 2) (col 0 0) ∷ []
+
+abbrev pub number_query : ℕ → Query
+number_query tree = body tree number_tests (col 1 0 ∷ []) []
+
+abbrev pub number_command : Made → Command
+number_command made = Select (record { lets = []; body = number_query (label_tree made) }) (codes "id" ∷ [])
+
+pub number_is : (made : Made) → (command_of (understood (schema_of made) number_text) ≡ number_command made) × (reads_listing (schema_of made) number_text ≡ false)
+unfolding understood everything
+number_is new = (refl, refl)
+number_is layout_first = (refl, refl)
+number_is node_first = (refl, refl)
+
+pub number_plain : (made : Made) → IsPlain (understood (schema_of made) number_text)
+unfolding understood everything
+number_plain new = (refl, refl)
+number_plain layout_first = (refl, refl)
+number_plain node_first = (refl, refl)
+
+abbrev pub add_label_text : List ℕ
+add_label_text = codes "INSERT INTO label (name) VALUES (?1)"
+
+abbrev pub add_label_terms : List Term
+add_label_terms = lit Null ∷ lit Null ∷ col 0 0 ∷ []
+
+pub add_label_is : (made : Made) → command_of (understood (schema_of made) add_label_text) ≡ Insert (label_place made) (Values add_label_terms 3)
+unfolding understood everything
+add_label_is new = refl
+add_label_is layout_first = refl
+add_label_is node_first = refl
+
+pub add_label_plain : (made : Made) → IsPlain (understood (schema_of made) add_label_text)
+unfolding understood everything
+add_label_plain new = (refl, refl)
+add_label_plain layout_first = (refl, refl)
+add_label_plain node_first = (refl, refl)
