@@ -4,4 +4,5 @@ pub mod NextValues
 pub mod Quantifying
 pub mod QuantifiedTurns
 pub mod Steps
+pub mod ConstantPredicates
 pub mod DocumentScans
