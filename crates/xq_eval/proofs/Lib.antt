@@ -6,3 +6,4 @@ pub mod QuantifiedTurns
 pub mod Steps
 pub mod ConstantPredicates
 pub mod DocumentScans
+pub mod Joining

@@ -6,3 +6,4 @@ pub mod Quantifying
 pub mod Turns
 pub mod Results
 pub mod Scanning
+pub mod Joining

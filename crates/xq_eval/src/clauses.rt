@@ -1,6 +1,7 @@
 //! The clauses of a FLWOR expression, each for all tuples before the next (XQuery 3.1, section
 //! 3.12).
-ghost use Rattle.std.specs.Prelude.{◌≡◌, List, [], ◌∷◌, ◌++◌, map, length, IfOk, IfErr};
+ghost use Rattle.std.specs.Prelude.{◌≡◌, List, [], ◌∷◌, ◌++◌, map, length, IfOk, IfErr, IfSome, IsSome};
+ghost use Rattle.std.specs.Option.{option_copied};
 ghost use Rattle.std.proofs.Common.{suc};
 ghost use Rattle.xq_regions.specs.Items.{ItemView, Value as AtomView, item_views};
 ghost use Rattle.xq_regions.specs.Tuples.{Tuple, expanded};
@@ -12,14 +13,17 @@ ghost use Rattle.xq_meaning.specs.PlanMeaning.{plan_mean, plan_clause_mean, at_t
 ghost use Rattle.xq_eval.specs.private.Keys.{keys_at};
 ghost use Rattle.xq_forms.specs.Views.{tuple_at, tuples_at, lists_of, order_specs, frame_at, FrameIn, TupleIn, TuplesIn, Goes, GivesSequence, GivesTuples};
 ghost use Rattle.xq_eval.specs.private.Results.{GivesLists, GivesTests, GivesKeys, GivesRows};
+ghost use Rattle.xq_eval.specs.private.Joining.{GivesMatched};
 
 use crate::evaluation::evaluate;
+use sqlite_items::at;
 use std::alloc::Global;
 use std::rc::Rc;
 use xq_atoms::{Atom, Fault, Want};
 use xq_expressions::{AllowingEmpty, OrderModifier};
-use xq_forms::{Frame, group, into_atoms, order, refill};
+use xq_forms::{Frame, group, into_atoms, joined, order, refill};
 use xq_functions::effective;
+use xq_joins::{join_at, matching};
 use xq_meaning::{Plan, PlanClause};
 use xq_regions::Items;
 use xq_sources::Growing;
@@ -40,10 +44,56 @@ pub fn clause_list<W: Growing>(
         (map plan_clause_mean clauses.now) (W.forest world.old)) (W.forest world.new) result }
 {
     let mut tuples = Tuples::one(alloc)?;
-    for clause in clauses {
+    // Whether the clause was taken with the one before it.
+    let mut is_taken = false;
+    for (index, clause) in clauses.iter().enumerate() {
+        if is_taken {
+            is_taken = false;
+            continue;
+        }
+        let next = at(clauses, index + 1);
+        if let Some(lists) = matching_lists(alloc, world, frame, &tuples, clause, next)? {
+            tuples = tuples.expand(lists, false)?;
+            is_taken = true;
+            continue;
+        }
         tuples = next_tuples(alloc, world, frame, tuples, clause)?;
     }
     Ok(tuples)
+}
+
+/// Where a `for` and the clause after it are a join, the items that both give for each tuple; what
+/// the `for` ranges over is evaluated once then. None where they aren't one.
+#[cycle(eval)]
+fn matching_lists<W: Growing>(
+    alloc: Global,
+    world: &mut W,
+    frame: Frame<'_>,
+    tuples: &Tuples,
+    clause: &PlanClause,
+    next: Option<&PlanClause>,
+) -> Result<Option<Vec<Items>>, Fault>
+    ensures goes { Goes (W.forest world.old) (W.forest world.new) (W.is_clean world.old)
+        (W.is_clean world.new) }
+    ensures gives { W.is_clean world.new → FrameIn (W.forest world.old) frame.entry
+        → TuplesIn (W.forest world.old) tuples.now
+        → GivesMatched (plan_clause_mean clause.now) (option_copied next.entry)
+        (frame_at (W.forest world.old) frame.entry) tuples.now (W.forest world.old)
+        (W.forest world.new) result }
+    ensures long { IfOk result (λ found. IfSome found (λ lists.
+        length lists.items ≡ length tuples.now)) }
+    ensures followed { IfOk result (λ found. IfSome found (λ _. IsSome (option_copied
+        next.entry))) }
+{
+    let PlanClause::For(empties, at, source) = clause else {
+        return Ok(None);
+    };
+    let Some(join) = join_at(*empties, *at, source, next, frame.slots, tuples) else {
+        return Ok(None);
+    };
+    let slots = joined(alloc, frame.slots, tuples.tuple(0))?;
+    let items = at_tuple(alloc, world, frame, &slots, source)?;
+    Ok(matching(alloc, world, join, frame.slots, tuples, &items)?)
 }
 
 /// The tuples after one clause more.

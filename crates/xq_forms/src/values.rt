@@ -101,6 +101,21 @@ pub fn context_item(alloc: Global, focus: Option<Focus<'_>>) -> Result<Items, Fa
     }
 }
 
+/// The slots, and after them those of a tuple.
+pub fn joined(
+    alloc: Global,
+    slots: &[Rc<Items>],
+    tuple: &[Rc<Items>],
+) -> Result<Vec<Rc<Items>>, Want>
+    ensures { IfOk result (λ all. values_of all.items ≡ values_of slots.now ++ values_of
+        tuple.now) }
+{
+    let mut all = slots.to_vec(alloc)?;
+    let mut more = tuple.to_vec(alloc)?;
+    all.append(&mut more)?;
+    Ok(all)
+}
+
 /// Keeps the first `outer` slots, and puts those of a tuple after them.
 pub fn refill(slots: &mut Vec<Rc<Items>>, outer: usize, tuple: &[Rc<Items>]) -> Result<(), Want>
     ensures { OnOk result (values_of slots.new.items

@@ -36,6 +36,16 @@ use Rattle.xq_eval.specs.private.Results.{GivesKeys, GivesRows, GivesLists, Give
 use Rattle.xq_forms.proofs.Growth.{extends_more, stays, value_in, frame_grown, frame_in_grown, items_grown, are_in_grown, item_at_grown, in_grown, tuple_grown, tuple_in_grown, tuples_grown, tuples_in_grown, goes_on_to}
 use Rattle.xq_regions.specs.declared.Axis.TheVariants.{Child}
 use Rattle.xq_meaning.specs.declared.plans.PlanStep.TheVariants as plan_step
+use Rattle.std.specs.Prelude.{IsSome, Option}
+use Rattle.std.specs.Option.{option_copied}
+use Rattle.xq_regions.specs.declared.items.Item.{Item as Item_held}
+use Rattle.xq_regions.specs.Tree.{Tree}
+use Rattle.xq_joins.specs.Joins.{all_matched}
+use Rattle.xq_joins.specs.Keys.{IsNode}
+use Rattle.xq_joins.proofs.Lists.{all_index}
+use Rattle.xq_eval.specs.private.Joining.{AreBoth, GivesMatched}
+use Rattle.xq_eval.proofs.Joining.{first_is, some_is, for_refused, refused_gives, matched_gives}
+use Rattle.xq_meaning.specs.declared.plans.PlanClause.TheVariants as clause
 use Rattle.xq_eval.proofs.Loops.{got_at, left_over, left_from, two_left, none_taken, one_taken, turns_same, turns_two, turns_from, turns_stop_two, turns_next, turns_stop, turns_end, tries_next, tries_found, tries_stop, handed_on, stops, cut}
 use Rattle.xq_atoms.specs.Text.{Text}
 use Rattle.xq_expressions.specs.declared.operators.OrderModifier.{OrderModifier}
@@ -456,49 +466,6 @@ evaluation::pass-returns-in_err-push_copy-clause-goes g t c = c.in_ok-value.ensu
 
 pub evaluation::pass-returns-clause-goes : goal.evaluation::pass-returns-clause-goes
 evaluation::pass-returns-clause-goes g t c = c.in_ok-value.ensures.goes
-
-pub clauses::clause_list-loop-clause-preserved : goal.clauses::clause_list-loop-clause-preserved
-clauses::clause_list-loop-clause-preserved g t c =
-    let i = c.loop-clause.invariant in
-    let old = g.W.TreeSource.forest c.args.world.now in
-    let f = g.W.TreeSource.forest c.loop-clause.world in
-    let f' = g.W.TreeSource.forest c.next_tuples.new.world in
-    let held = c.args.frame in
-    let clause = c.clause-item.result in
-    record {
-      goes = goes_on_to i.goes c.next_tuples.ensures.goes;
-      turns = turns_next _ _ _ c.in_ok-tuples-2.tuples (plan_clause_mean clause) _ _ i.turns (left_over plan_clause_mean c.args.clauses.now c.loop-clause.clause-index clause (omega arith) c.clause-item.is) c.next_tuples.ensures.goes.was_clean
-          (λ clean inside is_in.
-          let s = c.in_ok-tuples-2.ensures.gives clean (frame_in_grown i.goes.grows held inside) is_in in
-          (s.0, ap (λ fr. plan_clause_mean clause fr (tuples_at f c.loop-clause.tuples) f) (sym (frame_grown i.goes.grows held inside)) ∙ s.1));
-    }
-
-pub clauses::clause_list-returns-in_err-tuples-2-clause-gives : goal.clauses::clause_list-returns-in_err-tuples-2-clause-gives
-clauses::clause_list-returns-in_err-tuples-2-clause-gives g t c = λ clean inside.
-    let i = c.loop-clause.invariant in
-    let old = g.W.TreeSource.forest c.args.world.now in
-    let f = g.W.TreeSource.forest c.loop-clause.world in
-    let f' = g.W.TreeSource.forest c.next_tuples.new.world in
-    let held = c.args.frame in
-    let clause = c.clause-item.result in
-    let e = c.in_err-tuples-2.field-0.0 in
-    handed_on (λ (ts : List (Tuple ItemView)). ts) tuples_at TuplesIn _ f' e c.from_residual-in_err-tuples-2.result c.from_residual-in_err-tuples-2.ensures.1
-    (turns_stop _ _ _ (λ (ts : List (Tuple ItemView)). ts) tuples_at TuplesIn (plan_clause_mean clause) _ f' e i.turns (left_over plan_clause_mean c.args.clauses.now c.loop-clause.clause-index clause (omega arith) c.clause-item.is) c.next_tuples.ensures.goes.was_clean
-    (λ clean inside is_in. subst (λ fr. GivesTuples (plan_clause_mean clause fr (tuples_at f c.loop-clause.tuples) f) f' (Err e)) (frame_grown i.goes.grows held inside) (c.in_err-tuples-2.ensures.gives clean (frame_in_grown i.goes.grows held inside) is_in)) clean inside)
-
-pub clauses::clause_list-returns-in_err-tuples-2-clause-goes : goal.clauses::clause_list-returns-in_err-tuples-2-clause-goes
-clauses::clause_list-returns-in_err-tuples-2-clause-goes g t c = goes_on_to c.loop-clause.invariant.goes c.in_err-tuples-2.ensures.goes
-
-pub clauses::clause_list-returns-clause-goes : goal.clauses::clause_list-returns-clause-goes
-clauses::clause_list-returns-clause-goes g t c = c.loop-clause.invariant.goes
-
-pub clauses::clause_list-returns-in_err-tuples-clause-goes : goal.clauses::clause_list-returns-in_err-tuples-clause-goes
-clauses::clause_list-returns-in_err-tuples-clause-goes g t c = stays _ _
-
-pub clauses::clause_list-returns-clause-gives : goal.clauses::clause_list-returns-clause-gives
-clauses::clause_list-returns-clause-gives g t c = λ clean inside.
-    let old = g.W.TreeSource.forest c.args.world.now in
-    turns_end _ _ _ c.loop-clause.invariant.turns (ap (map plan_clause_mean) (drop_all c.loop-clause.clause-index c.args.clauses.now (omega arith))) clean inside
 
 pub clauses::next_tuples-returns-in_err-lists-in-For-clause-gives : goal.clauses::next_tuples-returns-in_err-lists-in-For-clause-gives
 clauses::next_tuples-returns-in_err-lists-in-For-clause-gives g t c = λ clean inside tuples_in.
@@ -3175,3 +3142,141 @@ evaluation::keep-returns-in-Some-clause-goes g t c = stays _ _
 
 pub evaluation::keep-returns-in_err-value-clause-goes : goal.evaluation::keep-returns-in_err-value-clause-goes
 evaluation::keep-returns-in_err-value-clause-goes g t c = stays _ _
+
+pub clauses::clause_list-returns-in_err-lists-clause-gives : goal.clauses::clause_list-returns-in_err-lists-clause-gives
+clauses::clause_list-returns-in_err-lists-clause-gives g t c = λ clean inside.
+    let i = c.loop-index.invariant in
+    let f = g.W.TreeSource.forest c.loop-index.world in
+    let f' = g.W.TreeSource.forest c.matching_lists.new.world in
+    let held = c.args.frame in
+    let clauses = c.args.clauses.now in
+    let n = c.loop-index.index in
+    let p = c.index-clauses-index.result in
+    let tuples = c.loop-index.tuples in
+    let e = c.in_err-lists.field-0.0 in
+    let left = ap (λ k. map plan_clause_mean (drop k clauses)) (none_taken c.loop-index.is_taken n c.if-is_taken.false) ∙ left_over plan_clause_mean clauses n p (omega arith) c.index-clauses-index.is in
+    handed_on (λ (ts : List (Tuple ItemView)). ts) tuples_at TuplesIn _ f' e c.from_residual-in_err-lists.result c.from_residual-in_err-lists.ensures.1
+    (turns_stop _ _ _ (λ (ts : List (Tuple ItemView)). ts) tuples_at TuplesIn (plan_clause_mean p) _ f' e i.turns left c.matching_lists.ensures.goes.was_clean
+    (λ clean inside is_in. subst (λ fr. GivesTuples (plan_clause_mean p fr (tuples_at f tuples) f) f' (Err e)) (frame_grown i.goes.grows held inside) (c.in_err-lists.ensures.gives clean (frame_in_grown i.goes.grows held inside) is_in)) clean inside)
+
+pub clauses::clause_list-loop-index-preserved-in-Some : goal.clauses::clause_list-loop-index-preserved-in-Some
+clauses::clause_list-loop-index-preserved-in-Some g t c =
+    let i = c.loop-index.invariant in
+    let f = g.W.TreeSource.forest c.loop-index.world in
+    let f' = g.W.TreeSource.forest c.matching_lists.new.world in
+    let held = c.args.frame in
+    let clauses = c.args.clauses.now in
+    let n = c.loop-index.index in
+    let p = c.index-clauses-index.result in
+    let tuples = c.loop-index.tuples in
+    let lists = lists_of c.in-Some.lists in
+    let after = option_copied c.at-next.result in
+    let second = some_is after (subst (λ (o : Option (Vec (Vec Item_held))). IfSome o (λ _. IsSome after)) c.in-Some.is c.in_ok-lists.ensures.followed) in
+    let q = second.0 in
+    let next = sym c.at-next.ensures ∙ second.1 in
+    let left = ap (λ k. map plan_clause_mean (drop k clauses)) (none_taken c.loop-index.is_taken n c.if-is_taken.false) ∙ two_left plan_clause_mean clauses n p q (omega arith) c.index-clauses-index.is next in
+    let stream = c.in_ok-tuples-2.ensures.stream in
+    record {
+      goes = goes_on_to i.goes c.matching_lists.ensures.goes;
+      turns = turns_two _ _ _ c.in_ok-tuples-2.tuples (plan_clause_mean p) (plan_clause_mean q) _ _ i.turns left c.matching_lists.ensures.goes.was_clean
+          (λ clean inside is_in.
+          let both : AreBoth (plan_clause_mean p) (Some q) (frame_at f held) tuples f f' lists =
+          subst (λ (o : Option PlanClause). AreBoth (plan_clause_mean p) o (frame_at f held) tuples f f' lists) second.1
+          (subst (λ (o : Option (Vec (Vec Item_held))). GivesMatched (plan_clause_mean p) after (frame_at f held) tuples f f' (Ok o)) c.in-Some.is (c.in_ok-lists.ensures.gives clean (frame_in_grown i.goes.grows held inside) is_in)) in
+          (subst (TuplesIn f') (sym stream) both.inside,
+          ap (λ fr. go_on (plan_clause_mean p fr (tuples_at f tuples) f) (plan_clause_mean q fr)) (sym (frame_grown i.goes.grows held inside)) ∙ both.gives ∙ ap (λ ts. (Ok (tuples_at f' ts), f')) (sym stream)));
+      within = (let at = got_at clauses (n + 1) q next in omega (arith, at.0));
+    }
+
+pub clauses::clause_list-returns-in_err-tuples-3-clause-gives : goal.clauses::clause_list-returns-in_err-tuples-3-clause-gives
+clauses::clause_list-returns-in_err-tuples-3-clause-gives g t c = λ clean inside.
+    let i = c.loop-index.invariant in
+    let f = g.W.TreeSource.forest c.loop-index.world in
+    let f1 = g.W.TreeSource.forest c.matching_lists.new.world in
+    let f' = g.W.TreeSource.forest c.next_tuples.new.world in
+    let held = c.args.frame in
+    let clauses = c.args.clauses.now in
+    let n = c.loop-index.index in
+    let p = c.index-clauses-index.result in
+    let tuples = c.loop-index.tuples in
+    let after = option_copied c.at-next.result in
+    let e = c.in_err-tuples-3.field-0.0 in
+    let left = ap (λ k. map plan_clause_mean (drop k clauses)) (none_taken c.loop-index.is_taken n c.if-is_taken.false) ∙ left_over plan_clause_mean clauses n p (omega arith) c.index-clauses-index.is in
+    handed_on (λ (ts : List (Tuple ItemView)). ts) tuples_at TuplesIn _ f' e c.from_residual-in_err-tuples-3.result c.from_residual-in_err-tuples-3.ensures.1
+    (turns_stop _ _ _ (λ (ts : List (Tuple ItemView)). ts) tuples_at TuplesIn (plan_clause_mean p) _ f' e i.turns left (λ k. c.matching_lists.ensures.goes.was_clean (c.next_tuples.ensures.goes.was_clean k))
+    (λ clean inside is_in.
+    let here = frame_in_grown i.goes.grows held inside in
+    let same : f1 ≡ f = subst (λ (o : Option (Vec (Vec Item_held))). GivesMatched (plan_clause_mean p) after (frame_at f held) tuples f f1 (Ok o)) c.in_default.is (c.in_ok-lists.ensures.gives (c.next_tuples.ensures.goes.was_clean clean) here is_in) in
+    subst (λ fr. GivesTuples (plan_clause_mean p fr (tuples_at f tuples) f) f' (Err e)) (frame_grown i.goes.grows held inside)
+    (subst (λ (h : List Tree). FrameIn h held → TuplesIn h tuples → GivesTuples (plan_clause_mean p (frame_at h held) (tuples_at h tuples) h) f' (Err e)) same (λ x y. c.in_err-tuples-3.ensures.gives clean x y) here is_in)) clean inside)
+
+pub clauses::clause_list-loop-index-preserved : goal.clauses::clause_list-loop-index-preserved
+clauses::clause_list-loop-index-preserved g t c =
+    let i = c.loop-index.invariant in
+    let f = g.W.TreeSource.forest c.loop-index.world in
+    let f1 = g.W.TreeSource.forest c.matching_lists.new.world in
+    let f' = g.W.TreeSource.forest c.next_tuples.new.world in
+    let held = c.args.frame in
+    let clauses = c.args.clauses.now in
+    let n = c.loop-index.index in
+    let p = c.index-clauses-index.result in
+    let tuples = c.loop-index.tuples in
+    let after = option_copied c.at-next.result in
+    let given = c.in_ok-tuples-3.tuples in
+    let left = ap (λ k. map plan_clause_mean (drop k clauses)) (none_taken c.loop-index.is_taken n c.if-is_taken.false) ∙ left_over plan_clause_mean clauses n p (omega arith) c.index-clauses-index.is in
+    let one = sym (none_taken c.loop-index.is_taken (n + 1) c.if-is_taken.false) in
+    record {
+      goes = goes_on_to (goes_on_to i.goes c.in_ok-lists.ensures.goes) c.in_ok-tuples-3.ensures.goes;
+      turns = turns_same _ _ _ _ (turns_next _ _ _ given (plan_clause_mean p) _ _ i.turns left (λ k. c.matching_lists.ensures.goes.was_clean (c.next_tuples.ensures.goes.was_clean k))
+          (λ clean inside is_in.
+          let here = frame_in_grown i.goes.grows held inside in
+          let same : f1 ≡ f = subst (λ (o : Option (Vec (Vec Item_held))). GivesMatched (plan_clause_mean p) after (frame_at f held) tuples f f1 (Ok o)) c.in_default.is (c.in_ok-lists.ensures.gives (c.next_tuples.ensures.goes.was_clean clean) here is_in) in
+          let s = subst (λ (h : List Tree). FrameIn h held → TuplesIn h tuples → TuplesIn f' given × (plan_clause_mean p (frame_at h held) (tuples_at h tuples) h ≡ (Ok (tuples_at f' given), f'))) same (λ x y. c.in_ok-tuples-3.ensures.gives clean x y) here is_in in
+          (s.0, ap (λ fr. plan_clause_mean p fr (tuples_at f tuples) f) (sym (frame_grown i.goes.grows held inside)) ∙ s.1))) (ap (λ k. map plan_clause_mean (drop k clauses)) one);
+      within = subst (λ k. k ≤ length clauses) one (omega arith);
+    }
+
+pub clauses::matching_lists-returns-clause-gives : goal.clauses::matching_lists-returns-clause-gives
+clauses::matching_lists-returns-clause-gives g t c = λ clean inside tuples_in.
+    let f = g.W.TreeSource.forest c.args.world.now in
+    let f' = g.W.TreeSource.forest c.at_tuple.new.world in
+    let after = g.W.TreeSource.forest c.matching.new.source in
+    let held = c.args.frame in
+    let frame = frame_at f held in
+    let outside = values_of held.slots.now in
+    let tuples = c.args.tuples.now in
+    let source = c.in-For.source in
+    let next = option_copied c.args.next in
+    let join = c.in-Some.join in
+    let are = c.in-Some.ensures in
+    let views = item_views c.in_ok-items.items in
+    let found = c.in_ok-matching.field-0 in
+    let first = c.tuple.ensures ∙ first_is tuples in
+    let x = values_of c.tuple.result.now in
+    let at : values_of c.deref.result.now ≡ values_of c.args.frame.slots.now ++ x = ap values_of c.deref.ensures.value ∙ c.in_ok-slots.ensures in
+    let tuple_in = subst (TupleIn f) (sym c.tuple.ensures) (all_index (TupleIn f) tuples 0 [] tuples_in are.some) in
+    let given = c.in_ok-items.ensures.gives (c.matching.ensures.was_clean clean) inside x at tuple_in in
+    let grows = c.in_ok-items.ensures.goes.grows in
+    let value = subst (λ (u : Tuple ItemView). plan_mean source (at_tuple frame (tuple_at f u)) f ≡ (Ok (items_at f' views), f')) first given.1 in
+    let d : map item_view c.deref-2.result.now ≡ views = ap (map item_view) c.deref-2.ensures.value in
+    let nodes = subst (λ (xs : List ItemView). IfSome found (λ _. AllByRecursion IsNode xs)) d c.in_ok-matching.ensures.nodes in
+    let lists = subst (λ (xs : List ItemView). IfSome found (λ ls. lists_of ls ≡ all_matched f' join outside tuples xs)) d
+    (c.in_ok-matching.ensures.lists clean (tuple_in_grown grows outside inside.slots_in) (tuples_in_grown grows tuples tuples_in) (subst (AreIn f') (sym d) given.0)) in
+    subst (λ (k : PlanClause). GivesMatched (plan_clause_mean k) next frame tuples f after (Ok found)) (sym c.in-For.is)
+    (matched_gives frame f outside refl tuples c.in-For.empties c.in-For.at source next join are f' after views found tuples_in given.0 value nodes lists c.matching.ensures.keeps)
+
+pub clauses::matching_lists-returns-in_err-items-clause-gives : goal.clauses::matching_lists-returns-in_err-items-clause-gives
+clauses::matching_lists-returns-in_err-items-clause-gives g t c = λ clean inside tuples_in.
+    let f = g.W.TreeSource.forest c.args.world.now in
+    let f' = g.W.TreeSource.forest c.at_tuple.new.world in
+    let frame = frame_at f c.args.frame in
+    let tuples = c.args.tuples.now in
+    let source = c.in-For.source in
+    let some = c.in-Some.ensures.some in
+    let e = c.in_err-items.field-0.0 in
+    let x = values_of c.tuple.result.now in
+    let at : values_of c.deref.result.now ≡ values_of c.args.frame.slots.now ++ x = ap values_of c.deref.ensures.value ∙ c.in_ok-slots.ensures in
+    let tuple_in = subst (TupleIn f) (sym c.tuple.ensures) (all_index (TupleIn f) tuples 0 [] tuples_in some) in
+    let given = subst (λ (u : Tuple ItemView). GivesSequence (plan_mean source (at_tuple frame (tuple_at f u)) f) f' (Err e)) (c.tuple.ensures ∙ first_is tuples) (c.in_err-items.ensures.gives clean inside x at tuple_in) in
+    subst (λ (k : PlanClause). GivesMatched (plan_clause_mean k) (option_copied c.args.next) frame tuples f f' c.from_residual.result) (sym c.in-For.is)
+    (refused_gives (plan_clause_mean (clause.For c.in-For.empties c.in-For.at source)) (option_copied c.args.next) frame tuples f f' e c.from_residual.result c.from_residual.ensures.1 (for_refused c.in-For.empties c.in-For.at source frame f f' tuples e some given))

@@ -95,8 +95,8 @@ invariant-evaluation::keep-loop-index g l =
       turns : Turns items_at AreIn (more (Forms.passed (plan_mean l.predicate) frame)) (inside × AreIn old (map item_view l.items)) clean (item_views l.kept) (focuses_from (suc l.index) (length l.items) (items_at old (map item_view (drop l.index l.items)))) now (Forms.filtered frame (items_at old (map item_view l.items)) (plan_mean l.predicate) old);
     }
 
-abbrev pub invariant-clauses::clause_list-loop-clause : goal.invariant-clauses::clause_list-loop-clause
-invariant-clauses::clause_list-loop-clause g l =
+abbrev pub invariant-clauses::clause_list-loop-index : goal.invariant-clauses::clause_list-loop-index
+invariant-clauses::clause_list-loop-index g l =
     let old = g.W.TreeSource.forest l.fn.world in
     let now = g.W.TreeSource.forest l.world in
     let frame = frame_at old l.frame in
@@ -104,7 +104,8 @@ invariant-clauses::clause_list-loop-clause g l =
     let clean = g.W.TreeSource.is_clean l.world in
     record {
       goes : Goes old now (g.W.TreeSource.is_clean l.fn.world) clean;
-      turns : Turns tuples_at TuplesIn (next_clause frame) inside clean l.tuples (map plan_clause_mean (drop l.clause-index l.clauses)) now (in_turn (next_clause frame) ([] ∷ []) (map plan_clause_mean l.clauses) old);
+      turns : Turns tuples_at TuplesIn (next_clause frame) inside clean l.tuples (map plan_clause_mean (drop (l.index + (if l.is_taken then 1 else 0)) l.clauses)) now (in_turn (next_clause frame) ([] ∷ []) (map plan_clause_mean l.clauses) old);
+      within : l.index + (if l.is_taken then 1 else 0) ≤ length l.clauses;
     }
 
 abbrev pub invariant-clauses::values-loop-index : goal.invariant-clauses::values-loop-index
@@ -294,6 +295,9 @@ decreases-paths::at_spot g a = 8 * goal.size-paths::at_spot g a + 4
 
 abbrev pub decreases-clauses::clause_list : goal.decreases-clauses::clause_list
 decreases-clauses::clause_list g a = 8 * goal.size-clauses::clause_list g a + 8
+
+abbrev pub decreases-clauses::matching_lists : goal.decreases-clauses::matching_lists
+decreases-clauses::matching_lists g a = 8 * goal.size-clauses::matching_lists g a + 6
 
 abbrev pub decreases-clauses::next_tuples : goal.decreases-clauses::next_tuples
 decreases-clauses::next_tuples g a = 8 * goal.size-clauses::next_tuples g a + 7
