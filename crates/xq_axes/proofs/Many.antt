@@ -4,7 +4,7 @@ use Rattle.std.specs.Prelude.{filter}
 use Rattle.std.specs.List.{list_any, flat_map, Contains}
 use Rattle.std.specs.declared.cmp.Ordering.TheVariants.{Less}
 use Rattle.std.proofs.lemmas.Bool.{cases_lt}
-use Rattle.std.proofs.lemmas.List.{take_all, get_or_append_left, get_or-append-add, length-append}
+use Rattle.std.proofs.lemmas.List.{take_all, get_or_append_left, get_or-append-add, length-append, map-append}
 use Rattle.std.proofs.lemmas.List.Elements.{Contains-append_cases}
 use Rattle.std.proofs.lemmas.List.Folds.{list_any-append, list_any_more, Any-from_list_any}
 use Rattle.std.proofs.lemmas.Map.Keys.{Less-from_sorted}
@@ -20,14 +20,16 @@ use Rattle.xq_meaning.specs.declared.node_tests.Test.{Test}
 use Rattle.xq_meaning.specs.Items.{Place, place, nodes_at, places_from as places_of, same_node, is_among as is_among_places, in_document_order}
 use Rattle.xq_meaning.specs.Steps.{axis_nodes}
 use Rattle.xq_meaning.specs.Readings.{node_at}
-use Rattle.xq_regions.specs.Rising.{document_order}
-use Rattle.xq_axes.specs.Nodes.{HaveAll}
+use Rattle.xq_regions.specs.Rising.{document_order, AreRising}
+use Rattle.xq_axes.specs.Nodes.{HaveAll, AreOnAxis}
 use Rattle.xq_axes.specs.private.Hits.{is_hit, is_wanted, row_passes, below_where, IsRising}
 use Rattle.xq_axes.specs.private.Many.{spot, AreThere, places_from, is_found_from, IsNext, IsGathered}
 use Rattle.xq_axes.proofs.Lists.{any_and, any_or}
-use Rattle.xq_axes.proofs.Merging.{any_map, any_here, have_one}
+use Rattle.xq_axes.proofs.Merging.{any_map, any_here, have_one, merged}
 use Rattle.xq_axes.proofs.OnPaths.{axis_nodes_of}
-use Rattle.xq_regions.proofs.Rising.{same_any, from_contains, order_parts, is_one_node, one_node, node_itself}
+use Rattle.xq_meaning.proofs.PathLemmas.{map-map}
+use Rattle.xq_regions.specs.Items.{ItemView, Place as NodeAt}
+use Rattle.xq_regions.proofs.Rising.{same_any, from_contains, order_parts, order_less, is_one_node, one_node, node_itself, rising_none, rising_more, rising_append}
 use Rattle.xq_axes.proofs.Siblings.{one_hit}
 
 -- # Tests of some elements
@@ -246,3 +248,55 @@ module _ (trees : List Tree) (a : Axis) (test : Test) (ns found : List Node) (ha
 -- the nodes on an axis from one node are there
 pub axis_there : (trees : List Tree) (a : Axis) (test : Test) (n : Node) (found : List Node) → HasNode trees n.tree n.pre → found ≡ map (spot n.tree) (places_from a test (tree_at trees n.tree) n.pre) → HaveAll trees found
 axis_there trees a test n found h e = step_there trees a test (n ∷ []) found (h, tt) (λ p. ap (list_any p) e ∙ sym (or_none (is_found_from trees a test p n)))
+
+-- # A step from one node
+
+record IsBelow (tree n : ℕ) (x : Node) : Type 0 where
+  of_tree : x.tree ≡ tree
+  before : x.pre < n
+
+last_below : (tree n : ℕ) (b : Bool) (x : Node) → Contains (map (spot tree) (cond b (n ∷ []) [])) x → (x.tree ≡ tree) × (x.pre ≡ n)
+last_below tree n true x (zero, l, e) = (ap (λ (y : Node). y.tree) (sym e), ap (λ (y : Node). y.pre) (sym e))
+last_below tree n true x (suc k, l, e) = absurd (omega (arith, l))
+last_below tree n false x (k, l, e) = absurd (omega (arith, l))
+
+spots_below : (tree : ℕ) (f : ℕ → Bool) (n : ℕ) (x : Node) → Contains (map (spot tree) (below_where f n)) x → IsBelow tree n x
+spots_below tree f zero x c = absurd (omega (arith, c.1))
+spots_below tree f (suc n) x c =
+    let parts = subst (λ xs. Contains xs x) (map-append (spot tree) (below_where f n) (cond (f n) (n ∷ []) [])) c in
+    elim (Contains-append_cases (map (spot tree) (below_where f n)) (map (spot tree) (cond (f n) (n ∷ []) [])) x parts) [
+      | inl l ↦ (let w = spots_below tree f n x l in record { of_tree = w.of_tree; before = (let b = w.before in omega (arith, b)) })
+      | inr l ↦ (let w = last_below tree n (f n) x l in record { of_tree = w.0; before = (let e = w.1 in omega (arith, e)) })
+    ]
+
+-- places below a bound, in order, are nodes in document order
+pub spots_rise : (tree : ℕ) (f : ℕ → Bool) (n : ℕ) → AreRising (map (spot tree) (below_where f n))
+spots_rise tree f zero = rising_none
+spots_rise tree f (suc n) =
+    subst AreRising (sym (map-append (spot tree) (below_where f n) (cond (f n) (n ∷ []) [])))
+    (rising_append (map (spot tree) (below_where f n)) (map (spot tree) (cond (f n) (n ∷ []) [])) (spots_rise tree f n) (one (f n)) (λ x y c d.
+    let a = spots_below tree f n x c in
+    let b = last_below tree n (f n) y d in
+    let before = a.before in
+    let at = b.1 in
+    order_less x y (inr (a.of_tree ∙ sym b.0, omega (arith, before, at)))))
+  where
+    one : (b : Bool) → AreRising (map (spot tree) (cond b (n ∷ []) []))
+    one true = rising_more [] (spot tree n) (spot tree n) rising_none (λ i e. absurd (omega (arith, e)))
+    one false = rising_none
+
+pub from_one : (trees : List Tree) (a : Axis) (test : Test) (n : Node) (ps : List ℕ) (items : List ItemView) → HasNode trees n.tree n.pre → ps ≡ places_from a test (tree_at trees n.tree) n.pre → items ≡ map (λ p. NodeAt (spot n.tree p)) ps → AreOnAxis trees a test n items
+from_one trees a test n ps items h e are =
+    let t = tree_at trees n.tree in
+    let found = map (spot n.tree) (places_from a test t n.pre) in
+    let here : (p : Node → Bool) → list_any p found ≡ list_any (is_found_from trees a test p) (n ∷ []) = λ p. sym (or_none (is_found_from trees a test p n)) in
+    let there = step_there trees a test (n ∷ []) found (h, tt) here in
+    let rising = spots_rise n.tree (is_wanted a test t (n.pre ∷ [])) (count (nodes t)) in
+    record {
+      nodes = found;
+      are = are ∙ ap (map (λ p. NodeAt (spot n.tree p))) e ∙ sym (map-map NodeAt (spot n.tree) (places_from a test t n.pre));
+      on_axis = map-map (node_at trees) (spot n.tree) (places_from a test t n.pre) ∙ sym (axis_nodes_of trees a test n h);
+      in_order = merged trees found there found rising (λ m. (λ k. k, λ k. k)) ∙ step_nodes trees a test (n ∷ []) found (h, tt) here;
+      there = there;
+      rising = rising;
+    }

@@ -1,10 +1,28 @@
 -- Nodes by the number of their tree and their place in it, over trees.
-use Rattle.std.specs.List.{AllByRecursion}
-use Rattle.std.specs.Prelude.{List}
+use Rattle.std.specs.List.{AllByRecursion, flat_map}
+use Rattle.std.specs.Prelude.{◌≡◌, List, [], ◌∷◌, map}
+use Rattle.xq_regions.specs.Items.{ItemView, Place as NodeAt}
+use Rattle.xq_regions.specs.Rising.{AreRising}
 use Rattle.xq_regions.specs.Tree.{Tree}
+use Rattle.xq_regions.specs.declared.Axis.{Axis}
 use Rattle.xq_regions.specs.declared.items.Node.{Node}
 use Rattle.xq_sources.specs.Sources.{HasNode}
+use Rattle.xq_meaning.specs.declared.node_tests.Test.{Test}
+use Rattle.xq_meaning.specs.Items.{in_document_order}
+use Rattle.xq_meaning.specs.Readings.{node_at}
+use Rattle.xq_meaning.specs.Steps.{axis_nodes}
 
 -- the trees have all of the nodes
 abbrev pub HaveAll : List Tree → List Node → Type 0
 HaveAll trees ns = AllByRecursion (λ n. HasNode trees n.tree n.pre) ns
+
+-- the items are the nodes on the axis from the node that pass the test, in document order, each once
+pub record AreOnAxis (trees : List Tree) (axis : Axis) (test : Test) (n : Node)
+    (items : List ItemView) : Type 0 where
+  pub nodes : List Node
+  pub are : items ≡ map NodeAt nodes
+  pub on_axis : map (node_at trees) nodes ≡ axis_nodes trees axis test (node_at trees n)
+  pub in_order : map (node_at trees) nodes
+      ≡ in_document_order trees (flat_map (axis_nodes trees axis test) (node_at trees n ∷ []))
+  pub there : HaveAll trees nodes
+  pub rising : AreRising nodes

@@ -22,5 +22,5 @@ mod walks;
 pub use copies::copy;
 pub use merges::merge;
 pub use slashes::double_slash;
-pub use steps::{axis, step};
+pub use steps::{axis, items_on_axis, step};
 pub use values::string_value;

@@ -9,7 +9,8 @@ ghost use Rattle.xq_meaning.specs.Items.{in_document_order};
 ghost use Rattle.xq_meaning.specs.Steps.{axis_nodes};
 ghost use Rattle.xq_meaning.specs.Readings.{node_at};
 ghost use Rattle.xq_regions.specs.Rising.{AreRising};
-ghost use Rattle.xq_axes.specs.Nodes.{HaveAll};
+ghost use Rattle.xq_regions.specs.Items.{Place as NodeAt, item_views};
+ghost use Rattle.xq_axes.specs.Nodes.{HaveAll, AreOnAxis};
 ghost use Rattle.xq_axes.specs.Scans.{region, places_of, AreOf};
 ghost use Rattle.xq_axes.specs.private.Hits.{is_wanted, below_where, IsRising};
 ghost use Rattle.xq_axes.specs.private.Many.{spot, is_found_from, AreSame, AreThere, IsNext, IsGathered, IsAt, AreKept};
@@ -25,7 +26,7 @@ use crate::selves::search_selves;
 use std::alloc::Global;
 use xq_atoms::Want;
 use xq_meaning::Test;
-use xq_regions::{Axis, Node, comes_after, rises};
+use xq_regions::{Axis, Item, Items, Node, comes_after, rises};
 use xq_sources::RowLender;
 
 /// The places of the nodes on the axis from one of the places, which rise, that pass the test.
@@ -120,6 +121,45 @@ pub fn axis<L: RowLender>(
     let mut found = Vec::with_capacity(alloc, places.len())?;
     add_nodes(&mut found, node.tree, &places)?;
     Ok(found)
+}
+
+/// The nodes of the tree at the places, as items.
+fn as_items(alloc: Global, tree: usize, places: &[u32]) -> Result<Items, Want>
+    ensures { IfOk result (λ items. item_views items
+        ≡ map (λ p. NodeAt (spot tree p)) places.now) }
+{
+    let mut items = Vec::with_capacity(alloc, places.len())?;
+    for place in places {
+        items.push(Item::Node(Node { tree, pre: *place }))?;
+    }
+    Ok(items)
+}
+
+/// The nodes on the axis from the node that pass the test, as [`axis`] and [`step`] find them, as
+/// items. It reads each row of the axis' region once at most, and at most one row besides.
+///
+/// `Want::Store` where the source refuses to read a row; `Want::Memory` where a growth was
+/// refused.
+pub fn items_on_axis<L: RowLender>(
+    alloc: Global,
+    source: &mut L,
+    node: Node,
+    axis: Axis,
+    test: &Test,
+) -> Result<Items, Want>
+    ensures items { L.is_clean source.new
+        → HasNode (L.forest source.old) node.tree node.pre
+        → IfOk result (λ found.
+        AreOnAxis (L.forest source.old) axis test.now node (item_views found)) }
+    ensures rows { L.is_clean source.new
+        → (L.meter source.new).rows ≤ (L.meter source.old).rows
+        + length (region axis (tree_at (L.forest source.old) node.tree) (node.pre ∷ [])) }
+    ensures singles { (L.meter source.new).singles ≤ (L.meter source.old).singles + 1 }
+    ensures keeps { L.forest source.new ≡ L.forest source.old }
+    ensures was_clean { L.is_clean source.new → L.is_clean source.old }
+{
+    let places = search(alloc, source, node.tree, axis, &[node.pre], test)?;
+    as_items(alloc, node.tree, &places)
 }
 
 /// Adds the nodes on the axis from the nodes of one tree, whose places rise, that pass the test.

@@ -4,4 +4,6 @@ pub mod NextValues
 pub mod Quantifying
 pub mod QuantifiedTurns
 pub mod Steps
+pub mod ConstantPredicates
 pub mod DocumentScans
+pub mod Joining

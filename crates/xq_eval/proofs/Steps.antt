@@ -143,17 +143,17 @@ left_at view (y ∷ ys) (suc i) x d h is =
 
 -- the frame of a tuple
 
-pub frame_inner : (f : List Tree) (frame inner : Held_frame) (tuple : List (Rc (Vec Held) Global)) → values_of inner.slots.now ≡ values_of frame.slots.now ++ values_of tuple
+pub frame_inner : (f : List Tree) (frame inner : Held_frame) (tuple : Tuple ItemView) → values_of inner.slots.now ≡ values_of frame.slots.now ++ tuple
     → inner.focus ≡ frame.focus → inner.addresses.now ≡ frame.addresses.now
-    → frame_at f inner ≡ at_tuple (frame_at f frame) (tuple_at f (values_of tuple))
+    → frame_at f inner ≡ at_tuple (frame_at f frame) (tuple_at f tuple)
 frame_inner f frame inner tuple e focus addresses =
-    let env = ap (tuple_at f) e ∙ map-append (items_at f) (values_of frame.slots.now) (values_of tuple) in
+    let env = ap (tuple_at f) e ∙ map-append (items_at f) (values_of frame.slots.now) tuple in
     λ i. record { env = env i; focus = focus_at f (focus i); addresses = addresses i }
 
-pub frame_inner_in : (f : List Tree) (frame inner : Held_frame) (tuple : List (Rc (Vec Held) Global)) → values_of inner.slots.now ≡ values_of frame.slots.now ++ values_of tuple
-    → inner.focus ≡ frame.focus → inner.addresses.now ≡ frame.addresses.now → FrameIn f frame → TupleIn f (values_of tuple) → FrameIn f inner
+pub frame_inner_in : (f : List Tree) (frame inner : Held_frame) (tuple : Tuple ItemView) → values_of inner.slots.now ≡ values_of frame.slots.now ++ tuple
+    → inner.focus ≡ frame.focus → inner.addresses.now ≡ frame.addresses.now → FrameIn f frame → TupleIn f tuple → FrameIn f inner
 frame_inner_in f frame inner tuple e focus addresses h k = record {
-  slots_in = subst (TupleIn f) (sym e) (all_append (AreIn f) (values_of frame.slots.now) (values_of tuple) h.slots_in k);
+  slots_in = subst (TupleIn f) (sym e) (all_append (AreIn f) (values_of frame.slots.now) tuple h.slots_in k);
   focus_in = subst (FocusIn f) (sym focus) h.focus_in;
   addresses_in = subst (λ xs. length xs ≤ length f) (sym addresses) h.addresses_in;
 }

@@ -1,9 +1,10 @@
 //! The clauses of a FLWOR expression, each for all tuples before the next (XQuery 3.1, section
 //! 3.12).
-ghost use Rattle.std.specs.Prelude.{◌≡◌, List, [], ◌∷◌, map, length, IfOk, IfErr};
+ghost use Rattle.std.specs.Prelude.{◌≡◌, List, [], ◌∷◌, ◌++◌, map, length, IfOk, IfErr, IfSome, IsSome};
+ghost use Rattle.std.specs.Option.{option_copied};
 ghost use Rattle.std.proofs.Common.{suc};
-ghost use Rattle.xq_regions.specs.Items.{Value as AtomView, item_views};
-ghost use Rattle.xq_regions.specs.Tuples.{expanded};
+ghost use Rattle.xq_regions.specs.Items.{ItemView, Value as AtomView, item_views};
+ghost use Rattle.xq_regions.specs.Tuples.{Tuple, expanded};
 ghost use Rattle.xq_tuples.specs.Keys.{column_of, columns_of};
 ghost use Rattle.xq_tuples.specs.Views.{values_of};
 ghost use Rattle.xq_meaning.specs.Doing.{in_turn, one_more, for_each};
@@ -12,14 +13,17 @@ ghost use Rattle.xq_meaning.specs.PlanMeaning.{plan_mean, plan_clause_mean, at_t
 ghost use Rattle.xq_eval.specs.private.Keys.{keys_at};
 ghost use Rattle.xq_forms.specs.Views.{tuple_at, tuples_at, lists_of, order_specs, frame_at, FrameIn, TupleIn, TuplesIn, Goes, GivesSequence, GivesTuples};
 ghost use Rattle.xq_eval.specs.private.Results.{GivesLists, GivesTests, GivesKeys, GivesRows};
+ghost use Rattle.xq_eval.specs.private.Joining.{GivesMatched};
 
 use crate::evaluation::evaluate;
+use sqlite_items::at;
 use std::alloc::Global;
 use std::rc::Rc;
 use xq_atoms::{Atom, Fault, Want};
 use xq_expressions::{AllowingEmpty, OrderModifier};
-use xq_forms::{Frame, atomized, group, joined, order};
+use xq_forms::{Frame, group, into_atoms, joined, order, refill};
 use xq_functions::effective;
+use xq_joins::{join_at, matching};
 use xq_meaning::{Plan, PlanClause};
 use xq_regions::Items;
 use xq_sources::Growing;
@@ -40,10 +44,56 @@ pub fn clause_list<W: Growing>(
         (map plan_clause_mean clauses.now) (W.forest world.old)) (W.forest world.new) result }
 {
     let mut tuples = Tuples::one(alloc)?;
-    for clause in clauses {
+    // Whether the clause was taken with the one before it.
+    let mut is_taken = false;
+    for (index, clause) in clauses.iter().enumerate() {
+        if is_taken {
+            is_taken = false;
+            continue;
+        }
+        let next = at(clauses, index + 1);
+        if let Some(lists) = matching_lists(alloc, world, frame, &tuples, clause, next)? {
+            tuples = tuples.expand(lists, false)?;
+            is_taken = true;
+            continue;
+        }
         tuples = next_tuples(alloc, world, frame, tuples, clause)?;
     }
     Ok(tuples)
+}
+
+/// Where a `for` and the clause after it are a join, the items that both give for each tuple; what
+/// the `for` ranges over is evaluated once then. None where they aren't one.
+#[cycle(eval)]
+fn matching_lists<W: Growing>(
+    alloc: Global,
+    world: &mut W,
+    frame: Frame<'_>,
+    tuples: &Tuples,
+    clause: &PlanClause,
+    next: Option<&PlanClause>,
+) -> Result<Option<Vec<Items>>, Fault>
+    ensures goes { Goes (W.forest world.old) (W.forest world.new) (W.is_clean world.old)
+        (W.is_clean world.new) }
+    ensures gives { W.is_clean world.new → FrameIn (W.forest world.old) frame.entry
+        → TuplesIn (W.forest world.old) tuples.now
+        → GivesMatched (plan_clause_mean clause.now) (option_copied next.entry)
+        (frame_at (W.forest world.old) frame.entry) tuples.now (W.forest world.old)
+        (W.forest world.new) result }
+    ensures long { IfOk result (λ found. IfSome found (λ lists.
+        length lists.items ≡ length tuples.now)) }
+    ensures followed { IfOk result (λ found. IfSome found (λ _. IsSome (option_copied
+        next.entry))) }
+{
+    let PlanClause::For(empties, at, source) = clause else {
+        return Ok(None);
+    };
+    let Some(join) = join_at(*empties, *at, source, next, frame.slots, tuples) else {
+        return Ok(None);
+    };
+    let slots = joined(alloc, frame.slots, tuples.tuple(0))?;
+    let items = at_tuple(alloc, world, frame, &slots, source)?;
+    Ok(matching(alloc, world, join, frame.slots, tuples, &items)?)
 }
 
 /// The tuples after one clause more.
@@ -122,36 +172,42 @@ pub fn values<W: Growing>(
         (W.forest world.new) result }
     ensures long { IfOk result (λ lists. length lists.items ≡ length tuples.now) }
 {
+    let outer = frame.slots.len();
+    let mut slots = frame.slots.to_vec(alloc)?;
     let mut lists = Vec::new(alloc);
     for index in 0..tuples.len() {
-        lists = next_value(alloc, world, frame, lists, tuples.tuple(index), part)?;
+        refill(&mut slots, outer, tuples.tuple(index))?;
+        lists = next_value(alloc, world, frame, lists, &slots, part)?;
     }
     Ok(lists)
 }
 
-/// The value of a part at one tuple more.
+/// The values so far, and that of a part at one tuple more, whose slots stand after those of the
+/// frame.
 #[cycle(eval)]
 fn next_value<W: Growing>(
     alloc: Global,
     world: &mut W,
     frame: Frame<'_>,
     done: Vec<Items>,
-    tuple: &[Rc<Items>],
+    slots: &[Rc<Items>],
     part: &Plan,
 ) -> Result<Vec<Items>, Fault>
     ensures goes { Goes (W.forest world.old) (W.forest world.new) (W.is_clean world.old)
         (W.is_clean world.new) }
     ensures gives { W.is_clean world.new → FrameIn (W.forest world.old) frame.entry
         → TupleIn (W.forest world.old) (lists_of done)
-        → TupleIn (W.forest world.old) (values_of tuple.now)
+        → (tuple : Tuple ItemView)
+        → values_of slots.now ≡ values_of frame.entry.slots.now ++ tuple
+        → TupleIn (W.forest world.old) tuple
         → GivesLists (one_more (λ t. plan_mean part.now (meant_at (frame_at (W.forest world.old)
         frame.entry) t)) (tuple_at (W.forest world.old) (lists_of done)) (tuple_at
-        (W.forest world.old) (values_of tuple.now)) (W.forest world.old)) (W.forest world.new)
+        (W.forest world.old) tuple) (W.forest world.old)) (W.forest world.new)
         result }
     ensures long { IfOk result (λ lists. length lists.items ≡ suc (length done.items)) }
 {
     let mut lists = done;
-    let list = at_tuple(alloc, world, frame, tuple, part)?;
+    let list = at_tuple(alloc, world, frame, slots, part)?;
     lists.push(list)?;
     Ok(lists)
 }
@@ -174,59 +230,65 @@ fn tests<W: Growing>(
         (W.forest world.old)) (W.forest world.new) result }
     ensures long { IfOk result (λ tests. length tests.items ≡ length tuples.now) }
 {
+    let outer = frame.slots.len();
+    let mut slots = frame.slots.to_vec(alloc)?;
     let mut tests = Vec::new(alloc);
     for index in 0..tuples.len() {
-        tests = next_test(alloc, world, frame, tests, tuples.tuple(index), part)?;
+        refill(&mut slots, outer, tuples.tuple(index))?;
+        tests = next_test(alloc, world, frame, tests, &slots, part)?;
     }
     Ok(tests)
 }
 
-/// Whether a part holds, at one tuple more.
+/// The answers so far, and whether a part holds at one tuple more, whose slots stand after those of
+/// the frame.
 #[cycle(eval)]
 fn next_test<W: Growing>(
     alloc: Global,
     world: &mut W,
     frame: Frame<'_>,
     done: Vec<bool>,
-    tuple: &[Rc<Items>],
+    slots: &[Rc<Items>],
     part: &Plan,
 ) -> Result<Vec<bool>, Fault>
     ensures goes { Goes (W.forest world.old) (W.forest world.new) (W.is_clean world.old)
         (W.is_clean world.new) }
     ensures gives { W.is_clean world.new → FrameIn (W.forest world.old) frame.entry
-        → TupleIn (W.forest world.old) (values_of tuple.now)
+        → (tuple : Tuple ItemView)
+        → values_of slots.now ≡ values_of frame.entry.slots.now ++ tuple
+        → TupleIn (W.forest world.old) tuple
         → GivesTests (one_more (λ t. Forms.tested (plan_mean part.now) (meant_at (frame_at
-        (W.forest world.old) frame.entry) t)) done.items (tuple_at (W.forest world.old) (values_of
-        tuple.now)) (W.forest world.old)) (W.forest world.new) result }
+        (W.forest world.old) frame.entry) t)) done.items (tuple_at (W.forest world.old) tuple) (W.forest world.old)) (W.forest world.new) result }
     ensures long { IfOk result (λ tests. length tests.items ≡ suc (length done.items)) }
 {
     let mut tests = done;
-    let value = at_tuple(alloc, world, frame, tuple, part)?;
+    let value = at_tuple(alloc, world, frame, slots, part)?;
     let holds = effective(&value)?;
     tests.push(holds)?;
     Ok(tests)
 }
 
-/// The value of a part at one tuple.
+/// The value of a part at one tuple, whose slots stand after those of the frame.
 #[cycle(eval)]
 fn at_tuple<W: Growing>(
     alloc: Global,
     world: &mut W,
     frame: Frame<'_>,
-    tuple: &[Rc<Items>],
+    slots: &[Rc<Items>],
     part: &Plan,
 ) -> Result<Items, Fault>
     ensures goes { Goes (W.forest world.old) (W.forest world.new) (W.is_clean world.old)
         (W.is_clean world.new) }
     ensures gives { W.is_clean world.new → FrameIn (W.forest world.old) frame.entry
-        → TupleIn (W.forest world.old) (values_of tuple.now)
+        → (tuple : Tuple ItemView)
+        → values_of slots.now ≡ values_of frame.entry.slots.now ++ tuple
+        → TupleIn (W.forest world.old) tuple
         → GivesSequence (plan_mean part.now (meant_at (frame_at (W.forest world.old) frame.entry)
-        (tuple_at (W.forest world.old) (values_of tuple.now))) (W.forest world.old))
+        (tuple_at (W.forest world.old) tuple)) (W.forest world.old))
         (W.forest world.new) result }
 {
-    let slots = joined(alloc, frame.slots, tuple)?;
     let inner = Frame {
-        slots: &slots,
+        slots,
         focus: frame.focus,
         addresses: frame.addresses,
     };
@@ -251,36 +313,40 @@ fn key_rows<W: Growing>(
         (W.forest world.old)) (W.forest world.new) result }
     ensures long { IfOk result (λ rows. length rows.items ≡ length tuples.now) }
 {
+    let outer = frame.slots.len();
+    let mut slots = frame.slots.to_vec(alloc)?;
     let mut rows = Vec::new(alloc);
     for index in 0..tuples.len() {
-        rows = next_row(alloc, world, frame, rows, tuples.tuple(index), specs)?;
+        refill(&mut slots, outer, tuples.tuple(index))?;
+        rows = next_row(alloc, world, frame, rows, &slots, specs)?;
     }
     Ok(rows)
 }
 
-/// The keys so far, and those of one tuple more.
+/// The keys so far, and those of one tuple more, whose slots stand after those of the frame.
 #[cycle(eval)]
 fn next_row<W: Growing>(
     alloc: Global,
     world: &mut W,
     frame: Frame<'_>,
     done: Vec<Vec<Vec<Atom>>>,
-    tuple: &[Rc<Items>],
+    slots: &[Rc<Items>],
     specs: &[(Plan, OrderModifier)],
 ) -> Result<Vec<Vec<Vec<Atom>>>, Fault>
     ensures goes { Goes (W.forest world.old) (W.forest world.new) (W.is_clean world.old)
         (W.is_clean world.new) }
     ensures gives { W.is_clean world.new → FrameIn (W.forest world.old) frame.entry
-        → TupleIn (W.forest world.old) (values_of tuple.now)
+        → (tuple : Tuple ItemView)
+        → values_of slots.now ≡ values_of frame.entry.slots.now ++ tuple
+        → TupleIn (W.forest world.old) tuple
         → GivesRows (one_more (λ t. keys_at (order_specs specs.now) (meant_at (frame_at
         (W.forest world.old) frame.entry) t)) (columns_of done) (tuple_at (W.forest world.old)
-        (values_of tuple.now)) (W.forest world.old)) (W.forest world.new) result }
+        tuple) (W.forest world.old)) (W.forest world.new) result }
     ensures long { IfOk result (λ rows. length rows.items ≡ suc (length done.items)) }
 {
     let mut rows = done;
-    let slots = joined(alloc, frame.slots, tuple)?;
     let inner = Frame {
-        slots: &slots,
+        slots,
         focus: frame.focus,
         addresses: frame.addresses,
     };
@@ -328,7 +394,7 @@ fn next_key<W: Growing>(
 {
     let mut keys = done;
     let value = evaluate(alloc, world, frame, part)?;
-    let key = atomized(alloc, world, &value)?;
+    let key = into_atoms(alloc, world, value)?;
     keys.push(key)?;
     Ok(keys)
 }

@@ -12,24 +12,25 @@ ghost use Rattle.xq_forms.specs.Views.{tuple_at, lists_of, spot_at, frame_at, Fr
 ghost use Rattle.xq_eval.specs.private.Results.{GivesLists, GivesPlain};
 ghost use Rattle.xq_eval.specs.private.Scanning.{IsLiteral, Scans};
 
-use crate::clauses::{clause_list, values};
 use crate::counting::counted_variable;
-use crate::paths::{map_list, step_list};
-use crate::quantified::satisfied;
+use crate::expressions::{
+    arrow, axis_step, conditional, filtered, flwor, logical, named_node, operands, path, quantified,
+    signed, simple_map, unnamed_node,
+};
+use crate::positions::{constant, keep_constant};
 use sqlite_items::Items as PlanItems;
 use std::alloc::Global;
-use xq_atoms::{Atom, Fault};
+use xq_atoms::Fault;
 use xq_expressions::Function;
 use xq_forms::{
-    Focus, Frame, axis_items, call, concatenated, context_item, deciding, in_axis_order, named,
-    node_name, operate, push_copy, root, sign, single, slot, unnamed,
+    Focus, Frame, call, context_item, decimal, integer, operate, push_copy, root, string, variable,
 };
 use xq_functions::{effective, keeps};
 use xq_meaning::{Operator, Plan};
 use xq_regions::{Item, Items};
 use xq_sources::Growing;
 
-/// The value of a plan.
+/// The value of a plan. It goes on to a function for each form, and keeps nothing meanwhile.
 #[cycle(eval)]
 pub fn evaluate<W: Growing>(
     alloc: Global,
@@ -47,88 +48,45 @@ pub fn evaluate<W: Growing>(
         (W.meter world.new) }
 {
     match plan {
-        Plan::Int(value) => Ok(single(alloc, Item::Atom(Atom::Int(*value)))?),
-        Plan::Dec(value) => Ok(single(alloc, Item::Atom(Atom::Dec(*value)))?),
-        Plan::Str(text) => {
-            let text = String::from_str(alloc, text.as_str())?;
-            Ok(single(alloc, Item::Atom(Atom::Str(text)))?)
-        }
-        Plan::Slot(number) => Ok(slot(alloc, frame.slots, *number)?),
+        Plan::Int(value) => integer(alloc, *value),
+        Plan::Dec(value) => decimal(alloc, *value),
+        Plan::Str(text) => string(alloc, text.as_str()),
+        Plan::Slot(number) => variable(alloc, frame.slots, *number),
         Plan::ContextItem => context_item(alloc, frame.focus),
         Plan::Sequence(parts) => sequence(alloc, world, frame, parts.as_slice()),
-        Plan::Chain(first, rest) => {
-            let left = evaluate(alloc, world, frame, first.get())?;
-            chain(alloc, world, frame, left, rest.as_slice())
-        }
-        Plan::Unary(signs, part) => {
-            let items = evaluate(alloc, world, frame, part.get())?;
-            sign(alloc, world, signs.as_slice(), &items)
-        }
+        Plan::Chain(first, rest) => operands(alloc, world, frame, first.get(), rest.as_slice()),
+        Plan::Unary(signs, part) => signed(alloc, world, frame, signs.as_slice(), part.get()),
         Plan::If(test, yes, no) => {
-            let value = evaluate(alloc, world, frame, test.get())?;
-            if effective(&value)? {
-                evaluate(alloc, world, frame, yes.get())
-            } else {
-                evaluate(alloc, world, frame, no.get())
-            }
+            conditional(alloc, world, frame, test.get(), yes.get(), no.get())
         }
-        Plan::Or(parts) => {
-            let answer = decided(alloc, world, frame, parts.as_slice(), true)?;
-            Ok(single(alloc, Item::Atom(Atom::Bool(answer)))?)
-        }
-        Plan::And(parts) => {
-            let answer = decided(alloc, world, frame, parts.as_slice(), false)?;
-            Ok(single(alloc, Item::Atom(Atom::Bool(answer)))?)
-        }
+        Plan::Or(parts) => logical(alloc, world, frame, parts.as_slice(), true),
+        Plan::And(parts) => logical(alloc, world, frame, parts.as_slice(), false),
         Plan::Filter(start, predicates) => {
-            let items = evaluate(alloc, world, frame, start.get())?;
-            filter(alloc, world, frame, items, predicates.as_slice())
+            filtered(alloc, world, frame, start.get(), predicates.as_slice())
         }
-        Plan::Flwor(clauses, part) => {
-            let tuples = clause_list(alloc, world, frame, clauses.as_slice())?;
-            let lists = values(alloc, world, frame, &tuples, part.get())?;
-            Ok(concatenated(alloc, lists)?)
-        }
-        Plan::Path(start, steps) => {
-            let items = evaluate(alloc, world, frame, start.get())?;
-            step_list(alloc, world, frame, items, steps.as_slice())
-        }
+        Plan::Flwor(clauses, part) => flwor(alloc, world, frame, clauses.as_slice(), part.get()),
+        Plan::Path(start, steps) => path(alloc, world, frame, start.get(), steps.as_slice()),
         Plan::Root => root(alloc, world, frame),
         Plan::Step(axis, test, predicates) => {
-            let nodes = axis_items(alloc, world, frame, *axis, test)?;
-            let kept = filter(alloc, world, frame, nodes, predicates.as_slice())?;
-            Ok(in_axis_order(*axis, kept))
+            axis_step(alloc, world, frame, *axis, test, predicates.as_slice())
         }
         Plan::Named(kind, name, part) => {
-            let value = evaluate(alloc, world, frame, name.get())?;
-            let name = node_name(alloc, world, *kind, &value)?;
-            let content = evaluate(alloc, world, frame, part.get())?;
-            named(alloc, world, *kind, name, &content)
+            named_node(alloc, world, frame, *kind, name.get(), part.get())
         }
-        Plan::Unnamed(kind, part) => {
-            let content = evaluate(alloc, world, frame, part.get())?;
-            unnamed(alloc, world, *kind, &content)
-        }
+        Plan::Unnamed(kind, part) => unnamed_node(alloc, world, frame, *kind, part.get()),
         Plan::Call(function, parts) => called(alloc, world, frame, *function, parts.as_slice()),
-        Plan::Arrow(first, calls) => {
-            let items = evaluate(alloc, world, frame, first.get())?;
-            call_list(alloc, world, frame, items, calls.as_slice())
-        }
-        Plan::Map(start, parts) => {
-            let items = evaluate(alloc, world, frame, start.get())?;
-            map_list(alloc, world, frame, items, parts.as_slice())
-        }
+        Plan::Arrow(first, calls) => arrow(alloc, world, frame, first.get(), calls.as_slice()),
+        Plan::Map(start, parts) => simple_map(alloc, world, frame, start.get(), parts.as_slice()),
         Plan::Quantified(which, ranges, test) => {
-            let wanted = deciding(*which);
             let ranges = ranges.as_slice();
-            let answer = satisfied(alloc, world, frame, plan, ranges, test.get(), wanted)?;
-            Ok(single(alloc, Item::Atom(Atom::Bool(answer)))?)
+            quantified(alloc, world, frame, plan, *which, ranges, test.get())
         }
     }
 }
 
 /// The items of each part.
 #[cycle(eval)]
+#[inline(never)]
 fn sequence<W: Growing>(
     alloc: Global,
     world: &mut W,
@@ -173,7 +131,7 @@ fn next_part<W: Growing>(
 
 /// What the operators give, one after another.
 #[cycle(eval)]
-fn chain<W: Growing>(
+pub fn chain<W: Growing>(
     alloc: Global,
     world: &mut W,
     frame: Frame<'_>,
@@ -219,7 +177,7 @@ fn next_operand<W: Growing>(
 
 /// Whether one of the parts has the wanted truth; those after the first that has are not evaluated.
 #[cycle(eval)]
-fn decided<W: Growing>(
+pub fn decided<W: Growing>(
     alloc: Global,
     world: &mut W,
     frame: Frame<'_>,
@@ -261,7 +219,7 @@ pub fn tested<W: Growing>(
 
 /// The items that all predicates keep.
 #[cycle(eval)]
-fn filter<W: Growing>(
+pub fn filter<W: Growing>(
     alloc: Global,
     world: &mut W,
     frame: Frame<'_>,
@@ -284,7 +242,8 @@ fn filter<W: Growing>(
     Ok(left)
 }
 
-/// The items that one predicate keeps.
+/// The items that one predicate keeps. One that has the same value at each item is not evaluated at
+/// each.
 #[cycle(eval)]
 fn keep<W: Growing>(
     alloc: Global,
@@ -301,6 +260,9 @@ fn keep<W: Growing>(
         (W.forest world.old) (map item_view items.now)) (plan_mean predicate.now)
         (W.forest world.old)) (W.forest world.new) result }
 {
+    if let Some(value) = constant(alloc, predicate, items)? {
+        return keep_constant(alloc, items, &value);
+    }
     let last = items.len();
     let mut kept = Vec::new(alloc);
     for (index, item) in items.iter().enumerate() {
@@ -344,6 +306,7 @@ fn pass<W: Growing>(
 
 /// The value of a call. That of a variable which is only counted is not copied.
 #[cycle(eval)]
+#[inline(never)]
 fn called<W: Growing>(
     alloc: Global,
     world: &mut W,
@@ -370,7 +333,7 @@ fn called<W: Growing>(
 
 /// What the calls after arrows give, one after another.
 #[cycle(eval)]
-fn call_list<W: Growing>(
+pub fn call_list<W: Growing>(
     alloc: Global,
     world: &mut W,
     frame: Frame<'_>,

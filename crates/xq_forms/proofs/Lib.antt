@@ -7,7 +7,7 @@ pub mod CallResults
 pub mod NodeLemmas
 pub mod Streams
 pub mod Giving
-pub mod Columns
 pub mod CallForms
 pub mod ParentsBelow
 pub mod OneTree
+pub mod ShortPaths

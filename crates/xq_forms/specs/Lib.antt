@@ -1,3 +1,4 @@
 pub mod Views
+pub mod Paths
 pub mod Reads
 pub mod private

@@ -2,7 +2,7 @@
 ghost use Rattle.std.specs.Prelude.{◌≡◌, string_bytes, map, IfOk};
 ghost use Rattle.std.specs.List.{AllByRecursion};
 ghost use Rattle.xq_atoms.specs.Atom.{atomic_of};
-ghost use Rattle.xq_regions.specs.Items.{item_view};
+ghost use Rattle.xq_regions.specs.Items.{item_view, item_views};
 ghost use Rattle.xq_regions.specs.Value.{typed_by};
 ghost use Rattle.xq_meaning.specs.Items.{atomic_value, atom_of, atomized as atomized_lem};
 ghost use Rattle.xq_meaning.specs.Readings.{item_at, items_at};
@@ -11,7 +11,7 @@ ghost use Rattle.xq_forms.specs.Reads.{IsAtom};
 use std::alloc::Global;
 use xq_atoms::{Atom, Want};
 use xq_axes::string_value;
-use xq_regions::{Item, Kind, Node};
+use xq_regions::{Item, Items, Kind, Node};
 use xq_sources::RowLender;
 
 /// The typed value of a node of this kind with this string value (XDM 3.1, section 6).
@@ -74,6 +74,38 @@ pub fn atomized<L: RowLender>(
     let mut atoms = Vec::with_capacity(alloc, items.len())?;
     for item in items {
         atoms.push(of_item(alloc, source, item)?)?;
+    }
+    Ok(atoms)
+}
+
+/// The atom of an item, which is the item itself where that is an atom.
+fn into_atom<L: RowLender>(alloc: Global, source: &mut L, item: Item) -> Result<Atom, Want>
+    ensures value { L.is_clean source.new → IfOk result (λ atom. atomic_of atom
+        ≡ atom_of (L.forest source.old) (item_at (L.forest source.old) (item_view item))) }
+    ensures keeps { L.forest source.new ≡ L.forest source.old }
+    ensures was_clean { L.is_clean source.new → L.is_clean source.old }
+{
+    match item {
+        Item::Node(node) => of_node(alloc, source, node),
+        Item::Atom(atom) => Ok(atom),
+    }
+}
+
+/// [`atomized`] of items that nothing else needs: no text is copied.
+pub fn into_atoms<L: RowLender>(
+    alloc: Global,
+    source: &mut L,
+    items: Items,
+) -> Result<Vec<Atom>, Want>
+    ensures value { L.is_clean source.new → IfOk result (λ atoms. map atomic_of atoms.items
+        ≡ atomized_lem (L.forest source.old) (items_at (L.forest source.old) (item_views
+        items))) }
+    ensures keeps { L.forest source.new ≡ L.forest source.old }
+    ensures was_clean { L.is_clean source.new → L.is_clean source.old }
+{
+    let mut atoms = Vec::with_capacity(alloc, items.len())?;
+    for item in items {
+        atoms.push(into_atom(alloc, source, item)?)?;
     }
     Ok(atoms)
 }

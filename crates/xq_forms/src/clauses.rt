@@ -1,9 +1,9 @@
 //! Clauses of a FLWOR expression that look at all tuples at once (XQuery 3.1, sections 3.12.7 and
 //! 3.12.8).
-ghost use Rattle.std.specs.Prelude.{◌≡◌, ◌++◌, ◌-◌, [], List, length, map, replicate, nat_eq, All, IfOk};
+ghost use Rattle.std.specs.Prelude.{◌≡◌, List, length, map, nat_eq, All, IfOk};
 ghost use Rattle.xq_atoms.specs.Atom.{atomic_of};
 ghost use Rattle.xq_regions.specs.Tree.{Tree};
-ghost use Rattle.xq_regions.specs.Tuples.{extended, firsts, value_at};
+ghost use Rattle.xq_regions.specs.Tuples.{firsts, value_at};
 ghost use Rattle.xq_tuples.specs.Keys.{atomics_of, column_of, columns_of};
 ghost use Rattle.xq_tuples.specs.Orders.{rule_of as rule_of_lem};
 ghost use Rattle.xq_tuples.specs.Views.{values_of};
@@ -143,63 +143,6 @@ fn rules_of(alloc: Global, specs: &[(Plan, OrderModifier)]) -> Result<Vec<OrderS
     Ok(rules)
 }
 
-/// The row, and empty keys after it, up to so many.
-fn padded(alloc: Global, row: Vec<Vec<Atom>>, count: usize) -> Result<Vec<Vec<Atom>>, Want>
-    ensures { IfOk result (λ longer. column_of longer
-        ≡ column_of row ++ replicate (count - length row.items) []) }
-{
-    let mut longer = row;
-    for _ in longer.len()..count {
-        longer.push(Vec::new(alloc))?;
-    }
-    Ok(longer)
-}
-
-/// Each column with the key at its place in the row.
-fn with_row(
-    alloc: Global,
-    columns: Vec<Vec<Vec<Atom>>>,
-    row: Vec<Vec<Atom>>,
-) -> Result<Vec<Vec<Vec<Atom>>>, Want>
-    ensures { IfOk result (λ longer. columns_of longer
-        ≡ extended (columns_of columns) (column_of row)) }
-{
-    let mut longer = Vec::with_capacity(alloc, columns.len())?;
-    for (mut column, key) in columns.into_iter().zip(row) {
-        column.push(key)?;
-        longer.push(column)?;
-    }
-    Ok(longer)
-}
-
-/// So many columns without keys.
-fn empty_columns(alloc: Global, count: usize) -> Result<Vec<Vec<Vec<Atom>>>, Want>
-    ensures { IfOk result (λ columns. columns_of columns ≡ replicate count []) }
-{
-    let mut columns = Vec::with_capacity(alloc, count)?;
-    for _ in 0..count {
-        columns.push(Vec::new(alloc))?;
-    }
-    Ok(columns)
-}
-
-/// From the keys of each tuple, those of each of so many specifications.
-fn key_columns(
-    alloc: Global,
-    count: usize,
-    rows: Vec<Vec<Vec<Atom>>>,
-) -> Result<Vec<Vec<Vec<Atom>>>, Want>
-    ensures { IfOk result (λ columns. columns_of columns
-        ≡ Forms.key_columns count (columns_of rows)) }
-{
-    let mut columns = empty_columns(alloc, count)?;
-    for row in rows {
-        let row = padded(alloc, row, count)?;
-        columns = with_row(alloc, columns, row)?;
-    }
-    Ok(columns)
-}
-
 /// `order by` the keys of each tuple, one for each specification; one that a row lacks is empty.
 /// XPTY0004 where one is more than one value, or those of one specification are of two kinds.
 pub fn order(
@@ -214,6 +157,5 @@ pub fn order(
         trees result }
 {
     let rules = rules_of(alloc, specs)?;
-    let columns = key_columns(alloc, specs.len(), rows)?;
-    tuples.order(columns, &rules)
+    tuples.order_by_rows(rows, &rules)
 }

@@ -9,17 +9,20 @@ mod frames;
 mod node_functions;
 mod nodes;
 mod operators;
+mod paths;
 mod steps;
 mod values;
 
-pub use atoms::atomized;
+pub use atoms::{atomized, into_atoms};
 pub use calls::call;
 pub use clauses::{group, order};
 pub use constructors::{named, node_name, unnamed};
 pub use frames::{Focus, Frame};
 pub use nodes::{gather, only_nodes, root};
 pub use operators::{operate, sign};
-pub use steps::{axis_items, double_slash, in_axis_order, parents_below, scan};
+pub use paths::{ShortPath, held_node, short_path};
+pub use steps::{axis_items, double_slash, in_axis_order, parents_below, scan, scan_from};
 pub use values::{
-    concatenated, context_item, copied, deciding, joined, opened, push_copy, single, slot,
+    boolean, concatenated, context_item, copied, decimal, deciding, integer, joined, opened,
+    push_copy, refill, single, slot, string, variable,
 };

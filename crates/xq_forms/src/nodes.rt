@@ -1,5 +1,5 @@
 //! Nodes of paths (XQuery 3.1, section 3.3).
-ghost use Rattle.std.specs.Prelude.{◌≡◌, List, map, IfOk, OnOk};
+ghost use Rattle.std.specs.Prelude.{◌≡◌, ◌∷◌, [], List, map, IfOk, IfSome, OnOk};
 ghost use Rattle.xq_regions.specs.Tree.{Tree};
 ghost use Rattle.xq_regions.specs.Items.{Place, item_view, item_views};
 ghost use Rattle.xq_sources.specs.Sources.{HasNode};
@@ -45,6 +45,26 @@ pub fn nodes_among(alloc: Global, items: &[Item]) -> Result<Vec<Node>, Want>
         }
     }
     Ok(nodes)
+}
+
+/// The node that the item is.
+pub fn as_node(item: &Item) -> Option<Node>
+    ensures { IfSome result (λ node. item_view item.now ≡ Place node) }
+{
+    match item {
+        Item::Node(node) => Some(*node),
+        Item::Atom(_) => None,
+    }
+}
+
+/// The node that is the only item.
+pub fn only_node(items: &[Item]) -> Option<Node>
+    ensures { IfSome result (λ node. map item_view items.now ≡ Place node ∷ []) }
+{
+    let [item] = items else {
+        return None;
+    };
+    as_node(item)
 }
 
 /// The nodes as items.

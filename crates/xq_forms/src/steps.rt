@@ -1,18 +1,20 @@
 //! Steps along the axes (XQuery 3.1, sections 3.3.2 and 3.3.3).
-ghost use Rattle.std.specs.Prelude.{◌≡◌, ◌*◌, ℕ, map, IfOk};
+ghost use Rattle.std.specs.Prelude.{◌≡◌, ◌*◌, ◌∷◌, [], ℕ, map, IfOk, Ok};
 ghost use Rattle.xq_regions.specs.Items.{item_view, item_views};
 ghost use Rattle.xq_meaning.specs.Steps.{in_axis_order as in_axis_order_lem, is_reverse as is_reverse_lem};
-ghost use Rattle.xq_meaning.specs.Readings.{items_at, AreIn};
+ghost use Rattle.xq_sources.specs.Sources.{HasNode};
+ghost use Rattle.xq_meaning.specs.Items.{Node as NodeItem};
+ghost use Rattle.xq_meaning.specs.Readings.{node_at, items_at, AreIn};
 ghost use Rattle.xq_meaning.specs.Forms as Forms;
 ghost use Rattle.xq_forms.specs.Reads.{rows_of, AreOf, HasGrown};
 ghost use Rattle.xq_forms.specs.Views.{focus_at, on_axis, after_double_slash, parents_below as parents_below_lem, FrameIn, Goes, GivesSequence};
 
 use crate::frames::Frame;
-use crate::nodes::{as_items, context_node, nodes_among, only_nodes};
+use crate::nodes::{as_items, context_node, nodes_among, only_node, only_nodes};
 use std::alloc::Global;
-use xq_atoms::Fault;
+use xq_atoms::{Fault, Want};
 use xq_meaning::Test;
-use xq_regions::{Axis, Item, Items};
+use xq_regions::{Axis, Item, Items, Node};
 use xq_sources::Growing;
 
 /// The nodes on an axis from the context node that pass the test, in axis order.
@@ -30,8 +32,8 @@ pub fn axis_items<W: Growing>(
         (W.forest world.old)) (W.forest world.new) result }
 {
     let node = context_node(frame.focus)?;
-    let nodes = xq_axes::axis(alloc, world, node, axis, test)?;
-    Ok(in_axis_order(axis, as_items(alloc, &nodes)?))
+    let items = xq_axes::items_on_axis(alloc, world, node, axis, test)?;
+    Ok(in_axis_order(axis, items))
 }
 
 /// Whether the axis goes up or to the left.
@@ -65,6 +67,25 @@ pub fn in_axis_order(axis: Axis, items: Items) -> Items
     ordered
 }
 
+/// [`scan`] from one node.
+pub fn scan_from<W: Growing>(
+    alloc: Global,
+    world: &mut W,
+    node: Node,
+    axis: Axis,
+    test: &Test,
+) -> Result<Items, Want>
+    ensures goes { Goes (W.forest world.old) (W.forest world.new) (W.is_clean world.old)
+        (W.is_clean world.new) }
+    ensures gives { W.is_clean world.new → HasNode (W.forest world.old) node.tree node.pre
+        → IfOk result (λ found. AreIn (W.forest world.new) (item_views found)
+        × (Forms.scan axis test.now (NodeItem (node_at (W.forest world.old) node) ∷ [])
+        (W.forest world.old)
+        ≡ (Ok (items_at (W.forest world.new) (item_views found)), W.forest world.new))) }
+{
+    xq_axes::items_on_axis(alloc, world, node, axis, test)
+}
+
 /// The nodes on an axis from all items that pass the test, in document order, each once. XPTY0019
 /// where an item is no node.
 ///
@@ -89,6 +110,9 @@ pub fn scan<W: Growing>(
         → AreOf (W.forest world.old) tree (map item_view items.now)
         → IfOk result (λ found. AreOf (W.forest world.new) tree (item_views found)) }
 {
+    if let Some(node) = only_node(items) {
+        return Ok(xq_axes::items_on_axis(alloc, world, node, axis, test)?);
+    }
     only_nodes(items)?;
     let contexts = nodes_among(alloc, items)?;
     let nodes = xq_axes::step(alloc, world, &contexts, axis, test)?;

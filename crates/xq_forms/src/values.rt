@@ -1,18 +1,20 @@
 //! What is done with values alone: no trees are read.
-ghost use Rattle.std.specs.Prelude.{◌≡◌, ◌∷◌, [], ◌++◌, List, map, flat_map, IfOk};
+ghost use Rattle.std.specs.Prelude.{◌≡◌, ◌∷◌, [], ◌++◌, List, map, take, flat_map, IfOk, OnOk};
+ghost use Rattle.xq_atoms.specs.Atom.{Integer, Decimal as DecimalView, String as StringView};
 ghost use Rattle.xq_regions.specs.Tree.{Tree};
 ghost use Rattle.xq_regions.specs.Tuples.{value_at};
 ghost use Rattle.xq_regions.specs.Items.{item_view, item_views};
 ghost use Rattle.xq_tuples.specs.Views.{values_of};
+ghost use Rattle.xq_meaning.specs.Arguments.{atomic, boolean as boolean_lem};
 ghost use Rattle.xq_meaning.specs.Steps.{context_item as context_item_lem};
-ghost use Rattle.xq_meaning.specs.Doing.{judged};
+ghost use Rattle.xq_meaning.specs.Doing.{give, judged};
 ghost use Rattle.xq_meaning.specs.Forms.{kept_if, deciding as deciding_lem};
-ghost use Rattle.xq_forms.specs.Views.{focus_at, FocusIn, GivesSequence};
+ghost use Rattle.xq_forms.specs.Views.{focus_at, tuple_at, FocusIn, TupleIn, GivesSequence};
 
 use crate::frames::Focus;
 use std::alloc::Global;
 use std::rc::Rc;
-use xq_atoms::{Code, Fault, Want};
+use xq_atoms::{Atom, Code, Decimal, Fault, Want};
 use xq_expressions::Quantifier;
 use xq_regions::{Item, Items};
 
@@ -34,6 +36,47 @@ pub fn single(alloc: Global, item: Item) -> Result<Items, Want>
     let mut items = Vec::new(alloc);
     items.push(item)?;
     Ok(items)
+}
+
+/// An integer literal (XQuery 3.1, section 3.1.1).
+pub fn integer(alloc: Global, value: i64) -> Result<Items, Fault>
+    ensures { (trees : List Tree) → GivesSequence (give (atomic (Integer value)) trees) trees
+        result }
+{
+    Ok(single(alloc, Item::Atom(Atom::Int(value)))?)
+}
+
+/// A decimal literal.
+pub fn decimal(alloc: Global, value: Decimal) -> Result<Items, Fault>
+    ensures { (trees : List Tree) → GivesSequence (give (atomic (DecimalView value)) trees) trees
+        result }
+{
+    Ok(single(alloc, Item::Atom(Atom::Dec(value)))?)
+}
+
+/// A string literal.
+pub fn string(alloc: Global, text: &str) -> Result<Items, Fault>
+    ensures { (trees : List Tree) → GivesSequence (give (atomic (StringView text.now)) trees) trees
+        result }
+{
+    let text = String::from_str(alloc, text)?;
+    Ok(single(alloc, Item::Atom(Atom::Str(text)))?)
+}
+
+/// A boolean.
+pub fn boolean(alloc: Global, value: bool) -> Result<Items, Fault>
+    ensures { (trees : List Tree) → GivesSequence (give (boolean_lem value) trees) trees result }
+{
+    Ok(single(alloc, Item::Atom(Atom::Bool(value)))?)
+}
+
+/// A copy of the value of a slot.
+pub fn variable(alloc: Global, slots: &[Rc<Items>], number: usize) -> Result<Items, Fault>
+    ensures { (trees : List Tree) → TupleIn trees (values_of slots.now)
+        → GivesSequence (give (value_at number (tuple_at trees (values_of slots.now))) trees) trees
+        result }
+{
+    Ok(slot(alloc, slots, number)?)
 }
 
 /// The value of a slot.
@@ -71,6 +114,16 @@ pub fn joined(
     let mut more = tuple.to_vec(alloc)?;
     all.append(&mut more)?;
     Ok(all)
+}
+
+/// Keeps the first `outer` slots, and puts those of a tuple after them.
+pub fn refill(slots: &mut Vec<Rc<Items>>, outer: usize, tuple: &[Rc<Items>]) -> Result<(), Want>
+    ensures { OnOk result (values_of slots.new.items
+        ≡ take outer (values_of slots.old.items) ++ values_of tuple.now) }
+{
+    slots.truncate(outer);
+    slots.extend_from_slice(tuple)?;
+    Ok(())
 }
 
 /// The slots, and after them one that holds the item.

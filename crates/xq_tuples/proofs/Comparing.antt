@@ -32,23 +32,24 @@ like_itself (Characters t) = refl
 like_itself (Truth b) = refl
 
 -- whether the keys are empty or like the one that was found, which is the first that isn't empty
-abbrev pub like_found : Option GroupKey → List GroupKey → Bool
-like_found None ks = true
-like_found (Some first) ks = list_all (λ key. is_nothing (key_of key) || of_one_kind (key_of first) (key_of key)) ks
+module _ {X : Type 0} (view : X → Key) where
+  abbrev pub like_found : Option X → List X → Bool
+  like_found None xs = true
+  like_found (Some first) xs = list_all (λ x. is_nothing (view x) || of_one_kind (view first) (view x)) xs
 
-found_later : (found : Option GroupKey) (k : GroupKey) (ks : List GroupKey) → is_nothing (key_of k) ≡ true → like_found found (k ∷ ks) ≡ like_found found ks
-found_later None k ks e = refl
-found_later (Some first) k ks e = ap (λ b. (b || of_one_kind (key_of first) (key_of k)) && like_found (Some first) ks) e
+  found_later : (found : Option X) (x : X) (xs : List X) → is_nothing (view x) ≡ true → like_found found (x ∷ xs) ≡ like_found found xs
+  found_later None x xs e = refl
+  found_later (Some first) x xs e = ap (λ b. (b || of_one_kind (view first) (view x)) && like_found (Some first) xs) e
 
-like_found_step : (k : GroupKey) (ks : List GroupKey) (found : Option GroupKey) (b : Bool) → is_nothing (key_of k) ≡ b → like_found found ks ≡ are_of_one_kind (map key_of ks)
-    → like_found (cond (not b) (Some k) found) (k ∷ ks) ≡ are_of_one_kind (map key_of (k ∷ ks))
-like_found_step k ks found true e rest = found_later found k ks e ∙ rest ∙ sym (are_of_one_kind-empty (key_of k) (map key_of ks) e)
-like_found_step k ks found false e rest =
-    ap (λ b. b && like_found (Some k) ks) (like_itself (key_of k)) ∙ sym (list_all-map (λ j. is_nothing j || of_one_kind (key_of k) j) key_of ks) ∙ sym (are_of_one_kind-first (key_of k) (map key_of ks) e)
+  like_found_step : (x : X) (xs : List X) (found : Option X) (b : Bool) → is_nothing (view x) ≡ b → like_found found xs ≡ are_of_one_kind (map view xs)
+      → like_found (cond (not b) (Some x) found) (x ∷ xs) ≡ are_of_one_kind (map view (x ∷ xs))
+  like_found_step x xs found true e rest = found_later found x xs e ∙ rest ∙ sym (are_of_one_kind-empty (view x) (map view xs) e)
+  like_found_step x xs found false e rest =
+      ap (λ b. b && like_found (Some x) xs) (like_itself (view x)) ∙ sym (list_all-map (λ j. is_nothing j || of_one_kind (view x) j) view xs) ∙ sym (are_of_one_kind-first (view x) (map view xs) e)
 
-pub like_found-all : (ks : List GroupKey) → like_found (find (λ key. not (is_nothing (key_of key))) ks) ks ≡ are_of_one_kind (map key_of ks)
-like_found-all [] = refl
-like_found-all (k ∷ ks) = like_found_step k ks (find (λ key. not (is_nothing (key_of key))) ks) (is_nothing (key_of k)) refl (like_found-all ks)
+  pub like_found-all : (xs : List X) → like_found (find (λ x. not (is_nothing (view x))) xs) xs ≡ are_of_one_kind (map view xs)
+  like_found-all [] = refl
+  like_found-all (x ∷ xs) = like_found_step x xs (find (λ y. not (is_nothing (view y))) xs) (is_nothing (view x)) refl (like_found-all xs)
 
 first_key-drop : (ks : List Key) (i : ℕ) → first_key (drop i ks) ≡ get_or ks i Nothing
 first_key-drop [] zero = refl

@@ -16,7 +16,7 @@ empty-map : {A B : Type 0} (f : A → B) (n : ℕ) → map (map f) (replicate n 
 empty-map f zero = refl
 empty-map f (suc n) = ap (λ l. [] ∷ l) (empty-map f n)
 
-map-empty : {X B : Type 0} (stream : List X) → map (λ (x : X). []) stream ≡ replicate {A = List B} (length stream) []
+pub map-empty : {X B : Type 0} (stream : List X) → map (λ (x : X). []) stream ≡ replicate {A = List B} (length stream) []
 map-empty [] = refl
 map-empty (x ∷ stream) = ap (λ l. [] ∷ l) (map-empty stream)
 

@@ -6,6 +6,7 @@ pub mod Placing
 pub mod Sorting
 pub mod Rules
 pub mod KeyRows
+pub mod ByRows
 pub mod Comparing
 pub mod Reading
 mod WorkedRows

@@ -1,6 +1,7 @@
 -- What contracts see of keys.
-use Rattle.std.specs.Prelude.{List, map}
+use Rattle.std.specs.Prelude.{ℕ, List, [], map, slice_index_or}
 use Rattle.std.specs.Global.{Vec}
+use Rattle.std.specs.List.{range_with_len}
 use Rattle.xq_atoms.specs.declared.atoms.Atom.{Atom}
 use Rattle.xq_atoms.specs.Atom.{Atomic, atomic_of}
 
@@ -15,3 +16,8 @@ column_of column = map atomics_of column.items
 -- those of each specification
 abbrev pub columns_of : Vec (Vec (Vec Atom)) → List (List (List Atomic))
 columns_of columns = map column_of columns.items
+
+-- from the keys of each tuple, those of each of so many specifications; one that a tuple lacks is
+-- empty
+abbrev pub by_specification : {A : Type 0} → ℕ → List (List (List A)) → List (List (List A))
+by_specification n rows = map (λ i. map (λ row. slice_index_or row i []) rows) (range_with_len 0 n)

@@ -1,11 +1,12 @@
 //! Keys of groups and orders: at most one atomic value, where an untyped one is taken as a string.
-ghost use Rattle.std.specs.Prelude.{◌≡◌, [], map, fold, true, false, replicate, IfOk, IfErr};
+ghost use Rattle.std.specs.Prelude.{◌≡◌, [], ◌++◌, ◌-◌, length, map, fold, true, false, replicate, IfOk, IfErr};
 ghost use Rattle.std.specs.List.{list_all};
 ghost use Rattle.xq_atoms.specs.Atom.{atomic_of};
 ghost use Rattle.xq_atoms.specs.Compare.{key_of};
-ghost use Rattle.xq_regions.specs.Tuples.{is_key, as_string, key_value, are_keys, extended, comparison_keys};
+ghost use Rattle.xq_regions.specs.Tuples.{is_key, as_string, key_value, are_keys, extended, comparison_key, comparison_keys, sort_keys};
 ghost use Rattle.xq_tuples.specs.Keys.{atomics_of, column_of, columns_of};
-ghost use Rattle.xq_tuples.specs.private.KeyRows.{key_view, keys_of, rows_of};
+ghost use Rattle.xq_tuples.specs.private.KeyRows.{key_view, keys_of, rows_of, fitted as fitted_lem};
+ghost use Rattle.xq_tuples.specs.private.Groups.{compared_of};
 ghost use Rattle.xq_atoms.specs.Answers.{RefusesFor};
 ghost use Rattle.xq_atoms.specs.declared.refusals.Code.TheVariants.{XPTY0004};
 
@@ -125,4 +126,78 @@ pub fn compared_keys(alloc: Global, keys: &[Option<Atom>]) -> Result<Vec<GroupKe
         made.push(GroupKey::of(alloc, key.as_ref())?)?;
     }
     Ok(made)
+}
+
+// # Keys of an order, tuple by tuple
+
+/// What the key is compared by, which takes its text.
+fn compared(alloc: Global, key: Option<Atom>) -> Result<GroupKey, Want>
+    ensures key { IfOk result (λ made. key_of made ≡ comparison_key (key_view key)) }
+    ensures want { IfErr result (λ want. want ≡ Want.Memory) }
+{
+    match key {
+        Some(Atom::Str(text)) => Ok(GroupKey::Text(text)),
+        Some(Atom::Untyped(text)) => Ok(GroupKey::Text(text)),
+        other => GroupKey::of(alloc, other.as_ref()),
+    }
+}
+
+/// What a tuple is ordered by. XPTY0004 where a key is more than one value.
+fn sort_row(alloc: Global, row: Vec<Vec<Atom>>) -> Result<Vec<GroupKey>, Fault>
+    ensures are_keys { IfOk result (λ _. list_all is_key (column_of row) ≡ true) }
+    ensures keys { IfOk result (λ keys. compared_of keys ≡ sort_keys (column_of row)) }
+    ensures refused { IfErr result
+        (RefusesFor XPTY0004 (list_all is_key (column_of row) ≡ false)) }
+{
+    let mut keys = Vec::with_capacity(alloc, row.len())?;
+    for values in row {
+        let key = single_key(values)?;
+        keys.push(compared(alloc, key)?)?;
+    }
+    Ok(keys)
+}
+
+/// The row, and empty keys after it, up to so many.
+fn padded(alloc: Global, row: Vec<Vec<Atom>>, count: usize) -> Result<Vec<Vec<Atom>>, Want>
+    ensures row { IfOk result (λ longer. column_of longer
+        ≡ column_of row ++ replicate (count - length row.items) []) }
+    ensures want { IfErr result (λ want. want ≡ Want.Memory) }
+{
+    let mut longer = row;
+    for _ in longer.len()..count {
+        longer.push(Vec::new(alloc))?;
+    }
+    Ok(longer)
+}
+
+/// So many keys of the row; one that it lacks is empty.
+fn fitted(alloc: Global, row: Vec<Vec<Atom>>, count: usize) -> Result<Vec<Vec<Atom>>, Want>
+    ensures row { IfOk result (λ fitted. column_of fitted ≡ fitted_lem count (column_of row)) }
+    ensures want { IfErr result (λ want. want ≡ Want.Memory) }
+{
+    let mut row = row;
+    row.truncate(count);
+    padded(alloc, row, count)
+}
+
+/// What each tuple is ordered by, of so many specifications. XPTY0004 where a key is more than one
+/// value.
+pub fn sort_rows(
+    alloc: Global,
+    rows: Vec<Vec<Vec<Atom>>>,
+    count: usize,
+) -> Result<Vec<Vec<GroupKey>>, Fault>
+    ensures are_keys { IfOk result (λ _. list_all (λ row. list_all is_key (fitted_lem count row))
+        (columns_of rows) ≡ true) }
+    ensures keys { IfOk result (λ keys. map compared_of keys.items
+        ≡ map (λ row. sort_keys (fitted_lem count row)) (columns_of rows)) }
+    ensures refused { IfErr result (RefusesFor XPTY0004
+        (list_all (λ row. list_all is_key (fitted_lem count row)) (columns_of rows) ≡ false)) }
+{
+    let mut keys = Vec::with_capacity(alloc, rows.len())?;
+    for row in rows {
+        let row = fitted(alloc, row, count)?;
+        keys.push(sort_row(alloc, row)?)?;
+    }
+    Ok(keys)
 }

@@ -1,13 +1,13 @@
 //! The order of tuples by their keys.
 ghost use Rattle.std.specs.Prelude.{◌≡◌, ◌||◌, map, slice_index_or, true, false, IfOk, IfErr, OnOk};
-ghost use Rattle.std.specs.List.{list_all, zip};
-ghost use Rattle.xq_atoms.specs.Compare.{key_of, of_one_kind};
+ghost use Rattle.std.specs.List.{list_all, range_with_len, zip};
+ghost use Rattle.xq_atoms.specs.Compare.{Nothing, key_of, of_one_kind};
 ghost use Rattle.xq_regions.specs.Tuples.{is_nothing, placed_cmp, rule_cmp, keys_cmp, are_of_one_kind, sort_keys, can_order, sorted};
 ghost use Rattle.xq_tuples.specs.Views.{tuple_of};
 ghost use Rattle.xq_tuples.specs.Keys.{column_of, columns_of};
 ghost use Rattle.xq_tuples.specs.private.Groups.{compared_of};
 ghost use Rattle.xq_tuples.specs.Orders.{rule_of};
-ghost use Rattle.xq_tuples.specs.private.Ranks.{ranked_of, by_keys};
+ghost use Rattle.xq_tuples.specs.private.Ranks.{ranked_of, by_keys, key_in, keys_at};
 ghost use Rattle.xq_atoms.specs.Answers.{RefusesFor};
 ghost use Rattle.xq_atoms.specs.declared.refusals.Code.TheVariants.{XPTY0004};
 
@@ -53,6 +53,60 @@ fn are_of_one_kind(keys: &[GroupKey]) -> bool
         Some(first) => are_like(first, keys),
         None => true,
     }
+}
+
+/// Whether a tuple's key of one specification is the empty one.
+fn lacks(keys: &[GroupKey], index: usize) -> bool
+    ensures { result ≡ is_nothing (key_in index (map key_of keys.now)) }
+{
+    match keys.get(index) {
+        Some(key) => is_empty(key),
+        None => true,
+    }
+}
+
+/// Whether a tuple's key of one specification is empty, or of the kind of the first.
+fn fits(first: &GroupKey, keys: &[GroupKey], index: usize) -> bool
+    ensures { result ≡ (is_nothing (key_in index (map key_of keys.now))
+        || of_one_kind (key_of first.now) (key_in index (map key_of keys.now))) }
+{
+    match keys.get(index) {
+        Some(key) => is_empty(key) || is_like(first, key),
+        None => true,
+    }
+}
+
+/// Whether those of the tuples' keys of one specification that are not empty are of the kind of the
+/// first.
+fn are_all_like(first: &GroupKey, rows: &[Vec<GroupKey>], index: usize) -> bool
+    ensures { result ≡ list_all (λ keys. is_nothing (key_in index (compared_of keys))
+        || of_one_kind (key_of first.now) (key_in index (compared_of keys))) rows.now }
+{
+    rows.iter().all(|keys| fits(first, keys.as_slice(), index))
+}
+
+/// Whether those of the tuples' keys of one specification that are not empty are of one kind.
+fn is_of_one_kind(rows: &[Vec<GroupKey>], index: usize) -> bool
+    ensures { result ≡ are_of_one_kind (keys_at index (map compared_of rows.now)) }
+{
+    let empty = GroupKey::Empty;
+    match rows.iter().find(|keys| !lacks(keys.as_slice(), index)) {
+        Some(first) => are_all_like(key_at(first.as_slice(), index, &empty), rows, index),
+        None => true,
+    }
+}
+
+/// Whether the tuples' keys of each of so many specifications are of one kind.
+pub fn are_of_kinds(rows: &[Vec<GroupKey>], count: usize) -> bool
+    ensures { result ≡ list_all (λ index. are_of_one_kind (keys_at index
+        (map compared_of rows.now))) (range_with_len 0 count) }
+{
+    for index in 0..count {
+        if !is_of_one_kind(rows, index) {
+            return false;
+        }
+    }
+    true
 }
 
 /// What one specification orders by, tuple by tuple. XPTY0004 where a key is more than one value,

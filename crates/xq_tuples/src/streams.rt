@@ -1,21 +1,21 @@
 //! The stream of tuples, and the clauses that make one stream of another.
 ghost use Rattle.std.specs.Prelude.{◌≡◌, ◌<◌, [], ◌∷◌, length, map, slice_index_or, All, IsTrue, ◌↔◌, IfOk, IfErr, Ok, false, true};
 ghost use Rattle.xq_regions.specs.Tuples.{bound, expanded, grouped, numbered, satisfying, ordered, value_at};
-ghost use Rattle.xq_tuples.specs.Keys.{columns_of};
+ghost use Rattle.xq_tuples.specs.Keys.{columns_of, by_specification};
 ghost use Rattle.xq_atoms.specs.Answers.{IsRefusal};
 ghost use Rattle.xq_tuples.specs.Orders.{rule_of};
 ghost use Rattle.xq_tuples.specs.Views.{values_of};
 ghost use Rattle.xq_regions.specs.Items.{Value as AtomView, item_view, item_views};
 
 use crate::groups::{gather, joined};
-use crate::keys::{key_columns, key_rows};
-use crate::order::{sort_columns, sorted};
+use crate::keys::{key_columns, key_rows, sort_rows};
+use crate::order::{are_of_kinds, sort_columns, sorted};
 use crate::rows::OrderSpec;
 use crate::values::{Tuple, position_value, push_copies, push_each, push_each_or_empty};
 use std::alloc::Global;
 use std::marker::Model;
 use std::rc::Rc;
-use xq_atoms::{Atom, Fault, Want};
+use xq_atoms::{Atom, Code, Fault, Want};
 use xq_regions::{Item, Items};
 
 /// A stream of tuples, which have equally many slots. Contracts see the list of tuples, each as
@@ -219,6 +219,30 @@ impl Tuples {
         let columns = sort_columns(alloc, keys)?;
         let rows = key_rows(alloc, self.tuples.len(), columns)?;
         let tuples = sorted(alloc, specs, self.tuples, rows)?;
+        Ok(Tuples { alloc, tuples })
+    }
+
+    /// `order by`, as [`Tuples::order`], from the keys of each tuple: `keys` has for each tuple the
+    /// atomized values of the specifications. One that a tuple lacks is empty, and those after the
+    /// specifications don't count.
+    pub fn order_by_rows(
+        self,
+        keys: Vec<Vec<Vec<Atom>>>,
+        specs: &[OrderSpec],
+    ) -> Result<Tuples, Fault>
+        requires { length keys.items ≡ length self }
+        ensures stream { IfOk result (λ stream. ordered (map rule_of specs.now) self
+            (by_specification (length specs.now) (columns_of keys)) ≡ Ok stream) }
+        ensures refused { IfErr result (IsRefusal (ordered (map rule_of specs.now) self
+            (by_specification (length specs.now) (columns_of keys)))) }
+    {
+        let alloc = self.alloc;
+        let count = specs.len();
+        let keys = sort_rows(alloc, keys, count)?;
+        if !are_of_kinds(&keys, count) {
+            return Err(Fault::Code(Code::XPTY0004));
+        }
+        let tuples = sorted(alloc, specs, self.tuples, keys)?;
         Ok(Tuples { alloc, tuples })
     }
 }

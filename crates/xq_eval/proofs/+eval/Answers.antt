@@ -1,36 +1,51 @@
-use Rattle.std.proofs.Common.{rules, ◌≡◌, ◌++◌, ◌+◌, ◌*◌, List, [], ◌∷◌, map, subst, sym, ap, ◌∙◌, Ok, Err, arith, length, suc, add-one, refl, Bool, true, false, ◌<◌, ◌≤◌, ◌^◌, take, drop, not, Some}
+use Rattle.std.proofs.Common.{rules, to_z, of_z, w64, ◌≡◌, ◌++◌, ◌+◌, ◌*◌, List, [], ◌∷◌, map, subst, sym, ap, ◌∙◌, Ok, Err, arith, length, suc, add-one, refl, Bool, true, false, ◌<◌, ◌≤◌, ◌^◌, take, drop, not, Some}
 use Rattle.std.specs.Global.{Vec, Global}
-use Rattle.std.proofs.lemmas.List.{map-append, drop_all, length-map, length-append, append-nil}
+use Rattle.std.proofs.lemmas.List.{map-append, drop_all, length-map, length-append, append-nil, take_at, take_all}
 use Rattle.xq_forms.specs.declared.frames.Frame.{Frame as Held}
 use Rattle.std.proofs.lemmas.List.Folds.{flat_map-map}
-use Rattle.xq_atoms.specs.Atom.{Atomic}
+use Rattle.xq_atoms.specs.Atom.{Atomic, Integer}
 use Rattle.xq_atoms.specs.declared.refusals.Code.TheVariants.{XPTY0019}
 use Rattle.xq_atoms.specs.declared.refusals.Fault.TheVariants.{Code as OfCode}
 use Rattle.xq_regions.specs.Tuples.{Tuple, expanded, numbered, bound, satisfying}
 use Rattle.xq_regions.specs.Items.{ItemView, Value, item_view, item_views}
+use Rattle.xq_regions.specs.declared.items.Item.{Item as Held_item}
+use Rattle.xq_eval.specs.private.Positions.{IsConstant}
 use Rattle.xq_tuples.specs.Views.{values_of}
-use Rattle.xq_meaning.specs.Items.{Item, Atom, atomized}
-use Rattle.xq_meaning.specs.Arguments.{boolean, effective, all_nodes}
+use Rattle.xq_meaning.specs.Items.{Item, Node, Atom, atomized}
+use Rattle.xq_meaning.specs.Arguments.{atomic, boolean, effective, all_nodes}
 use Rattle.xq_meaning.specs.Functions.{Focus as Spot}
 use Rattle.xq_meaning.specs.Operators.{keeps, operated, signed, gathered}
 use Rattle.xq_meaning.specs.Steps.{focuses, focuses_from, in_axis_order}
-use Rattle.xq_meaning.specs.Readings.{item_at, items_at, IsIn, AreIn}
+use Rattle.xq_meaning.specs.Readings.{node_at, item_at, items_at, IsIn, AreIn}
 use Rattle.xq_meaning.specs.declared.plans.Plan.{Plan, size-Plan}
 use Rattle.xq_meaning.specs.declared.plans.Plan.TheVariants as plan
-use Rattle.xq_meaning.specs.declared.plans.Plan.TheViews.{sized-Quantified}
+use Rattle.xq_meaning.specs.declared.plans.Plan.TheViews.{sized-Quantified, sized-Chain, sized-If, sized-Filter, sized-Flwor, sized-Path, sized-Named, sized-Arrow, sized-Map}
+use Rattle.xq_meaning.specs.declared.plans.PlanClause.{size-PlanClause}
+use Rattle.xq_meaning.specs.declared.plans.PlanStep.{PlanStep, size-PlanStep}
 use denote.Param.Weighed.{most, at_most}
 use Prim.Native.Nat.{max}
 use Rattle.xq_expressions.specs.declared.signatures.Function.{Function}
+use Rattle.xq_meaning.specs.declared.operators.Operator.{Operator}
 use Rattle.xq_meaning.specs.declared.plans.PlanClause.{PlanClause}
 use Rattle.xq_meaning.specs.Doing.{◌>>=◌, go_on, give, judged, on_trees, collected, in_turn, more, one_more, for_each, first_that}
-use Rattle.xq_meaning.specs.PlanMeaning.{Frame, Meaning, plan_mean, plan_clause_mean, plan_step_mean, at_tuple, next_clause, next_step}
-use Rattle.xq_meaning.proofs.PlanEquations.{plan-Root, plan-Step, plan-Named, plan-Unnamed, plan-Call, plan-Quantified, clause-Group, clause-Order, clause-Refused, step-Scan, plan-Dec, plan-Slot, plan-ContextItem, plan-Sequence, plan-Chain, plan-Unary, plan-If, plan-Or, plan-And, plan-Filter, plan-Path, plan-Flwor, step-Each, clause-For, clause-Let, clause-Where, clause-Count, plan-Arrow, plan-Map}
+use Rattle.xq_meaning.specs.PlanMeaning.{Frame, Meaning, flwor, plan_mean, plan_clause_mean, plan_step_mean, at_tuple, next_clause, next_step}
+use Rattle.xq_meaning.proofs.PlanEquations.{plan-Int, plan-Str, plan-Root, plan-Step, plan-Named, plan-Unnamed, plan-Call, plan-Quantified, clause-Group, clause-Order, clause-Refused, step-Scan, plan-Dec, plan-Slot, plan-ContextItem, plan-Sequence, plan-Chain, plan-Unary, plan-If, plan-Or, plan-And, plan-Filter, plan-Path, plan-Flwor, step-Each, clause-For, clause-Let, clause-Where, clause-Count, plan-Arrow, plan-Map}
 use Rattle.xq_meaning.proofs.Turns.{begun_then}
 use Rattle.xq_forms.specs.Views.{order_specs, calling, ordering, on_axis, after_double_slash, parents_below, plant_named, plant_unnamed, tuple_at, tuples_at, lists_of, spot_at, forget, frame_at, TupleIn, TuplesIn, GivesSequence, GivesTuples, FrameIn}
 use Rattle.xq_eval.specs.private.Results.{GivesKeys, GivesRows, GivesLists, GivesTests, GivesPlain}
 use Rattle.xq_forms.proofs.Growth.{extends_more, stays, value_in, frame_grown, frame_in_grown, items_grown, are_in_grown, item_at_grown, in_grown, tuple_grown, tuple_in_grown, tuples_grown, tuples_in_grown, goes_on_to}
 use Rattle.xq_regions.specs.declared.Axis.TheVariants.{Child}
 use Rattle.xq_meaning.specs.declared.plans.PlanStep.TheVariants as plan_step
+use Rattle.std.specs.Prelude.{IsSome, Option}
+use Rattle.std.specs.Option.{option_copied}
+use Rattle.xq_regions.specs.declared.items.Item.{Item as Item_held}
+use Rattle.xq_regions.specs.Tree.{Tree}
+use Rattle.xq_joins.specs.Joins.{all_matched}
+use Rattle.xq_joins.specs.Keys.{IsNode}
+use Rattle.xq_joins.proofs.Lists.{all_index}
+use Rattle.xq_eval.specs.private.Joining.{AreBoth, GivesMatched}
+use Rattle.xq_eval.proofs.Joining.{first_is, some_is, for_refused, refused_gives, matched_gives}
+use Rattle.xq_meaning.specs.declared.plans.PlanClause.TheVariants as clause
 use Rattle.xq_eval.proofs.Loops.{got_at, left_over, left_from, two_left, none_taken, one_taken, turns_same, turns_two, turns_from, turns_stop_two, turns_next, turns_stop, turns_end, tries_next, tries_found, tries_stop, handed_on, stops, cut}
 use Rattle.xq_atoms.specs.Text.{Text}
 use Rattle.xq_expressions.specs.declared.operators.OrderModifier.{OrderModifier}
@@ -66,393 +81,11 @@ pub evaluation::evaluate-returns-in-Sequence-clause-gives : goal.evaluation::eva
 evaluation::evaluate-returns-in-Sequence-clause-gives g t c = λ clean inside.
     rw (c.in-Sequence.is, plan-Sequence c.in-Sequence.parts, ← c.as_slice.ensures) (c.sequence.ensures.gives clean inside)
 
-pub evaluation::evaluate-returns-in-Chain-clause-gives : goal.evaluation::evaluate-returns-in-Chain-clause-gives
-evaluation::evaluate-returns-in-Chain-clause-gives g t c = λ clean inside.
-    let f = g.W.TreeSource.forest c.args.world.now in
-    let f' = g.W.TreeSource.forest c.evaluate.new.world in
-    let held = c.args.frame in
-    let frame = frame_at f held in
-    let grows = c.in_ok-left-in-Chain.ensures.goes.grows in
-    let first = c.in_ok-left-in-Chain.ensures.gives (c.chain.ensures.goes.was_clean clean) inside in
-    let second = c.chain.ensures.gives clean (frame_in_grown grows held inside) first.0 in
-    let value : plan_mean c.in-Chain.first frame f ≡ (Ok (items_at f' (item_views c.in_ok-left-in-Chain.left)), f') = ap (λ p. plan_mean p frame f) (sym c.get.ensures) ∙ first.1 in
-    rw (c.in-Chain.is, plan-Chain c.in-Chain.first c.in-Chain.rest, value, ← frame_grown grows held inside, ← c.as_slice-in-Chain.ensures) second
-
-pub evaluation::evaluate-returns-in_err-effective-in-If-clause-gives : goal.evaluation::evaluate-returns-in_err-effective-in-If-clause-gives
-evaluation::evaluate-returns-in_err-effective-in-If-clause-gives g t c = λ clean inside.
-    let f = g.W.TreeSource.forest c.args.world.now in
-    let held = c.args.frame in
-    let frame = frame_at f held in
-    let f' = g.W.TreeSource.forest c.evaluate-in-If.new.world in
-    let value = c.in_ok-value-in-If.ensures.gives clean inside in
-    let code = c.in_err-effective-in-If.field-0.0 in
-    let test = plan_mean c.in-If.test in
-    let failed = tested_err test frame _ code f f' (ap (λ p. plan_mean p frame f) (sym c.get-in-If.ensures) ∙ value.1)
-    (ap (λ xs. effective (items_at f' (map item_view xs))) (sym c.deref-in-If.ensures.value) ∙ sym (c.in_err-effective-in-If.ensures f')) in
-    let next = λ (answer : Bool). Forms.chosen answer (plan_mean c.in-If.yes) (plan_mean c.in-If.no) frame in
-    cut (λ (b : Bool). b) (λ trees b. b) (λ trees b. Unit {0}) item_views items_at AreIn (plan_mean c.args.plan.now frame f) (Forms.tested test frame f) next f' (OfCode code) c.from_residual-in_err-effective-in-If.result
-    (ap (λ p. plan_mean p frame f) c.in-If.is ∙ ap (λ m. m frame f) (plan-If c.in-If.test c.in-If.yes c.in-If.no)) c.from_residual-in_err-effective-in-If.ensures.1 failed
-
-pub evaluation::evaluate-returns-then-branch-clause-gives : goal.evaluation::evaluate-returns-then-branch-clause-gives
-evaluation::evaluate-returns-then-branch-clause-gives g t c = λ clean inside.
-    let f = g.W.TreeSource.forest c.args.world.now in
-    let f' = g.W.TreeSource.forest c.evaluate-in-If.new.world in
-    let held = c.args.frame in
-    let frame = frame_at f held in
-    let grows = c.in_ok-value-in-If.ensures.goes.grows in
-    let value = c.in_ok-value-in-If.ensures.gives (c.evaluate-then-branch.ensures.goes.was_clean clean) inside in
-    let tested = tested_ok (plan_mean c.in-If.test) frame _ true f f' (ap (λ p. plan_mean p frame f) (sym c.get-in-If.ensures) ∙ value.1)
-    (ap (λ xs. effective (items_at f' (map item_view xs))) (sym c.deref-in-If.ensures.value) ∙ sym (c.in_ok-effective-in-If.ensures f') ∙ ap Ok c.if-branch.true) in
-    rw (c.in-If.is, plan-If c.in-If.test c.in-If.yes c.in-If.no, tested, ← frame_grown grows held inside, ← c.get-then-branch.ensures)
-    (c.evaluate-then-branch.ensures.gives clean (frame_in_grown grows held inside))
-
-pub evaluation::evaluate-returns-in-If-clause-gives : goal.evaluation::evaluate-returns-in-If-clause-gives
-evaluation::evaluate-returns-in-If-clause-gives g t c = λ clean inside.
-    let f = g.W.TreeSource.forest c.args.world.now in
-    let f' = g.W.TreeSource.forest c.evaluate-in-If.new.world in
-    let held = c.args.frame in
-    let frame = frame_at f held in
-    let grows = c.in_ok-value-in-If.ensures.goes.grows in
-    let value = c.in_ok-value-in-If.ensures.gives (c.evaluate-else-branch.ensures.goes.was_clean clean) inside in
-    let tested = tested_ok (plan_mean c.in-If.test) frame _ false f f' (ap (λ p. plan_mean p frame f) (sym c.get-in-If.ensures) ∙ value.1)
-    (ap (λ xs. effective (items_at f' (map item_view xs))) (sym c.deref-in-If.ensures.value) ∙ sym (c.in_ok-effective-in-If.ensures f') ∙ ap Ok c.if-branch.false) in
-    rw (c.in-If.is, plan-If c.in-If.test c.in-If.yes c.in-If.no, tested, ← frame_grown grows held inside, ← c.get-else-branch.ensures)
-    (c.evaluate-else-branch.ensures.gives clean (frame_in_grown grows held inside))
-
-pub evaluation::evaluate-returns-in-Filter-clause-gives : goal.evaluation::evaluate-returns-in-Filter-clause-gives
-evaluation::evaluate-returns-in-Filter-clause-gives g t c = λ clean inside.
-    let f = g.W.TreeSource.forest c.args.world.now in
-    let held = c.args.frame in
-    let frame = frame_at f held in
-    let f' = g.W.TreeSource.forest c.evaluate-in-Filter.new.world in
-    let grows = c.in_ok-items-in-Filter.ensures.goes.grows in
-    let first = c.in_ok-items-in-Filter.ensures.gives (c.filter.ensures.goes.was_clean clean) inside in
-    let second = c.filter.ensures.gives clean (frame_in_grown grows held inside) first.0 in
-    let value : plan_mean c.in-Filter.start frame f ≡ (Ok (items_at f' (item_views c.in_ok-items-in-Filter.items)), f') = ap (λ p. plan_mean p frame f) (sym c.get-in-Filter.ensures) ∙ first.1 in
-    rw (c.in-Filter.is, plan-Filter c.in-Filter.start c.in-Filter.predicates, value, ← frame_grown grows held inside, ← c.as_slice-in-Filter.ensures) second
-
-pub evaluation::evaluate-returns-in_err-lists-in-Flwor-clause-gives : goal.evaluation::evaluate-returns-in_err-lists-in-Flwor-clause-gives
-evaluation::evaluate-returns-in_err-lists-in-Flwor-clause-gives g t c = λ clean inside.
-    let f = g.W.TreeSource.forest c.args.world.now in
-    let held = c.args.frame in
-    let frame = frame_at f held in
-    let f' = g.W.TreeSource.forest c.clause_list.new.world in
-    let f'' = g.W.TreeSource.forest c.values.new.world in
-    let grows = c.in_ok-tuples-in-Flwor.ensures.goes.grows in
-    let stream = c.in_ok-tuples-in-Flwor.ensures.gives (c.values.ensures.goes.was_clean clean) inside in
-    let tuples = c.in_ok-tuples-in-Flwor.tuples in
-    let e = c.in_err-lists-in-Flwor.field-0.0 in
-    let refused = c.in_err-lists-in-Flwor.ensures.gives clean (frame_in_grown grows held inside) stream.0 in
-    let part = plan_mean c.get-in-Flwor.result.now in
-    let meant : plan_mean c.args.plan.now frame f ≡ go_on (for_each (λ t. part (at_tuple (frame_at f' held) t)) (tuples_at f' tuples) f') (λ ls. give (concat ls)) =
-    ap (λ p. plan_mean p frame f) c.in-Flwor.is ∙ ap (λ m. m frame f) (plan-Flwor c.in-Flwor.clauses c.in-Flwor.part)
-    ∙ flwor_is (map plan_clause_mean c.in-Flwor.clauses) (plan_mean c.in-Flwor.part) frame f (tuples_at f' tuples) f' (ap (λ cs. in_turn (next_clause frame) ([] ∷ []) (map plan_clause_mean cs) f) (sym c.as_slice-in-Flwor.ensures) ∙ stream.1)
-    ∙ ap (λ fr. go_on (for_each (λ t. plan_mean c.in-Flwor.part (at_tuple fr t)) (tuples_at f' tuples) f') (λ ls. give (concat ls))) (sym (frame_grown grows held inside))
-    ∙ ap (λ p. go_on (for_each (λ t. plan_mean p (at_tuple (frame_at f' held) t)) (tuples_at f' tuples) f') (λ ls. give (concat ls))) (sym c.get-in-Flwor.ensures) in
-    subst (λ o. GivesSequence o f'' c.from_residual-in_err-lists-in-Flwor.result) (sym meant)
-    (handed_on item_views items_at AreIn _ f'' e c.from_residual-in_err-lists-in-Flwor.result c.from_residual-in_err-lists-in-Flwor.ensures.1
-    (go_on_stop lists_of tuple_at TupleIn item_views items_at AreIn _ (λ ls. give (concat ls)) f'' e refused))
-
-pub evaluation::evaluate-returns-in-Flwor-clause-gives : goal.evaluation::evaluate-returns-in-Flwor-clause-gives
-evaluation::evaluate-returns-in-Flwor-clause-gives g t c = λ clean inside.
-    let f = g.W.TreeSource.forest c.args.world.now in
-    let held = c.args.frame in
-    let frame = frame_at f held in
-    let f' = g.W.TreeSource.forest c.clause_list.new.world in
-    let f'' = g.W.TreeSource.forest c.values.new.world in
-    let grows = c.in_ok-tuples-in-Flwor.ensures.goes.grows in
-    let stream = c.in_ok-tuples-in-Flwor.ensures.gives (c.values.ensures.goes.was_clean clean) inside in
-    let tuples = c.in_ok-tuples-in-Flwor.tuples in
-    let lists = lists_of c.in_ok-lists-in-Flwor.lists in
-    let values = c.in_ok-lists-in-Flwor.ensures.gives clean (frame_in_grown grows held inside) stream.0 in
-    let part = plan_mean c.get-in-Flwor.result.now in
-    let meant : plan_mean c.args.plan.now frame f ≡ go_on (for_each (λ t. part (at_tuple (frame_at f' held) t)) (tuples_at f' tuples) f') (λ ls. give (concat ls)) =
-    ap (λ p. plan_mean p frame f) c.in-Flwor.is ∙ ap (λ m. m frame f) (plan-Flwor c.in-Flwor.clauses c.in-Flwor.part)
-    ∙ flwor_is (map plan_clause_mean c.in-Flwor.clauses) (plan_mean c.in-Flwor.part) frame f (tuples_at f' tuples) f' (ap (λ cs. in_turn (next_clause frame) ([] ∷ []) (map plan_clause_mean cs) f) (sym c.as_slice-in-Flwor.ensures) ∙ stream.1)
-    ∙ ap (λ fr. go_on (for_each (λ t. plan_mean c.in-Flwor.part (at_tuple fr t)) (tuples_at f' tuples) f') (λ ls. give (concat ls))) (sym (frame_grown grows held inside))
-    ∙ ap (λ p. go_on (for_each (λ t. plan_mean p (at_tuple (frame_at f' held) t)) (tuples_at f' tuples) f') (λ ls. give (concat ls))) (sym c.get-in-Flwor.ensures) in
-    let all : item_views c.in_ok-concatenated-in-Flwor.field-0 ≡ concat lists = c.in_ok-concatenated-in-Flwor.ensures ∙ sym (flat_map-map (λ l. l) item_views c.in_ok-lists-in-Flwor.lists.items) in (
-      subst (AreIn f'') (sym all) (concat_in f'' lists values.0),
-      meant ∙ ap (λ o. go_on o (λ ls. give (concat ls))) values.1 ∙ ap (λ xs. (Ok xs, f'')) (concat_read f'' lists ∙ ap (items_at f'') (sym all)),
-    )
-
-pub evaluation::evaluate-returns-in-Path-clause-gives : goal.evaluation::evaluate-returns-in-Path-clause-gives
-evaluation::evaluate-returns-in-Path-clause-gives g t c = λ clean inside.
-    let f = g.W.TreeSource.forest c.args.world.now in
-    let held = c.args.frame in
-    let frame = frame_at f held in
-    let f' = g.W.TreeSource.forest c.evaluate-in-Path.new.world in
-    let grows = c.in_ok-items-in-Path.ensures.goes.grows in
-    let first = c.in_ok-items-in-Path.ensures.gives (c.step_list.ensures.goes.was_clean clean) inside in
-    let second = c.step_list.ensures.gives clean (frame_in_grown grows held inside) first.0 in
-    let value : plan_mean c.in-Path.start frame f ≡ (Ok (items_at f' (item_views c.in_ok-items-in-Path.items)), f') = ap (λ p. plan_mean p frame f) (sym c.get-in-Path.ensures) ∙ first.1 in
-    rw (c.in-Path.is, plan-Path c.in-Path.start c.in-Path.steps, value, ← frame_grown grows held inside, ← c.as_slice-in-Path.ensures) second
-
-pub evaluation::evaluate-returns-in_err-left-in-Chain-clause-gives : goal.evaluation::evaluate-returns-in_err-left-in-Chain-clause-gives
-evaluation::evaluate-returns-in_err-left-in-Chain-clause-gives g t c = λ clean inside.
-    let f = g.W.TreeSource.forest c.args.world.now in
-    let held = c.args.frame in
-    let frame = frame_at f held in
-    let f' = g.W.TreeSource.forest c.evaluate.new.world in
-    let e = c.in_err-left-in-Chain.field-0.0 in
-    let next = λ (xs : List Item). in_turn (Forms.next_operand frame) xs (map (λ (op, p). (op, plan_mean p)) c.in-Chain.rest) in
-    cut item_views items_at AreIn item_views items_at AreIn (plan_mean c.args.plan.now frame f) (plan_mean c.get.result.now frame f) next f' e c.from_residual-in_err-left-in-Chain.result
-    (ap (λ p. plan_mean p frame f) c.in-Chain.is ∙ ap (λ m. m frame f) (plan-Chain c.in-Chain.first c.in-Chain.rest) ∙ ap (λ p. go_on (plan_mean p frame f) next) (sym c.get.ensures)) c.from_residual-in_err-left-in-Chain.ensures.1 (c.in_err-left-in-Chain.ensures.gives clean inside)
-
-pub evaluation::evaluate-returns-in_err-items-in-Filter-clause-gives : goal.evaluation::evaluate-returns-in_err-items-in-Filter-clause-gives
-evaluation::evaluate-returns-in_err-items-in-Filter-clause-gives g t c = λ clean inside.
-    let f = g.W.TreeSource.forest c.args.world.now in
-    let held = c.args.frame in
-    let frame = frame_at f held in
-    let f' = g.W.TreeSource.forest c.evaluate-in-Filter.new.world in
-    let e = c.in_err-items-in-Filter.field-0.0 in
-    let next = λ (xs : List Item). in_turn (Forms.filtered frame) xs (map plan_mean c.in-Filter.predicates) in
-    cut item_views items_at AreIn item_views items_at AreIn (plan_mean c.args.plan.now frame f) (plan_mean c.get-in-Filter.result.now frame f) next f' e c.from_residual-in_err-items-in-Filter.result
-    (ap (λ p. plan_mean p frame f) c.in-Filter.is ∙ ap (λ m. m frame f) (plan-Filter c.in-Filter.start c.in-Filter.predicates) ∙ ap (λ p. go_on (plan_mean p frame f) next) (sym c.get-in-Filter.ensures)) c.from_residual-in_err-items-in-Filter.ensures.1 (c.in_err-items-in-Filter.ensures.gives clean inside)
-
-pub evaluation::evaluate-returns-in_err-items-in-Path-clause-gives : goal.evaluation::evaluate-returns-in_err-items-in-Path-clause-gives
-evaluation::evaluate-returns-in_err-items-in-Path-clause-gives g t c = λ clean inside.
-    let f = g.W.TreeSource.forest c.args.world.now in
-    let held = c.args.frame in
-    let frame = frame_at f held in
-    let f' = g.W.TreeSource.forest c.evaluate-in-Path.new.world in
-    let e = c.in_err-items-in-Path.field-0.0 in
-    let next = λ (xs : List Item). in_turn (next_step frame) xs (map plan_step_mean c.in-Path.steps) in
-    cut item_views items_at AreIn item_views items_at AreIn (plan_mean c.args.plan.now frame f) (plan_mean c.get-in-Path.result.now frame f) next f' e c.from_residual-in_err-items-in-Path.result
-    (ap (λ p. plan_mean p frame f) c.in-Path.is ∙ ap (λ m. m frame f) (plan-Path c.in-Path.start c.in-Path.steps) ∙ ap (λ p. go_on (plan_mean p frame f) next) (sym c.get-in-Path.ensures)) c.from_residual-in_err-items-in-Path.ensures.1 (c.in_err-items-in-Path.ensures.gives clean inside)
-
-pub evaluation::evaluate-returns-in_err-value-in-If-clause-gives : goal.evaluation::evaluate-returns-in_err-value-in-If-clause-gives
-evaluation::evaluate-returns-in_err-value-in-If-clause-gives g t c = λ clean inside.
-    let f = g.W.TreeSource.forest c.args.world.now in
-    let held = c.args.frame in
-    let frame = frame_at f held in
-    let f' = g.W.TreeSource.forest c.evaluate-in-If.new.world in
-    let e = c.in_err-value-in-If.field-0.0 in
-    let first = λ (xs : List Item). judged (effective xs) in
-    let next = λ (answer : Bool). Forms.chosen answer (plan_mean c.in-If.yes) (plan_mean c.in-If.no) frame in
-    cut (λ (b : Bool). b) (λ trees b. b) (λ trees b. Unit {0}) item_views items_at AreIn (plan_mean c.args.plan.now frame f) (go_on (plan_mean c.get-in-If.result.now frame f) first) next f' e c.from_residual-in_err-value-in-If.result
-    (ap (λ p. plan_mean p frame f) c.in-If.is ∙ ap (λ m. m frame f) (plan-If c.in-If.test c.in-If.yes c.in-If.no) ∙ ap (λ p. go_on (go_on (plan_mean p frame f) first) next) (sym c.get-in-If.ensures)) c.from_residual-in_err-value-in-If.ensures.1
-    (go_on_stop item_views items_at AreIn (λ (b : Bool). b) (λ trees b. b) (λ trees b. Unit {0}) (plan_mean c.get-in-If.result.now frame f) first f' e (c.in_err-value-in-If.ensures.gives clean inside))
-
-pub evaluation::evaluate-returns-in_err-items-in-Unary-clause-gives : goal.evaluation::evaluate-returns-in_err-items-in-Unary-clause-gives
-evaluation::evaluate-returns-in_err-items-in-Unary-clause-gives g t c = λ clean inside.
-    let f = g.W.TreeSource.forest c.args.world.now in
-    let held = c.args.frame in
-    let frame = frame_at f held in
-    let f' = g.W.TreeSource.forest c.evaluate-in-Unary.new.world in
-    let e = c.in_err-items-in-Unary.field-0.0 in
-    let first = λ (xs : List Item). on_trees (λ trees. Ok (atomized trees xs)) in
-    let next = λ (as' : List Atomic). judged (signed c.in-Unary.signs as') in
-    cut (λ (as' : List Atomic). as') (λ trees as'. as') (λ trees as'. Unit {0}) item_views items_at AreIn (plan_mean c.args.plan.now frame f) (go_on (plan_mean c.get-in-Unary.result.now frame f) first) next f' e c.from_residual-in_err-items-in-Unary.result
-    (ap (λ p. plan_mean p frame f) c.in-Unary.is ∙ ap (λ m. m frame f) (plan-Unary c.in-Unary.signs c.in-Unary.part) ∙ ap (λ p. go_on (go_on (plan_mean p frame f) first) next) (sym c.get-in-Unary.ensures)) c.from_residual-in_err-items-in-Unary.ensures.1
-    (go_on_stop item_views items_at AreIn (λ (as' : List Atomic). as') (λ trees as'. as') (λ trees as'. Unit {0}) (plan_mean c.get-in-Unary.result.now frame f) first f' e (c.in_err-items-in-Unary.ensures.gives clean inside))
-
-pub evaluation::evaluate-returns-in-Unary-clause-gives : goal.evaluation::evaluate-returns-in-Unary-clause-gives
-evaluation::evaluate-returns-in-Unary-clause-gives g t c = λ clean inside.
-    let f = g.W.TreeSource.forest c.args.world.now in
-    let held = c.args.frame in
-    let frame = frame_at f held in
-    let f' = g.W.TreeSource.forest c.evaluate-in-Unary.new.world in
-    let f'' = g.W.TreeSource.forest c.sign.new.world in
-    let items = item_views c.in_ok-items-in-Unary.items in
-    let value = c.in_ok-items-in-Unary.ensures.gives (c.sign.ensures.goes.was_clean clean) inside in
-    let d : map item_view c.deref.result.now ≡ items = ap (map item_view) c.deref.ensures.value in
-    let found = c.sign.ensures.gives clean (subst (AreIn f') (sym d) value.0) in
-    let first = λ (xs : List Item). on_trees (λ trees. Ok (atomized trees xs)) in
-    let next = λ (as' : List Atomic). judged (signed c.in-Unary.signs as') in
-    let meant : plan_mean c.args.plan.now frame f ≡ on_trees (λ trees. signed c.as_slice-in-Unary.result.now (atomized trees (items_at f' (map item_view c.deref.result.now)))) f' =
-    ap (λ p. plan_mean p frame f) c.in-Unary.is ∙ ap (λ m. m frame f) (plan-Unary c.in-Unary.signs c.in-Unary.part)
-    ∙ ap (λ p. go_on (go_on (plan_mean p frame f) first) next) (sym c.get-in-Unary.ensures)
-    ∙ ap (λ o. go_on (go_on o first) next) value.1
-    ∙ ap (λ xs. on_trees (λ trees. signed c.in-Unary.signs (atomized trees (items_at f' xs))) f') (sym d)
-    ∙ ap (λ ss. on_trees (λ trees. signed ss (atomized trees (items_at f' (map item_view c.deref.result.now)))) f') (sym c.as_slice-in-Unary.ensures) in
-    subst (λ o. GivesSequence o f'' c.sign.result) (sym meant) found
-
-pub evaluation::evaluate-returns-in_err-answer-in-Or-clause-gives : goal.evaluation::evaluate-returns-in_err-answer-in-Or-clause-gives
-evaluation::evaluate-returns-in_err-answer-in-Or-clause-gives g t c = λ clean inside.
-    let f = g.W.TreeSource.forest c.args.world.now in
-    let held = c.args.frame in
-    let frame = frame_at f held in
-    let f' = g.W.TreeSource.forest c.decided.new.world in
-    let search = λ (parts : List Plan). first_that true (λ part. Forms.tested part frame) (map plan_mean parts) f in
-    let next = λ (answer : Bool). give (boolean answer) in
-    let meant : plan_mean c.args.plan.now frame f ≡ go_on (search c.as_slice-in-Or.result.now) next =
-    ap (λ p. plan_mean p frame f) c.in-Or.is ∙ ap (λ m. m frame f) (plan-Or c.in-Or.parts) ∙ ap (λ ps. go_on (search ps) next) (sym c.as_slice-in-Or.ensures) in
-    cut (λ (b : Bool). b) (λ trees b. b) (λ trees b. Unit {0}) item_views items_at AreIn (plan_mean c.args.plan.now frame f) (search c.as_slice-in-Or.result.now) next f' c.in_err-answer-in-Or.field-0.0 c.from_residual-in_err-answer-in-Or.result
-    meant c.from_residual-in_err-answer-in-Or.ensures.1 (c.in_err-answer-in-Or.ensures.gives clean inside)
-
-pub evaluation::evaluate-returns-in-Or-clause-gives : goal.evaluation::evaluate-returns-in-Or-clause-gives
-evaluation::evaluate-returns-in-Or-clause-gives g t c = λ clean inside.
-    let f = g.W.TreeSource.forest c.args.world.now in
-    let held = c.args.frame in
-    let frame = frame_at f held in
-    let f' = g.W.TreeSource.forest c.decided.new.world in
-    let search = λ (parts : List Plan). first_that true (λ part. Forms.tested part frame) (map plan_mean parts) f in
-    let next = λ (answer : Bool). give (boolean answer) in
-    let meant : plan_mean c.args.plan.now frame f ≡ go_on (search c.as_slice-in-Or.result.now) next =
-    ap (λ p. plan_mean p frame f) c.in-Or.is ∙ ap (λ m. m frame f) (plan-Or c.in-Or.parts) ∙ ap (λ ps. go_on (search ps) next) (sym c.as_slice-in-Or.ensures) in
-    let answer = c.in_ok-answer-in-Or.ensures.gives clean inside in
-    let items = c.in_ok-single-in-Or.ensures in (
-      subst (AreIn f') (sym items) (tt, tt),
-      meant ∙ ap (λ o. go_on o next) answer.1 ∙ ap (λ xs. (Ok (items_at f' xs), f')) (sym items),
-    )
-
-pub evaluation::evaluate-returns-in_err-answer-in-And-clause-gives : goal.evaluation::evaluate-returns-in_err-answer-in-And-clause-gives
-evaluation::evaluate-returns-in_err-answer-in-And-clause-gives g t c = λ clean inside.
-    let f = g.W.TreeSource.forest c.args.world.now in
-    let held = c.args.frame in
-    let frame = frame_at f held in
-    let f' = g.W.TreeSource.forest c.decided-in-And.new.world in
-    let search = λ (parts : List Plan). first_that false (λ part. Forms.tested part frame) (map plan_mean parts) f in
-    let next = λ (answer : Bool). give (boolean answer) in
-    let meant : plan_mean c.args.plan.now frame f ≡ go_on (search c.as_slice-in-And.result.now) next =
-    ap (λ p. plan_mean p frame f) c.in-And.is ∙ ap (λ m. m frame f) (plan-And c.in-And.parts) ∙ ap (λ ps. go_on (search ps) next) (sym c.as_slice-in-And.ensures) in
-    cut (λ (b : Bool). b) (λ trees b. b) (λ trees b. Unit {0}) item_views items_at AreIn (plan_mean c.args.plan.now frame f) (search c.as_slice-in-And.result.now) next f' c.in_err-answer-in-And.field-0.0 c.from_residual-in_err-answer-in-And.result
-    meant c.from_residual-in_err-answer-in-And.ensures.1 (c.in_err-answer-in-And.ensures.gives clean inside)
-
-pub evaluation::evaluate-returns-in-And-clause-gives : goal.evaluation::evaluate-returns-in-And-clause-gives
-evaluation::evaluate-returns-in-And-clause-gives g t c = λ clean inside.
-    let f = g.W.TreeSource.forest c.args.world.now in
-    let held = c.args.frame in
-    let frame = frame_at f held in
-    let f' = g.W.TreeSource.forest c.decided-in-And.new.world in
-    let search = λ (parts : List Plan). first_that false (λ part. Forms.tested part frame) (map plan_mean parts) f in
-    let next = λ (answer : Bool). give (boolean answer) in
-    let meant : plan_mean c.args.plan.now frame f ≡ go_on (search c.as_slice-in-And.result.now) next =
-    ap (λ p. plan_mean p frame f) c.in-And.is ∙ ap (λ m. m frame f) (plan-And c.in-And.parts) ∙ ap (λ ps. go_on (search ps) next) (sym c.as_slice-in-And.ensures) in
-    let answer = c.in_ok-answer-in-And.ensures.gives clean inside in
-    let items = c.in_ok-single-in-And.ensures in (
-      subst (AreIn f') (sym items) (tt, tt),
-      meant ∙ ap (λ o. go_on o next) answer.1 ∙ ap (λ xs. (Ok (items_at f' xs), f')) (sym items),
-    )
-
-pub evaluation::evaluate-returns-in_err-tuples-in-Flwor-clause-gives : goal.evaluation::evaluate-returns-in_err-tuples-in-Flwor-clause-gives
-evaluation::evaluate-returns-in_err-tuples-in-Flwor-clause-gives g t c = λ clean inside.
-    let f = g.W.TreeSource.forest c.args.world.now in
-    let held = c.args.frame in
-    let frame = frame_at f held in
-    let f' = g.W.TreeSource.forest c.clause_list.new.world in
-    let stream = λ (clauses : List PlanClause). in_turn (next_clause frame) ([] ∷ []) (map plan_clause_mean clauses) f in
-    let next = λ (tuples : List (Tuple Item)). Forms.return_of (plan_mean c.in-Flwor.part) (at_tuple frame) tuples in
-    cut (λ (ts : List (Tuple ItemView)). ts) tuples_at TuplesIn item_views items_at AreIn (plan_mean c.args.plan.now frame f) (stream c.as_slice-in-Flwor.result.now) next f' c.in_err-tuples-in-Flwor.field-0.0 c.from_residual-in_err-tuples-in-Flwor.result
-    (ap (λ p. plan_mean p frame f) c.in-Flwor.is ∙ ap (λ m. m frame f) (plan-Flwor c.in-Flwor.clauses c.in-Flwor.part) ∙ ap (λ cs. go_on (stream cs) next) (sym c.as_slice-in-Flwor.ensures)) c.from_residual-in_err-tuples-in-Flwor.ensures.1
-    (c.in_err-tuples-in-Flwor.ensures.gives clean inside)
-
-pub evaluation::evaluate-returns-in-Dec-clause-gives : goal.evaluation::evaluate-returns-in-Dec-clause-gives
-evaluation::evaluate-returns-in-Dec-clause-gives g t c = λ clean inside.
-    let f = g.W.TreeSource.forest c.args.world.now in
-    let held = c.args.frame in
-    let frame = frame_at f held in
-    let items = c.in_ok-single-in-Dec.ensures in
-    (subst (AreIn f) (sym items) (tt, tt), ap (λ p. plan_mean p frame f) c.in-Dec.is ∙ ap (λ m. m frame f) (plan-Dec _) ∙ ap (λ xs. (Ok (items_at f xs), f)) (sym items))
-
-pub evaluation::evaluate-returns-in-Slot-clause-gives : goal.evaluation::evaluate-returns-in-Slot-clause-gives
-evaluation::evaluate-returns-in-Slot-clause-gives g t c = λ clean inside.
-    let f = g.W.TreeSource.forest c.args.world.now in
-    let held = c.args.frame in
-    let frame = frame_at f held in
-    let items = c.in_ok-slot-in-Slot.ensures in
-    let v = value_in f c.in-Slot.number (values_of held.slots.now) inside.slots_in in
-    (subst (AreIn f) (sym items) v.0, ap (λ p. plan_mean p frame f) c.in-Slot.is ∙ ap (λ m. m frame f) (plan-Slot c.in-Slot.number) ∙ ap (λ xs. (Ok xs, f)) (v.1 ∙ ap (items_at f) (sym items)))
-
-pub evaluation::evaluate-returns-in_err-single-in-Int-clause-goes : goal.evaluation::evaluate-returns-in_err-single-in-Int-clause-goes
-evaluation::evaluate-returns-in_err-single-in-Int-clause-goes g t c = stays _ _
-
-pub evaluation::evaluate-returns-in-Int-clause-goes : goal.evaluation::evaluate-returns-in-Int-clause-goes
-evaluation::evaluate-returns-in-Int-clause-goes g t c = stays _ _
-
-pub evaluation::evaluate-returns-in_err-single-in-Dec-clause-goes : goal.evaluation::evaluate-returns-in_err-single-in-Dec-clause-goes
-evaluation::evaluate-returns-in_err-single-in-Dec-clause-goes g t c = stays _ _
-
-pub evaluation::evaluate-returns-in-Dec-clause-goes : goal.evaluation::evaluate-returns-in-Dec-clause-goes
-evaluation::evaluate-returns-in-Dec-clause-goes g t c = stays _ _
-
-pub evaluation::evaluate-returns-in_err-text-in-Str-clause-goes : goal.evaluation::evaluate-returns-in_err-text-in-Str-clause-goes
-evaluation::evaluate-returns-in_err-text-in-Str-clause-goes g t c = stays _ _
-
-pub evaluation::evaluate-returns-in_err-single-in-Str-clause-goes : goal.evaluation::evaluate-returns-in_err-single-in-Str-clause-goes
-evaluation::evaluate-returns-in_err-single-in-Str-clause-goes g t c = stays _ _
-
-pub evaluation::evaluate-returns-in-Str-clause-goes : goal.evaluation::evaluate-returns-in-Str-clause-goes
-evaluation::evaluate-returns-in-Str-clause-goes g t c = stays _ _
-
-pub evaluation::evaluate-returns-in_err-slot-in-Slot-clause-goes : goal.evaluation::evaluate-returns-in_err-slot-in-Slot-clause-goes
-evaluation::evaluate-returns-in_err-slot-in-Slot-clause-goes g t c = stays _ _
-
-pub evaluation::evaluate-returns-in-Slot-clause-goes : goal.evaluation::evaluate-returns-in-Slot-clause-goes
-evaluation::evaluate-returns-in-Slot-clause-goes g t c = stays _ _
-
 pub evaluation::evaluate-returns-in-ContextItem-clause-goes : goal.evaluation::evaluate-returns-in-ContextItem-clause-goes
 evaluation::evaluate-returns-in-ContextItem-clause-goes g t c = stays _ _
 
 pub evaluation::evaluate-returns-in-Sequence-clause-goes : goal.evaluation::evaluate-returns-in-Sequence-clause-goes
 evaluation::evaluate-returns-in-Sequence-clause-goes g t c = c.sequence.ensures.goes
-
-pub evaluation::evaluate-returns-in_err-left-in-Chain-clause-goes : goal.evaluation::evaluate-returns-in_err-left-in-Chain-clause-goes
-evaluation::evaluate-returns-in_err-left-in-Chain-clause-goes g t c = c.in_err-left-in-Chain.ensures.goes
-
-pub evaluation::evaluate-returns-in-Chain-clause-goes : goal.evaluation::evaluate-returns-in-Chain-clause-goes
-evaluation::evaluate-returns-in-Chain-clause-goes g t c = goes_on_to c.in_ok-left-in-Chain.ensures.goes c.chain.ensures.goes
-
-pub evaluation::evaluate-returns-in_err-items-in-Unary-clause-goes : goal.evaluation::evaluate-returns-in_err-items-in-Unary-clause-goes
-evaluation::evaluate-returns-in_err-items-in-Unary-clause-goes g t c = c.in_err-items-in-Unary.ensures.goes
-
-pub evaluation::evaluate-returns-in-Unary-clause-goes : goal.evaluation::evaluate-returns-in-Unary-clause-goes
-evaluation::evaluate-returns-in-Unary-clause-goes g t c = goes_on_to c.in_ok-items-in-Unary.ensures.goes c.sign.ensures.goes
-
-pub evaluation::evaluate-returns-in_err-items-in-Filter-clause-goes : goal.evaluation::evaluate-returns-in_err-items-in-Filter-clause-goes
-evaluation::evaluate-returns-in_err-items-in-Filter-clause-goes g t c = c.in_err-items-in-Filter.ensures.goes
-
-pub evaluation::evaluate-returns-in-Filter-clause-goes : goal.evaluation::evaluate-returns-in-Filter-clause-goes
-evaluation::evaluate-returns-in-Filter-clause-goes g t c = goes_on_to c.in_ok-items-in-Filter.ensures.goes c.filter.ensures.goes
-
-pub evaluation::evaluate-returns-in_err-items-in-Path-clause-goes : goal.evaluation::evaluate-returns-in_err-items-in-Path-clause-goes
-evaluation::evaluate-returns-in_err-items-in-Path-clause-goes g t c = c.in_err-items-in-Path.ensures.goes
-
-pub evaluation::evaluate-returns-in-Path-clause-goes : goal.evaluation::evaluate-returns-in-Path-clause-goes
-evaluation::evaluate-returns-in-Path-clause-goes g t c = goes_on_to c.in_ok-items-in-Path.ensures.goes c.step_list.ensures.goes
-
-pub evaluation::evaluate-returns-in_err-value-in-If-clause-goes : goal.evaluation::evaluate-returns-in_err-value-in-If-clause-goes
-evaluation::evaluate-returns-in_err-value-in-If-clause-goes g t c = c.in_err-value-in-If.ensures.goes
-
-pub evaluation::evaluate-returns-in_err-effective-in-If-clause-goes : goal.evaluation::evaluate-returns-in_err-effective-in-If-clause-goes
-evaluation::evaluate-returns-in_err-effective-in-If-clause-goes g t c = c.in_ok-value-in-If.ensures.goes
-
-pub evaluation::evaluate-returns-then-branch-clause-goes : goal.evaluation::evaluate-returns-then-branch-clause-goes
-evaluation::evaluate-returns-then-branch-clause-goes g t c = goes_on_to c.in_ok-value-in-If.ensures.goes c.evaluate-then-branch.ensures.goes
-
-pub evaluation::evaluate-returns-in-If-clause-goes : goal.evaluation::evaluate-returns-in-If-clause-goes
-evaluation::evaluate-returns-in-If-clause-goes g t c = goes_on_to c.in_ok-value-in-If.ensures.goes c.evaluate-else-branch.ensures.goes
-
-pub evaluation::evaluate-returns-in_err-answer-in-Or-clause-goes : goal.evaluation::evaluate-returns-in_err-answer-in-Or-clause-goes
-evaluation::evaluate-returns-in_err-answer-in-Or-clause-goes g t c = c.in_err-answer-in-Or.ensures.goes
-
-pub evaluation::evaluate-returns-in_err-single-in-Or-clause-goes : goal.evaluation::evaluate-returns-in_err-single-in-Or-clause-goes
-evaluation::evaluate-returns-in_err-single-in-Or-clause-goes g t c = c.in_ok-answer-in-Or.ensures.goes
-
-pub evaluation::evaluate-returns-in-Or-clause-goes : goal.evaluation::evaluate-returns-in-Or-clause-goes
-evaluation::evaluate-returns-in-Or-clause-goes g t c = c.in_ok-answer-in-Or.ensures.goes
-
-pub evaluation::evaluate-returns-in_err-answer-in-And-clause-goes : goal.evaluation::evaluate-returns-in_err-answer-in-And-clause-goes
-evaluation::evaluate-returns-in_err-answer-in-And-clause-goes g t c = c.in_err-answer-in-And.ensures.goes
-
-pub evaluation::evaluate-returns-in_err-single-in-And-clause-goes : goal.evaluation::evaluate-returns-in_err-single-in-And-clause-goes
-evaluation::evaluate-returns-in_err-single-in-And-clause-goes g t c = c.in_ok-answer-in-And.ensures.goes
-
-pub evaluation::evaluate-returns-in-And-clause-goes : goal.evaluation::evaluate-returns-in-And-clause-goes
-evaluation::evaluate-returns-in-And-clause-goes g t c = c.in_ok-answer-in-And.ensures.goes
-
-pub evaluation::evaluate-returns-in_err-tuples-in-Flwor-clause-goes : goal.evaluation::evaluate-returns-in_err-tuples-in-Flwor-clause-goes
-evaluation::evaluate-returns-in_err-tuples-in-Flwor-clause-goes g t c = c.in_err-tuples-in-Flwor.ensures.goes
-
-pub evaluation::evaluate-returns-in_err-lists-in-Flwor-clause-goes : goal.evaluation::evaluate-returns-in_err-lists-in-Flwor-clause-goes
-evaluation::evaluate-returns-in_err-lists-in-Flwor-clause-goes g t c = goes_on_to c.in_ok-tuples-in-Flwor.ensures.goes c.in_err-lists-in-Flwor.ensures.goes
-
-pub evaluation::evaluate-returns-in_err-concatenated-in-Flwor-clause-goes : goal.evaluation::evaluate-returns-in_err-concatenated-in-Flwor-clause-goes
-evaluation::evaluate-returns-in_err-concatenated-in-Flwor-clause-goes g t c = goes_on_to c.in_ok-tuples-in-Flwor.ensures.goes c.in_ok-lists-in-Flwor.ensures.goes
-
-pub evaluation::evaluate-returns-in-Flwor-clause-goes : goal.evaluation::evaluate-returns-in-Flwor-clause-goes
-evaluation::evaluate-returns-in-Flwor-clause-goes g t c = goes_on_to c.in_ok-tuples-in-Flwor.ensures.goes c.in_ok-lists-in-Flwor.ensures.goes
 
 pub evaluation::sequence-loop-part-preserved : goal.evaluation::sequence-loop-part-preserved
 evaluation::sequence-loop-part-preserved g t c =
@@ -760,7 +393,7 @@ evaluation::keep-returns-in_err-kept-clause-gives g t c = λ clean inside items_
     let kept = item_views c.loop-index.kept in
     let spot : Item → Spot = λ it. record { item = it; position = n + 1; last = length items } in
     let e = c.in_err-kept.field-0.0 in
-    handed_on item_views items_at AreIn _ f' e c.from_residual.result c.from_residual.ensures.1
+    handed_on item_views items_at AreIn _ f' e c.from_residual-in_err-kept.result c.from_residual-in_err-kept.ensures.1
     (turns_stop _ _ _ item_views items_at AreIn (spot (item_at old (item_view x))) _ f' e i.turns (spots_left old items n x (length items) (omega arith) c.index-items-index.is) c.pass.ensures.goes.was_clean
     (λ clean inside is_in.
     let x_in = all_at (IsIn old) item_view items n x inside.1 (omega arith) c.index-items-index.is in
@@ -833,49 +466,6 @@ evaluation::pass-returns-in_err-push_copy-clause-goes g t c = c.in_ok-value.ensu
 
 pub evaluation::pass-returns-clause-goes : goal.evaluation::pass-returns-clause-goes
 evaluation::pass-returns-clause-goes g t c = c.in_ok-value.ensures.goes
-
-pub clauses::clause_list-loop-clause-preserved : goal.clauses::clause_list-loop-clause-preserved
-clauses::clause_list-loop-clause-preserved g t c =
-    let i = c.loop-clause.invariant in
-    let old = g.W.TreeSource.forest c.args.world.now in
-    let f = g.W.TreeSource.forest c.loop-clause.world in
-    let f' = g.W.TreeSource.forest c.next_tuples.new.world in
-    let held = c.args.frame in
-    let clause = c.clause-item.result in
-    record {
-      goes = goes_on_to i.goes c.next_tuples.ensures.goes;
-      turns = turns_next _ _ _ c.in_ok-tuples-2.tuples (plan_clause_mean clause) _ _ i.turns (left_over plan_clause_mean c.args.clauses.now c.loop-clause.clause-index clause (omega arith) c.clause-item.is) c.next_tuples.ensures.goes.was_clean
-          (λ clean inside is_in.
-          let s = c.in_ok-tuples-2.ensures.gives clean (frame_in_grown i.goes.grows held inside) is_in in
-          (s.0, ap (λ fr. plan_clause_mean clause fr (tuples_at f c.loop-clause.tuples) f) (sym (frame_grown i.goes.grows held inside)) ∙ s.1));
-    }
-
-pub clauses::clause_list-returns-in_err-tuples-2-clause-gives : goal.clauses::clause_list-returns-in_err-tuples-2-clause-gives
-clauses::clause_list-returns-in_err-tuples-2-clause-gives g t c = λ clean inside.
-    let i = c.loop-clause.invariant in
-    let old = g.W.TreeSource.forest c.args.world.now in
-    let f = g.W.TreeSource.forest c.loop-clause.world in
-    let f' = g.W.TreeSource.forest c.next_tuples.new.world in
-    let held = c.args.frame in
-    let clause = c.clause-item.result in
-    let e = c.in_err-tuples-2.field-0.0 in
-    handed_on (λ (ts : List (Tuple ItemView)). ts) tuples_at TuplesIn _ f' e c.from_residual-in_err-tuples-2.result c.from_residual-in_err-tuples-2.ensures.1
-    (turns_stop _ _ _ (λ (ts : List (Tuple ItemView)). ts) tuples_at TuplesIn (plan_clause_mean clause) _ f' e i.turns (left_over plan_clause_mean c.args.clauses.now c.loop-clause.clause-index clause (omega arith) c.clause-item.is) c.next_tuples.ensures.goes.was_clean
-    (λ clean inside is_in. subst (λ fr. GivesTuples (plan_clause_mean clause fr (tuples_at f c.loop-clause.tuples) f) f' (Err e)) (frame_grown i.goes.grows held inside) (c.in_err-tuples-2.ensures.gives clean (frame_in_grown i.goes.grows held inside) is_in)) clean inside)
-
-pub clauses::clause_list-returns-in_err-tuples-2-clause-goes : goal.clauses::clause_list-returns-in_err-tuples-2-clause-goes
-clauses::clause_list-returns-in_err-tuples-2-clause-goes g t c = goes_on_to c.loop-clause.invariant.goes c.in_err-tuples-2.ensures.goes
-
-pub clauses::clause_list-returns-clause-goes : goal.clauses::clause_list-returns-clause-goes
-clauses::clause_list-returns-clause-goes g t c = c.loop-clause.invariant.goes
-
-pub clauses::clause_list-returns-in_err-tuples-clause-goes : goal.clauses::clause_list-returns-in_err-tuples-clause-goes
-clauses::clause_list-returns-in_err-tuples-clause-goes g t c = stays _ _
-
-pub clauses::clause_list-returns-clause-gives : goal.clauses::clause_list-returns-clause-gives
-clauses::clause_list-returns-clause-gives g t c = λ clean inside.
-    let old = g.W.TreeSource.forest c.args.world.now in
-    turns_end _ _ _ c.loop-clause.invariant.turns (ap (map plan_clause_mean) (drop_all c.loop-clause.clause-index c.args.clauses.now (omega arith))) clean inside
 
 pub clauses::next_tuples-returns-in_err-lists-in-For-clause-gives : goal.clauses::next_tuples-returns-in_err-lists-in-For-clause-gives
 clauses::next_tuples-returns-in_err-lists-in-For-clause-gives g t c = λ clean inside tuples_in.
@@ -1009,6 +599,8 @@ clauses::values-loop-index-preserved g t c =
     let n = c.loop-index.index in
     let tuples = c.args.tuples.now in
     let x = values_of c.tuple.result.now in
+    let slots = values_of held.slots.now in
+    let at : values_of c.deref.result.now ≡ slots ++ x = ap values_of c.deref.ensures.value ∙ c.in_ok-refill.ensures ∙ ap (λ s. s ++ x) i.in_slots in
     let p = plan_mean c.args.part.now in
     let act = λ (fr : Frame). one_more (λ t. p (at_tuple fr t)) in
     record {
@@ -1016,9 +608,12 @@ clauses::values-loop-index-preserved g t c =
       turns = turns_next _ _ _ (lists_of c.in_ok-lists.lists) (tuple_at old x) _ _ i.turns (left_at (tuple_at old) tuples n x [] (omega arith) c.tuple.ensures) c.next_value.ensures.goes.was_clean
           (λ clean inside is_in.
           let x_in = element (TupleIn old) tuples n x [] inside.1 (omega arith) c.tuple.ensures in
-          let s = c.in_ok-lists.ensures.gives clean (frame_in_grown i.goes.grows held inside.0) is_in (tuple_in_grown i.goes.grows x x_in) in
+          let s = c.in_ok-lists.ensures.gives clean (frame_in_grown i.goes.grows held inside.0) is_in x at (tuple_in_grown i.goes.grows x x_in) in
           (s.0, ap (λ fr. act fr (tuple_at f (lists_of c.loop-index.lists)) (tuple_at old x) f) (sym (frame_grown i.goes.grows held inside.0)) ∙ ap (λ y. act (frame_at f held) (tuple_at f (lists_of c.loop-index.lists)) y f) (sym (tuple_grown i.goes.grows x x_in)) ∙ s.1));
       long = c.in_ok-lists.ensures.long ∙ ap suc i.long ∙ sym (add-one n);
+      in_slots =
+          ap (take (length held.slots.now)) (c.in_ok-refill.ensures ∙ ap (λ s. s ++ x) i.in_slots)
+          ∙ take_at slots x (length held.slots.now) (length-map held.slots.now (λ slot. item_views slot.value));
     }
 
 pub clauses::values-returns-in_err-lists-clause-gives : goal.clauses::values-returns-in_err-lists-clause-gives
@@ -1031,16 +626,39 @@ clauses::values-returns-in_err-lists-clause-gives g t c = λ clean inside tuples
     let n = c.loop-index.index in
     let tuples = c.args.tuples.now in
     let x = values_of c.tuple.result.now in
+    let slots = values_of held.slots.now in
+    let at : values_of c.deref.result.now ≡ slots ++ x = ap values_of c.deref.ensures.value ∙ c.in_ok-refill.ensures ∙ ap (λ s. s ++ x) i.in_slots in
     let p = plan_mean c.args.part.now in
     let act = λ (fr : Frame). one_more (λ t. p (at_tuple fr t)) in
     let e = c.in_err-lists.field-0.0 in
-    handed_on lists_of tuple_at TupleIn _ f' e c.from_residual.result c.from_residual.ensures.1
+    handed_on lists_of tuple_at TupleIn _ f' e c.from_residual-in_err-lists.result c.from_residual-in_err-lists.ensures.1
     (turns_stop _ _ _ lists_of tuple_at TupleIn (tuple_at old x) _ f' e i.turns (left_at (tuple_at old) tuples n x [] (omega arith) c.tuple.ensures) c.next_value.ensures.goes.was_clean
     (λ clean inside is_in.
     let x_in = element (TupleIn old) tuples n x [] inside.1 (omega arith) c.tuple.ensures in
     subst (λ fr. GivesLists (act fr (tuple_at f (lists_of c.loop-index.lists)) (tuple_at old x) f) f' (Err e)) (frame_grown i.goes.grows held inside.0)
     (subst (λ y. GivesLists (act (frame_at f held) (tuple_at f (lists_of c.loop-index.lists)) y f) f' (Err e)) (tuple_grown i.goes.grows x x_in)
-    (c.in_err-lists.ensures.gives clean (frame_in_grown i.goes.grows held inside.0) is_in (tuple_in_grown i.goes.grows x x_in)))) clean (inside, tuples_in))
+    (c.in_err-lists.ensures.gives clean (frame_in_grown i.goes.grows held inside.0) is_in x at (tuple_in_grown i.goes.grows x x_in)))) clean (inside, tuples_in))
+
+pub clauses::values-loop-index-init : goal.clauses::values-loop-index-init
+clauses::values-loop-index-init g t c =
+    let old = g.W.TreeSource.forest c.args.world.now in
+    let held = c.args.frame in
+    let frame = frame_at old held in
+    let none : lists_of c.new-lists.result ≡ [] = ap (map item_views) c.new-lists.ensures.items in
+    let slots = values_of held.slots.now in
+    let long = length-map held.slots.now (λ slot. item_views slot.value) in
+    record {
+      goes = stays _ _;
+      turns = record { rest = λ clean inside. subst (λ ls. TupleIn old ls × (in_turn (one_more (λ t. plan_mean c.args.part.now (at_tuple frame t))) (tuple_at old ls) (tuples_at old c.args.tuples.now) old ≡ for_each (λ t. plan_mean c.args.part.now (at_tuple frame t)) (tuples_at old c.args.tuples.now) old)) (sym none) (tt, refl) };
+      long = ap length c.new-lists.ensures.items;
+      in_slots = ap (take (length held.slots.now)) (values_of-clones held.slots.now c.in_ok-slots.slots.items c.in_ok-slots.ensures.ok) ∙ take_all (length held.slots.now) slots (omega (arith, long));
+    }
+
+pub clauses::values-returns-in_err-slots-clause-goes : goal.clauses::values-returns-in_err-slots-clause-goes
+clauses::values-returns-in_err-slots-clause-goes g t c = stays _ _
+
+pub clauses::values-returns-in_err-refill-clause-goes : goal.clauses::values-returns-in_err-refill-clause-goes
+clauses::values-returns-in_err-refill-clause-goes g t c = c.loop-index.invariant.goes
 
 pub clauses::values-returns-in_err-lists-clause-goes : goal.clauses::values-returns-in_err-lists-clause-goes
 clauses::values-returns-in_err-lists-clause-goes g t c = goes_on_to c.loop-index.invariant.goes c.in_err-lists.ensures.goes
@@ -1054,23 +672,23 @@ clauses::values-returns-clause-gives g t c = λ clean inside rest_in.
     turns_end _ _ _ c.loop-index.invariant.turns (ap (map (tuple_at old)) (drop_all c.loop-index.index c.args.tuples.now (omega arith))) clean (inside, rest_in)
 
 pub clauses::next_value-returns-clause-gives : goal.clauses::next_value-returns-clause-gives
-clauses::next_value-returns-clause-gives g t c = λ clean inside done_in tuple_in.
+clauses::next_value-returns-clause-gives g t c = λ clean inside done_in tuple at tuple_in.
     let f = g.W.TreeSource.forest c.args.world.now in
     let held = c.args.frame in
     let frame = frame_at f held in
     let p = plan_mean c.args.part.now in
-    list_next (λ t. p (at_tuple frame t)) (lists_of c.args.done) (item_views c.in_ok-list.list) (lists_of c.push.new.self) (tuple_at f (values_of c.args.tuple.now)) _ _
-    c.in_ok-list.ensures.goes.grows done_in (c.in_ok-list.ensures.gives clean inside tuple_in) (ap (map item_views) c.in_ok-push.ensures.items ∙ map-append item_views c.args.done.items (c.in_ok-list.list ∷ []))
+    list_next (λ t. p (at_tuple frame t)) (lists_of c.args.done) (item_views c.in_ok-list.list) (lists_of c.push.new.self) (tuple_at f tuple) _ _
+    c.in_ok-list.ensures.goes.grows done_in (c.in_ok-list.ensures.gives clean inside tuple at tuple_in) (ap (map item_views) c.in_ok-push.ensures.items ∙ map-append item_views c.args.done.items (c.in_ok-list.list ∷ []))
 
 pub clauses::next_value-returns-in_err-list-clause-gives : goal.clauses::next_value-returns-in_err-list-clause-gives
-clauses::next_value-returns-in_err-list-clause-gives g t c = λ clean inside done_in tuple_in.
+clauses::next_value-returns-in_err-list-clause-gives g t c = λ clean inside done_in tuple at tuple_in.
     let f = g.W.TreeSource.forest c.args.world.now in
     let held = c.args.frame in
     let frame = frame_at f held in
     let f' = g.W.TreeSource.forest c.at_tuple.new.world in
     let e = c.in_err-list.field-0.0 in
     handed_on lists_of tuple_at TupleIn _ f' e c.from_residual.result c.from_residual.ensures.1
-    (go_on_stop item_views items_at AreIn lists_of tuple_at TupleIn _ (λ y. give (tuple_at f (lists_of c.args.done) ++ y ∷ [])) f' e (c.in_err-list.ensures.gives clean inside tuple_in))
+    (go_on_stop item_views items_at AreIn lists_of tuple_at TupleIn _ (λ y. give (tuple_at f (lists_of c.args.done) ++ y ∷ [])) f' e (c.in_err-list.ensures.gives clean inside tuple at tuple_in))
 
 pub clauses::next_value-returns-in_err-list-clause-goes : goal.clauses::next_value-returns-in_err-list-clause-goes
 clauses::next_value-returns-in_err-list-clause-goes g t c = c.in_err-list.ensures.goes
@@ -1091,6 +709,8 @@ clauses::tests-loop-index-preserved g t c =
     let n = c.loop-index.index in
     let tuples = c.args.tuples.now in
     let x = values_of c.tuple.result.now in
+    let slots = values_of held.slots.now in
+    let at : values_of c.deref.result.now ≡ slots ++ x = ap values_of c.deref.ensures.value ∙ c.in_ok-refill.ensures ∙ ap (λ s. s ++ x) i.in_slots in
     let p = plan_mean c.args.part.now in
     let act = λ (fr : Frame). one_more (λ t. Forms.tested p (at_tuple fr t)) in
     record {
@@ -1098,9 +718,12 @@ clauses::tests-loop-index-preserved g t c =
       turns = turns_next _ _ _ (c.in_ok-tests.tests.items) (tuple_at old x) _ _ i.turns (left_at (tuple_at old) tuples n x [] (omega arith) c.tuple.ensures) c.next_test.ensures.goes.was_clean
           (λ clean inside is_in.
           let x_in = element (TupleIn old) tuples n x [] inside.1 (omega arith) c.tuple.ensures in
-          let s = c.in_ok-tests.ensures.gives clean (frame_in_grown i.goes.grows held inside.0) (tuple_in_grown i.goes.grows x x_in) in
+          let s = c.in_ok-tests.ensures.gives clean (frame_in_grown i.goes.grows held inside.0) x at (tuple_in_grown i.goes.grows x x_in) in
           (s.0, ap (λ fr. act fr (same_tests f (c.loop-index.tests.items)) (tuple_at old x) f) (sym (frame_grown i.goes.grows held inside.0)) ∙ ap (λ y. act (frame_at f held) (same_tests f (c.loop-index.tests.items)) y f) (sym (tuple_grown i.goes.grows x x_in)) ∙ s.1));
       long = c.in_ok-tests.ensures.long ∙ ap suc i.long ∙ sym (add-one n);
+      in_slots =
+          ap (take (length held.slots.now)) (c.in_ok-refill.ensures ∙ ap (λ s. s ++ x) i.in_slots)
+          ∙ take_at slots x (length held.slots.now) (length-map held.slots.now (λ slot. item_views slot.value));
     }
 
 pub clauses::tests-returns-in_err-tests-clause-gives : goal.clauses::tests-returns-in_err-tests-clause-gives
@@ -1113,16 +736,39 @@ clauses::tests-returns-in_err-tests-clause-gives g t c = λ clean inside tuples_
     let n = c.loop-index.index in
     let tuples = c.args.tuples.now in
     let x = values_of c.tuple.result.now in
+    let slots = values_of held.slots.now in
+    let at : values_of c.deref.result.now ≡ slots ++ x = ap values_of c.deref.ensures.value ∙ c.in_ok-refill.ensures ∙ ap (λ s. s ++ x) i.in_slots in
     let p = plan_mean c.args.part.now in
     let act = λ (fr : Frame). one_more (λ t. Forms.tested p (at_tuple fr t)) in
     let e = c.in_err-tests.field-0.0 in
-    handed_on (λ (v : Vec Bool). v.items) same_tests any_tests _ f' e c.from_residual.result c.from_residual.ensures.1
+    handed_on (λ (v : Vec Bool). v.items) same_tests any_tests _ f' e c.from_residual-in_err-tests.result c.from_residual-in_err-tests.ensures.1
     (turns_stop _ _ _ (λ (v : Vec Bool). v.items) same_tests any_tests (tuple_at old x) _ f' e i.turns (left_at (tuple_at old) tuples n x [] (omega arith) c.tuple.ensures) c.next_test.ensures.goes.was_clean
     (λ clean inside is_in.
     let x_in = element (TupleIn old) tuples n x [] inside.1 (omega arith) c.tuple.ensures in
     subst (λ fr. GivesTests (act fr (same_tests f (c.loop-index.tests.items)) (tuple_at old x) f) f' (Err e)) (frame_grown i.goes.grows held inside.0)
     (subst (λ y. GivesTests (act (frame_at f held) (same_tests f (c.loop-index.tests.items)) y f) f' (Err e)) (tuple_grown i.goes.grows x x_in)
-    (c.in_err-tests.ensures.gives clean (frame_in_grown i.goes.grows held inside.0) (tuple_in_grown i.goes.grows x x_in)))) clean (inside, tuples_in))
+    (c.in_err-tests.ensures.gives clean (frame_in_grown i.goes.grows held inside.0) x at (tuple_in_grown i.goes.grows x x_in)))) clean (inside, tuples_in))
+
+pub clauses::tests-loop-index-init : goal.clauses::tests-loop-index-init
+clauses::tests-loop-index-init g t c =
+    let old = g.W.TreeSource.forest c.args.world.now in
+    let held = c.args.frame in
+    let frame = frame_at old held in
+    let none : c.new-tests.result.items ≡ [] = c.new-tests.ensures.items in
+    let slots = values_of held.slots.now in
+    let long = length-map held.slots.now (λ slot. item_views slot.value) in
+    record {
+      goes = stays _ _;
+      turns = record { rest = λ clean inside. subst (λ bs. Unit {0} × (in_turn (one_more (λ t. Forms.tested (plan_mean c.args.part.now) (at_tuple frame t))) bs (tuples_at old c.args.tuples.now) old ≡ for_each (λ t. Forms.tested (plan_mean c.args.part.now) (at_tuple frame t)) (tuples_at old c.args.tuples.now) old)) (sym none) (tt, refl) };
+      long = ap length c.new-tests.ensures.items;
+      in_slots = ap (take (length held.slots.now)) (values_of-clones held.slots.now c.in_ok-slots.slots.items c.in_ok-slots.ensures.ok) ∙ take_all (length held.slots.now) slots (omega (arith, long));
+    }
+
+pub clauses::tests-returns-in_err-slots-clause-goes : goal.clauses::tests-returns-in_err-slots-clause-goes
+clauses::tests-returns-in_err-slots-clause-goes g t c = stays _ _
+
+pub clauses::tests-returns-in_err-refill-clause-goes : goal.clauses::tests-returns-in_err-refill-clause-goes
+clauses::tests-returns-in_err-refill-clause-goes g t c = c.loop-index.invariant.goes
 
 pub clauses::tests-returns-in_err-tests-clause-goes : goal.clauses::tests-returns-in_err-tests-clause-goes
 clauses::tests-returns-in_err-tests-clause-goes g t c = goes_on_to c.loop-index.invariant.goes c.in_err-tests.ensures.goes
@@ -1136,18 +782,18 @@ clauses::tests-returns-clause-gives g t c = λ clean inside rest_in.
     turns_end _ _ _ c.loop-index.invariant.turns (ap (map (tuple_at old)) (drop_all c.loop-index.index c.args.tuples.now (omega arith))) clean (inside, rest_in)
 
 pub clauses::next_test-returns-clause-gives : goal.clauses::next_test-returns-clause-gives
-clauses::next_test-returns-clause-gives g t c = λ clean inside tuple_in.
+clauses::next_test-returns-clause-gives g t c = λ clean inside tuple at tuple_in.
     let f = g.W.TreeSource.forest c.args.world.now in
     let held = c.args.frame in
     let frame = frame_at f held in
     let f' = g.W.TreeSource.forest c.at_tuple.new.world in
     let p = plan_mean c.args.part.now in
-    let value = c.in_ok-value.ensures.gives clean inside tuple_in in
-    let tested = tested_ok p (at_tuple frame (tuple_at f (values_of c.args.tuple.now))) _ c.in_ok-holds.holds f f' value.1 (ap (λ xs. effective (items_at f' (map item_view xs))) (sym c.deref.ensures.value) ∙ sym (c.in_ok-holds.ensures f')) in
+    let value = c.in_ok-value.ensures.gives clean inside tuple at tuple_in in
+    let tested = tested_ok p (at_tuple frame (tuple_at f tuple)) _ c.in_ok-holds.holds f f' value.1 (ap (λ xs. effective (items_at f' (map item_view xs))) (sym c.deref.ensures.value) ∙ sym (c.in_ok-holds.ensures f')) in
     (tt, ap (λ o. go_on o (λ y. give (c.args.done.items ++ y ∷ []))) tested ∙ ap (λ bs. (Ok bs, f')) (sym c.in_ok-push.ensures.items))
 
 pub clauses::next_test-returns-in_err-value-clause-gives : goal.clauses::next_test-returns-in_err-value-clause-gives
-clauses::next_test-returns-in_err-value-clause-gives g t c = λ clean inside tuple_in.
+clauses::next_test-returns-in_err-value-clause-gives g t c = λ clean inside tuple at tuple_in.
     let f = g.W.TreeSource.forest c.args.world.now in
     let held = c.args.frame in
     let frame = frame_at f held in
@@ -1155,20 +801,20 @@ clauses::next_test-returns-in_err-value-clause-gives g t c = λ clean inside tup
     let e = c.in_err-value.field-0.0 in
     handed_on (λ (v : Vec Bool). v.items) same_tests any_tests _ f' e c.from_residual.result c.from_residual.ensures.1
     (go_on_stop (λ (b : Bool). b) (λ trees b. b) (λ trees b. Unit {0}) (λ (v : Vec Bool). v.items) same_tests any_tests _ (λ y. give (c.args.done.items ++ y ∷ [])) f' e
-    (go_on_stop item_views items_at AreIn (λ (b : Bool). b) (λ trees b. b) (λ trees b. Unit {0}) _ (λ xs. judged (effective xs)) f' e (c.in_err-value.ensures.gives clean inside tuple_in)))
+    (go_on_stop item_views items_at AreIn (λ (b : Bool). b) (λ trees b. b) (λ trees b. Unit {0}) _ (λ xs. judged (effective xs)) f' e (c.in_err-value.ensures.gives clean inside tuple at tuple_in)))
 
 pub clauses::next_test-returns-in_err-holds-clause-gives : goal.clauses::next_test-returns-in_err-holds-clause-gives
-clauses::next_test-returns-in_err-holds-clause-gives g t c = λ clean inside tuple_in.
+clauses::next_test-returns-in_err-holds-clause-gives g t c = λ clean inside tuple at tuple_in.
     let f = g.W.TreeSource.forest c.args.world.now in
     let held = c.args.frame in
     let frame = frame_at f held in
     let f' = g.W.TreeSource.forest c.at_tuple.new.world in
     let p = plan_mean c.args.part.now in
     let code = c.in_err-holds.field-0.0 in
-    let value = c.in_ok-value.ensures.gives clean inside tuple_in in
-    let tested = tested_err p (at_tuple frame (tuple_at f (values_of c.args.tuple.now))) _ code f f' value.1 (ap (λ xs. effective (items_at f' (map item_view xs))) (sym c.deref.ensures.value) ∙ sym (c.in_err-holds.ensures f')) in
+    let value = c.in_ok-value.ensures.gives clean inside tuple at tuple_in in
+    let tested = tested_err p (at_tuple frame (tuple_at f tuple)) _ code f f' value.1 (ap (λ xs. effective (items_at f' (map item_view xs))) (sym c.deref.ensures.value) ∙ sym (c.in_err-holds.ensures f')) in
     handed_on (λ (v : Vec Bool). v.items) same_tests any_tests _ f' (OfCode code) c.from_residual-in_err-holds.result c.from_residual-in_err-holds.ensures.1
-    (stops (Forms.tested p (at_tuple frame (tuple_at f (values_of c.args.tuple.now))) f) (λ y. give (c.args.done.items ++ y ∷ [])) code tested)
+    (stops (Forms.tested p (at_tuple frame (tuple_at f tuple)) f) (λ y. give (c.args.done.items ++ y ∷ [])) code tested)
 
 pub clauses::next_test-returns-in_err-value-clause-goes : goal.clauses::next_test-returns-in_err-value-clause-goes
 clauses::next_test-returns-in_err-value-clause-goes g t c = c.in_err-value.ensures.goes
@@ -1183,16 +829,12 @@ pub clauses::next_test-returns-clause-goes : goal.clauses::next_test-returns-cla
 clauses::next_test-returns-clause-goes g t c = c.in_ok-value.ensures.goes
 
 pub clauses::at_tuple-returns-clause-gives : goal.clauses::at_tuple-returns-clause-gives
-clauses::at_tuple-returns-clause-gives g t c = λ clean inside tuple_in.
+clauses::at_tuple-returns-clause-gives g t c = λ clean inside tuple at tuple_in.
     let f = g.W.TreeSource.forest c.args.world.now in
     let held = c.args.frame in
-    let inner : Held = record { slots = c.deref.result; focus = held.focus; addresses = held.addresses } in
-    let e : values_of inner.slots.now ≡ values_of held.slots.now ++ values_of c.args.tuple.now = ap values_of c.deref.ensures.value ∙ c.in_ok-slots.ensures in
-    subst (λ fr. GivesSequence (plan_mean c.args.part.now fr f) (g.W.TreeSource.forest c.evaluate.new.world) c.evaluate.result) (frame_inner f held inner c.args.tuple.now e refl refl)
-    (c.evaluate.ensures.gives clean (frame_inner_in f held inner c.args.tuple.now e refl refl inside tuple_in))
-
-pub clauses::at_tuple-returns-in_err-slots-clause-goes : goal.clauses::at_tuple-returns-in_err-slots-clause-goes
-clauses::at_tuple-returns-in_err-slots-clause-goes g t c = stays _ _
+    let inner : Held = record { slots = c.args.slots; focus = held.focus; addresses = held.addresses } in
+    subst (λ fr. GivesSequence (plan_mean c.args.part.now fr f) (g.W.TreeSource.forest c.evaluate.new.world) c.evaluate.result) (frame_inner f held inner tuple at refl refl)
+    (c.evaluate.ensures.gives clean (frame_inner_in f held inner tuple at refl refl inside tuple_in))
 
 pub clauses::at_tuple-returns-clause-goes : goal.clauses::at_tuple-returns-clause-goes
 clauses::at_tuple-returns-clause-goes g t c = c.evaluate.ensures.goes
@@ -1564,249 +1206,6 @@ evaluation::evaluate-returns-in-Root-clause-gives g t c = λ clean inside. rw (c
 pub evaluation::evaluate-returns-in-Root-clause-goes : goal.evaluation::evaluate-returns-in-Root-clause-goes
 evaluation::evaluate-returns-in-Root-clause-goes g t c = c.root.ensures.goes
 
-pub evaluation::evaluate-returns-in_err-nodes-in-Step-clause-gives : goal.evaluation::evaluate-returns-in_err-nodes-in-Step-clause-gives
-evaluation::evaluate-returns-in_err-nodes-in-Step-clause-gives g t c = λ clean inside.
-    let f = g.W.TreeSource.forest c.args.world.now in
-    let frame = frame_at f c.args.frame in
-    let f' = g.W.TreeSource.forest c.axis_items.new.world in
-    let axis = c.in-Step.axis in
-    let predicates = map plan_mean c.in-Step.predicates in
-    let next = λ (xs : List Item). in_turn (Forms.filtered frame) xs predicates >>= (λ ys. give (in_axis_order axis ys)) in
-    cut item_views items_at AreIn item_views items_at AreIn (plan_mean c.args.plan.now frame f) (on_axis axis c.in-Step.test frame.focus f) next f' c.in_err-nodes-in-Step.field-0.0 c.from_residual-in_err-nodes-in-Step.result
-    (ap (λ p. plan_mean p frame f) c.in-Step.is ∙ ap (λ m. m frame f) (plan-Step axis c.in-Step.test c.in-Step.predicates) ∙ step_is axis c.in-Step.test predicates frame f) c.from_residual-in_err-nodes-in-Step.ensures.1
-    (c.in_err-nodes-in-Step.ensures.gives clean inside)
-
-pub evaluation::evaluate-returns-in_err-kept-in-Step-clause-gives : goal.evaluation::evaluate-returns-in_err-kept-in-Step-clause-gives
-evaluation::evaluate-returns-in_err-kept-in-Step-clause-gives g t c = λ clean inside.
-    let f = g.W.TreeSource.forest c.args.world.now in
-    let held = c.args.frame in
-    let frame = frame_at f held in
-    let f' = g.W.TreeSource.forest c.axis_items.new.world in
-    let f'' = g.W.TreeSource.forest c.filter-in-Step.new.world in
-    let grows = c.in_ok-nodes-in-Step.ensures.goes.grows in
-    let axis = c.in-Step.axis in
-    let nodes = item_views c.in_ok-nodes-in-Step.nodes in
-    let first = c.in_ok-nodes-in-Step.ensures.gives (c.filter-in-Step.ensures.goes.was_clean clean) inside in
-    let filtering = λ (fr : Frame) (ps : List Plan). in_turn (Forms.filtered fr) (items_at f' nodes) (map plan_mean ps) f' in
-    let next = λ (ys : List Item). give (in_axis_order axis ys) in
-    cut item_views items_at AreIn item_views items_at AreIn (plan_mean c.args.plan.now frame f) (filtering (frame_at f' held) c.as_slice-in-Step.result.now) next f'' c.in_err-kept-in-Step.field-0.0 c.from_residual-in_err-kept-in-Step.result
-    (ap (λ p. plan_mean p frame f) c.in-Step.is ∙ ap (λ m. m frame f) (plan-Step axis c.in-Step.test c.in-Step.predicates) ∙ step_is axis c.in-Step.test (map plan_mean c.in-Step.predicates) frame f
-    ∙ ap (λ o. go_on o (λ xs. in_turn (Forms.filtered frame) xs (map plan_mean c.in-Step.predicates) >>= next)) first.1
-    ∙ ap (λ fr. go_on (filtering fr c.in-Step.predicates) next) (sym (frame_grown grows held inside)) ∙ ap (λ ps. go_on (filtering (frame_at f' held) ps) next) (sym c.as_slice-in-Step.ensures)) c.from_residual-in_err-kept-in-Step.ensures.1
-    (c.in_err-kept-in-Step.ensures.gives clean (frame_in_grown grows held inside) first.0)
-
-pub evaluation::evaluate-returns-in-Step-clause-gives : goal.evaluation::evaluate-returns-in-Step-clause-gives
-evaluation::evaluate-returns-in-Step-clause-gives g t c = λ clean inside.
-    let f = g.W.TreeSource.forest c.args.world.now in
-    let held = c.args.frame in
-    let frame = frame_at f held in
-    let f' = g.W.TreeSource.forest c.axis_items.new.world in
-    let f'' = g.W.TreeSource.forest c.filter-in-Step.new.world in
-    let grows = c.in_ok-nodes-in-Step.ensures.goes.grows in
-    let axis = c.in-Step.axis in
-    let nodes = item_views c.in_ok-nodes-in-Step.nodes in
-    let kept = item_views c.in_ok-kept-in-Step.kept in
-    let first = c.in_ok-nodes-in-Step.ensures.gives (c.filter-in-Step.ensures.goes.was_clean clean) inside in
-    let second = c.in_ok-kept-in-Step.ensures.gives clean (frame_in_grown grows held inside) first.0 in
-    let filtering = λ (fr : Frame) (ps : List Plan). in_turn (Forms.filtered fr) (items_at f' nodes) (map plan_mean ps) f' in
-    let next = λ (ys : List Item). give (in_axis_order axis ys) in
-    let ordered : item_views c.in_axis_order.result ≡ in_axis_order axis kept = c.in_axis_order.ensures in (
-      subst (AreIn f'') (sym ordered) (axis_order_in f'' axis kept second.0),
-      ap (λ p. plan_mean p frame f) c.in-Step.is ∙ ap (λ m. m frame f) (plan-Step axis c.in-Step.test c.in-Step.predicates) ∙ step_is axis c.in-Step.test (map plan_mean c.in-Step.predicates) frame f
-          ∙ ap (λ o. go_on o (λ xs. in_turn (Forms.filtered frame) xs (map plan_mean c.in-Step.predicates) >>= next)) first.1
-          ∙ ap (λ fr. go_on (filtering fr c.in-Step.predicates) next) (sym (frame_grown grows held inside)) ∙ ap (λ ps. go_on (filtering (frame_at f' held) ps) next) (sym c.as_slice-in-Step.ensures)
-          ∙ ap (λ o. go_on o next) second.1 ∙ ap (λ xs. (Ok xs, f'')) (axis_order_read f'' axis kept ∙ ap (items_at f'') (sym ordered)),
-    )
-
-pub evaluation::evaluate-returns-in_err-nodes-in-Step-clause-goes : goal.evaluation::evaluate-returns-in_err-nodes-in-Step-clause-goes
-evaluation::evaluate-returns-in_err-nodes-in-Step-clause-goes g t c = c.in_err-nodes-in-Step.ensures.goes
-
-pub evaluation::evaluate-returns-in_err-kept-in-Step-clause-goes : goal.evaluation::evaluate-returns-in_err-kept-in-Step-clause-goes
-evaluation::evaluate-returns-in_err-kept-in-Step-clause-goes g t c = goes_on_to c.in_ok-nodes-in-Step.ensures.goes c.in_err-kept-in-Step.ensures.goes
-
-pub evaluation::evaluate-returns-in-Step-clause-goes : goal.evaluation::evaluate-returns-in-Step-clause-goes
-evaluation::evaluate-returns-in-Step-clause-goes g t c = goes_on_to c.in_ok-nodes-in-Step.ensures.goes c.in_ok-kept-in-Step.ensures.goes
-
-pub evaluation::evaluate-returns-in_err-value-in-Named-clause-gives : goal.evaluation::evaluate-returns-in_err-value-in-Named-clause-gives
-evaluation::evaluate-returns-in_err-value-in-Named-clause-gives g t c = λ clean inside.
-    let f = g.W.TreeSource.forest c.args.world.now in
-    let frame = frame_at f c.args.frame in
-    let f' = g.W.TreeSource.forest c.evaluate-in-Named.new.world in
-    let kind = c.in-Named.kind in
-    let part = plan_mean c.in-Named.part in
-    let next = λ (xs : List Item). on_trees (λ trees. name_of kind (atomized trees xs)) >>= (λ good. part frame >>= (λ ys. plant_named kind good ys)) in
-    cut item_views items_at AreIn item_views items_at AreIn (plan_mean c.args.plan.now frame f) (plan_mean c.get-in-Named.result.now frame f) next f' c.in_err-value-in-Named.field-0.0 c.from_residual-in_err-value-in-Named.result
-    (ap (λ p. plan_mean p frame f) c.in-Named.is ∙ ap (λ m. m frame f) (plan-Named kind c.in-Named.name c.in-Named.part) ∙ named_is kind (plan_mean c.in-Named.name) part frame f ∙ ap (λ p. go_on (plan_mean p frame f) next) (sym c.get-in-Named.ensures)) c.from_residual-in_err-value-in-Named.ensures.1
-    (c.in_err-value-in-Named.ensures.gives clean inside)
-
-pub evaluation::evaluate-returns-in_err-name-in-Named-clause-gives : goal.evaluation::evaluate-returns-in_err-name-in-Named-clause-gives
-evaluation::evaluate-returns-in_err-name-in-Named-clause-gives g t c = λ clean inside.
-    let f = g.W.TreeSource.forest c.args.world.now in
-    let frame = frame_at f c.args.frame in
-    let f' = g.W.TreeSource.forest c.evaluate-in-Named.new.world in
-    let f'' = g.W.TreeSource.forest c.node_name.new.world in
-    let kind = c.in-Named.kind in
-    let part = plan_mean c.in-Named.part in
-    let value = item_views c.in_ok-value-in-Named.value in
-    let found = c.in_ok-value-in-Named.ensures.gives (c.node_name.ensures.goes.was_clean clean) inside in
-    let d : map item_view c.deref-in-Named.result.now ≡ value = ap (map item_view) c.deref-in-Named.ensures.value in
-    let naming = λ (xs : List ItemView). on_trees (λ trees. name_of kind (atomized trees (items_at f' xs))) f' in
-    let next = λ (good : Text). part frame >>= (λ ys. plant_named kind good ys) in
-    let meant : plan_mean c.args.plan.now frame f ≡ go_on (naming (map item_view c.deref-in-Named.result.now)) next =
-    ap (λ p. plan_mean p frame f) c.in-Named.is ∙ ap (λ m. m frame f) (plan-Named kind c.in-Named.name c.in-Named.part) ∙ named_is kind (plan_mean c.in-Named.name) part frame f
-    ∙ ap (λ p. go_on (plan_mean p frame f) (λ xs. on_trees (λ trees. name_of kind (atomized trees xs)) >>= next)) (sym c.get-in-Named.ensures)
-    ∙ ap (λ o. go_on o (λ xs. on_trees (λ trees. name_of kind (atomized trees xs)) >>= next)) found.1 ∙ ap (λ xs. go_on (naming xs) next) (sym d) in
-    cut (string_bytes {Z = Global}) (λ trees t. t) (λ trees t. Unit {0}) item_views items_at AreIn (plan_mean c.args.plan.now frame f) (naming (map item_view c.deref-in-Named.result.now)) next f'' c.in_err-name-in-Named.field-0.0 c.from_residual-in_err-name-in-Named.result
-    meant c.from_residual-in_err-name-in-Named.ensures.1 (c.in_err-name-in-Named.ensures.gives clean (subst (AreIn f') (sym d) found.0))
-
-pub evaluation::evaluate-returns-in_err-content-in-Named-clause-gives : goal.evaluation::evaluate-returns-in_err-content-in-Named-clause-gives
-evaluation::evaluate-returns-in_err-content-in-Named-clause-gives g t c = λ clean inside.
-    let f = g.W.TreeSource.forest c.args.world.now in
-    let held = c.args.frame in
-    let frame = frame_at f held in
-    let f' = g.W.TreeSource.forest c.evaluate-in-Named.new.world in
-    let f'' = g.W.TreeSource.forest c.node_name.new.world in
-    let f3 = g.W.TreeSource.forest c.evaluate-in-Named-2.new.world in
-    let kind = c.in-Named.kind in
-    let part = plan_mean c.in-Named.part in
-    let value = item_views c.in_ok-value-in-Named.value in
-    let was = c.evaluate-in-Named-2.ensures.goes.was_clean clean in
-    let found = c.in_ok-value-in-Named.ensures.gives (c.node_name.ensures.goes.was_clean was) inside in
-    let d : map item_view c.deref-in-Named.result.now ≡ value = ap (map item_view) c.deref-in-Named.ensures.value in
-    let name = c.in_ok-name-in-Named.ensures.gives was (subst (AreIn f') (sym d) found.0) in
-    let good = string_bytes c.in_ok-name-in-Named.name in
-    let grows = extends_more c.in_ok-value-in-Named.ensures.goes.grows c.in_ok-name-in-Named.ensures.goes.grows in
-    let naming = λ (xs : List ItemView). on_trees (λ trees. name_of kind (atomized trees (items_at f' xs))) f' in
-    let next = λ (good : Text). part frame >>= (λ ys. plant_named kind good ys) in
-    let last = λ (ys : List Item). plant_named kind good ys in
-    let meant : plan_mean c.args.plan.now frame f ≡ go_on (plan_mean c.get-in-Named-2.result.now (frame_at f'' held) f'') last =
-    ap (λ p. plan_mean p frame f) c.in-Named.is ∙ ap (λ m. m frame f) (plan-Named kind c.in-Named.name c.in-Named.part) ∙ named_is kind (plan_mean c.in-Named.name) part frame f
-    ∙ ap (λ p. go_on (plan_mean p frame f) (λ xs. on_trees (λ trees. name_of kind (atomized trees xs)) >>= next)) (sym c.get-in-Named.ensures)
-    ∙ ap (λ o. go_on o (λ xs. on_trees (λ trees. name_of kind (atomized trees xs)) >>= next)) found.1 ∙ ap (λ xs. go_on (naming xs) next) (sym d)
-    ∙ ap (λ o. go_on o next) name.1 ∙ ap (λ fr. go_on (part fr f'') last) (sym (frame_grown grows held inside)) ∙ ap (λ p. go_on (plan_mean p (frame_at f'' held) f'') last) (sym c.get-in-Named-2.ensures) in
-    cut item_views items_at AreIn item_views items_at AreIn (plan_mean c.args.plan.now frame f) (plan_mean c.get-in-Named-2.result.now (frame_at f'' held) f'') last f3 c.in_err-content-in-Named.field-0.0 c.from_residual-in_err-content-in-Named.result
-    meant c.from_residual-in_err-content-in-Named.ensures.1 (c.in_err-content-in-Named.ensures.gives clean (frame_in_grown grows held inside))
-
-pub evaluation::evaluate-returns-in-Named-clause-gives : goal.evaluation::evaluate-returns-in-Named-clause-gives
-evaluation::evaluate-returns-in-Named-clause-gives g t c = λ clean inside.
-    let f = g.W.TreeSource.forest c.args.world.now in
-    let held = c.args.frame in
-    let frame = frame_at f held in
-    let f' = g.W.TreeSource.forest c.evaluate-in-Named.new.world in
-    let f'' = g.W.TreeSource.forest c.node_name.new.world in
-    let f3 = g.W.TreeSource.forest c.evaluate-in-Named-2.new.world in
-    let f4 = g.W.TreeSource.forest c.named.new.world in
-    let kind = c.in-Named.kind in
-    let part = plan_mean c.in-Named.part in
-    let value = item_views c.in_ok-value-in-Named.value in
-    let content = item_views c.in_ok-content-in-Named.content in
-    let was = c.named.ensures.goes.was_clean clean in
-    let before = c.in_ok-content-in-Named.ensures.goes.was_clean was in
-    let found = c.in_ok-value-in-Named.ensures.gives (c.node_name.ensures.goes.was_clean before) inside in
-    let d : map item_view c.deref-in-Named.result.now ≡ value = ap (map item_view) c.deref-in-Named.ensures.value in
-    let d' : map item_view c.deref-in-Named-2.result.now ≡ content = ap (map item_view) c.deref-in-Named-2.ensures.value in
-    let name = c.in_ok-name-in-Named.ensures.gives before (subst (AreIn f') (sym d) found.0) in
-    let good = string_bytes c.in_ok-name-in-Named.name in
-    let grows = extends_more c.in_ok-value-in-Named.ensures.goes.grows c.in_ok-name-in-Named.ensures.goes.grows in
-    let inner = c.in_ok-content-in-Named.ensures.gives was (frame_in_grown grows held inside) in
-    let naming = λ (xs : List ItemView). on_trees (λ trees. name_of kind (atomized trees (items_at f' xs))) f' in
-    let next = λ (good : Text). part frame >>= (λ ys. plant_named kind good ys) in
-    let last = λ (ys : List Item). plant_named kind good ys in
-    let meant : plan_mean c.args.plan.now frame f ≡ plant_named kind good (items_at f3 (map item_view c.deref-in-Named-2.result.now)) f3 =
-    ap (λ p. plan_mean p frame f) c.in-Named.is ∙ ap (λ m. m frame f) (plan-Named kind c.in-Named.name c.in-Named.part) ∙ named_is kind (plan_mean c.in-Named.name) part frame f
-    ∙ ap (λ p. go_on (plan_mean p frame f) (λ xs. on_trees (λ trees. name_of kind (atomized trees xs)) >>= next)) (sym c.get-in-Named.ensures)
-    ∙ ap (λ o. go_on o (λ xs. on_trees (λ trees. name_of kind (atomized trees xs)) >>= next)) found.1 ∙ ap (λ xs. go_on (naming xs) next) (sym d)
-    ∙ ap (λ o. go_on o next) name.1 ∙ ap (λ fr. go_on (part fr f'') last) (sym (frame_grown grows held inside)) ∙ ap (λ p. go_on (plan_mean p (frame_at f'' held) f'') last) (sym c.get-in-Named-2.ensures)
-    ∙ ap (λ o. go_on o last) inner.1 ∙ ap (λ xs. plant_named kind good (items_at f3 xs) f3) (sym d') in
-    subst (λ o. GivesSequence o f4 c.named.result) (sym meant) (c.named.ensures.gives clean (subst (AreIn f3) (sym d') inner.0))
-
-pub evaluation::evaluate-returns-in_err-value-in-Named-clause-goes : goal.evaluation::evaluate-returns-in_err-value-in-Named-clause-goes
-evaluation::evaluate-returns-in_err-value-in-Named-clause-goes g t c = c.in_err-value-in-Named.ensures.goes
-
-pub evaluation::evaluate-returns-in_err-name-in-Named-clause-goes : goal.evaluation::evaluate-returns-in_err-name-in-Named-clause-goes
-evaluation::evaluate-returns-in_err-name-in-Named-clause-goes g t c = goes_on_to c.in_ok-value-in-Named.ensures.goes c.in_err-name-in-Named.ensures.goes
-
-pub evaluation::evaluate-returns-in_err-content-in-Named-clause-goes : goal.evaluation::evaluate-returns-in_err-content-in-Named-clause-goes
-evaluation::evaluate-returns-in_err-content-in-Named-clause-goes g t c = goes_on_to (goes_on_to c.in_ok-value-in-Named.ensures.goes c.in_ok-name-in-Named.ensures.goes) c.in_err-content-in-Named.ensures.goes
-
-pub evaluation::evaluate-returns-in-Named-clause-goes : goal.evaluation::evaluate-returns-in-Named-clause-goes
-evaluation::evaluate-returns-in-Named-clause-goes g t c = goes_on_to (goes_on_to (goes_on_to c.in_ok-value-in-Named.ensures.goes c.in_ok-name-in-Named.ensures.goes) c.in_ok-content-in-Named.ensures.goes) c.named.ensures.goes
-
-pub evaluation::evaluate-returns-in_err-content-in-Unnamed-clause-gives : goal.evaluation::evaluate-returns-in_err-content-in-Unnamed-clause-gives
-evaluation::evaluate-returns-in_err-content-in-Unnamed-clause-gives g t c = λ clean inside.
-    let f = g.W.TreeSource.forest c.args.world.now in
-    let frame = frame_at f c.args.frame in
-    let f' = g.W.TreeSource.forest c.evaluate-in-Unnamed.new.world in
-    let next = λ (xs : List Item). plant_unnamed c.in-Unnamed.kind xs in
-    cut item_views items_at AreIn item_views items_at AreIn (plan_mean c.args.plan.now frame f) (plan_mean c.get-in-Unnamed.result.now frame f) next f' c.in_err-content-in-Unnamed.field-0.0 c.from_residual-in_err-content-in-Unnamed.result
-    (ap (λ p. plan_mean p frame f) c.in-Unnamed.is ∙ ap (λ m. m frame f) (plan-Unnamed c.in-Unnamed.kind c.in-Unnamed.part) ∙ ap (λ p. go_on (plan_mean p frame f) next) (sym c.get-in-Unnamed.ensures)) c.from_residual-in_err-content-in-Unnamed.ensures.1
-    (c.in_err-content-in-Unnamed.ensures.gives clean inside)
-
-pub evaluation::evaluate-returns-in-Unnamed-clause-gives : goal.evaluation::evaluate-returns-in-Unnamed-clause-gives
-evaluation::evaluate-returns-in-Unnamed-clause-gives g t c = λ clean inside.
-    let f = g.W.TreeSource.forest c.args.world.now in
-    let frame = frame_at f c.args.frame in
-    let f' = g.W.TreeSource.forest c.evaluate-in-Unnamed.new.world in
-    let f'' = g.W.TreeSource.forest c.unnamed.new.world in
-    let kind = c.in-Unnamed.kind in
-    let content = item_views c.in_ok-content-in-Unnamed.content in
-    let value = c.in_ok-content-in-Unnamed.ensures.gives (c.unnamed.ensures.goes.was_clean clean) inside in
-    let d : map item_view c.deref-in-Unnamed.result.now ≡ content = ap (map item_view) c.deref-in-Unnamed.ensures.value in
-    let meant : plan_mean c.args.plan.now frame f ≡ plant_unnamed kind (items_at f' (map item_view c.deref-in-Unnamed.result.now)) f' =
-    ap (λ p. plan_mean p frame f) c.in-Unnamed.is ∙ ap (λ m. m frame f) (plan-Unnamed kind c.in-Unnamed.part) ∙ ap (λ p. go_on (plan_mean p frame f) (λ xs. plant_unnamed kind xs)) (sym c.get-in-Unnamed.ensures)
-    ∙ ap (λ o. go_on o (λ xs. plant_unnamed kind xs)) value.1 ∙ ap (λ xs. plant_unnamed kind (items_at f' xs) f') (sym d) in
-    subst (λ o. GivesSequence o f'' c.unnamed.result) (sym meant) (c.unnamed.ensures.gives clean (subst (AreIn f') (sym d) value.0))
-
-pub evaluation::evaluate-returns-in_err-content-in-Unnamed-clause-goes : goal.evaluation::evaluate-returns-in_err-content-in-Unnamed-clause-goes
-evaluation::evaluate-returns-in_err-content-in-Unnamed-clause-goes g t c = c.in_err-content-in-Unnamed.ensures.goes
-
-pub evaluation::evaluate-returns-in-Unnamed-clause-goes : goal.evaluation::evaluate-returns-in-Unnamed-clause-goes
-evaluation::evaluate-returns-in-Unnamed-clause-goes g t c = goes_on_to c.in_ok-content-in-Unnamed.ensures.goes c.unnamed.ensures.goes
-
-pub evaluation::evaluate-returns-in_err-answer-in-Quantified-clause-gives : goal.evaluation::evaluate-returns-in_err-answer-in-Quantified-clause-gives
-evaluation::evaluate-returns-in_err-answer-in-Quantified-clause-gives g t c = λ clean inside.
-    let f = g.W.TreeSource.forest c.args.world.now in
-    let frame = frame_at f c.args.frame in
-    let f' = g.W.TreeSource.forest c.satisfied.new.world in
-    let search = λ (wanted : Bool) (ranges : List Plan) (test : Plan). holds wanted (plan_mean test) (map plan_mean ranges) frame f in
-    let next = λ (answer : Bool). give (boolean answer) in
-    let ranges = c.as_slice-ranges.result.now in
-    let test = c.get-in-Quantified.result.now in
-    let meant : plan_mean c.args.plan.now frame f ≡ go_on (search c.deciding-wanted.result ranges test) next =
-    ap (λ p. plan_mean p frame f) c.in-Quantified.is ∙ ap (λ m. m frame f) (plan-Quantified c.in-Quantified.which c.in-Quantified.ranges c.in-Quantified.test)
-    ∙ ap (λ b. go_on (search b c.in-Quantified.ranges c.in-Quantified.test) next) (sym c.deciding-wanted.ensures) ∙ ap (λ rs. go_on (search c.deciding-wanted.result rs c.in-Quantified.test) next) (sym c.as_slice-ranges.ensures)
-    ∙ ap (λ p. go_on (search c.deciding-wanted.result ranges p) next) (sym c.get-in-Quantified.ensures) in
-    cut (λ (b : Bool). b) (λ trees b. b) (λ trees b. Unit {0}) item_views items_at AreIn (plan_mean c.args.plan.now frame f) (search c.deciding-wanted.result ranges test) next f' c.in_err-answer-in-Quantified.field-0.0 c.from_residual-in_err-answer-in-Quantified.result
-    meant c.from_residual-in_err-answer-in-Quantified.ensures.1 (c.in_err-answer-in-Quantified.ensures.gives clean inside)
-
-pub evaluation::evaluate-returns-clause-gives : goal.evaluation::evaluate-returns-clause-gives
-evaluation::evaluate-returns-clause-gives g t c = λ clean inside.
-    let f = g.W.TreeSource.forest c.args.world.now in
-    let frame = frame_at f c.args.frame in
-    let f' = g.W.TreeSource.forest c.satisfied.new.world in
-    let search = λ (wanted : Bool) (ranges : List Plan) (test : Plan). holds wanted (plan_mean test) (map plan_mean ranges) frame f in
-    let next = λ (answer : Bool). give (boolean answer) in
-    let ranges = c.as_slice-ranges.result.now in
-    let test = c.get-in-Quantified.result.now in
-    let meant : plan_mean c.args.plan.now frame f ≡ go_on (search c.deciding-wanted.result ranges test) next =
-    ap (λ p. plan_mean p frame f) c.in-Quantified.is ∙ ap (λ m. m frame f) (plan-Quantified c.in-Quantified.which c.in-Quantified.ranges c.in-Quantified.test)
-    ∙ ap (λ b. go_on (search b c.in-Quantified.ranges c.in-Quantified.test) next) (sym c.deciding-wanted.ensures) ∙ ap (λ rs. go_on (search c.deciding-wanted.result rs c.in-Quantified.test) next) (sym c.as_slice-ranges.ensures)
-    ∙ ap (λ p. go_on (search c.deciding-wanted.result ranges p) next) (sym c.get-in-Quantified.ensures) in
-    let answer = c.in_ok-answer-in-Quantified.ensures.gives clean inside in
-    let items = c.in_ok-single-in-Quantified.ensures in (
-      subst (AreIn f') (sym items) (tt, tt),
-      meant ∙ ap (λ o. go_on o next) answer.1 ∙ ap (λ xs. (Ok (items_at f' xs), f')) (sym items),
-    )
-
-pub evaluation::evaluate-returns-in_err-answer-in-Quantified-clause-goes : goal.evaluation::evaluate-returns-in_err-answer-in-Quantified-clause-goes
-evaluation::evaluate-returns-in_err-answer-in-Quantified-clause-goes g t c = c.in_err-answer-in-Quantified.ensures.goes
-
-pub evaluation::evaluate-returns-in_err-single-in-Quantified-clause-goes : goal.evaluation::evaluate-returns-in_err-single-in-Quantified-clause-goes
-evaluation::evaluate-returns-in_err-single-in-Quantified-clause-goes g t c = c.in_ok-answer-in-Quantified.ensures.goes
-
-pub evaluation::evaluate-returns-clause-goes : goal.evaluation::evaluate-returns-clause-goes
-evaluation::evaluate-returns-clause-goes g t c = c.in_ok-answer-in-Quantified.ensures.goes
-
 pub evaluation::arguments-loop-part-preserved : goal.evaluation::arguments-loop-part-preserved
 evaluation::arguments-loop-part-preserved g t c =
     let i = c.loop-part.invariant in
@@ -1982,6 +1381,8 @@ clauses::key_rows-loop-index-preserved g t c =
     let n = c.loop-index.index in
     let tuples = c.args.tuples.now in
     let x = values_of c.tuple.result.now in
+    let slots = values_of held.slots.now in
+    let at : values_of c.deref.result.now ≡ slots ++ x = ap values_of c.deref.ensures.value ∙ c.in_ok-refill.ensures ∙ ap (λ s. s ++ x) i.in_slots in
     let specs = order_specs c.args.specs.now in
     let done = columns_of c.loop-index.rows in
     let act = λ (fr : Frame). one_more (λ t. keys_at specs (at_tuple fr t)) in
@@ -1990,9 +1391,12 @@ clauses::key_rows-loop-index-preserved g t c =
       turns = turns_next _ _ _ (columns_of c.in_ok-rows.rows) (tuple_at old x) _ _ i.turns (left_at (tuple_at old) tuples n x [] (omega arith) c.tuple.ensures) c.next_row.ensures.goes.was_clean
           (λ clean inside is_in.
           let x_in = element (TupleIn old) tuples n x [] inside.1 (omega arith) c.tuple.ensures in
-          let s = c.in_ok-rows.ensures.gives clean (frame_in_grown i.goes.grows held inside.0) (tuple_in_grown i.goes.grows x x_in) in
+          let s = c.in_ok-rows.ensures.gives clean (frame_in_grown i.goes.grows held inside.0) x at (tuple_in_grown i.goes.grows x x_in) in
           (s.0, ap (λ fr. act fr done (tuple_at old x) f) (sym (frame_grown i.goes.grows held inside.0)) ∙ ap (λ y. act (frame_at f held) done y f) (sym (tuple_grown i.goes.grows x x_in)) ∙ s.1));
       long = c.in_ok-rows.ensures.long ∙ ap suc i.long ∙ sym (add-one n);
+      in_slots =
+          ap (take (length held.slots.now)) (c.in_ok-refill.ensures ∙ ap (λ s. s ++ x) i.in_slots)
+          ∙ take_at slots x (length held.slots.now) (length-map held.slots.now (λ slot. item_views slot.value));
     }
 
 pub clauses::key_rows-returns-in_err-rows-clause-gives : goal.clauses::key_rows-returns-in_err-rows-clause-gives
@@ -2005,17 +1409,40 @@ clauses::key_rows-returns-in_err-rows-clause-gives g t c = λ clean inside tuple
     let n = c.loop-index.index in
     let tuples = c.args.tuples.now in
     let x = values_of c.tuple.result.now in
+    let slots = values_of held.slots.now in
+    let at : values_of c.deref.result.now ≡ slots ++ x = ap values_of c.deref.ensures.value ∙ c.in_ok-refill.ensures ∙ ap (λ s. s ++ x) i.in_slots in
     let specs = order_specs c.args.specs.now in
     let done = columns_of c.loop-index.rows in
     let act = λ (fr : Frame). one_more (λ t. keys_at specs (at_tuple fr t)) in
     let e = c.in_err-rows.field-0.0 in
-    handed_on columns_of same_tests any_tests _ f' e c.from_residual.result c.from_residual.ensures.1
+    handed_on columns_of same_tests any_tests _ f' e c.from_residual-in_err-rows.result c.from_residual-in_err-rows.ensures.1
     (turns_stop _ _ _ columns_of same_tests any_tests (tuple_at old x) _ f' e i.turns (left_at (tuple_at old) tuples n x [] (omega arith) c.tuple.ensures) c.next_row.ensures.goes.was_clean
     (λ clean inside is_in.
     let x_in = element (TupleIn old) tuples n x [] inside.1 (omega arith) c.tuple.ensures in
     subst (λ fr. GivesRows (act fr done (tuple_at old x) f) f' (Err e)) (frame_grown i.goes.grows held inside.0)
     (subst (λ y. GivesRows (act (frame_at f held) done y f) f' (Err e)) (tuple_grown i.goes.grows x x_in)
-    (c.in_err-rows.ensures.gives clean (frame_in_grown i.goes.grows held inside.0) (tuple_in_grown i.goes.grows x x_in)))) clean (inside, tuples_in))
+    (c.in_err-rows.ensures.gives clean (frame_in_grown i.goes.grows held inside.0) x at (tuple_in_grown i.goes.grows x x_in)))) clean (inside, tuples_in))
+
+pub clauses::key_rows-loop-index-init : goal.clauses::key_rows-loop-index-init
+clauses::key_rows-loop-index-init g t c =
+    let old = g.W.TreeSource.forest c.args.world.now in
+    let held = c.args.frame in
+    let frame = frame_at old held in
+    let none : columns_of c.new-rows.result ≡ [] = ap (map column_of) c.new-rows.ensures.items in
+    let slots = values_of held.slots.now in
+    let long = length-map held.slots.now (λ slot. item_views slot.value) in
+    record {
+      goes = stays _ _;
+      turns = record { rest = λ clean inside. subst (λ rows. Unit {0} × (in_turn (one_more (λ t. keys_at (order_specs c.args.specs.now) (at_tuple frame t))) rows (tuples_at old c.args.tuples.now) old ≡ for_each (λ t. keys_at (order_specs c.args.specs.now) (at_tuple frame t)) (tuples_at old c.args.tuples.now) old)) (sym none) (tt, refl) };
+      long = ap length c.new-rows.ensures.items;
+      in_slots = ap (take (length held.slots.now)) (values_of-clones held.slots.now c.in_ok-slots.slots.items c.in_ok-slots.ensures.ok) ∙ take_all (length held.slots.now) slots (omega (arith, long));
+    }
+
+pub clauses::key_rows-returns-in_err-slots-clause-goes : goal.clauses::key_rows-returns-in_err-slots-clause-goes
+clauses::key_rows-returns-in_err-slots-clause-goes g t c = stays _ _
+
+pub clauses::key_rows-returns-in_err-refill-clause-goes : goal.clauses::key_rows-returns-in_err-refill-clause-goes
+clauses::key_rows-returns-in_err-refill-clause-goes g t c = c.loop-index.invariant.goes
 
 pub clauses::key_rows-returns-in_err-rows-clause-goes : goal.clauses::key_rows-returns-in_err-rows-clause-goes
 clauses::key_rows-returns-in_err-rows-clause-goes g t c = goes_on_to c.loop-index.invariant.goes c.in_err-rows.ensures.goes
@@ -2029,35 +1456,28 @@ clauses::key_rows-returns-clause-gives g t c = λ clean inside rest_in.
     turns_end _ _ _ c.loop-index.invariant.turns (ap (map (tuple_at old)) (drop_all c.loop-index.index c.args.tuples.now (omega arith))) clean (inside, rest_in)
 
 pub clauses::next_row-returns-clause-gives : goal.clauses::next_row-returns-clause-gives
-clauses::next_row-returns-clause-gives g t c = λ clean inside tuple_in.
+clauses::next_row-returns-clause-gives g t c = λ clean inside tuple at tuple_in.
     let f = g.W.TreeSource.forest c.args.world.now in
     let held = c.args.frame in
     let f' = g.W.TreeSource.forest c.keys.new.world in
     let specs = order_specs c.args.specs.now in
-    let e : values_of c.in_ok-slots.slots.items ≡ values_of held.slots.now ++ values_of c.args.tuple.now = c.in_ok-slots.ensures in
-    let inner : Held = record { slots = c.deref.result; focus = held.focus; addresses = held.addresses } in
-    let same : values_of inner.slots.now ≡ values_of held.slots.now ++ values_of c.args.tuple.now = ap values_of c.deref.ensures.value ∙ e in
-    let row = c.in_ok-row.ensures.gives clean (frame_inner_in f held inner c.args.tuple.now same refl refl inside tuple_in) in
-    let made : keys_at specs (at_tuple (frame_at f held) (tuple_at f (values_of c.args.tuple.now))) f ≡ (Ok (column_of c.in_ok-row.row), f') = ap (λ fr. keys_at specs fr f) (sym (frame_inner f held inner c.args.tuple.now same refl refl)) ∙ row.1 in
+    let inner : Held = record { slots = c.args.slots; focus = held.focus; addresses = held.addresses } in
+    let row = c.in_ok-row.ensures.gives clean (frame_inner_in f held inner tuple at refl refl inside tuple_in) in
+    let made : keys_at specs (at_tuple (frame_at f held) (tuple_at f tuple)) f ≡ (Ok (column_of c.in_ok-row.row), f') = ap (λ fr. keys_at specs fr f) (sym (frame_inner f held inner tuple at refl refl)) ∙ row.1 in
     (tt, ap (λ o. go_on o (λ y. give (columns_of c.args.done ++ y ∷ []))) made ∙ ap (λ rs. (Ok rs, f')) (sym (ap (map column_of) c.in_ok-push.ensures.items ∙ map-append column_of c.args.done.items (c.in_ok-row.row ∷ []))))
 
 pub clauses::next_row-returns-in_err-row-clause-gives : goal.clauses::next_row-returns-in_err-row-clause-gives
-clauses::next_row-returns-in_err-row-clause-gives g t c = λ clean inside tuple_in.
+clauses::next_row-returns-in_err-row-clause-gives g t c = λ clean inside tuple at tuple_in.
     let f = g.W.TreeSource.forest c.args.world.now in
     let held = c.args.frame in
     let f' = g.W.TreeSource.forest c.keys.new.world in
     let specs = order_specs c.args.specs.now in
-    let e : values_of c.in_ok-slots.slots.items ≡ values_of held.slots.now ++ values_of c.args.tuple.now = c.in_ok-slots.ensures in
-    let inner : Held = record { slots = c.deref.result; focus = held.focus; addresses = held.addresses } in
-    let same : values_of inner.slots.now ≡ values_of held.slots.now ++ values_of c.args.tuple.now = ap values_of c.deref.ensures.value ∙ e in
-    let meant = at_tuple (frame_at f held) (tuple_at f (values_of c.args.tuple.now)) in
+    let inner : Held = record { slots = c.args.slots; focus = held.focus; addresses = held.addresses } in
+    let meant = at_tuple (frame_at f held) (tuple_at f tuple) in
     let next = λ (y : List (List Atomic)). give (columns_of c.args.done ++ y ∷ []) in
-    cut column_of (λ trees keys. keys) (λ trees keys. Unit {0}) columns_of (λ trees rows. rows) (λ trees rows. Unit {0}) _ (keys_at specs meant f) next f' c.in_err-row.field-0.0 c.from_residual-in_err-row.result refl c.from_residual-in_err-row.ensures.1
-    (subst (λ fr. GivesKeys (keys_at specs fr f) f' (Err c.in_err-row.field-0.0)) (frame_inner f held inner c.args.tuple.now same refl refl)
-    (c.in_err-row.ensures.gives clean (frame_inner_in f held inner c.args.tuple.now same refl refl inside tuple_in)))
-
-pub clauses::next_row-returns-in_err-slots-clause-goes : goal.clauses::next_row-returns-in_err-slots-clause-goes
-clauses::next_row-returns-in_err-slots-clause-goes g t c = stays _ _
+    cut column_of (λ trees keys. keys) (λ trees keys. Unit {0}) columns_of (λ trees rows. rows) (λ trees rows. Unit {0}) _ (keys_at specs meant f) next f' c.in_err-row.field-0.0 c.from_residual.result refl c.from_residual.ensures.1
+    (subst (λ fr. GivesKeys (keys_at specs fr f) f' (Err c.in_err-row.field-0.0)) (frame_inner f held inner tuple at refl refl)
+    (c.in_err-row.ensures.gives clean (frame_inner_in f held inner tuple at refl refl inside tuple_in)))
 
 pub clauses::next_row-returns-in_err-row-clause-goes : goal.clauses::next_row-returns-in_err-row-clause-goes
 clauses::next_row-returns-in_err-row-clause-goes g t c = c.in_err-row.ensures.goes
@@ -2113,13 +1533,12 @@ clauses::next_key-returns-clause-gives g t c = λ clean inside.
     let f = g.W.TreeSource.forest c.args.world.now in
     let frame = frame_at f c.args.frame in
     let f' = g.W.TreeSource.forest c.evaluate.new.world in
-    let f'' = g.W.TreeSource.forest c.atomized.new.source in
+    let f'' = g.W.TreeSource.forest c.into_atoms.new.source in
     let value = item_views c.in_ok-value.value in
-    let was = c.atomized.ensures.was_clean clean in
+    let was = c.into_atoms.ensures.was_clean clean in
     let found = c.in_ok-value.ensures.gives was inside in
-    let d : map item_view c.deref.result.now ≡ value = ap (map item_view) c.deref.ensures.value in
-    let atoms : atomics_of c.in_ok-key.key ≡ atomized f' (items_at f' value) = c.in_ok-key.ensures.value clean ∙ ap (λ xs. atomized f' (items_at f' xs)) d in
-    let same : f'' ≡ f' = c.atomized.ensures.keeps in
+    let atoms : atomics_of c.in_ok-key.key ≡ atomized f' (items_at f' value) = c.in_ok-key.ensures.value clean in
+    let same : f'' ≡ f' = c.into_atoms.ensures.keeps in
     let made : column_of c.args.done ++ atomized f' (items_at f' value) ∷ [] ≡ column_of c.push.new.self =
     ap (λ a. column_of c.args.done ++ a ∷ []) (sym atoms) ∙ sym (ap (map atomics_of) c.in_ok-push.ensures.items ∙ map-append atomics_of c.args.done.items (c.in_ok-key.key ∷ [])) in
     (tt, ap (λ o. go_on (go_on o (λ xs. on_trees (λ trees. Ok (atomized trees xs)))) (λ y. give (column_of c.args.done ++ y ∷ []))) found.1 ∙ ap (λ ks. (Ok ks, f')) made ∙ ap (λ h. (Ok (column_of c.push.new.self), h)) (sym same))
@@ -2139,13 +1558,13 @@ pub clauses::next_key-returns-in_err-value-clause-goes : goal.clauses::next_key-
 clauses::next_key-returns-in_err-value-clause-goes g t c = c.in_err-value.ensures.goes
 
 pub clauses::next_key-returns-in_err-key-clause-goes : goal.clauses::next_key-returns-in_err-key-clause-goes
-clauses::next_key-returns-in_err-key-clause-goes g t c = goes_on_to c.in_ok-value.ensures.goes (same_goes c.atomized.ensures.keeps c.atomized.ensures.was_clean)
+clauses::next_key-returns-in_err-key-clause-goes g t c = goes_on_to c.in_ok-value.ensures.goes (same_goes c.into_atoms.ensures.keeps c.into_atoms.ensures.was_clean)
 
 pub clauses::next_key-returns-in_err-push-clause-goes : goal.clauses::next_key-returns-in_err-push-clause-goes
-clauses::next_key-returns-in_err-push-clause-goes g t c = goes_on_to c.in_ok-value.ensures.goes (same_goes c.atomized.ensures.keeps c.atomized.ensures.was_clean)
+clauses::next_key-returns-in_err-push-clause-goes g t c = goes_on_to c.in_ok-value.ensures.goes (same_goes c.into_atoms.ensures.keeps c.into_atoms.ensures.was_clean)
 
 pub clauses::next_key-returns-clause-goes : goal.clauses::next_key-returns-clause-goes
-clauses::next_key-returns-clause-goes g t c = goes_on_to c.in_ok-value.ensures.goes (same_goes c.atomized.ensures.keeps c.atomized.ensures.was_clean)
+clauses::next_key-returns-clause-goes g t c = goes_on_to c.in_ok-value.ensures.goes (same_goes c.into_atoms.ensures.keeps c.into_atoms.ensures.was_clean)
 
 pub paths::next_items-returns-in-Each-clause-gives : goal.paths::next_items-returns-in-Each-clause-gives
 paths::next_items-returns-in-Each-clause-gives g t c = λ clean inside items_in.
@@ -2196,22 +1615,15 @@ quantified::turn-evaluate-requires g t c = λ κs live.
     let this = ap size-Plan c.index-ranges-opened.is in
     let whole = ap size-Plan c.requires.is ∙ sized-Quantified c.requires.which ranges c.args.test.now in
     let all : 8 * size-Plan c.args.whole.now ≡ t = c.decreases in
-    let below : 8 * size-Plan part + 2 < t = omega (arith, all, whole, among, this) in
+    let below : 8 * size-Plan part + 3 < t = omega (arith, all, whole, among, this) in
     (below, live)
 
 pub quantified::turn-tested-requires : goal.quantified::turn-tested-requires
 quantified::turn-tested-requires g t c = λ κs live.
     let whole = ap size-Plan c.requires.is ∙ sized-Quantified c.requires.which c.args.ranges.now c.args.test.now in
     let all : 8 * size-Plan c.args.whole.now ≡ t = c.decreases in
-    let below : 8 * size-Plan c.args.test.now + 3 < t = omega (arith, all, whole) in
+    let below : 8 * size-Plan c.args.test.now + 4 < t = omega (arith, all, whole) in
     (below, live)
-
-pub evaluation::evaluate-satisfied-requires : goal.evaluation::evaluate-satisfied-requires
-evaluation::evaluate-satisfied-requires g t c = λ κs live.
-    let is = c.in-Quantified.is ∙ ap (λ rs. plan.Quantified c.in-Quantified.which rs c.in-Quantified.test) (sym c.as_slice-ranges.ensures) ∙ ap (λ p. plan.Quantified c.in-Quantified.which c.as_slice-ranges.result.now p) (sym c.get-in-Quantified.ensures) in
-    let all : 8 * size-Plan c.args.plan.now + 2 ≡ t = c.decreases in
-    let below : 8 * size-Plan c.args.plan.now + 1 < t = omega (arith, all) in
-    (below, (live, record { which = c.in-Quantified.which; is = is }))
 
 pub quantified::satisfied-turns-init : goal.quantified::satisfied-turns-init
 quantified::satisfied-turns-init g t c =
@@ -2619,11 +2031,11 @@ evaluation::next_call-returns-clause-goes g t c = goes_on_to c.in_ok-values.ensu
 pub evaluation::call_list-next_call-requires : goal.evaluation::call_list-next_call-requires
 evaluation::call_list-next_call-requires g t c = λ κs live.
     let depth = λ (o : Function × List Plan). max 0 (max (most size-Plan o.1) 0) in
-    let all : 8 * most depth c.args.calls.now + 6 ≡ t = c.decreases in
+    let all : 8 * most depth c.args.calls.now + 7 ≡ t = c.decreases in
     let among = at_most depth c.args.calls.now c.loop-function.function-index c.loop-function-item.result (omega (arith, c.loop-function-test.true)) in
     let this = ap depth c.loop-function-item.is in
     let same = ap (most size-Plan) c.as_slice.ensures in
-    let below : 8 * most size-Plan c.as_slice.result.now + 5 < t = omega (arith, all, among, this, same) in
+    let below : 8 * most size-Plan c.as_slice.result.now + 6 < t = omega (arith, all, among, this, same) in
     (below, live)
 
 pub evaluation::call_list-loop-function-preserved : goal.evaluation::call_list-loop-function-preserved
@@ -2712,64 +2124,6 @@ paths::map_list-returns-clause-gives g t c = λ clean inside rest_in.
     let old = g.W.TreeSource.forest c.args.world.now in
     turns_end _ _ _ c.loop-part.invariant.turns (ap (map plan_mean) (drop_all c.loop-part.part-index c.args.parts.now (omega arith))) clean (inside, rest_in)
 
-pub evaluation::evaluate-returns-in-Arrow-clause-gives : goal.evaluation::evaluate-returns-in-Arrow-clause-gives
-evaluation::evaluate-returns-in-Arrow-clause-gives g t c = λ clean inside.
-    let f = g.W.TreeSource.forest c.args.world.now in
-    let held = c.args.frame in
-    let frame = frame_at f held in
-    let f' = g.W.TreeSource.forest c.evaluate-in-Arrow.new.world in
-    let grows = c.in_ok-items-in-Arrow.ensures.goes.grows in
-    let first = c.in_ok-items-in-Arrow.ensures.gives (c.call_list.ensures.goes.was_clean clean) inside in
-    let second = c.call_list.ensures.gives clean (frame_in_grown grows held inside) first.0 in
-    let value : plan_mean c.in-Arrow.first frame f ≡ (Ok (items_at f' (item_views c.in_ok-items-in-Arrow.items)), f') = ap (λ p. plan_mean p frame f) (sym c.get-in-Arrow.ensures) ∙ first.1 in
-    rw (c.in-Arrow.is, plan-Arrow c.in-Arrow.first c.in-Arrow.calls, value, ← frame_grown grows held inside, ← c.as_slice-in-Arrow.ensures) second
-
-pub evaluation::evaluate-returns-in_err-items-in-Arrow-clause-gives : goal.evaluation::evaluate-returns-in_err-items-in-Arrow-clause-gives
-evaluation::evaluate-returns-in_err-items-in-Arrow-clause-gives g t c = λ clean inside.
-    let f = g.W.TreeSource.forest c.args.world.now in
-    let held = c.args.frame in
-    let frame = frame_at f held in
-    let f' = g.W.TreeSource.forest c.evaluate-in-Arrow.new.world in
-    let e = c.in_err-items-in-Arrow.field-0.0 in
-    let next = λ (xs : List Item). in_turn (Forms.next_call frame) xs (map (λ (op, ps). (op, map plan_mean ps)) c.in-Arrow.calls) in
-    cut item_views items_at AreIn item_views items_at AreIn (plan_mean c.args.plan.now frame f) (plan_mean c.get-in-Arrow.result.now frame f) next f' e c.from_residual-in_err-items-in-Arrow.result
-    (ap (λ p. plan_mean p frame f) c.in-Arrow.is ∙ ap (λ m. m frame f) (plan-Arrow c.in-Arrow.first c.in-Arrow.calls) ∙ ap (λ p. go_on (plan_mean p frame f) next) (sym c.get-in-Arrow.ensures)) c.from_residual-in_err-items-in-Arrow.ensures.1 (c.in_err-items-in-Arrow.ensures.gives clean inside)
-
-pub evaluation::evaluate-returns-in_err-items-in-Arrow-clause-goes : goal.evaluation::evaluate-returns-in_err-items-in-Arrow-clause-goes
-evaluation::evaluate-returns-in_err-items-in-Arrow-clause-goes g t c = c.in_err-items-in-Arrow.ensures.goes
-
-pub evaluation::evaluate-returns-in-Arrow-clause-goes : goal.evaluation::evaluate-returns-in-Arrow-clause-goes
-evaluation::evaluate-returns-in-Arrow-clause-goes g t c = goes_on_to c.in_ok-items-in-Arrow.ensures.goes c.call_list.ensures.goes
-
-pub evaluation::evaluate-returns-in-Map-clause-gives : goal.evaluation::evaluate-returns-in-Map-clause-gives
-evaluation::evaluate-returns-in-Map-clause-gives g t c = λ clean inside.
-    let f = g.W.TreeSource.forest c.args.world.now in
-    let held = c.args.frame in
-    let frame = frame_at f held in
-    let f' = g.W.TreeSource.forest c.evaluate-in-Map.new.world in
-    let grows = c.in_ok-items-in-Map.ensures.goes.grows in
-    let first = c.in_ok-items-in-Map.ensures.gives (c.map_list.ensures.goes.was_clean clean) inside in
-    let second = c.map_list.ensures.gives clean (frame_in_grown grows held inside) first.0 in
-    let value : plan_mean c.in-Map.start frame f ≡ (Ok (items_at f' (item_views c.in_ok-items-in-Map.items)), f') = ap (λ p. plan_mean p frame f) (sym c.get-in-Map.ensures) ∙ first.1 in
-    rw (c.in-Map.is, plan-Map c.in-Map.start c.in-Map.parts, value, ← frame_grown grows held inside, ← c.as_slice-in-Map.ensures) second
-
-pub evaluation::evaluate-returns-in_err-items-in-Map-clause-gives : goal.evaluation::evaluate-returns-in_err-items-in-Map-clause-gives
-evaluation::evaluate-returns-in_err-items-in-Map-clause-gives g t c = λ clean inside.
-    let f = g.W.TreeSource.forest c.args.world.now in
-    let held = c.args.frame in
-    let frame = frame_at f held in
-    let f' = g.W.TreeSource.forest c.evaluate-in-Map.new.world in
-    let e = c.in_err-items-in-Map.field-0.0 in
-    let next = λ (xs : List Item). in_turn (Forms.bang frame) xs (map plan_mean c.in-Map.parts) in
-    cut item_views items_at AreIn item_views items_at AreIn (plan_mean c.args.plan.now frame f) (plan_mean c.get-in-Map.result.now frame f) next f' e c.from_residual-in_err-items-in-Map.result
-    (ap (λ p. plan_mean p frame f) c.in-Map.is ∙ ap (λ m. m frame f) (plan-Map c.in-Map.start c.in-Map.parts) ∙ ap (λ p. go_on (plan_mean p frame f) next) (sym c.get-in-Map.ensures)) c.from_residual-in_err-items-in-Map.ensures.1 (c.in_err-items-in-Map.ensures.gives clean inside)
-
-pub evaluation::evaluate-returns-in_err-items-in-Map-clause-goes : goal.evaluation::evaluate-returns-in_err-items-in-Map-clause-goes
-evaluation::evaluate-returns-in_err-items-in-Map-clause-goes g t c = c.in_err-items-in-Map.ensures.goes
-
-pub evaluation::evaluate-returns-in-Map-clause-goes : goal.evaluation::evaluate-returns-in-Map-clause-goes
-evaluation::evaluate-returns-in-Map-clause-goes g t c = goes_on_to c.in_ok-items-in-Map.ensures.goes c.map_list.ensures.goes
-
 pub clauses::next_tuples-returns-in_ok-number-in-Count-clause-gives : goal.clauses::next_tuples-returns-in_ok-number-in-Count-clause-gives
 clauses::next_tuples-returns-in_ok-number-in-Count-clause-gives g t c = λ clean inside tuples_in.
     let f = g.W.TreeSource.forest c.args.world.now in
@@ -2787,20 +2141,11 @@ clauses::next_tuples-returns-in_err-number-in-Count-clause-goes g t c = stays _ 
 pub clauses::next_tuples-returns-in_ok-number-in-Count-clause-goes : goal.clauses::next_tuples-returns-in_ok-number-in-Count-clause-goes
 clauses::next_tuples-returns-in_ok-number-in-Count-clause-goes g t c = stays _ _
 
-pub evaluation::evaluate-returns-in_err-single-in-Int-clause-reads : goal.evaluation::evaluate-returns-in_err-single-in-Int-clause-reads
-evaluation::evaluate-returns-in_err-single-in-Int-clause-reads g t c = λ clean inside. other_form _ _ _ _ _ (ap out-Plan c.in-Int.is ∙ plan.outs-Int _) tt
-
 pub evaluation::evaluate-returns-in-Int-clause-reads : goal.evaluation::evaluate-returns-in-Int-clause-reads
 evaluation::evaluate-returns-in-Int-clause-reads g t c = λ clean inside. other_form _ _ _ _ _ (ap out-Plan c.in-Int.is ∙ plan.outs-Int _) tt
 
-pub evaluation::evaluate-returns-in_err-single-in-Dec-clause-reads : goal.evaluation::evaluate-returns-in_err-single-in-Dec-clause-reads
-evaluation::evaluate-returns-in_err-single-in-Dec-clause-reads g t c = λ clean inside. other_form _ _ _ _ _ (ap out-Plan c.in-Dec.is ∙ plan.outs-Dec _) tt
-
 pub evaluation::evaluate-returns-in-Dec-clause-reads : goal.evaluation::evaluate-returns-in-Dec-clause-reads
 evaluation::evaluate-returns-in-Dec-clause-reads g t c = λ clean inside. other_form _ _ _ _ _ (ap out-Plan c.in-Dec.is ∙ plan.outs-Dec _) tt
-
-pub evaluation::evaluate-returns-in_err-slot-in-Slot-clause-reads : goal.evaluation::evaluate-returns-in_err-slot-in-Slot-clause-reads
-evaluation::evaluate-returns-in_err-slot-in-Slot-clause-reads g t c = λ clean inside. other_form _ _ _ _ _ (ap out-Plan c.in-Slot.is ∙ plan.outs-Slot _) tt
 
 pub evaluation::evaluate-returns-in-Slot-clause-reads : goal.evaluation::evaluate-returns-in-Slot-clause-reads
 evaluation::evaluate-returns-in-Slot-clause-reads g t c = λ clean inside. other_form _ _ _ _ _ (ap out-Plan c.in-Slot.is ∙ plan.outs-Slot _) tt
@@ -2811,62 +2156,23 @@ evaluation::evaluate-returns-in-ContextItem-clause-reads g t c = λ clean inside
 pub evaluation::evaluate-returns-in-Sequence-clause-reads : goal.evaluation::evaluate-returns-in-Sequence-clause-reads
 evaluation::evaluate-returns-in-Sequence-clause-reads g t c = λ clean inside. other_form _ _ _ _ _ (ap out-Plan c.in-Sequence.is ∙ plan.outs-Sequence _) tt
 
-pub evaluation::evaluate-returns-in_err-left-in-Chain-clause-reads : goal.evaluation::evaluate-returns-in_err-left-in-Chain-clause-reads
-evaluation::evaluate-returns-in_err-left-in-Chain-clause-reads g t c = λ clean inside. other_form _ _ _ _ _ (ap out-Plan c.in-Chain.is ∙ plan.outs-Chain _ _) tt
-
 pub evaluation::evaluate-returns-in-Chain-clause-reads : goal.evaluation::evaluate-returns-in-Chain-clause-reads
 evaluation::evaluate-returns-in-Chain-clause-reads g t c = λ clean inside. other_form _ _ _ _ _ (ap out-Plan c.in-Chain.is ∙ plan.outs-Chain _ _) tt
-
-pub evaluation::evaluate-returns-in_err-items-in-Unary-clause-reads : goal.evaluation::evaluate-returns-in_err-items-in-Unary-clause-reads
-evaluation::evaluate-returns-in_err-items-in-Unary-clause-reads g t c = λ clean inside. other_form _ _ _ _ _ (ap out-Plan c.in-Unary.is ∙ plan.outs-Unary _ _) tt
 
 pub evaluation::evaluate-returns-in-Unary-clause-reads : goal.evaluation::evaluate-returns-in-Unary-clause-reads
 evaluation::evaluate-returns-in-Unary-clause-reads g t c = λ clean inside. other_form _ _ _ _ _ (ap out-Plan c.in-Unary.is ∙ plan.outs-Unary _ _) tt
 
-pub evaluation::evaluate-returns-in_err-value-in-If-clause-reads : goal.evaluation::evaluate-returns-in_err-value-in-If-clause-reads
-evaluation::evaluate-returns-in_err-value-in-If-clause-reads g t c = λ clean inside. other_form _ _ _ _ _ (ap out-Plan c.in-If.is ∙ plan.outs-If _ _ _) tt
-
-pub evaluation::evaluate-returns-in_err-effective-in-If-clause-reads : goal.evaluation::evaluate-returns-in_err-effective-in-If-clause-reads
-evaluation::evaluate-returns-in_err-effective-in-If-clause-reads g t c = λ clean inside. other_form _ _ _ _ _ (ap out-Plan c.in-If.is ∙ plan.outs-If _ _ _) tt
-
-pub evaluation::evaluate-returns-then-branch-clause-reads : goal.evaluation::evaluate-returns-then-branch-clause-reads
-evaluation::evaluate-returns-then-branch-clause-reads g t c = λ clean inside. other_form _ _ _ _ _ (ap out-Plan c.in-If.is ∙ plan.outs-If _ _ _) tt
-
 pub evaluation::evaluate-returns-in-If-clause-reads : goal.evaluation::evaluate-returns-in-If-clause-reads
 evaluation::evaluate-returns-in-If-clause-reads g t c = λ clean inside. other_form _ _ _ _ _ (ap out-Plan c.in-If.is ∙ plan.outs-If _ _ _) tt
-
-pub evaluation::evaluate-returns-in_err-answer-in-Or-clause-reads : goal.evaluation::evaluate-returns-in_err-answer-in-Or-clause-reads
-evaluation::evaluate-returns-in_err-answer-in-Or-clause-reads g t c = λ clean inside. other_form _ _ _ _ _ (ap out-Plan c.in-Or.is ∙ plan.outs-Or _) tt
-
-pub evaluation::evaluate-returns-in_err-single-in-Or-clause-reads : goal.evaluation::evaluate-returns-in_err-single-in-Or-clause-reads
-evaluation::evaluate-returns-in_err-single-in-Or-clause-reads g t c = λ clean inside. other_form _ _ _ _ _ (ap out-Plan c.in-Or.is ∙ plan.outs-Or _) tt
 
 pub evaluation::evaluate-returns-in-Or-clause-reads : goal.evaluation::evaluate-returns-in-Or-clause-reads
 evaluation::evaluate-returns-in-Or-clause-reads g t c = λ clean inside. other_form _ _ _ _ _ (ap out-Plan c.in-Or.is ∙ plan.outs-Or _) tt
 
-pub evaluation::evaluate-returns-in_err-answer-in-And-clause-reads : goal.evaluation::evaluate-returns-in_err-answer-in-And-clause-reads
-evaluation::evaluate-returns-in_err-answer-in-And-clause-reads g t c = λ clean inside. other_form _ _ _ _ _ (ap out-Plan c.in-And.is ∙ plan.outs-And _) tt
-
-pub evaluation::evaluate-returns-in_err-single-in-And-clause-reads : goal.evaluation::evaluate-returns-in_err-single-in-And-clause-reads
-evaluation::evaluate-returns-in_err-single-in-And-clause-reads g t c = λ clean inside. other_form _ _ _ _ _ (ap out-Plan c.in-And.is ∙ plan.outs-And _) tt
-
 pub evaluation::evaluate-returns-in-And-clause-reads : goal.evaluation::evaluate-returns-in-And-clause-reads
 evaluation::evaluate-returns-in-And-clause-reads g t c = λ clean inside. other_form _ _ _ _ _ (ap out-Plan c.in-And.is ∙ plan.outs-And _) tt
 
-pub evaluation::evaluate-returns-in_err-items-in-Filter-clause-reads : goal.evaluation::evaluate-returns-in_err-items-in-Filter-clause-reads
-evaluation::evaluate-returns-in_err-items-in-Filter-clause-reads g t c = λ clean inside. other_form _ _ _ _ _ (ap out-Plan c.in-Filter.is ∙ plan.outs-Filter _ _) tt
-
 pub evaluation::evaluate-returns-in-Filter-clause-reads : goal.evaluation::evaluate-returns-in-Filter-clause-reads
 evaluation::evaluate-returns-in-Filter-clause-reads g t c = λ clean inside. other_form _ _ _ _ _ (ap out-Plan c.in-Filter.is ∙ plan.outs-Filter _ _) tt
-
-pub evaluation::evaluate-returns-in_err-tuples-in-Flwor-clause-reads : goal.evaluation::evaluate-returns-in_err-tuples-in-Flwor-clause-reads
-evaluation::evaluate-returns-in_err-tuples-in-Flwor-clause-reads g t c = λ clean inside. other_form _ _ _ _ _ (ap out-Plan c.in-Flwor.is ∙ plan.outs-Flwor _ _) tt
-
-pub evaluation::evaluate-returns-in_err-lists-in-Flwor-clause-reads : goal.evaluation::evaluate-returns-in_err-lists-in-Flwor-clause-reads
-evaluation::evaluate-returns-in_err-lists-in-Flwor-clause-reads g t c = λ clean inside. other_form _ _ _ _ _ (ap out-Plan c.in-Flwor.is ∙ plan.outs-Flwor _ _) tt
-
-pub evaluation::evaluate-returns-in_err-concatenated-in-Flwor-clause-reads : goal.evaluation::evaluate-returns-in_err-concatenated-in-Flwor-clause-reads
-evaluation::evaluate-returns-in_err-concatenated-in-Flwor-clause-reads g t c = λ clean inside. other_form _ _ _ _ _ (ap out-Plan c.in-Flwor.is ∙ plan.outs-Flwor _ _) tt
 
 pub evaluation::evaluate-returns-in-Flwor-clause-reads : goal.evaluation::evaluate-returns-in-Flwor-clause-reads
 evaluation::evaluate-returns-in-Flwor-clause-reads g t c = λ clean inside. other_form _ _ _ _ _ (ap out-Plan c.in-Flwor.is ∙ plan.outs-Flwor _ _) tt
@@ -2874,59 +2180,23 @@ evaluation::evaluate-returns-in-Flwor-clause-reads g t c = λ clean inside. othe
 pub evaluation::evaluate-returns-in-Root-clause-reads : goal.evaluation::evaluate-returns-in-Root-clause-reads
 evaluation::evaluate-returns-in-Root-clause-reads g t c = λ clean inside. other_form _ _ _ _ _ (ap out-Plan c.in-Root.is ∙ plan.outs-Root) tt
 
-pub evaluation::evaluate-returns-in_err-nodes-in-Step-clause-reads : goal.evaluation::evaluate-returns-in_err-nodes-in-Step-clause-reads
-evaluation::evaluate-returns-in_err-nodes-in-Step-clause-reads g t c = λ clean inside. other_form _ _ _ _ _ (ap out-Plan c.in-Step.is ∙ plan.outs-Step _ _ _) tt
-
-pub evaluation::evaluate-returns-in_err-kept-in-Step-clause-reads : goal.evaluation::evaluate-returns-in_err-kept-in-Step-clause-reads
-evaluation::evaluate-returns-in_err-kept-in-Step-clause-reads g t c = λ clean inside. other_form _ _ _ _ _ (ap out-Plan c.in-Step.is ∙ plan.outs-Step _ _ _) tt
-
 pub evaluation::evaluate-returns-in-Step-clause-reads : goal.evaluation::evaluate-returns-in-Step-clause-reads
 evaluation::evaluate-returns-in-Step-clause-reads g t c = λ clean inside. other_form _ _ _ _ _ (ap out-Plan c.in-Step.is ∙ plan.outs-Step _ _ _) tt
-
-pub evaluation::evaluate-returns-in_err-value-in-Named-clause-reads : goal.evaluation::evaluate-returns-in_err-value-in-Named-clause-reads
-evaluation::evaluate-returns-in_err-value-in-Named-clause-reads g t c = λ clean inside. other_form _ _ _ _ _ (ap out-Plan c.in-Named.is ∙ plan.outs-Named _ _ _) tt
-
-pub evaluation::evaluate-returns-in_err-name-in-Named-clause-reads : goal.evaluation::evaluate-returns-in_err-name-in-Named-clause-reads
-evaluation::evaluate-returns-in_err-name-in-Named-clause-reads g t c = λ clean inside. other_form _ _ _ _ _ (ap out-Plan c.in-Named.is ∙ plan.outs-Named _ _ _) tt
-
-pub evaluation::evaluate-returns-in_err-content-in-Named-clause-reads : goal.evaluation::evaluate-returns-in_err-content-in-Named-clause-reads
-evaluation::evaluate-returns-in_err-content-in-Named-clause-reads g t c = λ clean inside. other_form _ _ _ _ _ (ap out-Plan c.in-Named.is ∙ plan.outs-Named _ _ _) tt
 
 pub evaluation::evaluate-returns-in-Named-clause-reads : goal.evaluation::evaluate-returns-in-Named-clause-reads
 evaluation::evaluate-returns-in-Named-clause-reads g t c = λ clean inside. other_form _ _ _ _ _ (ap out-Plan c.in-Named.is ∙ plan.outs-Named _ _ _) tt
 
-pub evaluation::evaluate-returns-in_err-content-in-Unnamed-clause-reads : goal.evaluation::evaluate-returns-in_err-content-in-Unnamed-clause-reads
-evaluation::evaluate-returns-in_err-content-in-Unnamed-clause-reads g t c = λ clean inside. other_form _ _ _ _ _ (ap out-Plan c.in-Unnamed.is ∙ plan.outs-Unnamed _ _) tt
-
 pub evaluation::evaluate-returns-in-Unnamed-clause-reads : goal.evaluation::evaluate-returns-in-Unnamed-clause-reads
 evaluation::evaluate-returns-in-Unnamed-clause-reads g t c = λ clean inside. other_form _ _ _ _ _ (ap out-Plan c.in-Unnamed.is ∙ plan.outs-Unnamed _ _) tt
-
-pub evaluation::evaluate-returns-in_err-items-in-Arrow-clause-reads : goal.evaluation::evaluate-returns-in_err-items-in-Arrow-clause-reads
-evaluation::evaluate-returns-in_err-items-in-Arrow-clause-reads g t c = λ clean inside. other_form _ _ _ _ _ (ap out-Plan c.in-Arrow.is ∙ plan.outs-Arrow _ _) tt
 
 pub evaluation::evaluate-returns-in-Arrow-clause-reads : goal.evaluation::evaluate-returns-in-Arrow-clause-reads
 evaluation::evaluate-returns-in-Arrow-clause-reads g t c = λ clean inside. other_form _ _ _ _ _ (ap out-Plan c.in-Arrow.is ∙ plan.outs-Arrow _ _) tt
 
-pub evaluation::evaluate-returns-in_err-items-in-Map-clause-reads : goal.evaluation::evaluate-returns-in_err-items-in-Map-clause-reads
-evaluation::evaluate-returns-in_err-items-in-Map-clause-reads g t c = λ clean inside. other_form _ _ _ _ _ (ap out-Plan c.in-Map.is ∙ plan.outs-Map _ _) tt
-
 pub evaluation::evaluate-returns-in-Map-clause-reads : goal.evaluation::evaluate-returns-in-Map-clause-reads
 evaluation::evaluate-returns-in-Map-clause-reads g t c = λ clean inside. other_form _ _ _ _ _ (ap out-Plan c.in-Map.is ∙ plan.outs-Map _ _) tt
 
-pub evaluation::evaluate-returns-in_err-answer-in-Quantified-clause-reads : goal.evaluation::evaluate-returns-in_err-answer-in-Quantified-clause-reads
-evaluation::evaluate-returns-in_err-answer-in-Quantified-clause-reads g t c = λ clean inside. other_form _ _ _ _ _ (ap out-Plan c.in-Quantified.is ∙ plan.outs-Quantified _ _ _) tt
-
-pub evaluation::evaluate-returns-in_err-single-in-Quantified-clause-reads : goal.evaluation::evaluate-returns-in_err-single-in-Quantified-clause-reads
-evaluation::evaluate-returns-in_err-single-in-Quantified-clause-reads g t c = λ clean inside. other_form _ _ _ _ _ (ap out-Plan c.in-Quantified.is ∙ plan.outs-Quantified _ _ _) tt
-
-pub evaluation::evaluate-returns-clause-reads : goal.evaluation::evaluate-returns-clause-reads
-evaluation::evaluate-returns-clause-reads g t c = λ clean inside. other_form _ _ _ _ _ (ap out-Plan c.in-Quantified.is ∙ plan.outs-Quantified _ _ _) tt
-
-pub evaluation::evaluate-returns-in_err-text-in-Str-clause-reads : goal.evaluation::evaluate-returns-in_err-text-in-Str-clause-reads
-evaluation::evaluate-returns-in_err-text-in-Str-clause-reads g t c = λ clean inside. literal_scans _ _ _ _ _ (ap out-Plan c.in-Str.is ∙ plan.outs-Str _) refl
-
-pub evaluation::evaluate-returns-in_err-single-in-Str-clause-reads : goal.evaluation::evaluate-returns-in_err-single-in-Str-clause-reads
-evaluation::evaluate-returns-in_err-single-in-Str-clause-reads g t c = λ clean inside. literal_scans _ _ _ _ _ (ap out-Plan c.in-Str.is ∙ plan.outs-Str _) refl
+pub evaluation::evaluate-returns-in-Quantified-clause-reads : goal.evaluation::evaluate-returns-in-Quantified-clause-reads
+evaluation::evaluate-returns-in-Quantified-clause-reads g t c = λ clean inside. other_form _ _ _ _ _ (ap out-Plan c.in-Quantified.is ∙ plan.outs-Quantified _ _ _) tt
 
 pub evaluation::evaluate-returns-in-Str-clause-reads : goal.evaluation::evaluate-returns-in-Str-clause-reads
 evaluation::evaluate-returns-in-Str-clause-reads g t c = λ clean inside. literal_scans _ _ _ _ _ (ap out-Plan c.in-Str.is ∙ plan.outs-Str _) refl
@@ -2934,24 +2204,1079 @@ evaluation::evaluate-returns-in-Str-clause-reads g t c = λ clean inside. litera
 pub evaluation::evaluate-returns-in-Call-clause-reads : goal.evaluation::evaluate-returns-in-Call-clause-reads
 evaluation::evaluate-returns-in-Call-clause-reads g t c = λ clean inside. call_scans _ _ _ _ _ (ap out-Plan c.in-Call.is ∙ plan.outs-Call _ _) (λ doc text parts. c.called.ensures.reads clean inside doc text (c.as_slice-in-Call.ensures ∙ parts))
 
-pub evaluation::evaluate-returns-in_err-items-in-Path-clause-reads : goal.evaluation::evaluate-returns-in_err-items-in-Path-clause-reads
-evaluation::evaluate-returns-in_err-items-in-Path-clause-reads g t c = λ clean inside.
-    path_scans _ _ _ _ _ (ap out-Plan c.in-Path.is ∙ plan.outs-Path _ _)
-    (λ address steps start parts. not_grown _ _ _ ((c.evaluate-in-Path.ensures.reads clean inside).document (address, c.get-in-Path.ensures ∙ start)))
+-- # Forms of expressions, and the dispatcher
+
+pub evaluation::evaluate-returns-in-Int-clause-gives : goal.evaluation::evaluate-returns-in-Int-clause-gives
+evaluation::evaluate-returns-in-Int-clause-gives g t c = λ clean inside.
+    let f = g.W.TreeSource.forest c.args.world.now in
+    let same : to_z w64 (of_z w64 c.in-Int.value) ≡ c.in-Int.value = search rules in
+    rw (c.in-Int.is, plan-Int c.in-Int.value) (subst (λ n. GivesSequence (give (atomic (Integer n)) f) f c.integer.result) same (c.integer.ensures f))
+
+pub evaluation::evaluate-returns-in-Int-clause-goes : goal.evaluation::evaluate-returns-in-Int-clause-goes
+evaluation::evaluate-returns-in-Int-clause-goes g t c = stays _ _
+
+pub evaluation::evaluate-returns-in-Dec-clause-gives : goal.evaluation::evaluate-returns-in-Dec-clause-gives
+evaluation::evaluate-returns-in-Dec-clause-gives g t c = λ clean inside.
+    rw (c.in-Dec.is, plan-Dec _) (c.decimal.ensures (g.W.TreeSource.forest c.args.world.now))
+
+pub evaluation::evaluate-returns-in-Dec-clause-goes : goal.evaluation::evaluate-returns-in-Dec-clause-goes
+evaluation::evaluate-returns-in-Dec-clause-goes g t c = stays _ _
+
+pub evaluation::evaluate-returns-in-Str-clause-gives : goal.evaluation::evaluate-returns-in-Str-clause-gives
+evaluation::evaluate-returns-in-Str-clause-gives g t c = λ clean inside.
+    rw (c.in-Str.is, plan-Str c.in-Str.text, ← c.as_str.ensures) (c.string.ensures (g.W.TreeSource.forest c.args.world.now))
+
+pub evaluation::evaluate-returns-in-Str-clause-goes : goal.evaluation::evaluate-returns-in-Str-clause-goes
+evaluation::evaluate-returns-in-Str-clause-goes g t c = stays _ _
+
+pub evaluation::evaluate-returns-in-Slot-clause-gives : goal.evaluation::evaluate-returns-in-Slot-clause-gives
+evaluation::evaluate-returns-in-Slot-clause-gives g t c = λ clean inside.
+    rw (c.in-Slot.is, plan-Slot c.in-Slot.number) (c.variable.ensures (g.W.TreeSource.forest c.args.world.now) inside.slots_in)
+
+pub evaluation::evaluate-returns-in-Slot-clause-goes : goal.evaluation::evaluate-returns-in-Slot-clause-goes
+evaluation::evaluate-returns-in-Slot-clause-goes g t c = stays _ _
+
+pub evaluation::evaluate-returns-in-Chain-clause-gives : goal.evaluation::evaluate-returns-in-Chain-clause-gives
+evaluation::evaluate-returns-in-Chain-clause-gives g t c = λ clean inside.
+    rw (c.in-Chain.is, plan-Chain c.in-Chain.first c.in-Chain.rest, ← c.get.ensures, ← c.as_slice-in-Chain.ensures) (c.operands.ensures.gives clean inside)
+
+pub evaluation::evaluate-returns-in-Chain-clause-goes : goal.evaluation::evaluate-returns-in-Chain-clause-goes
+evaluation::evaluate-returns-in-Chain-clause-goes g t c = c.operands.ensures.goes
+
+pub evaluation::evaluate-returns-in-Unary-clause-gives : goal.evaluation::evaluate-returns-in-Unary-clause-gives
+evaluation::evaluate-returns-in-Unary-clause-gives g t c = λ clean inside.
+    rw (c.in-Unary.is, plan-Unary c.in-Unary.signs c.in-Unary.part, ← c.get-in-Unary.ensures, ← c.as_slice-in-Unary.ensures) (c.signed.ensures.gives clean inside)
+
+pub evaluation::evaluate-returns-in-Unary-clause-goes : goal.evaluation::evaluate-returns-in-Unary-clause-goes
+evaluation::evaluate-returns-in-Unary-clause-goes g t c = c.signed.ensures.goes
+
+pub evaluation::evaluate-returns-in-If-clause-gives : goal.evaluation::evaluate-returns-in-If-clause-gives
+evaluation::evaluate-returns-in-If-clause-gives g t c = λ clean inside.
+    rw (c.in-If.is, plan-If c.in-If.test c.in-If.yes c.in-If.no, ← c.get-in-If.ensures, ← c.get-in-If-2.ensures, ← c.get-in-If-3.ensures) (c.conditional.ensures.gives clean inside)
+
+pub evaluation::evaluate-returns-in-If-clause-goes : goal.evaluation::evaluate-returns-in-If-clause-goes
+evaluation::evaluate-returns-in-If-clause-goes g t c = c.conditional.ensures.goes
+
+pub evaluation::evaluate-returns-in-Or-clause-gives : goal.evaluation::evaluate-returns-in-Or-clause-gives
+evaluation::evaluate-returns-in-Or-clause-gives g t c = λ clean inside.
+    rw (c.in-Or.is, plan-Or c.in-Or.parts, ← c.as_slice-in-Or.ensures) (c.logical.ensures.gives clean inside)
+
+pub evaluation::evaluate-returns-in-Or-clause-goes : goal.evaluation::evaluate-returns-in-Or-clause-goes
+evaluation::evaluate-returns-in-Or-clause-goes g t c = c.logical.ensures.goes
+
+pub evaluation::evaluate-returns-in-And-clause-gives : goal.evaluation::evaluate-returns-in-And-clause-gives
+evaluation::evaluate-returns-in-And-clause-gives g t c = λ clean inside.
+    rw (c.in-And.is, plan-And c.in-And.parts, ← c.as_slice-in-And.ensures) (c.logical-in-And.ensures.gives clean inside)
+
+pub evaluation::evaluate-returns-in-And-clause-goes : goal.evaluation::evaluate-returns-in-And-clause-goes
+evaluation::evaluate-returns-in-And-clause-goes g t c = c.logical-in-And.ensures.goes
+
+pub evaluation::evaluate-returns-in-Filter-clause-gives : goal.evaluation::evaluate-returns-in-Filter-clause-gives
+evaluation::evaluate-returns-in-Filter-clause-gives g t c = λ clean inside.
+    rw (c.in-Filter.is, plan-Filter c.in-Filter.start c.in-Filter.predicates, ← c.get-in-Filter.ensures, ← c.as_slice-in-Filter.ensures) (c.filtered.ensures.gives clean inside)
+
+pub evaluation::evaluate-returns-in-Filter-clause-goes : goal.evaluation::evaluate-returns-in-Filter-clause-goes
+evaluation::evaluate-returns-in-Filter-clause-goes g t c = c.filtered.ensures.goes
+
+pub evaluation::evaluate-returns-in-Flwor-clause-gives : goal.evaluation::evaluate-returns-in-Flwor-clause-gives
+evaluation::evaluate-returns-in-Flwor-clause-gives g t c = λ clean inside.
+    rw (c.in-Flwor.is, plan-Flwor c.in-Flwor.clauses c.in-Flwor.part, ← c.get-in-Flwor.ensures, ← c.as_slice-in-Flwor.ensures) (c.flwor.ensures.gives clean inside)
+
+pub evaluation::evaluate-returns-in-Flwor-clause-goes : goal.evaluation::evaluate-returns-in-Flwor-clause-goes
+evaluation::evaluate-returns-in-Flwor-clause-goes g t c = c.flwor.ensures.goes
+
+pub evaluation::evaluate-returns-in-Path-clause-gives : goal.evaluation::evaluate-returns-in-Path-clause-gives
+evaluation::evaluate-returns-in-Path-clause-gives g t c = λ clean inside.
+    rw (c.in-Path.is, plan-Path c.in-Path.start c.in-Path.steps, ← c.get-in-Path.ensures, ← c.as_slice-in-Path.ensures) (c.path.ensures.gives clean inside)
+
+pub evaluation::evaluate-returns-in-Path-clause-goes : goal.evaluation::evaluate-returns-in-Path-clause-goes
+evaluation::evaluate-returns-in-Path-clause-goes g t c = c.path.ensures.goes
 
 pub evaluation::evaluate-returns-in-Path-clause-reads : goal.evaluation::evaluate-returns-in-Path-clause-reads
 evaluation::evaluate-returns-in-Path-clause-reads g t c = λ clean inside.
+    path_scans _ _ _ _ _ (ap out-Plan c.in-Path.is ∙ plan.outs-Path _ _)
+    (λ address steps start parts. c.path.ensures.reads clean inside address steps (c.get-in-Path.ensures ∙ start) (c.as_slice-in-Path.ensures ∙ parts))
+
+pub evaluation::evaluate-returns-in-Step-clause-gives : goal.evaluation::evaluate-returns-in-Step-clause-gives
+evaluation::evaluate-returns-in-Step-clause-gives g t c = λ clean inside.
+    rw (c.in-Step.is, plan-Step c.in-Step.axis c.in-Step.test c.in-Step.predicates, ← c.as_slice-in-Step.ensures) (c.axis_step.ensures.gives clean inside)
+
+pub evaluation::evaluate-returns-in-Step-clause-goes : goal.evaluation::evaluate-returns-in-Step-clause-goes
+evaluation::evaluate-returns-in-Step-clause-goes g t c = c.axis_step.ensures.goes
+
+pub evaluation::evaluate-returns-in-Named-clause-gives : goal.evaluation::evaluate-returns-in-Named-clause-gives
+evaluation::evaluate-returns-in-Named-clause-gives g t c = λ clean inside.
+    rw (c.in-Named.is, plan-Named c.in-Named.kind c.in-Named.name c.in-Named.part, ← c.get-in-Named.ensures, ← c.get-in-Named-2.ensures) (c.named_node.ensures.gives clean inside)
+
+pub evaluation::evaluate-returns-in-Named-clause-goes : goal.evaluation::evaluate-returns-in-Named-clause-goes
+evaluation::evaluate-returns-in-Named-clause-goes g t c = c.named_node.ensures.goes
+
+pub evaluation::evaluate-returns-in-Unnamed-clause-gives : goal.evaluation::evaluate-returns-in-Unnamed-clause-gives
+evaluation::evaluate-returns-in-Unnamed-clause-gives g t c = λ clean inside.
+    rw (c.in-Unnamed.is, plan-Unnamed c.in-Unnamed.kind c.in-Unnamed.part, ← c.get-in-Unnamed.ensures) (c.unnamed_node.ensures.gives clean inside)
+
+pub evaluation::evaluate-returns-in-Unnamed-clause-goes : goal.evaluation::evaluate-returns-in-Unnamed-clause-goes
+evaluation::evaluate-returns-in-Unnamed-clause-goes g t c = c.unnamed_node.ensures.goes
+
+pub evaluation::evaluate-returns-in-Arrow-clause-gives : goal.evaluation::evaluate-returns-in-Arrow-clause-gives
+evaluation::evaluate-returns-in-Arrow-clause-gives g t c = λ clean inside.
+    rw (c.in-Arrow.is, plan-Arrow c.in-Arrow.first c.in-Arrow.calls, ← c.get-in-Arrow.ensures, ← c.as_slice-in-Arrow.ensures) (c.arrow.ensures.gives clean inside)
+
+pub evaluation::evaluate-returns-in-Arrow-clause-goes : goal.evaluation::evaluate-returns-in-Arrow-clause-goes
+evaluation::evaluate-returns-in-Arrow-clause-goes g t c = c.arrow.ensures.goes
+
+pub evaluation::evaluate-returns-in-Map-clause-gives : goal.evaluation::evaluate-returns-in-Map-clause-gives
+evaluation::evaluate-returns-in-Map-clause-gives g t c = λ clean inside.
+    rw (c.in-Map.is, plan-Map c.in-Map.start c.in-Map.parts, ← c.get-in-Map.ensures, ← c.as_slice-in-Map.ensures) (c.simple_map.ensures.gives clean inside)
+
+pub evaluation::evaluate-returns-in-Map-clause-goes : goal.evaluation::evaluate-returns-in-Map-clause-goes
+evaluation::evaluate-returns-in-Map-clause-goes g t c = c.simple_map.ensures.goes
+
+pub evaluation::evaluate-returns-in-Quantified-clause-gives : goal.evaluation::evaluate-returns-in-Quantified-clause-gives
+evaluation::evaluate-returns-in-Quantified-clause-gives g t c = λ clean inside.
+    rw (c.in-Quantified.is, plan-Quantified c.in-Quantified.which c.in-Quantified.ranges c.in-Quantified.test, ← c.get-in-Quantified.ensures, ← c.as_slice-ranges.ensures) (c.quantified.ensures.gives clean inside)
+
+pub evaluation::evaluate-returns-in-Quantified-clause-goes : goal.evaluation::evaluate-returns-in-Quantified-clause-goes
+evaluation::evaluate-returns-in-Quantified-clause-goes g t c = c.quantified.ensures.goes
+
+pub expressions::operands-returns-clause-gives : goal.expressions::operands-returns-clause-gives
+expressions::operands-returns-clause-gives g t c = λ clean inside.
+    let f = g.W.TreeSource.forest c.args.world.now in
+    let held = c.args.frame in
+    let frame = frame_at f held in
+    let f' = g.W.TreeSource.forest c.evaluate.new.world in
+    let grows = c.in_ok-left.ensures.goes.grows in
+    let first = c.in_ok-left.ensures.gives (c.chain.ensures.goes.was_clean clean) inside in
+    let second = c.chain.ensures.gives clean (frame_in_grown grows held inside) first.0 in
+    let value : plan_mean c.args.first.now frame f ≡ (Ok (items_at f' (item_views c.in_ok-left.left)), f') = first.1 in
+    rw (value, ← frame_grown grows held inside) second
+
+pub expressions::operands-returns-in_err-left-clause-gives : goal.expressions::operands-returns-in_err-left-clause-gives
+expressions::operands-returns-in_err-left-clause-gives g t c = λ clean inside.
+    let f = g.W.TreeSource.forest c.args.world.now in
+    let held = c.args.frame in
+    let frame = frame_at f held in
+    let f' = g.W.TreeSource.forest c.evaluate.new.world in
+    let next = λ (xs : List Item). in_turn (Forms.next_operand frame) xs (map (λ (op, p). (op, plan_mean p)) c.args.rest.now) in
+    cut item_views items_at AreIn item_views items_at AreIn _ (plan_mean c.args.first.now frame f) next f' c.in_err-left.field-0.0 c.from_residual.result refl c.from_residual.ensures.1 (c.in_err-left.ensures.gives clean inside)
+
+pub expressions::operands-returns-in_err-left-clause-goes : goal.expressions::operands-returns-in_err-left-clause-goes
+expressions::operands-returns-in_err-left-clause-goes g t c = c.in_err-left.ensures.goes
+
+pub expressions::operands-returns-clause-goes : goal.expressions::operands-returns-clause-goes
+expressions::operands-returns-clause-goes g t c = goes_on_to c.in_ok-left.ensures.goes c.chain.ensures.goes
+
+pub expressions::filtered-returns-clause-gives : goal.expressions::filtered-returns-clause-gives
+expressions::filtered-returns-clause-gives g t c = λ clean inside.
+    let f = g.W.TreeSource.forest c.args.world.now in
+    let held = c.args.frame in
+    let frame = frame_at f held in
+    let f' = g.W.TreeSource.forest c.evaluate.new.world in
+    let grows = c.in_ok-items.ensures.goes.grows in
+    let first = c.in_ok-items.ensures.gives (c.filter.ensures.goes.was_clean clean) inside in
+    let second = c.filter.ensures.gives clean (frame_in_grown grows held inside) first.0 in
+    let value : plan_mean c.args.start.now frame f ≡ (Ok (items_at f' (item_views c.in_ok-items.items)), f') = first.1 in
+    rw (value, ← frame_grown grows held inside) second
+
+pub expressions::filtered-returns-in_err-items-clause-gives : goal.expressions::filtered-returns-in_err-items-clause-gives
+expressions::filtered-returns-in_err-items-clause-gives g t c = λ clean inside.
+    let f = g.W.TreeSource.forest c.args.world.now in
+    let held = c.args.frame in
+    let frame = frame_at f held in
+    let f' = g.W.TreeSource.forest c.evaluate.new.world in
+    let next = λ (xs : List Item). in_turn (Forms.filtered frame) xs (map plan_mean c.args.predicates.now) in
+    cut item_views items_at AreIn item_views items_at AreIn _ (plan_mean c.args.start.now frame f) next f' c.in_err-items.field-0.0 c.from_residual.result refl c.from_residual.ensures.1 (c.in_err-items.ensures.gives clean inside)
+
+pub expressions::filtered-returns-in_err-items-clause-goes : goal.expressions::filtered-returns-in_err-items-clause-goes
+expressions::filtered-returns-in_err-items-clause-goes g t c = c.in_err-items.ensures.goes
+
+pub expressions::filtered-returns-clause-goes : goal.expressions::filtered-returns-clause-goes
+expressions::filtered-returns-clause-goes g t c = goes_on_to c.in_ok-items.ensures.goes c.filter.ensures.goes
+
+pub expressions::arrow-returns-clause-gives : goal.expressions::arrow-returns-clause-gives
+expressions::arrow-returns-clause-gives g t c = λ clean inside.
+    let f = g.W.TreeSource.forest c.args.world.now in
+    let held = c.args.frame in
+    let frame = frame_at f held in
+    let f' = g.W.TreeSource.forest c.evaluate.new.world in
+    let grows = c.in_ok-items.ensures.goes.grows in
+    let first = c.in_ok-items.ensures.gives (c.call_list.ensures.goes.was_clean clean) inside in
+    let second = c.call_list.ensures.gives clean (frame_in_grown grows held inside) first.0 in
+    let value : plan_mean c.args.first.now frame f ≡ (Ok (items_at f' (item_views c.in_ok-items.items)), f') = first.1 in
+    rw (value, ← frame_grown grows held inside) second
+
+pub expressions::arrow-returns-in_err-items-clause-gives : goal.expressions::arrow-returns-in_err-items-clause-gives
+expressions::arrow-returns-in_err-items-clause-gives g t c = λ clean inside.
+    let f = g.W.TreeSource.forest c.args.world.now in
+    let held = c.args.frame in
+    let frame = frame_at f held in
+    let f' = g.W.TreeSource.forest c.evaluate.new.world in
+    let next = λ (xs : List Item). in_turn (Forms.next_call frame) xs (map (λ (op, ps). (op, map plan_mean ps)) c.args.calls.now) in
+    cut item_views items_at AreIn item_views items_at AreIn _ (plan_mean c.args.first.now frame f) next f' c.in_err-items.field-0.0 c.from_residual.result refl c.from_residual.ensures.1 (c.in_err-items.ensures.gives clean inside)
+
+pub expressions::arrow-returns-in_err-items-clause-goes : goal.expressions::arrow-returns-in_err-items-clause-goes
+expressions::arrow-returns-in_err-items-clause-goes g t c = c.in_err-items.ensures.goes
+
+pub expressions::arrow-returns-clause-goes : goal.expressions::arrow-returns-clause-goes
+expressions::arrow-returns-clause-goes g t c = goes_on_to c.in_ok-items.ensures.goes c.call_list.ensures.goes
+
+pub expressions::simple_map-returns-clause-gives : goal.expressions::simple_map-returns-clause-gives
+expressions::simple_map-returns-clause-gives g t c = λ clean inside.
+    let f = g.W.TreeSource.forest c.args.world.now in
+    let held = c.args.frame in
+    let frame = frame_at f held in
+    let f' = g.W.TreeSource.forest c.evaluate.new.world in
+    let grows = c.in_ok-items.ensures.goes.grows in
+    let first = c.in_ok-items.ensures.gives (c.map_list.ensures.goes.was_clean clean) inside in
+    let second = c.map_list.ensures.gives clean (frame_in_grown grows held inside) first.0 in
+    let value : plan_mean c.args.start.now frame f ≡ (Ok (items_at f' (item_views c.in_ok-items.items)), f') = first.1 in
+    rw (value, ← frame_grown grows held inside) second
+
+pub expressions::simple_map-returns-in_err-items-clause-gives : goal.expressions::simple_map-returns-in_err-items-clause-gives
+expressions::simple_map-returns-in_err-items-clause-gives g t c = λ clean inside.
+    let f = g.W.TreeSource.forest c.args.world.now in
+    let held = c.args.frame in
+    let frame = frame_at f held in
+    let f' = g.W.TreeSource.forest c.evaluate.new.world in
+    let next = λ (xs : List Item). in_turn (Forms.bang frame) xs (map plan_mean c.args.parts.now) in
+    cut item_views items_at AreIn item_views items_at AreIn _ (plan_mean c.args.start.now frame f) next f' c.in_err-items.field-0.0 c.from_residual.result refl c.from_residual.ensures.1 (c.in_err-items.ensures.gives clean inside)
+
+pub expressions::simple_map-returns-in_err-items-clause-goes : goal.expressions::simple_map-returns-in_err-items-clause-goes
+expressions::simple_map-returns-in_err-items-clause-goes g t c = c.in_err-items.ensures.goes
+
+pub expressions::simple_map-returns-clause-goes : goal.expressions::simple_map-returns-clause-goes
+expressions::simple_map-returns-clause-goes g t c = goes_on_to c.in_ok-items.ensures.goes c.map_list.ensures.goes
+
+pub expressions::path-returns-clause-gives : goal.expressions::path-returns-clause-gives
+expressions::path-returns-clause-gives g t c = λ clean inside.
+    let f = g.W.TreeSource.forest c.args.world.now in
+    let held = c.args.frame in
+    let frame = frame_at f held in
+    let f' = g.W.TreeSource.forest c.evaluate.new.world in
+    let grows = c.in_ok-items.ensures.goes.grows in
+    let first = c.in_ok-items.ensures.gives (c.step_list.ensures.goes.was_clean clean) inside in
+    let second = c.step_list.ensures.gives clean (frame_in_grown grows held inside) first.0 in
+    let value : plan_mean c.args.start.now frame f ≡ (Ok (items_at f' (item_views c.in_ok-items.items)), f') = first.1 in
+    rw (value, ← frame_grown grows held inside) second
+
+pub expressions::path-returns-in_err-items-clause-gives : goal.expressions::path-returns-in_err-items-clause-gives
+expressions::path-returns-in_err-items-clause-gives g t c = λ clean inside.
+    let f = g.W.TreeSource.forest c.args.world.now in
+    let held = c.args.frame in
+    let frame = frame_at f held in
+    let f' = g.W.TreeSource.forest c.evaluate.new.world in
+    let next = λ (xs : List Item). in_turn (next_step frame) xs (map plan_step_mean c.args.steps.now) in
+    cut item_views items_at AreIn item_views items_at AreIn _ (plan_mean c.args.start.now frame f) next f' c.in_err-items.field-0.0 c.from_residual-in_err-items.result refl c.from_residual-in_err-items.ensures.1 (c.in_err-items.ensures.gives clean inside)
+
+pub expressions::path-returns-in_err-items-clause-goes : goal.expressions::path-returns-in_err-items-clause-goes
+expressions::path-returns-in_err-items-clause-goes g t c = c.in_err-items.ensures.goes
+
+pub expressions::path-returns-clause-goes : goal.expressions::path-returns-clause-goes
+expressions::path-returns-clause-goes g t c = goes_on_to c.in_ok-items.ensures.goes c.step_list.ensures.goes
+
+pub expressions::signed-returns-in_err-items-clause-gives : goal.expressions::signed-returns-in_err-items-clause-gives
+expressions::signed-returns-in_err-items-clause-gives g t c = λ clean inside.
+    let f = g.W.TreeSource.forest c.args.world.now in
+    let held = c.args.frame in
+    let frame = frame_at f held in
+    let f' = g.W.TreeSource.forest c.evaluate.new.world in
+    let e = c.in_err-items.field-0.0 in
+    let first = λ (xs : List Item). on_trees (λ trees. Ok (atomized trees xs)) in
+    let next = λ (as' : List Atomic). judged (signed c.args.signs.now as') in
+    cut (λ (as' : List Atomic). as') (λ trees as'. as') (λ trees as'. Unit {0}) item_views items_at AreIn _ (go_on (plan_mean c.args.part.now frame f) first) next f' e c.from_residual.result refl c.from_residual.ensures.1
+    (go_on_stop item_views items_at AreIn (λ (as' : List Atomic). as') (λ trees as'. as') (λ trees as'. Unit {0}) (plan_mean c.args.part.now frame f) first f' e (c.in_err-items.ensures.gives clean inside))
+
+pub expressions::signed-returns-clause-gives : goal.expressions::signed-returns-clause-gives
+expressions::signed-returns-clause-gives g t c = λ clean inside.
+    let f = g.W.TreeSource.forest c.args.world.now in
+    let held = c.args.frame in
+    let frame = frame_at f held in
+    let f' = g.W.TreeSource.forest c.evaluate.new.world in
+    let f'' = g.W.TreeSource.forest c.sign.new.world in
+    let items = item_views c.in_ok-items.items in
+    let value = c.in_ok-items.ensures.gives (c.sign.ensures.goes.was_clean clean) inside in
+    let d : map item_view c.deref.result.now ≡ items = ap (map item_view) c.deref.ensures.value in
+    let found = c.sign.ensures.gives clean (subst (AreIn f') (sym d) value.0) in
+    let first = λ (xs : List Item). on_trees (λ trees. Ok (atomized trees xs)) in
+    let next = λ (as' : List Atomic). judged (signed c.args.signs.now as') in
+    let meant : Forms.unary c.args.signs.now (plan_mean c.args.part.now) frame f ≡ on_trees (λ trees. signed c.args.signs.now (atomized trees (items_at f' (map item_view c.deref.result.now)))) f' =
+    ap (λ o. go_on (go_on o first) next) value.1
+    ∙ ap (λ xs. on_trees (λ trees. signed c.args.signs.now (atomized trees (items_at f' xs))) f') (sym d) in
+    subst (λ o. GivesSequence o f'' c.sign.result) (sym meant) found
+
+pub expressions::signed-returns-in_err-items-clause-goes : goal.expressions::signed-returns-in_err-items-clause-goes
+expressions::signed-returns-in_err-items-clause-goes g t c = c.in_err-items.ensures.goes
+
+pub expressions::signed-returns-clause-goes : goal.expressions::signed-returns-clause-goes
+expressions::signed-returns-clause-goes g t c = goes_on_to c.in_ok-items.ensures.goes c.sign.ensures.goes
+
+pub expressions::conditional-returns-in_err-value-clause-gives : goal.expressions::conditional-returns-in_err-value-clause-gives
+expressions::conditional-returns-in_err-value-clause-gives g t c = λ clean inside.
+    let f = g.W.TreeSource.forest c.args.world.now in
+    let held = c.args.frame in
+    let frame = frame_at f held in
+    let f' = g.W.TreeSource.forest c.evaluate.new.world in
+    let e = c.in_err-value.field-0.0 in
+    let first = λ (xs : List Item). judged (effective xs) in
+    let next = λ (answer : Bool). Forms.chosen answer (plan_mean c.args.yes.now) (plan_mean c.args.no.now) frame in
+    cut (λ (b : Bool). b) (λ trees b. b) (λ trees b. Unit {0}) item_views items_at AreIn _ (go_on (plan_mean c.args.test.now frame f) first) next f' e c.from_residual.result refl c.from_residual.ensures.1
+    (go_on_stop item_views items_at AreIn (λ (b : Bool). b) (λ trees b. b) (λ trees b. Unit {0}) (plan_mean c.args.test.now frame f) first f' e (c.in_err-value.ensures.gives clean inside))
+
+pub expressions::conditional-returns-in_err-effective-clause-gives : goal.expressions::conditional-returns-in_err-effective-clause-gives
+expressions::conditional-returns-in_err-effective-clause-gives g t c = λ clean inside.
+    let f = g.W.TreeSource.forest c.args.world.now in
+    let held = c.args.frame in
+    let frame = frame_at f held in
+    let f' = g.W.TreeSource.forest c.evaluate.new.world in
+    let value = c.in_ok-value.ensures.gives clean inside in
+    let code = c.in_err-effective.field-0.0 in
+    let test = plan_mean c.args.test.now in
+    let failed = tested_err test frame _ code f f' value.1 (ap (λ xs. effective (items_at f' (map item_view xs))) (sym c.deref.ensures.value) ∙ sym (c.in_err-effective.ensures f')) in
+    let next = λ (answer : Bool). Forms.chosen answer (plan_mean c.args.yes.now) (plan_mean c.args.no.now) frame in
+    cut (λ (b : Bool). b) (λ trees b. b) (λ trees b. Unit {0}) item_views items_at AreIn _ (Forms.tested test frame f) next f' (OfCode code) c.from_residual-in_err-effective.result refl c.from_residual-in_err-effective.ensures.1 failed
+
+pub expressions::conditional-returns-then-branch-clause-gives : goal.expressions::conditional-returns-then-branch-clause-gives
+expressions::conditional-returns-then-branch-clause-gives g t c = λ clean inside.
+    let f = g.W.TreeSource.forest c.args.world.now in
+    let held = c.args.frame in
+    let frame = frame_at f held in
+    let f' = g.W.TreeSource.forest c.evaluate.new.world in
+    let grows = c.in_ok-value.ensures.goes.grows in
+    let value = c.in_ok-value.ensures.gives (c.evaluate-then-branch.ensures.goes.was_clean clean) inside in
+    let tested = tested_ok (plan_mean c.args.test.now) frame _ true f f' value.1
+    (ap (λ xs. effective (items_at f' (map item_view xs))) (sym c.deref.ensures.value) ∙ sym (c.in_ok-effective.ensures f') ∙ ap Ok c.if-branch.true) in
+    rw (tested, ← frame_grown grows held inside) (c.evaluate-then-branch.ensures.gives clean (frame_in_grown grows held inside))
+
+pub expressions::conditional-returns-then-branch-clause-goes : goal.expressions::conditional-returns-then-branch-clause-goes
+expressions::conditional-returns-then-branch-clause-goes g t c = goes_on_to c.in_ok-value.ensures.goes c.evaluate-then-branch.ensures.goes
+
+pub expressions::conditional-returns-clause-gives : goal.expressions::conditional-returns-clause-gives
+expressions::conditional-returns-clause-gives g t c = λ clean inside.
+    let f = g.W.TreeSource.forest c.args.world.now in
+    let held = c.args.frame in
+    let frame = frame_at f held in
+    let f' = g.W.TreeSource.forest c.evaluate.new.world in
+    let grows = c.in_ok-value.ensures.goes.grows in
+    let value = c.in_ok-value.ensures.gives (c.evaluate-else-branch.ensures.goes.was_clean clean) inside in
+    let tested = tested_ok (plan_mean c.args.test.now) frame _ false f f' value.1
+    (ap (λ xs. effective (items_at f' (map item_view xs))) (sym c.deref.ensures.value) ∙ sym (c.in_ok-effective.ensures f') ∙ ap Ok c.if-branch.false) in
+    rw (tested, ← frame_grown grows held inside) (c.evaluate-else-branch.ensures.gives clean (frame_in_grown grows held inside))
+
+pub expressions::conditional-returns-clause-goes : goal.expressions::conditional-returns-clause-goes
+expressions::conditional-returns-clause-goes g t c = goes_on_to c.in_ok-value.ensures.goes c.evaluate-else-branch.ensures.goes
+
+pub expressions::conditional-returns-in_err-value-clause-goes : goal.expressions::conditional-returns-in_err-value-clause-goes
+expressions::conditional-returns-in_err-value-clause-goes g t c = c.in_err-value.ensures.goes
+
+pub expressions::conditional-returns-in_err-effective-clause-goes : goal.expressions::conditional-returns-in_err-effective-clause-goes
+expressions::conditional-returns-in_err-effective-clause-goes g t c = c.in_ok-value.ensures.goes
+
+pub expressions::logical-returns-in_err-answer-clause-gives : goal.expressions::logical-returns-in_err-answer-clause-gives
+expressions::logical-returns-in_err-answer-clause-gives g t c = λ clean inside.
+    let f = g.W.TreeSource.forest c.args.world.now in
+    let held = c.args.frame in
+    let frame = frame_at f held in
+    let f' = g.W.TreeSource.forest c.decided.new.world in
+    cut (λ (b : Bool). b) (λ trees b. b) (λ trees b. Unit {0}) item_views items_at AreIn _ (first_that c.args.wanted (λ part. Forms.tested part frame) (map plan_mean c.args.parts.now) f) (λ (answer : Bool). give (boolean answer)) f' c.in_err-answer.field-0.0 c.from_residual.result
+    refl c.from_residual.ensures.1 (c.in_err-answer.ensures.gives clean inside)
+
+pub expressions::logical-returns-clause-gives : goal.expressions::logical-returns-clause-gives
+expressions::logical-returns-clause-gives g t c = λ clean inside.
+    let f = g.W.TreeSource.forest c.args.world.now in
+    let held = c.args.frame in
+    let frame = frame_at f held in
+    let f' = g.W.TreeSource.forest c.decided.new.world in
+    let answer = c.in_ok-answer.ensures.gives clean inside in
+    subst (λ o. GivesSequence o f' c.boolean.result) (sym (ap (λ o. go_on o (λ answer. give (boolean answer))) answer.1)) (c.boolean.ensures f')
+
+pub expressions::logical-returns-in_err-answer-clause-goes : goal.expressions::logical-returns-in_err-answer-clause-goes
+expressions::logical-returns-in_err-answer-clause-goes g t c = c.in_err-answer.ensures.goes
+
+pub expressions::logical-returns-clause-goes : goal.expressions::logical-returns-clause-goes
+expressions::logical-returns-clause-goes g t c = c.in_ok-answer.ensures.goes
+
+pub expressions::quantified-returns-in_err-answer-clause-gives : goal.expressions::quantified-returns-in_err-answer-clause-gives
+expressions::quantified-returns-in_err-answer-clause-gives g t c = λ clean inside.
+    let f = g.W.TreeSource.forest c.args.world.now in
+    let held = c.args.frame in
+    let frame = frame_at f held in
+    let f' = g.W.TreeSource.forest c.satisfied.new.world in
+    cut (λ (b : Bool). b) (λ trees b. b) (λ trees b. Unit {0}) item_views items_at AreIn _ (holds c.deciding-wanted.result (plan_mean c.args.test.now) (map plan_mean c.args.ranges.now) frame f) (λ (answer : Bool). give (boolean answer)) f' c.in_err-answer.field-0.0 c.from_residual.result
+    (ap (λ b. go_on (holds b (plan_mean c.args.test.now) (map plan_mean c.args.ranges.now) frame f) (λ answer. give (boolean answer))) (sym c.deciding-wanted.ensures)) c.from_residual.ensures.1 (c.in_err-answer.ensures.gives clean inside)
+
+pub expressions::quantified-returns-clause-gives : goal.expressions::quantified-returns-clause-gives
+expressions::quantified-returns-clause-gives g t c = λ clean inside.
+    let f = g.W.TreeSource.forest c.args.world.now in
+    let held = c.args.frame in
+    let frame = frame_at f held in
+    let f' = g.W.TreeSource.forest c.satisfied.new.world in
+    let answer = c.in_ok-answer.ensures.gives clean inside in
+    subst (λ o. GivesSequence o f' c.boolean.result) (sym ((ap (λ b. go_on (holds b (plan_mean c.args.test.now) (map plan_mean c.args.ranges.now) frame f) (λ answer. give (boolean answer))) (sym c.deciding-wanted.ensures)) ∙ ap (λ o. go_on o (λ answer. give (boolean answer))) answer.1)) (c.boolean.ensures f')
+
+pub expressions::quantified-returns-in_err-answer-clause-goes : goal.expressions::quantified-returns-in_err-answer-clause-goes
+expressions::quantified-returns-in_err-answer-clause-goes g t c = c.in_err-answer.ensures.goes
+
+pub expressions::quantified-returns-clause-goes : goal.expressions::quantified-returns-clause-goes
+expressions::quantified-returns-clause-goes g t c = c.in_ok-answer.ensures.goes
+
+pub expressions::flwor-returns-in_err-tuples-clause-gives : goal.expressions::flwor-returns-in_err-tuples-clause-gives
+expressions::flwor-returns-in_err-tuples-clause-gives g t c = λ clean inside.
+    let f = g.W.TreeSource.forest c.args.world.now in
+    let held = c.args.frame in
+    let frame = frame_at f held in
+    let f' = g.W.TreeSource.forest c.clause_list.new.world in
+    let next = λ (tuples : List (Tuple Item)). Forms.return_of (plan_mean c.args.part.now) (at_tuple frame) tuples in
+    cut (λ (ts : List (Tuple ItemView)). ts) tuples_at TuplesIn item_views items_at AreIn _ (in_turn (next_clause frame) ([] ∷ []) (map plan_clause_mean c.args.clauses.now) f) next f' c.in_err-tuples.field-0.0 c.from_residual.result refl c.from_residual.ensures.1
+    (c.in_err-tuples.ensures.gives clean inside)
+
+pub expressions::flwor-returns-in_err-lists-clause-gives : goal.expressions::flwor-returns-in_err-lists-clause-gives
+expressions::flwor-returns-in_err-lists-clause-gives g t c = λ clean inside.
+    let f = g.W.TreeSource.forest c.args.world.now in
+    let held = c.args.frame in
+    let frame = frame_at f held in
+    let f' = g.W.TreeSource.forest c.clause_list.new.world in
+    let f'' = g.W.TreeSource.forest c.values.new.world in
+    let grows = c.in_ok-tuples.ensures.goes.grows in
+    let stream = c.in_ok-tuples.ensures.gives (c.values.ensures.goes.was_clean clean) inside in
+    let tuples = c.in_ok-tuples.tuples in
+    let part = plan_mean c.args.part.now in
+    let meant : flwor (map plan_clause_mean c.args.clauses.now) part frame f ≡ go_on (for_each (λ t. part (at_tuple (frame_at f' held) t)) (tuples_at f' tuples) f') (λ ls. give (concat ls)) =
+    flwor_is (map plan_clause_mean c.args.clauses.now) part frame f (tuples_at f' tuples) f' stream.1
+    ∙ ap (λ fr. go_on (for_each (λ t. part (at_tuple fr t)) (tuples_at f' tuples) f') (λ ls. give (concat ls))) (sym (frame_grown grows held inside)) in
+    let e = c.in_err-lists.field-0.0 in
+    let refused = c.in_err-lists.ensures.gives clean (frame_in_grown grows held inside) stream.0 in
+    subst (λ o. GivesSequence o f'' c.from_residual-in_err-lists.result) (sym meant)
+    (handed_on item_views items_at AreIn _ f'' e c.from_residual-in_err-lists.result c.from_residual-in_err-lists.ensures.1
+    (go_on_stop lists_of tuple_at TupleIn item_views items_at AreIn _ (λ ls. give (concat ls)) f'' e refused))
+
+pub expressions::flwor-returns-clause-gives : goal.expressions::flwor-returns-clause-gives
+expressions::flwor-returns-clause-gives g t c = λ clean inside.
+    let f = g.W.TreeSource.forest c.args.world.now in
+    let held = c.args.frame in
+    let frame = frame_at f held in
+    let f' = g.W.TreeSource.forest c.clause_list.new.world in
+    let f'' = g.W.TreeSource.forest c.values.new.world in
+    let grows = c.in_ok-tuples.ensures.goes.grows in
+    let stream = c.in_ok-tuples.ensures.gives (c.values.ensures.goes.was_clean clean) inside in
+    let tuples = c.in_ok-tuples.tuples in
+    let part = plan_mean c.args.part.now in
+    let meant : flwor (map plan_clause_mean c.args.clauses.now) part frame f ≡ go_on (for_each (λ t. part (at_tuple (frame_at f' held) t)) (tuples_at f' tuples) f') (λ ls. give (concat ls)) =
+    flwor_is (map plan_clause_mean c.args.clauses.now) part frame f (tuples_at f' tuples) f' stream.1
+    ∙ ap (λ fr. go_on (for_each (λ t. part (at_tuple fr t)) (tuples_at f' tuples) f') (λ ls. give (concat ls))) (sym (frame_grown grows held inside)) in
+    let lists = lists_of c.in_ok-lists.lists in
+    let values = c.in_ok-lists.ensures.gives clean (frame_in_grown grows held inside) stream.0 in
+    let all : item_views c.in_ok-concatenated.field-0 ≡ concat lists = c.in_ok-concatenated.ensures ∙ sym (flat_map-map (λ l. l) item_views c.in_ok-lists.lists.items) in (
+      subst (AreIn f'') (sym all) (concat_in f'' lists values.0),
+      meant ∙ ap (λ o. go_on o (λ ls. give (concat ls))) values.1 ∙ ap (λ xs. (Ok xs, f'')) (concat_read f'' lists ∙ ap (items_at f'') (sym all)),
+    )
+
+pub expressions::flwor-returns-in_err-tuples-clause-goes : goal.expressions::flwor-returns-in_err-tuples-clause-goes
+expressions::flwor-returns-in_err-tuples-clause-goes g t c = c.in_err-tuples.ensures.goes
+
+pub expressions::flwor-returns-in_err-lists-clause-goes : goal.expressions::flwor-returns-in_err-lists-clause-goes
+expressions::flwor-returns-in_err-lists-clause-goes g t c = goes_on_to c.in_ok-tuples.ensures.goes c.in_err-lists.ensures.goes
+
+pub expressions::flwor-returns-in_err-concatenated-clause-goes : goal.expressions::flwor-returns-in_err-concatenated-clause-goes
+expressions::flwor-returns-in_err-concatenated-clause-goes g t c = goes_on_to c.in_ok-tuples.ensures.goes c.in_ok-lists.ensures.goes
+
+pub expressions::flwor-returns-clause-goes : goal.expressions::flwor-returns-clause-goes
+expressions::flwor-returns-clause-goes g t c = goes_on_to c.in_ok-tuples.ensures.goes c.in_ok-lists.ensures.goes
+
+pub expressions::path-returns-in-Some-clause-gives : goal.expressions::path-returns-in-Some-clause-gives
+expressions::path-returns-in-Some-clause-gives g t c = λ clean inside.
+    let f = g.W.TreeSource.forest c.args.world.now in
+    let held = c.args.frame in
+    let frame = frame_at f held in
+    let f' = g.W.TreeSource.forest c.scan_from.new.world in
+    let at = c.in-Some.ensures.0 in
+    let test = c.in-Some.found.test.now in
+    let value = at.value f inside in
+    let found = c.in_ok-scan_from.ensures.gives clean (at.there f inside) in
+    let here = Node (node_at f c.in-Some.found.node) ∷ [] in (
+      found.0,
+      ap (λ o. go_on o (λ xs. in_turn (next_step frame) xs (map plan_step_mean c.args.steps.now))) value
+          ∙ ap (λ ss. in_turn (next_step frame) here (map plan_step_mean ss) f) c.in-Some.ensures.1
+          ∙ ap (λ m. go_on (m frame here f) (λ xs. give xs)) (step-Scan c.in-Some.found.axis test)
+          ∙ ap (λ o. go_on o (λ xs. give xs)) found.1,
+    )
+
+pub expressions::path-returns-in-Some-clause-goes : goal.expressions::path-returns-in-Some-clause-goes
+expressions::path-returns-in-Some-clause-goes g t c = c.scan_from.ensures.goes
+
+pub expressions::path-returns-in_err-scan_from-clause-goes : goal.expressions::path-returns-in_err-scan_from-clause-goes
+expressions::path-returns-in_err-scan_from-clause-goes g t c = c.scan_from.ensures.goes
+
+pub expressions::path-returns-in-Some-clause-reads : goal.expressions::path-returns-in-Some-clause-reads
+expressions::path-returns-in-Some-clause-reads g t c = λ clean inside address steps start parts. absurd (c.in-Some.ensures.0.no_call _ _ start)
+
+pub expressions::path-returns-in_err-scan_from-clause-reads : goal.expressions::path-returns-in_err-scan_from-clause-reads
+expressions::path-returns-in_err-scan_from-clause-reads g t c = λ clean inside address steps start parts. absurd (c.in-Some.ensures.0.no_call _ _ start)
+
+pub expressions::path-returns-in_err-items-clause-reads : goal.expressions::path-returns-in_err-items-clause-reads
+expressions::path-returns-in_err-items-clause-reads g t c = λ clean inside address steps start parts.
+    not_grown _ _ _ ((c.evaluate.ensures.reads clean inside).document (address, start))
+
+pub expressions::path-returns-clause-reads : goal.expressions::path-returns-clause-reads
+expressions::path-returns-clause-reads g t c = λ clean inside address steps start parts.
     let f = g.W.TreeSource.forest c.args.world.now in
     let frame = frame_at f c.args.frame in
-    let f' = g.W.TreeSource.forest c.evaluate-in-Path.new.world in
+    let f' = g.W.TreeSource.forest c.evaluate.new.world in
     let was = c.step_list.ensures.goes.was_clean clean in
-    let first = c.in_ok-items-in-Path.ensures.gives was inside in
-    path_scans _ _ _ _ _ (ap out-Plan c.in-Path.is ∙ plan.outs-Path _ _)
-    (λ address steps start parts.
-    let is = c.get-in-Path.ensures ∙ start in
-    let it = document_value frame f f' address (item_views c.in_ok-items-in-Path.items) inside.addresses_in first.0 (ap (λ p. plan_mean p frame f) (sym is) ∙ first.1) in
-    let scans = c.as_slice-in-Path.ensures ∙ parts in
-    let read = c.step_list.ensures.reads clean (subst (AllByRecursion IsScan) (sym scans) (are_scans steps)) it.0.number it.0.are in
-    let most : length c.as_slice-in-Path.result.now * rows_of f' it.0.number ≡ length steps * rows_at address frame.addresses f =
-    ap (λ n. n * rows_of f' it.0.number) (ap length scans ∙ length-map steps _) ∙ ap (λ r. length steps * r) (sym it.0.rows) ∙ ap (λ trees. length steps * rows_at address frame.addresses trees) (sym it.1) in
-    grown_from ((c.in_ok-items-in-Path.ensures.reads was inside).document (address, is)) (subst (HasGrown (g.W.TreeSource.meter c.evaluate-in-Path.new.world) (g.W.TreeSource.meter c.step_list.new.world)) most read))
+    let first = c.in_ok-items.ensures.gives was inside in
+    let it = document_value frame f f' address (item_views c.in_ok-items.items) inside.addresses_in first.0 (ap (λ p. plan_mean p frame f) (sym start) ∙ first.1) in
+    let read = c.step_list.ensures.reads clean (subst (AllByRecursion IsScan) (sym parts) (are_scans steps)) it.0.number it.0.are in
+    let most : length c.args.steps.now * rows_of f' it.0.number ≡ length steps * rows_at address frame.addresses f =
+    ap (λ n. n * rows_of f' it.0.number) (ap length parts ∙ length-map steps _) ∙ ap (λ r. length steps * r) (sym it.0.rows) ∙ ap (λ trees. length steps * rows_at address frame.addresses trees) (sym it.1) in
+    grown_from ((c.in_ok-items.ensures.reads was inside).document (address, start)) (subst (HasGrown (g.W.TreeSource.meter c.evaluate.new.world) (g.W.TreeSource.meter c.step_list.new.world)) most read)
+
+pub expressions::axis_step-returns-in_err-nodes-clause-gives : goal.expressions::axis_step-returns-in_err-nodes-clause-gives
+expressions::axis_step-returns-in_err-nodes-clause-gives g t c = λ clean inside.
+    let f = g.W.TreeSource.forest c.args.world.now in
+    let held = c.args.frame in
+    let frame = frame_at f held in
+    let f' = g.W.TreeSource.forest c.axis_items.new.world in
+    let axis = c.args.axis in
+    let test = c.args.test.now in
+    let predicates = map plan_mean c.args.predicates.now in
+    let next = λ (xs : List Item). in_turn (Forms.filtered frame) xs predicates >>= (λ ys. give (in_axis_order axis ys)) in
+    cut item_views items_at AreIn item_views items_at AreIn _ (on_axis axis test frame.focus f) next f' c.in_err-nodes.field-0.0 c.from_residual.result
+    (step_is axis test predicates frame f) c.from_residual.ensures.1 (c.in_err-nodes.ensures.gives clean inside)
+
+pub expressions::axis_step-returns-in_err-kept-clause-gives : goal.expressions::axis_step-returns-in_err-kept-clause-gives
+expressions::axis_step-returns-in_err-kept-clause-gives g t c = λ clean inside.
+    let f = g.W.TreeSource.forest c.args.world.now in
+    let held = c.args.frame in
+    let frame = frame_at f held in
+    let f' = g.W.TreeSource.forest c.axis_items.new.world in
+    let axis = c.args.axis in
+    let test = c.args.test.now in
+    let f'' = g.W.TreeSource.forest c.filter.new.world in
+    let grows = c.in_ok-nodes.ensures.goes.grows in
+    let predicates = map plan_mean c.args.predicates.now in
+    let nodes = item_views c.in_ok-nodes.nodes in
+    let first = c.in_ok-nodes.ensures.gives (c.filter.ensures.goes.was_clean clean) inside in
+    let filtering = λ (fr : Frame). in_turn (Forms.filtered fr) (items_at f' nodes) predicates f' in
+    let next = λ (ys : List Item). give (in_axis_order axis ys) in
+    let meant : Forms.step axis test predicates frame f ≡ go_on (filtering (frame_at f' held)) next =
+    step_is axis test predicates frame f ∙ ap (λ o. go_on o (λ xs. in_turn (Forms.filtered frame) xs predicates >>= next)) first.1 ∙ ap (λ fr. go_on (filtering fr) next) (sym (frame_grown grows held inside)) in
+    cut item_views items_at AreIn item_views items_at AreIn _ (filtering (frame_at f' held)) next f'' c.in_err-kept.field-0.0 c.from_residual-in_err-kept.result
+    meant c.from_residual-in_err-kept.ensures.1 (c.in_err-kept.ensures.gives clean (frame_in_grown grows held inside) first.0)
+
+pub expressions::axis_step-returns-clause-gives : goal.expressions::axis_step-returns-clause-gives
+expressions::axis_step-returns-clause-gives g t c = λ clean inside.
+    let f = g.W.TreeSource.forest c.args.world.now in
+    let held = c.args.frame in
+    let frame = frame_at f held in
+    let f' = g.W.TreeSource.forest c.axis_items.new.world in
+    let axis = c.args.axis in
+    let test = c.args.test.now in
+    let f'' = g.W.TreeSource.forest c.filter.new.world in
+    let grows = c.in_ok-nodes.ensures.goes.grows in
+    let predicates = map plan_mean c.args.predicates.now in
+    let nodes = item_views c.in_ok-nodes.nodes in
+    let first = c.in_ok-nodes.ensures.gives (c.filter.ensures.goes.was_clean clean) inside in
+    let filtering = λ (fr : Frame). in_turn (Forms.filtered fr) (items_at f' nodes) predicates f' in
+    let next = λ (ys : List Item). give (in_axis_order axis ys) in
+    let meant : Forms.step axis test predicates frame f ≡ go_on (filtering (frame_at f' held)) next =
+    step_is axis test predicates frame f ∙ ap (λ o. go_on o (λ xs. in_turn (Forms.filtered frame) xs predicates >>= next)) first.1 ∙ ap (λ fr. go_on (filtering fr) next) (sym (frame_grown grows held inside)) in
+    let kept = item_views c.in_ok-kept.kept in
+    let second = c.in_ok-kept.ensures.gives clean (frame_in_grown grows held inside) first.0 in
+    let ordered : item_views c.in_axis_order.result ≡ in_axis_order axis kept = c.in_axis_order.ensures in (
+      subst (AreIn f'') (sym ordered) (axis_order_in f'' axis kept second.0),
+      meant ∙ ap (λ o. go_on o next) second.1 ∙ ap (λ xs. (Ok xs, f'')) (axis_order_read f'' axis kept ∙ ap (items_at f'') (sym ordered)),
+    )
+
+pub expressions::axis_step-returns-in_err-nodes-clause-goes : goal.expressions::axis_step-returns-in_err-nodes-clause-goes
+expressions::axis_step-returns-in_err-nodes-clause-goes g t c = c.in_err-nodes.ensures.goes
+
+pub expressions::axis_step-returns-in_err-kept-clause-goes : goal.expressions::axis_step-returns-in_err-kept-clause-goes
+expressions::axis_step-returns-in_err-kept-clause-goes g t c = goes_on_to c.in_ok-nodes.ensures.goes c.in_err-kept.ensures.goes
+
+pub expressions::axis_step-returns-clause-goes : goal.expressions::axis_step-returns-clause-goes
+expressions::axis_step-returns-clause-goes g t c = goes_on_to c.in_ok-nodes.ensures.goes c.in_ok-kept.ensures.goes
+
+pub expressions::unnamed_node-returns-in_err-content-clause-gives : goal.expressions::unnamed_node-returns-in_err-content-clause-gives
+expressions::unnamed_node-returns-in_err-content-clause-gives g t c = λ clean inside.
+    let f = g.W.TreeSource.forest c.args.world.now in
+    let held = c.args.frame in
+    let frame = frame_at f held in
+    let f' = g.W.TreeSource.forest c.evaluate.new.world in
+    let next = λ (xs : List Item). plant_unnamed c.args.kind xs in
+    cut item_views items_at AreIn item_views items_at AreIn _ (plan_mean c.args.part.now frame f) next f' c.in_err-content.field-0.0 c.from_residual.result refl c.from_residual.ensures.1 (c.in_err-content.ensures.gives clean inside)
+
+pub expressions::unnamed_node-returns-clause-gives : goal.expressions::unnamed_node-returns-clause-gives
+expressions::unnamed_node-returns-clause-gives g t c = λ clean inside.
+    let f = g.W.TreeSource.forest c.args.world.now in
+    let held = c.args.frame in
+    let frame = frame_at f held in
+    let f' = g.W.TreeSource.forest c.evaluate.new.world in
+    let f'' = g.W.TreeSource.forest c.unnamed.new.world in
+    let kind = c.args.kind in
+    let content = item_views c.in_ok-content.content in
+    let value = c.in_ok-content.ensures.gives (c.unnamed.ensures.goes.was_clean clean) inside in
+    let d : map item_view c.deref.result.now ≡ content = ap (map item_view) c.deref.ensures.value in
+    let meant : Forms.unnamed_node kind (plan_mean c.args.part.now) frame f ≡ plant_unnamed kind (items_at f' (map item_view c.deref.result.now)) f' =
+    ap (λ o. go_on o (λ xs. plant_unnamed kind xs)) value.1 ∙ ap (λ xs. plant_unnamed kind (items_at f' xs) f') (sym d) in
+    subst (λ o. GivesSequence o f'' c.unnamed.result) (sym meant) (c.unnamed.ensures.gives clean (subst (AreIn f') (sym d) value.0))
+
+pub expressions::unnamed_node-returns-in_err-content-clause-goes : goal.expressions::unnamed_node-returns-in_err-content-clause-goes
+expressions::unnamed_node-returns-in_err-content-clause-goes g t c = c.in_err-content.ensures.goes
+
+pub expressions::unnamed_node-returns-clause-goes : goal.expressions::unnamed_node-returns-clause-goes
+expressions::unnamed_node-returns-clause-goes g t c = goes_on_to c.in_ok-content.ensures.goes c.unnamed.ensures.goes
+
+pub expressions::named_node-returns-in_err-value-clause-gives : goal.expressions::named_node-returns-in_err-value-clause-gives
+expressions::named_node-returns-in_err-value-clause-gives g t c = λ clean inside.
+    let f = g.W.TreeSource.forest c.args.world.now in
+    let held = c.args.frame in
+    let frame = frame_at f held in
+    let f' = g.W.TreeSource.forest c.evaluate.new.world in
+    let kind = c.args.kind in
+    let part = plan_mean c.args.part.now in
+    let wanted = plan_mean c.args.name.now in
+    let next = λ (xs : List Item). on_trees (λ trees. name_of kind (atomized trees xs)) >>= (λ good. part frame >>= (λ ys. plant_named kind good ys)) in
+    cut item_views items_at AreIn item_views items_at AreIn _ (wanted frame f) next f' c.in_err-value.field-0.0 c.from_residual.result
+    (named_is kind wanted part frame f) c.from_residual.ensures.1 (c.in_err-value.ensures.gives clean inside)
+
+pub expressions::named_node-returns-in_err-name-clause-gives : goal.expressions::named_node-returns-in_err-name-clause-gives
+expressions::named_node-returns-in_err-name-clause-gives g t c = λ clean inside.
+    let f = g.W.TreeSource.forest c.args.world.now in
+    let held = c.args.frame in
+    let frame = frame_at f held in
+    let f' = g.W.TreeSource.forest c.evaluate.new.world in
+    let kind = c.args.kind in
+    let part = plan_mean c.args.part.now in
+    let wanted = plan_mean c.args.name.now in
+    let f'' = g.W.TreeSource.forest c.node_name.new.world in
+    let found = c.in_ok-value.ensures.gives (c.node_name.ensures.goes.was_clean clean) inside in
+    let value = item_views c.in_ok-value.value in
+    let d : map item_view c.deref.result.now ≡ value = ap (map item_view) c.deref.ensures.value in
+    let naming = λ (xs : List ItemView). on_trees (λ trees. name_of kind (atomized trees (items_at f' xs))) f' in
+    let next = λ (good : Text). part frame >>= (λ ys. plant_named kind good ys) in
+    let begun : Forms.named_node kind wanted part frame f ≡ go_on (naming (map item_view c.deref.result.now)) next =
+    named_is kind wanted part frame f ∙ ap (λ o. go_on o (λ xs. on_trees (λ trees. name_of kind (atomized trees xs)) >>= next)) found.1 ∙ ap (λ xs. go_on (naming xs) next) (sym d) in
+    cut (string_bytes {Z = Global}) (λ trees t. t) (λ trees t. Unit {0}) item_views items_at AreIn _ (naming (map item_view c.deref.result.now)) next f'' c.in_err-name.field-0.0 c.from_residual-in_err-name.result
+    begun c.from_residual-in_err-name.ensures.1 (c.in_err-name.ensures.gives clean (subst (AreIn f') (sym d) found.0))
+
+pub expressions::named_node-returns-in_err-content-clause-gives : goal.expressions::named_node-returns-in_err-content-clause-gives
+expressions::named_node-returns-in_err-content-clause-gives g t c = λ clean inside.
+    let f = g.W.TreeSource.forest c.args.world.now in
+    let held = c.args.frame in
+    let frame = frame_at f held in
+    let f' = g.W.TreeSource.forest c.evaluate.new.world in
+    let kind = c.args.kind in
+    let part = plan_mean c.args.part.now in
+    let wanted = plan_mean c.args.name.now in
+    let f'' = g.W.TreeSource.forest c.node_name.new.world in
+    let f3 = g.W.TreeSource.forest c.evaluate-2.new.world in
+    let before = c.evaluate-2.ensures.goes.was_clean clean in
+    let found = c.in_ok-value.ensures.gives (c.node_name.ensures.goes.was_clean before) inside in
+    let value = item_views c.in_ok-value.value in
+    let d : map item_view c.deref.result.now ≡ value = ap (map item_view) c.deref.ensures.value in
+    let naming = λ (xs : List ItemView). on_trees (λ trees. name_of kind (atomized trees (items_at f' xs))) f' in
+    let next = λ (good : Text). part frame >>= (λ ys. plant_named kind good ys) in
+    let begun : Forms.named_node kind wanted part frame f ≡ go_on (naming (map item_view c.deref.result.now)) next =
+    named_is kind wanted part frame f ∙ ap (λ o. go_on o (λ xs. on_trees (λ trees. name_of kind (atomized trees xs)) >>= next)) found.1 ∙ ap (λ xs. go_on (naming xs) next) (sym d) in
+    let name = c.in_ok-name.ensures.gives before (subst (AreIn f') (sym d) found.0) in
+    let good = string_bytes c.in_ok-name.name in
+    let grows = extends_more c.in_ok-value.ensures.goes.grows c.in_ok-name.ensures.goes.grows in
+    let last = λ (ys : List Item). plant_named kind good ys in
+    let meant : Forms.named_node kind wanted part frame f ≡ go_on (part (frame_at f'' held) f'') last =
+    begun ∙ ap (λ o. go_on o next) name.1 ∙ ap (λ fr. go_on (part fr f'') last) (sym (frame_grown grows held inside)) in
+    cut item_views items_at AreIn item_views items_at AreIn _ (part (frame_at f'' held) f'') last f3 c.in_err-content.field-0.0 c.from_residual-in_err-content.result
+    meant c.from_residual-in_err-content.ensures.1 (c.in_err-content.ensures.gives clean (frame_in_grown grows held inside))
+
+pub expressions::named_node-returns-clause-gives : goal.expressions::named_node-returns-clause-gives
+expressions::named_node-returns-clause-gives g t c = λ clean inside.
+    let f = g.W.TreeSource.forest c.args.world.now in
+    let held = c.args.frame in
+    let frame = frame_at f held in
+    let f' = g.W.TreeSource.forest c.evaluate.new.world in
+    let kind = c.args.kind in
+    let part = plan_mean c.args.part.now in
+    let wanted = plan_mean c.args.name.now in
+    let f'' = g.W.TreeSource.forest c.node_name.new.world in
+    let f3 = g.W.TreeSource.forest c.evaluate-2.new.world in
+    let f4 = g.W.TreeSource.forest c.named.new.world in
+    let content = item_views c.in_ok-content.content in
+    let was = c.named.ensures.goes.was_clean clean in
+    let before = c.in_ok-content.ensures.goes.was_clean was in
+    let found = c.in_ok-value.ensures.gives (c.node_name.ensures.goes.was_clean before) inside in
+    let value = item_views c.in_ok-value.value in
+    let d : map item_view c.deref.result.now ≡ value = ap (map item_view) c.deref.ensures.value in
+    let naming = λ (xs : List ItemView). on_trees (λ trees. name_of kind (atomized trees (items_at f' xs))) f' in
+    let next = λ (good : Text). part frame >>= (λ ys. plant_named kind good ys) in
+    let begun : Forms.named_node kind wanted part frame f ≡ go_on (naming (map item_view c.deref.result.now)) next =
+    named_is kind wanted part frame f ∙ ap (λ o. go_on o (λ xs. on_trees (λ trees. name_of kind (atomized trees xs)) >>= next)) found.1 ∙ ap (λ xs. go_on (naming xs) next) (sym d) in
+    let name = c.in_ok-name.ensures.gives before (subst (AreIn f') (sym d) found.0) in
+    let good = string_bytes c.in_ok-name.name in
+    let grows = extends_more c.in_ok-value.ensures.goes.grows c.in_ok-name.ensures.goes.grows in
+    let last = λ (ys : List Item). plant_named kind good ys in
+    let meant : Forms.named_node kind wanted part frame f ≡ go_on (part (frame_at f'' held) f'') last =
+    begun ∙ ap (λ o. go_on o next) name.1 ∙ ap (λ fr. go_on (part fr f'') last) (sym (frame_grown grows held inside)) in
+    let d' : map item_view c.deref-2.result.now ≡ content = ap (map item_view) c.deref-2.ensures.value in
+    let inner = c.in_ok-content.ensures.gives was (frame_in_grown grows held inside) in
+    let all = meant ∙ ap (λ o. go_on o last) inner.1 ∙ ap (λ xs. plant_named kind good (items_at f3 xs) f3) (sym d') in
+    subst (λ o. GivesSequence o f4 c.named.result) (sym all) (c.named.ensures.gives clean (subst (AreIn f3) (sym d') inner.0))
+
+pub expressions::named_node-returns-in_err-value-clause-goes : goal.expressions::named_node-returns-in_err-value-clause-goes
+expressions::named_node-returns-in_err-value-clause-goes g t c = c.in_err-value.ensures.goes
+
+pub expressions::named_node-returns-in_err-name-clause-goes : goal.expressions::named_node-returns-in_err-name-clause-goes
+expressions::named_node-returns-in_err-name-clause-goes g t c = goes_on_to c.in_ok-value.ensures.goes c.in_err-name.ensures.goes
+
+pub expressions::named_node-returns-in_err-content-clause-goes : goal.expressions::named_node-returns-in_err-content-clause-goes
+expressions::named_node-returns-in_err-content-clause-goes g t c = goes_on_to (goes_on_to c.in_ok-value.ensures.goes c.in_ok-name.ensures.goes) c.in_err-content.ensures.goes
+
+pub expressions::named_node-returns-clause-goes : goal.expressions::named_node-returns-clause-goes
+expressions::named_node-returns-clause-goes g t c = goes_on_to (goes_on_to (goes_on_to c.in_ok-value.ensures.goes c.in_ok-name.ensures.goes) c.in_ok-content.ensures.goes) c.named.ensures.goes
+
+pub evaluation::evaluate-quantified-requires : goal.evaluation::evaluate-quantified-requires
+evaluation::evaluate-quantified-requires g t c = λ κs live.
+    let is = c.in-Quantified.is ∙ ap (λ rs. plan.Quantified c.in-Quantified.which rs c.in-Quantified.test) (sym c.as_slice-ranges.ensures) ∙ ap (λ p. plan.Quantified c.in-Quantified.which c.as_slice-ranges.result.now p) (sym c.get-in-Quantified.ensures) in
+    let all : 8 * size-Plan c.args.plan.now + 3 ≡ t = c.decreases in
+    let below : 8 * size-Plan c.args.plan.now + 2 < t = omega (arith, all) in
+    (below, (live, record { which = c.in-Quantified.which; is = is }))
+
+pub expressions::quantified-satisfied-requires : goal.expressions::quantified-satisfied-requires
+expressions::quantified-satisfied-requires g t c = λ κs live.
+    let all : 8 * size-Plan c.args.whole.now + 2 ≡ t = c.decreases in
+    let below : 8 * size-Plan c.args.whole.now + 1 < t = omega (arith, all) in
+    (below, (live, c.requires))
+
+-- # Of a form with several parts, the size of the greatest
+
+pub expressions::operands-evaluate-requires : goal.expressions::operands-evaluate-requires
+expressions::operands-evaluate-requires g t c = λ κs live.
+    let depth = λ (o : Operator × Plan). max 0 (max (size-Plan o.1) 0) in
+    let all : 8 * max (size-Plan c.args.first.now) (most depth c.args.rest.now) + 9 ≡ t = c.decreases in
+    let below : 8 * size-Plan c.args.first.now + 3 < t = omega (arith, all) in
+    (below, live)
+
+pub expressions::operands-chain-requires : goal.expressions::operands-chain-requires
+expressions::operands-chain-requires g t c = λ κs live.
+    let depth = λ (o : Operator × Plan). max 0 (max (size-Plan o.1) 0) in
+    let all : 8 * max (size-Plan c.args.first.now) (most depth c.args.rest.now) + 9 ≡ t = c.decreases in
+    let below : 8 * most depth c.args.rest.now + 5 < t = omega (arith, all) in
+    (below, live)
+
+pub expressions::conditional-evaluate-requires : goal.expressions::conditional-evaluate-requires
+expressions::conditional-evaluate-requires g t c = λ κs live.
+    let all : 8 * max (size-Plan c.args.test.now) (max (size-Plan c.args.yes.now) (size-Plan c.args.no.now)) + 9 ≡ t = c.decreases in
+    let below : 8 * size-Plan c.args.test.now + 3 < t = omega (arith, all) in
+    (below, live)
+
+pub expressions::conditional-evaluate-requires-then-branch : goal.expressions::conditional-evaluate-requires-then-branch
+expressions::conditional-evaluate-requires-then-branch g t c = λ κs live.
+    let all : 8 * max (size-Plan c.args.test.now) (max (size-Plan c.args.yes.now) (size-Plan c.args.no.now)) + 9 ≡ t = c.decreases in
+    let below : 8 * size-Plan c.args.yes.now + 3 < t = omega (arith, all) in
+    (below, live)
+
+pub expressions::conditional-evaluate-requires-else-branch : goal.expressions::conditional-evaluate-requires-else-branch
+expressions::conditional-evaluate-requires-else-branch g t c = λ κs live.
+    let all : 8 * max (size-Plan c.args.test.now) (max (size-Plan c.args.yes.now) (size-Plan c.args.no.now)) + 9 ≡ t = c.decreases in
+    let below : 8 * size-Plan c.args.no.now + 3 < t = omega (arith, all) in
+    (below, live)
+
+pub expressions::filtered-evaluate-requires : goal.expressions::filtered-evaluate-requires
+expressions::filtered-evaluate-requires g t c = λ κs live.
+    let all : 8 * max (size-Plan c.args.start.now) (most size-Plan c.args.predicates.now) + 9 ≡ t = c.decreases in
+    let below : 8 * size-Plan c.args.start.now + 3 < t = omega (arith, all) in
+    (below, live)
+
+pub expressions::filtered-filter-requires : goal.expressions::filtered-filter-requires
+expressions::filtered-filter-requires g t c = λ κs live.
+    let all : 8 * max (size-Plan c.args.start.now) (most size-Plan c.args.predicates.now) + 9 ≡ t = c.decreases in
+    let below : 8 * most size-Plan c.args.predicates.now + 6 < t = omega (arith, all) in
+    (below, live)
+
+pub expressions::flwor-clause_list-requires : goal.expressions::flwor-clause_list-requires
+expressions::flwor-clause_list-requires g t c = λ κs live.
+    let all : 8 * max (most size-PlanClause c.args.clauses.now) (size-Plan c.args.part.now) + 9 ≡ t = c.decreases in
+    let below : 8 * most size-PlanClause c.args.clauses.now + 8 < t = omega (arith, all) in
+    (below, live)
+
+pub expressions::flwor-values-requires : goal.expressions::flwor-values-requires
+expressions::flwor-values-requires g t c = λ κs live.
+    let all : 8 * max (most size-PlanClause c.args.clauses.now) (size-Plan c.args.part.now) + 9 ≡ t = c.decreases in
+    let below : 8 * size-Plan c.args.part.now + 6 < t = omega (arith, all) in
+    (below, live)
+
+pub expressions::path-evaluate-requires : goal.expressions::path-evaluate-requires
+expressions::path-evaluate-requires g t c = λ κs live.
+    let all : 8 * max (size-Plan c.args.start.now) (most size-PlanStep c.args.steps.now) + 9 ≡ t = c.decreases in
+    let below : 8 * size-Plan c.args.start.now + 3 < t = omega (arith, all) in
+    (below, live)
+
+pub expressions::path-step_list-requires : goal.expressions::path-step_list-requires
+expressions::path-step_list-requires g t c = λ κs live.
+    let all : 8 * max (size-Plan c.args.start.now) (most size-PlanStep c.args.steps.now) + 9 ≡ t = c.decreases in
+    let below : 8 * most size-PlanStep c.args.steps.now + 7 < t = omega (arith, all) in
+    (below, live)
+
+pub expressions::named_node-evaluate-requires : goal.expressions::named_node-evaluate-requires
+expressions::named_node-evaluate-requires g t c = λ κs live.
+    let all : 8 * max (size-Plan c.args.name.now) (size-Plan c.args.part.now) + 9 ≡ t = c.decreases in
+    let below : 8 * size-Plan c.args.name.now + 3 < t = omega (arith, all) in
+    (below, live)
+
+pub expressions::named_node-evaluate-requires-2 : goal.expressions::named_node-evaluate-requires-2
+expressions::named_node-evaluate-requires-2 g t c = λ κs live.
+    let all : 8 * max (size-Plan c.args.name.now) (size-Plan c.args.part.now) + 9 ≡ t = c.decreases in
+    let below : 8 * size-Plan c.args.part.now + 3 < t = omega (arith, all) in
+    (below, live)
+
+pub expressions::arrow-evaluate-requires : goal.expressions::arrow-evaluate-requires
+expressions::arrow-evaluate-requires g t c = λ κs live.
+    let depth = λ (o : Function × List Plan). max 0 (max (most size-Plan o.1) 0) in
+    let all : 8 * max (size-Plan c.args.first.now) (most depth c.args.calls.now) + 9 ≡ t = c.decreases in
+    let below : 8 * size-Plan c.args.first.now + 3 < t = omega (arith, all) in
+    (below, live)
+
+pub expressions::arrow-call_list-requires : goal.expressions::arrow-call_list-requires
+expressions::arrow-call_list-requires g t c = λ κs live.
+    let depth = λ (o : Function × List Plan). max 0 (max (most size-Plan o.1) 0) in
+    let all : 8 * max (size-Plan c.args.first.now) (most depth c.args.calls.now) + 9 ≡ t = c.decreases in
+    let below : 8 * most depth c.args.calls.now + 7 < t = omega (arith, all) in
+    (below, live)
+
+pub expressions::simple_map-evaluate-requires : goal.expressions::simple_map-evaluate-requires
+expressions::simple_map-evaluate-requires g t c = λ κs live.
+    let all : 8 * max (size-Plan c.args.start.now) (most size-Plan c.args.parts.now) + 9 ≡ t = c.decreases in
+    let below : 8 * size-Plan c.args.start.now + 3 < t = omega (arith, all) in
+    (below, live)
+
+pub expressions::simple_map-map_list-requires : goal.expressions::simple_map-map_list-requires
+expressions::simple_map-map_list-requires g t c = λ κs live.
+    let all : 8 * max (size-Plan c.args.start.now) (most size-Plan c.args.parts.now) + 9 ≡ t = c.decreases in
+    let below : 8 * most size-Plan c.args.parts.now + 6 < t = omega (arith, all) in
+    (below, live)
+
+pub evaluation::evaluate-operands-requires : goal.evaluation::evaluate-operands-requires
+evaluation::evaluate-operands-requires g t c = λ κs live.
+    let depth = λ (o : Operator × Plan). max 0 (max (size-Plan o.1) 0) in
+    let all : 8 * size-Plan c.args.plan.now + 3 ≡ t = c.decreases in
+    let whole = ap size-Plan c.in-Chain.is ∙ sized-Chain c.in-Chain.first c.in-Chain.rest in
+    let e0 = ap (size-Plan) c.get.ensures in
+    let e1 = ap (most depth) c.as_slice-in-Chain.ensures in
+    let below : 8 * max (size-Plan c.get.result.now) (most depth c.as_slice-in-Chain.result.now) + 9 < t = omega (arith, all, whole, e0, e1) in
+    (below, live)
+
+pub evaluation::evaluate-conditional-requires : goal.evaluation::evaluate-conditional-requires
+evaluation::evaluate-conditional-requires g t c = λ κs live.
+    let all : 8 * size-Plan c.args.plan.now + 3 ≡ t = c.decreases in
+    let whole = ap size-Plan c.in-If.is ∙ sized-If c.in-If.test c.in-If.yes c.in-If.no in
+    let e0 = ap (size-Plan) c.get-in-If.ensures in
+    let e1 = ap (size-Plan) c.get-in-If-2.ensures in
+    let e2 = ap (size-Plan) c.get-in-If-3.ensures in
+    let below : 8 * max (size-Plan c.get-in-If.result.now) (max (size-Plan c.get-in-If-2.result.now) (size-Plan c.get-in-If-3.result.now)) + 9 < t = omega (arith, all, whole, e0, e1, e2) in
+    (below, live)
+
+pub evaluation::evaluate-filtered-requires : goal.evaluation::evaluate-filtered-requires
+evaluation::evaluate-filtered-requires g t c = λ κs live.
+    let all : 8 * size-Plan c.args.plan.now + 3 ≡ t = c.decreases in
+    let whole = ap size-Plan c.in-Filter.is ∙ sized-Filter c.in-Filter.start c.in-Filter.predicates in
+    let e0 = ap (size-Plan) c.get-in-Filter.ensures in
+    let e1 = ap (most size-Plan) c.as_slice-in-Filter.ensures in
+    let below : 8 * max (size-Plan c.get-in-Filter.result.now) (most size-Plan c.as_slice-in-Filter.result.now) + 9 < t = omega (arith, all, whole, e0, e1) in
+    (below, live)
+
+pub evaluation::evaluate-flwor-requires : goal.evaluation::evaluate-flwor-requires
+evaluation::evaluate-flwor-requires g t c = λ κs live.
+    let all : 8 * size-Plan c.args.plan.now + 3 ≡ t = c.decreases in
+    let whole = ap size-Plan c.in-Flwor.is ∙ sized-Flwor c.in-Flwor.clauses c.in-Flwor.part in
+    let e0 = ap (most size-PlanClause) c.as_slice-in-Flwor.ensures in
+    let e1 = ap (size-Plan) c.get-in-Flwor.ensures in
+    let below : 8 * max (most size-PlanClause c.as_slice-in-Flwor.result.now) (size-Plan c.get-in-Flwor.result.now) + 9 < t = omega (arith, all, whole, e0, e1) in
+    (below, live)
+
+pub evaluation::evaluate-path-requires : goal.evaluation::evaluate-path-requires
+evaluation::evaluate-path-requires g t c = λ κs live.
+    let all : 8 * size-Plan c.args.plan.now + 3 ≡ t = c.decreases in
+    let whole = ap size-Plan c.in-Path.is ∙ sized-Path c.in-Path.start c.in-Path.steps in
+    let e0 = ap (size-Plan) c.get-in-Path.ensures in
+    let e1 = ap (most size-PlanStep) c.as_slice-in-Path.ensures in
+    let below : 8 * max (size-Plan c.get-in-Path.result.now) (most size-PlanStep c.as_slice-in-Path.result.now) + 9 < t = omega (arith, all, whole, e0, e1) in
+    (below, live)
+
+pub evaluation::evaluate-named_node-requires : goal.evaluation::evaluate-named_node-requires
+evaluation::evaluate-named_node-requires g t c = λ κs live.
+    let all : 8 * size-Plan c.args.plan.now + 3 ≡ t = c.decreases in
+    let whole = ap size-Plan c.in-Named.is ∙ sized-Named c.in-Named.kind c.in-Named.name c.in-Named.part in
+    let e0 = ap (size-Plan) c.get-in-Named.ensures in
+    let e1 = ap (size-Plan) c.get-in-Named-2.ensures in
+    let below : 8 * max (size-Plan c.get-in-Named.result.now) (size-Plan c.get-in-Named-2.result.now) + 9 < t = omega (arith, all, whole, e0, e1) in
+    (below, live)
+
+pub evaluation::evaluate-arrow-requires : goal.evaluation::evaluate-arrow-requires
+evaluation::evaluate-arrow-requires g t c = λ κs live.
+    let depth = λ (o : Function × List Plan). max 0 (max (most size-Plan o.1) 0) in
+    let all : 8 * size-Plan c.args.plan.now + 3 ≡ t = c.decreases in
+    let whole = ap size-Plan c.in-Arrow.is ∙ sized-Arrow c.in-Arrow.first c.in-Arrow.calls in
+    let e0 = ap (size-Plan) c.get-in-Arrow.ensures in
+    let e1 = ap (most depth) c.as_slice-in-Arrow.ensures in
+    let below : 8 * max (size-Plan c.get-in-Arrow.result.now) (most depth c.as_slice-in-Arrow.result.now) + 9 < t = omega (arith, all, whole, e0, e1) in
+    (below, live)
+
+pub evaluation::evaluate-simple_map-requires : goal.evaluation::evaluate-simple_map-requires
+evaluation::evaluate-simple_map-requires g t c = λ κs live.
+    let all : 8 * size-Plan c.args.plan.now + 3 ≡ t = c.decreases in
+    let whole = ap size-Plan c.in-Map.is ∙ sized-Map c.in-Map.start c.in-Map.parts in
+    let e0 = ap (size-Plan) c.get-in-Map.ensures in
+    let e1 = ap (most size-Plan) c.as_slice-in-Map.ensures in
+    let below : 8 * max (size-Plan c.get-in-Map.result.now) (most size-Plan c.as_slice-in-Map.result.now) + 9 < t = omega (arith, all, whole, e0, e1) in
+    (below, live)
+
+-- # Predicates with the same value at each item
+
+pub evaluation::keep-returns-in-Some-clause-gives : goal.evaluation::keep-returns-in-Some-clause-gives
+evaluation::keep-returns-in-Some-clause-gives g t c = λ clean inside items_in.
+    let f = g.W.TreeSource.forest c.args.world.now in
+    let p = c.args.predicate.now in
+    let items = c.args.items.now in
+    let fixed = subst (λ r. IfSome r (λ (v : Vec Held_item). IsConstant p (length items) (item_views v))) c.in-Some.is c.in_ok-value.ensures in
+    c.keep_constant.ensures f (frame_at f c.args.frame) p (subst (λ vs. IsConstant p (length items) (map item_view vs)) (sym c.deref.ensures.value) fixed) items_in
+
+pub evaluation::keep-returns-in-Some-clause-goes : goal.evaluation::keep-returns-in-Some-clause-goes
+evaluation::keep-returns-in-Some-clause-goes g t c = stays _ _
+
+pub evaluation::keep-returns-in_err-value-clause-goes : goal.evaluation::keep-returns-in_err-value-clause-goes
+evaluation::keep-returns-in_err-value-clause-goes g t c = stays _ _
+
+pub clauses::clause_list-returns-in_err-lists-clause-gives : goal.clauses::clause_list-returns-in_err-lists-clause-gives
+clauses::clause_list-returns-in_err-lists-clause-gives g t c = λ clean inside.
+    let i = c.loop-index.invariant in
+    let f = g.W.TreeSource.forest c.loop-index.world in
+    let f' = g.W.TreeSource.forest c.matching_lists.new.world in
+    let held = c.args.frame in
+    let clauses = c.args.clauses.now in
+    let n = c.loop-index.index in
+    let p = c.index-clauses-index.result in
+    let tuples = c.loop-index.tuples in
+    let e = c.in_err-lists.field-0.0 in
+    let left = ap (λ k. map plan_clause_mean (drop k clauses)) (none_taken c.loop-index.is_taken n c.if-is_taken.false) ∙ left_over plan_clause_mean clauses n p (omega arith) c.index-clauses-index.is in
+    handed_on (λ (ts : List (Tuple ItemView)). ts) tuples_at TuplesIn _ f' e c.from_residual-in_err-lists.result c.from_residual-in_err-lists.ensures.1
+    (turns_stop _ _ _ (λ (ts : List (Tuple ItemView)). ts) tuples_at TuplesIn (plan_clause_mean p) _ f' e i.turns left c.matching_lists.ensures.goes.was_clean
+    (λ clean inside is_in. subst (λ fr. GivesTuples (plan_clause_mean p fr (tuples_at f tuples) f) f' (Err e)) (frame_grown i.goes.grows held inside) (c.in_err-lists.ensures.gives clean (frame_in_grown i.goes.grows held inside) is_in)) clean inside)
+
+pub clauses::clause_list-loop-index-preserved-in-Some : goal.clauses::clause_list-loop-index-preserved-in-Some
+clauses::clause_list-loop-index-preserved-in-Some g t c =
+    let i = c.loop-index.invariant in
+    let f = g.W.TreeSource.forest c.loop-index.world in
+    let f' = g.W.TreeSource.forest c.matching_lists.new.world in
+    let held = c.args.frame in
+    let clauses = c.args.clauses.now in
+    let n = c.loop-index.index in
+    let p = c.index-clauses-index.result in
+    let tuples = c.loop-index.tuples in
+    let lists = lists_of c.in-Some.lists in
+    let after = option_copied c.at-next.result in
+    let second = some_is after (subst (λ (o : Option (Vec (Vec Item_held))). IfSome o (λ _. IsSome after)) c.in-Some.is c.in_ok-lists.ensures.followed) in
+    let q = second.0 in
+    let next = sym c.at-next.ensures ∙ second.1 in
+    let left = ap (λ k. map plan_clause_mean (drop k clauses)) (none_taken c.loop-index.is_taken n c.if-is_taken.false) ∙ two_left plan_clause_mean clauses n p q (omega arith) c.index-clauses-index.is next in
+    let stream = c.in_ok-tuples-2.ensures.stream in
+    record {
+      goes = goes_on_to i.goes c.matching_lists.ensures.goes;
+      turns = turns_two _ _ _ c.in_ok-tuples-2.tuples (plan_clause_mean p) (plan_clause_mean q) _ _ i.turns left c.matching_lists.ensures.goes.was_clean
+          (λ clean inside is_in.
+          let both : AreBoth (plan_clause_mean p) (Some q) (frame_at f held) tuples f f' lists =
+          subst (λ (o : Option PlanClause). AreBoth (plan_clause_mean p) o (frame_at f held) tuples f f' lists) second.1
+          (subst (λ (o : Option (Vec (Vec Item_held))). GivesMatched (plan_clause_mean p) after (frame_at f held) tuples f f' (Ok o)) c.in-Some.is (c.in_ok-lists.ensures.gives clean (frame_in_grown i.goes.grows held inside) is_in)) in
+          (subst (TuplesIn f') (sym stream) both.inside,
+          ap (λ fr. go_on (plan_clause_mean p fr (tuples_at f tuples) f) (plan_clause_mean q fr)) (sym (frame_grown i.goes.grows held inside)) ∙ both.gives ∙ ap (λ ts. (Ok (tuples_at f' ts), f')) (sym stream)));
+      within = (let at = got_at clauses (n + 1) q next in omega (arith, at.0));
+    }
+
+pub clauses::clause_list-returns-in_err-tuples-3-clause-gives : goal.clauses::clause_list-returns-in_err-tuples-3-clause-gives
+clauses::clause_list-returns-in_err-tuples-3-clause-gives g t c = λ clean inside.
+    let i = c.loop-index.invariant in
+    let f = g.W.TreeSource.forest c.loop-index.world in
+    let f1 = g.W.TreeSource.forest c.matching_lists.new.world in
+    let f' = g.W.TreeSource.forest c.next_tuples.new.world in
+    let held = c.args.frame in
+    let clauses = c.args.clauses.now in
+    let n = c.loop-index.index in
+    let p = c.index-clauses-index.result in
+    let tuples = c.loop-index.tuples in
+    let after = option_copied c.at-next.result in
+    let e = c.in_err-tuples-3.field-0.0 in
+    let left = ap (λ k. map plan_clause_mean (drop k clauses)) (none_taken c.loop-index.is_taken n c.if-is_taken.false) ∙ left_over plan_clause_mean clauses n p (omega arith) c.index-clauses-index.is in
+    handed_on (λ (ts : List (Tuple ItemView)). ts) tuples_at TuplesIn _ f' e c.from_residual-in_err-tuples-3.result c.from_residual-in_err-tuples-3.ensures.1
+    (turns_stop _ _ _ (λ (ts : List (Tuple ItemView)). ts) tuples_at TuplesIn (plan_clause_mean p) _ f' e i.turns left (λ k. c.matching_lists.ensures.goes.was_clean (c.next_tuples.ensures.goes.was_clean k))
+    (λ clean inside is_in.
+    let here = frame_in_grown i.goes.grows held inside in
+    let same : f1 ≡ f = subst (λ (o : Option (Vec (Vec Item_held))). GivesMatched (plan_clause_mean p) after (frame_at f held) tuples f f1 (Ok o)) c.in_default.is (c.in_ok-lists.ensures.gives (c.next_tuples.ensures.goes.was_clean clean) here is_in) in
+    subst (λ fr. GivesTuples (plan_clause_mean p fr (tuples_at f tuples) f) f' (Err e)) (frame_grown i.goes.grows held inside)
+    (subst (λ (h : List Tree). FrameIn h held → TuplesIn h tuples → GivesTuples (plan_clause_mean p (frame_at h held) (tuples_at h tuples) h) f' (Err e)) same (λ x y. c.in_err-tuples-3.ensures.gives clean x y) here is_in)) clean inside)
+
+pub clauses::clause_list-loop-index-preserved : goal.clauses::clause_list-loop-index-preserved
+clauses::clause_list-loop-index-preserved g t c =
+    let i = c.loop-index.invariant in
+    let f = g.W.TreeSource.forest c.loop-index.world in
+    let f1 = g.W.TreeSource.forest c.matching_lists.new.world in
+    let f' = g.W.TreeSource.forest c.next_tuples.new.world in
+    let held = c.args.frame in
+    let clauses = c.args.clauses.now in
+    let n = c.loop-index.index in
+    let p = c.index-clauses-index.result in
+    let tuples = c.loop-index.tuples in
+    let after = option_copied c.at-next.result in
+    let given = c.in_ok-tuples-3.tuples in
+    let left = ap (λ k. map plan_clause_mean (drop k clauses)) (none_taken c.loop-index.is_taken n c.if-is_taken.false) ∙ left_over plan_clause_mean clauses n p (omega arith) c.index-clauses-index.is in
+    let one = sym (none_taken c.loop-index.is_taken (n + 1) c.if-is_taken.false) in
+    record {
+      goes = goes_on_to (goes_on_to i.goes c.in_ok-lists.ensures.goes) c.in_ok-tuples-3.ensures.goes;
+      turns = turns_same _ _ _ _ (turns_next _ _ _ given (plan_clause_mean p) _ _ i.turns left (λ k. c.matching_lists.ensures.goes.was_clean (c.next_tuples.ensures.goes.was_clean k))
+          (λ clean inside is_in.
+          let here = frame_in_grown i.goes.grows held inside in
+          let same : f1 ≡ f = subst (λ (o : Option (Vec (Vec Item_held))). GivesMatched (plan_clause_mean p) after (frame_at f held) tuples f f1 (Ok o)) c.in_default.is (c.in_ok-lists.ensures.gives (c.next_tuples.ensures.goes.was_clean clean) here is_in) in
+          let s = subst (λ (h : List Tree). FrameIn h held → TuplesIn h tuples → TuplesIn f' given × (plan_clause_mean p (frame_at h held) (tuples_at h tuples) h ≡ (Ok (tuples_at f' given), f'))) same (λ x y. c.in_ok-tuples-3.ensures.gives clean x y) here is_in in
+          (s.0, ap (λ fr. plan_clause_mean p fr (tuples_at f tuples) f) (sym (frame_grown i.goes.grows held inside)) ∙ s.1))) (ap (λ k. map plan_clause_mean (drop k clauses)) one);
+      within = subst (λ k. k ≤ length clauses) one (omega arith);
+    }
+
+pub clauses::matching_lists-returns-clause-gives : goal.clauses::matching_lists-returns-clause-gives
+clauses::matching_lists-returns-clause-gives g t c = λ clean inside tuples_in.
+    let f = g.W.TreeSource.forest c.args.world.now in
+    let f' = g.W.TreeSource.forest c.at_tuple.new.world in
+    let after = g.W.TreeSource.forest c.matching.new.source in
+    let held = c.args.frame in
+    let frame = frame_at f held in
+    let outside = values_of held.slots.now in
+    let tuples = c.args.tuples.now in
+    let source = c.in-For.source in
+    let next = option_copied c.args.next in
+    let join = c.in-Some.join in
+    let are = c.in-Some.ensures in
+    let views = item_views c.in_ok-items.items in
+    let found = c.in_ok-matching.field-0 in
+    let first = c.tuple.ensures ∙ first_is tuples in
+    let x = values_of c.tuple.result.now in
+    let at : values_of c.deref.result.now ≡ values_of c.args.frame.slots.now ++ x = ap values_of c.deref.ensures.value ∙ c.in_ok-slots.ensures in
+    let tuple_in = subst (TupleIn f) (sym c.tuple.ensures) (all_index (TupleIn f) tuples 0 [] tuples_in are.some) in
+    let given = c.in_ok-items.ensures.gives (c.matching.ensures.was_clean clean) inside x at tuple_in in
+    let grows = c.in_ok-items.ensures.goes.grows in
+    let value = subst (λ (u : Tuple ItemView). plan_mean source (at_tuple frame (tuple_at f u)) f ≡ (Ok (items_at f' views), f')) first given.1 in
+    let d : map item_view c.deref-2.result.now ≡ views = ap (map item_view) c.deref-2.ensures.value in
+    let nodes = subst (λ (xs : List ItemView). IfSome found (λ _. AllByRecursion IsNode xs)) d c.in_ok-matching.ensures.nodes in
+    let lists = subst (λ (xs : List ItemView). IfSome found (λ ls. lists_of ls ≡ all_matched f' join outside tuples xs)) d
+    (c.in_ok-matching.ensures.lists clean (tuple_in_grown grows outside inside.slots_in) (tuples_in_grown grows tuples tuples_in) (subst (AreIn f') (sym d) given.0)) in
+    subst (λ (k : PlanClause). GivesMatched (plan_clause_mean k) next frame tuples f after (Ok found)) (sym c.in-For.is)
+    (matched_gives frame f outside refl tuples c.in-For.empties c.in-For.at source next join are f' after views found tuples_in given.0 value nodes lists c.matching.ensures.keeps)
+
+pub clauses::matching_lists-returns-in_err-items-clause-gives : goal.clauses::matching_lists-returns-in_err-items-clause-gives
+clauses::matching_lists-returns-in_err-items-clause-gives g t c = λ clean inside tuples_in.
+    let f = g.W.TreeSource.forest c.args.world.now in
+    let f' = g.W.TreeSource.forest c.at_tuple.new.world in
+    let frame = frame_at f c.args.frame in
+    let tuples = c.args.tuples.now in
+    let source = c.in-For.source in
+    let some = c.in-Some.ensures.some in
+    let e = c.in_err-items.field-0.0 in
+    let x = values_of c.tuple.result.now in
+    let at : values_of c.deref.result.now ≡ values_of c.args.frame.slots.now ++ x = ap values_of c.deref.ensures.value ∙ c.in_ok-slots.ensures in
+    let tuple_in = subst (TupleIn f) (sym c.tuple.ensures) (all_index (TupleIn f) tuples 0 [] tuples_in some) in
+    let given = subst (λ (u : Tuple ItemView). GivesSequence (plan_mean source (at_tuple frame (tuple_at f u)) f) f' (Err e)) (c.tuple.ensures ∙ first_is tuples) (c.in_err-items.ensures.gives clean inside x at tuple_in) in
+    subst (λ (k : PlanClause). GivesMatched (plan_clause_mean k) (option_copied c.args.next) frame tuples f f' c.from_residual.result) (sym c.in-For.is)
+    (refused_gives (plan_clause_mean (clause.For c.in-For.empties c.in-For.at source)) (option_copied c.args.next) frame tuples f f' e c.from_residual.result c.from_residual.ensures.1 (for_refused c.in-For.empties c.in-For.at source frame f f' tuples e some given))

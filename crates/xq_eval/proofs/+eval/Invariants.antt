@@ -1,4 +1,4 @@
-use Rattle.std.proofs.Common.{◌≡◌, ℕ, ◌≤◌, ◌^◌, [], ◌∷◌, ◌++◌, map, take, drop, suc, length, ◌+◌, ◌*◌}
+use Rattle.std.proofs.Common.{◌≡◌, ℕ, ◌≤◌, ◌^◌, List, [], ◌∷◌, ◌++◌, map, take, drop, suc, length, ◌+◌, ◌*◌}
 use Rattle.std.specs.Prelude.{if◌then◌else◌}
 use Rattle.std.specs.List.{AllByRecursion}
 use Rattle.xq_regions.specs.Items.{item_view, item_views}
@@ -6,6 +6,13 @@ use Rattle.xq_meaning.specs.Doing.{in_turn, more, one_more, for_each, collected,
 use Rattle.xq_meaning.specs.Forms as Forms
 use Rattle.xq_meaning.specs.PlanMeaning.{Meaning, plan_mean, plan_clause_mean, plan_step_mean, at_tuple as meant_at, next_clause, next_step}
 use Rattle.xq_meaning.specs.Functions.{Focus as Spot}
+use Rattle.xq_meaning.specs.declared.operators.Operator.{Operator}
+use Rattle.xq_expressions.specs.declared.signatures.Function.{Function}
+use Rattle.xq_meaning.specs.declared.plans.Plan.{Plan, size-Plan}
+use Rattle.xq_meaning.specs.declared.plans.PlanClause.{size-PlanClause}
+use Rattle.xq_meaning.specs.declared.plans.PlanStep.{size-PlanStep}
+use denote.Param.Weighed.{most}
+use Prim.Native.Nat.{max}
 use Rattle.xq_meaning.specs.Steps.{focuses, focuses_from}
 use Rattle.xq_meaning.specs.Readings.{items_at, AreIn}
 use Rattle.xq_forms.specs.Views.{tuple_at, tuples_at, lists_of, order_specs, frame_at, FrameIn, TupleIn, TuplesIn, Goes}
@@ -88,8 +95,8 @@ invariant-evaluation::keep-loop-index g l =
       turns : Turns items_at AreIn (more (Forms.passed (plan_mean l.predicate) frame)) (inside × AreIn old (map item_view l.items)) clean (item_views l.kept) (focuses_from (suc l.index) (length l.items) (items_at old (map item_view (drop l.index l.items)))) now (Forms.filtered frame (items_at old (map item_view l.items)) (plan_mean l.predicate) old);
     }
 
-abbrev pub invariant-clauses::clause_list-loop-clause : goal.invariant-clauses::clause_list-loop-clause
-invariant-clauses::clause_list-loop-clause g l =
+abbrev pub invariant-clauses::clause_list-loop-index : goal.invariant-clauses::clause_list-loop-index
+invariant-clauses::clause_list-loop-index g l =
     let old = g.W.TreeSource.forest l.fn.world in
     let now = g.W.TreeSource.forest l.world in
     let frame = frame_at old l.frame in
@@ -97,7 +104,8 @@ invariant-clauses::clause_list-loop-clause g l =
     let clean = g.W.TreeSource.is_clean l.world in
     record {
       goes : Goes old now (g.W.TreeSource.is_clean l.fn.world) clean;
-      turns : Turns tuples_at TuplesIn (next_clause frame) inside clean l.tuples (map plan_clause_mean (drop l.clause-index l.clauses)) now (in_turn (next_clause frame) ([] ∷ []) (map plan_clause_mean l.clauses) old);
+      turns : Turns tuples_at TuplesIn (next_clause frame) inside clean l.tuples (map plan_clause_mean (drop (l.index + (if l.is_taken then 1 else 0)) l.clauses)) now (in_turn (next_clause frame) ([] ∷ []) (map plan_clause_mean l.clauses) old);
+      within : l.index + (if l.is_taken then 1 else 0) ≤ length l.clauses;
     }
 
 abbrev pub invariant-clauses::values-loop-index : goal.invariant-clauses::values-loop-index
@@ -111,6 +119,7 @@ invariant-clauses::values-loop-index g l =
       goes : Goes old now (g.W.TreeSource.is_clean l.fn.world) clean;
       turns : Turns tuple_at TupleIn (one_more (λ t. plan_mean l.part (meant_at frame t))) (inside × TuplesIn old l.tuples) clean (lists_of l.lists) (map (tuple_at old) (drop l.index l.tuples)) now (for_each (λ t. plan_mean l.part (meant_at frame t)) (tuples_at old l.tuples) old);
       long : length l.lists.items ≡ l.index;
+      in_slots : take l.outer (values_of l.slots.items) ≡ values_of l.frame.slots.now;
     }
 
 abbrev pub invariant-clauses::tests-loop-index : goal.invariant-clauses::tests-loop-index
@@ -124,6 +133,7 @@ invariant-clauses::tests-loop-index g l =
       goes : Goes old now (g.W.TreeSource.is_clean l.fn.world) clean;
       turns : Turns same_tests any_tests (one_more (λ t. Forms.tested (plan_mean l.part) (meant_at frame t))) (inside × TuplesIn old l.tuples) clean l.tests.items (map (tuple_at old) (drop l.index l.tuples)) now (for_each (λ t. Forms.tested (plan_mean l.part) (meant_at frame t)) (tuples_at old l.tuples) old);
       long : length l.tests.items ≡ l.index;
+      in_slots : take l.outer (values_of l.slots.items) ≡ values_of l.frame.slots.now;
     }
 
 -- where the step was taken with the one before it, one fewer is left
@@ -188,6 +198,7 @@ invariant-clauses::key_rows-loop-index g l =
       goes : Goes old now (g.W.TreeSource.is_clean l.fn.world) clean;
       turns : Turns same_tests any_tests (one_more (λ t. keys_at specs (meant_at frame t))) (inside × TuplesIn old l.tuples) clean (columns_of l.rows) (map (tuple_at old) (drop l.index l.tuples)) now (for_each (λ t. keys_at specs (meant_at frame t)) (tuples_at old l.tuples) old);
       long : length l.rows.items ≡ l.index;
+      in_slots : take l.outer (values_of l.slots.items) ≡ values_of l.frame.slots.now;
     }
 
 abbrev pub invariant-clauses::keys-loop-part : goal.invariant-clauses::keys-loop-part
@@ -223,100 +234,144 @@ decreases-quantified::satisfied-turns g l = weigh (2 ^ 64) (all_weigh (2 ^ 64)) 
 -- # The recursion: a plan's depth, and at one depth who calls whom
 
 abbrev pub decreases-evaluation::evaluate : goal.decreases-evaluation::evaluate
-decreases-evaluation::evaluate g a = 8 * goal.size-evaluation::evaluate g a + 2
+decreases-evaluation::evaluate g a = 8 * goal.size-evaluation::evaluate g a + 3
 
 abbrev pub decreases-evaluation::sequence : goal.decreases-evaluation::sequence
-decreases-evaluation::sequence g a = 8 * goal.size-evaluation::sequence g a + 4
+decreases-evaluation::sequence g a = 8 * goal.size-evaluation::sequence g a + 5
 
 abbrev pub decreases-evaluation::next_part : goal.decreases-evaluation::next_part
-decreases-evaluation::next_part g a = 8 * goal.size-evaluation::next_part g a + 3
+decreases-evaluation::next_part g a = 8 * goal.size-evaluation::next_part g a + 4
 
 abbrev pub decreases-evaluation::chain : goal.decreases-evaluation::chain
-decreases-evaluation::chain g a = 8 * goal.size-evaluation::chain g a + 4
+decreases-evaluation::chain g a = 8 * goal.size-evaluation::chain g a + 5
 
 abbrev pub decreases-evaluation::next_operand : goal.decreases-evaluation::next_operand
-decreases-evaluation::next_operand g a = 8 * goal.size-evaluation::next_operand g a + 3
+decreases-evaluation::next_operand g a = 8 * goal.size-evaluation::next_operand g a + 4
 
 abbrev pub decreases-evaluation::decided : goal.decreases-evaluation::decided
-decreases-evaluation::decided g a = 8 * goal.size-evaluation::decided g a + 4
+decreases-evaluation::decided g a = 8 * goal.size-evaluation::decided g a + 5
 
 abbrev pub decreases-evaluation::tested : goal.decreases-evaluation::tested
-decreases-evaluation::tested g a = 8 * goal.size-evaluation::tested g a + 3
+decreases-evaluation::tested g a = 8 * goal.size-evaluation::tested g a + 4
 
 abbrev pub decreases-evaluation::filter : goal.decreases-evaluation::filter
-decreases-evaluation::filter g a = 8 * goal.size-evaluation::filter g a + 5
+decreases-evaluation::filter g a = 8 * goal.size-evaluation::filter g a + 6
 
 abbrev pub decreases-evaluation::keep : goal.decreases-evaluation::keep
-decreases-evaluation::keep g a = 8 * goal.size-evaluation::keep g a + 4
+decreases-evaluation::keep g a = 8 * goal.size-evaluation::keep g a + 5
 
 abbrev pub decreases-evaluation::pass : goal.decreases-evaluation::pass
-decreases-evaluation::pass g a = 8 * goal.size-evaluation::pass g a + 3
+decreases-evaluation::pass g a = 8 * goal.size-evaluation::pass g a + 4
 
 abbrev pub decreases-evaluation::called : goal.decreases-evaluation::called
-decreases-evaluation::called g a = 8 * goal.size-evaluation::called g a + 5
+decreases-evaluation::called g a = 8 * goal.size-evaluation::called g a + 6
 
 abbrev pub decreases-evaluation::call_list : goal.decreases-evaluation::call_list
-decreases-evaluation::call_list g a = 8 * goal.size-evaluation::call_list g a + 6
+decreases-evaluation::call_list g a = 8 * goal.size-evaluation::call_list g a + 7
 
 abbrev pub decreases-evaluation::next_call : goal.decreases-evaluation::next_call
-decreases-evaluation::next_call g a = 8 * goal.size-evaluation::next_call g a + 5
+decreases-evaluation::next_call g a = 8 * goal.size-evaluation::next_call g a + 6
 
 abbrev pub decreases-evaluation::arguments : goal.decreases-evaluation::arguments
-decreases-evaluation::arguments g a = 8 * goal.size-evaluation::arguments g a + 4
+decreases-evaluation::arguments g a = 8 * goal.size-evaluation::arguments g a + 5
 
 abbrev pub decreases-evaluation::next_argument : goal.decreases-evaluation::next_argument
-decreases-evaluation::next_argument g a = 8 * goal.size-evaluation::next_argument g a + 3
+decreases-evaluation::next_argument g a = 8 * goal.size-evaluation::next_argument g a + 4
 
 abbrev pub decreases-paths::step_list : goal.decreases-paths::step_list
-decreases-paths::step_list g a = 8 * goal.size-paths::step_list g a + 6
+decreases-paths::step_list g a = 8 * goal.size-paths::step_list g a + 7
 
 abbrev pub decreases-paths::next_items : goal.decreases-paths::next_items
-decreases-paths::next_items g a = 8 * goal.size-paths::next_items g a + 5
+decreases-paths::next_items g a = 8 * goal.size-paths::next_items g a + 6
 
 abbrev pub decreases-paths::map_list : goal.decreases-paths::map_list
-decreases-paths::map_list g a = 8 * goal.size-paths::map_list g a + 5
+decreases-paths::map_list g a = 8 * goal.size-paths::map_list g a + 6
 
 abbrev pub decreases-paths::each : goal.decreases-paths::each
-decreases-paths::each g a = 8 * goal.size-paths::each g a + 4
+decreases-paths::each g a = 8 * goal.size-paths::each g a + 5
 
 abbrev pub decreases-paths::at_spot : goal.decreases-paths::at_spot
-decreases-paths::at_spot g a = 8 * goal.size-paths::at_spot g a + 3
+decreases-paths::at_spot g a = 8 * goal.size-paths::at_spot g a + 4
 
 abbrev pub decreases-clauses::clause_list : goal.decreases-clauses::clause_list
-decreases-clauses::clause_list g a = 8 * goal.size-clauses::clause_list g a + 7
+decreases-clauses::clause_list g a = 8 * goal.size-clauses::clause_list g a + 8
+
+abbrev pub decreases-clauses::matching_lists : goal.decreases-clauses::matching_lists
+decreases-clauses::matching_lists g a = 8 * goal.size-clauses::matching_lists g a + 6
 
 abbrev pub decreases-clauses::next_tuples : goal.decreases-clauses::next_tuples
-decreases-clauses::next_tuples g a = 8 * goal.size-clauses::next_tuples g a + 6
+decreases-clauses::next_tuples g a = 8 * goal.size-clauses::next_tuples g a + 7
 
 abbrev pub decreases-clauses::values : goal.decreases-clauses::values
-decreases-clauses::values g a = 8 * goal.size-clauses::values g a + 5
+decreases-clauses::values g a = 8 * goal.size-clauses::values g a + 6
 
 abbrev pub decreases-clauses::next_value : goal.decreases-clauses::next_value
-decreases-clauses::next_value g a = 8 * goal.size-clauses::next_value g a + 4
+decreases-clauses::next_value g a = 8 * goal.size-clauses::next_value g a + 5
 
 abbrev pub decreases-clauses::tests : goal.decreases-clauses::tests
-decreases-clauses::tests g a = 8 * goal.size-clauses::tests g a + 5
+decreases-clauses::tests g a = 8 * goal.size-clauses::tests g a + 6
 
 abbrev pub decreases-clauses::next_test : goal.decreases-clauses::next_test
-decreases-clauses::next_test g a = 8 * goal.size-clauses::next_test g a + 4
+decreases-clauses::next_test g a = 8 * goal.size-clauses::next_test g a + 5
 
 abbrev pub decreases-clauses::at_tuple : goal.decreases-clauses::at_tuple
-decreases-clauses::at_tuple g a = 8 * goal.size-clauses::at_tuple g a + 3
+decreases-clauses::at_tuple g a = 8 * goal.size-clauses::at_tuple g a + 4
 
 abbrev pub decreases-clauses::key_rows : goal.decreases-clauses::key_rows
-decreases-clauses::key_rows g a = 8 * goal.size-clauses::key_rows g a + 6
+decreases-clauses::key_rows g a = 8 * goal.size-clauses::key_rows g a + 7
 
 abbrev pub decreases-clauses::next_row : goal.decreases-clauses::next_row
-decreases-clauses::next_row g a = 8 * goal.size-clauses::next_row g a + 5
+decreases-clauses::next_row g a = 8 * goal.size-clauses::next_row g a + 6
 
 abbrev pub decreases-clauses::keys : goal.decreases-clauses::keys
-decreases-clauses::keys g a = 8 * goal.size-clauses::keys g a + 4
+decreases-clauses::keys g a = 8 * goal.size-clauses::keys g a + 5
 
 abbrev pub decreases-clauses::next_key : goal.decreases-clauses::next_key
-decreases-clauses::next_key g a = 8 * goal.size-clauses::next_key g a + 3
+decreases-clauses::next_key g a = 8 * goal.size-clauses::next_key g a + 4
 
 abbrev pub decreases-quantified::satisfied : goal.decreases-quantified::satisfied
 decreases-quantified::satisfied g a = 8 * goal.size-quantified::satisfied g a + 1
 
 abbrev pub decreases-quantified::turn : goal.decreases-quantified::turn
 decreases-quantified::turn g a = 8 * goal.size-quantified::turn g a
+
+-- the size of the greatest part, of a form that has several
+
+abbrev pub decreases-expressions::operands : goal.decreases-expressions::operands
+decreases-expressions::operands g a = 8 * max (size-Plan a.first.now) (most (λ (o : Operator × Plan). max 0 (max (size-Plan o.1) 0)) a.rest.now) + 9
+
+abbrev pub decreases-expressions::signed : goal.decreases-expressions::signed
+decreases-expressions::signed g a = 8 * goal.size-expressions::signed g a + 9
+
+abbrev pub decreases-expressions::conditional : goal.decreases-expressions::conditional
+decreases-expressions::conditional g a = 8 * max (size-Plan a.test.now) (max (size-Plan a.yes.now) (size-Plan a.no.now)) + 9
+
+abbrev pub decreases-expressions::logical : goal.decreases-expressions::logical
+decreases-expressions::logical g a = 8 * goal.size-expressions::logical g a + 9
+
+abbrev pub decreases-expressions::filtered : goal.decreases-expressions::filtered
+decreases-expressions::filtered g a = 8 * max (size-Plan a.start.now) (most size-Plan a.predicates.now) + 9
+
+abbrev pub decreases-expressions::flwor : goal.decreases-expressions::flwor
+decreases-expressions::flwor g a = 8 * max (most size-PlanClause a.clauses.now) (size-Plan a.part.now) + 9
+
+abbrev pub decreases-expressions::path : goal.decreases-expressions::path
+decreases-expressions::path g a = 8 * max (size-Plan a.start.now) (most size-PlanStep a.steps.now) + 9
+
+abbrev pub decreases-expressions::axis_step : goal.decreases-expressions::axis_step
+decreases-expressions::axis_step g a = 8 * goal.size-expressions::axis_step g a + 9
+
+abbrev pub decreases-expressions::named_node : goal.decreases-expressions::named_node
+decreases-expressions::named_node g a = 8 * max (size-Plan a.name.now) (size-Plan a.part.now) + 9
+
+abbrev pub decreases-expressions::unnamed_node : goal.decreases-expressions::unnamed_node
+decreases-expressions::unnamed_node g a = 8 * goal.size-expressions::unnamed_node g a + 9
+
+abbrev pub decreases-expressions::arrow : goal.decreases-expressions::arrow
+decreases-expressions::arrow g a = 8 * max (size-Plan a.first.now) (most (λ (o : Function × List Plan). max 0 (max (most size-Plan o.1) 0)) a.calls.now) + 9
+
+abbrev pub decreases-expressions::simple_map : goal.decreases-expressions::simple_map
+decreases-expressions::simple_map g a = 8 * max (size-Plan a.start.now) (most size-Plan a.parts.now) + 9
+
+abbrev pub decreases-expressions::quantified : goal.decreases-expressions::quantified
+decreases-expressions::quantified g a = 8 * goal.size-expressions::quantified g a + 2

@@ -12,8 +12,8 @@ returns-clause-gives g c = λ k inside.
     let focus = focus_at old c.args.frame.focus in
     let views = item_views c.in_axis_order.result in
     let node = c.in_ok-node.node in
-    let nodes = c.in_ok-nodes.nodes.items in
     let has = context_in old c.args.frame.focus node inside.focus_in (c.in_ok-node.ensures old) in
-    let is = c.in_axis_order.ensures ∙ ap (in_axis_order c.args.axis) (c.in_ok-as_items.ensures ∙ ap (map Place) c.deref.ensures.value) in
-    subst (λ f. AreIn f views × (on_axis c.args.axis c.args.test.now focus old ≡ (Ok (items_at f views), f))) (sym c.axis.ensures.keeps)
-    (axis_gives old c.args.axis c.args.test.now focus node nodes views (c.in_ok-node.ensures old) (c.in_ok-nodes.ensures.nodes k has) (c.in_ok-nodes.ensures.there k has) is)
+    let found = c.in_ok-items.ensures.items k has in
+    let is = c.in_axis_order.ensures ∙ ap (in_axis_order c.args.axis) found.are in
+    subst (λ f. AreIn f views × (on_axis c.args.axis c.args.test.now focus old ≡ (Ok (items_at f views), f))) (sym c.items_on_axis.ensures.keeps)
+    (axis_gives old c.args.axis c.args.test.now focus node found.nodes views (c.in_ok-node.ensures old) found.on_axis found.there is)

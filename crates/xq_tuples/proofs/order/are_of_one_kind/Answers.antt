@@ -13,11 +13,11 @@ returns-in-Some c =
     let keys = c.args.keys.now in
     let found : option_map (λ key. key.now) c.find.result ≡ find (λ key. not (is_nothing (key_of key))) keys = find_from_yields_List (λ key. not (is_nothing (key_of key))) _ _ c.find.result c.find.ensures.ran (YieldsList-from_slice keys (cc)) (λ x b q k. search (rules, tests)) in
     let here = sym (ap (option_map (λ key. key.now)) c.in-Some.is) ∙ found in
-    c.are_like.ensures ∙ ap (λ o. like_found o keys) here ∙ like_found-all keys
+    c.are_like.ensures ∙ ap (λ o. like_found key_of o keys) here ∙ like_found-all key_of keys
 
 pub returns-in-None : goal.returns-in-None
 returns-in-None c =
     let keys = c.args.keys.now in
     let found : option_map (λ key. key.now) c.find.result ≡ find (λ key. not (is_nothing (key_of key))) keys = find_from_yields_List (λ key. not (is_nothing (key_of key))) _ _ c.find.result c.find.ensures.ran (YieldsList-from_slice keys (cc)) (λ x b q k. search (rules, tests)) in
     let here = sym (ap (option_map (λ key. key.now)) c.in-None.is) ∙ found in
-    ap (λ o. like_found o keys) here ∙ like_found-all keys
+    ap (λ o. like_found key_of o keys) here ∙ like_found-all key_of keys

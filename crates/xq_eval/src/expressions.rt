@@ -1,0 +1,335 @@
+//! The forms of expressions that keep something while their parts are evaluated. Each is a function
+//! of its own, so that [`evaluate`], which every part of a plan enters, keeps nothing itself: a
+//! function pays at its entry for all that any of its arms keeps.
+ghost use Rattle.std.specs.Prelude.{◌≡◌, ◌*◌, ◌∷◌, [], List, map, length};
+ghost use Rattle.xq_atoms.specs.Text.{Text};
+ghost use Rattle.xq_regions.specs.declared.Axis.{Axis as AxisLem};
+ghost use Rattle.xq_meaning.specs.declared.node_tests.Test.{Test as TestLem};
+ghost use Rattle.xq_meaning.specs.declared.plans.Plan.TheVariants as plan_of;
+ghost use Rattle.xq_meaning.specs.declared.plans.PlanStep.TheVariants as plan_step;
+ghost use Rattle.xq_expressions.specs.declared.signatures.Function.TheVariants.{Doc};
+ghost use Rattle.xq_meaning.specs.Arguments.{boolean as boolean_lem};
+ghost use Rattle.xq_meaning.specs.Doing.{go_on, give, first_that};
+ghost use Rattle.xq_meaning.specs.Forms as Forms;
+ghost use Rattle.xq_meaning.specs.PlanMeaning as Meant;
+ghost use Rattle.xq_meaning.specs.PlanMeaning.{plan_mean, plan_clause_mean, plan_step_mean};
+ghost use Rattle.xq_forms.specs.Reads.{HasGrown};
+ghost use Rattle.xq_forms.specs.Views.{frame_at, FrameIn, Goes, GivesSequence};
+ghost use Rattle.xq_eval.specs.Reads.{rows_at};
+ghost use Rattle.xq_eval.specs.private.Quantifying.{IsOf, bindings};
+
+use crate::clauses::{clause_list, values};
+use crate::evaluation::{call_list, chain, decided, evaluate, filter};
+use crate::paths::{map_list, step_list};
+use crate::quantified::satisfied;
+use sqlite_items::Items as PlanItems;
+use std::alloc::Global;
+use xq_atoms::Fault;
+use xq_expressions::{Function, NamedNode, Quantifier, Sign, UnnamedNode};
+use xq_forms::{
+    Frame, axis_items, boolean, concatenated, deciding, in_axis_order, named, node_name, scan_from,
+    short_path, sign, unnamed,
+};
+use xq_functions::effective;
+use xq_meaning::{Operator, Plan, PlanClause, PlanStep, Test};
+use xq_regions::{Axis, Items};
+use xq_sources::Growing;
+
+/// Operands and the operators between them (XQuery 3.1, sections 3.4 to 3.7).
+#[cycle(eval)]
+#[inline(never)]
+pub fn operands<W: Growing>(
+    alloc: Global,
+    world: &mut W,
+    frame: Frame<'_>,
+    first: &Plan,
+    rest: &[(Operator, Plan)],
+) -> Result<Items, Fault>
+    ensures goes { Goes (W.forest world.old) (W.forest world.new) (W.is_clean world.old)
+        (W.is_clean world.new) }
+    ensures gives { W.is_clean world.new → FrameIn (W.forest world.old) frame.entry
+        → GivesSequence (Forms.chain (plan_mean first.now) (map (λ (op, p). (op, plan_mean p))
+        rest.now) (frame_at (W.forest world.old) frame.entry) (W.forest world.old))
+        (W.forest world.new) result }
+{
+    let left = evaluate(alloc, world, frame, first)?;
+    chain(alloc, world, frame, left, rest)
+}
+
+/// Signs before a value (XQuery 3.1, section 3.5).
+#[cycle(eval)]
+#[inline(never)]
+pub fn signed<W: Growing>(
+    alloc: Global,
+    world: &mut W,
+    frame: Frame<'_>,
+    signs: &[Sign],
+    part: &Plan,
+) -> Result<Items, Fault>
+    ensures goes { Goes (W.forest world.old) (W.forest world.new) (W.is_clean world.old)
+        (W.is_clean world.new) }
+    ensures gives { W.is_clean world.new → FrameIn (W.forest world.old) frame.entry
+        → GivesSequence (Forms.unary signs.now (plan_mean part.now) (frame_at (W.forest world.old)
+        frame.entry) (W.forest world.old)) (W.forest world.new) result }
+{
+    let items = evaluate(alloc, world, frame, part)?;
+    sign(alloc, world, signs, &items)
+}
+
+/// A conditional expression (XQuery 3.1, section 3.14).
+#[cycle(eval)]
+#[inline(never)]
+pub fn conditional<W: Growing>(
+    alloc: Global,
+    world: &mut W,
+    frame: Frame<'_>,
+    test: &Plan,
+    yes: &Plan,
+    no: &Plan,
+) -> Result<Items, Fault>
+    ensures goes { Goes (W.forest world.old) (W.forest world.new) (W.is_clean world.old)
+        (W.is_clean world.new) }
+    ensures gives { W.is_clean world.new → FrameIn (W.forest world.old) frame.entry
+        → GivesSequence (Forms.conditional (plan_mean test.now) (plan_mean yes.now)
+        (plan_mean no.now) (frame_at (W.forest world.old) frame.entry) (W.forest world.old))
+        (W.forest world.new) result }
+{
+    let value = evaluate(alloc, world, frame, test)?;
+    if effective(&value)? {
+        evaluate(alloc, world, frame, yes)
+    } else {
+        evaluate(alloc, world, frame, no)
+    }
+}
+
+/// A logical expression (XQuery 3.1, section 3.8): whether one of the parts has the wanted truth.
+#[cycle(eval)]
+#[inline(never)]
+pub fn logical<W: Growing>(
+    alloc: Global,
+    world: &mut W,
+    frame: Frame<'_>,
+    parts: &[Plan],
+    wanted: bool,
+) -> Result<Items, Fault>
+    ensures goes { Goes (W.forest world.old) (W.forest world.new) (W.is_clean world.old)
+        (W.is_clean world.new) }
+    ensures gives { W.is_clean world.new → FrameIn (W.forest world.old) frame.entry
+        → GivesSequence (go_on (first_that wanted (λ part. Forms.tested part (frame_at
+        (W.forest world.old) frame.entry)) (map plan_mean parts.now) (W.forest world.old))
+        (λ answer. give (boolean_lem answer))) (W.forest world.new) result }
+{
+    let answer = decided(alloc, world, frame, parts, wanted)?;
+    boolean(alloc, answer)
+}
+
+/// A primary expression and its predicates (XQuery 3.1, section 3.2.1).
+#[cycle(eval)]
+#[inline(never)]
+pub fn filtered<W: Growing>(
+    alloc: Global,
+    world: &mut W,
+    frame: Frame<'_>,
+    start: &Plan,
+    predicates: &[Plan],
+) -> Result<Items, Fault>
+    ensures goes { Goes (W.forest world.old) (W.forest world.new) (W.is_clean world.old)
+        (W.is_clean world.new) }
+    ensures gives { W.is_clean world.new → FrameIn (W.forest world.old) frame.entry
+        → GivesSequence (Forms.filter_of (plan_mean start.now) (map plan_mean predicates.now)
+        (frame_at (W.forest world.old) frame.entry) (W.forest world.old)) (W.forest world.new)
+        result }
+{
+    let items = evaluate(alloc, world, frame, start)?;
+    filter(alloc, world, frame, items, predicates)
+}
+
+/// A FLWOR expression (XQuery 3.1, section 3.12).
+#[cycle(eval)]
+#[inline(never)]
+pub fn flwor<W: Growing>(
+    alloc: Global,
+    world: &mut W,
+    frame: Frame<'_>,
+    clauses: &[PlanClause],
+    part: &Plan,
+) -> Result<Items, Fault>
+    ensures goes { Goes (W.forest world.old) (W.forest world.new) (W.is_clean world.old)
+        (W.is_clean world.new) }
+    ensures gives { W.is_clean world.new → FrameIn (W.forest world.old) frame.entry
+        → GivesSequence (Meant.flwor (map plan_clause_mean clauses.now) (plan_mean part.now)
+        (frame_at (W.forest world.old) frame.entry) (W.forest world.old)) (W.forest world.new)
+        result }
+{
+    let tuples = clause_list(alloc, world, frame, clauses)?;
+    let lists = values(alloc, world, frame, &tuples, part)?;
+    Ok(concatenated(alloc, lists)?)
+}
+
+/// A path (XQuery 3.1, section 3.3). Where it is one scan from a node that is at hand, no list is
+/// made of that node.
+#[cycle(eval)]
+#[inline(never)]
+pub fn path<W: Growing>(
+    alloc: Global,
+    world: &mut W,
+    frame: Frame<'_>,
+    start: &Plan,
+    steps: &[PlanStep],
+) -> Result<Items, Fault>
+    ensures goes { Goes (W.forest world.old) (W.forest world.new) (W.is_clean world.old)
+        (W.is_clean world.new) }
+    ensures gives { W.is_clean world.new → FrameIn (W.forest world.old) frame.entry
+        → GivesSequence (Meant.path (plan_mean start.now) (map plan_step_mean steps.now)
+        (frame_at (W.forest world.old) frame.entry) (W.forest world.old)) (W.forest world.new)
+        result }
+    ensures reads { W.is_clean world.new → FrameIn (W.forest world.old) frame.entry
+        → (address : Text) (scans : List (AxisLem × TestLem))
+        → start.now ≡ plan_of.Call Doc (plan_of.Str address ∷ [])
+        → steps.now ≡ map (λ s. plan_step.Scan s.0 s.1) scans
+        → HasGrown (W.meter world.old) (W.meter world.new)
+        (length scans * rows_at address frame.entry.addresses.now (W.forest world.old)) }
+{
+    if let Some(found) = short_path(frame, start, steps) {
+        return Ok(scan_from(alloc, world, found.node, found.axis, found.test)?);
+    }
+    let items = evaluate(alloc, world, frame, start)?;
+    step_list(alloc, world, frame, items, steps)
+}
+
+/// A step from the context item, and its predicates (XQuery 3.1, section 3.3.2).
+#[cycle(eval)]
+#[inline(never)]
+pub fn axis_step<W: Growing>(
+    alloc: Global,
+    world: &mut W,
+    frame: Frame<'_>,
+    axis: Axis,
+    test: &Test,
+    predicates: &[Plan],
+) -> Result<Items, Fault>
+    ensures goes { Goes (W.forest world.old) (W.forest world.new) (W.is_clean world.old)
+        (W.is_clean world.new) }
+    ensures gives { W.is_clean world.new → FrameIn (W.forest world.old) frame.entry
+        → GivesSequence (Forms.step axis test.now (map plan_mean predicates.now)
+        (frame_at (W.forest world.old) frame.entry) (W.forest world.old)) (W.forest world.new)
+        result }
+{
+    let nodes = axis_items(alloc, world, frame, axis, test)?;
+    let kept = filter(alloc, world, frame, nodes, predicates)?;
+    Ok(in_axis_order(axis, kept))
+}
+
+/// A constructor of a node with a name (XQuery 3.1, section 3.9.3).
+#[cycle(eval)]
+#[inline(never)]
+pub fn named_node<W: Growing>(
+    alloc: Global,
+    world: &mut W,
+    frame: Frame<'_>,
+    kind: NamedNode,
+    name: &Plan,
+    part: &Plan,
+) -> Result<Items, Fault>
+    ensures goes { Goes (W.forest world.old) (W.forest world.new) (W.is_clean world.old)
+        (W.is_clean world.new) }
+    ensures gives { W.is_clean world.new → FrameIn (W.forest world.old) frame.entry
+        → GivesSequence (Forms.named_node kind (plan_mean name.now) (plan_mean part.now)
+        (frame_at (W.forest world.old) frame.entry) (W.forest world.old)) (W.forest world.new)
+        result }
+{
+    let value = evaluate(alloc, world, frame, name)?;
+    let name = node_name(alloc, world, kind, &value)?;
+    let content = evaluate(alloc, world, frame, part)?;
+    named(alloc, world, kind, name, &content)
+}
+
+/// A constructor of a node without a name (XQuery 3.1, section 3.9.3).
+#[cycle(eval)]
+#[inline(never)]
+pub fn unnamed_node<W: Growing>(
+    alloc: Global,
+    world: &mut W,
+    frame: Frame<'_>,
+    kind: UnnamedNode,
+    part: &Plan,
+) -> Result<Items, Fault>
+    ensures goes { Goes (W.forest world.old) (W.forest world.new) (W.is_clean world.old)
+        (W.is_clean world.new) }
+    ensures gives { W.is_clean world.new → FrameIn (W.forest world.old) frame.entry
+        → GivesSequence (Forms.unnamed_node kind (plan_mean part.now)
+        (frame_at (W.forest world.old) frame.entry) (W.forest world.old)) (W.forest world.new)
+        result }
+{
+    let content = evaluate(alloc, world, frame, part)?;
+    unnamed(alloc, world, kind, &content)
+}
+
+/// Calls after arrows (XQuery 3.1, section 3.20).
+#[cycle(eval)]
+#[inline(never)]
+pub fn arrow<W: Growing>(
+    alloc: Global,
+    world: &mut W,
+    frame: Frame<'_>,
+    first: &Plan,
+    calls: &[(Function, PlanItems<Plan>)],
+) -> Result<Items, Fault>
+    ensures goes { Goes (W.forest world.old) (W.forest world.new) (W.is_clean world.old)
+        (W.is_clean world.new) }
+    ensures gives { W.is_clean world.new → FrameIn (W.forest world.old) frame.entry
+        → GivesSequence (Forms.arrow (plan_mean first.now) (map (λ (function, parts). (
+          function,
+          map plan_mean parts,
+        )) calls.now) (frame_at (W.forest world.old) frame.entry) (W.forest world.old))
+        (W.forest world.new) result }
+{
+    let items = evaluate(alloc, world, frame, first)?;
+    call_list(alloc, world, frame, items, calls)
+}
+
+/// A simple map (XQuery 3.1, section 3.19).
+#[cycle(eval)]
+#[inline(never)]
+pub fn simple_map<W: Growing>(
+    alloc: Global,
+    world: &mut W,
+    frame: Frame<'_>,
+    start: &Plan,
+    parts: &[Plan],
+) -> Result<Items, Fault>
+    ensures goes { Goes (W.forest world.old) (W.forest world.new) (W.is_clean world.old)
+        (W.is_clean world.new) }
+    ensures gives { W.is_clean world.new → FrameIn (W.forest world.old) frame.entry
+        → GivesSequence (Forms.simple_map (plan_mean start.now) (map plan_mean parts.now)
+        (frame_at (W.forest world.old) frame.entry) (W.forest world.old)) (W.forest world.new)
+        result }
+{
+    let items = evaluate(alloc, world, frame, start)?;
+    map_list(alloc, world, frame, items, parts)
+}
+
+/// A quantified expression, which is the whole plan (XQuery 3.1, section 3.16).
+#[cycle(eval)]
+#[inline(never)]
+pub fn quantified<W: Growing>(
+    alloc: Global,
+    world: &mut W,
+    frame: Frame<'_>,
+    whole: &Plan,
+    which: Quantifier,
+    ranges: &[Plan],
+    test: &Plan,
+) -> Result<Items, Fault>
+    requires { IsOf whole.now ranges.now test.now }
+    ensures goes { Goes (W.forest world.old) (W.forest world.new) (W.is_clean world.old)
+        (W.is_clean world.new) }
+    ensures gives { W.is_clean world.new → FrameIn (W.forest world.old) frame.entry
+        → GivesSequence (Forms.quantified which (bindings (map plan_mean ranges.now))
+        (plan_mean test.now) (frame_at (W.forest world.old) frame.entry) (W.forest world.old))
+        (W.forest world.new) result }
+{
+    let wanted = deciding(which);
+    let answer = satisfied(alloc, world, frame, whole, ranges, test, wanted)?;
+    boolean(alloc, answer)
+}

@@ -1,0 +1,6 @@
+pub mod Lists
+pub mod Meeting
+pub mod Walks
+pub mod Meanings
+pub mod Clauses
+pub mod Found

@@ -1,0 +1,156 @@
+-- What plans of a join mean.
+use Rattle.std.proofs.Common.{◌≡◌, ℕ, List, [], ◌∷◌, ◌++◌, map, Bool, Option, Some, None, Ok, inl, inr, refl, sym, ◌∙◌, ap, subst}
+use Rattle.std.specs.List.{AllByRecursion}
+use Rattle.xq_atoms.specs.Atom.{String}
+use Rattle.xq_regions.specs.Tree.{Tree}
+use Rattle.xq_regions.specs.Tuples.{value_at}
+use Rattle.xq_expressions.specs.declared.operators.ComparisonOperator.TheVariants as comparing
+use Rattle.xq_expressions.specs.declared.operators.Relation.TheVariants as relation
+use Rattle.xq_expressions.specs.declared.signatures.Function.{Function}
+use Rattle.xq_meaning.specs.declared.operators.Operator.TheVariants as operator
+use Rattle.xq_meaning.specs.declared.plans.Plan.{Plan}
+use Rattle.xq_meaning.specs.declared.plans.Plan.TheVariants as plan
+use Rattle.xq_meaning.specs.declared.plans.PlanStep.{PlanStep}
+use Rattle.xq_meaning.specs.Arguments.{atomic, as_boolean, effective}
+use Rattle.xq_meaning.specs.Doing.{Outcome, go_on, give, judged, on_trees, in_turn, one_more}
+use Rattle.xq_meaning.specs.Forms as Forms
+use Rattle.xq_meaning.specs.Functions.{called}
+use Rattle.xq_meaning.specs.Items.{Place, Item, Node}
+use Rattle.xq_meaning.specs.Operators.{operated}
+use Rattle.xq_meaning.specs.PlanMeaning.{Frame, Meaning, next_step, plan_mean, plan_step_mean}
+use Rattle.xq_meaning.proofs.PlanEquations.{plan-Call, plan-Chain, plan-Path, plan-Slot, plan-Str}
+use Rattle.xq_meaning.proofs.SameForms.{AreRelated, go_on_same, in_turn_same}
+use Rattle.xq_joins.specs.declared.joins.Key.{Key}
+use Rattle.xq_joins.specs.Joins.{IsFrom, IsTest}
+use Rattle.xq_joins.specs.Keys.{scans, nodes_after, text_at, key_texts, meet}
+use Rattle.xq_joins.specs.private.Shapes.{IsKey, IsLiteral, IsPlainCall, IsScan, equality}
+use Rattle.xq_joins.proofs.Meeting.{meet_swap, pairs_meet}
+use Rattle.xq_joins.proofs.Walks.{Stays, then_stays, in_turn_stays, path_from_nodes, path_stays, path_same}
+
+-- # Paths
+
+-- a path means its start, and then its steps
+path_is : (start : Plan) (steps : List PlanStep) (frame : Frame) (f : List Tree) → plan_mean (plan.Path start steps) frame f ≡ go_on (plan_mean start frame f) (λ xs. in_turn (next_step frame) xs (map plan_step_mean steps))
+path_is start steps frame f = ap (λ m. m frame f) (plan-Path start steps)
+
+path_constructs : (start : Plan) (steps : List PlanStep) → AllByRecursion IsScan steps → (frame : Frame) → Stays (plan_mean start frame) → Stays (plan_mean (plan.Path start steps) frame)
+path_constructs start steps h frame before f =
+    ap (λ (o : Outcome (List Item)). o.1) (path_is start steps frame f)
+    ∙ then_stays (plan_mean start frame f) (λ xs. in_turn (next_step frame) xs (map plan_step_mean steps)) f (before f) (λ xs. path_stays frame steps h xs)
+
+path_alike : (start : Plan) (steps : List PlanStep) → AllByRecursion IsScan steps → (frame other : Frame) (f : List Tree) → plan_mean start frame f ≡ plan_mean start other f
+    → plan_mean (plan.Path start steps) frame f ≡ plan_mean (plan.Path start steps) other f
+path_alike start steps h frame other f same =
+    path_is start steps frame f
+    ∙ ap (λ o. go_on o (λ xs. in_turn (next_step frame) xs (map plan_step_mean steps))) same
+    ∙ go_on_same (plan_mean start other f) (λ xs. in_turn (next_step frame) xs (map plan_step_mean steps)) (λ xs. in_turn (next_step other) xs (map plan_step_mean steps)) (λ xs g. path_same frame other steps h xs g)
+    ∙ sym (path_is start steps other f)
+
+-- # Slots
+
+slot_is : (n : ℕ) (frame : Frame) (f : List Tree) → plan_mean (plan.Slot n) frame f ≡ (Ok (value_at n frame.env), f)
+slot_is n frame f = ap (λ m. m frame f) (plan-Slot n)
+
+slot_from : (n : ℕ) → IsFrom (Some n) (plan.Slot n)
+slot_from n = record {
+  same = λ frame slots others trees e. slot_is n (Forms.in_env frame slots) trees ∙ ap (λ xs. (Ok xs, trees)) e ∙ sym (slot_is n (Forms.in_env frame others) trees);
+  constructs_nothing = λ frame trees. ap (λ (o : Outcome (List Item)). o.1) (slot_is n frame trees);
+}
+
+path_of_from : (start : Option ℕ) (p : Plan) (steps : List PlanStep) → AllByRecursion IsScan steps → IsFrom start p → IsFrom start (plan.Path p steps)
+path_of_from start p steps h is = record {
+  same = λ frame slots others trees e. path_alike p steps h (Forms.in_env frame slots) (Forms.in_env frame others) trees (is.same frame slots others trees e);
+  constructs_nothing = λ frame trees. path_constructs p steps h frame (λ f. is.constructs_nothing frame f) trees;
+}
+
+pub key_from : (n : ℕ) (steps : List PlanStep) (p : Plan) → IsKey n steps p → IsFrom (Some n) p
+key_from n steps p key = elim (key.form) [
+  | inl e ↦ subst (IsFrom (Some n)) (sym e.0) (slot_from n)
+  | inr e ↦ subst (IsFrom (Some n)) (sym e) (path_of_from (Some n) (plan.Slot n) steps key.scans (slot_from n))
+]
+
+-- # Calls with literals
+
+literal_is : (p : Plan) (l : IsLiteral p) (frame : Frame) (f : List Tree) → plan_mean p frame f ≡ (Ok (atomic (String l.0)), f)
+literal_is p l frame f = ap (λ m. m frame f) (ap plan_mean l.1 ∙ plan-Str l.0)
+
+literals_stay : (frame : Frame) (parts : List Plan) → AllByRecursion IsLiteral parts → AllByRecursion (λ (m : Meaning). (done : List (List Item)) → Stays (one_more (λ (part : Meaning). part frame) done m)) (map plan_mean parts)
+literals_stay frame [] h = tt
+literals_stay frame (p ∷ ps) h = (
+  λ done f. then_stays (plan_mean p frame f) (λ y. give (done ++ y ∷ [])) f (ap (λ (o : Outcome (List Item)). o.1) (literal_is p h.0 frame f)) (λ y g. refl),
+  literals_stay frame ps h.1,
+)
+
+literals_related : (frame other : Frame) (parts : List Plan) → AllByRecursion IsLiteral parts
+    → AreRelated (λ (m n : Meaning). (done : List (List Item)) (f : List Tree) → one_more (λ (part : Meaning). part frame) done m f ≡ one_more (λ (part : Meaning). part other) done n f) (map plan_mean parts) (map plan_mean parts)
+literals_related frame other [] h = tt
+literals_related frame other (p ∷ ps) h = (
+  λ done f. ap (λ o. go_on o (λ y. give (done ++ y ∷ []))) (literal_is p h.0 frame f ∙ sym (literal_is p h.0 other f)),
+  literals_related frame other ps h.1,
+)
+
+call_is : (function : Function) (parts : List Plan) (frame : Frame) (f : List Tree)
+    → plan_mean (plan.Call function parts) frame f ≡ go_on (in_turn (one_more (λ (part : Meaning). part frame)) [] (map plan_mean parts) f) (λ values. on_trees (λ trees. called function trees frame.addresses frame.focus values))
+call_is function parts frame f = ap (λ m. m frame f) (plan-Call function parts)
+
+call_from : (function : Function) (parts : List Plan) → AllByRecursion IsLiteral parts → IsFrom None (plan.Call function parts)
+call_from function parts h = record {
+  same = λ frame slots others trees e.
+      call_is function parts (Forms.in_env frame slots) trees
+      ∙ ap (λ o. go_on o (λ values. on_trees (λ trees. called function trees frame.addresses frame.focus values)))
+      (in_turn_same (one_more (λ (part : Meaning). part (Forms.in_env frame slots))) (one_more (λ (part : Meaning). part (Forms.in_env frame others))) (map plan_mean parts) (map plan_mean parts) (literals_related (Forms.in_env frame slots) (Forms.in_env frame others) parts h) [] trees)
+      ∙ sym (call_is function parts (Forms.in_env frame others) trees);
+  constructs_nothing = λ frame trees.
+      ap (λ (o : Outcome (List Item)). o.1) (call_is function parts frame trees)
+      ∙ then_stays (in_turn (one_more (λ (part : Meaning). part frame)) [] (map plan_mean parts) trees) (λ values. on_trees (λ trees. called function trees frame.addresses frame.focus values)) trees
+      (in_turn_stays (one_more (λ (part : Meaning). part frame)) (map plan_mean parts) (literals_stay frame parts h) [] trees) (λ values g. refl);
+}
+
+pub plain_path_from : (start p : Plan) (steps : List PlanStep) → IsPlainCall start → AllByRecursion IsScan steps → p ≡ plan.Path start steps → IsFrom None p
+plain_path_from start p steps call h is =
+    subst (IsFrom None) (sym is) (path_of_from None start steps h (subst (IsFrom None) (sym call.is) (call_from call.function call.parts call.literals)))
+
+-- # Keys
+
+pub key_is : (n : ℕ) (steps : List PlanStep) (p : Plan) → IsKey n steps p → (frame : Frame) (f : List Tree) (ps : List Place) → value_at n frame.env ≡ map Node ps
+    → plan_mean p frame f ≡ (Ok (map Node (nodes_after f (scans steps) ps)), f)
+key_is n steps p key frame f ps e = elim (key.form) [
+  | inl is ↦ (
+      ap (λ q. plan_mean q frame f) is.0 ∙ slot_is n frame f ∙ ap (λ xs. (Ok xs, f)) e
+      ∙ ap (λ l. (Ok (map Node (nodes_after f (scans l) ps)), f)) (sym is.1))
+  | inr is ↦ (
+      ap (λ q. plan_mean q frame f) is ∙ path_is (plan.Slot n) steps frame f
+      ∙ ap (λ o. go_on o (λ xs. in_turn (next_step frame) xs (map plan_step_mean steps))) (slot_is n frame f ∙ ap (λ xs. (Ok xs, f)) e)
+      ∙ path_from_nodes frame steps key.scans ps f)
+]
+
+-- # Tests
+
+abbrev truth_of : Outcome (List Item) → Outcome Bool
+truth_of o = go_on o (λ xs. judged (effective xs))
+
+equality_is : (first second : Plan) (frame : Frame) (f : List Tree) (ps qs : List Place) → plan_mean first frame f ≡ (Ok (map Node ps), f) → plan_mean second frame f ≡ (Ok (map Node qs), f)
+    → Forms.tested (plan_mean (equality first second)) frame f ≡ (Ok (meet (map (text_at f) ps) (map (text_at f) qs)), f)
+equality_is first second frame f ps qs a b =
+    let op = operator.Comparison (comparing.General relation.Equal) in
+    ap (λ (m : Meaning). truth_of (m frame f)) (plan-Chain first ((op, second) ∷ []))
+    ∙ ap (λ o. truth_of (go_on o (λ xs. in_turn (Forms.next_operand frame) xs ((op, plan_mean second) ∷ [])))) a
+    ∙ ap (λ o. truth_of (go_on (go_on o (λ ys. on_trees (λ trees. operated op trees (map Node ps) ys))) (λ next. give next))) b
+    ∙ ap (λ r. truth_of (go_on (judged (as_boolean r) f) (λ next. give next))) (pairs_meet f ps qs)
+
+module _ (first second test : Plan) (a b : Key) (k : IsKey a.slot a.steps.now first) (l : IsKey b.slot b.steps.now second) (is : test ≡ equality first second) where
+  holds_at : (frame : Frame) (f : List Tree) (ps qs : List Place) → value_at a.slot frame.env ≡ map Node ps → value_at b.slot frame.env ≡ map Node qs
+      → Forms.tested (plan_mean test) frame f ≡ (Ok (meet (key_texts f (scans a.steps.now) ps) (key_texts f (scans b.steps.now) qs)), f)
+  holds_at frame f ps qs d e =
+      ap (λ t. Forms.tested (plan_mean t) frame f) is
+      ∙ equality_is first second frame f (nodes_after f (scans a.steps.now) ps) (nodes_after f (scans b.steps.now) qs) (key_is a.slot a.steps.now first k frame f ps d) (key_is b.slot b.steps.now second l frame f qs e)
+
+  -- the item's key is the first operand, or the second
+  pub tests_first : IsTest (record { item = a; tuple = b }) test
+  tests_first = record { holds = holds_at }
+
+  pub tests_second : IsTest (record { item = b; tuple = a }) test
+  tests_second = record {
+    holds = λ frame f ps qs d e.
+        holds_at frame f qs ps e d ∙ ap (λ t. (Ok t, f)) (meet_swap (key_texts f (scans a.steps.now) qs) (key_texts f (scans b.steps.now) ps));
+  }

@@ -1,0 +1,7 @@
+use Rattle.std.proofs.Common.{◌≡◌, map, take}
+use Rattle.xq_regions.specs.Items.{item_view}
+use Rattle.xq_forms.specs.private.Nodes.{nodes_among}
+use Rattle.xq_joins.proofs.values.nodes_among.Given as goal
+
+abbrev pub invariant-loop-item : goal.invariant-loop-item
+invariant-loop-item l = l.nodes.items ≡ nodes_among (map item_view (take l.item-index l.items))

@@ -1,0 +1,3 @@
+pub mod Keys
+pub mod Joins
+pub mod private

@@ -1,0 +1,114 @@
+//! The forms of plans that a join has.
+ghost use Rattle.std.specs.Prelude.{◌≡◌, true, IfSome};
+ghost use Rattle.std.specs.List.{AllByRecursion};
+ghost use Rattle.xq_meaning.specs.declared.plans.Plan.TheVariants as plan_of;
+ghost use Rattle.xq_joins.specs.Joins.{IsFrom};
+ghost use Rattle.xq_joins.specs.private.Shapes.{IsKey, IsLiteral, IsPlainCall, IsScan, equality as equality_lem};
+
+use crate::joins::Key;
+use xq_expressions::{ComparisonOperator, Relation};
+use xq_meaning::{Operator, Plan, PlanStep};
+
+/// Whether all steps are scans.
+fn are_scans(steps: &[PlanStep]) -> bool
+    ensures { result ≡ true → AllByRecursion IsScan steps.now }
+{
+    for step in steps {
+        let PlanStep::Scan(_, _) = step else {
+            return false;
+        };
+    }
+    true
+}
+
+/// Whether all plans are string literals.
+fn are_literals(parts: &[Plan]) -> bool
+    ensures { result ≡ true → AllByRecursion IsLiteral parts.now }
+{
+    for part in parts {
+        let Plan::Str(_) = part else {
+            return false;
+        };
+    }
+    true
+}
+
+/// Whether the plan is a call with literals as arguments, as `doc("x")`.
+fn is_plain_call(plan: &Plan) -> bool
+    ensures { result ≡ true → IsPlainCall plan.now }
+{
+    let Plan::Call(_, parts) = plan else {
+        return false;
+    };
+    are_literals(parts.as_slice())
+}
+
+/// The key that scans from a slot are.
+fn path_key<'a>(start: &Plan, steps: &'a [PlanStep]) -> Option<Key<'a>>
+    ensures { IfSome result (λ key. (start.now ≡ plan_of.Slot key.slot)
+        × (key.steps.now ≡ steps.now) × AllByRecursion IsScan steps.now) }
+{
+    let Plan::Slot(slot) = start else {
+        return None;
+    };
+    if !are_scans(steps) {
+        return None;
+    }
+    Some(Key { slot: *slot, steps })
+}
+
+/// The key that the plan is, a slot or scans from it.
+pub fn key_of(plan: &Plan) -> Option<Key<'_>>
+    ensures { IfSome result (λ key. IsKey key.slot key.steps.now plan.now) }
+{
+    match plan {
+        Plan::Slot(slot) => Some(Key {
+            slot: *slot,
+            steps: &[],
+        }),
+        Plan::Path(start, steps) => path_key(start.get(), steps.as_slice()),
+        _ => None,
+    }
+}
+
+/// The slot from whose value a plan comes by scans, or no slot where it begins with a call with
+/// literals as arguments: such a plan constructs nothing.
+pub fn start_of(plan: &Plan) -> Option<Option<usize>>
+    ensures { IfSome result (λ start. IsFrom start plan.now) }
+{
+    if let Some(key) = key_of(plan) {
+        return Some(Some(key.slot));
+    }
+    let Plan::Path(start, steps) = plan else {
+        return None;
+    };
+    if is_plain_call(start.get()) && are_scans(steps.as_slice()) {
+        Some(None)
+    } else {
+        None
+    }
+}
+
+/// The operands of a general comparison for equality.
+pub fn operands(plan: &Plan) -> Option<(&Plan, &Plan)>
+    ensures { IfSome result (λ pair. plan.now ≡ equality_lem pair.0.now pair.1.now) }
+{
+    let Plan::Chain(first, rest) = plan else {
+        return None;
+    };
+    let rest = rest.as_slice();
+    if rest.len() != 1 {
+        return None;
+    }
+    let (operator, second) = &rest[0];
+    let Operator::Comparison(comparison) = operator else {
+        return None;
+    };
+    let ComparisonOperator::General(relation) = comparison else {
+        return None;
+    };
+    let Relation::Equal = relation else {
+        return None;
+    };
+    Some((first.get(), second))
+}
