@@ -3278,5 +3278,5 @@ clauses::matching_lists-returns-in_err-items-clause-gives g t c = λ clean insid
     let at : values_of c.deref.result.now ≡ values_of c.args.frame.slots.now ++ x = ap values_of c.deref.ensures.value ∙ c.in_ok-slots.ensures in
     let tuple_in = subst (TupleIn f) (sym c.tuple.ensures) (all_index (TupleIn f) tuples 0 [] tuples_in some) in
     let given = subst (λ (u : Tuple ItemView). GivesSequence (plan_mean source (at_tuple frame (tuple_at f u)) f) f' (Err e)) (c.tuple.ensures ∙ first_is tuples) (c.in_err-items.ensures.gives clean inside x at tuple_in) in
-    subst (λ (k : PlanClause). GivesMatched (plan_clause_mean k) (option_copied c.args.next) frame tuples f f' c.from_residual.result) (sym c.in-For.is)
-    (refused_gives (plan_clause_mean (clause.For c.in-For.empties c.in-For.at source)) (option_copied c.args.next) frame tuples f f' e c.from_residual.result c.from_residual.ensures.1 (for_refused c.in-For.empties c.in-For.at source frame f f' tuples e some given))
+    subst (λ (k : PlanClause). GivesMatched (plan_clause_mean k) (option_copied c.args.next) frame tuples f f' c.from_residual-in_err-items.result) (sym c.in-For.is)
+    (refused_gives (plan_clause_mean (clause.For c.in-For.empties c.in-For.at source)) (option_copied c.args.next) frame tuples f f' e c.from_residual-in_err-items.result c.from_residual-in_err-items.ensures.1 (for_refused c.in-For.empties c.in-For.at source frame f f' tuples e some given))
