@@ -1,6 +1,6 @@
 //! The clauses of a FLWOR expression, each for all tuples before the next (XQuery 3.1, section
 //! 3.12).
-ghost use Rattle.std.specs.Prelude.{◌≡◌, List, [], ◌∷◌, ◌++◌, map, length, IfOk, IfErr, IfSome, IsSome};
+ghost use Rattle.std.specs.Prelude.{◌≡◌, [], ◌∷◌, ◌++◌, map, length, IfOk, IfErr, IfSome, IsSome};
 ghost use Rattle.std.specs.Option.{option_copied};
 ghost use Rattle.std.proofs.Common.{suc};
 ghost use Rattle.xq_regions.specs.Items.{ItemView, Value as AtomView, item_views};

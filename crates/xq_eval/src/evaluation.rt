@@ -1,5 +1,5 @@
 //! The evaluator: the value of a plan.
-ghost use Rattle.std.specs.Prelude.{◌≡◌, List, [], ◌∷◌, map};
+ghost use Rattle.std.specs.Prelude.{◌≡◌, [], ◌∷◌, map};
 ghost use Rattle.std.specs.List.{AllByRecursion};
 ghost use Rattle.xq_atoms.specs.Text.{Text};
 ghost use Rattle.xq_meaning.specs.declared.plans.Plan.TheVariants as plan_of;
@@ -14,8 +14,8 @@ ghost use Rattle.xq_eval.specs.private.Scanning.{IsLiteral, Scans};
 
 use crate::counting::counted_variable;
 use crate::expressions::{
-    arrow, axis_step, conditional, filtered, flwor, logical, named_node, operands, path, quantified,
-    signed, simple_map, unnamed_node,
+    arrow, axis_step, conditional, filtered, flwor, logical, named_node, operands, path,
+    quantified, signed, simple_map, unnamed_node,
 };
 use crate::positions::{constant, keep_constant};
 use sqlite_items::Items as PlanItems;
@@ -172,7 +172,7 @@ fn next_operand<W: Growing>(
         (W.forest world.old)) (W.forest world.new) result }
 {
     let right = evaluate(alloc, world, frame, part)?;
-    operate(alloc, world, operator, &left, &right)
+    operate(alloc, world, operator, left, right)
 }
 
 /// Whether one of the parts has the wanted truth; those after the first that has are not evaluated.

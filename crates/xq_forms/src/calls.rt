@@ -7,12 +7,14 @@ ghost use Rattle.xq_tuples.specs.Keys.{column_of};
 ghost use Rattle.xq_meaning.specs.Items.{atomized as atomized_lem};
 ghost use Rattle.xq_meaning.specs.Functions as Functions;
 ghost use Rattle.xq_functions.specs.Answers.{items_of};
+ghost use Rattle.xq_functions.specs.Kinds as Kinds;
+ghost use Rattle.xq_functions.specs.declared.kinds.Argument.TheVariants.{Atoms};
 ghost use Rattle.xq_atoms.specs.Answers.{GivesUnlessWanting};
 ghost use Rattle.xq_forms.specs.Reads.{IsAtom};
 ghost use Rattle.xq_forms.specs.Views.{tuple_at, lists_of, spot_at, focus_at, frame_at, calling, FrameIn, TupleIn, Goes, GivesSequence};
 ghost use Rattle.xq_forms.specs.private.Calls.{at_focus};
 
-use crate::atoms::atomized;
+use crate::atoms::{atomized, into_atoms};
 use crate::frames::{Focus, Frame};
 use crate::node_functions::{call_on_nodes, context_argument};
 use crate::values::single;
@@ -45,7 +47,27 @@ fn all_atomized<L: RowLender>(
     Ok(atoms)
 }
 
+/// A call with one argument of a function that looks at its atoms.
+#[inline(never)]
+fn on_atoms<L: RowLender>(
+    alloc: Global,
+    source: &mut L,
+    function: Function,
+    items: Items,
+) -> Result<Items, Fault>
+    ensures gives { L.is_clean source.new → Kinds.argument_of function ≡ Atoms
+        → (addresses : _) → GivesUnlessWanting (items_of (L.forest source.old))
+        (Functions.of_one function (L.forest source.old) addresses (items_of
+        (L.forest source.old) items)) result }
+    ensures keeps { L.forest source.new ≡ L.forest source.old }
+    ensures was_clean { L.is_clean source.new → L.is_clean source.old }
+{
+    let atoms = into_atoms(alloc, source, items)?;
+    call_on_atoms(alloc, function, &atoms)
+}
+
 /// A call with one argument.
+#[inline(never)]
 fn on_one<L: RowLender>(
     alloc: Global,
     source: &mut L,
@@ -65,10 +87,7 @@ fn on_one<L: RowLender>(
         Argument::Items => call_on_items(alloc, function, items),
         Argument::Nodes => call_on_nodes(alloc, source, function, &items),
         Argument::Missing => Err(Fault::Code(Code::XPST0017)),
-        Argument::Atoms => {
-            let atoms = atomized(alloc, source, &items)?;
-            call_on_atoms(alloc, function, &atoms)
-        }
+        Argument::Atoms => on_atoms(alloc, source, function, items),
         Argument::Address => {
             let atoms = atomized(alloc, source, &items)?;
             match function {
@@ -104,6 +123,7 @@ fn on_focus<L: RowLender>(
 }
 
 /// A call without arguments.
+#[inline(never)]
 fn on_none<L: RowLender>(
     alloc: Global,
     source: &mut L,
@@ -128,6 +148,7 @@ fn on_none<L: RowLender>(
 }
 
 /// A call with two arguments or more.
+#[inline(never)]
 fn on_many<L: RowLender>(
     alloc: Global,
     source: &mut L,

@@ -23,6 +23,6 @@ pub use operators::{operate, sign};
 pub use paths::{ShortPath, held_node, short_path};
 pub use steps::{axis_items, double_slash, in_axis_order, parents_below, scan, scan_from};
 pub use values::{
-    boolean, concatenated, context_item, copied, decimal, deciding, integer, joined, opened,
+    boolean, concatenated, context_item, copied, deciding, decimal, integer, joined, opened,
     push_copy, refill, single, slot, string, variable,
 };

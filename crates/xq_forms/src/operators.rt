@@ -1,7 +1,7 @@
 //! Operators between values (XQuery 3.1, sections 3.4 to 3.7).
 ghost use Rattle.std.specs.Prelude.{◌≡◌, List, map, false};
 ghost use Rattle.xq_regions.specs.Tree.{Tree};
-ghost use Rattle.xq_regions.specs.Items.{item_view};
+ghost use Rattle.xq_regions.specs.Items.{item_view, item_views};
 ghost use Rattle.xq_atoms.specs.Answers.{Gives};
 ghost use Rattle.xq_functions.specs.Answers as Answers;
 ghost use Rattle.xq_functions.specs.Kinds as Kinds;
@@ -11,7 +11,7 @@ ghost use Rattle.xq_meaning.specs.Readings.{items_at, AreIn};
 ghost use Rattle.xq_meaning.specs.Doing.{on_trees};
 ghost use Rattle.xq_forms.specs.Views.{Goes, GivesSequence};
 
-use crate::atoms::atomized;
+use crate::atoms::{atomized, into_atoms};
 use std::alloc::Global;
 use xq_atoms::{Code, Fault};
 use xq_expressions::{ComparisonOperator, Sign};
@@ -27,24 +27,23 @@ pub fn operate<W: Growing>(
     alloc: Global,
     world: &mut W,
     operator: Operator,
-    left: &[Item],
-    right: &[Item],
+    left: Items,
+    right: Items,
 ) -> Result<Items, Fault>
     ensures goes { Goes (W.forest world.old) (W.forest world.new) (W.is_clean world.old)
         (W.is_clean world.new) }
-    ensures gives { W.is_clean world.new → AreIn (W.forest world.old) (map item_view left.now)
-        → AreIn (W.forest world.old) (map item_view right.now)
+    ensures gives { W.is_clean world.new → AreIn (W.forest world.old) (item_views left)
+        → AreIn (W.forest world.old) (item_views right)
         → GivesSequence (on_trees
-        (λ trees. operated operator trees (items_at (W.forest world.old) (map
-        item_view left.now))
-        (items_at (W.forest world.old) (map item_view right.now))) (W.forest world.old))
+        (λ trees. operated operator trees (items_at (W.forest world.old) (item_views left))
+        (items_at (W.forest world.old) (item_views right))) (W.forest world.old))
         (W.forest world.new) result }
 {
     if !is_on_atoms(operator) {
-        return operate_on_nodes(alloc, operator, left, right);
+        return operate_on_nodes(alloc, operator, &left, &right);
     }
-    let left = atomized(alloc, world, left)?;
-    let right = atomized(alloc, world, right)?;
+    let left = into_atoms(alloc, world, left)?;
+    let right = into_atoms(alloc, world, right)?;
     operate_on_atoms(alloc, operator, &left, &right)
 }
 

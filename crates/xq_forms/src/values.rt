@@ -33,7 +33,7 @@ pub fn copied(alloc: Global, items: &[Item]) -> Result<Items, Want>
 pub fn single(alloc: Global, item: Item) -> Result<Items, Want>
     ensures { IfOk result (λ items. item_views items ≡ item_view item ∷ []) }
 {
-    let mut items = Vec::new(alloc);
+    let mut items = Vec::with_capacity(alloc, 1)?;
     items.push(item)?;
     Ok(items)
 }

@@ -91,12 +91,12 @@ rows_judged n rows keys e =
     ∙ (λ t. list_all (λ row. sym (list_all-map is_key (λ i. slice_index_or row i []) range) t) rows) in
     let kinds : list_all (λ i. are_of_one_kind (sort_keys (column i))) range ≡ list_all (λ i. are_of_one_kind (keys_at i keys)) range =
     list_all-range _ _ 0 n (λ i l.
-        let m : 0 + i < n = omega (arith, l) in
-        ap are_of_one_kind (
-        map-map value_key (λ (row : List (List Atomic)). slice_index_or row (0 + i) []) rows
-        ∙ (λ t. map (λ row. sym (key_is n (0 + i) row m) t) rows)
-        ∙ sym (map-map (key_in (0 + i)) (λ (row : List (List Atomic)). sort_keys (fitted n row)) rows)
-        ∙ ap (keys_at (0 + i)) (sym e))) in
+    let m : 0 + i < n = omega (arith, l) in
+    ap are_of_one_kind (
+    map-map value_key (λ (row : List (List Atomic)). slice_index_or row (0 + i) []) rows
+    ∙ (λ t. map (λ row. sym (key_is n (0 + i) row m) t) rows)
+    ∙ sym (map-map (key_in (0 + i)) (λ (row : List (List Atomic)). sort_keys (fitted n row)) rows)
+    ∙ ap (keys_at (0 + i)) (sym e))) in
     list_all-map can_order column range ∙ list_all-and (λ i. list_all is_key (column i)) (λ i. are_of_one_kind (sort_keys (column i))) range ∙ (λ t. singles t && kinds t)
 
 -- # Rows of so many keys

@@ -31,7 +31,7 @@ pub fn single(alloc: Global, item: Item) -> Result<Rc<Items>, Want>
     ensures value { IfOk result (λ value. item_views value.value ≡ item_view item ∷ []) }
     ensures want { IfErr result (λ want. want ≡ Want.Memory) }
 {
-    let mut items = Vec::new(alloc);
+    let mut items = Vec::with_capacity(alloc, 1)?;
     items.push(item)?;
     Ok(Rc::new(alloc, items)?)
 }

@@ -113,6 +113,17 @@ fn order(
     stream.order(keys, &[spec])
 }
 
+/// `order by`, from the keys of each tuple.
+fn order_by_rows(
+    rt: &impl Abort,
+    stream: Tuples,
+    keys: Vec<Vec<Vec<Atom>>>,
+    specs: &[OrderSpec],
+) -> Result<Tuples, Fault> {
+    assert_eq!(rt; keys.len(), stream.len());
+    stream.order_by_rows(keys, specs)
+}
+
 /// The slot's values, tuple after tuple.
 fn returned(rt: &impl Abort, alloc: Global, stream: &Tuples, slot: usize) -> Result<String, Fault> {
     assert!(rt; stream.has_slot(slot));
@@ -234,6 +245,38 @@ fn worked_empty_key(rt: &impl Abort, alloc: Global) -> Result<(), Fault> {
     Ok(())
 }
 
+/// Three tuples, ordered by these specifications, of two keys each.
+fn check_rows(
+    rt: &impl Abort,
+    alloc: Global,
+    specs: &[OrderSpec],
+    wanted: &str,
+) -> Result<(), Fault> {
+    let numbers = [Sample::Int(0), Sample::Int(1), Sample::Int(2)];
+    let stream = for_each(rt, alloc, &numbers, false)?;
+    let mut keys = Vec::new(alloc);
+    keys.push(column(alloc, &[Sample::Str("b"), Sample::Int(1)])?)?;
+    keys.push(column(alloc, &[Sample::Untyped("a"), Sample::Int(2)])?)?;
+    keys.push(column(alloc, &[Sample::Str("a"), Sample::Int(1)])?)?;
+    let ordered = order_by_rows(rt, stream, keys, specs)?;
+    assert_eq!(rt; returned(rt, alloc, &ordered, 0)?.as_str(), wanted);
+    Ok(())
+}
+
+/// The second key decides where the first ones are equal; a key after the specifications doesn't
+/// count, and one that lacks is empty.
+fn orders_by_rows(rt: &impl Abort, alloc: Global) -> Result<(), Fault> {
+    check_rows(rt, alloc, &[], "0, 1, 2")?;
+    check_rows(rt, alloc, &[ASCENDING], "1, 2, 0")?;
+    check_rows(rt, alloc, &[ASCENDING, ASCENDING], "2, 1, 0")?;
+    check_rows(
+        rt,
+        alloc,
+        &[DESCENDING, DESCENDING, EMPTY_GREATEST],
+        "0, 1, 2",
+    )
+}
+
 /// The second of the books.
 fn worked_keep(rt: &impl Abort, alloc: Global) -> Result<(), Fault> {
     let stream = books(rt, alloc)?;
@@ -274,6 +317,7 @@ fn worked_lengths(rt: &impl Abort, alloc: Global) -> Result<(), Fault> {
 /// The clauses of worked queries.
 fn worked_rows(rt: &impl Abort, alloc: Global) -> Result<(), Fault> {
     worked_orders(rt, alloc)?;
+    orders_by_rows(rt, alloc)?;
     worked_empty_key(rt, alloc)?;
     worked_keep(rt, alloc)?;
     worked_groups(rt, alloc)?;
@@ -319,6 +363,45 @@ fn keys_of_one_kind(rt: HostRuntime) -> Result<(), Fail> {
     assert!(rt; matches!(refused, Err(Fault::Code(Code::XPTY0004))));
     let refused = grouped_by_two_values(&rt, alloc);
     assert!(rt; matches!(refused, Err(Fault::Code(Code::XPTY0004))));
+    Ok(())
+}
+
+/// Whether two tuples are refused, of which the first has the keys 2 and "x", and the second one
+/// this key and 1.
+fn are_refused(
+    rt: &impl Abort,
+    alloc: Global,
+    first: Sample,
+    specs: &[OrderSpec],
+) -> Result<bool, Fault> {
+    let mut keys = Vec::new(alloc);
+    keys.push(column(alloc, &[Sample::Int(2), Sample::Str("x")])?)?;
+    keys.push(column(alloc, &[first, Sample::Int(1)])?)?;
+    let stream = for_each(rt, alloc, &[Sample::Int(0), Sample::Int(1)], false)?;
+    let ordered = order_by_rows(rt, stream, keys, specs);
+    Ok(matches!(ordered, Err(Fault::Code(Code::XPTY0004))))
+}
+
+/// Of rows of keys, one of another kind than those of other tuples is refused, but not one after the
+/// specifications, and one that is too long.
+#[test]
+fn rows_of_one_kind(rt: HostRuntime) -> Result<(), Fail> {
+    let alloc = rt.alloc();
+    assert!(rt; !are_refused(&rt, alloc, Sample::Int(1), &[ASCENDING])?);
+    assert!(rt; are_refused(&rt, alloc, Sample::Str("1"), &[ASCENDING])?);
+    assert!(rt; are_refused(&rt, alloc, Sample::Int(1), &[ASCENDING, ASCENDING])?);
+
+    let mut keys = Vec::new(alloc);
+    for number in [Sample::Int(1), Sample::Int(2)] {
+        let mut key = key(alloc, number)?;
+        key.push(Atom::Int(3))?;
+        let mut row = Vec::new(alloc);
+        row.push(key)?;
+        keys.push(row)?;
+    }
+    let stream = for_each(&rt, alloc, &[Sample::Int(0), Sample::Int(1)], false)?;
+    let ordered = order_by_rows(&rt, stream, keys, &[ASCENDING]);
+    assert!(rt; matches!(ordered, Err(Fault::Code(Code::XPTY0004))));
     Ok(())
 }
 

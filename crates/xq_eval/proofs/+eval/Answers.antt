@@ -21,19 +21,18 @@ use Rattle.xq_meaning.specs.declared.plans.Plan.{Plan, size-Plan}
 use Rattle.xq_meaning.specs.declared.plans.Plan.TheVariants as plan
 use Rattle.xq_meaning.specs.declared.plans.Plan.TheViews.{sized-Quantified, sized-Chain, sized-If, sized-Filter, sized-Flwor, sized-Path, sized-Named, sized-Arrow, sized-Map}
 use Rattle.xq_meaning.specs.declared.plans.PlanClause.{size-PlanClause}
-use Rattle.xq_meaning.specs.declared.plans.PlanStep.{PlanStep, size-PlanStep}
+use Rattle.xq_meaning.specs.declared.plans.PlanStep.{size-PlanStep}
 use denote.Param.Weighed.{most, at_most}
 use Prim.Native.Nat.{max}
 use Rattle.xq_expressions.specs.declared.signatures.Function.{Function}
 use Rattle.xq_meaning.specs.declared.operators.Operator.{Operator}
-use Rattle.xq_meaning.specs.declared.plans.PlanClause.{PlanClause}
 use Rattle.xq_meaning.specs.Doing.{◌>>=◌, go_on, give, judged, on_trees, collected, in_turn, more, one_more, for_each, first_that}
 use Rattle.xq_meaning.specs.PlanMeaning.{Frame, Meaning, flwor, plan_mean, plan_clause_mean, plan_step_mean, at_tuple, next_clause, next_step}
 use Rattle.xq_meaning.proofs.PlanEquations.{plan-Int, plan-Str, plan-Root, plan-Step, plan-Named, plan-Unnamed, plan-Call, plan-Quantified, clause-Group, clause-Order, clause-Refused, step-Scan, plan-Dec, plan-Slot, plan-ContextItem, plan-Sequence, plan-Chain, plan-Unary, plan-If, plan-Or, plan-And, plan-Filter, plan-Path, plan-Flwor, step-Each, clause-For, clause-Let, clause-Where, clause-Count, plan-Arrow, plan-Map}
 use Rattle.xq_meaning.proofs.Turns.{begun_then}
 use Rattle.xq_forms.specs.Views.{order_specs, calling, ordering, on_axis, after_double_slash, parents_below, plant_named, plant_unnamed, tuple_at, tuples_at, lists_of, spot_at, forget, frame_at, TupleIn, TuplesIn, GivesSequence, GivesTuples, FrameIn}
 use Rattle.xq_eval.specs.private.Results.{GivesKeys, GivesRows, GivesLists, GivesTests, GivesPlain}
-use Rattle.xq_forms.proofs.Growth.{extends_more, stays, value_in, frame_grown, frame_in_grown, items_grown, are_in_grown, item_at_grown, in_grown, tuple_grown, tuple_in_grown, tuples_grown, tuples_in_grown, goes_on_to}
+use Rattle.xq_forms.proofs.Growth.{extends_more, stays, frame_grown, frame_in_grown, items_grown, are_in_grown, item_at_grown, in_grown, tuple_grown, tuple_in_grown, tuples_grown, tuples_in_grown, goes_on_to}
 use Rattle.xq_regions.specs.declared.Axis.TheVariants.{Child}
 use Rattle.xq_meaning.specs.declared.plans.PlanStep.TheVariants as plan_step
 use Rattle.std.specs.Prelude.{IsSome, Option}
@@ -191,10 +190,7 @@ evaluation::next_operand-returns-clause-gives g t c = λ clean inside left_in.
     let left = item_views c.args.left in
     let grows = c.in_ok-right.ensures.goes.grows in
     let right = c.in_ok-right.ensures.gives (c.operate.ensures.goes.was_clean clean) inside in
-    let d : map item_view c.deref.result.now ≡ left = ap (map item_view) c.deref.ensures.value in
-    let d' : map item_view c.deref-2.result.now ≡ item_views c.in_ok-right.right = ap (map item_view) c.deref-2.ensures.value in
-    let judged = c.operate.ensures.gives clean (subst (AreIn f') (sym d) (are_in_grown grows left left_in)) (subst (AreIn f') (sym d') right.0) in
-    rw (right.1, ← items_grown grows left left_in, ← d, ← d') judged
+    rw (right.1, ← items_grown grows left left_in) (c.operate.ensures.gives clean (are_in_grown grows left left_in) right.0)
 
 pub evaluation::next_operand-returns-in_err-right-clause-gives : goal.evaluation::next_operand-returns-in_err-right-clause-gives
 evaluation::next_operand-returns-in_err-right-clause-gives g t c = λ clean inside left_in.
@@ -3278,5 +3274,5 @@ clauses::matching_lists-returns-in_err-items-clause-gives g t c = λ clean insid
     let at : values_of c.deref.result.now ≡ values_of c.args.frame.slots.now ++ x = ap values_of c.deref.ensures.value ∙ c.in_ok-slots.ensures in
     let tuple_in = subst (TupleIn f) (sym c.tuple.ensures) (all_index (TupleIn f) tuples 0 [] tuples_in some) in
     let given = subst (λ (u : Tuple ItemView). GivesSequence (plan_mean source (at_tuple frame (tuple_at f u)) f) f' (Err e)) (c.tuple.ensures ∙ first_is tuples) (c.in_err-items.ensures.gives clean inside x at tuple_in) in
-    subst (λ (k : PlanClause). GivesMatched (plan_clause_mean k) (option_copied c.args.next) frame tuples f f' c.from_residual.result) (sym c.in-For.is)
-    (refused_gives (plan_clause_mean (clause.For c.in-For.empties c.in-For.at source)) (option_copied c.args.next) frame tuples f f' e c.from_residual.result c.from_residual.ensures.1 (for_refused c.in-For.empties c.in-For.at source frame f f' tuples e some given))
+    subst (λ (k : PlanClause). GivesMatched (plan_clause_mean k) (option_copied c.args.next) frame tuples f f' c.from_residual-in_err-items.result) (sym c.in-For.is)
+    (refused_gives (plan_clause_mean (clause.For c.in-For.empties c.in-For.at source)) (option_copied c.args.next) frame tuples f f' e c.from_residual-in_err-items.result c.from_residual-in_err-items.ensures.1 (for_refused c.in-For.empties c.in-For.at source frame f f' tuples e some given))

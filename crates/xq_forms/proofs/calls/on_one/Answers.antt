@@ -1,7 +1,7 @@
 use Rattle.std.proofs.Common.{◌≡◌, ◌∙◌, ap, sym, subst, map}
 use Rattle.std.specs.List.{AllByRecursion}
 use Rattle.xq_functions.specs.Kinds.{argument_of}
-use Rattle.xq_functions.specs.declared.kinds.Argument.TheVariants.{Address, Nodes}
+use Rattle.xq_functions.specs.declared.kinds.Argument.TheVariants.{Address, Atoms, Nodes}
 use Rattle.xq_atoms.specs.Atom.{atomic_of}
 use Rattle.xq_atoms.specs.Answers.{GivesUnlessWanting}
 use Rattle.xq_functions.specs.Answers.{atomics, items_of, lent_items}
@@ -31,12 +31,7 @@ returns-in-Missing-clause-gives g c = λ k.
     one_missing c.args.function old c.args.addresses.now (items_of old c.args.items) (sym c.in-Missing.ensures)
 
 pub returns-in-Atoms-clause-gives : goal.returns-in-Atoms-clause-gives
-returns-in-Atoms-clause-gives g c = λ k.
-    let old = g.L.TreeSource.forest c.args.source.now in
-    let addresses = c.args.addresses.now in
-    let xs = items_of old c.args.items in
-    let read = ap (map atomic_of) c.deref-in-Atoms-2.ensures.value ∙ c.in_ok-atoms-in-Atoms.ensures.value k ∙ ap (λ l. atomized old (lent_items old l)) c.deref-in-Atoms.ensures.value in
-    told (items_of old) (Functions.of_one c.args.function old addresses xs) c.call_on_atoms.result (c.call_on_atoms.ensures.atoms (sym c.in-Atoms.ensures) old addresses xs (sym read))
+returns-in-Atoms-clause-gives g c = λ k. c.on_atoms.ensures.gives k (sym c.in-Atoms.ensures) c.args.addresses.now
 
 pub returns-in-Doc-clause-gives : goal.returns-in-Doc-clause-gives
 returns-in-Doc-clause-gives g c = λ k.
@@ -60,9 +55,9 @@ returns g c =
           subst (λ j. GivesUnlessWanting (items_of old) j c.doc_available.result)
           (ap (Functions.doc_available addresses) read ∙ sym (one_available c.args.function old addresses xs (sym c.in-Address.ensures) c.in_default.not-Doc))
           (told (items_of old) (Functions.doc_available addresses (atomics c.deref-in_default.result.now)) c.doc_available.result (c.doc_available.ensures old));
-      reads = λ is all. c.atomized-in-Address.ensures.reads (subst (λ l. AllByRecursion IsAtom (map item_view l)) (sym c.deref-in-Address.ensures.value) all);
-      keeps = c.atomized-in-Address.ensures.keeps;
-      was_clean = c.atomized-in-Address.ensures.was_clean;
+      reads = λ is all. c.atomized.ensures.reads (subst (λ l. AllByRecursion IsAtom (map item_view l)) (sym c.deref-in-Address.ensures.value) all);
+      keeps = c.atomized.ensures.keeps;
+      was_clean = c.atomized.ensures.was_clean;
     }
 
 pub returns-in-Nodes-clause-reads : goal.returns-in-Nodes-clause-reads
@@ -70,18 +65,15 @@ returns-in-Nodes-clause-reads g c = λ is all.
     let other : Address ≡ Nodes = ap argument_of (sym is) ∙ sym c.in-Nodes.ensures in
     absurd (cc)
 
-pub returns-in_err-atoms-in-Atoms-clause-reads : goal.returns-in_err-atoms-in-Atoms-clause-reads
-returns-in_err-atoms-in-Atoms-clause-reads g c = λ is all.
-    c.atomized.ensures.reads (subst (λ l. AllByRecursion IsAtom (map item_view l)) (sym c.deref-in-Atoms.ensures.value) all)
-
 pub returns-in-Atoms-clause-reads : goal.returns-in-Atoms-clause-reads
 returns-in-Atoms-clause-reads g c = λ is all.
-    c.atomized.ensures.reads (subst (λ l. AllByRecursion IsAtom (map item_view l)) (sym c.deref-in-Atoms.ensures.value) all)
+    let other : Address ≡ Atoms = ap argument_of (sym is) ∙ sym c.in-Atoms.ensures in
+    absurd (cc)
 
 pub returns-in_err-atoms-in-Address-clause-reads : goal.returns-in_err-atoms-in-Address-clause-reads
 returns-in_err-atoms-in-Address-clause-reads g c = λ is all.
-    c.atomized-in-Address.ensures.reads (subst (λ l. AllByRecursion IsAtom (map item_view l)) (sym c.deref-in-Address.ensures.value) all)
+    c.atomized.ensures.reads (subst (λ l. AllByRecursion IsAtom (map item_view l)) (sym c.deref-in-Address.ensures.value) all)
 
 pub returns-in-Doc-clause-reads : goal.returns-in-Doc-clause-reads
 returns-in-Doc-clause-reads g c = λ is all.
-    c.atomized-in-Address.ensures.reads (subst (λ l. AllByRecursion IsAtom (map item_view l)) (sym c.deref-in-Address.ensures.value) all)
+    c.atomized.ensures.reads (subst (λ l. AllByRecursion IsAtom (map item_view l)) (sym c.deref-in-Address.ensures.value) all)
