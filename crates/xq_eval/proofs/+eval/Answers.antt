@@ -44,6 +44,7 @@ use Rattle.xq_joins.specs.Keys.{IsNode}
 use Rattle.xq_joins.proofs.Lists.{all_index}
 use Rattle.xq_eval.specs.private.Joining.{AreBoth, GivesMatched}
 use Rattle.xq_eval.proofs.Joining.{first_is, some_is, for_refused, refused_gives, matched_gives}
+use Rattle.xq_meaning.specs.declared.plans.PlanClause.{PlanClause}
 use Rattle.xq_meaning.specs.declared.plans.PlanClause.TheVariants as clause
 use Rattle.xq_eval.proofs.Loops.{got_at, left_over, left_from, two_left, none_taken, one_taken, turns_same, turns_two, turns_from, turns_stop_two, turns_next, turns_stop, turns_end, tries_next, tries_found, tries_stop, handed_on, stops, cut}
 use Rattle.xq_atoms.specs.Text.{Text}
