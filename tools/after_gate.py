@@ -46,7 +46,7 @@ ALLOCATIONS = {
         "xq_queries_tests", "rows::each_allocation_of_paths",
         "rows::each_allocation_of_children_below", "rows::each_allocation_of_flwor",
         "rows::each_allocation_of_constructors", "rows::each_allocation_of_values",
-        "rows::each_allocation_of_refusals",
+        "rows::each_allocation_of_refusals", "joins::each_allocation_of_joins",
     ],
     "allocations_rows": [
         "xq_server_tests", "growth_tests::each_allocation_of_the_worked_rows",

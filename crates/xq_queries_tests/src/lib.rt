@@ -4,6 +4,8 @@
 #[cfg(test)]
 mod asked;
 #[cfg(test)]
+mod joins;
+#[cfg(test)]
 mod reads;
 #[cfg(test)]
 mod rows;

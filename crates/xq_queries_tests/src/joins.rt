@@ -1,0 +1,106 @@
+//! Rows of joins: a `for` and the `where` after it that compare keys, and what looks like them
+//! (XQuery 3.1, sections 3.12.2 and 3.12.4).
+
+use crate::asked::{assert_answers, assert_answers_or_memory};
+
+/// The tuples are those of all pairs, in their order, and the faults are those of the pairs.
+const JOINS: [(&str, &str); 22] = [
+    (
+        "for $a in doc(\"b\")//book for $b in doc(\"b\")//book where $b/@id = $a/@id return concat($a, \"-\", $b)",
+        "\"A-A\", \"B-B\"",
+    ),
+    (
+        "for $a in doc(\"b\")//book, $b in doc(\"b\")//book where $a/@id = $b/@id return concat($a, \"-\", $b)",
+        "\"A-A\", \"B-B\"",
+    ),
+    (
+        "for $a in doc(\"b\")//@id for $b in doc(\"b\")//book where $b/@id = $a return string($b)",
+        "\"A\", \"B\"",
+    ),
+    (
+        "let $d := doc(\"b\") for $a in $d//book for $b in $d//book where $b/@id = $a/@id return string($b)",
+        "\"A\", \"B\"",
+    ),
+    (
+        "let $d := doc(\"b\") return for $a in reverse($d//book) for $b in $d//book where $b/@id = $a/@id return string($b)",
+        "\"B\", \"A\"",
+    ),
+    (
+        "let $d := document {element r {element k {element n {\"1\"}, element n {\"2\"}, element n {\"2\"}}, element k {element n {\"2\"}, element n {\"1\"}}, element k {element n {\"3\"}}}} return for $a in $d//k for $b in doc(\"b\")//book where $b/@id = $a/n return string($b)",
+        "\"A\", \"B\", \"A\", \"B\"",
+    ),
+    (
+        "let $d := document {element r {element k {element n {\"1\"}, element n {\"2\"}, element n {\"2\"}}, element k {element n {\"2\"}, element n {\"1\"}}, element k {element n {\"3\"}}}} return for $b in doc(\"b\")//book for $a in $d//k where $b/@id = $a/n return concat($b, count($a/n))",
+        "\"A3\", \"A2\", \"B3\", \"B2\"",
+    ),
+    (
+        "for $a in () for $b in doc(\"none\")//book where $b/@id = $a/@id return 1",
+        "()",
+    ),
+    (
+        "for $a in doc(\"b\")//book for $b in doc(\"none\")//book where $b/@id = $a/@id return 1",
+        "FODC0002",
+    ),
+    (
+        "for $a in (\"1\", \"2\") for $b in doc(\"b\")//book where $b/@id = $a return string($b)",
+        "\"A\", \"B\"",
+    ),
+    (
+        "for $a in (1, 2) for $b in doc(\"b\")//book where $b/@id = $a return string($b)",
+        "prof:DOUBLE",
+    ),
+    (
+        "for $a in doc(\"b\")//book for $b in (doc(\"b\")//book[2], doc(\"b\")//book[1]) where $b/@id = $a/@id return string($b)",
+        "\"A\", \"B\"",
+    ),
+    (
+        "let $c := (doc(\"b\")//book[2], doc(\"b\")//book[1], doc(\"b\")//book[2]) return for $a in doc(\"b\")//book for $b in $c where $b/@id = $a/@id return string($b)",
+        "\"A\", \"B\", \"B\"",
+    ),
+    (
+        "let $c := (1, 2) return for $a in doc(\"b\")//book for $b in $c where $b/@id = $a/@id return 1",
+        "XPTY0019",
+    ),
+    (
+        "for $a in doc(\"b\")//book for $b in doc(\"b\")//book where $b/@id = $a/@id for $c in doc(\"b\")//@id where $c = $b/@id return concat($a, $b, $c)",
+        "\"AA1\", \"BB2\"",
+    ),
+    (
+        "for $a in doc(\"b\")//book for $b in doc(\"b\")//book where $b/@id = $b/@id return concat($a, $b)",
+        "\"AA\", \"AB\", \"BA\", \"BB\"",
+    ),
+    (
+        "for $a in doc(\"b\")//book for $b in doc(\"b\")//book where $b/@none = $a/@id return 1",
+        "()",
+    ),
+    (
+        "for $a in doc(\"b\")//book for $b at $n in doc(\"b\")//book where $b/@id = $a/@id return $n",
+        "1, 2",
+    ),
+    (
+        "for $a in doc(\"b\")//book for $b in doc(\"b\")//book where $b/@id = $a/@id count $n order by $n descending return concat($b, $n)",
+        "\"B2\", \"A1\"",
+    ),
+    (
+        "for $x in (1, 2) for $a in doc(\"b\")//book for $b in doc(\"b\")//book where $b/text() = $a/text() return concat($x, $b)",
+        "\"1A\", \"1B\", \"2A\", \"2B\"",
+    ),
+    (
+        "let $k := doc(\"b\")//@id return for $b in doc(\"b\")//book where $b/@id = $k return string($b)",
+        "\"A\", \"B\"",
+    ),
+    (
+        "for $b in doc(\"b\")//book where $b/@id = $b return 1",
+        "()",
+    ),
+];
+
+#[test]
+fn joins(rt: HostRuntime) {
+    assert_answers(&rt, &JOINS);
+}
+
+#[test]
+fn each_allocation_of_joins(rt: HostRuntime) {
+    assert_answers_or_memory(&rt, &JOINS);
+}
