@@ -3179,9 +3179,10 @@ clauses::clause_list-loop-index-preserved-in-Some g t c =
           (λ clean inside is_in.
           let both : AreBoth (plan_clause_mean p) (Some q) (frame_at f held) tuples f f' lists =
           subst (λ (o : Option PlanClause). AreBoth (plan_clause_mean p) o (frame_at f held) tuples f f' lists) second.1
-          (subst (λ (o : Option (Vec (Vec Item_held))). GivesMatched (plan_clause_mean p) after (frame_at f held) tuples f f' (Ok o)) c.in-Some.is (c.in_ok-lists.ensures.gives clean (frame_in_grown i.goes.grows held inside) is_in)) in
-          (subst (TuplesIn f') (sym stream) both.inside,
-          ap (λ fr. go_on (plan_clause_mean p fr (tuples_at f tuples) f) (plan_clause_mean q fr)) (sym (frame_grown i.goes.grows held inside)) ∙ both.gives ∙ ap (λ ts. (Ok (tuples_at f' ts), f')) (sym stream)));
+          (subst (λ (o : Option (Vec (Vec Item_held))). GivesMatched (plan_clause_mean p) after (frame_at f held) tuples f f' (Ok o)) c.in-Some.is (c.in_ok-lists.ensures.gives clean (frame_in_grown i.goes.grows held inside) is_in)) in (
+            subst (TuplesIn f') (sym stream) both.inside,
+            ap (λ fr. go_on (plan_clause_mean p fr (tuples_at f tuples) f) (plan_clause_mean q fr)) (sym (frame_grown i.goes.grows held inside)) ∙ both.gives ∙ ap (λ ts. (Ok (tuples_at f' ts), f')) (sym stream),
+          ));
       within = (let at = got_at clauses (n + 1) q next in omega (arith, at.0));
     }
 

@@ -19,10 +19,10 @@ next_mean (Some next) frame tuples = plan_clause_mean next frame tuples
 -- both clauses give each tuple with each item of its list
 pub record AreBoth (first : ClauseMeaning) (next : Option PlanClause) (frame : Frame)
     (tuples : List (Tuple ItemView)) (before after : List Tree) (lists : Tuple ItemView) : Type 0
-    where
-  pub inside : TuplesIn after (expanded Value false false tuples lists)
-  pub gives : (first frame (tuples_at before tuples) >>= next_mean next frame) before
-      ≡ (Ok (tuples_at after (expanded Value false false tuples lists)), after)
+  where
+    pub inside : TuplesIn after (expanded Value false false tuples lists)
+    pub gives : (first frame (tuples_at before tuples) >>= next_mean next frame) before
+        ≡ (Ok (tuples_at after (expanded Value false false tuples lists)), after)
 
 -- where it was not done nothing has changed; a refusal is that of the first clause
 abbrev pub GivesMatched : ClauseMeaning → Option PlanClause → Frame → List (Tuple ItemView) →
