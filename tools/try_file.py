@@ -56,7 +56,8 @@ def restarts(program, path):
 def reads_with_sqlite(path):
     """The tables are as documented, to other readers of such files."""
     rows = sqlite3.connect("file:%s?mode=ro" % path, uri=True).execute(
-        "SELECT pre, size, level, kind, name, value FROM node WHERE address = 'a' ORDER BY pre"
+        "SELECT pre, size, level, kind, name, value FROM node2 INNER JOIN label ON label = id "
+        "WHERE address = 'a' ORDER BY pre"
     ).fetchall()
     check("sqlite3 reads its rows", (len(rows), rows[:2]),
           (8, [(0, 7, 0, 0, "", ""), (1, 6, 1, 1, "lib", "")]))
@@ -103,6 +104,13 @@ TURNED_NODE = ("CREATE TABLE node (value TEXT NOT NULL, name TEXT NOT NULL, "
                "kind INTEGER NOT NULL, level INTEGER NOT NULL, size INTEGER NOT NULL, "
                "pre INTEGER NOT NULL, address TEXT NOT NULL, PRIMARY KEY (address, pre)) STRICT")
 ONE = "INSERT INTO layout VALUES (1)"
+LABEL = "CREATE TABLE label (id INTEGER PRIMARY KEY, name TEXT NOT NULL UNIQUE) STRICT"
+NODE2 = NODE.replace("TABLE node", "TABLE node2").replace("name TEXT", "label INTEGER")
+TWO = "INSERT INTO layout VALUES (2)"
+ZERO = "INSERT INTO label VALUES (0, '')"
+BOOKS = ("INSERT INTO node VALUES ('b', 0, 7, 0, 0, '', ''), ('b', 1, 6, 1, 1, 'lib', ''), "
+         "('b', 2, 2, 2, 1, 'book', ''), ('b', 3, 0, 3, 2, 'id', '1'), ('b', 4, 0, 3, 3, '', 'A'), "
+         "('b', 5, 2, 2, 1, 'book', ''), ('b', 6, 0, 3, 2, 'id', '2'), ('b', 7, 0, 3, 3, '', 'B')")
 
 
 def bad_files(program, folder, path):
@@ -131,6 +139,11 @@ def bad_files(program, folder, path):
     refuses("a text that stands at the root", program, written_by_sqlite(
         folder / "text.db", LAYOUT, NODE, ONE,
         "INSERT INTO node VALUES ('b', 0, 0, 0, 3, '', 'A')"))
+    refuses("a row without a label", program, written_by_sqlite(
+        folder / "label.db", LAYOUT, LABEL, NODE2, TWO, ZERO,
+        "INSERT INTO node2 VALUES ('b', 0, 0, 0, 0, 1, '')"))
+    refuses("tables of edition 2 with edition 1", program, written_by_sqlite(
+        folder / "one.db", LAYOUT, LABEL, NODE2, ZERO, ONE))
     refuses("an address with a blank", program, written_by_sqlite(
         folder / "address.db", LAYOUT, NODE, ONE,
         "INSERT INTO node VALUES ('b b', 0, 0, 0, 0, '', '')"))
@@ -151,6 +164,28 @@ def other_orders(program, folder):
               Server([program, "--file", path]).ask(b"Q", b'doc("b")'), (0, LIBRARY))
 
 
+def carried_over(program, folder):
+    """Of a file of edition 1 the documents are carried over, whichever table was made first."""
+    for number, made in enumerate(((LAYOUT, NODE, ONE, BOOKS), (NODE, BOOKS, LAYOUT, ONE))):
+        path = written_by_sqlite(folder / ("edition%d.db" % number), *made)
+        server = Server([program, "--file", path])
+        check("edition 1: read", server.ask(b"Q", b'doc("b")'), (0, LIBRARY))
+        check("  stored", server.ask(b"S", store(b"c", LIBRARY)), (0, b"stored"))
+        check("  the input ends", server.end(), (0, ""))
+        base = sqlite3.connect("file:%s?mode=ro" % path, uri=True)
+        check("  its edition is 2", base.execute("SELECT edition FROM layout").fetchall(), [(2,)])
+        check("  each name has one label",
+              base.execute("SELECT id, name FROM label ORDER BY id").fetchall(),
+              [(0, ""), (1, "lib"), (2, "book"), (3, "id")])
+        check("  no row is left in the old table",
+              base.execute("SELECT count(*) FROM node").fetchall(), [(0,)])
+        base.close()
+        again = Server([program, "--file", path])
+        check("  read after a start", again.ask(b"Q", b'doc("b")'), (0, LIBRARY))
+        check("  and what was stored", again.ask(b"Q", b'doc("c")'), (0, LIBRARY))
+        check("  the input ends", again.end(), (0, ""))
+
+
 def names_of_files(program, folder):
     """PATH is taken as it stands; the engine can't open two kinds of names, and makes no file for
     them."""
@@ -169,7 +204,7 @@ def taken_back(program, folder):
     server = Server([program, "--file", path])
     check("a document is stored", server.ask(b"S", store(b"b", LIBRARY)), (0, b"stored"))
     check("the input ends", server.end(), (0, ""))
-    written_by_sqlite(path, "UPDATE node SET value = 'C' WHERE pre = 4")
+    written_by_sqlite(path, "UPDATE node2 SET value = 'C' WHERE pre = 4")
     refuses("a file that sqlite3 wrote to", program, path)
     script = os.path.join(os.path.dirname(os.path.abspath(__file__)), "take_file.sh")
     taken = subprocess.run([script, path, folder / "taken.db"], capture_output=True)
@@ -205,7 +240,7 @@ def read_by_others(program, folder):
     """Stock sqlite3 finds the file locked while a server has it; of one that was killed it reads
     the log too, and leaves both so that the next server opens them."""
     path = folder / "killed.db"
-    read = ("sqlite3", "-readonly", path, "SELECT count(*) FROM node")
+    read = ("sqlite3", "-readonly", path, "SELECT count(*) FROM node2")
     server = Server([program, "--file", path])
     check("a document is stored", server.ask(b"S", store(b"b", LIBRARY)), (0, b"stored"))
     beside = subprocess.run(read, capture_output=True, text=True)
@@ -243,6 +278,7 @@ def main():
         check("an empty file holds nothing",
           Server([program, "--file", folder / "empty.db"]).ask(b"L"), (0, b"()"))
         bad_files(program, folder, path)
+        carried_over(program, folder)
         other_orders(program, folder)
         names_of_files(program, folder)
         full_disk(program, folder)

@@ -6,20 +6,24 @@ import time
 
 rows, path = int(sys.argv[1]), sys.argv[2]
 SINGLE = 100
-INSERT = "INSERT INTO node VALUES (?1, ?2, ?3, ?4, ?5, ?6, ?7)"
-RANGE = ("SELECT pre, size, level, kind, name, value FROM node"
+INSERT = "INSERT INTO node2 VALUES (?1, ?2, ?3, ?4, ?5, ?6, ?7)"
+FIND = "SELECT id FROM label WHERE name = ?1"
+NAME = "INSERT INTO label (name) VALUES (?1)"
+RANGE = ("SELECT pre, size, level, kind, name, value FROM node2 INNER JOIN label ON label = id"
          " WHERE address = ?1 AND pre >= ?2 AND pre <= ?3 ORDER BY pre")
-DELETE = "DELETE FROM node WHERE address = ?1"
+DELETE = "DELETE FROM node2 WHERE address = ?1"
 
 base = sqlite3.connect(path, isolation_level=None)
 if path != ":memory:":
     base.execute("PRAGMA journal_mode=WAL")
     base.execute("PRAGMA synchronous=FULL")
 base.execute("CREATE TABLE layout (edition INTEGER NOT NULL) STRICT")
-base.execute("CREATE TABLE node (address TEXT NOT NULL, pre INTEGER NOT NULL,"
+base.execute("CREATE TABLE label (id INTEGER PRIMARY KEY, name TEXT NOT NULL UNIQUE) STRICT")
+base.execute("CREATE TABLE node2 (address TEXT NOT NULL, pre INTEGER NOT NULL,"
              " size INTEGER NOT NULL, level INTEGER NOT NULL, kind INTEGER NOT NULL,"
-             " name TEXT NOT NULL, value TEXT NOT NULL, PRIMARY KEY (address, pre)) STRICT")
-base.execute("INSERT INTO layout VALUES (1)")
+             " label INTEGER NOT NULL, value TEXT NOT NULL, PRIMARY KEY (address, pre)) STRICT")
+base.execute("INSERT INTO label VALUES (0, '')")
+base.execute("INSERT INTO layout VALUES (2)")
 
 
 def document(count):
@@ -33,8 +37,12 @@ def document(count):
 def put(address, count):
     base.execute("BEGIN")
     base.execute(DELETE, (address,))
-    for row in document(count):
-        base.execute(INSERT, (address, *row))
+    numbers = {}
+    for pre, size, level, kind, name, value in document(count):
+        if name not in numbers:
+            found = base.execute(FIND, (name,)).fetchone()
+            numbers[name] = found[0] if found else base.execute(NAME, (name,)).lastrowid
+        base.execute(INSERT, (address, pre, size, level, kind, numbers[name], value))
     base.execute("COMMIT")
 
 

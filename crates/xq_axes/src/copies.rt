@@ -1,5 +1,7 @@
 //! A copy of a node with all that is below it.
-ghost use Rattle.std.specs.Prelude.{◌≡◌, IfOk, OnOk};
+ghost use Rattle.std.specs.Prelude.{◌≡◌, ◌+◌, ◌≤◌, IfOk, OnOk};
+ghost use Rattle.xq_regions.specs.Forest.{count};
+ghost use Rattle.xq_regions.specs.Tree.{nodes};
 ghost use Rattle.xq_sources.specs.Sources.{HasNode};
 ghost use Rattle.xq_meaning.specs.Items.{tree_below};
 ghost use Rattle.xq_meaning.specs.Readings.{node_at};
@@ -37,7 +39,8 @@ impl Visitor for Copied {
     }
 }
 
-/// The node with all that is below it, as a tree of its own.
+/// The node with all that is below it, as a tree of its own. It reads each of these rows once at
+/// most, by ranges, and the node's own singly before.
 ///
 /// `Want::Store` where the source has no such node, or refuses to read it; `Want::Memory` where a
 /// growth was refused.
@@ -46,6 +49,9 @@ pub fn copy<L: RowLender>(alloc: Global, source: &mut L, node: Node) -> Result<F
         → OnOk result (HasNode (L.forest source.old) node.tree node.pre) }
     ensures copied { L.is_clean source.new → IfOk result (λ copied.
         copied ≡ tree_below (L.forest source.old) (node_at (L.forest source.old) node)) }
+    ensures rows { L.is_clean source.new → (L.meter source.new).rows ≤ (L.meter source.old).rows
+        + count (nodes (tree_below (L.forest source.old) (node_at (L.forest source.old) node))) }
+    ensures singles { (L.meter source.new).singles ≤ (L.meter source.old).singles + 1 }
     ensures keeps { L.forest source.new ≡ L.forest source.old }
     ensures was_clean { L.is_clean source.new → L.is_clean source.old }
 {

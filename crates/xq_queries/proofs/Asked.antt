@@ -1,17 +1,22 @@
 -- What is read by a path from a document, and then by printing its value.
-use Rattle.std.proofs.Common.{◌≡◌, ◌+◌, ◌*◌, List, [], length, map, None, Ok, sym, ap, subst, arith}
+use Rattle.std.proofs.Common.{◌≡◌, ◌+◌, ◌*◌, ◌≤◌, List, [], ◌∷◌, length, map, None, Ok, sym, ap, subst, arith}
 use Rattle.xq_atoms.specs.Text.{Text}
 use Rattle.xq_regions.specs.Items.{item_view}
-use Rattle.xq_regions.specs.Tree.{Tree}
+use Rattle.xq_regions.specs.Forest.{count}
+use Rattle.xq_regions.specs.Tree.{Tree, nodes}
 use Rattle.xq_regions.specs.declared.items.Item.{Item as Held}
+use Rattle.xq_regions.specs.declared.items.Item.TheVariants.{Node as NodeItem}
+use Rattle.xq_regions.specs.declared.items.Node.{Node as Spot}
 use Rattle.xq_sources.specs.Meters.{Readings}
 use Rattle.xq_meaning.specs.declared.plans.Plan.{Plan}
 use Rattle.xq_meaning.specs.PlanMeaning.{plan_mean}
-use Rattle.xq_meaning.specs.Readings.{items_at}
+use Rattle.xq_meaning.specs.Items.{Item, tree_below}
+use Rattle.xq_meaning.specs.Readings.{items_at, node_at}
 use Rattle.xq_meaning.specs.Same.{frame_of}
 use Rattle.xq_build.specs.Reads.{ReadsAtMost, ReadsItems}
 use Rattle.xq_eval.specs.Reads.{ReadsItsDocument, rows_at}
-use Rattle.xq_queries.specs.Reads.{ReadsAndPrints, rows_below_value, own_rows_of}
+use Rattle.xq_queries.specs.Reads.{ReadsAndCopies, ReadsAndPrints, rows_below_value, own_rows_of}
+use Rattle.xq_queries.specs.private.Copying.{CopiesItems}
 use Rattle.xq_queries.specs.Values.{plan_value, value_of}
 
 -- where nothing is printed
@@ -31,3 +36,34 @@ then_printed p addresses f f' items slice before mid after lent is scanned print
     let all : ReadsItems f' (items_at f' (map item_view items)) mid after = subst (λ (xs : List Held). ReadsItems f' (items_at f' (map item_view xs)) mid after) lent printed in
     subst (λ w. ReadsAtMost before after (k + rows_below_value w) (k + own_rows_of w)) (sym v)
     (record { rows = omega (arith, s.rows, all.rows); singles = omega (arith, s.singles, all.singles) }))
+
+-- # Copies
+
+pub only_scanned_to_copy : (p : Plan) (addresses : List Text) (f : List Tree) (before after : Readings) → ReadsItsDocument p addresses f before after → ReadsAndCopies p addresses f before after
+only_scanned_to_copy p addresses f before after scanned = λ address steps path.
+    (let s = scanned address steps path in record { rows = omega (arith, s.rows); singles = omega (arith, s.singles) })
+
+-- where the items are copied that the plan gave
+pub then_copied : (p : Plan) (addresses : List Text) (f f' : List Tree) (items slice : List Held) (before mid after : Readings) → slice ≡ items
+    → plan_mean p (frame_of [] None addresses) f ≡ (Ok (items_at f' (map item_view items)), f')
+    → ReadsItsDocument p addresses f before mid → CopiesItems f' (items_at f' (map item_view slice)) mid after
+    → ReadsAndCopies p addresses f before after
+then_copied p addresses f f' items slice before mid after lent is scanned copied = λ address steps path.
+    (let s = scanned address steps path in
+    let k = length steps * rows_at address addresses f in
+    let v : plan_value p addresses f ≡ Ok (items_at f' (map item_view items), f') = ap value_of is in
+    let all : CopiesItems f' (items_at f' (map item_view items)) mid after = subst (λ (xs : List Held). CopiesItems f' (items_at f' (map item_view xs)) mid after) lent copied in
+    subst (λ w. ReadsAtMost before after (k + (rows_below_value w + own_rows_of w)) (k + own_rows_of w)) (sym v)
+    (record { rows = omega (arith, s.rows, all.rows); singles = omega (arith, s.singles, all.singles) }))
+
+pub none_copied : (f : List Tree) (xs : List Item) (m : Readings) → CopiesItems f xs m m
+none_copied f xs m = record { rows = omega arith; singles = omega arith }
+
+-- one node, copied
+pub one_copied : (f : List Tree) (items : List Held) (n m : Spot) (before after : Readings) → items ≡ NodeItem n ∷ []
+    → after.rows ≤ before.rows + count (nodes (tree_below f (node_at f m))) → after.singles ≤ before.singles + 1 → m ≡ n
+    → CopiesItems f (items_at f (map item_view items)) before after
+one_copied f items n m before after is rows singles same =
+    let r = subst (λ (k : Spot). after.rows ≤ before.rows + count (nodes (tree_below f (node_at f k)))) same rows in
+    subst (λ (xs : List Held). CopiesItems f (items_at f (map item_view xs)) before after) (sym is)
+    (record { rows = omega (arith, r); singles = omega (arith, singles) })

@@ -31,3 +31,13 @@ ReadsAndPrints p addresses trees before after =
     let scanned = length steps * rows_at address addresses trees in
     let v = plan_value p addresses trees in
     ReadsAtMost before after (scanned + rows_below_value v) (scanned + own_rows_of v)
+
+-- the same where the items of the value are copied and not printed: the rows below each item and its
+-- own by ranges, and its own singly
+abbrev pub ReadsAndCopies : Plan → List Text → List Tree → Readings → Readings → Type 0
+ReadsAndCopies p addresses trees before after =
+    (address : Text) (steps : List (Axis × Test)) → p ≡ path_of_scans address steps →
+    let scanned = length steps * rows_at address addresses trees in
+    let v = plan_value p addresses trees in
+    ReadsAtMost before after (scanned + (rows_below_value v + own_rows_of v))
+    (scanned + own_rows_of v)

@@ -1,3 +1,4 @@
+pub mod Copying
 pub mod Lines
 pub mod Plans
 pub mod Ranges

@@ -5,9 +5,10 @@ ghost use Rattle.xq_regions.specs.Items.{item_view};
 ghost use Rattle.xq_regions.specs.declared.Kind.TheVariants.{Document};
 ghost use Rattle.xq_meaning.specs.Readings.{items_at, AreIn, Extends};
 ghost use Rattle.xq_queries.specs.ReadBack.{HaveNumbersInRange};
-ghost use Rattle.xq_queries.specs.Reads.{ReadsAndPrints};
+ghost use Rattle.xq_queries.specs.Reads.{ReadsAndCopies, ReadsAndPrints};
 ghost use Rattle.xq_queries.specs.Values.{document, made_document, or_no_document, plan_value, reply_text};
 ghost use Rattle.xq_meaning.specs.Print.{longest_text};
+ghost use Rattle.xq_queries.specs.private.Copying.{CopiesItems};
 ghost use Rattle.xq_queries.specs.private.Ranges.{IsViewInRange, AreViewsInRange};
 
 use std::alloc::Global;
@@ -81,7 +82,8 @@ fn are_in_range(items: &[Item])
 
 /// The tree of the one document node that the plan's value is, over the trees of `world`, as for
 /// [`ask`]. It is refused with the code of the plan's error, or as `prof:NOTDOC` where the value is
-/// anything else.
+/// anything else. Where the plan is a document by its address and k scans, it reads as [`ask`] does
+/// to evaluate it, and then to copy the node each of its rows once by ranges, and its own singly.
 pub fn make<W: Growing>(
     alloc: Global,
     plan: &Plan,
@@ -92,6 +94,9 @@ pub fn make<W: Growing>(
         → GivesUnlessWanting (λ tree. tree)
         (made_document (plan_value plan.now addresses.now (W.forest world.old))) result }
     ensures document { IfOk result (λ tree. tree.root.kind ≡ Document) }
+    ensures reads { W.is_clean world.new → length addresses.now ≤ length (W.forest world.old)
+        → ReadsAndCopies plan.now addresses.now (W.forest world.old) (W.meter world.old)
+        (W.meter world.new) }
     ensures grows { Extends (W.forest world.old) (W.forest world.new) }
     ensures was_clean { W.is_clean world.new → W.is_clean world.old }
 {
@@ -114,6 +119,9 @@ fn document_of<L: RowLender>(
           L.forest source.old,
         )) }
     ensures kind { IfOk result (λ found. IfSome found (λ tree. tree.root.kind ≡ Document)) }
+    ensures reads { L.is_clean source.new → CopiesItems (L.forest source.old)
+        (items_at (L.forest source.old) (map item_view items.now))
+        (L.meter source.old) (L.meter source.new) }
     ensures keeps { L.forest source.new ≡ L.forest source.old }
     ensures was_clean { L.is_clean source.new → L.is_clean source.old }
 {

@@ -1,39 +1,46 @@
 -- What the queries of an adoption give.
-use Rattle.std.proofs.Common.{◌≡◌, ◌≢◌, inl, inr, ◌+◌, ◌<◌, ℕ, true, false, All, List, [], ◌∷◌, map, filter, flat_map, length, get_or, codes, Option, Result, Ok, Err, IfOk, IfErr, OnOk, is_lt, refl, sym, ap, subst, subst₂, ◌∙◌, arith, Ordering}
+use Rattle.std.proofs.Common.{◌≡◌, ◌&&◌, inl, inr, ◌+◌, ◌<◌, ℕ, pos, Bool, true, false, All, List, [], ◌∷◌, map, filter, flat_map, length, get_or, codes, Option, None, Some, Result, Ok, Err, IfOk, IfErr, IfSome, OnOk, is_lt, refl, sym, ap, subst, subst₂, ◌∙◌, arith, Ordering}
+use Rattle.std.specs.List.{list_all}
 use Rattle.std.specs.List.Sorted.{IsPermutation, IsSorted}
 use Rattle.std.specs.Ordering.{on, ordering_then}
 use Rattle.std.proofs.lemmas.List.{length-map}
 use Rattle.std.proofs.lemmas.List.Elements.{All-from_recursion}
 use Rattle.std.proofs.lemmas.List.Sorted.{IsPermutation-map, All-permutation}
 use Rattle.sqlite_value.specs.Order.{Row, column, value_cmp}
-use Rattle.sqlite_value.specs.declared.value.Value.TheVariants.{Null}
+use Rattle.sqlite_value.specs.declared.value.Value.TheVariants.{Null, Int, Text}
 use Rattle.sqlite_value.specs.declared.keys.Key.{Key}
 use Rattle.sqlite_value.proofs.OrderLemmas.{then-Equal}
-use Rattle.sqlite_trees.specs.declared.error.StoreError.{StoreError}
-use Rattle.sqlite_trees.specs.declared.error.StoreError.TheVariants.{OutOfMemory, Io, Corrupt, Full, Broken, Unstorable}
 use Rattle.sqlite_trees.specs.Tree.{Trees, rowid}
 use Rattle.sqlite_trees.proofs.ListLemmas.{map-map, all-map, all_of}
 use Rattle.sqlite_schema.specs.declared.program.Program.{Program}
 use Rattle.sqlite_schema.specs.declared.schema.Schema.{Schema}
 use Rattle.sqlite_sql.specs.Query.{Query, IsAnswer, Output, output, key_cmp}
-use Rattle.sqlite_sql.specs.Term.{col}
+use Rattle.sqlite_sql.specs.Term.{Term, holds, col, lit, op2}
 use Rattle.sqlite_sql.specs.Program.{overlay, IsProgramAnswer}
+use Rattle.sqlite_sql.specs.declared.ops.BinaryOp.TheVariants.{Compare}
+use Rattle.sqlite_sql.specs.declared.ops.CompareOp.TheVariants.{Eq, Gt, Lt}
+use Rattle.sqlite.specs.Collation.TheVariants.{Binary}
 use Rattle.sqlite_tied.specs.Compute.{everything}
+use Rattle.sqlite.specs.Command.{Command}
 use Rattle.sqlite.specs.Command.TheVariants.{Select}
-use Rattle.sqlite.specs.Clock.{timed}
-use Rattle.sqlite.specs.Effect.{Database, RefusesToRead, RefusesQuery}
-use Rattle.sqlite.specs.Listing.{understood, reads_listing, listing_schema}
-use Rattle.sqlite.specs.State.{State, Shown, FailsToQuery, FailsToShow, IsNotRun, store_error}
-use Rattle.sqlite.specs.declared.error.Error.{Error}
+use Rattle.sqlite.specs.Listing.{understood, reads_listing}
+use Rattle.sqlite.specs.Held.{Held, state}
+use Rattle.sqlite.specs.State.{State, Shown}
+use Rattle.sqlite_trees.specs.declared.store.Store.{Ghosts}
+use Rattle.xq_rows.specs.Documents.{IsReady}
+use Rattle.xq_rows.specs.private.Keeps.{StaysOutside}
 use Rattle.sqlite.proofs.Callers.{IsPlain, command_of, reads_as}
-use Rattle.xq_rows.specs.declared.faults.OpenFault.TheVariants.{NotAStore}
-use Rattle.xq_rows.specs.private.Schemas.{layout_schema, node_schema}
-use Rattle.xq_rows.specs.Tables.{no_schema, IsStoreSchema, layout_rows}
-use Rattle.xq_rows.proofs.Places.{First, layout_first, node_first, schema_of, layout_tree, node_tree, which, nodes_lie, layout_lies, layout_alone, not_given}
-use Rattle.xq_rows.specs.private.Adopt.{fault_of, IsInputError, addressed_node, by_place, AreNodes, ReadsEdition, ReadsRowids, ReadsNodes, HasLayout}
-use Rattle.xq_rows.proofs.Texts.{IsUnread, body, key}
-use Rattle.xq_rows.proofs.Lists.{flat_map_picks}
-use Rattle.xq_rows.proofs.Selects.{selected, selected_rows, get_or-map, test, out}
+use Rattle.xq_rows.specs.Labels.{label_rows, most_label, named_rows, node2_rows, shown_rows, IsStoreSchema}
+use Rattle.xq_rows.specs.Tables.{layout_rows, node_rows, IsOldSchema}
+use Rattle.xq_rows.specs.private.Adopt.{addressed_node, by_place, has_zero, AreNodes, HasLayout, IsSelect}
+use Rattle.xq_rows.proofs.Joins.{joined}
+use Rattle.xq_rows.proofs.LabelPlaces.{Made, alone, layout_first, node_first, schema_of, layout_tree, label_tree, node2_tree, labels_lie, layout_lies, nodes_lie, shown_lie, which}
+use Rattle.xq_rows.proofs.LabelTexts.{join_body, on_term}
+use Rattle.xq_rows.proofs.Lists.{flat_map_picks, same_test}
+use Rattle.xq_rows.proofs.Places as old
+use Rattle.xq_rows.proofs.Places.{not_given}
+use Rattle.xq_rows.proofs.Selects.{selected, selected_rows, get_or-map, test, out, and_true}
+use Rattle.xq_rows.proofs.Texts.{body, key}
 
 -- # What the texts mean
 
@@ -44,79 +51,121 @@ edition_query = codes "SELECT edition FROM layout"
 abbrev pub edition_body : ℕ → Query
 edition_body tree = body tree [] (col 1 1 ∷ []) []
 
-abbrev pub edition_program : ℕ → Program
-edition_program tree = record { lets = []; body = edition_body tree }
+abbrev pub edition_command : ℕ → Command
+edition_command tree = Select (record { lets = []; body = edition_body tree }) (codes "edition" ∷ [])
 
-abbrev pub edition_names : List (List ℕ)
-edition_names = codes "edition" ∷ []
-
-pub edition_alone : (command_of (understood layout_schema edition_query) ≡ Select (edition_program 0) edition_names) × (reads_listing layout_schema edition_query ≡ false)
+pub edition_is : (made : Made) → (command_of (understood (schema_of made) edition_query) ≡ edition_command (layout_tree made)) × (reads_listing (schema_of made) edition_query ≡ false) × IsPlain (understood (schema_of made) edition_query)
 unfolding understood everything
-edition_alone = (refl, refl)
+edition_is alone = (refl, refl, (refl, refl))
+edition_is layout_first = (refl, refl, (refl, refl))
+edition_is node_first = (refl, refl, (refl, refl))
 
-pub edition_alone_plain : IsPlain (understood layout_schema edition_query)
+pub old_edition_is : (first : old.First) → (command_of (understood (old.schema_of first) edition_query) ≡ edition_command (old.layout_tree first)) × (reads_listing (old.schema_of first) edition_query ≡ false) × IsPlain (understood (old.schema_of first) edition_query)
 unfolding understood everything
-edition_alone_plain = (refl, refl)
+old_edition_is old.layout_first = (refl, refl, (refl, refl))
+old_edition_is old.node_first = (refl, refl, (refl, refl))
 
-pub edition_found : (first : First) → (command_of (understood (schema_of first) edition_query) ≡ Select (edition_program (layout_tree first)) edition_names) × (reads_listing (schema_of first) edition_query ≡ false)
+-- the ids of a table
+abbrev pub ids_command : ℕ → List (List ℕ) → Command
+ids_command tree names = Select (record { lets = []; body = body tree [] (col 1 0 ∷ []) ((col 1 0, key) ∷ []) }) names
+
+abbrev pub old_rowids_query : List ℕ
+old_rowids_query = codes "SELECT rowid FROM node ORDER BY rowid"
+
+pub old_rowids_are : (first : old.First) → (command_of (understood (old.schema_of first) old_rowids_query) ≡ ids_command (old.node_tree first) (codes "rowid" ∷ [])) × (reads_listing (old.schema_of first) old_rowids_query ≡ false) × IsPlain (understood (old.schema_of first) old_rowids_query)
 unfolding understood everything
-edition_found layout_first = (refl, refl)
-edition_found node_first = (refl, refl)
-
-pub edition_found_plain : (first : First) → IsPlain (understood (schema_of first) edition_query)
-unfolding understood everything
-edition_found_plain layout_first = (refl, refl)
-edition_found_plain node_first = (refl, refl)
-
-pub edition_unread : IsUnread (understood no_schema edition_query)
-unfolding understood listing_schema everything
-edition_unread = tt
-
-pub edition_missing : IsUnread (understood node_schema edition_query)
-unfolding understood listing_schema everything
-edition_missing = tt
+old_rowids_are old.layout_first = (refl, refl, (refl, refl))
+old_rowids_are old.node_first = (refl, refl, (refl, refl))
 
 abbrev pub rowids_query : List ℕ
-rowids_query = codes "SELECT rowid FROM node ORDER BY rowid"
+rowids_query = codes "SELECT rowid FROM node2 ORDER BY rowid"
 
-abbrev pub rowids_program : ℕ → Program
-rowids_program tree = record { lets = []; body = body tree [] (col 1 0 ∷ []) ((col 1 0, key) ∷ []) }
-
-abbrev pub rowids_names : List (List ℕ)
-rowids_names = codes "rowid" ∷ []
-
-pub rowids_are : (first : First) → (command_of (understood (schema_of first) rowids_query) ≡ Select (rowids_program (node_tree first)) rowids_names) × (reads_listing (schema_of first) rowids_query ≡ false)
+pub rowids_are : (made : Made) → (command_of (understood (schema_of made) rowids_query) ≡ ids_command (node2_tree made) (codes "rowid" ∷ [])) × (reads_listing (schema_of made) rowids_query ≡ false) × IsPlain (understood (schema_of made) rowids_query)
 unfolding understood everything
-rowids_are layout_first = (refl, refl)
-rowids_are node_first = (refl, refl)
+rowids_are alone = (refl, refl, (refl, refl))
+rowids_are layout_first = (refl, refl, (refl, refl))
+rowids_are node_first = (refl, refl, (refl, refl))
 
-pub rowids_plain : (first : First) → IsPlain (understood (schema_of first) rowids_query)
+abbrev pub labels_query : List ℕ
+labels_query = codes "SELECT id FROM label ORDER BY id"
+
+pub labels_are : (made : Made) → (command_of (understood (schema_of made) labels_query) ≡ ids_command (label_tree made) (codes "id" ∷ [])) × (reads_listing (schema_of made) labels_query ≡ false) × IsPlain (understood (schema_of made) labels_query)
 unfolding understood everything
-rowids_plain layout_first = (refl, refl)
-rowids_plain node_first = (refl, refl)
+labels_are alone = (refl, refl, (refl, refl))
+labels_are layout_first = (refl, refl, (refl, refl))
+labels_are node_first = (refl, refl, (refl, refl))
 
-pub rowids_unread : IsUnread (understood layout_schema rowids_query)
-unfolding understood listing_schema everything
-rowids_unread = tt
+-- the ids of labels that pass tests
+abbrev pub some_command : ℕ → List Term → Command
+some_command tree tests = Select (record { lets = []; body = body tree tests (col 1 0 ∷ []) [] }) (codes "id" ∷ [])
 
-abbrev pub nodes_query : List ℕ
-nodes_query = codes "SELECT pre, size, level, kind, name, value, address FROM node ORDER BY address, pre"
+abbrev pub zero_query : List ℕ
+zero_query = codes "SELECT id FROM label WHERE id = 0 AND name = ''"
 
-abbrev pub nodes_program : ℕ → Program
-nodes_program tree = record { lets = []; body = body tree [] (col 1 2 ∷ col 1 3 ∷ col 1 4 ∷ col 1 5 ∷ col 1 6 ∷ col 1 7 ∷ col 1 1 ∷ []) ((col 1 1, key) ∷ (col 1 2, key) ∷ []) }
+abbrev pub zero_tests : List Term
+zero_tests = op2 (Compare Eq Binary) (col 1 0) (lit (Int (pos 0))) ∷ op2 (Compare Eq Binary) (col 1 2) (lit (Text [])) ∷ []
+
+pub zero_is : (made : Made) → (command_of (understood (schema_of made) zero_query) ≡ some_command (label_tree made) zero_tests) × (reads_listing (schema_of made) zero_query ≡ false) × IsPlain (understood (schema_of made) zero_query)
+unfolding understood everything
+zero_is alone = (refl, refl, (refl, refl))
+zero_is layout_first = (refl, refl, (refl, refl))
+zero_is node_first = (refl, refl, (refl, refl))
+
+abbrev pub low_query : List ℕ
+low_query = codes "SELECT id FROM label WHERE id < 0"
+
+abbrev pub low_tests : List Term
+low_tests = op2 (Compare Lt Binary) (col 1 0) (lit (Int (pos 0))) ∷ []
+
+pub low_is : (made : Made) → (command_of (understood (schema_of made) low_query) ≡ some_command (label_tree made) low_tests) × (reads_listing (schema_of made) low_query ≡ false) × IsPlain (understood (schema_of made) low_query)
+unfolding understood everything
+low_is alone = (refl, refl, (refl, refl))
+low_is layout_first = (refl, refl, (refl, refl))
+low_is node_first = (refl, refl, (refl, refl))
+
+abbrev pub high_query : List ℕ
+high_query = codes "SELECT id FROM label WHERE id > 2147483647"
+
+abbrev pub high_tests : List Term
+high_tests = op2 (Compare Gt Binary) (col 1 0) (lit (Int (pos most_label))) ∷ []
+
+pub high_is : (made : Made) → (command_of (understood (schema_of made) high_query) ≡ some_command (label_tree made) high_tests) × (reads_listing (schema_of made) high_query ≡ false) × IsPlain (understood (schema_of made) high_query)
+unfolding understood everything
+high_is alone = (refl, refl, (refl, refl))
+high_is layout_first = (refl, refl, (refl, refl))
+high_is node_first = (refl, refl, (refl, refl))
+
+abbrev pub old_nodes_query : List ℕ
+old_nodes_query = codes "SELECT pre, size, level, kind, name, value, address FROM node ORDER BY address, pre"
+
+abbrev pub by_places : List (Term × Key)
+by_places = (col 1 1, key) ∷ (col 1 2, key) ∷ []
+
+abbrev pub old_nodes_program : ℕ → Program
+old_nodes_program tree = record { lets = []; body = body tree [] (col 1 2 ∷ col 1 3 ∷ col 1 4 ∷ col 1 5 ∷ col 1 6 ∷ col 1 7 ∷ col 1 1 ∷ []) by_places }
 
 abbrev pub nodes_names : List (List ℕ)
 nodes_names = codes "pre" ∷ codes "size" ∷ codes "level" ∷ codes "kind" ∷ codes "name" ∷ codes "value" ∷ codes "address" ∷ []
 
-pub nodes_are : (first : First) → (command_of (understood (schema_of first) nodes_query) ≡ Select (nodes_program (node_tree first)) nodes_names) × (reads_listing (schema_of first) nodes_query ≡ false)
+pub old_nodes_are : (first : old.First) → (command_of (understood (old.schema_of first) old_nodes_query) ≡ Select (old_nodes_program (old.node_tree first)) nodes_names) × (reads_listing (old.schema_of first) old_nodes_query ≡ false) × IsPlain (understood (old.schema_of first) old_nodes_query) × IsSelect (understood (old.schema_of first) old_nodes_query)
 unfolding understood everything
-nodes_are layout_first = (refl, refl)
-nodes_are node_first = (refl, refl)
+old_nodes_are old.layout_first = (refl, refl, (refl, refl), refl)
+old_nodes_are old.node_first = (refl, refl, (refl, refl), refl)
 
-pub nodes_plain : (first : First) → IsPlain (understood (schema_of first) nodes_query)
+abbrev pub nodes_query : List ℕ
+nodes_query = codes "SELECT pre, size, level, kind, name, value, address FROM node2 INNER JOIN label ON label = id ORDER BY address, pre"
+
+abbrev pub nodes_terms : List Term
+nodes_terms = col 1 2 ∷ col 1 3 ∷ col 1 4 ∷ col 1 5 ∷ col 2 2 ∷ col 1 7 ∷ col 1 1 ∷ []
+
+abbrev pub nodes_program : ℕ → ℕ → Program
+nodes_program nodes labels = record { lets = []; body = join_body nodes labels (on_term ∷ []) nodes_terms by_places }
+
+pub nodes_are : (made : Made) → (command_of (understood (schema_of made) nodes_query) ≡ Select (nodes_program (node2_tree made) (label_tree made)) nodes_names) × (reads_listing (schema_of made) nodes_query ≡ false) × IsPlain (understood (schema_of made) nodes_query) × IsSelect (understood (schema_of made) nodes_query)
 unfolding understood everything
-nodes_plain layout_first = (refl, refl)
-nodes_plain node_first = (refl, refl)
+nodes_are alone = (refl, refl, (refl, refl), refl)
+nodes_are layout_first = (refl, refl, (refl, refl), refl)
+nodes_are node_first = (refl, refl, (refl, refl), refl)
 
 -- # What they give
 
@@ -135,11 +184,16 @@ edition_rows tree db rows got =
     map-map _ _ _ ∙ ap (map (λ r. column r 1 ∷ [])) (every (db tree)) in
     subst₂ IsPermutation first (sym a.shown) moved
 
-rowid_rows : (first : First) (db : Trees) (rows : List Row) → IsProgramAnswer [] (body (node_tree first) [] (col 1 0 ∷ []) ((col 1 0, key) ∷ [])) db [] rows
-    → IsPermutation (map (λ r. rowid r ∷ []) (db (node_tree first))) rows
-rowid_rows first db rows got =
-    let s = selected (node_tree first) [] (col 1 0 ∷ []) ((col 1 0, key) ∷ []) db [] rows got in
-    subst (λ l. IsPermutation (map (λ r. rowid r ∷ []) l) rows) (every (db (node_tree first))) (selected_rows (node_tree first) [] (col 1 0 ∷ []) ((col 1 0, key) ∷ []) db [] rows s)
+pub ids_given : (tree : ℕ) (db : Trees) (rows : List Row) → IsProgramAnswer [] (body tree [] (col 1 0 ∷ []) ((col 1 0, key) ∷ [])) db [] rows → IsPermutation (map (λ r. rowid r ∷ []) (db tree)) rows
+ids_given tree db rows got =
+    let s = selected tree [] (col 1 0 ∷ []) ((col 1 0, key) ∷ []) db [] rows got in
+    subst (λ l. IsPermutation (map (λ r. rowid r ∷ []) l) rows) (every (db tree)) (selected_rows tree [] (col 1 0 ∷ []) ((col 1 0, key) ∷ []) db [] rows s)
+
+some_given : (tree : ℕ) (tests : List Term) (p : Row → Bool) → ((r : Row) → list_all (holds ([] ∷ r ∷ [])) tests ≡ p r) → (db : Trees) (rows : List Row) → IsProgramAnswer [] (body tree tests (col 1 0 ∷ []) []) db [] rows
+    → IsPermutation (map (λ r. rowid r ∷ []) (filter p (db tree))) rows
+some_given tree tests p is db rows got =
+    let s = selected_rows tree tests (col 1 0 ∷ []) [] db [] rows (selected tree tests (col 1 0 ∷ []) [] db [] rows got) in
+    subst (λ l. IsPermutation (map (λ r. rowid r ∷ []) l) rows) (same_test _ _ is (db tree)) s
 
 -- what is sorted by its keys is sorted by what the keys are of it
 sorted_as : (by : Row → Row → Ordering) (keys : List Key) (key_of : Row → Row) → ((a b : Row) → is_lt (key_cmp 0 keys (key_of a) (key_of b)) ≡ is_lt (by a b)) → (ordered : List Output)
@@ -161,71 +215,135 @@ place_of r = column r 6 ∷ column r 0 ∷ []
 same_place : (a b : Row) → is_lt (key_cmp 0 (key ∷ key ∷ []) (place_of a) (place_of b)) ≡ is_lt (by_place a b)
 same_place a b = ap (λ o. is_lt (ordering_then (value_cmp (column a 6) (column b 6)) o)) (then-Equal (value_cmp (column a 0) (column b 0)))
 
-nodes_given : (first : First) (db : Trees) (rows : List Row) → IsProgramAnswer [] (nodes_program (node_tree first)).body db [] rows → AreNodes (db (node_tree first)) rows
-nodes_given first db rows got =
-    let query = (nodes_program (node_tree first)).body in
-    let project = query.project in
-    let order = query.order in
-    let table = db (node_tree first) in
-    let s = selected (node_tree first) [] project order db [] rows got in
-    let shown = filter (test (node_tree first) [] project order db []) table in
+old_nodes_given : (tree : ℕ) (db : Trees) (rows : List Row) → IsProgramAnswer [] (old_nodes_program tree).body db [] rows → AreNodes (db tree) rows
+old_nodes_given tree db rows got =
+    let project = (old_nodes_program tree).body.project in
+    let table = db tree in
+    let s = selected tree [] project by_places db [] rows got in
+    let shown = filter (test tree [] project by_places db []) table in
     let keyed : Output → Type 0 = λ o. o.0 ≡ place_of o.1 in
-    let all : All keyed (map (out (node_tree first) [] project order db []) shown) = All-from_recursion keyed _ (all-map keyed (out (node_tree first) [] project order db []) shown (all_of (λ r. keyed (out (node_tree first) [] project order db [] r)) (λ r. refl) shown)) in
+    let all : All keyed (map (out tree [] project by_places db []) shown) = All-from_recursion keyed _ (all-map keyed (out tree [] project by_places db []) shown (all_of (λ r. keyed (out tree [] project by_places db [] r)) (λ r. refl) shown)) in
     record {
-      same = subst (λ l. IsPermutation (map addressed_node l) rows) (every table) (selected_rows (node_tree first) [] project order db [] rows s);
+      same = subst (λ l. IsPermutation (map addressed_node l) rows) (every table) (selected_rows tree [] project by_places db [] rows s);
       sorted = subst (IsSorted by_place) (sym s.shown) (sorted_as by_place (key ∷ key ∷ []) place_of same_place s.ordered (All-permutation keyed _ _ s.same all) s.sorted);
     }
 
--- # Statements that have no meaning, and others
+nodes_given : (nodes labels : ℕ) (db : Trees) (rows : List Row) → IsProgramAnswer [] (nodes_program nodes labels).body db [] rows → AreNodes (named_rows (db labels) (db nodes)) rows
+nodes_given nodes labels db rows got =
+    let outs : Row → Output = λ r. (column r 1 ∷ column r 2 ∷ [], addressed_node r) in
+    let table = named_rows (db labels) (db nodes) in
+    let it = joined nodes labels (on_term ∷ []) nodes_terms by_places db [] (λ r. true) outs (λ r l. refl) (λ r l. refl) rows got in
+    let keyed : Output → Type 0 = λ o. o.0 ≡ place_of o.1 in
+    let shown = filter (λ (r : Row). true) table in
+    let all : All keyed (map outs shown) = All-from_recursion keyed _ (all-map keyed outs shown (all_of (λ r. keyed (outs r)) (λ r. refl) shown)) in
+    let moved = IsPermutation-map (λ (o : Output). o.1) _ _ it.same in
+    record {
+      same = subst₂ IsPermutation (map-map _ _ _ ∙ ap (map addressed_node) (every table)) (sym it.shown) moved;
+      sorted = subst (IsSorted by_place) (sym it.shown) (sorted_as by_place (key ∷ key ∷ []) place_of same_place it.ordered (All-permutation keyed _ _ it.same all) it.sorted);
+    }
 
-unread : (old new : State) (sql : List ℕ) (params : Row) (rows : List Row) → IsUnread (understood old.now.schema sql) → ¬ Shown sql params old new rows
-unfolding Shown
-unread old new sql params rows none h = subst IsUnread h.1.is none
+-- # Of each edition
 
-unread_under : (schema : Schema) (old new : State) (sql : List ℕ) (params : Row) (rows : List Row) → IsUnread (understood schema sql) → Shown sql params old new rows → old.now.schema ≢ schema
-unread_under schema old new sql params rows none h has = unread old new sql params rows (subst (λ s. IsUnread (understood s sql)) (sym has) none) h
+pub edition_plain : (schema : Schema) → HasLayout schema → IsPlain (understood schema edition_query)
+edition_plain schema (inl has) = (let place = which schema has in subst (λ s. IsPlain (understood s edition_query)) (sym place.1) (edition_is place.0).2)
+edition_plain schema (inr has) = (let place = old.which schema has in subst (λ s. IsPlain (understood s edition_query)) (sym place.1) (old_edition_is place.0).2)
 
-pub reads_edition : (old new : State) (rows : List Row) → Shown edition_query [] old new rows → ReadsEdition old.now rows
-reads_edition old new rows h = record {
-  some = λ lacks. elim lacks [
-    | inl has ↦ unread_under no_schema old new edition_query [] rows edition_unread h has
-    | inr has ↦ unread_under node_schema old new edition_query [] rows edition_missing h has
-  ];
-  rows = λ layout. elim layout [
-    | inl has ↦
-        let it = reads_as edition_query [] old new layout_schema has (Select (edition_program 0) edition_names) edition_alone.0 edition_alone_plain edition_alone.1 rows h in
-        edition_given (sym (layout_alone old.now has)) (edition_rows 0 old.now.trees rows it.answer)
-    | inr has ↦
-        let place = which old.now.schema has in
-        let first = place.0 in
-        let tree = layout_tree first in
-        let it = reads_as edition_query [] old new (schema_of first) place.1 (Select (edition_program tree) edition_names) (edition_found first).0 (edition_found_plain first) (edition_found first).1 rows h in
-        edition_given (sym (layout_lies first old.now place.1)) (edition_rows tree old.now.trees rows it.answer)
-  ];
-}
+pub reads_edition : (first second : State) (rows : List Row) → HasLayout first.now.schema → Shown edition_query [] first second rows → IsPermutation (map (λ r. column r 1 ∷ []) (layout_rows first.now)) rows
+reads_edition first second rows (inl has) h =
+    let place = which first.now.schema has in
+    let made = place.0 in
+    let is = edition_is made in
+    let it = reads_as edition_query [] first second (schema_of made) place.1 (edition_command (layout_tree made)) is.0 is.2 is.1 rows h in
+    subst (λ t. IsPermutation (map (λ r. column r 1 ∷ []) t) rows) (sym (layout_lies made first.now place.1)) (edition_rows (layout_tree made) first.now.trees rows it.answer)
+reads_edition first second rows (inr has) h =
+    let place = old.which first.now.schema has in
+    let made = place.0 in
+    let is = old_edition_is made in
+    let it = reads_as edition_query [] first second (old.schema_of made) place.1 (edition_command (old.layout_tree made)) is.0 is.2 is.1 rows h in
+    subst (λ t. IsPermutation (map (λ r. column r 1 ∷ []) t) rows) (sym (old.layout_lies made first.now place.1)) (edition_rows (old.layout_tree made) first.now.trees rows it.answer)
+
+module _ (first second : State) (rows : List Row) (has : IsOldSchema first.now.schema) where
+  pub reads_old_rowids : Shown old_rowids_query [] first second rows → IsPermutation (map (λ r. rowid r ∷ []) (node_rows first.now)) rows
+  reads_old_rowids h =
+      let place = old.which first.now.schema has in
+      let made = place.0 in
+      let is = old_rowids_are made in
+      let it = reads_as old_rowids_query [] first second (old.schema_of made) place.1 (ids_command (old.node_tree made) (codes "rowid" ∷ [])) is.0 is.2 is.1 rows h in
+      subst (λ t. IsPermutation (map (λ r. rowid r ∷ []) t) rows) (sym (old.nodes_lie made first.now place.1)) (ids_given (old.node_tree made) first.now.trees rows it.answer)
+
+  pub reads_old_nodes : Shown old_nodes_query [] first second rows → AreNodes (shown_rows first.now) rows
+  reads_old_nodes h =
+      let place = old.which first.now.schema has in
+      let made = place.0 in
+      let is = old_nodes_are made in
+      let it = reads_as old_nodes_query [] first second (old.schema_of made) place.1 (Select (old_nodes_program (old.node_tree made)) nodes_names) is.0 is.2 is.1 rows h in
+      subst (λ t. AreNodes t rows) (sym (old.shown_are first.now has ∙ old.nodes_lie made first.now place.1)) (old_nodes_given (old.node_tree made) first.now.trees rows it.answer)
+
+module _ (first second : State) (rows : List Row) (has : IsStoreSchema first.now.schema) where
+  pub reads_rowids : Shown rowids_query [] first second rows → IsPermutation (map (λ r. rowid r ∷ []) (node2_rows first.now)) rows
+  reads_rowids h =
+      let place = which first.now.schema has in
+      let made = place.0 in
+      let is = rowids_are made in
+      let it = reads_as rowids_query [] first second (schema_of made) place.1 (ids_command (node2_tree made) (codes "rowid" ∷ [])) is.0 is.2 is.1 rows h in
+      subst (λ t. IsPermutation (map (λ r. rowid r ∷ []) t) rows) (sym (nodes_lie made first.now place.1)) (ids_given (node2_tree made) first.now.trees rows it.answer)
+
+  pub reads_labels : Shown labels_query [] first second rows → IsPermutation (map (λ r. rowid r ∷ []) (label_rows first.now)) rows
+  reads_labels h =
+      let place = which first.now.schema has in
+      let made = place.0 in
+      let is = labels_are made in
+      let it = reads_as labels_query [] first second (schema_of made) place.1 (ids_command (label_tree made) (codes "id" ∷ [])) is.0 is.2 is.1 rows h in
+      subst (λ t. IsPermutation (map (λ r. rowid r ∷ []) t) rows) (sym (labels_lie made first.now place.1)) (ids_given (label_tree made) first.now.trees rows it.answer)
+
+  -- the labels that pass tests
+  module _ (text : List ℕ) (tests : List Term) (p : Row → Bool) (passes : (r : Row) → list_all (holds ([] ∷ r ∷ [])) tests ≡ p r)
+      (is : (made : Made) → (command_of (understood (schema_of made) text) ≡ some_command (label_tree made) tests) × (reads_listing (schema_of made) text ≡ false) × IsPlain (understood (schema_of made) text)) where
+    pub reads_some : Shown text [] first second rows → IsPermutation (map (λ r. rowid r ∷ []) (filter p (label_rows first.now))) rows
+    reads_some h =
+        let place = which first.now.schema has in
+        let made = place.0 in
+        let it = reads_as text [] first second (schema_of made) place.1 (some_command (label_tree made) tests) (is made).0 (is made).2 (is made).1 rows h in
+        subst (λ t. IsPermutation (map (λ r. rowid r ∷ []) (filter p t)) rows) (sym (labels_lie made first.now place.1)) (some_given (label_tree made) tests p passes first.now.trees rows it.answer)
+
+  pub reads_nodes : Shown nodes_query [] first second rows → AreNodes (shown_rows first.now) rows
+  reads_nodes h =
+      let place = which first.now.schema has in
+      let made = place.0 in
+      let is = nodes_are made in
+      let it = reads_as nodes_query [] first second (schema_of made) place.1 (Select (nodes_program (node2_tree made) (label_tree made)) nodes_names) is.0 is.2 is.1 rows h in
+      subst (λ t. AreNodes t rows) (sym (shown_lie made first.now place.1)) (nodes_given (node2_tree made) (label_tree made) first.now.trees rows it.answer)
+
+pub zero_passes : (r : Row) → list_all (holds ([] ∷ r ∷ [])) zero_tests ≡ has_zero r
+zero_passes r = ap (λ b. is_zero && b) (and_true _)
   where
-    edition_given : {table : List Row} → table ≡ layout_rows old.now → IsPermutation (map (λ r. column r 1 ∷ []) table) rows → IsPermutation (map (λ r. column r 1 ∷ []) (layout_rows old.now)) rows
-    edition_given is = subst (λ t. IsPermutation (map (λ r. column r 1 ∷ []) t) rows) is
+    is_zero : Bool
+    is_zero = holds ([] ∷ r ∷ []) (op2 (Compare Eq Binary) (col 1 0) (lit (Int (pos 0))))
 
-pub reads_rowids : (old new : State) (rows : List Row) → Shown rowids_query [] old new rows → ReadsRowids old.now rows
-reads_rowids old new rows h has =
-    let place = which old.now.schema has in
-    let first = place.0 in
-    let it = reads_as rowids_query [] old new (schema_of first) place.1 (Select (rowids_program (node_tree first)) rowids_names) (rowids_are first).0 (rowids_plain first) (rowids_are first).1 rows h in
-    subst (λ t. IsPermutation (map (λ r. rowid r ∷ []) t) rows) (sym (nodes_lie first old.now place.1)) (rowid_rows first old.now.trees rows it.answer)
+-- # Texts that are plain with the tables of each store
 
-pub reads_nodes : (old new : State) (rows : List Row) → Shown nodes_query [] old new rows → ReadsNodes old.now rows
-reads_nodes old new rows h has =
-    let place = which old.now.schema has in
-    let first = place.0 in
-    let it = reads_as nodes_query [] old new (schema_of first) place.1 (Select (nodes_program (node_tree first)) nodes_names) (nodes_are first).0 (nodes_plain first) (nodes_are first).1 rows h in
-    subst (λ t. AreNodes t rows) (sym (nodes_lie first old.now place.1)) (nodes_given first old.now.trees rows it.answer)
+pub select_for : (schema : Schema) → IsStoreSchema schema → IsSelect (understood schema nodes_query)
+select_for schema has = (let place = which schema has in subst (λ s. IsSelect (understood s nodes_query)) (sym place.1) (nodes_are place.0).3)
 
--- # Refusals
+pub old_plain_for : (text : List ℕ) → ((first : old.First) → IsPlain (understood (old.schema_of first) text)) → (schema : Schema) → IsOldSchema schema → IsPlain (understood schema text)
+old_plain_for text is schema has = (let place = old.which schema has in subst (λ s. IsPlain (understood s text)) (sym place.1) (is place.0))
+
+pub old_select_for : (schema : Schema) → IsOldSchema schema → IsSelect (understood schema old_nodes_query)
+old_select_for schema has = (let place = old.which schema has in subst (λ s. IsSelect (understood s old_nodes_query)) (sym place.1) (old_nodes_are place.0).3)
+
+-- what is ready was so before
+pub was_ready : {S : Type 0} (g : Ghosts S) (old new : Held S) → StaysOutside g old new → IsReady (state g new) → IsReady (state g old)
+was_ready g old new it up = (omega (arith, it.clean, up.0), it.was_open up)
+
+-- # Results
 
 pub each_ok : {A E : Type 0} (P Q : A → Type 0) (r : Result A E) → ((x : A) → P x → Q x) → IfOk r P → IfOk r Q
 each_ok P Q (Ok x) f h = f x h
 each_ok P Q (Err e) f h = tt
+
+pub each_some : {A : Type 0} (P Q : A → Type 0) (o : Option A) → ((x : A) → P x → Q x) → IfSome o P → IfSome o Q
+each_some P Q (Some x) f h = f x h
+each_some P Q None f h = tt
 
 pub each_err : {A E : Type 0} (P Q : E → Type 0) (r : Result A E) → ((e : E) → P e → Q e) → IfErr r P → IfErr r Q
 each_err P Q (Ok x) f h = tt
@@ -238,58 +356,3 @@ on_ok P Q (Err e) f h = tt
 pub any_ok : {A E : Type 0} (P : Type 0) (r : Result A E) → P → OnOk r P
 any_ok P (Ok x) h = h
 any_ok P (Err e) h = tt
-
--- a refusal of the store itself is a want
-pub store_told : (cause : StoreError) → fault_of (store_error cause) ≢ NotAStore
-store_told OutOfMemory e = absurd cc
-store_told Io e = absurd cc
-store_told Corrupt e = absurd cc
-store_told Full e = absurd cc
-store_told Broken e = absurd cc
-store_told Unstorable e = absurd cc
-
-module _ (old new : State) (sql : List ℕ) (e : Error) (n : fault_of e ≡ NotAStore) where
-  not_this : (f : Error) → e ≡ f → fault_of f ≡ NotAStore
-  not_this f same = sym (ap fault_of same) ∙ n
-
-  -- a query that has a meaning is refused by a want
-  module _ (schema : Schema) (q : Program) (names : List (List ℕ)) (has : old.now.schema ≡ schema) (is : command_of (understood schema sql) ≡ Select q names) (plain : IsPlain (understood schema sql)) where
-    known : IsPlain (understood old.now.schema sql)
-    known = subst (λ s. IsPlain (understood s sql)) (sym has) plain
-
-    refused : (limit : Option ℕ) (db : Database) (params : Row) → ¬ RefusesQuery limit db q params e
-    refused limit db params (inl h) = let f = not_this _ h.0 in absurd cc
-    refused limit db params (inr (inl h)) = let f = not_this _ h.0 in absurd cc
-    refused limit db params (inr (inr h)) = let f = not_this _ h.0 in absurd cc
-
-    pub query_told : ¬ FailsToQuery sql [] old new e
-    unfolding FailsToQuery IsNotRun
-    query_told (inl (inl (inl h, same))) = subst IsPlain h.1 known
-    query_told (inl (inl (inr (c, is, inl h), same))) = let f = not_this _ h.1 in absurd cc
-    query_told (inl (inl (inr (c, is, inr (inl h)), same))) = let f = not_this _ h.1 in absurd cc
-    query_told (inl (inl (inr (c, is, inr (inr h)), same))) = let f = not_this _ h.1 in absurd cc
-    query_told (inl (inr h)) = store_told h.0 (not_this _ h.1)
-    query_told (inr (c, it, h)) =
-        let bare = subst IsPlain it.is known in
-        let given = timed [] c.formats it.now in
-        let shown = subst (FailsToShow old new sql c given e) bare.0 h in
-        let command : c.command ≡ Select q names = ap command_of (sym it.is) ∙ ap (λ s. command_of (understood s sql)) has ∙ is in
-        refused old.step_limit shown.0 given (subst (λ k. RefusesToRead old.step_limit k shown.0 given e) command shown.2)
-
--- a query that has a meaning under the two tables
-pub placed_told : (old new : State) (sql : List ℕ) (e : Error) → fault_of e ≡ NotAStore → (tree : First → ℕ) (q : ℕ → Program) (names : List (List ℕ))
-    → ((first : First) → (command_of (understood (schema_of first) sql) ≡ Select (q (tree first)) names) × (reads_listing (schema_of first) sql ≡ false))
-    → ((first : First) → IsPlain (understood (schema_of first) sql)) → IsStoreSchema old.now.schema → ¬ FailsToQuery sql [] old new e
-placed_told old new sql e n tree q names are plain has =
-    let place = which old.now.schema has in
-    let first = place.0 in
-    query_told old new sql e n (schema_of first) (q (tree first)) names place.1 (are first).0 (plain first)
-
--- the edition cannot be read
-pub nothing_read : (old new : State) (e : Error) → FailsToQuery edition_query [] old new e → IsInputError e → ¬ HasLayout old.now
-nothing_read old new e h input layout =
-    let n : fault_of e ≡ NotAStore = ap fault_of input.1 in
-    elim layout [
-      | inl has ↦ query_told old new edition_query e n layout_schema (edition_program 0) edition_names has edition_alone.0 edition_alone_plain h
-      | inr has ↦ placed_told old new edition_query e n layout_tree edition_program edition_names edition_found edition_found_plain has h
-    ]

@@ -27,10 +27,13 @@ use Rattle.xq_atoms.specs.Address.{IsAddress}
 use Rattle.xq_regions.specs.Rows.{rows as rows_of, placed_rows}
 use Rattle.xq_rows.specs.Nodes.{cells, bytes_in}
 use Rattle.xq_rows.specs.private.Columns.{node_of}
-use Rattle.xq_rows.specs.Documents.{AreApart, HaveInts, HasAddress, is_at, rows_at, by_first, IsIntact, IsStore}
-use Rattle.xq_rows.specs.private.Adopt.{addressed_node, is_under, HasOwner, by_place, IsCut, AreJudged, IsRun, nodes_under, AreDocumentRuns, ReadsEdition, SeesEdition, HasLayout, IsPast, AreNodes, SeesDocuments, IsAdopted, IsNoStore}
-use Rattle.xq_rows.specs.private.Statements.{MakesStore}
-use Rattle.xq_rows.specs.Tables.{no_schema, node_rows, layout_rows}
+use Rattle.xq_rows.specs.Documents.{AreApart, HaveInts, HasAddress, is_at, rows_at, by_first, IsIntact, IsOldStore, IsStore}
+use Rattle.xq_rows.specs.private.Adopt.{addressed_node, is_under, HasOwner, by_place, IsCut, AreJudged, IsRun, nodes_under, AreDocumentRuns, IsEdition, IsPast, AreNodes, IsAdopted, IsNoStore}
+use Rattle.sqlite.specs.Schema.{Schema}
+use Rattle.xq_rows.specs.Labels.{IsStoreSchema}
+use Rattle.xq_rows.specs.private.Carries.{HasCarried}
+use Rattle.xq_rows.specs.private.Statements.{IsEmptyStore}
+use Rattle.xq_rows.specs.Tables.{layout_rows, no_schema, IsOldSchema}
 use Rattle.xq_rows.proofs.Lists.{tied}
 use Rattle.xq_rows.proofs.Maps.{text_is, same_address}
 use Rattle.xq_rows.proofs.Orders.{first_total, numbers_rise, sorted_from}
@@ -57,7 +60,7 @@ all_passed p (x ∷ xs) = go (p x) refl (all_passed p xs)
     go true e more = (e, more)
     go false e more = more
 
-none_passed : {X : Type 0} (p : X → Bool) (xs : List X) → length (filter p xs) ≡ 0 → AllByRecursion (λ x. p x ≡ false) xs
+pub none_passed : {X : Type 0} (p : X → Bool) (xs : List X) → length (filter p xs) ≡ 0 → AllByRecursion (λ x. p x ≡ false) xs
 none_passed p [] h = tt
 none_passed p (x ∷ xs) h = go (p x) refl h (none_passed p xs)
   where
@@ -65,7 +68,7 @@ none_passed p (x ∷ xs) h = go (p x) refl h (none_passed p xs)
     go true e h more = absurd (omega (arith, h))
     go false e h more = (e, more h)
 
-no_length : {X : Type 0} (xs : List X) → length xs ≡ 0 → xs ≡ []
+pub no_length : {X : Type 0} (xs : List X) → length xs ≡ 0 → xs ≡ []
 no_length [] h = refl
 no_length (x ∷ xs) h = absurd (omega (arith, h))
 
@@ -75,28 +78,19 @@ editions_moved : (table rows : List Row) → IsPermutation (map (λ r. column r 
 editions_moved table rows same =
     subst (λ l. IsPermutation l (map (λ r. column r 0) rows)) (map-map (λ r. column r 0) (λ r. column r 1 ∷ []) table) (IsPermutation-map (λ r. column r 0) _ _ same)
 
-pub edition_seen : (db : Database) (rows : List Row) → ReadsEdition db rows → map (λ r. column r 0) rows ≡ Int (pos 1) ∷ [] → SeesEdition db
-edition_seen db rows it one = record {
-  some = it.some;
-  first = λ layout.
-      let moved = editions_moved (layout_rows db) rows (it.rows layout) in
-      one_permutation (Int (pos 1)) _ (IsPermutation-sym _ _ (subst (IsPermutation (map (λ r. column r 1) (layout_rows db))) one moved));
-}
+module _ (db : Database) (rows : List Row) (edition : ℤ) (same : IsPermutation (map (λ r. column r 1 ∷ []) (layout_rows db)) rows) where
+  pub edition_seen : map (λ r. column r 0) rows ≡ Int edition ∷ [] → IsEdition db edition
+  edition_seen one = one_permutation (Int edition) _ (IsPermutation-sym _ _ (subst (IsPermutation (map (λ r. column r 1) (layout_rows db))) one (editions_moved (layout_rows db) rows same)))
 
-pub no_edition : (db : Database) (rows : List Row) → ReadsEdition db rows → ¬ (map (λ r. column r 0) rows ≡ Int (pos 1) ∷ []) → IsNoStore db
-no_edition db rows it other = record {
-  some = λ has. it.some (inl has);
-  none = λ store.
-      let moved = editions_moved (layout_rows db) rows (it.rows (inr store.sound.schema)) in
-      other (one_permutation (Int (pos 1)) _ (subst (λ l. IsPermutation l (map (λ r. column r 0) rows)) store.layout moved));
-}
+  pub edition_shown : IsEdition db edition → map (λ r. column r 0) rows ≡ Int edition ∷ []
+  edition_shown one = one_permutation (Int edition) _ (subst (λ l. IsPermutation l (map (λ r. column r 0) rows)) one (editions_moved (layout_rows db) rows same))
 
 -- # Rowids
 
-abbrev has_id : Value → Row → Bool
+abbrev pub has_id : Value → Row → Bool
 has_id v r = is_eq (value_cmp (rowid r) v)
 
-turned_eq : (o : Ordering) → is_eq (ordering_reverse o) ≡ is_eq o
+pub turned_eq : (o : Ordering) → is_eq (ordering_reverse o) ≡ is_eq o
 turned_eq Less = refl
 turned_eq Equal = refl
 turned_eq Greater = refl
@@ -110,7 +104,7 @@ other_id x y v same apart = go (is_eq (value_cmp y v)) refl
         let here : value_cmp x y ≡ value_cmp x v = alike_right value_cmp_total y v x (tied _ e) in
         let f = sym apart ∙ ap is_eq here ∙ same in cc)
 
-once : (rows : List Row) → AreApart rows → (v : Value) → length (filter (has_id v) rows) ≤ 1
+pub once : (rows : List Row) → AreApart rows → (v : Value) → length (filter (has_id v) rows) ≤ 1
 once [] up v = omega arith
 once (r ∷ rs) up v = go (has_id v r) refl (once rs up.1 v)
   where
@@ -146,12 +140,12 @@ apart_shown : (rows : List Row) → AreApart (map (λ r. rowid r ∷ []) rows) �
 apart_shown [] up = tt
 apart_shown (r ∷ rs) up = (all_unmap (λ y. is_eq (value_cmp (rowid r) (rowid y)) ≡ false) (λ r. rowid r ∷ []) rs up.0, apart_shown rs up.1)
 
-module _ (db : Database) (rows : List Row) (same : IsPermutation (map (λ r. rowid r ∷ []) (node_rows db)) rows) where
-  pub apart_seen : AreApart rows → AreApart (node_rows db)
-  apart_seen up = apart_shown (node_rows db) (apart_moved rows _ (IsPermutation-sym _ _ same) up)
+module _ (table rows : List Row) (same : IsPermutation (map (λ r. rowid r ∷ []) table) rows) where
+  pub apart_seen : AreApart rows → AreApart table
+  apart_seen up = apart_shown table (apart_moved rows _ (IsPermutation-sym _ _ same) up)
 
-  pub ints_seen : HaveInts rows → HaveInts (node_rows db)
-  ints_seen ints = all_unmap (λ r. IsTrue (is_int (rowid r))) (λ r. rowid r ∷ []) (node_rows db) (all_moved (λ r. IsTrue (is_int (rowid r))) rows _ (IsPermutation-sym _ _ same) ints)
+  pub ints_seen : HaveInts rows → HaveInts table
+  ints_seen ints = all_unmap (λ r. IsTrue (is_int (rowid r))) (λ r. rowid r ∷ []) table (all_moved (λ r. IsTrue (is_int (rowid r))) rows _ (IsPermutation-sym _ _ same) ints)
 
 -- each rowid is at most the last one
 abbrev pub AreUpTo : Option ℤ → List Row → Type 0
@@ -478,21 +472,53 @@ module _ (table rows : List Row) (are : AreNodes table rows) where
 
 -- # The whole adoption
 
-pub adopted_found : (old new : Database) → SeesEdition old → SeesDocuments old → new ≡ old → IsAdopted old new
-adopted_found old new edition (ids, nodes) same = record {
-  made = λ has. absurd (edition.some (inl has));
-  found = λ has. (same, record { sound = record { schema = has; apart = ids.apart has; ints = ids.ints has }; layout = edition.first (inr has); named = nodes.named has; whole = nodes.whole has });
-}
+apart_schemas : (schema : Schema) → IsStoreSchema schema → schema ≢ no_schema
+apart_schemas schema (inl is) e = absurd (let f = ap (λ (s : Schema). length s.tables) (sym is ∙ e) in omega (arith, f))
+apart_schemas schema (inr (inl is)) e = absurd (let f = ap (λ (s : Schema). length s.tables) (sym is ∙ e) in omega (arith, f))
+apart_schemas schema (inr (inr is)) e = absurd (let f = ap (λ (s : Schema). length s.tables) (sym is ∙ e) in omega (arith, f))
 
-pub adopted_made : (old new : Database) → ¬ HasLayout old → MakesStore old new → IsAdopted old new
-adopted_made old new nothing made = record {
-  made = made.made;
-  found = λ has. absurd (nothing (inr has));
-}
+apart_old : (schema : Schema) → IsOldSchema schema → schema ≢ no_schema
+apart_old schema (inl is) e = absurd (let f = ap (λ (s : Schema). length s.tables) (sym is ∙ e) in omega (arith, f))
+apart_old schema (inr is) e = absurd (let f = ap (λ (s : Schema). length s.tables) (sym is ∙ e) in omega (arith, f))
+
+-- how many tables there are, of each edition
+many : (schema : Schema) → IsStoreSchema schema → 2 < length schema.tables
+many schema (inl is) = (let f = ap (λ (s : Schema). length s.tables) is in omega (arith, f))
+many schema (inr (inl is)) = (let f = ap (λ (s : Schema). length s.tables) is in omega (arith, f))
+many schema (inr (inr is)) = (let f = ap (λ (s : Schema). length s.tables) is in omega (arith, f))
+
+few : (schema : Schema) → IsOldSchema schema → length schema.tables ≡ 2
+few schema (inl is) = ap (λ (s : Schema). length s.tables) is
+few schema (inr is) = ap (λ (s : Schema). length s.tables) is
+
+neither : (schema : Schema) → IsStoreSchema schema → ¬ IsOldSchema schema
+neither schema store old = (let m = many schema store in let f = few schema old in omega (arith, m, f))
+
+module _ (old new : Database) where
+  pub adopted_made : old.schema ≡ no_schema → IsEmptyStore new → IsAdopted old new
+  adopted_made blank made = record {
+    made = λ _. made;
+    found = λ has. absurd (apart_schemas old.schema has blank);
+    carried = λ has. absurd (apart_old old.schema has blank);
+  }
+
+  pub adopted_found : IsStoreSchema old.schema → new ≡ old → IsStore old → IsAdopted old new
+  adopted_found store same is = record {
+    made = λ blank. absurd (apart_schemas old.schema store blank);
+    found = λ _. (same, is);
+    carried = λ has. absurd (neither old.schema store has);
+  }
+
+  pub adopted_carried : IsOldSchema old.schema → HasCarried old new → IsAdopted old new
+  adopted_carried has it = record {
+    made = λ blank. absurd (apart_old old.schema has blank);
+    found = λ store. absurd (neither old.schema store has);
+    carried = λ _. it;
+  }
 
 -- tables that hold no documents
-pub refused_found : (db : Database) → SeesEdition db → ¬ IsStore db → IsNoStore db
-refused_found db edition bad = record { some = λ has. edition.some (inl has); none = bad }
+pub refused_found : (db : Database) → IsStoreSchema db.schema → ¬ IsStore db → IsNoStore db
+refused_found db has bad = record { some = apart_schemas db.schema has; none = bad; old = λ old. neither db.schema has old.schema }
 
-pub refused_made : (db : Database) → ¬ HasLayout db → db.schema ≢ no_schema → IsNoStore db
-refused_made db nothing some = record { some = some; none = λ store. nothing (inr store.sound.schema) }
+pub refused_old : (db : Database) → IsOldSchema db.schema → ¬ IsOldStore db → IsNoStore db
+refused_old db has bad = record { some = apart_old db.schema has; none = λ store. neither db.schema store.sound.schema has; old = bad }

@@ -14,7 +14,7 @@ use Rattle.xq_regions.specs.declared.Kind.TheVariants.{Document}
 use Rattle.xq_rows.specs.Nodes.{cells}
 use Rattle.xq_rows.specs.Documents.{Map, IsReady, IsClean, IsOpen, StandsFor, documents_in, is_at, IsStore}
 use Rattle.xq_rows.specs.private.Statements.{IsEmptyStore, AreAbove, AreAddresses, Deletes, Finds, IsRange, Puts}
-use Rattle.xq_rows.specs.Tables.{shown_rows, IsStoreSchema}
+use Rattle.xq_rows.specs.Labels.{shown_rows, IsStoreSchema}
 use Rattle.sqlite_value.specs.declared.value.Value.TheVariants.{Text}
 use Rattle.xq_rows.proofs.Loads.{most, found_is}
 use Rattle.xq_rows.proofs.Keys.{keys_are}

@@ -1,5 +1,5 @@
 -- What DELETE does to the table `node`.
-use Rattle.std.proofs.Common.{◌≡◌, ◌≢◌, slice_get, pos, ◌⊎◌, inl, inr, ℕ, None, Some, Ok, Err, Result, List, [], ◌∷◌, map, filter, length, Bool, true, false, not, refl, sym, ap, subst, ◌∙◌}
+use Rattle.std.proofs.Common.{◌≡◌, ◌≢◌, slice_get, pos, ◌⊎◌, inl, inr, ℕ, None, Some, Ok, Err, Result, List, [], ◌∷◌, map, filter, length, Bool, true, false, not, refl, sym, ap, ap₂, subst, subst₂, ◌∙◌}
 use Rattle.std.specs.List.Sorted.{IsPermutation}
 use Rattle.sqlite_value.specs.Order.{Row, column}
 use Rattle.sqlite_value.specs.declared.value.Value.TheVariants.{Text, Int}
@@ -14,7 +14,7 @@ use Rattle.sqlite.specs.Table.{Table}
 use Rattle.sqlite_sql.specs.Term.{Term, col, holds}
 use Rattle.sqlite_keyed.specs.Lists.{delete_where}
 use Rattle.sqlite_trees.proofs.ListLemmas.{ascending-filter, all-filter}
-use Rattle.xq_rows.specs.Documents.{is_at, AreApart, HaveInts}
+use Rattle.xq_rows.specs.Documents.{is_at, AreApart, AreLabels, HaveInts}
 use Rattle.xq_rows.proofs.Selects.{selected, selected_rows, equals_text, and_true, part_test}
 use Rattle.xq_rows.proofs.Lists.{same_test}
 use Rattle.sqlite.specs.Command.TheVariants.{Delete}
@@ -31,10 +31,13 @@ use Rattle.sqlite.specs.State.{State, mode_of, Executes, ExecutesInside}
 use Rattle.sqlite.specs.declared.error.Error.{Error}
 use Rattle.std.proofs.Common.{IfOk, IsTrue}
 use Rattle.sqlite.proofs.Callers.{IsPlain, command_of, statement_of, runs_as, one_step}
-use Rattle.xq_rows.specs.Tables.{IsStoreSchema, node_rows}
-use Rattle.xq_rows.proofs.Places.{First, schema_of, node_tree, node_place, node_table_of, node_there, which, nodes_lie, layout_lies, no_works, layout_stays, on_table}
+use Rattle.xq_rows.specs.Labels.{label_rows, named, named_rows, node2_rows, HasLabel, IsStoreSchema}
+use Rattle.xq_rows.proofs.Places.{on_table}
 use Rattle.xq_rows.specs.private.Statements.{Deletes, Drops, is_part}
-use Rattle.xq_rows.proofs.Texts.{body, term1, delete_text, delete_program, delete_is, delete_plain, part_text, part_tests, part_is, part_plain}
+use Rattle.xq_rows.proofs.LabelPlaces.{Made, schema_of, label_not_node2, labels_lie, labels_stay, layout_lies, layout_not_node2, layout_stays, no_works, node2_place, node2_table_of, node2_there, node2_tree, nodes_lie, shown_are, which}
+use Rattle.xq_rows.proofs.LabelTexts.{delete2_is, delete2_plain, delete2_text, part2_is, part2_plain, part2_text}
+use Rattle.xq_rows.proofs.Named.{named_count, named_deleted}
+use Rattle.xq_rows.proofs.Texts.{body, term1, delete_program, part_tests}
 use Rattle.xq_rows.proofs.Lists.{takes_out}
 
 -- a part that gave a value did not stop on the way
@@ -106,40 +109,47 @@ inside text params gone old new e (Ok count) does ended runs = go old.in_transac
         record { inside = ran.1; did = does count ran.0 }
     go false outside = absurd (let e = ended outside in cc)
 
--- of the nodes go those that pass
-module _ (text : List ℕ) (tests : List Term) (params : Row) (gone : Row → Bool) (passes : (r : Row) → list_all (holds (params ∷ r ∷ [])) tests ≡ gone r)
-    (is : (first : First) → command_of (understood (schema_of first) text) ≡ Delete (node_place first) (delete_program (node_tree first) tests)) (plain : (first : First) → IsPlain (understood (schema_of first) text)) where
+-- of the nodes go those that pass a test that reads neither label nor name
+module _ (text : List ℕ) (tests : List Term) (params : Row) (gone : Row → Bool) (passes : (r : Row) → list_all (holds (params ∷ r ∷ [])) tests ≡ gone r) (reads : (r l : Row) → gone (named r l) ≡ gone r)
+    (is : (made : Made) → command_of (understood (schema_of made) text) ≡ Delete (node2_place made) (delete_program (node2_tree made) tests)) (plain : (made : Made) → IsPlain (understood (schema_of made) text)) where
   deletes : (old new : State) (count : ℕ) → Executes text params old new (Ok count) → Deletes gone old.now new.now count
   deletes old new count h sound =
       let place = which old.now.schema sound.schema in
-      let first = place.0 in
-      let nodes = nodes_lie first old.now place.1 in
-      let it = deletes_in (schema_of first) (node_place first) (node_table_of first) (node_there first) (no_works first) text tests params gone passes (is first) (plain first) old new count place.1 (subst AreApart nodes sound.apart) (subst HaveInts nodes sound.ints) h in
+      let made = place.0 in
+      let tree = node2_tree made in
+      let nodes = nodes_lie made old.now place.1 in
+      let it = deletes_in (schema_of made) (node2_place made) (node2_table_of made) (node2_there made) (no_works made tree) text tests params gone passes (is made) (plain made) old new count place.1 (subst AreApart nodes sound.apart) (subst HaveInts nodes sound.ints) h in
       let still = it.schema ∙ place.1 in
-      let left : node_rows new.now ≡ delete_where gone (node_rows old.now) = nodes_lie first new.now still ∙ it.rows ∙ sym (ap (delete_where gone) nodes) in (
+      let has = subst IsStoreSchema (sym it.schema) sound.schema in
+      let left : node2_rows new.now ≡ delete_where gone (node2_rows old.now) = nodes_lie made new.now still ∙ it.rows ∙ sym (ap (delete_where gone) nodes) in
+      let labels : label_rows new.now ≡ label_rows old.now = labels_lie made new.now still ∙ labels_stay tree old.now.trees new.now.trees made it.others (label_not_node2 made) ∙ sym (labels_lie made old.now place.1) in
+      let shown = shown_are old.now sound.schema in (
         record {
           sound = record {
-            schema = subst IsStoreSchema (sym it.schema) sound.schema;
-            apart = subst AreApart (sym left) (ascending-filter _ (λ r. not (gone r)) (node_rows old.now) sound.apart);
-            ints = subst HaveInts (sym left) (all-filter _ (λ r. not (gone r)) (node_rows old.now) sound.ints);
+            schema = has;
+            labels = subst AreLabels (sym labels) sound.labels;
+            held = subst₂ (λ ls ns. AllByRecursion (HasLabel ls) ns) (sym labels) (sym left) (all-filter (HasLabel (label_rows old.now)) (λ r. not (gone r)) (node2_rows old.now) sound.held);
+            apart = subst AreApart (sym left) (ascending-filter _ (λ r. not (gone r)) (node2_rows old.now) sound.apart);
+            ints = subst HaveInts (sym left) (all-filter _ (λ r. not (gone r)) (node2_rows old.now) sound.ints);
           };
-          layout = layout_lies first new.now still ∙ layout_stays first old.now.trees new.now.trees it.others ∙ sym (layout_lies first old.now place.1);
-          rows = left;
+          layout = layout_lies made new.now still ∙ layout_stays tree old.now.trees new.now.trees made it.others (layout_not_node2 made) ∙ sym (layout_lies made old.now place.1);
+          labels = labels;
+          rows = shown_are new.now has ∙ ap₂ named_rows labels left ∙ sym (named_deleted gone reads (label_rows old.now) (node2_rows old.now)) ∙ ap (delete_where gone) (sym shown);
         },
-        it.counted ∙ sym (ap (λ l. length (filter gone l)) nodes),
+        it.counted ∙ sym (ap (λ l. length (filter gone l)) nodes) ∙ sym (named_count gone reads (label_rows old.now) (node2_rows old.now) sound.held) ∙ sym (ap (λ l. length (filter gone l)) shown),
       )
 
 -- the rows of an address go
 pub dropped_inside : (old new : State) (address : List ℕ) (e : Error) (r : Result ℕ Error) → (old.in_transaction ≡ false → r ≡ Err e)
-    → (IsTrue old.in_transaction → ExecutesInside 0 delete_text (Text address ∷ []) old new r) → IfOk r (Drops (is_at address) old new)
-dropped_inside old new address e r = inside delete_text (Text address ∷ []) (is_at address) old new e r (deletes delete_text (term1 ∷ []) (Text address ∷ []) (is_at address) passes delete_is delete_plain old new)
+    → (IsTrue old.in_transaction → ExecutesInside 0 delete2_text (Text address ∷ []) old new r) → IfOk r (Drops (is_at address) old new)
+dropped_inside old new address e r = inside delete2_text (Text address ∷ []) (is_at address) old new e r (deletes delete2_text (term1 ∷ []) (Text address ∷ []) (is_at address) passes (λ r l. refl) delete2_is delete2_plain old new)
   where
     passes : (r : Row) → list_all (holds ((Text address ∷ []) ∷ r ∷ [])) (term1 ∷ []) ≡ is_at address r
     passes r = and_true _ ∙ equals_text (column r 1) address
 
 -- those of its rows go whose numbers lie between two
 pub part_inside : (old new : State) (address : List ℕ) (low high : ℕ) (e : Error) (r : Result ℕ Error) → (old.in_transaction ≡ false → r ≡ Err e)
-    → (IsTrue old.in_transaction → ExecutesInside 0 part_text (Text address ∷ Int (pos low) ∷ Int (pos high) ∷ []) old new r) → IfOk r (Drops (is_part address low high) old new)
+    → (IsTrue old.in_transaction → ExecutesInside 0 part2_text (Text address ∷ Int (pos low) ∷ Int (pos high) ∷ []) old new r) → IfOk r (Drops (is_part address low high) old new)
 part_inside old new address low high e r =
     let params = Text address ∷ Int (pos low) ∷ Int (pos high) ∷ [] in
-    inside part_text params (is_part address low high) old new e r (deletes part_text part_tests params (is_part address low high) (part_test address low high) part_is part_plain old new)
+    inside part2_text params (is_part address low high) old new e r (deletes part2_text part_tests params (is_part address low high) (part_test address low high) (λ r l. refl) part2_is part2_plain old new)

@@ -7,8 +7,8 @@ use Rattle.sqlite.specs.Held.{Held, state}
 use Rattle.sqlite.specs.State.{HasCleanDisk}
 use Rattle.xq_regions.specs.Tree.{Tree, IsDocument}
 use Rattle.xq_rows.specs.declared.shelves.Shelf.{Shelf}
-use Rattle.xq_rows.specs.Documents.{IsReady, IsClean, IsOpen, IsUp, IsStore, HoldsDocuments, Map, StandsFor, documents_in, is_at, tree_at}
-use Rattle.xq_rows.specs.Tables.{shown_rows, IsStoreSchema}
+use Rattle.xq_rows.specs.Documents.{IsReady, IsClean, IsOpen, IsUp, IsStore, Map, StandsFor, documents_in, is_at, tree_at}
+use Rattle.xq_rows.specs.Labels.{shown_rows, IsStoreSchema}
 use Rattle.xq_rows.specs.Views.{Beginning, HeldDocuments, StoodFor, Viewed, beginning, trees_under}
 use Rattle.xq_rows.specs.private.Keeps.{AreOf, IsKeeping, IsKept, Keeps, KeepsShelf, LeavesAlone, StaysOutside}
 use Rattle.xq_rows.specs.declared.shelves.Front.{Front}
@@ -162,13 +162,13 @@ module _ {S : Type 0} (g : Ghosts S) where
   -- # What is taken
 
   -- the store stands for the documents that its tables hold
-  pub held_stands : (store : Held S) → HoldsDocuments g store → StandsFor g store (documents_in (shown_rows (state g store).now))
-  unfolding HoldsDocuments StandsFor
+  pub held_stands : (store : Held S) → IsStore (state g store).now → StandsFor g store (documents_in (shown_rows (state g store).now))
+  unfolding StandsFor
   held_stands store holds opened = (holds, refl)
 
   module _ (conn old new : Held S) (is : conn ≡ old) (stays : StaysOutside g conn new) (before : Option Shelf) (keeping : IsKeeping g conn before) where
-    pub taken : (shelf : Shelf) → KeepsShelf g conn shelf → (HasCleanDisk (state g new) → IsTrue (state g new).is_open) → IsClean g new → HoldsDocuments g old → AreOf (state g old).now shelf.addresses.value shelf.fronts.items
-    unfolding IsClean HoldsDocuments
+    pub taken : (shelf : Shelf) → KeepsShelf g conn shelf → (HasCleanDisk (state g new) → IsTrue (state g new).is_open) → IsClean g new → IsStore (state g old).now → AreOf (state g old).now shelf.addresses.value shelf.fronts.items
+    unfolding IsClean
     taken shelf kept ends now holds = subst (λ (h : Held S). AreOf (state g h).now shelf.addresses.value shelf.fronts.items) is (kept (early conn new stays before keeping (now, ends now)))
 
     pub taken_own : IsUp g new → IsStoreSchema (state g old).now.schema
@@ -177,14 +177,14 @@ module _ {S : Type 0} (g : Ghosts S) where
 
   -- the addresses were listed
   pub taken_anew : {E : Type 0} (conn old new : Held S) → conn ≡ old → (r : Result Shelf E) → (IsReady (state g new) → IsStore (state g conn).now → IfOk r (λ shelf. AreOf (state g conn).now shelf.addresses.value shelf.fronts.items))
-      → (HasCleanDisk (state g new) → OnOk r (IsTrue (state g new).is_open)) → IsClean g new → HoldsDocuments g old → IfOk r (λ shelf. AreOf (state g old).now shelf.addresses.value shelf.fronts.items)
-  unfolding IsClean HoldsDocuments
+      → (HasCleanDisk (state g new) → OnOk r (IsTrue (state g new).is_open)) → IsClean g new → IsStore (state g old).now → IfOk r (λ shelf. AreOf (state g old).now shelf.addresses.value shelf.fronts.items)
+  unfolding IsClean
   taken_anew conn old new is (Err e) of ends now holds = tt
   taken_anew conn old new is (Ok shelf) of ends now holds = subst (λ (h : Held S). IsStore (state g h).now → AreOf (state g h).now shelf.addresses.value shelf.fronts.items) is (of (now, ends now)) holds
 
   -- what was taken may be kept
-  pub taken_kept : (old new : Held S) → LeavesAlone g old new → (shelf : Shelf) → (IsClean g new → HoldsDocuments g old → AreOf (state g old).now shelf.addresses.value shelf.fronts.items) → (IsUp g new → IsStoreSchema (state g old).now.schema) → IsKept g new shelf
-  unfolding IsClean HoldsDocuments IsUp
+  pub taken_kept : (old new : Held S) → LeavesAlone g old new → (shelf : Shelf) → (IsClean g new → IsStore (state g old).now → AreOf (state g old).now shelf.addresses.value shelf.fronts.items) → (IsUp g new → IsStoreSchema (state g old).now.schema) → IsKept g new shelf
+  unfolding IsClean IsUp
   taken_kept old new alone shelf of own = record {
     holds = λ ready is. (
         let e = alone.same ready (own ready) in
@@ -192,9 +192,9 @@ module _ {S : Type 0} (g : Ghosts S) where
   }
 
   -- they are the addresses of the map
-  pub listed_keys : (old new : Held S) → LeavesAlone g old new → (IsClean g new → IsOpen g new) → (addresses : List (List ℕ)) → (fronts : List Front) → (IsClean g new → HoldsDocuments g old → AreOf (state g old).now addresses fronts)
+  pub listed_keys : (old new : Held S) → LeavesAlone g old new → (IsClean g new → IsOpen g new) → (addresses : List (List ℕ)) → (fronts : List Front) → (IsClean g new → IsStore (state g old).now → AreOf (state g old).now addresses fronts)
       → IsClean g new → (m : Map) → StandsFor g old m → addresses ≡ keys m
-  unfolding StandsFor IsOpen HoldsDocuments IsClean
+  unfolding StandsFor IsOpen IsClean
   listed_keys old new alone answered addresses fronts of clean m stands =
       let held = stands (alone.was_open (clean, answered clean)) in
       (of clean held.0).listed ∙ ap keys held.1
@@ -202,16 +202,16 @@ module _ {S : Type 0} (g : Ghosts S) where
   -- # A view
 
   module _ (b : Beginning) (old new : Held S) (same : beginning g old ≡ b) (alone : LeavesAlone g old new) (answered : IsClean g new → IsOpen g new) (shelf : Shelf)
-      (of : IsClean g new → HoldsDocuments g old → AreOf (state g old).now shelf.addresses.value shelf.fronts.items) where
+      (of : IsClean g new → IsStore (state g old).now → AreOf (state g old).now shelf.addresses.value shelf.fronts.items) where
     pub opened_before : IsClean g new → IsOpen g old
     opened_before clean = alone_open old new alone clean (answered clean)
 
     pub all_named : IsClean g new → (m : Map) → StandsFor g old m → shelf.addresses.value ≡ keys m
-    unfolding StandsFor IsOpen HoldsDocuments
+    unfolding StandsFor IsOpen
     all_named clean m stands = let held = stands (opened_before clean) in (of clean held.0).listed ∙ ap keys held.1
 
     pub own_rows : IsClean g new → HeldDocuments b → AreFronts (trees_under b shelf.addresses.value) shelf.fronts.items
-    unfolding HeldDocuments HoldsDocuments beginning
+    unfolding HeldDocuments beginning
     own_rows clean held =
         let rows : IsStore (beginning g old).database → AreFronts (trees_under (beginning g old) shelf.addresses.value) shelf.fronts.items = λ is. (of clean is).rows in
         subst (λ b. IsStore b.database → AreFronts (trees_under b shelf.addresses.value) shelf.fronts.items) same rows held

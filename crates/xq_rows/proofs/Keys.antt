@@ -25,7 +25,7 @@ use Rattle.sqlite.specs.Effect.{Database}
 use Rattle.std.proofs.lemmas.List.Elements.{All-from_recursion, recursion_from_All}
 use Rattle.xq_rows.proofs.Maps.{order, order_total, order_exact, has_root, listed, find_by}
 use Rattle.xq_rows.proofs.Orders.{first_total, sort_rises}
-use Rattle.xq_rows.specs.Tables.{shown_rows}
+use Rattle.xq_rows.specs.Labels.{shown_rows}
 
 -- # One first row for each address
 
@@ -215,10 +215,12 @@ singles table given shows one same =
     back (r ∷ rs) all = ap₂ ◌∷◌ (sym all.0) (back rs all.1)
 
 -- the texts that were read of rows of one column are what the SELECT gives
-pub read_addresses_is : (db : Database) (given : List Row) (list : List (List ℕ)) → AreAddresses db given → map Text list ≡ map (λ r. column r 0) given → AreAddresses db (map alone list)
-read_addresses_is db given list shown read store =
-    let it = shown store in
+pub texts_picked : (table given : List Row) (list : List (List ℕ)) → IsPicked is_first (λ r. column r 1 ∷ []) table given → map Text list ≡ map (λ r. column r 0) given → IsPicked is_first (λ r. column r 1 ∷ []) table (map alone list)
+texts_picked table given list it read =
     let same : map alone list ≡ given =
     sym (map-map (λ v. v ∷ []) Text list) ∙ ap (map (λ v. v ∷ [])) read ∙ map-map (λ v. v ∷ []) (λ r. column r 0) given
-    ∙ singles (filter is_first (shown_rows db)) given (λ r. column r 1 ∷ []) (λ r. refl) it.same in
-    subst (IsPicked is_first (λ r. column r 1 ∷ []) (shown_rows db)) (sym same) it
+    ∙ singles (filter is_first table) given (λ r. column r 1 ∷ []) (λ r. refl) it.same in
+    subst (IsPicked is_first (λ r. column r 1 ∷ []) table) (sym same) it
+
+pub read_addresses_is : (db : Database) (given : List Row) (list : List (List ℕ)) → AreAddresses db given → map Text list ≡ map (λ r. column r 0) given → AreAddresses db (map alone list)
+read_addresses_is db given list shown read store = texts_picked (shown_rows db) given list (shown store) read

@@ -15,11 +15,11 @@ use Rattle.sqlite.specs.State.{State, mode_of, Executes}
 use Rattle.sqlite.proofs.Callers.{statement_of, runs_as, one_step}
 use Rattle.xq_regions.specs.Codes.{kind_number}
 use Rattle.xq_regions.specs.Rows.{Row as Node}
-use Rattle.xq_rows.specs.Labels.{label_rows, node2_rows, IsLabelledSchema}
-use Rattle.xq_rows.specs.Tables.{layout_rows}
+use Rattle.xq_rows.specs.Labels.{label_rows, node2_rows, IsStoreSchema}
+use Rattle.xq_rows.specs.Tables.{layout_rows, node_rows}
 use Rattle.xq_rows.proofs.Deletes.{went, same_value}
 use Rattle.xq_rows.proofs.Inserts.{cast_int, cast_null, one_fresh}
-use Rattle.xq_rows.proofs.LabelPlaces.{Made, schema_of, label_tree, label_place, label_table_of, label_there, node2_tree, node2_place, node2_table_of, node2_there, which, nodes_lie, labels_lie, layout_lies, no_works, OthersStay, layout_stays, labels_stay, nodes_stay, layout_not_label, layout_not_node2, label_not_node2}
+use Rattle.xq_rows.proofs.LabelPlaces.{Made, schema_of, label_tree, label_place, label_table_of, label_there, node2_tree, node2_place, node2_table_of, node2_there, which, nodes_lie, labels_lie, layout_lies, old_lie, old_beside_labels, old_beside_nodes, no_works, OthersStay, layout_stays, labels_stay, nodes_stay, layout_not_label, layout_not_node2, label_not_node2}
 use Rattle.xq_rows.proofs.LabelTexts.{add_label_text, add_label_terms, add_label_is, add_label_plain, insert2_text, insert2_is, insert2_plain}
 use Rattle.xq_rows.proofs.Places.{on_table}
 use Rattle.xq_rows.proofs.Texts.{insert_terms}
@@ -34,6 +34,7 @@ pub record IsLabelled (name : List ℕ) (old new : State) : Type 0 where
   pub schema : new.now.schema ≡ old.now.schema
   pub layout : layout_rows new.now ≡ layout_rows old.now
   pub nodes : node2_rows new.now ≡ node2_rows old.now
+  pub beside : node_rows new.now ≡ node_rows old.now
   pub labels : label_rows new.now ≡ put_row (new_label name (label_rows old.now)) (label_rows old.now)
   pub fresh : is_taken (label_rows old.now) (new_label name (label_rows old.now)) ≡ false
   pub number : new.last_rowid ≡ next_rowid (label_rows old.now)
@@ -80,7 +81,7 @@ labels_in made old new name count has h =
       number = w.last_rowid ∙ ap (λ o. unwrap_or o old.last_rowid) last;
     }
 
-pub labelled : (old new : State) (name : List ℕ) (count : ℕ) → IsLabelledSchema old.now.schema → Executes add_label_text (Text name ∷ []) old new (Ok count) → IsLabelled name old new
+pub labelled : (old new : State) (name : List ℕ) (count : ℕ) → IsStoreSchema old.now.schema → Executes add_label_text (Text name ∷ []) old new (Ok count) → IsLabelled name old new
 labelled old new name count has h =
     let place = which old.now.schema has in
     let made = place.0 in
@@ -91,6 +92,7 @@ labelled old new name count has h =
       schema = it.schema;
       layout = layout_lies made new.now still ∙ layout_stays tree old.now.trees new.now.trees made it.others (layout_not_label made) ∙ sym (layout_lies made old.now place.1);
       nodes = nodes_lie made new.now still ∙ nodes_stay tree old.now.trees new.now.trees made it.others (λ e. label_not_node2 made (sym e)) ∙ sym (nodes_lie made old.now place.1);
+      beside = old_lie made new.now still ∙ old_beside_labels old.now.trees new.now.trees made it.others ∙ sym (old_lie made old.now place.1);
       labels = labels_lie made new.now still ∙ it.labels ∙ ap (λ rows. put_row (new_label name rows) rows) was;
       fresh = sym (ap (λ rows. is_taken rows (new_label name rows)) was) ∙ it.fresh;
       number = it.number ∙ ap next_rowid was;
@@ -110,6 +112,7 @@ pub record IsNoted (address : List ℕ) (n : ℕ × Node) (label : ℕ) (old new
   pub schema : new.schema ≡ old.schema
   pub layout : layout_rows new ≡ layout_rows old
   pub labels : label_rows new ≡ label_rows old
+  pub beside : node_rows new ≡ node_rows old
   pub nodes : node2_rows new ≡ put_row (new_node address n label (node2_rows old)) (node2_rows old)
   pub fresh : is_taken (node2_rows old) (new_node address n label (node2_rows old)) ≡ false
 
@@ -153,7 +156,7 @@ nodes_in made old new address n label count has h =
       fresh = one_fresh (db tree) row (ap (λ rows. are_fresh (db tree) rows) (sym news) ∙ step.fresh);
     }
 
-pub noted : (old new : State) (address : List ℕ) (n : ℕ × Node) (label count : ℕ) → IsLabelledSchema old.now.schema → Executes insert2_text (Text address ∷ numbered_cells n label) old new (Ok count) → IsNoted address n label old.now new.now
+pub noted : (old new : State) (address : List ℕ) (n : ℕ × Node) (label count : ℕ) → IsStoreSchema old.now.schema → Executes insert2_text (Text address ∷ numbered_cells n label) old new (Ok count) → IsNoted address n label old.now new.now
 noted old new address n label count has h =
     let place = which old.now.schema has in
     let made = place.0 in
@@ -164,6 +167,7 @@ noted old new address n label count has h =
       schema = it.schema;
       layout = layout_lies made new.now still ∙ layout_stays tree old.now.trees new.now.trees made it.others (layout_not_node2 made) ∙ sym (layout_lies made old.now place.1);
       labels = labels_lie made new.now still ∙ labels_stay tree old.now.trees new.now.trees made it.others (label_not_node2 made) ∙ sym (labels_lie made old.now place.1);
+      beside = old_lie made new.now still ∙ old_beside_nodes old.now.trees new.now.trees made it.others ∙ sym (old_lie made old.now place.1);
       nodes = nodes_lie made new.now still ∙ it.nodes ∙ ap (λ rows. put_row (new_node address n label rows) rows) was;
       fresh = sym (ap (λ rows. is_taken rows (new_node address n label rows)) was) ∙ it.fresh;
     }

@@ -22,10 +22,9 @@ pub mod ViewLaws
 pub mod Lends
 pub mod MemoryFiles
 pub mod AdoptReads
-pub mod CreateFaults
 pub mod Adopts
 pub mod Runs
-pub mod Adoptions
+pub mod Adopted
 pub mod Parents
 pub mod CountedAttributes
 pub mod Streams
@@ -37,3 +36,9 @@ pub mod LabelTexts
 pub mod Joins
 pub mod Named
 pub mod LabelInserts
+pub mod Adds
+pub mod Queries
+pub mod Labelling
+pub mod Numbers
+pub mod Moving
+pub mod Carrying

@@ -26,7 +26,7 @@ use Rattle.xq_rows.specs.Documents.{is_at, node_columns, rows_at, by_first, docu
 use Rattle.xq_rows.specs.private.Statements.{is_above, is_within, AreAbove, Finds, IsPicked, IsRange}
 use Rattle.xq_rows.proofs.Maps.{get-whole, get-none, node_back, nodes_back}
 use Rattle.xq_rows.proofs.Orders.{first_total, numbers_rise}
-use Rattle.xq_rows.specs.Tables.{shown_rows}
+use Rattle.xq_rows.specs.Labels.{shown_rows}
 
 -- # Each number of a row lies within the bounds
 

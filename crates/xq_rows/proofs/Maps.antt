@@ -30,7 +30,7 @@ use Rattle.xq_rows.specs.private.Statements.{HasDropped, HasReplaced}
 use Rattle.xq_rows.proofs.Inserts.{own_address}
 use Rattle.xq_rows.proofs.Lists.{tied}
 use Rattle.xq_rows.proofs.Orders.{sorted_nodes}
-use Rattle.xq_rows.specs.Tables.{shown_rows}
+use Rattle.xq_rows.specs.Labels.{shown_rows}
 
 -- # Addresses
 

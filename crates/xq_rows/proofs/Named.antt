@@ -72,10 +72,10 @@ named_count p same labels nodes held =
 -- # A label more
 
 -- the label of a value: of a column of numbers, or of a number
-abbrev labels_it : Value → Row → Bool
+abbrev pub labels_it : Value → Row → Bool
 labels_it v l = is_true (binary (Compare Eq Binary) v (column l 0))
 
-by_number : (v : Value) (l : Row) → IsNumbered l → labels_it v l ≡ is_eq (value_cmp v (rowid l))
+pub by_number : (v : Value) (l : Row) → IsNumbered l → labels_it v l ≡ is_eq (value_cmp v (rowid l))
 by_number v l (n, is, small) = ap (λ x. is_true (binary (Compare Eq Binary) v x)) is ∙ equals_int v (pos n) ∙ ap (λ x. is_eq (value_cmp v x)) (sym is)
 
 module _ (labels : List Row) (new : Row) (free : is_taken labels new ≡ false) (numbered : IsNumbered new) (small : AllByRecursion IsNumbered labels) where

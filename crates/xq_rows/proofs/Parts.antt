@@ -25,7 +25,8 @@ use Rattle.xq_regions.specs.declared.NodeRow.{NodeRow}
 use Rattle.xq_rows.specs.Documents.{is_at, node_columns, rows_at, HasAddress, IsSound, IsStore}
 use Rattle.xq_rows.specs.Nodes.{cells}
 use Rattle.xq_rows.specs.private.Statements.{Deletes, HasDropped, HasAdded, Puts, is_part}
-use Rattle.xq_rows.specs.Tables.{shown_rows, layout_rows}
+use Rattle.xq_rows.specs.Labels.{shown_rows}
+use Rattle.xq_rows.specs.Tables.{layout_rows}
 use Rattle.xq_rows.proofs.Lists.{both_filters, same_test}
 use Rattle.xq_rows.proofs.Loads.{length-labels}
 use Rattle.xq_rows.proofs.Maps.{apart_rows}

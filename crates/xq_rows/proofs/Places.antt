@@ -1,20 +1,17 @@
--- Where the two tables lie, by which of them was made first.
-use Rattle.std.proofs.Common.{◌≡◌, ◌≢◌, ◌-◌, ◌^◌, nat_le, Bool, true, false, cond, unwrap_or, slice_get, ℕ, List, [], Option, Some, None, inl, inr, refl, ap, subst, arith}
-use Rattle.std.specs.List.{AllByRecursion}
+-- Where the two tables of edition 1 lie, by which of them was made first; and what statements find.
+use Rattle.std.proofs.Common.{◌≡◌, ◌-◌, ◌^◌, nat_le, Bool, true, false, cond, unwrap_or, slice_get, ℕ, [], Option, Some, None, inl, inr, refl, sym, ap, subst, ◌∙◌}
 use Rattle.sqlite_value.specs.Order.{Row}
 use Rattle.sqlite_trees.specs.Tree.{Trees}
-use Rattle.sqlite_schema.specs.declared.schema.Keys.{Keys}
 use Rattle.sqlite_sql.specs.Program.{overlay}
 use Rattle.sqlite_tied.specs.Compute.{everything}
-use Rattle.sqlite_rules.specs.Action.{works}
 use Rattle.sqlite.specs.Does.{Tally, AtPlace, OnTable}
 use Rattle.sqlite.specs.Effect.{Database}
 use Rattle.sqlite.specs.Rows.{Outcome, Part, Task}
 use Rattle.sqlite.specs.declared.run.Mode.{Mode}
 use Rattle.sqlite.specs.Schema.{Schema}
 use Rattle.sqlite.specs.Table.{Table}
-use Rattle.xq_rows.specs.private.Schemas.{layout_schema}
-use Rattle.xq_rows.specs.Tables.{node_table, store_schema, turned_schema, IsStoreSchema, layout_rows, node_rows}
+use Rattle.xq_rows.specs.Labels.{shown_rows}
+use Rattle.xq_rows.specs.Tables.{node_table, old_schema, turned_old_schema, IsOldSchema, layout_rows, node_rows}
 
 -- which of the two was made first
 pub data First : Type 0 where
@@ -22,8 +19,8 @@ pub data First : Type 0 where
   node_first : First
 
 abbrev pub schema_of : First → Schema
-schema_of layout_first = store_schema
-schema_of node_first = turned_schema
+schema_of layout_first = old_schema
+schema_of node_first = turned_old_schema
 
 abbrev pub layout_tree : First → ℕ
 layout_tree layout_first = 0
@@ -41,11 +38,11 @@ node_place node_first = 0
 abbrev pub node_table_of : First → Table
 node_table_of first = record node_table { tree = node_tree first }
 
-pub is_schema : (first : First) → IsStoreSchema (schema_of first)
+pub is_schema : (first : First) → IsOldSchema (schema_of first)
 is_schema layout_first = inl refl
 is_schema node_first = inr refl
 
-pub which : (schema : Schema) → IsStoreSchema schema → (first : First) × (schema ≡ schema_of first)
+pub which : (schema : Schema) → IsOldSchema schema → (first : First) × (schema ≡ schema_of first)
 which schema (inl is) = (layout_first, is)
 which schema (inr is) = (node_first, is)
 
@@ -61,9 +58,14 @@ unfolding layout_rows everything
 layout_lies layout_first db is = ap (λ s. layout_rows (record db { schema = s })) is
 layout_lies node_first db is = ap (λ s. layout_rows (record db { schema = s })) is
 
-pub layout_alone : (db : Database) → db.schema ≡ layout_schema → layout_rows db ≡ db.trees 0
-unfolding layout_rows everything
-layout_alone db is = ap (λ s. layout_rows (record db { schema = s })) is
+shown_lie : (first : First) (db : Database) → db.schema ≡ schema_of first → shown_rows db ≡ db.trees (node_tree first)
+unfolding shown_rows node_rows everything
+shown_lie layout_first db is = ap (λ s. shown_rows (record db { schema = s })) is
+shown_lie node_first db is = ap (λ s. shown_rows (record db { schema = s })) is
+
+-- what the tables show are the rows of `node`
+pub shown_are : (db : Database) → IsOldSchema db.schema → shown_rows db ≡ node_rows db
+shown_are db has = (let place = which db.schema has in shown_lie place.0 db place.1 ∙ sym (nodes_lie place.0 db place.1))
 
 -- # What statements find
 
@@ -80,17 +82,3 @@ module _ (schema : Schema) (place : ℕ) (table : Table) (there : slice_get sche
   pub on_table : (limit : Option ℕ) (mode : Mode) (params : Row) (db : Trees) (P : Task → Part (Tally × Database)) (out : Outcome (Tally × Database)) → OnTable limit mode params (record { schema = schema; trees = db }) place P out
       → P (record { limit = limit; keys = mode.keys; schema = schema; table = table; params = params }) out
   on_table limit mode params db P out on = subst (λ o. AtPlace (λ t. P (record { limit = limit; keys = mode.keys; schema = schema; table = t; params = params })) o out) there on
-
-pub node_there : (first : First) → slice_get (schema_of first).tables (node_place first) ≡ Some (node_table_of first)
-node_there layout_first = refl
-node_there node_first = refl
-
--- no foreign key acts
-pub no_works : (first : First) (keys : Keys) (olds news : List Row) → works (schema_of first) keys 0 (node_tree first) olds news ≡ []
-no_works layout_first keys olds news = refl
-no_works node_first keys olds news = refl
-
--- the other table stays
-pub layout_stays : (first : First) (db next : Trees) → AllByRecursion (λ t. t.tree ≢ node_tree first → next t.tree ≡ db t.tree) (schema_of first).tables → next (layout_tree first) ≡ db (layout_tree first)
-layout_stays layout_first db next all = all.0 (λ e. omega (arith, e))
-layout_stays node_first db next all = all.1.0 (λ e. omega (arith, e))

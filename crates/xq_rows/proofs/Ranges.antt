@@ -13,7 +13,7 @@ use Rattle.sqlite_value.specs.declared.value.Value.TheVariants.{Int, Text}
 use Rattle.sqlite_value.proofs.OrderLemmas.{value_cmp-Int}
 use Rattle.sqlite_trees.proofs.ListLemmas.{IsPermutation-filter, ascending-filter}
 use Rattle.sqlite_keyed.proofs.SortLemmas.{sorted_unique}
-use Rattle.sqlite_sql.specs.Term.{holds, col}
+use Rattle.sqlite_sql.specs.Term.{holds}
 use Rattle.sqlite_sql.specs.Ops.{binary, is_true}
 use Rattle.sqlite_sql.specs.declared.ops.BinaryOp.TheVariants.{Arith, Compare}
 use Rattle.sqlite_sql.specs.declared.ops.ArithOp.TheVariants.{Add}
@@ -23,10 +23,12 @@ use Rattle.sqlite.specs.Effect.{Database}
 use Rattle.sqlite.specs.State.{State, Shown}
 use Rattle.sqlite.specs.declared.error.Error.{Error}
 use Rattle.sqlite.proofs.Callers.{reads_as}
-use Rattle.xq_rows.proofs.Places.{node_tree, schema_of, which, nodes_lie}
-use Rattle.xq_rows.specs.Tables.{shown_rows}
-use Rattle.xq_rows.proofs.Texts.{above_text, above_tests, above_command, above_plain, above_is as above_means}
-use Rattle.xq_rows.proofs.Selects.{picked, equals_text, at_least_int, below_int, and_true}
+use Rattle.xq_rows.proofs.Joins.{joined_nodes}
+use Rattle.xq_rows.proofs.LabelPlaces.{label_tree, node2_tree, schema_of, shown_lie, which}
+use Rattle.xq_rows.proofs.LabelTexts.{above2_is, above2_plain, above2_text, join_command}
+use Rattle.xq_rows.specs.Labels.{shown_rows}
+use Rattle.xq_rows.proofs.Texts.{above_tests}
+use Rattle.xq_rows.proofs.Selects.{equals_text, at_least_int, below_int, and_true}
 use Rattle.xq_regions.specs.Forest.{Forest, end, node, count, labels}
 use Rattle.xq_regions.specs.Tree.{Label, Tree, IsDocument, IsTree, nodes}
 use Rattle.xq_regions.specs.Rows.{Row as Node, rows as rows_of, measured, placed_rows}
@@ -191,22 +193,22 @@ all_tested a v (r ∷ rs) all = go (is_at a r) refl all (all_tested a v rs)
     go true here all more = (ap₂ ◌&&◌ (equals_text (column r 1) a) (late_is v r all.0), more all.1)
     go false other all more = (elsewhere a v r other, more all)
 
-same_tests : (p q : Row → Bool) (xs : List Row) → AllByRecursion (λ x. p x ≡ q x) xs → filter p xs ≡ filter q xs
+pub same_tests : (p q : Row → Bool) (xs : List Row) → AllByRecursion (λ x. p x ≡ q x) xs → filter p xs ≡ filter q xs
 same_tests p q [] all = refl
 same_tests p q (x ∷ xs) all = rw all.0 (ap (λ l. cond (q x) (x ∷ l) l) (same_tests p q xs all.1))
 
-pub aboves : (old new : State) (a : List ℕ) (v : ℕ) (rows : List Row) → Shown above_text (given a v) old new rows → AreAbove a v old.now rows
+pub aboves : (old new : State) (a : List ℕ) (v : ℕ) (rows : List Row) → Shown above2_text (given a v) old new rows → AreAbove a v old.now rows
 aboves old new a v rows h store =
     let place = which old.now.schema store.sound.schema in
-    let first = place.0 in
-    let it = reads_as above_text (given a v) old new (schema_of first) place.1 (above_command (node_tree first)) (above_means first).0 (above_plain first) (above_means first).1 rows h in
-    let all = picked (node_tree first) above_tests 2 (col 1 3 ∷ col 1 4 ∷ col 1 5 ∷ col 1 6 ∷ col 1 7 ∷ []) old.now.trees (given a v) rows it.answer in
+    let made = place.0 in
+    let it = reads_as above2_text (given a v) old new (schema_of made) place.1 (join_command made above_tests) (above2_is made).0 (above2_plain made) (above2_is made).1 rows h in
+    let all = joined_nodes (node2_tree made) (label_tree made) above_tests old.now.trees (given a v) (λ r l. refl) rows it.answer in
     let table = shown_rows old.now in
-    let got = subst (λ t. IsPicked (tested a v) node_columns t rows) (sym (nodes_lie first old.now place.1)) all in
+    let got = subst (λ t. IsPicked (tested a v) node_columns t rows) (sym (shown_lie made old.now place.1)) all in
     let tests = all_tested a v table (small_rows (rows_at a table) (store.whole a)) in
     record { same = subst (λ l. IsPermutation (map node_columns l) rows) (same_tests (tested a v) (λ r. is_at a r && is_above v r) table tests) got.same; sorted = got.sorted }
 
-pub all_aboves : {X : Type 0} (show : X → List Row) (old new : State) (a : List ℕ) (v : ℕ) (r : Result X Error) → IfOk r (λ x. Shown above_text (Text a ∷ Int (pos v) ∷ []) old new (show x))
+pub all_aboves : {X : Type 0} (show : X → List Row) (old new : State) (a : List ℕ) (v : ℕ) (r : Result X Error) → IfOk r (λ x. Shown above2_text (Text a ∷ Int (pos v) ∷ []) old new (show x))
     → IfOk r (λ x. AreAbove a v old.now (show x))
 all_aboves show old new a v (Ok x) h = aboves old new a v (show x) h
 all_aboves show old new a v (Err e) h = tt

@@ -1,5 +1,5 @@
--- What a SELECT over the table `node` gives.
-use Rattle.std.proofs.Common.{◌≡◌, ◌&&◌, ◌+◌, ◌<◌, zero, suc, get_or, length, All, arith, ℕ, List, [], ◌∷◌, map, filter, flat_map, cond, Bool, true, false, Some, ℤ, refl, sym, ap, subst, subst₂, ◌∙◌, pos, is_lt, ap₂, inl, inr, IsTrue, Result, Ok, Err, IfOk, OnOk, IfErr, Option, None}
+-- What a SELECT over one table gives, and what a query leaves.
+use Rattle.std.proofs.Common.{◌≡◌, ◌&&◌, ◌+◌, ◌<◌, zero, suc, get_or, length, All, arith, ℕ, List, [], ◌∷◌, map, filter, flat_map, cond, Bool, true, false, Some, ℤ, refl, sym, ap, subst, subst₂, ◌∙◌, pos, is_gt, is_lt, ap₂, inl, inr, IsTrue, Result, Ok, Err, IfOk, OnOk, IfErr, Option, None}
 use Rattle.std.specs.List.{list_all}
 use Rattle.std.specs.List.Sorted.{IsPermutation, IsSorted}
 use Rattle.std.specs.Ordering.{on, is_eq, is_le, is_ge}
@@ -16,7 +16,7 @@ use Rattle.sqlite_sql.specs.Query.{Query, IsAnswer, Output, output, key_cmp}
 use Rattle.sqlite_sql.specs.Program.{overlay, IsProgramAnswer}
 use Rattle.sqlite_sql.specs.Ops.{binary, is_true, from_truth}
 use Rattle.sqlite_sql.specs.declared.ops.BinaryOp.TheVariants.{Compare}
-use Rattle.sqlite_sql.specs.declared.ops.CompareOp.TheVariants.{Eq, Ge, Le, Lt}
+use Rattle.sqlite_sql.specs.declared.ops.CompareOp.TheVariants.{Eq, Ge, Gt, Le, Lt}
 use Rattle.std.proofs.lemmas.List.Sorted.{IsPermutation-map, All-permutation}
 use Rattle.xq_rows.proofs.Lists.{flat_map_picks, same_test}
 use Rattle.std.proofs.lemmas.List.Elements.{All-from_recursion}
@@ -26,13 +26,14 @@ use Rattle.sqlite.specs.State.{State, Shown, Fails, FailsToQuery, IsNotRun, Runs
 use Rattle.sqlite.specs.Clock.{timed}
 use Rattle.sqlite_resolve.specs.declared.compiled.Compiled.{Compiled}
 use Rattle.sqlite_schema.specs.declared.command.Returning.{Returning}
-use Rattle.sqlite.proofs.Callers.{IsPlain, reads_as}
+use Rattle.sqlite.proofs.Callers.{IsPlain}
 use Rattle.sqlite.specs.Schema.{Schema}
-use Rattle.xq_rows.proofs.Places.{First, schema_of, node_tree, which, nodes_lie, not_given}
-use Rattle.xq_rows.specs.Tables.{IsStoreSchema}
-use Rattle.xq_rows.proofs.Texts.{body, key, range_text, range_tests, range_command, range_is, range_plain, part_tests, addresses_text, addresses_tests, addresses_command, addresses_is, addresses_plain}
-use Rattle.xq_rows.specs.Documents.{by_first, is_at, is_first, node_columns}
-use Rattle.xq_rows.specs.private.Statements.{is_within, is_part, IsPicked, IsRange, AreAddresses}
+use Rattle.xq_rows.proofs.LabelPlaces.{Made, schema_of, which}
+use Rattle.xq_rows.proofs.Places.{not_given}
+use Rattle.xq_rows.specs.Labels.{IsStoreSchema}
+use Rattle.xq_rows.proofs.Texts.{body, key, range_tests, part_tests}
+use Rattle.xq_rows.specs.Documents.{by_first, is_at}
+use Rattle.xq_rows.specs.private.Statements.{is_within, is_part, IsPicked}
 use Rattle.std.proofs.lemmas.List.{length-map}
 
 module _ (tree : ℕ) (tests : List Term) (project : List Term) (order : List (Term × Key)) (db : Trees) (params : Row) where
@@ -114,6 +115,14 @@ below_int (Real x) low high h = truth_is _
 below_int (Text s) low high h = truth_is _
 below_int (Blob b) low high h = truth_is _
 
+pub less_int : (m n : ℤ) → is_true (binary (Compare Lt Binary) (Int m) (Int n)) ≡ is_lt (value_cmp (Int m) (Int n))
+unfolding binary
+less_int m n = truth_is _
+
+pub greater_int : (m n : ℤ) → is_true (binary (Compare Gt Binary) (Int m) (Int n)) ≡ is_gt (value_cmp (Int m) (Int n))
+unfolding binary
+greater_int m n = truth_is _
+
 pub and_true : (b : Bool) → (b && true) ≡ b
 and_true true = refl
 and_true false = refl
@@ -161,14 +170,14 @@ module _ (tree : ℕ) (tests : List Term) (at : ℕ) (more : List Term) (db : Tr
         sorted = subst (IsSorted by_first) (sym s.shown) (sorted_shown s.ordered (All-permutation keyed _ _ s.same all) s.sorted);
       }
 
-same_passes : (p q : Row → Bool) (shows : Row → Row) (table rows : List Row) → ((r : Row) → p r ≡ q r) → IsPicked p shows table rows → IsPicked q shows table rows
+pub same_passes : (p q : Row → Bool) (shows : Row → Row) (table rows : List Row) → ((r : Row) → p r ≡ q r) → IsPicked p shows table rows → IsPicked q shows table rows
 same_passes p q shows table rows h it = record { same = subst (λ l. IsPermutation (map shows l) rows) (same_test p q h table) it.same; sorted = it.sorted }
 
 tail_test : (v : Value) (low high : ℤ) (b : Bool) → is_ge (value_cmp v (Int low)) ≡ b → (b && (is_true (binary (Compare Le Binary) v (Int high)) && true)) ≡ (b && is_le (value_cmp v (Int high)))
 tail_test v low high true e = and_true _ ∙ at_most_int v low high e
 tail_test v low high false e = refl
 
-range_test : (address : List ℕ) (low high : ℕ) (r : Row) → list_all (holds ((Text address ∷ Int (pos low) ∷ Int (pos high) ∷ []) ∷ r ∷ [])) range_tests ≡ is_at address r && is_within low high r
+pub range_test : (address : List ℕ) (low high : ℕ) (r : Row) → list_all (holds ((Text address ∷ Int (pos low) ∷ Int (pos high) ∷ []) ∷ r ∷ [])) range_tests ≡ is_at address r && is_within low high r
 range_test address low high r =
     let v = column r 2 in
     let rest = ap (λ b. b && (is_true (binary (Compare Le Binary) v (Int (pos high))) && true)) (at_least_int v (pos low)) ∙ tail_test v (pos low) (pos high) _ refl in
@@ -183,27 +192,6 @@ part_test address low high r = ap₂ ◌&&◌ (equals_text (column r 1) address)
     tail : (b : Bool) → is_ge (value_cmp v (Int (pos low))) ≡ b → (b && (is_true (binary (Compare Lt Binary) v (Int (pos high))) && true)) ≡ (b && is_lt (value_cmp v (Int (pos high))))
     tail true e = and_true _ ∙ below_int v (pos low) (pos high) e
     tail false e = refl
-
-pub ranges : (old new : State) (address : List ℕ) (low high : ℕ) (rows : List Row) → Shown range_text (Text address ∷ Int (pos low) ∷ Int (pos high) ∷ []) old new rows → IsRange address low high old.now rows
-ranges old new address low high rows h has =
-    let params = Text address ∷ Int (pos low) ∷ Int (pos high) ∷ [] in
-    let found = which old.now.schema has in
-    let first = found.0 in
-    let is = found.1 in
-    let table = old.now.trees (node_tree first) in
-    let it = reads_as range_text params old new (schema_of first) is (range_command (node_tree first)) (range_is first).0 (range_plain first) (range_is first).1 rows h in
-    let all = picked (node_tree first) range_tests 2 (col 1 3 ∷ col 1 4 ∷ col 1 5 ∷ col 1 6 ∷ col 1 7 ∷ []) old.now.trees params rows it.answer in
-    subst (λ t. IsPicked (λ r. is_at address r && is_within low high r) node_columns t rows) (sym (nodes_lie first old.now is)) (same_passes _ _ node_columns table rows (range_test address low high) all)
-
-pub lists : (old new : State) (rows : List Row) → Shown addresses_text [] old new rows → AreAddresses old.now rows
-lists old new rows h store =
-    let found = which old.now.schema store.sound.schema in
-    let first = found.0 in
-    let is = found.1 in
-    let table = old.now.trees (node_tree first) in
-    let it = reads_as addresses_text [] old new (schema_of first) is (addresses_command (node_tree first)) (addresses_is first).0 (addresses_plain first) (addresses_is first).1 rows h in
-    let all = picked (node_tree first) addresses_tests 1 [] old.now.trees [] rows it.answer in
-    subst (λ t. IsPicked is_first (λ r. column r 1 ∷ []) t rows) (sym (nodes_lie first old.now is)) (same_passes _ _ (λ r. column r 1 ∷ []) table rows (λ r. and_true _ ∙ equals_int (column r 2) (pos 0)) all)
 
 -- a query leaves the database
 pub shown_keeps : (old new : State) (sql : List ℕ) (params : Row) (rows : List Row) → IsPlain (understood old.now.schema sql) → Shown sql params old new rows → new.now ≡ old.now
@@ -226,14 +214,14 @@ refused_keeps old new sql params e plain settled up (inr h) =
     let it = rw none at h.2 in
     it.3.0.now_is
 
-pub plain_under : (schema : Schema) (sql : List ℕ) → ((first : First) → IsPlain (understood (schema_of first) sql)) → IsStoreSchema schema → IsPlain (understood schema sql)
+pub plain_under : (schema : Schema) (sql : List ℕ) → ((made : Made) → IsPlain (understood (schema_of made) sql)) → IsStoreSchema schema → IsPlain (understood schema sql)
 plain_under schema sql plain has = (let found = which schema has in subst (λ s. IsPlain (understood s sql)) (sym found.1) (plain found.0))
 
 -- whatever it answers
-pub query_keeps : {X : Type 0} (show : X → List Row) (old new : State) (sql : List ℕ) (params : Row) (r : Result X Error) → ((first : First) → IsPlain (understood (schema_of first) sql)) → IsStoreSchema old.now.schema
+pub query_keeps : {X : Type 0} (show : X → List Row) (old new : State) (sql : List ℕ) (params : Row) (r : Result X Error) → IsPlain (understood old.now.schema sql)
     → (IsTrue old.is_open → old.now ≡ old.committed) → IsTrue new.is_open → IfOk r (λ x. Shown sql params old new (show x)) → IfErr r (FailsToQuery sql params old new) → new.now ≡ old.now
-query_keeps show old new sql params (Ok x) plain has settled up ok err = shown_keeps old new sql params (show x) (plain_under old.now.schema sql plain has) ok
-query_keeps show old new sql params (Err e) plain has settled up ok err = refused_keeps old new sql params e (plain_under old.now.schema sql plain has) settled up err
+query_keeps show old new sql params (Ok x) plain settled up ok err = shown_keeps old new sql params (show x) plain ok
+query_keeps show old new sql params (Err e) plain settled up ok err = refused_keeps old new sql params e plain settled up err
 
 -- a query that runs, or is refused, finds the connection open where it leaves it open
 pub shown_opens : (old new : State) (sql : List ℕ) (params : Row) (rows : List Row) → Shown sql params old new rows → IsTrue old.is_open

@@ -13,7 +13,7 @@ use Rattle.xq_sources.specs.Addresses.{IsBefore, IsGap, Rise}
 use Rattle.xq_sources.proofs.Rising.{at_all}
 use Rattle.xq_rows.specs.Documents.{IsStore, documents_of, is_at, tree_at}
 use Rattle.xq_rows.specs.Nodes.{cells}
-use Rattle.xq_rows.specs.Tables.{shown_rows}
+use Rattle.xq_rows.specs.Labels.{shown_rows}
 use Rattle.xq_rows.specs.declared.shelves.Front.{Front}
 use Rattle.xq_rows.specs.declared.shelves.Shelf.{Shelf}
 use Rattle.xq_rows.specs.private.Keeps.{AreOf}

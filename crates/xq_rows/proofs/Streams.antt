@@ -1,5 +1,5 @@
 -- A reading of an answer, one row at a time.
-use Rattle.std.proofs.Common.{◌≡◌, ◌≤◌, inl, inr, ℕ, List, [], ◌∷◌, ◌++◌, false, Some, None, Ok, IsTrue, refl, sym, subst, ◌∙◌, arith}
+use Rattle.std.proofs.Common.{◌≡◌, ◌≤◌, ◌+◌, inl, inr, ℕ, List, [], ◌∷◌, ◌++◌, length, length-append, false, Some, None, Ok, IsTrue, refl, sym, subst, ◌∙◌, arith}
 use Rattle.sqlite_value.specs.Order.{Row}
 use Rattle.sqlite_trees.specs.View.{doubt}
 use Rattle.sqlite_trees.specs.declared.store.Store.{Ghosts}
@@ -16,6 +16,10 @@ use Rattle.xq_rows.specs.private.Streams.{BeginsWith, GivesRows, Stays}
 
 pub unchanged_itself : (s : State) → IsTrue s.is_open → IsUnchanged s s
 unchanged_itself s up = (record { was_open = up; is_open = up; now_is = refl; committed_is = refl; mode = refl }, record { changes = refl; last_rowid = refl }, refl)
+
+-- one row more is counted
+pub one_longer : (count : ℕ) (rows : List Row) (row : Row) → count ≡ length rows → count + 1 ≡ length (rows ++ row ∷ [])
+one_longer count rows row e = (let n = length-append rows (row ∷ []) in omega (arith, e, n))
 
 -- an answer of a connection is one of that which it was before, where that is unchanged
 pub shown_since : (sql : List ℕ) (params : Row) (old mid new : State) (rows : List Row) → IsPlain (understood old.now.schema sql) → IsUnchanged old mid → Shown sql params mid new rows → Shown sql params old new rows

@@ -19,7 +19,7 @@ use Rattle.xq_rows.specs.Views.{Beginning, HeldDocuments, StoodFor, Viewed, IsVi
 use Rattle.xq_rows.proofs.Keys.{values_are, get_at}
 use Rattle.xq_rows.proofs.Loads.{length-labels}
 use Rattle.xq_rows.proofs.Ranges.{own_document}
-use Rattle.xq_rows.specs.Tables.{shown_rows}
+use Rattle.xq_rows.specs.Labels.{shown_rows}
 
 -- # As the view begins
 

@@ -18,14 +18,15 @@ use Rattle.xq_regions.specs.Tree.{Tree, IsDocument}
 use Rattle.xq_regions.specs.Rows.{placed_rows, tree_of}
 use Rattle.xq_atoms.specs.Address.{IsAddress}
 use Rattle.xq_rows.specs.Nodes.{cells, node_in, bytes_in}
-use Rattle.xq_rows.specs.Tables.{node_rows, layout_rows, shown_rows, IsStoreSchema}
+use Rattle.xq_rows.specs.Labels.{label_rows, node2_rows, shown_rows, HasLabel, IsNumbered, IsNumberOf, IsStoreSchema}
+use Rattle.xq_rows.specs.Tables.{layout_rows, node_rows, IsOldSchema}
 
 -- The documents by their addresses, in the order of the addresses' bytes.
 abbrev pub Map : Type 0
 Map = FinMap (slice_cmp nat_cmp) Tree
 
--- A row of the table node is its rowid, and then its columns: 1 address, 2 pre, 3 size, 4 level, 5
--- kind, 6 name, 7 value.
+-- A row of a node is a rowid, and then its columns: 1 address, 2 pre, 3 size, 4 level, 5 kind, 6
+-- name, 7 value.
 
 -- the row is one of the address
 abbrev pub is_at : List ℕ → Row → Bool
@@ -55,7 +56,7 @@ tree_at table address = tree_of (map node_in (sort_by by_first (rows_at address 
 abbrev pub addresses_in : List Row → List (List ℕ)
 addresses_in table = map (λ r. bytes_in (column r 1)) (filter is_first table)
 
--- the map that the table node stands for
+-- the map that rows of nodes stand for
 unfoldable pub documents_in : List Row → Map
 documents_in table = from_entries
     (map (λ address. (address, tree_at table address)) (addresses_in table))
@@ -82,18 +83,38 @@ HaveInts = AllByRecursion (λ r. IsTrue (is_int (rowid r)))
 abbrev pub HasAddress : Row → Type 0
 HasAddress r = (address : List ℕ) × IsAddress address × (column r 1 ≡ Text address)
 
--- the database holds the tables of edition 1, whichever was made first, and the rowids of the nodes
--- are integers, each another one
+-- labels have numbers within bounds, each another one, and 0 is that of the empty name
+pub record AreLabels (labels : List Row) : Type 0 where
+  pub apart : AreApart labels
+  pub numbered : AllByRecursion IsNumbered labels
+  pub zero : IsNumberOf labels 0 []
+
+-- the database holds the tables of edition 2 as a store makes them, each node has a label, and the
+-- rowids of the nodes are integers, each another one
 pub record IsSound (db : Database) : Type 0 where
   pub schema : IsStoreSchema db.schema
-  pub apart : AreApart (node_rows db)
-  pub ints : HaveInts (node_rows db)
+  pub labels : AreLabels (label_rows db)
+  pub held : AllByRecursion (HasLabel (label_rows db)) (node2_rows db)
+  pub apart : AreApart (node2_rows db)
+  pub ints : HaveInts (node2_rows db)
 
--- The tables are sound: `layout` has its one row, 1, and of the rows that they stand for those of
+-- The tables are sound: `layout` has its one row, 2, and of the rows that they stand for those of
 -- each address are those of one document, or there are none.
 pub record IsStore (db : Database) : Type 0 where
   pub sound : IsSound db
+  pub layout : map (λ r. column r 1) (layout_rows db) ≡ Int (pos 2) ∷ []
+  pub named : AllByRecursion HasAddress (shown_rows db)
+  pub whole : (address : List ℕ) → (rows_at address (shown_rows db) ≡ [])
+      ⊎ IsIntact (rows_at address (shown_rows db))
+
+-- The database holds the tables of edition 1, whichever was made first: `layout` with its one row,
+-- 1, and `node`, in which the rows of each address are those of one document, or there are none.
+pub record IsOldStore (db : Database) : Type 0 where
+  pub schema : IsOldSchema db.schema
   pub layout : map (λ r. column r 1) (layout_rows db) ≡ Int (pos 1) ∷ []
+  -- the rowids are integers, each another one
+  pub apart : AreApart (node_rows db)
+  pub ints : HaveInts (node_rows db)
   pub named : AllByRecursion HasAddress (shown_rows db)
   pub whole : (address : List ℕ) → (rows_at address (shown_rows db) ≡ [])
       ⊎ IsIntact (rows_at address (shown_rows db))
@@ -118,9 +139,9 @@ module _ {S : Type 0} (g : Ghosts S) (store : Held S) where
   unfoldable pub IsUp : Type 0
   IsUp = IsReady (state g store)
 
-  -- Its tables hold documents.
+  -- Its tables hold documents: those of edition 2, as a store's do, or of edition 1.
   unfoldable pub HoldsDocuments : Type 0
-  HoldsDocuments = IsStore (state g store).now
+  HoldsDocuments = IsStore (state g store).now ⊎ IsOldStore (state g store).now
 
   -- The map that its tables stand for.
   unfoldable pub documents : Map

@@ -1,34 +1,40 @@
 -- The tables of edition 2, as the schema of a database, and the rows of each: a name of nodes stands
 -- once, in a table of labels.
-use Rattle.std.specs.Prelude.{◌≡◌, ◌≤◌, ◌⊎◌, ◌++◌, Bool, true, false, [], ◌∷◌, None, Some, codes, ℕ, pos, List, map, filter, flat_map}
+use Rattle.std.specs.Prelude.{◌≡◌, ◌≤◌, ◌⊎◌, ◌++◌, Bool, true, false, [], ◌∷◌, Option, None, Some, codes, find, ℕ, pos, List, map, filter, flat_map}
 use Rattle.sqlite.specs.Collation.TheVariants.{Binary}
 use Rattle.sqlite.specs.declared.types.Value.TheVariants.{Null}
 use Rattle.sqlite.specs.Table.{Table}
 use Rattle.sqlite.specs.Schema.{Schema}
 use Rattle.sqlite.specs.Effect.{Database}
 use Rattle.sqlite.specs.Kind.TheVariants.{Integer, Text}
+use Rattle.sqlite_schema.specs.declared.schema.Column.{Column}
 use Rattle.sqlite_schema.specs.declared.schema.Index.{Index}
+use Rattle.sqlite_schema.specs.Names.{same_name}
 use Rattle.sqlite_sql.specs.Ops.{binary, is_true}
 use Rattle.sqlite_sql.specs.declared.ops.BinaryOp.TheVariants.{Compare}
 use Rattle.sqlite_sql.specs.declared.ops.CompareOp.TheVariants.{Eq}
 use Rattle.sqlite_value.specs.Keys.{plain}
 use Rattle.sqlite_value.specs.Order.{Row, column}
 use Rattle.sqlite_value.specs.declared.value.Value.TheVariants.{Int, Text as Words}
-use Rattle.xq_rows.specs.Tables.{layout_table, required_column, rows_named, store_schema, turned_schema}
+use Rattle.xq_rows.specs.Tables.{layout_table, node_rows, required_column, rows_named, old_schema, turned_old_schema}
+
+-- the number of a label, which is its rowid
+abbrev pub id_column : Column
+id_column = record {
+  name = codes "id";
+  kind = Integer;
+  is_strict = true;
+  not_null = false;
+  default = Null;
+  collation = Binary;
+}
 
 -- CREATE TABLE label (id INTEGER PRIMARY KEY, name TEXT NOT NULL UNIQUE) STRICT
 abbrev pub label_table : Table
 label_table = record {
   name = codes "label";
   tree = 1;
-  columns = record {
-    name = codes "id";
-    kind = Integer;
-    is_strict = true;
-    not_null = false;
-    default = Null;
-    collation = Binary;
-  } ∷ required_column (codes "name") Text ∷ [];
+  columns = id_column ∷ required_column (codes "name") Text ∷ [];
   key = Some 0;
   primary = 0 ∷ [];
   uniques = (2 ∷ []) ∷ [];
@@ -101,9 +107,9 @@ carried_schema old = record {
 }
 
 -- the tables as a store makes them: alone, or beside those of edition 1, whichever was made first
-abbrev pub IsLabelledSchema : Schema → Type 0
-IsLabelledSchema schema = (schema ≡ labelled_schema)
-    ⊎ ((schema ≡ carried_schema store_schema) ⊎ (schema ≡ carried_schema turned_schema))
+abbrev pub IsStoreSchema : Schema → Type 0
+IsStoreSchema schema = (schema ≡ labelled_schema)
+    ⊎ ((schema ≡ carried_schema old_schema) ⊎ (schema ≡ carried_schema turned_old_schema))
 
 -- # Their rows
 
@@ -139,6 +145,16 @@ most_label = 2147483647
 -- its number is one that a label may have
 abbrev pub IsNumbered : Row → Type 0
 IsNumbered l = (n : ℕ) × (column l 0 ≡ Int (pos n)) × (n ≤ most_label)
+
+-- the rows of nodes that the tables stand for: those of `node2` with the names of their labels, or,
+-- where no such table is there, those of `node`
+abbrev pub shown_in : Database → Option Table → List Row
+shown_in db None = node_rows db
+shown_in db (Some table) = named_rows (label_rows db) (db.trees table.tree)
+
+unfoldable pub shown_rows : Database → List Row
+shown_rows db = shown_in db
+    (find (λ table. same_name table.name (codes "node2")) db.schema.tables)
 
 -- the row has one label
 abbrev pub HasLabel : List Row → Row → Type 0

@@ -80,8 +80,8 @@ node_index = record {
 }
 
 -- the two tables, `node` made first
-abbrev pub turned_schema : Schema
-turned_schema = record {
+abbrev pub turned_old_schema : Schema
+turned_old_schema = record {
   tables = record node_table { tree = 0 } ∷ record layout_table { tree = 2 }
       ∷ [];
   indexes = record node_index { tree = 1; table = 0 } ∷ [];
@@ -89,17 +89,17 @@ turned_schema = record {
 }
 
 -- the two tables, `layout` made first
-abbrev pub store_schema : Schema
-store_schema = record {
+abbrev pub old_schema : Schema
+old_schema = record {
   tables = layout_table ∷ node_table ∷ [];
   indexes = node_index
       ∷ [];
   views = [];
 }
 
--- these two tables and no others, whichever was made first
-abbrev pub IsStoreSchema : Schema → Type 0
-IsStoreSchema schema = (schema ≡ store_schema) ⊎ (schema ≡ turned_schema)
+-- the tables of edition 1 and no others, whichever was made first
+abbrev pub IsOldSchema : Schema → Type 0
+IsOldSchema schema = (schema ≡ old_schema) ⊎ (schema ≡ turned_old_schema)
 
 -- the rows of a table, where there is one
 abbrev pub rows_in : Database → Option Table → List Row
@@ -117,7 +117,3 @@ layout_rows = rows_named (codes "layout")
 -- the rows of the table `node`
 unfoldable pub node_rows : Database → List Row
 node_rows = rows_named (codes "node")
-
--- the rows of nodes that the tables stand for
-abbrev pub shown_rows : Database → List Row
-shown_rows db = node_rows db

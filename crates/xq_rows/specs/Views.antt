@@ -11,7 +11,7 @@ use Rattle.sqlite.specs.Held.{Held, held_code, state}
 use Rattle.xq_regions.specs.Tree.{Tree}
 use Rattle.xq_sources.specs.Meters.{Readings}
 use Rattle.xq_rows.specs.Documents.{Map, IsStore, IsClean, StandsFor, tree_at, documents_of}
-use Rattle.xq_rows.specs.Tables.{shown_rows}
+use Rattle.xq_rows.specs.Labels.{shown_rows}
 
 -- # What contracts see of a view
 

@@ -6,3 +6,4 @@ pub mod Columns
 pub mod Adopt
 pub mod Statements
 pub mod Refusals
+pub mod Carries

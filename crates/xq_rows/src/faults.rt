@@ -2,7 +2,6 @@
 ghost use Rattle.std.specs.Prelude.{◌≡◌};
 
 use crate::refusals::Refusal;
-use sqlite::ErrorCode;
 use thiserror::Error;
 use xq_atoms::Want;
 
@@ -17,19 +16,24 @@ pub enum OpenFault {
     NotAStore,
 }
 
-/// A statement that is refused since other tables are there, or none, tells of no store; any
-/// other refusal of the database is a want.
+/// A refusal of the database tells nothing of its tables, which are looked at before.
 impl From<sqlite::Error> for OpenFault {
     ghost use Rattle.xq_rows.specs.private.Adopt.{fault_of};
 
     ghost from_gives = { λ error fault. fault ≡ fault_of error };
 
     fn from(error: sqlite::Error) -> Self {
-        match error {
-            sqlite::Error::SqlInputError(_) | sqlite::Error::SqliteFailure(ErrorCode::NameTaken) =>
-                { OpenFault::NotAStore }
-            error => OpenFault::Want(Want::from(Refusal(error))),
-        }
+        OpenFault::Want(Want::from(Refusal(error)))
+    }
+}
+
+impl From<Refusal> for OpenFault {
+    ghost use Rattle.xq_rows.specs.private.Adopt.{fault_of};
+
+    ghost from_gives = { λ refusal fault. fault ≡ fault_of refusal.0 };
+
+    fn from(refusal: Refusal) -> Self {
+        OpenFault::Want(Want::from(refusal))
     }
 }
 

@@ -1,5 +1,5 @@
 //! Rows of nodes that are judged as they are read. In hand are those of one address.
-ghost use Rattle.std.specs.Prelude.{◌≡◌, ◌≢◌, ◌≤◌, ℕ, List, [], ◌∷◌, ◌++◌, false, IfErr, IfOk, IfSome, IsSorted, IsTrue, None, OnOk};
+ghost use Rattle.std.specs.Prelude.{◌≡◌, ◌≢◌, ◌≤◌, ℕ, List, [], ◌∷◌, ◌++◌, false, IfErr, IfOk, IfSome, IsSorted, IsTrue, None, OnOk, length};
 ghost use Rattle.sqlite.specs.Held.{state};
 ghost use Rattle.sqlite.specs.State.{HasCleanDisk};
 ghost use Rattle.sqlite_trees.specs.View.{doubt};
@@ -145,8 +145,8 @@ impl Run {
 }
 
 /// Judges the rows of nodes that an answer gives from here on, in the order of address and number:
-/// one run for each address. An answer that would not end is refused.
-pub fn check_runs<S: Alter>(alloc: Global, rows: &mut Rows<'_, S>) -> Result<(), OpenFault>
+/// one run for each address. It says how many there are; an answer that would not end is refused.
+pub fn check_runs<S: Alter>(alloc: Global, rows: &mut Rows<'_, S>) -> Result<u64, OpenFault>
     ensures same_reference { rows.new.conn.ghost_name ≡ rows.old.conn.ghost_name }
     ensures mode { rows.old.conn.now.in_transaction ≡ false
         → rows.new.conn.now.in_transaction ≡ false }
@@ -157,17 +157,20 @@ pub fn check_runs<S: Alter>(alloc: Global, rows: &mut Rows<'_, S>) -> Result<(),
     ensures ends_open { HasCleanDisk (state S.Store rows.new.conn.now)
         → OnOk result (IsTrue (state S.Store rows.new.conn.now).is_open) }
     ensures ok { HasCleanDisk (state S.Store rows.new.conn.now)
-        → OnOk result (GivesRows S.Store rows.old.conn.now rows.new.conn.now
-        (λ given. IsSorted by_place given → AreDocumentRuns given)) }
+        → IfOk result (λ count. GivesRows S.Store rows.old.conn.now rows.new.conn.now
+        (λ given. (IsSorted by_place given → AreDocumentRuns given) × (count ≡ length given))) }
     ensures err { IsReady (state S.Store rows.new.conn.now)
         → IfErr result (λ fault. fault ≡ OpenFault.NotAStore
         → ShowsNoDocuments S.Store rows.old.conn.now rows.new.conn.now) }
 {
     let mut run = Run::new(alloc);
-    for _ in 0..u64::MAX {
+    for count in 0..u64::MAX {
         let row = match rows.next() {
             Ok(Some(row)) => row,
-            Ok(None) => return run.check(),
+            Ok(None) => {
+                run.check()?;
+                return Ok(count);
+            }
             Err(error) => return Err(OpenFault::Want(Want::from(Refusal(error)))),
         };
         run = run.with_row(alloc, row)?;

@@ -6,11 +6,15 @@
 #![tactic(auto)]
 
 mod adopt;
+mod adoptions;
+mod carries;
 mod faults;
 mod fronts;
 mod judgements;
+mod labels;
 mod laws;
 mod lending;
+mod listings;
 mod memory_files;
 mod readings;
 mod refusals;

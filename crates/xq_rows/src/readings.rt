@@ -5,7 +5,7 @@ ghost use Rattle.sqlite.specs.Held.{state};
 ghost use Rattle.xq_rows.specs.Documents.{IsReady};
 ghost use Rattle.xq_rows.specs.private.Statements.{AreAbove, AreAddresses, Finds, IsRange};
 ghost use Rattle.xq_rows.specs.private.Keeps.{StaysOutside};
-ghost use Rattle.xq_rows.specs.Tables.{IsStoreSchema};
+ghost use Rattle.xq_rows.specs.Labels.{IsStoreSchema};
 ghost use Rattle.sqlite_value.specs.declared.value.Value.TheVariants.{Text};
 ghost use Rattle.xq_regions.specs.Rows.{placed};
 ghost use Rattle.xq_regions.specs.Tree.{IsDocument};
@@ -21,7 +21,7 @@ use xq_atoms::Want;
 use xq_regions::{Fragment, NodeRow};
 
 /// The nodes of rows.
-fn node_rows(alloc: Global, rows: &[Row]) -> Result<Vec<NodeRow>, Want>
+pub fn node_rows(alloc: Global, rows: &[Row]) -> Result<Vec<NodeRow>, Want>
     ensures { IfOk result (λ nodes. map cells (map placed nodes.items) ≡ map node_of rows.now) }
 {
     let mut nodes = Vec::with_capacity(alloc, rows.len())?;

@@ -10,10 +10,11 @@ ghost use Rattle.xq_regions.specs.Rows.{placed};
 ghost use Rattle.xq_rows.specs.Documents.{IsReady, is_at};
 ghost use Rattle.xq_rows.specs.Nodes.{cells};
 ghost use Rattle.xq_regions.specs.Codes.{kind_number as number_of_lem};
-ghost use Rattle.xq_rows.specs.private.Statements.{Adds, AreAbove, AreAddresses, Drops, IsRange, is_part};
+ghost use Rattle.xq_rows.specs.private.Statements.{Adds, AddsNamed, AreAbove, AreAddresses, Drops, IsRange, is_part};
 ghost use Rattle.xq_rows.specs.private.Keeps.{StaysInside, StaysOutside};
-ghost use Rattle.xq_rows.specs.Tables.{IsStoreSchema};
+ghost use Rattle.xq_rows.specs.Labels.{IsStoreSchema};
 
+use crate::labels::{Names, number_in_hand};
 use crate::refusals::Refusal;
 use crate::rows::{rest_as_nodes, rest_as_texts};
 use sqlite::{Alter, Connection, Error, Row, Transaction, params};
@@ -44,7 +45,7 @@ pub fn delete_rows<S: Alter>(
         → IfOk result (Drops (is_at address.now) (state S.Store transaction.old.conn.now)
         (state S.Store transaction.new.conn.now)) }
 {
-    transaction.execute("DELETE FROM node WHERE address = ?1", params![address])
+    transaction.execute("DELETE FROM node2 WHERE address = ?1", params![address])
 }
 
 /// Deletes the rows of an address whose numbers are from `low` up to, and without, `high`, and says
@@ -61,44 +62,48 @@ pub fn delete_part<S: Alter>(
         (state S.Store transaction.old.conn.now) (state S.Store transaction.new.conn.now)) }
 {
     transaction.execute(
-        "DELETE FROM node WHERE address = ?1 AND pre >= ?2 AND pre < ?3",
+        "DELETE FROM node2 WHERE address = ?1 AND pre >= ?2 AND pre < ?3",
         params![address, low, high],
     )
 }
 
-/// Inserts one row under an address.
+/// Inserts one row under an address, with the number of the label of its name.
 pub fn insert_row<S: Alter>(
     transaction: &mut Transaction<'_, S>,
     address: &str,
     row: &NodeRow,
+    label: u32,
 ) -> Result<usize, Error>
     ensures inside { StaysInside S.Store transaction.old transaction.new }
     ensures added { HasCleanDisk (state S.Store transaction.new.conn.now)
-        → OnOk result (Adds address.now (cells (placed row.now) ∷ [])
+        → OnOk result (Adds address.now (placed row.now) label
         (state S.Store transaction.old.conn.now) (state S.Store transaction.new.conn.now)) }
 {
     let kind = number_of(row.kind);
     transaction.execute(
-        "INSERT INTO node (address, pre, size, level, kind, name, value) VALUES (?1, ?2, ?3, ?4, ?5, ?6, ?7)",
+        "INSERT INTO node2 (address, pre, size, level, kind, label, value) VALUES (?1, ?2, ?3, ?4, ?5, ?6, ?7)",
         params![
-            address, row.pre, row.size, row.level, kind, &row.name, &row.value
+            address, row.pre, row.size, row.level, kind, label, &row.value
         ],
     )
 }
 
-/// Inserts rows under an address.
+/// Inserts rows under an address, and the labels that their names want.
 pub fn insert_rows<S: Alter>(
     transaction: &mut Transaction<'_, S>,
+    names: &mut Names,
     address: &str,
     rows: &[NodeRow],
 ) -> Result<(), Error>
     ensures inside { StaysInside S.Store transaction.old transaction.new }
     ensures added { HasCleanDisk (state S.Store transaction.new.conn.now)
-        → OnOk result (Adds address.now (map cells (map placed rows.now))
-        (state S.Store transaction.old.conn.now) (state S.Store transaction.new.conn.now)) }
+        → OnOk result (AddsNamed address.now (map cells (map placed rows.now))
+        names.old.entries names.new.entries (state S.Store transaction.old.conn.now)
+        (state S.Store transaction.new.conn.now)) }
 {
     for row in rows {
-        let _count = insert_row(transaction, address, row)?;
+        let label = number_in_hand(transaction, names, &row.name)?;
+        let _count = insert_row(transaction, address, row, label)?;
     }
     Ok(())
 }
@@ -125,7 +130,7 @@ pub fn read_range<S: Alter>(
 {
     let _settled = conn.is_autocommit();
     let mut rows = conn.query(
-        "SELECT pre, size, level, kind, name, value FROM node WHERE address = ?1 AND pre >= ?2 AND pre <= ?3 ORDER BY pre",
+        "SELECT pre, size, level, kind, name, value FROM node2 INNER JOIN label ON label = id WHERE address = ?1 AND pre >= ?2 AND pre <= ?3 ORDER BY pre",
         params![address, low, high],
     )?;
     rest_as_nodes(alloc, &mut rows)
@@ -150,7 +155,7 @@ pub fn read_enclosing<S: Alter>(
 {
     let _settled = conn.is_autocommit();
     conn.query_all(
-        "SELECT pre, size, level, kind, name, value FROM node WHERE address = ?1 AND pre < ?2 AND pre + size >= ?2 ORDER BY pre",
+        "SELECT pre, size, level, kind, name, value FROM node2 INNER JOIN label ON label = id WHERE address = ?1 AND pre < ?2 AND pre + size >= ?2 ORDER BY pre",
         params![address, node],
     )
 }
@@ -173,7 +178,7 @@ pub fn read_addresses<S: Alter>(
 {
     let _settled = conn.is_autocommit();
     let mut rows = conn.query(
-        "SELECT address FROM node WHERE pre = 0 ORDER BY address",
+        "SELECT address FROM node2 WHERE pre = 0 ORDER BY address",
         &[],
     )?;
     rest_as_texts(alloc, &mut rows)

@@ -4,31 +4,31 @@
 //! written), which `was_clean` takes back to the call before, and speaks of whichever map the store
 //! stands for as the call begins. A store that has shut, after a fault or where memory ran out in a
 //! commit, stands for the map that it stood for then: each later call is refused, by `answered`.
-ghost use Rattle.std.specs.Prelude.{◌≡◌, ◌⊎◌, IfErr, IfOk, IfSome, IsTrue, OnErr, OnOk, Some, map, string_bytes, if◌then◌else◌, false};
+ghost use Rattle.std.specs.Prelude.{◌≡◌, ◌⊎◌, [], IfErr, IfOk, IfSome, IsTrue, OnErr, OnOk, Some, map, string_bytes, if◌then◌else◌, false};
 ghost use Rattle.std.specs.FinMap.{get, insert, remove, keys, contains_key, empty};
 ghost use Rattle.sqlite.specs.Files.{over_files};
 ghost use Rattle.sqlite.specs.Held.{state};
 ghost use Rattle.sqlite.specs.Steps.{over_memory};
 ghost use Rattle.xq_atoms.specs.Address.{IsAddress};
 ghost use Rattle.xq_regions.specs.declared.Kind.TheVariants.{Document};
-ghost use Rattle.xq_rows.specs.Adoption.{IsBlank, HasTables};
+ghost use Rattle.xq_rows.specs.Adoption.{IsBlank, HasOldTables, HasStoreTables, HasTables};
 ghost use Rattle.xq_regions.specs.Rows.{placed};
 ghost use Rattle.xq_regions.specs.Tree.{IsDocument, Tree};
-ghost use Rattle.sqlite.specs.State.{HasCleanDisk};
 ghost use Rattle.xq_rows.specs.declared.shelves.Shelf.{Shelf};
-ghost use Rattle.xq_rows.specs.Documents.{IsReady, IsStore, IsClean, IsOpen, IsUp, HoldsDocuments, Map, StandsFor, documents};
-ghost use Rattle.xq_rows.specs.private.Keeps.{AreOf, IsKeeping, IsKept, LeavesAlone, StaysOutside};
+ghost use Rattle.xq_rows.specs.Documents.{IsStore, IsClean, IsOpen, IsUp, HoldsDocuments, Map, StandsFor, documents};
+ghost use Rattle.xq_rows.specs.private.Keeps.{AreOf, IsKept, LeavesAlone};
+ghost use Rattle.xq_rows.specs.Tables.{node_rows};
 ghost use Rattle.xq_rows.specs.private.Shelves.{HasDropped, HasPut};
-ghost use Rattle.xq_rows.specs.private.Statements.{IsEmptyStore};
-ghost use Rattle.xq_rows.specs.Tables.{IsStoreSchema};
+ghost use Rattle.xq_rows.specs.Labels.{IsStoreSchema};
 ghost use Rattle.xq_sources.specs.Sources.{rows_between, rows_enclosing};
 
-use crate::adopt::adopt_tables;
+use crate::adoptions::adopt_tables;
 use crate::faults::OpenFault;
 use crate::fronts::with_room;
+use crate::listings::list_shelf;
 use crate::memory_files::open_empty;
-use crate::readings::{check_open, document_of, list_addresses, nodes_above, nodes_between};
-use crate::schemas::is_new;
+use crate::readings::{check_open, document_of, nodes_above, nodes_between};
+use crate::schemas::tables_in;
 use crate::shelves::{Front, Shelf, time_of};
 use crate::tables::make_tables;
 use crate::transactions::{drop_rows, put_rows};
@@ -38,7 +38,6 @@ use std::marker::Model;
 use xq_atoms::Want;
 use xq_memory_disk::MemoryDisk;
 use xq_regions::{Fragment, NodeRow};
-use xq_sources::Addresses;
 
 /// Documents under addresses, in the tables of a database. Contracts see the store's connection,
 /// which is in no transaction, and speak of it by `IsClean`, `IsOpen` and `StandsFor`.
@@ -124,22 +123,25 @@ impl Store<FileStore<MemoryDisk>> {
 
 impl<S: Alter> Store<S> {
     /// The store whose tables a database holds, with the documents that these stand for. Where the
-    /// database holds no table they are made, and there is no document.
+    /// database holds no table they are made, and there is no document. The documents of tables of
+    /// edition 1 are carried over into those of edition 2, and `node` is left empty.
     ///
-    /// Tables that are there are read a row at a time, with the rows of one document in hand; they
-    /// are made in one transaction. A refusal gives the connection back, with the database as it
-    /// was: [`OpenFault::NotAStore`] where it holds anything else than the two tables as a store
-    /// makes them, another edition than 1, or rows that are not those of documents under good
-    /// addresses, and [`OpenFault::Want`] where memory runs out or the database refuses for another
-    /// cause.
+    /// Tables that are there are read a row at a time, with the rows of one document in hand; what is
+    /// made or carried over is so in one transaction. A refusal gives the connection back, with the
+    /// database as it was: [`OpenFault::NotAStore`] where it holds anything else than the tables as a
+    /// store of either edition makes them, another edition than these tables have, labels that are
+    /// not those of a store, or rows that are not those of documents under good addresses, and
+    /// [`OpenFault::Want`] where memory runs out or the database refuses for another cause.
     pub fn adopt(alloc: Global, conn: Connection<S>) -> Result<Store<S>, (OpenFault, Connection<S>)>
         requires { conn.in_transaction ≡ false }
         ensures made { IfOk result (λ store. IsClean S.Store store → IsBlank S.Store conn
             → StandsFor S.Store store empty) }
         ensures found { IfOk result (λ store. IsClean S.Store store → HasTables S.Store conn
             → HoldsDocuments S.Store conn × StandsFor S.Store store (documents S.Store conn)) }
-        ensures same { IfOk result (λ store. IsClean S.Store store → HasTables S.Store conn
+        ensures same { IfOk result (λ store. IsClean S.Store store → HasStoreTables S.Store conn
             → (state S.Store store).now ≡ (state S.Store conn).now) }
+        ensures emptied { IfOk result (λ store. IsClean S.Store store → HasOldTables S.Store conn
+            → node_rows (state S.Store store).now ≡ []) }
         ensures known { IfOk result (λ store. IsBlank S.Store conn ⊎ HasTables S.Store conn) }
         ensures open { IfOk result (λ store. IsClean S.Store store
             → IsOpen S.Store store × IsOpen S.Store conn) }
@@ -154,15 +156,12 @@ impl<S: Alter> Store<S> {
             → IsOpen S.Store conn) }
     {
         let mut conn = conn;
-        let Some(was_blank) = is_new(conn.schema()) else {
+        let Some(tables) = tables_in(conn.schema()) else {
             return Err((OpenFault::NotAStore, conn));
         };
-        if let Err(fault) = adopt_tables(alloc, &mut conn) {
-            return Err((fault, conn));
-        }
-        match first_shelf(alloc, &mut conn, was_blank) {
+        match adopt_tables(alloc, &mut conn, tables) {
             Ok(shelf) => Ok(Store { alloc, conn, shelf }),
-            Err(want) => Err((OpenFault::Want(want), conn)),
+            Err(fault) => Err((fault, conn)),
         }
     }
 
@@ -207,7 +206,7 @@ impl<S: Alter> Store<S> {
 
     /// What is kept of the documents, or their addresses with no row. Nothing is kept from then on.
     pub(crate) fn take_shelf(&mut self) -> Result<Shelf, Want>
-        ensures shelf { IsClean S.Store self.new → HoldsDocuments S.Store self.old
+        ensures shelf { IsClean S.Store self.new → IsStore (state S.Store self.old).now
             → IfOk result (λ shelf. AreOf (state S.Store self.old).now
             shelf.addresses.value shelf.fronts.items) }
         ensures own { IsUp S.Store self.new → IfOk result (λ shelf. IsTrue shelf.stays
@@ -301,7 +300,7 @@ impl<S: Alter> Store<S> {
         ensures was_clean { IsClean S.Store self.new → IsClean S.Store self.old }
     {
         let kept = self.shelf.take();
-        let replaced = put_rows(&mut self.conn, address, document.rows())?;
+        let replaced = put_rows(self.alloc, &mut self.conn, address, document.rows())?;
         self.shelf = shelf_with(kept, address, Front::new(self.alloc));
         Ok(Put::of(replaced))
     }
@@ -324,7 +323,7 @@ impl<S: Alter> Store<S> {
         ensures was_clean { IsClean S.Store self.new → IsClean S.Store self.old }
     {
         let others = self.shelf.take();
-        let replaced = put_rows(&mut self.conn, address, document.rows())?;
+        let replaced = put_rows(self.alloc, &mut self.conn, address, document.rows())?;
         let shelf = with_room(self.alloc, others, document.rows().len());
         let front = Front::whole(self.alloc, document, time_of(&shelf));
         self.shelf = shelf_with(shelf, address, front);
@@ -365,58 +364,11 @@ impl<S: Alter> Store<S> {
     }
 }
 
-/// The addresses of the documents in the tables, with no row of one.
-fn list_shelf<S: Alter>(alloc: Global, conn: &mut Connection<S>) -> Result<Shelf, Want>
-    requires { conn.old.in_transaction ≡ false }
-    ensures outside { StaysOutside S.Store conn.old conn.new }
-    ensures ends_open { HasCleanDisk (state S.Store conn.new)
-        → OnOk result (IsTrue (state S.Store conn.new).is_open) }
-    ensures same { IsReady (state S.Store conn.new)
-        → IsStoreSchema (state S.Store conn.old).now.schema
-        → (state S.Store conn.new).now ≡ (state S.Store conn.old).now }
-    ensures shelf { IsReady (state S.Store conn.new) → IsStore (state S.Store conn.old).now
-        → IfOk result (λ shelf. AreOf (state S.Store conn.old).now shelf.addresses.value
-        shelf.fronts.items) }
-{
-    let list = list_addresses(alloc, conn)?;
-    let Some(addresses) = Addresses::from_rising(list) else {
-        return Err(Want::Store);
-    };
-    Shelf::unread(alloc, addresses)
-}
-
 /// A list of the same texts.
 fn copied(alloc: Global, texts: &[String]) -> Result<Vec<String>, Want>
     ensures { IfOk result (λ copy. map string_bytes copy.items ≡ map string_bytes texts.now) }
 {
     Ok(texts.to_vec(alloc)?)
-}
-
-/// What is kept of a database that was adopted: of one that was blank no address, and of one that
-/// had the tables of a store those that they hold.
-fn first_shelf<S: Alter>(
-    alloc: Global,
-    conn: &mut Connection<S>,
-    was_blank: bool,
-) -> Result<Option<Shelf>, Want>
-    requires { conn.old.in_transaction ≡ false }
-    ensures outside { StaysOutside S.Store conn.old conn.new }
-    ensures ends_open { HasCleanDisk (state S.Store conn.new)
-        → IsTrue (state S.Store conn.old).is_open
-        → OnOk result (IsTrue (state S.Store conn.new).is_open) }
-    ensures same { IsReady (state S.Store conn.new) → IsStore (state S.Store conn.old).now
-        → (state S.Store conn.new).now ≡ (state S.Store conn.old).now }
-    ensures shelf { IsReady (state S.Store conn.new) → IsStore (state S.Store conn.old).now
-        → (IsTrue was_blank → IsEmptyStore (state S.Store conn.old).now)
-        → IfOk result (λ kept. IfSome kept (λ shelf. AreOf (state S.Store conn.old).now
-        shelf.addresses.value shelf.fronts.items)) }
-    ensures err { OnErr result (was_blank ≡ false) }
-{
-    if was_blank {
-        return Ok(Shelf::empty(alloc));
-    }
-    let shelf = list_shelf(alloc, conn)?;
-    Ok(Some(shelf))
 }
 
 /// What is kept after a put, if anything is.

@@ -13,6 +13,7 @@ use crate::refusals::Refusal;
 use crate::replacements::replace_rows;
 use crate::statements::delete_rows;
 use sqlite::{Alter, Connection};
+use std::alloc::Global;
 use xq_regions::NodeRow;
 
 /// Takes the rows of an address out, and says how many there were.
@@ -36,6 +37,7 @@ pub fn drop_rows<S: Alter>(conn: &mut Connection<S>, address: &str) -> Result<us
 
 /// Puts these rows in the place of those of the address, and says whether there were any.
 pub fn put_rows<S: Alter>(
+    alloc: Global,
     conn: &mut Connection<S>,
     address: &str,
     rows: &[NodeRow],
@@ -54,7 +56,7 @@ pub fn put_rows<S: Alter>(
 {
     let _settled = conn.is_autocommit();
     let mut transaction = conn.transaction();
-    let replaced = replace_rows(&mut transaction, address, rows)?;
+    let replaced = replace_rows(alloc, &mut transaction, address, rows)?;
     transaction.commit()?;
     Ok(replaced)
 }

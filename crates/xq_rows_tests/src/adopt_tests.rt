@@ -174,10 +174,15 @@ fn outline<S: Alter>(alloc: Global, conn: &mut Connection<S>) -> Result<String, 
     Ok(text)
 }
 
-/// The tables, the editions and the nodes.
+/// The rows of the table of edition 1, as a text each.
+const OLD_ROWS: &str =
+    "SELECT address || ' ' || pre || ' ' || size || ' ' || level || ' ' || kind || ' ' || name || ' ' || value FROM node ORDER BY address, pre";
+
+/// The tables, the editions and the nodes of both editions.
 fn picture<S: Alter>(alloc: Global, conn: &mut Connection<S>) -> Result<String, Fail> {
     let mut text = outline(alloc, conn)?;
     text.push_str(shown(alloc, conn, ROWS_AS_TEXT)?.as_str())?;
+    text.push_str(shown(alloc, conn, OLD_ROWS)?.as_str())?;
     Ok(text)
 }
 
@@ -270,7 +275,10 @@ fn an_empty_database(rt: HostRuntime) -> Result<(), Fail> {
     assert_eq!(rt; first_wrong(&mut store, &documents, &CALL_ROWS)?, 0);
     let mut conn = store.release();
     let outline = outline(rt.alloc(), &mut conn)?;
-    assert_eq!(rt; outline.as_str(), "layout|node|sqlite_autoindex_node_1|1|");
+    assert_eq!(rt;
+        outline.as_str(),
+        "label|layout|node2|sqlite_autoindex_label_1|sqlite_autoindex_node2_1|2|"
+    );
     Ok(())
 }
 

@@ -18,6 +18,8 @@ mod documents;
 #[cfg(test)]
 mod kept_tests;
 #[cfg(test)]
+mod label_tests;
+#[cfg(test)]
 mod lending_tests;
 #[cfg(test)]
 mod loans;

@@ -17,7 +17,7 @@ const LIBRARY_ROWS: &str =
 
 /// Shows each row of the table as a text.
 pub const ROWS_AS_TEXT: &str =
-    "SELECT address || ' ' || pre || ' ' || size || ' ' || level || ' ' || kind || ' ' || name || ' ' || value || '|' FROM node ORDER BY address, pre";
+    "SELECT address || ' ' || pre || ' ' || size || ' ' || level || ' ' || kind || ' ' || name || ' ' || value || '|' FROM node2 INNER JOIN label ON label = id ORDER BY address, pre";
 
 /// The rows of the table, in the order of the addresses and of the numbers.
 fn table_rows<S: Alter>(alloc: Global, conn: &mut Connection<S>) -> Result<String, Fail> {

@@ -16,7 +16,7 @@ use Rattle.xq_queries.specs.ReadBack.{HaveNumbersInRange}
 use Rattle.sqlite.specs.Effect.{Database}
 use Rattle.xq_printable.specs.Legible.{AreTrees}
 use Rattle.xq_rows.specs.Documents.{Map, IsStore, IsClean, IsOpen, StandsFor, tree_at, documents_in}
-use Rattle.xq_rows.specs.Tables.{node_rows}
+use Rattle.xq_rows.specs.Labels.{shown_rows}
 use Rattle.xq_rows.proofs.Keys.{values_are, get_at}
 use Rattle.xq_rows.proofs.Ranges.{own_document}
 use Rattle.xq_rows.specs.Views.{Beginning, HeldDocuments, StoodFor, WasClean, WasOpen, beginning}
@@ -85,9 +85,9 @@ all_mapped P f [] h = tt
 all_mapped P f (x ∷ xs) h = (h.0, all_mapped P f xs h.1)
 
 -- the documents that tables hold are trees
-held_trees : (db : Database) → IsStore db → AreTrees (values (documents_in (node_rows db)))
+held_trees : (db : Database) → IsStore db → AreTrees (values (documents_in (shown_rows db)))
 held_trees db store =
-    let table = node_rows db in
+    let table = shown_rows db in
     subst AreTrees (sym (values_are table store.named store.whole))
     (all_mapped IsTree (tree_at table) (keys (documents_in table)) (all_at (λ (a : List ℕ). IsTree (tree_at table a)) (keys (documents_in table)) (λ i a here.
     own_document db a (tree_at table a) store (get_at table store.named store.whole i a here))))

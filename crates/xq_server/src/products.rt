@@ -1,11 +1,11 @@
 //! What is made of a query's value while its documents can be read.
-ghost use Rattle.std.specs.Prelude.{◌≤◌, ⊤, List, IfOk, length};
+ghost use Rattle.std.specs.Prelude.{◌≤◌, List, IfOk, length};
 ghost use Rattle.xq_atoms.specs.Judged.{Judged};
 ghost use Rattle.xq_atoms.specs.Text.{Text};
 ghost use Rattle.xq_regions.specs.Tree.{Tree};
 ghost use Rattle.xq_sources.specs.Meters.{Readings};
 ghost use Rattle.xq_meaning.specs.declared.plans.Plan.{Plan as PlanLem};
-ghost use Rattle.xq_queries.specs.Reads.{ReadsAndPrints};
+ghost use Rattle.xq_queries.specs.Reads.{ReadsAndCopies, ReadsAndPrints};
 ghost use Rattle.xq_queries.specs.Values.{Value, plan_value};
 ghost use Rattle.xq_server.specs.private.Work.{Makes, MakesText, MakesDocument, IsShortText, HasDocumentRoot};
 
@@ -66,7 +66,7 @@ impl Product for Fragment {
 
     ghost is_sound = { HasDocumentRoot };
 
-    ghost has_read = { λ _ _ _ _ _. ⊤ };
+    ghost has_read = { ReadsAndCopies };
 
     fn of<W: Growing>(
         alloc: Global,

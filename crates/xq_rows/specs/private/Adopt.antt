@@ -1,19 +1,23 @@
 -- What the adoption of a database tells of it.
-use Rattle.std.specs.Prelude.{◌≡◌, ◌≢◌, ◌⊎◌, ℕ, ℤ, pos, Option, None, Some, Bool, true, false, List, [], ◌∷◌, ◌++◌, map, filter, IsPermutation, IsSorted}
+use Rattle.std.specs.Prelude.{◌≡◌, ◌≢◌, ◌⊎◌, ◌↔◌, ◌&&◌, ℕ, ℤ, pos, Option, None, Some, Bool, true, Result, Ok, Err, List, [], ◌∷◌, ◌++◌, length, map, filter, IsPermutation, IsSorted, IsTrue}
 use Rattle.std.specs.declared.cmp.Ordering.{Ordering}
 use Rattle.std.specs.declared.cmp.Ordering.TheVariants.{Less}
 use Rattle.std.specs.Ordering.{is_eq, on, then_cmp}
 use Rattle.std.specs.List.{AllByRecursion}
 use Rattle.sqlite_value.specs.Order.{Row, column, value_cmp}
 use Rattle.sqlite_value.specs.declared.value.Value.TheVariants.{Int, Text}
-use Rattle.sqlite_trees.specs.Tree.{rowid}
 use Rattle.sqlite_trees.specs.declared.store.Store.{Ghosts}
 use Rattle.sqlite_resolve.specs.declared.error.CompileError.{CompileError}
 use Rattle.sqlite.specs.Effect.{Database}
-use Rattle.sqlite.specs.Held.{Held}
+use Rattle.sqlite.specs.Held.{Held, state}
 use Rattle.sqlite.specs.declared.error.Error.{Error}
-use Rattle.sqlite.specs.declared.error.Error.TheVariants.{SqliteFailure, SqlInputError}
-use Rattle.sqlite.specs.declared.error.ErrorCode.TheVariants.{NameTaken, OutOfMemory}
+use Rattle.sqlite.specs.declared.error.Error.TheVariants.{SqliteFailure}
+use Rattle.sqlite.specs.declared.error.ErrorCode.TheVariants.{OutOfMemory}
+use Rattle.sqlite.specs.Command.{Command}
+use Rattle.sqlite.specs.Command.TheVariants.{Select}
+use Rattle.sqlite.specs.Schema.{Schema}
+use Rattle.sqlite.specs.State.{State, Shown}
+use Rattle.sqlite_resolve.specs.declared.compiled.Compiled.{Compiled}
 use Rattle.xq_atoms.specs.Address.{IsAddress}
 use Rattle.xq_atoms.specs.declared.refusals.Want.TheVariants.{Memory}
 use Rattle.xq_regions.specs.Tree.{Tree, IsDocument}
@@ -21,41 +25,41 @@ use Rattle.xq_regions.specs.Rows.{placed, placed_rows}
 use Rattle.xq_rows.specs.declared.judgements.Run.{Run}
 use Rattle.xq_rows.specs.declared.faults.OpenFault.{OpenFault}
 use Rattle.xq_rows.specs.declared.faults.OpenFault.TheVariants.{Want, NotAStore}
-use Rattle.xq_rows.specs.Documents.{AreApart, HaveInts, HasAddress, rows_at, IsIntact, IsStore}
+use Rattle.xq_rows.specs.Documents.{AreApart, HaveInts, HasAddress, rows_at, IsIntact, IsOldStore, IsStore}
+use Rattle.xq_rows.specs.private.Carries.{HasCarried}
 use Rattle.xq_rows.specs.private.Statements.{IsEmptyStore}
 use Rattle.xq_rows.specs.Nodes.{cells}
 use Rattle.xq_rows.specs.private.Columns.{node_of}
 use Rattle.xq_rows.specs.private.Refusals.{want_of}
 use Rattle.xq_rows.specs.private.Streams.{BeginsWith, GivesRows}
-use Rattle.xq_rows.specs.private.Schemas.{layout_schema, node_schema}
-use Rattle.xq_rows.specs.Tables.{no_schema, node_rows, layout_rows, shown_rows, IsStoreSchema}
+use Rattle.sqlite.specs.Collation.TheVariants.{Binary}
+use Rattle.sqlite_sql.specs.Ops.{binary, is_true}
+use Rattle.sqlite_sql.specs.declared.ops.BinaryOp.TheVariants.{Compare}
+use Rattle.sqlite_sql.specs.declared.ops.CompareOp.TheVariants.{Eq, Gt, Lt}
+use Rattle.xq_rows.specs.Labels.{label_rows, most_label, node2_rows, shown_rows, HasLabel, IsStoreSchema}
+use Rattle.xq_rows.specs.Tables.{layout_rows, no_schema, IsOldSchema}
 
--- An adoption that succeeds makes an empty store where no table was there, and takes the two tables
--- as they stand where they hold documents.
+-- An adoption that succeeds makes an empty store where no table was there, takes the tables of
+-- edition 2 as they stand where they hold documents, and carries over those of edition 1 that do.
 pub record IsAdopted (old new : Database) : Type 0 where
   pub made : old.schema ≡ no_schema → IsEmptyStore new
   pub found : IsStoreSchema old.schema → (new ≡ old) × IsStore old
+  pub carried : IsOldSchema old.schema → HasCarried old new
 
 -- there are tables, and they hold no documents, or are others
 pub record IsNoStore (db : Database) : Type 0 where
   pub some : db.schema ≢ no_schema
   pub none : ¬ IsStore db
+  pub old : ¬ IsOldStore db
 
--- a statement that is refused since other tables are there, or none, tells of no store; any other
--- refusal is a want
+-- a refusal of the database tells nothing of its tables, which were looked at before
 abbrev pub fault_of : Error → OpenFault
-fault_of (SqlInputError e) = NotAStore
-fault_of (SqliteFailure NameTaken) = NotAStore
 fault_of error = Want (want_of error)
 
 -- a row that cannot be read for another cause than memory is no node's
 abbrev pub row_fault : Error → OpenFault
 row_fault (SqliteFailure OutOfMemory) = Want Memory
 row_fault error = NotAStore
-
--- the statement has no meaning under the schema
-abbrev pub IsInputError : Error → Type 0
-IsInputError e = (fault : CompileError) × (e ≡ SqlInputError fault)
 
 -- # The rows that are read: the columns pre, size, level, kind, name, value and address
 
@@ -124,62 +128,82 @@ abbrev pub ShowsNoDocuments : {S : Type 0} → Ghosts S → Held S → Held S �
 ShowsNoDocuments g old new = BeginsWith g old new AreNoDocuments
     ⊎ GivesRows g old new (λ given. IsSorted by_place given → ¬ AreDocumentRuns given)
 
--- # The steps of an adoption, by the schema found
+-- # The steps of an adoption
 
--- there is a table `layout`, alone or beside `node`
-abbrev pub HasLayout : Database → Type 0
-HasLayout db = (db.schema ≡ layout_schema) ⊎ IsStoreSchema db.schema
+-- there is a table `layout`, with others of a store or of edition 1
+abbrev pub HasLayout : Schema → Type 0
+HasLayout schema = IsStoreSchema schema ⊎ IsOldSchema schema
 
--- there is no table, or `node` alone
-abbrev pub LacksLayout : Database → Type 0
-LacksLayout db = (db.schema ≡ no_schema) ⊎ (db.schema ≡ node_schema)
-
--- the editions were read
-pub record ReadsEdition (db : Database) (given : List Row) : Type 0 where
-  pub some : ¬ LacksLayout db
-  pub rows : HasLayout db → IsPermutation (map (λ r. column r 1 ∷ []) (layout_rows db)) given
-
--- there is one, and it is 1
-pub record SeesEdition (db : Database) : Type 0 where
-  pub some : ¬ LacksLayout db
-  pub first : HasLayout db → map (λ r. column r 1) (layout_rows db) ≡ Int (pos 1) ∷ []
-
--- there is one that is 1, or there is no table of editions
-abbrev pub Sees : Bool → Database → Type 0
-Sees true db = SeesEdition db
-Sees false db = ¬ HasLayout db
-
--- the rowids were read
-abbrev pub ReadsRowids : Database → List Row → Type 0
-ReadsRowids db given = IsStoreSchema db.schema
-    → IsPermutation (map (λ r. rowid r ∷ []) (node_rows db)) given
+-- there is one edition, and it is this
+abbrev pub IsEdition : Database → ℤ → Type 0
+IsEdition db edition = map (λ r. column r 1) (layout_rows db) ≡ Int edition ∷ []
 
 -- the number is above the last one
 abbrev pub IsPast : Option ℤ → ℤ → Type 0
 IsPast None n = Unit {0}
 IsPast (Some m) n = value_cmp (Int m) (Int n) ≡ Less
 
--- they are integers, each another one
-pub record SeesRowids (db : Database) : Type 0 where
-  pub alone : db.schema ≢ layout_schema
-  pub apart : IsStoreSchema db.schema → AreApart (node_rows db)
-  pub ints : IsStoreSchema db.schema → HaveInts (node_rows db)
-
 -- the nodes are the rows of the table, by address and number
 pub record AreNodes (table rows : List Row) : Type 0 where
   pub same : IsPermutation (map addressed_node table) rows
   pub sorted : IsSorted by_place rows
 
--- they were read
-abbrev pub ReadsNodes : Database → List Row → Type 0
-ReadsNodes db given = IsStoreSchema db.schema → AreNodes (node_rows db) given
+-- so many integers were read, each another one
+abbrev pub ShowsIds : {S : Type 0} → Ghosts S → List ℕ → Held S → ℕ → Type 0
+ShowsIds {S} g text old count = (new : Held S) × (rows : List Row)
+    × Shown text [] (state g old) (state g new) rows × AreApart rows × HaveInts rows
+    × (count ≡ length rows)
 
--- they are those of documents under good addresses
-pub record SeesNodes (db : Database) : Type 0 where
-  pub named : IsStoreSchema db.schema → AllByRecursion HasAddress (shown_rows db)
-  pub whole : IsStoreSchema db.schema → (address : List ℕ)
-      → (rows_at address (shown_rows db) ≡ []) ⊎ IsIntact (rows_at address (shown_rows db))
+-- so many rows were read, and they are those of documents
+abbrev pub ShowsDocuments : {S : Type 0} → Ghosts S → List ℕ → Held S → ℕ → Type 0
+ShowsDocuments {S} g text old count = (new : Held S) × (rows : List Row)
+    × Shown text [] (state g old) (state g new) rows
+    × (IsSorted by_place rows → AreDocumentRuns rows) × (count ≡ length rows)
 
--- both were judged
-abbrev pub SeesDocuments : Database → Type 0
-SeesDocuments db = SeesRowids db × SeesNodes db
+-- the rows are not those of documents
+abbrev pub ShowsOthers : {S : Type 0} → Ghosts S → List ℕ → Held S → Type 0
+ShowsOthers {S} g text old = (new : Held S) × (rows : List Row)
+    × Shown text [] (state g old) (state g new) rows
+    × (IsSorted by_place rows → ¬ AreDocumentRuns rows)
+
+-- some row was read, or none
+abbrev pub ShowsSome : List ℕ → State → State → Bool → Type 0
+ShowsSome text old new some = (rows : List Row) × Shown text [] old new rows
+    × (IsTrue some ↔ (rows ≢ []))
+
+-- the text is a SELECT without WITH
+abbrev pub IsBare : Command → Type 0
+IsBare (Select query names) = query.lets ≡ []
+IsBare command = ⊥
+
+abbrev pub IsSelect : Result Compiled CompileError → Type 0
+IsSelect (Ok c) = IsBare c.command
+IsSelect (Err e) = ⊥
+
+-- rows of nodes are those of documents under good addresses
+pub record HoldRuns (table : List Row) : Type 0 where
+  pub named : AllByRecursion HasAddress table
+  pub whole : (address : List ℕ) → (rows_at address table ≡ []) ⊎ IsIntact (rows_at address table)
+
+-- Of the labels one has number 0 and the empty name, and each number is one that a label may have,
+-- or this is not so.
+abbrev pub has_zero : Row → Bool
+has_zero l = is_true (binary (Compare Eq Binary) (column l 0) (Int (pos 0)))
+    && is_true (binary (Compare Eq Binary) (column l 2) (Text []))
+
+abbrev pub is_low : Row → Bool
+is_low l = is_true (binary (Compare Lt Binary) (column l 0) (Int (pos 0)))
+
+abbrev pub is_high : Row → Bool
+is_high l = is_true (binary (Compare Gt Binary) (column l 0) (Int (pos most_label)))
+
+abbrev pub AreBounded : Bool → List Row → Type 0
+AreBounded are labels = IsTrue are ↔ ((filter has_zero labels ≢ [])
+    × (filter is_low labels ≡ []) × (filter is_high labels ≡ []))
+
+-- each node has a label, and they are those of documents
+pub record HoldLabelled (db : Database) : Type 0 where
+  pub held : AllByRecursion (HasLabel (label_rows db)) (node2_rows db)
+  pub apart : AreApart (node2_rows db)
+  pub ints : HaveInts (node2_rows db)
+  pub runs : HoldRuns (shown_rows db)

@@ -10,7 +10,7 @@ use Rattle.sqlite_trees.specs.View.{doubt}
 use Rattle.xq_rows.specs.declared.shelves.Front.{Front}
 use Rattle.xq_rows.specs.declared.shelves.Shelf.{Shelf}
 use Rattle.xq_rows.specs.Documents.{IsReady, IsStore, documents_of, tree_at}
-use Rattle.xq_rows.specs.Tables.{shown_rows, IsStoreSchema}
+use Rattle.xq_rows.specs.Labels.{shown_rows, IsStoreSchema}
 use Rattle.xq_rows.specs.private.Shelves.{AreFronts}
 
 -- A call outside of any transaction leaves none under way. The disk was clean, and the database

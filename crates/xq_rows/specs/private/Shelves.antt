@@ -12,7 +12,7 @@ use Rattle.std.specs.List.{insert, remove, slice_set as set}
 use Rattle.xq_sources.specs.Sources.{tree_at}
 use Rattle.sqlite.specs.Held.{state}
 use Rattle.xq_rows.specs.Documents.{Map, IsClean, IsReady}
-use Rattle.xq_rows.specs.Tables.{IsStoreSchema}
+use Rattle.xq_rows.specs.Labels.{IsStoreSchema}
 use Rattle.xq_rows.specs.Views.{Beginning, HeldDocuments, Viewed, IsView, trees_under}
 
 -- these are the first rows of a tree

@@ -1,29 +1,83 @@
 -- What each statement of the store does to the tables, or gives of them.
-use Rattle.std.specs.Prelude.{◌≡◌, ◌≢◌, ◌+◌, ◌++◌, ◌&&◌, ℕ, pos, Bool, true, List, [], ◌∷◌, map, filter, length, Option, Some, None, IsPermutation, IsSorted, nat_lt, nat_le}
+use Rattle.std.specs.Prelude.{◌≡◌, ◌≢◌, ◌+◌, ◌++◌, ◌&&◌, ℕ, pos, Bool, true, List, [], ◌∷◌, map, filter, length, Option, Some, None, IsPermutation, IsSorted, nat_lt, nat_le, ◌⊎◌, IfSome, String, string_bytes}
+use Rattle.std.specs.declared.alloc.Global.{Global}
 use Rattle.std.specs.Ordering.{is_ge, is_le, is_lt}
 use Rattle.std.specs.List.{AllByRecursion}
 use Rattle.sqlite_value.specs.Order.{Row, column, value_cmp}
-use Rattle.sqlite_value.specs.declared.value.Value.TheVariants.{Int}
+use Rattle.sqlite_value.specs.declared.value.Value.TheVariants.{Int, Null, Text}
+use Rattle.sqlite_catalog.specs.Change.{KeepsRows}
+use Rattle.sqlite_rules.specs.Edit.{next_rowid}
 use Rattle.sqlite_keyed.specs.Lists.{delete_where}
 use Rattle.sqlite.specs.Effect.{Database}
 use Rattle.sqlite.specs.State.{State, Shows}
 use Rattle.xq_atoms.specs.Address.{IsAddress}
 use Rattle.xq_regions.specs.Tree.{Tree}
-use Rattle.xq_regions.specs.Rows.{Encodes}
+use Rattle.xq_regions.specs.Rows.{Encodes, Row as Node}
 use Rattle.xq_regions.specs.declared.NodeRow.{NodeRow}
 use Rattle.xq_rows.specs.Documents.{is_at, is_first, node_columns, rows_at, by_first, HasAddress, IsSound, IsStore}
-use Rattle.xq_rows.specs.Nodes.{number_in}
-use Rattle.xq_rows.specs.private.Schemas.{layout_schema, node_schema}
-use Rattle.xq_rows.specs.Tables.{no_schema, turned_schema, store_schema, node_rows, layout_rows, shown_rows, IsStoreSchema}
+use Rattle.xq_rows.specs.Nodes.{cells, number_in}
+use Rattle.xq_rows.specs.private.Schemas.{base_of, label_tree, labels_of, layout_schema, schema_of, Made}
+use Rattle.xq_rows.specs.Labels.{label_rows, node2_rows, shown_rows, IsNumberOf, IsStoreSchema}
+use Rattle.xq_rows.specs.Tables.{layout_rows, no_schema, node_rows}
 
 -- it holds the tables and no row of a document
 abbrev pub IsEmptyStore : Database → Type 0
 IsEmptyStore db = IsStore db × (shown_rows db ≡ [])
 
+-- # Labels
+
+-- labels keep their numbers
+abbrev pub KeepsLabels : Database → Database → Type 0
+KeepsLabels old new = (n : ℕ) (name : List ℕ) → IsNumberOf (label_rows old) n name
+    → IsNumberOf (label_rows new) n name
+
+-- a name has a number, of a label that was there or that comes after the last, and nothing else is
+-- changed
+pub record HasNumbered (name : List ℕ) (n : ℕ) (old new : Database) : Type 0 where
+  pub sound : IsSound new
+  pub schema : new.schema ≡ old.schema
+  pub layout : layout_rows new ≡ layout_rows old
+  pub beside : node_rows new ≡ node_rows old
+  pub rows : shown_rows new ≡ shown_rows old
+  pub keeps : KeepsLabels old new
+  pub number : IsNumberOf (label_rows new) n name
+  pub after : (label_rows new ≡ label_rows old) ⊎ (pos n ≡ next_rowid (label_rows old))
+
+-- the same inside a transaction
+pub record Numbers (name : List ℕ) (n : ℕ) (old new : State) : Type 0 where
+  pub mode : old.in_transaction ≡ true → new.in_transaction ≡ true
+  pub did : IsSound old.now → HasNumbered name n old.now new.now
+
+-- a name was looked for, and nothing is changed
+pub record Seeks (name : List ℕ) (number : Option ℕ) (old new : State) : Type 0 where
+  pub mode : new.in_transaction ≡ old.in_transaction
+  pub same : new.now ≡ old.now
+  pub found : IfSome number (λ n. IsSound old.now → IsNumberOf (label_rows old.now) n name)
+
+-- the number in the one column of the first row, or no row
+abbrev pub IsFirstNumber : Option ℕ → List Row → Type 0
+IsFirstNumber None rows = rows ≡ []
+IsFirstNumber (Some n) [] = ⊥
+IsFirstNumber (Some n) (row ∷ rows) = column row 0 ≡ Int (pos n)
+
+-- names with the numbers of their labels
+abbrev pub AreNumbers : List Row → List (String Global × ℕ) → Type 0
+AreNumbers labels = AllByRecursion (λ e. IsNumberOf labels e.1 (string_bytes e.0))
+
+-- a name has a number, and it may be among those in hand from now on
+pub record NumbersInHand (name : List ℕ) (n : ℕ) (before after : List (String Global × ℕ))
+    (old new : State) : Type 0 where
+  pub mode : old.in_transaction ≡ true → new.in_transaction ≡ true
+  pub did : IsSound old.now → AreNumbers (label_rows old.now) before
+      → HasNumbered name n old.now new.now × AreNumbers (label_rows new.now) after
+
+-- # Rows
+
 -- the rows that pass a test are gone, and nothing else is
 pub record HasDropped (gone : Row → Bool) (old new : Database) : Type 0 where
   pub sound : IsSound new
   pub layout : layout_rows new ≡ layout_rows old
+  pub labels : label_rows new ≡ label_rows old
   pub rows : shown_rows new ≡ delete_where gone (shown_rows old)
 
 -- the row is one of the address, and its number lies from low up to, and without, high
@@ -35,7 +89,10 @@ is_part address low high row = is_at address row
 -- an address has some rows more, and nothing else is changed
 pub record HasAdded (address : List ℕ) (added : List Row) (old new : Database) : Type 0 where
   pub sound : IsSound new
+  pub schema : new.schema ≡ old.schema
   pub layout : layout_rows new ≡ layout_rows old
+  pub beside : node_rows new ≡ node_rows old
+  pub keeps : KeepsLabels old new
   pub named : IsAddress address → AllByRecursion HasAddress (shown_rows old)
       → AllByRecursion HasAddress (shown_rows new)
   pub own : IsPermutation (rows_at address (shown_rows old) ++ added)
@@ -53,10 +110,18 @@ pub record Drops (gone : Row → Bool) (old new : State) (count : ℕ) : Type 0 
   pub inside : Shows old new new.now old.committed true
   pub did : Deletes gone old.now new.now count
 
--- one or more INSERTs inside a transaction
-pub record Adds (address : List ℕ) (added : List Row) (old new : State) : Type 0 where
+-- a node is inserted with the number of a label, inside a transaction
+pub record Adds (address : List ℕ) (node : ℕ × Node) (label : ℕ) (old new : State) : Type 0 where
   pub mode : old.in_transaction ≡ true → new.in_transaction ≡ true
-  pub did : IsSound old.now → HasAdded address added old.now new.now
+  pub did : IsSound old.now → IsNumberOf (label_rows old.now) label node.1.label.name
+      → HasAdded address (cells node ∷ []) old.now new.now
+
+-- nodes are inserted, with the names in hand
+pub record AddsNamed (address : List ℕ) (added : List Row)
+    (before after : List (String Global × ℕ)) (old new : State) : Type 0 where
+  pub mode : old.in_transaction ≡ true → new.in_transaction ≡ true
+  pub did : IsSound old.now → AreNumbers (label_rows old.now) before
+      → HasAdded address added old.now new.now × AreNumbers (label_rows new.now) after
 
 -- the rows of an address are these alone, and nothing else is changed
 pub record HasReplaced (address : List ℕ) (rows : List Row) (old new : Database) : Type 0 where
@@ -114,28 +179,49 @@ abbrev pub Finds : List NodeRow → Option Tree → Type 0
 Finds nodes None = nodes ≡ []
 Finds nodes (Some t) = Encodes nodes t
 
--- the statements that make the tables
+-- # The making of the tables
 
-pub record MakesLayout (old new : Database) : Type 0 where
-  pub first : old.schema ≡ no_schema → (new.schema ≡ layout_schema) × (layout_rows new ≡ [])
-  pub second : old.schema ≡ node_schema → new.schema ≡ turned_schema
+-- `layout` in a database without a table
+abbrev pub MakesLayout : Database → Database → Type 0
+MakesLayout old new = old.schema ≡ no_schema → (new.schema ≡ layout_schema) × (new.trees 0 ≡ [])
 
-pub record MakesNode (old new : Database) : Type 0 where
-  pub second : old.schema ≡ layout_schema → (new.schema ≡ store_schema)
-      × (layout_rows new ≡ layout_rows old) × (node_rows new ≡ [])
-  pub never : old.schema ≢ turned_schema
+-- `label` beside what was there
+abbrev pub MakesLabel : Database → Database → Type 0
+MakesLabel old new = (made : Made) → old.schema ≡ base_of made → (new.schema ≡ labels_of made)
+    × KeepsRows (base_of made).tables old.trees new.trees × (new.trees (label_tree made) ≡ [])
 
-pub record MakesBoth (old new : Database) : Type 0 where
-  pub both : old.schema ≡ no_schema → (new.schema ≡ store_schema) × (layout_rows new ≡ [])
-      × (node_rows new ≡ [])
-  pub never : old.schema ≢ node_schema
+-- `node2` beside these
+abbrev pub MakesNodes : Database → Database → Type 0
+MakesNodes old new = (made : Made) → old.schema ≡ labels_of made → (new.schema ≡ schema_of made)
+    × KeepsRows (labels_of made).tables old.trees new.trees × (node2_rows new ≡ [])
 
-abbrev pub WritesEdition : Database → Database → Type 0
-WritesEdition old new = old.schema ≡ store_schema → layout_rows old ≡ []
-    → (new.schema ≡ store_schema) × (layout_rows new ≡ (Int (pos 1) ∷ Int (pos 1) ∷ []) ∷ [])
-    × (node_rows new ≡ node_rows old)
+-- the label of the empty name
+abbrev pub zero_label : Row
+zero_label = Int (pos 0) ∷ Null ∷ Text [] ∷ []
+
+abbrev pub WritesZero : Database → Database → Type 0
+WritesZero old new = (made : Made) → old.schema ≡ schema_of made
+    → old.trees (label_tree made) ≡ [] → (new.schema ≡ schema_of made)
+    × KeepsRows (base_of made).tables old.trees new.trees
+    × (label_rows new ≡ zero_label ∷ []) × (node2_rows new ≡ node2_rows old)
 
 -- all three
-pub record MakesStore (old new : Database) : Type 0 where
-  pub made : old.schema ≡ no_schema → IsEmptyStore new
-  pub never : old.schema ≢ node_schema
+pub record HasLabels (made : Made) (old new : Database) : Type 0 where
+  pub schema : new.schema ≡ schema_of made
+  pub base : KeepsRows (base_of made).tables old.trees new.trees
+  pub labels : label_rows new ≡ zero_label ∷ []
+  pub nodes : node2_rows new ≡ []
+
+abbrev pub MakesLabels : Database → Database → Type 0
+MakesLabels old new = (made : Made) → old.schema ≡ base_of made → HasLabels made old new
+
+-- the edition is written into an empty `layout`, and nothing else is changed
+pub record HasEdition (old new : Database) : Type 0 where
+  pub schema : new.schema ≡ old.schema
+  pub layout : layout_rows new ≡ (Int (pos 1) ∷ Int (pos 2) ∷ []) ∷ []
+  pub labels : label_rows new ≡ label_rows old
+  pub nodes : node2_rows new ≡ node2_rows old
+  pub beside : node_rows new ≡ node_rows old
+
+abbrev pub WritesEdition : Database → Database → Type 0
+WritesEdition old new = IsStoreSchema old.schema → layout_rows old ≡ [] → HasEdition old new

@@ -1,9 +1,11 @@
 use Rattle.std.proofs.Common.{ℕ, sym, ap, subst, ◌∙◌}
 use Rattle.xq_regions.specs.Rows.{Row, rows, row_at}
+use Rattle.xq_sources.specs.Meters.{Readings}
 use Rattle.xq_sources.specs.Sources.{tree_at}
 use Rattle.xq_axes.specs.private.Reads.{span, span_end, AreCopied}
 use Rattle.xq_axes.proofs.Sizes.{one_row, size_read}
 use Rattle.xq_axes.proofs.Copying.{copied_none, copied_tree}
+use Rattle.xq_axes.proofs.Counts.{copy_counted}
 use Rattle.xq_axes.proofs.copies.copy.Goals as goal
 
 pub returns-in-Ok-clause-copied : goal.returns-in-Ok-clause-copied
@@ -21,3 +23,33 @@ returns-in-Ok-clause-copied g c = λ k. (
     (copied_none t (span node.pre high) x.level (ap (λ (p : ℕ × Row). p.1.level) read)) in
     let w = subst (λ f. AreCopied (tree_at f node.tree) (span node.pre high) node.pre node.pre x.level c.in_ok-with_capacity.field-0.items → AreCopied (tree_at f node.tree) (span node.pre high) (span_end (tree_at f node.tree) (span node.pre high)) c.walk.new.visitor.place c.walk.new.visitor.level c.walk.new.visitor.rows.items) c.in_ok-fetch_row.ensures.keeps (c.in_ok-walk.ensures.read k c.walk.new.visitor) start in
     copied_tree t c.in-Ok.copy node.pre x.size _ _ high _ sized c.saturating_add-high.ensures w c.in-Ok.ensures.ok)
+
+pub returns-in_err-walk-clause-rows : goal.returns-in_err-walk-clause-rows
+returns-in_err-walk-clause-rows g c = λ k. (
+    let trees = g.L.TreeSource.forest c.args.source.now in
+    let node = c.args.node in
+    let was = c.walk.ensures.was_clean k in
+    let x = c.row-item.result in
+    let read = one_row c.lent.result.now x (node.pre, row_at (rows (tree_at trees node.tree)) node.pre) (c.lent.ensures ∙ c.in_ok-fetch_row.ensures.found was) c.row-item.is in
+    copy_counted trees node x (tree_at (g.L.TreeSource.forest c.fetch_row.new.self) node.tree) c.saturating_add-high.result _ (g.L.TreeSource.meter c.fetch_row.new.self).rows _ (c.in_ok-fetch_row.ensures.exists was) read c.saturating_add-high.ensures
+    (ap (λ (m : Readings). m.rows) c.in_ok-fetch_row.ensures.counts) (c.walk.ensures.rows k))
+
+pub returns-in-Ok-clause-rows : goal.returns-in-Ok-clause-rows
+returns-in-Ok-clause-rows g c = λ k. (
+    let trees = g.L.TreeSource.forest c.args.source.now in
+    let node = c.args.node in
+    let was = c.walk.ensures.was_clean k in
+    let x = c.row-item.result in
+    let read = one_row c.lent.result.now x (node.pre, row_at (rows (tree_at trees node.tree)) node.pre) (c.lent.ensures ∙ c.in_ok-fetch_row.ensures.found was) c.row-item.is in
+    copy_counted trees node x (tree_at (g.L.TreeSource.forest c.fetch_row.new.self) node.tree) c.saturating_add-high.result _ (g.L.TreeSource.meter c.fetch_row.new.self).rows _ (c.in_ok-fetch_row.ensures.exists was) read c.saturating_add-high.ensures
+    (ap (λ (m : Readings). m.rows) c.in_ok-fetch_row.ensures.counts) (c.walk.ensures.rows k))
+
+pub returns-clause-rows : goal.returns-clause-rows
+returns-clause-rows g c = λ k. (
+    let trees = g.L.TreeSource.forest c.args.source.now in
+    let node = c.args.node in
+    let was = c.walk.ensures.was_clean k in
+    let x = c.row-item.result in
+    let read = one_row c.lent.result.now x (node.pre, row_at (rows (tree_at trees node.tree)) node.pre) (c.lent.ensures ∙ c.in_ok-fetch_row.ensures.found was) c.row-item.is in
+    copy_counted trees node x (tree_at (g.L.TreeSource.forest c.fetch_row.new.self) node.tree) c.saturating_add-high.result _ (g.L.TreeSource.meter c.fetch_row.new.self).rows _ (c.in_ok-fetch_row.ensures.exists was) read c.saturating_add-high.ensures
+    (ap (λ (m : Readings). m.rows) c.in_ok-fetch_row.ensures.counts) (c.walk.ensures.rows k))

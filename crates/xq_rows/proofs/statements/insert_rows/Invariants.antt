@@ -4,7 +4,7 @@ use Rattle.sqlite.specs.Held.{state}
 use Rattle.sqlite_trees.specs.View.{doubt}
 use Rattle.xq_regions.specs.Rows.{placed}
 use Rattle.xq_rows.specs.Nodes.{cells}
-use Rattle.xq_rows.specs.private.Statements.{Adds}
+use Rattle.xq_rows.specs.private.Statements.{AddsNamed}
 use Rattle.xq_rows.proofs.statements.insert_rows.Given as goal
 
 abbrev pub invariant-loop-row : goal.invariant-loop-row
@@ -15,5 +15,5 @@ invariant-loop-row g l =
       same_reference : l.transaction.conn.ghost_name ≡ l.fn.transaction.conn.ghost_name;
       clean : doubt old.is_clean ≤ doubt now.is_clean;
       kept : HasCleanDisk now → KeepsCommit old now;
-      added : HasCleanDisk now → Adds l.address (map cells (map placed (take l.row-index l.rows))) old now;
+      added : HasCleanDisk now → AddsNamed l.address (map cells (map placed (take l.row-index l.rows))) l.fn.names.entries l.names.entries old now;
     }

@@ -8,7 +8,7 @@ use Rattle.xq_rows.specs.private.Shelves.{front_at, run_of}
 use Rattle.xq_rows.specs.Views.{Viewed, trees_under}
 use Rattle.xq_rows.proofs.ViewLaws.{began_map, is_its_tree, its_tree, nth_in, popped, stands_now}
 use Rattle.xq_rows.proofs.views.ViewRowSource.row.Goals as goal
-use Rattle.xq_rows.specs.Tables.{shown_rows}
+use Rattle.xq_rows.specs.Labels.{shown_rows}
 
 pub returns-clause-exists : goal.returns-clause-exists
 returns-clause-exists g c clean =
