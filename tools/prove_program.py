@@ -49,8 +49,7 @@ def begins(count: int, at_once: int, whole: float | None) -> str:
     """What is said as the proof of so many crates begins; all took so many minutes elsewhere."""
     took = "" if whole is None else f"; all took {whole:.0f} by the clock there, four at a time"
     return (f"crates to prove: {count}, {at_once} at a time; in brackets the minutes of each so"
-            " far, and the processor minutes that it took on the machine of"
-            f" docs/MEASURES.md{took}")
+            f" far, and those that it took on the machine of docs/MEASURES.md{took}")
 
 
 def prove(top: pathlib.Path, crate: str, at_once: int, log_path: pathlib.Path) -> None:
