@@ -1,10 +1,10 @@
 -- Rows that come to stand under their numbers, one after another.
-use Rattle.std.proofs.Common.{◌≡◌, ◌≢◌, ◌&&◌, ◌||◌, ◌+◌, ◌-◌, ◌<◌, ◌≤◌, inl, inr, ℕ, zero, suc, pos, Bool, true, false, not, cond, List, [], ◌∷◌, ◌++◌, map, filter, length, take, drop, get_or, Option, Some, None, Result, Ok, Err, OnOk, refl, sym, ap, ap₂, subst, subst₂, ◌∙◌, arith, append-nil, append_assoc, nat_lt, nat_le, String, Global, Ordering, Less, Equal, Greater}
+use Rattle.std.proofs.Common.{◌≡◌, ◌&&◌, ◌||◌, ◌+◌, ◌-◌, ◌<◌, ◌≤◌, inl, inr, ℕ, zero, suc, pos, Bool, true, false, not, cond, List, [], ◌∷◌, ◌++◌, map, filter, length, take, drop, get_or, Option, Some, None, Result, Ok, Err, OnOk, refl, sym, ap, ap₂, subst, subst₂, ◌∙◌, arith, append-nil, append_assoc, nat_lt, String, Global, Ordering, Less, Equal, Greater}
 use Rattle.std.specs.Prelude.{slice_get, option_map}
-use Rattle.std.specs.Ordering.{is_ge, is_le, is_lt}
+use Rattle.std.specs.Ordering.{is_ge, is_lt}
 use Rattle.std.specs.List.{AllByRecursion, enumerate_from, slice_range}
 use Rattle.std.specs.List.Sorted.{IsPermutation}
-use Rattle.std.proofs.lemmas.List.{length-map, length-take, length-drop, map-append, take_all, take_more}
+use Rattle.std.proofs.lemmas.List.{map-append, take_all, take_more}
 use Rattle.std.proofs.lemmas.List.Elements.{filter-append}
 use Rattle.std.proofs.lemmas.List.Sorted.{IsPermutation-refl, IsPermutation-trans, IsPermutation-sym, IsPermutation-cons, IsPermutation-middle, IsPermutation-append_left, length_permutation}
 use Rattle.sqlite_value.specs.Order.{Row, column, value_cmp}
@@ -14,9 +14,9 @@ use Rattle.sqlite_keyed.proofs.SortLemmas.{sorted_unique}
 use Rattle.sqlite.specs.Effect.{Database}
 use Rattle.sqlite.specs.State.{State}
 use Rattle.sqlite.proofs.Callers.{one_permutation}
-use Rattle.xq_regions.specs.Rows.{Row as Node, rows as rows_of, placed, placed_rows, AreNumbered}
+use Rattle.xq_regions.specs.Rows.{Row as Node, rows as rows_of, placed, AreNumbered}
 use Rattle.xq_regions.specs.declared.NodeRow.{NodeRow}
-use Rattle.xq_rows.specs.Documents.{is_at, node_columns, rows_at, by_first, HasAddress, IsIntact, IsSound, IsStore}
+use Rattle.xq_rows.specs.Documents.{is_at, node_columns, rows_at, by_first, HasAddress, IsSound, IsStore}
 use Rattle.xq_rows.specs.Labels.{label_rows, shown_rows, IsNumberOf, IsStoreSchema}
 use Rattle.xq_rows.specs.Nodes.{cells}
 use Rattle.xq_rows.specs.private.Columns.{node_of}

@@ -1,5 +1,5 @@
 -- What UPDATE does to the row of a node: as if the row had been taken out, and another been put in.
-use Rattle.std.proofs.Common.{◌≡◌, ◌≢◌, ◌&&◌, ◌==◌, ◌+◌, ◌<◌, inl, inr, ℕ, ℤ, pos, Bool, true, false, not, cond, List, [], ◌∷◌, ◌++◌, map, filter, length, Some, None, Ok, Err, Result, OnOk, IsTrue, refl, sym, ap, ap₂, subst, ◌∙◌, arith, eq-eqb, ne_eqb, String, Global}
+use Rattle.std.proofs.Common.{◌≡◌, ◌≢◌, ◌&&◌, ◌+◌, inl, inr, ℕ, ℤ, pos, Bool, true, false, not, cond, List, [], ◌∷◌, ◌++◌, map, filter, length, Some, None, Ok, Err, Result, OnOk, IsTrue, refl, sym, ap, ap₂, subst, ◌∙◌, arith, eq-eqb, ne_eqb, String, Global}
 use Rattle.std.specs.Ordering.{is_eq, is_ge, is_lt}
 use Rattle.std.specs.List.{AllByRecursion, list_all}
 use Rattle.std.specs.List.Sorted.{IsPermutation}
@@ -34,7 +34,7 @@ use Rattle.xq_regions.specs.Rows.{Row as Node}
 use Rattle.xq_rows.specs.Documents.{is_at, node_columns, rows_at, AreApart, HasAddress, HaveInts, IsSound}
 use Rattle.xq_rows.specs.Labels.{label_rows, named, node2_rows, shown_rows, IsNumberOf}
 use Rattle.xq_rows.specs.Nodes.{cells}
-use Rattle.xq_rows.specs.private.Statements.{is_between, is_part, AreNumbers, HasAdded, HasDropped, HasRenewed, LiesAs, NumbersInHand, RenewsRow, Updates, UpdatesNamed}
+use Rattle.xq_rows.specs.private.Statements.{is_between, is_part, HasAdded, HasDropped, HasRenewed, LiesAs, NumbersInHand, Updates, UpdatesNamed}
 use Rattle.xq_rows.proofs.Adds.{adds_one, kept_numbers}
 use Rattle.xq_rows.proofs.Deletes.{dropped_in, same_value, went, DeletesIn}
 use Rattle.xq_rows.proofs.Inserts.{cast_int, one_fresh}
@@ -46,7 +46,7 @@ use Rattle.xq_rows.proofs.Maps.{text_is}
 use Rattle.xq_rows.proofs.Named.{named_each, with_name}
 use Rattle.xq_rows.proofs.Places.{on_table}
 use Rattle.xq_rows.proofs.Ranges.{less, picks}
-use Rattle.xq_rows.proofs.Renewals.{exchanged, still_lies}
+use Rattle.xq_rows.proofs.Renewals.{exchanged}
 use Rattle.xq_rows.proofs.Selects.{and_true, equals_int, equals_text, selected, selected_rows}
 
 -- # Which rows it finds
