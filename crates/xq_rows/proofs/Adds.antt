@@ -1,5 +1,5 @@
 -- What INSERTs do to the rows that tables show.
-use Rattle.std.proofs.Common.{◌≡◌, ◌≤◌, ◌++◌, inl, inr, ℕ, pos, Bool, true, false, List, [], ◌∷◌, map, filter, get_or, IsTrue, String, Global, Result, Ok, Err, OnOk, refl, sym, ap, ap₂, subst, subst₂, ◌∙◌, append-nil, append_assoc}
+use Rattle.std.proofs.Common.{◌≡◌, ◌≤◌, ◌++◌, inl, inr, ℕ, ℤ, pos, Bool, true, false, List, [], ◌∷◌, map, filter, get_or, IsTrue, String, Global, Result, Ok, Err, OnOk, refl, sym, ap, ap₂, subst, subst₂, ◌∙◌, append-nil, append_assoc}
 use Rattle.std.specs.List.{AllByRecursion}
 use Rattle.std.specs.List.Sorted.{IsPermutation}
 use Rattle.std.proofs.lemmas.List.{map-append}
@@ -12,6 +12,7 @@ use Rattle.sqlite_trees.specs.View.{is_int}
 use Rattle.sqlite_trees.proofs.ListLemmas.{filter-map, map-map, IsPermutation-filter}
 use Rattle.sqlite_trees.proofs.TreeLemmas.{all-put_row}
 use Rattle.sqlite_keyed.proofs.ListLemmas.{all_map, all_unmap, all_weaker}
+use Rattle.sqlite_rules.specs.Edit.{next_rowid}
 use Rattle.sqlite.specs.Effect.{Database}
 use Rattle.sqlite.specs.State.{State, ExecutesInside}
 use Rattle.sqlite.specs.declared.error.Error.{Error}
@@ -21,7 +22,7 @@ use Rattle.xq_rows.specs.Documents.{is_at, node_columns, rows_at, AreApart, AreL
 use Rattle.xq_rows.specs.Labels.{label_rows, most_label, named, named_rows, node2_rows, shown_rows, HasLabel, IsNumbered, IsNumberOf, IsStoreSchema}
 use Rattle.xq_rows.specs.private.Statements.{Adds, AddsNamed, AreNumbers, HasAdded, HasNumbered, KeepsLabels, Numbers, NumbersInHand}
 use Rattle.xq_rows.proofs.Inserts.{apart-put_row, other_address, own_address, put_passed, put_permutes}
-use Rattle.xq_rows.proofs.LabelInserts.{labelled, new_label, new_node, noted, numbered_cells, IsLabelled, IsNoted}
+use Rattle.xq_rows.proofs.LabelInserts.{labelled, new_label, noted, noted_row, numbered_cells, IsLabelled, IsNoted}
 use Rattle.xq_rows.proofs.LabelPlaces.{shown_are}
 use Rattle.xq_rows.proofs.LabelTexts.{add_label_text, insert2_text}
 use Rattle.xq_rows.proofs.Named.{held_stays, named_each, named_stays, number_new, number_stays, with_name}
@@ -87,7 +88,7 @@ kept_numbers old new names keeps all = all_weaker _ _ (λ e known. keeps e.1 _ k
 
 -- # A node
 
-module _ (address : List ℕ) (n : ℕ × Node) (label : ℕ) (old new : Database) (sound : IsSound old) (known : IsNumberOf (label_rows old) label n.1.label.name) (it : IsNoted address n label old new) where
+module _ (address : List ℕ) (n : ℕ × Node) (label : ℕ) (id : ℤ) (old new : Database) (sound : IsSound old) (known : IsNumberOf (label_rows old) label n.1.label.name) (it : IsNoted address n label id old new) where
   abbrev labels : List Row
   labels = label_rows old
 
@@ -95,7 +96,7 @@ module _ (address : List ℕ) (n : ℕ × Node) (label : ℕ) (old new : Databas
   rows = node2_rows old
 
   abbrev row : Row
-  row = new_node address n label rows
+  row = noted_row address n label id
 
   -- a node of the tables as its columns
   abbrev shows : Row → Row
@@ -189,16 +190,24 @@ adds_more address xs ys first mid last p q = record {
 }
 
 -- a name was numbered, and a node with it was inserted
-pub adds_then : (address : List ℕ) (xs : List Row) (n : ℕ × Node) (label : ℕ) (start before after : List (String Global × ℕ)) (first mid named last : State) → AddsNamed address xs start before first mid → NumbersInHand n.1.label.name label before after mid named
-    → Adds address n label named last → AddsNamed address (xs ++ cells n ∷ []) start after first last
-adds_then address xs n label start before after first mid named last p q r = record {
-  mode = λ inside. r.mode (q.mode (p.mode inside));
+pub adds_numbered : (address : List ℕ) (n : ℕ × Node) (label : ℕ) (before after : List (String Global × ℕ)) (old named new : State) → NumbersInHand n.1.label.name label before after old named → Adds address n label named new
+    → AddsNamed address (cells n ∷ []) before after old new
+adds_numbered address n label before after old named new q r = record {
+  mode = λ inside. r.mode (q.mode inside);
+  did = λ sound all. (
+      let two = q.did sound all in
+      let three = r.did two.0.sound two.0.number in
+      (adds_more address [] (cells n ∷ []) old.now named.now new.now (numbered_adds address n.1.label.name label old.now named.now two.0) three, kept_numbers named.now new.now after three.keeps two.1));
+}
+
+-- some were inserted, and then others
+pub adds_both : (address : List ℕ) (xs ys : List Row) (start before after : List (String Global × ℕ)) (first mid last : State) → AddsNamed address xs start before first mid → AddsNamed address ys before after mid last → AddsNamed address (xs ++ ys) start after first last
+adds_both address xs ys start before after first mid last p q = record {
+  mode = λ inside. q.mode (p.mode inside);
   did = λ sound all. (
       let one = p.did sound all in
       let two = q.did one.0.sound one.1 in
-      let three = r.did two.0.sound two.0.number in
-      let more = adds_more address [] (cells n ∷ []) mid.now named.now last.now (numbered_adds address n.1.label.name label mid.now named.now two.0) three in
-      (adds_more address xs (cells n ∷ []) first.now mid.now last.now one.0 more, kept_numbers named.now last.now after three.keeps two.1));
+      (adds_more address xs ys first.now mid.now last.now one.0 two.0, two.1));
 }
 
 pub adds_nothing : (address : List ℕ) (names : List (String Global × ℕ)) (s : State) → AddsNamed address [] names names s s
@@ -214,7 +223,7 @@ node_inside old new address n label e (Ok count) ended runs = go old.in_transact
     go : (b : Bool) → old.in_transaction ≡ b → Adds address n label old new
     go true inside =
         let ran = runs inside in
-        record { mode = λ _. ran.1.mode; did = λ sound known. adds_one address n label old.now new.now sound known (noted old new address n label count sound.schema ran.0) }
+        record { mode = λ _. ran.1.mode; did = λ sound known. adds_one address n label (next_rowid (node2_rows old.now)) old.now new.now sound known (noted old new address n label count sound.schema ran.0) }
     go false outside = absurd (let e = ended outside in cc)
 
 pub label_inside : (old new : State) (name : List ℕ) (n : ℕ) (e : Error) (count : ℕ) → n ≤ most_label → pos n ≡ new.last_rowid → (old.in_transaction ≡ false → ◌≡◌ {A = Result ℕ Error} (Ok count) (Err e))

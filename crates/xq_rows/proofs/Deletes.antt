@@ -14,7 +14,7 @@ use Rattle.sqlite.specs.Table.{Table}
 use Rattle.sqlite_sql.specs.Term.{Term, col, holds}
 use Rattle.sqlite_keyed.specs.Lists.{delete_where}
 use Rattle.sqlite_trees.proofs.ListLemmas.{ascending-filter, all-filter}
-use Rattle.xq_rows.specs.Documents.{is_at, AreApart, AreLabels, HaveInts}
+use Rattle.xq_rows.specs.Documents.{is_at, AreApart, AreLabels, HaveInts, IsSound}
 use Rattle.xq_rows.proofs.Selects.{selected, selected_rows, equals_text, and_true, part_test}
 use Rattle.xq_rows.proofs.Lists.{same_test}
 use Rattle.sqlite.specs.Command.TheVariants.{Delete}
@@ -31,9 +31,9 @@ use Rattle.sqlite.specs.State.{State, mode_of, Executes, ExecutesInside}
 use Rattle.sqlite.specs.declared.error.Error.{Error}
 use Rattle.std.proofs.Common.{IfOk, IsTrue}
 use Rattle.sqlite.proofs.Callers.{IsPlain, command_of, statement_of, runs_as, one_step}
-use Rattle.xq_rows.specs.Labels.{label_rows, named, named_rows, node2_rows, HasLabel, IsStoreSchema}
+use Rattle.xq_rows.specs.Labels.{label_rows, named, named_rows, node2_rows, shown_rows, HasLabel, IsStoreSchema}
 use Rattle.xq_rows.proofs.Places.{on_table}
-use Rattle.xq_rows.specs.private.Statements.{Deletes, Drops, is_part}
+use Rattle.xq_rows.specs.private.Statements.{Deletes, Drops, HasDropped, is_part}
 use Rattle.xq_rows.proofs.LabelPlaces.{Made, schema_of, label_not_node2, labels_lie, labels_stay, layout_lies, layout_not_node2, layout_stays, no_works, node2_place, node2_table_of, node2_there, node2_tree, nodes_lie, shown_are, which}
 use Rattle.xq_rows.proofs.LabelTexts.{delete2_is, delete2_plain, delete2_text, part2_is, part2_plain, part2_text}
 use Rattle.xq_rows.proofs.Named.{named_count, named_deleted}
@@ -48,6 +48,13 @@ went (inr on) = on
 pub same_value : {B E : Type 0} {a b : B} → ◌≡◌ {A = Result B E} (Ok a) (Ok b) → a ≡ b
 same_value e = cc
 
+-- what a DELETE makes of the trees
+pub record DeletesIn (under : Schema) (table : Table) (gone : Row → Bool) (old new : Database) (count : ℕ) : Type 0 where
+  pub schema : new.schema ≡ old.schema
+  pub others : AllByRecursion (λ (t : Table). t.tree ≢ table.tree → new.trees t.tree ≡ old.trees t.tree) under.tables
+  pub rows : new.trees table.tree ≡ delete_where gone (old.trees table.tree)
+  pub counted : count ≡ length (filter gone (old.trees table.tree))
+
 -- what a DELETE by these tests does to a table, where the rows that pass them are those that are to go
 module _ (under : Schema) (place : ℕ) (table : Table) (there : slice_get under.tables place ≡ Some table) (alone : (keys : Keys) (olds news : List Row) → works under keys 0 table.tree olds news ≡ [])
     (text : List ℕ) (tests : List Term) (params : Row) (gone : Row → Bool) (passes : (r : Row) → list_all (holds (params ∷ r ∷ [])) tests ≡ gone r)
@@ -58,14 +65,7 @@ module _ (under : Schema) (place : ℕ) (table : Table) (there : slice_get under
       let s = selected_rows table.tree tests (col 1 0 ∷ []) [] db params rows (selected table.tree tests (col 1 0 ∷ []) [] db params rows got) in
       subst (λ l. IsPermutation (map (λ r. rowid r ∷ []) l) rows) (same_test _ _ passes (db table.tree)) s
 
-  -- what it makes of the trees
-  pub record DeletesIn (old new : Database) (count : ℕ) : Type 0 where
-    pub schema : new.schema ≡ old.schema
-    pub others : AllByRecursion (λ (t : Table). t.tree ≢ table.tree → new.trees t.tree ≡ old.trees t.tree) under.tables
-    pub rows : new.trees table.tree ≡ delete_where gone (old.trees table.tree)
-    pub counted : count ≡ length (filter gone (old.trees table.tree))
-
-  pub deletes_in : (old new : State) (count : ℕ) → old.now.schema ≡ under → AreApart (old.now.trees table.tree) → HaveInts (old.now.trees table.tree) → Executes text params old new (Ok count) → DeletesIn old.now new.now count
+  pub deletes_in : (old new : State) (count : ℕ) → old.now.schema ≡ under → AreApart (old.now.trees table.tree) → HaveInts (old.now.trees table.tree) → Executes text params old new (Ok count) → DeletesIn under table gone old.now new.now count
   deletes_in old new count has up ints h =
       let db = old.now.trees in
       let tree = table.tree in
@@ -109,6 +109,32 @@ inside text params gone old new e (Ok count) does ended runs = go old.in_transac
         record { inside = ran.1; did = does count ran.0 }
     go false outside = absurd (let e = ended outside in cc)
 
+-- nodes went that pass a test that reads neither label nor name
+pub dropped_in : (made : Made) (gone : Row → Bool) → ((r l : Row) → gone (named r l) ≡ gone r) → (old new : Database) (count : ℕ) → old.schema ≡ schema_of made → IsSound old → DeletesIn (schema_of made) (node2_table_of made) gone old new count
+    → HasDropped gone old new × (count ≡ length (filter gone (shown_rows old)))
+dropped_in made gone reads old new count is sound it =
+    let tree = node2_tree made in
+    let nodes = nodes_lie made old is in
+    let still = it.schema ∙ is in
+    let has = subst IsStoreSchema (sym it.schema) sound.schema in
+    let left : node2_rows new ≡ delete_where gone (node2_rows old) = nodes_lie made new still ∙ it.rows ∙ sym (ap (delete_where gone) nodes) in
+    let labels : label_rows new ≡ label_rows old = labels_lie made new still ∙ labels_stay tree old.trees new.trees made it.others (label_not_node2 made) ∙ sym (labels_lie made old is) in
+    let shown = shown_are old sound.schema in (
+      record {
+        sound = record {
+          schema = has;
+          labels = subst AreLabels (sym labels) sound.labels;
+          held = subst₂ (λ ls ns. AllByRecursion (HasLabel ls) ns) (sym labels) (sym left) (all-filter (HasLabel (label_rows old)) (λ r. not (gone r)) (node2_rows old) sound.held);
+          apart = subst AreApart (sym left) (ascending-filter _ (λ r. not (gone r)) (node2_rows old) sound.apart);
+          ints = subst HaveInts (sym left) (all-filter _ (λ r. not (gone r)) (node2_rows old) sound.ints);
+        };
+        layout = layout_lies made new still ∙ layout_stays tree old.trees new.trees made it.others (layout_not_node2 made) ∙ sym (layout_lies made old is);
+        labels = labels;
+        rows = shown_are new has ∙ ap₂ named_rows labels left ∙ sym (named_deleted gone reads (label_rows old) (node2_rows old)) ∙ ap (delete_where gone) (sym shown);
+      },
+      it.counted ∙ sym (ap (λ l. length (filter gone l)) nodes) ∙ sym (named_count gone reads (label_rows old) (node2_rows old) sound.held) ∙ sym (ap (λ l. length (filter gone l)) shown),
+    )
+
 -- of the nodes go those that pass a test that reads neither label nor name
 module _ (text : List ℕ) (tests : List Term) (params : Row) (gone : Row → Bool) (passes : (r : Row) → list_all (holds (params ∷ r ∷ [])) tests ≡ gone r) (reads : (r l : Row) → gone (named r l) ≡ gone r)
     (is : (made : Made) → command_of (understood (schema_of made) text) ≡ Delete (node2_place made) (delete_program (node2_tree made) tests)) (plain : (made : Made) → IsPlain (understood (schema_of made) text)) where
@@ -119,25 +145,7 @@ module _ (text : List ℕ) (tests : List Term) (params : Row) (gone : Row → Bo
       let tree = node2_tree made in
       let nodes = nodes_lie made old.now place.1 in
       let it = deletes_in (schema_of made) (node2_place made) (node2_table_of made) (node2_there made) (no_works made tree) text tests params gone passes (is made) (plain made) old new count place.1 (subst AreApart nodes sound.apart) (subst HaveInts nodes sound.ints) h in
-      let still = it.schema ∙ place.1 in
-      let has = subst IsStoreSchema (sym it.schema) sound.schema in
-      let left : node2_rows new.now ≡ delete_where gone (node2_rows old.now) = nodes_lie made new.now still ∙ it.rows ∙ sym (ap (delete_where gone) nodes) in
-      let labels : label_rows new.now ≡ label_rows old.now = labels_lie made new.now still ∙ labels_stay tree old.now.trees new.now.trees made it.others (label_not_node2 made) ∙ sym (labels_lie made old.now place.1) in
-      let shown = shown_are old.now sound.schema in (
-        record {
-          sound = record {
-            schema = has;
-            labels = subst AreLabels (sym labels) sound.labels;
-            held = subst₂ (λ ls ns. AllByRecursion (HasLabel ls) ns) (sym labels) (sym left) (all-filter (HasLabel (label_rows old.now)) (λ r. not (gone r)) (node2_rows old.now) sound.held);
-            apart = subst AreApart (sym left) (ascending-filter _ (λ r. not (gone r)) (node2_rows old.now) sound.apart);
-            ints = subst HaveInts (sym left) (all-filter _ (λ r. not (gone r)) (node2_rows old.now) sound.ints);
-          };
-          layout = layout_lies made new.now still ∙ layout_stays tree old.now.trees new.now.trees made it.others (layout_not_node2 made) ∙ sym (layout_lies made old.now place.1);
-          labels = labels;
-          rows = shown_are new.now has ∙ ap₂ named_rows labels left ∙ sym (named_deleted gone reads (label_rows old.now) (node2_rows old.now)) ∙ ap (delete_where gone) (sym shown);
-        },
-        it.counted ∙ sym (ap (λ l. length (filter gone l)) nodes) ∙ sym (named_count gone reads (label_rows old.now) (node2_rows old.now) sound.held) ∙ sym (ap (λ l. length (filter gone l)) shown),
-      )
+      dropped_in made gone reads old.now new.now count place.1 sound it
 
 -- the rows of an address go
 pub dropped_inside : (old new : State) (address : List ℕ) (e : Error) (r : Result ℕ Error) → (old.in_transaction ≡ false → r ≡ Err e)

@@ -1,5 +1,5 @@
 -- What INSERT does to the tables of labels and of their nodes.
-use Rattle.std.proofs.Common.{◌≡◌, ℕ, pos, Some, None, Ok, List, [], ◌∷◌, false, refl, sym, ap, subst, ◌∙◌, unwrap_or}
+use Rattle.std.proofs.Common.{◌≡◌, ℕ, ℤ, pos, Some, None, Ok, List, [], ◌∷◌, false, refl, sym, ap, subst, ◌∙◌, unwrap_or}
 use Rattle.sqlite_value.specs.Order.{Row}
 use Rattle.sqlite_value.specs.declared.value.Value.TheVariants.{Null, Int, Text}
 use Rattle.sqlite_trees.specs.Tree.{Trees, put_row}
@@ -104,17 +104,21 @@ labelled old new name count has h =
 abbrev pub numbered_cells : ℕ × Node → ℕ → Row
 numbered_cells p label = let n = p.1 in Int (pos p.0) ∷ Int (pos n.size) ∷ Int (pos n.level) ∷ Int (pos (kind_number n.label.kind)) ∷ Int (pos label) ∷ Text n.label.value ∷ []
 
+-- its row under an address, by its rowid
+abbrev pub noted_row : List ℕ → ℕ × Node → ℕ → ℤ → Row
+noted_row address n label id = Int id ∷ Text address ∷ numbered_cells n label
+
 -- the new row comes after the others
 abbrev pub new_node : List ℕ → ℕ × Node → ℕ → List Row → Row
-new_node address n label rows = Int (next_rowid rows) ∷ Text address ∷ numbered_cells n label
+new_node address n label rows = noted_row address n label (next_rowid rows)
 
-pub record IsNoted (address : List ℕ) (n : ℕ × Node) (label : ℕ) (old new : Database) : Type 0 where
+pub record IsNoted (address : List ℕ) (n : ℕ × Node) (label : ℕ) (id : ℤ) (old new : Database) : Type 0 where
   pub schema : new.schema ≡ old.schema
   pub layout : layout_rows new ≡ layout_rows old
   pub labels : label_rows new ≡ label_rows old
   pub beside : node_rows new ≡ node_rows old
-  pub nodes : node2_rows new ≡ put_row (new_node address n label (node2_rows old)) (node2_rows old)
-  pub fresh : is_taken (node2_rows old) (new_node address n label (node2_rows old)) ≡ false
+  pub nodes : node2_rows new ≡ put_row (noted_row address n label id) (node2_rows old)
+  pub fresh : is_taken (node2_rows old) (noted_row address n label id) ≡ false
 
 node_is : (made : Made) (address : List ℕ) (n : ℕ × Node) (label : ℕ) (db : Trees)
     → (edit_of db (node2_table_of made) [] Chosen 0 ((Null ∷ Text address ∷ numbered_cells n label) ∷ [])).news ≡ new_node address n label (db (node2_tree made)) ∷ []
@@ -156,7 +160,8 @@ nodes_in made old new address n label count has h =
       fresh = one_fresh (db tree) row (ap (λ rows. are_fresh (db tree) rows) (sym news) ∙ step.fresh);
     }
 
-pub noted : (old new : State) (address : List ℕ) (n : ℕ × Node) (label count : ℕ) → IsStoreSchema old.now.schema → Executes insert2_text (Text address ∷ numbered_cells n label) old new (Ok count) → IsNoted address n label old.now new.now
+pub noted : (old new : State) (address : List ℕ) (n : ℕ × Node) (label count : ℕ) → IsStoreSchema old.now.schema → Executes insert2_text (Text address ∷ numbered_cells n label) old new (Ok count)
+    → IsNoted address n label (next_rowid (node2_rows old.now)) old.now new.now
 noted old new address n label count has h =
     let place = which old.now.schema has in
     let made = place.0 in

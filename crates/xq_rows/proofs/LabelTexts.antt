@@ -2,7 +2,7 @@
 use Rattle.std.proofs.Common.{◌≡◌, List, ℕ, [], ◌∷◌, codes, None, false, pos, negsuc, Ok, refl}
 use Rattle.sqlite.specs.Command.{Command}
 use Rattle.sqlite.specs.Change.{created, next_tree}
-use Rattle.sqlite.specs.Command.TheVariants.{CreateTable, Delete, Insert, Select}
+use Rattle.sqlite.specs.Command.TheVariants.{CreateTable, Delete, Insert, Select, Update}
 use Rattle.sqlite.specs.Compile.{table_defined_by}
 use Rattle.sqlite.specs.Does.{lacks_sequence}
 use Rattle.sqlite.specs.Source.TheVariants.{Values}
@@ -11,6 +11,7 @@ use Rattle.sqlite.specs.Query.{Query, inner, end}
 use Rattle.sqlite.specs.Collation.TheVariants.{Binary}
 use Rattle.sqlite.specs.declared.types.Value.TheVariants.{Null, Int, Text}
 use Rattle.sqlite_value.specs.declared.keys.Key.{Key}
+use Rattle.sqlite_schema.specs.declared.program.Program.{Program}
 use Rattle.sqlite_sql.specs.declared.ops.BinaryOp.TheVariants.{Compare}
 use Rattle.sqlite_sql.specs.declared.ops.CompareOp.TheVariants.{Eq}
 use Rattle.sqlite_tied.specs.Compute.{everything}
@@ -63,6 +64,21 @@ unfolding understood everything
 range2_plain alone = (refl, refl)
 range2_plain layout_first = (refl, refl)
 range2_plain node_first = (refl, refl)
+
+abbrev pub part_rows_text : List ℕ
+part_rows_text = codes "SELECT pre, size, level, kind, name, value FROM node2 INNER JOIN label ON label = id WHERE address = ?1 AND pre >= ?2 AND pre < ?3 ORDER BY pre"
+
+pub part_rows_are : (made : Made) → (command_of (understood (schema_of made) part_rows_text) ≡ join_command made part_tests) × (reads_listing (schema_of made) part_rows_text ≡ false)
+unfolding understood everything
+part_rows_are alone = (refl, refl)
+part_rows_are layout_first = (refl, refl)
+part_rows_are node_first = (refl, refl)
+
+pub part_rows_plain : (made : Made) → IsPlain (understood (schema_of made) part_rows_text)
+unfolding understood everything
+part_rows_plain alone = (refl, refl)
+part_rows_plain layout_first = (refl, refl)
+part_rows_plain node_first = (refl, refl)
 
 abbrev pub above2_text : List ℕ
 above2_text = codes "SELECT pre, size, level, kind, name, value FROM node2 INNER JOIN label ON label = id WHERE address = ?1 AND pre < ?2 AND pre + size >= ?2 ORDER BY pre"
@@ -140,6 +156,31 @@ unfolding understood everything
 insert2_plain alone = (refl, refl)
 insert2_plain layout_first = (refl, refl)
 insert2_plain node_first = (refl, refl)
+
+abbrev pub update2_text : List ℕ
+update2_text = codes "UPDATE node2 SET size = ?3, level = ?4, kind = ?5, label = ?6, value = ?7 WHERE address = ?1 AND pre = ?2"
+
+-- the rowid, and then the whole row
+abbrev pub update_terms : List Term
+update_terms = col 1 0 ∷ col 1 0 ∷ col 1 1 ∷ col 1 2 ∷ col 0 2 ∷ col 0 3 ∷ col 0 4 ∷ col 0 5 ∷ col 0 6 ∷ []
+
+abbrev pub key_tests : List Term
+key_tests = term1 ∷ op2 (Compare Eq Binary) (col 1 2) (col 0 1) ∷ []
+
+abbrev pub update_program : ℕ → Program
+update_program tree = record { lets = []; body = body tree key_tests update_terms [] }
+
+pub update2_is : (made : Made) → command_of (understood (schema_of made) update2_text) ≡ Update (node2_place made) (update_program (node2_tree made))
+unfolding understood everything
+update2_is alone = refl
+update2_is layout_first = refl
+update2_is node_first = refl
+
+pub update2_plain : (made : Made) → IsPlain (understood (schema_of made) update2_text)
+unfolding understood everything
+update2_plain alone = (refl, refl)
+update2_plain layout_first = (refl, refl)
+update2_plain node_first = (refl, refl)
 
 -- # What the statements on labels mean
 

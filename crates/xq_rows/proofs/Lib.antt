@@ -42,3 +42,5 @@ pub mod Labelling
 pub mod Numbers
 pub mod Moving
 pub mod Carrying
+pub mod Renewals
+pub mod Updates

@@ -24,16 +24,17 @@ use Rattle.sqlite.specs.declared.error.Error.{Error}
 use Rattle.sqlite.proofs.Callers.{reads_as}
 use Rattle.xq_rows.specs.Documents.{IsSound}
 use Rattle.xq_rows.specs.Labels.{label_rows, most_label, IsNumberOf}
-use Rattle.xq_rows.specs.private.Statements.{AreNumbers, HasNumbered, IsFirstNumber, Numbers, NumbersInHand, Seeks}
+use Rattle.xq_rows.specs.private.Statements.{AreNumbers, HasNumbered, IsFirstNumber, Numbers, NumbersInHand, ReadsPart, Seeks}
 use Rattle.xq_rows.proofs.Adds.{found_numbers, kept_numbers}
 use Rattle.xq_rows.proofs.Creates.{undone_kept}
 use Rattle.xq_rows.proofs.LabelPlaces.{label_tree, labels_lie, schema_of, which}
-use Rattle.xq_rows.proofs.LabelTexts.{number_command, number_is, number_plain, number_tests, number_text}
+use Rattle.xq_rows.proofs.LabelTexts.{number_command, number_is, number_plain, number_tests, number_text, part_rows_text}
 use Rattle.xq_rows.proofs.Lists.{has_map, has_permuted, tied}
 use Rattle.xq_rows.proofs.Maps.{text_is}
 use Rattle.xq_rows.proofs.Named.{number_found}
+use Rattle.xq_rows.proofs.Queries.{parts}
 use Rattle.xq_rows.proofs.Selects.{and_true, equals_text, selected, selected_rows}
-use Rattle.xq_rows.proofs.Silent.{number_reads, silent}
+use Rattle.xq_rows.proofs.Silent.{number_reads, part_rows_reads, silent}
 
 -- # A query inside a transaction
 
@@ -95,6 +96,12 @@ seeks old new name rows found h first = (
     go : (found : Option ℕ) → IsFirstNumber found rows → IfSome found (λ n. IsSound old.now → IsNumberOf (label_rows old.now) n name)
     go None first = tt
     go (Some n) first = on n rows refl first
+
+-- the rows of an address with numbers between two
+pub reads_part : (old new : State) (address : List ℕ) (low high : ℕ) (rows : List Row) → Shown part_rows_text (Text address ∷ Int (pos low) ∷ Int (pos high) ∷ []) old new rows → ReadsPart address low high old new rows
+reads_part old new address low high rows h = (
+    let same = shown_same old new part_rows_text (Text address ∷ Int (pos low) ∷ Int (pos high) ∷ []) (silent old.now.schema part_rows_text part_rows_reads) rows h in
+    record { same = same.0.now_is; are = parts old new address low high rows h })
 
 -- it was found
 pub sought : (name : List ℕ) (n : ℕ) (old new : State) → Seeks name (Some n) old new → Numbers name n old new

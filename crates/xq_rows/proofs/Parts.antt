@@ -5,7 +5,7 @@ use Rattle.std.specs.List.{AllByRecursion, enumerate_from, slice_range}
 use Rattle.std.specs.List.Sorted.{IsPermutation}
 use Rattle.std.proofs.lemmas.Cmp.{upto}
 use Rattle.std.proofs.lemmas.Int.{ints}
-use Rattle.std.proofs.lemmas.List.{length-map, length-append, map-append, take_all}
+use Rattle.std.proofs.lemmas.List.{length-map, length-append, take_all}
 use Rattle.std.proofs.lemmas.List.Elements.{filter-append}
 use Rattle.std.proofs.lemmas.List.Filters.{length-filter_both}
 use Rattle.std.proofs.lemmas.List.Sorted.{IsPermutation-refl, IsPermutation-trans, IsPermutation-append_left, IsPermutation-sym, length_permutation}
@@ -24,7 +24,7 @@ use Rattle.xq_regions.specs.Nesting.{count-measured}
 use Rattle.xq_regions.specs.declared.NodeRow.{NodeRow}
 use Rattle.xq_rows.specs.Documents.{is_at, node_columns, rows_at, HasAddress, IsSound, IsStore}
 use Rattle.xq_rows.specs.Nodes.{cells}
-use Rattle.xq_rows.specs.private.Statements.{Deletes, HasDropped, HasAdded, Puts, is_part}
+use Rattle.xq_rows.specs.private.Statements.{Deletes, HasDropped, HasRenewed, Puts, is_between, is_from, is_part}
 use Rattle.xq_rows.specs.Labels.{shown_rows}
 use Rattle.xq_rows.specs.Tables.{layout_rows}
 use Rattle.xq_rows.proofs.Lists.{both_filters, same_test}
@@ -32,14 +32,6 @@ use Rattle.xq_rows.proofs.Loads.{length-labels}
 use Rattle.xq_rows.proofs.Maps.{apart_rows}
 
 -- # Numbers from k on
-
--- a row without its rowid and its address has a number from k on
-abbrev pub is_from : ℕ → Row → Bool
-is_from k x = is_ge (value_cmp (column x 0) (Int (pos k)))
-
--- or one from j up to, and without, k
-abbrev pub is_between : ℕ → ℕ → Row → Bool
-is_between j k x = is_from j x && is_lt (value_cmp (column x 0) (Int (pos k)))
 
 at_least : (a b : Value) → is_ge (value_cmp a b) ≡ not (is_gt (value_cmp b a))
 at_least a b = ap is_ge (value_cmp_total.antisymm a b) ∙ turned (value_cmp b a)
@@ -57,7 +49,7 @@ in_order : (j k : ℕ) → j ≤ k → is_gt (value_cmp (Int (pos j)) (Int (pos 
 in_order j k h = ap is_gt (value_cmp-Int (pos j) (pos k)) ∙ grind (arith, ints)
 
 -- what is from k on is from each number before it on
-from_before : (j k : ℕ) → j ≤ k → (x : Row) → is_from k x ≡ true → is_from j x ≡ true
+pub from_before : (j k : ℕ) → j ≤ k → (x : Row) → is_from k x ≡ true → is_from j x ≡ true
 from_before j k h x e =
     let v = column x 0 in
     let above : is_gt (value_cmp (Int (pos k)) v) ≡ false = not_true _ (sym (at_least v (Int (pos k))) ∙ e) in
@@ -75,28 +67,28 @@ split false Greater h = h refl
 later : (j k : ℕ) → j ≤ k → (x : Row) → cond (is_from j x) (not (is_between j k x)) false ≡ is_from k x
 later j k h x = split (is_from j x) (value_cmp (column x 0) (Int (pos k))) (from_before j k h x)
 
-number_from : (k n : ℕ) → k ≤ n → is_ge (value_cmp (Int (pos n)) (Int (pos k))) ≡ true
+pub number_from : (k n : ℕ) → k ≤ n → is_ge (value_cmp (Int (pos n)) (Int (pos k))) ≡ true
 number_from k n h = ap is_ge (value_cmp-Int (pos n) (pos k)) ∙ grind (arith, ints)
 
-number_before : (k n : ℕ) → n < k → is_ge (value_cmp (Int (pos n)) (Int (pos k))) ≡ false
+pub number_before : (k n : ℕ) → n < k → is_ge (value_cmp (Int (pos n)) (Int (pos k))) ≡ false
 number_before k n h = ap is_ge (value_cmp-Int (pos n) (pos k)) ∙ grind (arith, ints)
 
 -- # Lists of rows
 
-all_pass : (p : Row → Bool) (xs : List Row) → AllByRecursion (λ x. p x ≡ true) xs → filter p xs ≡ xs
+pub all_pass : (p : Row → Bool) (xs : List Row) → AllByRecursion (λ x. p x ≡ true) xs → filter p xs ≡ xs
 all_pass p [] h = refl
 all_pass p (x ∷ xs) h = rw h.0 (ap (λ l. x ∷ l) (all_pass p xs h.1))
 
-none_pass : (p : Row → Bool) (xs : List Row) → AllByRecursion (λ x. p x ≡ false) xs → filter p xs ≡ []
+pub none_pass : (p : Row → Bool) (xs : List Row) → AllByRecursion (λ x. p x ≡ false) xs → filter p xs ≡ []
 none_pass p [] h = refl
 none_pass p (x ∷ xs) h = rw h.0 (none_pass p xs h.1)
 
-outside : (j k : ℕ) (xs : List Row) → AllByRecursion (λ x. is_from j x ≡ false) xs → AllByRecursion (λ x. not (is_between j k x) ≡ true) xs
+pub outside : (j k : ℕ) (xs : List Row) → AllByRecursion (λ x. is_from j x ≡ false) xs → AllByRecursion (λ x. not (is_between j k x) ≡ true) xs
 outside j k [] h = tt
 outside j k (x ∷ xs) h = (ap (λ b. not (b && is_lt (value_cmp (column x 0) (Int (pos k))))) h.0, outside j k xs h.1)
 
 -- the rows of an address without a part of them
-rows_without : (a : List ℕ) (j k : ℕ) (table : List Row) → rows_at a (delete_where (is_part a j k) table) ≡ filter (λ x. not (is_between j k x)) (rows_at a table)
+pub rows_without : (a : List ℕ) (j k : ℕ) (table : List Row) → rows_at a (delete_where (is_part a j k) table) ≡ filter (λ x. not (is_between j k x)) (rows_at a table)
 rows_without a j k [] = refl
 rows_without a j k (r ∷ rs) = go (is_at a r) (is_between j k (node_columns r)) refl refl (rows_without a j k rs)
   where
@@ -120,7 +112,7 @@ part_length a j k (r ∷ rs) = go (is_at a r) (is_between j k (node_columns r)) 
     go false b f h = h
 
 -- other addresses have all of theirs
-rows_beside : (a b : List ℕ) (j k : ℕ) (table : List Row) → b ≢ a → rows_at b (delete_where (is_part a j k) table) ≡ rows_at b table
+pub rows_beside : (a b : List ℕ) (j k : ℕ) (table : List Row) → b ≢ a → rows_at b (delete_where (is_part a j k) table) ≡ rows_at b table
 rows_beside a b j k table apart = ap (map node_columns) (filter-filter (is_at b) (λ r. not (is_part a j k r)) (λ r here. passes r (is_at a r) (apart_rows a b r apart here)) table)
   where
     passes : (r : Row) (t : Bool) → not t ≡ true → not (t && is_between j k (node_columns r)) ≡ true
@@ -138,6 +130,11 @@ pub record IsReplaced (a : List ℕ) (k deleted : ℕ) (added : List Row) (old n
   pub others : (b : List ℕ) → b ≢ a → rows_at b (shown_rows new) ≡ rows_at b (shown_rows old)
   pub gone : deleted + length (filter (is_from k) (rows_at a (shown_rows old))) ≡ length (rows_at a (shown_rows old))
 
+left_of : (j k : ℕ) (all added : List Row) → j ≤ k → AllByRecursion (λ x. is_from j x ≡ false) added → filter (λ x. not (is_between j k x)) (filter (is_from j) all ++ added) ≡ filter (is_from k) all ++ added
+left_of j k all added h below =
+    filter-append (λ x. not (is_between j k x)) (filter (is_from j) all) added
+    ∙ ap₂ ◌++◌ (both_filters (λ x. not (is_between j k x)) (is_from j) all ∙ same_test _ _ (later j k h) all) (all_pass (λ x. not (is_between j k x)) added (outside j k added below))
+
 -- the rows from j up to k go as well
 pub cut_more : (a : List ℕ) (j k deleted count : ℕ) (added : List Row) (old mid new : Database) → j ≤ k → AllByRecursion (λ x. is_from j x ≡ false) added
     → IsReplaced a j deleted added old mid → HasDropped (is_part a j k) mid new → count ≡ length (filter (is_part a j k) (shown_rows mid)) → IsReplaced a k (deleted + count) added old new
@@ -153,16 +150,11 @@ cut_more a j k deleted count added old mid new h below it dropped counted = reco
     all : List Row
     all = rows_at a (shown_rows old)
 
-    left : filter (λ x. not (is_between j k x)) (filter (is_from j) all ++ added) ≡ filter (is_from k) all ++ added
-    left =
-        filter-append (λ x. not (is_between j k x)) (filter (is_from j) all) added
-        ∙ ap₂ ◌++◌ (both_filters (λ x. not (is_between j k x)) (is_from j) all ∙ same_test _ _ (later j k h) all) (all_pass (λ x. not (is_between j k x)) added (outside j k added below))
-
     stay : rows_at a (shown_rows new) ≡ filter (λ x. not (is_between j k x)) (rows_at a (shown_rows mid))
     stay = ap (rows_at a) dropped.rows ∙ rows_without a j k (shown_rows mid)
 
     own : IsPermutation (filter (is_from k) all ++ added) (rows_at a (shown_rows new))
-    own = subst₂ IsPermutation left (sym stay) (IsPermutation-filter (λ x. not (is_between j k x)) _ _ it.own)
+    own = subst₂ IsPermutation (left_of j k all added h below) (sym stay) (IsPermutation-filter (λ x. not (is_between j k x)) _ _ it.own)
 
     gone : deleted + count + length (filter (is_from k) all) ≡ length all
     gone =
@@ -171,18 +163,30 @@ cut_more a j k deleted count added old mid new h below it dropped counted = reco
         let cut = counted ∙ part_length a j k (shown_rows mid) in
         omega (arith, parts, length_permutation _ _ it.own, length-append (filter (is_from j) all) added, ap length stay, length_permutation _ _ own, sizes, cut, it.gone)
 
--- and some come
-pub add_more : (a : List ℕ) (k deleted : ℕ) (added more : List Row) (old mid new : Database) → IsReplaced a k deleted added old mid → HasAdded a more mid new → IsReplaced a k deleted (added ++ more) old new
-add_more a k deleted added more old mid new it adds = record {
-  sound = adds.sound;
-  layout = adds.layout ∙ it.layout;
-  named = λ good all. adds.named good (it.named good all);
-  own = subst (λ l. IsPermutation l (rows_at a (shown_rows new))) (append_assoc (filter (is_from k) (rows_at a (shown_rows old))) added more) (IsPermutation-trans _ _ _ (IsPermutation-append_left more _ _ it.own) adds.own);
-  others = λ b other. adds.others b other ∙ it.others b other;
-  gone = it.gone;
+-- some give way to others
+pub renew_more : (a : List ℕ) (j k deleted count : ℕ) (added more : List Row) (old mid new : Database) → j ≤ k → AllByRecursion (λ x. is_from j x ≡ false) added → IsReplaced a j deleted added old mid → HasRenewed a j k more mid new
+    → count ≡ length (filter (is_between j k) (rows_at a (shown_rows mid))) → IsReplaced a k (deleted + count) (added ++ more) old new
+renew_more a j k deleted count added more old mid new h below it renewed counted = record {
+  sound = renewed.sound;
+  layout = renewed.layout ∙ it.layout;
+  named = λ good all. renewed.named good (it.named good all);
+  own = subst (λ l. IsPermutation l (rows_at a (shown_rows new))) (append_assoc (filter (is_from k) all) added more) (IsPermutation-trans _ _ _ (IsPermutation-append_left more _ _ stay) renewed.own);
+  others = λ b other. renewed.others b other ∙ it.others b other;
+  gone = gone;
 }
+  where
+    all : List Row
+    all = rows_at a (shown_rows old)
 
-take_then : (j k : ℕ) (xs : List NodeRow) → j ≤ k → take k xs ≡ take j xs ++ slice_range xs j k
+    stay : IsPermutation (filter (is_from k) all ++ added) (filter (λ x. not (is_between j k x)) (rows_at a (shown_rows mid)))
+    stay = subst (λ l. IsPermutation l (filter (λ x. not (is_between j k x)) (rows_at a (shown_rows mid)))) (left_of j k all added h below) (IsPermutation-filter (λ x. not (is_between j k x)) _ _ it.own)
+
+    gone : deleted + count + length (filter (is_from k) all) ≡ length all
+    gone =
+        let parts = length-filter_both (is_between j k) (λ x. not (is_between j k x)) (λ x. refl) (rows_at a (shown_rows mid)) in
+        omega (arith, parts, length_permutation _ _ it.own, length-append (filter (is_from j) all) added, length_permutation _ _ stay, length-append (filter (is_from k) all) added, counted, it.gone)
+
+pub take_then : (j k : ℕ) (xs : List NodeRow) → j ≤ k → take k xs ≡ take j xs ++ slice_range xs j k
 take_then j k xs h = ap (λ n. take n xs) (let e : k ≡ j + (k - j) = omega (arith, h) in e) ∙ take-add j (k - j) xs
 
 -- # The rows of a document
@@ -288,16 +292,6 @@ module _ (a : List ℕ) (rows : List NodeRow) (numbered : AreNumbered 0 rows) (a
       let same : 0 + at ≡ at = omega arith in
       let below = subst (λ k. AllByRecursion (λ x. is_from k x ≡ false) (map cells (map placed (take at rows)))) same (new_before 0 at rows numbered) in
       cut_more a at stop (so_far store).0 count _ old now mid forward below done gone.0 gone.1
-
-  -- a part was deleted, and one was inserted
-  pub one_part : (new : Database) → (IsSound mid → HasAdded a (map cells (map placed (slice_range rows at stop))) mid new) → IsAt a rows stop next old new
-  one_part new adds store =
-      let gone = cut store in
-      let more = add_more a stop ((so_far store).0 + count) _ _ old mid new gone (adds gone.sound) in
-      ((so_far store).0 + count, some_gone (so_far store).0 (so_far store).1, subst (λ l. IsReplaced a stop ((so_far store).0 + count) l old new) (sym joined) more)
-    where
-      joined : map cells (map placed (take stop rows)) ≡ map cells (map placed (take at rows)) ++ map cells (map placed (slice_range rows at stop))
-      joined = ap (λ l. map cells (map placed l)) (take_then at stop rows forward) ∙ ap (map cells) (map-append placed (take at rows) (slice_range rows at stop)) ∙ map-append cells (map placed (take at rows)) (map placed (slice_range rows at stop))
 
   -- the rest was deleted
   pub last_part : length rows ≤ at → 1000000 ≤ stop → Puts a (map cells (map placed rows)) old mid next

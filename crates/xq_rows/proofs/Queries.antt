@@ -7,14 +7,14 @@ use Rattle.sqlite_trees.proofs.ListLemmas.{filter-map, map-map}
 use Rattle.sqlite.specs.State.{State, Shown}
 use Rattle.sqlite.proofs.Callers.{reads_as}
 use Rattle.xq_rows.specs.Documents.{is_at, is_first, node_columns}
-use Rattle.xq_rows.specs.Labels.{label_rows, named_rows, node2_rows, shown_rows}
-use Rattle.xq_rows.specs.private.Statements.{is_within, AreAddresses, IsPicked, IsRange}
+use Rattle.xq_rows.specs.Labels.{label_rows, named_rows, node2_rows, shown_rows, IsStoreSchema}
+use Rattle.xq_rows.specs.private.Statements.{is_part, is_within, AreAddresses, IsPicked, IsRange}
 use Rattle.xq_rows.proofs.Joins.{joined_nodes}
 use Rattle.xq_rows.proofs.LabelPlaces.{schema_of, label_tree, node2_tree, which, nodes_lie, shown_are, shown_lie}
-use Rattle.xq_rows.proofs.LabelTexts.{addresses2_is, addresses2_plain, addresses2_text, join_command, range2_is, range2_plain, range2_text}
+use Rattle.xq_rows.proofs.LabelTexts.{addresses2_is, addresses2_plain, addresses2_text, join_command, part_rows_are, part_rows_plain, part_rows_text, range2_is, range2_plain, range2_text}
 use Rattle.xq_rows.proofs.Named.{named_each, with_name}
-use Rattle.xq_rows.proofs.Selects.{and_true, equals_int, picked, range_test, same_passes}
-use Rattle.xq_rows.proofs.Texts.{addresses_command, addresses_tests, range_tests}
+use Rattle.xq_rows.proofs.Selects.{and_true, equals_int, part_test, picked, range_test, same_passes}
+use Rattle.xq_rows.proofs.Texts.{addresses_command, addresses_tests, part_tests, range_tests}
 
 pub ranges : (old new : State) (address : List ℕ) (low high : ℕ) (rows : List Row) → Shown range2_text (Text address ∷ Int (pos low) ∷ Int (pos high) ∷ []) old new rows → IsRange address low high old.now rows
 ranges old new address low high rows h has =
@@ -25,6 +25,17 @@ ranges old new address low high rows h has =
     let it = reads_as range2_text params old new (schema_of made) found.1 (join_command made range_tests) (range2_is made).0 (range2_plain made) (range2_is made).1 rows h in
     let all = joined_nodes (node2_tree made) (label_tree made) range_tests old.now.trees params (λ r l. refl) rows it.answer in
     subst (λ t. IsPicked (λ r. is_at address r && is_within low high r) node_columns t rows) (sym (shown_lie made old.now found.1)) (same_passes _ _ node_columns table rows (range_test address low high) all)
+
+pub parts : (old new : State) (address : List ℕ) (low high : ℕ) (rows : List Row) → Shown part_rows_text (Text address ∷ Int (pos low) ∷ Int (pos high) ∷ []) old new rows → IsStoreSchema old.now.schema
+    → IsPicked (is_part address low high) node_columns (shown_rows old.now) rows
+parts old new address low high rows h has =
+    let params = Text address ∷ Int (pos low) ∷ Int (pos high) ∷ [] in
+    let found = which old.now.schema has in
+    let made = found.0 in
+    let table = named_rows (old.now.trees (label_tree made)) (old.now.trees (node2_tree made)) in
+    let it = reads_as part_rows_text params old new (schema_of made) found.1 (join_command made part_tests) (part_rows_are made).0 (part_rows_plain made) (part_rows_are made).1 rows h in
+    let all = joined_nodes (node2_tree made) (label_tree made) part_tests old.now.trees params (λ r l. refl) rows it.answer in
+    subst (λ t. IsPicked (is_part address low high) node_columns t rows) (sym (shown_lie made old.now found.1)) (same_passes _ _ node_columns table rows (part_test address low high) all)
 
 pub lists : (old new : State) (rows : List Row) → Shown addresses2_text [] old new rows → AreAddresses old.now rows
 lists old new rows h store =

@@ -45,7 +45,7 @@ use Rattle.xq_rows.proofs.Orders.{first_total, numbers_rise}
 -- # The rows that pass a test
 
 -- a test of what is kept of a row
-picks : (p Q : Row → Bool) (table : List Row) → map node_columns (filter (λ r. p r && Q (node_columns r)) table) ≡ filter Q (map node_columns (filter p table))
+pub picks : (p Q : Row → Bool) (table : List Row) → map node_columns (filter (λ r. p r && Q (node_columns r)) table) ≡ filter Q (map node_columns (filter p table))
 picks p Q [] = refl
 picks p Q (r ∷ rs) = go (p r) (Q (node_columns r)) refl (picks p Q rs)
   where
@@ -112,7 +112,7 @@ greatest n high = ap is_le (value_cmp-Int (pos n) (pos high)) ∙ go (nat_le n h
     go true e = let h = leb-true n high e in grind (arith, ints)
     go false e = let h = leb-false n high e in grind (arith, ints)
 
-less : (n most : ℕ) → is_lt (value_cmp (Int (pos n)) (Int (pos most))) ≡ nat_lt n most
+pub less : (n most : ℕ) → is_lt (value_cmp (Int (pos n)) (Int (pos most))) ≡ nat_lt n most
 less n most = ap is_lt (value_cmp-Int (pos n) (pos most)) ∙ go (nat_lt n most) refl
   where
     go : (b : Bool) → nat_lt n most ≡ b → is_lt (int_cmp (pos n) (pos most)) ≡ b

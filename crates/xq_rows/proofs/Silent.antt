@@ -11,7 +11,7 @@ use Rattle.sqlite_resolve.specs.Compile.{first, returning, meaning, planned, wit
 use Rattle.sqlite_tied.specs.Compute.{everything}
 use Rattle.sqlite.specs.Given.{Returns}
 use Rattle.sqlite.specs.Listing.{understood, reads_listing, listing_schema, if_select, is_select}
-use Rattle.xq_rows.proofs.LabelTexts.{number_text}
+use Rattle.xq_rows.proofs.LabelTexts.{number_text, part_rows_text}
 
 -- # Texts
 
@@ -22,6 +22,10 @@ ShowsNoWrite sql = IfOk (first sql) (λ p. (schema : Schema) (base : ℕ) → re
 pub number_reads : ShowsNoWrite number_text
 unfolding first returning everything
 number_reads schema base = refl
+
+pub part_rows_reads : ShowsNoWrite part_rows_text
+unfolding first returning everything
+part_rows_reads schema base = refl
 
 abbrev Plan : Type 0
 Plan = List (List ℕ) × (Command × Option Returning)

@@ -10,7 +10,7 @@ ghost use Rattle.xq_regions.specs.Rows.{placed};
 ghost use Rattle.xq_rows.specs.Documents.{IsReady, is_at};
 ghost use Rattle.xq_rows.specs.Nodes.{cells};
 ghost use Rattle.xq_regions.specs.Codes.{kind_number as number_of_lem};
-ghost use Rattle.xq_rows.specs.private.Statements.{Adds, AddsNamed, AreAbove, AreAddresses, Drops, IsRange, is_part};
+ghost use Rattle.xq_rows.specs.private.Statements.{Adds, AddsNamed, AreAbove, AreAddresses, Drops, IsRange, ReadsPart, Updates, UpdatesNamed, is_part};
 ghost use Rattle.xq_rows.specs.private.Keeps.{StaysInside, StaysOutside};
 ghost use Rattle.xq_rows.specs.Labels.{IsStoreSchema};
 
@@ -88,6 +88,65 @@ pub fn insert_row<S: Alter>(
     )
 }
 
+/// Sets the columns of the row of a node that is there under an address, but for its number, with
+/// the number of the label of its name.
+pub fn update_row<S: Alter>(
+    transaction: &mut Transaction<'_, S>,
+    address: &str,
+    row: &NodeRow,
+    label: u32,
+) -> Result<usize, Error>
+    ensures inside { StaysInside S.Store transaction.old transaction.new }
+    ensures updated { HasCleanDisk (state S.Store transaction.new.conn.now)
+        → OnOk result (Updates address.now (placed row.now) label
+        (state S.Store transaction.old.conn.now).now
+        (state S.Store transaction.new.conn.now).now) }
+{
+    let kind = number_of(row.kind);
+    transaction.execute(
+        "UPDATE node2 SET size = ?3, level = ?4, kind = ?5, label = ?6, value = ?7 WHERE address = ?1 AND pre = ?2",
+        params![
+            address, row.pre, row.size, row.level, kind, label, &row.value
+        ],
+    )
+}
+
+/// Inserts one row under an address, and the label that its name wants.
+pub fn insert_named<S: Alter>(
+    transaction: &mut Transaction<'_, S>,
+    names: &mut Names,
+    address: &str,
+    row: &NodeRow,
+) -> Result<(), Error>
+    ensures inside { StaysInside S.Store transaction.old transaction.new }
+    ensures added { HasCleanDisk (state S.Store transaction.new.conn.now)
+        → OnOk result (AddsNamed address.now (cells (placed row.now) ∷ [])
+        names.old.entries names.new.entries (state S.Store transaction.old.conn.now)
+        (state S.Store transaction.new.conn.now)) }
+{
+    let label = number_in_hand(transaction, names, &row.name)?;
+    let _count = insert_row(transaction, address, row, label)?;
+    Ok(())
+}
+
+/// Sets the row of a node that is there, and inserts the label that its name wants.
+pub fn update_named<S: Alter>(
+    transaction: &mut Transaction<'_, S>,
+    names: &mut Names,
+    address: &str,
+    row: &NodeRow,
+) -> Result<(), Error>
+    ensures inside { StaysInside S.Store transaction.old transaction.new }
+    ensures updated { HasCleanDisk (state S.Store transaction.new.conn.now)
+        → OnOk result (UpdatesNamed address.now (placed row.now) names.old.entries
+        names.new.entries (state S.Store transaction.old.conn.now).now
+        (state S.Store transaction.new.conn.now).now) }
+{
+    let label = number_in_hand(transaction, names, &row.name)?;
+    let _count = update_row(transaction, address, row, label)?;
+    Ok(())
+}
+
 /// Inserts rows under an address, and the labels that their names want.
 pub fn insert_rows<S: Alter>(
     transaction: &mut Transaction<'_, S>,
@@ -102,10 +161,29 @@ pub fn insert_rows<S: Alter>(
         (state S.Store transaction.new.conn.now)) }
 {
     for row in rows {
-        let label = number_in_hand(transaction, names, &row.name)?;
-        let _count = insert_row(transaction, address, row, label)?;
+        insert_named(transaction, names, address, row)?;
     }
     Ok(())
+}
+
+/// Reads the rows of an address whose numbers are from `low` up to, and without, `high`, in the order
+/// of their numbers, inside a transaction: the columns pre, size, level, kind, name and value.
+pub fn read_part<S: Alter>(
+    transaction: &mut Transaction<'_, S>,
+    address: &str,
+    low: u32,
+    high: u32,
+) -> Result<Vec<Row>, Error>
+    ensures inside { StaysInside S.Store transaction.old transaction.new }
+    ensures rows { HasCleanDisk (state S.Store transaction.new.conn.now)
+        → IfOk result (λ rows. ReadsPart address.now low high
+        (state S.Store transaction.old.conn.now) (state S.Store transaction.new.conn.now)
+        rows.items) }
+{
+    transaction.query_all(
+        "SELECT pre, size, level, kind, name, value FROM node2 INNER JOIN label ON label = id WHERE address = ?1 AND pre >= ?2 AND pre < ?3 ORDER BY pre",
+        params![address, low, high],
+    )
 }
 
 /// Reads the rows of an address whose numbers are from `low` to `high`, in the order of their

@@ -1,8 +1,8 @@
 -- What each statement of the store does to the tables, or gives of them.
-use Rattle.std.specs.Prelude.{◌≡◌, ◌≢◌, ◌+◌, ◌++◌, ◌&&◌, ℕ, pos, Bool, true, List, [], ◌∷◌, map, filter, length, Option, Some, None, IsPermutation, IsSorted, nat_lt, nat_le, ◌⊎◌, IfSome, String, string_bytes}
+use Rattle.std.specs.Prelude.{◌≡◌, ◌≢◌, ◌+◌, ◌++◌, ◌&&◌, not, ℕ, pos, Bool, true, List, [], ◌∷◌, map, filter, length, Option, Some, None, IsPermutation, IsSorted, nat_lt, nat_le, ◌⊎◌, IfSome, String, string_bytes}
 use Rattle.std.specs.declared.alloc.Global.{Global}
 use Rattle.std.specs.Ordering.{is_ge, is_le, is_lt}
-use Rattle.std.specs.List.{AllByRecursion}
+use Rattle.std.specs.List.{AllByRecursion, enumerate_from}
 use Rattle.sqlite_value.specs.Order.{Row, column, value_cmp}
 use Rattle.sqlite_value.specs.declared.value.Value.TheVariants.{Int, Null, Text}
 use Rattle.sqlite_catalog.specs.Change.{KeepsRows}
@@ -132,6 +132,73 @@ pub record HasReplaced (address : List ℕ) (rows : List Row) (old new : Databas
   pub others : (b : List ℕ) → b ≢ address
       → rows_at b (shown_rows new) ≡ rows_at b (shown_rows old)
 
+-- # Rows that give way to others
+
+-- a row without its rowid and its address has a number from low on
+abbrev pub is_from : ℕ → Row → Bool
+is_from low row = is_ge (value_cmp (column row 0) (Int (pos low)))
+
+-- or one from low up to, and without, high
+abbrev pub is_between : ℕ → ℕ → Row → Bool
+is_between low high row = is_from low row && is_lt (value_cmp (column row 0) (Int (pos high)))
+
+-- of the rows of an address, those with numbers from low up to, and without, high have given way to
+-- these, and nothing else is changed
+pub record HasRenewed (address : List ℕ) (low high : ℕ) (rows : List Row)
+    (old new : Database) : Type 0 where
+  pub sound : IsSound new
+  pub layout : layout_rows new ≡ layout_rows old
+  pub keeps : KeepsLabels old new
+  pub named : IsAddress address → AllByRecursion HasAddress (shown_rows old)
+      → AllByRecursion HasAddress (shown_rows new)
+  pub own : IsPermutation
+      (filter (λ row. not (is_between low high row)) (rows_at address (shown_rows old)) ++ rows)
+      (rows_at address (shown_rows new))
+  pub others : (b : List ℕ) → b ≢ address
+      → rows_at b (shown_rows new) ≡ rows_at b (shown_rows old)
+
+-- the row of an address with a number, or there is none
+abbrev pub LiesAs : List ℕ → ℕ → Option Row → Database → Type 0
+LiesAs address pre None db =
+    filter (is_between pre (pre + 1)) (rows_at address (shown_rows db)) ≡ []
+LiesAs address pre (Some row) db = (node : ℕ × Node) × (node.0 ≡ pre) × (row ≡ cells node)
+    × (filter (is_between pre (pre + 1)) (rows_at address (shown_rows db)) ≡ row ∷ [])
+
+-- the rows of an address with numbers from low on are those of nodes, without a gap
+abbrev pub RunsFrom : List ℕ → ℕ → List Node → Database → Type 0
+RunsFrom address low nodes db = IsPermutation
+    (filter (is_from low) (rows_at address (shown_rows db))) (map cells (enumerate_from low nodes))
+
+-- an UPDATE of the row of a node to those of another, with the number of a label
+abbrev pub Updates : List ℕ → ℕ × Node → ℕ → Database → Database → Type 0
+Updates address node label old new = IsSound old
+    → IsNumberOf (label_rows old) label node.1.label.name
+    → (row : Row) → LiesAs address node.0 (Some row) old
+    → HasRenewed address node.0 (node.0 + 1) (cells node ∷ []) old new
+
+-- a node has come to stand under its number, with the names in hand, where this row was there
+abbrev pub RenewsRow : List ℕ → ℕ × Node → Option Row → List (String Global × ℕ)
+    → List (String Global × ℕ) → Database → Database → Type 0
+RenewsRow address node there before after old new = IsSound old
+    → AreNumbers (label_rows old) before → LiesAs address node.0 there old
+    → HasRenewed address node.0 (node.0 + 1) (cells node ∷ []) old new
+    × AreNumbers (label_rows new) after
+
+-- the same where some row was there
+abbrev pub UpdatesNamed : List ℕ → ℕ × Node → List (String Global × ℕ)
+    → List (String Global × ℕ) → Database → Database → Type 0
+UpdatesNamed address node before after old new = (row : Row)
+    → RenewsRow address node (Some row) before after old new
+
+-- these have come to stand under the numbers from low up to, and without, high, with the names in
+-- hand, where the rows from low on were numbered without a gap, and so many have given way
+abbrev pub RenewsPart : List ℕ → ℕ → ℕ → List Row → List (String Global × ℕ)
+    → List (String Global × ℕ) → Database → Database → ℕ → Type 0
+RenewsPart address low high rows before after old new count = IsSound old
+    → AreNumbers (label_rows old) before → (nodes : List Node) → RunsFrom address low nodes old
+    → HasRenewed address low high rows old new × AreNumbers (label_rows new) after
+    × (count ≡ length (filter (is_between low high) (rows_at address (shown_rows old))))
+
 -- a whole put into a store, which answers whether the address had rows before
 abbrev pub Puts : List ℕ → List Row → Database → Database → Bool → Type 0
 Puts address rows old new replaced = IsStore old → HasReplaced address rows old new
@@ -157,6 +224,14 @@ is_within low high row = is_ge (value_cmp (column row 2) (Int (pos low)))
 abbrev pub IsRange : List ℕ → ℕ → ℕ → Database → List Row → Type 0
 IsRange address low high db rows = IsStoreSchema db.schema
     → IsPicked (λ r. is_at address r && is_within low high r) node_columns (shown_rows db) rows
+
+-- the rows of an address with numbers from low up to, and without, high were read inside a
+-- transaction, and nothing is changed
+pub record ReadsPart (address : List ℕ) (low high : ℕ) (old new : State)
+    (rows : List Row) : Type 0 where
+  pub same : new.now ≡ old.now
+  pub are : IsStoreSchema old.now.schema
+      → IsPicked (is_part address low high) node_columns (shown_rows old.now) rows
 
 -- the row's number is below that of a node, and at least that with its size
 abbrev pub is_above : ℕ → Row → Bool

@@ -1,10 +1,15 @@
-use Rattle.std.proofs.Common.{◌∙◌, refl, sym, subst, arith}
+use Rattle.std.proofs.Common.{◌≡◌, ◌+◌, ◌-◌, ◌∙◌, drop, length, map, refl, sym, subst, arith}
+use Rattle.std.specs.List.{slice_range}
+use Rattle.std.proofs.lemmas.List.{length-take, length-drop}
 use Rattle.sqlite.specs.State.{HasCleanDisk}
 use Rattle.sqlite.specs.Held.{state}
 use Rattle.xq_rows.proofs.Inserts.{kept_then}
+use Rattle.xq_regions.specs.Rows.{placed}
 use Rattle.xq_rows.specs.Labels.{label_rows}
-use Rattle.xq_rows.specs.private.Statements.{AreNumbers}
-use Rattle.xq_rows.proofs.Parts.{nothing_yet, one_part, last_part}
+use Rattle.xq_rows.specs.Nodes.{cells}
+use Rattle.xq_rows.specs.private.Statements.{AreNumbers, RenewsPart}
+use Rattle.xq_rows.proofs.Parts.{nothing_yet, last_part}
+use Rattle.xq_rows.proofs.Renewals.{numbered_slice, part_more}
 use Rattle.xq_rows.proofs.replacements.replace_rows.Goals as goal
 
 pub loop-at-init : goal.loop-at-init
@@ -22,43 +27,44 @@ pub loop-at-preserved : goal.loop-at-preserved
 loop-at-preserved g c =
     let first = state g.S.Store c.args.transaction.now.conn.now in
     let now = state g.S.Store c.loop-at.transaction.conn.now in
-    let mid = state g.S.Store c.delete_part.new.transaction.conn.now in
-    let last = state g.S.Store c.insert_rows.new.transaction.conn.now in
+    let last = state g.S.Store c.renew_part.new.transaction.conn.now in
     let held = c.loop-at.invariant in
-    let cut = c.delete_part.ensures.inside in
-    let put = c.insert_rows.ensures.inside in
+    let step = c.renew_part.ensures.inside in
+    let at = c.loop-at.at in
+    let stop = c.min-stop.result in
+    let part = slice_range c.args.rows.now at stop in
+    let size : at + length part ≡ stop = omega (arith, c.min-stop.ensures, length-take (stop - at) (drop at c.args.rows.now), length-drop at c.args.rows.now) in
+    let renewed : HasCleanDisk last → RenewsPart c.args.address.now at stop (map cells (map placed part)) c.loop-at.names.entries c.renew_part.new.names.entries now.now last.now c.in_ok-count.count =
+    λ clean. subst (λ k. RenewsPart c.args.address.now at k (map cells (map placed part)) c.loop-at.names.entries c.renew_part.new.names.entries now.now last.now c.in_ok-count.count) size (c.in_ok-count.ensures.renewed clean) in
     record {
-      same_reference = put.same_reference ∙ cut.same_reference ∙ held.same_reference;
-      clean = omega (arith, held.clean, cut.clean, put.clean);
+      same_reference = step.same_reference ∙ held.same_reference;
+      clean = omega (arith, held.clean, step.clean);
       kept = λ clean. (
-          let before : HasCleanDisk mid = omega (arith, put.clean) in
-          let early : HasCleanDisk now = omega (arith, cut.clean, put.clean) in
-          kept_then first mid last (kept_then first now mid (held.kept early) (cut.kept before)) (put.kept clean));
+          let early : HasCleanDisk now = omega (arith, step.clean) in
+          kept_then first now last (held.kept early) (step.kept clean));
       within = omega (arith, c.min-stop.ensures);
       so_far = λ clean store. (
-          let before : HasCleanDisk mid = omega (arith, put.clean) in
-          let early : HasCleanDisk now = omega (arith, cut.clean, put.clean) in
-          let gone = (c.in_ok-count.ensures.dropped before).did (held.so_far early store).2.sound in
-          let names = subst (λ ls. AreNumbers ls c.loop-at.names.entries) (sym gone.0.labels) (held.named early store) in
-          one_part c.args.address.now c.args.rows.now c.requires.numbered c.loop-at.at c.min-stop.result c.in_ok-count.count (omega (arith, c.min-stop.ensures)) c.loop-at.replaced _ refl
-          first.now now.now mid.now (held.so_far early) (c.in_ok-count.ensures.dropped before).did last.now (λ sound. ((c.in_ok-insert_rows.ensures.added clean).did sound names).0) store);
+          let early : HasCleanDisk now = omega (arith, step.clean) in
+          (part_more c.args.address.now c.args.rows.now c.loop-at.at c.min-stop.result c.in_ok-count.count c.loop-at.replaced _ c.loop-at.names.entries c.renew_part.new.names.entries first.now now.now last.now c.requires.numbered (omega (arith, c.min-stop.ensures)) refl
+          (held.so_far early) (held.named early) (renewed clean) store).0);
       named = λ clean store. (
-          let before : HasCleanDisk mid = omega (arith, put.clean) in
-          let early : HasCleanDisk now = omega (arith, cut.clean, put.clean) in
-          let gone = (c.in_ok-count.ensures.dropped before).did (held.so_far early store).2.sound in
-          let names = subst (λ ls. AreNumbers ls c.loop-at.names.entries) (sym gone.0.labels) (held.named early store) in
-          ((c.in_ok-insert_rows.ensures.added clean).did gone.0.sound names).1);
+          let early : HasCleanDisk now = omega (arith, step.clean) in
+          (part_more c.args.address.now c.args.rows.now c.loop-at.at c.min-stop.result c.in_ok-count.count c.loop-at.replaced _ c.loop-at.names.entries c.renew_part.new.names.entries first.now now.now last.now c.requires.numbered (omega (arith, c.min-stop.ensures)) refl
+          (held.so_far early) (held.named early) (renewed clean) store).1);
     }
 
 pub returns-clause-replaced : goal.returns-clause-replaced
 returns-clause-replaced g c clean =
     let first = state g.S.Store c.args.transaction.now.conn.now in
     let now = state g.S.Store c.loop-at.transaction.conn.now in
-    let last = state g.S.Store c.delete_part-2.new.transaction.conn.now in
-    let early : HasCleanDisk now = omega (arith, c.delete_part-2.ensures.inside.clean) in
+    let last = state g.S.Store c.delete_part.new.transaction.conn.now in
+    let early : HasCleanDisk now = omega (arith, c.delete_part.ensures.inside.clean) in
     let done = c.in_ok-beyond.ensures.dropped clean in
     record {
       inside = done.inside.mode;
       did = last_part c.args.address.now c.args.rows.now c.requires.numbered c.loop-at.at _ c.in_ok-beyond.beyond (omega (arith, c.loop-at.invariant.within, c.requires.few)) c.loop-at.replaced _ refl
           first.now now.now last.now (c.loop-at.invariant.so_far early) done.did (omega (arith, c.loop-at-test.false)) (omega arith);
     }
+
+pub renew_part-requires-clause-numbered : goal.renew_part-requires-clause-numbered
+renew_part-requires-clause-numbered g c = numbered_slice 0 c.loop-at.at _ c.min-stop.result c.args.rows.now (omega arith) c.requires.numbered

@@ -5,7 +5,7 @@ use Rattle.sqlite.specs.Held.{state}
 use Rattle.xq_regions.specs.Rows.{placed}
 use Rattle.xq_rows.specs.Nodes.{cells}
 use Rattle.xq_rows.specs.private.Statements.{AddsNamed}
-use Rattle.xq_rows.proofs.Adds.{adds_then}
+use Rattle.xq_rows.proofs.Adds.{adds_both}
 use Rattle.xq_rows.proofs.Inserts.{kept_then}
 use Rattle.xq_rows.proofs.statements.insert_rows.Goals as goal
 
@@ -13,21 +13,17 @@ pub loop-row-preserved : goal.loop-row-preserved
 loop-row-preserved g c =
     let first = state g.S.Store c.args.transaction.now.conn.now in
     let mid = state g.S.Store c.loop-row.transaction.conn.now in
-    let named = state g.S.Store c.number_in_hand.new.transaction.conn.now in
-    let last = state g.S.Store c.insert_row.new.transaction.conn.now in
+    let last = state g.S.Store c.insert_named.new.transaction.conn.now in
     let held = c.loop-row.invariant in
-    let number = c.number_in_hand.ensures.inside in
-    let step = c.insert_row.ensures.inside in
+    let step = c.insert_named.ensures.inside in
     record {
-      same_reference = step.same_reference ∙ number.same_reference ∙ held.same_reference;
-      clean = omega (arith, held.clean, number.clean, step.clean);
+      same_reference = step.same_reference ∙ held.same_reference;
+      clean = omega (arith, held.clean, step.clean);
       kept = λ clean.
-          let before : HasCleanDisk named = omega (arith, step.clean) in
-          let early : HasCleanDisk mid = omega (arith, number.clean, step.clean) in
-          kept_then first mid last (held.kept early) (kept_then mid named last (number.kept before) (step.kept clean));
+          let early : HasCleanDisk mid = omega (arith, step.clean) in
+          kept_then first mid last (held.kept early) (step.kept clean);
       added = λ clean.
-          let before : HasCleanDisk named = omega (arith, step.clean) in
-          let early : HasCleanDisk mid = omega (arith, number.clean, step.clean) in
+          let early : HasCleanDisk mid = omega (arith, step.clean) in
           let rows = c.args.rows.now in
           let i = c.loop-row.row-index in
           let x = c.row-item.result in
@@ -35,7 +31,7 @@ loop-row-preserved g c =
           let next : map placed (take (i + 1) rows) ≡ so_far ++ placed x ∷ [] =
           ap (map placed) (take_more rows i x c.loop-row-test.true ∙ ap (λ y. take i rows ++ y ∷ []) (sym c.row-item.is)) ∙ map-append placed (take i rows) (x ∷ []) in
           let more : map cells (map placed (take (i + 1) rows)) ≡ map cells so_far ++ cells (placed x) ∷ [] = ap (map cells) next ∙ map-append cells so_far (placed x ∷ []) in
-          subst (λ l. AddsNamed c.args.address.now l c.args.names.now.entries c.number_in_hand.new.names.entries first last) (sym more) (adds_then c.args.address.now (map cells so_far) (placed x) c.in_ok-label.label c.args.names.now.entries c.loop-row.names.entries c.number_in_hand.new.names.entries first mid named last (held.added early) (c.in_ok-label.ensures.numbered before) (c.in_ok-_count.ensures.added clean));
+          subst (λ l. AddsNamed c.args.address.now l c.args.names.now.entries c.insert_named.new.names.entries first last) (sym more) (adds_both c.args.address.now (map cells so_far) (cells (placed x) ∷ []) c.args.names.now.entries c.loop-row.names.entries c.insert_named.new.names.entries first mid last (held.added early) (c.in_ok-insert_named.ensures.added clean));
     }
 
 pub loop-row-init : goal.loop-row-init

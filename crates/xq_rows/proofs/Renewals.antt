@@ -1,0 +1,419 @@
+-- Rows that come to stand under their numbers, one after another.
+use Rattle.std.proofs.Common.{◌≡◌, ◌&&◌, ◌||◌, ◌+◌, ◌-◌, ◌<◌, ◌≤◌, inl, inr, ℕ, zero, suc, pos, Bool, true, false, not, cond, List, [], ◌∷◌, ◌++◌, map, filter, length, take, drop, get_or, Option, Some, None, Result, Ok, Err, OnOk, refl, sym, ap, ap₂, subst, subst₂, ◌∙◌, arith, append-nil, append_assoc, nat_lt, String, Global, Ordering, Less, Equal, Greater}
+use Rattle.std.specs.Prelude.{slice_get, option_map}
+use Rattle.std.specs.Ordering.{is_ge, is_lt}
+use Rattle.std.specs.List.{AllByRecursion, enumerate_from, slice_range}
+use Rattle.std.specs.List.Sorted.{IsPermutation}
+use Rattle.std.proofs.lemmas.List.{map-append, take_all, take_more}
+use Rattle.std.proofs.lemmas.List.Elements.{filter-append}
+use Rattle.std.proofs.lemmas.List.Sorted.{IsPermutation-refl, IsPermutation-trans, IsPermutation-sym, IsPermutation-cons, IsPermutation-middle, IsPermutation-append_left, length_permutation}
+use Rattle.sqlite_value.specs.Order.{Row, column, value_cmp}
+use Rattle.sqlite_value.specs.declared.value.Value.TheVariants.{Int}
+use Rattle.sqlite_trees.proofs.ListLemmas.{IsPermutation-filter, filter-filter, all-filter}
+use Rattle.sqlite_keyed.proofs.SortLemmas.{sorted_unique}
+use Rattle.sqlite.specs.Effect.{Database}
+use Rattle.sqlite.specs.State.{State}
+use Rattle.sqlite.proofs.Callers.{one_permutation}
+use Rattle.xq_regions.specs.Rows.{Row as Node, rows as rows_of, placed, AreNumbered}
+use Rattle.xq_regions.specs.declared.NodeRow.{NodeRow}
+use Rattle.xq_rows.specs.Documents.{is_at, node_columns, rows_at, by_first, HasAddress, IsSound, IsStore}
+use Rattle.xq_rows.specs.Labels.{label_rows, shown_rows, IsNumberOf, IsStoreSchema}
+use Rattle.xq_rows.specs.Nodes.{cells}
+use Rattle.xq_rows.specs.private.Columns.{node_of}
+use Rattle.xq_rows.specs.private.Statements.{is_between, is_from, is_part, AddsNamed, AreNumbers, HasAdded, HasDropped, HasRenewed, IsPicked, LiesAs, RenewsPart, RenewsRow, RunsFrom, UpdatesNamed}
+use Rattle.xq_rows.proofs.Lists.{both_filters, same_test}
+use Rattle.xq_rows.proofs.Orders.{first_total, numbers_rise}
+use Rattle.xq_rows.proofs.Parts.{all_pass, from_before, new_before, none_pass, number_before, number_from, outside, rows_beside, rows_without, renew_more, take_then, IsAt, IsReplaced}
+use Rattle.xq_rows.proofs.Ranges.{picks}
+
+-- # The numbers of rows
+
+below_is : (o : Ordering) → is_lt o ≡ not (is_ge o)
+below_is Less = refl
+below_is Equal = refl
+below_is Greater = refl
+
+between_is : (j k : ℕ) (x : Row) → is_between j k x ≡ is_from j x && not (is_from k x)
+between_is j k x = ap (λ b. is_from j x && b) (below_is (value_cmp (column x 0) (Int (pos k))))
+
+both_out : (a b c : Bool) → (b ≡ true → a ≡ true) → (c ≡ true → b ≡ true) → cond (not (a && not b)) (not (b && not c)) false ≡ not (a && not c)
+both_out true true true h k = refl
+both_out true true false h k = refl
+both_out true false true h k = absurd (let e = k refl in cc)
+both_out true false false h k = refl
+both_out false true c h k = absurd (let e = h refl in cc)
+both_out false false true h k = absurd (let e = k refl in cc)
+both_out false false false h k = refl
+
+-- what is not between j and k, and not between k and l, is not between j and l
+out_of_both : (j k l : ℕ) → j ≤ k → k ≤ l → (x : Row) → cond (not (is_between j k x)) (not (is_between k l x)) false ≡ not (is_between j l x)
+out_of_both j k l low high x =
+    ap₂ (λ a b. cond (not a) (not b) false) (between_is j k x) (between_is k l x) ∙ both_out (is_from j x) (is_from k x) (is_from l x) (from_before j k low x) (from_before k l high x) ∙ ap not (sym (between_is j l x))
+
+and_first : (a b : Bool) → (a && b) ≡ true → a ≡ true
+and_first true b e = refl
+and_first false b e = absurd cc
+
+-- what is between two numbers is from each number up to the first
+between_from : (i j k : ℕ) → i ≤ j → (x : Row) → is_between j k x ≡ true → is_from i x ≡ true
+between_from i j k h x e = from_before i j h x (and_first _ _ e)
+
+not_both : (a b c : Bool) → (b && c) ≡ true → not (a && not b) ≡ true
+not_both true true c e = refl
+not_both false b c e = refl
+not_both true false c e = absurd cc
+
+-- and is not between numbers before them
+between_later : (i j k : ℕ) → (x : Row) → is_between j k x ≡ true → not (is_between i j x) ≡ true
+between_later i j k x e = ap not (between_is i j x) ∙ not_both (is_from i x) (is_from j x) _ e
+
+none_between : (j k : ℕ) (xs : List Row) → AllByRecursion (λ x. is_from j x ≡ false) xs → AllByRecursion (λ x. is_between j k x ≡ false) xs
+none_between j k [] all = tt
+none_between j k (x ∷ xs) all = (ap (λ b. b && is_lt (value_cmp (column x 0) (Int (pos k)))) all.0, none_between j k xs all.1)
+
+-- # The rows of nodes that are numbered without a gap
+
+all_from_here : (m n : ℕ) (nodes : List Node) → m ≤ n → AllByRecursion (λ x. is_from m x ≡ true) (map cells (enumerate_from n nodes))
+all_from_here m n [] h = tt
+all_from_here m n (x ∷ nodes) h = (number_from m n h, all_from_here m (n + 1) nodes (omega (arith, h)))
+
+from_numbered : (k n m : ℕ) (nodes : List Node) → m ≡ n + k → filter (is_from m) (map cells (enumerate_from n nodes)) ≡ map cells (enumerate_from m (drop k nodes))
+from_numbered zero n m nodes e =
+    let same : n ≡ m = omega (arith, e) in
+    all_pass (is_from m) (map cells (enumerate_from n nodes)) (all_from_here m n nodes (omega (arith, e))) ∙ ap (λ i. map cells (enumerate_from i nodes)) same
+from_numbered (suc k) n m [] e = refl
+from_numbered (suc k) n m (x ∷ nodes) e =
+    ap (λ b. cond b (cells (n, x) ∷ filter (is_from m) (map cells (enumerate_from (n + 1) nodes))) (filter (is_from m) (map cells (enumerate_from (n + 1) nodes)))) (number_before m n (omega (arith, e)))
+    ∙ from_numbered k (n + 1) m nodes (omega (arith, e))
+
+-- the one under a number
+abbrev one_at : ℕ → Option Node → List Row
+one_at p None = []
+one_at p (Some n) = cells (p, n) ∷ []
+
+never : (b : Bool) → (b && false) ≡ false
+never true = refl
+never false = refl
+
+past_number : (j k n : ℕ) (nodes : List Node) → k ≤ n → AllByRecursion (λ x. is_between j k x ≡ false) (map cells (enumerate_from n nodes))
+past_number j k n [] h = tt
+past_number j k n (x ∷ nodes) h = (between_is j k (cells (n, x)) ∙ ap (λ b. is_from j (cells (n, x)) && not b) (number_from k n h) ∙ never _, past_number j k (n + 1) nodes (omega (arith, h)))
+
+own_number : (p : ℕ) (x : Node) → is_between p (p + 1) (cells (p, x)) ≡ true
+own_number p x = between_is p (p + 1) (cells (p, x)) ∙ ap₂ (λ a b. a && not b) (number_from p p (omega arith)) (number_before (p + 1) p (omega arith))
+
+under_number : (i low p : ℕ) (nodes : List Node) → p ≡ low + i → filter (is_between p (p + 1)) (map cells (enumerate_from low nodes)) ≡ one_at p (slice_get nodes i)
+under_number zero low p [] e = refl
+under_number (suc i) low p [] e = refl
+under_number zero low p (x ∷ nodes) e =
+    let same : low ≡ p = omega (arith, e) in
+    let rest : filter (is_between p (p + 1)) (map cells (enumerate_from (low + 1) nodes)) ≡ [] = none_pass (is_between p (p + 1)) _ (past_number p (p + 1) (low + 1) nodes (omega (arith, e))) in
+    ap (λ n. filter (is_between p (p + 1)) (cells (n, x) ∷ map cells (enumerate_from (low + 1) nodes))) same
+    ∙ ap (λ b. cond b (cells (p, x) ∷ filter (is_between p (p + 1)) (map cells (enumerate_from (low + 1) nodes))) (filter (is_between p (p + 1)) (map cells (enumerate_from (low + 1) nodes)))) (own_number p x)
+    ∙ ap (λ l. cells (p, x) ∷ l) rest
+under_number (suc i) low p (x ∷ nodes) e =
+    ap (λ b. cond b (cells (low, x) ∷ filter (is_between p (p + 1)) (map cells (enumerate_from (low + 1) nodes))) (filter (is_between p (p + 1)) (map cells (enumerate_from (low + 1) nodes))))
+    (ap (λ b. b && is_lt (value_cmp (Int (pos low)) (Int (pos (p + 1))))) (number_before p low (omega (arith, e))))
+    ∙ under_number i (low + 1) p nodes (omega (arith, e))
+
+got : (i n low p : ℕ) (nodes : List Node) → i < n → p ≡ low + i → slice_get (map cells (enumerate_from low (take n nodes))) i ≡ option_map (λ x. cells (p, x)) (slice_get nodes i)
+got i zero low p nodes h e = absurd (omega (arith, h))
+got zero (suc n) low p [] h e = refl
+got (suc i) (suc n) low p [] h e = refl
+got zero (suc n) low p (x ∷ nodes) h e = let same : low ≡ p = omega (arith, e) in ap (λ k. Some (cells (k, x))) same
+got (suc i) (suc n) low p (x ∷ nodes) h e = got i n (low + 1) p nodes (omega (arith, h)) (omega (arith, e))
+
+-- those between two numbers
+within_numbered : (n low first high : ℕ) (nodes : List Node) → first ≤ low → high ≡ low + n → filter (is_between first high) (map cells (enumerate_from low nodes)) ≡ map cells (enumerate_from low (take n nodes))
+within_numbered zero low first high nodes h e = none_pass (is_between first high) _ (past_number first high low nodes (omega (arith, e)))
+within_numbered (suc n) low first high [] h e = refl
+within_numbered (suc n) low first high (x ∷ nodes) h e =
+    let rest = within_numbered n (low + 1) first high nodes (omega (arith, h)) (omega (arith, e)) in
+    let own : is_between first high (cells (low, x)) ≡ true = between_is first high (cells (low, x)) ∙ ap₂ (λ a b. a && not b) (number_from first low h) (number_before high low (omega (arith, e))) in
+    ap (λ b. cond b (cells (low, x) ∷ filter (is_between first high) (map cells (enumerate_from (low + 1) nodes))) (filter (is_between first high) (map cells (enumerate_from (low + 1) nodes)))) own ∙ ap (λ l. cells (low, x) ∷ l) rest
+
+-- # What lies under a number
+
+lies_one : (a : List ℕ) (p : ℕ) (found : Option Node) (db : Database) → filter (is_between p (p + 1)) (rows_at a (shown_rows db)) ≡ one_at p found → LiesAs a p (option_map (λ x. cells (p, x)) found) db
+lies_one a p None db is = is
+lies_one a p (Some n) db is = ((p, n), refl, refl, is)
+
+only_these : (p : ℕ) (found : Option Node) (xs : List Row) → IsPermutation (one_at p found) xs → xs ≡ one_at p found
+only_these p None [] same = refl
+only_these p None (x ∷ xs) same = absurd (let e = length_permutation _ _ same in omega (arith, e))
+only_these p (Some n) xs same = one_permutation (cells (p, n)) xs same
+
+module _ (a : List ℕ) (low : ℕ) (nodes : List Node) (db : Database) (runs : RunsFrom a low nodes db) where
+  abbrev mine : List Row
+  mine = rows_at a (shown_rows db)
+
+  -- those from low on that pass a test are those of the nodes that do
+  passing : (Q : Row → Bool) → ((x : Row) → Q x ≡ true → is_from low x ≡ true) → IsPermutation (filter Q mine) (filter Q (map cells (enumerate_from low nodes)))
+  passing Q up = subst (λ l. IsPermutation l (filter Q (map cells (enumerate_from low nodes)))) (filter-filter Q (is_from low) up mine) (IsPermutation-filter Q _ _ runs)
+
+  under : (i p : ℕ) → p ≡ low + i → filter (is_between p (p + 1)) mine ≡ one_at p (slice_get nodes i)
+  under i p e =
+      let all = passing (is_between p (p + 1)) (between_from low p (p + 1) (omega (arith, e))) in
+      only_these p (slice_get nodes i) (filter (is_between p (p + 1)) mine) (subst (λ l. IsPermutation l (filter (is_between p (p + 1)) mine)) (under_number i low p nodes e) (IsPermutation-sym _ _ all))
+
+  module _ (n high : ℕ) (size : high ≡ low + n) (there : List Row) (picked : IsPicked (is_part a low high) node_columns (shown_rows db) there) where
+    all_within : IsPermutation (filter (is_between low high) mine) (map cells (enumerate_from low (take n nodes)))
+    all_within = subst (IsPermutation (filter (is_between low high) mine)) (within_numbered n low low high nodes (omega arith) size) (passing (is_between low high) (between_from low low high (omega arith)))
+
+    read_is : there ≡ map cells (enumerate_from low (take n nodes))
+    read_is =
+        let some : IsPermutation (filter (is_between low high) mine) there = subst (λ l. IsPermutation l there) (picks (is_at a) (is_between low high) (shown_rows db)) picked.same in
+        sorted_unique by_first first_total (map cells (enumerate_from low (take n nodes))) there (numbers_rise low (take n nodes)) (IsPermutation-trans _ _ _ (IsPermutation-sym _ _ all_within) some) picked.sorted
+
+    -- each row that was read lies under its number, and none lies where none was read
+    pub each_lies : (i p : ℕ) → i < n → p ≡ low + i → LiesAs a p (slice_get there i) db
+    each_lies i p h e =
+        subst (λ o. LiesAs a p o db) (sym (ap (λ l. slice_get l i) read_is ∙ got i n low p nodes h e)) (lies_one a p (slice_get nodes i) db (under i p e))
+
+    -- they are so many
+    pub so_many : length there ≡ length (filter (is_between low high) mine)
+    so_many = ap length read_is ∙ length_permutation _ _ all_within
+
+-- # Rows that stay, or give way to others
+
+parts_of : (p : Row → Bool) (xs : List Row) → IsPermutation (filter (λ x. not (p x)) xs ++ filter p xs) xs
+parts_of p [] = IsPermutation-refl []
+parts_of p (x ∷ xs) = go (p x) (parts_of p xs)
+  where
+    go : (b : Bool) → IsPermutation (filter (λ y. not (p y)) xs ++ filter p xs) xs → IsPermutation (cond (not b) (x ∷ filter (λ y. not (p y)) xs) (filter (λ y. not (p y)) xs) ++ cond b (x ∷ filter p xs) (filter p xs)) (x ∷ xs)
+    go true h = IsPermutation-trans _ _ _ (IsPermutation-middle (filter (λ y. not (p y)) xs) x (filter p xs)) (IsPermutation-cons x _ _ h)
+    go false h = IsPermutation-cons x _ _ h
+
+-- the row that is to stand there is there
+pub stays : (a : List ℕ) (p : ℕ) (row : Row) (db : Database) → IsSound db → LiesAs a p (Some row) db → HasRenewed a p (p + 1) (row ∷ []) db db
+stays a p row db sound lies = record {
+  sound = sound;
+  layout = refl;
+  keeps = λ n name is. is;
+  named = λ good all. all;
+  own = (let all = rows_at a (shown_rows db) in subst (λ l. IsPermutation (filter (λ x. not (is_between p (p + 1) x)) all ++ l) all) lies.3 (parts_of (is_between p (p + 1)) all));
+  others = λ b apart. refl;
+}
+
+-- none is there, and some are added
+pub added_there : (a : List ℕ) (p : ℕ) (rows : List Row) (old new : Database) → LiesAs a p None old → HasAdded a rows old new → HasRenewed a p (p + 1) rows old new
+added_there a p rows old new none it = record {
+  sound = it.sound;
+  layout = it.layout;
+  keeps = it.keeps;
+  named = it.named;
+  own = IsPermutation-trans _ _ _ (IsPermutation-append_left rows _ _ all_left) it.own;
+  others = it.others;
+}
+  where
+    all : List Row
+    all = rows_at a (shown_rows old)
+
+    all_left : IsPermutation (filter (λ x. not (is_between p (p + 1) x)) all) all
+    all_left = subst (λ l. IsPermutation l all) (append-nil (filter (λ x. not (is_between p (p + 1) x)) all)) (subst (λ l. IsPermutation (filter (λ x. not (is_between p (p + 1) x)) all ++ l) all) none (parts_of (is_between p (p + 1)) all))
+
+-- so a row with a name in hand does
+pub inserts_row : (a : List ℕ) (n : ℕ × Node) (before after : List (String Global × ℕ)) (old new : State) → AddsNamed a (cells n ∷ []) before after old new → RenewsRow a n None before after old.now new.now
+inserts_row a n before after old new it sound all none = (let did = it.did sound all in (added_there a n.0 (cells n ∷ []) old.now new.now none did.0, did.1))
+
+pub inserted_row : {E : Type 0} (a : List ℕ) (n : ℕ × Node) (o : Option Row) (before after : List (String Global × ℕ)) (old new : State) (r : Result (Unit {0}) E) → o ≡ None → OnOk r (AddsNamed a (cells n ∷ []) before after old new)
+    → OnOk r (RenewsRow a n o before after old.now new.now)
+inserted_row a n o before after old new (Err e) none it = tt
+inserted_row a n o before after old new (Ok x) none it = subst (λ o. RenewsRow a n o before after old.now new.now) (sym none) (inserts_row a n before after old new it)
+
+pub updated_row : {E : Type 0} (a : List ℕ) (n : ℕ × Node) (o : Option Row) (there : Row) (before after : List (String Global × ℕ)) (old new : Database) (r : Result (Unit {0}) E) → o ≡ Some there → OnOk r (UpdatesNamed a n before after old new)
+    → OnOk r (RenewsRow a n o before after old new)
+updated_row a n o there before after old new (Err e) some it = tt
+updated_row a n o there before after old new (Ok x) some it = subst (λ o. RenewsRow a n o before after old new) (sym some) (it there)
+
+-- and so does one that is the same
+pub stays_row : (a : List ℕ) (n : ℕ × Node) (there : Row) (names : List (String Global × ℕ)) (db : Database) → node_of there ≡ cells n → RenewsRow a n (Some there) names names db db
+stays_row a n there names db same sound all lies =
+    let is : there ≡ cells n = lies.2 ∙ sym (ap node_of lies.2) ∙ same in
+    (subst (λ row. HasRenewed a n.0 (n.0 + 1) (row ∷ []) db db) is (stays a n.0 there db sound lies), all)
+
+-- some were taken out, and others were added
+pub exchanged : (a : List ℕ) (j k : ℕ) (rows : List Row) (old mid new : Database) → HasDropped (is_part a j k) old mid → HasAdded a rows mid new → HasRenewed a j k rows old new
+exchanged a j k rows old mid new drops adds = record {
+  sound = adds.sound;
+  layout = adds.layout ∙ drops.layout;
+  keeps = λ n name is. adds.keeps n name (subst (λ ls. IsNumberOf ls n name) (sym drops.labels) is);
+  named = λ good all. adds.named good (subst (AllByRecursion HasAddress) (sym drops.rows) (all-filter _ (λ r. not (is_part a j k r)) (shown_rows old) all));
+  own = subst (λ l. IsPermutation (l ++ rows) (rows_at a (shown_rows new))) (ap (rows_at a) drops.rows ∙ rows_without a j k (shown_rows old)) adds.own;
+  others = λ b apart. adds.others b apart ∙ ap (rows_at b) drops.rows ∙ rows_beside a b j k (shown_rows old) apart;
+}
+
+-- one after the other
+pub renewed_then : (a : List ℕ) (j k l : ℕ) (xs ys : List Row) (first mid last : Database) → j ≤ k → k ≤ l → AllByRecursion (λ x. is_from k x ≡ false) xs → HasRenewed a j k xs first mid → HasRenewed a k l ys mid last
+    → HasRenewed a j l (xs ++ ys) first last
+renewed_then a j k l xs ys first mid last low high below p q = record {
+  sound = q.sound;
+  layout = q.layout ∙ p.layout;
+  keeps = λ n name is. q.keeps n name (p.keeps n name is);
+  named = λ good all. q.named good (p.named good all);
+  own = own;
+  others = λ b apart. q.others b apart ∙ p.others b apart;
+}
+  where
+    all : List Row
+    all = rows_at a (shown_rows first)
+
+    left : filter (λ x. not (is_between k l x)) (filter (λ x. not (is_between j k x)) all ++ xs) ≡ filter (λ x. not (is_between j l x)) all ++ xs
+    left =
+        filter-append (λ x. not (is_between k l x)) (filter (λ x. not (is_between j k x)) all) xs
+        ∙ ap₂ ◌++◌ (both_filters (λ x. not (is_between k l x)) (λ x. not (is_between j k x)) all ∙ same_test _ _ (out_of_both j k l low high) all) (all_pass (λ x. not (is_between k l x)) xs (outside k l xs below))
+
+    stay : IsPermutation (filter (λ x. not (is_between j l x)) all ++ xs) (filter (λ x. not (is_between k l x)) (rows_at a (shown_rows mid)))
+    stay = subst (λ zs. IsPermutation zs (filter (λ x. not (is_between k l x)) (rows_at a (shown_rows mid)))) left (IsPermutation-filter (λ x. not (is_between k l x)) _ _ p.own)
+
+    own : IsPermutation (filter (λ x. not (is_between j l x)) all ++ (xs ++ ys)) (rows_at a (shown_rows last))
+    own = subst (λ zs. IsPermutation zs (rows_at a (shown_rows last))) (append_assoc (filter (λ x. not (is_between j l x)) all) xs ys) (IsPermutation-trans _ _ _ (IsPermutation-append_left ys _ _ stay) q.own)
+
+-- what lies under a number still lies there where others before it gave way
+moved_on : (a : List ℕ) (p : ℕ) (o : Option Row) (old now : Database) → IsPermutation (filter (is_between p (p + 1)) (rows_at a (shown_rows old))) (filter (is_between p (p + 1)) (rows_at a (shown_rows now))) → LiesAs a p o old → LiesAs a p o now
+moved_on a p None old now same none = none_left _ (subst (λ l. IsPermutation l (filter (is_between p (p + 1)) (rows_at a (shown_rows now)))) none same)
+  where
+    none_left : (xs : List Row) → IsPermutation [] xs → xs ≡ []
+    none_left [] same = refl
+    none_left (x ∷ xs) same = absurd (let e = length_permutation _ _ same in omega (arith, e))
+moved_on a p (Some row) old now same lies = (lies.0, lies.1, lies.2, one_permutation row _ (subst (λ l. IsPermutation l (filter (is_between p (p + 1)) (rows_at a (shown_rows now)))) lies.3 same))
+
+pub still_lies : (a : List ℕ) (low p : ℕ) (xs : List Row) (o : Option Row) (old now : Database) → AllByRecursion (λ x. is_from p x ≡ false) xs → HasRenewed a low p xs old now → LiesAs a p o old → LiesAs a p o now
+still_lies a low p xs o old now below it = moved_on a p o old now same
+  where
+    all : List Row
+    all = rows_at a (shown_rows old)
+
+    left : filter (is_between p (p + 1)) (filter (λ x. not (is_between low p x)) all ++ xs) ≡ filter (is_between p (p + 1)) all
+    left =
+        filter-append (is_between p (p + 1)) (filter (λ x. not (is_between low p x)) all) xs
+        ∙ ap₂ ◌++◌ (filter-filter (is_between p (p + 1)) (λ x. not (is_between low p x)) (between_later low p (p + 1)) all) (none_pass (is_between p (p + 1)) xs (none_between p (p + 1) xs below)) ∙ append-nil (filter (is_between p (p + 1)) all)
+
+    same : IsPermutation (filter (is_between p (p + 1)) all) (filter (is_between p (p + 1)) (rows_at a (shown_rows now)))
+    same = subst (λ l. IsPermutation l (filter (is_between p (p + 1)) (rows_at a (shown_rows now)))) left (IsPermutation-filter (is_between p (p + 1)) _ _ it.own)
+
+-- # A part, row by row
+
+-- so many rows have come to stand from low on
+abbrev pub IsRenewed : List ℕ → ℕ → List NodeRow → ℕ → List (String Global × ℕ) → List (String Global × ℕ) → Database → Database → Type 0
+IsRenewed a low rows i before after old now = IsSound old → AreNumbers (label_rows old) before → (nodes : List Node) → RunsFrom a low nodes old
+    → HasRenewed a low (low + i) (map cells (map placed (take i rows))) old now × AreNumbers (label_rows now) after
+
+numbered_at : (low i : ℕ) (rows : List NodeRow) (row : NodeRow) → AreNumbered low rows → i < length rows → row ≡ get_or rows i row → row.pre ≡ low + i
+numbered_at low i [] row all h is = absurd (omega (arith, h))
+numbered_at low zero (r ∷ rows) row all h is = (let e : low ≡ low + 0 = omega arith in ap (λ (r : NodeRow). r.pre) is ∙ all.0 ∙ e)
+numbered_at low (suc i) (r ∷ rows) row all h is = (let e : suc low + i ≡ low + suc i = omega arith in numbered_at (suc low) i rows row all.1 (omega (arith, h)) is ∙ e)
+
+-- none has
+pub none_renewed : (a : List ℕ) (low : ℕ) (rows : List NodeRow) (names : List (String Global × ℕ)) (old now : Database) → now ≡ old → IsRenewed a low rows 0 names names old now
+none_renewed a low rows names old now same sound all nodes runs = subst (λ db. HasRenewed a low (low + 0) [] old db × AreNumbers (label_rows db) names) (sym same) (
+  record {
+    sound = sound;
+    layout = refl;
+    keeps = λ n name is. is;
+    named = λ good all. all;
+    own = subst (λ l. IsPermutation l rows_there) (sym (append-nil (filter (λ x. not (is_between low (low + 0) x)) rows_there) ∙ all_pass _ rows_there (all_out rows_there))) (IsPermutation-refl rows_there);
+    others = λ b apart. refl;
+  },
+  all,
+)
+  where
+    rows_there : List Row
+    rows_there = rows_at a (shown_rows old)
+
+    neither : (b : Bool) → not (b && not b) ≡ true
+    neither true = refl
+    neither false = refl
+
+    out : (x : Row) → not (is_between low (low + 0) x) ≡ true
+    out x = (let e : low + 0 ≡ low = omega arith in ap (λ k. not (is_between low k x)) e ∙ ap not (between_is low low x) ∙ neither (is_from low x))
+
+    all_out : (xs : List Row) → AllByRecursion (λ x. not (is_between low (low + 0) x) ≡ true) xs
+    all_out [] = tt
+    all_out (x ∷ xs) = (out x, all_out xs)
+
+-- and one more
+pub one_renewed : (a : List ℕ) (low high i : ℕ) (rows : List NodeRow) (row : NodeRow) (there : List Row) (before mid after : List (String Global × ℕ)) (old now new : Database) → AreNumbered low rows → i < length rows → high ≡ low + length rows
+    → row ≡ get_or rows i row → (IsStoreSchema old.schema → IsPicked (is_part a low high) node_columns (shown_rows old) there) → IsRenewed a low rows i before mid old now → RenewsRow a (placed row) (slice_get there i) mid after now new → IsRenewed a low rows (i + 1) before after old new
+one_renewed a low high i rows row there before mid after old now new numbered h size is read so_far step sound all nodes runs =
+    let p = low + i in
+    let xs = map cells (map placed (take i rows)) in
+    let done = so_far sound all nodes runs in
+    let own : row.pre ≡ p = numbered_at low i rows row numbered h is in
+    let below : AllByRecursion (λ x. is_from p x ≡ false) xs = new_before low i rows numbered in
+    let first = each_lies a low nodes old runs (length rows) high size there (read sound.schema) i p h refl in
+    let lies = still_lies a low p xs (slice_get there i) old now below done.0 first in
+    let one = step done.0.sound done.1 (subst (λ n. LiesAs a n (slice_get there i) now) (sym own) lies) in
+    let here : HasRenewed a p (p + 1) (cells (placed row) ∷ []) now new = subst (λ n. HasRenewed a n (n + 1) (cells (placed row) ∷ []) now new) own one.0 in
+    let more = renewed_then a low p (p + 1) xs (cells (placed row) ∷ []) old now new (omega arith) (omega arith) below done.0 here in
+    let joined : xs ++ cells (placed row) ∷ [] ≡ map cells (map placed (take (i + 1) rows)) =
+    sym (ap (λ l. map cells (map placed l)) (take_more rows i row h ∙ ap (λ y. take i rows ++ y ∷ []) (sym is)) ∙ ap (map cells) (map-append placed (take i rows) (row ∷ [])) ∙ map-append cells (map placed (take i rows)) (placed row ∷ [])) in
+    let next : p + 1 ≡ low + (i + 1) = omega arith in
+    (subst₂ (λ k l. HasRenewed a low k l old new) next joined more, one.1)
+
+-- then the part is
+pub part_renewed : (a : List ℕ) (low high count i : ℕ) (rows : List NodeRow) (there : List Row) (before after : List (String Global × ℕ)) (old now : Database) → high ≡ low + length rows
+    → (IsStoreSchema old.schema → IsPicked (is_part a low high) node_columns (shown_rows old) there)
+    → i ≡ length rows → IsRenewed a low rows i before after old now → count ≡ length there → RenewsPart a low (low + length rows) (map cells (map placed rows)) before after old now count
+part_renewed a low high count i rows there before after old now size read all_done done counted sound all nodes runs =
+    let it = done sound all nodes runs in
+    let whole : take i rows ≡ rows = take_all i rows (omega (arith, all_done)) in
+    let last : low + i ≡ low + length rows = omega (arith, all_done) in (
+      subst₂ (λ k l. HasRenewed a low k (map cells (map placed l)) old now) last whole it.0,
+      it.1,
+      counted ∙ so_many a low nodes old runs (length rows) high size there (read sound.schema) ∙ ap (λ k. length (filter (is_between low k) (rows_at a (shown_rows old)))) size,
+    )
+
+-- # A document, part by part
+
+-- the rows of an address are those of nodes that are numbered from 0 on
+listed : (a : List ℕ) (db : Database) → IsStore db → (nodes : List Node) × IsPermutation (rows_at a (shown_rows db)) (map cells (enumerate_from 0 nodes))
+listed a db store = elim (store.whole a) [
+  | inl none ↦ ([], subst (λ l. IsPermutation l []) (sym none) (IsPermutation-refl []))
+  | inr some ↦ (rows_of some.tree, some.same)
+]
+
+-- those that have not given way yet are numbered without a gap
+pub runs_on : (a : List ℕ) (k deleted : ℕ) (added : List Row) (old now : Database) → IsStore old → AllByRecursion (λ x. is_from k x ≡ false) added → IsReplaced a k deleted added old now → (nodes : List Node) × RunsFrom a k nodes now
+runs_on a k deleted added old now store below it =
+    let whole = listed a old store in
+    let all = rows_at a (shown_rows old) in
+    let left : filter (is_from k) (filter (is_from k) all ++ added) ≡ filter (is_from k) all =
+    filter-append (is_from k) (filter (is_from k) all) added ∙ ap₂ ◌++◌ (filter-filter (is_from k) (is_from k) (λ x e. e) all) (none_pass (is_from k) added below) ∙ append-nil (filter (is_from k) all) in
+    let own : IsPermutation (filter (is_from k) all) (filter (is_from k) (rows_at a (shown_rows now))) = subst (λ l. IsPermutation l (filter (is_from k) (rows_at a (shown_rows now)))) left (IsPermutation-filter (is_from k) _ _ it.own) in
+    let zero_more : k ≡ 0 + k = omega arith in
+    let are : IsPermutation (filter (is_from k) all) (map cells (enumerate_from k (drop k whole.0))) = subst (IsPermutation (filter (is_from k) all)) (from_numbered k 0 k whole.0 zero_more) (IsPermutation-filter (is_from k) _ _ whole.1) in
+    (drop k whole.0, IsPermutation-trans _ _ _ (IsPermutation-sym _ _ own) are)
+
+-- a slice of rows that are numbered is numbered from its first on
+pub numbered_slice : (n at first stop : ℕ) (rows : List NodeRow) → first ≡ n + at → AreNumbered n rows → AreNumbered first (slice_range rows at stop)
+numbered_slice n at first stop rows is all = subst (λ k. AreNumbered k (slice_range rows at stop)) (let e : at + n ≡ first = omega (arith, is) in e) (taken (stop - at) (at + n) (drop at rows) (dropped at n rows all))
+  where
+    taken : (k m : ℕ) (rs : List NodeRow) → AreNumbered m rs → AreNumbered m (take k rs)
+    taken zero m rs all = tt
+    taken (suc k) m [] all = tt
+    taken (suc k) m (r ∷ rs) all = (all.0, taken k (suc m) rs all.1)
+
+    dropped : (k m : ℕ) (rs : List NodeRow) → AreNumbered m rs → AreNumbered (k + m) (drop k rs)
+    dropped zero m rs all = subst (λ i. AreNumbered i rs) (let e : m ≡ zero + m = omega arith in e) all
+    dropped (suc k) m [] all = tt
+    dropped (suc k) m (r ∷ rs) all = subst (λ i. AreNumbered i (drop k rs)) (let e : k + suc m ≡ suc k + m = omega arith in e) (dropped k (suc m) rs all.1)
+
+either_some : (m n : ℕ) → (nat_lt 0 m || nat_lt 0 n) ≡ nat_lt 0 (m + n)
+either_some zero n = ap (nat_lt 0) (omega arith)
+either_some (suc m) n = grind arith
+
+-- one part more has given way
+pub part_more : (a : List ℕ) (rows : List NodeRow) (at stop count : ℕ) (replaced next : Bool) (before after : List (String Global × ℕ)) (old now new : Database) → AreNumbered 0 rows → at ≤ stop → next ≡ (replaced || nat_lt 0 count) → IsAt a rows at replaced old now
+    → (IsStore old → AreNumbers (label_rows now) before) → RenewsPart a at stop (map cells (map placed (slice_range rows at stop))) before after now new count → IsStore old → ((deleted : ℕ) × (next ≡ nat_lt 0 deleted) × IsReplaced a stop deleted (map cells (map placed (take stop rows))) old new) × AreNumbers (label_rows new) after
+part_more a rows at stop count replaced next before after old now new numbered forward is so_far names renews store =
+    let done = so_far store in
+    let zero_more : 0 + at ≡ at = omega arith in
+    let below = subst (λ k. AllByRecursion (λ x. is_from k x ≡ false) (map cells (map placed (take at rows)))) zero_more (new_before 0 at rows numbered) in
+    let runs = runs_on a at done.0 (map cells (map placed (take at rows))) old now store below done.2 in
+    let part = renews done.2.sound (names store) runs.0 runs.1 in
+    let more = renew_more a at stop done.0 count (map cells (map placed (take at rows))) (map cells (map placed (slice_range rows at stop))) old now new forward below done.2 part.0 part.2 in
+    let joined : map cells (map placed (take at rows)) ++ map cells (map placed (slice_range rows at stop)) ≡ map cells (map placed (take stop rows)) =
+    sym (ap (λ l. map cells (map placed l)) (take_then at stop rows forward) ∙ ap (map cells) (map-append placed (take at rows) (slice_range rows at stop)) ∙ map-append cells (map placed (take at rows)) (map placed (slice_range rows at stop))) in
+    let some : next ≡ nat_lt 0 (done.0 + count) = is ∙ ap (λ b. b || nat_lt 0 count) done.1 ∙ either_some done.0 count in
+    ((done.0 + count, some, subst (λ l. IsReplaced a stop (done.0 + count) l old new) joined more), part.1)
