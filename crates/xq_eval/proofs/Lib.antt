@@ -7,3 +7,4 @@ pub mod Steps
 pub mod ConstantPredicates
 pub mod DocumentScans
 pub mod Joining
+pub mod TextSteps

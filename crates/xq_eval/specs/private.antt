@@ -7,3 +7,4 @@ pub mod Turns
 pub mod Results
 pub mod Scanning
 pub mod Joining
+pub mod Texts

@@ -15,14 +15,13 @@ ghost use Rattle.xq_forms.specs.Views.{tuple_at, tuples_at, lists_of, order_spec
 ghost use Rattle.xq_eval.specs.private.Results.{GivesLists, GivesTests, GivesKeys, GivesRows};
 ghost use Rattle.xq_eval.specs.private.Joining.{GivesMatched};
 
-use crate::evaluation::evaluate;
+use crate::evaluation::{evaluate, tested};
 use sqlite_items::at;
 use std::alloc::Global;
 use std::rc::Rc;
 use xq_atoms::{Atom, Fault, Want};
 use xq_expressions::{AllowingEmpty, OrderModifier};
 use xq_forms::{Frame, group, into_atoms, joined, order, refill};
-use xq_functions::effective;
 use xq_joins::{join_at, matching};
 use xq_meaning::{Plan, PlanClause};
 use xq_regions::Items;
@@ -262,8 +261,12 @@ fn next_test<W: Growing>(
     ensures long { IfOk result (λ tests. length tests.items ≡ suc (length done.items)) }
 {
     let mut tests = done;
-    let value = at_tuple(alloc, world, frame, slots, part)?;
-    let holds = effective(&value)?;
+    let inner = Frame {
+        slots,
+        focus: frame.focus,
+        addresses: frame.addresses,
+    };
+    let holds = tested(alloc, world, inner, part)?;
     tests.push(holds)?;
     Ok(tests)
 }

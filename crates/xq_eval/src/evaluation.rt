@@ -18,6 +18,7 @@ use crate::expressions::{
     quantified, signed, simple_map, unnamed_node,
 };
 use crate::positions::{constant, keep_constant};
+use crate::texts::text_test_at;
 use sqlite_items::Items as PlanItems;
 use std::alloc::Global;
 use xq_atoms::Fault;
@@ -26,6 +27,7 @@ use xq_forms::{
     Focus, Frame, call, context_item, decimal, integer, operate, push_copy, root, string, variable,
 };
 use xq_functions::{effective, keeps};
+use xq_joins::{keep_by_text, leads_to_text, node_test};
 use xq_meaning::{Operator, Plan};
 use xq_regions::{Item, Items};
 use xq_sources::Growing;
@@ -199,7 +201,7 @@ pub fn decided<W: Growing>(
     Ok(!wanted)
 }
 
-/// The truth of a part.
+/// The truth of a part. Where it asks a node at hand for a text, that is only read.
 #[cycle(eval)]
 pub fn tested<W: Growing>(
     alloc: Global,
@@ -213,6 +215,9 @@ pub fn tested<W: Growing>(
         → GivesPlain (Forms.tested (plan_mean part.now) (frame_at (W.forest world.old)
         frame.entry) (W.forest world.old)) (W.forest world.new) result }
 {
+    if let Some(found) = node_test(frame, part) {
+        return Ok(leads_to_text(alloc, world, found.node, found.test)?);
+    }
     let value = evaluate(alloc, world, frame, part)?;
     Ok(effective(&value)?)
 }
@@ -243,7 +248,7 @@ pub fn filter<W: Growing>(
 }
 
 /// The items that one predicate keeps. One that has the same value at each item is not evaluated at
-/// each.
+/// each, and one that asks nodes for a text only reads.
 #[cycle(eval)]
 fn keep<W: Growing>(
     alloc: Global,
@@ -262,6 +267,9 @@ fn keep<W: Growing>(
 {
     if let Some(value) = constant(alloc, predicate, items)? {
         return keep_constant(alloc, items, &value);
+    }
+    if let Some(test) = text_test_at(frame, predicate, items) {
+        return Ok(keep_by_text(alloc, world, items, test)?);
     }
     let last = items.len();
     let mut kept = Vec::new(alloc);

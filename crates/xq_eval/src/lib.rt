@@ -10,6 +10,7 @@ mod paths;
 mod positions;
 mod quantified;
 mod queries;
+mod texts;
 mod variables;
 
 pub use queries::eval;

@@ -15,6 +15,7 @@ ghost use Rattle.xq_eval.specs.private.Children.{IsToChildren};
 ghost use Rattle.xq_eval.specs.private.Scanning.{IsScan};
 
 use crate::evaluation::evaluate;
+use crate::texts::{children_by_text, double_slash_by_text};
 use sqlite_items::at;
 use std::alloc::Global;
 use xq_atoms::Fault;
@@ -67,8 +68,9 @@ fn chosen_children(next: Option<&PlanStep>) -> Option<&Test>
     Some(test)
 }
 
-/// The items after all steps. Two that are `//` and a step to children are one scan; where that
-/// step has predicates, it is tried at those nodes alone that have such children.
+/// The items after all steps. Two that are `//` and a step to children are one scan, also where that
+/// step has one predicate that asks for a text; where it has others, it is tried at those nodes alone
+/// that have such children.
 #[cycle(eval)]
 pub fn step_list<W: Growing>(
     alloc: Global,
@@ -102,6 +104,12 @@ pub fn step_list<W: Growing>(
             if let Some(test) = children(next) {
                 let found = double_slash(alloc, world, &left, test)?;
                 left = found;
+                is_taken = true;
+                continue;
+            }
+            if let Some(chosen) = children_by_text(frame, next) {
+                let kept = double_slash_by_text(alloc, world, &left, chosen)?;
+                left = kept;
                 is_taken = true;
                 continue;
             }

@@ -4,3 +4,5 @@ pub mod Walks
 pub mod Meanings
 pub mod Clauses
 pub mod Found
+pub mod TextTests
+pub mod LoneTexts

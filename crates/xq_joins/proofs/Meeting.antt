@@ -15,7 +15,9 @@ use Rattle.xq_regions.specs.Value.{typed_by}
 use Rattle.xq_regions.proofs.Lists.{same_test}
 use Rattle.xq_meaning.specs.Items.{Place, Node, atomic_value, atom_of, atomized, tree_below}
 use Rattle.xq_meaning.specs.Operators.{or_rest, some_with, some_pair}
+use Rattle.xq_joins.specs.Equalities.{have_text}
 use Rattle.xq_joins.specs.Keys.{text_at, meet}
+use Rattle.xq_joins.specs.private.Texts.{IsText}
 
 -- # Some of a list
 
@@ -54,12 +56,6 @@ meet_swap as' bs = any_swap text_eq as' bs ∙ any_same (λ b. list_any (λ a. t
 
 -- # Comparison of nodes: XQuery 3.1, 3.7.2
 
--- a string or an untyped value with this text
-abbrev IsText : Atomic → Text → Type 0
-IsText (String s) t = s ≡ t
-IsText (Untyped s) t = s ≡ t
-IsText a t = ⊥
-
 typed_is_text : (k : Kind) (t : Text) → IsText (atomic_value (typed_by k t)) t
 typed_is_text kind.Document t = refl
 typed_is_text kind.Element t = refl
@@ -86,6 +82,10 @@ compared (Untyped x) (Integer n) s t h k = absurd k
 compared (Untyped x) (Decimal n) s t h k = absurd k
 compared (Untyped x) (Boolean c) s t h k = absurd k
 
+or_none : (b : Bool) → (b || false) ≡ b
+or_none true = refl
+or_none false = refl
+
 or_is : (b c : Bool) → or_rest b (Ok c) ≡ Ok (b || c)
 or_is true c = refl
 or_is false c = refl
@@ -108,3 +108,21 @@ module _ (trees : List Tree) where
       ap (λ r. r >>= (λ answer. or_rest answer (some_pair comp.Eq (atomized trees (map Node ps)) (atomized trees (map Node qs))))) (some_with_texts (atom_of trees (Node p)) (text_at trees p) (node_text p) qs)
       ∙ ap (or_rest (list_any (text_eq (text_at trees p)) (map (text_at trees) qs))) (pairs_meet ps qs)
       ∙ or_is (list_any (text_eq (text_at trees p)) (map (text_at trees) qs)) (meet (map (text_at trees) ps) (map (text_at trees) qs))
+
+  -- a comparison of nodes with one text, in either order
+  pub texts_after : (a : Atomic) (t : Text) → IsText a t → (ps : List Place) → some_pair comp.Eq (atomized trees (map Node ps)) (a ∷ []) ≡ Ok (have_text trees t ps)
+  texts_after a t h [] = refl
+  texts_after a t h (p ∷ ps) =
+      let s = text_at trees p in
+      let rest = some_pair comp.Eq (atomized trees (map Node ps)) (a ∷ []) in
+      ap (λ r. (r >>= (λ answer. or_rest answer (Ok false))) >>= (λ answer. or_rest answer rest)) (compared (atom_of trees (Node p)) a s t (node_text p) h)
+      ∙ ap (λ r. r >>= (λ answer. or_rest answer rest)) (or_is (text_eq s t) false)
+      ∙ ap (or_rest (text_eq s t || false)) (texts_after a t h ps)
+      ∙ or_is (text_eq s t || false) (have_text trees t ps)
+      ∙ ap (λ b. Ok (b || have_text trees t ps)) (or_none (text_eq s t) ∙ text_eq_swap s t)
+
+  pub texts_before : (a : Atomic) (t : Text) → IsText a t → (ps : List Place) → some_pair comp.Eq (a ∷ []) (atomized trees (map Node ps)) ≡ Ok (have_text trees t ps)
+  texts_before a t h ps =
+      ap (λ r. r >>= (λ answer. or_rest answer (Ok false))) (some_with_texts a t h ps)
+      ∙ or_is (have_text trees t ps) false
+      ∙ ap Ok (or_none (have_text trees t ps))

@@ -40,7 +40,7 @@ scan_from : (axis : Axis) (test : Test) (ps : List Place) (f : List Tree) → Fo
 scan_from axis test ps f =
     ap (λ r. go_on (judged r f) (λ places. on_trees (λ trees. Ok (in_order trees (flat_map (axis_nodes trees axis test) places))))) (are_nodes XPTY0019 ps)
 
-scan_stays : (axis : Axis) (test : Test) (xs : List Item) → Stays (Forms.scan axis test xs)
+pub scan_stays : (axis : Axis) (test : Test) (xs : List Item) → Stays (Forms.scan axis test xs)
 scan_stays axis test xs f =
     then_stays (judged (all_nodes XPTY0019 xs) f) (λ places. on_trees (λ trees. Ok (in_order trees (flat_map (axis_nodes trees axis test) places)))) f refl (λ places g. refl)
 

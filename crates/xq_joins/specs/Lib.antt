@@ -1,3 +1,4 @@
 pub mod Keys
 pub mod Joins
+pub mod Equalities
 pub mod private

@@ -3,11 +3,14 @@
 //! 3.12.2 and 3.12.5).
 #![tactic(auto)]
 
+mod equalities;
 mod joins;
 mod keys;
 mod matches;
 mod shapes;
 mod values;
 
+pub use equalities::{NodeTest, TextTest, keep_by_text, leads_to_text, node_test, text_test};
 pub use joins::{Join, Key, join_at};
 pub use matches::matching;
+pub use values::are_nodes;

@@ -70,6 +70,10 @@ use Rattle.xq_forms.specs.Reads.{rows_of, AreOf, HasGrown}
 use Rattle.xq_eval.specs.Reads.{rows_at}
 use Rattle.xq_eval.specs.private.Scanning.{IsLiteral, IsScan}
 use Rattle.xq_eval.proofs.DocumentScans.{other_form, literal_scans, call_scans, path_scans, are_scans, not_each, no_each, grown_more, not_grown, grown_from, grown_on, once, literal_value, document_value}
+use Rattle.xq_joins.specs.Equalities.{IsTextTest}
+use Rattle.xq_joins.specs.declared.equalities.TextTest.{TextTest}
+use Rattle.xq_eval.specs.private.Texts.{IsToTexts}
+use Rattle.xq_eval.proofs.TextSteps.{texts_kept, text_steps_are}
 use Rattle.xq_eval.proofs.+eval.Goals as goal
 
 pub evaluation::evaluate-returns-in-ContextItem-clause-gives : goal.evaluation::evaluate-returns-in-ContextItem-clause-gives
@@ -266,6 +270,21 @@ evaluation::decided-returns-clause-goes g t c = c.loop-part.invariant.goes
 pub evaluation::decided-returns-then-truth-wanted-clause-goes : goal.evaluation::decided-returns-then-truth-wanted-clause-goes
 evaluation::decided-returns-then-truth-wanted-clause-goes g t c = goes_on_to c.loop-part.invariant.goes c.in_ok-truth.ensures.goes
 
+pub evaluation::tested-returns-in-Some-clause-gives : goal.evaluation::tested-returns-in-Some-clause-gives
+evaluation::tested-returns-in-Some-clause-gives g t c = λ clean inside.
+    let f = g.W.TreeSource.forest c.args.world.now in
+    let f' = g.W.TreeSource.forest c.leads_to_text.new.source in
+    let it = c.in-Some.ensures in
+    let answer = c.in_ok-leads_to_text.ensures.answer clean (it.there f inside) in
+    let holds = tested_ok (plan_mean c.args.part.now) (frame_at f c.args.frame) _ _ f f (it.says f inside) refl in
+    (tt, holds ∙ (λ i. (Ok (sym answer i), sym c.leads_to_text.ensures.keeps i)))
+
+pub evaluation::tested-returns-in-Some-clause-goes : goal.evaluation::tested-returns-in-Some-clause-goes
+evaluation::tested-returns-in-Some-clause-goes g t c = same_goes c.leads_to_text.ensures.keeps c.leads_to_text.ensures.was_clean
+
+pub evaluation::tested-returns-in_err-leads_to_text-clause-goes : goal.evaluation::tested-returns-in_err-leads_to_text-clause-goes
+evaluation::tested-returns-in_err-leads_to_text-clause-goes g t c = same_goes c.leads_to_text.ensures.keeps c.leads_to_text.ensures.was_clean
+
 pub evaluation::tested-returns-in_err-value-clause-gives : goal.evaluation::tested-returns-in_err-value-clause-gives
 evaluation::tested-returns-in_err-value-clause-gives g t c = λ clean inside.
     let f = g.W.TreeSource.forest c.args.world.now in
@@ -273,8 +292,8 @@ evaluation::tested-returns-in_err-value-clause-gives g t c = λ clean inside.
     let frame = frame_at f held in
     let f' = g.W.TreeSource.forest c.evaluate.new.world in
     let next = λ (xs : List Item). judged (effective xs) in
-    cut item_views items_at AreIn (λ (b : Bool). b) (λ trees b. b) (λ trees b. Unit {0}) _ (plan_mean c.args.part.now frame f) next f' c.in_err-value.field-0.0 c.from_residual.result
-    refl c.from_residual.ensures.1 (c.in_err-value.ensures.gives clean inside)
+    cut item_views items_at AreIn (λ (b : Bool). b) (λ trees b. b) (λ trees b. Unit {0}) _ (plan_mean c.args.part.now frame f) next f' c.in_err-value.field-0.0 c.from_residual-in_err-value.result
+    refl c.from_residual-in_err-value.ensures.1 (c.in_err-value.ensures.gives clean inside)
 
 pub evaluation::tested-returns-in_err-effective-clause-gives : goal.evaluation::tested-returns-in_err-effective-clause-gives
 evaluation::tested-returns-in_err-effective-clause-gives g t c = λ clean inside.
@@ -782,48 +801,34 @@ pub clauses::next_test-returns-clause-gives : goal.clauses::next_test-returns-cl
 clauses::next_test-returns-clause-gives g t c = λ clean inside tuple at tuple_in.
     let f = g.W.TreeSource.forest c.args.world.now in
     let held = c.args.frame in
-    let frame = frame_at f held in
-    let f' = g.W.TreeSource.forest c.at_tuple.new.world in
+    let f' = g.W.TreeSource.forest c.tested.new.world in
     let p = plan_mean c.args.part.now in
-    let value = c.in_ok-value.ensures.gives clean inside tuple at tuple_in in
-    let tested = tested_ok p (at_tuple frame (tuple_at f tuple)) _ c.in_ok-holds.holds f f' value.1 (ap (λ xs. effective (items_at f' (map item_view xs))) (sym c.deref.ensures.value) ∙ sym (c.in_ok-holds.ensures f')) in
-    (tt, ap (λ o. go_on o (λ y. give (c.args.done.items ++ y ∷ []))) tested ∙ ap (λ bs. (Ok bs, f')) (sym c.in_ok-push.ensures.items))
-
-pub clauses::next_test-returns-in_err-value-clause-gives : goal.clauses::next_test-returns-in_err-value-clause-gives
-clauses::next_test-returns-in_err-value-clause-gives g t c = λ clean inside tuple at tuple_in.
-    let f = g.W.TreeSource.forest c.args.world.now in
-    let held = c.args.frame in
-    let frame = frame_at f held in
-    let f' = g.W.TreeSource.forest c.at_tuple.new.world in
-    let e = c.in_err-value.field-0.0 in
-    handed_on (λ (v : Vec Bool). v.items) same_tests any_tests _ f' e c.from_residual.result c.from_residual.ensures.1
-    (go_on_stop (λ (b : Bool). b) (λ trees b. b) (λ trees b. Unit {0}) (λ (v : Vec Bool). v.items) same_tests any_tests _ (λ y. give (c.args.done.items ++ y ∷ [])) f' e
-    (go_on_stop item_views items_at AreIn (λ (b : Bool). b) (λ trees b. b) (λ trees b. Unit {0}) _ (λ xs. judged (effective xs)) f' e (c.in_err-value.ensures.gives clean inside tuple at tuple_in)))
+    let inner : Held = record { slots = c.args.slots; focus = held.focus; addresses = held.addresses } in
+    let holds = c.in_ok-holds.ensures.gives clean (frame_inner_in f held inner tuple at refl refl inside tuple_in) in
+    let made : Forms.tested p (at_tuple (frame_at f held) (tuple_at f tuple)) f ≡ (Ok c.in_ok-holds.holds, f') = ap (λ fr. Forms.tested p fr f) (sym (frame_inner f held inner tuple at refl refl)) ∙ holds.1 in
+    (tt, ap (λ o. go_on o (λ y. give (c.args.done.items ++ y ∷ []))) made ∙ ap (λ bs. (Ok bs, f')) (sym c.in_ok-push.ensures.items))
 
 pub clauses::next_test-returns-in_err-holds-clause-gives : goal.clauses::next_test-returns-in_err-holds-clause-gives
 clauses::next_test-returns-in_err-holds-clause-gives g t c = λ clean inside tuple at tuple_in.
     let f = g.W.TreeSource.forest c.args.world.now in
     let held = c.args.frame in
-    let frame = frame_at f held in
-    let f' = g.W.TreeSource.forest c.at_tuple.new.world in
+    let f' = g.W.TreeSource.forest c.tested.new.world in
     let p = plan_mean c.args.part.now in
-    let code = c.in_err-holds.field-0.0 in
-    let value = c.in_ok-value.ensures.gives clean inside tuple at tuple_in in
-    let tested = tested_err p (at_tuple frame (tuple_at f tuple)) _ code f f' value.1 (ap (λ xs. effective (items_at f' (map item_view xs))) (sym c.deref.ensures.value) ∙ sym (c.in_err-holds.ensures f')) in
-    handed_on (λ (v : Vec Bool). v.items) same_tests any_tests _ f' (OfCode code) c.from_residual-in_err-holds.result c.from_residual-in_err-holds.ensures.1
-    (stops (Forms.tested p (at_tuple frame (tuple_at f tuple)) f) (λ y. give (c.args.done.items ++ y ∷ [])) code tested)
-
-pub clauses::next_test-returns-in_err-value-clause-goes : goal.clauses::next_test-returns-in_err-value-clause-goes
-clauses::next_test-returns-in_err-value-clause-goes g t c = c.in_err-value.ensures.goes
+    let inner : Held = record { slots = c.args.slots; focus = held.focus; addresses = held.addresses } in
+    let next = λ (y : Bool). give (c.args.done.items ++ y ∷ []) in
+    let e = c.in_err-holds.field-0.0 in
+    cut (λ (b : Bool). b) (λ trees b. b) (λ trees b. Unit {0}) (λ (v : Vec Bool). v.items) same_tests any_tests _ (Forms.tested p (at_tuple (frame_at f held) (tuple_at f tuple)) f) next f' e c.from_residual.result refl c.from_residual.ensures.1
+    (subst (λ fr. GivesPlain (Forms.tested p fr f) f' (Err e)) (frame_inner f held inner tuple at refl refl)
+    (c.in_err-holds.ensures.gives clean (frame_inner_in f held inner tuple at refl refl inside tuple_in)))
 
 pub clauses::next_test-returns-in_err-holds-clause-goes : goal.clauses::next_test-returns-in_err-holds-clause-goes
-clauses::next_test-returns-in_err-holds-clause-goes g t c = c.in_ok-value.ensures.goes
+clauses::next_test-returns-in_err-holds-clause-goes g t c = c.in_err-holds.ensures.goes
 
 pub clauses::next_test-returns-in_err-push-clause-goes : goal.clauses::next_test-returns-in_err-push-clause-goes
-clauses::next_test-returns-in_err-push-clause-goes g t c = c.in_ok-value.ensures.goes
+clauses::next_test-returns-in_err-push-clause-goes g t c = c.in_ok-holds.ensures.goes
 
 pub clauses::next_test-returns-clause-goes : goal.clauses::next_test-returns-clause-goes
-clauses::next_test-returns-clause-goes g t c = c.in_ok-value.ensures.goes
+clauses::next_test-returns-clause-goes g t c = c.in_ok-holds.ensures.goes
 
 pub clauses::at_tuple-returns-clause-gives : goal.clauses::at_tuple-returns-clause-gives
 clauses::at_tuple-returns-clause-gives g t c = λ clean inside tuple at tuple_in.
@@ -900,6 +905,71 @@ paths::step_list-returns-in_err-found-clause-gives g t c = λ clean inside items
 
 pub paths::step_list-returns-in_err-found-clause-goes : goal.paths::step_list-returns-in_err-found-clause-goes
 paths::step_list-returns-in_err-found-clause-goes g t c = goes_on_to c.loop-index.invariant.goes c.in_err-found.ensures.goes
+
+pub paths::step_list-loop-index-preserved-in-Some-children_by_text : goal.paths::step_list-loop-index-preserved-in-Some-children_by_text
+paths::step_list-loop-index-preserved-in-Some-children_by_text g t c =
+    let i = c.loop-index.invariant in
+    let old = g.W.TreeSource.forest c.args.world.now in
+    let f = g.W.TreeSource.forest c.loop-index.world in
+    let held = c.args.frame in
+    let slots = values_of held.slots.now in
+    let frame = frame_at old held in
+    let n = c.loop-index.index in
+    let p = c.index-steps-index.result in
+    let chosen = c.in-Some-children_by_text.chosen in
+    let to = c.in-Some-children_by_text.ensures in
+    let q = plan_step.Each (plan.Step Child chosen.test.now (to.predicate ∷ [])) in
+    let left = item_views c.loop-index.left in
+    let d : map item_view c.deref-in-Some-children_by_text.result.now ≡ left = ap (map item_view) c.deref-in-Some-children_by_text.ensures.value in
+    let next = sym c.at-next.ensures ∙ to.is_step in
+    let are = ap (λ k. map plan_step_mean (drop k c.args.steps.now)) (none_taken c.loop-index.is_taken n c.if-is_taken.false) ∙ two_left plan_step_mean c.args.steps.now n p q (omega arith) c.index-steps-index.is next in
+    record {
+      goes = goes_on_to i.goes c.in_ok-kept.ensures.goes;
+      turns = turns_two _ _ _ (item_views c.in_ok-kept.kept) (plan_step_mean p) (plan_step_mean q) _ _ i.turns are c.in_ok-kept.ensures.goes.was_clean
+          (λ clean inside is_in.
+          let env = sym (tuple_grown i.goes.grows slots inside.0.slots_in) in
+          let s = c.in_ok-kept.ensures.gives clean (subst (AreIn f) (sym d) is_in) slots to.predicate frame to.is_test env in
+          let after = λ (xs : List ItemView). go_on (after_double_slash chosen.test.now (items_at f xs) f) (λ ys. Forms.filtered frame ys (plan_mean to.predicate)) in
+          (s.0, text_steps_are slots chosen.predicate to.predicate to.is_test frame f env p q chosen.test.now (items_at f left) (c.is_double_slash.ensures c.if-is_double_slash.true) refl ∙ ap after (sym d) ∙ s.1));
+      within = (let at = got_at c.args.steps.now (n + 1) q next in omega (arith, at.0));
+      reads = λ clean all tree h. absurd (no_each c.args.steps.now (n + 1) (plan.Step Child chosen.test.now (to.predicate ∷ [])) next all);
+    }
+
+pub paths::step_list-returns-in_err-kept-clause-gives : goal.paths::step_list-returns-in_err-kept-clause-gives
+paths::step_list-returns-in_err-kept-clause-gives g t c = λ clean inside items_in.
+    let i = c.loop-index.invariant in
+    let old = g.W.TreeSource.forest c.args.world.now in
+    let f = g.W.TreeSource.forest c.loop-index.world in
+    let f' = g.W.TreeSource.forest c.double_slash_by_text.new.world in
+    let held = c.args.frame in
+    let slots = values_of held.slots.now in
+    let frame = frame_at old held in
+    let n = c.loop-index.index in
+    let p = c.index-steps-index.result in
+    let chosen = c.in-Some-children_by_text.chosen in
+    let to = c.in-Some-children_by_text.ensures in
+    let q = plan_step.Each (plan.Step Child chosen.test.now (to.predicate ∷ [])) in
+    let left = item_views c.loop-index.left in
+    let e = c.in_err-kept.field-0.0 in
+    let d : map item_view c.deref-in-Some-children_by_text.result.now ≡ left = ap (map item_view) c.deref-in-Some-children_by_text.ensures.value in
+    let next = sym c.at-next.ensures ∙ to.is_step in
+    let are = ap (λ k. map plan_step_mean (drop k c.args.steps.now)) (none_taken c.loop-index.is_taken n c.if-is_taken.false) ∙ two_left plan_step_mean c.args.steps.now n p q (omega arith) c.index-steps-index.is next in
+    let after = λ (xs : List ItemView). go_on (after_double_slash chosen.test.now (items_at f xs) f) (λ ys. Forms.filtered frame ys (plan_mean to.predicate)) in
+    handed_on item_views items_at AreIn _ f' e c.from_residual-in_err-kept.result c.from_residual-in_err-kept.ensures.1
+    (turns_stop_two _ _ _ item_views items_at AreIn (plan_step_mean p) (plan_step_mean q) _ f' e i.turns are c.double_slash_by_text.ensures.goes.was_clean
+    (λ clean inside is_in.
+    let env = sym (tuple_grown i.goes.grows slots inside.0.slots_in) in
+    subst (λ o. GivesSequence o f' (Err e)) (sym (text_steps_are slots chosen.predicate to.predicate to.is_test frame f env p q chosen.test.now (items_at f left) (c.is_double_slash.ensures c.if-is_double_slash.true) refl ∙ ap after (sym d)))
+    (c.in_err-kept.ensures.gives clean (subst (AreIn f) (sym d) is_in) slots to.predicate frame to.is_test env)) clean (inside, items_in))
+
+pub paths::step_list-returns-in_err-kept-clause-goes : goal.paths::step_list-returns-in_err-kept-clause-goes
+paths::step_list-returns-in_err-kept-clause-goes g t c = goes_on_to c.loop-index.invariant.goes c.in_err-kept.ensures.goes
+
+pub paths::step_list-returns-in_err-kept-clause-reads : goal.paths::step_list-returns-in_err-kept-clause-reads
+paths::step_list-returns-in_err-kept-clause-reads g t c = λ clean all tree h.
+    let chosen = c.in-Some-children_by_text.chosen in
+    let to = c.in-Some-children_by_text.ensures in
+    absurd (no_each c.args.steps.now (c.loop-index.index + 1) (plan.Step Child chosen.test.now (to.predicate ∷ [])) (sym c.at-next.ensures ∙ to.is_step) all)
 
 pub paths::step_list-loop-index-preserved-in-Some-chosen_children : goal.paths::step_list-loop-index-preserved-in-Some-chosen_children
 paths::step_list-loop-index-preserved-in-Some-chosen_children g t c =
@@ -3133,6 +3203,21 @@ evaluation::keep-returns-in-Some-clause-gives g t c = λ clean inside items_in.
     let items = c.args.items.now in
     let fixed = subst (λ r. IfSome r (λ (v : Vec Held_item). IsConstant p (length items) (item_views v))) c.in-Some.is c.in_ok-value.ensures in
     c.keep_constant.ensures f (frame_at f c.args.frame) p (subst (λ vs. IsConstant p (length items) (map item_view vs)) (sym c.deref.ensures.value) fixed) items_in
+
+pub evaluation::keep-returns-in-Some-text_test_at-clause-gives : goal.evaluation::keep-returns-in-Some-text_test_at-clause-gives
+evaluation::keep-returns-in-Some-text_test_at-clause-gives g t c = λ clean inside items_in.
+    let f = g.W.TreeSource.forest c.args.world.now in
+    let f' = g.W.TreeSource.forest c.keep_by_text.new.source in
+    let held = c.args.frame in
+    let some = c.in-Some-text_test_at in
+    texts_kept (values_of held.slots.now) some.test c.args.predicate.now some.ensures.test (frame_at f held) f refl f' (map item_view c.args.items.now) (item_views c.in_ok-keep_by_text.field-0)
+    some.ensures.nodes items_in (c.in_ok-keep_by_text.ensures.kept clean items_in) c.keep_by_text.ensures.keeps
+
+pub evaluation::keep-returns-in-Some-text_test_at-clause-goes : goal.evaluation::keep-returns-in-Some-text_test_at-clause-goes
+evaluation::keep-returns-in-Some-text_test_at-clause-goes g t c = same_goes c.keep_by_text.ensures.keeps c.keep_by_text.ensures.was_clean
+
+pub evaluation::keep-returns-in_err-keep_by_text-clause-goes : goal.evaluation::keep-returns-in_err-keep_by_text-clause-goes
+evaluation::keep-returns-in_err-keep_by_text-clause-goes g t c = same_goes c.keep_by_text.ensures.keeps c.keep_by_text.ensures.was_clean
 
 pub evaluation::keep-returns-in-Some-clause-goes : goal.evaluation::keep-returns-in-Some-clause-goes
 evaluation::keep-returns-in-Some-clause-goes g t c = stays _ _

@@ -1,0 +1,94 @@
+-- Predicates that ask nodes for a text, and steps with them.
+use Rattle.std.proofs.Common.{◌≡◌, List, [], ◌∷◌, map, Ok, Err, refl, sym, ◌∙◌, ap, subst}
+use Rattle.std.specs.Prelude.{filter}
+use Rattle.std.specs.List.{AllByRecursion, flat_map}
+use Rattle.xq_atoms.specs.declared.refusals.Code.TheVariants.{XPTY0019}
+use Rattle.xq_atoms.specs.Judged.{Judged}
+use Rattle.xq_regions.specs.declared.Axis.{Axis}
+use Rattle.xq_regions.specs.declared.Axis.TheVariants.{Child, DescendantOrSelf}
+use Rattle.xq_regions.specs.Items.{ItemView, Place as NodeAt, Value}
+use Rattle.xq_regions.specs.Tree.{Tree}
+use Rattle.xq_regions.specs.Tuples.{Tuple}
+use Rattle.xq_regions.proofs.Lists.{all_filter}
+use Rattle.xq_meaning.specs.declared.node_tests.Test.{Test}
+use Rattle.xq_meaning.specs.declared.node_tests.Test.TheVariants.{Any}
+use Rattle.xq_meaning.specs.declared.plans.Plan.{Plan}
+use Rattle.xq_meaning.specs.declared.plans.Plan.TheVariants as plan
+use Rattle.xq_meaning.specs.declared.plans.PlanStep.{PlanStep}
+use Rattle.xq_meaning.specs.declared.plans.PlanStep.TheVariants as plan_step
+use Rattle.xq_meaning.specs.Arguments.{all_nodes}
+use Rattle.xq_meaning.specs.Doing.{Outcome, go_on, judged, on_trees}
+use Rattle.xq_meaning.specs.Forms as Forms
+use Rattle.xq_meaning.specs.Items.{Place, Item, Node, Atom}
+use Rattle.xq_meaning.specs.Operators.{in_order}
+use Rattle.xq_meaning.specs.PlanMeaning.{Frame, Meaning, StepMeaning, plan_mean, plan_step_mean}
+use Rattle.xq_meaning.specs.Readings.{items_at, IsIn, AreIn}
+use Rattle.xq_meaning.specs.Steps.{axis_nodes}
+use Rattle.xq_meaning.proofs.PlanEquations.{plan-Step, step-Each, step-Scan}
+use Rattle.xq_forms.specs.Views.{tuple_at, after_double_slash}
+use Rattle.xq_joins.specs.declared.equalities.TextTest.{TextTest}
+use Rattle.xq_joins.specs.Equalities.{passes_text, IsTextTest}
+use Rattle.xq_joins.specs.Keys.{IsNode}
+use Rattle.xq_joins.proofs.TextTests.{items_filtered, scan_by_text}
+use Rattle.xq_joins.proofs.Walks.{then_stays, scan_stays}
+
+module _ (slots : Tuple ItemView) (found : TextTest) (p : Plan) (is : IsTextTest slots found p) (frame : Frame) (f : List Tree) (env : frame.env ≡ tuple_at f slots) where
+  -- what the predicate keeps of nodes
+  pub texts_kept : (f' : List Tree) (xs kept : List ItemView) → AllByRecursion IsNode xs → AreIn f xs → kept ≡ filter (passes_text f found) xs → f' ≡ f
+      → AreIn f' kept × (Forms.filtered frame (items_at f xs) (plan_mean p) f ≡ (Ok (items_at f' kept), f'))
+  texts_kept f' xs kept nodes xs_in are same =
+      subst (λ g. AreIn g kept × (Forms.filtered frame (items_at f xs) (plan_mean p) f ≡ (Ok (items_at g kept), g))) (sym same) (
+        subst (AreIn f) (sym are) (all_filter (IsIn f) (passes_text f found) xs xs_in),
+        items_filtered slots found p is frame f env xs nodes ∙ ap (λ l. (Ok (items_at f l), f)) (sym are),
+      )
+
+  -- a step to children with this predicate, after descendant-or-self::node()
+  pub text_steps_are : (s q : PlanStep) (of : Test) (xs : List Item) → s ≡ plan_step.Scan DescendantOrSelf Any → q ≡ plan_step.Each (plan.Step Child of (p ∷ []))
+      → go_on (plan_step_mean s frame xs f) (λ ys. plan_step_mean q frame ys) ≡ go_on (after_double_slash of xs f) (λ ys. Forms.filtered frame ys (plan_mean p))
+  text_steps_are s q of xs hs hq =
+      let part = Forms.step Child of (plan_mean p ∷ []) in
+      let first : plan_step_mean s frame xs f ≡ Forms.scan DescendantOrSelf Any xs f = ap (λ m. m frame xs f) (ap plan_step_mean hs ∙ step-Scan DescendantOrSelf Any) in
+      let later : plan_step_mean q ≡ (λ frame ys. Forms.slash frame ys part) =
+      ap plan_step_mean hq ∙ step-Each (plan.Step Child of (p ∷ [])) ∙ ap (λ (m : Meaning). λ (frame : Frame) (ys : List Item). Forms.slash frame ys m) (plan-Step Child of (p ∷ [])) in
+      ap (λ o. go_on o (λ ys. plan_step_mean q frame ys)) first
+      ∙ ap (λ (m : StepMeaning). go_on (Forms.scan DescendantOrSelf Any xs f) (λ ys. m frame ys)) later
+      ∙ scan_by_text slots found p is frame f env of xs
+
+-- # What a scan gives
+
+abbrev IsNodeItem : Item → Type 0
+IsNodeItem (Node p) = Unit {0}
+IsNodeItem (Atom a) = ⊥
+
+abbrev GivesNodes : Outcome (List Item) → Type 0
+GivesNodes (Ok xs, f) = AllByRecursion IsNodeItem xs
+GivesNodes (Err code, f) = Unit {0}
+
+nodes_given : (ps : List Place) → AllByRecursion IsNodeItem (map Node ps)
+nodes_given [] = tt
+nodes_given (p ∷ ps) = (tt, nodes_given ps)
+
+abbrev scanned : Axis → Test → List Tree → Judged (List Place) → Outcome (List Item)
+scanned a of f r = go_on (judged r f) (λ places. on_trees (λ trees. Ok (in_order trees (flat_map (axis_nodes trees a of) places))))
+
+scan_gives : (a : Axis) (of : Test) (f : List Tree) (r : Judged (List Place)) → GivesNodes (scanned a of f r)
+scan_gives a of f (Ok ps) = nodes_given _
+scan_gives a of f (Err code) = tt
+
+second_gives : (of : Test) (o : Outcome (List Item)) → GivesNodes (go_on o (Forms.scan Child of))
+second_gives of (Ok xs, f) = scan_gives Child of f (all_nodes XPTY0019 xs)
+second_gives of (Err code, f) = tt
+
+are_nodes : (f : List Tree) (xs : List ItemView) → AllByRecursion IsNodeItem (items_at f xs) → AllByRecursion IsNode xs
+are_nodes f [] h = tt
+are_nodes f (NodeAt n ∷ xs) h = (tt, are_nodes f xs h.1)
+are_nodes f (Value a ∷ xs) h = absurd h.0
+
+module _ (of : Test) (xs : List Item) (f f' : List Tree) (found : List ItemView) (value : after_double_slash of xs f ≡ (Ok (items_at f' found), f')) where
+  pub after_stays : f' ≡ f
+  after_stays =
+      sym (ap (λ (o : Outcome (List Item)). o.1) value)
+      ∙ then_stays (Forms.scan DescendantOrSelf Any xs f) (Forms.scan Child of) f (scan_stays DescendantOrSelf Any xs f) (λ ys. scan_stays Child of ys)
+
+  pub after_nodes : AllByRecursion IsNode found
+  after_nodes = are_nodes f' found (subst GivesNodes value (second_gives of (Forms.scan DescendantOrSelf Any xs f)))

@@ -1,0 +1,360 @@
+-- What predicates mean that compare one step with a text, and what they keep.
+use Rattle.std.proofs.Common.{◌≡◌, ℕ, zero, suc, List, [], ◌∷◌, ◌++◌, length, map, reverse, Bool, true, false, cond, ◌&&◌, ◌||◌, Ok, Err, refl, sym, ◌∙◌, ap, subst, append_assoc}
+use Rattle.std.specs.Prelude.{filter, if◌then◌else◌}
+use Rattle.std.specs.List.{AllByRecursion, flat_map, list_any}
+use Rattle.std.proofs.lemmas.Bool.{and_parts, eqb-true}
+use Rattle.std.proofs.lemmas.List.{append-nil, map-append}
+use Rattle.std.proofs.lemmas.List.Elements.{filter-append}
+use Rattle.xq_atoms.specs.Atom.{String}
+use Rattle.xq_atoms.specs.Judged.{Judged}
+use Rattle.xq_atoms.specs.Text.{Text}
+use Rattle.xq_atoms.specs.declared.comparisons.CompOp.TheVariants as comp
+use Rattle.xq_atoms.specs.declared.refusals.Code.TheVariants.{XPTY0018, XPTY0019}
+use Rattle.xq_expressions.specs.declared.operators.ComparisonOperator.TheVariants as comparing
+use Rattle.xq_expressions.specs.declared.operators.Relation.TheVariants as relation
+use Rattle.xq_regions.specs.Forest.{end}
+use Rattle.xq_regions.specs.Items.{ItemView, Place as NodeAt}
+use Rattle.xq_regions.specs.Tree.{Tree}
+use Rattle.xq_regions.specs.Tuples.{Tuple, value_at}
+use Rattle.xq_regions.specs.declared.Axis.{Axis}
+use Rattle.xq_regions.specs.declared.Axis.TheVariants as axis
+use Rattle.xq_regions.proofs.AxisTable.{on_axis_is}
+use Rattle.xq_meaning.specs.declared.node_tests.Test.{Test}
+use Rattle.xq_meaning.specs.declared.node_tests.Test.TheVariants as test
+use Rattle.xq_meaning.specs.declared.operators.Operator.TheVariants as operator
+use Rattle.xq_meaning.specs.declared.plans.Plan.{Plan}
+use Rattle.xq_meaning.specs.declared.plans.Plan.TheVariants as plan
+use Rattle.xq_meaning.specs.Arguments.{all_nodes, as_boolean, boolean}
+use Rattle.xq_meaning.specs.Doing.{Doing, Outcome, ◌>>=◌, go_on, give, judged, on_trees, in_turn, more, collected}
+use Rattle.xq_meaning.specs.Forms as Forms
+use Rattle.xq_meaning.specs.Functions.{Focus}
+use Rattle.xq_meaning.specs.Items.{Place, Item, Node, atomized, same_node, is_among, places_from, in_document_order}
+use Rattle.xq_meaning.specs.Operators.{some_pair, operated, in_order, gathered, nodes_or_atoms, keeps}
+use Rattle.xq_meaning.specs.PlanMeaning.{Frame, Meaning, next_step, plan_mean, plan_step_mean}
+use Rattle.xq_meaning.specs.Readings.{node_at, items_at}
+use Rattle.xq_meaning.specs.Steps.{axis_nodes, context_node, focuses, focuses_from, in_axis_order, is_reverse}
+use Rattle.xq_meaning.proofs.PathLemmas.{filter-map}
+use Rattle.xq_meaning.specs.declared.plans.PlanStep.{PlanStep}
+use Rattle.xq_meaning.specs.declared.plans.PlanStep.TheVariants as step
+use Rattle.xq_meaning.proofs.PlanEquations.{plan-Chain, plan-Path, plan-Slot, plan-Step, plan-Str, step-Scan}
+use Rattle.xq_axes.specs.private.Many.{spot, places_from as places_on}
+use Rattle.xq_axes.proofs.AxisNodes.{filter_agree}
+use Rattle.xq_axes.proofs.Many.{from_one}
+use Rattle.xq_axes.proofs.Merging.{any_filter}
+use Rattle.xq_axes.specs.DoubleSlash.{selves_and_below}
+use Rattle.xq_forms.proofs.NodeLemmas.{are_nodes, context_in, items_read}
+use Rattle.xq_forms.specs.Paths.{IsHeld}
+use Rattle.xq_forms.specs.declared.frames.Frame.{Frame as HeldFrame}
+use Rattle.xq_forms.specs.declared.paths.ShortPath.{ShortPath}
+use Rattle.xq_regions.specs.declared.items.Node.{Node as Spot}
+use Rattle.xq_sources.specs.Sources.{tree_at, HasNode}
+use Rattle.xq_tuples.specs.Views.{values_of}
+use Rattle.xq_forms.specs.Views.{tuple_at, focus_at, frame_at, FrameIn, after_double_slash}
+use Rattle.xq_forms.specs.private.Nodes.{nodes_among}
+use Rattle.xq_joins.specs.declared.equalities.NodeTest.{NodeTest}
+use Rattle.xq_joins.specs.declared.equalities.TextTest.{TextTest}
+use Rattle.xq_joins.specs.Equalities.{have_text, leads_to_text, passes_text, at_node, IsNodeTest, IsTextTest}
+use Rattle.xq_joins.specs.Keys.{IsNode}
+use Rattle.xq_joins.specs.private.Shapes.{equality}
+use Rattle.xq_joins.specs.private.Texts.{AreText, GivesText, IsStepAt}
+use Rattle.xq_joins.proofs.Found.{are_places}
+use Rattle.xq_joins.proofs.Meeting.{texts_after, texts_before}
+
+-- # Which predicates are such tests
+
+abbrev turned : {A : Type 0} → Bool → List A → List A
+turned b xs = if b then reverse xs else xs
+
+-- a step to children or attributes, without predicates, from a node
+near_is : (a : Axis) (of : Test) → is_reverse a ≡ false → (frame : Frame) (f : List Tree) (p : Place) (position last : ℕ)
+    → plan_mean (plan.Step a of []) (at_node frame p position last) f ≡ (Ok (map Node (axis_nodes f a of p)), f)
+near_is a of forward frame f p position last =
+    ap (λ m. m (at_node frame p position last) f) (plan-Step a of [])
+    ∙ ap (λ b. (Ok (turned b (map Node (turned b (axis_nodes f a of p)))), f)) forward
+
+-- a string literal
+pub literal_text : (slots : Tuple ItemView) (t : Text) (p : Plan) → p ≡ plan.Str t → GivesText slots t p
+literal_text slots t p is = record {
+  atom = String t;
+  is_text = refl;
+  gives = λ frame f env. ap (λ q. plan_mean q frame f) is ∙ ap (λ m. m frame f) (plan-Str t);
+}
+
+value_read : (f : List Tree) (n : ℕ) (slots : Tuple ItemView) → value_at n (tuple_at f slots) ≡ items_at f (value_at n slots)
+value_read f n [] = refl
+value_read f zero (v ∷ vs) = refl
+value_read f (suc n) (v ∷ vs) = value_read f n vs
+
+-- a variable that holds one text
+pub slot_text : (slots : Tuple ItemView) (t : Text) (n : ℕ) (p : Plan) → p ≡ plan.Slot n → AreText (value_at n slots) t → GivesText slots t p
+slot_text slots t n p is held = record {
+  atom = held.atom;
+  is_text = held.is_text;
+  gives = λ frame f env.
+      ap (λ q. plan_mean q frame f) is ∙ ap (λ m. m frame f) (plan-Slot n)
+      ∙ ap (λ xs. (Ok xs, f)) (ap (value_at n) env ∙ value_read f n slots ∙ ap (items_at f) held.are);
+}
+
+-- a comparison for equality, from the values of its operands
+equality_gives : (first second : Plan) (frame : Frame) (f : List Tree) (xs ys : List Item) (answer : Bool) → plan_mean first frame f ≡ (Ok xs, f) → plan_mean second frame f ≡ (Ok ys, f)
+    → some_pair comp.Eq (atomized f xs) (atomized f ys) ≡ Ok answer → plan_mean (equality first second) frame f ≡ (Ok (boolean answer), f)
+equality_gives first second frame f xs ys answer a b pairs =
+    let op = operator.Comparison (comparing.General relation.Equal) in
+    ap (λ (m : Meaning). m frame f) (plan-Chain first ((op, second) ∷ []))
+    ∙ ap (λ o. go_on o (λ zs. in_turn (Forms.next_operand frame) zs ((op, plan_mean second) ∷ []))) a
+    ∙ ap (λ o. go_on (go_on o (λ zs. on_trees (λ trees. operated op trees xs zs))) (λ next. give next)) b
+    ∙ ap (λ r. go_on (judged (as_boolean r) f) (λ next. give next)) pairs
+
+module _ (slots : Tuple ItemView) (found : TextTest) (near other : Plan) (is : near ≡ plan.Step found.axis found.test.now []) (forward : is_reverse found.axis ≡ false) (text : GivesText slots found.text.now other) where
+  step_gives : (frame : Frame) (f : List Tree) (p : Place) (position last : ℕ) → plan_mean near (at_node frame p position last) f ≡ (Ok (map Node (axis_nodes f found.axis found.test.now p)), f)
+  step_gives frame f p position last = ap (λ q. plan_mean q (at_node frame p position last) f) is ∙ near_is found.axis found.test.now forward frame f p position last
+
+  -- the step is the first operand, or the second
+  pub step_first : (p : Plan) → p ≡ equality near other → IsTextTest slots found p
+  step_first p e = record {
+    says = λ frame f place position last env.
+        ap (λ q. plan_mean q (at_node frame place position last) f) e
+        ∙ equality_gives near other (at_node frame place position last) f _ _ (leads_to_text f found place) (step_gives frame f place position last) (text.gives (at_node frame place position last) f env)
+        (texts_after f text.atom found.text.now text.is_text (axis_nodes f found.axis found.test.now place));
+  }
+
+  pub step_second : (p : Plan) → p ≡ equality other near → IsTextTest slots found p
+  step_second p e = record {
+    says = λ frame f place position last env.
+        ap (λ q. plan_mean q (at_node frame place position last) f) e
+        ∙ equality_gives other near (at_node frame place position last) f _ _ (leads_to_text f found place) (text.gives (at_node frame place position last) f env) (step_gives frame f place position last)
+        (texts_before f text.atom found.text.now text.is_text (axis_nodes f found.axis found.test.now place));
+  }
+
+-- # Which plans are such tests with a node at hand
+
+axis_ordered : (f : List Tree) (a : Axis) (of : Test) (n : Spot) → HasNode f n.tree n.pre → in_document_order f (flat_map (axis_nodes f a of) (node_at f n ∷ [])) ≡ axis_nodes f a of (node_at f n)
+axis_ordered f a of n h =
+    let ps = places_on a of (tree_at f n.tree) n.pre in
+    let on = from_one f a of n ps (map (λ p. NodeAt (spot n.tree p)) ps) h refl refl in
+    sym on.in_order ∙ on.on_axis
+
+pub path_step : (frame : HeldFrame) (p start : Plan) (steps : List PlanStep) (found : ShortPath) → p ≡ plan.Path start steps → IsHeld frame start found.node → steps ≡ step.Scan found.axis found.test.now ∷ [] → IsStepAt frame found p
+path_step frame p start steps found is held one = record {
+  there = held.there;
+  gives = λ f inside.
+      let fr = frame_at f frame in
+      let here = Node (node_at f found.node) ∷ [] in
+      ap (λ q. plan_mean q fr f) is ∙ ap (λ m. m fr f) (plan-Path start steps)
+      ∙ ap (λ o. go_on o (λ xs. in_turn (next_step fr) xs (map plan_step_mean steps))) (held.value f inside)
+      ∙ ap (λ ss. in_turn (next_step fr) here (map plan_step_mean ss) f) one
+      ∙ ap (λ m. go_on (m fr here f) (λ xs. give xs)) (step-Scan found.axis found.test.now)
+      ∙ ap (λ ps. (Ok (map Node ps), f)) (axis_ordered f found.axis found.test.now found.node (held.there f inside));
+}
+
+pub context_step : (frame : HeldFrame) (p : Plan) (found : ShortPath) → p ≡ plan.Step found.axis found.test.now [] → is_reverse found.axis ≡ false
+    → ((f : List Tree) → Ok (node_at f found.node) ≡ context_node (focus_at f frame.focus)) → IsStepAt frame found p
+context_step frame p found is forward context = record {
+  there = λ f inside. context_in f frame.focus found.node inside.focus_in (context f);
+  gives = λ f inside.
+      let fr = frame_at f frame in
+      let a = found.axis in
+      let of = found.test.now in
+      ap (λ q. plan_mean q fr f) is ∙ ap (λ m. m fr f) (plan-Step a of [])
+      ∙ sym (ap (λ r. go_on (judged r f) (λ q. on_trees (λ trees. Ok (map Node (in_axis_order a (axis_nodes trees a of q)))) >>= (λ xs. in_turn (Forms.filtered fr) xs [] >>= (λ ys. give (in_axis_order a ys))))) (context f))
+      ∙ ap (λ b. (Ok (turned b (map Node (turned b (axis_nodes f a of (node_at f found.node))))), f)) forward;
+}
+
+-- the step and a text, of which the test is made
+pub record AreParts (found : NodeTest) (at : ShortPath) (t : Text) : Type 0 where
+  pub node : found.node ≡ at.node
+  pub axis : found.test.axis ≡ at.axis
+  pub test : found.test.test.now ≡ at.test.now
+  pub text : found.test.text.now ≡ t
+
+module _ (frame : HeldFrame) (found : NodeTest) (at : ShortPath) (t : Text) (near other : Plan) (parts : AreParts found at t) (is : IsStepAt frame at near) (text : GivesText (values_of frame.slots.now) t other) where
+  abbrev near_at : List Tree → List Place
+  near_at f = axis_nodes f at.axis at.test.now (node_at f at.node)
+
+  there_at : (f : List Tree) → FrameIn f frame → HasNode f found.node.tree found.node.pre
+  there_at f inside = subst (λ (n : Spot). HasNode f n.tree n.pre) (sym parts.node) (is.there f inside)
+
+  same_answer : (f : List Tree) → have_text f t (near_at f) ≡ leads_to_text f found.test (node_at f found.node)
+  same_answer f = λ i. have_text f (sym parts.text i) (axis_nodes f (sym parts.axis i) (sym parts.test i) (node_at f (sym parts.node i)))
+
+  pub near_first : (p : Plan) → p ≡ equality near other → IsNodeTest frame found p
+  near_first p e = record {
+    there = there_at;
+    says = λ f inside.
+        let fr = frame_at f frame in
+        ap (λ q. plan_mean q fr f) e
+        ∙ equality_gives near other fr f _ _ (have_text f t (near_at f)) (is.gives f inside) (text.gives fr f refl) (texts_after f text.atom t text.is_text (near_at f))
+        ∙ ap (λ b. (Ok (boolean b), f)) (same_answer f);
+  }
+
+  pub near_second : (p : Plan) → p ≡ equality other near → IsNodeTest frame found p
+  near_second p e = record {
+    there = there_at;
+    says = λ f inside.
+        let fr = frame_at f frame in
+        ap (λ q. plan_mean q fr f) e
+        ∙ equality_gives other near fr f _ _ (have_text f t (near_at f)) (text.gives fr f refl) (is.gives f inside) (texts_before f text.atom t text.is_text (near_at f))
+        ∙ ap (λ b. (Ok (boolean b), f)) (same_answer f);
+  }
+
+-- # What is kept
+
+kept_more : {A : Type 0} (done : List A) (x : A) (xs : List A) (b : Bool) → (done ++ Forms.kept_if x b) ++ xs ≡ done ++ cond b (x ∷ xs) xs
+kept_more done x xs true = append_assoc done (x ∷ []) xs
+kept_more done x xs false = ap (λ l. l ++ xs) (append-nil done)
+
+pub kept_next : {A : Type 0} (h : A → Bool) (x : A) (kept kept' left rest : List A) (b : Bool) → b ≡ h x → left ≡ x ∷ rest → kept' ≡ kept ++ Forms.kept_if x b → kept ++ filter h left ≡ kept' ++ filter h rest
+kept_next h x kept kept' left rest b answer e is =
+    ap (λ l. kept ++ filter h l) e
+    ∙ ap (λ c. kept ++ cond c (x ∷ filter h rest) (filter h rest)) (sym answer)
+    ∙ sym (kept_more kept x (filter h rest) b)
+    ∙ ap (λ l. l ++ filter h rest) (sym is)
+
+filter-flat : {A B : Type 0} (h : B → Bool) (g : A → List B) (xs : List A) → flat_map (λ x. filter h (g x)) xs ≡ filter h (flat_map g xs)
+filter-flat h g [] = refl
+filter-flat h g (x ∷ xs) = ap (λ l. filter h (g x) ++ l) (filter-flat h g xs) ∙ sym (filter-append h (g x) (flat_map g xs))
+
+module _ (slots : Tuple ItemView) (found : TextTest) (p : Plan) (is : IsTextTest slots found p) (frame : Frame) (f : List Tree) (env : frame.env ≡ tuple_at f slots) where
+  abbrev passing : Place → Bool
+  passing = leads_to_text f found
+
+  passed_is : (q : Place) (position last : ℕ)
+      → Forms.passed (plan_mean p) frame (record { item = Node q; position = position; last = last }) f ≡ (Ok (Forms.kept_if (Node q) (passing q)), f)
+  passed_is q position last =
+      ap (λ o. go_on o (λ v. judged (keeps position v) >>= (λ k. give (Forms.kept_if (Node q) k)))) (is.says frame f q position last env)
+
+  node_kept : (q : Place) (b : Bool) → Forms.kept_if (Node q) b ≡ map Node (Forms.kept_if q b)
+  node_kept q true = refl
+  node_kept q false = refl
+
+  passed_from : (done : List Item) (i n : ℕ) (ps : List Place)
+      → in_turn (more (Forms.passed (plan_mean p) frame)) done (focuses_from i n (map Node ps)) f ≡ (Ok (done ++ map Node (filter passing ps)), f)
+  passed_from done i n [] = ap (λ l. (Ok l, f)) (sym (append-nil done))
+  passed_from done i n (q ∷ ps) =
+      let rest = focuses_from (suc i) n (map Node ps) in
+      ap (λ o. go_on (go_on o (λ ys. give (done ++ ys))) (λ next. in_turn (more (Forms.passed (plan_mean p) frame)) next rest)) (passed_is q i n)
+      ∙ passed_from (done ++ Forms.kept_if (Node q) (passing q)) (suc i) n ps
+      ∙ ap (λ l. (Ok l, f)) (kept_more done (Node q) (map Node (filter passing ps)) (passing q) ∙ ap (λ l. done ++ l) (by (passing q)))
+    where
+      by : (b : Bool) → cond b (Node q ∷ map Node (filter passing ps)) (map Node (filter passing ps)) ≡ map Node (cond b (q ∷ filter passing ps) (filter passing ps))
+      by true = refl
+      by false = refl
+
+  -- of nodes those that pass
+  pub places_filtered : (ps : List Place) → Forms.filtered frame (map Node ps) (plan_mean p) f ≡ (Ok (map Node (filter passing ps)), f)
+  places_filtered ps = passed_from [] 1 _ ps
+
+  -- of items of code that are nodes
+  pub items_filtered : (xs : List ItemView) → AllByRecursion IsNode xs → Forms.filtered frame (items_at f xs) (plan_mean p) f ≡ (Ok (items_at f (filter (passes_text f found) xs)), f)
+  items_filtered xs h =
+      let ns = nodes_among xs in
+      let are = are_places xs h in
+      ap (λ l. Forms.filtered frame l (plan_mean p) f) (ap (items_at f) are ∙ items_read f ns)
+      ∙ places_filtered (map (node_at f) ns)
+      ∙ ap (λ l. (Ok l, f))
+      (ap (map Node) (filter-map passing (node_at f) ns)
+      ∙ sym (items_read f (filter (λ n. passing (node_at f n)) ns))
+      ∙ ap (items_at f) (sym (filter-map (passes_text f found) NodeAt ns) ∙ ap (filter (passes_text f found)) (sym are)))
+
+  -- # After `//`
+
+  same_is : (x y : Place) → same_node x y ≡ true → x ≡ y
+  same_is x y e =
+      let two = and_parts _ _ e in
+      let tree = eqb-true x.tree y.tree two.0 in
+      let path = (on_axis_is axis.SelfNode end x.path y.path).0 two.1 in
+      λ i. record { tree = tree i; path = path i }
+
+  one_passes : (x y : Place) (s b c : Bool) → same_node x y ≡ s → (same_node x y ≡ true → b ≡ c) → (b && s) ≡ (s && c)
+  one_passes x y true true c e same = same e
+  one_passes x y true false c e same = same e
+  one_passes x y false true c e same = refl
+  one_passes x y false false c e same = refl
+
+  some_passes : (x : Place) (ys : List Place) → list_any (λ y. passing y && same_node x y) ys ≡ (is_among ys x && passing x)
+  some_passes x [] = refl
+  some_passes x (y ∷ ys) =
+      ap (λ b. b || list_any (λ z. passing z && same_node x z) ys) (one_passes x y (same_node x y) (passing y) (passing x) refl (λ e. ap passing (sym (same_is x y e))))
+      ∙ ap (λ b. (same_node x y && passing x) || b) (some_passes x ys)
+      ∙ apart (same_node x y) (is_among ys x) (passing x)
+    where
+      apart : (s t c : Bool) → ((s && c) || (t && c)) ≡ ((s || t) && c)
+      apart true true true = refl
+      apart true true false = refl
+      apart true false true = refl
+      apart true false false = refl
+      apart false t c = refl
+
+  among_passing : (ys : List Place) (x : Place) → is_among (filter passing ys) x ≡ (is_among ys x && passing x)
+  among_passing ys x = any_filter (same_node x) passing ys ∙ some_passes x ys
+
+  filter_twice : (h : Place → Bool) (xs : List Place) → filter passing (filter h xs) ≡ filter (λ x. h x && passing x) xs
+  filter_twice h [] = refl
+  filter_twice h (x ∷ xs) = by (h x) (filter_twice h xs)
+    where
+      by : (b : Bool) → filter passing (filter h xs) ≡ filter (λ y. h y && passing y) xs → filter passing (cond b (x ∷ filter h xs) (filter h xs)) ≡ cond (b && passing x) (x ∷ filter (λ y. h y && passing y) xs) (filter (λ y. h y && passing y) xs)
+      by true e = ap (λ l. cond (passing x) (x ∷ l) l) e
+      by false e = e
+
+  ordered_passing : (ys : List Place) → in_document_order f (filter passing ys) ≡ filter passing (in_document_order f ys)
+  ordered_passing ys =
+      filter_agree (is_among (filter passing ys)) (λ x. is_among ys x && passing x) (places_from 0 f) (among_passing ys)
+      ∙ sym (filter_twice (is_among ys) (places_from 0 f))
+
+module _ (slots : Tuple ItemView) (found : TextTest) (p : Plan) (is : IsTextTest slots found p) (frame : Frame) (f : List Tree) (env : frame.env ≡ tuple_at f slots) (of : Test) where
+  abbrev passing_of : Place → Bool
+  passing_of = leads_to_text f found
+
+  abbrev part : Meaning
+  part = Forms.step axis.Child of (plan_mean p ∷ [])
+
+  abbrev act : Focus → Doing (List Item)
+  act focus = part (Forms.in_focus frame focus)
+
+  abbrev children : Place → List Place
+  children q = axis_nodes f axis.Child of q
+
+  abbrev chosen : Place → List Place
+  chosen q = filter passing_of (children q)
+
+  chosen_at : (q : Place) (i n : ℕ) → act (record { item = Node q; position = i; last = n }) f ≡ (Ok (map Node (chosen q)), f)
+  chosen_at q i n =
+      ap (λ o. go_on (go_on o (λ next. give next)) (λ ys. give (in_axis_order axis.Child ys))) (places_filtered slots found p is (at_node frame q i n) f env (children q))
+
+  collected_from : (done : List Item) (i n : ℕ) (qs : List Place) → in_turn (more act) done (focuses_from i n (map Node qs)) f ≡ (Ok (done ++ map Node (flat_map chosen qs)), f)
+  collected_from done i n [] = ap (λ l. (Ok l, f)) (sym (append-nil done))
+  collected_from done i n (q ∷ qs) =
+      ap (λ o. go_on (go_on o (λ ys. give (done ++ ys))) (λ next. in_turn (more act) next (focuses_from (suc i) n (map Node qs)))) (chosen_at q i n)
+      ∙ collected_from (done ++ map Node (chosen q)) (suc i) n qs
+      ∙ ap (λ l. (Ok l, f)) (append_assoc done (map Node (chosen q)) (map Node (flat_map chosen qs)) ∙ ap (λ l. done ++ l) (sym (map-append Node (chosen q) (flat_map chosen qs))))
+
+  abbrev gather : List Item → Doing (List Item)
+  gather ys = on_trees (λ trees. gathered trees ys)
+
+  abbrev slash_of : List Item → Judged (List Place) → Outcome (List Item)
+  slash_of xs r = go_on (judged r f) (λ (qs : List Place). λ g. go_on (collected act (focuses xs) g) gather)
+
+  slash_is : (qs : List Place) → Forms.slash frame (map Node qs) part f ≡ (Ok (map Node (filter passing_of (in_document_order f (flat_map children qs)))), f)
+  slash_is qs =
+      ap (slash_of (map Node qs)) (are_nodes XPTY0019 qs)
+      ∙ ap (λ o. go_on o gather) (collected_from [] 1 (length (map Node qs)) qs)
+      ∙ ap (λ r. (nodes_or_atoms f (map Node (flat_map chosen qs)) r, f)) (are_nodes XPTY0018 (flat_map chosen qs))
+      ∙ ap (λ l. (Ok (map Node l), f)) (ap (in_document_order f) (filter-flat passing_of children qs) ∙ ordered_passing slots found p is frame f env (flat_map children qs))
+
+  abbrev scanned : Axis → Test → Judged (List Place) → Outcome (List Item)
+  scanned a t r = go_on (judged r f) (λ places. on_trees (λ trees. Ok (in_order trees (flat_map (axis_nodes trees a t) places))))
+
+  abbrev then_test : Outcome (List Item) → Outcome (List Item)
+  then_test o = go_on o (λ ys. Forms.filtered frame ys (plan_mean p))
+
+  from_nodes : (r : Judged (List Place)) → go_on (scanned axis.DescendantOrSelf test.Any r) (λ ys. Forms.slash frame ys part) ≡ then_test (go_on (scanned axis.DescendantOrSelf test.Any r) (Forms.scan axis.Child of))
+  from_nodes (Err code) = refl
+  from_nodes (Ok ps) =
+      let below = selves_and_below f ps in
+      slash_is below
+      ∙ sym (ap (λ r. then_test (scanned axis.Child of r)) (are_nodes XPTY0019 below)
+      ∙ places_filtered slots found p is frame f env (in_document_order f (flat_map children below)))
+
+  -- a step to children with such a predicate, after `//`, is a scan, and then the test
+  pub scan_by_text : (xs : List Item) → go_on (Forms.scan axis.DescendantOrSelf test.Any xs f) (λ ys. Forms.slash frame ys part) ≡ go_on (after_double_slash of xs f) (λ ys. Forms.filtered frame ys (plan_mean p))
+  scan_by_text xs = from_nodes (all_nodes XPTY0019 xs)

@@ -1,0 +1,58 @@
+-- Predicates that ask whether a step from the item leads to a node with a given text.
+use Rattle.std.specs.Prelude.{◌≡◌, ℕ, List, map, Bool, false, Ok}
+use Rattle.std.specs.List.{list_any}
+use Rattle.xq_atoms.specs.Text.{Text, text_eq}
+use Rattle.xq_regions.specs.Items.{ItemView, Place as NodeAt, Value}
+use Rattle.xq_regions.specs.Tree.{Tree}
+use Rattle.xq_regions.specs.Tuples.{Tuple}
+use Rattle.xq_meaning.specs.declared.plans.Plan.{Plan}
+use Rattle.xq_meaning.specs.Arguments.{boolean}
+use Rattle.xq_meaning.specs.Forms as Forms
+use Rattle.xq_meaning.specs.Items.{Place, Node}
+use Rattle.xq_meaning.specs.PlanMeaning.{Frame, plan_mean}
+use Rattle.xq_meaning.specs.Readings.{node_at}
+use Rattle.xq_meaning.specs.Steps.{axis_nodes}
+use Rattle.xq_sources.specs.Sources.{HasNode}
+use Rattle.xq_forms.specs.declared.frames.Frame.{Frame as HeldFrame}
+use Rattle.xq_forms.specs.Views.{tuple_at, frame_at, FrameIn}
+use Rattle.xq_joins.specs.declared.equalities.NodeTest.{NodeTest}
+use Rattle.xq_joins.specs.declared.equalities.TextTest.{TextTest}
+use Rattle.xq_joins.specs.Keys.{text_at}
+
+-- one of the nodes has the text
+abbrev pub have_text : List Tree → Text → List Place → Bool
+have_text trees text ps = list_any (text_eq text) (map (text_at trees) ps)
+
+-- the step of the test leads from the node to one that has its text
+abbrev pub leads_to_text : List Tree → TextTest → Place → Bool
+leads_to_text trees found p =
+    have_text trees found.text.now (axis_nodes trees found.axis found.test.now p)
+
+-- the same of an item that code holds, which has to be a node
+abbrev pub passes_text : List Tree → TextTest → ItemView → Bool
+passes_text trees found (NodeAt n) = leads_to_text trees found (node_at trees n)
+passes_text trees found (Value a) = false
+
+-- the frame with a node as its context item
+abbrev pub at_node : Frame → Place → ℕ → ℕ → Frame
+at_node frame p position last =
+    Forms.in_focus frame (record { item = Node p; position = position; last = last })
+
+-- where the slots hold these values, the plan says of a node whether it passes the test, and
+-- refuses and constructs nothing
+pub record IsTextTest (slots : Tuple ItemView) (found : TextTest) (p : Plan) : Type 0 where
+  pub says : (frame : Frame) (trees : List Tree) (place : Place) (position last : ℕ)
+      → frame.env ≡ tuple_at trees slots
+      → plan_mean p (at_node frame place position last) trees
+      ≡ (Ok (boolean (leads_to_text trees found place)), trees)
+
+-- # With a node at hand
+
+-- in the frame, over any trees that have its nodes, the node is there, and the plan says whether it
+-- passes the test, and refuses and constructs nothing
+pub record IsNodeTest (frame : HeldFrame) (found : NodeTest) (p : Plan) : Type 0 where
+  pub there : (trees : List Tree) → FrameIn trees frame
+      → HasNode trees found.node.tree found.node.pre
+  pub says : (trees : List Tree) → FrameIn trees frame
+      → plan_mean p (frame_at trees frame) trees
+      ≡ (Ok (boolean (leads_to_text trees found.test (node_at trees found.node))), trees)

@@ -1,0 +1,48 @@
+-- Values that are one text.
+use Rattle.std.specs.Prelude.{◌≡◌, List, [], ◌∷◌, map, Ok}
+use Rattle.xq_atoms.specs.Atom.{Atomic, String, Untyped}
+use Rattle.xq_atoms.specs.Text.{Text}
+use Rattle.xq_regions.specs.Items.{ItemView, Value}
+use Rattle.xq_regions.specs.Tree.{Tree}
+use Rattle.xq_regions.specs.Tuples.{Tuple}
+use Rattle.xq_meaning.specs.declared.plans.Plan.{Plan}
+use Rattle.xq_meaning.specs.Arguments.{atomic}
+use Rattle.xq_meaning.specs.PlanMeaning.{Frame, plan_mean}
+use Rattle.xq_meaning.specs.Items.{Node}
+use Rattle.xq_meaning.specs.Readings.{node_at}
+use Rattle.xq_meaning.specs.Steps.{axis_nodes}
+use Rattle.xq_sources.specs.Sources.{HasNode}
+use Rattle.xq_forms.specs.declared.frames.Frame.{Frame as HeldFrame}
+use Rattle.xq_forms.specs.declared.paths.ShortPath.{ShortPath}
+use Rattle.xq_forms.specs.Views.{tuple_at, frame_at, FrameIn}
+
+-- a string or an untyped value with this text
+abbrev pub IsText : Atomic → Text → Type 0
+IsText (String s) t = s ≡ t
+IsText (Untyped s) t = s ≡ t
+IsText a t = ⊥
+
+-- the items are one such value
+pub record AreText (xs : List ItemView) (t : Text) : Type 0 where
+  pub atom : Atomic
+  pub are : xs ≡ Value atom ∷ []
+  pub is_text : IsText atom t
+
+-- where the slots hold these values, the plan gives one such value, and does nothing else
+pub record GivesText (slots : Tuple ItemView) (t : Text) (p : Plan) : Type 0 where
+  pub atom : Atomic
+  pub is_text : IsText atom t
+  pub gives : (frame : Frame) (trees : List Tree) → frame.env ≡ tuple_at trees slots
+      → plan_mean p frame trees ≡ (Ok (atomic atom), trees)
+
+-- in the frame, over any trees that have its nodes, the plan gives what is on the axis from a node
+-- at hand
+pub record IsStepAt (frame : HeldFrame) (found : ShortPath) (p : Plan) : Type 0 where
+  pub there : (trees : List Tree) → FrameIn trees frame
+      → HasNode trees found.node.tree found.node.pre
+  pub gives : (trees : List Tree) → FrameIn trees frame
+      → plan_mean p (frame_at trees frame) trees
+      ≡ (
+        Ok (map Node (axis_nodes trees found.axis found.test.now (node_at trees found.node))),
+        trees,
+      )
