@@ -20,6 +20,8 @@ sys.path.insert(0, os.path.dirname(os.path.abspath(__file__)))
 from harness import LIBRARY, Server, built, store
 
 REFUSED = (1, "xq_server: cannot open the store\n")
+# The library under `b`, as the last program of edition 1 (501483a) stored it in a new file.
+EDITION_ONE = pathlib.Path(__file__).resolve().parent / "edition1.db"
 # Bytes that no file of a server may pass: its log is made, and has room for some stores.
 FULL = 300_000
 wrong = []
@@ -164,24 +166,33 @@ def other_orders(program, folder):
               Server([program, "--file", path]).ask(b"Q", b'doc("b")'), (0, LIBRARY))
 
 
+def rows_of(path, query):
+    """What a query gives of a file that no server has."""
+    base = sqlite3.connect("file:%s?mode=ro" % path, uri=True)
+    rows = base.execute(query).fetchall()
+    base.close()
+    return rows
+
+
 def carried_over(program, folder):
-    """Of a file of edition 1 the documents are carried over, whichever table was made first."""
-    for number, made in enumerate(((LAYOUT, NODE, ONE, BOOKS), (NODE, BOOKS, LAYOUT, ONE))):
-        path = written_by_sqlite(folder / ("edition%d.db" % number), *made)
+    """Of a file of edition 1 the documents are carried over: of one that a server of that edition
+    wrote, and of those that sqlite3 makes, whichever table was made first."""
+    paths = [shutil.copy(EDITION_ONE, folder / "edition1.db"),
+             written_by_sqlite(folder / "layout_first.db", LAYOUT, NODE, ONE, BOOKS),
+             written_by_sqlite(folder / "node_first.db", NODE, BOOKS, LAYOUT, ONE)]
+    for path in paths:
+        check("%s has edition 1" % path.name, rows_of(path, "SELECT edition FROM layout"), [(1,)])
         server = Server([program, "--file", path])
-        check("edition 1: read", server.ask(b"Q", b'doc("b")'), (0, LIBRARY))
-        check("  stored", server.ask(b"S", store(b"c", LIBRARY)), (0, b"stored"))
+        check("  its document is read", server.ask(b"Q", b'doc("b")'), (0, LIBRARY))
+        check("  another is stored", server.ask(b"S", store(b"c", LIBRARY)), (0, b"stored"))
         check("  the input ends", server.end(), (0, ""))
-        base = sqlite3.connect("file:%s?mode=ro" % path, uri=True)
-        check("  its edition is 2", base.execute("SELECT edition FROM layout").fetchall(), [(2,)])
-        check("  each name has one label",
-              base.execute("SELECT id, name FROM label ORDER BY id").fetchall(),
+        check("  sqlite3 finds the file sound", rows_of(path, "PRAGMA integrity_check"), [("ok",)])
+        check("  its edition is 2", rows_of(path, "SELECT edition FROM layout"), [(2,)])
+        check("  each name has one label", rows_of(path, "SELECT id, name FROM label ORDER BY id"),
               [(0, ""), (1, "lib"), (2, "book"), (3, "id")])
-        check("  no row is left in the old table",
-              base.execute("SELECT count(*) FROM node").fetchall(), [(0,)])
-        base.close()
+        check("  no row is left in the old table", rows_of(path, "SELECT * FROM node"), [])
         again = Server([program, "--file", path])
-        check("  read after a start", again.ask(b"Q", b'doc("b")'), (0, LIBRARY))
+        check("  it is read after a start", again.ask(b"Q", b'doc("b")'), (0, LIBRARY))
         check("  and what was stored", again.ask(b"Q", b'doc("c")'), (0, LIBRARY))
         check("  the input ends", again.end(), (0, ""))
 
@@ -197,22 +208,27 @@ def names_of_files(program, folder):
               Server([program, "--file", "./" + name], cwd=folder).ask(b"L"), (0, b"()"))
 
 
+def taken_over(program, old, new, wanted):
+    """take_file.sh copies a file, and the copy is served with this document under `b`."""
+    script = os.path.join(os.path.dirname(os.path.abspath(__file__)), "take_file.sh")
+    taken = subprocess.run([script, old, new], capture_output=True)
+    check("take_file.sh copies it",
+          (taken.returncode, taken.stdout), (0, b"1 documents taken over\n"))
+    check("  the copy is served",
+          Server([program, "--file", new]).ask(b"Q", b'doc("b")'), (0, wanted))
+
+
 def taken_back(program, folder):
     """What sqlite3 wrote into a file of the server is refused, and take_file.sh copies its
-    documents into a new one."""
+    documents into a new one; it does so of edition 1 as well."""
     path = folder / "written.db"
     server = Server([program, "--file", path])
     check("a document is stored", server.ask(b"S", store(b"b", LIBRARY)), (0, b"stored"))
     check("the input ends", server.end(), (0, ""))
     written_by_sqlite(path, "UPDATE node2 SET value = 'C' WHERE pre = 4")
     refuses("a file that sqlite3 wrote to", program, path)
-    script = os.path.join(os.path.dirname(os.path.abspath(__file__)), "take_file.sh")
-    taken = subprocess.run([script, path, folder / "taken.db"], capture_output=True)
-    check("take_file.sh copies it",
-          (taken.returncode, taken.stdout), (0, b"1 documents taken over\n"))
-    check("  the copy is served",
-          Server([program, "--file", folder / "taken.db"]).ask(b"Q", b'doc("b")'),
-          (0, LIBRARY.replace(b'text {"A"}', b'text {"C"}')))
+    taken_over(program, path, folder / "taken.db", LIBRARY.replace(b'text {"A"}', b'text {"C"}'))
+    taken_over(program, EDITION_ONE, folder / "taken1.db", LIBRARY)
 
 
 def full_disk(program, folder):

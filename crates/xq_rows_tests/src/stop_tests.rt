@@ -1,5 +1,6 @@
 //! A stop at each call of each file of a store: what a crash leaves are the documents before the
 //! call of the store that was under way, or those after it, and after an answer those after it.
+use crate::adopt_tests::{BOOKS, LAYOUT, NODE, ONE};
 use crate::calls::{Call, first_wrong};
 use crate::documents::{Documents, Named};
 use std::alloc::Global;
@@ -53,31 +54,52 @@ const PUT_OTHER: Call = Call::Put("a/1", Named::Library, Put::Stored);
 
 const PUT_LIBRARY: Call = Call::Put("b", Named::Library, Put::Stored);
 
-/// An adoption, a first put, a replacement and a drop.
-const RUNS: [Run<'static, Call>; 4] = [
+/// The row of an empty document under `a/1`, in the table of edition 1.
+const EMPTY_ROW: &str = "INSERT INTO node VALUES ('a/1', 0, 0, 0, 0, '', '')";
+
+/// That document, and the library under `b`.
+const CARRIED: &[Call] = &[
+    Call::List(&["a/1", "b"]),
+    Call::Load("a/1", Some(Named::Empty)),
+    Call::Load("b", Some(Named::Library)),
+];
+
+/// An adoption, a first put, a replacement, a drop, and an adoption of tables of edition 1.
+const RUNS: [Run<'static, Call>; 5] = [
     Run {
+        made: &[],
         first: &[],
         asked: &[],
         before: NOTHING,
         after: NOTHING,
     },
     Run {
+        made: &[],
         first: &[PUT_OTHER],
         asked: &[PUT_LIBRARY],
         before: OTHER,
         after: LIBRARY_TOO,
     },
     Run {
+        made: &[],
         first: &[PUT_OTHER, PUT_LIBRARY],
         asked: &[Call::Put("b", Named::Empty, Put::Replaced)],
         before: LIBRARY_TOO,
         after: EMPTY_TOO,
     },
     Run {
+        made: &[],
         first: &[PUT_OTHER, PUT_LIBRARY],
         asked: &[Call::Drop("b", true)],
         before: LIBRARY_TOO,
         after: OTHER,
+    },
+    Run {
+        made: &[LAYOUT, NODE, ONE, BOOKS, EMPTY_ROW],
+        first: &[],
+        asked: &[],
+        before: CARRIED,
+        after: CARRIED,
     },
 ];
 

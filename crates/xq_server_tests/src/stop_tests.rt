@@ -118,12 +118,14 @@ const EMPTY_TOO: &[Row] = &[
 /// A first store, a replacement and a drop.
 const RUNS: [Run<'static, Row>; 3] = [
     Run {
+        made: &[],
         first: &[PUT_NOTE],
         asked: &[PUT_LIBRARY],
         before: ALONE,
         after: LIBRARY_TOO,
     },
     Run {
+        made: &[],
         first: &[PUT_NOTE, PUT_LIBRARY],
         asked: &[Row {
             kind: b'S',
@@ -135,6 +137,7 @@ const RUNS: [Run<'static, Row>; 3] = [
         after: EMPTY_TOO,
     },
     Run {
+        made: &[],
         first: &[PUT_NOTE, PUT_LIBRARY],
         asked: &[Row {
             kind: b'D',

@@ -5,10 +5,14 @@ use sqlite::{Connection, FileStore, Files, Options};
 use sqlite_disk::{Crash, Disk, Fuse, Memory};
 use std::alloc::{AllocError, Global};
 use std::io;
+use xq_atoms::Want;
 use xq_rows::Store;
 
 /// A file that answers so many calls, and fails each one after.
 pub type Stopping = Fuse<Memory>;
+
+/// A database on a log and a file, one of which may stop.
+type Base = Connection<FileStore<Stopping>>;
 
 /// A store on a log and a database, one of which may stop.
 pub type StoppingStore = Store<FileStore<Stopping>>;
@@ -62,18 +66,74 @@ impl Contents {
     }
 }
 
+/// The database in the files, or the files where they are refused.
+fn opened(
+    alloc: Global,
+    files: Files<Stopping>,
+    log_pages: usize,
+) -> Result<Base, Files<Stopping>> {
+    if !files.log.may_be_used() || !files.db.may_be_used() {
+        return Err(files);
+    }
+    match Connection::open_files(alloc, files, options(log_pages)) {
+        Ok(conn) => Ok(conn),
+        Err((_error, left)) => Err(left.into_files()),
+    }
+}
+
+/// Runs the statements in turn, and says whether each was done.
+fn are_done(conn: &mut Base, statements: &[&str]) -> bool {
+    for statement in statements {
+        if conn.execute(statement, &[]).is_err() {
+            return false;
+        }
+    }
+    true
+}
+
+/// The files of a database that is closed, which copies its log into the database.
+fn files_at_end(conn: Base) -> Option<Files<Stopping>> {
+    match conn.close_files() {
+        Ok(files) => Some(files),
+        Err(_refused) => None,
+    }
+}
+
+/// What the files of a database hold that these statements make; nothing where there are none.
+pub(crate) fn contents_made(
+    alloc: Global,
+    statements: &[&str],
+    log_pages: usize,
+) -> Result<Contents, Want> {
+    let nothing = Contents {
+        log: Vec::new(alloc),
+        db: Vec::new(alloc),
+    };
+    if statements.is_empty() {
+        return Ok(nothing);
+    }
+    let Ok(files) = nothing.files(alloc, (u64::MAX, u64::MAX)) else {
+        return Err(Want::Store);
+    };
+    let Ok(mut conn) = opened(alloc, files, log_pages) else {
+        return Err(Want::Store);
+    };
+    let are_done = are_done(&mut conn, statements);
+    match (are_done, files_at_end(conn)) {
+        (true, Some(files)) => Ok(Contents::of(alloc, &files)?),
+        _ => Err(Want::Store),
+    }
+}
+
 /// The store in the files, or the files where they are refused.
 pub(crate) fn adopted(
     alloc: Global,
     files: Files<Stopping>,
     log_pages: usize,
 ) -> Result<StoppingStore, Files<Stopping>> {
-    if !files.log.may_be_used() || !files.db.may_be_used() {
-        return Err(files);
-    }
-    let conn = match Connection::open_files(alloc, files, options(log_pages)) {
+    let conn = match opened(alloc, files, log_pages) {
         Ok(conn) => conn,
-        Err((_error, left)) => return Err(left.into_files()),
+        Err(files) => return Err(files),
     };
     if !conn.is_autocommit() {
         return Err(conn.into_store().close());
@@ -89,12 +149,9 @@ pub(crate) fn files_of(store: StoppingStore) -> Files<Stopping> {
     store.release().into_store().close()
 }
 
-/// The files of a store that is closed, which copies its log into the database.
+/// The files of a store that is closed.
 pub(crate) fn closed(store: StoppingStore) -> Option<Files<Stopping>> {
-    match store.release().close_files() {
-        Ok(files) => Some(files),
-        Err(_refused) => None,
-    }
+    files_at_end(store.release())
 }
 
 /// Has both files lose what was not synced, and answer all calls from now on.

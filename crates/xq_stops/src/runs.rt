@@ -1,7 +1,8 @@
 //! Runs over a store of which one file stops, and what is found there after a crash.
 
 use crate::files::{
-    Contents, Stopping, StoppingStore, adopted, after_crash, closed, files_of, has_stopped,
+    Contents, Stopping, StoppingStore, adopted, after_crash, closed, contents_made, files_of,
+    has_stopped,
 };
 use sqlite::Files;
 use std::alloc::Global;
@@ -18,13 +19,18 @@ pub trait Task {
     ) -> (Result<bool, Want>, StoppingStore);
 }
 
-/// What is asked before files stop, what is asked while they do, and what tells the documents as
-/// they were before that, and as they are after it.
+/// A store that is adopted, and asked, while files stop.
 #[derive(Clone, Copy)]
 pub struct Run<'a, T: Task> {
+    /// The statements of a database that no store has made, and that is adopted first.
+    pub made: &'a [&'a str],
+    /// What is asked before files stop.
     pub first: &'a [T],
+    /// What is asked while they do.
     pub asked: &'a [T],
+    /// What tells the documents as they were before that.
     pub before: &'a [T],
+    /// What tells them as they are after it.
     pub after: &'a [T],
 }
 
@@ -69,17 +75,18 @@ enum Verdict {
 /// The most calls that are tried.
 const MOST: u64 = 10_000;
 
-/// What the files of a store hold after this was asked and the store was closed; nothing where
-/// nothing was asked.
-fn contents_after<T: Task>(alloc: Global, tasks: &[T], log_pages: usize) -> Result<Contents, Want> {
-    let nothing = Contents {
-        log: Vec::new(alloc),
-        db: Vec::new(alloc),
-    };
+/// What the files of a store hold after this was asked and the store was closed; what they held
+/// where nothing was asked.
+fn contents_after<T: Task>(
+    alloc: Global,
+    contents: Contents,
+    tasks: &[T],
+    log_pages: usize,
+) -> Result<Contents, Want> {
     if tasks.is_empty() {
-        return Ok(nothing);
+        return Ok(contents);
     }
-    let Ok(files) = nothing.files(alloc, (u64::MAX, u64::MAX)) else {
+    let Ok(files) = contents.files(alloc, (u64::MAX, u64::MAX)) else {
         return Err(Want::Store);
     };
     let Ok(store) = adopted(alloc, files, log_pages) else {
@@ -168,7 +175,8 @@ fn verdict_of<T: Task>(
     stop: Stop,
     log_pages: usize,
 ) -> Result<Verdict, Want> {
-    let contents = contents_after(alloc, run.first, log_pages)?;
+    let contents = contents_made(alloc, run.made, log_pages)?;
+    let contents = contents_after(alloc, contents, run.first, log_pages)?;
     for calls in 0..MOST {
         let Ok(files) = contents.files(alloc, stop.limits(calls)) else {
             return Err(Want::Store);
