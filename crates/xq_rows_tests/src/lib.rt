@@ -28,6 +28,8 @@ mod part_tests;
 #[cfg(test)]
 mod refusals;
 #[cfg(test)]
+mod replace_tests;
+#[cfg(test)]
 mod stop_tests;
 #[cfg(test)]
 mod tests;
