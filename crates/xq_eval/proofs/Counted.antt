@@ -1,5 +1,5 @@
 -- The value of one variable, as the argument of a call.
-use Rattle.std.proofs.Common.{◌≡◌, ℕ, zero, suc, ◌<◌, List, [], ◌∷◌, length, get_or, sym, ap, arith, Ok, Err, Result, Option, Some, None}
+use Rattle.std.proofs.Common.{◌≡◌, ℕ, zero, suc, ◌<◌, List, [], ◌∷◌, length, get_or, sym, ◌∙◌, ap, arith, Ok, Err, Result, Option, Some, None}
 use Rattle.std.specs.Prelude.{IfOk, IfSome}
 use Rattle.std.specs.Global.{Vec, Global}
 use Rattle.std.specs.declared.rc.Rc.{Rc}
@@ -8,6 +8,9 @@ use Rattle.xq_regions.specs.Items.{item_views}
 use Rattle.xq_regions.specs.Tree.{Tree}
 use Rattle.xq_regions.specs.Tuples.{value_at}
 use Rattle.xq_tuples.specs.Views.{values_of}
+use Rattle.xq_atoms.specs.Text.{Text}
+use Rattle.xq_meaning.specs.declared.plans.Plan.{Plan}
+use Rattle.xq_meaning.specs.declared.plans.Plan.TheVariants as plan
 use Rattle.xq_meaning.specs.Readings.{items_at}
 use Rattle.xq_forms.specs.Views.{tuple_at}
 
@@ -26,3 +29,11 @@ pub given_so : {X E : Type 0} (r : Result (Option X) E) (P Q : X → Type 0) →
 given_so (Ok (Some x)) P Q k h = k x h
 given_so (Ok None) P Q k h = h
 given_so (Err e) P Q k h = h
+
+-- the first of two lists that are the same
+pub first_same : {A : Type 0} (x y : A) → x ∷ [] ≡ y ∷ [] → x ≡ y
+first_same x y e = ap (λ l. get_or l 0 x) e
+
+-- the only part, where it is a string literal
+pub only_text : (parts : List Plan) (part : Plan) (t : Text) → parts ≡ part ∷ [] → parts ≡ plan.Str t ∷ [] → part ≡ plan.Str t
+only_text parts part t one is = first_same part (plan.Str t) (sym one ∙ is)

@@ -1,5 +1,5 @@
 -- Two clauses that are a join, and a `for` that is refused at its first tuple.
-use Rattle.std.proofs.Common.{◌≡◌, ◌<◌, ◌++◌, List, [], ◌∷◌, length, map, true, false, Bool, Option, Some, None, Ok, Err, refl, sym, ◌∙◌, ap, subst, arith, slice_index_or}
+use Rattle.std.proofs.Common.{◌≡◌, ◌<◌, ◌++◌, List, [], ◌∷◌, length, true, false, Bool, Option, Some, None, Ok, Err, refl, sym, ◌∙◌, ap, subst, arith, slice_index_or}
 use Rattle.std.specs.Global.{Vec}
 use Rattle.std.specs.Prelude.{IfSome, IsSome, IsErrAnd, Result}
 use Rattle.std.specs.List.{AllByRecursion}

@@ -1,5 +1,5 @@
 -- Predicates that ask nodes for a text, and steps with them.
-use Rattle.std.proofs.Common.{◌≡◌, List, [], ◌∷◌, map, Ok, Err, refl, sym, ◌∙◌, ap, subst}
+use Rattle.std.proofs.Common.{◌≡◌, List, [], ◌∷◌, map, Ok, Err, sym, ◌∙◌, ap, subst}
 use Rattle.std.specs.Prelude.{filter}
 use Rattle.std.specs.List.{AllByRecursion, flat_map}
 use Rattle.xq_atoms.specs.declared.refusals.Code.TheVariants.{XPTY0019}

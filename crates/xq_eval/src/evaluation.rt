@@ -1,5 +1,5 @@
 //! The evaluator: the value of a plan.
-ghost use Rattle.std.specs.Prelude.{◌≡◌, [], ◌∷◌, map};
+ghost use Rattle.std.specs.Prelude.{◌≡◌, [], ◌∷◌, map, IfSome};
 ghost use Rattle.std.specs.List.{AllByRecursion};
 ghost use Rattle.xq_atoms.specs.Text.{Text};
 ghost use Rattle.xq_meaning.specs.declared.plans.Plan.TheVariants as plan_of;
@@ -24,7 +24,8 @@ use std::alloc::Global;
 use xq_atoms::Fault;
 use xq_expressions::Function;
 use xq_forms::{
-    Focus, Frame, call, context_item, decimal, integer, operate, push_copy, root, string, variable,
+    Focus, Frame, call, call_on_one, context_item, decimal, integer, operate, push_copy, root,
+    string, variable,
 };
 use xq_functions::{effective, keeps};
 use xq_joins::{keep_by_text, leads_to_text, node_test};
@@ -312,7 +313,18 @@ fn pass<W: Growing>(
     Ok(push_copy(alloc, done, spot.item, keeps)?)
 }
 
-/// The value of a call. That of a variable which is only counted is not copied.
+/// The only argument of a call.
+fn only_part(parts: &[Plan]) -> Option<&Plan>
+    ensures { IfSome result (λ part. parts.now ≡ part.now ∷ []) }
+{
+    let [part] = parts else {
+        return None;
+    };
+    Some(part)
+}
+
+/// The value of a call. That of a variable which is only counted is not copied, and one argument is
+/// put into no list.
 #[cycle(eval)]
 #[inline(never)]
 fn called<W: Growing>(
@@ -334,6 +346,10 @@ fn called<W: Growing>(
 {
     if let Some(items) = counted_variable(alloc, frame.slots, function, parts)? {
         return Ok(items);
+    }
+    if let Some(part) = only_part(parts) {
+        let value = evaluate(alloc, world, frame, part)?;
+        return call_on_one(alloc, world, frame, function, value);
     }
     let values = arguments(alloc, world, frame, Vec::new(alloc), parts)?;
     call(alloc, world, frame, function, values)

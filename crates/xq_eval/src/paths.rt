@@ -68,9 +68,9 @@ fn chosen_children(next: Option<&PlanStep>) -> Option<&Test>
     Some(test)
 }
 
-/// The items after all steps. Two that are `//` and a step to children are one scan, also where that
-/// step has one predicate that asks for a text; where it has others, it is tried at those nodes alone
-/// that have such children.
+/// The items after all steps. Two that are `//` and a step to children are one scan, also where
+/// that step has one predicate, which asks for a text; where it has others, it is tried at those
+/// nodes alone that have such children.
 #[cycle(eval)]
 pub fn step_list<W: Growing>(
     alloc: Global,

@@ -41,7 +41,7 @@ fn of_node<L: RowLender>(alloc: Global, source: &mut L, node: Node) -> Result<At
 }
 
 /// The atom of an item.
-fn of_item<L: RowLender>(alloc: Global, source: &mut L, item: &Item) -> Result<Atom, Want>
+pub fn of_item<L: RowLender>(alloc: Global, source: &mut L, item: &Item) -> Result<Atom, Want>
     ensures value { L.is_clean source.new → IfOk result (λ atom. atomic_of atom
         ≡ atom_of (L.forest source.old) (item_at (L.forest source.old) (item_view item.now))) }
     ensures reads { IsAtom (item_view item.now) → L.meter source.new ≡ L.meter source.old }

@@ -1,11 +1,12 @@
 //! Calls of functions, from the values of their arguments (F&O 3.1; XQuery 3.1, section 3.1.5).
-ghost use Rattle.std.specs.Prelude.{◌≡◌, ◌≤◌, ◌∷◌, [], List, length, map, IfOk};
+ghost use Rattle.std.specs.Prelude.{◌≡◌, ◌≤◌, ◌∷◌, [], List, length, map, IfOk, IfSome};
 ghost use Rattle.std.specs.List.{AllByRecursion};
 ghost use Rattle.xq_atoms.specs.Atom.{atomic_of};
 ghost use Rattle.xq_regions.specs.Items.{ItemView, item_views};
 ghost use Rattle.xq_tuples.specs.Keys.{column_of};
 ghost use Rattle.xq_meaning.specs.Items.{atomized as atomized_lem};
 ghost use Rattle.xq_meaning.specs.Functions as Functions;
+ghost use Rattle.xq_meaning.specs.Readings.{items_at, AreIn};
 ghost use Rattle.xq_functions.specs.Answers.{items_of};
 ghost use Rattle.xq_functions.specs.Kinds as Kinds;
 ghost use Rattle.xq_functions.specs.declared.kinds.Argument.TheVariants.{Atoms};
@@ -14,7 +15,7 @@ ghost use Rattle.xq_forms.specs.Reads.{IsAtom};
 ghost use Rattle.xq_forms.specs.Views.{tuple_at, lists_of, spot_at, focus_at, frame_at, calling, FrameIn, TupleIn, Goes, GivesSequence};
 ghost use Rattle.xq_forms.specs.private.Calls.{at_focus};
 
-use crate::atoms::{atomized, into_atoms};
+use crate::atoms::{atomized, into_atoms, of_item};
 use crate::frames::{Focus, Frame};
 use crate::node_functions::{call_on_nodes, context_argument};
 use crate::values::single;
@@ -47,7 +48,18 @@ fn all_atomized<L: RowLender>(
     Ok(atoms)
 }
 
-/// A call with one argument of a function that looks at its atoms.
+/// The only item.
+fn only_item(items: &[Item]) -> Option<&Item>
+    ensures { IfSome result (λ item. items.now ≡ item.now ∷ []) }
+{
+    let [item] = items else {
+        return None;
+    };
+    Some(item)
+}
+
+/// A call with one argument of a function that looks at its atoms. That of one item is put into no
+/// list.
 #[inline(never)]
 fn on_atoms<L: RowLender>(
     alloc: Global,
@@ -62,6 +74,10 @@ fn on_atoms<L: RowLender>(
     ensures keeps { L.forest source.new ≡ L.forest source.old }
     ensures was_clean { L.is_clean source.new → L.is_clean source.old }
 {
+    if let Some(item) = only_item(&items) {
+        let atom = of_item(alloc, source, item)?;
+        return call_on_atoms(alloc, function, &[atom]);
+    }
     let atoms = into_atoms(alloc, source, items)?;
     call_on_atoms(alloc, function, &atoms)
 }
@@ -194,4 +210,25 @@ pub fn call<W: Growing>(
         Some(items) => on_one(alloc, world, frame.addresses, function, items),
         None => on_none(alloc, world, frame, function),
     }
+}
+
+/// [`call`] with one argument, which is put into no list.
+pub fn call_on_one<W: Growing>(
+    alloc: Global,
+    world: &mut W,
+    frame: Frame<'_>,
+    function: Function,
+    items: Items,
+) -> Result<Items, Fault>
+    ensures goes { Goes (W.forest world.old) (W.forest world.new) (W.is_clean world.old)
+        (W.is_clean world.new) }
+    ensures gives { W.is_clean world.new → FrameIn (W.forest world.old) frame.entry
+        → AreIn (W.forest world.old) (item_views items)
+        → GivesSequence (calling function (frame_at (W.forest world.old) frame.entry)
+        (items_at (W.forest world.old) (item_views items) ∷ []) (W.forest world.old))
+        (W.forest world.new) result }
+    ensures reads { function ≡ Function.Doc → AllByRecursion IsAtom (item_views items)
+        → W.meter world.new ≡ W.meter world.old }
+{
+    on_one(alloc, world, frame.addresses, function, items)
 }

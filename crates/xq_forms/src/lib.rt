@@ -14,7 +14,7 @@ mod steps;
 mod values;
 
 pub use atoms::{atomized, into_atoms};
-pub use calls::call;
+pub use calls::{call, call_on_one};
 pub use clauses::{group, order};
 pub use constructors::{named, node_name, unnamed};
 pub use frames::{Focus, Frame};

@@ -70,10 +70,9 @@ use Rattle.xq_forms.specs.Reads.{rows_of, AreOf, HasGrown}
 use Rattle.xq_eval.specs.Reads.{rows_at}
 use Rattle.xq_eval.specs.private.Scanning.{IsLiteral, IsScan}
 use Rattle.xq_eval.proofs.DocumentScans.{other_form, literal_scans, call_scans, path_scans, are_scans, not_each, no_each, grown_more, not_grown, grown_from, grown_on, once, literal_value, document_value}
-use Rattle.xq_joins.specs.Equalities.{IsTextTest}
-use Rattle.xq_joins.specs.declared.equalities.TextTest.{TextTest}
-use Rattle.xq_eval.specs.private.Texts.{IsToTexts}
 use Rattle.xq_eval.proofs.TextSteps.{texts_kept, text_steps_are}
+use Rattle.xq_eval.proofs.Counted.{only_text, first_same}
+use Rattle.xq_forms.specs.Reads.{IsAtom}
 use Rattle.xq_eval.proofs.+eval.Goals as goal
 
 pub evaluation::evaluate-returns-in-ContextItem-clause-gives : goal.evaluation::evaluate-returns-in-ContextItem-clause-gives
@@ -1999,6 +1998,67 @@ evaluation::called-returns-in-Some-clause-gives g t c = λ clean inside.
     let f = g.W.TreeSource.forest c.args.world.now in
     let frame = frame_at f c.args.frame in
     subst (λ r. IfSome r (λ given. AreIn f (item_views given) × (Forms.call c.args.function (map plan_mean c.args.parts.now) frame f ≡ (Ok (items_at f (item_views given)), f)))) c.in-Some.is (c.in_ok-items.ensures f frame refl)
+
+pub evaluation::called-returns-in-Some-only_part-clause-gives : goal.evaluation::called-returns-in-Some-only_part-clause-gives
+evaluation::called-returns-in-Some-only_part-clause-gives g t c = λ clean inside.
+    let f = g.W.TreeSource.forest c.args.world.now in
+    let held = c.args.frame in
+    let frame = frame_at f held in
+    let f' = g.W.TreeSource.forest c.evaluate.new.world in
+    let f'' = g.W.TreeSource.forest c.call_on_one.new.world in
+    let grows = c.in_ok-value.ensures.goes.grows in
+    let function = c.args.function in
+    let xs = items_at f' (item_views c.in_ok-value.value) in
+    let value = c.in_ok-value.ensures.gives (c.call_on_one.ensures.goes.was_clean clean) inside in
+    let meant : Forms.call function (map plan_mean c.args.parts.now) frame f ≡ calling function (frame_at f' held) (xs ∷ []) f' =
+    ap (λ ps. Forms.call function (map plan_mean ps) frame f) c.in-Some-only_part.ensures
+    ∙ ap (λ o. go_on (go_on (go_on o (λ y. give ([] ++ y ∷ []))) (λ next. give next)) (λ values. calling function frame values)) value.1
+    ∙ ap (λ fr. calling function fr (xs ∷ []) f') (sym (frame_grown grows held inside)) in
+    subst (λ o. GivesSequence o f'' c.call_on_one.result) (sym meant) (c.call_on_one.ensures.gives clean (frame_in_grown grows held inside) value.0)
+
+pub evaluation::called-returns-in-Some-only_part-clause-goes : goal.evaluation::called-returns-in-Some-only_part-clause-goes
+evaluation::called-returns-in-Some-only_part-clause-goes g t c = goes_on_to c.in_ok-value.ensures.goes c.call_on_one.ensures.goes
+
+pub evaluation::called-returns-in-Some-only_part-clause-reads : goal.evaluation::called-returns-in-Some-only_part-clause-reads
+evaluation::called-returns-in-Some-only_part-clause-reads g t c = λ clean inside doc text is.
+    let f = g.W.TreeSource.forest c.args.world.now in
+    let frame = frame_at f c.args.frame in
+    let f' = g.W.TreeSource.forest c.evaluate.new.world in
+    let was = c.call_on_one.ensures.goes.was_clean clean in
+    let views = item_views c.in_ok-value.value in
+    let value = c.in_ok-value.ensures.gives was inside in
+    let part = only_text c.args.parts.now c.in-Some-only_part.part.now text c.in-Some-only_part.ensures is in
+    let one = literal_value frame f f' text (views ∷ []) (ap (λ p. in_turn (one_more (λ (m : Meaning). m frame)) [] (plan_mean p ∷ []) f) (sym part) ∙ ap (λ o. go_on (go_on o (λ y. give ([] ++ y ∷ []))) (λ next. give next)) value.1) in
+    c.call_on_one.ensures.reads doc (subst (AllByRecursion IsAtom) (sym (first_same views one.xs one.is)) one.all) ∙ (c.evaluate.ensures.reads was inside).literal (text, part)
+
+pub evaluation::called-returns-in_err-value-clause-gives : goal.evaluation::called-returns-in_err-value-clause-gives
+evaluation::called-returns-in_err-value-clause-gives g t c = λ clean inside.
+    let f = g.W.TreeSource.forest c.args.world.now in
+    let frame = frame_at f c.args.frame in
+    let f' = g.W.TreeSource.forest c.evaluate.new.world in
+    let function = c.args.function in
+    let e = c.in_err-value.field-0.0 in
+    let made = λ (y : List Item). give ([] ++ y ∷ []) in
+    let next = λ (values : List (List Item)). calling function frame values in
+    let first = go_on (plan_mean c.in-Some-only_part.part.now frame f) made in
+    cut lists_of tuple_at TupleIn item_views items_at AreIn _ (go_on first (λ values. give values)) next f' e c.from_residual-in_err-value.result
+    (ap (λ ps. Forms.call function (map plan_mean ps) frame f) c.in-Some-only_part.ensures) c.from_residual-in_err-value.ensures.1
+    (go_on_stop lists_of tuple_at TupleIn lists_of tuple_at TupleIn first (λ values. give values) f' e
+    (go_on_stop item_views items_at AreIn lists_of tuple_at TupleIn (plan_mean c.in-Some-only_part.part.now frame f) made f' e (c.in_err-value.ensures.gives clean inside)))
+
+pub evaluation::called-returns-in_err-value-clause-goes : goal.evaluation::called-returns-in_err-value-clause-goes
+evaluation::called-returns-in_err-value-clause-goes g t c = c.in_err-value.ensures.goes
+
+pub evaluation::called-returns-in_err-value-clause-reads : goal.evaluation::called-returns-in_err-value-clause-reads
+evaluation::called-returns-in_err-value-clause-reads g t c = λ clean inside doc text is.
+    (c.evaluate.ensures.reads clean inside).literal (text, only_text c.args.parts.now c.in-Some-only_part.part.now text c.in-Some-only_part.ensures is)
+
+pub evaluation::called-evaluate-requires : goal.evaluation::called-evaluate-requires
+evaluation::called-evaluate-requires g t c = λ κs live.
+    let all : 8 * most size-Plan c.args.parts.now + 6 ≡ t = c.decreases in
+    let one : most size-Plan c.args.parts.now ≡ max (size-Plan c.in-Some-only_part.part.now) 0 = ap (most size-Plan) c.in-Some-only_part.ensures in
+    let below : 8 * size-Plan c.in-Some-only_part.part.now + 3 < t = omega (arith, all, one) in
+    (below, live)
 
 pub evaluation::called-returns-in_err-values-clause-gives : goal.evaluation::called-returns-in_err-values-clause-gives
 evaluation::called-returns-in_err-values-clause-gives g t c = λ clean inside.

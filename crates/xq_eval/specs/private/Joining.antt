@@ -1,5 +1,5 @@
 -- What a `for` gives together with the clause after it, where both are a join.
-use Rattle.std.specs.Prelude.{◌≡◌, List, Option, Some, None, Result, Ok, Err, Bool, false}
+use Rattle.std.specs.Prelude.{◌≡◌, List, Option, Some, None, Result, Ok, Err, false}
 use Rattle.std.specs.Global.{Vec}
 use Rattle.xq_atoms.specs.declared.refusals.Fault.{Fault}
 use Rattle.xq_regions.specs.declared.items.Item.{Item as Held}

@@ -1,5 +1,5 @@
 use Rattle.std.proofs.Common.{◌≡◌, ◌++◌, ◌∷◌, [], ◌∙◌, ap, sym, subst, map}
-use Rattle.std.proofs.lemmas.List.{map-id, map-append, map_push}
+use Rattle.std.proofs.lemmas.List.{map-id, map_push}
 use Rattle.std.proofs.lemmas.Iterator.Adapters.{YieldsList-from_vec}
 use Rattle.std.proofs.lemmas.Iterator.Consumers.{YieldsList-end}
 use Rattle.xq_atoms.specs.Atom.{atomic_of}

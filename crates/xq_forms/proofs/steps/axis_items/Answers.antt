@@ -1,5 +1,5 @@
-use Rattle.std.proofs.Common.{◌≡◌, ◌∙◌, ap, sym, subst, map, Ok}
-use Rattle.xq_regions.specs.Items.{Place, item_views}
+use Rattle.std.proofs.Common.{◌≡◌, ◌∙◌, ap, sym, subst, Ok}
+use Rattle.xq_regions.specs.Items.{item_views}
 use Rattle.xq_meaning.specs.Readings.{items_at, AreIn}
 use Rattle.xq_meaning.specs.Steps.{in_axis_order}
 use Rattle.xq_forms.specs.Views.{focus_at, on_axis}

@@ -1,4 +1,4 @@
-use Rattle.std.proofs.Common.{◌≡◌, [], ◌∷◌, ap, sym, subst, map, Ok, refl}
+use Rattle.std.proofs.Common.{◌≡◌, [], ◌∷◌, sym, subst, Ok, refl}
 use Rattle.std.proofs.lemmas.Result.{IfOk-weaker}
 use Rattle.xq_axes.specs.Nodes.{AreOnAxis}
 use Rattle.xq_regions.specs.Items.{Place, item_views}
