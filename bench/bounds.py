@@ -58,9 +58,10 @@ def lesser(times: Iterable[Times]) -> Times:
 
 
 def figure(number: float) -> str:
-    """A number with three digits or so."""
-    return f"{number:,.0f}" if number >= 100 else f"{number:.1f}" if number >= 10 \
-        else f"{number:.2f}"
+    """A number with three digits or so; one that was counted, as it is."""
+    if isinstance(number, int) or number >= 100:
+        return f"{number:,.0f}"
+    return f"{number:.1f}" if number >= 10 else f"{number:.2f}"
 
 
 def row(cells: Iterable[object]) -> str:

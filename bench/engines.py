@@ -32,6 +32,8 @@ from xqs.xml_out import xml  # noqa: E402
 SOURCES = TOP / "bench" / "engines"
 JARS = pathlib.Path("/usr/share/java")
 JAVA = ("java", "-Xmx2g")
+Command = Sequence[str | os.PathLike[str]]
+"""The words that start a server."""
 RUNS, BLOCKS = 5, 4
 """Engines take turns of so many runs; the first of so many turns warms up."""
 
@@ -61,8 +63,10 @@ class Engine(Protocol):
 class Program:
     """A server; how long it takes to read a query isn't told apart."""
 
-    def __init__(self, name: str, command: Sequence[str | os.PathLike[str]]) -> None:
-        self.name, self._server, self._reply = name, Server(command), b""
+    def __init__(
+        self, name: str, command: Command, env: Mapping[str, str] | None = None
+    ) -> None:
+        self.name, self._server, self._reply = name, Server(command, env=env), b""
 
     def ask(self, kind: bytes, body: bytes) -> float:
         """Milliseconds to a reply, which has to be an answer."""
@@ -81,9 +85,13 @@ class Program:
         """Asks a query so many times."""
         return [Spent(self.ask(b"Q", query.encode()), 0.0) for _ in range(count)]
 
+    def printed(self) -> str:
+        """The last reply."""
+        return self._reply.decode()
+
     def text(self) -> str:
         """The last reply as the engines write it."""
-        return plain(self._reply.decode())
+        return plain(self.printed())
 
     def end(self) -> None:
         """Ends the server."""

@@ -30,12 +30,12 @@ from dataclasses import dataclass, field
 TOP = pathlib.Path(__file__).resolve().parent.parent
 sys.path[:0] = [str(TOP / "tools"), str(TOP / "bench")]
 
+from allocations import of_queries  # noqa: E402
 from bounds import Bound, Times, lesser, ratio, said, table  # noqa: E402
 from engines import (  # noqa: E402
-    DATABASE, NODES, SAXON, Engine, Program, differing, driven, in_turn)
+    DATABASE, NODES, SAXON, Command, Engine, Program, differing, driven, in_turn)
 from harness import built  # noqa: E402
 
-Command = Sequence[str | os.PathLike[str]]
 OURS, BASE = "xqs", "base"
 
 ELEMENTS_OF_A_SHELF = 109
@@ -96,6 +96,8 @@ HALF = ("chain of children", "[last()]", "attribute point")
 """Those that are to take at most half of what the older program takes."""
 SLOWER = 1.1
 """The most that any may take, beside the older program."""
+BOOKS, MOST_ALLOCATIONS = 20, 8
+"""The tuples of `order by` in a shelf, and the allocations that each is to take at most."""
 
 
 def document(elements: int) -> str:
@@ -154,9 +156,11 @@ class Measured:
     def show(self, heads: Sequence[str]) -> None:
         """Prints the table, and what is to be known of it."""
         print(*table(["Query", *heads], self.times), sep="\n")
-        print("\nReading the query is in the times of the engines:", ", ".join(
-            f"{name} {min(it):.2f} to {max(it):.2f} ms" for name, it in self.reading.items()
-            if any(it)))
+        print()
+        for name, spent in self.reading.items():
+            if any(spent):
+                print(f"of the times of {name}, reading the query took {min(spent):.2f} to "
+                      f"{max(spent):.2f} ms")
         print(*self.faults or ["All results are the same."], sep="\n")
 
 
@@ -178,6 +182,13 @@ def beside_base(times: Mapping[str, Mapping[str, Times]]) -> Iterator[Bound]:
             yield ratio(f"{query}, beside the {BASE}", of[OURS], of[BASE], most)
 
 
+def allocations(command: Command) -> Iterator[Bound]:
+    """The bound of the allocations of a tuple, where there is a C compiler."""
+    for count in of_queries(command, document(LARGE // 5), [dict(QUERIES)["order by"]]):
+        each = count / (BOOKS * ((LARGE // 5 - 1) // ELEMENTS_OF_A_SHELF))
+        yield Bound("order by, allocations a tuple", each, each, MOST_ALLOCATIONS)
+
+
 def compare(command: Command, base: Command, are_engines_wanted: bool) -> bool:
     """Prints the table of one run; whether results are the same and bounds are kept."""
     make = document(LARGE)
@@ -196,7 +207,7 @@ def compare(command: Command, base: Command, are_engines_wanted: bool) -> bool:
     found.show([engine.name for engine in engines])
     print(f"the load of the machine is {os.getloadavg()[0]:.1f}")
     are_kept = said([*beside_engines(found.times, (SAXON.name, NODES.name)),
-                     *beside_base(found.times)])
+                     *beside_base(found.times), *allocations(command)])
     said(beside_engines(found.times, (SAXON.name, NODES.name, DATABASE.name)))
     return are_kept and not found.faults
 

@@ -22,6 +22,7 @@ class Statistics(unittest.TestCase):
         shown = [bounds.figure(it) for it in (0.456, 9.994, 12.34, 123.4, 6543.2)]
         self.assertEqual(shown, ["0.46", "9.99", "12.3", "123", "6,543"])
         self.assertEqual(str(Times(12.0, 0.5)), "12.0 (0.50)")
+        self.assertEqual(str(Times.of([3, 12, 4])), "4 (3)")
 
 
 class Bounds(unittest.TestCase):
