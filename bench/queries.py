@@ -169,9 +169,10 @@ def beside_engines(
 ) -> Iterator[Bound]:
     """The bounds beside those of these engines that are there."""
     for query in AHEAD:
-        if others := [times[query][name] for name in names if name in times[query]]:
-            yield ratio(f"{query}, beside {' and '.join(names)}", times[query][OURS],
-                        lesser(others), 1.0)
+        of = times[query]
+        if there := [name for name in names if name in of]:
+            yield ratio(f"{query}, beside {', '.join(there)}", of[OURS],
+                        lesser(of[name] for name in there), 1.0)
 
 
 def beside_base(times: Mapping[str, Mapping[str, Times]]) -> Iterator[Bound]:
