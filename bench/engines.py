@@ -135,9 +135,11 @@ class Driven:
             files = [SOURCES / f"{name}.java" for name in ("Peer", peer.driver)]
             subprocess.run(["javac", "-d", classes, "-cp", path, *files], check=True)
         home.mkdir()
+        self._said = home / "said"
         words = [*JAVA, f"-Dorg.basex.path={home}", "-cp", path, peer.driver, *peer.words, make]
-        self._process = subprocess.Popen(
-            words, stdin=subprocess.PIPE, stdout=subprocess.PIPE, cwd=home)
+        with open(self._said, "w") as said:
+            self._process = subprocess.Popen(
+                words, stdin=subprocess.PIPE, stdout=subprocess.PIPE, stderr=said, cwd=home)
 
     def run(self, query: str, count: int) -> list[Spent]:
         """Has it run a query so many times."""
@@ -147,7 +149,7 @@ class Driven:
         given.flush()
         spent = spent_of(found.readline().decode())
         if len(spent) != count:
-            sys.exit(f"{self.name} ended: {query[:80]}")
+            sys.exit(f"{self.name} ended: {query[:80]}\n{self._said.read_text()[:2000]}")
         self._text = found.read(int(found.readline()))
         return spent
 

@@ -1,4 +1,5 @@
 import java.io.ByteArrayOutputStream;
+import java.net.URI;
 import java.util.concurrent.Callable;
 import net.sf.saxon.s9api.Processor;
 import net.sf.saxon.s9api.SaxonApiException;
@@ -14,6 +15,7 @@ final class SaxonPeer extends Peer {
     private final XdmNode document;
 
     private SaxonPeer(String make) throws SaxonApiException {
+        compiler.setBaseURI(URI.create("memory:/"));
         document = (XdmNode) compiler.compile(make).load().evaluateSingle();
     }
 
