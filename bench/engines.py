@@ -34,8 +34,8 @@ JARS = pathlib.Path("/usr/share/java")
 JAVA = ("java", "-Xmx2g")
 Command = Sequence[str | os.PathLike[str]]
 """The words that start a server."""
-RUNS, BLOCKS = 5, 4
-"""Engines take turns of so many runs; the first of so many turns warms up."""
+RUNS, TURNS = 5, 3
+"""Engines take turns of so many runs, and each has so many turns, after a first to warm up."""
 
 
 class Spent(NamedTuple):
@@ -194,13 +194,19 @@ def driven(peers: Sequence[Peer], make: str, room: pathlib.Path) -> Iterator[lis
             engine.end()
 
 
-def in_turn(engines: Sequence[Engine], query: str) -> dict[str, list[Spent]]:
-    """The runs of a query by each engine, in turn; the first turn of each isn't counted."""
-    found: dict[str, list[Spent]] = {engine.name: [] for engine in engines}
-    for block in range(BLOCKS):
+def warm_up(engines: Sequence[Engine], queries: Sequence[str]) -> None:
+    """Runs all queries, before any is timed, so that Java's compiler is done with most of them."""
+    for query in queries:
         for engine in engines:
-            runs = engine.run(query, RUNS)
-            found[engine.name] += runs if block else []
+            engine.run(query, RUNS)
+
+
+def in_turn(engines: Sequence[Engine], query: str) -> dict[str, list[Spent]]:
+    """The runs of a query by each engine, which take turns."""
+    found: dict[str, list[Spent]] = {engine.name: [] for engine in engines}
+    for _ in range(TURNS):
+        for engine in engines:
+            found[engine.name] += engine.run(query, RUNS)
     return found
 
 

@@ -22,7 +22,7 @@ import tempfile
 TOP = os.path.join(os.path.dirname(os.path.abspath(__file__)), "..")
 sys.path[:0] = [os.path.join(TOP, "tools"), os.path.join(TOP, "bench")]
 from bounds import figure, row
-from engines import DATABASE, NODES, SAXON, driven, in_turn
+from engines import DATABASE, NODES, SAXON, driven, in_turn, warm_up
 from queries import LARGE, QUERIES, document
 from workspace import bench_program
 
@@ -59,6 +59,7 @@ def of_engines(is_wanted, scratch):
     """The names of the other engines, and for each query the least milliseconds of each."""
     wanted = (SAXON, NODES, DATABASE) if is_wanted else ()
     with driven(wanted, document(LARGE), pathlib.Path(scratch)) as engines:
+        warm_up(engines, [query for _, query in QUERIES])
         found = [in_turn(engines, query) for _, query in QUERIES]
     return [engine.name for engine in engines], [
         [figure(min(run.whole for run in runs)) for runs in spent.values()] for spent in found]

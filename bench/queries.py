@@ -8,11 +8,11 @@ The document is stored by its constructor, in memory and on a file. For each que
 first reply on a fresh server, the median of the repeated ones, and how many times as long ten times
 the elements take.
 
-With --engines, over 100,000 elements in memory: the medians of 15 runs after 5, and the least, of
-the server, of Saxon-HE and of BaseX, as far as they are installed (bench/engines.py), which take
-turns of five runs; with --base of an older program of the server too. All results are compared with
-one another, and the bounds of what is wanted beside them are judged: the status is 1 where a result
-differs or a bound is missed.
+With --engines, over 100,000 elements in memory: milliseconds of the server, of Saxon-HE and of
+BaseX, as far as they are installed (bench/engines.py), and of an older program of the server where
+--base names it: the median of 15 runs and the least, after five of each query. They take turns of
+five runs. All results are compared with one another, and the bounds of what is wanted beside the
+others are judged: the status is 1 where a result differs or a bound is missed.
 """
 
 from __future__ import annotations
@@ -33,7 +33,8 @@ sys.path[:0] = [str(TOP / "tools"), str(TOP / "bench")]
 from allocations import of_queries  # noqa: E402
 from bounds import Bound, Times, lesser, ratio, said, table  # noqa: E402
 from engines import (  # noqa: E402
-    DATABASE, NODES, SAXON, Command, Engine, Program, differing, driven, in_turn)
+    DATABASE, NODES, SAXON, Command, Engine, Program, differing, driven, in_turn,
+    warm_up)
 from harness import built  # noqa: E402
 
 OURS, BASE = "xqs", "base"
@@ -201,6 +202,7 @@ def compare(command: Command, base: Command, are_engines_wanted: bool) -> bool:
         engines = [*programs, *others]
         for program in programs:
             program.put(make)
+        warm_up(engines, [query for _, query in QUERIES])
         for name, query in QUERIES:
             found.add(name, query, engines)
         for program in programs:

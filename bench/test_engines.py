@@ -70,12 +70,17 @@ class Texts(unittest.TestCase):
 
 
 class Turns(unittest.TestCase):
-    def test_the_first_turn_of_each_is_not_counted(self) -> None:
+    def test_engines_take_turns(self) -> None:
         one, two = Told("one", 0.0), Told("two", 100.0)
         found = engines.in_turn([one, two], "1")
-        self.assertEqual([it.whole for it in found["one"]], [float(n) for n in range(5, 20)])
-        self.assertEqual(found["two"][0], Spent(105.0, 0.5))
-        self.assertEqual(one.turns, engines.BLOCKS)
+        self.assertEqual([it.whole for it in found["one"]], [float(n) for n in range(15)])
+        self.assertEqual(found["two"][0], Spent(100.0, 0.5))
+        self.assertEqual(one.turns, engines.TURNS)
+
+    def test_all_queries_are_run_to_warm_up(self) -> None:
+        one = Told("one", 0.0)
+        engines.warm_up([one], ["1", "2"])
+        self.assertEqual((one.turns, one.next), (2, 10.0))
 
     def test_an_engine_that_is_absent_is_left_out_and_named(self) -> None:
         with (tempfile.TemporaryDirectory() as room,
@@ -120,7 +125,7 @@ class Judged(unittest.TestCase):
         found = queries.Measured()
         other = Told("other", 100.0)
         found.add("one", "1", [Told("xqs", 0.0), other])
-        self.assertEqual(found.times["one"]["xqs"], Times(12.0, 5.0))
+        self.assertEqual(found.times["one"]["xqs"], Times(7.0, 0.0))
         self.assertEqual((found.reading["other"], found.faults), ([0.5], []))
         other.text = lambda: "13"  # type: ignore[method-assign]
         found.add("two", "1", [Told("xqs", 0.0), other])
