@@ -121,8 +121,7 @@ def literals(programs: Sequence[Program], others: Sequence[Driven], rounds: int)
         programs[0].ask(b"D", b"lib")
         print(f"{shape}: {len(rows):,} rows, {len(literal(0)) / 1e3:.0f} kB of text", flush=True)
         spent: Found = {}
-        for engine in others:
-            warm_up(engine, literal(0))
+        warm_up(others, [(literal(0), True)])
         for turn in range(rounds):
             literal_turn(spent, shape, turn, [*programs, *others], rows)
         for what, of in spent.items():
@@ -131,10 +130,12 @@ def literals(programs: Sequence[Program], others: Sequence[Driven], rounds: int)
     return found
 
 
-def warm_up(engine: Driven, query: str) -> None:
-    """Has an engine of Java replace a document some times."""
+def warm_up(others: Sequence[Driven], tasks: Sequence[tuple[str, bool]]) -> None:
+    """Has engines of Java make documents some times, or replace theirs by them."""
     for _ in range(RUNS):
-        replaced(engine, query)
+        for query, is_stored in tasks:
+            for engine in others:
+                (replaced if is_stored else made)(engine, query)
 
 
 class Place(Program):
@@ -185,8 +186,7 @@ def edit_turn(found: Found, turn: int, places: Sequence[Place], others: Sequence
 def edits(servers: Mapping[str, Command], others: Sequence[Driven], rounds: int) -> Found:
     """Milliseconds of the steps."""
     found: Found = {}
-    for engine in others:
-        warm_up(engine, MAKE)
+    warm_up(others, [(query, is_stored) for _, query, is_stored in steps(0)])
     rows: list[Row] = []
     for turn in range(rounds):
         with tempfile.TemporaryDirectory() as room:
