@@ -42,7 +42,7 @@ def of_queries(command: Command, make: str, queries: Sequence[str]) -> list[int]
     with tempfile.TemporaryDirectory() as room:
         library = pathlib.Path(room) / "refuse.so"
         source = TOP / "tools" / "refuse.c"
-        words = ["cc", "-shared", "-fPIC", "-O1", "-o", library, source, "-ldl"]
+        words = ["cc", "-shared", "-fPIC", "-O1", "-o", str(library), str(source), "-ldl"]
         try:
             subprocess.run(words, check=True)
         except (OSError, subprocess.CalledProcessError):

@@ -28,11 +28,12 @@ class Times:
 
 @dataclass(frozen=True)
 class Bound:
-    """A ratio that has to be so much at most: by medians, which judge, and by least times."""
+    """A ratio that has to be so much at most: by medians, which judge, and by least times, where
+    there are such."""
 
     what: str
     ratio: float
-    least: float
+    least: float | None
     most: float
 
     @property
@@ -42,8 +43,8 @@ class Bound:
 
     def __str__(self) -> str:
         verdict = "holds" if self.ratio <= self.most else "is met" if self.is_kept else "is MISSED"
-        return (f"{self.what}: {self.ratio:.2f} by medians, {self.least:.2f} by least times, "
-                f"wanted at most {self.most:.2f}: {verdict}")
+        least = "" if self.least is None else f" ({self.least:.2f} by least times)"
+        return f"{self.what}: {self.ratio:.2f}{least}, wanted at most {self.most:g}: {verdict}"
 
 
 def ratio(what: str, ours: Times, other: Times, most: float) -> Bound:

@@ -34,8 +34,8 @@ from bounds import Bound, Times, ratio, said, table  # noqa: E402
 from engines import (  # noqa: E402
     DATABASE, ON_DISK, RUNS, Command, Driven, Program, differing, driven)
 from harness import built  # noqa: E402
-from literals import SHAPES, Row, pages, rows_of  # noqa: E402
 from queries import BASE, LARGE, OURS, document  # noqa: E402
+from shapes import SHAPES, Row, pages, rows_of  # noqa: E402
 
 MAKE = document(LARGE)
 ONE_TEXT = """document {element lib {
@@ -142,7 +142,8 @@ class Place(Program):
     """A server with its documents in memory, or on a file."""
 
     def __init__(self, name: str, command: Command, file: pathlib.Path | None) -> None:
-        super().__init__(name, [*command, *(["--file", file] if file else [])])
+        words: Command = ["--file", file] if file else []
+        super().__init__(name, [*command, *words])
         self.log = pathlib.Path(f"{file}-wal") if file else None
 
     def written(self) -> bytes:
@@ -171,7 +172,7 @@ def step(found: Found, what: str, engine: Program | Driven, query: str, is_store
 
 def edit_turn(found: Found, turn: int, places: Sequence[Place], others: Sequence[Driven]) -> bool:
     """A turn of each engine with the document and copies of it; whether they come out the same."""
-    engines = [*places, *others]
+    engines: list[Program | Driven] = [*places, *others]
     for what, query, is_stored in steps(turn):
         for engine in engines:
             step(found, what, engine, query, is_stored)

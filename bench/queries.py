@@ -107,9 +107,8 @@ def document(elements: int) -> str:
     return DOCUMENT % (shelves, elements - 1 - shelves * ELEMENTS_OF_A_SHELF)
 
 
-def times(
-    command: Command, elements: int, rounds: int
-) -> tuple[float, list[tuple[float, float]]]:
+def times(command: Command, elements: int, rounds: int
+          ) -> tuple[float, list[tuple[float, float]]]:
     """Milliseconds of the store, and of each query: the first, and the median of the others."""
     server = Program("the server", command)
     stored = server.put(document(elements))
@@ -165,9 +164,8 @@ class Measured:
         print(*self.faults or ["All results are the same."], sep="\n")
 
 
-def beside_engines(
-    times: Mapping[str, Mapping[str, Times]], names: Sequence[str]
-) -> Iterator[Bound]:
+def beside_engines(times: Mapping[str, Mapping[str, Times]], names: Sequence[str]
+                   ) -> Iterator[Bound]:
     """The bounds beside those of these engines that are there."""
     for query in AHEAD:
         of = times[query]
@@ -188,7 +186,7 @@ def allocations(command: Command) -> Iterator[Bound]:
     """The bound of the allocations of a tuple, where there is a C compiler."""
     for count in of_queries(command, document(LARGE // 5), [dict(QUERIES)["order by"]]):
         each = count / (BOOKS * ((LARGE // 5 - 1) // ELEMENTS_OF_A_SHELF))
-        yield Bound("order by, allocations a tuple", each, each, MOST_ALLOCATIONS)
+        yield Bound("order by, allocations a tuple", each, None, MOST_ALLOCATIONS)
 
 
 def compare(command: Command, base: Command, are_engines_wanted: bool) -> bool:
@@ -199,7 +197,7 @@ def compare(command: Command, base: Command, are_engines_wanted: bool) -> bool:
     found = Measured()
     print(f"the load of the machine is {os.getloadavg()[0]:.1f}", flush=True)
     with tempfile.TemporaryDirectory() as room, driven(wanted, make, pathlib.Path(room)) as others:
-        engines = [*programs, *others]
+        engines: list[Engine] = [*programs, *others]
         for program in programs:
             program.put(make)
         warm_up(engines, [query for _, query in QUERIES])

@@ -30,8 +30,8 @@ class Bounds(unittest.TestCase):
         bound = bounds.ratio("order by", Times(5.0, 4.0), Times(10.0, 2.0), 1.0)
         self.assertEqual(bound, Bound("order by", 0.5, 2.0, 1.0))
         self.assertTrue(bound.is_kept)
-        self.assertEqual(str(bound), "order by: 0.50 by medians, 2.00 by least times, "
-                                     "wanted at most 1.00: holds")
+        self.assertEqual(str(bound),
+                         "order by: 0.50 (2.00 by least times), wanted at most 1: holds")
 
     def test_a_bound_itself_holds(self) -> None:
         self.assertTrue(str(Bound("x", 0.5, 0.5, 0.5)).endswith(": holds"))
@@ -50,13 +50,14 @@ class Bounds(unittest.TestCase):
         with contextlib.redirect_stdout(io.StringIO()) as out:
             kept = bounds.said([Bound("x", 2.0, 2.0, 1.0), Bound("y", 1.0, 1.0, 1.0)])
         self.assertFalse(kept)
+        self.assertNotIn("least", str(Bound("z", 3.0, None, 2.0)))
         self.assertEqual(len(out.getvalue().splitlines()), 2)
         self.assertTrue(bounds.said([]))
 
 
 class Tables(unittest.TestCase):
     def test_what_a_row_has_nothing_of_is_empty(self) -> None:
-        rows = {"a": {"one": 1}, "b": {"two": 2.5, "one": "x"}}
+        rows: dict[str, dict[str, object]] = {"a": {"one": 1}, "b": {"two": 2.5, "one": "x"}}
         self.assertEqual(list(bounds.table(["Query", "one", "two"], rows)),
                          ["| Query | one | two |", "|---|---|---|", "| a | 1 |  |",
                           "| b | x | 2.5 |"])

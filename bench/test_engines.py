@@ -24,7 +24,7 @@ class Told:
     """An engine whose runs take one after another of some numbers, each run one more."""
 
     def __init__(self, name: str, begin: float) -> None:
-        self.name, self.next, self.turns = name, begin, 0
+        self.name, self.next, self.turns, self.last = name, begin, 0, "12"
 
     def run(self, query: str, count: int) -> list[Spent]:
         self.turns += 1
@@ -33,7 +33,7 @@ class Told:
         return found
 
     def text(self) -> str:
-        return "12"
+        return self.last
 
     def end(self) -> None:
         pass
@@ -127,7 +127,7 @@ class Judged(unittest.TestCase):
         found.add("one", "1", [Told("xqs", 0.0), other])
         self.assertEqual(found.times["one"]["xqs"], Times(7.0, 0.0))
         self.assertEqual((found.reading["other"], found.faults), ([0.5], []))
-        other.text = lambda: "13"  # type: ignore[method-assign]
+        other.last = "13"
         found.add("two", "1", [Told("xqs", 0.0), other])
         self.assertEqual(found.faults, ["two: ANOTHER RESULT of other"])
 

@@ -1,4 +1,4 @@
-"""Tests of load.py and literals.py. No engine and no server is started.
+"""Tests of load.py and shapes.py. No engine and no server is started.
 
 Run them by `python3 -m unittest discover bench`.
 """
@@ -10,10 +10,10 @@ import sqlite3
 import tempfile
 import unittest
 
-import literals
 import load
+import shapes
 from bounds import Times
-from literals import Row
+from shapes import Row
 
 PRINTED = ('document {element lib {element book {attribute id {"1"}, text {"A"}}, '
            'element book {attribute id {"2"}, text {"B"}}}}')
@@ -22,7 +22,7 @@ MOST_OF_A_FRAME = 1_048_832
 
 class Rows(unittest.TestCase):
     def test_a_document_has_its_rows(self) -> None:
-        self.assertEqual(literals.rows_of(PRINTED), [
+        self.assertEqual(shapes.rows_of(PRINTED), [
             Row(0, 7, 0, 0, "", ""), Row(1, 6, 1, 1, "lib", ""), Row(2, 2, 2, 1, "book", ""),
             Row(3, 0, 3, 2, "id", "1"), Row(4, 0, 3, 3, "", "A"), Row(5, 2, 2, 1, "book", ""),
             Row(6, 0, 3, 2, "id", "2"), Row(7, 0, 3, 3, "", "B")])
@@ -30,7 +30,7 @@ class Rows(unittest.TestCase):
     def test_sqlite_takes_them(self) -> None:
         with tempfile.TemporaryDirectory() as room:
             path = f"{room}/c.db"
-            self.assertGreater(load.inserted(literals.rows_of(PRINTED), path), 0)
+            self.assertGreater(load.inserted(shapes.rows_of(PRINTED), path), 0)
             base = sqlite3.connect(path)
             names = base.execute("SELECT pre, level, name, value FROM node2 JOIN label "
                                  "ON label = id WHERE pre > 4 ORDER BY pre").fetchall()
@@ -40,11 +40,11 @@ class Rows(unittest.TestCase):
 
 class Shapes(unittest.TestCase):
     def test_each_fits_a_frame_beside_another_query(self) -> None:
-        for name, shape in literals.SHAPES.items():
+        for name, shape in shapes.SHAPES.items():
             self.assertLess(len(shape(99).encode()), MOST_OF_A_FRAME - 100, name)
 
     def test_each_turn_has_other_texts_in_as_many_nodes(self) -> None:
-        for name, shape in literals.SHAPES.items():
+        for name, shape in shapes.SHAPES.items():
             self.assertNotEqual(shape(1), shape(2), name)
             self.assertEqual(shape(1).count("{"), shape(2).count("{"), name)
 
@@ -63,12 +63,12 @@ class Log(unittest.TestCase):
         self.room.cleanup()
 
     def test_no_log_has_no_page(self) -> None:
-        self.assertEqual(literals.written(b""), (b"", 0))
+        self.assertEqual(shapes.written(b""), (b"", 0))
 
     def test_pages_since_the_look_before_are_counted(self) -> None:
         before = self.log.read_bytes()
         self.base.execute("INSERT INTO t VALUES (1)")
-        self.assertEqual(literals.pages(before, self.log.read_bytes()), 1)
+        self.assertEqual(shapes.pages(before, self.log.read_bytes()), 1)
 
     def test_a_log_that_began_anew_is_counted_from_its_begin(self) -> None:
         self.base.execute("INSERT INTO t VALUES (zeroblob(100000))")
@@ -77,8 +77,8 @@ class Log(unittest.TestCase):
         self.base.execute("INSERT INTO t VALUES (1)")
         after = self.log.read_bytes()
         self.assertEqual(len(after), len(before))
-        self.assertLess(literals.pages(before, after), 4)
-        self.assertGreater(literals.pages(before, after), 0)
+        self.assertLess(shapes.pages(before, after), 4)
+        self.assertGreater(shapes.pages(before, after), 0)
 
 
 class Bounds(unittest.TestCase):

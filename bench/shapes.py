@@ -1,4 +1,4 @@
-"""Literal documents of one frame, of three shapes, and the rows of a stored document."""
+"""Literal documents of one frame, of three shapes; the rows of a document; the pages of a log."""
 
 from __future__ import annotations
 
