@@ -26,7 +26,7 @@ MOST_TIMES = 3.0
 def least(command: str, rounds: int) -> dict[str, float]:
     """By name, the milliseconds of the document's store, of the first reply, and of each query."""
     server = Program(command, shlex.split(command))
-    spent = {"stored": server.put(document(ELEMENTS))}
+    spent = {"stored": server.put(document(ELEMENTS)).whole}
     [first] = server.run(QUERIES[0][1], 1)
     spent["first reply"] = first.whole
     for name, query in QUERIES:

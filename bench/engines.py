@@ -5,7 +5,8 @@ bench/engines, in a temporary folder. Each makes the document by the query that 
 server, and keeps it in memory: Saxon as its tree, BaseX as the nodes that the query makes, and, as
 a third engine, as its database with indexes. A run of an engine is from the text of a query to the
 text of its result, within its process; a run of the server from a request to the last byte of its
-reply, over a pipe.
+reply, over a pipe. The processor's time is that of the thread which answers: what Java's collector
+and its compiler do in threads of theirs is not in it.
 """
 
 from __future__ import annotations
@@ -39,10 +40,12 @@ RUNS, TURNS = 5, 3
 
 
 class Spent(NamedTuple):
-    """Milliseconds of a run, and those of them in which the query was read."""
+    """Milliseconds of a run by the clock, those of them in which the query was read, and those in
+    which it had a processor, whatever else the machine did."""
 
     whole: float
     reading: float
+    processor: float
 
 
 class Engine(Protocol):
@@ -67,23 +70,28 @@ class Program:
         self, name: str, command: Command, env: Mapping[str, str] | None = None
     ) -> None:
         self.name, self._server, self._reply = name, Server(command, env=env), b""
+        self._scheduled = pathlib.Path(f"/proc/{self._server.process.pid}/schedstat")
 
-    def ask(self, kind: bytes, body: bytes) -> float:
-        """Milliseconds to a reply, which has to be an answer."""
-        begin = time.perf_counter()
+    def ask(self, kind: bytes, body: bytes) -> Spent:
+        """The time to a reply, which has to be an answer."""
+        worked, begin = self._worked(), time.perf_counter()
         status, self._reply = self._server.ask(kind, body) or (2, b"the server ended")
         spent = (time.perf_counter() - begin) * 1e3
         if status:
             sys.exit(f"{self.name}: {self._reply.decode()}: {body[:80]!r}")
-        return spent
+        return Spent(spent, 0.0, self._worked() - worked)
 
-    def put(self, query: str, address: str = "lib") -> float:
-        """Milliseconds to store what a query gives."""
+    def _worked(self) -> float:
+        """The milliseconds in which it has had a processor."""
+        return int(self._scheduled.read_text().split()[0]) / 1e6
+
+    def put(self, query: str, address: str = "lib") -> Spent:
+        """Stores what a query gives."""
         return self.ask(b"S", store(address.encode(), query.encode()))
 
     def run(self, query: str, count: int) -> list[Spent]:
         """Asks a query so many times."""
-        return [Spent(self.ask(b"Q", query.encode()), 0.0) for _ in range(count)]
+        return [self.ask(b"Q", query.encode()) for _ in range(count)]
 
     def printed(self) -> str:
         """The last reply."""
@@ -169,8 +177,7 @@ def one_line(query: str) -> str:
 
 def spent_of(line: str) -> list[Spent]:
     """The times of a reply's first line, which are nanoseconds."""
-    pairs = (word.split("/") for word in line.split())
-    return [Spent(int(whole) / 1e6, int(reading) / 1e6) for whole, reading in pairs]
+    return [Spent(*(int(part) / 1e6 for part in word.split("/"))) for word in line.split()]
 
 
 def plain(reply: str) -> str:

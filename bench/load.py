@@ -11,8 +11,9 @@ which a node more stands at the front, each copy also by itself, not stored; and
 
 The server, an older one where --base names it, BaseX where it is installed, which replaces the same
 by `db:replace`, and the inserts of C SQLite (python3's sqlite3) take turns, of which there are N
-(5). Printed are medians, with the least times in brackets. The bounds that are wanted are judged:
-the status is 1 where one is missed, or documents come out different.
+(5). Printed are medians, with the least times in brackets, by the clock and of the processor, which
+says more where the machine has much else to do. The bounds that are wanted are judged: the status
+is 1 where one is missed by the clock, or documents come out different.
 """
 
 from __future__ import annotations
@@ -32,7 +33,7 @@ sys.path[:0] = [str(TOP / "tools"), str(TOP / "bench")]
 
 from bounds import Bound, Times, ratio, said, table  # noqa: E402
 from engines import (  # noqa: E402
-    DATABASE, ON_DISK, RUNS, Command, Driven, Program, differing, driven)
+    DATABASE, ON_DISK, RUNS, Command, Driven, Program, Spent, differing, driven)
 from harness import built  # noqa: E402
 from queries import BASE, LARGE, OURS, document  # noqa: E402
 from shapes import SHAPES, Row, pages, rows_of  # noqa: E402
@@ -58,41 +59,56 @@ TABLES = (
 INSERT = "INSERT INTO node2 VALUES ('lib', ?1, ?2, ?3, ?4, ?5, ?6)"
 C_SQLITE, ON_FILE = "C SQLite", " on a file"
 MOST_PAGES = 20
-Found = dict[str, dict[str, list[float]]]
-"""By what was measured and of which engine, the times of the turns."""
+Measures = dict[str, dict[str, list[float]]]
+"""By what was measured and of which engine, the figures of the turns."""
 
 
-def inserted(rows: Sequence[Row], path: str) -> float:
-    """Milliseconds of C SQLite to insert the rows into new tables, in one transaction."""
+class Found:
+    """The times of the turns, by the clock and of the processor, and what was counted."""
+
+    def __init__(self) -> None:
+        self.clock: Measures = {}
+        self.worked: Measures = {}
+        self.scale = 1.0
+
+    def note(self, what: str, engine: str, spent: Spent) -> None:
+        """Adds a time, in units of the scale."""
+        for measures, time_of in ((self.clock, spent.whole), (self.worked, spent.processor)):
+            measures.setdefault(what, {}).setdefault(engine, []).append(time_of * self.scale)
+
+    def count(self, what: str, engine: str, number: int) -> None:
+        """Adds a number."""
+        self.clock.setdefault(what, {}).setdefault(engine, []).append(number)
+
+
+def inserted(rows: Sequence[Row], path: str) -> Spent:
+    """The time of C SQLite to insert the rows into new tables, in one transaction."""
     base = sqlite3.connect(path, isolation_level=None)
     for text in ("PRAGMA journal_mode=WAL", "PRAGMA synchronous=FULL", *TABLES):
         base.execute(text)
-    begin = time.perf_counter()
+    worked, begin = time.process_time(), time.perf_counter()
     names = {name: number for number, name in enumerate({row.name: None for row in rows})}
     base.execute("BEGIN")
     base.executemany("INSERT INTO label VALUES (?2, ?1)", names.items())
     base.executemany(INSERT, ((*row[:4], names[row.name], row.value) for row in rows))
     base.execute("COMMIT")
-    spent = (time.perf_counter() - begin) * 1e3
+    spent, worked = time.perf_counter() - begin, time.process_time() - worked
     base.close()
+    return Spent(spent * 1e3, 0.0, worked * 1e3)
+
+
+def made(engine: Program | Driven, query: str) -> Spent:
+    """Makes a document that isn't stored."""
+    [spent] = engine.run(f"count(({query})/node())", 1)
     return spent
 
 
-def note(found: Found, what: str, engine: str, spent: float) -> None:
-    """Adds a time."""
-    found.setdefault(what, {}).setdefault(engine, []).append(spent)
-
-
-def made(engine: Program | Driven, query: str) -> float:
-    """Milliseconds to make a document that isn't stored."""
-    return engine.run(f"count(({query})/node())", 1)[0].whole
-
-
-def replaced(engine: Program | Driven, query: str) -> float:
-    """Milliseconds to store a document over the one that is there."""
+def replaced(engine: Program | Driven, query: str) -> Spent:
+    """Stores a document over the one that is there."""
     if isinstance(engine, Program):
         return engine.put(query)
-    return engine.run(f'db:replace("lib", "lib.xml", {query})', 1)[0].whole
+    [spent] = engine.run(f'db:replace("lib", "lib.xml", {query})', 1)
+    return spent
 
 
 def literal_turn(found: Found, shape: str, turn: int, engines: Sequence[Program | Driven],
@@ -101,32 +117,32 @@ def literal_turn(found: Found, shape: str, turn: int, engines: Sequence[Program 
     first, second = SHAPES[shape](2 * turn), SHAPES[shape](2 * turn + 1)
     for engine in engines:
         if isinstance(engine, Program):
-            reading = engine.run(f"if (empty(())) then 0 else {first}", 1)[0].whole
-            note(found, f"{shape}: read", engine.name, reading)
-            note(found, f"{shape}: and made", engine.name, made(engine, first))
-            note(found, f"{shape}: stored", engine.name, engine.put(first))
-        note(found, f"{shape}: replaced", engine.name, replaced(engine, second))
+            [reading] = engine.run(f"if (empty(())) then 0 else {first}", 1)
+            found.note(f"{shape}: read", engine.name, reading)
+            found.note(f"{shape}: and made", engine.name, made(engine, first))
+            found.note(f"{shape}: stored", engine.name, engine.put(first))
+        found.note(f"{shape}: replaced", engine.name, replaced(engine, second))
         if isinstance(engine, Program):
             engine.ask(b"D", b"lib")
-    note(found, f"{shape}: stored", C_SQLITE, inserted(rows, ":memory:"))
+    found.note(f"{shape}: stored", C_SQLITE, inserted(rows, ":memory:"))
 
 
-def literals(programs: Sequence[Program], others: Sequence[Driven], rounds: int) -> Found:
+def literals(servers: Mapping[str, Command], others: Sequence[Driven], rounds: int) -> Found:
     """Microseconds a row of each shape."""
-    found: Found = {}
+    programs = [Program(name, command) for name, command in servers.items()]
+    found = Found()
     for shape, literal in SHAPES.items():
         programs[0].put(literal(0))
         programs[0].run('doc("lib")', 1)
         rows = rows_of(programs[0].printed())
         programs[0].ask(b"D", b"lib")
         print(f"{shape}: {len(rows):,} rows, {len(literal(0)) / 1e3:.0f} kB of text", flush=True)
-        spent: Found = {}
+        found.scale = 1e3 / len(rows)
         warm_up(others, [(literal(0), True)])
         for turn in range(rounds):
-            literal_turn(spent, shape, turn, [*programs, *others], rows)
-        for what, of in spent.items():
-            found[what] = {engine: [it * 1e3 / len(rows) for it in times]
-                           for engine, times in of.items()}
+            literal_turn(found, shape, turn, [*programs, *others], rows)
+    for program in programs:
+        program.end()
     return found
 
 
@@ -165,9 +181,9 @@ def step(found: Found, what: str, engine: Program | Driven, query: str, is_store
     before = engine.written() if isinstance(engine, Place) else b""
     spent = (replaced if is_stored else made)(engine, query)
     if what != "stored" or isinstance(engine, Place):
-        note(found, what, engine.name, spent)
+        found.note(what, engine.name, spent)
     if is_stored and isinstance(engine, Place) and engine.log:
-        note(found, f"{what}: pages of log", engine.name, pages(before, engine.written()))
+        found.count(f"{what}: pages of log", engine.name, pages(before, engine.written()))
 
 
 def edit_turn(found: Found, turn: int, places: Sequence[Place], others: Sequence[Driven]) -> bool:
@@ -186,7 +202,7 @@ def edit_turn(found: Found, turn: int, places: Sequence[Place], others: Sequence
 
 def edits(servers: Mapping[str, Command], others: Sequence[Driven], rounds: int) -> Found:
     """Milliseconds of the steps."""
-    found: Found = {}
+    found = Found()
     warm_up(others, [(query, is_stored) for _, query, is_stored in steps(0)])
     rows: list[Row] = []
     for turn in range(rounds):
@@ -200,7 +216,7 @@ def edits(servers: Mapping[str, Command], others: Sequence[Driven], rounds: int)
                 places[0].run('doc("lib")', 1)
                 rows = rows_of(places[0].printed())
             for where, path in (("", ":memory:"), (ON_FILE, f"{room}/c.db")):
-                note(found, "stored", C_SQLITE + where, inserted(rows, path))
+                found.note("stored", C_SQLITE + where, inserted(rows, path))
             for place in places:
                 place.end()
     return found
@@ -227,27 +243,26 @@ def bounds(of: Mapping[str, Mapping[str, Times]]) -> Iterator[Bound]:
         yield Bound("one text changed, pages of log", found.median, found.least, MOST_PAGES)
 
 
-def show(unit: str, found: Found) -> bool:
+def show(unit: str, measures: Measures) -> bool:
     """Prints a table and its bounds; whether each is kept."""
     times = {what: {name: Times.of(spent) for name, spent in of.items()}
-             for what, of in found.items()}
+             for what, of in measures.items()}
     heads = list(dict.fromkeys(name for of in times.values() for name in of))
-    print(*table([unit, *heads], times), sep="\n")
+    print(*table([unit, *heads], times), "", sep="\n")
     return said(bounds(times))
 
 
 def measure(what: str, servers: Mapping[str, Command], rounds: int) -> bool:
-    """Measures and judges one of both."""
+    """Measures one of both, and shows it; whether all bounds by the clock are kept."""
+    is_edits = what == "edits"
     with tempfile.TemporaryDirectory() as room:
-        if what == "edits":
-            with driven((DATABASE, ON_DISK), MAKE, pathlib.Path(room)) as others:
-                return show("Milliseconds", edits(servers, others, rounds))
-        programs = [Program(name, command) for name, command in servers.items()]
-        with driven((DATABASE,), MAKE, pathlib.Path(room)) as others:
-            found = literals(programs, others, rounds)
-        for program in programs:
-            program.end()
-        return show("Microseconds a row", found)
+        wanted = (DATABASE, ON_DISK) if is_edits else (DATABASE,)
+        with driven(wanted, MAKE, pathlib.Path(room)) as others:
+            found = (edits if is_edits else literals)(servers, others, rounds)
+    unit = "Milliseconds" if is_edits else "Microseconds a row"
+    are_kept = show(f"{unit} by the clock", found.clock)
+    show(f"{unit} of the processor", found.worked)
+    return are_kept
 
 
 def main() -> int:

@@ -12,7 +12,8 @@ With --engines, over 100,000 elements in memory: milliseconds of the server, of 
 BaseX, as far as they are installed (bench/engines.py), and of an older program of the server where
 --base names it: the median of 15 runs and the least, after five of each query. They take turns of
 five runs. All results are compared with one another, and the bounds of what is wanted beside the
-others are judged: the status is 1 where a result differs or a bound is missed.
+others are judged: the status is 1 where a result differs or a bound is missed. The same follows by
+the processor's time of each, which says more where the machine has much else to do.
 """
 
 from __future__ import annotations
@@ -111,7 +112,7 @@ def times(command: Command, elements: int, rounds: int
           ) -> tuple[float, list[tuple[float, float]]]:
     """Milliseconds of the store, and of each query: the first, and the median of the others."""
     server = Program("the server", command)
-    stored = server.put(document(elements))
+    stored = server.put(document(elements)).whole
     found = []
     for _, query in QUERIES:
         first, *again = (spent.whole for spent in server.run(query, rounds + 1))
@@ -137,16 +138,20 @@ def show_growth(command: Command, rounds: int) -> None:
 
 @dataclass
 class Measured:
-    """By query and engine the times, by engine what reading takes, and the results that differ."""
+    """By query and engine the times by the clock and of the processor, by engine what reading
+    takes, and the results that differ."""
 
     times: dict[str, dict[str, Times]] = field(default_factory=dict)
+    worked: dict[str, dict[str, Times]] = field(default_factory=dict)
     reading: dict[str, list[float]] = field(default_factory=dict)
     faults: list[str] = field(default_factory=list)
 
     def add(self, name: str, query: str, engines: Sequence[Engine]) -> None:
         """Measures a query."""
         spent = in_turn(engines, query)
-        self.times[name] = {it: Times.of([run.whole for run in runs]) for it, runs in spent.items()}
+        self.times[name] = {it: Times.of([run.whole for run in of]) for it, of in spent.items()}
+        self.worked[name] = {
+            it: Times.of([run.processor for run in of]) for it, of in spent.items()}
         for engine, runs in spent.items():
             read = statistics.median(run.reading for run in runs)
             self.reading.setdefault(engine, []).append(read)
@@ -154,9 +159,9 @@ class Measured:
             self.faults.append(f"{name}: ANOTHER RESULT of {', '.join(others)}")
 
     def show(self, heads: Sequence[str]) -> None:
-        """Prints the table, and what is to be known of it."""
-        print(*table(["Query", *heads], self.times), sep="\n")
-        print()
+        """Prints the tables, and what is to be known of them."""
+        print(*table(["Milliseconds by the clock", *heads], self.times), "", sep="\n")
+        print(*table(["Of the processor", *heads], self.worked), "", sep="\n")
         for name, spent in self.reading.items():
             if any(spent):
                 print(f"of the times of {name}, reading the query took {min(spent):.2f} to "
@@ -180,6 +185,11 @@ def beside_base(times: Mapping[str, Mapping[str, Times]]) -> Iterator[Bound]:
         if BASE in of:
             most = 0.5 if query in HALF else SLOWER
             yield ratio(f"{query}, beside the {BASE}", of[OURS], of[BASE], most)
+
+
+def judged(times: Mapping[str, Mapping[str, Times]], names: Sequence[str]) -> list[Bound]:
+    """All bounds of times."""
+    return [*beside_engines(times, names), *beside_base(times)]
 
 
 def allocations(command: Command) -> Iterator[Bound]:
@@ -207,9 +217,12 @@ def compare(command: Command, base: Command, are_engines_wanted: bool) -> bool:
             program.end()
     found.show([engine.name for engine in engines])
     print(f"the load of the machine is {os.getloadavg()[0]:.1f}")
-    are_kept = said([*beside_engines(found.times, (SAXON.name, NODES.name)),
-                     *beside_base(found.times), *allocations(command)])
-    said(beside_engines(found.times, (SAXON.name, NODES.name, DATABASE.name)))
+    are_kept = said([*judged(found.times, (SAXON.name, NODES.name)), *allocations(command)])
+    print("By the processor's time:")
+    said(judged(found.worked, (SAXON.name, NODES.name)))
+    print("With BaseX's database, by the clock, and by the processor's time:")
+    for times_of in (found.times, found.worked):
+        said(beside_engines(times_of, (SAXON.name, NODES.name, DATABASE.name)))
     return are_kept and not found.faults
 
 

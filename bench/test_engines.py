@@ -28,7 +28,7 @@ class Told:
 
     def run(self, query: str, count: int) -> list[Spent]:
         self.turns += 1
-        found = [Spent(self.next + number, 0.5) for number in range(count)]
+        found = [Spent(self.next + number, 0.5, 1.5) for number in range(count)]
         self.next += count
         return found
 
@@ -41,8 +41,8 @@ class Told:
 
 class Replies(unittest.TestCase):
     def test_nanoseconds_of_runs_become_milliseconds(self) -> None:
-        self.assertEqual(engines.spent_of("2500000/500000 1000000/0\n"),
-                         [Spent(2.5, 0.5), Spent(1.0, 0.0)])
+        self.assertEqual(engines.spent_of("2500000/500000/2000000 1000000/0/750000\n"),
+                         [Spent(2.5, 0.5, 2.0), Spent(1.0, 0.0, 0.75)])
 
     def test_an_engine_that_ended_has_no_runs(self) -> None:
         self.assertEqual(engines.spent_of(""), [])
@@ -74,7 +74,7 @@ class Turns(unittest.TestCase):
         one, two = Told("one", 0.0), Told("two", 100.0)
         found = engines.in_turn([one, two], "1")
         self.assertEqual([it.whole for it in found["one"]], [float(n) for n in range(15)])
-        self.assertEqual(found["two"][0], Spent(100.0, 0.5))
+        self.assertEqual(found["two"][0], Spent(100.0, 0.5, 1.5))
         self.assertEqual(one.turns, engines.TURNS)
 
     def test_all_queries_are_run_to_warm_up(self) -> None:
@@ -126,6 +126,7 @@ class Judged(unittest.TestCase):
         other = Told("other", 100.0)
         found.add("one", "1", [Told("xqs", 0.0), other])
         self.assertEqual(found.times["one"]["xqs"], Times(7.0, 0.0))
+        self.assertEqual(found.worked["one"]["xqs"], Times(1.5, 1.5))
         self.assertEqual((found.reading["other"], found.faults), ([0.5], []))
         other.last = "13"
         found.add("two", "1", [Told("xqs", 0.0), other])

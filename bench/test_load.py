@@ -30,7 +30,7 @@ class Rows(unittest.TestCase):
     def test_sqlite_takes_them(self) -> None:
         with tempfile.TemporaryDirectory() as room:
             path = f"{room}/c.db"
-            self.assertGreater(load.inserted(shapes.rows_of(PRINTED), path), 0)
+            self.assertGreater(load.inserted(shapes.rows_of(PRINTED), path).whole, 0)
             base = sqlite3.connect(path)
             names = base.execute("SELECT pre, level, name, value FROM node2 JOIN label "
                                  "ON label = id WHERE pre > 4 ORDER BY pre").fetchall()

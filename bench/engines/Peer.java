@@ -2,17 +2,21 @@ import java.io.BufferedOutputStream;
 import java.io.BufferedReader;
 import java.io.InputStreamReader;
 import java.io.OutputStream;
+import java.lang.management.ManagementFactory;
+import java.lang.management.ThreadMXBean;
 import java.nio.charset.StandardCharsets;
 import java.util.StringJoiner;
 import java.util.concurrent.Callable;
 
 /**
  * An engine that bench/engines.py asks. Each line of standard input is a number of runs and a query
- * on one line. The reply is a line of the nanoseconds of each run, with those of reading the query
- * after a stroke, a line with the number of bytes of the last result, and these bytes: nodes as
- * XML, each item on a line of its own. Where a query is refused the program ends.
+ * on one line. The reply is a line of the nanoseconds of each run, with strokes between those by the
+ * clock, those of reading the query, and those in which this thread had a processor; a line with
+ * the number of bytes of the last result; and these bytes: nodes as XML, each item on a line of its
+ * own. Where a query is refused the program ends.
  */
 abstract class Peer {
+    private final ThreadMXBean thread = ManagementFactory.getThreadMXBean();
     private final OutputStream out = new BufferedOutputStream(System.out);
 
     /** Reads a query; what this gives runs it once, to the text of its result. */
@@ -40,11 +44,14 @@ abstract class Peer {
     }
 
     private byte[] timed(String query, StringJoiner spent) throws Exception {
+        long worked = thread.getCurrentThreadCpuTime();
         long begin = System.nanoTime();
         var plan = read(query);
         long between = System.nanoTime();
         byte[] text = plan.call();
-        spent.add((System.nanoTime() - begin) + "/" + (between - begin));
+        long end = System.nanoTime();
+        worked = thread.getCurrentThreadCpuTime() - worked;
+        spent.add((end - begin) + "/" + (between - begin) + "/" + worked);
         return text;
     }
 }
