@@ -11,9 +11,10 @@ the elements take.
 With --engines, over 100,000 elements in memory: milliseconds of the server, of Saxon-HE and of
 BaseX, as far as they are installed (bench/engines.py), and of an older program of the server where
 --base names it: the median of 15 runs and the least, after five of each query. They take turns of
-five runs. All results are compared with one another, and the bounds of what is wanted beside the
-others are judged: the status is 1 where a result differs or a bound is missed. The same follows by
-the processor's time of each, which says more where the machine has much else to do.
+five runs. The same follows by the processor's time of each, which hardly changes where the machine
+has much else to do. All results are compared with one another, and the bounds of what is wanted
+beside the others are shown by both. The status is 1 where a result differs, or a bound is missed of
+the processor's time.
 """
 
 from __future__ import annotations
@@ -217,12 +218,12 @@ def compare(command: Command, base: Command, are_engines_wanted: bool) -> bool:
             program.end()
     found.show([engine.name for engine in engines])
     print(f"the load of the machine is {os.getloadavg()[0]:.1f}")
-    are_kept = said([*judged(found.times, (SAXON.name, NODES.name)), *allocations(command)])
+    print("By the clock:")
+    said(judged(found.times, (SAXON.name, NODES.name)))
+    print("By the processor's time, with BaseX's database:")
+    said(beside_engines(found.worked, (SAXON.name, NODES.name, DATABASE.name)))
     print("By the processor's time:")
-    said(judged(found.worked, (SAXON.name, NODES.name)))
-    print("With BaseX's database, by the clock, and by the processor's time:")
-    for times_of in (found.times, found.worked):
-        said(beside_engines(times_of, (SAXON.name, NODES.name, DATABASE.name)))
+    are_kept = said([*judged(found.worked, (SAXON.name, NODES.name)), *allocations(command)])
     return are_kept and not found.faults
 
 
