@@ -10,10 +10,10 @@ import java.util.concurrent.Callable;
 
 /**
  * An engine that bench/engines.py asks. Each line of standard input is a number of runs and a query
- * on one line. The reply is a line of the nanoseconds of each run, with strokes between those by the
- * clock, those of reading the query, and those in which this thread had a processor; a line with
- * the number of bytes of the last result; and these bytes: nodes as XML, each item on a line of its
- * own. Where a query is refused the program ends.
+ * on one line. The reply is a line of the nanoseconds of each run: by the clock, of reading the
+ * query, and in which this thread had a processor, with strokes between; a line with the number of
+ * bytes of the last result; and these bytes: nodes as XML, each item on a line of its own. Where a
+ * query is refused the program ends.
  */
 abstract class Peer {
     private final ThreadMXBean thread = ManagementFactory.getThreadMXBean();
