@@ -208,10 +208,12 @@ def warm_up(engines: Sequence[Engine], queries: Sequence[str]) -> None:
             engine.run(query, RUNS)
 
 
-def in_turn(engines: Sequence[Engine], query: str) -> dict[str, list[Spent]]:
+def in_turn(
+    engines: Sequence[Engine], query: str, turns: int = TURNS
+) -> dict[str, list[Spent]]:
     """The runs of a query by each engine, which take turns."""
     found: dict[str, list[Spent]] = {engine.name: [] for engine in engines}
-    for _ in range(TURNS):
+    for _ in range(turns):
         for engine in engines:
             found[engine.name] += engine.run(query, RUNS)
     return found

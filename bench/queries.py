@@ -10,11 +10,11 @@ the elements take.
 
 With --engines, over 100,000 elements in memory: milliseconds of the server, of Saxon-HE and of
 BaseX, as far as they are installed (bench/engines.py), and of an older program of the server where
---base names it: the median of 15 runs and the least, after five of each query. They take turns of
-five runs. The same follows by the processor's time of each, which hardly changes where the machine
-has much else to do. All results are compared with one another, and the bounds of what is wanted
-beside the others are shown by both. The status is 1 where a result differs, or a bound is missed of
-the processor's time.
+--base names it: the median of 15 runs and the least. They take three turns of five runs, after five
+of each query to warm up; each turn is of new servers. The same follows by the processor's time of
+each, which changes least where the machine has much else to do. All results are compared with one
+another, and the bounds of what is wanted beside the others are shown by both. The status is 1 where
+a result differs, or a bound is missed of the processor's time.
 """
 
 from __future__ import annotations
@@ -35,7 +35,7 @@ sys.path[:0] = [str(TOP / "tools"), str(TOP / "bench")]
 from allocations import of_queries  # noqa: E402
 from bounds import Bound, Times, lesser, ratio, said, table  # noqa: E402
 from engines import (  # noqa: E402
-    DATABASE, NODES, SAXON, Command, Engine, Program, differing, driven, in_turn,
+    DATABASE, NODES, SAXON, TURNS, Command, Engine, Program, Spent, differing, driven, in_turn,
     warm_up)
 from harness import built  # noqa: E402
 
@@ -139,34 +139,32 @@ def show_growth(command: Command, rounds: int) -> None:
 
 @dataclass
 class Measured:
-    """By query and engine the times by the clock and of the processor, by engine what reading
-    takes, and the results that differ."""
+    """By query and engine the runs, and the results that differ."""
 
-    times: dict[str, dict[str, Times]] = field(default_factory=dict)
-    worked: dict[str, dict[str, Times]] = field(default_factory=dict)
-    reading: dict[str, list[float]] = field(default_factory=dict)
+    runs: dict[str, dict[str, list[Spent]]] = field(default_factory=dict)
     faults: list[str] = field(default_factory=list)
 
     def add(self, name: str, query: str, engines: Sequence[Engine]) -> None:
-        """Measures a query."""
-        spent = in_turn(engines, query)
-        self.times[name] = {it: Times.of([run.whole for run in of]) for it, of in spent.items()}
-        self.worked[name] = {
-            it: Times.of([run.processor for run in of]) for it, of in spent.items()}
-        for engine, runs in spent.items():
-            read = statistics.median(run.reading for run in runs)
-            self.reading.setdefault(engine, []).append(read)
+        """A turn of each engine with a query."""
+        for engine, runs in in_turn(engines, query, 1).items():
+            self.runs.setdefault(name, {}).setdefault(engine, []).extend(runs)
         if others := differing({engine.name: engine.text() for engine in engines}):
             self.faults.append(f"{name}: ANOTHER RESULT of {', '.join(others)}")
 
+    def times(self, part: str) -> dict[str, dict[str, Times]]:
+        """The times of a part of each run."""
+        return {name: {engine: Times.of([getattr(run, part) for run in runs])
+                       for engine, runs in of.items()} for name, of in self.runs.items()}
+
     def show(self, heads: Sequence[str]) -> None:
         """Prints the tables, and what is to be known of them."""
-        print(*table(["Milliseconds by the clock", *heads], self.times), "", sep="\n")
-        print(*table(["Of the processor", *heads], self.worked), "", sep="\n")
-        for name, spent in self.reading.items():
-            if any(spent):
-                print(f"of the times of {name}, reading the query took {min(spent):.2f} to "
-                      f"{max(spent):.2f} ms")
+        print(*table(["Milliseconds by the clock", *heads], self.times("whole")), "", sep="\n")
+        print(*table(["Of the processor", *heads], self.times("processor")), "", sep="\n")
+        for engine in heads:
+            reading = [of[engine].median for of in self.times("reading").values()]
+            if any(reading):
+                print(f"of the times of {engine}, reading the query took {min(reading):.2f} to "
+                      f"{max(reading):.2f} ms")
         print(*self.faults or ["All results are the same."], sep="\n")
 
 
@@ -200,30 +198,38 @@ def allocations(command: Command) -> Iterator[Bound]:
         yield Bound("order by, allocations a tuple", each, None, MOST_ALLOCATIONS)
 
 
-def compare(command: Command, base: Command, are_engines_wanted: bool) -> bool:
-    """Prints the table of one run; whether results are the same and bounds are kept."""
-    make = document(LARGE)
-    programs = [Program(OURS, command)] + ([Program(BASE, base)] if base else [])
-    wanted = (SAXON, NODES, DATABASE) if are_engines_wanted else ()
+def measured(servers: Mapping[str, Command], others: Sequence[Engine]) -> Measured:
+    """The runs of all; each turn is of new servers, since one has its memory in luckier places."""
     found = Measured()
-    print(f"the load of the machine is {os.getloadavg()[0]:.1f}", flush=True)
-    with tempfile.TemporaryDirectory() as room, driven(wanted, make, pathlib.Path(room)) as others:
+    for _ in range(TURNS):
+        programs = [Program(name, command) for name, command in servers.items()]
         engines: list[Engine] = [*programs, *others]
         for program in programs:
-            program.put(make)
+            program.put(document(LARGE))
         warm_up(engines, [query for _, query in QUERIES])
         for name, query in QUERIES:
             found.add(name, query, engines)
         for program in programs:
             program.end()
-    found.show([engine.name for engine in engines])
+    return found
+
+
+def compare(servers: Mapping[str, Command], are_engines_wanted: bool) -> bool:
+    """Prints the tables of one run; whether results are the same and bounds are kept."""
+    wanted = (SAXON, NODES, DATABASE) if are_engines_wanted else ()
+    print(f"the load of the machine is {os.getloadavg()[0]:.1f}", flush=True)
+    with tempfile.TemporaryDirectory() as room, \
+            driven(wanted, document(LARGE), pathlib.Path(room)) as others:
+        found = measured(servers, others)
+    found.show([*servers, *(engine.name for engine in others)])
     print(f"the load of the machine is {os.getloadavg()[0]:.1f}")
+    worked, names = found.times("processor"), (SAXON.name, NODES.name)
     print("By the clock:")
-    said(judged(found.times, (SAXON.name, NODES.name)))
+    said(judged(found.times("whole"), names))
     print("By the processor's time, with BaseX's database:")
-    said(beside_engines(found.worked, (SAXON.name, NODES.name, DATABASE.name)))
+    said(beside_engines(worked, (*names, DATABASE.name)))
     print("By the processor's time:")
-    are_kept = said([*judged(found.worked, (SAXON.name, NODES.name)), *allocations(command)])
+    are_kept = said([*judged(worked, names), *allocations(servers[OURS])])
     return are_kept and not found.faults
 
 
@@ -238,7 +244,8 @@ def main() -> int:
     given = words.parse_args()
     command = shlex.split(given.server) if given.server else [built()]
     if given.engines or given.base:
-        return 0 if compare(command, shlex.split(given.base), given.engines) else 1
+        base: dict[str, Command] = {BASE: shlex.split(given.base)} if given.base else {}
+        return 0 if compare({OURS: command, **base}, given.engines) else 1
     show_growth(command, given.rounds)
     return 0
 
