@@ -41,7 +41,7 @@ from xqs import Client, connect  # noqa: E402
 FLIGHT, CLIENTS = 64, 6
 ELEMENTS = 100_000
 DOCUMENTS, ROWS = 100, 1_000
-ORDER_BY = next(query for name, query, *_ in QUERIES if name == "order by")
+ORDER_BY = next(query for name, query in QUERIES if name == "order by")
 STORES, READS, FOLLOWS = 0.3, 2.2, 3.0
 """The bounds: of stores through the log to those without, of reads of three nodes to those of one,
 and of the time to follow again to that of a restore."""

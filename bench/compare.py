@@ -12,10 +12,12 @@ long, which is what `./serve --unproved` may take.
 
 from __future__ import annotations
 
+import shlex
 import sys
 from collections.abc import Sequence
 
-import queries
+from engines import Program
+from queries import QUERIES, document
 
 ELEMENTS = 20_000
 MOST_TIMES = 3.0
@@ -23,12 +25,12 @@ MOST_TIMES = 3.0
 
 def least(command: str, rounds: int) -> dict[str, float]:
     """By name, the milliseconds of the document's store, of the first reply, and of each query."""
-    server = queries.Server(command.split())
-    document = queries.document(ELEMENTS).encode()
-    spent = {"stored": queries.asked(server, b"S", queries.store(b"lib", document))}
-    spent["first reply"] = queries.asked(server, b"Q", queries.QUERIES[0][1].encode())
-    for name, query, *_ in queries.QUERIES:
-        spent[name] = min(queries.asked(server, b"Q", query.encode()) for _ in range(rounds))
+    server = Program(command, shlex.split(command))
+    spent = {"stored": server.put(document(ELEMENTS)).whole}
+    [first] = server.run(QUERIES[0][1], 1)
+    spent["first reply"] = first.whole
+    for name, query in QUERIES:
+        spent[name] = min(it.whole for it in server.run(query, rounds))
     server.end()
     return spent
 

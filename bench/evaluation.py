@@ -1,24 +1,29 @@
 #!/usr/bin/env python3
 """Times of queries over a document in memory: a source of fragments, no server and no database.
 
-    bench/evaluation.py [FOLDER]
+    bench/evaluation.py [--engines] [FOLDER]
 
 Builds bench/evaluation/main.rattle in the folder, unless an earlier call did. The queries and the
 document are those of bench/queries.py, of 10,000 and of 100,000 elements. For each: the
 milliseconds for both sizes, the least of four runs of five turns, reading and planning of the query
 included; the same of turns that begin with empty caches, and how many times as long the larger
-takes then; the rows that it reads; and what two engines that hold their trees in memory took for
-100,000 elements on another machine. The smaller document lies in the processor's caches from one
-turn to the next and the larger doesn't, so growth is judged where neither does.
+takes then; and the rows that it reads. With --engines follow the least milliseconds of other
+engines for 100,000 elements (bench/engines.py), as far as they are installed, of 15 runs after 5,
+right after ours. The smaller document lies in the processor's caches from one turn to the next and
+the larger doesn't, so growth is judged where neither does.
 """
+import argparse
 import os
+import pathlib
 import subprocess
 import sys
 import tempfile
 
 TOP = os.path.join(os.path.dirname(os.path.abspath(__file__)), "..")
 sys.path[:0] = [os.path.join(TOP, "tools"), os.path.join(TOP, "bench")]
-from queries import QUERIES, document
+from bounds import figure, row
+from engines import DATABASE, NODES, SAXON, driven, in_turn, warm_up
+from queries import LARGE, QUERIES, document
 from workspace import bench_program
 
 USES = ("xq_atoms", "xq_queries", "xq_sources")
@@ -31,7 +36,7 @@ ROUNDS = 4
 
 def figures(program, elements):
     """For each query the least milliseconds, the least with empty caches, and the rows read."""
-    lines = [document(elements)] + [query for _, query, *_ in QUERIES]
+    lines = [document(elements)] + [query for _, query in QUERIES]
     text = "\n".join(line.replace("\n", " ") for line in lines)
     done = subprocess.run([program], input=text.encode(), stdout=subprocess.PIPE, check=True)
     found = [line.split() for line in done.stdout.decode().splitlines()]
@@ -50,18 +55,35 @@ def least(runs):
             for turns in zip(*runs)]
 
 
+def of_engines(is_wanted, scratch):
+    """The names of the other engines, and for each query the least milliseconds of each."""
+    wanted = (SAXON, NODES, DATABASE) if is_wanted else ()
+    with driven(wanted, document(LARGE), pathlib.Path(scratch)) as engines:
+        warm_up(engines, [query for _, query in QUERIES])
+        found = [in_turn(engines, query) for _, query in QUERIES]
+    return [engine.name for engine in engines], [
+        [figure(min(run.whole for run in runs)) for runs in spent.values()] for spent in found]
+
+
 def main():
+    words = argparse.ArgumentParser(description=__doc__.partition("\n")[0])
+    words.add_argument("--engines", action="store_true", help="times of other engines beside")
+    words.add_argument("folder", nargs="?")
+    given = words.parse_args()
     with tempfile.TemporaryDirectory() as scratch:
-        program = bench_program(sys.argv[1] if len(sys.argv) > 1 else scratch, "evaluation", USES)
-        rounds = [(figures(program, 10_000), figures(program, 100_000)) for _ in range(ROUNDS)]
+        program = bench_program(given.folder or scratch, "evaluation", USES)
+        rounds = [(figures(program, LARGE // 10), figures(program, LARGE)) for _ in range(ROUNDS)]
+        names, others = of_engines(given.engines, scratch)
     small, large = (least(runs) for runs in zip(*rounds))
-    print("| Query | 10,000 | 100,000 | from memory | from memory | growth | rows read | A | B |")
-    print("|---|---|---|---|---|---|---|---|---|")
+    heads = ("Query", "10,000", "100,000", "from memory", "from memory", "growth", "rows read")
+    print(row([*heads, *names]))
+    print("|" + "---|" * len([*heads, *names]))
     within = True
-    for (name, _, *others), (little, before, _), (much, time, rows) in zip(QUERIES, small, large):
+    for (name, _), (little, before, _), (much, time, rows), beside in zip(
+            QUERIES, small, large, others):
         within = within and time / before <= MOST
-        print(f"| {name} | {little:.1f} | {much:.1f} | {before:.1f} | {time:.1f} "
-              f"| {time / before:.1f} | {rows} | {others[0]} | {others[1]} |")
+        ours = [f"{it:.1f}" for it in (little, much, before, time, time / before)]
+        print(row([name, *ours, rows, *beside]))
     print(f"each at most {MOST} times for ten times the elements: {'yes' if within else 'no'}")
     return 0 if within else 1
 

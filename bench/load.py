@@ -1,88 +1,287 @@
 #!/usr/bin/env python3
-"""How long `xqs load` takes for the XML files of a folder, and BaseX for the same, if it is there.
+"""What it costs to store literal documents, and to store a document again of which little changed.
 
-    bench/load.py [--server WORDS] [FOLDER]        ./serve and /usr/share where none are named
+    bench/load.py [--server WORDS] [--base WORDS] [--rounds N] [literals|edits ..]
 
-The files are loaded by `--names flat`, in memory and on a file, and then BaseX makes a database of
-them, one after the other in one run. What was refused is counted, not listed. The client's own time
-stands beside: it reads the files and makes their requests, and sends them nowhere.
+`literals`: three shapes of a literal of one frame, in memory: microseconds a row to read the query,
+of which nothing is evaluated, to read it and make the document, to store it, and to store another
+of that shape in its place. `edits`: milliseconds for the document of bench/queries.py, in memory
+and on a file: made, stored, replaced by itself, and by copies in which one text is changed and in
+which a node more stands at the front, each copy also by itself, not stored; and the pages of log.
+
+The server, an older one where --base names it, BaseX where it is installed, which replaces the same
+by `db:replace`, and the inserts of C SQLite (python3's sqlite3) take turns, of which there are N
+(3). Printed are medians, with the least times in brackets, by the clock and of the processor, which
+has no waiting in it, neither for other programs nor for the disk. The bounds that are wanted are
+shown by both. The status is 1 where one is missed of the processor's time or of the pages, or where
+documents come out different.
 """
+
+from __future__ import annotations
 
 import argparse
 import os
 import pathlib
 import shlex
-import shutil
-import subprocess
+import sqlite3
 import sys
 import tempfile
 import time
+from collections.abc import Iterator, Mapping, Sequence
 
 TOP = pathlib.Path(__file__).resolve().parent.parent
-sys.path.insert(0, str(TOP / "clients" / "python" / "src"))
+sys.path[:0] = [str(TOP / "tools"), str(TOP / "bench")]
 
-from xqs.load import XML_FILES, Search  # noqa: E402
-from xqs.stores import chunks_of, xml_parts  # noqa: E402
-from xqs.temporary import Temporary  # noqa: E402
-from xqs.xml_in import XmlChoices, XmlFault, XmlReader  # noqa: E402
-from xqs.xml_names import Names  # noqa: E402
+from bounds import Bound, Times, ratio, said, table  # noqa: E402
+from engines import (  # noqa: E402
+    DATABASE, ON_DISK, RUNS, Command, Driven, Program, Spent, differing, driven)
+from harness import built  # noqa: E402
+from queries import BASE, LARGE, OURS, document  # noqa: E402
+from shapes import SHAPES, Row, pages, rows_of  # noqa: E402
 
-
-def read(search: Search) -> tuple[int, int]:
-    """Makes the requests of all files; how many files are taken, and how many nodes they have."""
-    taken = nodes = 0
-    for file in search.found:
-        reader = XmlReader(file.path, Temporary(), XmlChoices(Names.FLAT))
-        try:
-            with open(file.place, "rb") as data:
-                list(xml_parts(reader, chunks_of(data)))
-        except XmlFault:
-            continue
-        taken, nodes = taken + 1, nodes + reader.nodes
-    return taken, nodes
-
-
-def load(folder: pathlib.Path, server: str, room: str) -> str:
-    """Loads the folder; what the command says at its end, which has the time."""
-    words = [sys.executable, str(TOP / "xqs"), "load", str(folder), "--names", "flat",
-             "--server", server]
-    environment = {**os.environ, "XDG_STATE_HOME": room}
-    done = subprocess.run(words, env=environment, capture_output=True, text=True, check=False)
-    return done.stderr.strip().splitlines()[-1]
-
-
-def import_by_basex(folder: pathlib.Path, room: str) -> str:
-    """Has BaseX make a database of the folder, with what it can't read left out; the seconds."""
-    if shutil.which("basex") is None:
-        return "not installed"
-    pathlib.Path(room, ".basexhome").touch()
-    words = ["basex", "-c", "SET SKIPCORRUPT true", "-c", f"SET CREATEFILTER {XML_FILES}",
-             "-c", f"CREATE DB load {folder}", "-c", "INFO DB"]
-    begin = time.monotonic()
-    done = subprocess.run(words, cwd=room, capture_output=True, text=True, check=False)
-    seconds = time.monotonic() - begin
-    said = [it.strip() for it in done.stdout.splitlines() if "DOCUMENTS" in it or "NODES" in it]
-    return f"{seconds:.1f} s; {', '.join(said)}"
+MAKE = document(LARGE)
+ONE_TEXT = """document {element lib {
+  for $s in doc("lib")/lib/shelf return
+    if ($s/@id = "450") then element shelf {$s/@*, for $b in $s/book return
+      if ($b/@id = "8990")
+      then element book {$b/@*, $b/title, $b/author, element year {"%d"}, $b/price, $b/note}
+      else $b}
+    else $s,
+  doc("lib")/lib/pad
+}}"""
+FRONT = 'document {element lib {element pad {}, doc("lib")/lib/node()}}'
+SEEN = 'string-join((doc("lib")//book[@id = "8990"]/year/string(), ' \
+       'string(count(doc("lib")//node())), name(doc("lib")/lib/*[1])), " ")'
+TABLES = (
+    "CREATE TABLE label (id INTEGER PRIMARY KEY, name TEXT NOT NULL UNIQUE) STRICT",
+    "CREATE TABLE node2 (address TEXT NOT NULL, pre INTEGER NOT NULL, size INTEGER NOT NULL,"
+    " level INTEGER NOT NULL, kind INTEGER NOT NULL, label INTEGER NOT NULL, value TEXT NOT NULL,"
+    " PRIMARY KEY (address, pre)) STRICT")
+INSERT = "INSERT INTO node2 VALUES ('lib', ?1, ?2, ?3, ?4, ?5, ?6)"
+C_SQLITE, ON_FILE = "C SQLite", " on a file"
+MOST_PAGES = 20
+Measures = dict[str, dict[str, list[float]]]
+"""By what was measured and of which engine, the figures of the turns."""
 
 
-def main() -> None:
-    words = argparse.ArgumentParser(description=__doc__.splitlines()[0])
-    words.add_argument("--server", default=str(TOP / "serve"))
-    words.add_argument("folder", nargs="?", type=pathlib.Path, default="/usr/share")
-    given = words.parse_args()
-    search = Search(given.folder, [XML_FILES])
-    print(f"{len(search.found)} files, {search.size / 1e6:.1f} MB; the load of the machine is "
-          f"{os.getloadavg()[0]:.1f}")
-    begin = time.process_time()
-    taken, nodes = read(search)
-    print(f"client alone  {time.process_time() - begin:.1f} s of processor; {taken} files with "
-          f"{nodes:,} nodes", flush=True)
+class Found:
+    """The times of the turns, by the clock and of the processor, and what was counted."""
+
+    def __init__(self) -> None:
+        self.clock: Measures = {}
+        self.worked: Measures = {}
+        self.scale = 1.0
+
+    def note(self, what: str, engine: str, spent: Spent) -> None:
+        """Adds a time, in units of the scale."""
+        for measures, time_of in ((self.clock, spent.whole), (self.worked, spent.processor)):
+            measures.setdefault(what, {}).setdefault(engine, []).append(time_of * self.scale)
+
+    def count(self, what: str, engine: str, number: int) -> None:
+        """Adds a number."""
+        for measures in (self.clock, self.worked):
+            measures.setdefault(what, {}).setdefault(engine, []).append(number)
+
+
+def inserted(rows: Sequence[Row], path: str) -> Spent:
+    """The time of C SQLite to insert the rows into new tables, in one transaction."""
+    base = sqlite3.connect(path, isolation_level=None)
+    for text in ("PRAGMA journal_mode=WAL", "PRAGMA synchronous=FULL", *TABLES):
+        base.execute(text)
+    worked, begin = time.process_time(), time.perf_counter()
+    names = {name: number for number, name in enumerate({row.name: None for row in rows})}
+    base.execute("BEGIN")
+    base.executemany("INSERT INTO label VALUES (?2, ?1)", names.items())
+    base.executemany(INSERT, ((*row[:4], names[row.name], row.value) for row in rows))
+    base.execute("COMMIT")
+    spent, worked = time.perf_counter() - begin, time.process_time() - worked
+    base.close()
+    return Spent(spent * 1e3, 0.0, worked * 1e3)
+
+
+def made(engine: Program | Driven, query: str) -> Spent:
+    """Makes a document that isn't stored."""
+    [spent] = engine.run(f"count(({query})/node())", 1)
+    return spent
+
+
+def replaced(engine: Program | Driven, query: str) -> Spent:
+    """Stores a document over the one that is there."""
+    if isinstance(engine, Program):
+        return engine.put(query)
+    [spent] = engine.run(f'db:replace("lib", "lib.xml", {query})', 1)
+    return spent
+
+
+def literal_turn(found: Found, shape: str, turn: int, engines: Sequence[Program | Driven],
+                 rows: Sequence[Row]) -> None:
+    """A turn of each engine with two literals of a shape."""
+    first, second = SHAPES[shape](2 * turn), SHAPES[shape](2 * turn + 1)
+    for engine in engines:
+        if isinstance(engine, Program):
+            [reading] = engine.run(f"if (empty(())) then 0 else {first}", 1)
+            found.note(f"{shape}: read", engine.name, reading)
+            found.note(f"{shape}: and made", engine.name, made(engine, first))
+            found.note(f"{shape}: stored", engine.name, engine.put(first))
+        found.note(f"{shape}: replaced", engine.name, replaced(engine, second))
+        if isinstance(engine, Program):
+            engine.ask(b"D", b"lib")
+    found.note(f"{shape}: stored", C_SQLITE, inserted(rows, ":memory:"))
+
+
+def literals(servers: Mapping[str, Command], others: Sequence[Driven], rounds: int) -> Found:
+    """Microseconds a row of each shape."""
+    programs = [Program(name, command) for name, command in servers.items()]
+    found = Found()
+    for shape, literal in SHAPES.items():
+        programs[0].put(literal(0))
+        programs[0].run('doc("lib")', 1)
+        rows = rows_of(programs[0].printed())
+        programs[0].ask(b"D", b"lib")
+        print(f"{shape}: {len(rows):,} rows, {len(literal(0)) / 1e3:.0f} kB of text", flush=True)
+        found.scale = 1e3 / len(rows)
+        warm_up(others, [(literal(0), True)])
+        for turn in range(rounds):
+            literal_turn(found, shape, turn, [*programs, *others], rows)
+    for program in programs:
+        program.end()
+    return found
+
+
+def warm_up(others: Sequence[Driven], tasks: Sequence[tuple[str, bool]]) -> None:
+    """Has engines of Java make documents some times, or replace theirs by them."""
+    for _ in range(RUNS):
+        for query, is_stored in tasks:
+            for engine in others:
+                (replaced if is_stored else made)(engine, query)
+
+
+class Place(Program):
+    """A server with its documents in memory, or on a file."""
+
+    def __init__(self, name: str, command: Command, file: pathlib.Path | None) -> None:
+        words: Command = ["--file", file] if file else []
+        super().__init__(name, [*command, *words])
+        self.log = pathlib.Path(f"{file}-wal") if file else None
+
+    def written(self) -> bytes:
+        """The log as it is."""
+        return self.log.read_bytes() if self.log and self.log.exists() else b""
+
+
+def steps(turn: int) -> list[tuple[str, str, bool]]:
+    """What is done to the document: its name, the query, and whether its document is stored."""
+    text = ONE_TEXT % (2000 + turn)
+    return [("made", MAKE, False), ("stored", MAKE, True), ("the same stored again", MAKE, True),
+            ("one text changed, made", text, False), ("one text changed, stored", text, True),
+            ("a node at the front, made", FRONT, False),
+            ("a node at the front, stored", FRONT, True)]
+
+
+def step(found: Found, what: str, engine: Program | Driven, query: str, is_stored: bool) -> None:
+    """A step of one engine; those of Java have a document already, which "stored" replaces."""
+    before = engine.written() if isinstance(engine, Place) else b""
+    spent = (replaced if is_stored else made)(engine, query)
+    if what != "stored" or isinstance(engine, Place):
+        found.note(what, engine.name, spent)
+    if is_stored and isinstance(engine, Place) and engine.log:
+        found.count(f"{what}: pages of log", engine.name, pages(before, engine.written()))
+
+
+def edit_turn(found: Found, turn: int, places: Sequence[Place], others: Sequence[Driven]) -> bool:
+    """A turn of each engine with the document and copies of it; whether they come out the same."""
+    engines: list[Program | Driven] = [*places, *others]
+    for what, query, is_stored in steps(turn):
+        for engine in engines:
+            step(found, what, engine, query, is_stored)
+    for engine in engines:
+        engine.run(SEEN, 1)
+    texts = {engine.name: engine.text() for engine in engines}
+    if others_of := differing(texts):
+        print(f"ANOTHER DOCUMENT of {', '.join(others_of)}: {texts}")
+    return not others_of
+
+
+def edits(servers: Mapping[str, Command], others: Sequence[Driven], rounds: int) -> Found:
+    """Milliseconds of the steps."""
+    found = Found()
+    warm_up(others, [(query, is_stored) for _, query, is_stored in steps(0)])
+    rows: list[Row] = []
+    for turn in range(rounds):
+        with tempfile.TemporaryDirectory() as room:
+            folder = pathlib.Path(room)
+            places = [Place(f"{name}{where}", command, folder / f"{name}.db" if where else None)
+                      for name, command in servers.items() for where in ("", ON_FILE)]
+            if not edit_turn(found, turn, places, others):
+                sys.exit(1)
+            if not rows:
+                places[0].run('doc("lib")', 1)
+                rows = rows_of(places[0].printed())
+            for where, path in (("", ":memory:"), (ON_FILE, f"{room}/c.db")):
+                found.note("stored", C_SQLITE + where, inserted(rows, path))
+            for place in places:
+                place.end()
+    return found
+
+
+def bounds(of: Mapping[str, Mapping[str, Times]]) -> Iterator[Bound]:
+    """What is wanted of the times, as far as they are there."""
+    for shape, most in (("records: stored", 0.58), ("records: read", 0.5)):
+        if BASE in of.get(shape, {}):
+            yield ratio(f"{shape}, to the {BASE}", of[shape][OURS], of[shape][BASE], most)
+    for where in ("", ON_FILE) if "made" in of else ():
+        ours, base = OURS + where, BASE + where
+        again, changed = of["the same stored again"], of["one text changed, stored"]
+        front = of["a node at the front, stored"]
+        yield ratio(f"one text changed{where}, to its making", changed[ours],
+                    of["one text changed, made"][ours], 1.3)
+        yield ratio(f"the same stored again{where}, to its making", again[ours],
+                    of["made"][ours], 1.2)
+        if base in front:
+            yield ratio(f"a node at the front{where}, to the {BASE}", front[ours], front[base],
+                        0.65)
+    if written := of.get("one text changed, stored: pages of log"):
+        found = written[OURS + ON_FILE]
+        yield Bound("one text changed, pages of log", found.median, found.least, MOST_PAGES)
+
+
+def show(unit: str, measures: Measures) -> bool:
+    """Prints a table and its bounds; whether each is kept."""
+    times = {what: {name: Times.of(spent) for name, spent in of.items()}
+             for what, of in measures.items()}
+    heads = list(dict.fromkeys(name for of in times.values() for name in of))
+    print(*table([unit, *heads], times), "", sep="\n")
+    return said(bounds(times))
+
+
+def measure(what: str, servers: Mapping[str, Command], rounds: int) -> bool:
+    """Measures one of both, and shows it; whether the bounds of the processor's time are kept."""
+    is_edits = what == "edits"
     with tempfile.TemporaryDirectory() as room:
-        print("in memory    ", load(given.folder, given.server, room), flush=True)
-        on_file = f"{given.server} --file {shlex.quote(room)}/x.db"
-        print("on a file    ", load(given.folder, on_file, room), flush=True)
-        print("BaseX        ", import_by_basex(given.folder, room))
+        wanted = (DATABASE, ON_DISK) if is_edits else (DATABASE,)
+        with driven(wanted, MAKE, pathlib.Path(room)) as others:
+            found = (edits if is_edits else literals)(servers, others, rounds)
+    unit = "Milliseconds" if is_edits else "Microseconds a row"
+    show(f"{unit} by the clock", found.clock)
+    return show(f"{unit} of the processor", found.worked)
+
+
+def main() -> int:
+    words = argparse.ArgumentParser(description=__doc__.partition("\n")[0])
+    words.add_argument("--server", default="", help="the server; the built one else")
+    words.add_argument("--base", default="", help="the command of an older server, beside")
+    words.add_argument("--rounds", type=int, default=3)
+    words.add_argument("what", nargs="*", metavar="literals|edits")
+    given = words.parse_args()
+    servers: dict[str, Command] = {OURS: shlex.split(given.server) or [built()]}
+    if given.base:
+        servers[BASE] = shlex.split(given.base)
+    kept = True
+    for what in given.what or ("literals", "edits"):
+        print(f"the load of the machine is {os.getloadavg()[0]:.1f}", flush=True)
+        kept = measure(what, servers, given.rounds) and kept
+    return 0 if kept else 1
 
 
 if __name__ == "__main__":
-    main()
+    sys.exit(main())

@@ -2,22 +2,44 @@
 """Times of queries through the program, over a document of 10,000 and of 100,000 elements.
 
     bench/queries.py [--server WORDS] [ROUNDS]     7 repetitions where none are named
+    bench/queries.py [--server WORDS] --engines [--base WORDS]
 
 The document is stored by its constructor, in memory and on a file. For each query: the time of its
 first reply on a fresh server, the median of the repeated ones, and how many times as long ten times
-the elements take. Beside them stand the times of two engines that hold their trees in memory, for
-100,000 elements, as they were measured on another machine.
+the elements take.
+
+With --engines, over 100,000 elements in memory: milliseconds of the server, of Saxon-HE and of
+BaseX, as far as they are installed (bench/engines.py), and of an older program of the server where
+--base names it: the median of 15 runs and the least. They take three turns of five runs, after five
+of each query to warm up; each turn is of new servers. The same follows by the processor's time of
+each, which changes least where the machine has much else to do. All results are compared with one
+another, and the bounds of what is wanted beside the others are shown by both. The status is 1 where
+a result differs, or a bound is missed of the processor's time.
 """
+
+from __future__ import annotations
+
 import argparse
+import os
 import pathlib
+import shlex
 import statistics
 import sys
 import tempfile
-import time
+from collections.abc import Iterator, Mapping, Sequence
+from dataclasses import dataclass, field
 
 TOP = pathlib.Path(__file__).resolve().parent.parent
-sys.path.insert(0, str(TOP / "tools"))
-from harness import Server, built, store
+sys.path[:0] = [str(TOP / "tools"), str(TOP / "bench")]
+
+from allocations import of_queries  # noqa: E402
+from bounds import Bound, Times, lesser, ratio, said, table  # noqa: E402
+from engines import (  # noqa: E402
+    DATABASE, NODES, SAXON, TURNS, Command, Engine, Program, Spent, differing, driven, in_turn,
+    warm_up)
+from harness import built  # noqa: E402
+
+OURS, BASE = "xqs", "base"
 
 ELEMENTS_OF_A_SHELF = 109
 DOCUMENT = """document {element lib {
@@ -40,103 +62,193 @@ DOCUMENT = """document {element lib {
   for $i in 1 to %d return element pad {}
 }}"""
 
-# Each query, and the milliseconds that two other engines take for it at 100,000 elements.
 QUERIES = [
-    ("descendant by name", 'count(doc("lib")//title)', 14.7, 19.0),
-    ("chain of children", 'count(doc("lib")/lib/shelf/book/title)', 9.0, 4.2),
-    (
-        "[n]",
-        'string-join(doc("lib")/lib/shelf/book[3]/title/string(), ",")',
-        4.7,
-        2.5,
-    ),
-    ("[last()]", 'count(doc("lib")//book[last()])', 6.0, 27.7),
-    ("attribute filter", 'count(doc("lib")//book[@lang = "de"])', 13.8, 36.3),
-    ("attribute point", 'doc("lib")//book[@id = "77"]/title', 4.2, 23.2),
-    ("following", 'count(doc("lib")/lib/shelf[2]/book[1]/following::author)', 41.6, 16.4),
-    ("preceding", 'count(doc("lib")/lib/shelf[last()]/book[1]/preceding::title)', 21.6, 20.8),
-    ("ancestor", 'count(doc("lib")//em/ancestor::shelf)', 9.2, 19.2),
+    ("descendant by name", 'count(doc("lib")//title)'),
+    ("chain of children", 'count(doc("lib")/lib/shelf/book/title)'),
+    ("[n]", 'string-join(doc("lib")/lib/shelf/book[3]/title/string(), ",")'),
+    ("[last()]", 'count(doc("lib")//book[last()])'),
+    ("attribute filter", 'count(doc("lib")//book[@lang = "de"])'),
+    ("attribute point", 'doc("lib")//book[@id = "77"]/title'),
+    ("following", 'count(doc("lib")/lib/shelf[2]/book[1]/following::author)'),
+    ("preceding", 'count(doc("lib")/lib/shelf[last()]/book[1]/preceding::title)'),
+    ("ancestor", 'count(doc("lib")//em/ancestor::shelf)'),
     (
         "order by",
         '(for $b in doc("lib")/lib/shelf/book order by xs:integer($b/year) descending, '
         "string($b/title) return string($b/@id))[position() <= 10]",
-        48.4,
-        61.1,
     ),
     (
         "group by",
         'for $b in doc("lib")//book group by $l := string($b/@lang) order by $l '
         'return concat($l, ":", count($b), ":", sum(for $x in $b return xs:integer($x/price)))',
-        47.3,
-        45.1,
     ),
-    ("string-join", 'string-length(string-join(doc("lib")//author/string(), "|"))', 27.3, 30.3),
-    ("distinct values", 'count(distinct-values(doc("lib")//author/string()))', 27.1, 30.7),
+    ("string-join", 'string-length(string-join(doc("lib")//author/string(), "|"))'),
+    ("distinct values", 'count(distinct-values(doc("lib")//author/string()))'),
     (
         "join of two `for`",
         'count(for $a in doc("lib")/lib/shelf[position() <= 2]/book, $b in doc("lib")/lib/shelf '
         "where $b/@room = $a/@room return $b)",
-        4.5,
-        34.4,
     ),
-    ("copy and count", 'count(document {doc("lib")/node()}//node())', 28.1, 30.0),
-    ("print all", 'doc("lib")', 109.0, 40.4),
+    ("copy and count", 'count(document {doc("lib")/node()}//node())'),
+    ("print all", 'doc("lib")'),
 ]
+LARGE = 100_000
+AHEAD = ("[n]", "attribute filter", "order by", "group by", "join of two `for`", "copy and count")
+"""The queries that are to take at most what the lesser of the other engines takes."""
+HALF = ("chain of children", "[last()]", "attribute point")
+"""Those that are to take at most half of what the older program takes."""
+SLOWER = 1.1
+"""The most that any may take, beside the older program."""
+BOOKS, MOST_ALLOCATIONS = 20, 8
+"""The tuples of `order by` in a shelf, and the allocations that each is to take at most."""
 
 
-def document(elements):
+def document(elements: int) -> str:
     """The query that makes a document of so many elements."""
     shelves = (elements - 1) // ELEMENTS_OF_A_SHELF
     return DOCUMENT % (shelves, elements - 1 - shelves * ELEMENTS_OF_A_SHELF)
 
 
-def asked(server, kind, body):
-    """Milliseconds to a reply, which has to be an answer."""
-    begin = time.perf_counter()
-    status, text = server.ask(kind, body)
-    spent = (time.perf_counter() - begin) * 1000
-    if status != 0:
-        sys.exit(f"refused: {text!r}: {body[:80]!r}")
-    return spent
-
-
-def times(command, elements, rounds):
+def times(command: Command, elements: int, rounds: int
+          ) -> tuple[float, list[tuple[float, float]]]:
     """Milliseconds of the store, and of each query: the first, and the median of the others."""
-    server = Server(command)
-    stored = asked(server, b"S", store(b"lib", document(elements).encode()))
+    server = Program("the server", command)
+    stored = server.put(document(elements)).whole
     found = []
-    for _, query, *_ in QUERIES:
-        spent = [asked(server, b"Q", query.encode()) for _ in range(rounds + 1)]
-        found.append((spent[0], statistics.median(spent[1:])))
+    for _, query in QUERIES:
+        first, *again = (spent.whole for spent in server.run(query, rounds + 1))
+        found.append((first, statistics.median(again)))
     server.end()
     return stored, found
 
 
-def main():
-    parser = argparse.ArgumentParser(
-        description=__doc__, formatter_class=argparse.RawTextHelpFormatter)
-    parser.add_argument("rounds", nargs="?", type=int, default=7)
-    parser.add_argument(
-        "--server", help="the server's command; the built program where none is named")
-    arguments = parser.parse_args()
-    command = arguments.server.split() if arguments.server else [built()]
+def show_growth(command: Command, rounds: int) -> None:
+    """Prints the times at both sizes, in memory and on a file."""
     with tempfile.TemporaryDirectory() as folder:
-        places = (("memory", lambda n: []), ("file", lambda n: ["--file", f"{folder}/{n}.db"]))
-        for where, words in places:
+        for where in ("memory", "file"):
             (small, few), (large, many) = (
-                times(command + words(n), n, arguments.rounds) for n in (10_000, 100_000)
-            )
+                times([*command, *(["--file", f"{folder}/{size}.db"] if where == "file" else [])],
+                      size, rounds) for size in (LARGE // 10, LARGE))
             print(f"{where}: stored in {small:.0f} and {large:.0f} ms, "
                   f"{large / small:.1f} times as long")
-            print(f"{'milliseconds':20} {'10,000':>15} {'100,000':>17} "
-                  f"{'growth':>7} {'engines':>13}")
-            for (name, _, one, other), (first, again), (slow, repeated) in zip(QUERIES, few, many):
-                print(
-                    f"{name:20} {first:7.1f} {again:7.1f} {slow:9.1f} {repeated:7.1f}"
-                    f" {repeated / again:7.1f} {one:6.1f} {other:6.1f}",
-                    flush=True,
-                )
+            print(f"{'milliseconds':20} {'10,000':>15} {'100,000':>17} {'growth':>7}")
+            for (name, _), (first, again), (slow, repeated) in zip(QUERIES, few, many):
+                print(f"{name:20} {first:7.1f} {again:7.1f} {slow:9.1f} {repeated:7.1f}"
+                      f" {repeated / again:7.1f}", flush=True)
+
+
+@dataclass
+class Measured:
+    """By query and engine the runs, and the results that differ."""
+
+    runs: dict[str, dict[str, list[Spent]]] = field(default_factory=dict)
+    faults: list[str] = field(default_factory=list)
+
+    def add(self, name: str, query: str, engines: Sequence[Engine]) -> None:
+        """A turn of each engine with a query."""
+        for engine, runs in in_turn(engines, query, 1).items():
+            self.runs.setdefault(name, {}).setdefault(engine, []).extend(runs)
+        if others := differing({engine.name: engine.text() for engine in engines}):
+            self.faults.append(f"{name}: ANOTHER RESULT of {', '.join(others)}")
+
+    def times(self, part: str) -> dict[str, dict[str, Times]]:
+        """The times of a part of each run."""
+        return {name: {engine: Times.of([getattr(run, part) for run in runs])
+                       for engine, runs in of.items()} for name, of in self.runs.items()}
+
+    def show(self, heads: Sequence[str]) -> None:
+        """Prints the tables, and what is to be known of them."""
+        print(*table(["Milliseconds by the clock", *heads], self.times("whole")), "", sep="\n")
+        print(*table(["Of the processor", *heads], self.times("processor")), "", sep="\n")
+        for engine in heads:
+            reading = [of[engine].median for of in self.times("reading").values()]
+            if any(reading):
+                print(f"of the times of {engine}, reading the query took {min(reading):.2f} to "
+                      f"{max(reading):.2f} ms")
+        print(*self.faults or ["All results are the same."], sep="\n")
+
+
+def beside_engines(times: Mapping[str, Mapping[str, Times]], names: Sequence[str]
+                   ) -> Iterator[Bound]:
+    """The bounds beside those of these engines that are there."""
+    for query in AHEAD:
+        of = times[query]
+        if there := [name for name in names if name in of]:
+            yield ratio(f"{query}, beside {', '.join(there)}", of[OURS],
+                        lesser(of[name] for name in there), 1.0)
+
+
+def beside_base(times: Mapping[str, Mapping[str, Times]]) -> Iterator[Bound]:
+    """The bounds beside the older program, if it is there."""
+    for query, of in times.items():
+        if BASE in of:
+            most = 0.5 if query in HALF else SLOWER
+            yield ratio(f"{query}, beside the {BASE}", of[OURS], of[BASE], most)
+
+
+def judged(times: Mapping[str, Mapping[str, Times]], names: Sequence[str]) -> list[Bound]:
+    """All bounds of times."""
+    return [*beside_engines(times, names), *beside_base(times)]
+
+
+def allocations(command: Command) -> Iterator[Bound]:
+    """The bound of the allocations of a tuple, where there is a C compiler."""
+    for count in of_queries(command, document(LARGE // 5), [dict(QUERIES)["order by"]]):
+        each = count / (BOOKS * ((LARGE // 5 - 1) // ELEMENTS_OF_A_SHELF))
+        yield Bound("order by, allocations a tuple", each, None, MOST_ALLOCATIONS)
+
+
+def measured(servers: Mapping[str, Command], others: Sequence[Engine]) -> Measured:
+    """The runs of all; each turn is of new servers, since one has its memory in luckier places."""
+    found = Measured()
+    for _ in range(TURNS):
+        programs = [Program(name, command) for name, command in servers.items()]
+        engines: list[Engine] = [*programs, *others]
+        for program in programs:
+            program.put(document(LARGE))
+        warm_up(engines, [query for _, query in QUERIES])
+        for name, query in QUERIES:
+            found.add(name, query, engines)
+        for program in programs:
+            program.end()
+    return found
+
+
+def compare(servers: Mapping[str, Command], are_engines_wanted: bool) -> bool:
+    """Prints the tables of one run; whether results are the same and bounds are kept."""
+    wanted = (SAXON, NODES, DATABASE) if are_engines_wanted else ()
+    print(f"the load of the machine is {os.getloadavg()[0]:.1f}", flush=True)
+    with tempfile.TemporaryDirectory() as room, \
+            driven(wanted, document(LARGE), pathlib.Path(room)) as others:
+        found = measured(servers, others)
+    found.show([*servers, *(engine.name for engine in others)])
+    print(f"the load of the machine is {os.getloadavg()[0]:.1f}")
+    worked, names = found.times("processor"), (SAXON.name, NODES.name)
+    print("By the clock:")
+    said(judged(found.times("whole"), names))
+    print("By the processor's time, with BaseX's database:")
+    said(beside_engines(worked, (*names, DATABASE.name)))
+    print("By the processor's time:")
+    are_kept = said([*judged(worked, names), *allocations(servers[OURS])])
+    return are_kept and not found.faults
+
+
+def main() -> int:
+    words = argparse.ArgumentParser(
+        description=__doc__, formatter_class=argparse.RawTextHelpFormatter)
+    words.add_argument("rounds", nargs="?", type=int, default=7)
+    words.add_argument(
+        "--server", help="the server's command; the built program where none is named")
+    words.add_argument("--engines", action="store_true", help="times of other engines beside")
+    words.add_argument("--base", default="", help="the command of an older server, beside")
+    given = words.parse_args()
+    command = shlex.split(given.server) if given.server else [built()]
+    if given.engines or given.base:
+        base: dict[str, Command] = {BASE: shlex.split(given.base)} if given.base else {}
+        return 0 if compare({OURS: command, **base}, given.engines) else 1
+    show_growth(command, given.rounds)
+    return 0
 
 
 if __name__ == "__main__":
-    main()
+    sys.exit(main())

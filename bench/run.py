@@ -25,7 +25,7 @@ OF_LIBRARIES = ("lexer", "parser", "statics", "plan", "build", "functions", "eva
 PROGRAMS = {"regions": ("xq_regions", "anyhow"),
             "tuples": ("xq_atoms", "xq_regions", "xq_tuples", "anyhow")}
 # Benchmarks of the program; those that stop at --server take the proved one of this clone.
-OF_PROGRAM = ("queries", "many", "hostile", "limits")
+OF_PROGRAM = ("queries", "load", "many", "hostile", "limits")
 OF_CLONE = ("literal", "serve")
 NAMES = (*PROGRAMS, *OF_LIBRARIES, *OF_PROGRAM, *OF_CLONE)
 
