@@ -32,7 +32,7 @@ pub const ORDERS: [[&str; 3]; 2] = [[LAYOUT, NODE, ONE], [NODE, LAYOUT, ONE]];
 
 /// How a database is answered.
 #[derive(Clone, Copy, Debug, PartialEq, Eq)]
-enum Answer {
+pub enum Answer {
     Adopted,
     NotAStore,
     Wanting,
@@ -41,7 +41,7 @@ enum Answer {
 }
 
 /// The statements that make a database, and how it is answered.
-type Judged = (&'static [&'static str], Answer);
+pub type Judged = (&'static [&'static str], Answer);
 
 /// What tables there are.
 const TABLES: [Judged; 15] = [
@@ -154,7 +154,7 @@ const SEVERAL: [(&str, Answer); 8] = [
 ];
 
 /// The first columns of what a query shows, each before a line, or a dash where it is refused.
-fn shown<S: Alter>(alloc: Global, conn: &mut Connection<S>, sql: &str) -> Result<String, Fail> {
+pub fn shown<S: Alter>(alloc: Global, conn: &mut Connection<S>, sql: &str) -> Result<String, Fail> {
     let Ok(rows) = conn.query_all(sql, &[]) else {
         return Ok(String::from_str(alloc, "-")?);
     };
@@ -205,7 +205,7 @@ fn adoption_of<S: Alter + Drop>(alloc: Global, mut conn: Connection<S>) -> Resul
 }
 
 /// The answer of a database that these statements make, and then this one.
-fn answer_of(alloc: Global, statements: &[&str], last: Option<&str>) -> Result<Answer, Fail> {
+pub fn answer_of(alloc: Global, statements: &[&str], last: Option<&str>) -> Result<Answer, Fail> {
     let mut conn = Connection::open_in_memory(alloc)?;
     for statement in statements.iter().copied().chain(last) {
         let _count = conn.execute(statement, &[])?;

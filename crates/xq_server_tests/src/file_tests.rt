@@ -3,6 +3,7 @@
 use crate::rows::{LIBRARY, PUT_B};
 use crate::servers::FileServer;
 use crate::tests::is_answered;
+use sqlite::{Connection, Unknown};
 use std::fs;
 use std::test::Fail;
 
@@ -50,6 +51,46 @@ fn documents_outlive_a_service(rt: HostRuntime) -> Result<(), Fail> {
         assert!(rt; ask_file(&rt, "xq_server_kept/x.db", request, wanted)?);
     }
     fs::remove_dir_all(&rt, "xq_server_kept")?;
+    Ok(())
+}
+
+/// The statements of a server of edition 1, and the library under `b`.
+const EDITION_ONE: [&str; 4] = [
+    "CREATE TABLE layout (edition INTEGER NOT NULL) STRICT",
+    "CREATE TABLE node (address TEXT NOT NULL, pre INTEGER NOT NULL, size INTEGER NOT NULL, level INTEGER NOT NULL, kind INTEGER NOT NULL, name TEXT NOT NULL, value TEXT NOT NULL, PRIMARY KEY (address, pre)) STRICT",
+    "INSERT INTO layout (edition) VALUES (1)",
+    "INSERT INTO node VALUES ('b', 0, 7, 0, 0, '', ''), ('b', 1, 6, 1, 1, 'lib', ''), ('b', 2, 2, 2, 1, 'book', ''), ('b', 3, 0, 3, 2, 'id', '1'), ('b', 4, 0, 3, 3, '', 'A'), ('b', 5, 2, 2, 1, 'book', ''), ('b', 6, 0, 3, 2, 'id', '2'), ('b', 7, 0, 3, 3, '', 'B')",
+];
+
+/// Makes a file by these statements, and says whether each was done.
+fn make_file(rt: &HostRuntime, path: &str, statements: &[&str]) -> Result<bool, Fail> {
+    let Ok(mut conn) = Connection::open_from(rt, path, true, Unknown) else {
+        return Err(Fail::new("the file was not opened"));
+    };
+    let mut are_done = true;
+    for statement in statements {
+        are_done &= conn.execute(statement, &[]).is_ok();
+    }
+    Ok(conn.close().is_ok() && are_done)
+}
+
+/// A file of edition 1 is opened, served and closed, again and again.
+#[test]
+fn a_file_of_edition_one(rt: HostRuntime) -> Result<(), Fail> {
+    make_folder(&rt, "xq_server_edition_one")?;
+    let path = "xq_server_edition_one/x.db";
+    assert!(rt; make_file(&rt, path, &EDITION_ONE)?);
+    let rows: [((u8, &[u8]), (u8, &[u8])); 5] = [
+        ((b'Q', b"doc(\"b\")"), (0, LIBRARY)),
+        ((b'S', b"\x01adoc(\"b\")"), (0, b"stored")),
+        ((b'Q', b"doc(\"a\")"), (0, LIBRARY)),
+        ((b'D', b"b"), (0, b"dropped")),
+        ((b'L', b""), (0, b"\"a\"")),
+    ];
+    for (request, wanted) in rows {
+        assert!(rt; ask_file(&rt, path, request, wanted)?);
+    }
+    fs::remove_dir_all(&rt, "xq_server_edition_one")?;
     Ok(())
 }
 
