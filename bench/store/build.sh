@@ -1,13 +1,13 @@
 #!/usr/bin/env bash
 # Builds the program that times a store, and prints its path.
 #
-#   bench/store/build.sh FOLDER
+#   bench/store/build.sh FOLDER [CLONE]     over the crates of CLONE, where one is named
 #
 # The program cannot stand among the crates, since what it prints is another each time. So it is
 # built in a workspace of its own, over copies of the crates with what is built of them.
 set -eu
 here=$(cd "$(dirname "$0")" && pwd)
-top=$(cd "$here/../.." && pwd)
+top=$(cd "${2:-$here/../..}" && pwd)
 work=$1
 mkdir -p "$work/crates/bench/src"
 for name in xq_atoms xq_regions xq_sources xq_memory_disk xq_rows; do
