@@ -9,6 +9,7 @@ is well.
 """
 import os
 import pathlib
+import random
 import resource
 import shutil
 import sqlite3
@@ -197,6 +198,59 @@ def carried_over(program, folder):
         check("  the input ends", again.end(), (0, ""))
 
 
+# The rows of the document under `b`.
+ROWS = ("SELECT pre, size, level, kind, name, value FROM node2 INNER JOIN label ON label = id "
+        "WHERE address = 'b' ORDER BY pre")
+
+
+def element(chance):
+    """An element, which may have an attribute and a text."""
+    parts = chance.choice(("", 'attribute id {"%d"}')), chance.choice(("", 'text {"%d"}'))
+    content = ", ".join(part % chance.randrange(3) for part in parts if part)
+    return "element %s {%s}" % (chance.choice("abc"), content)
+
+
+def edit(chance, elements):
+    """Changes one element, puts one in, takes one out, moves one, or changes them all."""
+    at = chance.randrange(len(elements) + 1)
+    what = chance.randrange(5)
+    if what == 0:
+        elements[at:at + 1] = [element(chance)]
+    elif what == 1:
+        elements.insert(at, element(chance))
+    elif what == 2:
+        elements[at:at + 1] = []
+    elif what == 3 and elements:
+        elements.insert(at, elements.pop())
+    elif what == 4:
+        elements[:] = [element(chance) for _ in range(10)]
+
+
+def edited(program, folder):
+    """Documents that are put one over the other leave the rows that the last leaves in a new file,
+    also where the server was started in between, so that none of its rows are kept."""
+    for seed in range(6):
+        chance = random.Random(seed)
+        path, fresh = folder / ("edited%d.db" % seed), folder / ("fresh%d.db" % seed)
+        elements = [element(chance) for _ in range(600 if seed == 0 else 20)]
+        server = Server([program, "--file", path])
+        for _ in range(12):
+            text = ("document {%s}" % ", ".join(elements)).encode()
+            server.ask(b"S", store(b"b", text))
+            if chance.randrange(3) == 0:
+                server.end()
+                server = Server([program, "--file", path])
+                server.ask(b"Q", chance.choice((b"()", b'name(doc("b")/*[1])')))
+            edit(chance, elements)
+        server.end()
+        other = Server([program, "--file", fresh])
+        check("edits leave what the last document leaves: stored",
+              other.ask(b"S", store(b"b", text)), (0, b"stored"))
+        other.end()
+        check("  the rows", rows_of(path, ROWS) == rows_of(fresh, ROWS), True)
+        check("  sqlite3 finds the file sound", rows_of(path, "PRAGMA integrity_check"), [("ok",)])
+
+
 def names_of_files(program, folder):
     """PATH is taken as it stands; the engine can't open two kinds of names, and makes no file for
     them."""
@@ -296,6 +350,7 @@ def main():
         bad_files(program, folder, path)
         carried_over(program, folder)
         other_orders(program, folder)
+        edited(program, folder)
         names_of_files(program, folder)
         full_disk(program, folder)
         if shutil.which("sqlite3"):

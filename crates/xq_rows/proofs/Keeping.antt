@@ -1,7 +1,8 @@
 -- What a store keeps, over what it does to its connection.
-use Rattle.std.proofs.Common.{◌≡◌, ◌≤◌, ℕ, suc, List, [], ◌∷◌, length, String, Global, Option, Some, None, rc_value, Bool, false, Result, Ok, Err, OnOk, IfOk, IfSome, IsTrue, map, string_bytes, refl, sym, ap, subst, ◌∙◌, arith}
+use Rattle.std.proofs.Common.{◌≡◌, ◌≤◌, inl, inr, ℕ, suc, List, [], ◌∷◌, length, String, Global, Option, Some, None, rc_value, Bool, false, Result, Ok, Err, OnOk, IfOk, IfSome, IsTrue, map, string_bytes, refl, sym, ap, subst, ◌∙◌, arith}
 use Rattle.std.specs.FinMap.{keys}
 use Rattle.sqlite_trees.specs.View.{doubt}
+use Rattle.sqlite_value.specs.Order.{Row}
 use Rattle.sqlite_trees.specs.declared.store.Store.{Ghosts}
 use Rattle.sqlite.specs.Held.{Held, state}
 use Rattle.sqlite.specs.State.{HasCleanDisk}
@@ -12,8 +13,8 @@ use Rattle.xq_rows.specs.Labels.{shown_rows, IsStoreSchema}
 use Rattle.xq_rows.specs.Views.{Beginning, HeldDocuments, StoodFor, Viewed, beginning, trees_under}
 use Rattle.xq_rows.specs.private.Keeps.{AreOf, IsKeeping, IsKept, Keeps, KeepsShelf, LeavesAlone, StaysOutside}
 use Rattle.xq_rows.specs.declared.shelves.Front.{Front}
-use Rattle.xq_rows.specs.private.Shelves.{AreFronts, HasDropped as ShelfHasDropped, HasPut, IsFront, IsShelved}
-use Rattle.xq_rows.specs.private.Statements.{Deletes, IsEmptyStore, Puts}
+use Rattle.xq_rows.specs.private.Shelves.{AreFronts, AreKeptOf, HasDropped as ShelfHasDropped, HasPut, IsFront, IsShelved}
+use Rattle.xq_rows.specs.private.Statements.{AreThere, Deletes, IsEmptyStore, Puts, PutsOver}
 use Rattle.xq_rows.specs.Nodes.{cells}
 use Rattle.xq_atoms.specs.Address.{IsAddress}
 use Rattle.xq_regions.specs.Rows.{Encodes, placed, placed_rows}
@@ -21,7 +22,8 @@ use Rattle.xq_regions.specs.declared.NodeRow.{NodeRow}
 use Rattle.xq_rows.proofs.Calls.{encoded}
 use Rattle.sqlite.specs.Effect.{Database}
 use Rattle.xq_rows.proofs.Maps.{no_keys, store_drops, store_puts}
-use Rattle.xq_rows.proofs.Shelving.{kept_drop, kept_put}
+use Rattle.xq_rows.proofs.Renewals.{none_there}
+use Rattle.xq_rows.proofs.Shelving.{front_there, kept_drop, kept_put}
 
 -- a shelf without an address
 pub empty_of : (db : Database) (shelf : Shelf) → IsEmptyStore db → (shelf.addresses.value ≡ []) × (shelf.fronts.items ≡ []) → AreOf db shelf.addresses.value shelf.fronts.items
@@ -72,6 +74,18 @@ module _ {S : Type 0} (g : Ghosts S) where
         let e = alone.same ready held.0.sound.schema in
         (subst IsStore (sym e) held.0, ap (λ db. documents_in (shown_rows db)) e ∙ held.1)
 
+  -- # What is kept of a document
+
+  kept_there : (conn : Held S) (shelf : Option Shelf) → IsKeeping g conn shelf → (a : List ℕ) (rows : List NodeRow) → AreKeptOf shelf a rows → IsReady (state g conn) → AreThere a 0 (length rows) rows (state g conn).now
+  kept_there conn None keeping a rows none ready = subst (λ l. AreThere a 0 (length l) l (state g conn).now) (sym none) (none_there a (state g conn).now (keeping.holds ready))
+  kept_there conn (Some shelf) keeping a rows found ready =
+      let db = (state g conn).now in
+      let store = keeping.holds ready in
+      elim found.1 [
+        | inl it ↦ subst (λ l. AreThere a 0 (length l) l db) (sym it.1) (front_there db store shelf.addresses.value shelf.fronts.items (keeping.keeps ready) found.0 a it.0)
+        | inr it ↦ subst (λ l. AreThere a 0 (length l) l db) (sym it.1) (none_there a db store)
+      ]
+
   -- # What is true of a store, after a call
 
   module _ (conn new : Held S) (stays : StaysOutside g conn new) (shelf : Option Shelf) (keeping : IsKeeping g conn shelf) where
@@ -93,6 +107,11 @@ module _ {S : Type 0} (g : Ghosts S) where
 
       pub goes_on : IsKeeping g new shelf
       goes_on = record { outside = stays.mode; holds = holds_on; keeps = keeps_on shelf keeping.keeps }
+
+    -- a put looked at the rows that were kept
+    pub puts_over : (a : List ℕ) (kept : List NodeRow) → AreKeptOf shelf a kept → (rows : List Row) (replaced : Bool) → (IsReady (state g new) → PutsOver a kept rows (state g conn).now (state g new).now replaced)
+        → IsReady (state g new) → Puts a rows (state g conn).now (state g new).now replaced
+    puts_over a kept are rows replaced did ready = (let was = early ready in did ready (kept_there g conn shelf keeping a kept are was))
 
     -- a document was put
     pub has_put : (a : List ℕ) → IsAddress a → (t : Tree) → IsDocument t → (rows : List NodeRow) → Encodes rows t → (replaced : Bool) → (IsReady (state g new) → Puts a (map cells (map placed rows)) (state g conn).now (state g new).now replaced)

@@ -136,7 +136,3 @@ above_read_is db a v given list shown read store =
     let same = read ∙ all_six (filter (λ r. is_at a r && is_above v r) (shown_rows db)) given it.same in
     subst (IsPicked (λ r. is_at a r && is_above v r) node_columns (shown_rows db)) (sym same) it
 
-pub above_read : {X E : Type 0} (db : Database) (a : List ℕ) (v : ℕ) (given : List Row) (list : X → List NodeRow) (r : Result X E) → AreAbove a v db given
-    → IfOk r (λ nodes. map cells (map placed (list nodes)) ≡ map node_of given) → IfOk r (λ nodes. AreAbove a v db (map cells (map placed (list nodes))))
-above_read db a v given list (Err e) shown read = tt
-above_read db a v given list (Ok some) shown read = above_read_is db a v given (list some) shown read

@@ -4,7 +4,8 @@ use Rattle.std.specs.Prelude.{slice_get, option_map}
 use Rattle.std.specs.Ordering.{is_ge, is_lt}
 use Rattle.std.specs.List.{AllByRecursion, enumerate_from, slice_range}
 use Rattle.std.specs.List.Sorted.{IsPermutation}
-use Rattle.std.proofs.lemmas.List.{map-append, take_all, take_more}
+use Rattle.std.proofs.lemmas.Option.{slice_get-map}
+use Rattle.std.proofs.lemmas.List.{length-map, length-take-le, map-append, take-map, take-take, take_all, take_more}
 use Rattle.std.proofs.lemmas.List.Elements.{filter-append}
 use Rattle.std.proofs.lemmas.List.Sorted.{IsPermutation-refl, IsPermutation-trans, IsPermutation-sym, IsPermutation-cons, IsPermutation-middle, IsPermutation-append_left, length_permutation}
 use Rattle.sqlite_value.specs.Order.{Row, column, value_cmp}
@@ -14,16 +15,17 @@ use Rattle.sqlite_keyed.proofs.SortLemmas.{sorted_unique}
 use Rattle.sqlite.specs.Effect.{Database}
 use Rattle.sqlite.specs.State.{State}
 use Rattle.sqlite.proofs.Callers.{one_permutation}
-use Rattle.xq_regions.specs.Rows.{Row as Node, rows as rows_of, placed, AreNumbered}
+use Rattle.xq_regions.specs.Rows.{Row as Node, rows as rows_of, placed, placed_rows, AreNumbered}
+use Rattle.xq_regions.specs.Tree.{Tree}
 use Rattle.xq_regions.specs.declared.NodeRow.{NodeRow}
 use Rattle.xq_rows.specs.Documents.{is_at, node_columns, rows_at, by_first, HasAddress, IsSound, IsStore}
 use Rattle.xq_rows.specs.Labels.{label_rows, shown_rows, IsNumberOf, IsStoreSchema}
 use Rattle.xq_rows.specs.Nodes.{cells}
 use Rattle.xq_rows.specs.private.Columns.{node_of}
-use Rattle.xq_rows.specs.private.Statements.{is_between, is_from, is_part, AddsNamed, AreNumbers, HasAdded, HasDropped, HasRenewed, IsPicked, LiesAs, RenewsPart, RenewsRow, RunsFrom, UpdatesNamed}
+use Rattle.xq_rows.specs.private.Statements.{is_between, is_from, is_part, AddsNamed, AreNumbers, HasAdded, HasDropped, AreThere, HasRenewed, IsPicked, LiesAs, RenewsPart, RenewsRow, RenewsRows, RunsFrom, UpdatesNamed}
 use Rattle.xq_rows.proofs.Lists.{both_filters, same_test}
 use Rattle.xq_rows.proofs.Orders.{first_total, numbers_rise}
-use Rattle.xq_rows.proofs.Parts.{all_pass, from_before, new_before, none_pass, number_before, number_from, outside, rows_beside, rows_without, renew_more, take_then, IsAt, IsReplaced}
+use Rattle.xq_rows.proofs.Parts.{all_pass, from_before, new_before, none_pass, number_before, number_from, nothing_yet, outside, rows_beside, rows_without, renew_more, take_then, IsReplaced}
 use Rattle.xq_rows.proofs.Ranges.{picks}
 
 -- # The numbers of rows
@@ -156,23 +158,25 @@ module _ (a : List ℕ) (low : ℕ) (nodes : List Node) (db : Database) (runs : 
       let all = passing (is_between p (p + 1)) (between_from low p (p + 1) (omega (arith, e))) in
       only_these p (slice_get nodes i) (filter (is_between p (p + 1)) mine) (subst (λ l. IsPermutation l (filter (is_between p (p + 1)) mine)) (under_number i low p nodes e) (IsPermutation-sym _ _ all))
 
-  module _ (n high : ℕ) (size : high ≡ low + n) (there : List Row) (picked : IsPicked (is_part a low high) node_columns (shown_rows db) there) where
+  module _ (n high : ℕ) (size : high ≡ low + n) where
     all_within : IsPermutation (filter (is_between low high) mine) (map cells (enumerate_from low (take n nodes)))
     all_within = subst (IsPermutation (filter (is_between low high) mine)) (within_numbered n low low high nodes (omega arith) size) (passing (is_between low high) (between_from low low high (omega arith)))
 
-    read_is : there ≡ map cells (enumerate_from low (take n nodes))
-    read_is =
-        let some : IsPermutation (filter (is_between low high) mine) there = subst (λ l. IsPermutation l there) (picks (is_at a) (is_between low high) (shown_rows db)) picked.same in
-        sorted_unique by_first first_total (map cells (enumerate_from low (take n nodes))) there (numbers_rise low (take n nodes)) (IsPermutation-trans _ _ _ (IsPermutation-sym _ _ all_within) some) picked.sorted
+    -- what is read of them
+    read_is : (read : List Row) → IsPicked (is_part a low high) node_columns (shown_rows db) read → read ≡ map cells (enumerate_from low (take n nodes))
+    read_is read picked =
+        let some : IsPermutation (filter (is_between low high) mine) read = subst (λ l. IsPermutation l read) (picks (is_at a) (is_between low high) (shown_rows db)) picked.same in
+        sorted_unique by_first first_total (map cells (enumerate_from low (take n nodes))) read (numbers_rise low (take n nodes)) (IsPermutation-trans _ _ _ (IsPermutation-sym _ _ all_within) some) picked.sorted
 
-    -- each row that was read lies under its number, and none lies where none was read
-    pub each_lies : (i p : ℕ) → i < n → p ≡ low + i → LiesAs a p (slice_get there i) db
-    each_lies i p h e =
-        subst (λ o. LiesAs a p o db) (sym (ap (λ l. slice_get l i) read_is ∙ got i n low p nodes h e)) (lies_one a p (slice_get nodes i) db (under i p e))
+    module _ (there : List NodeRow) (are : map cells (map placed there) ≡ map cells (enumerate_from low (take n nodes))) where
+      -- each lies under its number, and none lies beyond them
+      each_lies : (i p : ℕ) → i < n → p ≡ low + i → LiesAs a p (slice_get (map cells (map placed there)) i) db
+      each_lies i p h e =
+          subst (λ o. LiesAs a p o db) (sym (ap (λ l. slice_get l i) are ∙ got i n low p nodes h e)) (lies_one a p (slice_get nodes i) db (under i p e))
 
-    -- they are so many
-    pub so_many : length there ≡ length (filter (is_between low high) mine)
-    so_many = ap length read_is ∙ length_permutation _ _ all_within
+      -- they are so many
+      so_many : length there ≡ length (filter (is_between low high) mine)
+      so_many = sym (length-map (map placed there) cells ∙ length-map there placed) ∙ ap length are ∙ length_permutation _ _ all_within
 
 -- # Rows that stay, or give way to others
 
@@ -183,6 +187,13 @@ parts_of p (x ∷ xs) = go (p x) (parts_of p xs)
     go : (b : Bool) → IsPermutation (filter (λ y. not (p y)) xs ++ filter p xs) xs → IsPermutation (cond (not b) (x ∷ filter (λ y. not (p y)) xs) (filter (λ y. not (p y)) xs) ++ cond b (x ∷ filter p xs) (filter p xs)) (x ∷ xs)
     go true h = IsPermutation-trans _ _ _ (IsPermutation-middle (filter (λ y. not (p y)) xs) x (filter p xs)) (IsPermutation-cons x _ _ h)
     go false h = IsPermutation-cons x _ _ h
+
+-- a node among others as a row
+pub one_shown : (rows : List NodeRow) (i : ℕ) (row : NodeRow) → slice_get rows i ≡ Some row → slice_get (map cells (map placed rows)) i ≡ Some (cells (placed row))
+one_shown rows i row e = slice_get-map cells (map placed rows) i ∙ ap (option_map cells) (slice_get-map placed rows i ∙ ap (option_map placed) e)
+
+pub none_shown : (rows : List NodeRow) (i : ℕ) → slice_get rows i ≡ None → slice_get (map cells (map placed rows)) i ≡ None
+none_shown rows i e = slice_get-map cells (map placed rows) i ∙ ap (option_map cells) (slice_get-map placed rows i ∙ ap (option_map placed) e)
 
 -- the row that is to stand there is there
 pub stays : (a : List ℕ) (p : ℕ) (row : Row) (db : Database) → IsSound db → LiesAs a p (Some row) db → HasRenewed a p (p + 1) (row ∷ []) db db
@@ -227,10 +238,8 @@ updated_row a n o there before after old new (Err e) some it = tt
 updated_row a n o there before after old new (Ok x) some it = subst (λ o. RenewsRow a n o before after old new) (sym some) (it there)
 
 -- and so does one that is the same
-pub stays_row : (a : List ℕ) (n : ℕ × Node) (there : Row) (names : List (String Global × ℕ)) (db : Database) → node_of there ≡ cells n → RenewsRow a n (Some there) names names db db
-stays_row a n there names db same sound all lies =
-    let is : there ≡ cells n = lies.2 ∙ sym (ap node_of lies.2) ∙ same in
-    (subst (λ row. HasRenewed a n.0 (n.0 + 1) (row ∷ []) db db) is (stays a n.0 there db sound lies), all)
+pub stays_row : (a : List ℕ) (n : ℕ × Node) (o : Option Row) (names : List (String Global × ℕ)) (db : Database) → o ≡ Some (cells n) → RenewsRow a n o names names db db
+stays_row a n o names db some sound all lies = (stays a n.0 (cells n) db sound (subst (λ o. LiesAs a n.0 o db) some lies), all)
 
 -- some were taken out, and others were added
 pub exchanged : (a : List ℕ) (j k : ℕ) (rows : List Row) (old mid new : Database) → HasDropped (is_part a j k) old mid → HasAdded a rows mid new → HasRenewed a j k rows old new
@@ -292,11 +301,11 @@ still_lies a low p xs o old now below it = moved_on a p o old now same
     same : IsPermutation (filter (is_between p (p + 1)) all) (filter (is_between p (p + 1)) (rows_at a (shown_rows now)))
     same = subst (λ l. IsPermutation l (filter (is_between p (p + 1)) (rows_at a (shown_rows now)))) left (IsPermutation-filter (is_between p (p + 1)) _ _ it.own)
 
--- # A part, row by row
+-- # Rows, one by one
 
--- so many rows have come to stand from low on
-abbrev pub IsRenewed : List ℕ → ℕ → List NodeRow → ℕ → List (String Global × ℕ) → List (String Global × ℕ) → Database → Database → Type 0
-IsRenewed a low rows i before after old now = IsSound old → AreNumbers (label_rows old) before → (nodes : List Node) → RunsFrom a low nodes old
+-- the first so many have come to stand where those others were
+abbrev pub IsRenewed : List ℕ → List NodeRow → List NodeRow → ℕ → List (String Global × ℕ) → List (String Global × ℕ) → Database → Database → Type 0
+IsRenewed a there rows i before after old now = (low : ℕ) → AreNumbered low rows → IsSound old → AreNumbers (label_rows old) before → AreThere a low (length rows) there old
     → HasRenewed a low (low + i) (map cells (map placed (take i rows))) old now × AreNumbers (label_rows now) after
 
 numbered_at : (low i : ℕ) (rows : List NodeRow) (row : NodeRow) → AreNumbered low rows → i < length rows → row ≡ get_or rows i row → row.pre ≡ low + i
@@ -305,8 +314,8 @@ numbered_at low zero (r ∷ rows) row all h is = (let e : low ≡ low + 0 = omeg
 numbered_at low (suc i) (r ∷ rows) row all h is = (let e : suc low + i ≡ low + suc i = omega arith in numbered_at (suc low) i rows row all.1 (omega (arith, h)) is ∙ e)
 
 -- none has
-pub none_renewed : (a : List ℕ) (low : ℕ) (rows : List NodeRow) (names : List (String Global × ℕ)) (old now : Database) → now ≡ old → IsRenewed a low rows 0 names names old now
-none_renewed a low rows names old now same sound all nodes runs = subst (λ db. HasRenewed a low (low + 0) [] old db × AreNumbers (label_rows db) names) (sym same) (
+pub none_renewed : (a : List ℕ) (there rows : List NodeRow) (names : List (String Global × ℕ)) (db : Database) → IsRenewed a there rows 0 names names db db
+none_renewed a there rows names db low numbered sound all are = (
   record {
     sound = sound;
     layout = refl;
@@ -319,7 +328,7 @@ none_renewed a low rows names old now same sound all nodes runs = subst (λ db. 
 )
   where
     rows_there : List Row
-    rows_there = rows_at a (shown_rows old)
+    rows_there = rows_at a (shown_rows db)
 
     neither : (b : Bool) → not (b && not b) ≡ true
     neither true = refl
@@ -333,17 +342,18 @@ none_renewed a low rows names old now same sound all nodes runs = subst (λ db. 
     all_out (x ∷ xs) = (out x, all_out xs)
 
 -- and one more
-pub one_renewed : (a : List ℕ) (low high i : ℕ) (rows : List NodeRow) (row : NodeRow) (there : List Row) (before mid after : List (String Global × ℕ)) (old now new : Database) → AreNumbered low rows → i < length rows → high ≡ low + length rows
-    → row ≡ get_or rows i row → (IsStoreSchema old.schema → IsPicked (is_part a low high) node_columns (shown_rows old) there) → IsRenewed a low rows i before mid old now → RenewsRow a (placed row) (slice_get there i) mid after now new → IsRenewed a low rows (i + 1) before after old new
-one_renewed a low high i rows row there before mid after old now new numbered h size is read so_far step sound all nodes runs =
+pub one_renewed : (a : List ℕ) (i : ℕ) (there rows : List NodeRow) (row : NodeRow) (before mid after : List (String Global × ℕ)) (old now new : Database) → i < length rows → row ≡ get_or rows i row
+    → IsRenewed a there rows i before mid old now → RenewsRow a (placed row) (slice_get (map cells (map placed there)) i) mid after now new → IsRenewed a there rows (i + 1) before after old new
+one_renewed a i there rows row before mid after old now new h is so_far step low numbered sound all are =
     let p = low + i in
     let xs = map cells (map placed (take i rows)) in
-    let done = so_far sound all nodes runs in
+    let o = slice_get (map cells (map placed there)) i in
+    let done = so_far low numbered sound all are in
     let own : row.pre ≡ p = numbered_at low i rows row numbered h is in
     let below : AllByRecursion (λ x. is_from p x ≡ false) xs = new_before low i rows numbered in
-    let first = each_lies a low nodes old runs (length rows) high size there (read sound.schema) i p h refl in
-    let lies = still_lies a low p xs (slice_get there i) old now below done.0 first in
-    let one = step done.0.sound done.1 (subst (λ n. LiesAs a n (slice_get there i) now) (sym own) lies) in
+    let first = each_lies a low are.0 old are.1 (length rows) (low + length rows) refl there are.2 i p h refl in
+    let lies = still_lies a low p xs o old now below done.0 first in
+    let one = step done.0.sound done.1 (subst (λ n. LiesAs a n o now) (sym own) lies) in
     let here : HasRenewed a p (p + 1) (cells (placed row) ∷ []) now new = subst (λ n. HasRenewed a n (n + 1) (cells (placed row) ∷ []) now new) own one.0 in
     let more = renewed_then a low p (p + 1) xs (cells (placed row) ∷ []) old now new (omega arith) (omega arith) below done.0 here in
     let joined : xs ++ cells (placed row) ∷ [] ≡ map cells (map placed (take (i + 1) rows)) =
@@ -351,20 +361,30 @@ one_renewed a low high i rows row there before mid after old now new numbered h 
     let next : p + 1 ≡ low + (i + 1) = omega arith in
     (subst₂ (λ k l. HasRenewed a low k l old new) next joined more, one.1)
 
--- then the part is
-pub part_renewed : (a : List ℕ) (low high count i : ℕ) (rows : List NodeRow) (there : List Row) (before after : List (String Global × ℕ)) (old now : Database) → high ≡ low + length rows
-    → (IsStoreSchema old.schema → IsPicked (is_part a low high) node_columns (shown_rows old) there)
-    → i ≡ length rows → IsRenewed a low rows i before after old now → count ≡ length there → RenewsPart a low (low + length rows) (map cells (map placed rows)) before after old now count
-part_renewed a low high count i rows there before after old now size read all_done done counted sound all nodes runs =
-    let it = done sound all nodes runs in
+-- then all have
+pub rows_renewed : (a : List ℕ) (i : ℕ) (there rows : List NodeRow) (before after : List (String Global × ℕ)) (old now : Database) → i ≡ length rows → IsRenewed a there rows i before after old now → RenewsRows a there rows before after old now
+rows_renewed a i there rows before after old now all_done done low numbered sound all are =
+    let it = done low numbered sound all are in
     let whole : take i rows ≡ rows = take_all i rows (omega (arith, all_done)) in
-    let last : low + i ≡ low + length rows = omega (arith, all_done) in (
-      subst₂ (λ k l. HasRenewed a low k (map cells (map placed l)) old now) last whole it.0,
-      it.1,
-      counted ∙ so_many a low nodes old runs (length rows) high size there (read sound.schema) ∙ ap (λ k. length (filter (is_between low k) (rows_at a (shown_rows old)))) size,
-    )
+    let last : low + i ≡ low + length rows = omega (arith, all_done) in
+    (subst₂ (λ k l. HasRenewed a low k (map cells (map placed l)) old now) last whole it.0, it.1)
 
--- # A document, part by part
+-- # A part that is read
+
+columns_of : (ns : List (ℕ × Node)) → map node_of (map cells ns) ≡ map cells ns
+columns_of [] = refl
+columns_of (n ∷ ns) = ap (λ l. cells n ∷ l) (columns_of ns)
+
+pub part_renewed : (a : List ℕ) (low high count : ℕ) (rows there : List NodeRow) (read : List Row) (before after : List (String Global × ℕ)) (old began now : Database) → AreNumbered low rows → high ≡ low + length rows → began ≡ old
+    → (IsStoreSchema old.schema → IsPicked (is_part a low high) node_columns (shown_rows old) read) → map cells (map placed there) ≡ map node_of read
+    → RenewsRows a there rows before after began now → count ≡ length there → RenewsPart a low (low + length rows) (map cells (map placed rows)) before after old now count
+part_renewed a low high count rows there read before after old began now numbered size stays picked same renews counted sound all nodes runs =
+    let were = read_is a low nodes old runs (length rows) high size read (picked sound.schema) in
+    let are : map cells (map placed there) ≡ map cells (enumerate_from low (take (length rows) nodes)) = same ∙ ap (map node_of) were ∙ columns_of _ in
+    let done = subst (λ db. RenewsRows a there rows before after db now) stays renews low numbered sound all (nodes, runs, are) in
+    (done.0, done.1, counted ∙ so_many a low nodes old runs (length rows) (low + length rows) refl there are)
+
+-- # The first rows of a document
 
 -- the rows of an address are those of nodes that are numbered from 0 on
 listed : (a : List ℕ) (db : Database) → IsStore db → (nodes : List Node) × IsPermutation (rows_at a (shown_rows db)) (map cells (enumerate_from 0 nodes))
@@ -372,6 +392,32 @@ listed a db store = elim (store.whole a) [
   | inl none ↦ ([], subst (λ l. IsPermutation l []) (sym none) (IsPermutation-refl []))
   | inr some ↦ (rows_of some.tree, some.same)
 ]
+
+-- those from 0 on are all
+all_run : (a : List ℕ) (nodes : List Node) (db : Database) → IsPermutation (rows_at a (shown_rows db)) (map cells (enumerate_from 0 nodes)) → RunsFrom a 0 nodes db
+all_run a nodes db same = subst (IsPermutation (filter (is_from 0) (rows_at a (shown_rows db)))) (from_numbered 0 0 0 nodes refl) (IsPermutation-filter (is_from 0) _ _ same)
+
+some_numbered : (n k : ℕ) (nodes : List Node) → take n (enumerate_from k nodes) ≡ enumerate_from k (take n nodes)
+some_numbered zero k nodes = refl
+some_numbered (suc n) k [] = refl
+some_numbered (suc n) k (x ∷ nodes) = ap (λ l. (k, x) ∷ l) (some_numbered n (k + 1) nodes)
+
+pub first_there : (a : List ℕ) (t : Tree) (rows : List NodeRow) (db : Database) → IsPermutation (rows_at a (shown_rows db)) (map cells (placed_rows t)) → map placed rows ≡ take (length rows) (placed_rows t) → AreThere a 0 (length rows) rows db
+first_there a t rows db same first = (rows_of t, all_run a (rows_of t) db same, ap (map cells) (first ∙ some_numbered (length rows) 0 (rows_of t)))
+
+-- none is a first part as well
+pub none_there : (a : List ℕ) (db : Database) → IsStore db → AreThere a 0 0 [] db
+none_there a db store = (let whole = listed a db store in (whole.0, all_run a whole.0 db whole.1, refl))
+
+-- and some of the first
+some_there : (a : List ℕ) (i n : ℕ) (rows : List NodeRow) (db : Database) → i ≤ n → AreThere a 0 n rows db → AreThere a 0 i (take i rows) db
+some_there a i n rows db h are = (
+  are.0,
+  are.1,
+  ap (map cells) (sym (take-map placed i rows)) ∙ sym (take-map cells i (map placed rows)) ∙ ap (take i) are.2 ∙ take-map cells i (enumerate_from 0 (take n are.0)) ∙ ap (map cells) (some_numbered i 0 (take n are.0) ∙ ap (enumerate_from 0) (take-take i n are.0 h)),
+)
+
+-- # A document, part by part
 
 -- those that have not given way yet are numbered without a gap
 pub runs_on : (a : List ℕ) (k deleted : ℕ) (added : List Row) (old now : Database) → IsStore old → AllByRecursion (λ x. is_from k x ≡ false) added → IsReplaced a k deleted added old now → (nodes : List Node) × RunsFrom a k nodes now
@@ -385,15 +431,16 @@ runs_on a k deleted added old now store below it =
     let are : IsPermutation (filter (is_from k) all) (map cells (enumerate_from k (drop k whole.0))) = subst (IsPermutation (filter (is_from k) all)) (from_numbered k 0 k whole.0 zero_more) (IsPermutation-filter (is_from k) _ _ whole.1) in
     (drop k whole.0, IsPermutation-trans _ _ _ (IsPermutation-sym _ _ own) are)
 
+-- the first of rows that are numbered are so
+first_numbered : (k m : ℕ) (rs : List NodeRow) → AreNumbered m rs → AreNumbered m (take k rs)
+first_numbered zero m rs all = tt
+first_numbered (suc k) m [] all = tt
+first_numbered (suc k) m (r ∷ rs) all = (all.0, first_numbered k (suc m) rs all.1)
+
 -- a slice of rows that are numbered is numbered from its first on
 pub numbered_slice : (n at first stop : ℕ) (rows : List NodeRow) → first ≡ n + at → AreNumbered n rows → AreNumbered first (slice_range rows at stop)
-numbered_slice n at first stop rows is all = subst (λ k. AreNumbered k (slice_range rows at stop)) (let e : at + n ≡ first = omega (arith, is) in e) (taken (stop - at) (at + n) (drop at rows) (dropped at n rows all))
+numbered_slice n at first stop rows is all = subst (λ k. AreNumbered k (slice_range rows at stop)) (let e : at + n ≡ first = omega (arith, is) in e) (first_numbered (stop - at) (at + n) (drop at rows) (dropped at n rows all))
   where
-    taken : (k m : ℕ) (rs : List NodeRow) → AreNumbered m rs → AreNumbered m (take k rs)
-    taken zero m rs all = tt
-    taken (suc k) m [] all = tt
-    taken (suc k) m (r ∷ rs) all = (all.0, taken k (suc m) rs all.1)
-
     dropped : (k m : ℕ) (rs : List NodeRow) → AreNumbered m rs → AreNumbered (k + m) (drop k rs)
     dropped zero m rs all = subst (λ i. AreNumbered i rs) (let e : m ≡ zero + m = omega arith in e) all
     dropped (suc k) m [] all = tt
@@ -403,15 +450,36 @@ either_some : (m n : ℕ) → (nat_lt 0 m || nat_lt 0 n) ≡ nat_lt 0 (m + n)
 either_some zero n = ap (nat_lt 0) (omega arith)
 either_some (suc m) n = grind arith
 
+-- how far a put has come over the rows that are kept
+abbrev pub IsUpTo : List ℕ → List NodeRow → List NodeRow → ℕ → Bool → List (String Global × ℕ) → Database → Database → Type 0
+IsUpTo a kept rows at replaced names old now = AreThere a 0 (length kept) kept old → IsStore old
+    → ((deleted : ℕ) × (replaced ≡ nat_lt 0 deleted) × IsReplaced a at deleted (map cells (map placed (take at rows))) old now) × AreNumbers (label_rows now) names
+
+-- the first rows have given way
+pub first_part : (a : List ℕ) (kept rows : List NodeRow) (at : ℕ) (next : Bool) (before after : List (String Global × ℕ)) (old new : Database) → AreNumbered 0 rows → at ≤ length kept → at ≤ length rows → next ≡ nat_lt 0 at → before ≡ []
+    → RenewsRows a (take at kept) (take at rows) before after old new → IsUpTo a kept rows at next after old new
+first_part a kept rows at next before after old new numbered in_kept in_rows is none renews there store =
+    let are = some_there a at (length kept) kept old in_kept there in
+    let ours = take at rows in
+    let size : length ours ≡ at = length-take-le at rows in_rows in
+    let zero_more : 0 + at ≡ at = omega arith in
+    let done = renews 0 (first_numbered at 0 rows numbered) store.sound (subst (AreNumbers (label_rows old)) (sym none) tt) (subst (λ k. AreThere a 0 k (take at kept) old) (sym size) are) in
+    let here : HasRenewed a 0 at (map cells (map placed ours)) old new = subst (λ k. HasRenewed a 0 k (map cells (map placed ours)) old new) (let e : 0 + length ours ≡ at = omega (arith, size) in e) done.0 in
+    let many : at ≡ length (take at kept) = sym (length-take-le at kept in_kept) in
+    let counted : at ≡ length (filter (is_between 0 at) (rows_at a (shown_rows old))) = many ∙ so_many a 0 are.0 old are.1 at at (sym zero_more) (take at kept) are.2 in
+    let more = renew_more a 0 at 0 at [] (map cells (map placed ours)) old old new (omega arith) tt (nothing_yet a old store) here counted in
+    ((at, is, subst (λ n. IsReplaced a at n (map cells (map placed ours)) old new) zero_more more), done.1)
+
 -- one part more has given way
-pub part_more : (a : List ℕ) (rows : List NodeRow) (at stop count : ℕ) (replaced next : Bool) (before after : List (String Global × ℕ)) (old now new : Database) → AreNumbered 0 rows → at ≤ stop → next ≡ (replaced || nat_lt 0 count) → IsAt a rows at replaced old now
-    → (IsStore old → AreNumbers (label_rows now) before) → RenewsPart a at stop (map cells (map placed (slice_range rows at stop))) before after now new count → IsStore old → ((deleted : ℕ) × (next ≡ nat_lt 0 deleted) × IsReplaced a stop deleted (map cells (map placed (take stop rows))) old new) × AreNumbers (label_rows new) after
-part_more a rows at stop count replaced next before after old now new numbered forward is so_far names renews store =
-    let done = so_far store in
+pub part_more : (a : List ℕ) (kept rows : List NodeRow) (at stop count : ℕ) (replaced next : Bool) (before after : List (String Global × ℕ)) (old now new : Database) → AreNumbered 0 rows → at ≤ stop → next ≡ (replaced || nat_lt 0 count) → IsUpTo a kept rows at replaced before old now
+    → RenewsPart a at stop (map cells (map placed (slice_range rows at stop))) before after now new count → IsUpTo a kept rows stop next after old new
+part_more a kept rows at stop count replaced next before after old now new numbered forward is so_far renews there store =
+    let up = so_far there store in
+    let done = up.0 in
     let zero_more : 0 + at ≡ at = omega arith in
     let below = subst (λ k. AllByRecursion (λ x. is_from k x ≡ false) (map cells (map placed (take at rows)))) zero_more (new_before 0 at rows numbered) in
     let runs = runs_on a at done.0 (map cells (map placed (take at rows))) old now store below done.2 in
-    let part = renews done.2.sound (names store) runs.0 runs.1 in
+    let part = renews done.2.sound up.1 runs.0 runs.1 in
     let more = renew_more a at stop done.0 count (map cells (map placed (take at rows))) (map cells (map placed (slice_range rows at stop))) old now new forward below done.2 part.0 part.2 in
     let joined : map cells (map placed (take at rows)) ++ map cells (map placed (slice_range rows at stop)) ≡ map cells (map placed (take stop rows)) =
     sym (ap (λ l. map cells (map placed l)) (take_then at stop rows forward) ∙ ap (map cells) (map-append placed (take at rows) (slice_range rows at stop)) ∙ map-append cells (map placed (take at rows)) (map placed (slice_range rows at stop))) in

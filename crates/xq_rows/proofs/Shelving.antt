@@ -17,12 +17,14 @@ use Rattle.xq_rows.specs.Labels.{shown_rows}
 use Rattle.xq_rows.specs.declared.shelves.Front.{Front}
 use Rattle.xq_rows.specs.declared.shelves.Shelf.{Shelf}
 use Rattle.xq_rows.specs.private.Keeps.{AreOf}
-use Rattle.xq_rows.specs.private.Shelves.{AreFronts, HasDropped as ShelfHasDropped, HasPut, IsFront}
-use Rattle.xq_rows.specs.private.Statements.{HasDropped, HasReplaced}
+use Rattle.xq_rows.specs.private.Shelves.{AreFronts, HasDropped as ShelfHasDropped, HasPut, IsFront, front_at}
+use Rattle.xq_rows.specs.private.Statements.{AreThere, HasDropped, HasReplaced}
 use Rattle.xq_rows.proofs.Calls.{encoded}
 use Rattle.xq_rows.proofs.FrontLaws.{all-first}
 use Rattle.xq_rows.proofs.MapPlaces.{apart, apart_too, gap_apart, keys_drop_gap, keys_drop_there, keys_put_gap, keys_put_there, keys_rise}
-use Rattle.xq_rows.proofs.Maps.{dropped_map, own_tree, put_map, tree_stays_dropped, tree_stays_put}
+use Rattle.xq_rows.proofs.Keys.{get_at}
+use Rattle.xq_rows.proofs.Renewals.{first_there}
+use Rattle.xq_rows.proofs.Maps.{dropped_map, get-none, get-whole, own_tree, put_map, tree_stays_dropped, tree_stays_put}
 
 -- all rows of a tree
 pub whole_front : (t : Tree) (rows : List NodeRow) → Encodes rows t → IsFront t rows
@@ -72,7 +74,29 @@ module _ (f g : List ℕ → Tree) (a : List ℕ) (others : (b : List ℕ) → b
       let less = at_all (IsBefore k) ks i a up.0 here in
       (subst (λ t. IsFront t x.rows.items) (sym (others k (apart_too k a less))) are.0, fronts_remove ks fronts i up.1 here are.1)
 
+-- the front of an address
+own_front : (f : List ℕ → Tree) (ks : List (List ℕ)) (fronts : List Front) (i : ℕ) (a : List ℕ) → slice_get ks i ≡ Some a → AreFronts (map f ks) fronts → IsFront (f a) (front_at fronts i)
+own_front f [] fronts i a here are = absurd cc
+own_front f (k ∷ ks) [] i a here are = elim are [ ]
+own_front f (k ∷ ks) (x ∷ fronts) zero a here are =
+    let same : k ≡ a = subst (λ o. IfSome o (λ y. k ≡ y)) here refl in
+    subst (λ b. IsFront (f b) x.rows.items) same are.0
+own_front f (k ∷ ks) (x ∷ fronts) (suc i) a here are = own_front f ks fronts i a here are.1
+
 -- # The shelf
+
+-- what is kept of a document are its first rows
+pub front_there : (db : Database) → IsStore db → (addresses : List (List ℕ)) (fronts : List Front) → AreOf db addresses fronts → (i : ℕ) (a : List ℕ) → slice_get addresses i ≡ Some a → AreThere a 0 (length (front_at fronts i)) (front_at fronts i) db
+front_there db store addresses fronts of i a here =
+    let table = shown_rows db in
+    let first = own_front (tree_at table) addresses fronts i a here of.rows in
+    let found = get_at table store.named store.whole i a (ap (λ l. slice_get l i) (sym of.listed) ∙ here) in
+    elim (store.whole a) [
+      | inl none ↦ absurd (let e = sym found ∙ get-none table a store.named none in cc)
+      | inr some ↦
+          let same : tree_at table a ≡ some.tree = (let e = sym found ∙ get-whole table a some.tree store.named some.same in subst (λ o. IfSome o (λ t. tree_at table a ≡ t)) e refl) in
+          first_there a some.tree (front_at fronts i) db some.same (subst (λ t. IsFront t (front_at fronts i)) same first)
+    ]
 
 -- a document was put
 module _ (a : List ℕ) (good : IsAddress a) (t : Tree) (is : IsDocument t) (old new : Database) (put : HasReplaced a (map cells (placed_rows t)) old new) (was : IsStore old) where

@@ -9,7 +9,7 @@ ghost use Rattle.xq_rows.specs.private.Keeps.{LeavesAlone};
 ghost use Rattle.xq_rows.specs.private.Shelves.{AreFronts, AreListed, HasReached, IsFront, Reaches, front_at, run_of};
 ghost use Rattle.xq_sources.specs.Parents.{IsParentRow};
 
-use crate::shelves::{Front, Shelf, address_at};
+use crate::shelves::{Front, Shelf, address_at, front_of};
 use crate::stores::Store;
 use sqlite::Alter;
 use std::alloc::Global;
@@ -167,16 +167,6 @@ pub(crate) fn parent_of(shelf: &Shelf, tree: usize, node: u32) -> Option<u32>
 {
     let front = shelf.fronts.get(tree)?;
     front.guide.parent(front_of(&shelf.fronts, tree), node)
-}
-
-/// The rows of a tree that are kept.
-pub(crate) fn front_of(fronts: &[Front], tree: usize) -> &[NodeRow]
-    ensures { result.now ≡ front_at fronts.now tree }
-{
-    match fronts.get(tree) {
-        Some(front) => &front.rows,
-        None => &[],
-    }
 }
 
 /// The rows of a run that are kept.

@@ -2,7 +2,8 @@
 ghost use Rattle.std.specs.Prelude.{map};
 ghost use Rattle.xq_regions.specs.Rows.{placed};
 
-use crate::fronts::{NO_ROWS, Run, front_of, kept_rows, parent_of, read_on};
+use crate::fronts::{NO_ROWS, Run, kept_rows, parent_of, read_on};
+use crate::shelves::front_of;
 use crate::views::{Origin, View};
 use sqlite::Alter;
 use std::alloc::Global;

@@ -21,10 +21,10 @@ use xq_atoms::Want;
 use xq_regions::{Fragment, NodeRow};
 
 /// The nodes of rows.
-pub fn node_rows(alloc: Global, rows: &[Row]) -> Result<Vec<NodeRow>, Want>
+pub fn node_rows(alloc: Global, rows: &[Row]) -> Result<Vec<NodeRow>, Refusal>
     ensures { IfOk result (λ nodes. map cells (map placed nodes.items) ≡ map node_of rows.now) }
 {
-    let mut nodes = Vec::with_capacity(alloc, rows.len())?;
+    let mut nodes = Vec::new(alloc);
     for row in rows {
         nodes.push(node_row(row)?)?;
     }
@@ -92,7 +92,7 @@ pub fn nodes_above<S: Alter>(
         (map cells (map placed nodes.items))) }
 {
     let rows = rows_above(conn, address, node)?;
-    node_rows(alloc, &rows)
+    Ok(node_rows(alloc, &rows)?)
 }
 
 /// The document with these nodes, or None where there are none. Nodes that are those of no

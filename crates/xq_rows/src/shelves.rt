@@ -4,7 +4,7 @@ ghost use Rattle.std.specs.List.{insert, remove, slice_set as set};
 ghost use Rattle.xq_sources.specs.Addresses.{IsGap};
 ghost use Rattle.xq_regions.specs.Rows.{Encodes};
 ghost use Rattle.xq_regions.specs.Tree.{Tree};
-ghost use Rattle.xq_rows.specs.private.Shelves.{AreFronts, HasDropped, HasPut};
+ghost use Rattle.xq_rows.specs.private.Shelves.{AreFronts, AreKeptOf, HasDropped, HasPut, front_at};
 
 use std::alloc::Global;
 use std::rc::Rc;
@@ -68,6 +68,29 @@ pub(crate) fn time_of(shelf: &Option<Shelf>) -> u64 {
     match shelf {
         Some(shelf) => shelf.clock,
         None => 0,
+    }
+}
+
+/// The rows that are kept of the document of an address, which are its first.
+pub(crate) fn kept_of<'a>(shelf: &'a Option<Shelf>, address: &str) -> &'a [NodeRow]
+    ensures { AreKeptOf shelf.now address.now result.now }
+{
+    let Some(shelf) = shelf else {
+        return &[];
+    };
+    match shelf.addresses.search(address) {
+        Ok(place) => front_of(&shelf.fronts, place),
+        Err(_) => &[],
+    }
+}
+
+/// The rows of a document that are kept, by its place.
+pub(crate) fn front_of(fronts: &[Front], place: usize) -> &[NodeRow]
+    ensures { result.now ≡ front_at fronts.now place }
+{
+    match fronts.get(place) {
+        Some(front) => &front.rows,
+        None => &[],
     }
 }
 

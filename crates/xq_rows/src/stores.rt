@@ -29,7 +29,7 @@ use crate::listings::list_shelf;
 use crate::memory_files::open_empty;
 use crate::readings::{check_open, document_of, nodes_above, nodes_between};
 use crate::schemas::tables_in;
-use crate::shelves::{Front, Shelf, time_of};
+use crate::shelves::{Front, Shelf, kept_of, time_of};
 use crate::tables::make_tables;
 use crate::transactions::{drop_rows, put_rows};
 use sqlite::{Alter, Connection, FileStore, MemStore};
@@ -300,7 +300,8 @@ impl<S: Alter> Store<S> {
         ensures was_clean { IsClean S.Store self.new → IsClean S.Store self.old }
     {
         let kept = self.shelf.take();
-        let replaced = put_rows(self.alloc, &mut self.conn, address, document.rows())?;
+        let there = kept_of(&kept, address);
+        let replaced = put_rows(self.alloc, &mut self.conn, address, there, document.rows())?;
         self.shelf = shelf_with(kept, address, Front::new(self.alloc));
         Ok(Put::of(replaced))
     }
@@ -323,7 +324,8 @@ impl<S: Alter> Store<S> {
         ensures was_clean { IsClean S.Store self.new → IsClean S.Store self.old }
     {
         let others = self.shelf.take();
-        let replaced = put_rows(self.alloc, &mut self.conn, address, document.rows())?;
+        let there = kept_of(&others, address);
+        let replaced = put_rows(self.alloc, &mut self.conn, address, there, document.rows())?;
         let shelf = with_room(self.alloc, others, document.rows().len());
         let front = Front::whole(self.alloc, document, time_of(&shelf));
         self.shelf = shelf_with(shelf, address, front);

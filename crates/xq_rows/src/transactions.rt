@@ -5,7 +5,7 @@ ghost use Rattle.sqlite.specs.Held.{state};
 ghost use Rattle.xq_regions.specs.Rows.{AreNumbered, placed};
 ghost use Rattle.xq_rows.specs.Documents.{IsReady, is_at};
 ghost use Rattle.xq_rows.specs.Nodes.{cells};
-ghost use Rattle.xq_rows.specs.private.Statements.{Deletes, Puts};
+ghost use Rattle.xq_rows.specs.private.Statements.{Deletes, PutsOver};
 ghost use Rattle.xq_rows.specs.private.Keeps.{StaysOutside};
 ghost use Rattle.xq_regions.specs.Tree.{most_nodes};
 
@@ -35,11 +35,13 @@ pub fn drop_rows<S: Alter>(conn: &mut Connection<S>, address: &str) -> Result<us
     Ok(count)
 }
 
-/// Puts these rows in the place of those of the address, and says whether there were any.
+/// Puts these rows in the place of those of the address, of which the first are at hand as far as
+/// they are kept, and says whether there were any.
 pub fn put_rows<S: Alter>(
     alloc: Global,
     conn: &mut Connection<S>,
     address: &str,
+    kept: &[NodeRow],
     rows: &[NodeRow],
 ) -> Result<bool, Refusal>
     requires outside { conn.old.in_transaction ≡ false }
@@ -51,12 +53,12 @@ pub fn put_rows<S: Alter>(
     ensures kept { IsReady (state S.Store conn.new)
         → OnErr result ((state S.Store conn.new).now ≡ (state S.Store conn.old).now) }
     ensures put { IsReady (state S.Store conn.new)
-        → IfOk result (Puts address.now (map cells (map placed rows.now))
+        → IfOk result (PutsOver address.now kept.now (map cells (map placed rows.now))
         (state S.Store conn.old).now (state S.Store conn.new).now) }
 {
     let _settled = conn.is_autocommit();
     let mut transaction = conn.transaction();
-    let replaced = replace_rows(alloc, &mut transaction, address, rows)?;
+    let replaced = replace_rows(alloc, &mut transaction, address, kept, rows)?;
     transaction.commit()?;
     Ok(replaced)
 }

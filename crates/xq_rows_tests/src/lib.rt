@@ -16,6 +16,8 @@ mod dead_disk_tests;
 #[cfg(test)]
 mod documents;
 #[cfg(test)]
+mod edit_tests;
+#[cfg(test)]
 mod kept_tests;
 #[cfg(test)]
 mod label_tests;

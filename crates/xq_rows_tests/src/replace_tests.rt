@@ -73,7 +73,7 @@ fn document(alloc: Global, runs: Runs) -> Result<Fragment, Want> {
 }
 
 /// The rows of the tables as one text.
-fn shown<S: Alter>(alloc: Global, conn: &mut Connection<S>) -> Result<String, Fail> {
+pub fn shown<S: Alter>(alloc: Global, conn: &mut Connection<S>) -> Result<String, Fail> {
     let rows = conn.query_all(ROWS_AS_TEXT, &[])?;
     let mut text = String::new(alloc);
     for row in &rows {

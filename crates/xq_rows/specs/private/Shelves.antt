@@ -38,6 +38,14 @@ items_in (Some front) = front.rows.items
 abbrev pub front_at : List Front → ℕ → List NodeRow
 front_at fronts tree = items_in (slice_get fronts tree)
 
+-- the rows that are kept of the document of an address
+abbrev pub AreKeptOf : Option Shelf → List ℕ → List NodeRow → Type 0
+AreKeptOf None address rows = rows ≡ []
+AreKeptOf (Some shelf) address rows = (place : ℕ)
+    × (((slice_get shelf.addresses.value place ≡ Some address)
+    × (rows ≡ front_at shelf.fronts.items place))
+    ⊎ (IsGap shelf.addresses.value place address × (rows ≡ [])))
+
 -- those from low to high
 abbrev pub run_of : List NodeRow → ℕ → ℕ → List NodeRow
 run_of rows low high = take (high + 1 - low) (drop low rows)

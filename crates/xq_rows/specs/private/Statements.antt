@@ -1,5 +1,5 @@
 -- What each statement of the store does to the tables, or gives of them.
-use Rattle.std.specs.Prelude.{◌≡◌, ◌≢◌, ◌+◌, ◌++◌, ◌&&◌, not, ℕ, pos, Bool, true, List, [], ◌∷◌, map, filter, length, Option, Some, None, IsPermutation, IsSorted, nat_lt, nat_le, ◌⊎◌, IfSome, String, string_bytes}
+use Rattle.std.specs.Prelude.{◌≡◌, ◌≢◌, ◌+◌, ◌++◌, ◌&&◌, not, ℕ, pos, Bool, true, List, [], ◌∷◌, map, filter, length, take, Option, Some, None, IsPermutation, IsSorted, nat_lt, nat_le, ◌⊎◌, IfSome, String, string_bytes}
 use Rattle.std.specs.declared.alloc.Global.{Global}
 use Rattle.std.specs.Ordering.{is_ge, is_le, is_lt}
 use Rattle.std.specs.List.{AllByRecursion, enumerate_from}
@@ -12,7 +12,7 @@ use Rattle.sqlite.specs.Effect.{Database}
 use Rattle.sqlite.specs.State.{State, Shows}
 use Rattle.xq_atoms.specs.Address.{IsAddress}
 use Rattle.xq_regions.specs.Tree.{Tree}
-use Rattle.xq_regions.specs.Rows.{Encodes, Row as Node}
+use Rattle.xq_regions.specs.Rows.{AreNumbered, Encodes, placed, Row as Node}
 use Rattle.xq_regions.specs.declared.NodeRow.{NodeRow}
 use Rattle.xq_rows.specs.Documents.{is_at, is_first, node_columns, rows_at, by_first, HasAddress, IsSound, IsStore}
 use Rattle.xq_rows.specs.Nodes.{cells, number_in}
@@ -190,6 +190,22 @@ abbrev pub UpdatesNamed : List ℕ → ℕ × Node → List (String Global × �
 UpdatesNamed address node before after old new = (row : Row)
     → RenewsRow address node (Some row) before after old new
 
+-- these nodes are all of an address under so many numbers from low on, where the rows from low on
+-- are numbered without a gap
+abbrev pub AreThere : List ℕ → ℕ → ℕ → List NodeRow → Database → Type 0
+AreThere address low count there db = (nodes : List Node) × RunsFrom address low nodes db
+    × (map cells (map placed there) ≡ map cells (enumerate_from low (take count nodes)))
+
+-- nodes have come to stand under their numbers, with the names in hand, where those others were
+-- there
+abbrev pub RenewsRows : List ℕ → List NodeRow → List NodeRow → List (String Global × ℕ)
+    → List (String Global × ℕ) → Database → Database → Type 0
+RenewsRows address there rows before after old new = (low : ℕ) → AreNumbered low rows
+    → IsSound old → AreNumbers (label_rows old) before
+    → AreThere address low (length rows) there old
+    → HasRenewed address low (low + length rows) (map cells (map placed rows)) old new
+    × AreNumbers (label_rows new) after
+
 -- these have come to stand under the numbers from low up to, and without, high, with the names in
 -- hand, where the rows from low on were numbered without a gap, and so many have given way
 abbrev pub RenewsPart : List ℕ → ℕ → ℕ → List Row → List (String Global × ℕ)
@@ -204,11 +220,16 @@ abbrev pub Puts : List ℕ → List Row → Database → Database → Bool → T
 Puts address rows old new replaced = IsStore old → HasReplaced address rows old new
     × (replaced ≡ nat_lt 0 (length (filter (is_at address) (shown_rows old))))
 
+-- one that looks at the rows that are kept of the document, which are its first
+abbrev pub PutsOver : List ℕ → List NodeRow → List Row → Database → Database → Bool → Type 0
+PutsOver address kept rows old new replaced = AreThere address 0 (length kept) kept old
+    → Puts address rows old new replaced
+
 -- the same inside a transaction
-pub record Replaces (address : List ℕ) (rows : List Row) (old new : State)
+pub record Replaces (address : List ℕ) (kept : List NodeRow) (rows : List Row) (old new : State)
     (replaced : Bool) : Type 0 where
   pub inside : new.in_transaction ≡ true
-  pub did : Puts address rows old.now new.now replaced
+  pub did : PutsOver address kept rows old.now new.now replaced
 
 -- what a SELECT gives that is ordered by its first column
 pub record IsPicked (passes : Row → Bool) (shows : Row → Row) (table rows : List Row) : Type 0 where

@@ -1,12 +1,11 @@
-use Rattle.std.proofs.Common.{sym, subst, Vec, Global}
+use Rattle.std.proofs.Common.{sym, subst}
 use Rattle.sqlite.specs.Held.{state}
-use Rattle.xq_regions.specs.declared.NodeRow.{NodeRow}
 use Rattle.xq_rows.specs.private.Statements.{AreAbove}
-use Rattle.xq_rows.proofs.Loads.{above_read}
+use Rattle.xq_rows.proofs.Loads.{above_read_is}
 use Rattle.xq_rows.proofs.readings.nodes_above.Goals as goal
 
 pub returns-clause-nodes : goal.returns-clause-nodes
 returns-clause-nodes g c up =
     let db = (state g.S.Store c.args.conn.now).now in
     let shown = subst (AreAbove c.args.address.now c.args.node db) (sym c.deref.ensures.value) (c.in_ok-rows.ensures.rows up) in
-    above_read db c.args.address.now c.args.node c.deref.result.now (λ (v : Vec NodeRow Global). v.items) c.node_rows.result shown c.node_rows.ensures
+    above_read_is db c.args.address.now c.args.node c.deref.result.now c.in_ok-node_rows.field-0.items shown c.in_ok-node_rows.ensures

@@ -5,22 +5,24 @@ use Rattle.sqlite.specs.State.{HasCleanDisk}
 use Rattle.sqlite.specs.Held.{state}
 use Rattle.xq_rows.proofs.Inserts.{kept_then}
 use Rattle.xq_regions.specs.Rows.{placed}
-use Rattle.xq_rows.specs.Labels.{label_rows}
 use Rattle.xq_rows.specs.Nodes.{cells}
-use Rattle.xq_rows.specs.private.Statements.{AreNumbers, RenewsPart}
-use Rattle.xq_rows.proofs.Parts.{nothing_yet, last_part}
-use Rattle.xq_rows.proofs.Renewals.{numbered_slice, part_more}
+use Rattle.xq_rows.specs.private.Statements.{RenewsPart}
+use Rattle.xq_rows.proofs.Parts.{last_part}
+use Rattle.xq_rows.proofs.Renewals.{first_part, numbered_slice, part_more}
 use Rattle.xq_rows.proofs.replacements.replace_rows.Goals as goal
 
 pub loop-at-init : goal.loop-at-init
 loop-at-init g c =
-    let here = state g.S.Store c.args.transaction.now.conn.now in record {
-      same_reference = refl;
-      clean = omega arith;
-      kept = λ clean. record { was_open = λ up. up; committed = λ up. refl };
-      within = omega arith;
-      so_far = λ clean store. (0, refl, nothing_yet c.args.address.now here.now store);
-      named = λ clean store. subst (AreNumbers (label_rows here.now)) (sym c.new-names.ensures.empty) tt;
+    let first = state g.S.Store c.args.transaction.now.conn.now in
+    let now = state g.S.Store c.renew_rows.new.transaction.conn.now in
+    let step = c.renew_rows.ensures.inside in
+    record {
+      same_reference = step.same_reference;
+      clean = step.clean;
+      kept = step.kept;
+      within = omega (arith, c.min-at.ensures);
+      so_far = λ clean. first_part c.args.address.now c.args.kept.now c.args.rows.now c.min-at.result _ _ c.renew_rows.new.names.entries first.now now.now c.requires.numbered (omega (arith, c.min-at.ensures)) (omega (arith, c.min-at.ensures)) refl
+      c.new-names.ensures.empty (c.in_ok-renew_rows.ensures.renewed clean);
     }
 
 pub loop-at-preserved : goal.loop-at-preserved
@@ -43,14 +45,10 @@ loop-at-preserved g c =
           let early : HasCleanDisk now = omega (arith, step.clean) in
           kept_then first now last (held.kept early) (step.kept clean));
       within = omega (arith, c.min-stop.ensures);
-      so_far = λ clean store. (
+      so_far = λ clean. (
           let early : HasCleanDisk now = omega (arith, step.clean) in
-          (part_more c.args.address.now c.args.rows.now c.loop-at.at c.min-stop.result c.in_ok-count.count c.loop-at.replaced _ c.loop-at.names.entries c.renew_part.new.names.entries first.now now.now last.now c.requires.numbered (omega (arith, c.min-stop.ensures)) refl
-          (held.so_far early) (held.named early) (renewed clean) store).0);
-      named = λ clean store. (
-          let early : HasCleanDisk now = omega (arith, step.clean) in
-          (part_more c.args.address.now c.args.rows.now c.loop-at.at c.min-stop.result c.in_ok-count.count c.loop-at.replaced _ c.loop-at.names.entries c.renew_part.new.names.entries first.now now.now last.now c.requires.numbered (omega (arith, c.min-stop.ensures)) refl
-          (held.so_far early) (held.named early) (renewed clean) store).1);
+          part_more c.args.address.now c.args.kept.now c.args.rows.now at stop c.in_ok-count.count c.loop-at.replaced _ c.loop-at.names.entries c.renew_part.new.names.entries first.now now.now last.now c.requires.numbered (omega (arith, c.min-stop.ensures)) refl
+          (held.so_far early) (renewed clean));
     }
 
 pub returns-clause-replaced : goal.returns-clause-replaced
@@ -62,8 +60,8 @@ returns-clause-replaced g c clean =
     let done = c.in_ok-beyond.ensures.dropped clean in
     record {
       inside = done.inside.mode;
-      did = last_part c.args.address.now c.args.rows.now c.requires.numbered c.loop-at.at _ c.in_ok-beyond.beyond (omega (arith, c.loop-at.invariant.within, c.requires.few)) c.loop-at.replaced _ refl
-          first.now now.now last.now (c.loop-at.invariant.so_far early) done.did (omega (arith, c.loop-at-test.false)) (omega arith);
+      did = λ there. last_part c.args.address.now c.args.rows.now c.requires.numbered c.loop-at.at _ c.in_ok-beyond.beyond (omega (arith, c.loop-at.invariant.within, c.requires.few)) c.loop-at.replaced _ refl
+          first.now now.now last.now (λ store. (c.loop-at.invariant.so_far early there store).0) done.did (omega (arith, c.loop-at-test.false)) (omega arith);
     }
 
 pub renew_part-requires-clause-numbered : goal.renew_part-requires-clause-numbered

@@ -2,10 +2,7 @@ use Rattle.std.proofs.Common.{length, ◌-◌, ◌≤◌, ◌≡◌}
 use Rattle.sqlite.specs.State.{HasCleanDisk, KeepsCommit}
 use Rattle.sqlite.specs.Held.{state}
 use Rattle.sqlite_trees.specs.View.{doubt}
-use Rattle.xq_rows.specs.Documents.{IsStore}
-use Rattle.xq_rows.specs.Labels.{label_rows}
-use Rattle.xq_rows.specs.private.Statements.{AreNumbers}
-use Rattle.xq_rows.proofs.Parts.{IsAt}
+use Rattle.xq_rows.proofs.Renewals.{IsUpTo}
 use Rattle.xq_rows.proofs.replacements.replace_rows.Given as goal
 
 abbrev pub invariant-loop-at : goal.invariant-loop-at
@@ -17,8 +14,7 @@ invariant-loop-at g l =
       clean : doubt old.is_clean ≤ doubt now.is_clean;
       kept : HasCleanDisk now → KeepsCommit old now;
       within : l.at ≤ length l.rows;
-      so_far : HasCleanDisk now → IsAt l.address l.rows l.at l.replaced old.now now.now;
-      named : HasCleanDisk now → IsStore old.now → AreNumbers (label_rows now.now) l.names.entries;
+      so_far : HasCleanDisk now → IsUpTo l.address l.kept l.rows l.at l.replaced l.names.entries old.now now.now;
     }
 
 abbrev pub decreases-loop-at : goal.decreases-loop-at

@@ -4,7 +4,7 @@ use Rattle.xq_rows.specs.Documents.{StandsFor}
 use Rattle.xq_rows.proofs.Calls.{on_err, was_clean, was_open, kept_stands, put_stands, put_answer, leaves_open}
 use Rattle.xq_rows.proofs.Parts.{few}
 use Rattle.xq_rows.proofs.FrontLaws.{none_yet}
-use Rattle.xq_rows.proofs.Keeping.{has_put}
+use Rattle.xq_rows.proofs.Keeping.{has_put, puts_over}
 use Rattle.xq_rows.specs.private.Keeps.{IsKeeping}
 use Rattle.xq_rows.proofs.stores.Store.put.Goals as goal
 
@@ -13,11 +13,16 @@ returns-in_err-replaced-clause-kept g c clean m stands =
     on_err (StandsFor g.S.Store c.put_rows.new.conn m) _ (kept_stands g.S.Store c.self.inside.conn c.args.self.now c.put_rows.new.conn c.self.view_is c.put_rows.ensures.outside.was_open c.in_err-replaced.ensures.kept clean m stands)
 
 pub returns-clause-put : goal.returns-clause-put
-returns-clause-put g c = put_stands g.S.Store c.self.inside.conn c.args.self.now c.put_rows.new.conn c.self.view_is c.put_rows.ensures.outside.was_open c.in_ok-replaced.ensures.ends_open c.args.address.now c.requires.address c.args.document.now c.rows.result.now c.rows.ensures c.requires.document c.in_ok-replaced.replaced c.in_ok-replaced.ensures.put
+returns-clause-put g c =
+    let keeping = subst (IsKeeping g.S.Store c.self.inside.conn) (sym c.take-kept.ensures.value) c.self.invariant in
+    let did = puts_over g.S.Store c.self.inside.conn c.put_rows.new.conn c.put_rows.ensures.outside c.take-kept.result keeping c.args.address.now c.kept_of-there.result.now c.kept_of-there.ensures _ c.in_ok-replaced.replaced c.in_ok-replaced.ensures.put in
+    put_stands g.S.Store c.self.inside.conn c.args.self.now c.put_rows.new.conn c.self.view_is c.put_rows.ensures.outside.was_open c.in_ok-replaced.ensures.ends_open c.args.address.now c.requires.address c.args.document.now c.rows.result.now c.rows.ensures c.requires.document c.in_ok-replaced.replaced did
 
 pub returns-clause-answer : goal.returns-clause-answer
 returns-clause-answer g c clean m stands =
-    let there = put_answer g.S.Store c.self.inside.conn c.args.self.now c.put_rows.new.conn c.self.view_is c.put_rows.ensures.outside.was_open c.in_ok-replaced.ensures.ends_open c.args.address.now c.requires.address c.args.document.now c.rows.result.now c.rows.ensures c.requires.document c.in_ok-replaced.replaced c.in_ok-replaced.ensures.put clean m stands in
+    let keeping = subst (IsKeeping g.S.Store c.self.inside.conn) (sym c.take-kept.ensures.value) c.self.invariant in
+    let did = puts_over g.S.Store c.self.inside.conn c.put_rows.new.conn c.put_rows.ensures.outside c.take-kept.result keeping c.args.address.now c.kept_of-there.result.now c.kept_of-there.ensures _ c.in_ok-replaced.replaced c.in_ok-replaced.ensures.put in
+    let there = put_answer g.S.Store c.self.inside.conn c.args.self.now c.put_rows.new.conn c.self.view_is c.put_rows.ensures.outside.was_open c.in_ok-replaced.ensures.ends_open c.args.address.now c.requires.address c.args.document.now c.rows.result.now c.rows.ensures c.requires.document c.in_ok-replaced.replaced did clean m stands in
     c.of.ensures ∙ ap (λ b. if b then Replaced else Stored) there
 
 pub put_rows-requires-clause-few : goal.put_rows-requires-clause-few
@@ -40,6 +45,8 @@ returns-clause-was_clean g c = was_clean g.S.Store c.self.inside.conn c.args.sel
 
 pub invariant_of-self-2 : goal.invariant_of-self-2
 invariant_of-self-2 g c =
-    has_put g.S.Store c.self.inside.conn c.put_rows.new.conn c.put_rows.ensures.outside c.take-kept.result (subst (IsKeeping g.S.Store c.self.inside.conn) (sym c.take-kept.ensures.value) c.self.invariant)
-    c.args.address.now c.requires.address c.args.document.now (record { is_tree = c.rows.ensures.is_tree; root = c.requires.document }) c.rows.result.now c.rows.ensures c.in_ok-replaced.replaced c.in_ok-replaced.ensures.put
+    let keeping = subst (IsKeeping g.S.Store c.self.inside.conn) (sym c.take-kept.ensures.value) c.self.invariant in
+    let did = puts_over g.S.Store c.self.inside.conn c.put_rows.new.conn c.put_rows.ensures.outside c.take-kept.result keeping c.args.address.now c.kept_of-there.result.now c.kept_of-there.ensures _ c.in_ok-replaced.replaced c.in_ok-replaced.ensures.put in
+    has_put g.S.Store c.self.inside.conn c.put_rows.new.conn c.put_rows.ensures.outside c.take-kept.result keeping
+    c.args.address.now c.requires.address c.args.document.now (record { is_tree = c.rows.ensures.is_tree; root = c.requires.document }) c.rows.result.now c.rows.ensures c.in_ok-replaced.replaced did
     c.new.result (none_yet c.args.document.now c.new.result.rows.items c.new.ensures) c.shelf_with.result c.shelf_with.ensures

@@ -3,7 +3,7 @@ use Rattle.sqlite.specs.State.{HasCleanDisk, KeepsCommit}
 use Rattle.sqlite.specs.Held.{state}
 use Rattle.sqlite_trees.specs.View.{doubt}
 use Rattle.xq_rows.proofs.Renewals.{IsRenewed}
-use Rattle.xq_rows.proofs.replacements.renew_part.Given as goal
+use Rattle.xq_rows.proofs.replacements.renew_rows.Given as goal
 
 abbrev pub invariant-loop-at : goal.invariant-loop-at
 invariant-loop-at g l =
@@ -12,7 +12,6 @@ invariant-loop-at g l =
     record {
       same_reference : l.transaction.conn.ghost_name ≡ l.fn.transaction.conn.ghost_name;
       clean : doubt old.is_clean ≤ doubt now.is_clean;
-      since : doubt (state g.S.Store l.initial.transaction.conn.now).is_clean ≤ doubt now.is_clean;
       kept : HasCleanDisk now → KeepsCommit old now;
-      so_far : HasCleanDisk now → IsRenewed l.address l.low l.rows l.at l.fn.names.entries l.names.entries old.now now.now;
+      so_far : HasCleanDisk now → IsRenewed l.address l.rows_there l.rows l.at l.fn.names.entries l.names.entries old.now now.now;
     }
