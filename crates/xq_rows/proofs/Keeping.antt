@@ -111,7 +111,7 @@ module _ {S : Type 0} (g : Ghosts S) where
     -- a put looked at the rows that were kept
     pub puts_over : (a : List ℕ) (kept : List NodeRow) → AreKeptOf shelf a kept → (rows : List Row) (replaced : Bool) → (IsReady (state g new) → PutsOver a kept rows (state g conn).now (state g new).now replaced)
         → IsReady (state g new) → Puts a rows (state g conn).now (state g new).now replaced
-    puts_over a kept are rows replaced did ready = (let was = early ready in did ready (kept_there g conn shelf keeping a kept are was))
+    puts_over a kept are rows replaced did ready = (let was = early ready in did ready (kept_there conn shelf keeping a kept are was))
 
     -- a document was put
     pub has_put : (a : List ℕ) → IsAddress a → (t : Tree) → IsDocument t → (rows : List NodeRow) → Encodes rows t → (replaced : Bool) → (IsReady (state g new) → Puts a (map cells (map placed rows)) (state g conn).now (state g new).now replaced)

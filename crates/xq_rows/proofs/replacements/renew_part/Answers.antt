@@ -11,5 +11,5 @@ returns-clause-renewed g c clean =
     let last = state g.S.Store c.renew_rows.new.transaction.conn.now in
     let earlier : HasCleanDisk began = omega (arith, c.renew_rows.ensures.inside.clean, clean) in
     let given = c.in_ok-read.ensures.rows earlier in
-    part_renewed c.args.address.now c.args.low _ c.len-2.result c.args.rows.now c.in_ok-rows_there.rows_there.items c.in_ok-read.read.items c.args.names.now.entries c.renew_rows.new.names.entries first.now began.now last.now c.requires.numbered refl
-    given.same given.are (rw c.deref.ensures.value at c.in_ok-rows_there.ensures) (rw c.deref-2.ensures.value at (c.in_ok-renew_rows.ensures.renewed clean)) c.len-2.ensures
+    part_renewed c.args.address.now c.args.low _ c.len.result c.args.rows.now c.in_ok-rows_there.rows_there.items c.in_ok-read.read.items c.args.names.now.entries c.renew_rows.new.names.entries first.now began.now last.now c.requires.numbered refl
+    given.same given.are (rw c.deref.ensures.value at c.in_ok-rows_there.ensures) (rw c.deref-2.ensures.value at (c.in_ok-renew_rows.ensures.renewed clean)) (c.len.ensures ∙ c.in_ok-rows_there.rows_there.ok.0)
