@@ -16,8 +16,8 @@ use xq_expressions::{
     AllowingEmpty, Clause, ConstructorName, Expr, Function, GroupSpec, OrderModifier, PathStart,
     ProductOperator, QName, Separator, SetOperator, Sign, Step, Text,
 };
-use xq_meaning::{Core, CoreClause, Operator, Test};
-use xq_regions::Axis;
+use xq_meaning::{Core, CoreClause, Operator};
+use xq_normal_parts::{append_clauses, push_let, push_step, simple_map};
 
 /// The normal form of an expression.
 #[cycle(normal)]
@@ -74,7 +74,7 @@ pub fn expression(alloc: Global, expr: &Expr) -> Result<Core, AllocError>
         }
         Expr::Map(first, more) => {
             let first = boxed(alloc, first.get())?;
-            Ok(Core::Map(first, expressions(alloc, more.as_slice())?))
+            Ok(simple_map(first, expressions(alloc, more.as_slice())?))
         }
         Expr::Path(start, first, more) => {
             let first = step(alloc, first.get())?;
@@ -339,7 +339,7 @@ fn rooted(
         ≡ parts.rooted separator (core_mean first) (map core_mean later)) }
 {
     let mut found = Items::new(alloc);
-    next(alloc, &mut found, separator, first)?;
+    push_step(alloc, &mut found, separator, first)?;
     found.append(later)?;
     path_along(alloc, Core::Root, found)
 }
@@ -365,30 +365,9 @@ fn steps(alloc: Global, more: &[(Separator, Step)]) -> Result<Items<Core>, Alloc
 {
     let mut found = Items::new(alloc);
     for (separator, later) in more {
-        next(alloc, &mut found, *separator, step(alloc, later)?)?;
+        push_step(alloc, &mut found, *separator, step(alloc, later)?)?;
     }
     Ok(found)
-}
-
-/// Puts a step at the end, after what its separator stands for.
-fn next(
-    alloc: Global,
-    found: &mut Items<Core>,
-    separator: Separator,
-    step: Core,
-) -> Result<(), AllocError>
-    ensures same { OnOk result
-        (map core_mean found.new
-        ≡ map core_mean found.old ++ meaning.after separator (core_mean step)) }
-    ensures slash { OnOk result (separator ≡ Slash → found.new ≡ found.old ++ step ∷ []) }
-{
-    match separator {
-        Separator::Slash => found.push(step),
-        Separator::DoubleSlash => {
-            found.push(Core::Step(Axis::DescendantOrSelf, Test::Any, Items::new(alloc)))?;
-            found.push(step)
-        }
-    }
 }
 
 /// A step of a path.
@@ -430,7 +409,7 @@ fn clauses(alloc: Global, list: &[Clause]) -> Result<Items<CoreClause>, AllocErr
 {
     let mut found = Items::new(alloc);
     for next in list {
-        found.append(clause(alloc, next)?)?;
+        append_clauses(&mut found, clause(alloc, next)?)?;
     }
     Ok(found)
 }
@@ -487,7 +466,7 @@ fn assignments(alloc: Global, list: &[(QName, Expr)]) -> Result<Items<CoreClause
     let mut found = Items::new(alloc);
     for (variable, value) in list {
         let variable = text(alloc, &variable.local)?;
-        found.push(CoreClause::Let(variable, expression(alloc, value)?))?;
+        push_let(&mut found, variable, expression(alloc, value)?)?;
     }
     Ok(found)
 }
@@ -501,7 +480,7 @@ fn group(alloc: Global, specs: &[GroupSpec]) -> Result<Items<CoreClause>, AllocE
 {
     let mut found = Items::new(alloc);
     for spec in specs {
-        found.append(lets(alloc, spec)?)?;
+        append_clauses(&mut found, lets(alloc, spec)?)?;
     }
     found.push(CoreClause::Group(grouping(alloc, specs)?))?;
     Ok(found)
@@ -518,7 +497,7 @@ fn lets(alloc: Global, spec: &GroupSpec) -> Result<Items<CoreClause>, AllocError
         GroupSpec::Variable(_) => Ok(found),
         GroupSpec::Assigned(variable, value) => {
             let value = expression(alloc, value)?;
-            found.push(CoreClause::Let(text(alloc, &variable.local)?, value))?;
+            push_let(&mut found, text(alloc, &variable.local)?, value)?;
             Ok(found)
         }
     }

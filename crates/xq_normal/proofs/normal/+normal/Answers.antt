@@ -58,7 +58,7 @@ expression-returns-in_ok-later-in-Path-clause-same t c =
 
 pub clauses-loop-next-preserved : goal.clauses-loop-next-preserved
 clauses-loop-next-preserved t c =
-    ap (λ l. clauses (map core_clause_mean l)) c.in_ok-append.ensures
+    ap (λ l. clauses (map core_clause_mean l)) c.in_ok-append_clauses.ensures
     ∙ clauses_next core_clause_mean clause_mean c.args.list.now c.loop-next.next-index c.loop-next.found c.in_ok-clause.field-0 c.next-item.result
     c.loop-next.invariant (omega (arith, c.loop-next-test.true)) c.next-item.is c.in_ok-clause.ensures
 
@@ -192,7 +192,7 @@ expression-returns-in_ok-first-in-Arrow-clause-same t c =
 
 pub expression-returns-in_ok-expressions-in-Map-clause-same : goal.expression-returns-in_ok-expressions-in-Map-clause-same
 expression-returns-in_ok-expressions-in-Map-clause-same t c =
-    map_is c.args.expr.now c.in-Map.first c.in-Map.more c.in_ok-first-in-Map.first c.in_ok-expressions-in-Map.field-0 c.in-Map.is
+    map_is c.args.expr.now c.in-Map.first c.in-Map.more c.simple_map.result c.in_ok-first-in-Map.first c.in_ok-expressions-in-Map.field-0 c.in-Map.is c.simple_map.ensures
     (c.in_ok-first-in-Map.ensures ∙ ap mean c.get-in-Map.ensures)
     (c.in_ok-expressions-in-Map.ensures.same ∙ ap (map mean) c.as_slice-in-Map.ensures)
 
@@ -348,12 +348,12 @@ steps-loop-separator-preserved t c =
     let value = c.in_ok-step.field-0 in
     record {
       same =
-          steps_next c.args.more.now c.loop-separator.separator-index c.loop-separator.found c.next.new.found value y
-          c.loop-separator.invariant.same (omega (arith, c.loop-separator-test.true)) c.loop-separator-item.is c.in_ok-next.ensures.same c.in_ok-step.ensures.same;
+          steps_next c.args.more.now c.loop-separator.separator-index c.loop-separator.found c.push_step.new.steps value y
+          c.loop-separator.invariant.same (omega (arith, c.loop-separator-test.true)) c.loop-separator-item.is c.in_ok-push_step.ensures.same c.in_ok-step.ensures.same;
       plain =
-          left_next after_slash plain_step c.args.more.now c.loop-separator.separator-index c.loop-separator.found c.loop-separator.invariant.plain c.next.new.found value y
+          left_next after_slash plain_step c.args.more.now c.loop-separator.separator-index c.loop-separator.found c.loop-separator.invariant.plain c.push_step.new.steps value y
           (omega (arith, c.loop-separator-test.true)) c.loop-separator-item.is
-          (λ along is. c.in_ok-next.ensures.slash (ap (λ s. s.0) is) ∙ ap (λ x. c.loop-separator.found ++ x ∷ []) (plain_stays y.1 along value c.in_ok-step.ensures.plain (ap (λ s. s.1) is)));
+          (λ along is. c.in_ok-push_step.ensures.slash (ap (λ s. s.0) is) ∙ ap (λ x. c.loop-separator.found ++ x ∷ []) (plain_stays y.1 along value c.in_ok-step.ensures.plain (ap (λ s. s.1) is)));
     }
 
 pub steps-returns-clause-same : goal.steps-returns-clause-same
