@@ -1,11 +1,11 @@
 //! What holds of a sequence: its effective boolean value, and the value of a predicate.
-ghost use Rattle.std.specs.Prelude.{◌≡◌, ◌<◌, ◌^◌, List};
+ghost use Rattle.std.specs.Prelude.{◌≡◌, ◌<◌, ◌^◌, List, map};
 ghost use Rattle.xq_atoms.specs.Atom.{atomic_of};
 ghost use Rattle.xq_regions.specs.Items.{item_view};
 ghost use Rattle.xq_regions.specs.Tree.{Tree};
 ghost use Rattle.xq_meaning.specs.Arguments as Arguments;
 ghost use Rattle.xq_meaning.specs.Operators as Operators;
-ghost use Rattle.xq_functions.specs.Answers.{lent_items};
+ghost use Rattle.xq_meaning.specs.Readings.{items_at};
 
 use xq_atoms::{Atom, Code};
 use xq_regions::Item;
@@ -13,7 +13,8 @@ use xq_regions::Item;
 /// The effective boolean value (XQuery 3.1, section 2.4.3): nothing is false, a first item that is
 /// a node true; else one atom by itself. FORG0006 for more than one.
 pub fn effective(items: &[Item]) -> Result<bool, Code>
-    ensures { (trees : List Tree) → result ≡ Arguments.effective (lent_items trees items.now) }
+    ensures { (trees : List Tree) →
+        result ≡ Arguments.effective (items_at trees (map item_view items.now)) }
 {
     match items {
         [] => Ok(false),
@@ -28,7 +29,7 @@ pub fn effective(items: &[Item]) -> Result<bool, Code>
 /// value.
 pub fn keeps(position: usize, items: &[Item]) -> Result<bool, Code>
     ensures { (trees : List Tree) →
-        result ≡ Operators.keeps position (lent_items trees items.now) }
+        result ≡ Operators.keeps position (items_at trees (map item_view items.now)) }
 {
     match items {
         [] => Ok(false),
