@@ -1,4 +1,5 @@
-//! The normal form of each form of expression.
+//! The normal form of each form of expression. Where two parts are made, lists and boxes come first:
+//! what is let go where the second is refused is then one call, and no choice among all forms.
 ghost use Rattle.std.specs.Prelude.{◌≡◌, [], ◌∷◌, ◌++◌, IfOk, OnOk, List, map};
 ghost use Rattle.xq_expressions.specs.declared.operators.PathStart.TheVariants.{Relative};
 ghost use Rattle.xq_expressions.specs.declared.operators.Separator.TheVariants.{Slash};
@@ -77,8 +78,8 @@ pub fn expression(alloc: Global, expr: &Expr) -> Result<Core, AllocError>
             Ok(simple_map(first, expressions(alloc, more.as_slice())?))
         }
         Expr::Path(start, first, more) => {
-            let first = step(alloc, first.get())?;
             let later = steps(alloc, more.as_slice())?;
+            let first = step(alloc, first.get())?;
             path(alloc, *start, first, later)
         }
         Expr::If(condition, positive, negative) => {
@@ -253,11 +254,11 @@ fn call_on(alloc: Global, first: Core, name: &QName, arguments: &[Expr]) -> Resu
     ensures { IfOk result (λ core. core_mean core
         ≡ meaning.call_named name.now (core_mean first ∷ map mean arguments.now)) }
 {
+    let mut values = Items::new(alloc);
+    values.push(first)?;
     let Some(function) = called(name, arguments.len() + 1) else {
         return unknown_function(alloc);
     };
-    let mut values = Items::new(alloc);
-    values.push(first)?;
     values.append(expressions(alloc, arguments)?)?;
     Ok(Core::Call(function, values))
 }
@@ -276,6 +277,7 @@ fn later_calls(
     if calls.is_empty() {
         return Ok(value);
     }
+    let start = Boxed::new(alloc, value)?;
     let mut found = Items::new(alloc);
     for (name, arguments) in calls {
         let arguments = arguments.as_slice();
@@ -284,7 +286,7 @@ fn later_calls(
         };
         found.push((function, expressions(alloc, arguments)?))?;
     }
-    Ok(Core::Arrow(Boxed::new(alloc, value)?, found))
+    Ok(Core::Arrow(start, found))
 }
 
 /// A call that is always refused with XPST0017: `true` with an argument.
@@ -378,12 +380,14 @@ fn step(alloc: Global, step: &Step) -> Result<Core, AllocError>
 {
     match step {
         Step::Axis(along, predicates) => {
+            let predicates = expressions(alloc, predicates.as_slice())?;
             let (axis, test) = axis_step(alloc, along)?;
-            Ok(Core::Step(axis, test, expressions(alloc, predicates.as_slice())?))
+            Ok(Core::Step(axis, test, predicates))
         }
         Step::Primary(primary, predicates) => {
+            let predicates = expressions(alloc, predicates.as_slice())?;
             let primary = expression(alloc, primary.get())?;
-            filtered(alloc, primary, expressions(alloc, predicates.as_slice())?)
+            filtered(alloc, primary, predicates)
         }
     }
 }
@@ -496,8 +500,8 @@ fn lets(alloc: Global, spec: &GroupSpec) -> Result<Items<CoreClause>, AllocError
     match spec {
         GroupSpec::Variable(_) => Ok(found),
         GroupSpec::Assigned(variable, value) => {
-            let value = expression(alloc, value)?;
-            push_let(&mut found, text(alloc, &variable.local)?, value)?;
+            let variable = text(alloc, &variable.local)?;
+            push_let(&mut found, variable, expression(alloc, value)?)?;
             Ok(found)
         }
     }
