@@ -2,9 +2,9 @@ use Rattle.std.proofs.Common.{◌∙◌, ◌+◌, ap, sym, arith, map, ◌++◌}
 use Rattle.std.proofs.lemmas.List.{append-nil}
 use Rattle.xq_regions.specs.Levels.{flat_row}
 use Rattle.xq_sources.specs.Sources.{tree_at}
-use Rattle.xq_build.specs.private.Leaves.{lowered}
-use Rattle.xq_build.proofs.Subtrees.{none_left}
-use Rattle.xq_build.proofs.copies.append_below.Goals as goal
+use Rattle.xq_copies.specs.Leaves.{lowered}
+use Rattle.xq_copies.proofs.Subtrees.{none_left}
+use Rattle.xq_copies.proofs.copies.append_below.Goals as goal
 
 pub returns-then-size-eq0-clause-copied : goal.returns-then-size-eq0-clause-copied
 returns-then-size-eq0-clause-copied g c = λ _.

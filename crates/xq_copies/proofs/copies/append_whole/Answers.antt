@@ -1,5 +1,5 @@
-use Rattle.xq_build.proofs.Subtrees.{whole_leaves, pushed}
-use Rattle.xq_build.proofs.copies.append_whole.Goals as goal
+use Rattle.xq_copies.proofs.Subtrees.{whole_leaves, pushed}
+use Rattle.xq_copies.proofs.copies.append_whole.Goals as goal
 
 pub returns-clause-copied : goal.returns-clause-copied
 returns-clause-copied g c = λ h is.

@@ -23,7 +23,7 @@ use Rattle.xq_sources.proofs.Intervals.{between-places}
 use Rattle.xq_meaning.specs.Items.{tree_below}
 use Rattle.xq_meaning.specs.Readings.{node_at}
 use Rattle.xq_meaning.specs.Content.{copied}
-use Rattle.xq_build.specs.private.Leaves.{Leaf, leaves, lowered, leaves_between, IsRowOf}
+use Rattle.xq_copies.specs.Leaves.{Leaf, leaves, lowered, leaves_between, IsRowOf}
 
 -- # Parts of the rows of a tree
 

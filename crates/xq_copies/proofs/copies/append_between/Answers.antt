@@ -5,9 +5,9 @@ use Rattle.xq_regions.specs.Levels.{flat_row}
 use Rattle.xq_regions.specs.Rows.{placed}
 use Rattle.xq_sources.specs.Lenders.{IsRun}
 use Rattle.xq_sources.specs.Sources.{rows_between, tree_at}
-use Rattle.xq_build.specs.private.Leaves.{lowered}
-use Rattle.xq_build.proofs.Subtrees.{none_left, none_lent, run_next, run_splits, empty_is}
-use Rattle.xq_build.proofs.copies.append_between.Goals as goal
+use Rattle.xq_copies.specs.Leaves.{lowered}
+use Rattle.xq_copies.proofs.Subtrees.{none_left, none_lent, run_next, run_splits, empty_is}
+use Rattle.xq_copies.proofs.copies.append_between.Goals as goal
 
 pub loop-next-preserved : goal.loop-next-preserved
 loop-next-preserved g c =

@@ -1,8 +1,8 @@
 use Rattle.std.proofs.Common.{◌≡◌, ◌++◌, ◌-◌, suc, map}
 use Rattle.xq_regions.specs.Levels.{flat_row}
 use Rattle.xq_sources.specs.Sources.{tree_at}
-use Rattle.xq_build.specs.private.Leaves.{lowered, leaves_between}
-use Rattle.xq_build.proofs.copies.append_between.Given as goal
+use Rattle.xq_copies.specs.Leaves.{lowered, leaves_between}
+use Rattle.xq_copies.proofs.copies.append_between.Given as goal
 
 -- what was copied and what is left are the whole
 abbrev pub invariant-loop-next : goal.invariant-loop-next
