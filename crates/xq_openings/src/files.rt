@@ -8,7 +8,7 @@ const SHORTEST_PAGE: u64 = 512;
 
 /// Whether the file is one byte long. The engine takes such a file for an empty one, as SQLite
 /// does, and would write over it.
-pub(crate) fn has_one_byte(rt: &HostRuntime, path: &str) -> bool {
+pub fn has_one_byte(rt: &HostRuntime, path: &str) -> bool {
     match fs::metadata(rt, path) {
         Ok(file) => file.len() == 1,
         Err(_) => false,
@@ -16,7 +16,7 @@ pub(crate) fn has_one_byte(rt: &HostRuntime, path: &str) -> bool {
 }
 
 /// The path of the log that belongs to the file, where no log is there.
-pub(crate) fn absent_log(rt: &HostRuntime, path: &str) -> Result<Option<String>, AllocError> {
+pub fn absent_log(rt: &HostRuntime, path: &str) -> Result<Option<String>, AllocError> {
     let Ok(real) = fs::canonicalize(rt, path) else {
         return Ok(None);
     };
@@ -29,7 +29,7 @@ pub(crate) fn absent_log(rt: &HostRuntime, path: &str) -> Result<Option<String>,
 
 /// Removes the log that an opening left beside a file that is refused. The file is still held, so
 /// no other program has made that log since, and one that may hold a page stays.
-pub(crate) fn remove_log(rt: &HostRuntime, log: Option<String>) {
+pub fn remove_log(rt: &HostRuntime, log: Option<String>) {
     let Some(log) = log else {
         return;
     };
