@@ -18,7 +18,7 @@ use Rattle.xq_regions.specs.private.Sizes.{sized}
 use Rattle.xq_meaning.specs.Texts.{joined}
 use Rattle.xq_meaning.specs.Content.{is_text, text_label, copied, run, spaced, flattened_after, flattened, in_front, merged, in_front_unless, is_empty_text, without_empty_texts, is_within_height, copied_as}
 use Rattle.xq_meaning.specs.Items.{Item, Node, Atom, tree_below}
-use Rattle.xq_build.specs.private.Leaves.{Leaf, leaves, IsRowOf}
+use Rattle.xq_copies.specs.Leaves.{Leaf, leaves, IsRowOf}
 use Rattle.xq_regions.specs.Node.{HasPath, label_at, below_at}
 use Rattle.xq_regions.specs.Order.{path_at}
 use Rattle.xq_regions.specs.declared.NodeRow.{NodeRow}
@@ -29,7 +29,7 @@ use Rattle.xq_regions.proofs.Paths.{at_place}
 use Rattle.xq_sources.specs.Sources.{tree_at}
 use Rattle.xq_meaning.specs.Readings.{node_at}
 use Rattle.xq_build.specs.private.Content.{so_far, open_text, longer, flattened_with, Childless, is_top_text, glued, put, merged_leaves, may_stand_first, AreApart, is_kept, labels_if, top_labels, raised, are_low}
-use Rattle.xq_build.proofs.Subtrees.{length-leveled}
+use Rattle.xq_copies.proofs.Subtrees.{length-leveled}
 
 pub leaves-leveled : (f : Forest Label) → leaves f ≡ leveled 0 f
 leaves-leveled f = flat-measured 0 f

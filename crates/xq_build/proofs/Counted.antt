@@ -20,9 +20,9 @@ use Rattle.xq_sources.specs.Sources.{rows_between, tree_at}
 use Rattle.xq_meaning.specs.Items.{Item, tree_below}
 use Rattle.xq_meaning.specs.Readings.{item_at, items_at, node_at}
 use Rattle.xq_build.specs.Reads.{ReadsAtMost, ReadsItems, rows_below, own_rows}
-use Rattle.xq_build.specs.private.Leaves.{IsRowOf}
+use Rattle.xq_copies.specs.Leaves.{IsRowOf}
 use Rattle.xq_build.specs.private.Printing.{ReadsItem}
-use Rattle.xq_build.proofs.Subtrees.{run_splits}
+use Rattle.xq_copies.proofs.Subtrees.{run_splits}
 
 -- # Runs
 

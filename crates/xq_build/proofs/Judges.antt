@@ -15,7 +15,7 @@ use Rattle.xq_regions.specs.declared.Kind.{Kind}
 use Rattle.xq_regions.specs.declared.Kind.TheVariants.{Document, Element, Attribute, Text as TextKind, Comment, ProcessingInstruction}
 use Rattle.xq_meaning.specs.Content.{attribute_fault, first_fault, or_else, is_within_height, within_limits, unless_fault, built}
 use Rattle.xq_atoms.specs.Answers.{GivesUnlessWanting}
-use Rattle.xq_build.specs.private.Leaves.{Leaf, leaves}
+use Rattle.xq_copies.specs.Leaves.{Leaf, leaves}
 use Rattle.xq_build.specs.private.Content.{top_labels, labels_if, raised, are_low, fault_from, JudgedAs, JudgesLeaf}
 use Rattle.xq_build.proofs.Contents.{top_leaves, low_leaves, length-leaves, raised_leaves, leaves-injective}
 

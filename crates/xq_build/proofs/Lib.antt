@@ -1,4 +1,3 @@
-pub mod Subtrees
 pub mod Written
 pub mod Contents
 pub mod Judges

@@ -24,10 +24,10 @@ use Rattle.xq_regions.specs.Rows.{row_of, placed}
 use Rattle.xq_regions.specs.declared.items.Node.{Node as CodeNode}
 use Rattle.xq_sources.specs.Lenders.{IsRun}
 use Rattle.xq_sources.specs.Sources.{rows_between, tree_at}
-use Rattle.xq_build.proofs.Subtrees.{run_splits, whole_leaves}
+use Rattle.xq_copies.proofs.Subtrees.{run_splits, whole_leaves}
 use Rattle.std.specs.Prelude.{Result, String, string_bytes, codes, nat_le, Ok, Err}
 use Rattle.xq_atoms.specs.Answers.{GivesUnlessWanting}
-use Rattle.xq_build.specs.private.Leaves.{Leaf, lowered, leaves_between, IsRowOf}
+use Rattle.xq_copies.specs.Leaves.{Leaf, lowered, leaves_between, IsRowOf}
 use Rattle.xq_build.specs.private.Writing.{IsTooLong, Appends, each_after_comma, escape_char}
 
 -- a text that is too long stays so

@@ -1,4 +1,3 @@
-pub mod Leaves
 pub mod Writing
 pub mod Printing
 pub mod Judging

@@ -8,7 +8,7 @@ ghost use Rattle.xq_regions.specs.Items.{item_view};
 ghost use Rattle.xq_regions.specs.Levels.{flat_row};
 ghost use Rattle.xq_meaning.specs.Content.{content as content_lem};
 ghost use Rattle.xq_meaning.specs.Readings.{item_at, items_at};
-ghost use Rattle.xq_build.specs.private.Leaves.{Leaf, leaves};
+ghost use Rattle.xq_copies.specs.Leaves.{Leaf, leaves};
 ghost use Rattle.xq_build.specs.private.Content.{longer, open_text, is_top_text as is_top_text_lem, glued as glued_lem, merged_leaves, AreApart, is_kept as is_kept_lem};
 ghost use Rattle.xq_build.specs.private.Surplus.{is_full, AreSeen, StandsFor, Takes, Flattens};
 

@@ -15,14 +15,14 @@ ghost use Rattle.xq_meaning.specs.Items.{tree_below};
 ghost use Rattle.xq_meaning.specs.Readings.{item_at, items_at, node_at};
 ghost use Rattle.xq_atoms.specs.Answers.{GivesUnlessWanting};
 ghost use Rattle.xq_build.specs.Reads.{ReadsItems};
-ghost use Rattle.xq_build.specs.private.Leaves.{lowered, leaves_between, IsRowOf};
+ghost use Rattle.xq_copies.specs.Leaves.{lowered, leaves_between, IsRowOf};
 ghost use Rattle.xq_build.specs.private.Printing.{ReadsItem};
 ghost use Rattle.xq_build.specs.private.Writing.{Appends, GoesOn, each_after_comma, escape_char};
 
-use crate::copies::row_of_node;
 use crate::kinds::{is_named, is_valued, word};
 use std::alloc::Global;
 use xq_atoms::{Atom, Code, Fault, Want};
+use xq_copies::row_of_node;
 use xq_regions::{Item, Kind, Node, NodeRow};
 use xq_sources::RowLender;
 

@@ -8,16 +8,16 @@ ghost use Rattle.xq_sources.specs.Sources.{tree_at};
 ghost use Rattle.xq_meaning.specs.Content.{copied};
 ghost use Rattle.xq_meaning.specs.Items.{tree_below};
 ghost use Rattle.xq_meaning.specs.Readings.{node_at};
-ghost use Rattle.xq_build.specs.private.Leaves.{leaves_between, IsRowOf};
+ghost use Rattle.xq_copies.specs.Leaves.{leaves_between, IsRowOf};
 ghost use Rattle.xq_build.specs.private.Content.{are_low as are_low_lem, Childless};
 ghost use Rattle.xq_build.specs.private.Surplus.{firm_count as firm_count_lem, is_late as is_late_lem, is_full as is_full_lem, AreSeen, Shortens};
 
 use crate::content::is_top_text;
-use crate::copies::{append_whole, row_of_node};
 use crate::judging::are_low;
 use indexmap::IndexSet;
 use std::alloc::Global;
 use xq_atoms::Want;
+use xq_copies::{append_whole, row_of_node};
 use xq_regions::{Kind, MAX_LEVEL, MAX_NODES, Node, NodeRow};
 use xq_sources::RowLender;
 

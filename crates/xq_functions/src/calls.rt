@@ -20,7 +20,6 @@ use crate::kinds::{Argument, argument_of};
 use crate::results::one;
 use crate::sequences::{exactly_one, head, one_or_more, reversed, tail, zero_or_one};
 use crate::texts;
-use crate::truths::effective;
 use std::alloc::Global;
 use xq_atoms::{
     Atom, Code, Fault, abs, cast_bool, cast_dec, cast_int, cast_str, ceiling, floor, round,
@@ -28,6 +27,7 @@ use xq_atoms::{
 use xq_expressions::{ComparisonOperator, Function, Relation};
 use xq_meaning::Operator;
 use xq_regions::Items;
+use xq_truths::effective;
 
 /// A call with one argument of a function that looks at items whatever they are.
 pub fn call_on_items(alloc: Global, function: Function, items: Items) -> Result<Items, Fault>

@@ -58,11 +58,11 @@ pub arrow_is : (expr first : Expr) (calls : List (QName × List Expr)) (value : 
 arrow_is expr first calls value is h =
     ap (λ m. arrow m (parts.calls calls)) h ∙ sym (ap mean is ∙ mean.mean-Arrow first calls)
 
-pub map_is : (expr first : Expr) (more : List Expr) (first' : Core) (more' : List Core) →
-    expr ≡ e.Map first more → core_mean first' ≡ mean first → map core_mean more' ≡ map mean more →
-    core_mean (n.Map first' more') ≡ mean expr
-map_is expr first more first' more' is h k =
-    core.core-Map first' more' ∙ (λ i. Forms.simple_map (h i) (k i)) ∙ sym (ap mean is ∙ mean.mean-Map first more)
+pub map_is : (expr first : Expr) (more : List Expr) (found first' : Core) (more' : List Core) →
+    expr ≡ e.Map first more → core_mean found ≡ Forms.simple_map (core_mean first') (map core_mean more') →
+    core_mean first' ≡ mean first → map core_mean more' ≡ map mean more → core_mean found ≡ mean expr
+map_is expr first more found first' more' is made h k =
+    made ∙ (λ i. Forms.simple_map (h i) (k i)) ∙ sym (ap mean is ∙ mean.mean-Map first more)
 
 -- # Clauses
 

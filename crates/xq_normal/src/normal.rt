@@ -1,4 +1,5 @@
-//! The normal form of each form of expression.
+//! The normal form of each form of expression. Where two parts are made, lists and boxes come first:
+//! what is let go where the second is refused is then one call, and no choice among all forms.
 ghost use Rattle.std.specs.Prelude.{◌≡◌, [], ◌∷◌, ◌++◌, IfOk, OnOk, List, map};
 ghost use Rattle.xq_expressions.specs.declared.operators.PathStart.TheVariants.{Relative};
 ghost use Rattle.xq_expressions.specs.declared.operators.Separator.TheVariants.{Slash};
@@ -16,8 +17,8 @@ use xq_expressions::{
     AllowingEmpty, Clause, ConstructorName, Expr, Function, GroupSpec, OrderModifier, PathStart,
     ProductOperator, QName, Separator, SetOperator, Sign, Step, Text,
 };
-use xq_meaning::{Core, CoreClause, Operator, Test};
-use xq_regions::Axis;
+use xq_meaning::{Core, CoreClause, Operator};
+use xq_normal_parts::{append_clauses, push_let, push_step, simple_map};
 
 /// The normal form of an expression.
 #[cycle(normal)]
@@ -74,11 +75,11 @@ pub fn expression(alloc: Global, expr: &Expr) -> Result<Core, AllocError>
         }
         Expr::Map(first, more) => {
             let first = boxed(alloc, first.get())?;
-            Ok(Core::Map(first, expressions(alloc, more.as_slice())?))
+            Ok(simple_map(first, expressions(alloc, more.as_slice())?))
         }
         Expr::Path(start, first, more) => {
-            let first = step(alloc, first.get())?;
             let later = steps(alloc, more.as_slice())?;
+            let first = step(alloc, first.get())?;
             path(alloc, *start, first, later)
         }
         Expr::If(condition, positive, negative) => {
@@ -253,11 +254,11 @@ fn call_on(alloc: Global, first: Core, name: &QName, arguments: &[Expr]) -> Resu
     ensures { IfOk result (λ core. core_mean core
         ≡ meaning.call_named name.now (core_mean first ∷ map mean arguments.now)) }
 {
+    let mut values = Items::new(alloc);
+    values.push(first)?;
     let Some(function) = called(name, arguments.len() + 1) else {
         return unknown_function(alloc);
     };
-    let mut values = Items::new(alloc);
-    values.push(first)?;
     values.append(expressions(alloc, arguments)?)?;
     Ok(Core::Call(function, values))
 }
@@ -276,6 +277,7 @@ fn later_calls(
     if calls.is_empty() {
         return Ok(value);
     }
+    let start = Boxed::new(alloc, value)?;
     let mut found = Items::new(alloc);
     for (name, arguments) in calls {
         let arguments = arguments.as_slice();
@@ -284,7 +286,7 @@ fn later_calls(
         };
         found.push((function, expressions(alloc, arguments)?))?;
     }
-    Ok(Core::Arrow(Boxed::new(alloc, value)?, found))
+    Ok(Core::Arrow(start, found))
 }
 
 /// A call that is always refused with XPST0017: `true` with an argument.
@@ -339,7 +341,7 @@ fn rooted(
         ≡ parts.rooted separator (core_mean first) (map core_mean later)) }
 {
     let mut found = Items::new(alloc);
-    next(alloc, &mut found, separator, first)?;
+    push_step(alloc, &mut found, separator, first)?;
     found.append(later)?;
     path_along(alloc, Core::Root, found)
 }
@@ -365,30 +367,9 @@ fn steps(alloc: Global, more: &[(Separator, Step)]) -> Result<Items<Core>, Alloc
 {
     let mut found = Items::new(alloc);
     for (separator, later) in more {
-        next(alloc, &mut found, *separator, step(alloc, later)?)?;
+        push_step(alloc, &mut found, *separator, step(alloc, later)?)?;
     }
     Ok(found)
-}
-
-/// Puts a step at the end, after what its separator stands for.
-fn next(
-    alloc: Global,
-    found: &mut Items<Core>,
-    separator: Separator,
-    step: Core,
-) -> Result<(), AllocError>
-    ensures same { OnOk result
-        (map core_mean found.new
-        ≡ map core_mean found.old ++ meaning.after separator (core_mean step)) }
-    ensures slash { OnOk result (separator ≡ Slash → found.new ≡ found.old ++ step ∷ []) }
-{
-    match separator {
-        Separator::Slash => found.push(step),
-        Separator::DoubleSlash => {
-            found.push(Core::Step(Axis::DescendantOrSelf, Test::Any, Items::new(alloc)))?;
-            found.push(step)
-        }
-    }
 }
 
 /// A step of a path.
@@ -399,12 +380,14 @@ fn step(alloc: Global, step: &Step) -> Result<Core, AllocError>
 {
     match step {
         Step::Axis(along, predicates) => {
+            let predicates = expressions(alloc, predicates.as_slice())?;
             let (axis, test) = axis_step(alloc, along)?;
-            Ok(Core::Step(axis, test, expressions(alloc, predicates.as_slice())?))
+            Ok(Core::Step(axis, test, predicates))
         }
         Step::Primary(primary, predicates) => {
+            let predicates = expressions(alloc, predicates.as_slice())?;
             let primary = expression(alloc, primary.get())?;
-            filtered(alloc, primary, expressions(alloc, predicates.as_slice())?)
+            filtered(alloc, primary, predicates)
         }
     }
 }
@@ -430,7 +413,7 @@ fn clauses(alloc: Global, list: &[Clause]) -> Result<Items<CoreClause>, AllocErr
 {
     let mut found = Items::new(alloc);
     for next in list {
-        found.append(clause(alloc, next)?)?;
+        append_clauses(&mut found, clause(alloc, next)?)?;
     }
     Ok(found)
 }
@@ -487,7 +470,7 @@ fn assignments(alloc: Global, list: &[(QName, Expr)]) -> Result<Items<CoreClause
     let mut found = Items::new(alloc);
     for (variable, value) in list {
         let variable = text(alloc, &variable.local)?;
-        found.push(CoreClause::Let(variable, expression(alloc, value)?))?;
+        push_let(&mut found, variable, expression(alloc, value)?)?;
     }
     Ok(found)
 }
@@ -501,7 +484,7 @@ fn group(alloc: Global, specs: &[GroupSpec]) -> Result<Items<CoreClause>, AllocE
 {
     let mut found = Items::new(alloc);
     for spec in specs {
-        found.append(lets(alloc, spec)?)?;
+        append_clauses(&mut found, lets(alloc, spec)?)?;
     }
     found.push(CoreClause::Group(grouping(alloc, specs)?))?;
     Ok(found)
@@ -517,8 +500,8 @@ fn lets(alloc: Global, spec: &GroupSpec) -> Result<Items<CoreClause>, AllocError
     match spec {
         GroupSpec::Variable(_) => Ok(found),
         GroupSpec::Assigned(variable, value) => {
-            let value = expression(alloc, value)?;
-            found.push(CoreClause::Let(text(alloc, &variable.local)?, value))?;
+            let variable = text(alloc, &variable.local)?;
+            push_let(&mut found, variable, expression(alloc, value)?)?;
             Ok(found)
         }
     }

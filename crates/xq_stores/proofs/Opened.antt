@@ -25,11 +25,13 @@ module _ {D : Type 0} {g : Ghosts D} (conn : Held (FileStore D g)) where
       record { opened = conn; found = finds; map = documents over_files conn; held = inr (it.0, refl); stands = it.1 })
 
   -- and of files that were opened
-  pub opened : (image : Image) (r : Option (Held (FileStore D g))) → IfSome r (λ store. IsClean over_files store → (image : Image) → FindsIn image (file_state conn) → StandsForFiles image store)
+  pub opened : (image : Image) (r : Option (Held (FileStore D g))) → IfSome r (λ store. IsBlank over_files conn ⊎ HasTables over_files conn)
+      → IfSome r (λ store. IsClean over_files store → IsBlank over_files conn → StandsFor over_files store empty)
+      → IfSome r (λ store. IsClean over_files store → HasTables over_files conn → HoldsDocuments over_files conn × StandsFor over_files store (documents over_files conn))
       → IfSome r (λ store. IsClean over_files store → IsClean over_files conn) → (HasCleanDisk (file_state conn) → FindsIn image (file_state conn)) → IfSome r (λ store. IsClean over_files store → StandsForFiles image store)
   unfolding IsClean
-  opened image None stands was finds = tt
-  opened image (Some store) stands was finds = λ clean. stands clean image (finds (was clean))
+  opened image None known made found was finds = tt
+  opened image (Some store) known made found was finds = λ clean. stands_for store known (made clean) (found clean) image (finds (was clean))
 
   -- what a close leaves, where the connection is that of the store
   pub left_in : (store : Held (FileStore D g)) → conn ≡ store → (files : Files D) → IsCopied conn files → (IsTrue (file_state conn).is_open → (file_state conn).now ≡ (file_state conn).committed) → IsLeftIn store files

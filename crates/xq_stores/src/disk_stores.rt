@@ -1,16 +1,14 @@
 //! A store whose documents live in a file.
 ghost use Rattle.std.specs.Prelude.{◌≡◌, IfSome};
-ghost use Rattle.sqlite.specs.Files.{file_state, over_files};
-ghost use Rattle.sqlite.specs.Recovery.{Image};
-ghost use Rattle.sqlite.specs.Start.{FindsIn};
+ghost use Rattle.sqlite.specs.Files.{over_files};
 ghost use Rattle.sqlite.specs.WalFiles.{image_at};
 ghost use Rattle.sqlite_wal.specs.Reads.{AreClean};
 ghost use Rattle.xq_rows.specs.Documents.{IsClean, IsOpen};
 ghost use Rattle.xq_stores.specs.Opened.{IsLeftIn, StandsForFiles};
 
-use crate::files::{absent_log, has_one_byte, remove_log};
 use sqlite::{Connection, FileFrom, FileStore, Files, Start, Unknown};
 use sqlite_disk::Disk;
+use xq_openings::{absent_log, adopted, has_one_byte, remove_log};
 use xq_rows::Store;
 
 /// A store whose documents live in a file, and are there at the next start.
@@ -91,31 +89,6 @@ pub fn close_store<S: Start>(store: Store<FileStore<FileFrom<S>>>) -> Option<Fil
         Ok(files) => Some(files),
         Err((_error, left)) => {
             drop(left.close());
-            None
-        }
-    }
-}
-
-/// The store of a database that was opened. Where it is refused it is still held as its log is
-/// removed.
-fn adopted<S: Start>(
-    rt: &HostRuntime,
-    conn: Connection<FileStore<FileFrom<S>>>,
-    log: Option<String>,
-) -> Option<Store<FileStore<FileFrom<S>>>>
-    ensures found { IfSome result (λ store. IsClean over_files store → (image : Image)
-        → FindsIn image (file_state conn) → StandsForFiles image store) }
-    ensures was_clean { IfSome result (λ store. IsClean over_files store
-        → IsClean over_files conn) }
-    ensures open { IfSome result (λ store. IsClean over_files store → IsOpen over_files store) }
-{
-    if !conn.is_autocommit() {
-        return None;
-    }
-    match Store::adopt(rt.alloc(), conn) {
-        Ok(store) => Some(store),
-        Err((_fault, _held)) => {
-            remove_log(rt, log);
             None
         }
     }

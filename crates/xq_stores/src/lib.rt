@@ -5,7 +5,6 @@
 #![tactic(auto)]
 
 mod disk_stores;
-mod files;
 mod memory_stores;
 
 pub use disk_stores::DiskStore;

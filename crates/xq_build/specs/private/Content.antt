@@ -13,7 +13,7 @@ use Rattle.indexmap.specs.IndexSet.{IndexSet}
 use denote.Ref.{Bor}
 use Rattle.xq_meaning.specs.Content.{is_text, text_label, copied, first_fault}
 use Rattle.xq_meaning.specs.Items.{Item, Node, Atom, tree_below}
-use Rattle.xq_build.specs.private.Leaves.{Leaf, leaves}
+use Rattle.xq_copies.specs.Leaves.{Leaf, leaves}
 
 -- # Items as nodes: a run of atomic values that is not closed yet is known by its text
 

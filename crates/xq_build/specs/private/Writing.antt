@@ -3,7 +3,7 @@ use Rattle.std.specs.Prelude.{◌≡◌, ℕ, ◌<◌, ◌≤◌, List, [], ◌�
 use Rattle.std.specs.Char.{encode_utf8}
 use Rattle.xq_regions.specs.Tree.{Tree}
 use Rattle.xq_regions.specs.private.Printing.{text_from}
-use Rattle.xq_build.specs.private.Leaves.{Leaf}
+use Rattle.xq_copies.specs.Leaves.{Leaf}
 use Rattle.xq_meaning.specs.Items.{Item}
 use Rattle.xq_meaning.specs.Print.{print_item}
 use Rattle.xq_atoms.specs.declared.refusals.Code.TheVariants.{ProfReply}

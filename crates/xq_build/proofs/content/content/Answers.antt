@@ -4,7 +4,7 @@ use Rattle.xq_regions.specs.Items.{item_view}
 use Rattle.xq_regions.specs.Levels.{flat_row}
 use Rattle.xq_meaning.specs.Content.{content}
 use Rattle.xq_meaning.specs.Readings.{items_at}
-use Rattle.xq_build.specs.private.Leaves.{Leaf}
+use Rattle.xq_copies.specs.Leaves.{Leaf}
 use Rattle.xq_build.specs.private.Content.{is_kept}
 use Rattle.xq_build.specs.private.Surplus.{StandsFor}
 use Rattle.xq_build.proofs.Surpluses.{content_stands}

@@ -2,8 +2,8 @@ use Rattle.std.proofs.Common.{◌≡◌, ◌∙◌, ◌+◌, ℕ, ap, sym, List,
 use Rattle.xq_regions.specs.Tree.{Tree}
 use Rattle.xq_regions.specs.Levels.{flat_row}
 use Rattle.xq_sources.specs.Sources.{tree_at}
-use Rattle.xq_build.specs.private.Leaves.{Leaf, IsRowOf, lowered, leaves_between}
-use Rattle.xq_build.proofs.Subtrees.{document_leaves, whole_copied}
+use Rattle.xq_copies.specs.Leaves.{Leaf, IsRowOf, lowered, leaves_between}
+use Rattle.xq_copies.proofs.Subtrees.{document_leaves, whole_copied}
 use Rattle.xq_build.proofs.Contents.{childless_node}
 use Rattle.xq_build.proofs.copies.append_content.Goals as goal
 

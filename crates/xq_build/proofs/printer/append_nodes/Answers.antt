@@ -6,8 +6,8 @@ use Rattle.xq_regions.specs.Rows.{placed}
 use Rattle.xq_sources.specs.Lenders.{IsRun}
 use Rattle.xq_sources.specs.Meters.{Readings}
 use Rattle.xq_sources.specs.Sources.{rows_between, tree_at}
-use Rattle.xq_build.specs.private.Leaves.{Leaf, lowered}
-use Rattle.xq_build.proofs.Subtrees.{none_left, none_lent, run_splits, empty_is}
+use Rattle.xq_copies.specs.Leaves.{Leaf, lowered}
+use Rattle.xq_copies.proofs.Subtrees.{none_left, none_lent, run_splits, empty_is}
 use Rattle.xq_build.proofs.Counted.{lent_run, run_counted}
 use Rattle.xq_build.proofs.Written.{appended, nodes_next, nodes_refused}
 use Rattle.xq_build.proofs.printer.append_nodes.Goals as goal

@@ -4,7 +4,7 @@ use Rattle.xq_regions.specs.Rows.{placed}
 use Rattle.xq_sources.specs.Lenders.{IsRun}
 use Rattle.xq_sources.specs.Sources.{rows_between, tree_at}
 use Rattle.xq_build.specs.private.Content.{are_low}
-use Rattle.xq_build.proofs.Subtrees.{none_left, run_splits}
+use Rattle.xq_copies.proofs.Subtrees.{none_left, run_splits}
 use Rattle.xq_build.proofs.Surpluses.{run_high, run_low}
 use Rattle.xq_build.proofs.surplus.are_low_between.Goals as goal
 

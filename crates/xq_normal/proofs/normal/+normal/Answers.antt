@@ -49,8 +49,8 @@ expression-returns-in_ok-set_operands-in-SetOperation-clause-same t c =
     (c.in_ok-set_operands-in-SetOperation.ensures ∙ ap (parts.operands operator.SetOperation) c.as_slice-in-SetOperation.ensures)
     ∙ sym (ap mean c.in-SetOperation.is ∙ mean.mean-SetOperation c.in-SetOperation.first c.in-SetOperation.more)
 
-pub expression-returns-in_ok-later-in-Path-clause-same : goal.expression-returns-in_ok-later-in-Path-clause-same
-expression-returns-in_ok-later-in-Path-clause-same t c =
+pub expression-returns-in_ok-first-in-Path-clause-same : goal.expression-returns-in_ok-first-in-Path-clause-same
+expression-returns-in_ok-first-in-Path-clause-same t c =
     let found = path_is c.args.expr.now c.in-Path.start c.in-Path.first c.in-Path.more c.in_ok-first-in-Path.first c.in_ok-later-in-Path.later c.in-Path.is
     (c.in_ok-first-in-Path.ensures.same ∙ ap step_mean c.get-in-Path.ensures)
     (c.in_ok-later-in-Path.ensures.same ∙ ap (λ l. later_parts (parts.steps l)) c.as_slice-in-Path.ensures) in
@@ -58,7 +58,7 @@ expression-returns-in_ok-later-in-Path-clause-same t c =
 
 pub clauses-loop-next-preserved : goal.clauses-loop-next-preserved
 clauses-loop-next-preserved t c =
-    ap (λ l. clauses (map core_clause_mean l)) c.in_ok-append.ensures
+    ap (λ l. clauses (map core_clause_mean l)) c.in_ok-append_clauses.ensures
     ∙ clauses_next core_clause_mean clause_mean c.args.list.now c.loop-next.next-index c.loop-next.found c.in_ok-clause.field-0 c.next-item.result
     c.loop-next.invariant (omega (arith, c.loop-next-test.true)) c.next-item.is c.in_ok-clause.ensures
 
@@ -153,7 +153,7 @@ arrow-returns-in_ok-value-in-len1-up t c =
 pub later_calls-loop-name-init : goal.later_calls-loop-name-init
 later_calls-loop-name-init t c = record {
   left = subst (CallsLeft (core_mean c.args.value) c.args.calls.now 0) (sym c.new-found.ensures) (calls_begin (core_mean c.args.value) c.args.calls.now);
-  kept = refl;
+  kept = c.in_ok-start.ensures;
 }
 
 pub later_calls-loop-name-preserved : goal.later_calls-loop-name-preserved
@@ -179,8 +179,8 @@ later_calls-returns-in_default t c =
 
 pub later_calls-returns : goal.later_calls-returns
 later_calls-returns t c =
-    core.core-Arrow c.in_ok-new.field-0 c.loop-name.found
-    ∙ ap (λ m. Forms.arrow m (parts.core_calls c.loop-name.found)) (ap core_mean (c.in_ok-new.ensures ∙ c.loop-name.invariant.kept))
+    core.core-Arrow c.loop-name.start c.loop-name.found
+    ∙ ap (λ m. Forms.arrow m (parts.core_calls c.loop-name.found)) (ap core_mean c.loop-name.invariant.kept)
     ∙ sym (calls_end (core_mean c.args.value) c.args.calls.now c.loop-name.name-index c.loop-name.found c.loop-name.invariant.left (omega (arith, c.loop-name-test.false)))
 
 pub expression-returns-in_ok-first-in-Arrow-clause-same : goal.expression-returns-in_ok-first-in-Arrow-clause-same
@@ -192,7 +192,7 @@ expression-returns-in_ok-first-in-Arrow-clause-same t c =
 
 pub expression-returns-in_ok-expressions-in-Map-clause-same : goal.expression-returns-in_ok-expressions-in-Map-clause-same
 expression-returns-in_ok-expressions-in-Map-clause-same t c =
-    map_is c.args.expr.now c.in-Map.first c.in-Map.more c.in_ok-first-in-Map.first c.in_ok-expressions-in-Map.field-0 c.in-Map.is
+    map_is c.args.expr.now c.in-Map.first c.in-Map.more c.simple_map.result c.in_ok-first-in-Map.first c.in_ok-expressions-in-Map.field-0 c.in-Map.is c.simple_map.ensures
     (c.in_ok-first-in-Map.ensures ∙ ap mean c.get-in-Map.ensures)
     (c.in_ok-expressions-in-Map.ensures.same ∙ ap (map mean) c.as_slice-in-Map.ensures)
 
@@ -301,8 +301,8 @@ expression-returns-in-Call-clause-shape t c =
     (subst (λ es. StaysCall c.in-Call.name es core) c.as_slice.ensures h))
     c.call.ensures.shape
 
-pub expression-returns-in_ok-later-in-Path-clause-shape : goal.expression-returns-in_ok-later-in-Path-clause-shape
-expression-returns-in_ok-later-in-Path-clause-shape t c =
+pub expression-returns-in_ok-first-in-Path-clause-shape : goal.expression-returns-in_ok-first-in-Path-clause-shape
+expression-returns-in_ok-first-in-Path-clause-shape t c =
     let first = c.in_ok-first-in-Path.first in
     let later = c.in_ok-later-in-Path.later in
     if_ok c.path.result
@@ -348,12 +348,12 @@ steps-loop-separator-preserved t c =
     let value = c.in_ok-step.field-0 in
     record {
       same =
-          steps_next c.args.more.now c.loop-separator.separator-index c.loop-separator.found c.next.new.found value y
-          c.loop-separator.invariant.same (omega (arith, c.loop-separator-test.true)) c.loop-separator-item.is c.in_ok-next.ensures.same c.in_ok-step.ensures.same;
+          steps_next c.args.more.now c.loop-separator.separator-index c.loop-separator.found c.push_step.new.steps value y
+          c.loop-separator.invariant.same (omega (arith, c.loop-separator-test.true)) c.loop-separator-item.is c.in_ok-push_step.ensures.same c.in_ok-step.ensures.same;
       plain =
-          left_next after_slash plain_step c.args.more.now c.loop-separator.separator-index c.loop-separator.found c.loop-separator.invariant.plain c.next.new.found value y
+          left_next after_slash plain_step c.args.more.now c.loop-separator.separator-index c.loop-separator.found c.loop-separator.invariant.plain c.push_step.new.steps value y
           (omega (arith, c.loop-separator-test.true)) c.loop-separator-item.is
-          (λ along is. c.in_ok-next.ensures.slash (ap (λ s. s.0) is) ∙ ap (λ x. c.loop-separator.found ++ x ∷ []) (plain_stays y.1 along value c.in_ok-step.ensures.plain (ap (λ s. s.1) is)));
+          (λ along is. c.in_ok-push_step.ensures.slash (ap (λ s. s.0) is) ∙ ap (λ x. c.loop-separator.found ++ x ∷ []) (plain_stays y.1 along value c.in_ok-step.ensures.plain (ap (λ s. s.1) is)));
     }
 
 pub steps-returns-clause-same : goal.steps-returns-clause-same
@@ -364,18 +364,18 @@ pub steps-returns-clause-plain : goal.steps-returns-clause-plain
 steps-returns-clause-plain t c =
     left_done after_slash plain_step c.args.more.now c.loop-separator.separator-index c.loop-separator.found c.loop-separator.invariant.plain (omega (arith, c.loop-separator-test.false))
 
-pub step-returns-in_ok-expressions-in-Axis-clause-plain : goal.step-returns-in_ok-expressions-in-Axis-clause-plain
-step-returns-in_ok-expressions-in-Axis-clause-plain t c =
+pub step-returns-in_ok-axis-in-Axis-clause-plain : goal.step-returns-in_ok-axis-in-Axis-clause-plain
+step-returns-in_ok-axis-in-Axis-clause-plain t c =
     step_at c.args.step.now (Step-F.Axis c.in-Axis.along c.in-Axis.predicates) _ (ap out-Step c.in-Axis.is ∙ written.outs-Axis c.in-Axis.along c.in-Axis.predicates)
-    (λ none. let empty = c.in_ok-expressions-in-Axis.ensures.literals [] (c.as_slice.ensures ∙ none) in
+    (λ none. let empty = c.in_ok-predicates-in-Axis.ensures.literals [] (c.as_slice.ensures ∙ none) in
     (λ i. form.Step (c.in_ok-axis-in-Axis.ensures i).0 (c.in_ok-axis-in-Axis.ensures i).1 (empty i)))
 
-pub step-returns-in_ok-expressions-in-Primary-clause-plain : goal.step-returns-in_ok-expressions-in-Primary-clause-plain
-step-returns-in_ok-expressions-in-Primary-clause-plain t c =
+pub step-returns-in_ok-primary-in-Primary-clause-plain : goal.step-returns-in_ok-primary-in-Primary-clause-plain
+step-returns-in_ok-primary-in-Primary-clause-plain t c =
     let value = c.in_ok-primary-in-Primary.primary in
     if_ok c.filtered.result
     (λ core h. step_at c.args.step.now (Step-F.Primary c.in-Primary.primary c.in-Primary.predicates) core (ap out-Step c.in-Primary.is ∙ written.outs-Primary c.in-Primary.primary c.in-Primary.predicates)
-    (λ none. subst (HasShape c.in-Primary.primary) (sym (h (c.in_ok-expressions-in-Primary.ensures.literals [] (c.as_slice-in-Primary.ensures ∙ none))))
+    (λ none. subst (HasShape c.in-Primary.primary) (sym (h (c.in_ok-predicates-in-Primary.ensures.literals [] (c.as_slice-in-Primary.ensures ∙ none))))
     (subst (λ e. HasShape e value) c.get.ensures c.in_ok-primary-in-Primary.ensures.shape)))
     c.filtered.ensures.alone
 

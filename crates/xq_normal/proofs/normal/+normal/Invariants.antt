@@ -36,7 +36,7 @@ invariant-set_operands-loop-operator l =
 abbrev pub invariant-later_calls-loop-name : goal.invariant-later_calls-loop-name
 invariant-later_calls-loop-name l = record {
   left : CallsLeft (core_mean l.fn.value) l.calls l.name-index l.found;
-  kept : l.value ≡ l.fn.value;
+  kept : l.start ≡ l.fn.value;
 }
 
 abbrev pub invariant-steps-loop-separator : goal.invariant-steps-loop-separator
