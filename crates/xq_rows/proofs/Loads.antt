@@ -135,4 +135,3 @@ above_read_is db a v given list shown read store =
     let it = shown store in
     let same = read ∙ all_six (filter (λ r. is_at a r && is_above v r) (shown_rows db)) given it.same in
     subst (IsPicked (λ r. is_at a r && is_above v r) node_columns (shown_rows db)) (sym same) it
-
