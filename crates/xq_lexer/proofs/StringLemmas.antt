@@ -1,19 +1,21 @@
 -- What is next inside a string.
-use Rattle.std.proofs.Common.{◌≡◌, ℕ, suc, ◌<◌, ◌≤◌, min, Bool, true, false, cond, List, [], ◌∷◌, ◌++◌, length, get_or, drop, Option, Some, None, Result, Ok, Err, refl, sym, ap, subst, ◌∙◌, arith, append_assoc, encode_utf8_all, encode_utf8, ◌⊎◌, inl, inr}
+use Rattle.std.proofs.Common.{◌≡◌, ℕ, suc, ◌<◌, ◌≤◌, min, Bool, true, false, cond, List, [], ◌∷◌, ◌++◌, length, get_or, drop, map, Option, Some, None, Result, Ok, Err, refl, sym, ap, subst, ◌∙◌, arith, append_assoc, encode_utf8_all, encode_utf8, ◌⊎◌, inl, inr}
 use Rattle.std.specs.Prelude.{◌==◌}
 use Rattle.std.specs.Char.{IsScalar}
-use Rattle.std.proofs.lemmas.List.{append-nil, map-append}
+use Rattle.std.proofs.lemmas.List.{append-nil, map-append, length-append}
+use Rattle.std.specs.List.{list_all}
 use Rattle.std.proofs.lemmas.Str.{encodes-append}
-use Rattle.std.proofs.lemmas.Bool.{cases_lt}
+use Rattle.std.proofs.lemmas.Bool.{and_parts, cases_lt}
 use Rattle.std.proofs.lemmas.Bool.Decides.{nat_tests}
 use Rattle.xq_atoms.specs.declared.refusals.Code.{Code}
 use Rattle.xq_atoms.specs.declared.refusals.Code.TheVariants.{XQST0090}
 use Rattle.xq_atoms.specs.Characters.{is_char}
 use Rattle.xq_lexer.specs.Chars.{Text, is_quote}
 use Rattle.xq_lexer.specs.Lexeme.{str}
-use Rattle.xq_lexer.specs.Literals.{Reference, referred, Piece, reference, IsPiece, ArePieces, piece_text, piece_char, content_text, content_chars}
-use Rattle.xq_lexer.specs.private.Reading.{Inside, closed, one, wrong, after_ampersand, inside, read_reference, content, as_string, read_string}
+use Rattle.xq_lexer.specs.Literals.{Reference, referred, Piece, plain, reference, is_plain, IsPiece, ArePieces, piece_text, piece_char, content_text, content_chars}
+use Rattle.xq_lexer.specs.private.Reading.{Inside, closed, one, wrong, after_ampersand, inside, read_reference, content, as_string, read_string, span}
 use Rattle.xq_lexer.specs.private.Lexes.{next_inside, referred_char, refers, lexed}
+use Rattle.xq_lexer.proofs.Spans.{Parts, parts}
 use Rattle.xq_lexer.proofs.Contents.{Means, inside_means, content_read, content_fault_read, piece_shorter}
 
 at : (quote : ℕ) (x : Reference × Text) (b : Bool) → next_inside quote (cond b (one (reference x.0) x.1) (wrong XQST0090)) ≡ cond {A = Result (Option ℕ × Text) Code} b (Ok (Some (referred x.0), x.1)) (Err XQST0090)
@@ -72,6 +74,53 @@ content_push quote (q ∷ ps) p = ap (λ (u : Text). piece_text quote q ++ u) (c
 pieces_push : (quote : ℕ) (ps : List Piece) (p : Piece) → ArePieces quote ps → IsPiece quote p → ArePieces quote (ps ++ p ∷ [])
 pieces_push quote [] p all is = (is, tt)
 pieces_push quote (q ∷ ps) p all is = (all.0, pieces_push quote ps p all.1 is)
+
+content_append : (quote : ℕ) (ps qs : List Piece) → content_text quote (ps ++ qs) ≡ content_text quote ps ++ content_text quote qs
+content_append quote [] qs = refl
+content_append quote (p ∷ ps) qs = ap (λ (u : Text). piece_text quote p ++ u) (content_append quote ps qs) ∙ sym (append_assoc (piece_text quote p) (content_text quote ps) (content_text quote qs))
+
+pieces_append : (quote : ℕ) (ps qs : List Piece) → ArePieces quote ps → ArePieces quote qs → ArePieces quote (ps ++ qs)
+pieces_append quote [] qs all more = more
+pieces_append quote (p ∷ ps) qs all more = (all.0, pieces_append quote ps qs all.1 more)
+
+-- ---- a run of characters that stand for themselves
+
+plain_text : (quote : ℕ) (w : Text) → content_text quote (map plain w) ≡ w
+plain_text quote [] = refl
+plain_text quote (c ∷ w) = ap (λ (u : Text). c ∷ u) (plain_text quote w)
+
+plain_chars : (quote : ℕ) (w : Text) → content_chars quote (map plain w) ≡ w
+plain_chars quote [] = refl
+plain_chars quote (c ∷ w) = ap (λ (u : Text). c ∷ u) (plain_chars quote w)
+
+are_plain : (quote : ℕ) (w : Text) → list_all (is_plain quote) w ≡ true → ArePieces quote (map plain w)
+are_plain quote [] all = tt
+are_plain quote (c ∷ w) all =
+    let h = and_parts (is_plain quote c) (list_all (is_plain quote) w) all in
+    (h.0, are_plain quote w h.1)
+
+plain_parts : (quote : ℕ) (rest run after : Text) → ◌≡◌ {A = Text × Text} (run, after) (span (is_plain quote) rest) → Parts (is_plain quote) rest (run, after)
+plain_parts quote rest run after h = subst (Parts (is_plain quote) rest) (sym h) (parts (is_plain quote) rest)
+
+pub plain_more : (quote : ℕ) (chars rest bytes run after : Text) → PiecesRead quote chars rest bytes → ◌≡◌ {A = Text × Text} (run, after) (span (is_plain quote) rest) → PiecesRead quote chars after (bytes ++ encode_utf8_all run)
+plain_more quote chars rest bytes run after r h =
+    let s = plain_parts quote rest run after h in
+    let front = content_text quote r.pieces in
+    record {
+      pieces = r.pieces ++ map plain run;
+      whole = ap (λ (u : Text). u ++ after) (content_append quote r.pieces (map plain run) ∙ ap (λ (u : Text). front ++ u) (plain_text quote run)) ∙ append_assoc front run after ∙ ap (λ (u : Text). front ++ u) s.whole ∙ r.whole;
+      are_pieces = pieces_append quote r.pieces (map plain run) r.are_pieces (are_plain quote run s.all);
+      encoded = ap (λ (u : Text). u ++ encode_utf8_all run) r.encoded
+          ∙ sym (encodes-append (content_chars quote r.pieces) run)
+          ∙ ap encode_utf8_all (ap (λ (u : Text). content_chars quote r.pieces ++ u) (sym (plain_chars quote run)) ∙ sym (map-append (piece_char quote) r.pieces (map plain run)));
+    }
+
+pub plain_shorter : (quote : ℕ) (rest run after : Text) → ◌≡◌ {A = Text × Text} (run, after) (span (is_plain quote) rest) → length after ≤ length rest
+plain_shorter quote rest run after h =
+    let s = plain_parts quote rest run after h in
+    let long = length-append run after in
+    let same = ap (λ (u : Text). length u) s.whole in
+    omega (arith, long, same)
 
 -- one character more
 pub piece_more : (quote : ℕ) (chars rest bytes : Text) (c : ℕ) (after : Text) → PiecesRead quote chars rest bytes → next_inside quote (inside quote rest) ≡ Ok (Some c, after) → PiecesRead quote chars after (bytes ++ encode_utf8 c)

@@ -1,5 +1,5 @@
 //! Runs of characters of one class, and their bytes.
-ghost use Rattle.std.specs.Prelude.{◌≡◌, ◌+◌, length, IfOk, string_bytes, ◌<◌, ◌^◌};
+ghost use Rattle.std.specs.Prelude.{◌≡◌, ◌+◌, ◌++◌, length, IfOk, OnOk, string_bytes, ◌<◌, ◌^◌};
 ghost use Rattle.std.specs.Str.{encode_utf8_all};
 ghost use Rattle.xq_lexer.specs.private.Lexes.{test};
 ghost use Rattle.xq_lexer.specs.private.Reading.{span};
@@ -7,7 +7,7 @@ ghost use Rattle.xq_lexer.specs.Spelling.{bytes as bytes_of};
 
 use crate::chars::is_hex;
 use std::alloc::{AllocError, Global};
-use xq_atoms::{is_digit, is_name_char};
+use xq_atoms::{is_char, is_digit, is_name_char};
 
 /// A class of characters.
 #[derive(Clone, Copy)]
@@ -15,6 +15,8 @@ pub enum Class {
     Name,
     Digit,
     HexDigit,
+    /// What stands for itself in a string with this quote.
+    Plain(char),
 }
 
 impl Class {
@@ -26,6 +28,7 @@ impl Class {
             Class::Name => is_name_char(c),
             Class::Digit => is_digit(c),
             Class::HexDigit => is_hex(c),
+            Class::Plain(quote) => c != quote && c != '&' && is_char(c),
         }
     }
 }
@@ -47,10 +50,20 @@ pub fn text(alloc: Global, chars: &[char]) -> Result<String, AllocError>
     ensures { IfOk result (λ text. string_bytes text ≡ encode_utf8_all chars.now) }
 {
     let mut text = String::new(alloc);
+    append(&mut text, chars)?;
+    Ok(text)
+}
+
+/// Adds the characters to the text, for which room is made at once.
+pub fn append(text: &mut String, chars: &[char]) -> Result<(), AllocError>
+    ensures { OnOk result
+        (string_bytes text.new ≡ string_bytes text.old ++ encode_utf8_all chars.now) }
+{
+    text.reserve(chars.len())?;
     for c in chars {
         text.push(*c)?;
     }
-    Ok(text)
+    Ok(())
 }
 
 /// How many bytes spell the characters.

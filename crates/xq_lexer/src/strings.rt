@@ -7,7 +7,7 @@ ghost use Rattle.xq_lexer.specs.Lexeme.{lex_of};
 ghost use Rattle.xq_lexer.specs.Literals as lit;
 ghost use Rattle.xq_lexer.specs.private.Reading as spec;
 
-use crate::runs::{Class, run};
+use crate::runs::{Class, append, run};
 use crate::tokens::Lexeme;
 use std::alloc::Global;
 use xq_atoms::{Code, Fault, is_char, is_digit};
@@ -28,7 +28,9 @@ pub fn string<'a>(
     let mut text = String::new(alloc);
     let mut rest = chars;
     'pieces: loop {
-        match inside(quote, rest)? {
+        let (plain, special) = run(Class::Plain(quote), rest);
+        append(&mut text, plain)?;
+        match inside(quote, special)? {
             (Some(c), after) => {
                 text.push(c)?;
                 rest = after;

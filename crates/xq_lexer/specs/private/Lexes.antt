@@ -9,11 +9,11 @@ use Rattle.xq_atoms.specs.declared.refusals.Want.TheVariants.{Memory}
 use Rattle.xq_atoms.specs.Judged.{Judged}
 use Rattle.xq_atoms.specs.Literal.{integer_literal, decimal_literal}
 use Rattle.xq_lexer.specs.declared.runs.Class.{Class}
-use Rattle.xq_lexer.specs.declared.runs.Class.TheVariants.{Name, Digit, HexDigit}
+use Rattle.xq_lexer.specs.declared.runs.Class.TheVariants.{Name, Digit, HexDigit, Plain}
 use Rattle.xq_atoms.specs.Characters.{is_char, is_digit, is_name_char}
 use Rattle.xq_lexer.specs.Chars.{Text, is_hex}
 use Rattle.xq_lexer.specs.Lexeme.{Lex, int, dec, placed, place_of}
-use Rattle.xq_lexer.specs.Literals.{Number, integer, decimal, Reference, referred, piece_char}
+use Rattle.xq_lexer.specs.Literals.{Number, integer, decimal, Reference, referred, is_plain, piece_char}
 use Rattle.xq_lexer.specs.Spelling.{Form, form_lex, Next, Spells, bytes}
 use Rattle.xq_lexer.specs.Separators.{skip}
 use Rattle.xq_lexer.specs.TokenFaults.{FaultHere, HasFault}
@@ -32,6 +32,7 @@ abbrev pub test : Class → ℕ → Bool
 test Name = is_name_char
 test Digit = is_digit
 test HexDigit = is_hex
+test (Plain quote) = is_plain quote
 
 -- what a token read stands for
 abbrev pub lexed : Result (Form × Text) Code → Result (Lex × Text) Code
