@@ -52,7 +52,11 @@ impl Task for Row {
 const NOTE: &[u8] = b"document {element note {text {\"kept\"}}}";
 
 /// The store of a document that no request after it names.
-const PUT_NOTE: Row = Row::Answers(b'S', b"\x01adocument {element note {text {\"kept\"}}}", b"stored");
+const PUT_NOTE: Row = Row::Answers(
+    b'S',
+    b"\x01adocument {element note {text {\"kept\"}}}",
+    b"stored",
+);
 
 const PUT_LIBRARY: Row = Row::Answers(b'S', PUT_B, b"stored");
 
@@ -62,17 +66,10 @@ const NOTE_IS_THERE: Row = Row::Answers(b'Q', b"doc(\"a\")", NOTE);
 const BOTH: Row = Row::Answers(b'L', b"", b"\"a\", \"b\"");
 
 /// The note alone.
-const ALONE: &[Row] = &[
-    NOTE_IS_THERE,
-    Row::Answers(b'L', b"", b"\"a\""),
-];
+const ALONE: &[Row] = &[NOTE_IS_THERE, Row::Answers(b'L', b"", b"\"a\"")];
 
 /// The note, and the library under `b`.
-const LIBRARY_TOO: &[Row] = &[
-    NOTE_IS_THERE,
-    BOTH,
-    Row::Answers(b'Q', DOC_B, LIBRARY),
-];
+const LIBRARY_TOO: &[Row] = &[NOTE_IS_THERE, BOTH, Row::Answers(b'Q', DOC_B, LIBRARY)];
 
 /// The note, and an empty document under `b`.
 const EMPTY_TOO: &[Row] = &[

@@ -106,10 +106,7 @@ fn check_inputs(rt: &(impl Abort + AllocGlobal), memory: &mut MemoryServer) {
 }
 
 /// The worked rows in order on one server, but for two long results, and then whole inputs.
-fn check_worked(
-    rt: &(impl Abort + AllocGlobal),
-    memory: &mut MemoryServer,
-) -> Result<(), Fail> {
+fn check_worked(rt: &(impl Abort + AllocGlobal), memory: &mut MemoryServer) -> Result<(), Fail> {
     check_rows(rt, memory, 1, FIRST_ROWS)?;
     check_groups(rt, memory, 1, &QUERIES)?;
     check_depths(rt, memory)?;
@@ -193,10 +190,7 @@ pub const INPUTS: [Input; 4] = [
 ];
 
 /// Each code that a query can be refused with.
-fn check_refused(
-    rt: &(impl Abort + AllocGlobal),
-    memory: &mut MemoryServer,
-) -> Result<(), Fail> {
+fn check_refused(rt: &(impl Abort + AllocGlobal), memory: &mut MemoryServer) -> Result<(), Fail> {
     check_rows(rt, memory, 1, FIRST_ROWS)?;
     check_groups(rt, memory, 1, &REFUSALS)
 }
@@ -209,20 +203,20 @@ fn refused_queries(rt: HostRuntime) -> Result<(), Fail> {
 
 /// Malformed frames, and the order in which the faults of one request are judged.
 const FAULTS: &[Row] = &[
-        Row::Refuses(b'S', b"", b"prof:FRAME"),
-        Row::Refuses(b'S', b"\x02a", b"prof:FRAME"),
-        Row::Refuses(b'S', b"\x00\xff", b"prof:ADDRESS"),
-        Row::Refuses(b'S', b"\x01 \xff", b"prof:ADDRESS"),
-        Row::Refuses(b'S', b"\x01a\xff(", b"prof:UTF8"),
-        Row::Refuses(b'S', b"\x01adoc(\"a\"", b"XPST0003"),
-        Row::Refuses(b'S', b"\x01a(1 div 0, $q)", b"XPST0008"),
-        Row::Refuses(b'S', b"\x01adoc(\"a\")", b"FODC0002"),
-        Row::Refuses(b'S', b"\x01a1 div 0", b"FOAR0001"),
-        Row::Refuses(b'S', b"\x01adocument {}, 1", b"prof:NOTDOC"),
-        Row::Refuses(b'S', b"\x01a", b"XPST0003"),
-        Row::Refuses(b'D', b"a/b c", b"prof:ADDRESS"),
-        Row::Refuses(b'D', b"a/b", b"prof:ABSENT"),
-        Row::Answers(b'L', b"", b"()"),
+    Row::Refuses(b'S', b"", b"prof:FRAME"),
+    Row::Refuses(b'S', b"\x02a", b"prof:FRAME"),
+    Row::Refuses(b'S', b"\x00\xff", b"prof:ADDRESS"),
+    Row::Refuses(b'S', b"\x01 \xff", b"prof:ADDRESS"),
+    Row::Refuses(b'S', b"\x01a\xff(", b"prof:UTF8"),
+    Row::Refuses(b'S', b"\x01adoc(\"a\"", b"XPST0003"),
+    Row::Refuses(b'S', b"\x01a(1 div 0, $q)", b"XPST0008"),
+    Row::Refuses(b'S', b"\x01adoc(\"a\")", b"FODC0002"),
+    Row::Refuses(b'S', b"\x01a1 div 0", b"FOAR0001"),
+    Row::Refuses(b'S', b"\x01adocument {}, 1", b"prof:NOTDOC"),
+    Row::Refuses(b'S', b"\x01a", b"XPST0003"),
+    Row::Refuses(b'D', b"a/b c", b"prof:ADDRESS"),
+    Row::Refuses(b'D', b"a/b", b"prof:ABSENT"),
+    Row::Answers(b'L', b"", b"()"),
 ];
 
 #[test]
@@ -233,20 +227,20 @@ fn refusals(rt: HostRuntime) -> Result<(), Fail> {
 /// A document is copied under a second address; a store sees the documents as they were; line ends
 /// are read as line feeds.
 const COPIES: &[Row] = &[
-        Row::Answers(b'S', PUT_B, b"stored"),
-        Row::Answers(b'S', b"\x03x/ydoc(\"b\")", b"stored"),
-        Row::Answers(
-            b'S',
-            b"\x01bdocument {doc(\"b\")/lib/book[1], collection()/lib}",
-            b"replaced",
-        ),
-        Row::Gives("count(doc(\"b\")/*), count(collection())", "3, 2"),
-        Row::Answers(b'D', b"b", b"dropped"),
-        Row::Answers(b'Q', b"doc(\"x/y\")", LIBRARY),
-        Row::Gives(
-            "document {text {\"1\r\n2\r3\n4\r\r\n5&#xD;6\"}}",
-            "document {text {\"1\n2\n3\n4\n\n5&#xD;6\"}}",
-        ),
+    Row::Answers(b'S', PUT_B, b"stored"),
+    Row::Answers(b'S', b"\x03x/ydoc(\"b\")", b"stored"),
+    Row::Answers(
+        b'S',
+        b"\x01bdocument {doc(\"b\")/lib/book[1], collection()/lib}",
+        b"replaced",
+    ),
+    Row::Gives("count(doc(\"b\")/*), count(collection())", "3, 2"),
+    Row::Answers(b'D', b"b", b"dropped"),
+    Row::Answers(b'Q', b"doc(\"x/y\")", LIBRARY),
+    Row::Gives(
+        "document {text {\"1\r\n2\r3\n4\r\r\n5&#xD;6\"}}",
+        "document {text {\"1\n2\n3\n4\n\n5&#xD;6\"}}",
+    ),
 ];
 
 #[test]
