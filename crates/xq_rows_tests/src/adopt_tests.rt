@@ -206,7 +206,10 @@ fn adoption_of<S: Alter + Drop>(alloc: Global, mut conn: Connection<S>) -> Resul
 }
 
 /// Makes a database by these statements.
-fn filled<S: Alter + Drop>(conn: Connection<S>, statements: &[&str]) -> Result<Connection<S>, Fail> {
+fn filled<S: Alter + Drop>(
+    conn: Connection<S>,
+    statements: &[&str],
+) -> Result<Connection<S>, Fail> {
     let mut conn = conn;
     for statement in statements {
         let _count = conn.execute(statement, &[])?;

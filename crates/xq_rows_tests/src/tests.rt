@@ -55,12 +55,22 @@ pub fn answers<S: Alter + Drop>(
 
 #[test]
 fn calls_in_memory(rt: HostRuntime) -> Result<(), Fail> {
-    answers(&rt, rt.alloc(), Store::new_in_memory(rt.alloc())?, &CALL_ROWS)
+    answers(
+        &rt,
+        rt.alloc(),
+        Store::new_in_memory(rt.alloc())?,
+        &CALL_ROWS,
+    )
 }
 
 #[test]
 fn replacing_in_memory(rt: HostRuntime) -> Result<(), Fail> {
-    answers(&rt, rt.alloc(), Store::new_in_memory(rt.alloc())?, &REPLACING)
+    answers(
+        &rt,
+        rt.alloc(),
+        Store::new_in_memory(rt.alloc())?,
+        &REPLACING,
+    )
 }
 
 #[test]
@@ -111,9 +121,7 @@ fn comes_through<S: Alter + Drop>(store: Store<S>, documents: &Documents) -> boo
 #[test]
 fn each_allocation_in_memory(rt: HostRuntime) -> Result<(), Fail> {
     let documents = documents_again(rt.alloc())?;
-    let store = Store::new_in_memory(rt.alloc()).or_else(|_want| Store::new_in_memory(
-        rt.alloc(),
-    ))?;
+    let store = Store::new_in_memory(rt.alloc()).or_else(|_want| Store::new_in_memory(rt.alloc()))?;
     assert!(rt; comes_through(store, &documents));
     Ok(())
 }
@@ -145,9 +153,9 @@ fn rows_left<S: Alter + Drop>(alloc: Global, conn: Connection<S>) -> Result<Stri
 #[test]
 fn each_allocation_on_memory_disks(rt: HostRuntime) -> Result<(), Fail> {
     let documents = documents_again(rt.alloc())?;
-    let store = Store::new_on_memory_disks(rt.alloc()).or_else(
-        |_want| Store::new_on_memory_disks(rt.alloc()),
-    )?;
+    let store = Store::new_on_memory_disks(rt.alloc()).or_else(|_want| Store::new_on_memory_disks(
+        rt.alloc(),
+    ))?;
     let Some((conn, before)) = left_by_calls(store, &documents)? else {
         return Ok(());
     };
