@@ -1,5 +1,5 @@
 -- The rows that a SELECT gives of an address are those of its tree.
-use Rattle.std.proofs.Common.{◌≡◌, ◌⊎◌, ◌&&◌, ◌+◌, ◌≤◌, inl, inr, ℕ, suc, pos, Bool, true, false, cond, List, [], ◌∷◌, map, filter, length, refl, sym, ap, ap₂, subst, ◌∙◌, arith, Option, Some, None, Result, Ok, Err, IfOk}
+use Rattle.std.proofs.Common.{◌≡◌, ◌⊎◌, ◌&&◌, ◌+◌, ◌≤◌, inl, inr, ℕ, suc, pos, Bool, true, false, cond, List, [], ◌∷◌, map, filter, length, refl, sym, ap, ap₂, subst, ◌∙◌, arith, Option, Some, None}
 use Rattle.std.specs.Ordering.{is_ge, is_le}
 use Rattle.std.specs.FinMap.{get}
 use Rattle.std.specs.List.{AllByRecursion, enumerate_from}
@@ -135,4 +135,3 @@ above_read_is db a v given list shown read store =
     let it = shown store in
     let same = read ∙ all_six (filter (λ r. is_at a r && is_above v r) (shown_rows db)) given it.same in
     subst (IsPicked (λ r. is_at a r && is_above v r) node_columns (shown_rows db)) (sym same) it
-

@@ -1,4 +1,4 @@
-use Rattle.std.proofs.Common.{◌≡◌, ◌+◌, ◌-◌, ◌∙◌, drop, length, map, refl, sym, subst, arith}
+use Rattle.std.proofs.Common.{◌≡◌, ◌+◌, ◌-◌, ◌∙◌, drop, length, map, refl, subst, arith}
 use Rattle.std.specs.List.{slice_range}
 use Rattle.std.proofs.lemmas.List.{length-take, length-drop}
 use Rattle.sqlite.specs.State.{HasCleanDisk}
@@ -22,7 +22,7 @@ loop-at-init g c =
       kept = step.kept;
       within = omega (arith, c.min-at.ensures);
       so_far = λ clean. first_part c.args.address.now c.args.kept.now c.args.rows.now c.min-at.result _ _ c.renew_rows.new.names.entries first.now now.now c.requires.numbered (omega (arith, c.min-at.ensures)) (omega (arith, c.min-at.ensures)) refl
-      c.new-names.ensures.empty (c.in_ok-renew_rows.ensures.renewed clean);
+          c.new-names.ensures.empty (c.in_ok-renew_rows.ensures.renewed clean);
     }
 
 pub loop-at-preserved : goal.loop-at-preserved
