@@ -6,3 +6,4 @@ pub mod Returns
 pub mod Back
 pub mod Ranges
 pub mod Asked
+pub mod DirectPlans

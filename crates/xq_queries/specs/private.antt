@@ -1,4 +1,5 @@
 pub mod Copying
+pub mod Direct
 pub mod Lines
 pub mod Plans
 pub mod Ranges

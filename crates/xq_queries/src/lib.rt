@@ -3,6 +3,7 @@
 #![tactic(auto)]
 
 mod asking;
+mod direct;
 mod laws;
 mod lines;
 mod reading;

@@ -1,23 +1,20 @@
 //! From the bytes of a query to its plan.
-ghost use Rattle.std.specs.Prelude.{◌≡◌, [], IfErr, IfOk};
+ghost use Rattle.std.specs.Prelude.{◌≡◌, IfErr, IfOk};
 ghost use Rattle.std.specs.Str.{chars};
 ghost use Rattle.xq_atoms.specs.declared.refusals.Want.TheVariants.{Memory};
 ghost use Rattle.xq_lexer.specs.Lexeme.{lexemes};
-ghost use Rattle.xq_meaning.specs.Same.{IsNormalForm, IsPlan};
-ghost use Rattle.xq_normal.specs.DocumentPaths.{StaysDocumentPath};
-ghost use Rattle.xq_plan.specs.Scans.{ScansDocument};
-ghost use Rattle.xq_queries.specs.Values.{Plans};
+ghost use Rattle.xq_queries.specs.Scans.{ScansItsDocument};
+ghost use Rattle.xq_queries.specs.Values.{IsPlanOf, Plans};
 ghost use Rattle.xq_queries.specs.private.Plans.{Checks, Parses, Understands};
 
+use crate::direct::direct;
 use crate::lines::with_line_feeds;
 use std::alloc::Global;
 use xq_atoms::{Code, Fault, Want};
 use xq_expressions::Expr;
 use xq_lexer::{Token, lex};
-use xq_meaning::{Core, Plan};
-use xq_normal::normalise;
+use xq_meaning::Plan;
 use xq_parser::parse;
-use xq_plan::plan;
 use xq_statics::check;
 
 /// A plan of the query that the bytes are. Nothing is evaluated. That of a path which starts with
@@ -44,8 +41,7 @@ fn understood(alloc: Global, text: &str) -> Result<Plan, Fault>
     ensures { Understands (chars text.now) result }
 {
     let query = parsed(alloc, text)?;
-    let core = normal_form(alloc, query)?;
-    Ok(planned(alloc, core)?)
+    Ok(planned(alloc, query)?)
 }
 
 /// The expression that the characters are, which passes the static checks.
@@ -65,20 +61,11 @@ fn checked(alloc: Global, tokens: &[Token]) -> Result<Expr, Fault>
     Ok(query)
 }
 
-/// The normal form of the expression, which is let go here: its parts are dropped in one place.
-fn normal_form(alloc: Global, query: Expr) -> Result<Core, Want>
-    ensures same { IfOk result (λ core. IsNormalForm query core) }
-    ensures document_path { IfOk result (λ core. StaysDocumentPath query core) }
+/// A plan of the expression, which is let go here: its parts are dropped in one place.
+fn planned(alloc: Global, query: Expr) -> Result<Plan, Want>
+    ensures same { IfOk result (λ plan. IsPlanOf query plan) }
+    ensures scans { IfOk result (λ plan. ScansItsDocument query plan) }
     ensures want { IfErr result (λ want. want ≡ Memory) }
 {
-    normalise(alloc, &query)
-}
-
-/// The plan of the normal form, which is let go here.
-fn planned(alloc: Global, core: Core) -> Result<Plan, Want>
-    ensures same { IfOk result (λ plan. IsPlan [] core plan) }
-    ensures scans { IfOk result (λ plan. ScansDocument core plan) }
-    ensures want { IfErr result (λ want. want ≡ Memory) }
-{
-    plan(alloc, &core)
+    direct(alloc, &query)
 }
