@@ -67,11 +67,10 @@ struct Case {
     kept: Kept,
 }
 
-/// Small documents, and one of ten so long that it is read and kept in parts.
-fn case_of(seed: u32) -> Case {
+fn case_of(seed: u32, elements: u32) -> Case {
     Case {
         seed,
-        elements: if seed % 10 == 9 { 700 } else { 12 },
+        elements,
         edits: seed % 5 + 1,
         kept: KEPT[(seed % 3) as usize],
     }
@@ -279,7 +278,7 @@ fn put_all<S: Alter + Drop>(
 }
 
 /// The rows of the tables of a store.
-fn left_in<S: Alter>(alloc: Global, store: Store<S>) -> Result<String, Fail> {
+fn left_in<S: Alter + Drop>(alloc: Global, store: Store<S>) -> Result<String, Fail> {
     let mut conn = store.release();
     shown(alloc, &mut conn)
 }
@@ -290,9 +289,9 @@ fn leaves_the_last<S: Alter + Drop>(
     alloc: Global,
     first: Store<S>,
     second: Store<S>,
-    seed: u32,
+    case: Case,
 ) -> Result<bool, Fail> {
-    let (edited, last) = put_all(alloc, first, case_of(seed))?;
+    let (edited, last) = put_all(alloc, first, case)?;
     let mut fresh = second;
     let _put = put(&mut fresh, "m", &last)?;
     Ok(left_in(alloc, edited)? == left_in(alloc, fresh)?)
@@ -300,20 +299,25 @@ fn leaves_the_last<S: Alter + Drop>(
 
 #[test]
 fn edits_in_memory(rt: HostRuntime) -> Result<(), Fail> {
-    for seed in 0..40 {
+    for seed in 0..30 {
         let first = Store::new_in_memory(rt.alloc())?;
         let second = Store::new_in_memory(rt.alloc())?;
-        assert!(rt; leaves_the_last(rt.alloc(), first, second, seed)?, "{seed}");
+        assert!(rt;
+            leaves_the_last(rt.alloc(), first, second, case_of(seed, 12))?,
+            "{seed}"
+        );
     }
     Ok(())
 }
 
+/// The last documents are so long that they are read and kept in parts.
 #[test]
 fn edits_on_memory_disks(rt: HostRuntime) -> Result<(), Fail> {
-    for seed in 40..80 {
+    for seed in 30..60 {
         let first = Store::new_on_memory_disks(rt.alloc())?;
         let second = Store::new_on_memory_disks(rt.alloc())?;
-        assert!(rt; leaves_the_last(rt.alloc(), first, second, seed)?, "{seed}");
+        let case = case_of(seed, if seed < 57 { 12 } else { 600 });
+        assert!(rt; leaves_the_last(rt.alloc(), first, second, case)?, "{seed}");
     }
     Ok(())
 }

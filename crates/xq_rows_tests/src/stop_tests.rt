@@ -206,7 +206,10 @@ fn of_the_log(rt: HostRuntime) -> Result<(), Fail> {
 #[test]
 fn of_the_database(rt: HostRuntime) -> Result<(), Fail> {
     assert_eq!(rt; wrong_run(rt.alloc(), &RUNS, Stop::OfDatabase, 128)?, None);
-    assert_eq!(rt; wrong_run(rt.alloc(), &KEPT_RUNS, Stop::OfDatabase, 128)?, None);
+    assert_eq!(rt;
+        wrong_run(rt.alloc(), &KEPT_RUNS, Stop::OfDatabase, 128)?,
+        None
+    );
     Ok(())
 }
 
@@ -221,6 +224,9 @@ fn of_a_short_log(rt: HostRuntime) -> Result<(), Fail> {
 #[test]
 fn of_the_database_under_a_short_log(rt: HostRuntime) -> Result<(), Fail> {
     assert_eq!(rt; wrong_run(rt.alloc(), &RUNS, Stop::OfDatabase, 1)?, None);
-    assert_eq!(rt; wrong_run(rt.alloc(), &KEPT_RUNS, Stop::OfDatabase, 1)?, None);
+    assert_eq!(rt;
+        wrong_run(rt.alloc(), &KEPT_RUNS, Stop::OfDatabase, 1)?,
+        None
+    );
     Ok(())
 }
