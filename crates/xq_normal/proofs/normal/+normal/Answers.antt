@@ -1,4 +1,4 @@
-use Rattle.std.proofs.Common.{◌≡◌, ◌<◌, ◌+◌, ◌*◌, ◌++◌, ◌∷◌, [], Some, None, length, refl, sym, ap, ◌∙◌, subst, map, drop, arith}
+use Rattle.std.proofs.Common.{◌≡◌, ◌<◌, ◌+◌, ◌*◌, List, ◌++◌, ◌∷◌, [], Some, None, length, refl, sym, ap, ◌∙◌, subst, map, drop, arith}
 use Rattle.std.specs.List.{flat_map}
 use Rattle.std.proofs.lemmas.List.{take_all, length-map}
 use Rattle.xq_meaning.specs.declared.operators.Operator.TheVariants as operator
@@ -22,6 +22,7 @@ use Rattle.xq_expressions.specs.declared.expressions.Expr.{out-Expr}
 use Rattle.xq_expressions.specs.declared.expressions.Expr.TheVariants as expr
 use Rattle.xq_expressions.specs.declared.expressions.Step.{out-Step}
 use Rattle.xq_expressions.specs.declared.expressions.Step.TheVariants as written
+use Rattle.xq_meaning.specs.declared.normal_forms.Core.{Core}
 use Rattle.xq_meaning.specs.declared.normal_forms.Core.TheVariants as form
 use Rattle.xq_normal.specs.DocumentPaths.{after_slash}
 use Rattle.xq_normal.specs.private.Shapes.{StaysCall, StaysStep, StaySteps, HasShape, plain_step}
@@ -124,7 +125,7 @@ call_on-returns t c =
     let is : admitted o (length values) ≡ Some c.in-Some.function = ap (admitted o) many ∙ sym c.called.ensures ∙ c.in-Some.is in
     let others = c.in_ok-expressions.field-0 in
     let all : c.append.new.self ≡ c.args.first ∷ others =
-    c.in_ok-append.ensures ∙ ap (λ l. l ++ others) (c.in_ok-push.ensures.ok ∙ ap (λ l. l ++ c.args.first ∷ []) c.new-values.ensures) in
+    c.in_ok-append.ensures ∙ ap {B = List Core} (λ l. l ++ others) (c.in_ok-push.ensures.ok ∙ ap {B = List Core} (λ l. l ++ c.args.first ∷ []) c.new-values.ensures) in
     core.core-Call c.in-Some.function c.append.new.self
     ∙ ap (λ l. Forms.call c.in-Some.function (map core_mean l)) all
     ∙ ap (λ ms. Forms.call c.in-Some.function (core_mean c.args.first ∷ ms)) c.in_ok-expressions.ensures.same
@@ -179,8 +180,8 @@ later_calls-returns-in_default t c =
 
 pub later_calls-returns : goal.later_calls-returns
 later_calls-returns t c =
-    core.core-Arrow c.loop-name.start c.loop-name.found
-    ∙ ap (λ m. Forms.arrow m (parts.core_calls c.loop-name.found)) (ap core_mean c.loop-name.invariant.kept)
+    core.core-Arrow c.in_ok-start.start c.loop-name.found
+    ∙ ap (λ m. Forms.arrow m (parts.core_calls c.loop-name.found)) (ap core_mean c.in_ok-start.ensures)
     ∙ sym (calls_end (core_mean c.args.value) c.args.calls.now c.loop-name.name-index c.loop-name.found c.loop-name.invariant.left (omega (arith, c.loop-name-test.false)))
 
 pub expression-returns-in_ok-first-in-Arrow-clause-same : goal.expression-returns-in_ok-first-in-Arrow-clause-same
