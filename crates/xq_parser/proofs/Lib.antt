@@ -1,3 +1,4 @@
+pub mod Alone
 pub mod Answering
 pub mod Choice
 pub mod Loops

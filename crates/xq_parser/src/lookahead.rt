@@ -4,6 +4,7 @@ ghost use Rattle.xq_lexer.specs.Lexeme.{lexemes, name as name_lex, symbol as sym
 ghost use Rattle.xq_parser.specs.Look as look;
 ghost use Rattle.xq_parser.specs.Grammar as g;
 ghost use Rattle.xq_parser.specs.private.Reading as spec;
+ghost use Rattle.xq_parser.specs.private.Alone.{stands_alone};
 ghost use Rattle.xq_parser.specs.private.Parses.{ParsesAs, Parses};
 
 use crate::words::{
@@ -404,6 +405,33 @@ fn begins_literal(tokens: &[Token]) -> bool
         [
             Token {
                 lexeme: Lexeme::Sym(Symbol::Dollar | Symbol::OpenParenthesis | Symbol::Dot),
+                ..
+            },
+            ..
+        ] => true,
+        _ => false,
+    }
+}
+
+/// Whether the next token is a literal that is an expression by itself, since what stands behind it
+/// ends the expression.
+#[tactic(auto, unfolding(crate::specs::private::Alone::stands_alone))]
+pub(crate) fn is_alone(tokens: &[Token]) -> bool
+    ensures { result ≡ stands_alone (lexemes tokens.now) }
+{
+    match tokens {
+        [
+            Token {
+                lexeme: Lexeme::Int(_) | Lexeme::Dec(_) | Lexeme::Str(_),
+                ..
+            },
+            Token {
+                lexeme: Lexeme::Sym(
+                    Symbol::Comma
+                    | Symbol::CloseParenthesis
+                    | Symbol::CloseBracket
+                    | Symbol::CloseBrace,
+                ),
                 ..
             },
             ..

@@ -8,7 +8,7 @@ ghost use Rattle.xq_parser.specs.private.Reading as spec;
 ghost use Rattle.xq_parser.specs.private.Parses.{ParsesAs, Nests, Parses};
 ghost use Rattle.xq_parser.specs.Answers.{RefusesTokens};
 
-use crate::lookahead::{begins_flwor, begins_if, begins_quantified};
+use crate::lookahead::{begins_flwor, begins_if, begins_quantified, is_alone};
 use crate::primaries::Grammar;
 use sqlite_items::Boxed;
 use std::alloc::Global;
@@ -19,7 +19,8 @@ use xq_lexer::{MAX_NESTING, Token, nesting};
 /// How many singles may nest in one another: the whole expression, and those nested in it.
 const MAX_DEPTH: usize = MAX_NESTING as usize + 1;
 
-/// A single expression, over what reads singles that nest deeper.
+/// A single expression, over what reads singles that nest deeper. Most are literals that stand by
+/// themselves, and those are read without a look at each level of operators.
 #[tactic(auto, unfolding(crate::specs::private::Reading::any))]
 fn any<'a, F: Fn(Global, usize, &'a [Token]) -> Result<(Boxed<Expr>, &'a [Token]), Fault> + Copy>(
     grammar: Grammar<F>,
@@ -28,7 +29,9 @@ fn any<'a, F: Fn(Global, usize, &'a [Token]) -> Result<(Boxed<Expr>, &'a [Token]
     requires { Nests grammar.depth (F.pre grammar.single) (F.post grammar.single) }
     ensures { Parses result (spec.any (spec.single grammar.depth) (lexemes tokens.now)) }
 {
-    if begins_flwor(tokens) {
+    if is_alone(tokens) {
+        grammar.primary(tokens)
+    } else if begins_flwor(tokens) {
         grammar.flwor(tokens)
     } else if begins_quantified(tokens) {
         grammar.quantified(tokens)
