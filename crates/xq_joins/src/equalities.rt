@@ -128,7 +128,7 @@ fn context_node(frame: Frame<'_>) -> Option<Node>
 }
 
 /// The step that a plan is from a node at hand.
-fn step_at<'a>(frame: Frame<'_>, plan: &'a Plan) -> Option<ShortPath<'a>>
+pub fn step_at<'a>(frame: Frame<'_>, plan: &'a Plan) -> Option<ShortPath<'a>>
     ensures { IfSome result (λ found. IsStepAt frame.entry found plan.now) }
 {
     if let Plan::Path(start, steps) = plan {
