@@ -106,6 +106,16 @@ fn told_of_node<L: RowLender>(
     }
 }
 
+/// The only place.
+fn only_place(places: &[u32]) -> Option<u32>
+    ensures { IfSome result (λ place. places.now ≡ place ∷ []) }
+{
+    let [place] = places else {
+        return None;
+    };
+    Some(*place)
+}
+
 /// The atom that a call gives of the nodes at these places of a tree, in their order; None where
 /// it is not told so.
 pub fn call_on_places<L: RowLender>(
@@ -124,10 +134,10 @@ pub fn call_on_places<L: RowLender>(
     if let Some(atom) = counted(function, places) {
         return Ok(Some(atom));
     }
-    let [place] = places else {
+    let Some(pre) = only_place(places) else {
         return Ok(None);
     };
-    told_of_node(alloc, source, function, Node { tree, pre: *place })
+    told_of_node(alloc, source, function, Node { tree, pre })
 }
 
 /// The atom of the only one of the nodes at these places of a tree; None where there is none, or
@@ -144,9 +154,9 @@ pub fn only_atom<L: RowLender>(
     ensures keeps { L.forest source.new ≡ L.forest source.old }
     ensures was_clean { L.is_clean source.new → L.is_clean source.old }
 {
-    let [place] = places else {
+    let Some(pre) = only_place(places) else {
         return Ok(None);
     };
-    let atom = of_node(alloc, source, Node { tree, pre: *place })?;
+    let atom = of_node(alloc, source, Node { tree, pre })?;
     Ok(Some(atom))
 }
