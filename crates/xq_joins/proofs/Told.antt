@@ -1,5 +1,6 @@
 -- What is told of one step from a node at hand.
 use Rattle.std.proofs.Common.{◌≡◌, ℕ, List, [], ◌∷◌, map, Option, Some, None, Result, Ok, Err, refl, sym, ◌∙◌, ap, subst}
+use Rattle.std.specs.Prelude.{IfSome}
 use Rattle.xq_atoms.specs.declared.atoms.Atom.{Atom}
 use Rattle.xq_atoms.specs.declared.refusals.Code.{Code}
 use Rattle.xq_atoms.specs.declared.refusals.Fault.{Fault}
@@ -75,6 +76,11 @@ call_atom function p parts frame f r is h =
     let same : plan_mean p frame f ≡ Forms.call function (map plan_mean parts) frame f = ap (λ q. plan_mean q frame f) is ∙ ap (λ m. m frame f) (plan-Call function parts) in
     atoms_tell (plan_mean p frame f) f r (subst (λ o. Tells atomic o f r) (sym same) h)
 
-pub step_atom : (p : Plan) (frame : Frame) (f : List Tree) (xs : List Item) (a : Atomic) → plan_mean p frame f ≡ (Ok xs, f) → atomized f xs ≡ a ∷ []
+step_atom : (p : Plan) (frame : Frame) (f : List Tree) (xs : List Item) (a : Atomic) → plan_mean p frame f ≡ (Ok xs, f) → atomized f xs ≡ a ∷ []
     → Forms.atoms_of (plan_mean p) frame f ≡ (Ok (a ∷ []), f)
 step_atom p frame f xs a gives one = ap (λ (o : Outcome (List Item)). go_on o (λ xs. on_trees (λ trees. Ok (atomized trees xs)))) gives ∙ ap (λ as'. (Ok as', f)) one
+
+pub step_tells : (p : Plan) (frame : Frame) (f : List Tree) (xs : List Item) (o : Option Atom) → plan_mean p frame f ≡ (Ok xs, f) → IfSome o (λ a. atomized f xs ≡ atomic_of a ∷ [])
+    → Tells (λ a. a ∷ []) (Forms.atoms_of (plan_mean p) frame f) f (Ok o)
+step_tells p frame f xs (Some a) gives one = step_atom p frame f xs (atomic_of a) gives one
+step_tells p frame f xs None gives one = tt

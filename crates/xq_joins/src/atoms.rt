@@ -1,6 +1,6 @@
 //! Values that are one atom, of one step from a node at hand: read where they lie, and no lists are
 //! made.
-ghost use Rattle.std.specs.Prelude.{◌≡◌, ◌∷◌, [], map};
+ghost use Rattle.std.specs.Prelude.{◌≡◌, ◌∷◌, [], map, IfSome};
 ghost use Rattle.xq_meaning.specs.Arguments.{atomic};
 ghost use Rattle.xq_meaning.specs.Forms as Forms;
 ghost use Rattle.xq_meaning.specs.PlanMeaning.{plan_mean};
@@ -15,6 +15,16 @@ use xq_expressions::Function;
 use xq_forms::{Frame, call_on_places, is_told, only_atom};
 use xq_meaning::Plan;
 use xq_sources::RowLender;
+
+/// The only argument of a call.
+fn only_part(parts: &[Plan]) -> Option<&Plan>
+    ensures { IfSome result (λ part. parts.now ≡ part.now ∷ []) }
+{
+    let [part] = parts else {
+        return None;
+    };
+    Some(part)
+}
 
 /// The atom that a call of a function gives, where its only argument is one step from a node at
 /// hand, as `string($b/title)` or `count($b/author)`. None where it is no such call, or gives
@@ -37,7 +47,7 @@ pub fn atom_of_call<L: RowLender>(
     if !is_told(function) {
         return Ok(None);
     }
-    let [part] = parts else {
+    let Some(part) = only_part(parts) else {
         return Ok(None);
     };
     let Some(step) = step_at(frame, part) else {
