@@ -10,7 +10,7 @@ ghost use Rattle.xq_axes.specs.private.Reads.{span, span_end};
 ghost use Rattle.xq_axes.specs.private.Counted.{passes_each as passes_each_lem, AreAll, AreCounted, AreHits};
 
 use crate::downward::{ToAttributes, search_below};
-use crate::picks::{Judge, Picker, Verdict};
+use crate::picks::{Judge, Picker, Places, Verdict};
 use crate::walks::walk;
 use std::alloc::Global;
 use xq_atoms::Want;
@@ -82,7 +82,7 @@ fn passes_each(test: &Test) -> bool
 }
 
 /// Adds the places from `low` to `high`.
-fn add_places(places: &mut Vec<u32>, low: u32, high: u32) -> Result<(), Want>
+fn add_places(places: &mut Places, low: u32, high: u32) -> Result<(), Want>
     ensures { (wanted : ℕ → Bool) → AreAll wanted low high
         → places.old.items ≡ below_where wanted low
         → OnOk result (places.new.items ≡ below_where wanted (max low (high + 1))) }
@@ -146,7 +146,7 @@ pub fn search_attributes<L: RowLender>(
     tree: usize,
     places: &[u32],
     test: &Test,
-) -> Result<Vec<u32>, Want>
+) -> Result<Places, Want>
     ensures found { L.is_clean source.new
         → let t = tree_at (L.forest source.old) tree in
         IsRising places.now → IfOk result (λ found. found.items
@@ -168,7 +168,7 @@ pub fn search_attributes<L: RowLender>(
     let mut picker = Picker {
         judge: OfContexts { places },
         test,
-        found: Vec::new(alloc),
+        found: Places::new(alloc),
     };
     let mut next = 0u32;
     for node in &counted {

@@ -11,7 +11,7 @@ ghost use Rattle.xq_axes.specs.private.Downward.{axis_of, is_chosen as is_chosen
 
 use crate::contexts::Contexts;
 use crate::passing::end_of_row;
-use crate::picks::{Judge, Picker, Verdict};
+use crate::picks::{Judge, Picker, Places, Verdict};
 use crate::tests::is_plain;
 use crate::walks::walk;
 use std::alloc::Global;
@@ -319,7 +319,7 @@ pub fn search_below<L: RowLender, D: Direction + Drop>(
     direction: D,
     places: &[u32],
     test: &Test,
-) -> Result<Vec<u32>, Want>
+) -> Result<Places, Want>
     ensures found { L.is_clean source.new
         → let t = tree_at (L.forest source.old) tree in
         IsRising places.now → IfOk result (λ found. found.items
@@ -337,7 +337,7 @@ pub fn search_below<L: RowLender, D: Direction + Drop>(
     let mut picker = Picker {
         judge: Below::new(direction, places),
         test,
-        found: Vec::new(alloc),
+        found: Places::new(alloc),
     };
     let mut next = 0u64;
     for place in places {

@@ -12,7 +12,7 @@ ghost use Rattle.xq_axes.specs.private.Waiting.{has_siblings, rows_below, next_p
 use crate::contexts::Contexts;
 use crate::levels::Levels;
 use crate::passing::{end_of_node, end_of_row};
-use crate::picks::{Judge, Picker, Verdict};
+use crate::picks::{Judge, Picker, Places, Verdict};
 use crate::tests::is_plain;
 use crate::walks::walk;
 use std::alloc::Global;
@@ -121,7 +121,7 @@ pub fn search_on<L: RowLender>(
     tree: usize,
     places: &[u32],
     test: &Test,
-) -> Result<Vec<u32>, Want>
+) -> Result<Places, Want>
     ensures found { L.is_clean source.new → AreThere (L.forest source.old) tree places.now
         → let t = tree_at (L.forest source.old) tree in
         IsRising places.now → IfOk result (λ found. found.items
@@ -135,13 +135,13 @@ pub fn search_on<L: RowLender>(
     ensures was_clean { L.is_clean source.new → L.is_clean source.old }
 {
     if places.is_empty() {
-        return Ok(Vec::new(alloc));
+        return Ok(Places::new(alloc));
     }
     let last = end_of_node(alloc, source, tree, 0)?.min(LAST);
     let mut picker = Picker {
         judge: Onward::new(alloc, places),
         test,
-        found: Vec::new(alloc),
+        found: Places::new(alloc),
     };
     let mut low = picker.judge.next_place(0, last);
     let mut width = 0;

@@ -11,7 +11,7 @@ ghost use Rattle.xq_axes.specs.private.Hits.{is_wanted, below_where, IsRising, I
 ghost use Rattle.xq_axes.specs.private.Passing.{axis_above, IsEnd, IsLast, IsLeastEnd};
 
 use crate::contexts::Contexts;
-use crate::picks::{Judge, Picker, Verdict};
+use crate::picks::{Judge, Picker, Places, Verdict};
 use crate::tests::is_plain;
 use crate::walks::walk;
 use std::alloc::Global;
@@ -37,7 +37,7 @@ pub fn search_rows<L: RowLender, J: Judge + Drop>(
     high: u32,
     judge: J,
     test: &Test,
-) -> Result<Vec<u32>, Want>
+) -> Result<Places, Want>
     ensures found { L.is_clean source.new
         → let t = tree_at (L.forest source.old) tree in
         let s = span low high in
@@ -54,7 +54,7 @@ pub fn search_rows<L: RowLender, J: Judge + Drop>(
     let mut picker = Picker {
         judge,
         test,
-        found: Vec::new(alloc),
+        found: Places::new(alloc),
     };
     walk(alloc, source, tree, low, high, &mut picker)?;
     Ok(picker.found)
@@ -183,7 +183,7 @@ pub fn search_before<L: RowLender>(
     tree: usize,
     places: &[u32],
     test: &Test,
-) -> Result<Vec<u32>, Want>
+) -> Result<Places, Want>
     ensures found { L.is_clean source.new
         → let t = tree_at (L.forest source.old) tree in
         IsRising places.now → IfOk result (λ found. found.items
@@ -196,10 +196,10 @@ pub fn search_before<L: RowLender>(
     ensures was_clean { L.is_clean source.new → L.is_clean source.old }
 {
     match last_of(places) {
-        None => Ok(Vec::new(alloc)),
+        None => Ok(Places::new(alloc)),
         Some(last) => {
             if last == 0 {
-                return Ok(Vec::new(alloc));
+                return Ok(Places::new(alloc));
             }
             search_rows(
                 alloc,
@@ -223,7 +223,7 @@ pub fn search_above<L: RowLender>(
     or_self: bool,
     places: &[u32],
     test: &Test,
-) -> Result<Vec<u32>, Want>
+) -> Result<Places, Want>
     ensures found { L.is_clean source.new
         → let t = tree_at (L.forest source.old) tree in
         IsRising places.now → IfOk result (λ found. found.items
@@ -236,7 +236,7 @@ pub fn search_above<L: RowLender>(
     ensures was_clean { L.is_clean source.new → L.is_clean source.old }
 {
     match last_of(places) {
-        None => Ok(Vec::new(alloc)),
+        None => Ok(Places::new(alloc)),
         Some(last) => {
             let contexts = Contexts::new(places);
             search_rows(
@@ -284,7 +284,7 @@ pub fn search_after<L: RowLender>(
     tree: usize,
     places: &[u32],
     test: &Test,
-) -> Result<Vec<u32>, Want>
+) -> Result<Places, Want>
     ensures found { L.is_clean source.new
         → let t = tree_at (L.forest source.old) tree in
         IfOk result (λ found. found.items
@@ -298,7 +298,7 @@ pub fn search_after<L: RowLender>(
     ensures was_clean { L.is_clean source.new → L.is_clean source.old }
 {
     if places.is_empty() {
-        return Ok(Vec::new(alloc));
+        return Ok(Places::new(alloc));
     }
     let least = least_end(alloc, source, tree, places)?;
     if least >= u64::from(u32::MAX) {

@@ -8,9 +8,13 @@ ghost use Rattle.xq_axes.specs.private.Hits.{is_hit as is_hit_lem, is_wanted, ro
 
 use crate::tests::passes;
 use crate::walks::Visitor;
+use smallvec::SmallVec;
 use xq_atoms::Want;
 use xq_meaning::Test;
 use xq_regions::NodeRow;
+
+/// Places in a tree, of which a few take no allocation: most steps from one node lead to few.
+pub type Places = SmallVec<u32, 4>;
 
 /// Adds the place to those found, if it is told that it is wanted.
 pub fn push_if(found: &mut Vec<u32>, is_wanted: bool, place: u32) -> Result<(), Want>
@@ -57,7 +61,7 @@ pub trait Judge {
 pub struct Picker<'a, J> {
     pub judge: J,
     pub test: &'a Test,
-    pub found: Vec<u32>,
+    pub found: Places,
 }
 
 impl<J> Picker<'_, J> {

@@ -22,6 +22,7 @@ use crate::merges::merge;
 use crate::onward::search_on;
 use crate::parents::search_parents;
 use crate::passing::{search_above, search_after, search_before};
+use crate::picks::Places;
 use crate::selves::search_selves;
 use std::alloc::Global;
 use xq_atoms::Want;
@@ -37,7 +38,7 @@ fn search<L: RowLender>(
     axis: Axis,
     places: &[u32],
     test: &Test,
-) -> Result<Vec<u32>, Want>
+) -> Result<Places, Want>
     ensures found { L.is_clean source.new → AreThere (L.forest source.old) tree places.now
         → let t = tree_at (L.forest source.old) tree in
         IsRising places.now → IfOk result (λ found. found.items
@@ -56,23 +57,24 @@ fn search<L: RowLender>(
         Axis::DescendantOrSelf => {
             search_below(alloc, source, tree, ToDescendantsOrSelf, places, test)
         }
-        Axis::SelfNode => search_selves(alloc, source, tree, places, test),
+        Axis::SelfNode => {
+            let found = search_selves(alloc, source, tree, places, test)?;
+            Ok(Places::from_vec(found))
+        }
         Axis::Attributes => search_attributes(alloc, source, tree, places, test),
-        Axis::Parent => search_parents(alloc, source, tree, places, test),
+        Axis::Parent => {
+            let found = search_parents(alloc, source, tree, places, test)?;
+            Ok(Places::from_vec(found))
+        }
         Axis::Ancestor => search_above(alloc, source, tree, false, places, test),
         Axis::AncestorOrSelf => search_above(alloc, source, tree, true, places, test),
         Axis::Following => search_after(alloc, source, tree, places, test),
         Axis::FollowingSibling => search_on(alloc, source, tree, places, test),
         Axis::Preceding => search_before(alloc, source, tree, places, test),
         Axis::PrecedingSibling => {
-            search_back(
-                alloc,
-                source,
-                tree,
-                Backward::PrecedingSibling,
-                places,
-                test,
-            )
+            let backward = Backward::PrecedingSibling;
+            let found = search_back(alloc, source, tree, backward, places, test)?;
+            Ok(Places::from_vec(found))
         }
     }
 }
@@ -119,7 +121,7 @@ pub fn axis<L: RowLender>(
 {
     let places = search(alloc, source, node.tree, axis, &[node.pre], test)?;
     let mut found = Vec::with_capacity(alloc, places.len())?;
-    add_nodes(&mut found, node.tree, &places)?;
+    add_nodes(&mut found, node.tree, places.as_slice())?;
     Ok(found)
 }
 
@@ -159,7 +161,34 @@ pub fn items_on_axis<L: RowLender>(
     ensures was_clean { L.is_clean source.new → L.is_clean source.old }
 {
     let places = search(alloc, source, node.tree, axis, &[node.pre], test)?;
-    as_items(alloc, node.tree, &places)
+    as_items(alloc, node.tree, places.as_slice())
+}
+
+/// The places, in its tree, of the nodes on the axis from the node that pass the test, as [`axis`]
+/// finds them; a few of them take no allocation.
+///
+/// `Want::Store` where the source refuses to read a row; `Want::Memory` where a growth was
+/// refused.
+pub fn places_on_axis<L: RowLender>(
+    alloc: Global,
+    source: &mut L,
+    node: Node,
+    axis: Axis,
+    test: &Test,
+) -> Result<Places, Want>
+    ensures nodes { L.is_clean source.new
+        → HasNode (L.forest source.old) node.tree node.pre
+        → IfOk result (λ found. map (λ p. node_at (L.forest source.old)
+        (record { tree = node.tree; pre = p })) found.items
+        ≡ axis_nodes (L.forest source.old) axis test.now (node_at (L.forest source.old) node)) }
+    ensures rows { L.is_clean source.new
+        → (L.meter source.new).rows ≤ (L.meter source.old).rows
+        + length (region axis (tree_at (L.forest source.old) node.tree) (node.pre ∷ [])) }
+    ensures singles { (L.meter source.new).singles ≤ (L.meter source.old).singles + 1 }
+    ensures keeps { L.forest source.new ≡ L.forest source.old }
+    ensures was_clean { L.is_clean source.new → L.is_clean source.old }
+{
+    search(alloc, source, node.tree, axis, &[node.pre], test)
 }
 
 /// Adds the nodes on the axis from the nodes of one tree, whose places rise, that pass the test.
@@ -188,7 +217,7 @@ fn add_step<L: RowLender>(
     ensures was_clean { L.is_clean source.new → L.is_clean source.old }
 {
     let places = search(alloc, source, contexts.tree, axis, &contexts.places, test)?;
-    add_nodes(found, contexts.tree, &places)
+    add_nodes(found, contexts.tree, places.as_slice())
 }
 
 /// Places in one tree.

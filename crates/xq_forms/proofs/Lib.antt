@@ -11,3 +11,4 @@ pub mod CallForms
 pub mod ParentsBelow
 pub mod OneTree
 pub mod ShortPaths
+pub mod NodePlaces

@@ -15,7 +15,7 @@ use Rattle.xq_expressions.specs.declared.operators.OrderModifier.{OrderModifier}
 use Rattle.xq_tuples.specs.Views.{values_of}
 use Rattle.xq_meaning.specs.Items.{Item, Node}
 use Rattle.xq_meaning.specs.Functions.{Focus as Spot, called}
-use Rattle.xq_meaning.specs.Readings.{item_at, items_at, IsIn, AreIn, Extends}
+use Rattle.xq_meaning.specs.Readings.{node_at, item_at, items_at, IsIn, AreIn, Extends}
 use Rattle.xq_atoms.specs.Text.{Text}
 use Rattle.xq_expressions.specs.declared.operators.NamedNode.{NamedNode}
 use Rattle.xq_expressions.specs.declared.operators.UnnamedNode.{UnnamedNode}
@@ -61,6 +61,11 @@ frame_at trees f = record {
   focus = focus_at trees f.focus;
   addresses = f.addresses.now;
 }
+
+-- the nodes of a tree at these places, in their order
+abbrev pub nodes_in : List Tree → ℕ → List ℕ → List Item
+nodes_in trees tree places =
+    map (λ p. Node (node_at trees (record { tree = tree; pre = p }))) places
 
 -- # Nodes are those of the trees
 

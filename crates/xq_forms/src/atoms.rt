@@ -25,7 +25,7 @@ fn typed(kind: Kind, text: String) -> Atom
 }
 
 /// The typed value of a node.
-fn of_node<L: RowLender>(alloc: Global, source: &mut L, node: Node) -> Result<Atom, Want>
+pub fn of_node<L: RowLender>(alloc: Global, source: &mut L, node: Node) -> Result<Atom, Want>
     ensures value { L.is_clean source.new → IfOk result (λ atom. atomic_of atom
         ≡ atom_of (L.forest source.old) (item_at (L.forest source.old) (item_view (Item.Node
         node)))) }

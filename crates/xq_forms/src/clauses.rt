@@ -4,7 +4,7 @@ ghost use Rattle.std.specs.Prelude.{◌≡◌, List, length, map, nat_eq, All, I
 ghost use Rattle.xq_atoms.specs.Atom.{atomic_of};
 ghost use Rattle.xq_regions.specs.Tree.{Tree};
 ghost use Rattle.xq_regions.specs.Tuples.{firsts, value_at};
-ghost use Rattle.xq_tuples.specs.Keys.{atomics_of, column_of, columns_of};
+ghost use Rattle.xq_tuples.specs.Keys.{atomics_of, column_of, columns_of, rows_in};
 ghost use Rattle.xq_tuples.specs.Orders.{rule_of as rule_of_lem};
 ghost use Rattle.xq_tuples.specs.Views.{values_of};
 ghost use Rattle.xq_meaning.specs.Items.{atomized as atomized_lem};
@@ -20,7 +20,7 @@ use xq_expressions::{Direction, EmptyOrder, OrderModifier};
 use xq_meaning::Plan;
 use xq_regions::Items;
 use xq_sources::{Growing, RowLender};
-use xq_tuples::{OrderSpec, Tuples};
+use xq_tuples::{Key, OrderSpec, Tuples};
 
 // # group by
 
@@ -149,11 +149,11 @@ pub fn order(
     alloc: Global,
     tuples: Tuples,
     specs: &[(Plan, OrderModifier)],
-    rows: Vec<Vec<Vec<Atom>>>,
+    rows: Vec<Vec<Key>>,
 ) -> Result<Tuples, Fault>
     requires { length rows.items ≡ length tuples }
     ensures { (trees : List Tree) → TuplesIn trees tuples
-        → GivesTuples (ordering specs.now (tuples_at trees tuples) (columns_of rows) trees)
+        → GivesTuples (ordering specs.now (tuples_at trees tuples) (rows_in rows) trees)
         trees result }
 {
     let rules = rules_of(alloc, specs)?;

@@ -11,6 +11,7 @@ mod nodes;
 mod operators;
 mod paths;
 mod steps;
+mod told;
 mod values;
 
 pub use atoms::{atomized, into_atoms};
@@ -22,6 +23,7 @@ pub use nodes::{gather, only_nodes, root};
 pub use operators::{operate, sign};
 pub use paths::{ShortPath, held_node, short_path};
 pub use steps::{axis_items, double_slash, in_axis_order, parents_below, scan, scan_from};
+pub use told::{call_on_places, is_told, only_atom};
 pub use values::{
     boolean, concatenated, context_item, copied, deciding, decimal, integer, joined, opened,
     push_copy, refill, single, slot, string, variable,

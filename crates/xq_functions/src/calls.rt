@@ -1,25 +1,27 @@
 //! Calls of functions, and operators between operands.
-ghost use Rattle.std.specs.Prelude.{◌≡◌, ◌≤◌, List, Option, map, length, true};
+ghost use Rattle.std.specs.Prelude.{◌≡◌, ◌≤◌, ◌∷◌, [], List, Option, map, length, true};
 ghost use Rattle.xq_atoms.specs.Text.{Text};
 ghost use Rattle.xq_atoms.specs.Atom.{atomic_of};
 ghost use Rattle.xq_regions.specs.Tree.{Tree};
 ghost use Rattle.xq_meaning.specs.Items.{Item as ItemSeen, atomized};
 ghost use Rattle.xq_meaning.specs.Functions as Functions;
 ghost use Rattle.xq_meaning.specs.Operators as Operators;
-ghost use Rattle.xq_functions.specs.Answers.{GivesItems, atomics, items_of};
+ghost use Rattle.xq_functions.specs.Answers.{GivesItems, TellsAtom, atomics, items_of};
 ghost use Rattle.xq_atoms.specs.Answers.{Gives};
 ghost use Rattle.xq_functions.specs.Kinds as Kinds;
 ghost use Rattle.xq_functions.specs.private.Calls as Calls;
 
 use crate::aggregates::{max, min, sum};
-use crate::arguments::optional;
+use crate::arguments::{optional, text_argument};
 use crate::arithmetic::{products, range, sums};
 use crate::comparisons::{compare_pairs, compare_values, concatenated};
 use crate::distinct::distinct_values;
 use crate::kinds::{Argument, argument_of};
+use crate::positions::character_count;
 use crate::results::one;
 use crate::sequences::{exactly_one, head, one_or_more, reversed, tail, zero_or_one};
 use crate::texts;
+use crate::words::normalized;
 use std::alloc::Global;
 use xq_atoms::{
     Atom, Code, Fault, abs, cast_bool, cast_dec, cast_int, cast_str, ceiling, floor, round,
@@ -109,6 +111,43 @@ fn of_atom(alloc: Global, function: Function, atom: &Atom) -> Result<Items, Faul
         Function::ToString => Ok(one(alloc, Atom::Str(cast_str(alloc, atom)?))?),
         Function::ToUntyped => Ok(one(alloc, Atom::Untyped(cast_str(alloc, atom)?))?),
         _ => Err(Fault::Code(Code::XPST0017)),
+    }
+}
+
+/// The atom that a function of one argument makes of the only atom that its argument is atomized
+/// to; None of a function that is not told so.
+pub fn call_on_atom(
+    alloc: Global,
+    function: Function,
+    atom: &Atom,
+) -> Result<Option<Atom>, Fault>
+    ensures { Kinds.argument_of function ≡ Argument.Atoms →
+        (trees : List Tree) (addresses : List Text) (items : List ItemSeen) →
+        atomized trees items ≡ atomic_of atom.now ∷ [] →
+        TellsAtom (Functions.of_one function trees addresses items) result }
+{
+    converted(alloc, function, atom)
+}
+
+/// What a function that converts one atom makes of it; None of another function.
+fn converted(alloc: Global, function: Function, atom: &Atom) -> Result<Option<Atom>, Fault>
+    ensures { TellsAtom (Calls.of_atoms function (atomic_of atom.now ∷ [])) result }
+{
+    match function {
+        Function::ToInteger => Ok(Some(cast_int(atom)?)),
+        Function::ToDecimal => Ok(Some(cast_dec(atom)?)),
+        Function::ToBoolean => Ok(Some(cast_bool(atom)?)),
+        Function::ToString => Ok(Some(Atom::Str(cast_str(alloc, atom)?))),
+        Function::ToUntyped => Ok(Some(Atom::Untyped(cast_str(alloc, atom)?))),
+        Function::StringLength => {
+            let count = character_count(text_argument(atom)?) as i64;
+            Ok(Some(Atom::Int(count)))
+        }
+        Function::NormalizeSpace => {
+            let words = normalized(alloc, text_argument(atom)?)?;
+            Ok(Some(Atom::Str(words)))
+        }
+        _ => Ok(None),
     }
 }
 

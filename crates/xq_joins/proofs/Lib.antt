@@ -6,3 +6,4 @@ pub mod Clauses
 pub mod Found
 pub mod TextTests
 pub mod LoneTexts
+pub mod Told

@@ -1,4 +1,5 @@
 pub mod Keys
 pub mod Joins
 pub mod Equalities
+pub mod Atoms
 pub mod private

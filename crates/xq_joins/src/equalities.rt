@@ -21,7 +21,7 @@ use crate::values::value;
 use std::alloc::Global;
 use std::rc::Rc;
 use xq_atoms::{Atom, Want};
-use xq_axes::{axis, string_value};
+use xq_axes::{places_on_axis, string_value};
 use xq_forms::{Frame, ShortPath, push_copy, short_path};
 use xq_meaning::{Plan, Test};
 use xq_regions::{Axis, Item, Items, Kind, Node};
@@ -128,7 +128,7 @@ fn context_node(frame: Frame<'_>) -> Option<Node>
 }
 
 /// The step that a plan is from a node at hand.
-fn step_at<'a>(frame: Frame<'_>, plan: &'a Plan) -> Option<ShortPath<'a>>
+pub fn step_at<'a>(frame: Frame<'_>, plan: &'a Plan) -> Option<ShortPath<'a>>
     ensures { IfSome result (λ found. IsStepAt frame.entry found plan.now) }
 {
     if let Plan::Path(start, steps) = plan {
@@ -242,21 +242,23 @@ fn has_text<L: RowLender>(
     Ok(is_same(wanted, text.as_str()))
 }
 
-/// Whether one of the nodes has the text.
+/// Whether one of the nodes of a tree at these places has the text.
 fn have_text<L: RowLender>(
     alloc: Global,
     source: &mut L,
-    nodes: &[Node],
+    tree: usize,
+    places: &[u32],
     wanted: &str,
 ) -> Result<bool, Want>
     ensures answer { L.is_clean source.new → IfOk result (λ answer. answer
-        ≡ have_text_lem (L.forest source.old) wanted.now
-        (map (node_at (L.forest source.old)) nodes.now)) }
+        ≡ have_text_lem (L.forest source.old) wanted.now (map (λ p. node_at
+        (L.forest source.old) (record { tree = tree; pre = p })) places.now)) }
     ensures keeps { L.forest source.new ≡ L.forest source.old }
     ensures was_clean { L.is_clean source.new → L.is_clean source.old }
 {
-    for node in nodes {
-        let found = has_text(alloc, source, *node, wanted)?;
+    for place in places {
+        let node = Node { tree, pre: *place };
+        let found = has_text(alloc, source, node, wanted)?;
         if found {
             return Ok(true);
         }
@@ -278,8 +280,8 @@ pub fn leads_to_text<L: RowLender>(
     ensures keeps { L.forest source.new ≡ L.forest source.old }
     ensures was_clean { L.is_clean source.new → L.is_clean source.old }
 {
-    let nodes = axis(alloc, source, node, found.axis, found.test)?;
-    have_text(alloc, source, &nodes, found.text)
+    let places = places_on_axis(alloc, source, node, found.axis, found.test)?;
+    have_text(alloc, source, node.tree, places.as_slice(), found.text)
 }
 
 /// Whether the item is a node that passes the test.

@@ -1,8 +1,11 @@
-//! Value joins: a `for` over nodes, and a `where` after it that asks whether a key of each equals a
-//! key of the tuple, by a table from texts to nodes and not pair by pair (XQuery 3.1, sections
-//! 3.12.2 and 3.12.5).
+//! What is found without the values of its parts. Value joins: a `for` over nodes, and a `where`
+//! after it that asks whether a key of each equals a key of the tuple, by a table from texts to
+//! nodes and not pair by pair (XQuery 3.1, sections 3.12.2 and 3.12.5); equalities of a text and of
+//! what one step leads to; and the atom of one step from a node at hand, or of a call on it: texts
+//! are read where they lie, and no lists are made.
 #![tactic(auto)]
 
+mod atoms;
 mod equalities;
 mod joins;
 mod keys;
@@ -10,6 +13,7 @@ mod matches;
 mod shapes;
 mod values;
 
+pub use atoms::{atom_of, atom_of_call};
 pub use equalities::{NodeTest, TextTest, keep_by_text, leads_to_text, node_test, text_test};
 pub use joins::{Join, Key, join_at};
 pub use matches::matching;

@@ -4,12 +4,13 @@ ghost use Rattle.std.specs.List.{list_all};
 ghost use Rattle.xq_atoms.specs.Atom.{atomic_of};
 ghost use Rattle.xq_atoms.specs.Compare.{key_of};
 ghost use Rattle.xq_regions.specs.Tuples.{is_key, as_string, key_value, are_keys, extended, comparison_key, comparison_keys, sort_keys};
-ghost use Rattle.xq_tuples.specs.Keys.{atomics_of, column_of, columns_of};
+ghost use Rattle.xq_tuples.specs.Keys.{atomics_of, column_of, columns_of, values_in, row_of, rows_in};
 ghost use Rattle.xq_tuples.specs.private.KeyRows.{key_view, keys_of, rows_of, fitted as fitted_lem};
 ghost use Rattle.xq_tuples.specs.private.Groups.{compared_of};
 ghost use Rattle.xq_atoms.specs.Answers.{RefusesFor};
 ghost use Rattle.xq_atoms.specs.declared.refusals.Code.TheVariants.{XPTY0004};
 
+use crate::rows::Key;
 use std::alloc::Global;
 use xq_atoms::{Atom, Code, Fault, GroupKey, Want};
 
@@ -142,37 +143,50 @@ fn compared(alloc: Global, key: Option<Atom>) -> Result<GroupKey, Want>
     }
 }
 
+/// The key that the values are. XPTY0004 for more than one value.
+fn only_key(values: Key) -> Result<Option<Atom>, Code>
+    ensures is_key { IfOk result (λ _. is_key (values_in values) ≡ true) }
+    ensures key { IfOk result (λ key. key_view key ≡ key_value (values_in values)) }
+    ensures refused { IfErr result (λ code. (code ≡ Code.XPTY0004)
+        × (is_key (values_in values) ≡ false)) }
+{
+    match values {
+        Key::One(atom) => Ok(Some(as_string(atom))),
+        Key::Several(atoms) => single_key(atoms),
+    }
+}
+
 /// What a tuple is ordered by. XPTY0004 where a key is more than one value.
-fn sort_row(alloc: Global, row: Vec<Vec<Atom>>) -> Result<Vec<GroupKey>, Fault>
-    ensures are_keys { IfOk result (λ _. list_all is_key (column_of row) ≡ true) }
-    ensures keys { IfOk result (λ keys. compared_of keys ≡ sort_keys (column_of row)) }
+fn sort_row(alloc: Global, row: Vec<Key>) -> Result<Vec<GroupKey>, Fault>
+    ensures are_keys { IfOk result (λ _. list_all is_key (row_of row) ≡ true) }
+    ensures keys { IfOk result (λ keys. compared_of keys ≡ sort_keys (row_of row)) }
     ensures refused { IfErr result
-        (RefusesFor XPTY0004 (list_all is_key (column_of row) ≡ false)) }
+        (RefusesFor XPTY0004 (list_all is_key (row_of row) ≡ false)) }
 {
     let mut keys = Vec::with_capacity(alloc, row.len())?;
     for values in row {
-        let key = single_key(values)?;
+        let key = only_key(values)?;
         keys.push(compared(alloc, key)?)?;
     }
     Ok(keys)
 }
 
 /// The row, and empty keys after it, up to so many.
-fn padded(alloc: Global, row: Vec<Vec<Atom>>, count: usize) -> Result<Vec<Vec<Atom>>, Want>
-    ensures row { IfOk result (λ longer. column_of longer
-        ≡ column_of row ++ replicate (count - length row.items) []) }
+fn padded(alloc: Global, row: Vec<Key>, count: usize) -> Result<Vec<Key>, Want>
+    ensures row { IfOk result (λ longer. row_of longer
+        ≡ row_of row ++ replicate (count - length row.items) []) }
     ensures want { IfErr result (λ want. want ≡ Want.Memory) }
 {
     let mut longer = row;
     for _ in longer.len()..count {
-        longer.push(Vec::new(alloc))?;
+        longer.push(Key::Several(Vec::new(alloc)))?;
     }
     Ok(longer)
 }
 
 /// So many keys of the row; one that it lacks is empty.
-fn fitted(alloc: Global, row: Vec<Vec<Atom>>, count: usize) -> Result<Vec<Vec<Atom>>, Want>
-    ensures row { IfOk result (λ fitted. column_of fitted ≡ fitted_lem count (column_of row)) }
+fn fitted(alloc: Global, row: Vec<Key>, count: usize) -> Result<Vec<Key>, Want>
+    ensures row { IfOk result (λ fitted. row_of fitted ≡ fitted_lem count (row_of row)) }
     ensures want { IfErr result (λ want. want ≡ Want.Memory) }
 {
     let mut row = row;
@@ -184,15 +198,15 @@ fn fitted(alloc: Global, row: Vec<Vec<Atom>>, count: usize) -> Result<Vec<Vec<At
 /// value.
 pub fn sort_rows(
     alloc: Global,
-    rows: Vec<Vec<Vec<Atom>>>,
+    rows: Vec<Vec<Key>>,
     count: usize,
 ) -> Result<Vec<Vec<GroupKey>>, Fault>
     ensures are_keys { IfOk result (λ _. list_all (λ row. list_all is_key (fitted_lem count row))
-        (columns_of rows) ≡ true) }
+        (rows_in rows) ≡ true) }
     ensures keys { IfOk result (λ keys. map compared_of keys.items
-        ≡ map (λ row. sort_keys (fitted_lem count row)) (columns_of rows)) }
+        ≡ map (λ row. sort_keys (fitted_lem count row)) (rows_in rows)) }
     ensures refused { IfErr result (RefusesFor XPTY0004
-        (list_all (λ row. list_all is_key (fitted_lem count row)) (columns_of rows) ≡ false)) }
+        (list_all (λ row. list_all is_key (fitted_lem count row)) (rows_in rows) ≡ false)) }
 {
     let mut keys = Vec::with_capacity(alloc, rows.len())?;
     for row in rows {

@@ -8,5 +8,5 @@ mod rows;
 mod streams;
 mod values;
 
-pub use rows::OrderSpec;
+pub use rows::{Key, OrderSpec};
 pub use streams::Tuples;

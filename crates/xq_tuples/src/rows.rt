@@ -18,6 +18,13 @@ pub struct OrderSpec {
     pub greatest: bool,
 }
 
+/// The atoms of a key of an order: one, as most keys have, or so many.
+#[derive(Debug, Drop)]
+pub enum Key {
+    One(Atom),
+    Several(Vec<Atom>),
+}
+
 /// A tuple with what it is ordered by.
 #[derive(Drop)]
 pub struct Ranked {

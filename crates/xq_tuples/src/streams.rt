@@ -1,7 +1,7 @@
 //! The stream of tuples, and the clauses that make one stream of another.
 ghost use Rattle.std.specs.Prelude.{◌≡◌, ◌<◌, [], ◌∷◌, length, map, slice_index_or, All, IsTrue, ◌↔◌, IfOk, IfErr, Ok, false, true};
 ghost use Rattle.xq_regions.specs.Tuples.{bound, expanded, grouped, numbered, satisfying, ordered, value_at};
-ghost use Rattle.xq_tuples.specs.Keys.{columns_of, by_specification};
+ghost use Rattle.xq_tuples.specs.Keys.{columns_of, rows_in, by_specification};
 ghost use Rattle.xq_atoms.specs.Answers.{IsRefusal};
 ghost use Rattle.xq_tuples.specs.Orders.{rule_of};
 ghost use Rattle.xq_tuples.specs.Views.{values_of};
@@ -10,7 +10,7 @@ ghost use Rattle.xq_regions.specs.Items.{Value as AtomView, item_view, item_view
 use crate::groups::{gather, joined};
 use crate::keys::{key_columns, key_rows, sort_rows};
 use crate::order::{are_of_kinds, sort_columns, sorted};
-use crate::rows::OrderSpec;
+use crate::rows::{Key, OrderSpec};
 use crate::values::{Tuple, position_value, push_copies, push_each, push_each_or_empty};
 use std::alloc::Global;
 use std::marker::Model;
@@ -227,14 +227,14 @@ impl Tuples {
     /// specifications don't count.
     pub fn order_by_rows(
         self,
-        keys: Vec<Vec<Vec<Atom>>>,
+        keys: Vec<Vec<Key>>,
         specs: &[OrderSpec],
     ) -> Result<Tuples, Fault>
         requires { length keys.items ≡ length self }
         ensures stream { IfOk result (λ stream. ordered (map rule_of specs.now) self
-            (by_specification (length specs.now) (columns_of keys)) ≡ Ok stream) }
+            (by_specification (length specs.now) (rows_in keys)) ≡ Ok stream) }
         ensures refused { IfErr result (IsRefusal (ordered (map rule_of specs.now) self
-            (by_specification (length specs.now) (columns_of keys)))) }
+            (by_specification (length specs.now) (rows_in keys)))) }
     {
         let alloc = self.alloc;
         let count = specs.len();

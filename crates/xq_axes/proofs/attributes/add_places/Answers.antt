@@ -14,7 +14,7 @@ loop-place-preserved c =
       none = λ l. absurd (let e = c.loop-place.invariant.none l in omega (arith, e, l));
       added = λ wanted all so_far. (
           let hit : true ≡ wanted place = sym (all place (omega arith) (omega arith)) in
-          c.in_ok-push.ensures.items ∙ picked wanted place c.loop-place.places.items true (c.loop-place.invariant.added wanted all so_far) hit);
+          c.in_ok-push.ensures.ok ∙ picked wanted place c.loop-place.places.items true (c.loop-place.invariant.added wanted all so_far) hit);
     }
 
 pub returns : goal.returns
@@ -33,4 +33,4 @@ returns-in_ok-push c = λ wanted all so_far. (
     let place = c.loop-place.place in
     let hit : true ≡ wanted place = sym (all place (omega arith) (omega arith)) in
     let end : place + 1 ≡ max c.args.low (c.args.high + 1) = omega arith in
-    c.in_ok-push.ensures.items ∙ picked wanted place c.loop-place.places.items true (c.loop-place.invariant.added wanted all so_far) hit ∙ ap (below_where wanted) end)
+    c.in_ok-push.ensures.ok ∙ picked wanted place c.loop-place.places.items true (c.loop-place.invariant.added wanted all so_far) hit ∙ ap (below_where wanted) end)

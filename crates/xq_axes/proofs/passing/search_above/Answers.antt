@@ -1,4 +1,5 @@
-use Rattle.std.proofs.Common.{◌≡◌, ℕ, ◌-◌, Vec, Global, length, refl, sym, ap, subst, ◌∙◌, arith}
+use Rattle.std.proofs.Common.{◌≡◌, ℕ, ◌-◌, length, refl, sym, ap, subst, ◌∙◌, arith}
+use Rattle.smallvec.specs.SmallVec.{SmallVec}
 use Rattle.xq_regions.specs.Forest.{count}
 use Rattle.xq_regions.specs.Tree.{nodes}
 use Rattle.xq_sources.specs.Sources.{tree_at}
@@ -31,7 +32,7 @@ returns-in-Some-clause-found g c = λ k up. (
     let m = span_end t (span 0 last) in
     let reached = subst (λ i. IsReached us i 0) (sym c.new-contexts.ensures.met) (reached_none us) in
     let w = c.search_rows.ensures.found k (refl, refl, subst (λ ws. IsRising ws) (sym same) up, reached) refl in
-    OnOk-if c.search_rows.result (λ (found : Vec ℕ Global). found.items ≡ below_where (is_wanted a test t us) m) (λ (found : Vec ℕ Global). found.items ≡ below_where (is_wanted a test t vs) (count (nodes t)))
+    OnOk-if c.search_rows.result (λ (found : SmallVec ℕ). found.items ≡ below_where (is_wanted a test t us) m) (λ (found : SmallVec ℕ). found.items ≡ below_where (is_wanted a test t vs) (count (nodes t)))
     (λ found e. e ∙ ap (λ ws. below_where (is_wanted a test t ws) m) same ∙ above_all c.args.or_self test t vs last l) w)
 
 pub returns-in-Some-clause-rows : goal.returns-in-Some-clause-rows

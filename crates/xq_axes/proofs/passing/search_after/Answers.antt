@@ -1,4 +1,5 @@
-use Rattle.std.proofs.Common.{◌≡◌, ℕ, ◌+◌, ◌-◌, ◌<◌, ◌≤◌, Vec, Global, length, sym, ap, subst, eqb-true, ◌∙◌, arith}
+use Rattle.std.proofs.Common.{◌≡◌, ℕ, ◌+◌, ◌-◌, ◌<◌, ◌≤◌, length, sym, ap, subst, eqb-true, ◌∙◌, arith}
+use Rattle.smallvec.specs.SmallVec.{SmallVec}
 use Rattle.std.proofs.lemmas.Bool.{eqb-false}
 use Rattle.xq_regions.specs.Forest.{count}
 use Rattle.xq_regions.specs.Tree.{nodes}
@@ -32,7 +33,7 @@ returns-clause-found g c = λ k. (
     let l = c.in_ok-least.ensures.least was some in
     let l_old = subst (λ u. IsLeastEnd u vs least) (sym same) l in
     let w = c.search_rows.ensures.found k (omega arith, l_old) (following_start test old vs least l_old) in
-    OnOk-if c.search_rows.result (λ (found : Vec ℕ Global). found.items ≡ below_where (is_wanted axis.Following test old vs) (span_end old (span (least + 1) 4294967295))) (λ (found : Vec ℕ Global). found.items ≡ below_where (is_wanted axis.Following test t vs) (count (nodes t)))
+    OnOk-if c.search_rows.result (λ (found : SmallVec ℕ). found.items ≡ below_where (is_wanted axis.Following test old vs) (span_end old (span (least + 1) 4294967295))) (λ (found : SmallVec ℕ). found.items ≡ below_where (is_wanted axis.Following test t vs) (count (nodes t)))
     (λ found e. e ∙ following_all test old vs least l_old ∙ ap (λ u. below_where (is_wanted axis.Following test u vs) (count (nodes u))) same) w)
 
 pub returns-clause-rows : goal.returns-clause-rows

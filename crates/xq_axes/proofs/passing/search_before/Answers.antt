@@ -1,4 +1,5 @@
-use Rattle.std.proofs.Common.{◌≡◌, ℕ, ◌-◌, Vec, Global, length, refl, sym, ◌∙◌, arith}
+use Rattle.std.proofs.Common.{◌≡◌, ℕ, ◌-◌, length, refl, sym, ◌∙◌, arith}
+use Rattle.smallvec.specs.SmallVec.{SmallVec}
 use Rattle.xq_regions.specs.Forest.{count}
 use Rattle.xq_regions.specs.Tree.{nodes}
 use Rattle.xq_regions.specs.declared.Axis.TheVariants as axis
@@ -33,7 +34,7 @@ returns-else-last-eq0-clause-found g c = λ k up. (
     let test = c.args.test.now in
     let l = last_is vs last up (sym c.in-Some.ensures) in
     let w = c.search_rows.ensures.found k (refl, l) refl in
-    OnOk-if c.search_rows.result (λ (found : Vec ℕ Global). found.items ≡ below_where (is_wanted axis.Preceding test t vs) (span_end t (span 0 (last - 1)))) (λ (found : Vec ℕ Global). found.items ≡ below_where (is_wanted axis.Preceding test t vs) (count (nodes t)))
+    OnOk-if c.search_rows.result (λ (found : SmallVec ℕ). found.items ≡ below_where (is_wanted axis.Preceding test t vs) (span_end t (span 0 (last - 1)))) (λ (found : SmallVec ℕ). found.items ≡ below_where (is_wanted axis.Preceding test t vs) (count (nodes t)))
     (λ found e. e ∙ preceding_all test t vs last l (omega arith)) w)
 
 pub returns-else-last-eq0-clause-rows : goal.returns-else-last-eq0-clause-rows

@@ -21,12 +21,12 @@ returns-clause-found g c = λ k up there. (
     let test = c.args.test.now in
     let old = c.args.found.now.items in
     let new = c.add_nodes.new.found.items in
-    let ps = c.deref-2.result.now in
+    let ps = c.as_slice.result.now in
     let v = c.deref.ensures.value in
     let e = c.in_ok-places.ensures.found k (subst (AreThere trees tree) (sym v) there) (subst (λ ws. IsRising ws) (sym v) up) in
     let e_vs = subst (λ ws. c.in_ok-places.places.items ≡ below_where (is_wanted axis test t ws) (count (nodes t))) v e in
     OnOk-then c.add_nodes.result (new ≡ old ++ map (spot tree) ps) ((p : Node → Bool) → list_any p new ≡ (list_any p old || list_any (is_found_from trees axis test p) (map (spot tree) vs)))
-    (λ m. added trees axis test tree vs ps old new (c.deref-2.ensures.value ∙ e_vs) m) c.add_nodes.ensures.nodes)
+    (λ m. added trees axis test tree vs ps old new (c.as_slice.ensures ∙ e_vs) m) c.add_nodes.ensures.nodes)
 
 pub returns-clause-rows : goal.returns-clause-rows
 returns-clause-rows g c = λ k up. (

@@ -13,9 +13,9 @@ returns-clause-nodes g c = λ k there. (
     let trees = g.L.TreeSource.forest c.args.source.now in
     let v = c.args.node in
     let make : ℕ → Node = λ p. record { tree = v.tree; pre = p } in
-    let ps = c.deref.result.now in
+    let ps = c.as_slice.result.now in
     ap (map (node_at trees)) (c.in_ok-add_nodes.ensures.nodes ∙ ap (λ xs. xs ++ map make ps) c.in_ok-found.ensures.items) ∙ map-map (node_at trees) make ps
-    ∙ ap (map (λ p. place v.tree (path_at (nodes_at trees v.tree) p))) (c.deref.ensures.value ∙ c.in_ok-places.ensures.found k (one_there trees v.tree v.pre there) (one_rises v.pre))
+    ∙ ap (map (λ p. place v.tree (path_at (nodes_at trees v.tree) p))) (c.as_slice.ensures ∙ c.in_ok-places.ensures.found k (one_there trees v.tree v.pre there) (one_rises v.pre))
     ∙ sym (axis_nodes_of trees c.args.axis c.args.test.now v there))
 
 pub returns-clause-there : goal.returns-clause-there
@@ -23,6 +23,6 @@ returns-clause-there g c = λ k there. (
     let trees = g.L.TreeSource.forest c.args.source.now in
     let v = c.args.node in
     let make : ℕ → Node = λ p. record { tree = v.tree; pre = p } in
-    let ps = c.deref.result.now in
+    let ps = c.as_slice.result.now in
     axis_there trees c.args.axis c.args.test.now v c.add_nodes.new.found.items there (c.in_ok-add_nodes.ensures.nodes ∙ ap (λ xs. xs ++ map make ps) c.in_ok-found.ensures.items
-    ∙ ap (map make) (c.deref.ensures.value ∙ c.in_ok-places.ensures.found k (one_there trees v.tree v.pre there) (one_rises v.pre))))
+    ∙ ap (map make) (c.as_slice.ensures ∙ c.in_ok-places.ensures.found k (one_there trees v.tree v.pre there) (one_rises v.pre))))

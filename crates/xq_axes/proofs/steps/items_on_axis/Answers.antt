@@ -10,8 +10,8 @@ pub returns-clause-items : goal.returns-clause-items
 returns-clause-items g c = λ k there.
     let trees = g.L.TreeSource.forest c.args.source.now in
     let v = c.args.node in
-    let ps = c.deref.result.now in
-    let e = c.deref.ensures.value ∙ c.in_ok-places.ensures.found k (one_there trees v.tree v.pre there) (one_rises v.pre) in
+    let ps = c.as_slice.result.now in
+    let e = c.as_slice.ensures ∙ c.in_ok-places.ensures.found k (one_there trees v.tree v.pre there) (one_rises v.pre) in
     IfOk-weaker c.as_items.result (λ found. item_views found ≡ map (λ p. NodeAt (spot v.tree p)) ps) (λ found. AreOnAxis trees c.args.axis c.args.test.now v (item_views found))
     (λ found is. from_one trees c.args.axis c.args.test.now v ps (item_views found) there e is) c.as_items.ensures
 

@@ -3,7 +3,7 @@ use Rattle.std.proofs.lemmas.List.{length-map}
 use Rattle.xq_regions.specs.Tuples.{ordered}
 use Rattle.xq_meaning.specs.Doing.{judged}
 use Rattle.xq_meaning.specs.Forms as Forms
-use Rattle.xq_tuples.specs.Keys.{columns_of, by_specification}
+use Rattle.xq_tuples.specs.Keys.{rows_in, by_specification}
 use Rattle.xq_tuples.specs.Orders.{rule_of}
 use Rattle.xq_forms.specs.Views.{tuples_at, order_specs, GivesTuples}
 use Rattle.xq_forms.proofs.Streams.{gives_stream, ordered_read, ordered_in}
@@ -12,7 +12,7 @@ use Rattle.xq_forms.proofs.clauses.order.Goals as goal
 pub returns : goal.returns
 returns c = λ trees inside.
     let specs = c.args.specs.now in
-    let rows = columns_of c.args.rows in
+    let rows = rows_in c.args.rows in
     let held = c.deref.result.now in
     let rules = map rule_of held in
     let columns = by_specification (length held) rows in

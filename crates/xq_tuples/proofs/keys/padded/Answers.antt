@@ -1,6 +1,7 @@
 use Rattle.std.proofs.Common.{◌≡◌, ◌++◌, ◌∷◌, ◌+◌, ◌-◌, [], length, map, replicate, ap, sym, ◌∙◌, arith}
 use Rattle.std.proofs.lemmas.List.{map-append}
-use Rattle.xq_tuples.specs.Keys.{atomics_of, column_of}
+use Rattle.xq_tuples.specs.declared.rows.Key.TheVariants.{Several}
+use Rattle.xq_tuples.specs.Keys.{values_in, row_of}
 use Rattle.xq_atoms.specs.Atom.{atomic_of}
 use Rattle.xq_tuples.proofs.ByRows.{padded_next}
 use Rattle.xq_tuples.proofs.keys.padded.Goals as goal
@@ -16,8 +17,8 @@ loop-preserved c =
     let next : c.loop.counter + 1 - length row.items ≡ first + 1 = omega arith in
     record {
       value =
-          ap (map atomics_of) c.in_ok-push.ensures.items ∙ map-append atomics_of c.loop.longer.items (c.new.result ∷ []) ∙ ap (λ l. l ++ atomics_of c.new.result ∷ []) i.value
-          ∙ ap (λ v. (column_of row ++ replicate first []) ++ map atomic_of v ∷ []) c.new.ensures.items ∙ sym (padded_next (column_of row) (c.loop.counter + 1 - length row.items) first next);
+          ap (map values_in) c.in_ok-push.ensures.items ∙ map-append values_in c.loop.longer.items (Several c.new.result ∷ []) ∙ ap (λ l. l ++ values_in (Several c.new.result) ∷ []) i.value
+          ∙ ap (λ v. (row_of row ++ replicate first []) ++ map atomic_of v ∷ []) c.new.ensures.items ∙ sym (padded_next (row_of row) (c.loop.counter + 1 - length row.items) first next);
       bounded = (let b = i.bounded in omega arith);
     }
 
@@ -29,4 +30,4 @@ returns-clause-row c =
     let ended = c.loop-test.false in
     let bounded = c.loop.invariant.bounded in
     let same : c.loop.counter - length row.items ≡ c.args.count - length row.items = omega arith in
-    c.loop.invariant.value ∙ ap (λ m. column_of row ++ replicate m []) same
+    c.loop.invariant.value ∙ ap (λ m. row_of row ++ replicate m []) same

@@ -7,7 +7,7 @@ use Rattle.xq_atoms.specs.declared.refusals.Code.TheVariants.{XPTY0004}
 use Rattle.xq_atoms.specs.Answers.{IsRefusal}
 use Rattle.xq_regions.specs.Tuples.{sorted, key_rows, sort_keys, is_key, are_of_one_kind, can_order, ordered}
 use Rattle.xq_tuples.specs.Views.{tuple_of}
-use Rattle.xq_tuples.specs.Keys.{column_of, columns_of, by_specification}
+use Rattle.xq_tuples.specs.Keys.{row_of, rows_in, by_specification}
 use Rattle.xq_tuples.specs.Orders.{rule_of}
 use Rattle.xq_tuples.specs.private.KeyRows.{fitted}
 use Rattle.xq_tuples.specs.private.Groups.{compared_of}
@@ -19,7 +19,7 @@ use Rattle.xq_tuples.proofs.streams.Tuples.order_by_rows.Goals as goal
 pub returns-in_err-keys-clause-refused : goal.returns-in_err-keys-clause-refused
 returns-in_err-keys-clause-refused c =
     let n = length c.args.specs.now in
-    let rows = columns_of c.args.keys in
+    let rows = rows_in c.args.keys in
     let p = err_from_is_err_and c.from_residual.result c.from_residual.ensures.1 in
     let keys = map (λ row. sort_keys (fitted n row)) rows in
     let fails = λ (e : list_all (λ row. list_all is_key (fitted n row)) rows ≡ false).
@@ -29,7 +29,7 @@ returns-in_err-keys-clause-refused c =
 pub returns-then-not-are_of_kinds-clause-refused : goal.returns-then-not-are_of_kinds-clause-refused
 returns-then-not-are_of_kinds-clause-refused c =
     let n = length c.args.specs.now in
-    let rows = columns_of c.args.keys in
+    let rows = rows_in c.args.keys in
     let held = c.in_ok-keys.keys in
     let keys : map compared_of held.items ≡ map (λ row. sort_keys (fitted n row)) rows = c.in_ok-keys.ensures.keys in
     let kinds : list_all (λ i. are_of_one_kind (keys_at i (map compared_of held.items))) (range_with_len 0 n) ≡ false =
@@ -43,11 +43,11 @@ returns-clause-stream c =
     let self = c.args.self in
     let specs = c.args.specs.now in
     let n = length specs in
-    let rows = columns_of c.args.keys in
+    let rows = rows_in c.args.keys in
     let columns = by_specification n rows in
     let held = c.in_ok-keys.keys in
     let keys : map compared_of held.items ≡ map (λ row. sort_keys (fitted n row)) rows = c.in_ok-keys.ensures.keys in
-    let long : length rows ≡ length self = length-map c.args.keys.items column_of ∙ c.requires in
+    let long : length rows ≡ length self = length-map c.args.keys.items row_of ∙ c.requires in
     let kinds : list_all (λ i. are_of_one_kind (keys_at i (map compared_of held.items))) (range_with_len 0 n) ≡ true =
     ap (λ l. list_all (λ i. are_of_one_kind (keys_at i (map compared_of l))) (range_with_len 0 n)) (sym c.deref.ensures.value) ∙ sym c.are_of_kinds.ensures ∙ c.if-not-are_of_kinds.false in
     let judged : list_all can_order columns ≡ true = rows_judged n rows (map compared_of held.items) keys ∙ (λ t. c.in_ok-keys.ensures.are_keys t && kinds t) in
