@@ -116,11 +116,7 @@ fn of_atom(alloc: Global, function: Function, atom: &Atom) -> Result<Items, Faul
 
 /// The atom that a function of one argument makes of the only atom that its argument is atomized
 /// to; None of a function that is not told so.
-pub fn call_on_atom(
-    alloc: Global,
-    function: Function,
-    atom: &Atom,
-) -> Result<Option<Atom>, Fault>
+pub fn call_on_atom(alloc: Global, function: Function, atom: &Atom) -> Result<Option<Atom>, Fault>
     ensures { Kinds.argument_of function ≡ Argument.Atoms →
         (trees : List Tree) (addresses : List Text) (items : List ItemSeen) →
         atomized trees items ≡ atomic_of atom.now ∷ [] →

@@ -22,9 +22,7 @@ mod truths;
 mod words;
 
 pub use arithmetic::signed;
-pub use calls::{
-    call_on_atom, call_on_atoms, call_on_items, call_on_lists, operate_on_atoms,
-};
+pub use calls::{call_on_atom, call_on_atoms, call_on_items, call_on_lists, operate_on_atoms};
 pub use documents::{collection, doc, doc_available, root};
 pub use kinds::{Argument, argument_of, is_on_atoms};
 pub use nodes::compare_nodes;

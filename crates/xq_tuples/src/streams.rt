@@ -225,11 +225,7 @@ impl Tuples {
     /// `order by`, as [`Tuples::order`], from the keys of each tuple: `keys` has for each tuple the
     /// atomized values of the specifications. One that a tuple lacks is empty, and those after the
     /// specifications don't count.
-    pub fn order_by_rows(
-        self,
-        keys: Vec<Vec<Key>>,
-        specs: &[OrderSpec],
-    ) -> Result<Tuples, Fault>
+    pub fn order_by_rows(self, keys: Vec<Vec<Key>>, specs: &[OrderSpec]) -> Result<Tuples, Fault>
         requires { length keys.items ≡ length self }
         ensures stream { IfOk result (λ stream. ordered (map rule_of specs.now) self
             (by_specification (length specs.now) (rows_in keys)) ≡ Ok stream) }
