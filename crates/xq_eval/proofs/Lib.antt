@@ -8,3 +8,4 @@ pub mod ConstantPredicates
 pub mod DocumentScans
 pub mod Joining
 pub mod TextSteps
+pub mod Telling

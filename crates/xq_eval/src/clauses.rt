@@ -5,28 +5,28 @@ ghost use Rattle.std.specs.Option.{option_copied};
 ghost use Rattle.std.proofs.Common.{suc};
 ghost use Rattle.xq_regions.specs.Items.{ItemView, Value as AtomView, item_views};
 ghost use Rattle.xq_regions.specs.Tuples.{Tuple, expanded};
-ghost use Rattle.xq_tuples.specs.Keys.{column_of, columns_of};
+ghost use Rattle.xq_tuples.specs.Keys.{row_of, rows_in};
 ghost use Rattle.xq_tuples.specs.Views.{values_of};
 ghost use Rattle.xq_meaning.specs.Doing.{in_turn, one_more, for_each};
 ghost use Rattle.xq_meaning.specs.Forms as Forms;
 ghost use Rattle.xq_meaning.specs.PlanMeaning.{plan_mean, plan_clause_mean, at_tuple as meant_at, next_clause};
 ghost use Rattle.xq_eval.specs.private.Keys.{keys_at};
 ghost use Rattle.xq_forms.specs.Views.{tuple_at, tuples_at, lists_of, order_specs, frame_at, FrameIn, TupleIn, TuplesIn, Goes, GivesSequence, GivesTuples};
-ghost use Rattle.xq_eval.specs.private.Results.{GivesLists, GivesTests, GivesKeys, GivesRows};
+ghost use Rattle.xq_eval.specs.private.Results.{GivesLists, GivesTests, GivesKey, GivesKeys, GivesRows};
 ghost use Rattle.xq_eval.specs.private.Joining.{GivesMatched};
 
 use crate::evaluation::{evaluate, tested};
 use sqlite_items::at;
 use std::alloc::Global;
 use std::rc::Rc;
-use xq_atoms::{Atom, Fault, Want};
+use xq_atoms::{Fault, Want};
 use xq_expressions::{AllowingEmpty, OrderModifier};
 use xq_forms::{Frame, group, into_atoms, joined, order, refill};
-use xq_joins::{join_at, matching};
+use xq_joins::{atom_of, join_at, matching};
 use xq_meaning::{Plan, PlanClause};
 use xq_regions::Items;
 use xq_sources::Growing;
-use xq_tuples::Tuples;
+use xq_tuples::{Key, Tuples};
 
 /// The tuples after all clauses.
 #[cycle(eval)]
@@ -306,7 +306,7 @@ fn key_rows<W: Growing>(
     frame: Frame<'_>,
     tuples: &Tuples,
     specs: &[(Plan, OrderModifier)],
-) -> Result<Vec<Vec<Vec<Atom>>>, Fault>
+) -> Result<Vec<Vec<Key>>, Fault>
     ensures goes { Goes (W.forest world.old) (W.forest world.new) (W.is_clean world.old)
         (W.is_clean world.new) }
     ensures gives { W.is_clean world.new → FrameIn (W.forest world.old) frame.entry
@@ -332,10 +332,10 @@ fn next_row<W: Growing>(
     alloc: Global,
     world: &mut W,
     frame: Frame<'_>,
-    done: Vec<Vec<Vec<Atom>>>,
+    done: Vec<Vec<Key>>,
     slots: &[Rc<Items>],
     specs: &[(Plan, OrderModifier)],
-) -> Result<Vec<Vec<Vec<Atom>>>, Fault>
+) -> Result<Vec<Vec<Key>>, Fault>
     ensures goes { Goes (W.forest world.old) (W.forest world.new) (W.is_clean world.old)
         (W.is_clean world.new) }
     ensures gives { W.is_clean world.new → FrameIn (W.forest world.old) frame.entry
@@ -343,7 +343,7 @@ fn next_row<W: Growing>(
         → values_of slots.now ≡ values_of frame.entry.slots.now ++ tuple
         → TupleIn (W.forest world.old) tuple
         → GivesRows (one_more (λ t. keys_at (order_specs specs.now) (meant_at (frame_at
-        (W.forest world.old) frame.entry) t)) (columns_of done) (tuple_at (W.forest world.old)
+        (W.forest world.old) frame.entry) t)) (rows_in done) (tuple_at (W.forest world.old)
         tuple) (W.forest world.old)) (W.forest world.new) result }
     ensures long { IfOk result (λ rows. length rows.items ≡ suc (length done.items)) }
 {
@@ -365,7 +365,7 @@ fn keys<W: Growing>(
     world: &mut W,
     frame: Frame<'_>,
     specs: &[(Plan, OrderModifier)],
-) -> Result<Vec<Vec<Atom>>, Fault>
+) -> Result<Vec<Key>, Fault>
     ensures goes { Goes (W.forest world.old) (W.forest world.new) (W.is_clean world.old)
         (W.is_clean world.new) }
     ensures gives { W.is_clean world.new → FrameIn (W.forest world.old) frame.entry
@@ -385,19 +385,41 @@ fn next_key<W: Growing>(
     alloc: Global,
     world: &mut W,
     frame: Frame<'_>,
-    done: Vec<Vec<Atom>>,
+    done: Vec<Key>,
     part: &Plan,
-) -> Result<Vec<Vec<Atom>>, Fault>
+) -> Result<Vec<Key>, Fault>
     ensures goes { Goes (W.forest world.old) (W.forest world.new) (W.is_clean world.old)
         (W.is_clean world.new) }
     ensures gives { W.is_clean world.new → FrameIn (W.forest world.old) frame.entry
         → GivesKeys (one_more (λ part. Forms.atoms_of part (frame_at (W.forest world.old)
-        frame.entry)) (column_of done) (plan_mean part.now) (W.forest world.old))
+        frame.entry)) (row_of done) (plan_mean part.now) (W.forest world.old))
         (W.forest world.new) result }
 {
     let mut keys = done;
-    let value = evaluate(alloc, world, frame, part)?;
-    let key = into_atoms(alloc, world, value)?;
+    let key = key_of(alloc, world, frame, part)?;
     keys.push(key)?;
     Ok(keys)
+}
+
+/// The key that a part is. Where it is one atom of one step from a node at hand, that is read where
+/// it lies.
+#[cycle(eval)]
+fn key_of<W: Growing>(
+    alloc: Global,
+    world: &mut W,
+    frame: Frame<'_>,
+    part: &Plan,
+) -> Result<Key, Fault>
+    ensures goes { Goes (W.forest world.old) (W.forest world.new) (W.is_clean world.old)
+        (W.is_clean world.new) }
+    ensures gives { W.is_clean world.new → FrameIn (W.forest world.old) frame.entry
+        → GivesKey (Forms.atoms_of (plan_mean part.now) (frame_at (W.forest world.old) frame.entry)
+        (W.forest world.old)) (W.forest world.new) result }
+{
+    if let Some(atom) = atom_of(alloc, world, frame, part)? {
+        return Ok(Key::One(atom));
+    }
+    let value = evaluate(alloc, world, frame, part)?;
+    let atoms = into_atoms(alloc, world, value)?;
+    Ok(Key::Several(atoms))
 }

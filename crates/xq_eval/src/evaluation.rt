@@ -25,10 +25,10 @@ use xq_atoms::Fault;
 use xq_expressions::Function;
 use xq_forms::{
     Focus, Frame, call, call_on_one, context_item, decimal, integer, operate, push_copy, root,
-    string, variable,
+    single, string, variable,
 };
 use xq_functions::{effective, keeps};
-use xq_joins::{keep_by_text, leads_to_text, node_test};
+use xq_joins::{atom_of_call, keep_by_text, leads_to_text, node_test};
 use xq_meaning::{Operator, Plan};
 use xq_regions::{Item, Items};
 use xq_sources::Growing;
@@ -77,7 +77,9 @@ pub fn evaluate<W: Growing>(
             named_node(alloc, world, frame, *kind, name.get(), part.get())
         }
         Plan::Unnamed(kind, part) => unnamed_node(alloc, world, frame, *kind, part.get()),
-        Plan::Call(function, parts) => called(alloc, world, frame, *function, parts.as_slice()),
+        Plan::Call(function, parts) => {
+            call_value(alloc, world, frame, *function, parts.as_slice())
+        }
         Plan::Arrow(first, calls) => arrow(alloc, world, frame, first.get(), calls.as_slice()),
         Plan::Map(start, parts) => simple_map(alloc, world, frame, start.get(), parts.as_slice()),
         Plan::Quantified(which, ranges, test) => {
@@ -321,6 +323,33 @@ fn only_part(parts: &[Plan]) -> Option<&Plan>
         return None;
     };
     Some(part)
+}
+
+/// The value of a call. Where it is one atom of one step from a node at hand, no list is made of
+/// the nodes to which that leads.
+#[cycle(eval)]
+#[inline(never)]
+fn call_value<W: Growing>(
+    alloc: Global,
+    world: &mut W,
+    frame: Frame<'_>,
+    function: Function,
+    parts: &[Plan],
+) -> Result<Items, Fault>
+    ensures goes { Goes (W.forest world.old) (W.forest world.new) (W.is_clean world.old)
+        (W.is_clean world.new) }
+    ensures gives { W.is_clean world.new → FrameIn (W.forest world.old) frame.entry
+        → GivesSequence (Forms.call function (map plan_mean parts.now)
+        (frame_at (W.forest world.old)
+        frame.entry) (W.forest world.old)) (W.forest world.new) result }
+    ensures reads { W.is_clean world.new → FrameIn (W.forest world.old) frame.entry
+        → function ≡ Function.Doc → (t : Text) → parts.now ≡ plan_of.Str t ∷ []
+        → W.meter world.new ≡ W.meter world.old }
+{
+    if let Some(atom) = atom_of_call(alloc, world, frame, function, parts)? {
+        return Ok(single(alloc, Item::Atom(atom))?);
+    }
+    called(alloc, world, frame, function, parts)
 }
 
 /// The value of a call. That of a variable which is only counted is not copied, and one argument is

@@ -7,7 +7,7 @@ use std::test::Fail;
 use xq_atoms::{Atom, Code, Fault, Want};
 use xq_regions::Item;
 use xq_samples::items::{Sample, atom, items};
-use xq_tuples::{OrderSpec, Tuples};
+use xq_tuples::{Key, OrderSpec, Tuples};
 
 const ASCENDING: OrderSpec = OrderSpec {
     descending: false,
@@ -113,15 +113,45 @@ fn order(
     stream.order(keys, &[spec])
 }
 
+/// The key: one atom, or so many.
+fn as_key(mut atoms: Vec<Atom>) -> Key {
+    if atoms.len() == 1 {
+        if let Some(atom) = atoms.pop() {
+            return Key::One(atom);
+        }
+    }
+    Key::Several(atoms)
+}
+
+/// The keys of a tuple.
+fn as_row(alloc: Global, keys: Vec<Vec<Atom>>) -> Result<Vec<Key>, Want> {
+    let mut row = Vec::new(alloc);
+    for atoms in keys {
+        row.push(as_key(atoms))?;
+    }
+    Ok(row)
+}
+
+/// The keys of each tuple.
+fn as_rows(alloc: Global, keys: Vec<Vec<Vec<Atom>>>) -> Result<Vec<Vec<Key>>, Want> {
+    let mut rows = Vec::new(alloc);
+    for row in keys {
+        rows.push(as_row(alloc, row)?)?;
+    }
+    Ok(rows)
+}
+
 /// `order by`, from the keys of each tuple.
 fn order_by_rows(
     rt: &impl Abort,
+    alloc: Global,
     stream: Tuples,
     keys: Vec<Vec<Vec<Atom>>>,
     specs: &[OrderSpec],
 ) -> Result<Tuples, Fault> {
-    assert_eq!(rt; keys.len(), stream.len());
-    stream.order_by_rows(keys, specs)
+    let rows = as_rows(alloc, keys)?;
+    assert_eq!(rt; rows.len(), stream.len());
+    stream.order_by_rows(rows, specs)
 }
 
 /// The slot's values, tuple after tuple.
@@ -290,7 +320,7 @@ fn check_rows(
     keys.push(column(alloc, &[Sample::Str("b"), Sample::Int(1)])?)?;
     keys.push(column(alloc, &[Sample::Untyped("a"), Sample::Int(2)])?)?;
     keys.push(column(alloc, &[Sample::Str("a"), Sample::Int(1)])?)?;
-    let ordered = order_by_rows(rt, stream, keys, specs)?;
+    let ordered = order_by_rows(rt, alloc, stream, keys, specs)?;
     check_slots(rt, alloc, &ordered, &[(0, wanted)])
 }
 
@@ -404,7 +434,7 @@ fn are_refused(
     keys.push(column(alloc, &[Sample::Int(2), Sample::Str("x")])?)?;
     keys.push(column(alloc, &[first, Sample::Int(1)])?)?;
     let stream = for_each(rt, alloc, &[Sample::Int(0), Sample::Int(1)], false)?;
-    let ordered = order_by_rows(rt, stream, keys, specs);
+    let ordered = order_by_rows(rt, alloc, stream, keys, specs);
     Ok(matches!(ordered, Err(Fault::Code(Code::XPTY0004))))
 }
 
@@ -423,7 +453,7 @@ fn ordered_by_long_rows(rt: &impl Abort, alloc: Global) -> Result<Tuples, Fault>
     keys.push(long_row(alloc, Sample::Int(1))?)?;
     keys.push(long_row(alloc, Sample::Int(2))?)?;
     let stream = for_each(rt, alloc, &[Sample::Int(0), Sample::Int(1)], false)?;
-    order_by_rows(rt, stream, keys, &[ASCENDING])
+    order_by_rows(rt, alloc, stream, keys, &[ASCENDING])
 }
 
 /// Of rows of keys, one of another kind than those of other tuples is refused, but not one after the

@@ -3,7 +3,7 @@ use Rattle.std.specs.Global.{Vec, Global}
 use Rattle.std.proofs.lemmas.List.{map-append, drop_all, length-map, length-append, append-nil, take_at, take_all}
 use Rattle.xq_forms.specs.declared.frames.Frame.{Frame as Held}
 use Rattle.std.proofs.lemmas.List.Folds.{flat_map-map}
-use Rattle.xq_atoms.specs.Atom.{Atomic, Integer}
+use Rattle.xq_atoms.specs.Atom.{Atomic, Integer, atomic_of}
 use Rattle.xq_atoms.specs.declared.refusals.Code.TheVariants.{XPTY0019}
 use Rattle.xq_atoms.specs.declared.refusals.Fault.TheVariants.{Code as OfCode}
 use Rattle.xq_regions.specs.Tuples.{Tuple, expanded, numbered, bound, satisfying}
@@ -26,12 +26,12 @@ use denote.Param.Weighed.{most, at_most}
 use Prim.Native.Nat.{max}
 use Rattle.xq_expressions.specs.declared.signatures.Function.{Function}
 use Rattle.xq_meaning.specs.declared.operators.Operator.{Operator}
-use Rattle.xq_meaning.specs.Doing.{◌>>=◌, go_on, give, judged, on_trees, collected, in_turn, more, one_more, for_each, first_that}
+use Rattle.xq_meaning.specs.Doing.{◌>>=◌, Outcome, go_on, give, judged, on_trees, collected, in_turn, more, one_more, for_each, first_that}
 use Rattle.xq_meaning.specs.PlanMeaning.{Frame, Meaning, flwor, plan_mean, plan_clause_mean, plan_step_mean, at_tuple, next_clause, next_step}
 use Rattle.xq_meaning.proofs.PlanEquations.{plan-Int, plan-Str, plan-Root, plan-Step, plan-Named, plan-Unnamed, plan-Call, plan-Quantified, clause-Group, clause-Order, clause-Refused, step-Scan, plan-Dec, plan-Slot, plan-ContextItem, plan-Sequence, plan-Chain, plan-Unary, plan-If, plan-Or, plan-And, plan-Filter, plan-Path, plan-Flwor, step-Each, clause-For, clause-Let, clause-Where, clause-Count, plan-Arrow, plan-Map}
 use Rattle.xq_meaning.proofs.Turns.{begun_then}
 use Rattle.xq_forms.specs.Views.{order_specs, calling, ordering, on_axis, after_double_slash, parents_below, plant_named, plant_unnamed, tuple_at, tuples_at, lists_of, spot_at, forget, frame_at, TupleIn, TuplesIn, GivesSequence, GivesTuples, FrameIn}
-use Rattle.xq_eval.specs.private.Results.{GivesKeys, GivesRows, GivesLists, GivesTests, GivesPlain}
+use Rattle.xq_eval.specs.private.Results.{GivesKey, GivesKeys, GivesRows, GivesLists, GivesTests, GivesPlain}
 use Rattle.xq_forms.proofs.Growth.{extends_more, stays, frame_grown, frame_in_grown, items_grown, are_in_grown, item_at_grown, in_grown, tuple_grown, tuple_in_grown, tuples_grown, tuples_in_grown, goes_on_to}
 use Rattle.xq_regions.specs.declared.Axis.TheVariants.{Child}
 use Rattle.xq_meaning.specs.declared.plans.PlanStep.TheVariants as plan_step
@@ -49,7 +49,10 @@ use Rattle.xq_meaning.specs.declared.plans.PlanClause.TheVariants as clause
 use Rattle.xq_eval.proofs.Loops.{got_at, left_over, left_from, two_left, none_taken, one_taken, turns_same, turns_two, turns_from, turns_stop_two, turns_next, turns_stop, turns_end, tries_next, tries_found, tries_stop, handed_on, stops, cut}
 use Rattle.xq_atoms.specs.Text.{Text}
 use Rattle.xq_expressions.specs.declared.operators.OrderModifier.{OrderModifier}
-use Rattle.xq_tuples.specs.Keys.{atomics_of, column_of, columns_of}
+use Rattle.xq_tuples.specs.declared.rows.Key.TheVariants.{One, Several}
+use Rattle.xq_tuples.specs.Keys.{values_in, row_of, rows_in}
+use Rattle.xq_joins.specs.Atoms.{Tells}
+use Rattle.xq_eval.proofs.Telling.{told, told_stop}
 use Rattle.xq_meaning.specs.Content.{name_of}
 use Rattle.xq_eval.specs.private.Keys.{keys_at}
 use Rattle.xq_eval.specs.private.Quantifying.{holds, at_top, turn, resumed, weigh, all_weigh, unless_wanted}
@@ -1401,7 +1404,7 @@ clauses::next_tuples-returns-in_err-rows-in-Order-clause-gives g t c = λ clean 
     let f' = g.W.TreeSource.forest c.key_rows.new.world in
     let keys = λ (specs : List (Plan × OrderModifier)). for_each (λ t. keys_at (order_specs specs) (at_tuple frame t)) tuples f in
     let next = λ (rows : List (List (List Atomic))). ordering c.in-Order.specs tuples rows in
-    cut columns_of (λ trees rows. rows) (λ trees rows. Unit {0}) (λ (ts : List (Tuple ItemView)). ts) tuples_at TuplesIn (plan_clause_mean c.args.clause.now frame tuples f) (keys c.as_slice-specs.result.now) next f' c.in_err-rows-in-Order.field-0.0 c.from_residual-in_err-rows-in-Order.result
+    cut rows_in (λ trees rows. rows) (λ trees rows. Unit {0}) (λ (ts : List (Tuple ItemView)). ts) tuples_at TuplesIn (plan_clause_mean c.args.clause.now frame tuples f) (keys c.as_slice-specs.result.now) next f' c.in_err-rows-in-Order.field-0.0 c.from_residual-in_err-rows-in-Order.result
     (ap (λ k. plan_clause_mean k frame tuples f) c.in-Order.is ∙ ap (λ m. m frame tuples f) (clause-Order c.in-Order.specs) ∙ ap (λ ss. go_on (keys ss) next) (sym c.as_slice-specs.ensures)) c.from_residual-in_err-rows-in-Order.ensures.1
     (c.in_err-rows-in-Order.ensures.gives clean inside tuples_in)
 
@@ -1414,7 +1417,7 @@ clauses::next_tuples-returns-in_ok-rows-in-Order-clause-gives g t c = λ clean i
     let f' = g.W.TreeSource.forest c.key_rows.new.world in
     let grows = c.in_ok-rows-in-Order.ensures.goes.grows in
     let keys = λ (specs : List (Plan × OrderModifier)). for_each (λ t. keys_at (order_specs specs) (at_tuple frame t)) tuples f in
-    let rows = columns_of c.in_ok-rows-in-Order.rows in
+    let rows = rows_in c.in_ok-rows-in-Order.rows in
     let values = c.in_ok-rows-in-Order.ensures.gives clean inside tuples_in in
     let meant : plan_clause_mean c.args.clause.now frame tuples f ≡ ordering c.as_slice-specs.result.now (tuples_at f' held) rows f' =
     ap (λ k. plan_clause_mean k frame tuples f) c.in-Order.is ∙ ap (λ m. m frame tuples f) (clause-Order c.in-Order.specs) ∙ ap (λ ss. go_on (keys ss) (λ rows. ordering c.in-Order.specs tuples rows)) (sym c.as_slice-specs.ensures)
@@ -1450,11 +1453,11 @@ clauses::key_rows-loop-index-preserved g t c =
     let slots = values_of held.slots.now in
     let at : values_of c.deref.result.now ≡ slots ++ x = ap values_of c.deref.ensures.value ∙ c.in_ok-refill.ensures ∙ ap (λ s. s ++ x) i.in_slots in
     let specs = order_specs c.args.specs.now in
-    let done = columns_of c.loop-index.rows in
+    let done = rows_in c.loop-index.rows in
     let act = λ (fr : Frame). one_more (λ t. keys_at specs (at_tuple fr t)) in
     record {
       goes = goes_on_to i.goes c.next_row.ensures.goes;
-      turns = turns_next _ _ _ (columns_of c.in_ok-rows.rows) (tuple_at old x) _ _ i.turns (left_at (tuple_at old) tuples n x [] (omega arith) c.tuple.ensures) c.next_row.ensures.goes.was_clean
+      turns = turns_next _ _ _ (rows_in c.in_ok-rows.rows) (tuple_at old x) _ _ i.turns (left_at (tuple_at old) tuples n x [] (omega arith) c.tuple.ensures) c.next_row.ensures.goes.was_clean
           (λ clean inside is_in.
           let x_in = element (TupleIn old) tuples n x [] inside.1 (omega arith) c.tuple.ensures in
           let s = c.in_ok-rows.ensures.gives clean (frame_in_grown i.goes.grows held inside.0) x at (tuple_in_grown i.goes.grows x x_in) in
@@ -1478,11 +1481,11 @@ clauses::key_rows-returns-in_err-rows-clause-gives g t c = λ clean inside tuple
     let slots = values_of held.slots.now in
     let at : values_of c.deref.result.now ≡ slots ++ x = ap values_of c.deref.ensures.value ∙ c.in_ok-refill.ensures ∙ ap (λ s. s ++ x) i.in_slots in
     let specs = order_specs c.args.specs.now in
-    let done = columns_of c.loop-index.rows in
+    let done = rows_in c.loop-index.rows in
     let act = λ (fr : Frame). one_more (λ t. keys_at specs (at_tuple fr t)) in
     let e = c.in_err-rows.field-0.0 in
-    handed_on columns_of same_tests any_tests _ f' e c.from_residual-in_err-rows.result c.from_residual-in_err-rows.ensures.1
-    (turns_stop _ _ _ columns_of same_tests any_tests (tuple_at old x) _ f' e i.turns (left_at (tuple_at old) tuples n x [] (omega arith) c.tuple.ensures) c.next_row.ensures.goes.was_clean
+    handed_on rows_in same_tests any_tests _ f' e c.from_residual-in_err-rows.result c.from_residual-in_err-rows.ensures.1
+    (turns_stop _ _ _ rows_in same_tests any_tests (tuple_at old x) _ f' e i.turns (left_at (tuple_at old) tuples n x [] (omega arith) c.tuple.ensures) c.next_row.ensures.goes.was_clean
     (λ clean inside is_in.
     let x_in = element (TupleIn old) tuples n x [] inside.1 (omega arith) c.tuple.ensures in
     subst (λ fr. GivesRows (act fr done (tuple_at old x) f) f' (Err e)) (frame_grown i.goes.grows held inside.0)
@@ -1494,7 +1497,7 @@ clauses::key_rows-loop-index-init g t c =
     let old = g.W.TreeSource.forest c.args.world.now in
     let held = c.args.frame in
     let frame = frame_at old held in
-    let none : columns_of c.new-rows.result ≡ [] = ap (map column_of) c.new-rows.ensures.items in
+    let none : rows_in c.new-rows.result ≡ [] = ap (map row_of) c.new-rows.ensures.items in
     let slots = values_of held.slots.now in
     let long = length-map held.slots.now (λ slot. item_views slot.value) in
     record {
@@ -1529,8 +1532,8 @@ clauses::next_row-returns-clause-gives g t c = λ clean inside tuple at tuple_in
     let specs = order_specs c.args.specs.now in
     let inner : Held = record { slots = c.args.slots; focus = held.focus; addresses = held.addresses } in
     let row = c.in_ok-row.ensures.gives clean (frame_inner_in f held inner tuple at refl refl inside tuple_in) in
-    let made : keys_at specs (at_tuple (frame_at f held) (tuple_at f tuple)) f ≡ (Ok (column_of c.in_ok-row.row), f') = ap (λ fr. keys_at specs fr f) (sym (frame_inner f held inner tuple at refl refl)) ∙ row.1 in
-    (tt, ap (λ o. go_on o (λ y. give (columns_of c.args.done ++ y ∷ []))) made ∙ ap (λ rs. (Ok rs, f')) (sym (ap (map column_of) c.in_ok-push.ensures.items ∙ map-append column_of c.args.done.items (c.in_ok-row.row ∷ []))))
+    let made : keys_at specs (at_tuple (frame_at f held) (tuple_at f tuple)) f ≡ (Ok (row_of c.in_ok-row.row), f') = ap (λ fr. keys_at specs fr f) (sym (frame_inner f held inner tuple at refl refl)) ∙ row.1 in
+    (tt, ap (λ o. go_on o (λ y. give (rows_in c.args.done ++ y ∷ []))) made ∙ ap (λ rs. (Ok rs, f')) (sym (ap (map row_of) c.in_ok-push.ensures.items ∙ map-append row_of c.args.done.items (c.in_ok-row.row ∷ []))))
 
 pub clauses::next_row-returns-in_err-row-clause-gives : goal.clauses::next_row-returns-in_err-row-clause-gives
 clauses::next_row-returns-in_err-row-clause-gives g t c = λ clean inside tuple at tuple_in.
@@ -1540,8 +1543,8 @@ clauses::next_row-returns-in_err-row-clause-gives g t c = λ clean inside tuple 
     let specs = order_specs c.args.specs.now in
     let inner : Held = record { slots = c.args.slots; focus = held.focus; addresses = held.addresses } in
     let meant = at_tuple (frame_at f held) (tuple_at f tuple) in
-    let next = λ (y : List (List Atomic)). give (columns_of c.args.done ++ y ∷ []) in
-    cut column_of (λ trees keys. keys) (λ trees keys. Unit {0}) columns_of (λ trees rows. rows) (λ trees rows. Unit {0}) _ (keys_at specs meant f) next f' c.in_err-row.field-0.0 c.from_residual.result refl c.from_residual.ensures.1
+    let next = λ (y : List (List Atomic)). give (rows_in c.args.done ++ y ∷ []) in
+    cut row_of (λ trees keys. keys) (λ trees keys. Unit {0}) rows_in (λ trees rows. rows) (λ trees rows. Unit {0}) _ (keys_at specs meant f) next f' c.in_err-row.field-0.0 c.from_residual.result refl c.from_residual.ensures.1
     (subst (λ fr. GivesKeys (keys_at specs fr f) f' (Err c.in_err-row.field-0.0)) (frame_inner f held inner tuple at refl refl)
     (c.in_err-row.ensures.gives clean (frame_inner_in f held inner tuple at refl refl inside tuple_in)))
 
@@ -1560,11 +1563,11 @@ clauses::keys-loop-part-preserved g t c =
     let spec = c.loop-part-item.result in
     let held = c.args.frame in
     let f = g.W.TreeSource.forest c.loop-part.world in
-    let done = column_of c.loop-part.keys in
+    let done = row_of c.loop-part.keys in
     let act = λ (fr : Frame). one_more (λ (part : Meaning). Forms.atoms_of part fr) in
     record {
       goes = goes_on_to i.goes c.next_key.ensures.goes;
-      turns = turns_next _ _ _ (column_of c.in_ok-keys.keys) (plan_mean spec.0, spec.1) _ _ i.turns (left_over (λ (part, modifier). (plan_mean part, modifier)) c.args.specs.now c.loop-part.part-index spec (omega arith) c.loop-part-item.is) c.next_key.ensures.goes.was_clean
+      turns = turns_next _ _ _ (row_of c.in_ok-keys.keys) (plan_mean spec.0, spec.1) _ _ i.turns (left_over (λ (part, modifier). (plan_mean part, modifier)) c.args.specs.now c.loop-part.part-index spec (omega arith) c.loop-part-item.is) c.next_key.ensures.goes.was_clean
           (λ clean inside is_in.
           let s = c.in_ok-keys.ensures.gives clean (frame_in_grown i.goes.grows held inside) in
           (s.0, ap (λ fr. act fr done (plan_mean spec.0) f) (sym (frame_grown i.goes.grows held inside)) ∙ s.1));
@@ -1577,11 +1580,11 @@ clauses::keys-returns-in_err-keys-clause-gives g t c = λ clean inside.
     let held = c.args.frame in
     let f = g.W.TreeSource.forest c.loop-part.world in
     let f' = g.W.TreeSource.forest c.next_key.new.world in
-    let done = column_of c.loop-part.keys in
+    let done = row_of c.loop-part.keys in
     let act = λ (fr : Frame). one_more (λ (part : Meaning). Forms.atoms_of part fr) in
     let e = c.in_err-keys.field-0.0 in
-    handed_on column_of same_tests any_tests _ f' e c.from_residual.result c.from_residual.ensures.1
-    (turns_stop _ _ _ column_of same_tests any_tests (plan_mean spec.0, spec.1) _ f' e i.turns (left_over (λ (part, modifier). (plan_mean part, modifier)) c.args.specs.now c.loop-part.part-index spec (omega arith) c.loop-part-item.is) c.next_key.ensures.goes.was_clean
+    handed_on row_of same_tests any_tests _ f' e c.from_residual.result c.from_residual.ensures.1
+    (turns_stop _ _ _ row_of same_tests any_tests (plan_mean spec.0, spec.1) _ f' e i.turns (left_over (λ (part, modifier). (plan_mean part, modifier)) c.args.specs.now c.loop-part.part-index spec (omega arith) c.loop-part-item.is) c.next_key.ensures.goes.was_clean
     (λ clean inside is_in. subst (λ fr. GivesKeys (act fr done (plan_mean spec.0) f) f' (Err e)) (frame_grown i.goes.grows held inside) (c.in_err-keys.ensures.gives clean (frame_in_grown i.goes.grows held inside))) clean inside)
 
 pub clauses::keys-returns-in_err-keys-clause-goes : goal.clauses::keys-returns-in_err-keys-clause-goes
@@ -1596,41 +1599,141 @@ clauses::keys-returns-clause-gives g t c = λ clean inside.
 
 pub clauses::next_key-returns-clause-gives : goal.clauses::next_key-returns-clause-gives
 clauses::next_key-returns-clause-gives g t c = λ clean inside.
+    let f' = g.W.TreeSource.forest c.key_of.new.world in
+    let key = c.in_ok-key.key in
+    let found = c.in_ok-key.ensures.gives clean inside in
+    let made : row_of c.args.done ++ values_in key ∷ [] ≡ row_of c.push.new.self = sym (ap (map values_in) c.in_ok-push.ensures.items ∙ map-append values_in c.args.done.items (key ∷ [])) in
+    (tt, ap (λ o. go_on o (λ y. give (row_of c.args.done ++ y ∷ []))) found.1 ∙ ap (λ ks. (Ok ks, f')) made)
+
+pub clauses::next_key-returns-in_err-key-clause-gives : goal.clauses::next_key-returns-in_err-key-clause-gives
+clauses::next_key-returns-in_err-key-clause-gives g t c = λ clean inside.
     let f = g.W.TreeSource.forest c.args.world.now in
     let frame = frame_at f c.args.frame in
-    let f' = g.W.TreeSource.forest c.evaluate.new.world in
-    let f'' = g.W.TreeSource.forest c.into_atoms.new.source in
-    let value = item_views c.in_ok-value.value in
-    let was = c.into_atoms.ensures.was_clean clean in
-    let found = c.in_ok-value.ensures.gives was inside in
-    let atoms : atomics_of c.in_ok-key.key ≡ atomized f' (items_at f' value) = c.in_ok-key.ensures.value clean in
-    let same : f'' ≡ f' = c.into_atoms.ensures.keeps in
-    let made : column_of c.args.done ++ atomized f' (items_at f' value) ∷ [] ≡ column_of c.push.new.self =
-    ap (λ a. column_of c.args.done ++ a ∷ []) (sym atoms) ∙ sym (ap (map atomics_of) c.in_ok-push.ensures.items ∙ map-append atomics_of c.args.done.items (c.in_ok-key.key ∷ [])) in
-    (tt, ap (λ o. go_on (go_on o (λ xs. on_trees (λ trees. Ok (atomized trees xs)))) (λ y. give (column_of c.args.done ++ y ∷ []))) found.1 ∙ ap (λ ks. (Ok ks, f')) made ∙ ap (λ h. (Ok (column_of c.push.new.self), h)) (sym same))
-
-pub clauses::next_key-returns-in_err-value-clause-gives : goal.clauses::next_key-returns-in_err-value-clause-gives
-clauses::next_key-returns-in_err-value-clause-gives g t c = λ clean inside.
-    let f = g.W.TreeSource.forest c.args.world.now in
-    let frame = frame_at f c.args.frame in
-    let f' = g.W.TreeSource.forest c.evaluate.new.world in
-    let e = c.in_err-value.field-0.0 in
-    let first = λ (xs : List Item). on_trees (λ trees. Ok (atomized trees xs)) in
-    let next = λ (y : List Atomic). give (column_of c.args.done ++ y ∷ []) in
-    cut (λ (as' : List Atomic). as') (λ trees as'. as') (λ trees as'. Unit {0}) column_of (λ trees keys. keys) (λ trees keys. Unit {0}) _ (go_on (plan_mean c.args.part.now frame f) first) next f' e c.from_residual.result refl c.from_residual.ensures.1
-    (go_on_stop item_views items_at AreIn (λ (as' : List Atomic). as') (λ trees as'. as') (λ trees as'. Unit {0}) (plan_mean c.args.part.now frame f) first f' e (c.in_err-value.ensures.gives clean inside))
-
-pub clauses::next_key-returns-in_err-value-clause-goes : goal.clauses::next_key-returns-in_err-value-clause-goes
-clauses::next_key-returns-in_err-value-clause-goes g t c = c.in_err-value.ensures.goes
+    let f' = g.W.TreeSource.forest c.key_of.new.world in
+    let next = λ (y : List Atomic). give (row_of c.args.done ++ y ∷ []) in
+    cut values_in (λ trees key. key) (λ trees key. Unit {0}) row_of (λ trees keys. keys) (λ trees keys. Unit {0}) _ (Forms.atoms_of (plan_mean c.args.part.now) frame f) next f' c.in_err-key.field-0.0 c.from_residual.result refl c.from_residual.ensures.1
+    (c.in_err-key.ensures.gives clean inside)
 
 pub clauses::next_key-returns-in_err-key-clause-goes : goal.clauses::next_key-returns-in_err-key-clause-goes
-clauses::next_key-returns-in_err-key-clause-goes g t c = goes_on_to c.in_ok-value.ensures.goes (same_goes c.into_atoms.ensures.keeps c.into_atoms.ensures.was_clean)
+clauses::next_key-returns-in_err-key-clause-goes g t c = c.in_err-key.ensures.goes
 
 pub clauses::next_key-returns-in_err-push-clause-goes : goal.clauses::next_key-returns-in_err-push-clause-goes
-clauses::next_key-returns-in_err-push-clause-goes g t c = goes_on_to c.in_ok-value.ensures.goes (same_goes c.into_atoms.ensures.keeps c.into_atoms.ensures.was_clean)
+clauses::next_key-returns-in_err-push-clause-goes g t c = c.in_ok-key.ensures.goes
 
 pub clauses::next_key-returns-clause-goes : goal.clauses::next_key-returns-clause-goes
-clauses::next_key-returns-clause-goes g t c = goes_on_to c.in_ok-value.ensures.goes (same_goes c.into_atoms.ensures.keeps c.into_atoms.ensures.was_clean)
+clauses::next_key-returns-clause-goes g t c = c.in_ok-key.ensures.goes
+
+pub clauses::key_of-returns-in-Some-clause-gives : goal.clauses::key_of-returns-in-Some-clause-gives
+clauses::key_of-returns-in-Some-clause-gives g t c = λ clean inside.
+    let f = g.W.TreeSource.forest c.args.world.now in
+    let outcome = Forms.atoms_of (plan_mean c.args.part.now) (frame_at f c.args.frame) f in
+    told (λ a. a ∷ []) values_in (λ trees key. key) (λ trees key. Unit {0}) outcome f (g.W.TreeSource.forest c.atom_of.new.source) c.in-Some.atom (One c.in-Some.atom) c.atom_of.ensures.keeps tt refl
+    (subst (λ o. Tells (λ a. a ∷ []) outcome f (Ok o)) c.in-Some.is (c.in_ok-atom.ensures.tells clean inside))
+
+pub clauses::key_of-returns-in-Some-clause-goes : goal.clauses::key_of-returns-in-Some-clause-goes
+clauses::key_of-returns-in-Some-clause-goes g t c = same_goes c.atom_of.ensures.keeps c.atom_of.ensures.was_clean
+
+pub clauses::key_of-returns-in_err-atom-clause-gives : goal.clauses::key_of-returns-in_err-atom-clause-gives
+clauses::key_of-returns-in_err-atom-clause-gives g t c = λ clean inside.
+    let f = g.W.TreeSource.forest c.args.world.now in
+    let f' = g.W.TreeSource.forest c.atom_of.new.source in
+    let outcome = Forms.atoms_of (plan_mean c.args.part.now) (frame_at f c.args.frame) f in
+    let e = c.in_err-atom.field-0.0 in
+    handed_on values_in (λ trees key. key) (λ trees key. Unit {0}) outcome f' e c.from_residual.result c.from_residual.ensures.1
+    (told_stop (λ a. a ∷ []) values_in (λ trees key. key) (λ trees key. Unit {0}) outcome f f' e (c.in_err-atom.ensures.tells clean inside))
+
+pub clauses::key_of-returns-in_err-atom-clause-goes : goal.clauses::key_of-returns-in_err-atom-clause-goes
+clauses::key_of-returns-in_err-atom-clause-goes g t c = same_goes c.atom_of.ensures.keeps c.atom_of.ensures.was_clean
+
+pub clauses::key_of-returns-clause-gives : goal.clauses::key_of-returns-clause-gives
+clauses::key_of-returns-clause-gives g t c = λ clean inside.
+    let old = g.W.TreeSource.forest c.args.world.now in
+    let f = g.W.TreeSource.forest c.atom_of.new.source in
+    let f' = g.W.TreeSource.forest c.evaluate.new.world in
+    let f'' = g.W.TreeSource.forest c.into_atoms.new.source in
+    let keeps : f ≡ old = c.atom_of.ensures.keeps in
+    let frame = c.args.frame in
+    let part = plan_mean c.args.part.now in
+    let was = c.into_atoms.ensures.was_clean clean in
+    let found = c.in_ok-value.ensures.gives was (subst (λ h. FrameIn h frame) (sym keeps) inside) in
+    let atoms : values_in (Several c.in_ok-atoms.atoms) ≡ atomized f' (items_at f' (item_views c.in_ok-value.value)) = c.in_ok-atoms.ensures.value clean in
+    let same : f'' ≡ f' = c.into_atoms.ensures.keeps in
+    let next = λ (o : Outcome (List Item)). go_on o (λ xs. on_trees (λ trees. Ok (atomized trees xs))) in
+    (tt, subst (λ h. Forms.atoms_of part (frame_at h frame) h ≡ (Ok (values_in (Several c.in_ok-atoms.atoms)), f'')) keeps (ap next found.1 ∙ ap (λ as'. (Ok as', f')) (sym atoms) ∙ ap (λ h. (Ok (values_in (Several c.in_ok-atoms.atoms)), h)) (sym same)))
+
+pub clauses::key_of-returns-in_err-value-clause-gives : goal.clauses::key_of-returns-in_err-value-clause-gives
+clauses::key_of-returns-in_err-value-clause-gives g t c = λ clean inside.
+    let f = g.W.TreeSource.forest c.atom_of.new.source in
+    let f' = g.W.TreeSource.forest c.evaluate.new.world in
+    let keeps = c.atom_of.ensures.keeps in
+    let frame = c.args.frame in
+    let part = plan_mean c.args.part.now in
+    let e = c.in_err-value.field-0.0 in
+    let first = λ (xs : List Item). on_trees (λ trees. Ok (atomized trees xs)) in
+    handed_on values_in (λ trees key. key) (λ trees key. Unit {0}) _ f' e c.from_residual-in_err-value.result c.from_residual-in_err-value.ensures.1
+    (subst (λ h. GivesKey (Forms.atoms_of part (frame_at h frame) h) f' (Err e)) keeps
+    (go_on_stop item_views items_at AreIn values_in (λ trees key. key) (λ trees key. Unit {0}) (part (frame_at f frame) f) first f' e (c.in_err-value.ensures.gives clean (subst (λ h. FrameIn h frame) (sym keeps) inside))))
+
+pub clauses::key_of-returns-in_err-value-clause-goes : goal.clauses::key_of-returns-in_err-value-clause-goes
+clauses::key_of-returns-in_err-value-clause-goes g t c = goes_on_to (same_goes c.atom_of.ensures.keeps c.atom_of.ensures.was_clean) c.in_err-value.ensures.goes
+
+pub clauses::key_of-returns-in_err-atoms-clause-goes : goal.clauses::key_of-returns-in_err-atoms-clause-goes
+clauses::key_of-returns-in_err-atoms-clause-goes g t c = goes_on_to (goes_on_to (same_goes c.atom_of.ensures.keeps c.atom_of.ensures.was_clean) c.in_ok-value.ensures.goes) (same_goes c.into_atoms.ensures.keeps c.into_atoms.ensures.was_clean)
+
+pub clauses::key_of-returns-clause-goes : goal.clauses::key_of-returns-clause-goes
+clauses::key_of-returns-clause-goes g t c = goes_on_to (goes_on_to (same_goes c.atom_of.ensures.keeps c.atom_of.ensures.was_clean) c.in_ok-value.ensures.goes) (same_goes c.into_atoms.ensures.keeps c.into_atoms.ensures.was_clean)
+
+pub evaluation::call_value-returns-in-Some-clause-gives : goal.evaluation::call_value-returns-in-Some-clause-gives
+evaluation::call_value-returns-in-Some-clause-gives g t c = λ clean inside.
+    let f = g.W.TreeSource.forest c.args.world.now in
+    let f' = g.W.TreeSource.forest c.atom_of_call.new.source in
+    let outcome = Forms.call c.args.function (map plan_mean c.args.parts.now) (frame_at f c.args.frame) f in
+    let a = atomic_of c.in-Some.atom in
+    let items = item_views c.in_ok-single.field-0 in
+    let is : items ≡ Value a ∷ [] = c.in_ok-single.ensures in
+    subst (λ vs. AreIn f' vs × (outcome ≡ (Ok (items_at f' vs), f'))) (sym is)
+    ((tt, tt), subst (λ o. Tells atomic outcome f (Ok o)) c.in-Some.is (c.in_ok-atom.ensures.tells clean inside) ∙ ap (λ h. (Ok (atomic a), h)) (sym c.atom_of_call.ensures.keeps))
+
+pub evaluation::call_value-returns-in-Some-clause-goes : goal.evaluation::call_value-returns-in-Some-clause-goes
+evaluation::call_value-returns-in-Some-clause-goes g t c = same_goes c.atom_of_call.ensures.keeps c.atom_of_call.ensures.was_clean
+
+pub evaluation::call_value-returns-in-Some-clause-reads : goal.evaluation::call_value-returns-in-Some-clause-reads
+evaluation::call_value-returns-in-Some-clause-reads g t c = λ clean inside doc text is. c.atom_of_call.ensures.reads doc
+
+pub evaluation::call_value-returns-in_err-single-clause-goes : goal.evaluation::call_value-returns-in_err-single-clause-goes
+evaluation::call_value-returns-in_err-single-clause-goes g t c = same_goes c.atom_of_call.ensures.keeps c.atom_of_call.ensures.was_clean
+
+pub evaluation::call_value-returns-in_err-single-clause-reads : goal.evaluation::call_value-returns-in_err-single-clause-reads
+evaluation::call_value-returns-in_err-single-clause-reads g t c = λ clean inside doc text is. c.atom_of_call.ensures.reads doc
+
+pub evaluation::call_value-returns-in_err-atom-clause-gives : goal.evaluation::call_value-returns-in_err-atom-clause-gives
+evaluation::call_value-returns-in_err-atom-clause-gives g t c = λ clean inside.
+    let f = g.W.TreeSource.forest c.args.world.now in
+    let f' = g.W.TreeSource.forest c.atom_of_call.new.source in
+    let outcome = Forms.call c.args.function (map plan_mean c.args.parts.now) (frame_at f c.args.frame) f in
+    let e = c.in_err-atom.field-0.0 in
+    handed_on item_views items_at AreIn outcome f' e c.from_residual.result c.from_residual.ensures.1
+    (told_stop atomic item_views items_at AreIn outcome f f' e (c.in_err-atom.ensures.tells clean inside))
+
+pub evaluation::call_value-returns-in_err-atom-clause-goes : goal.evaluation::call_value-returns-in_err-atom-clause-goes
+evaluation::call_value-returns-in_err-atom-clause-goes g t c = same_goes c.atom_of_call.ensures.keeps c.atom_of_call.ensures.was_clean
+
+pub evaluation::call_value-returns-in_err-atom-clause-reads : goal.evaluation::call_value-returns-in_err-atom-clause-reads
+evaluation::call_value-returns-in_err-atom-clause-reads g t c = λ clean inside doc text is. c.atom_of_call.ensures.reads doc
+
+pub evaluation::call_value-returns-clause-gives : goal.evaluation::call_value-returns-clause-gives
+evaluation::call_value-returns-clause-gives g t c = λ clean inside.
+    let keeps = c.atom_of_call.ensures.keeps in
+    let frame = c.args.frame in
+    subst (λ h. GivesSequence (Forms.call c.args.function (map plan_mean c.args.parts.now) (frame_at h frame) h) (g.W.TreeSource.forest c.called.new.world) c.called.result) keeps
+    (c.called.ensures.gives clean (subst (λ h. FrameIn h frame) (sym keeps) inside))
+
+pub evaluation::call_value-returns-clause-goes : goal.evaluation::call_value-returns-clause-goes
+evaluation::call_value-returns-clause-goes g t c = goes_on_to (same_goes c.atom_of_call.ensures.keeps c.atom_of_call.ensures.was_clean) c.called.ensures.goes
+
+pub evaluation::call_value-returns-clause-reads : goal.evaluation::call_value-returns-clause-reads
+evaluation::call_value-returns-clause-reads g t c = λ clean inside doc text is.
+    c.called.ensures.reads clean (subst (λ h. FrameIn h c.args.frame) (sym c.atom_of_call.ensures.keeps) inside) doc text is ∙ c.atom_of_call.ensures.reads doc
 
 pub paths::next_items-returns-in-Each-clause-gives : goal.paths::next_items-returns-in-Each-clause-gives
 paths::next_items-returns-in-Each-clause-gives g t c = λ clean inside items_in.
@@ -2103,10 +2206,10 @@ evaluation::called-returns-clause-goes g t c = goes_on_to c.in_ok-values.ensures
 
 pub evaluation::evaluate-returns-in-Call-clause-gives : goal.evaluation::evaluate-returns-in-Call-clause-gives
 evaluation::evaluate-returns-in-Call-clause-gives g t c = λ clean inside.
-    rw (c.in-Call.is, plan-Call c.in-Call.function c.in-Call.parts, ← c.as_slice-in-Call.ensures) (c.called.ensures.gives clean inside)
+    rw (c.in-Call.is, plan-Call c.in-Call.function c.in-Call.parts, ← c.as_slice-in-Call.ensures) (c.call_value.ensures.gives clean inside)
 
 pub evaluation::evaluate-returns-in-Call-clause-goes : goal.evaluation::evaluate-returns-in-Call-clause-goes
-evaluation::evaluate-returns-in-Call-clause-goes g t c = c.called.ensures.goes
+evaluation::evaluate-returns-in-Call-clause-goes g t c = c.call_value.ensures.goes
 
 pub evaluation::next_call-returns-clause-gives : goal.evaluation::next_call-returns-clause-gives
 evaluation::next_call-returns-clause-gives g t c = λ clean inside items_in.
@@ -2329,7 +2432,7 @@ pub evaluation::evaluate-returns-in-Str-clause-reads : goal.evaluation::evaluate
 evaluation::evaluate-returns-in-Str-clause-reads g t c = λ clean inside. literal_scans _ _ _ _ _ (ap out-Plan c.in-Str.is ∙ plan.outs-Str _) refl
 
 pub evaluation::evaluate-returns-in-Call-clause-reads : goal.evaluation::evaluate-returns-in-Call-clause-reads
-evaluation::evaluate-returns-in-Call-clause-reads g t c = λ clean inside. call_scans _ _ _ _ _ (ap out-Plan c.in-Call.is ∙ plan.outs-Call _ _) (λ doc text parts. c.called.ensures.reads clean inside doc text (c.as_slice-in-Call.ensures ∙ parts))
+evaluation::evaluate-returns-in-Call-clause-reads g t c = λ clean inside. call_scans _ _ _ _ _ (ap out-Plan c.in-Call.is ∙ plan.outs-Call _ _) (λ doc text parts. c.call_value.ensures.reads clean inside doc text (c.as_slice-in-Call.ensures ∙ parts))
 
 -- # Forms of expressions, and the dispatcher
 

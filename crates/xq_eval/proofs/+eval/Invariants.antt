@@ -17,7 +17,7 @@ use Rattle.xq_meaning.specs.Steps.{focuses, focuses_from}
 use Rattle.xq_meaning.specs.Readings.{items_at, AreIn}
 use Rattle.xq_forms.specs.Views.{tuple_at, tuples_at, lists_of, order_specs, frame_at, FrameIn, TupleIn, TuplesIn, Goes}
 use Rattle.xq_forms.specs.Reads.{rows_of, AreOf, HasGrown}
-use Rattle.xq_tuples.specs.Keys.{column_of, columns_of}
+use Rattle.xq_tuples.specs.Keys.{row_of, rows_in}
 use Rattle.xq_tuples.specs.Views.{values_of}
 use Rattle.xq_eval.specs.private.Bindings.{stack_of}
 use Rattle.xq_eval.specs.private.Keys.{keys_at}
@@ -196,7 +196,7 @@ invariant-clauses::key_rows-loop-index g l =
     let specs = order_specs l.specs in
     record {
       goes : Goes old now (g.W.TreeSource.is_clean l.fn.world) clean;
-      turns : Turns same_tests any_tests (one_more (λ t. keys_at specs (meant_at frame t))) (inside × TuplesIn old l.tuples) clean (columns_of l.rows) (map (tuple_at old) (drop l.index l.tuples)) now (for_each (λ t. keys_at specs (meant_at frame t)) (tuples_at old l.tuples) old);
+      turns : Turns same_tests any_tests (one_more (λ t. keys_at specs (meant_at frame t))) (inside × TuplesIn old l.tuples) clean (rows_in l.rows) (map (tuple_at old) (drop l.index l.tuples)) now (for_each (λ t. keys_at specs (meant_at frame t)) (tuples_at old l.tuples) old);
       long : length l.rows.items ≡ l.index;
       in_slots : take l.outer (values_of l.slots.items) ≡ values_of l.frame.slots.now;
     }
@@ -209,7 +209,7 @@ invariant-clauses::keys-loop-part g l =
     let clean = g.W.TreeSource.is_clean l.world in
     record {
       goes : Goes old now (g.W.TreeSource.is_clean l.fn.world) clean;
-      turns : Turns same_tests any_tests (one_more (λ (part, modifier). Forms.atoms_of part frame)) (FrameIn old l.frame) clean (column_of l.keys) (order_specs (drop l.part-index l.specs)) now (keys_at (order_specs l.specs) frame old);
+      turns : Turns same_tests any_tests (one_more (λ (part, modifier). Forms.atoms_of part frame)) (FrameIn old l.frame) clean (row_of l.keys) (order_specs (drop l.part-index l.specs)) now (keys_at (order_specs l.specs) frame old);
     }
 
 abbrev pub invariant-quantified::satisfied-turns : goal.invariant-quantified::satisfied-turns
@@ -266,6 +266,9 @@ decreases-evaluation::pass g a = 8 * goal.size-evaluation::pass g a + 4
 abbrev pub decreases-evaluation::called : goal.decreases-evaluation::called
 decreases-evaluation::called g a = 8 * goal.size-evaluation::called g a + 6
 
+abbrev pub decreases-evaluation::call_value : goal.decreases-evaluation::call_value
+decreases-evaluation::call_value g a = 8 * goal.size-evaluation::call_value g a + 7
+
 abbrev pub decreases-evaluation::call_list : goal.decreases-evaluation::call_list
 decreases-evaluation::call_list g a = 8 * goal.size-evaluation::call_list g a + 7
 
@@ -318,16 +321,19 @@ abbrev pub decreases-clauses::at_tuple : goal.decreases-clauses::at_tuple
 decreases-clauses::at_tuple g a = 8 * goal.size-clauses::at_tuple g a + 4
 
 abbrev pub decreases-clauses::key_rows : goal.decreases-clauses::key_rows
-decreases-clauses::key_rows g a = 8 * goal.size-clauses::key_rows g a + 7
+decreases-clauses::key_rows g a = 8 * goal.size-clauses::key_rows g a + 8
 
 abbrev pub decreases-clauses::next_row : goal.decreases-clauses::next_row
-decreases-clauses::next_row g a = 8 * goal.size-clauses::next_row g a + 6
+decreases-clauses::next_row g a = 8 * goal.size-clauses::next_row g a + 7
 
 abbrev pub decreases-clauses::keys : goal.decreases-clauses::keys
-decreases-clauses::keys g a = 8 * goal.size-clauses::keys g a + 5
+decreases-clauses::keys g a = 8 * goal.size-clauses::keys g a + 6
 
 abbrev pub decreases-clauses::next_key : goal.decreases-clauses::next_key
-decreases-clauses::next_key g a = 8 * goal.size-clauses::next_key g a + 4
+decreases-clauses::next_key g a = 8 * goal.size-clauses::next_key g a + 5
+
+abbrev pub decreases-clauses::key_of : goal.decreases-clauses::key_of
+decreases-clauses::key_of g a = 8 * goal.size-clauses::key_of g a + 4
 
 abbrev pub decreases-quantified::satisfied : goal.decreases-quantified::satisfied
 decreases-quantified::satisfied g a = 8 * goal.size-quantified::satisfied g a + 1
