@@ -11,7 +11,7 @@ use std::marker::Brand;
 use std::test::Fail;
 use xq_atoms::{Want, address_ok};
 use xq_regions::{Fragment, Kind, NodeRow};
-use xq_rows::{Origin, Store};
+use xq_rows::{Origin, Put, Store};
 use xq_samples::documents::{judged, row};
 use xq_sources::RowLender;
 
@@ -133,7 +133,7 @@ fn take_out(items: &mut Vec<Item>, numbers: &mut Numbers) -> Option<Item> {
     }
 }
 
-fn edit(items: &mut Vec<Item>, numbers: &mut Numbers, edit: Edit) -> Result<(), Want> {
+fn make_edit(items: &mut Vec<Item>, numbers: &mut Numbers, edit: Edit) -> Result<(), Want> {
     match edit {
         Edit::PutIn => {
             let item = numbers.item();
@@ -226,13 +226,16 @@ fn viewed<S: Alter + Drop, O: Origin + Drop>(
     Ok(view.into_store())
 }
 
-/// Hands the document over to the store, which keeps its rows.
-fn hand_over<S: Alter>(store: &mut Store<S>, document: Fragment) -> Result<(), Want> {
-    if !address_ok("m".as_bytes()) || !document.is_document() {
+/// Hands a document over to the store, which keeps its rows.
+fn hand_over<S: Alter>(
+    store: &mut Store<S>,
+    address: &str,
+    document: Fragment,
+) -> Result<Put, Want> {
+    if !address_ok(address.as_bytes()) || !document.is_document() {
         return Err(Want::Store);
     }
-    let _put = store.put_owned("m", document)?;
-    Ok(())
+    store.put_owned(address, document)
 }
 
 fn put_kept<S: Alter + Drop>(
@@ -242,12 +245,10 @@ fn put_kept<S: Alter + Drop>(
     kept: Kept,
 ) -> Result<Store<S>, Want> {
     let mut store = store;
-    match kept {
-        Kept::Whole => hand_over(&mut store, document)?,
-        Kept::Nothing | Kept::Front => {
-            let _put = put(&mut store, "m", &document)?;
-        }
-    }
+    let _put = match kept {
+        Kept::Whole => hand_over(&mut store, "m", document)?,
+        Kept::Nothing | Kept::Front => put(&mut store, "m", &document)?,
+    };
     match kept {
         Kept::Front => viewed::<S, Brand>(alloc, store),
         Kept::Nothing | Kept::Whole => Ok(store),
@@ -270,7 +271,7 @@ fn put_all<S: Alter + Drop>(
     for _ in 0..case.edits {
         store = put_kept(alloc, store, document(alloc, &items)?, case.kept)?;
         let next = EDITS[numbers.below(6) as usize];
-        edit(&mut items, &mut numbers, next)?;
+        make_edit(&mut items, &mut numbers, next)?;
     }
     let last = document(alloc, &items)?;
     let _put = put(&mut store, "m", &last)?;

@@ -133,13 +133,14 @@ enum Ask {
 fn hands_over<S: Alter>(
     alloc: Global,
     store: &mut Store<S>,
+    address: &str,
     rows: &'static [Row],
 ) -> Result<bool, Want> {
     let document = tree_of(alloc, rows)?;
-    if !address_ok("b".as_bytes()) || !document.is_document() {
+    if !address_ok(address.as_bytes()) || !document.is_document() {
         return Ok(false);
     }
-    Ok(store.put_owned("b", document)? == Put::Replaced)
+    Ok(store.put_owned(address, document)? == Put::Replaced)
 }
 
 fn has<S: Alter>(store: &mut Store<S>, rows: &'static [Row]) -> Result<bool, Want> {
@@ -152,7 +153,7 @@ fn has<S: Alter>(store: &mut Store<S>, rows: &'static [Row]) -> Result<bool, Wan
 fn is_done<S: Alter>(alloc: Global, store: &mut Store<S>, ask: Ask) -> Result<bool, Want> {
     match ask {
         Ask::Make(call) => is_answered(store, &Documents::new(alloc)?, call),
-        Ask::HandOver(rows) => hands_over(alloc, store, rows),
+        Ask::HandOver(rows) => hands_over(alloc, store, "b", rows),
         Ask::Has(rows) => has(store, rows),
     }
 }
