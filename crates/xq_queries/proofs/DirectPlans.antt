@@ -1,9 +1,8 @@
 -- The plan of each form gives what the form gives where no variable is bound.
-use Rattle.std.proofs.Common.{◌≡◌, ℕ, ℤ, ◌+◌, ◌<◌, ◌≤◌, List, [], ◌∷◌, ◌++◌, map, length, get_or, take, None, Option, refl, sym, ap, ◌∙◌, subst, add-one, arith}
-use Rattle.std.proofs.Math.Seq.{take-suc}
-use Rattle.std.proofs.lemmas.List.{take_all}
+use Rattle.std.proofs.Common.{◌≡◌, ℕ, ℤ, ◌≤◌, List, [], ◌∷◌, ◌++◌, map, reverse, None, refl, sym, ap, ◌∙◌, subst, arith}
+use Rattle.std.proofs.lemmas.List.{append-nil, append_assoc, reverse-append}
+use denote.Param.Weighed.{most, most-append}
 use Rattle.xq_atoms.specs.Text.{Text}
-use Rattle.xq_regions.specs.Tree.{Tree}
 use Rattle.xq_expressions.specs.declared.names.QName.{QName}
 use Rattle.xq_expressions.specs.declared.operators.NamedNode.{NamedNode}
 use Rattle.xq_expressions.specs.declared.operators.UnnamedNode.{UnnamedNode}
@@ -12,7 +11,7 @@ use Rattle.xq_expressions.specs.declared.expressions.Clause.{Clause}
 use Rattle.xq_expressions.specs.declared.expressions.Clause.TheOpen.{Expr-F}
 use Rattle.xq_expressions.specs.declared.expressions.ConstructorName.{ConstructorName}
 use Rattle.xq_expressions.specs.declared.expressions.ConstructorName.TheVariants as written
-use Rattle.xq_expressions.specs.declared.expressions.Expr.{Expr, out-Expr}
+use Rattle.xq_expressions.specs.declared.expressions.Expr.{Expr, out-Expr, size-Expr}
 use Rattle.xq_expressions.specs.declared.expressions.Expr.TheVariants as expr
 use Rattle.xq_expressions.specs.declared.expressions.GroupSpec.{GroupSpec}
 use Rattle.xq_expressions.specs.declared.expressions.Step.{Step}
@@ -20,7 +19,6 @@ use Rattle.xq_meaning.specs.declared.normal_forms.Core.{Core}
 use Rattle.xq_meaning.specs.declared.plans.Plan.{Plan}
 use Rattle.xq_meaning.specs.declared.plans.Plan.TheVariants as plan
 use Rattle.xq_meaning.specs.Forms
-use Rattle.xq_meaning.specs.Functions.{Focus}
 use Rattle.xq_meaning.specs.Meaning.{Environment, no_variable, mean, name_mean}
 use Rattle.xq_meaning.specs.PlanMeaning.{Slots, plan_mean}
 use Rattle.xq_meaning.specs.Same.{IsNormalForm, IsPlan, frame_of}
@@ -55,58 +53,74 @@ alls (e ∷ es) (p ∷ ps) h addresses = (same_of e p h.0 addresses, alls es ps 
 -- # Forms
 
 int_direct : (n : ℤ) → IsDirect (expr.Int n) (plan.Int n)
-int_direct n = by_form (expr.Int n) (plan.Int n) _ _ (mean_eq.mean-Int n) (plan_eq.plan-Int n) (λ addresses focus f. refl)
+int_direct n =
+    by_form (expr.Int n) (plan.Int n) _ _ (mean_eq.mean-Int n) (plan_eq.plan-Int n)
+    (λ addresses focus f. refl)
 
 dec_direct : (n : ℤ) → IsDirect (expr.Dec n) (plan.Dec n)
-dec_direct n = by_form (expr.Dec n) (plan.Dec n) _ _ (mean_eq.mean-Dec n) (plan_eq.plan-Dec n) (λ addresses focus f. refl)
+dec_direct n =
+    by_form (expr.Dec n) (plan.Dec n) _ _ (mean_eq.mean-Dec n) (plan_eq.plan-Dec n)
+    (λ addresses focus f. refl)
 
 str_direct : (t : Text) → IsDirect (expr.Str t) (plan.Str t)
-str_direct t = by_form (expr.Str t) (plan.Str t) _ _ (mean_eq.mean-Str t) (plan_eq.plan-Str t) (λ addresses focus f. refl)
+str_direct t =
+    by_form (expr.Str t) (plan.Str t) _ _ (mean_eq.mean-Str t) (plan_eq.plan-Str t)
+    (λ addresses focus f. refl)
 
 sequence_direct : (es : List Expr) (ps : List Plan) → AreDirect es ps →
     IsDirect (expr.Sequence es) (plan.Sequence ps)
 sequence_direct es ps all =
-    by_form (expr.Sequence es) (plan.Sequence ps) _ _ (mean_eq.mean-Sequence es) (plan_eq.plan-Sequence ps)
-    (λ addresses. sequence_same addresses [] no_variable (map plan_mean ps) (map mean es) (alls es ps all addresses))
+    by_form (expr.Sequence es) (plan.Sequence ps) _ _ (mean_eq.mean-Sequence es)
+    (plan_eq.plan-Sequence ps)
+    (λ addresses. sequence_same addresses [] no_variable (map plan_mean ps) (map mean es)
+    (alls es ps all addresses))
 
 if_direct : (a b c : Expr) (p q r : Plan) → IsDirect a p → IsDirect b q → IsDirect c r →
     IsDirect (expr.If a b c) (plan.If p q r)
 if_direct a b c p q r h k l =
     by_form (expr.If a b c) (plan.If p q r) _ _ (mean_eq.mean-If a b c) (plan_eq.plan-If p q r)
-    (λ addresses. conditional_same addresses [] no_variable (plan_mean p) (plan_mean q) (plan_mean r) (mean a) (mean b) (mean c)
+    (λ addresses. conditional_same addresses [] no_variable (plan_mean p) (plan_mean q)
+    (plan_mean r) (mean a) (mean b) (mean c)
     (same_of a p h addresses) (same_of b q k addresses) (same_of c r l addresses))
 
-named_direct : (kind : NamedNode) (n : ConstructorName) (e : Expr) (q p : Plan) → NamesDirectly n q →
-    IsDirect e p → IsDirect (expr.Named kind n e) (plan.Named kind q p)
+named_direct : (kind : NamedNode) (n : ConstructorName) (e : Expr) (q p : Plan) →
+    NamesDirectly n q → IsDirect e p → IsDirect (expr.Named kind n e) (plan.Named kind q p)
 named_direct kind n e q p h k =
-    by_form (expr.Named kind n e) (plan.Named kind q p) _ _ (mean_eq.mean-Named kind n e) (plan_eq.plan-Named kind q p)
-    (λ addresses. named_node_same addresses [] no_variable kind (plan_mean q) (plan_mean p) (name_mean n) (mean e)
+    by_form (expr.Named kind n e) (plan.Named kind q p) _ _ (mean_eq.mean-Named kind n e)
+    (plan_eq.plan-Named kind q p)
+    (λ addresses. named_node_same addresses [] no_variable kind (plan_mean q) (plan_mean p)
+    (name_mean n) (mean e)
     (λ focus f. h focus addresses f) (same_of e p k addresses))
 
 unnamed_direct : (kind : UnnamedNode) (e : Expr) (p : Plan) → IsDirect e p →
     IsDirect (expr.Unnamed kind e) (plan.Unnamed kind p)
 unnamed_direct kind e p h =
-    by_form (expr.Unnamed kind e) (plan.Unnamed kind p) _ _ (mean_eq.mean-Unnamed kind e) (plan_eq.plan-Unnamed kind p)
-    (λ addresses. unnamed_node_same addresses [] no_variable kind (plan_mean p) (mean e) (same_of e p h addresses))
+    by_form (expr.Unnamed kind e) (plan.Unnamed kind p) _ _ (mean_eq.mean-Unnamed kind e)
+    (plan_eq.plan-Unnamed kind p)
+    (λ addresses. unnamed_node_same addresses [] no_variable kind (plan_mean p) (mean e)
+    (same_of e p h addresses))
 
-pub normal_direct : (e : Expr) (core : Core) (p : Plan) → IsNormalForm e core → IsPlan [] core p → IsDirect e p
+pub normal_direct : (e : Expr) (core : Core) (p : Plan) → IsNormalForm e core → IsPlan [] core p →
+    IsDirect e p
 normal_direct e core p normal is focus addresses trees =
     is [] focus addresses trees refl ∙ normal (frame_of no_variable focus addresses) trees
 
 -- # Names
 
-pub literal_names : (n : ConstructorName) (q : QName) (t : Text) (p : Plan) → n ≡ written.Literal q →
-    t ≡ q.local → p ≡ plan.Str t → NamesDirectly n p
-literal_names n q t p is same named focus addresses trees =
-    ap (λ (r : Plan). plan_mean r (frame_of [] focus addresses) trees) (named ∙ ap plan.Str same)
+pub literal_names : (n : ConstructorName) (q : QName) (p : Plan) → n ≡ written.Literal q →
+    p ≡ plan.Str q.local → NamesDirectly n p
+literal_names n q p is named focus addresses trees =
+    ap (λ (r : Plan). plan_mean r (frame_of [] focus addresses) trees) named
     ∙ ap (λ k. k (frame_of [] focus addresses) trees) (plan_eq.plan-Str q.local)
     ∙ sym (ap (λ k. k (frame_of no_variable focus addresses) trees)
     (ap name_mean is ∙ mean_eq.name-Literal q))
 
-pub computed_names : (n : ConstructorName) (e : Expr) (p : Plan) → n ≡ written.Computed e → IsDirect e p → NamesDirectly n p
+pub computed_names : (n : ConstructorName) (e : Expr) (p : Plan) → n ≡ written.Computed e →
+    IsDirect e p → NamesDirectly n p
 computed_names n e p is h focus addresses trees =
     h focus addresses trees
-    ∙ sym (ap (λ k. k (frame_of no_variable focus addresses) trees) (ap name_mean is ∙ mean_eq.name-Computed e))
+    ∙ sym (ap (λ k. k (frame_of no_variable focus addresses) trees) (ap name_mean is ∙
+    mean_eq.name-Computed e))
 
 -- # An expression of a known form, of which parts were handed on
 
@@ -119,19 +133,13 @@ int_at e n is = direct_at e (expr.Int n) (plan.Int n) is (int_direct n)
 pub dec_at : (e : Expr) (n : ℤ) → e ≡ expr.Dec n → IsDirect e (plan.Dec n)
 dec_at e n is = direct_at e (expr.Dec n) (plan.Dec n) is (dec_direct n)
 
-pub str_at : (e : Expr) (t u : Text) → e ≡ expr.Str t → u ≡ t → IsDirect e (plan.Str u)
-str_at e t u is same =
-    direct_at e (expr.Str t) (plan.Str u) is
-    (subst (λ (v : Text). IsDirect (expr.Str t) (plan.Str v)) (sym same) (str_direct t))
+pub str_at : (e : Expr) (t : Text) → e ≡ expr.Str t → IsDirect e (plan.Str t)
+str_at e t is = direct_at e (expr.Str t) (plan.Str t) is (str_direct t)
 
-pub sequence_at : (e : Expr) (es given : List Expr) (ps : List Plan) → e ≡ expr.Sequence es →
-    given ≡ es → AreDirect given ps → IsDirect e (plan.Sequence ps)
-sequence_at e es given ps is same all =
-    direct_at e (expr.Sequence es) (plan.Sequence ps) is
-    (sequence_direct es ps (subst (λ (l : List Expr). AreDirect l ps) same all))
-
-pub part_at : (e given : Expr) (p : Plan) → given ≡ e → IsDirect given p → IsDirect e p
-part_at e given p same h = subst (λ (y : Expr). IsDirect y p) same h
+pub sequence_at : (e : Expr) (es : List Expr) (ps : List Plan) → e ≡ expr.Sequence es →
+    AreDirect es ps → IsDirect e (plan.Sequence ps)
+sequence_at e es ps is all =
+    direct_at e (expr.Sequence es) (plan.Sequence ps) is (sequence_direct es ps all)
 
 pub if_at : (e a b c : Expr) (p q r : Plan) → e ≡ expr.If a b c → IsDirect a p → IsDirect b q →
     IsDirect c r → IsDirect e (plan.If p q r)
@@ -157,34 +165,55 @@ abbrev IsNoPath : Form → Type 0
 IsNoPath (Expr-F.Path start first more) = ⊥
 IsNoPath form = Unit {0}
 
-pub no_path : (e : Expr) (form : Form) (p : Plan) → out-Expr e ≡ form → IsNoPath form → ScansItsDocument e p
+pub no_path : (e : Expr) (form : Form) (p : Plan) → out-Expr e ≡ form → IsNoPath form →
+    ScansItsDocument e p
 no_path e form p outs is name address first more named path =
     let start = call_of_literal name address in
     let later = map after_slash (first ∷ more) in
     absurd (subst IsNoPath (sym outs ∙ ap out-Expr path ∙ expr.outs-Path Relative start later) is)
 
--- # Loops
+-- # Lists, from their end
 
-take_next : {A : Type 0} (all : List A) (i : ℕ) (y : A) → i < length all → y ≡ get_or all i y →
-    take (i + 1) all ≡ take i all ++ y ∷ []
-take_next all i y h is =
-    rw add-one (take-suc all i y h ∙ ap (λ z. take i all ++ z ∷ []) (sym is))
+-- what is left of a list, and the plans of those behind, the last first
+pub record EachLeft (all left : List Expr) (plans : List Plan) : Type 0 where
+  pub taken : List Expr
+  pub whole : left ++ taken ≡ all
+  pub planned : AreDirect taken (reverse plans)
 
-all_push : (es : List Expr) (ps : List Plan) (e : Expr) (p : Plan) → AreDirect es ps → IsDirect e p →
-    AreDirect (es ++ e ∷ []) (ps ++ p ∷ [])
-all_push [] [] e p h k = (k, tt)
-all_push [] (q ∷ qs) e p h k = absurd h
-all_push (d ∷ ds) [] e p h k = absurd h
-all_push (d ∷ ds) (q ∷ qs) e p h k = (h.0, all_push ds qs e p h.1 k)
+pub left_none : (all : List Expr) (plans : List Plan) → plans ≡ [] → EachLeft all all plans
+left_none all plans none = record {
+  taken = [];
+  whole = append-nil all;
+  planned = subst (λ (l : List Plan). AreDirect [] (reverse l)) (sym none) tt;
+}
 
-pub each_next : (all : List Expr) (i : ℕ) (done done' : List Plan) (e : Expr) (p : Plan) → AreDirect (take i all) done →
-    i < length all → e ≡ get_or all i e → IsDirect e p → done' ≡ done ++ p ∷ [] → AreDirect (take (i + 1) all) done'
-each_next all i done done' e p h less is k pushed =
-    subst (λ (l : List Expr). AreDirect l done') (sym (take_next all i e less is))
-    (subst (λ (l : List Plan). AreDirect (take i all ++ e ∷ []) l) (sym pushed) (all_push (take i all) done e p h k))
+pub left_next : (all left rest : List Expr) (plans plans' : List Plan) (e : Expr) (p : Plan) →
+    EachLeft all left plans → left ≡ rest ++ e ∷ [] → IsDirect e p → plans' ≡ plans ++ p ∷ [] →
+    EachLeft all rest plans'
+left_next all left rest plans plans' e p h cut is pushed =
+    let turned : reverse plans' ≡ p ∷ reverse plans =
+    ap reverse pushed ∙ reverse-append plans (p ∷ []) in
+    record {
+      taken = e ∷ h.taken;
+      whole = sym (append_assoc rest (e ∷ []) h.taken) ∙ ap (λ l. l ++ h.taken) (sym cut) ∙ h.whole;
+      planned = subst (λ (l : List Plan). AreDirect (e ∷ h.taken) l) (sym turned) (is, h.planned);
+    }
 
-pub each_done : (all : List Expr) (i : ℕ) (done : List Plan) → AreDirect (take i all) done → length all ≤ i → AreDirect all done
-each_done all i done h most = subst (λ (l : List Expr). AreDirect l done) (take_all i all most) h
+pub left_done : (all left : List Expr) (plans : List Plan) → EachLeft all left plans → left ≡ [] →
+    AreDirect all (reverse plans)
+left_done all left plans h none =
+    let whole : h.taken ≡ all = ap (λ l. l ++ h.taken) (sym none) ∙ h.whole in
+    subst (λ (l : List Expr). AreDirect l (reverse plans)) whole h.planned
+
+pub left_size : (all left rest : List Expr) (plans : List Plan) (e : Expr) → EachLeft all left
+    plans →
+    left ≡ rest ++ e ∷ [] → size-Expr e ≤ most size-Expr all
+left_size all left rest plans e h cut =
+    let whole = ap (most size-Expr) h.whole in
+    let both = most-append size-Expr left h.taken in
+    let same = ap (most size-Expr) cut in
+    let last = most-append size-Expr rest (e ∷ []) in
+    omega (arith, whole, both, same, last)
 
 -- # A query's plan
 

@@ -11,7 +11,7 @@ ghost use Rattle.xq_queries.specs.private.Direct.{AreDirect, IsDirect, NamesDire
 use sqlite_items::{Boxed, Items};
 use std::alloc::Global;
 use xq_atoms::Want;
-use xq_expressions::{ConstructorName, Expr, Text};
+use xq_expressions::{ConstructorName, Expr};
 use xq_meaning::{Core, Plan};
 use xq_normal::normalise;
 use xq_plan::plan;
@@ -19,28 +19,28 @@ use xq_plan::plan;
 /// A plan that gives what the expression gives where no variable is bound. That of a path which
 /// starts with `doc` of a literal is the document and as many scans.
 #[cycle(direct)]
-pub fn direct(alloc: Global, expr: &Expr) -> Result<Plan, Want>
-    ensures same { IfOk result (λ plan. IsDirect expr.now plan) }
-    ensures scans { IfOk result (λ plan. ScansItsDocument expr.now plan) }
+pub fn direct(alloc: Global, expr: Expr) -> Result<Plan, Want>
+    ensures same { IfOk result (λ plan. IsDirect expr plan) }
+    ensures scans { IfOk result (λ plan. ScansItsDocument expr plan) }
     ensures want { IfErr result (λ want. want ≡ Memory) }
 {
     match expr {
-        Expr::Int(value) => Ok(Plan::Int(*value)),
-        Expr::Dec(value) => Ok(Plan::Dec(*value)),
-        Expr::Str(value) => Ok(Plan::Str(Text::copy_of(alloc, value.as_str())?)),
-        Expr::Sequence(parts) => Ok(Plan::Sequence(each(alloc, parts.as_slice())?)),
+        Expr::Int(value) => Ok(Plan::Int(value)),
+        Expr::Dec(value) => Ok(Plan::Dec(value)),
+        Expr::Str(value) => Ok(Plan::Str(value)),
+        Expr::Sequence(parts) => Ok(Plan::Sequence(each(alloc, parts)?)),
         Expr::If(test, positive, negative) => {
-            let test = boxed(alloc, test.get())?;
-            let positive = boxed(alloc, positive.get())?;
-            let negative = boxed(alloc, negative.get())?;
+            let test = boxed(alloc, test)?;
+            let positive = boxed(alloc, positive)?;
+            let negative = boxed(alloc, negative)?;
             Ok(conditional(test, positive, negative))
         }
         Expr::Named(node, name, content) => {
             let name = constructor_name(alloc, name)?;
-            Ok(Plan::Named(*node, name, boxed(alloc, content.get())?))
+            Ok(Plan::Named(node, name, boxed(alloc, content)?))
         }
-        Expr::Unnamed(node, content) => Ok(Plan::Unnamed(*node, boxed(alloc, content.get())?)),
-        _ => by_normal_form(alloc, expr),
+        Expr::Unnamed(node, content) => Ok(Plan::Unnamed(node, boxed(alloc, content)?)),
+        expr => by_normal_form(alloc, &expr),
     }
 }
 
@@ -53,40 +53,39 @@ fn conditional(test: Boxed<Plan>, positive: Boxed<Plan>, negative: Boxed<Plan>) 
 
 /// The same, as a part of another plan.
 #[cycle(direct)]
-fn boxed(alloc: Global, expr: &Expr) -> Result<Boxed<Plan>, Want>
-    ensures same { IfOk result (λ plan. IsDirect expr.now plan) }
+fn boxed(alloc: Global, expr: Boxed<Expr>) -> Result<Boxed<Plan>, Want>
+    ensures same { IfOk result (λ plan. IsDirect expr plan) }
     ensures want { IfErr result (λ want. want ≡ Memory) }
 {
-    let plan = direct(alloc, expr)?;
+    let plan = direct(alloc, expr.into_inner())?;
     Ok(Boxed::new(alloc, plan)?)
 }
 
-/// The same of each expression.
+/// The same of each expression, from the last to the first, since the last is taken off at no cost.
 #[cycle(direct)]
-fn each(alloc: Global, exprs: &[Expr]) -> Result<Items<Plan>, Want>
-    ensures same { IfOk result (λ plans. AreDirect exprs.now plans) }
+fn each(alloc: Global, exprs: Items<Expr>) -> Result<Items<Plan>, Want>
+    ensures same { IfOk result (λ plans. AreDirect exprs plans) }
     ensures want { IfErr result (λ want. want ≡ Memory) }
 {
-    let mut plans = Items::from_vec(Vec::with_capacity(alloc, exprs.len())?);
-    for expr in exprs {
+    let mut left = exprs;
+    let mut plans = Vec::with_capacity(alloc, left.len())?;
+    while let Some(expr) = left.pop() {
         let plan = direct(alloc, expr)?;
         plans.push(plan)?;
     }
-    Ok(plans)
+    plans.reverse();
+    Ok(Items::from_vec(plans))
 }
 
 /// The same of the name of a constructed node.
 #[cycle(direct)]
-fn constructor_name(alloc: Global, name: &ConstructorName) -> Result<Boxed<Plan>, Want>
-    ensures same { IfOk result (λ plan. NamesDirectly name.now plan) }
+fn constructor_name(alloc: Global, name: ConstructorName) -> Result<Boxed<Plan>, Want>
+    ensures same { IfOk result (λ plan. NamesDirectly name plan) }
     ensures want { IfErr result (λ want. want ≡ Memory) }
 {
     match name {
-        ConstructorName::Literal(name) => {
-            let name = Text::copy_of(alloc, name.local.as_str())?;
-            Ok(Boxed::new(alloc, Plan::Str(name))?)
-        }
-        ConstructorName::Computed(expr) => boxed(alloc, expr.get()),
+        ConstructorName::Literal(name) => Ok(Boxed::new(alloc, Plan::Str(name.local))?),
+        ConstructorName::Computed(expr) => boxed(alloc, expr),
     }
 }
 

@@ -67,5 +67,5 @@ fn planned(alloc: Global, query: Expr) -> Result<Plan, Want>
     ensures scans { IfOk result (λ plan. ScansItsDocument query plan) }
     ensures want { IfErr result (λ want. want ≡ Memory) }
 {
-    direct(alloc, &query)
+    direct(alloc, query)
 }
