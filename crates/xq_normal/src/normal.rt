@@ -1,8 +1,7 @@
 //! The normal form of each form of expression. Where two parts are made, lists and boxes come first:
 //! what is let go where the second is refused is then one call, and no choice among all forms.
-ghost use Rattle.std.specs.Prelude.{◌≡◌, [], ◌∷◌, ◌++◌, IfOk, OnOk, List, map};
+ghost use Rattle.std.specs.Prelude.{◌≡◌, [], ◌∷◌, IfOk, map};
 ghost use Rattle.xq_expressions.specs.declared.operators.PathStart.TheVariants.{Relative};
-ghost use Rattle.xq_expressions.specs.declared.operators.Separator.TheVariants.{Slash};
 ghost use Rattle.xq_meaning.specs.declared.operators.Operator.TheVariants as operator;
 ghost use Rattle.xq_meaning.specs.Meaning as meaning;
 ghost use Rattle.xq_meaning.specs.Meaning.{mean, name_mean, clause_mean, group_mean, step_mean};
