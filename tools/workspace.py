@@ -17,7 +17,8 @@ TOP = os.path.dirname(os.path.dirname(os.path.abspath(__file__)))
 GIGABYTE = 1 << 30
 os.environ.setdefault("GLIBC_TUNABLES", ":".join((
     "glibc.malloc.hugetlb=1", "glibc.malloc.top_pad=67108864",
-    "glibc.malloc.mmap_threshold=%d" % GIGABYTE, "glibc.malloc.trim_threshold=%d" % GIGABYTE)))
+    "glibc.malloc.mmap_threshold=%d" % GIGABYTE, "glibc.malloc.trim_threshold=%d" % GIGABYTE,
+    "glibc.malloc.mxfast=0")))
 
 
 def lines_of(crates):
