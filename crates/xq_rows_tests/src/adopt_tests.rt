@@ -1,10 +1,9 @@
 //! What is adopted, and what is no store.
-use crate::calls::{CALL_ROWS, Call, REPLACING};
-use crate::documents::Named;
-use crate::tests::{ROWS_AS_TEXT, answered, answers};
-use sqlite::{Alter, Connection, MemStore};
+use crate::calls::{CALL_ROWS, Call, REPLACING, first_wrong};
+use crate::documents::{Documents, Named};
+use crate::tests::ROWS_AS_TEXT;
+use sqlite::{Alter, Connection};
 use std::alloc::Global;
-use std::process::Abort;
 use std::test::Fail;
 use xq_rows::{OpenFault, Put, Store};
 
@@ -205,30 +204,13 @@ fn adoption_of<S: Alter + Drop>(alloc: Global, mut conn: Connection<S>) -> Resul
     })
 }
 
-/// Makes a database by these statements.
-fn filled<S: Alter + Drop>(
-    conn: Connection<S>,
-    statements: &[&str],
-) -> Result<Connection<S>, Fail> {
-    let mut conn = conn;
-    for statement in statements {
-        let _count = conn.execute(statement, &[])?;
-    }
-    Ok(conn)
-}
-
-/// A database in memory that these statements make.
-pub fn made(alloc: Global, statements: &[&str]) -> Result<Connection<MemStore>, Fail> {
-    filled(Connection::open_in_memory(alloc)?, statements)
-}
-
 /// The answer of a database that these statements make, and then this one.
 pub fn answer_of(alloc: Global, statements: &[&str], last: Option<&str>) -> Result<Answer, Fail> {
-    let conn = made(alloc, statements)?;
-    match last {
-        Some(statement) => adoption_of(alloc, filled(conn, &[statement])?),
-        None => adoption_of(alloc, conn),
+    let mut conn = Connection::open_in_memory(alloc)?;
+    for statement in statements.iter().copied().chain(last) {
+        let _count = conn.execute(statement, &[])?;
     }
+    adoption_of(alloc, conn)
 }
 
 #[test]
@@ -286,15 +268,13 @@ pub fn adopted<S: Alter + Drop>(alloc: Global, conn: Connection<S>) -> Result<St
     Store::adopt(alloc, conn).map_err(|_refused| Fail::new("it was not adopted"))
 }
 
-/// Asserts that the database is adopted as a store, which answers, and has the tables of one.
-fn becomes_store<S: Alter + Drop>(
-    rt: &impl Abort,
-    alloc: Global,
-    conn: Connection<S>,
-) -> Result<(), Fail> {
-    let store = adopted(alloc, conn)?;
-    let mut conn = answered(rt, alloc, store, &CALL_ROWS)?.release();
-    let outline = outline(alloc, &mut conn)?;
+#[test]
+fn an_empty_database(rt: HostRuntime) -> Result<(), Fail> {
+    let documents = Documents::new(rt.alloc())?;
+    let mut store = adopted(rt.alloc(), Connection::open_in_memory(rt.alloc())?)?;
+    assert_eq!(rt; first_wrong(&mut store, &documents, &CALL_ROWS)?, 0);
+    let mut conn = store.release();
+    let outline = outline(rt.alloc(), &mut conn)?;
     assert_eq!(rt;
         outline.as_str(),
         "label|layout|node2|sqlite_autoindex_label_1|sqlite_autoindex_node2_1|2|"
@@ -303,33 +283,26 @@ fn becomes_store<S: Alter + Drop>(
 }
 
 #[test]
-fn an_empty_database(rt: HostRuntime) -> Result<(), Fail> {
-    becomes_store(&rt, rt.alloc(), Connection::open_in_memory(rt.alloc())?)
-}
-
-/// Asserts that the store answers the first calls, and once it is released and adopted the others.
-fn answers_again<S: Alter + Drop>(
-    rt: &impl Abort,
-    alloc: Global,
-    store: Store<S>,
-    (first, others): (&[Call], &[Call]),
-) -> Result<(), Fail> {
-    let store = answered(rt, alloc, store, first)?;
-    answers(rt, alloc, adopted(alloc, store.release())?, others)
-}
-
-#[test]
 fn what_was_released(rt: HostRuntime) -> Result<(), Fail> {
-    let store = Store::new_on_memory_disks(rt.alloc())?;
-    answers_again(&rt, rt.alloc(), store, (&CALL_ROWS[..2], &CALL_ROWS[3..]))
+    let documents = Documents::new(rt.alloc())?;
+    let mut store = Store::new_on_memory_disks(rt.alloc())?;
+    assert_eq!(rt; first_wrong(&mut store, &documents, &CALL_ROWS[..2])?, 0);
+    let mut store = adopted(rt.alloc(), store.release())?;
+    assert_eq!(rt; first_wrong(&mut store, &documents, &CALL_ROWS[3..])?, 0);
+    Ok(())
 }
 
 /// Tables that were made in another order serve as well.
 #[test]
 fn other_orders(rt: HostRuntime) -> Result<(), Fail> {
-    for statements in ORDERS {
-        let conn = made(rt.alloc(), &statements)?;
-        answers(&rt, rt.alloc(), adopted(rt.alloc(), conn)?, &REPLACING)?;
+    let documents = Documents::new(rt.alloc())?;
+    for made in ORDERS {
+        let mut conn = Connection::open_in_memory(rt.alloc())?;
+        for statement in made {
+            let _count = conn.execute(statement, &[])?;
+        }
+        let mut store = adopted(rt.alloc(), conn)?;
+        assert_eq!(rt; first_wrong(&mut store, &documents, &REPLACING)?, 0);
     }
     Ok(())
 }
@@ -358,7 +331,14 @@ const FOUND_AGAIN: [Call; 6] = [
 /// there is found again.
 #[test]
 fn node_made_first(rt: HostRuntime) -> Result<(), Fail> {
-    let conn = made(rt.alloc(), &[NODE, BOOKS, LAYOUT, ONE])?;
-    let store = adopted(rt.alloc(), conn)?;
-    answers_again(&rt, rt.alloc(), store, (&FOUND, &FOUND_AGAIN))
+    let documents = Documents::new(rt.alloc())?;
+    let mut conn = Connection::open_in_memory(rt.alloc())?;
+    for statement in [NODE, BOOKS, LAYOUT, ONE] {
+        let _count = conn.execute(statement, &[])?;
+    }
+    let mut store = adopted(rt.alloc(), conn)?;
+    assert_eq!(rt; first_wrong(&mut store, &documents, &FOUND)?, 0);
+    let mut store = adopted(rt.alloc(), store.release())?;
+    assert_eq!(rt; first_wrong(&mut store, &documents, &FOUND_AGAIN)?, 0);
+    Ok(())
 }

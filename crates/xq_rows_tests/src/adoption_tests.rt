@@ -69,25 +69,10 @@ fn adopted_again<S: Alter + Drop>(
 }
 
 /// Whether the calls have their answers, at the second time where something was wanting.
-fn answers_again<S: Alter + Drop>(store: Store<S>, documents: &Documents, calls: &[Call]) -> bool {
-    let mut store = store;
-    match first_wrong(&mut store, documents, calls) {
+fn answers_again<S: Alter>(store: &mut Store<S>, documents: &Documents, calls: &[Call]) -> bool {
+    match first_wrong(store, documents, calls) {
         Ok(wrong) => wrong == 0,
-        Err(_want) => matches!(first_wrong(&mut store, documents, calls), Ok(0)),
-    }
-}
-
-/// Whether the database is adopted, and the calls have their answers, each at the second time where
-/// something was wanting.
-fn serves_again<S: Alter + Drop>(
-    alloc: Global,
-    conn: Connection<S>,
-    documents: &Documents,
-    calls: &[Call],
-) -> bool {
-    match adopted_again(alloc, conn) {
-        Ok(store) => answers_again(store, documents, calls),
-        Err(_refused) => false,
+        Err(_want) => matches!(first_wrong(store, documents, calls), Ok(0)),
     }
 }
 
@@ -99,7 +84,10 @@ fn each_allocation_in_memory(rt: HostRuntime) -> Result<(), Fail> {
     let documents = documents_again(alloc)?;
     for (statements, calls) in DATABASES {
         let conn = in_memory(alloc, statements).or_else(|_error| in_memory(alloc, statements))?;
-        assert!(rt; serves_again(alloc, conn, &documents, calls));
+        let Ok(mut store) = adopted_again(alloc, conn) else {
+            return Err(Fail::new("it was not adopted"));
+        };
+        assert!(rt; answers_again(&mut store, &documents, calls));
     }
     Ok(())
 }
@@ -124,8 +112,8 @@ fn each_allocation_on_memory_disks(rt: HostRuntime) -> Result<(), Fail> {
     let documents = documents_again(alloc)?;
     for (statements, calls) in DATABASES {
         let conn = on_disks(alloc, statements).or_else(|_error| on_disks(alloc, statements))?;
-        let store = adopted_at_last(alloc, conn)?;
-        assert!(rt; answers_again(store, &documents, calls));
+        let mut store = adopted_at_last(alloc, conn)?;
+        assert!(rt; answers_again(&mut store, &documents, calls));
     }
     Ok(())
 }

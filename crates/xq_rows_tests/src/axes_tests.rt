@@ -89,22 +89,25 @@ fn tables_on_memory_disks(rt: HostRuntime) -> Result<(), Want> {
 #[test]
 fn steps_in_memory(rt: HostRuntime) -> Result<(), Want> {
     let alloc = rt.alloc();
-    let document = library(alloc)?;
-    steps_read_as_many(&rt, alloc, Store::new_in_memory(alloc)?, &SCANS, document)
+    steps_read_as_many(
+        &rt,
+        alloc,
+        Store::new_in_memory(alloc)?,
+        &SCANS,
+        library(alloc)?,
+    )
 }
 
 #[test]
 fn register_steps_in_memory(rt: HostRuntime) -> Result<(), Want> {
     let alloc = rt.alloc();
-    let document = register(alloc)?;
     let store = Store::new_in_memory(alloc)?;
-    steps_read_as_many(&rt, alloc, store, &REGISTER_SCANS, document)
+    steps_read_as_many(&rt, alloc, store, &REGISTER_SCANS, register(alloc)?)
 }
 
 #[test]
 fn great_steps_on_memory_disks(rt: HostRuntime) -> Result<(), Want> {
     let alloc = rt.alloc();
-    let document = great_library(alloc)?;
     let store = Store::new_on_memory_disks(alloc)?;
-    steps_read_as_many(&rt, alloc, store, &GREAT_SCANS, document)
+    steps_read_as_many(&rt, alloc, store, &GREAT_SCANS, great_library(alloc)?)
 }

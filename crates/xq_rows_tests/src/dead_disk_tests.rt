@@ -3,7 +3,7 @@
 
 use crate::part_tests::put;
 use crate::views::{Task, seen};
-use sqlite::{Alter, Connection, FileStore, Files, Options};
+use sqlite::{Connection, FileStore, Files, Options};
 use sqlite_disk::Fuse;
 use std::alloc::Global;
 use std::process::Abort;
@@ -47,12 +47,14 @@ fn opened(alloc: Global, log: u64, db: u64) -> Result<Connection<FileStore<Dying
     }
 }
 
-/// A store with the library, whose rows a view read, over an empty database.
-fn read_once<S: Alter + Drop, R: Abort>(
+/// A store with the library, whose rows a view read, on disks that answer so many calls.
+fn read_once<R: Abort>(
     rt: &R,
     alloc: Global,
-    conn: Connection<S>,
-) -> Result<Store<S>, Want> {
+    log: u64,
+    db: u64,
+) -> Result<Store<FileStore<Dying>>, Want> {
+    let conn = opened(alloc, log, db)?;
     if !conn.is_autocommit() {
         return Err(Want::Store);
     }
@@ -64,23 +66,10 @@ fn read_once<S: Alter + Drop, R: Abort>(
     Ok(store)
 }
 
-/// Whether the rows are stored and read once over an empty database.
-fn is_read_over<S: Alter + Drop, R: Abort>(rt: &R, alloc: Global, conn: Connection<S>) -> bool {
-    read_once(rt, alloc, conn).is_ok()
-}
-
-/// Whether the rows are stored and read once on disks that answer so many calls.
-fn is_read<R: Abort>(rt: &R, alloc: Global, log: u64, db: u64) -> bool {
-    match opened(alloc, log, db) {
-        Ok(conn) => is_read_over(rt, alloc, conn),
-        Err(_want) => false,
-    }
-}
-
 /// The fewest calls of the log with which the rows are stored and read once, or `MOST`.
 fn fewest_of_log<R: Abort>(rt: &R, alloc: Global) -> u64 {
     for log in 0..MOST {
-        if is_read(rt, alloc, log, u64::MAX) {
+        if read_once(rt, alloc, log, u64::MAX).is_ok() {
             return log;
         }
     }
@@ -90,26 +79,11 @@ fn fewest_of_log<R: Abort>(rt: &R, alloc: Global) -> u64 {
 /// The same of the database, where the log answers so many.
 fn fewest_of_db<R: Abort>(rt: &R, alloc: Global, log: u64) -> u64 {
     for db in 0..MOST {
-        if is_read(rt, alloc, log, db) {
+        if read_once(rt, alloc, log, db).is_ok() {
             return db;
         }
     }
     MOST
-}
-
-/// Asserts that each step is made over the rows that were read, and that a statement is refused.
-fn reads_kept_rows<S: Alter + Drop, R: Abort>(
-    rt: &R,
-    alloc: Global,
-    conn: Connection<S>,
-) -> Result<(), Want> {
-    let mut store = read_once(rt, alloc, conn)?;
-    for scan in SCANS {
-        let (after, _counts) = seen(rt, alloc, store, Task::Step(scan))?;
-        store = after;
-    }
-    assert!(rt; matches!(seen(rt, alloc, store, Task::Statement), Err(Want::Store)));
-    Ok(())
 }
 
 /// With a call less the first reading would be refused, so that after it the disks answer no more.
@@ -119,5 +93,11 @@ fn kept_rows_are_read_from_no_disk(rt: HostRuntime) -> Result<(), Want> {
     let log = fewest_of_log(&rt, alloc);
     let db = fewest_of_db(&rt, alloc, log);
     assert!(rt; log < MOST && db < MOST);
-    reads_kept_rows(&rt, alloc, opened(alloc, log, db)?)
+    let mut store = read_once(&rt, alloc, log, db)?;
+    for scan in SCANS {
+        let (after, _counts) = seen(&rt, alloc, store, Task::Step(scan))?;
+        store = after;
+    }
+    assert!(rt; matches!(seen(&rt, alloc, store, Task::Statement), Err(Want::Store)));
+    Ok(())
 }

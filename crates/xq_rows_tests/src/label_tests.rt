@@ -1,10 +1,8 @@
 //! The labels of a store, and the databases of both editions that are adopted, or are no store.
-use crate::adopt_tests::{
-    Answer, BOOKS, Judged, LAYOUT, NODE, ONE, adopted, answer_of, made, shown,
-};
+use crate::adopt_tests::{Answer, BOOKS, Judged, LAYOUT, NODE, ONE, adopted, answer_of, shown};
 use crate::calls::{Call, first_wrong, is_answered};
 use crate::documents::{Documents, Named};
-use sqlite::{Alter, Connection};
+use sqlite::{Alter, Connection, MemStore};
 use std::alloc::Global;
 use std::test::Fail;
 use xq_atoms::{Want, address_ok};
@@ -41,6 +39,15 @@ const LIBRARY_LABELS: &str = "0 |1 lib|2 book|3 id|";
 
 const LIBRARY_ROWS: &str =
     "b 0 7 0 0 0 |b 1 6 1 1 1 |b 2 2 2 1 2 |b 3 0 3 2 3 1|b 4 0 3 3 0 A|b 5 2 2 1 2 |b 6 0 3 2 3 2|b 7 0 3 3 0 B|";
+
+/// A database in memory that these statements make.
+fn made(alloc: Global, statements: &[&str]) -> Result<Connection<MemStore>, Fail> {
+    let mut conn = Connection::open_in_memory(alloc)?;
+    for statement in statements {
+        let _count = conn.execute(statement, &[])?;
+    }
+    Ok(conn)
+}
 
 /// Puts a document of one element, and tells whether the answer is the one that is wanted.
 fn puts_element<S: Alter>(
@@ -181,13 +188,12 @@ fn are_shown<S: Alter>(
 }
 
 /// The database of a case after it was asked; none where an answer was wrong.
-fn asked<S: Alter + Drop>(
+fn asked(
     alloc: Global,
-    conn: Connection<S>,
     documents: &Documents,
     case: Case,
-) -> Result<Option<Connection<S>>, Fail> {
-    let mut store = adopted(alloc, conn)?;
+) -> Result<Option<Connection<MemStore>>, Fail> {
+    let mut store = adopted(alloc, made(alloc, case.made)?)?;
     if are_answered(alloc, &mut store, documents, case.asked)? {
         Ok(Some(store.release()))
     } else {
@@ -195,14 +201,9 @@ fn asked<S: Alter + Drop>(
     }
 }
 
-/// Whether all is as the case says, over the database that its statements made.
-fn holds<S: Alter + Drop>(
-    alloc: Global,
-    conn: Connection<S>,
-    documents: &Documents,
-    case: Case,
-) -> Result<bool, Fail> {
-    let Some(mut conn) = asked(alloc, conn, documents, case)? else {
+/// Whether all is as the case says.
+fn holds(alloc: Global, documents: &Documents, case: Case) -> Result<bool, Fail> {
+    let Some(mut conn) = asked(alloc, documents, case)? else {
         return Ok(false);
     };
     if !are_shown(alloc, &mut conn, case.shown)? {
@@ -217,8 +218,7 @@ fn labels_of_stores(rt: HostRuntime) -> Result<(), Fail> {
     let documents = Documents::new(rt.alloc())?;
     for case in CASES {
         let name = case.name;
-        let conn = made(rt.alloc(), case.made)?;
-        assert!(rt; holds(rt.alloc(), conn, &documents, case)?, "{name}");
+        assert!(rt; holds(rt.alloc(), &documents, case)?, "{name}");
     }
     Ok(())
 }

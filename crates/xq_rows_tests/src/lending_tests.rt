@@ -6,7 +6,6 @@ use crate::part_tests::{comments, put};
 use crate::views::{Task, seen};
 use sqlite::Alter;
 use std::alloc::Global;
-use std::process::Abort;
 use std::test::Fail;
 use xq_atoms::Want;
 use xq_rows::Store;
@@ -69,22 +68,13 @@ fn make_change<S: Alter>(alloc: Global, store: &mut Store<S>, change: Change) ->
     Ok(())
 }
 
-/// Makes each change, and reads the documents after it.
-fn changes_through<S: Alter + Drop, R: Abort>(
-    rt: &R,
-    alloc: Global,
-    store: Store<S>,
-) -> Result<(), Want> {
-    let mut store = store;
+#[test]
+fn rows_after_changes(rt: HostRuntime) -> Result<(), Fail> {
+    let mut store = Store::new_on_memory_disks(rt.alloc())?;
     for (step, documents) in STEPS {
-        make_change(alloc, &mut store, step)?;
-        let (after, _counts) = seen(rt, alloc, store, Task::Comments(documents))?;
+        make_change(rt.alloc(), &mut store, step)?;
+        let (after, _counts) = seen(&rt, rt.alloc(), store, Task::Comments(documents))?;
         store = after;
     }
     Ok(())
-}
-
-#[test]
-fn rows_after_changes(rt: HostRuntime) -> Result<(), Fail> {
-    Ok(changes_through(&rt, rt.alloc(), Store::new_on_memory_disks(rt.alloc())?)?)
 }

@@ -1,7 +1,6 @@
 //! Tests of the store and of what reads its documents, in memory and on disks in memory. They stand
 //! in a crate of their own, since a crate with tests is proved twice, and in one, since each crate
-//! that lets a store go proves anew how all that the engine keeps for it is let go. So a test makes
-//! its store and hands it on, to a function over stores of any kind, which lets it go.
+//! that lets a store go proves anew how all that the engine keeps for it is let go.
 #![tactic(auto)]
 
 #[cfg(test)]

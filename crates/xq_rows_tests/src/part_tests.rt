@@ -86,24 +86,15 @@ fn puts_each<S: Alter>(rt: &impl Abort, alloc: Global, store: &mut Store<S>) -> 
     Ok(())
 }
 
-/// Puts each document, and finds the documents beside them, and then none in their place.
-fn replaces_whole<S: Alter + Drop>(
-    rt: &impl Abort,
-    alloc: Global,
-    store: Store<S>,
-) -> Result<(), Want> {
-    let mut store = store;
-    puts_each(rt, alloc, &mut store)?;
+/// Each document replaces the one before it whole, and the documents beside it stay.
+#[test]
+fn longer_and_shorter_documents(rt: HostRuntime) -> Result<(), Fail> {
+    let mut store = Store::new_on_memory_disks(rt.alloc())?;
+    puts_each(&rt, rt.alloc(), &mut store)?;
     for address in ["a", "z"] {
         assert!(rt; has(&mut store, address, 1_500, "beside")?);
     }
     assert!(rt; store.drop_doc("m")?);
     assert!(rt; store.load("m")?.is_none());
     Ok(())
-}
-
-/// Each document replaces the one before it whole, and the documents beside it stay.
-#[test]
-fn longer_and_shorter_documents(rt: HostRuntime) -> Result<(), Fail> {
-    Ok(replaces_whole(&rt, rt.alloc(), Store::new_on_memory_disks(rt.alloc())?)?)
 }

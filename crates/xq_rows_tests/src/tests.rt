@@ -29,77 +29,50 @@ fn table_rows<S: Alter>(alloc: Global, conn: &mut Connection<S>) -> Result<Strin
     Ok(text)
 }
 
-/// Asserts that the store answers each call as it should, and gives it back.
-pub fn answered<S: Alter + Drop>(
-    rt: &impl Abort,
-    alloc: Global,
-    store: Store<S>,
-    calls: &[Call],
-) -> Result<Store<S>, Fail> {
-    let mut store = store;
-    let documents = Documents::new(alloc)?;
-    assert_eq!(rt; first_wrong(&mut store, &documents, calls)?, 0);
-    Ok(store)
-}
-
 /// Asserts that the store answers each call as it should.
-pub fn answers<S: Alter + Drop>(
+fn answers<S: Alter>(
     rt: &impl Abort,
     alloc: Global,
-    store: Store<S>,
+    store: &mut Store<S>,
     calls: &[Call],
 ) -> Result<(), Fail> {
-    let _store = answered(rt, alloc, store, calls)?;
+    let documents = Documents::new(alloc)?;
+    assert_eq!(rt; first_wrong(store, &documents, calls)?, 0);
     Ok(())
 }
 
 #[test]
 fn calls_in_memory(rt: HostRuntime) -> Result<(), Fail> {
-    answers(
-        &rt,
-        rt.alloc(),
-        Store::new_in_memory(rt.alloc())?,
-        &CALL_ROWS,
-    )
+    let mut store = Store::new_in_memory(rt.alloc())?;
+    answers(&rt, rt.alloc(), &mut store, &CALL_ROWS)
 }
 
 #[test]
 fn replacing_in_memory(rt: HostRuntime) -> Result<(), Fail> {
-    answers(
-        &rt,
-        rt.alloc(),
-        Store::new_in_memory(rt.alloc())?,
-        &REPLACING,
-    )
+    let mut store = Store::new_in_memory(rt.alloc())?;
+    answers(&rt, rt.alloc(), &mut store, &REPLACING)
 }
 
 #[test]
 fn calls_on_memory_disks(rt: HostRuntime) -> Result<(), Fail> {
-    let store = Store::new_on_memory_disks(rt.alloc())?;
-    answers(&rt, rt.alloc(), store, &CALL_ROWS)
+    let mut store = Store::new_on_memory_disks(rt.alloc())?;
+    answers(&rt, rt.alloc(), &mut store, &CALL_ROWS)
 }
 
 #[test]
 fn replacing_on_memory_disks(rt: HostRuntime) -> Result<(), Fail> {
-    let store = Store::new_on_memory_disks(rt.alloc())?;
-    answers(&rt, rt.alloc(), store, &REPLACING)
-}
-
-/// Asserts that the table of a store shows the library that was put there.
-fn shows_library<S: Alter + Drop>(
-    rt: &impl Abort,
-    alloc: Global,
-    store: Store<S>,
-) -> Result<(), Fail> {
-    let mut conn = answered(rt, alloc, store, &CALL_ROWS[..2])?.release();
-    assert!(rt; conn.is_autocommit());
-    assert_eq!(rt; table_rows(alloc, &mut conn)?.as_str(), LIBRARY_ROWS);
-    Ok(())
+    let mut store = Store::new_on_memory_disks(rt.alloc())?;
+    answers(&rt, rt.alloc(), &mut store, &REPLACING)
 }
 
 #[test]
 fn released(rt: HostRuntime) -> Result<(), Fail> {
-    shows_library(&rt, rt.alloc(), Store::new_in_memory(rt.alloc())?)
+    let mut store = Store::new_in_memory(rt.alloc())?;
+    answers(&rt, rt.alloc(), &mut store, &CALL_ROWS[..2])?;
+    let mut conn = store.release();
+    assert!(rt; conn.is_autocommit());
+    assert_eq!(rt; table_rows(rt.alloc(), &mut conn)?.as_str(), LIBRARY_ROWS);
+    Ok(())
 }
 
 /// Tried again where an allocation was refused.
@@ -110,42 +83,16 @@ pub fn documents_again(alloc: Global) -> Result<Documents, Want> {
     }
 }
 
-/// Whether the store comes through each kind of call.
-fn comes_through<S: Alter + Drop>(store: Store<S>, documents: &Documents) -> bool {
-    let mut store = store;
-    matches!(fate_of_calls(&mut store, documents), Fate::Up)
-}
-
 /// Run as it stands no allocation is refused; tools/each_allocation.sh runs it once for each of
 /// its allocations, refusing that one.
 #[test]
 fn each_allocation_in_memory(rt: HostRuntime) -> Result<(), Fail> {
     let documents = documents_again(rt.alloc())?;
-    let store = Store::new_in_memory(rt.alloc()).or_else(|_want| Store::new_in_memory(rt.alloc()))?;
-    assert!(rt; comes_through(store, &documents));
+    let mut store = Store::new_in_memory(rt.alloc()).or_else(|_want| Store::new_in_memory(
+        rt.alloc(),
+    ))?;
+    assert!(rt; matches!(fate_of_calls(&mut store, &documents), Fate::Up));
     Ok(())
-}
-
-/// A database that a call left shut, and what stood under `b` before that call.
-type Left<S> = (Connection<S>, Option<Named>);
-
-/// Makes each kind of call, and gives what is left of a store that did not come through.
-fn left_by_calls<S: Alter + Drop>(
-    store: Store<S>,
-    documents: &Documents,
-) -> Result<Option<Left<S>>, Fail> {
-    let mut store = store;
-    match fate_of_calls(&mut store, documents) {
-        Fate::Up => Ok(None),
-        Fate::Shut(before) => Ok(Some((store.release(), before))),
-        Fate::Wrong => Err(Fail::new("a call was answered wrongly")),
-    }
-}
-
-/// The rows of the table of a database.
-fn rows_left<S: Alter + Drop>(alloc: Global, conn: Connection<S>) -> Result<String, Fail> {
-    let mut conn = conn;
-    table_rows(alloc, &mut conn)
 }
 
 /// The same on disks in memory, where a refusal within a commit leaves the store shut: the files
@@ -153,15 +100,21 @@ fn rows_left<S: Alter + Drop>(alloc: Global, conn: Connection<S>) -> Result<Stri
 #[test]
 fn each_allocation_on_memory_disks(rt: HostRuntime) -> Result<(), Fail> {
     let documents = documents_again(rt.alloc())?;
-    let store = Store::new_on_memory_disks(rt.alloc()).or_else(|_want| Store::new_on_memory_disks(
-        rt.alloc(),
-    ))?;
-    let Some((conn, before)) = left_by_calls(store, &documents)? else {
-        return Ok(());
-    };
-    let rows = rows_left(rt.alloc(), opened_again(rt.alloc(), conn)?)?;
-    assert_eq!(rt; rows.as_str(), rows_of(before));
-    Ok(())
+    let mut store = Store::new_on_memory_disks(rt.alloc()).or_else(
+        |_want| Store::new_on_memory_disks(rt.alloc()),
+    )?;
+    match fate_of_calls(&mut store, &documents) {
+        Fate::Up => Ok(()),
+        Fate::Shut(before) => {
+            let mut conn = opened_again(rt.alloc(), store.release())?;
+            assert_eq!(rt;
+                table_rows(rt.alloc(), &mut conn)?.as_str(),
+                rows_of(before)
+            );
+            Ok(())
+        }
+        Fate::Wrong => Err(Fail::new("a call was answered wrongly")),
+    }
 }
 
 fn rows_of(named: Option<Named>) -> &'static str {

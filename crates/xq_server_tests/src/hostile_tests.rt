@@ -1,6 +1,6 @@
 //! Texts that are long or nest deeply, and frames that are cut anywhere.
 
-use crate::rows::{FIRST_ROWS, PUT_B};
+use crate::rows::{PUT_B, first_rows};
 use crate::servers::MemoryServer;
 use crate::tests::{check_query, check_rows, frame, is_answered, nested};
 use std::process::Abort;
@@ -54,7 +54,7 @@ fn check_twice(
 #[test]
 fn long_texts(rt: HostRuntime) -> Result<(), Fail> {
     let mut memory = MemoryServer::new(rt.alloc())?;
-    check_rows(&rt, &mut memory, 1, FIRST_ROWS)?;
+    check_rows(&rt, &mut memory, 1, &first_rows())?;
     for text in LONG_TEXTS {
         check_twice(&rt, &mut memory, text)?;
     }

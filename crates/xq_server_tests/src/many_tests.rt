@@ -160,17 +160,9 @@ fn many_documents_in_files_in_memory(rt: HostRuntime) -> Result<(), Fail> {
     check_steps(&rt, &mut memory.server)
 }
 
-/// Takes all steps on a server over a store of any kind, which it lets go.
-fn check_server<S: Alter + Drop>(
-    rt: &(impl Abort + AllocGlobal),
-    server: Server<S>,
-) -> Result<(), Fail> {
-    let mut server = server;
-    check_steps(rt, &mut server)
-}
-
 #[test]
 fn many_documents_in_memory(rt: HostRuntime) -> Result<(), Fail> {
     let store = Store::new_in_memory(rt.alloc())?;
-    check_server(&rt, Server::new(rt.alloc(), store))
+    let mut server = Server::new(rt.alloc(), store);
+    check_steps(&rt, &mut server)
 }

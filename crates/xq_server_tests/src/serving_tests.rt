@@ -1,9 +1,9 @@
 //! Services by scripted readers and writers: the worked rows in pieces, and each end.
 
-use crate::rows::{DROPPING_ROWS, FIRST_ROWS, LAST_ROWS, NODE_ROWS, PATH_ROWS, Row};
+use crate::rows::{Row, dropping_rows, first_rows, last_rows, node_rows, path_rows};
 use crate::scripts::{Sink, Source};
 use crate::servers::MemoryServer;
-use crate::tests::{INPUTS, frame};
+use crate::tests::{frame, inputs};
 use std::process::Abort;
 use std::test::Fail;
 use xq_server::End;
@@ -35,27 +35,8 @@ fn serve_rows_as_run(
     piece: usize,
 ) -> Result<(), Fail> {
     for row in rows {
-        let (kind, body) = row.request();
-        let input = frame(rt.alloc(), 5, kind, body)?;
+        let input = frame(rt.alloc(), 5, row.kind, row.body)?;
         serve_as_run(rt, (&mut *served, &mut *ran), &input, piece);
-    }
-    Ok(())
-}
-
-/// The requests that are served in pieces.
-const SERVED: [&[Row]; 5] = [FIRST_ROWS, PATH_ROWS, NODE_ROWS, DROPPING_ROWS, LAST_ROWS];
-
-/// The same for each group of requests, and for whole inputs after them.
-fn serve_all_as_run(
-    rt: &(impl Abort + AllocGlobal),
-    (served, ran): (&mut MemoryServer, &mut MemoryServer),
-    piece: usize,
-) -> Result<(), Fail> {
-    for rows in SERVED {
-        serve_rows_as_run(rt, (&mut *served, &mut *ran), rows, piece)?;
-    }
-    for (input, _, _) in INPUTS {
-        serve_as_run(rt, (&mut *served, &mut *ran), input, piece);
     }
     Ok(())
 }
@@ -66,7 +47,14 @@ fn in_pieces(rt: HostRuntime) -> Result<(), Fail> {
     for piece in [1, 2, 3, 7] {
         let mut served = MemoryServer::new(rt.alloc())?;
         let mut ran = MemoryServer::new(rt.alloc())?;
-        serve_all_as_run(&rt, (&mut served, &mut ran), piece)?;
+        serve_rows_as_run(&rt, (&mut served, &mut ran), &first_rows(), piece)?;
+        serve_rows_as_run(&rt, (&mut served, &mut ran), &path_rows(), piece)?;
+        serve_rows_as_run(&rt, (&mut served, &mut ran), &node_rows(), piece)?;
+        serve_rows_as_run(&rt, (&mut served, &mut ran), &dropping_rows(), piece)?;
+        serve_rows_as_run(&rt, (&mut served, &mut ran), &last_rows(), piece)?;
+        for (input, _, _) in inputs() {
+            serve_as_run(&rt, (&mut served, &mut ran), input, piece);
+        }
     }
     Ok(())
 }

@@ -15,12 +15,11 @@ use xq_stops::{Run, Stop, StoppingStore, Task, wrong_run};
 /// want.
 fn send<S: Alter + Drop>(alloc: Global, server: &mut Server<S>, row: &Row) -> Result<bool, Want> {
     let mut out = Vec::new(alloc);
-    let (kind, body) = row.request();
-    let end = server.run(&frame(alloc, 1, kind, body)?, &mut out);
+    let end = server.run(&frame(alloc, 1, row.kind, row.body)?, &mut out);
     if is_reply(&out, 1, (2, b"store")) {
         return Err(Want::Store);
     }
-    Ok(end == End::Finished && is_reply(&out, 1, row.reply()))
+    Ok(end == End::Finished && is_reply(&out, 1, (row.status, row.text)))
 }
 
 /// Sends the requests in turn, up to the first whose reply is not its own.
@@ -52,30 +51,68 @@ impl Task for Row {
 const NOTE: &[u8] = b"document {element note {text {\"kept\"}}}";
 
 /// The store of a document that no request after it names.
-const PUT_NOTE: Row = Row::Answers(
-    b'S',
-    b"\x01adocument {element note {text {\"kept\"}}}",
-    b"stored",
-);
+const PUT_NOTE: Row = Row {
+    kind: b'S',
+    body: b"\x01adocument {element note {text {\"kept\"}}}",
+    status: 0,
+    text: b"stored",
+};
 
-const PUT_LIBRARY: Row = Row::Answers(b'S', PUT_B, b"stored");
+const PUT_LIBRARY: Row = Row {
+    kind: b'S',
+    body: PUT_B,
+    status: 0,
+    text: b"stored",
+};
 
-const NOTE_IS_THERE: Row = Row::Answers(b'Q', b"doc(\"a\")", NOTE);
+const NOTE_IS_THERE: Row = Row {
+    kind: b'Q',
+    body: b"doc(\"a\")",
+    status: 0,
+    text: NOTE,
+};
 
 /// Both addresses.
-const BOTH: Row = Row::Answers(b'L', b"", b"\"a\", \"b\"");
+const BOTH: Row = Row {
+    kind: b'L',
+    body: b"",
+    status: 0,
+    text: b"\"a\", \"b\"",
+};
 
 /// The note alone.
-const ALONE: &[Row] = &[NOTE_IS_THERE, Row::Answers(b'L', b"", b"\"a\"")];
+const ALONE: &[Row] = &[
+    NOTE_IS_THERE,
+    Row {
+        kind: b'L',
+        body: b"",
+        status: 0,
+        text: b"\"a\"",
+    },
+];
 
 /// The note, and the library under `b`.
-const LIBRARY_TOO: &[Row] = &[NOTE_IS_THERE, BOTH, Row::Answers(b'Q', DOC_B, LIBRARY)];
+const LIBRARY_TOO: &[Row] = &[
+    NOTE_IS_THERE,
+    BOTH,
+    Row {
+        kind: b'Q',
+        body: DOC_B,
+        status: 0,
+        text: LIBRARY,
+    },
+];
 
 /// The note, and an empty document under `b`.
 const EMPTY_TOO: &[Row] = &[
     NOTE_IS_THERE,
     BOTH,
-    Row::Answers(b'Q', DOC_B, b"document {}"),
+    Row {
+        kind: b'Q',
+        body: DOC_B,
+        status: 0,
+        text: b"document {}",
+    },
 ];
 
 /// A first store, a replacement and a drop.
@@ -90,14 +127,24 @@ const RUNS: [Run<'static, Row>; 3] = [
     Run {
         made: &[],
         first: &[PUT_NOTE, PUT_LIBRARY],
-        asked: &[Row::Answers(b'S', b"\x01bdocument {}", b"replaced")],
+        asked: &[Row {
+            kind: b'S',
+            body: b"\x01bdocument {}",
+            status: 0,
+            text: b"replaced",
+        }],
         before: LIBRARY_TOO,
         after: EMPTY_TOO,
     },
     Run {
         made: &[],
         first: &[PUT_NOTE, PUT_LIBRARY],
-        asked: &[Row::Answers(b'D', b"b", b"dropped")],
+        asked: &[Row {
+            kind: b'D',
+            body: b"b",
+            status: 0,
+            text: b"dropped",
+        }],
         before: LIBRARY_TOO,
         after: ALONE,
     },

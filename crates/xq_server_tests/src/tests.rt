@@ -1,9 +1,12 @@
 //! The worked rows of the protocol on one server, byte for byte, and every refusal.
 
-use crate::refusal_rows::REFUSALS;
+use crate::refusal_rows::{
+    cast_refusals, constructor_refusals, operator_refusals, path_refusals, text_refusals,
+};
 use crate::rows::{
-    DOC_B, DROPPING_ROWS, FIRST_ROWS, LAST_ROWS, LIBRARY, LIMIT_ROWS, PUT_B, QUERIES, RANGE_ROWS,
-    Row, STATIC_ROWS,
+    DOC_B, LIBRARY, PUT_B, Row, answers, content_rows, dropping_rows, first_rows, function_rows,
+    gives, last_rows, limit_rows, node_rows, number_rows, path_rows, range_rows, refuses,
+    static_rows, tuple_rows,
 };
 use crate::servers::MemoryServer;
 use sqlite::Alter;
@@ -54,10 +57,10 @@ fn first_wrong<S: Alter + Drop>(
     rows: &[Row],
 ) -> Result<Option<usize>, AllocError> {
     for (at, row) in rows.iter().enumerate() {
-        let request = row.request();
-        let wanted = row.reply();
+        let request = (row.kind, row.body);
+        let wanted = (row.status, row.text);
         let is_right = is_answered(alloc, server, tag, request, wanted)?
-            && (wanted.0 == 0 || is_answered(alloc, server, tag, request, wanted)?);
+            && (row.status == 0 || is_answered(alloc, server, tag, request, wanted)?);
         if !is_right {
             return Ok(Some(at));
         }
@@ -77,54 +80,45 @@ pub fn check_rows(
     Ok(())
 }
 
-/// Sends each group of requests in turn.
-fn check_groups(
+/// Sends the worked rows from a stored library to its replacement, but for those of long results.
+fn check_queries(
     rt: &(impl Abort + AllocGlobal),
     memory: &mut MemoryServer,
     tag: u32,
-    groups: &[&[Row]],
 ) -> Result<(), Fail> {
-    for rows in groups {
-        check_rows(rt, memory, tag, rows)?;
-    }
-    Ok(())
+    check_rows(rt, memory, tag, &path_rows())?;
+    check_rows(rt, memory, tag, &tuple_rows())?;
+    check_rows(rt, memory, tag, &number_rows())?;
+    check_rows(rt, memory, tag, &content_rows())?;
+    check_rows(rt, memory, tag, &node_rows())?;
+    check_rows(rt, memory, tag, &function_rows())
 }
 
-/// Sends each group of requests in turn to a server without a document.
-fn check_server(rt: &(impl Abort + AllocGlobal), groups: &[&[Row]]) -> Result<(), Fail> {
+/// The worked rows in order on one server, but for two long results, and then whole inputs.
+#[test]
+fn worked_rows(rt: HostRuntime) -> Result<(), Fail> {
     let mut memory = MemoryServer::new(rt.alloc())?;
-    check_groups(rt, &mut memory, 1, groups)
-}
-
-/// Runs whole inputs, and checks their replies and how they end.
-fn check_inputs(rt: &(impl Abort + AllocGlobal), memory: &mut MemoryServer) {
-    for (bytes, replies, end) in INPUTS {
+    check_rows(&rt, &mut memory, 1, &first_rows())?;
+    check_queries(&rt, &mut memory, 1)?;
+    check_depths(&rt, &mut memory)?;
+    check_rows(&rt, &mut memory, 1, &range_rows())?;
+    check_rows(&rt, &mut memory, 1, &static_rows())?;
+    check_rows(&rt, &mut memory, 1, &dropping_rows())?;
+    for (bytes, replies, end) in inputs() {
         let mut out = Vec::new(rt.alloc());
         assert_eq!(rt; memory.server.run(bytes, &mut out), end);
         assert_eq!(rt; out.as_slice(), replies);
     }
-}
-
-/// The worked rows in order on one server, but for two long results, and then whole inputs.
-fn check_worked(rt: &(impl Abort + AllocGlobal), memory: &mut MemoryServer) -> Result<(), Fail> {
-    check_rows(rt, memory, 1, FIRST_ROWS)?;
-    check_groups(rt, memory, 1, &QUERIES)?;
-    check_depths(rt, memory)?;
-    check_groups(rt, memory, 1, &[RANGE_ROWS, STATIC_ROWS, DROPPING_ROWS])?;
-    check_inputs(rt, memory);
-    check_rows(rt, memory, 1, LAST_ROWS)
-}
-
-#[test]
-fn worked_rows(rt: HostRuntime) -> Result<(), Fail> {
-    let mut memory = MemoryServer::new(rt.alloc())?;
-    check_worked(&rt, &mut memory)
+    check_rows(&rt, &mut memory, 1, &last_rows())
 }
 
 /// Results of a million items, over the stored library. Before any proof they take minutes.
 #[test]
 fn long_results(rt: HostRuntime) -> Result<(), Fail> {
-    check_server(&rt, &[FIRST_ROWS, LIMIT_ROWS, STATIC_ROWS])
+    let mut memory = MemoryServer::new(rt.alloc())?;
+    check_rows(&rt, &mut memory, 1, &first_rows())?;
+    check_rows(&rt, &mut memory, 1, &limit_rows())?;
+    check_rows(&rt, &mut memory, 1, &static_rows())
 }
 
 /// So many times this text, then the middle, then the other.
@@ -170,96 +164,79 @@ fn check_depths(rt: &(impl Abort + AllocGlobal), memory: &mut MemoryServer) -> R
     check_query(rt, memory, &too_high, (1, b"prof:LEVEL"))
 }
 
-/// An input, its replies, and how it ends.
-type Input = (&'static [u8], &'static [u8], End);
-
 /// Whole inputs after the rows, over a map with `a` alone: what they give, and how they end.
-pub const INPUTS: [Input; 4] = [
-    (b"\x00\x00\x00\x0a\x00\x00\x00\x01Q1", b"", End::Cut),
-    (
-        b"\x00\x00\x00\x02\xaa\xbb\x00\x00\x00\x05\x00\x00\x00\x01L",
-        b"\x00\x00\x00\x0f\x00\x00\x00\x00\x01prof:FRAME\x00\x00\x00\x08\x00\x00\x00\x01\x00\"a\"",
-        End::Finished,
-    ),
-    (
-        b"\x00\x10\x01\x01",
-        b"\x00\x00\x00\x0e\x00\x00\x00\x00\x01prof:LONG",
-        End::TooLong,
-    ),
-    (b"\x00\x00\x00", b"", End::Cut),
-];
-
-/// Each code that a query can be refused with.
-fn check_refused(rt: &(impl Abort + AllocGlobal), memory: &mut MemoryServer) -> Result<(), Fail> {
-    check_rows(rt, memory, 1, FIRST_ROWS)?;
-    check_groups(rt, memory, 1, &REFUSALS)
+pub fn inputs() -> [(&'static [u8], &'static [u8], End); 4] {
+    [
+        (b"\x00\x00\x00\x0a\x00\x00\x00\x01Q1", b"", End::Cut),
+        (
+            b"\x00\x00\x00\x02\xaa\xbb\x00\x00\x00\x05\x00\x00\x00\x01L",
+            b"\x00\x00\x00\x0f\x00\x00\x00\x00\x01prof:FRAME\x00\x00\x00\x08\x00\x00\x00\x01\x00\"a\"",
+            End::Finished,
+        ),
+        (
+            b"\x00\x10\x01\x01",
+            b"\x00\x00\x00\x0e\x00\x00\x00\x00\x01prof:LONG",
+            End::TooLong,
+        ),
+        (b"\x00\x00\x00", b"", End::Cut),
+    ]
 }
 
+/// Each code that a query can be refused with.
 #[test]
 fn refused_queries(rt: HostRuntime) -> Result<(), Fail> {
     let mut memory = MemoryServer::new(rt.alloc())?;
-    check_refused(&rt, &mut memory)
+    check_rows(&rt, &mut memory, 1, &first_rows())?;
+    check_rows(&rt, &mut memory, 1, &text_refusals())?;
+    check_rows(&rt, &mut memory, 1, &path_refusals())?;
+    check_rows(&rt, &mut memory, 1, &operator_refusals())?;
+    check_rows(&rt, &mut memory, 1, &cast_refusals())?;
+    check_rows(&rt, &mut memory, 1, &constructor_refusals())
 }
 
 /// Malformed frames, and the order in which the faults of one request are judged.
-const FAULTS: &[Row] = &[
-    Row::Refuses(b'S', b"", b"prof:FRAME"),
-    Row::Refuses(b'S', b"\x02a", b"prof:FRAME"),
-    Row::Refuses(b'S', b"\x00\xff", b"prof:ADDRESS"),
-    Row::Refuses(b'S', b"\x01 \xff", b"prof:ADDRESS"),
-    Row::Refuses(b'S', b"\x01a\xff(", b"prof:UTF8"),
-    Row::Refuses(b'S', b"\x01adoc(\"a\"", b"XPST0003"),
-    Row::Refuses(b'S', b"\x01a(1 div 0, $q)", b"XPST0008"),
-    Row::Refuses(b'S', b"\x01adoc(\"a\")", b"FODC0002"),
-    Row::Refuses(b'S', b"\x01a1 div 0", b"FOAR0001"),
-    Row::Refuses(b'S', b"\x01adocument {}, 1", b"prof:NOTDOC"),
-    Row::Refuses(b'S', b"\x01a", b"XPST0003"),
-    Row::Refuses(b'D', b"a/b c", b"prof:ADDRESS"),
-    Row::Refuses(b'D', b"a/b", b"prof:ABSENT"),
-    Row::Answers(b'L', b"", b"()"),
-];
-
 #[test]
 fn refusals(rt: HostRuntime) -> Result<(), Fail> {
-    check_server(&rt, &[FAULTS])
+    let rows = [
+        refuses(b'S', b"", b"prof:FRAME"),
+        refuses(b'S', b"\x02a", b"prof:FRAME"),
+        refuses(b'S', b"\x00\xff", b"prof:ADDRESS"),
+        refuses(b'S', b"\x01 \xff", b"prof:ADDRESS"),
+        refuses(b'S', b"\x01a\xff(", b"prof:UTF8"),
+        refuses(b'S', b"\x01adoc(\"a\"", b"XPST0003"),
+        refuses(b'S', b"\x01a(1 div 0, $q)", b"XPST0008"),
+        refuses(b'S', b"\x01adoc(\"a\")", b"FODC0002"),
+        refuses(b'S', b"\x01a1 div 0", b"FOAR0001"),
+        refuses(b'S', b"\x01adocument {}, 1", b"prof:NOTDOC"),
+        refuses(b'S', b"\x01a", b"XPST0003"),
+        refuses(b'D', b"a/b c", b"prof:ADDRESS"),
+        refuses(b'D', b"a/b", b"prof:ABSENT"),
+        answers(b'L', b"", b"()"),
+    ];
+    check_rows(&rt, &mut MemoryServer::new(rt.alloc())?, 1, &rows)
 }
 
 /// A document is copied under a second address; a store sees the documents as they were; line ends
 /// are read as line feeds.
-const COPIES: &[Row] = &[
-    Row::Answers(b'S', PUT_B, b"stored"),
-    Row::Answers(b'S', b"\x03x/ydoc(\"b\")", b"stored"),
-    Row::Answers(
-        b'S',
-        b"\x01bdocument {doc(\"b\")/lib/book[1], collection()/lib}",
-        b"replaced",
-    ),
-    Row::Gives("count(doc(\"b\")/*), count(collection())", "3, 2"),
-    Row::Answers(b'D', b"b", b"dropped"),
-    Row::Answers(b'Q', b"doc(\"x/y\")", LIBRARY),
-    Row::Gives(
-        "document {text {\"1\r\n2\r3\n4\r\r\n5&#xD;6\"}}",
-        "document {text {\"1\n2\n3\n4\n\n5&#xD;6\"}}",
-    ),
-];
-
 #[test]
 fn copies_and_line_ends(rt: HostRuntime) -> Result<(), Fail> {
-    check_server(&rt, &[COPIES])
-}
-
-/// The library is dropped.
-const DROP_B: &[Row] = &[Row::Answers(b'D', b"b", b"dropped")];
-
-/// Storing, replacing, asking and dropping once.
-fn check_round(
-    rt: &(impl Abort + AllocGlobal),
-    memory: &mut MemoryServer,
-    tag: u32,
-) -> Result<(), Fail> {
-    check_rows(rt, memory, tag, FIRST_ROWS)?;
-    check_groups(rt, memory, tag, &QUERIES)?;
-    check_groups(rt, memory, tag, &[STATIC_ROWS, DROP_B])
+    let rows = [
+        answers(b'S', PUT_B, b"stored"),
+        answers(b'S', b"\x03x/ydoc(\"b\")", b"stored"),
+        answers(
+            b'S',
+            b"\x01bdocument {doc(\"b\")/lib/book[1], collection()/lib}",
+            b"replaced",
+        ),
+        gives("count(doc(\"b\")/*), count(collection())", "3, 2"),
+        answers(b'D', b"b", b"dropped"),
+        answers(b'Q', b"doc(\"x/y\")", LIBRARY),
+        gives(
+            "document {text {\"1\r\n2\r3\n4\r\r\n5&#xD;6\"}}",
+            "document {text {\"1\n2\n3\n4\n\n5&#xD;6\"}}",
+        ),
+    ];
+    check_rows(&rt, &mut MemoryServer::new(rt.alloc())?, 1, &rows)
 }
 
 /// Storing, replacing, asking and dropping again and again never wants for anything.
@@ -267,7 +244,10 @@ fn check_round(
 fn fifty_rounds(rt: HostRuntime) -> Result<(), Fail> {
     let mut memory = MemoryServer::new(rt.alloc())?;
     for tag in 0..50 {
-        check_round(&rt, &mut memory, tag)?;
+        check_rows(&rt, &mut memory, tag, &first_rows())?;
+        check_queries(&rt, &mut memory, tag)?;
+        check_rows(&rt, &mut memory, tag, &static_rows())?;
+        check_rows(&rt, &mut memory, tag, &[answers(b'D', b"b", b"dropped")])?;
     }
     Ok(())
 }
@@ -276,7 +256,7 @@ fn fifty_rounds(rt: HostRuntime) -> Result<(), Fail> {
 #[test]
 fn gives_the_store_back(rt: HostRuntime) -> Result<(), Fail> {
     let mut memory = MemoryServer::new(rt.alloc())?;
-    check_rows(&rt, &mut memory, 1, &[Row::Answers(b'S', PUT_B, b"stored")])?;
+    check_rows(&rt, &mut memory, 1, &[answers(b'S', PUT_B, b"stored")])?;
     let mut next = memory.restarted(rt.alloc());
-    check_rows(&rt, &mut next, 2, &[Row::Answers(b'Q', DOC_B, LIBRARY)])
+    check_rows(&rt, &mut next, 2, &[answers(b'Q', DOC_B, LIBRARY)])
 }

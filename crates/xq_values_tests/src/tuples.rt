@@ -164,20 +164,6 @@ fn returned(rt: &impl Abort, alloc: Global, stream: &Tuples, slot: usize) -> Res
     Ok(out)
 }
 
-/// Asserts what the slots' values are, tuple after tuple.
-fn check_slots(
-    rt: &impl Abort,
-    alloc: Global,
-    stream: &Tuples,
-    wanted: &[(usize, &str)],
-) -> Result<(), Fault> {
-    for (slot, text) in wanted {
-        let found = returned(rt, alloc, stream, *slot)?;
-        assert_eq!(rt; found.as_str(), *text);
-    }
-    Ok(())
-}
-
 /// How many items the slot has in each tuple.
 fn counts(rt: &impl Abort, alloc: Global, stream: &Tuples, slot: usize) -> Result<String, Fault> {
     assert!(rt; stream.has_slot(slot));
@@ -187,19 +173,6 @@ fn counts(rt: &impl Abort, alloc: Global, stream: &Tuples, slot: usize) -> Resul
         push_items(alloc, &[Item::Atom(count)], &mut out)?;
     }
     Ok(out)
-}
-
-/// Asserts how many items the slot has in each tuple.
-fn check_counts(
-    rt: &impl Abort,
-    alloc: Global,
-    stream: &Tuples,
-    slot: usize,
-    wanted: &str,
-) -> Result<(), Fault> {
-    let found = counts(rt, alloc, stream, slot)?;
-    assert_eq!(rt; found.as_str(), wanted);
-    Ok(())
 }
 
 /// The tuples of 7 and 8 with their positions, each with "x".
@@ -213,50 +186,40 @@ fn books(rt: &impl Abort, alloc: Global) -> Result<Tuples, Fault> {
     for_each(rt, alloc, &[Sample::Row(2), Sample::Row(5)], true)
 }
 
-/// Asserts that one tuple is one, and that the other stream has two, of three slots.
-fn check_lengths(rt: &impl Abort, one: &Tuples, stream: &Tuples) {
-    assert_eq!(rt; one.len(), 1);
+fn expands_binds_and_keeps(rt: &impl Abort, alloc: Global) -> Result<(), Fault> {
+    assert_eq!(rt; Tuples::one(alloc)?.len(), 1);
+    let stream = two(rt, alloc)?;
     assert_eq!(rt; stream.len(), 2);
+    assert_eq!(rt; returned(rt, alloc, &stream, 1)?.as_str(), "1, 2");
+    assert_eq!(rt; returned(rt, alloc, &stream, 2)?.as_str(), "\"x\", \"x\"");
     assert!(rt; !stream.has_slot(3));
-}
-
-/// The second of two tuples.
-fn second(rt: &impl Abort, stream: Tuples) -> Tuples {
     let tests = [false, true];
     assert_eq!(rt; tests.len(), stream.len());
     let kept = stream.keep(&tests);
     assert_eq!(rt; kept.len(), 1);
-    kept
-}
-
-fn expands_binds_and_keeps(rt: &impl Abort, alloc: Global) -> Result<(), Fault> {
-    let stream = two(rt, alloc)?;
-    check_lengths(rt, &Tuples::one(alloc)?, &stream);
-    check_slots(rt, alloc, &stream, &[(1, "1, 2"), (2, "\"x\", \"x\"")])?;
-    check_slots(rt, alloc, &second(rt, stream), &[(0, "8")])
-}
-
-/// The tuple that `for` allowing empty makes of no item, with a position or without.
-fn expands_nothing(rt: &impl Abort, alloc: Global, at: bool) -> Result<(), Fault> {
-    let stream = for_each_or_empty(rt, alloc, &[], at)?;
-    assert_eq!(rt; stream.len(), 1);
-    assert_eq!(rt; stream.has_slot(1), at);
-    check_counts(rt, alloc, &stream, 0, "0")?;
-    let position: &[(usize, &str)] = if at { &[(1, "0")] } else { &[] };
-    check_slots(rt, alloc, &stream, position)
+    assert_eq!(rt; returned(rt, alloc, &kept, 0)?.as_str(), "8");
+    Ok(())
 }
 
 /// The tuple that `for` allowing empty makes of no item, and of two.
 fn expands_the_empty_sequence(rt: &impl Abort, alloc: Global) -> Result<(), Fault> {
-    expands_nothing(rt, alloc, true)?;
-    expands_nothing(rt, alloc, false)?;
+    let stream = for_each_or_empty(rt, alloc, &[], true)?;
+    assert_eq!(rt; stream.len(), 1);
+    assert_eq!(rt; counts(rt, alloc, &stream, 0)?.as_str(), "0");
+    assert_eq!(rt; returned(rt, alloc, &stream, 1)?.as_str(), "0");
+    let stream = for_each_or_empty(rt, alloc, &[], false)?;
+    assert_eq!(rt; counts(rt, alloc, &stream, 0)?.as_str(), "0");
+    assert!(rt; !stream.has_slot(1));
     let stream = for_each_or_empty(rt, alloc, &[Sample::Int(7), Sample::Int(8)], true)?;
-    check_slots(rt, alloc, &stream, &[(0, "7, 8"), (1, "1, 2")])
+    assert_eq!(rt; returned(rt, alloc, &stream, 0)?.as_str(), "7, 8");
+    assert_eq!(rt; returned(rt, alloc, &stream, 1)?.as_str(), "1, 2");
+    Ok(())
 }
 
 fn numbers(rt: &impl Abort, alloc: Global) -> Result<(), Fault> {
     let stream = two(rt, alloc)?.number()?;
-    check_slots(rt, alloc, &stream, &[(0, "7, 8"), (3, "1, 2")])?;
+    assert_eq!(rt; returned(rt, alloc, &stream, 0)?.as_str(), "7, 8");
+    assert_eq!(rt; returned(rt, alloc, &stream, 3)?.as_str(), "1, 2");
     let stream = for_each(rt, alloc, &[], false)?.number()?;
     assert_eq!(rt; stream.len(), 0);
     Ok(())
@@ -266,14 +229,18 @@ fn groups(rt: &impl Abort, alloc: Global) -> Result<(), Fault> {
     let keys = column(alloc, &[Sample::Str("x"), Sample::Str("x")])?;
     let grouped = group(rt, alloc, two(rt, alloc)?, 2, keys)?;
     assert_eq!(rt; grouped.len(), 1);
-    let wanted = [(0, "7, 8"), (1, "1, 2"), (2, "\"x\"")];
-    check_slots(rt, alloc, &grouped, &wanted)
+    assert_eq!(rt; returned(rt, alloc, &grouped, 0)?.as_str(), "7, 8");
+    assert_eq!(rt; returned(rt, alloc, &grouped, 1)?.as_str(), "1, 2");
+    assert_eq!(rt; returned(rt, alloc, &grouped, 2)?.as_str(), "\"x\"");
+    Ok(())
 }
 
 fn orders(rt: &impl Abort, alloc: Global) -> Result<(), Fault> {
     let keys = column(alloc, &[Sample::Int(7), Sample::Int(8)])?;
     let ordered = order(rt, alloc, two(rt, alloc)?, keys, DESCENDING)?;
-    check_slots(rt, alloc, &ordered, &[(0, "8, 7"), (1, "2, 1")])
+    assert_eq!(rt; returned(rt, alloc, &ordered, 0)?.as_str(), "8, 7");
+    assert_eq!(rt; returned(rt, alloc, &ordered, 1)?.as_str(), "2, 1");
+    Ok(())
 }
 
 /// The books by falling number.
@@ -282,7 +249,8 @@ fn worked_orders(rt: &impl Abort, alloc: Global) -> Result<(), Fault> {
     let stream = bind(rt, alloc, books(rt, alloc)?, &titles)?;
     let keys = column(alloc, &[Sample::Int(1), Sample::Int(2)])?;
     let stream = order(rt, alloc, stream, keys, DESCENDING)?;
-    check_slots(rt, alloc, &stream, &[(2, "\"B\", \"A\"")])
+    assert_eq!(rt; returned(rt, alloc, &stream, 2)?.as_str(), "\"B\", \"A\"");
+    Ok(())
 }
 
 /// What the values are in the order of one key for each.
@@ -321,7 +289,8 @@ fn check_rows(
     keys.push(column(alloc, &[Sample::Untyped("a"), Sample::Int(2)])?)?;
     keys.push(column(alloc, &[Sample::Str("a"), Sample::Int(1)])?)?;
     let ordered = order_by_rows(rt, alloc, stream, keys, specs)?;
-    check_slots(rt, alloc, &ordered, &[(0, wanted)])
+    assert_eq!(rt; returned(rt, alloc, &ordered, 0)?.as_str(), wanted);
+    Ok(())
 }
 
 /// The second key decides where the first ones are equal; a key after the specifications doesn't
@@ -340,15 +309,21 @@ fn orders_by_rows(rt: &impl Abort, alloc: Global) -> Result<(), Fault> {
 
 /// The second of the books.
 fn worked_keep(rt: &impl Abort, alloc: Global) -> Result<(), Fault> {
-    let stream = second(rt, books(rt, alloc)?);
-    check_slots(rt, alloc, &stream, &[(0, "node 0 5"), (1, "2")])
+    let stream = books(rt, alloc)?;
+    let tests = [false, true];
+    assert_eq!(rt; tests.len(), stream.len());
+    let stream = stream.keep(&tests);
+    assert_eq!(rt; returned(rt, alloc, &stream, 0)?.as_str(), "node 0 5");
+    assert_eq!(rt; returned(rt, alloc, &stream, 1)?.as_str(), "2");
+    Ok(())
 }
 
 fn worked_groups(rt: &impl Abort, alloc: Global) -> Result<(), Fault> {
     let samples = [Sample::Int(1), Sample::Dec(1_000_000), Sample::Str("1")];
     let stream = bind(rt, alloc, for_each(rt, alloc, &samples, false)?, &samples)?;
     let stream = group(rt, alloc, stream, 0, column(alloc, &samples)?)?;
-    check_counts(rt, alloc, &stream, 1, "2, 1")
+    assert_eq!(rt; counts(rt, alloc, &stream, 1)?.as_str(), "2, 1");
+    Ok(())
 }
 
 /// A group has the key of its first tuple.
@@ -356,7 +331,8 @@ fn worked_first_keys(rt: &impl Abort, alloc: Global) -> Result<(), Fault> {
     let samples = [Sample::Dec(1_000_000), Sample::Int(1)];
     let stream = for_each(rt, alloc, &samples, false)?;
     let stream = group(rt, alloc, stream, 0, column(alloc, &samples)?)?;
-    check_slots(rt, alloc, &stream, &[(0, "1.0")])
+    assert_eq!(rt; returned(rt, alloc, &stream, 0)?.as_str(), "1.0");
+    Ok(())
 }
 
 /// The books by the lengths of their texts.
@@ -364,7 +340,8 @@ fn worked_lengths(rt: &impl Abort, alloc: Global) -> Result<(), Fault> {
     let lengths = [Sample::Int(1), Sample::Int(1)];
     let stream = bind(rt, alloc, books(rt, alloc)?, &lengths)?;
     let stream = group(rt, alloc, stream, 2, column(alloc, &lengths)?)?;
-    check_counts(rt, alloc, &stream, 0, "2")
+    assert_eq!(rt; counts(rt, alloc, &stream, 0)?.as_str(), "2");
+    Ok(())
 }
 
 /// The clauses of worked queries.
@@ -404,11 +381,6 @@ fn grouped_by_two_values(rt: &impl Abort, alloc: Global) -> Result<Tuples, Fault
     group(rt, alloc, stream, 0, long)
 }
 
-/// Asserts that the call was refused for a type.
-fn check_refused<T: Drop>(rt: &impl Abort, outcome: Result<T, Fault>) {
-    assert!(rt; matches!(outcome, Err(Fault::Code(Code::XPTY0004))));
-}
-
 /// Untyped keys are strings; one that is too many, or of another kind, is refused.
 #[test]
 fn keys_of_one_kind(rt: HostRuntime) -> Result<(), Fail> {
@@ -417,8 +389,10 @@ fn keys_of_one_kind(rt: HostRuntime) -> Result<(), Fail> {
     let found = ordered(&rt, alloc, &texts, &texts, ASCENDING)?;
     assert_eq!(rt; found.as_str(), "\"10\", xs:untypedAtomic(\"9\")");
     let mixed = [Sample::Untyped("9"), Sample::Int(9)];
-    check_refused(&rt, ordered(&rt, alloc, &mixed, &mixed, ASCENDING));
-    check_refused(&rt, grouped_by_two_values(&rt, alloc));
+    let refused = ordered(&rt, alloc, &mixed, &mixed, ASCENDING);
+    assert!(rt; matches!(refused, Err(Fault::Code(Code::XPTY0004))));
+    let refused = grouped_by_two_values(&rt, alloc);
+    assert!(rt; matches!(refused, Err(Fault::Code(Code::XPTY0004))));
     Ok(())
 }
 
@@ -438,37 +412,26 @@ fn are_refused(
     Ok(matches!(ordered, Err(Fault::Code(Code::XPTY0004))))
 }
 
-/// A row of one key, which has two values.
-fn long_row(alloc: Global, number: Sample) -> Result<Vec<Vec<Atom>>, Fault> {
-    let mut key = key(alloc, number)?;
-    key.push(Atom::Int(3))?;
-    let mut row = Vec::new(alloc);
-    row.push(key)?;
-    Ok(row)
-}
-
-/// What two tuples give in the order of such rows.
-fn ordered_by_long_rows(rt: &impl Abort, alloc: Global) -> Result<Tuples, Fault> {
-    let mut keys = Vec::new(alloc);
-    keys.push(long_row(alloc, Sample::Int(1))?)?;
-    keys.push(long_row(alloc, Sample::Int(2))?)?;
-    let stream = for_each(rt, alloc, &[Sample::Int(0), Sample::Int(1)], false)?;
-    order_by_rows(rt, alloc, stream, keys, &[ASCENDING])
-}
-
 /// Of rows of keys, one of another kind than those of other tuples is refused, but not one after the
 /// specifications, and one that is too long.
 #[test]
 fn rows_of_one_kind(rt: HostRuntime) -> Result<(), Fail> {
     let alloc = rt.alloc();
-    for (first, specs, wanted) in [
-        (Sample::Int(1), &[ASCENDING] as &[OrderSpec], false),
-        (Sample::Str("1"), &[ASCENDING], true),
-        (Sample::Int(1), &[ASCENDING, ASCENDING], true),
-    ] {
-        assert_eq!(rt; are_refused(&rt, alloc, first, specs)?, wanted);
+    assert!(rt; !are_refused(&rt, alloc, Sample::Int(1), &[ASCENDING])?);
+    assert!(rt; are_refused(&rt, alloc, Sample::Str("1"), &[ASCENDING])?);
+    assert!(rt; are_refused(&rt, alloc, Sample::Int(1), &[ASCENDING, ASCENDING])?);
+
+    let mut keys = Vec::new(alloc);
+    for number in [Sample::Int(1), Sample::Int(2)] {
+        let mut key = key(alloc, number)?;
+        key.push(Atom::Int(3))?;
+        let mut row = Vec::new(alloc);
+        row.push(key)?;
+        keys.push(row)?;
     }
-    check_refused(&rt, ordered_by_long_rows(&rt, alloc));
+    let stream = for_each(&rt, alloc, &[Sample::Int(0), Sample::Int(1)], false)?;
+    let ordered = order_by_rows(&rt, alloc, stream, keys, &[ASCENDING]);
+    assert!(rt; matches!(ordered, Err(Fault::Code(Code::XPTY0004))));
     Ok(())
 }
 
@@ -563,19 +526,17 @@ fn group_by_two(
     stream.group(&[1, 2], keys)
 }
 
-/// Four tuples, of their numbers.
-const NUMBERS: [Sample; 4] = [
-    Sample::Int(0),
-    Sample::Int(1),
-    Sample::Int(2),
-    Sample::Int(3),
-];
-
 /// The later specification decides where the earlier one does not, each with its own words.
 #[test]
 fn orders_by_two_keys(rt: HostRuntime) -> Result<(), Fail> {
     let alloc = rt.alloc();
-    let stream = for_each(&rt, alloc, &NUMBERS, false)?;
+    let numbers = [
+        Sample::Int(0),
+        Sample::Int(1),
+        Sample::Int(2),
+        Sample::Int(3),
+    ];
+    let stream = for_each(&rt, alloc, &numbers, false)?;
     let first = [
         Sample::Int(2),
         Sample::Int(1),
@@ -590,20 +551,8 @@ fn orders_by_two_keys(rt: HostRuntime) -> Result<(), Fail> {
     ];
     let keys = (column(alloc, &first)?, column(alloc, &second)?);
     let stream = order_by_two(&rt, alloc, stream, keys, [ASCENDING, DESCENDING])?;
-    Ok(check_slots(&rt, alloc, &stream, &[(0, "1, 3, 2, 0")])?)
-}
-
-/// The numbers, with two variables that they are grouped by.
-fn grouped_numbers(
-    rt: &impl Abort,
-    alloc: Global,
-    (first, second): (&[Sample], &[Sample]),
-) -> Result<Tuples, Fault> {
-    let stream = for_each(rt, alloc, &NUMBERS, false)?;
-    let stream = bind(rt, alloc, stream, first)?;
-    let stream = bind(rt, alloc, stream, second)?;
-    let keys = (column(alloc, first)?, column(alloc, second)?);
-    group_by_two(rt, alloc, stream, keys)
+    assert_eq!(rt; returned(&rt, alloc, &stream, 0)?.as_str(), "1, 3, 2, 0");
+    Ok(())
 }
 
 /// Two grouping variables: one group for each pair of keys, in the order of first appearance.
@@ -622,9 +571,20 @@ fn groups_by_two_variables(rt: HostRuntime) -> Result<(), Fail> {
         Sample::Nothing,
         Sample::Bool(true),
     ];
-    let stream = grouped_numbers(&rt, alloc, (&first, &second))?;
-    check_counts(&rt, alloc, &stream, 0, "2, 1, 1")?;
-    Ok(check_slots(&rt, alloc, &stream, &[(0, "0, 3, 1, 2")])?)
+    let numbers = [
+        Sample::Int(0),
+        Sample::Int(1),
+        Sample::Int(2),
+        Sample::Int(3),
+    ];
+    let stream = for_each(&rt, alloc, &numbers, false)?;
+    let stream = bind(&rt, alloc, stream, &first)?;
+    let stream = bind(&rt, alloc, stream, &second)?;
+    let keys = (column(alloc, &first)?, column(alloc, &second)?);
+    let stream = group_by_two(&rt, alloc, stream, keys)?;
+    assert_eq!(rt; counts(&rt, alloc, &stream, 0)?.as_str(), "2, 1, 1");
+    assert_eq!(rt; returned(&rt, alloc, &stream, 0)?.as_str(), "0, 3, 1, 2");
+    Ok(())
 }
 
 /// A stream without tuples stays one through each clause.
