@@ -2,7 +2,7 @@
 use Rattle.std.specs.Prelude.{◌≡◌, refl, true, false}
 use Rattle.xq_atoms.specs.declared.atoms.GroupKey.{GroupKey}
 use Rattle.xq_atoms.specs.declared.atoms.GroupKey.TheVariants.{Empty, Num, Text, Truth}
-use Rattle.xq_atoms.specs.private.Derived.{group_key_eq, group_key_cmp}
+use Rattle.xq_atoms.specs.Derived.{group_key_eq, group_key_cmp}
 use Rattle.xq_atoms.specs.Compare.{key_of, key_eq, key_cmp}
 
 pub group_key_eq-is : (j k : GroupKey) → group_key_eq j k ≡ key_eq (key_of j) (key_of k)

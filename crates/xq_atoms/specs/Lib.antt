@@ -10,6 +10,7 @@ pub mod Literal
 pub mod Cast
 pub mod Compare
 pub mod Print
+pub mod Derived
 pub mod private
 pub mod Characters
 pub mod Spaces

@@ -1,4 +1,3 @@
 pub mod Casting
 pub mod Comparing
-pub mod Derived
 pub mod Numbers

@@ -6,9 +6,8 @@ use Rattle.std.proofs.Math.ListN.{get_or-append}
 use Rattle.std.proofs.lemmas.List.{get_or-append-add}
 use Rattle.xq_regions.specs.declared.Kind.{Kind}
 use Rattle.xq_regions.specs.declared.Kind.TheVariants.{Document, Element, Attribute, Text, Comment, ProcessingInstruction}
-use Rattle.xq_regions.specs.private.Checks.{are_attributes_first}
 use Rattle.xq_regions.specs.Forest.{Forest, end, node, count, labels, tops, EachNode}
-use Rattle.xq_regions.specs.Tree.{Label, Tree, IsTree, nodes, is_attribute, is_content, may_follow, may_stand}
+use Rattle.xq_regions.specs.Tree.{Label, Tree, IsTree, nodes, is_attribute, is_content, may_follow, may_stand, are_attributes_first}
 use Rattle.xq_regions.specs.Rows.{Row, rows, row_at, no_row, measured}
 use Rattle.xq_regions.specs.RegionTests.{plain_row}
 use Rattle.xq_regions.specs.Nesting.{count-measured}

@@ -11,7 +11,7 @@ use Rattle.xq_regions.specs.Nesting.{count-measured}
 use Rattle.xq_regions.specs.Value.{text_of, texts}
 use Rattle.xq_regions.proofs.Paths.{within}
 use Rattle.xq_regions.proofs.Regions.{length-labels}
-use Rattle.xq_axes.specs.private.Reads.{joined_texts}
+use Rattle.xq_axes.specs.Reads.{joined_texts}
 
 part-right : {A : Type 0} (xs ys : List A) (c n m i j : ℕ) → length xs ≡ c → n ≡ c + i → m ≡ c + j → drop n (take m (xs ++ ys)) ≡ drop i (take j ys)
 part-right [] ys c n m i j l e g =

@@ -8,9 +8,8 @@ use Rattle.xq_regions.specs.Forest.{count}
 use Rattle.xq_regions.specs.Tree.{Tree, IsTree, nodes}
 use Rattle.xq_regions.specs.Rows.{Row, rows, row_at}
 use Rattle.xq_regions.specs.Regions.{IsInside}
-use Rattle.xq_regions.specs.private.RegionTests.{one_below, in_region}
-use Rattle.xq_regions.specs.RegionTests.{inside, plain_row}
-use Rattle.xq_axes.specs.private.Reads.{Span}
+use Rattle.xq_regions.specs.RegionTests.{inside, plain_row, one_below, in_region}
+use Rattle.xq_axes.specs.Reads.{Span}
 use Rattle.xq_axes.specs.private.Hits.{is_among, is_hit, IsReached}
 use Rattle.xq_axes.specs.private.Downward.{axis_of, is_chosen, is_child, level_of, AreMarked, IsOpen, IsMet, IsKnown, IsJudged}
 use Rattle.xq_axes.specs.declared.downward.Downward.{Downward}

@@ -12,7 +12,7 @@ use Rattle.xq_regions.specs.Rows.{Row, no_row, row_at, row_of, rows, placed, mea
 use Rattle.xq_regions.proofs.Injective.{rows-injective}
 use Rattle.xq_regions.proofs.Encoding.{length-rows}
 use Rattle.xq_regions.proofs.Walks.{length-map}
-use Rattle.xq_axes.specs.private.Reads.{Span, span, span_end, IsRowIn, rows_to, lowered, AreCopied, IsSized}
+use Rattle.xq_axes.specs.Reads.{Span, span, span_end, IsRowIn, rows_to, lowered, AreCopied, IsSized}
 use Rattle.xq_axes.proofs.Runs.{rows_to-more}
 use Rattle.xq_axes.proofs.Sizes.{node_of, rows_to-none, rows_below}
 

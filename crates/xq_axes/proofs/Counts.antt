@@ -9,7 +9,7 @@ use Rattle.xq_sources.specs.Meters.{Readings, with_singles}
 use Rattle.xq_sources.specs.Sources.{tree_at, HasNode}
 use Rattle.xq_meaning.specs.Items.{tree_below}
 use Rattle.xq_meaning.specs.Readings.{node_at}
-use Rattle.xq_axes.specs.private.Reads.{span, span_end}
+use Rattle.xq_axes.specs.Reads.{span, span_end}
 use Rattle.xq_axes.proofs.Sizes.{node_of}
 
 pub one_single : (old new : Readings) → new ≡ with_singles old 1 → new.singles ≤ old.singles + 1

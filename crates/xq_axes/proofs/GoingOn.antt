@@ -6,13 +6,12 @@ use Rattle.xq_regions.specs.Forest.{count}
 use Rattle.xq_regions.specs.Tree.{Tree, nodes}
 use Rattle.xq_regions.specs.Rows.{rows, row_at}
 use Rattle.xq_regions.specs.Regions.{kind_of_row}
-use Rattle.xq_regions.specs.private.RegionTests.{in_region}
-use Rattle.xq_regions.specs.RegionTests.{plain_row}
+use Rattle.xq_regions.specs.RegionTests.{plain_row, in_region}
 use Rattle.xq_regions.specs.declared.Axis.TheVariants as axis
 use Rattle.xq_regions.proofs.RegionTable.{in_region_is}
 use Rattle.xq_regions.proofs.AxisTable.{plain_kind_is}
 use Rattle.xq_meaning.specs.declared.node_tests.Test.{Test}
-use Rattle.xq_axes.specs.private.Reads.{Span, span, span_end}
+use Rattle.xq_axes.specs.Reads.{Span, span, span_end}
 use Rattle.xq_axes.specs.private.Hits.{is_among, is_hit, is_wanted, row_passes, below_where, AreUnhit, IsRising, IsReached}
 use Rattle.xq_axes.specs.private.Passing.{IsEnd}
 use Rattle.xq_axes.specs.private.Downward.{level_of, is_within}

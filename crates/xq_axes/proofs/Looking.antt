@@ -9,14 +9,13 @@ use Rattle.xq_regions.specs.Tree.{Tree, nodes, is_attribute}
 use Rattle.xq_regions.specs.declared.NodeRow.{NodeRow}
 use Rattle.xq_regions.specs.Rows.{Row, rows, row_at, row_of}
 use Rattle.xq_regions.specs.Regions.{kind_of_row}
-use Rattle.xq_regions.specs.private.RegionTests.{in_region}
-use Rattle.xq_regions.specs.RegionTests.{plain_row}
+use Rattle.xq_regions.specs.RegionTests.{plain_row, in_region}
 use Rattle.xq_regions.specs.declared.Axis.TheVariants as axis
 use Rattle.xq_regions.proofs.RegionTable.{in_region_is}
 use Rattle.xq_regions.proofs.AxisTable.{plain_kind_is}
 use Rattle.xq_meaning.specs.declared.node_tests.Test.{Test}
 use Rattle.xq_axes.specs.Scans.{region}
-use Rattle.xq_axes.specs.private.Reads.{span, span_end}
+use Rattle.xq_axes.specs.Reads.{span, span_end}
 use Rattle.xq_axes.specs.private.Hits.{is_among, is_hit, is_wanted, row_passes, below_where, IsRising, IsReached}
 use Rattle.xq_axes.specs.private.Downward.{level_of}
 use Rattle.xq_axes.specs.private.Waiting.{axis_back, waits, waits_at, is_awaited, is_deeper_awaited, latest, bound, seen_of, AreSeen, WaitsBack, AreBack, IsLooked}

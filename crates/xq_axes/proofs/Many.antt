@@ -12,7 +12,7 @@ use Rattle.xq_regions.specs.declared.Axis.{Axis}
 use Rattle.xq_regions.specs.declared.items.Node.{Node}
 use Rattle.xq_regions.specs.Forest.{count}
 use Rattle.xq_regions.specs.Order.{path_at}
-use Rattle.xq_regions.specs.private.RegionTests.{in_region}
+use Rattle.xq_regions.specs.RegionTests.{in_region}
 use Rattle.xq_regions.specs.Rows.{rows, row_at}
 use Rattle.xq_regions.specs.Tree.{Tree, nodes}
 use Rattle.xq_sources.specs.Sources.{tree_at, HasNode}
@@ -23,7 +23,7 @@ use Rattle.xq_meaning.specs.Readings.{node_at}
 use Rattle.xq_regions.specs.Rising.{document_order, AreRising}
 use Rattle.xq_axes.specs.Nodes.{HaveAll, AreOnAxis}
 use Rattle.xq_axes.specs.private.Hits.{is_hit, is_wanted, row_passes, below_where, IsRising}
-use Rattle.xq_axes.specs.private.Many.{spot, AreThere, places_from, is_found_from, IsNext, IsGathered}
+use Rattle.xq_axes.specs.Many.{spot, AreThere, places_from, is_found_from, IsNext, IsGathered}
 use Rattle.xq_axes.proofs.Lists.{any_and, any_or}
 use Rattle.xq_axes.proofs.Merging.{any_map, any_here, have_one, merged}
 use Rattle.xq_axes.proofs.OnPaths.{axis_nodes_of}

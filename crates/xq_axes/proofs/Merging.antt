@@ -20,7 +20,7 @@ use Rattle.xq_meaning.specs.Items.{Place, place, places_from, same_node, is_amon
 use Rattle.xq_meaning.specs.Readings.{node_at}
 use Rattle.xq_regions.specs.Rising.{document_order, AreRising}
 use Rattle.xq_axes.specs.Nodes.{HaveAll}
-use Rattle.xq_axes.specs.private.Many.{spot}
+use Rattle.xq_axes.specs.Many.{spot}
 use Rattle.xq_regions.proofs.Lists.{same_test}
 use Rattle.xq_regions.proofs.Rising.{same_fields, order_less, same_any, same_rising, from_contains, rising_append}
 use Rattle.xq_meaning.proofs.PathLemmas.{map-map, filter-map, paths-range}

@@ -7,7 +7,7 @@ use Rattle.xq_regions.specs.Forest.{count}
 use Rattle.xq_regions.specs.Tree.{Label, Tree, nodes}
 use Rattle.xq_regions.specs.Order.{path_at}
 use Rattle.xq_regions.specs.AxisTests.{on_axis}
-use Rattle.xq_regions.specs.private.RegionTests.{in_region}
+use Rattle.xq_regions.specs.RegionTests.{in_region}
 use Rattle.xq_regions.specs.Rows.{rows, row_at}
 use Rattle.xq_regions.specs.declared.Axis.{Axis}
 use Rattle.xq_regions.specs.declared.items.Node.{Node as Spot}

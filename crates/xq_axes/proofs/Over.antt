@@ -7,9 +7,8 @@ use Rattle.xq_regions.specs.Forest.{count}
 use Rattle.xq_regions.specs.Tree.{Tree, nodes}
 use Rattle.xq_regions.specs.Rows.{rows, row_at}
 use Rattle.xq_regions.specs.Regions.{IsInside}
-use Rattle.xq_regions.specs.private.RegionTests.{in_region}
-use Rattle.xq_regions.specs.RegionTests.{inside, plain_row}
-use Rattle.xq_axes.specs.private.Reads.{Span, span_end}
+use Rattle.xq_regions.specs.RegionTests.{inside, plain_row, in_region}
+use Rattle.xq_axes.specs.Reads.{Span, span_end}
 use Rattle.xq_axes.specs.private.Hits.{is_among, is_hit, AreUnhit, IsReached}
 use Rattle.xq_axes.specs.private.Downward.{axis_of, level_of, end_of, stop, is_within, rows_over, IsJudged}
 use Rattle.xq_axes.specs.declared.downward.Downward.{Downward}

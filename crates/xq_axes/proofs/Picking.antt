@@ -7,7 +7,7 @@ use Rattle.xq_meaning.specs.declared.node_tests.Test.{Test}
 use Rattle.xq_regions.specs.Tree.{Tree}
 use Rattle.xq_regions.specs.Rows.{Row, rows, row_at, row_of}
 use Rattle.xq_axes.specs.private.Hits.{is_hit, is_wanted, row_passes, below_where, AreUnhit}
-use Rattle.xq_axes.specs.private.Reads.{Span, span_end, IsRowIn}
+use Rattle.xq_axes.specs.Reads.{Span, span_end, IsRowIn}
 use Rattle.xq_axes.proofs.Lists.{below_where-none}
 use Rattle.xq_axes.proofs.Runs.{one_on}
 

@@ -7,12 +7,11 @@ use Rattle.std.proofs.lemmas.Bool.{cases_lt, eqb-true, leb-true, le-leb, and_par
 use Rattle.xq_regions.specs.Forest.{count}
 use Rattle.xq_regions.specs.Tree.{Tree, nodes}
 use Rattle.xq_regions.specs.Rows.{rows, row_at}
-use Rattle.xq_regions.specs.private.RegionTests.{in_region}
-use Rattle.xq_regions.specs.RegionTests.{inside, after, plain_row}
+use Rattle.xq_regions.specs.RegionTests.{inside, after, plain_row, in_region}
 use Rattle.xq_regions.specs.declared.Axis.{Axis}
 use Rattle.xq_regions.specs.declared.Axis.TheVariants as axis
 use Rattle.xq_meaning.specs.declared.node_tests.Test.{Test}
-use Rattle.xq_axes.specs.private.Reads.{span, span_end}
+use Rattle.xq_axes.specs.Reads.{span, span_end}
 use Rattle.xq_axes.specs.private.Hits.{is_among, is_hit, is_wanted, row_passes, below_where, IsRising, IsReached}
 use Rattle.xq_axes.specs.private.Downward.{end_of, is_within}
 use Rattle.xq_axes.specs.private.Passing.{IsLast, IsEnd, IsLeastEnd, axis_above, is_next_within}

@@ -7,7 +7,7 @@ use Rattle.xq_regions.specs.Rows.{Row}
 use Rattle.xq_sources.specs.Meters.{Readings, with_rows}
 use Rattle.xq_sources.specs.Sources.{rows_between}
 use Rattle.xq_sources.specs.Lenders.{IsRun}
-use Rattle.xq_axes.specs.private.Reads.{Span, span_end}
+use Rattle.xq_axes.specs.Reads.{Span, span_end}
 use Rattle.xq_axes.proofs.Runs.{run_ends}
 
 pub run_within : (t : Tree) (s : Span) (n : ℕ) (run : List (ℕ × Row)) → IsRun (rows_between t n s.high) run → n ≤ s.high → n ≤ span_end t s → n + length run ≤ span_end t s

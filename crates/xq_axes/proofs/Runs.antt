@@ -12,7 +12,7 @@ use Rattle.xq_regions.proofs.Encoding.{length-rows}
 use Rattle.xq_sources.specs.Sources.{rows_between}
 use Rattle.xq_sources.specs.Lenders.{IsRun}
 use Rattle.xq_sources.proofs.Intervals.{between-places}
-use Rattle.xq_axes.specs.private.Reads.{Span, span_end, IsRowIn, AreRowsIn, rows_to}
+use Rattle.xq_axes.specs.Reads.{Span, span_end, IsRowIn, AreRowsIn, rows_to}
 
 pub row_in_turn : (t : Tree) (s : Span) (n : ℕ) (xs : List NodeRow) (i : ℕ) (x : NodeRow) → AreRowsIn t s n (map placed xs) → i < length xs → x ≡ get_or xs i x → IsRowIn t s (n + i) (placed x)
 row_in_turn t s n [] i x h l e = absurd (omega (arith, l))

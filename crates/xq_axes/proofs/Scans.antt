@@ -17,14 +17,14 @@ use Rattle.xq_sources.specs.Sources.{tree_at}
 use Rattle.xq_regions.specs.Rising.{document_order, AreRising}
 use Rattle.xq_axes.specs.Scans.{in_scan, region, places_of, AreOf}
 use Rattle.xq_axes.specs.private.Hits.{below_where, IsRising}
-use Rattle.xq_axes.specs.private.Reads.{span, span_end}
+use Rattle.xq_axes.specs.Reads.{span, span_end}
 use Rattle.xq_axes.specs.private.Downward.{axis_of, end_of, ReadsBelow}
 use Rattle.xq_axes.specs.private.Passing.{axis_above, IsLast, IsLeastEnd}
 use Rattle.xq_axes.specs.private.Waiting.{axis_back}
 use Rattle.xq_axes.specs.declared.backward.Backward.{Backward}
 use Rattle.xq_axes.specs.declared.backward.Backward.TheVariants.{PrecedingSibling}
 use Rattle.xq_axes.specs.declared.backward.Backward.TheVariants as back
-use Rattle.xq_axes.specs.private.Many.{spot, IsAt, AreKept}
+use Rattle.xq_axes.specs.Many.{spot, IsAt, AreKept}
 use Rattle.xq_axes.specs.declared.downward.Downward.{Downward}
 use Rattle.xq_axes.specs.declared.downward.Downward.TheVariants.{Child, Attribute, Descendant, DescendantOrSelf}
 use Rattle.xq_axes.proofs.Lists.{any_from}

@@ -7,10 +7,9 @@ use Rattle.xq_regions.specs.Forest.{count}
 use Rattle.xq_regions.specs.Tree.{Tree, nodes}
 use Rattle.xq_regions.specs.Rows.{Row, rows, row_at}
 use Rattle.xq_regions.specs.Regions.{IsInside}
-use Rattle.xq_regions.specs.private.RegionTests.{in_region}
-use Rattle.xq_regions.specs.RegionTests.{inside, plain_row}
+use Rattle.xq_regions.specs.RegionTests.{inside, plain_row, in_region}
 use Rattle.xq_meaning.specs.declared.node_tests.Test.{Test}
-use Rattle.xq_axes.specs.private.Reads.{span, IsSized}
+use Rattle.xq_axes.specs.Reads.{span, IsSized}
 use Rattle.xq_axes.specs.private.Hits.{is_among, is_hit, is_wanted, row_passes, below_where, IsRising, IsReached}
 use Rattle.xq_axes.specs.private.Downward.{axis_of, is_own, level_of, end_of, AreMarked, IsOpen, IsMet, IsKnown, IsJudged, IsSearched, IsNext}
 use Rattle.xq_axes.specs.declared.downward.Downward.{Downward}

@@ -5,7 +5,7 @@ use Rattle.xq_regions.specs.Forest.{count}
 use Rattle.xq_regions.specs.Tree.{Tree, nodes}
 use Rattle.xq_regions.specs.Rows.{rows}
 use Rattle.xq_regions.specs.Regions.{IsInside}
-use Rattle.xq_regions.specs.private.RegionTests.{in_region}
+use Rattle.xq_regions.specs.RegionTests.{in_region}
 use Rattle.xq_regions.specs.declared.Axis.{Axis}
 use Rattle.xq_axes.specs.private.Hits.{is_hit}
 use Rattle.xq_axes.specs.private.Downward.{level_of, end_of}

@@ -17,7 +17,7 @@ use Rattle.xq_regions.specs.declared.items.Node.{Node as Spot}
 use Rattle.xq_sources.specs.Sources.{tree_at, HasNode}
 use Rattle.xq_meaning.specs.Items.{tree_below}
 use Rattle.xq_meaning.specs.Readings.{node_at}
-use Rattle.xq_axes.specs.private.Reads.{span, span_end, rows_to, joined_texts, IsSized, is_parent}
+use Rattle.xq_axes.specs.Reads.{span, span_end, rows_to, joined_texts, IsSized, is_parent}
 use Rattle.xq_axes.proofs.Below.{below_rows, joined_texts-measured}
 
 -- the node at v, as its row describes it

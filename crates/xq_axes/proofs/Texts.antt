@@ -8,7 +8,7 @@ use Rattle.xq_regions.specs.Tree.{Tree}
 use Rattle.xq_regions.specs.Rows.{Row, row_at, rows, placed}
 use Rattle.xq_regions.specs.Value.{text_of}
 use Rattle.xq_regions.proofs.Encoding.{length-rows}
-use Rattle.xq_axes.specs.private.Reads.{Span, span_end, IsRowIn, rows_to, joined_texts}
+use Rattle.xq_axes.specs.Reads.{Span, span_end, IsRowIn, rows_to, joined_texts}
 use Rattle.xq_axes.proofs.Runs.{rows_to-more, one_on}
 
 pub no_text : (kind : Kind) (value : List ℕ) → (kind ≡ Text → ⊥) → text_of kind value ≡ []

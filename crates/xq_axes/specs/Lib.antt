@@ -1,3 +1,5 @@
+pub mod Reads
+pub mod Many
 pub mod private
 pub mod Nodes
 pub mod Scans

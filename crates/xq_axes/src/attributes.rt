@@ -6,7 +6,7 @@ ghost use Rattle.xq_regions.specs.declared.Axis.TheVariants as axes;
 ghost use Rattle.xq_sources.specs.Sources.{tree_at};
 ghost use Rattle.xq_axes.specs.Scans.{region};
 ghost use Rattle.xq_axes.specs.private.Hits.{is_hit as is_hit_lem, is_wanted, below_where, IsRising};
-ghost use Rattle.xq_axes.specs.private.Reads.{span, span_end};
+ghost use Rattle.xq_axes.specs.Reads.{span, span_end};
 ghost use Rattle.xq_axes.specs.private.Counted.{passes_each as passes_each_lem, AreAll, AreCounted, AreHits};
 
 use crate::downward::{ToAttributes, search_below};

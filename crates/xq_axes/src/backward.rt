@@ -6,9 +6,9 @@ ghost use Rattle.xq_regions.specs.Rows.{rows, row_at};
 ghost use Rattle.xq_meaning.specs.declared.node_tests.Test.{Test as TestLem};
 ghost use Rattle.xq_sources.specs.Sources.{tree_at};
 ghost use Rattle.xq_axes.specs.Scans.{region};
-ghost use Rattle.xq_axes.specs.private.Reads.{span, span_end};
+ghost use Rattle.xq_axes.specs.Reads.{span, span_end};
 ghost use Rattle.xq_axes.specs.private.Hits.{is_among, is_wanted, below_where, IsRising};
-ghost use Rattle.xq_axes.specs.private.Many.{AreThere};
+ghost use Rattle.xq_axes.specs.Many.{AreThere};
 ghost use Rattle.xq_axes.specs.private.Waiting.{axis_back, waits as waits_lem, is_awaited, is_deeper_awaited, seen_of, bound, AreSeen, IsLooked};
 
 use crate::contexts::Earlier;

@@ -5,7 +5,7 @@ ghost use Rattle.xq_regions.specs.Tree.{nodes};
 ghost use Rattle.xq_sources.specs.Sources.{HasNode};
 ghost use Rattle.xq_meaning.specs.Items.{tree_below};
 ghost use Rattle.xq_meaning.specs.Readings.{node_at};
-ghost use Rattle.xq_axes.specs.private.Reads.{AreCopied};
+ghost use Rattle.xq_axes.specs.Reads.{AreCopied};
 
 use crate::walks::{Visitor, walk};
 use std::alloc::Global;

@@ -6,7 +6,7 @@ ghost use Rattle.xq_regions.specs.declared.Axis.TheVariants as axes;
 ghost use Rattle.xq_sources.specs.Sources.{tree_at};
 ghost use Rattle.xq_axes.specs.Scans.{region};
 ghost use Rattle.xq_axes.specs.private.Hits.{is_among, is_wanted, below_where, IsRising};
-ghost use Rattle.xq_axes.specs.private.Many.{AreThere};
+ghost use Rattle.xq_axes.specs.Many.{AreThere};
 ghost use Rattle.xq_axes.specs.private.KnownParents.{ends_before as ends_before_lem, AreTold};
 
 use crate::backward::{Backward, search_back};

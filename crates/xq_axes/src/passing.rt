@@ -6,7 +6,7 @@ ghost use Rattle.xq_regions.specs.Tree.{nodes};
 ghost use Rattle.xq_regions.specs.declared.Axis.TheVariants as axes;
 ghost use Rattle.xq_axes.specs.Scans.{region};
 ghost use Rattle.xq_sources.specs.Sources.{tree_at};
-ghost use Rattle.xq_axes.specs.private.Reads.{span, span_end};
+ghost use Rattle.xq_axes.specs.Reads.{span, span_end};
 ghost use Rattle.xq_axes.specs.private.Hits.{is_wanted, below_where, IsRising, IsReached};
 ghost use Rattle.xq_axes.specs.private.Passing.{axis_above, IsEnd, IsLast, IsLeastEnd};
 

@@ -3,7 +3,7 @@ ghost use Rattle.std.specs.Prelude.{◌≡◌, ◌+◌, ◌≤◌, ◌∷◌, []
 ghost use Rattle.xq_regions.specs.Tree.{Tree};
 ghost use Rattle.xq_regions.specs.Rows.{placed, row_of};
 ghost use Rattle.xq_regions.specs.declared.Axis.{Axis as AxisLem};
-ghost use Rattle.xq_axes.specs.private.Reads.{Span, span_end, IsRowIn};
+ghost use Rattle.xq_axes.specs.Reads.{Span, span_end, IsRowIn};
 ghost use Rattle.xq_axes.specs.private.Hits.{is_hit as is_hit_lem, is_wanted, row_passes, below_where, AreUnhit};
 
 use crate::tests::passes;

@@ -13,7 +13,7 @@ ghost use Rattle.xq_regions.specs.Items.{Place as NodeAt, item_views};
 ghost use Rattle.xq_axes.specs.Nodes.{HaveAll, AreOnAxis};
 ghost use Rattle.xq_axes.specs.Scans.{region, places_of, AreOf};
 ghost use Rattle.xq_axes.specs.private.Hits.{is_wanted, below_where, IsRising};
-ghost use Rattle.xq_axes.specs.private.Many.{spot, is_found_from, AreSame, AreThere, IsNext, IsGathered, IsAt, AreKept};
+ghost use Rattle.xq_axes.specs.Many.{spot, is_found_from, AreSame, AreThere, IsNext, IsGathered, IsAt, AreKept};
 
 use crate::attributes::search_attributes;
 use crate::backward::{Backward, search_back};

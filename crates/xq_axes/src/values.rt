@@ -5,7 +5,7 @@ ghost use Rattle.xq_regions.specs.Value.{texts, string_value as string_value_lem
 ghost use Rattle.xq_sources.specs.Sources.{tree_at, HasNode};
 ghost use Rattle.xq_meaning.specs.Items.{tree_below};
 ghost use Rattle.xq_meaning.specs.Readings.{node_at};
-ghost use Rattle.xq_axes.specs.private.Reads.{rows_to, joined_texts, IsSized, is_parent as is_parent_lem};
+ghost use Rattle.xq_axes.specs.Reads.{rows_to, joined_texts, IsSized, is_parent as is_parent_lem};
 
 use crate::walks::{Visitor, walk};
 use std::alloc::Global;

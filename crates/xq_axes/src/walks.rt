@@ -3,7 +3,7 @@ ghost use Rattle.std.specs.Prelude.{◌≡◌, ◌+◌, ◌-◌, ◌≤◌, ℕ,
 ghost use Rattle.xq_regions.specs.Tree.{Tree};
 ghost use Rattle.xq_regions.specs.Rows.{placed};
 ghost use Rattle.xq_sources.specs.Sources.{tree_at};
-ghost use Rattle.xq_axes.specs.private.Reads.{Span, span, span_end, IsRowIn, AreRowsIn};
+ghost use Rattle.xq_axes.specs.Reads.{Span, span, span_end, IsRowIn, AreRowsIn};
 
 use std::alloc::Global;
 use xq_atoms::Want;

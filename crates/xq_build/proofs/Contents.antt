@@ -4,7 +4,7 @@ use Rattle.std.specs.Prelude.{filter, codes, nat_lt, nat_eq, IsTrue}
 use Rattle.std.specs.List.{list_all}
 use Rattle.std.proofs.lemmas.Bool.Decides.{nat_tests}
 use Rattle.std.proofs.lemmas.List.{append-nil, map-append, map_push}
-use Rattle.xq_regions.specs.Levels.{flat_row}
+use Rattle.xq_regions.specs.Levels.{flat_row, sized}
 use Rattle.xq_atoms.specs.Text.{Text, is_empty}
 use Rattle.xq_atoms.specs.Atom.{Atomic}
 use Rattle.xq_atoms.specs.Cast.{text_of}
@@ -14,7 +14,6 @@ use Rattle.xq_regions.specs.Rows.{rows}
 use Rattle.xq_regions.proofs.Injective.{rows-injective}
 use Rattle.xq_regions.proofs.Printed.{leveled, flat-measured}
 use Rattle.xq_regions.proofs.Sized.{sized-tree}
-use Rattle.xq_regions.specs.private.Sizes.{sized}
 use Rattle.xq_meaning.specs.Texts.{joined}
 use Rattle.xq_meaning.specs.Content.{is_text, text_label, copied, run, spaced, flattened_after, flattened, in_front, merged, in_front_unless, is_empty_text, without_empty_texts, is_within_height, copied_as}
 use Rattle.xq_meaning.specs.Items.{Item, Node, Atom, tree_below}

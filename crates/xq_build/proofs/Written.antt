@@ -11,7 +11,7 @@ use Rattle.xq_atoms.specs.declared.refusals.Code.TheVariants.{ProfReply}
 use Rattle.xq_regions.specs.Print.{print}
 use Rattle.xq_atoms.specs.Print.{quoted_character, escaped}
 use Rattle.xq_regions.specs.Levels.{flat_row}
-use Rattle.xq_regions.specs.private.Printing.{text_from}
+use Rattle.xq_regions.specs.Printing.{text_from}
 use Rattle.xq_regions.specs.Tree.{Tree}
 use Rattle.xq_regions.specs.declared.NodeRow.{NodeRow}
 use Rattle.xq_regions.proofs.Printed.{text-rows}

@@ -8,7 +8,7 @@ ghost use Rattle.xq_regions.specs.Items.{item_view};
 ghost use Rattle.xq_regions.specs.Rows.{row_of};
 ghost use Rattle.xq_regions.specs.Print.{heading, content, opening, print};
 ghost use Rattle.xq_regions.specs.Levels.{flat_row};
-ghost use Rattle.xq_regions.specs.private.Printing.{closing, between, text_from};
+ghost use Rattle.xq_regions.specs.Printing.{closing, between, text_from};
 ghost use Rattle.xq_sources.specs.Sources.{tree_at};
 ghost use Rattle.xq_meaning.specs.Print.{longest_text, print_item, print_items as printed_items, within_reply};
 ghost use Rattle.xq_meaning.specs.Items.{tree_below};

@@ -25,7 +25,7 @@ use Rattle.xq_meaning.specs.Doing.{Doing, Outcome, go_on, judged, on_trees}
 use Rattle.xq_meaning.specs.Forms as Forms
 use Rattle.xq_forms.specs.declared.frames.Focus.{Focus}
 use Rattle.xq_forms.specs.Views.{forget, focus_at, FocusIn, on_axis, after_double_slash}
-use Rattle.xq_forms.specs.private.Nodes.{nodes_among}
+use Rattle.xq_forms.specs.Nodes.{nodes_among}
 use Rattle.xq_forms.proofs.Existing.{Exists, exists_at, is_in}
 use Rattle.xq_regions.proofs.Lists.{map_reverse, all_reverse}
 

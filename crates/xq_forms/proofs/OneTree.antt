@@ -29,7 +29,7 @@ use Rattle.xq_meaning.specs.Items.{Place, place, places_from, in_document_order,
 use Rattle.xq_meaning.specs.Readings.{node_at, AreIn}
 use Rattle.xq_meaning.specs.Steps.{axis_nodes, on_axis_from, passes_at}
 use Rattle.xq_forms.specs.Reads.{rows_of, IsOf, AreOf, HasGrown}
-use Rattle.xq_forms.specs.private.Nodes.{nodes_among}
+use Rattle.xq_forms.specs.Nodes.{nodes_among}
 use Rattle.xq_forms.proofs.NodeLemmas.{among_in}
 
 -- # The contexts

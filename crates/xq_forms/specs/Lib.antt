@@ -1,4 +1,5 @@
 pub mod Views
 pub mod Paths
 pub mod Reads
+pub mod Nodes
 pub mod private

@@ -8,11 +8,11 @@ ghost use Rattle.xq_meaning.specs.Items.{root_of, label_at};
 ghost use Rattle.xq_meaning.specs.Operators.{gathered};
 ghost use Rattle.xq_meaning.specs.Steps.{context_node as context_node_lem, is_document as is_document_lem};
 ghost use Rattle.xq_meaning.specs.Readings.{node_at, items_at, AreIn};
-ghost use Rattle.xq_functions.specs.private.Judgements.{judged_as};
+ghost use Rattle.xq_functions.specs.Judgements.{judged_as};
 ghost use Rattle.xq_meaning.specs.Doing.{on_trees};
 ghost use Rattle.xq_meaning.specs.Forms as Forms;
 ghost use Rattle.xq_forms.specs.Views.{focus_at, frame_at, forget, FrameIn, Goes, GivesSequence};
-ghost use Rattle.xq_forms.specs.private.Nodes.{nodes_among as nodes_among_lem};
+ghost use Rattle.xq_forms.specs.Nodes.{nodes_among as nodes_among_lem};
 
 use crate::frames::{Focus, Frame};
 use crate::values::single;

@@ -6,7 +6,7 @@ use Rattle.std.proofs.lemmas.List.{map_push}
 use Rattle.xq_atoms.specs.declared.atoms.GroupKey.{GroupKey}
 use Rattle.xq_atoms.specs.Atom.{Atomic}
 use Rattle.xq_atoms.specs.Compare.{key, key_of, key_eq}
-use Rattle.xq_atoms.specs.private.Derived.{group_key_eq}
+use Rattle.xq_atoms.specs.Derived.{group_key_eq}
 use Rattle.xq_atoms.proofs.Keys.{group_key_eq-is}
 use Rattle.xq_regions.specs.Items.{ItemView, Value}
 use Rattle.xq_regions.proofs.Grouping.{list_any-map, firsts-push}

@@ -1,4 +1,3 @@
-pub mod Judgements
 pub mod Calls
 pub mod Running
 pub mod Documents

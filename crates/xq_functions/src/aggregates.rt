@@ -5,7 +5,7 @@ ghost use Rattle.xq_atoms.specs.Compare as Compare;
 ghost use Rattle.xq_meaning.specs.Arguments as Arguments;
 ghost use Rattle.xq_meaning.specs.Functions as Functions;
 ghost use Rattle.xq_functions.specs.Answers.{GivesItems, atomics};
-ghost use Rattle.xq_functions.specs.private.Judgements.{judged_as};
+ghost use Rattle.xq_functions.specs.Judgements.{judged_as};
 ghost use Rattle.xq_functions.specs.private.Running.{is_better as is_better_lem};
 
 use crate::results::one;

@@ -4,7 +4,7 @@ ghost use Rattle.std.specs.Option.{option_map};
 ghost use Rattle.xq_atoms.specs.Atom.{atomic_of};
 ghost use Rattle.xq_meaning.specs.Arguments as Arguments;
 ghost use Rattle.xq_functions.specs.Answers.{atomics};
-ghost use Rattle.xq_functions.specs.private.Judgements.{judged_as};
+ghost use Rattle.xq_functions.specs.Judgements.{judged_as};
 
 use xq_atoms::{Atom, Code};
 

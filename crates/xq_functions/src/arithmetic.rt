@@ -5,7 +5,7 @@ ghost use Rattle.xq_atoms.specs.Atom.{atomic_of, judged_of};
 ghost use Rattle.xq_meaning.specs.Arguments as Arguments;
 ghost use Rattle.xq_meaning.specs.Operators as Operators;
 ghost use Rattle.xq_functions.specs.Answers.{GivesItems, atomics};
-ghost use Rattle.xq_functions.specs.private.Judgements.{judged_as};
+ghost use Rattle.xq_functions.specs.Judgements.{judged_as};
 ghost use Rattle.xq_functions.specs.private.Calls as Calls;
 
 use crate::arguments::single;

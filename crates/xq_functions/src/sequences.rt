@@ -3,7 +3,7 @@ ghost use Rattle.std.specs.Prelude.{◌≡◌, List, reverse};
 ghost use Rattle.xq_regions.specs.Tree.{Tree};
 ghost use Rattle.xq_meaning.specs.Functions as Functions;
 ghost use Rattle.xq_functions.specs.Answers.{items_of};
-ghost use Rattle.xq_functions.specs.private.Judgements.{judged_as};
+ghost use Rattle.xq_functions.specs.Judgements.{judged_as};
 
 use xq_atoms::Code;
 use xq_regions::Items;

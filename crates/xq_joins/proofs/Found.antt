@@ -15,7 +15,7 @@ use Rattle.xq_regions.proofs.Rising.{same_any, same_rising}
 use Rattle.xq_meaning.specs.declared.plans.PlanStep.{PlanStep}
 use Rattle.xq_meaning.specs.Readings.{node_at}
 use Rattle.xq_meaning.proofs.PathLemmas.{filter-map}
-use Rattle.xq_forms.specs.private.Nodes.{nodes_among}
+use Rattle.xq_forms.specs.Nodes.{nodes_among}
 use Rattle.xq_joins.specs.Keys.{IsNode, meet, places_among, texts_from}
 use Rattle.xq_joins.specs.private.Tables.{nodes_with, has_key, IsTable}
 use Rattle.xq_joins.proofs.Meeting.{any_same, any_swap, meet_swap}

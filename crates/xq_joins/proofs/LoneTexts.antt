@@ -14,7 +14,7 @@ use Rattle.xq_regions.proofs.Encoding.{length-rows}
 use Rattle.xq_sources.specs.Sources.{tree_at, HasNode}
 use Rattle.xq_meaning.specs.Items.{tree_below}
 use Rattle.xq_meaning.specs.Readings.{node_at}
-use Rattle.xq_axes.specs.private.Reads.{rows_to, joined_texts, IsSized, is_parent}
+use Rattle.xq_axes.specs.Reads.{rows_to, joined_texts, IsSized, is_parent}
 use Rattle.xq_axes.proofs.Below.{joined_texts-measured}
 use Rattle.xq_axes.proofs.Runs.{rows_to-more}
 use Rattle.xq_axes.proofs.Sizes.{node_of, rows_below, rows_to-none, parent_value, size_read}

@@ -37,7 +37,7 @@ use Rattle.xq_meaning.proofs.PathLemmas.{filter-map}
 use Rattle.xq_meaning.specs.declared.plans.PlanStep.{PlanStep}
 use Rattle.xq_meaning.specs.declared.plans.PlanStep.TheVariants as step
 use Rattle.xq_meaning.proofs.PlanEquations.{plan-Chain, plan-Path, plan-Slot, plan-Step, plan-Str, step-Scan}
-use Rattle.xq_axes.specs.private.Many.{spot, places_from as places_on}
+use Rattle.xq_axes.specs.Many.{spot, places_from as places_on}
 use Rattle.xq_axes.proofs.AxisNodes.{filter_agree}
 use Rattle.xq_axes.proofs.Many.{from_one}
 use Rattle.xq_axes.proofs.Merging.{any_filter}
@@ -50,7 +50,7 @@ use Rattle.xq_regions.specs.declared.items.Node.{Node as Spot}
 use Rattle.xq_sources.specs.Sources.{tree_at, HasNode}
 use Rattle.xq_tuples.specs.Views.{values_of}
 use Rattle.xq_forms.specs.Views.{tuple_at, focus_at, frame_at, FrameIn, after_double_slash}
-use Rattle.xq_forms.specs.private.Nodes.{nodes_among}
+use Rattle.xq_forms.specs.Nodes.{nodes_among}
 use Rattle.xq_joins.specs.declared.equalities.NodeTest.{NodeTest}
 use Rattle.xq_joins.specs.declared.equalities.TextTest.{TextTest}
 use Rattle.xq_joins.specs.Equalities.{have_text, leads_to_text, passes_text, at_node, IsNodeTest, IsTextTest}

@@ -4,7 +4,7 @@ ghost use Rattle.std.specs.Prelude.{◌≡◌, [], List, map, filter, false, Ok,
 ghost use Rattle.xq_atoms.specs.Atom.{atomic_of};
 ghost use Rattle.xq_atoms.specs.Text.{text_eq};
 ghost use Rattle.xq_regions.specs.Items.{item_view, item_views};
-ghost use Rattle.xq_axes.specs.private.Reads.{is_parent as is_parent_lem};
+ghost use Rattle.xq_axes.specs.Reads.{is_parent as is_parent_lem};
 ghost use Rattle.xq_sources.specs.Sources.{HasNode};
 ghost use Rattle.xq_tuples.specs.Views.{values_of};
 ghost use Rattle.xq_meaning.specs.declared.plans.Plan.TheVariants as plan_of;

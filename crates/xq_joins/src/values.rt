@@ -1,7 +1,7 @@
 //! Values of slots, and the nodes in them.
 ghost use Rattle.std.specs.Prelude.{◌≡◌, ◌++◌, map, true, IfOk};
 ghost use Rattle.std.specs.List.{AllByRecursion};
-ghost use Rattle.xq_forms.specs.private.Nodes.{nodes_among as nodes_among_lem};
+ghost use Rattle.xq_forms.specs.Nodes.{nodes_among as nodes_among_lem};
 ghost use Rattle.xq_joins.specs.Keys.{IsNode};
 ghost use Rattle.xq_regions.specs.Items.{Place, item_view, item_views};
 ghost use Rattle.xq_regions.specs.Tuples.{value_at};

@@ -9,7 +9,7 @@ use Rattle.xq_atoms.specs.Characters.{is_char}
 use Rattle.xq_lexer.specs.Chars.{Text, is_quote, begins}
 use Rattle.xq_lexer.specs.Literals.{Reference, reference_text, referred, Piece, plain, doubled, reference, IsPiece, ArePieces, piece_text, content_text}
 use Rattle.xq_lexer.specs.TokenFaults.{ContentFault}
-use Rattle.xq_lexer.specs.private.Reading.{read_reference, Inside, closed, one, wrong, after_quote, after_ampersand, inside, with_piece, content_step, content}
+use Rattle.xq_lexer.specs.Reading.{read_reference, Inside, closed, one, wrong, after_quote, after_ampersand, inside, with_piece, content_step, content}
 use Rattle.xq_lexer.proofs.Classes.{eq_is, quote_no_ampersand, quote_is_char, ampersand_is_char}
 use Rattle.xq_lexer.proofs.References.{reference_read, piece_read, end_read, ReadReference, reference_sound}
 

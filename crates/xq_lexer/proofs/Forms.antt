@@ -8,7 +8,7 @@ use Rattle.xq_atoms.specs.Characters.{is_digit, is_name_start, is_name_char}
 use Rattle.xq_lexer.specs.Chars.{Text, begins}
 use Rattle.xq_lexer.specs.Literals.{Number, integer, decimal, number_text, IsNumber}
 use Rattle.xq_lexer.specs.Spelling.{Form, name, prefixed, number, form_text, IsName, IsForm, IsLongest}
-use Rattle.xq_lexer.specs.private.Reading.{span, after_name, read_name, after_digits, read_number}
+use Rattle.xq_lexer.specs.Reading.{span, after_name, read_name, after_digits, read_number}
 use Rattle.xq_lexer.proofs.Spans.{span_exact, all_more}
 use Rattle.xq_atoms.proofs.Names.{is_name-all}
 use Rattle.xq_lexer.proofs.Classes.{colon_no_char, eq_is}

@@ -9,7 +9,7 @@ use Rattle.xq_atoms.specs.Characters.{is_digit, is_name_start, is_name_char}
 use Rattle.xq_lexer.specs.Chars.{Text, begins}
 use Rattle.xq_lexer.specs.Literals.{Number, integer, decimal, number_text, IsNumber}
 use Rattle.xq_lexer.specs.Spelling.{Form, name, prefixed, form_text, IsName, IsForm}
-use Rattle.xq_lexer.specs.private.Reading.{span, after_name, read_name, after_digits, read_number, begins_number}
+use Rattle.xq_lexer.specs.Reading.{span, after_name, read_name, after_digits, read_number, begins_number}
 use Rattle.xq_lexer.proofs.Spans.{parts, span_exact}
 use Rattle.xq_atoms.proofs.Classes.{start_is_char}
 use Rattle.xq_lexer.proofs.Classes.{eq_is}

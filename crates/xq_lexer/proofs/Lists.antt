@@ -8,7 +8,7 @@ use Rattle.xq_lexer.specs.Separators.{skip}
 use Rattle.xq_lexer.specs.Lexeme.{Placed}
 use Rattle.xq_lexer.specs.Spelling.{Form, form_text, form_lex, Next, Before, Spells, bytes}
 use Rattle.xq_lexer.specs.TokenFaults.{TokenFault, FaultHere, HasFault}
-use Rattle.xq_lexer.specs.private.Reading.{read_token}
+use Rattle.xq_lexer.specs.Reading.{read_token}
 use Rattle.xq_lexer.proofs.TokenLemmas.{token_read, fault_token}
 
 abbrev Read : Type 0

@@ -18,7 +18,7 @@ use Rattle.xq_lexer.specs.Chars.{Text}
 use Rattle.xq_lexer.specs.Lexeme.{Lex, int, dec}
 use Rattle.xq_lexer.specs.Literals.{Number, integer, decimal, number_text, IsNumber, follow_fault, code_of}
 use Rattle.xq_lexer.specs.Spelling.{number}
-use Rattle.xq_lexer.specs.private.Reading.{unless_fault, judged, read_number, begins_number}
+use Rattle.xq_lexer.specs.Reading.{unless_fault, judged, read_number, begins_number}
 use Rattle.xq_lexer.specs.private.Lexes.{lexed, pointed, is_decimal, lex_by, valued_lex}
 use Rattle.xq_lexer.proofs.Classes.{digit_no_point}
 use Rattle.xq_lexer.proofs.Fronts.{number_front}

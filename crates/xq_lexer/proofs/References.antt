@@ -6,7 +6,7 @@ use Rattle.std.proofs.lemmas.Bool.{and_parts}
 use Rattle.xq_atoms.specs.Characters.{is_char, is_digit}
 use Rattle.xq_lexer.specs.Chars.{Text, is_hex, is_quote, begins}
 use Rattle.xq_lexer.specs.Literals.{Reference, less, greater, ampersand, quotation, apostrophe, numbered, hexadecimal, reference_text, IsReference, Piece, plain, doubled, reference, is_plain, IsPiece, piece_text}
-use Rattle.xq_lexer.specs.private.Reading.{span, strip, ended, read_numbered, or_else, then_numbered, read_reference, Inside, closed, one, after_quote, after_ampersand, inside}
+use Rattle.xq_lexer.specs.Reading.{span, strip, ended, read_numbered, or_else, then_numbered, read_reference, Inside, closed, one, after_quote, after_ampersand, inside}
 use Rattle.xq_lexer.proofs.Spans.{parts, span_exact}
 use Rattle.xq_lexer.proofs.Classes.{digit_no_x, eq_is, eq_same, quote_no_ampersand}
 

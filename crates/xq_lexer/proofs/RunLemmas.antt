@@ -5,7 +5,7 @@ use Rattle.std.proofs.lemmas.List.{take_more, take-append-drop, drop_more, lengt
 use Rattle.std.proofs.lemmas.Str.{encodes-append}
 use Rattle.xq_lexer.specs.Chars.{Text, begins}
 use Rattle.xq_lexer.specs.Spelling.{bytes}
-use Rattle.xq_lexer.specs.private.Reading.{span}
+use Rattle.xq_lexer.specs.Reading.{span}
 use Rattle.xq_lexer.proofs.Spans.{span_exact, all_more}
 
 pub encode_more : (cs : Text) (i c : ℕ) → i < length cs → c ≡ get_or cs i 0 → encode_utf8_all (take (i + 1) cs) ≡ encode_utf8_all (take i cs) ++ encode_utf8 c

@@ -5,7 +5,7 @@ use Rattle.std.proofs.lemmas.Bool.Decides.{nat_tests}
 use Rattle.xq_atoms.specs.Characters.{is_char, is_space}
 use Rattle.xq_lexer.specs.Chars.{Text}
 use Rattle.xq_lexer.specs.Separators.{opens, closes, skip}
-use Rattle.xq_lexer.specs.private.Reading.{skip_step, unless_open}
+use Rattle.xq_lexer.specs.Reading.{skip_step, unless_open}
 
 -- what a step leads to
 abbrev pub Leads : ℕ → Text → Option (ℕ × Text) → Type 0

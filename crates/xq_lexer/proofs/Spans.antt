@@ -3,7 +3,7 @@ use Rattle.std.proofs.Common.{◌≡◌, ℕ, suc, ◌≤◌, Bool, true, false,
 use Rattle.std.specs.List.{list_all}
 use Rattle.std.proofs.lemmas.Bool.{and_parts}
 use Rattle.xq_lexer.specs.Chars.{Text, begins}
-use Rattle.xq_lexer.specs.private.Reading.{span}
+use Rattle.xq_lexer.specs.Reading.{span}
 
 pub record Parts (p : ℕ → Bool) (t : Text) (x : Text × Text) : Type 0 where
   pub whole : x.0 ++ x.1 ≡ t

@@ -14,7 +14,7 @@ use Rattle.xq_lexer.specs.Separators.{skip}
 use Rattle.xq_lexer.specs.Lexeme.{Lex, Placed, place_of, placed}
 use Rattle.xq_lexer.specs.Spelling.{Form, name, prefixed, number, string, symbol, form_text, form_lex, IsForm, Next, Before, Spells, bytes}
 use Rattle.xq_lexer.specs.TokenFaults.{TokenFault, FaultHere, HasFault, RefusesText}
-use Rattle.xq_lexer.specs.private.Reading.{read_token}
+use Rattle.xq_lexer.specs.Reading.{read_token}
 use Rattle.xq_atoms.specs.Answers.{IsRefusal}
 use Rattle.xq_lexer.specs.private.Lexes.{lexed, Nexts, Lexes}
 use Rattle.xq_lexer.proofs.RunLemmas.{bytes_append}

@@ -13,7 +13,7 @@ use Rattle.xq_atoms.specs.Characters.{is_char}
 use Rattle.xq_lexer.specs.Chars.{Text, is_quote}
 use Rattle.xq_lexer.specs.Lexeme.{str}
 use Rattle.xq_lexer.specs.Literals.{Reference, referred, Piece, plain, reference, is_plain, IsPiece, ArePieces, piece_text, piece_char, content_text, content_chars}
-use Rattle.xq_lexer.specs.private.Reading.{Inside, closed, one, wrong, after_ampersand, inside, read_reference, content, as_string, read_string, span}
+use Rattle.xq_lexer.specs.Reading.{Inside, closed, one, wrong, after_ampersand, inside, read_reference, content, as_string, read_string, span}
 use Rattle.xq_lexer.specs.private.Lexes.{next_inside, referred_char, refers, lexed}
 use Rattle.xq_lexer.proofs.Spans.{Parts, parts}
 use Rattle.xq_lexer.proofs.Contents.{Means, inside_means, content_read, content_fault_read, piece_shorter}

@@ -10,7 +10,7 @@ use Rattle.xq_atoms.specs.Characters.{is_digit, is_name_start}
 use Rattle.xq_lexer.specs.Chars.{Text, is_quote, begins}
 use Rattle.xq_lexer.specs.Literals.{decimal}
 use Rattle.xq_lexer.specs.Spelling.{Form, number, symbol, symbol_text, form_text, IsForm, IsLongest}
-use Rattle.xq_lexer.specs.private.Reading.{look_up, singles, single_symbol, look_up_two, doubles, double_symbol, or_single, read_symbol, begins_number}
+use Rattle.xq_lexer.specs.Reading.{look_up, singles, single_symbol, look_up_two, doubles, double_symbol, or_single, read_symbol, begins_number}
 use Rattle.xq_lexer.proofs.Classes.{eq_is}
 use Rattle.xq_lexer.proofs.Forms.{longer, begins_none}
 

@@ -12,7 +12,7 @@ use Rattle.xq_lexer.specs.Chars.{Text, is_quote, begins}
 use Rattle.xq_lexer.specs.Literals.{Number, number_text, IsNumber, number_fault, Piece, ArePieces, content_text}
 use Rattle.xq_lexer.specs.Spelling.{Form, name, prefixed, number, string, symbol, symbol_text, form_text, IsName, IsForm, IsLongest, MayStand}
 use Rattle.xq_lexer.specs.TokenFaults.{NoToken, TokenFault}
-use Rattle.xq_lexer.specs.private.Reading.{span, read_name, read_number, unless_fault, judged, content, as_string, read_string, read_symbol, single_symbol, double_symbol, or_single, after_name, begins_number, read_token}
+use Rattle.xq_lexer.specs.Reading.{span, read_name, read_number, unless_fault, judged, content, as_string, read_string, read_symbol, single_symbol, double_symbol, or_single, after_name, begins_number, read_token}
 use Rattle.xq_lexer.proofs.Spans.{parts}
 use Rattle.xq_atoms.proofs.Classes.{digit_no_start}
 use Rattle.xq_lexer.proofs.Classes.{point_no_start, quote_no_start, quote_no_digit, quote_no_point}

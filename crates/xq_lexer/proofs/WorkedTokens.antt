@@ -7,7 +7,7 @@ use Rattle.xq_atoms.specs.Characters.{is_char, is_name_start, is_name_char}
 use Rattle.xq_lexer.specs.Separators.{skip}
 use Rattle.xq_lexer.specs.Literals.{decimal, ampersand, plain, doubled, reference}
 use Rattle.xq_lexer.specs.Spelling.{name, prefixed, number, string, symbol}
-use Rattle.xq_lexer.specs.private.Reading.{read_token, read_name, after_name, read_number, after_digits, judged, read_string, content, inside, read_reference, read_numbered, read_symbol}
+use Rattle.xq_lexer.specs.Reading.{read_token, read_name, after_name, read_number, after_digits, judged, read_string, content, inside, read_reference, read_numbered, read_symbol}
 
 comments_nest : skip 0 (codes " (: a (: b :) c :) 1") ≡ Some (codes "1")
 unfolding is_char

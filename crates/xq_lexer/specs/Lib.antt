@@ -5,4 +5,5 @@ pub mod Nesting
 pub mod Separators
 pub mod Spelling
 pub mod TokenFaults
+pub mod Reading
 pub mod private

@@ -8,7 +8,7 @@ ghost use Rattle.xq_lexer.specs.Chars.{Text};
 ghost use Rattle.xq_atoms.specs.Answers.{Gives};
 ghost use Rattle.xq_lexer.specs.private.Lexes.{GivesAlways, Lexes, Nexts, lexed};
 ghost use Rattle.xq_lexer.specs.Lexeme.{Placed, lex_of, placed};
-ghost use Rattle.xq_lexer.specs.private.Reading as spec;
+ghost use Rattle.xq_lexer.specs.Reading as spec;
 ghost use Rattle.xq_lexer.specs.Spelling.{Spells, bytes as bytes_of};
 ghost use Rattle.xq_lexer.specs.TokenFaults.{HasFault, RefusesText};
 
@@ -94,7 +94,7 @@ fn passed(chars: &[char], rest: &[char]) -> usize
 }
 
 /// What the token at the front is, and what is left behind it.
-#[tactic(auto, unfolding(crate::specs::private::Reading::read_token))]
+#[tactic(auto, unfolding(crate::specs::Reading::read_token))]
 fn token<'a>(alloc: Global, chars: &'a [char]) -> Result<(Lexeme, &'a [char]), Fault>
     ensures { Gives (λ x. (lex_of x.0, x.1.now)) (lexed (spec.read_token chars.now)) result }
 {
@@ -115,7 +115,7 @@ fn token<'a>(alloc: Global, chars: &'a [char]) -> Result<(Lexeme, &'a [char]), F
 }
 
 /// The symbol at the front, and what is left behind it.
-#[tactic(auto, unfolding(crate::specs::private::Reading::read_symbol))]
+#[tactic(auto, unfolding(crate::specs::Reading::read_symbol))]
 fn symbol(chars: &[char]) -> Result<(Lexeme, &[char]), Code>
     ensures { GivesAlways (λ x. (lex_of x.0, x.1.now)) (lexed (spec.read_symbol chars.now)) result }
 {

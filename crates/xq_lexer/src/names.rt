@@ -3,7 +3,7 @@ ghost use Rattle.std.specs.Prelude.{◌≡◌, Ok};
 ghost use Rattle.xq_atoms.specs.Answers.{Gives};
 ghost use Rattle.xq_lexer.specs.private.Lexes.{lexed};
 ghost use Rattle.xq_lexer.specs.Lexeme.{lex_of};
-ghost use Rattle.xq_lexer.specs.private.Reading as spec;
+ghost use Rattle.xq_lexer.specs.Reading as spec;
 
 use crate::runs::{Class, run, text};
 use crate::tokens::Lexeme;
@@ -11,7 +11,7 @@ use std::alloc::Global;
 use xq_atoms::{Fault, is_name_start};
 
 /// The name at the front, or the two names with a colon between them, and what is left.
-#[tactic(auto, unfolding(crate::specs::private::Reading::read_name, crate::specs::private::Reading::after_name))]
+#[tactic(auto, unfolding(crate::specs::Reading::read_name, crate::specs::Reading::after_name))]
 pub fn name<'a>(alloc: Global, chars: &'a [char]) -> Result<(Lexeme, &'a [char]), Fault>
     ensures { Gives (λ x. (lex_of x.0, x.1.now)) (lexed (Ok (spec.read_name chars.now))) result }
 {

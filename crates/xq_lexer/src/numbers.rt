@@ -9,7 +9,7 @@ ghost use Rattle.xq_lexer.specs.private.Lexes.{GivesAlways, lexed, pointed, valu
 ghost use Rattle.xq_lexer.specs.Lexeme.{lex_of};
 ghost use Rattle.xq_lexer.specs.Literals as lit;
 ghost use Rattle.xq_lexer.specs.Chars as chars_spec;
-ghost use Rattle.xq_lexer.specs.private.Reading as spec;
+ghost use Rattle.xq_lexer.specs.Reading as spec;
 
 use crate::runs::{Class, run, text};
 use crate::tokens::Lexeme;
@@ -42,7 +42,7 @@ pub fn number<'a>(alloc: Global, chars: &'a [char]) -> Result<(Lexeme, &'a [char
 }
 
 /// Whether a point stands among the digits at the front, and what is left behind them.
-#[tactic(auto, unfolding(crate::specs::private::Reading::read_number, crate::specs::private::Reading::after_digits))]
+#[tactic(auto, unfolding(crate::specs::Reading::read_number, crate::specs::Reading::after_digits))]
 fn digits(chars: &[char]) -> (bool, &[char])
     ensures { (result.0, result.1.now) ≡ pointed (spec.read_number chars.now) }
 {

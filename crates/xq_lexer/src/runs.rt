@@ -2,7 +2,7 @@
 ghost use Rattle.std.specs.Prelude.{◌≡◌, ◌+◌, ◌++◌, length, IfOk, OnOk, string_bytes, ◌<◌, ◌^◌};
 ghost use Rattle.std.specs.Str.{encode_utf8_all};
 ghost use Rattle.xq_lexer.specs.private.Lexes.{test};
-ghost use Rattle.xq_lexer.specs.private.Reading.{span};
+ghost use Rattle.xq_lexer.specs.Reading.{span};
 ghost use Rattle.xq_lexer.specs.Spelling.{bytes as bytes_of};
 
 use crate::chars::is_hex;

@@ -1,7 +1,7 @@
 //! White space and comments.
 ghost use Rattle.std.specs.Prelude.{◌≡◌, ◌+◌, ◌<◌, ◌^◌, length, option_map};
 ghost use Rattle.xq_lexer.specs.private.Lexes.{Skips};
-ghost use Rattle.xq_lexer.specs.private.Reading as spec;
+ghost use Rattle.xq_lexer.specs.Reading as spec;
 ghost use Rattle.xq_lexer.specs.Separators as sep;
 
 use xq_atoms::{Code, is_char, is_space};

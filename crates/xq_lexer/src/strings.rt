@@ -5,7 +5,7 @@ ghost use Rattle.xq_lexer.specs.private.Lexes.{GivesAlways, lexed, refers, refer
 ghost use Rattle.xq_lexer.specs.Chars as chars_spec;
 ghost use Rattle.xq_lexer.specs.Lexeme.{lex_of};
 ghost use Rattle.xq_lexer.specs.Literals as lit;
-ghost use Rattle.xq_lexer.specs.private.Reading as spec;
+ghost use Rattle.xq_lexer.specs.Reading as spec;
 
 use crate::runs::{Class, append, run};
 use crate::tokens::Lexeme;
@@ -41,7 +41,7 @@ pub fn string<'a>(
 }
 
 /// The character that is next inside a string, or None at its last quote, and what is left.
-#[tactic(auto, unfolding(crate::specs::private::Reading::inside))]
+#[tactic(auto, unfolding(crate::specs::Reading::inside))]
 fn inside(quote: char, chars: &[char]) -> Result<(Option<char>, &[char]), Code>
     ensures { GivesAlways (λ x. (x.0, x.1.now)) (next_inside quote (spec.inside quote chars.now))
         result }
@@ -94,7 +94,7 @@ fn after_ampersand(chars: &[char]) -> Result<(Option<char>, &[char]), Code>
 
 /// The number of the character that the reference behind an `&` stands for, at most `PAST_CHARS`,
 /// and what is left.
-#[tactic(auto, unfolding(crate::specs::private::Reading::read_reference))]
+#[tactic(auto, unfolding(crate::specs::Reading::read_reference))]
 fn reference(chars: &[char]) -> Option<(u32, &[char])>
     ensures { option_map (λ x. (x.0, x.1.now)) result ≡ refers (spec.read_reference chars.now) }
 {
@@ -131,7 +131,7 @@ fn strip<'a>(word: &[char], chars: &'a [char]) -> Option<&'a [char]>
 }
 
 /// The number that the digits behind `&#` spell, at most `PAST_CHARS`, and what is left behind `;`.
-#[tactic(auto, unfolding(crate::specs::private::Reading::read_numbered))]
+#[tactic(auto, unfolding(crate::specs::Reading::read_numbered))]
 fn numbered(chars: &[char]) -> Option<(u32, &[char])>
     ensures { option_map (λ x. (x.0, x.1.now)) result ≡ refers (spec.read_numbered chars.now) }
 {

@@ -1,6 +1,6 @@
 //! Symbols.
 ghost use Rattle.std.specs.Prelude.{◌≡◌};
-ghost use Rattle.xq_lexer.specs.private.Reading as spec;
+ghost use Rattle.xq_lexer.specs.Reading as spec;
 
 use crate::tokens::Symbol;
 

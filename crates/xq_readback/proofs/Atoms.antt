@@ -19,7 +19,7 @@ use Rattle.xq_atom_laws.proofs.Decimals.{decimal_literal-printed, fraction-digit
 use Rattle.xq_lexer.specs.declared.tokens.Symbol.TheVariants as s
 use Rattle.xq_lexer.specs.Literals.{integer, decimal}
 use Rattle.xq_lexer.specs.Spelling.{name, prefixed, number, symbol, IsName}
-use Rattle.xq_lexer.specs.private.Reading.{read_token, read_name, after_name}
+use Rattle.xq_lexer.specs.Reading.{read_token, read_name, after_name}
 use Rattle.xq_readback.specs.Quoted.{least}
 use Rattle.xq_meaning.specs.Printable.{IsValue}
 use Rattle.xq_atom_laws.proofs.Strings.{literal, piece, are_pieces}

@@ -10,7 +10,7 @@ use Rattle.xq_lexer.specs.Lexeme.{Lex, Placed}
 use Rattle.xq_lexer.specs.declared.tokens.Symbol.TheVariants as s
 use Rattle.xq_lexer.specs.Literals.{Piece, ArePieces, content_text}
 use Rattle.xq_lexer.specs.Spelling.{Form, name, string, symbol, form_text, form_lex, IsName, Before, Spells, bytes}
-use Rattle.xq_lexer.specs.private.Reading.{after_name, read_name, as_string, read_symbol, read_token}
+use Rattle.xq_lexer.specs.Reading.{after_name, read_name, as_string, read_symbol, read_token}
 use Rattle.xq_lexer.proofs.Spans.{span_exact}
 use Rattle.xq_lexer.proofs.Forms.{name_parts, name_chars}
 use Rattle.xq_lexer.proofs.Contents.{content_read}

@@ -8,7 +8,7 @@ use Rattle.xq_atoms.proofs.Classes.{digit_no_start}
 use Rattle.xq_lexer.specs.Chars.{Text, begins}
 use Rattle.xq_lexer.specs.Literals.{Number, integer, decimal, number_text, number_fault, follow_fault, value_fault}
 use Rattle.xq_lexer.specs.Spelling.{number}
-use Rattle.xq_lexer.specs.private.Reading.{after_digits, read_number, judged, read_token}
+use Rattle.xq_lexer.specs.Reading.{after_digits, read_number, judged, read_token}
 use Rattle.xq_lexer.proofs.Spans.{span_exact}
 use Rattle.xq_readback.proofs.Marks.{IsThere, skip_none}
 

@@ -8,9 +8,9 @@ use Rattle.std.proofs.Math.Seq.{drop-cons}
 use Rattle.std.proofs.lemmas.Bool.{eqb-true, true≢false}
 use Rattle.std.proofs.lemmas.List.{take_more, append-nil, get_or-drop, length-drop}
 use Rattle.xq_regions.specs.Forest.{tops}
-use Rattle.xq_regions.specs.Tree.{Label, is_attribute, may_stand, may_follow, is_content, attribute_names}
+use Rattle.xq_regions.specs.Tree.{Label, is_attribute, may_stand, may_follow, is_content, attribute_names, are_attributes_first}
 use Rattle.xq_regions.specs.Rows.{Row, no_row, row_at, row_of, AreNumbered, front, nest}
-use Rattle.xq_regions.specs.private.Checks.{label_of, name_of, pre_of, IsChecked, RowOk, is_run, roots, are_attributes_first, AreNamed, IsNamedAt}
+use Rattle.xq_regions.specs.private.Checks.{label_of, name_of, pre_of, IsChecked, RowOk, is_run, roots, AreNamed, IsNamedAt}
 use Rattle.xq_regions.specs.declared.NodeRow.{NodeRow}
 use Rattle.xq_regions.specs.declared.Kind.{Kind}
 use Rattle.xq_regions.specs.declared.Kind.TheVariants.{Document, Element, Attribute, Text, Comment, ProcessingInstruction}

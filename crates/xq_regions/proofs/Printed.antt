@@ -8,7 +8,7 @@ use Rattle.xq_regions.specs.Rows.{measured, rows, row_of}
 use Rattle.xq_regions.specs.declared.NodeRow.{NodeRow}
 use Rattle.xq_regions.specs.Print.{opening, comma, listed, print}
 use Rattle.xq_regions.specs.Levels.{flat, flat_row}
-use Rattle.xq_regions.specs.private.Printing.{text_from}
+use Rattle.xq_regions.specs.Printing.{text_from}
 
 abbrev pub Leaf : Type 0
 Leaf = ℕ × Label

@@ -7,8 +7,7 @@ use Rattle.xq_regions.specs.Order.{path_at, place_of, IsBefore}
 use Rattle.xq_regions.specs.Axis.{IsOnAxis}
 use Rattle.xq_regions.specs.Rows.{Row, rows, row_at}
 use Rattle.xq_regions.specs.Regions.{IsInside, ShareParent, kind_of_row, IsInRegion}
-use Rattle.xq_regions.specs.private.RegionTests.{one_below, any_below, common_parent, shares_parent, sibling, in_region}
-use Rattle.xq_regions.specs.RegionTests.{inside, plain_row, after}
+use Rattle.xq_regions.specs.RegionTests.{inside, plain_row, after, one_below, any_below, common_parent, shares_parent, sibling, in_region}
 use Rattle.xq_regions.specs.declared.Axis.{Axis}
 use Rattle.xq_regions.specs.declared.Axis.TheVariants.{Child, Descendant, DescendantOrSelf, SelfNode, Attributes, Parent, Ancestor, AncestorOrSelf, Following, FollowingSibling, Preceding, PrecedingSibling}
 use Rattle.xq_regions.specs.declared.Kind.TheVariants.{Attribute}

@@ -6,7 +6,7 @@ use Rattle.std.specs.List.{prefix_len}
 use Rattle.xq_regions.specs.Forest.{Forest, end, node, count, labels}
 use Rattle.xq_regions.specs.Tree.{Label, Tree, nodes}
 use Rattle.xq_regions.specs.Rows.{measured, rows}
-use Rattle.xq_regions.specs.private.Sizes.{sized}
+use Rattle.xq_regions.specs.Levels.{sized}
 use Rattle.xq_regions.proofs.Printed.{Leaf, leveled, Above, above_next}
 
 -- all that stand deeper than the level, and then one that does not

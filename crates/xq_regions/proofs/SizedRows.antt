@@ -6,8 +6,8 @@ use Rattle.std.specs.List.{prefix_len}
 use Rattle.xq_regions.specs.Tree.{Label, Tree, IsTree, nodes}
 use Rattle.xq_regions.specs.Rows.{AreNumbered, Encodes, row_of, rows, measured}
 use Rattle.xq_regions.specs.declared.NodeRow.{NodeRow}
-use Rattle.xq_regions.specs.Levels.{flat, flat_row}
-use Rattle.xq_regions.specs.private.Sizes.{sized, IsSized, deeper, level_of}
+use Rattle.xq_regions.specs.Levels.{flat, flat_row, sized}
+use Rattle.xq_regions.specs.private.Sizes.{IsSized, deeper, level_of}
 use Rattle.xq_regions.proofs.Printed.{flat-measured}
 use Rattle.xq_regions.specs.Nesting.{count-measured}
 use Rattle.xq_regions.proofs.Walks.{length-map}

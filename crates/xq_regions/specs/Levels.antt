@@ -1,5 +1,6 @@
 -- A tree is told by the levels and the labels of its nodes in document order.
-use Rattle.std.specs.Prelude.{◌≡◌, ℕ, List, map}
+use Rattle.std.specs.Prelude.{◌≡◌, ℕ, nat_lt, List, [], ◌∷◌, map}
+use Rattle.std.specs.List.{prefix_len}
 use Rattle.xq_regions.specs.Tree.{Label, Tree}
 use Rattle.xq_regions.specs.Rows.{Row, row_of, rows}
 use Rattle.xq_regions.specs.declared.NodeRow.{NodeRow}
@@ -15,3 +16,9 @@ flat_row r = flat (row_of r)
 -- the rows have the levels and the labels of the nodes of the tree
 abbrev pub HasLevels : Tree → List NodeRow → Type 0
 HasLevels t rs = map flat_row rs ≡ map flat (rows t)
+
+-- the rows with these levels and labels
+abbrev pub sized : List (ℕ × Label) → List Row
+sized [] = []
+sized (p ∷ ps) = record { size = prefix_len (λ q. nat_lt p.0 q.0) ps; level = p.0; label = p.1 }
+    ∷ sized ps

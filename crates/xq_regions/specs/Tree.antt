@@ -109,3 +109,8 @@ pub record IsTree (t : Tree) : Type 0 where
 pub record IsDocument (t : Tree) : Type 0 where
   pub is_tree : IsTree t
   pub root : t.root.kind ≡ Document
+
+-- no attribute comes after a node that is none
+abbrev pub are_attributes_first : List Label → Bool
+are_attributes_first [] = true
+are_attributes_first (a ∷ labels) = may_precede a.kind labels && are_attributes_first labels

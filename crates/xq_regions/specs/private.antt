@@ -1,4 +1,2 @@
 pub mod Checks
-pub mod Printing
-pub mod RegionTests
 pub mod Sizes

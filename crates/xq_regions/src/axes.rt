@@ -5,8 +5,7 @@ ghost use Rattle.xq_regions.specs.Tree.{nodes, is_attribute as is_attribute_lem}
 ghost use Rattle.xq_regions.specs.Rows.{row_of, row_at};
 ghost use Rattle.xq_regions.specs.Order.{IsBefore, path_at};
 ghost use Rattle.xq_regions.specs.Axis.{IsOnAxis};
-ghost use Rattle.xq_regions.specs.private.RegionTests.{one_below, common_parent, shares_parent, sibling, in_region};
-ghost use Rattle.xq_regions.specs.RegionTests.{inside, plain_row, after};
+ghost use Rattle.xq_regions.specs.RegionTests.{inside, plain_row, after, one_below, common_parent, shares_parent, sibling, in_region};
 
 use crate::{Axis, Fragment, Kind, NodeRow};
 

@@ -1,9 +1,9 @@
 //! Whether rows are those of a tree: a test from the last row to the first, which takes no memory.
 ghost use Rattle.std.specs.Prelude.{◌≡◌, ◌+◌, ◌-◌, ◌<◌, ◌≤◌, ◌↔◌, ◌&&◌, length, map, drop, slice_range, IsTrue, string_bytes};
 ghost use Rattle.std.proofs.Common.{suc};
-ghost use Rattle.xq_regions.specs.Tree.{may_stand as may_stand_lem, may_follow as may_follow_lem, is_legal as is_legal_lem, has_text as has_text_lem, is_attribute as is_attribute_lem, may_precede as may_precede_lem, attribute_names};
+ghost use Rattle.xq_regions.specs.Tree.{may_stand as may_stand_lem, may_follow as may_follow_lem, is_legal as is_legal_lem, has_text as has_text_lem, is_attribute as is_attribute_lem, may_precede as may_precede_lem, attribute_names, are_attributes_first};
 ghost use Rattle.xq_regions.specs.Rows.{row_of, row_at, AreNumbered, IsEncoding};
-ghost use Rattle.xq_regions.specs.private.Checks.{IsSoundAt, IsChecked, IsNested, IsNamedAt, AreNamed, are_attributes_first, roots, label_of, name_of, may_be_child, are_children_after};
+ghost use Rattle.xq_regions.specs.private.Checks.{IsSoundAt, IsChecked, IsNested, IsNamedAt, AreNamed, roots, label_of, name_of, may_be_child, are_children_after};
 
 use crate::attributes::has_distinct_names;
 use crate::names::{are_characters, is_attribute_name, is_target};

@@ -8,7 +8,7 @@ use Rattle.std.proofs.lemmas.List.{map_push, map-set, get_or-map}
 use Rattle.std.proofs.lemmas.Bool.{false≢true, or_parts}
 use Rattle.xq_atoms.specs.declared.atoms.GroupKey.{GroupKey}
 use Rattle.xq_atoms.specs.Compare.{Key, key_of, key_eq}
-use Rattle.xq_atoms.specs.private.Derived.{group_key_eq}
+use Rattle.xq_atoms.specs.Derived.{group_key_eq}
 use Rattle.xq_atoms.proofs.Keys.{group_key_eq-is}
 use Rattle.xq_regions.specs.Tuples.{Keyed as KeyedTuple, comparison_keys, same_keys, firsts, groups}
 use Rattle.xq_tuples.specs.declared.rows.Keyed.{Keyed}

@@ -9,7 +9,7 @@ use Rattle.xq_regions.specs.RegionTests.{plain_row}
 use Rattle.xq_regions.specs.declared.Axis.{Axis}
 use Rattle.xq_regions.specs.declared.Axis.TheVariants as axis
 use Rattle.xq_meaning.specs.declared.node_tests.Test.{Test}
-use Rattle.xq_axes.specs.private.Reads.{Span}
+use Rattle.xq_axes.specs.Reads.{Span}
 use Rattle.xq_axes.specs.private.Hits.{is_among, is_wanted, below_where, IsRising, IsReached}
 use Rattle.xq_axes.specs.declared.downward.Downward.{Downward}
 use Rattle.xq_axes.specs.declared.downward.Downward.TheVariants.{Child, Attribute, Descendant, DescendantOrSelf}

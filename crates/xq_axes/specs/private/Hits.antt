@@ -4,7 +4,7 @@ use Rattle.std.specs.Prelude.{ℕ, ◌<◌, ◌≤◌, ◌≡◌, List, [], ◌�
 use Rattle.std.specs.List.{list_any}
 use Rattle.xq_regions.specs.Tree.{Tree}
 use Rattle.xq_regions.specs.Rows.{Row, row_at, rows}
-use Rattle.xq_regions.specs.private.RegionTests.{in_region}
+use Rattle.xq_regions.specs.RegionTests.{in_region}
 use Rattle.xq_regions.specs.declared.Axis.{Axis}
 use Rattle.xq_meaning.specs.declared.node_tests.Test.{Test}
 use Rattle.xq_meaning.specs.Steps.{passes}

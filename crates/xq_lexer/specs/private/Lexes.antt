@@ -20,7 +20,7 @@ use Rattle.xq_lexer.specs.TokenFaults.{FaultHere, HasFault}
 use Rattle.xq_lexer.specs.declared.tokens.Token.{Token}
 use Rattle.std.specs.declared.alloc.Global.{Global}
 use Rattle.std.specs.declared.vec.Vec.{Vec}
-use Rattle.xq_lexer.specs.private.Reading.{Inside, closed, one, wrong}
+use Rattle.xq_lexer.specs.Reading.{Inside, closed, one, wrong}
 
 -- a function that takes no memory gives what the reader gives
 abbrev pub GivesAlways : {X Y : Type 0} → (X → Y) → Judged Y → Result X Code → Type 0

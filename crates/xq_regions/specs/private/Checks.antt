@@ -66,11 +66,6 @@ pub record IsNested (rs : List NodeRow) : Type 0 where
   pub passes : Passes (map row_of rs)
   pub numbered : AreNumbered 0 rs
 
--- no attribute comes after a node that is none
-abbrev pub are_attributes_first : List Label → Bool
-are_attributes_first [] = true
-are_attributes_first (a ∷ labels) = may_precede a.kind labels && are_attributes_first labels
-
 -- the rows at the top, from the row c to before the row `stop`
 abbrev pub roots : List Row → ℕ → ℕ → List Row
 roots rs c stop = tops (front (stop - c) (nest (drop c rs)))

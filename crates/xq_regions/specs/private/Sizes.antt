@@ -2,15 +2,7 @@
 use Rattle.std.specs.Prelude.{ℕ, nat_lt, ◌≡◌, List, [], ◌∷◌, map}
 use Rattle.std.specs.List.{prefix_len}
 use Rattle.xq_regions.specs.Levels.{flat_row}
-use Rattle.xq_regions.specs.Rows.{Row}
-use Rattle.xq_regions.specs.Tree.{Label}
 use Rattle.xq_regions.specs.declared.NodeRow.{NodeRow}
-
--- the rows with these levels and labels
-abbrev pub sized : List (ℕ × Label) → List Row
-sized [] = []
-sized (p ∷ ps) = record { size = prefix_len (λ q. nat_lt p.0 q.0) ps; level = p.0; label = p.1 }
-    ∷ sized ps
 
 -- how many rows at the front are deeper than the level
 abbrev pub deeper : ℕ → List NodeRow → ℕ

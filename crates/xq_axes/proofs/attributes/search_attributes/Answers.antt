@@ -4,7 +4,7 @@ use Rattle.xq_regions.specs.declared.Axis.TheVariants as axis
 use Rattle.xq_sources.specs.Sources.{tree_at}
 use Rattle.xq_axes.specs.declared.attributes.Counted.{Counted}
 use Rattle.xq_axes.specs.private.Counted.{AreCounted, AreHits}
-use Rattle.xq_axes.specs.private.Reads.{span, span_end}
+use Rattle.xq_axes.specs.Reads.{span, span_end}
 use Rattle.xq_axes.specs.private.Hits.{is_wanted, below_where}
 use Rattle.xq_axes.proofs.CountedAttributes.{IsAsked, none_yet, none_counted_of, asked, are_hits, asked_end, begins, goes_on, all_so_far, read_rows}
 use Rattle.xq_axes.proofs.Scans.{below_ends}

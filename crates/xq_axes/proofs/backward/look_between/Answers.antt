@@ -1,6 +1,6 @@
 use Rattle.std.proofs.Common.{◌≡◌, ◌+◌, length, refl, sym, ap, subst, arith}
 use Rattle.xq_sources.specs.Sources.{tree_at}
-use Rattle.xq_axes.specs.private.Reads.{span, span_end}
+use Rattle.xq_axes.specs.Reads.{span, span_end}
 use Rattle.xq_axes.specs.private.Waiting.{AreSeen}
 use Rattle.xq_axes.specs.declared.backward.Part.{Part}
 use Rattle.xq_axes.proofs.backward.look_between.Goals as goal

@@ -3,7 +3,7 @@ use Rattle.std.specs.Prelude.{slice_get}
 use Rattle.xq_regions.specs.Forest.{count}
 use Rattle.xq_regions.specs.Tree.{nodes}
 use Rattle.xq_sources.specs.Sources.{tree_at}
-use Rattle.xq_axes.specs.private.Reads.{span, span_end}
+use Rattle.xq_axes.specs.Reads.{span, span_end}
 use Rattle.xq_axes.specs.private.Waiting.{bound, IsLooked}
 use Rattle.xq_axes.proofs.Looking.{look_start, moved, read_back, top_bound}
 use Rattle.xq_axes.proofs.backward.search_back.Goals as goal

@@ -2,7 +2,7 @@ use Rattle.std.proofs.Common.{ℕ, sym, ap, subst, ◌∙◌}
 use Rattle.xq_regions.specs.Rows.{Row, rows, row_at}
 use Rattle.xq_sources.specs.Meters.{Readings}
 use Rattle.xq_sources.specs.Sources.{tree_at}
-use Rattle.xq_axes.specs.private.Reads.{span, span_end, AreCopied}
+use Rattle.xq_axes.specs.Reads.{span, span_end, AreCopied}
 use Rattle.xq_axes.proofs.Sizes.{one_row, size_read}
 use Rattle.xq_axes.proofs.Copying.{copied_none, copied_tree}
 use Rattle.xq_axes.proofs.Counts.{copy_counted}

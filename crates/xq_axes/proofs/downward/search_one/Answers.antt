@@ -2,7 +2,7 @@ use Rattle.std.proofs.Common.{◌≡◌, ◌≤◌, ◌-◌, inr, ℕ, ◌+◌, 
 use Rattle.xq_regions.specs.Tree.{Tree}
 use Rattle.xq_regions.specs.Rows.{Row, rows, row_at, row_of}
 use Rattle.xq_sources.specs.Sources.{tree_at}
-use Rattle.xq_axes.specs.private.Reads.{span, span_end, IsSized}
+use Rattle.xq_axes.specs.Reads.{span, span_end, IsSized}
 use Rattle.xq_axes.specs.private.Hits.{is_wanted, row_passes, below_where, IsReached}
 use Rattle.xq_axes.specs.private.Downward.{axis_of, level_of, IsJudged, IsSearched}
 use Rattle.xq_axes.specs.declared.downward.Below.{Below}

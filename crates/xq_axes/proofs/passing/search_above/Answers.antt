@@ -3,7 +3,7 @@ use Rattle.smallvec.specs.SmallVec.{SmallVec}
 use Rattle.xq_regions.specs.Forest.{count}
 use Rattle.xq_regions.specs.Tree.{nodes}
 use Rattle.xq_sources.specs.Sources.{tree_at}
-use Rattle.xq_axes.specs.private.Reads.{span, span_end}
+use Rattle.xq_axes.specs.Reads.{span, span_end}
 use Rattle.xq_axes.specs.private.Hits.{is_wanted, below_where, IsRising, IsReached}
 use Rattle.xq_axes.specs.private.Passing.{axis_above}
 use Rattle.xq_axes.proofs.Lists.{got_none, reached_none}

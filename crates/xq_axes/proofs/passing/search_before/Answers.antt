@@ -4,7 +4,7 @@ use Rattle.xq_regions.specs.Forest.{count}
 use Rattle.xq_regions.specs.Tree.{nodes}
 use Rattle.xq_regions.specs.declared.Axis.TheVariants as axis
 use Rattle.xq_sources.specs.Sources.{tree_at}
-use Rattle.xq_axes.specs.private.Reads.{span, span_end}
+use Rattle.xq_axes.specs.Reads.{span, span_end}
 use Rattle.xq_axes.specs.private.Hits.{is_wanted, below_where}
 use Rattle.xq_axes.proofs.Lists.{got_none}
 use Rattle.xq_axes.proofs.Sizes.{OnOk-if}

@@ -5,7 +5,7 @@ use Rattle.xq_regions.specs.Forest.{count}
 use Rattle.xq_regions.specs.Tree.{nodes}
 use Rattle.xq_sources.specs.Sources.{tree_at}
 use Rattle.xq_axes.specs.private.Hits.{is_wanted, below_where, IsRising}
-use Rattle.xq_axes.specs.private.Many.{spot, is_found_from, AreThere}
+use Rattle.xq_axes.specs.Many.{spot, is_found_from, AreThere}
 use Rattle.xq_axes.specs.Scans.{region}
 use Rattle.xq_axes.proofs.Many.{added}
 use Rattle.xq_axes.proofs.Sizes.{OnOk-then}

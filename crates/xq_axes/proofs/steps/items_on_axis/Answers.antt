@@ -2,7 +2,7 @@ use Rattle.std.proofs.Common.{◌≡◌, map, ◌∙◌}
 use Rattle.std.proofs.lemmas.Result.{IfOk-weaker}
 use Rattle.xq_regions.specs.Items.{Place as NodeAt, item_views}
 use Rattle.xq_axes.specs.Nodes.{AreOnAxis}
-use Rattle.xq_axes.specs.private.Many.{spot}
+use Rattle.xq_axes.specs.Many.{spot}
 use Rattle.xq_axes.proofs.Many.{one_there, one_rises, from_one}
 use Rattle.xq_axes.proofs.steps.items_on_axis.Goals as goal
 

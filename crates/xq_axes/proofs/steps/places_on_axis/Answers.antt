@@ -5,7 +5,7 @@ use Rattle.xq_sources.specs.Sources.{tree_at}
 use Rattle.xq_meaning.specs.Items.{Place}
 use Rattle.xq_meaning.specs.Readings.{node_at}
 use Rattle.xq_meaning.specs.Steps.{axis_nodes}
-use Rattle.xq_axes.specs.private.Many.{spot, places_from}
+use Rattle.xq_axes.specs.Many.{spot, places_from}
 use Rattle.xq_axes.proofs.Many.{one_there, one_rises}
 use Rattle.xq_axes.proofs.OnPaths.{axis_nodes_of}
 use Rattle.xq_axes.proofs.steps.places_on_axis.Goals as goal

@@ -2,7 +2,7 @@ use Rattle.std.proofs.Common.{◌++◌, ◌↔◌, sym, ap, subst, ◌∙◌}
 use Rattle.std.specs.List.{Contains}
 use Rattle.xq_regions.specs.declared.items.Node.{Node}
 use Rattle.xq_regions.specs.Rising.{AreRising}
-use Rattle.xq_axes.specs.private.Many.{AreSame}
+use Rattle.xq_axes.specs.Many.{AreSame}
 use Rattle.xq_regions.proofs.Rising.{rising_seen}
 use Rattle.xq_axes.proofs.steps.step.Goals as goal
 

@@ -1,7 +1,7 @@
 use Rattle.std.proofs.Common.{◌≡◌, ◌≤◌, length, ◌+◌, ◌||◌, [], Bool, map, refl, sym, ap, subst, ◌∙◌, arith, get_or}
 use Rattle.std.specs.List.{list_any}
 use Rattle.xq_regions.specs.declared.items.Node.{Node}
-use Rattle.xq_axes.specs.private.Many.{spot, is_found_from, AreThere, IsNext, IsGathered, IsAt}
+use Rattle.xq_axes.specs.Many.{spot, is_found_from, AreThere, IsNext, IsGathered, IsAt}
 use Rattle.xq_axes.proofs.Many.{gathered_none, default_at, step_found, step_there, step_nodes, have_same}
 use Rattle.xq_sources.specs.Sources.{tree_at}
 use Rattle.xq_axes.specs.Scans.{region}

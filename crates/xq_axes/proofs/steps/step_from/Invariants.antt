@@ -2,7 +2,7 @@ use Rattle.std.proofs.Common.{◌≡◌, ◌≤◌, ◌+◌, ℕ, length}
 use Rattle.xq_regions.specs.Rising.{AreRising}
 use Rattle.xq_axes.specs.Nodes.{HaveAll}
 use Rattle.xq_axes.specs.Scans.{AreOf}
-use Rattle.xq_axes.specs.private.Many.{IsGathered, AreKept}
+use Rattle.xq_axes.specs.Many.{IsGathered, AreKept}
 use Rattle.xq_axes.proofs.steps.step_from.Given as goal
 
 -- the contexts so far were gathered, and where they are of one tree nothing was read yet

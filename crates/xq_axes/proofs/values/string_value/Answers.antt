@@ -5,7 +5,7 @@ use Rattle.xq_regions.specs.Rows.{rows, row_at}
 use Rattle.xq_sources.specs.Sources.{tree_at}
 use Rattle.xq_meaning.specs.Items.{tree_below}
 use Rattle.xq_meaning.specs.Readings.{node_at}
-use Rattle.xq_axes.specs.private.Reads.{IsSized}
+use Rattle.xq_axes.specs.Reads.{IsSized}
 use Rattle.xq_axes.proofs.Sizes.{one_row, OnOk-if, size_read, parent_value, leaf_value}
 use Rattle.xq_axes.proofs.values.string_value.Goals as goal
 

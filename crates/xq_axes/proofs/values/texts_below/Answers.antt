@@ -1,6 +1,6 @@
 use Rattle.std.proofs.Common.{sym, ap, ◌∙◌}
 use Rattle.xq_sources.specs.Sources.{tree_at}
-use Rattle.xq_axes.specs.private.Reads.{joined_texts}
+use Rattle.xq_axes.specs.Reads.{joined_texts}
 use Rattle.xq_axes.proofs.Sizes.{rows_to-none, texts_of_walk}
 use Rattle.xq_axes.proofs.values.texts_below.Goals as goal
 

@@ -1,7 +1,7 @@
 use Rattle.std.proofs.Common.{◌+◌, ◌-◌, ◌≤◌, ℕ, length, map}
 use Rattle.xq_regions.specs.Tree.{Tree}
 use Rattle.xq_regions.specs.Rows.{placed}
-use Rattle.xq_axes.specs.private.Reads.{Span, span_end, AreRowsIn}
+use Rattle.xq_axes.specs.Reads.{Span, span_end, AreRowsIn}
 use Rattle.xq_axes.proofs.walks.visit_all.Given as goal
 
 -- the rows so far were visited or passed over

@@ -4,7 +4,7 @@ use Rattle.xq_regions.proofs.Walks.{length-map}
 use Rattle.xq_sources.specs.Sources.{tree_at, rows_between}
 use Rattle.xq_sources.specs.Lenders.{IsRun}
 use Rattle.xq_sources.specs.Meters.{Readings}
-use Rattle.xq_axes.specs.private.Reads.{span, AreRowsIn}
+use Rattle.xq_axes.specs.Reads.{span, AreRowsIn}
 use Rattle.xq_axes.proofs.Runs.{run_in_turn}
 use Rattle.xq_axes.proofs.RunBounds.{run_within, run_counted, run_last, counted_rows}
 use Rattle.xq_axes.proofs.walks.walk.Goals as goal

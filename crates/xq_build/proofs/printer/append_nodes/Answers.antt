@@ -1,7 +1,7 @@
 use Rattle.std.proofs.Common.{◌≡◌, ◌∙◌, ◌++◌, ◌+◌, ◌-◌, ◌≤◌, List, length, ap, sym, subst, arith, map, string_bytes}
 use Rattle.std.proofs.lemmas.Result.{err_from_is_err_and}
 use Rattle.xq_regions.specs.Tree.{Tree}
-use Rattle.xq_regions.specs.private.Printing.{text_from}
+use Rattle.xq_regions.specs.Printing.{text_from}
 use Rattle.xq_regions.specs.Rows.{placed}
 use Rattle.xq_sources.specs.Lenders.{IsRun}
 use Rattle.xq_sources.specs.Meters.{Readings}

@@ -1,5 +1,5 @@
 use Rattle.std.proofs.Common.{◌≡◌, ◌≤◌, ◌++◌, ◌+◌, ◌-◌, suc, length, string_bytes, map}
-use Rattle.xq_regions.specs.private.Printing.{text_from}
+use Rattle.xq_regions.specs.Printing.{text_from}
 use Rattle.xq_sources.specs.Sources.{tree_at}
 use Rattle.xq_copies.specs.Leaves.{lowered, leaves_between}
 use Rattle.xq_build.proofs.printer.append_nodes.Given as goal

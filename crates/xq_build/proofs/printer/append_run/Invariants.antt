@@ -1,6 +1,6 @@
 use Rattle.std.proofs.Common.{◌≡◌, ◌≤◌, ◌++◌, List, length, string_bytes, map, drop}
 use Rattle.xq_regions.specs.Levels.{flat_row}
-use Rattle.xq_regions.specs.private.Printing.{text_from}
+use Rattle.xq_regions.specs.Printing.{text_from}
 use Rattle.xq_copies.specs.Leaves.{Leaf, lowered}
 use Rattle.xq_build.proofs.printer.append_run.Given as goal
 

@@ -12,7 +12,7 @@ use Rattle.xq_meaning.specs.Readings.{node_at, items_at, AreIn}
 use Rattle.xq_meaning.specs.Steps.{axis_nodes}
 use Rattle.xq_meaning.specs.Forms as Forms
 use Rattle.xq_forms.specs.Views.{forget, GivesSequence}
-use Rattle.xq_forms.specs.private.Nodes.{nodes_among}
+use Rattle.xq_forms.specs.Nodes.{nodes_among}
 use Rattle.xq_forms.specs.Reads.{AreOf}
 use Rattle.xq_forms.proofs.NodeLemmas.{among_in, scan_gives, scan_stops}
 use Rattle.xq_forms.proofs.OneTree.{not_grown, contexts_of, contexts_have, step_grown, step_found}

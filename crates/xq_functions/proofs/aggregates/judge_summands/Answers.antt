@@ -3,7 +3,7 @@ use Rattle.xq_atoms.specs.Atom.{atomic_of}
 use Rattle.xq_meaning.specs.Arguments.{each}
 use Rattle.xq_meaning.specs.Functions.{summand}
 use Rattle.xq_functions.specs.Answers.{atomics}
-use Rattle.xq_functions.specs.private.Judgements.{judged_as}
+use Rattle.xq_functions.specs.Judgements.{judged_as}
 use Rattle.xq_functions.proofs.ListLemmas.{each-push, each-err, around, to_here}
 use Rattle.xq_functions.proofs.aggregates.judge_summands.Goals as goal
 

@@ -2,7 +2,7 @@ use Rattle.std.proofs.Common.{◌≡◌, ◌++◌, ◌∷◌, [], take, map, Boo
 use Rattle.std.specs.List.{list_any}
 use Rattle.std.proofs.lemmas.List.{map_push}
 use Rattle.xq_atoms.specs.Atom.{atomic_of}
-use Rattle.xq_atoms.specs.private.Derived.{group_key_eq}
+use Rattle.xq_atoms.specs.Derived.{group_key_eq}
 use Rattle.xq_regions.specs.declared.items.Item.TheVariants.{Atom}
 use Rattle.xq_regions.specs.Items.{Value, item_view, item_views}
 use Rattle.xq_functions.specs.Answers.{atomics}

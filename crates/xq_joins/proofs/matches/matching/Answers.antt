@@ -10,7 +10,7 @@ use Rattle.xq_regions.proofs.Rising.{rising_seen}
 use Rattle.xq_tuples.specs.Views.{values_of}
 use Rattle.xq_meaning.specs.Readings.{AreIn}
 use Rattle.xq_forms.specs.Views.{TupleIn}
-use Rattle.xq_forms.specs.private.Nodes.{nodes_among}
+use Rattle.xq_forms.specs.Nodes.{nodes_among}
 use Rattle.xq_forms.proofs.NodeLemmas.{among_in}
 use Rattle.xq_joins.specs.Joins.{matched, all_matched}
 use Rattle.xq_joins.specs.private.Tables.{IsTable}

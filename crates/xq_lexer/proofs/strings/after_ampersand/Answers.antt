@@ -1,5 +1,5 @@
 use Rattle.std.proofs.Common.{refl, ◌∙◌}
-use Rattle.xq_lexer.specs.private.Reading.{read_reference}
+use Rattle.xq_lexer.specs.Reading.{read_reference}
 use Rattle.xq_lexer.proofs.StringLemmas.{referred_is, no_scalar}
 use Rattle.xq_lexer.proofs.strings.after_ampersand.Goals as goal
 

@@ -1,5 +1,5 @@
 use Rattle.std.proofs.Common.{◌≡◌, drop}
-use Rattle.xq_lexer.specs.private.Reading.{strip}
+use Rattle.xq_lexer.specs.Reading.{strip}
 use Rattle.xq_lexer.proofs.strings.strip.Given as goal
 
 abbrev pub invariant-loop-expected : goal.invariant-loop-expected

@@ -1,6 +1,6 @@
 use Rattle.std.proofs.Common.{◌≡◌, true, map, sym, ◌∙◌, arith}
 use Rattle.xq_regions.specs.Rows.{row_of, row_at}
-use Rattle.xq_regions.specs.private.RegionTests.{any_below, common_parent}
+use Rattle.xq_regions.specs.RegionTests.{any_below, common_parent}
 use Rattle.xq_regions.proofs.Checking.{both_true}
 use Rattle.xq_regions.proofs.RegionTable.{any_below_true}
 use Rattle.std.proofs.lemmas.Bool.{eq-eqb}

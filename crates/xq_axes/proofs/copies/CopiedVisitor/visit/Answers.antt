@@ -1,5 +1,5 @@
 use Rattle.std.proofs.Common.{◌+◌, sym, subst, ◌∙◌, string_bytes}
-use Rattle.xq_axes.specs.private.Reads.{AreCopied}
+use Rattle.xq_axes.specs.Reads.{AreCopied}
 use Rattle.xq_regions.specs.Rows.{placed}
 use Rattle.xq_axes.proofs.Runs.{one_on}
 use Rattle.xq_axes.proofs.Copying.{copied_more, copied_row}
