@@ -4,5 +4,6 @@ pub mod Lenders
 pub mod Parents
 pub mod AttributeRows
 pub mod Addresses
+pub mod Names
 pub mod private
 pub mod Sums

@@ -1,5 +1,5 @@
 //! Trees in memory.
-ghost use Rattle.std.specs.Prelude.{◌≡◌, ◌++◌, ◌∷◌, [], Some, None, slice_get, IfOk, OnErr, OnOk};
+ghost use Rattle.std.specs.Prelude.{◌≡◌, ◌++◌, ◌∷◌, [], Some, None, slice_get, IfNone, IfOk, IfSome, OnErr, OnOk};
 ghost use Rattle.xq_regions.specs.Rows.{Encodes};
 ghost use Rattle.xq_sources.specs.Meters.{no_readings};
 ghost use Rattle.xq_sources.specs.Sources.{tree_at, HasTree};
@@ -69,6 +69,22 @@ impl Fragments {
         self.guides.push(guide)?;
         self.list.push(tree)?;
         Ok(())
+    }
+
+    /// Takes the last tree away; none where there is none. No row is lent then.
+    pub fn pop(&mut self) -> Option<Fragment>
+        ensures taken { IfSome result (λ tree. ⟦<Fragments as TreeSource>⟧.forest self.old
+            ≡ ⟦<Fragments as TreeSource>⟧.forest self.new ++ tree ∷ []) }
+        ensures none { IfNone result (⟦<Fragments as TreeSource>⟧.forest self.new
+            ≡ ⟦<Fragments as TreeSource>⟧.forest self.old) }
+        ensures meter { ⟦<Fragments as TreeSource>⟧.meter self.new
+            ≡ ⟦<Fragments as TreeSource>⟧.meter self.old }
+        ensures lent { ⟦<Fragments as RowLender>⟧.lent self.new ≡ [] }
+    {
+        self.run = NO_ROWS;
+        let tree = self.list.pop()?;
+        self.guides.truncate(self.list.len());
+        Some(tree)
     }
 
     /// The rows of the tree; `Want::Store` where there is none of this number.
@@ -170,6 +186,12 @@ impl RowLender for Fragments {
     fn attributes(&self, tree: usize, node: u32) -> Option<u32> {
         let fragment = self.list.get(tree)?;
         count_attributes(fragment.rows(), node)
+    }
+
+    fn find_named(&mut self, _: Global, _: usize, _: &str) {}
+
+    fn named(&self, _: usize, _: &str) -> Option<&[u32]> {
+        None
     }
 
     fn lent(&self) -> &[NodeRow] {

@@ -1,5 +1,5 @@
 //! Trees to which others can be added.
-ghost use Rattle.std.specs.Prelude.{◌≡◌, ◌++◌, ◌∷◌, ◌⊎◌, [], OnErr, OnOk};
+ghost use Rattle.std.specs.Prelude.{◌≡◌, ◌++◌, ◌∷◌, ◌⊎◌, [], IfSome, OnErr, IfNone, OnOk};
 
 use crate::lenders::RowLender;
 use xq_atoms::Want;
@@ -13,6 +13,16 @@ pub trait Growing: RowLender {
     fn plant(&mut self, tree: Fragment) -> Result<(), Want>
         ensures grown { OnOk result (Self.forest self.new ≡ Self.forest self.old ++ tree ∷ []) }
         ensures kept { OnErr result (Self.forest self.new ≡ Self.forest self.old) }
+        ensures meter { Self.meter self.new ≡ Self.meter self.old }
+        ensures lent { (Self.lent self.new ≡ Self.lent self.old) ⊎ (Self.lent self.new ≡ []) }
+        ensures was_clean { Self.is_clean self.new → Self.is_clean self.old };
+
+    /// Takes the last tree away, where it is a constructed one, and gives it up; none where there
+    /// is no such tree, and they are as before. What is lent was lent before.
+    fn uproot(&mut self) -> Option<Fragment>
+        ensures taken { IfSome result (λ tree.
+            Self.forest self.old ≡ Self.forest self.new ++ tree ∷ []) }
+        ensures kept { IfNone result (Self.forest self.new ≡ Self.forest self.old) }
         ensures meter { Self.meter self.new ≡ Self.meter self.old }
         ensures lent { (Self.lent self.new ≡ Self.lent self.old) ⊎ (Self.lent self.new ≡ []) }
         ensures was_clean { Self.is_clean self.new → Self.is_clean self.old };

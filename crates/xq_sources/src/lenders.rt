@@ -1,8 +1,9 @@
 //! Lenders of rows: what each of them promises, and a lender over any source.
-ghost use Rattle.std.specs.Prelude.{◌≡◌, ◌↔◌, ◌∷◌, [], ℕ, List, map, IfSome, OnErr, OnOk};
+ghost use Rattle.std.specs.Prelude.{◌≡◌, ◌↔◌, ◌∷◌, [], ℕ, List, length, map, IfSome, OnErr, OnOk};
 ghost use Rattle.xq_regions.specs.Tree.{IsTree};
-ghost use Rattle.xq_regions.specs.Rows.{Row, placed, row_at, rows};
+ghost use Rattle.xq_regions.specs.Rows.{Row, placed, placed_rows, row_at, rows};
 ghost use Rattle.xq_sources.specs.AttributeRows.{AreAttributeRows};
+ghost use Rattle.xq_sources.specs.Names.{named as named_lem};
 ghost use Rattle.xq_sources.specs.Parents.{IsParentRow};
 ghost use Rattle.xq_sources.specs.Sources.{tree_at, HasTree, HasNode, rows_between, after_row};
 ghost use Rattle.xq_sources.specs.Lenders.{IsRun, after_fetch};
@@ -44,6 +45,7 @@ pub trait RowLender: TreeSource {
         ensures found { Self.is_clean self.new
             → OnOk result (lent self.new
             ≡ (node, row_at (rows (tree_at (Self.forest self.old) tree)) node) ∷ []) }
+        ensures one { OnOk result (length (lent self.new) ≡ 1) }
         ensures is_tree { Self.is_clean self.new
             → OnOk result (IsTree (tree_at (Self.forest self.old) tree)) }
         ensures counts { Self.meter self.new ≡ after_row (Self.meter self.old) result }
@@ -64,6 +66,20 @@ pub trait RowLender: TreeSource {
             AreAttributeRows (rows (tree_at (Self.forest self.now) tree)) node number) }
         ensures is_tree { Self.is_clean self.now → IfSome result (λ _.
             IsTree (tree_at (Self.forest self.now) tree)) };
+
+    /// Looks for the elements with the name, where the lender keeps all rows of the tree, so that
+    /// their places can be told. It gives no row, so nothing is counted, and is never refused: where
+    /// it finds nothing, nothing is told.
+    fn find_named(&mut self, alloc: Global, tree: usize, name: &str)
+        ensures counts { Self.meter self.new ≡ Self.meter self.old }
+        ensures keeps { Self.forest self.new ≡ Self.forest self.old }
+        ensures was_clean { Self.is_clean self.new → Self.is_clean self.old };
+
+    /// The places of all elements of the tree with the name, in document order, where the lender
+    /// can tell them at once; none says nothing. A place is no row, so nothing is counted.
+    fn named(&self, tree: usize, name: &str) -> Option<&[u32]>
+        ensures { Self.is_clean self.now → IfSome result (λ places. places.now
+            ≡ named_lem (placed_rows (tree_at (Self.forest self.now) tree)) name.now) };
 
     /// The rows that the last call made ready, in document order.
     fn lent(&self) -> &[NodeRow]
@@ -141,6 +157,12 @@ impl<S: RowSource + Drop> RowLender for Buffered<S> {
     }
 
     fn attributes(&self, _: usize, _: u32) -> Option<u32> {
+        None
+    }
+
+    fn find_named(&mut self, _: Global, _: usize, _: &str) {}
+
+    fn named(&self, _: usize, _: &str) -> Option<&[u32]> {
         None
     }
 

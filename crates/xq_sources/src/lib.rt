@@ -9,6 +9,7 @@ mod growing;
 mod guides;
 mod lenders;
 mod meters;
+mod names;
 mod rows;
 mod sources;
 #[cfg(test)]
@@ -22,6 +23,7 @@ pub use growing::Growing;
 pub use guides::Guide;
 pub use lenders::{Buffered, RowLender};
 pub use meters::Meter;
+pub use names::{Names, find_named};
 pub use rows::rows_between;
 pub use sources::{RowSource, TreeSource};
 pub use trees::Trees;

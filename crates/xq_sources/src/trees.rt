@@ -78,6 +78,10 @@ impl<S: RowLender + Drop> Growing for Trees<S> {
         }
         self.constructed.push(tree)
     }
+
+    fn uproot(&mut self) -> Option<Fragment> {
+        self.constructed.pop()
+    }
 }
 
 impl<S: RowLender + Drop> RowLender for Trees<S> {
@@ -115,6 +119,20 @@ impl<S: RowLender + Drop> RowLender for Trees<S> {
             self.source.attributes(tree, node)
         } else {
             self.constructed.attributes(tree - self.stored, node)
+        }
+    }
+
+    fn find_named(&mut self, alloc: Global, tree: usize, name: &str) {
+        if tree < self.stored {
+            self.source.find_named(alloc, tree, name);
+        }
+    }
+
+    fn named(&self, tree: usize, name: &str) -> Option<&[u32]> {
+        if tree < self.stored {
+            self.source.named(tree, name)
+        } else {
+            None
         }
     }
 

@@ -1,4 +1,4 @@
-use Rattle.std.proofs.Common.{◌∙◌, ap, rules}
+use Rattle.std.proofs.Common.{◌∙◌, ap, length, rules}
 use Rattle.std.specs.Prelude.{slice_get}
 use Rattle.xq_sources.specs.private.Runs.{rows_of_run}
 use Rattle.xq_sources.proofs.ReadRows.{no_rows, read_one, node_within}
@@ -12,6 +12,9 @@ pub returns-clause-found : goal.returns-clause-found
 returns-clause-found c =
     λ _. ap (λ held. rows_of_run held c.args.node c.args.node) c.in_ok-rows.ensures.held
     ∙ read_one _ _ c.in_ok-rows.ensures.rows c.args.node c.if-node-rows.false
+
+pub returns-clause-one : goal.returns-clause-one
+returns-clause-one c = ap length (returns-clause-found c tt)
 
 pub returns-in_err-rows-clause-refused : goal.returns-in_err-rows-clause-refused
 returns-in_err-rows-clause-refused c = let none = no_rows (slice_get c.args.self.now.list.items 0) in search rules

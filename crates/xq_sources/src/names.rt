@@ -1,0 +1,67 @@
+//! The elements of a tree by their names.
+ghost use Rattle.std.specs.Prelude.{◌≡◌, Some, if◌then◌else◌, map, option_map, IfErr, IfOk, IfSome, OnErr, OnOk};
+ghost use Rattle.std.specs.HashMap.{IsEmpty, IsUnchanged, get_by_text};
+ghost use Rattle.xq_atoms.specs.Text.{Text, text_eq};
+ghost use Rattle.xq_regions.specs.Rows.{placed};
+ghost use Rattle.xq_sources.specs.Names.{is_named as is_named_lem, named as named_lem, AreNames};
+
+use std::alloc::Global;
+use std::collections::HashMap;
+use xq_atoms::Want;
+use xq_regions::{Kind, NodeRow};
+
+/// Of how many names of a tree places are kept at most.
+const MOST_NAMES: usize = 1_000;
+
+/// The places of the elements of a tree by their names, of names that were asked for: four bytes
+/// for each element with one of them.
+pub type Names = HashMap<String, Vec<u32>>;
+
+/// Whether the row is that of an element with the name.
+fn is_named(row: &NodeRow, name: &str) -> bool
+    ensures { result ≡ is_named_lem name.now (placed row.now) }
+{
+    matches!(row.kind, Kind::Element) && row.name.as_str() == name
+}
+
+/// The places of the elements with the name, in document order.
+fn places_named(alloc: Global, rows: &[NodeRow], name: &str) -> Result<Vec<u32>, Want>
+    ensures { IfOk result (λ places. places.items ≡ named_lem (map placed rows.now) name.now) }
+{
+    let mut places = Vec::new(alloc);
+    for row in rows {
+        if is_named(row, name) {
+            places.push(row.pre)?;
+        }
+    }
+    Ok(places)
+}
+
+/// Keeps these places for the name.
+fn keep(alloc: Global, names: &mut Names, name: &str, places: Vec<u32>) -> Result<(), Want>
+    ensures kept { OnOk result ((q : Text) → get_by_text names.new q
+        ≡ (if text_eq q name.now then Some places else get_by_text names.old q)) }
+    ensures same { OnErr result (IsUnchanged names.old names.new) }
+{
+    let name = String::from_str(alloc, name)?;
+    let _ = names.insert(name, places)?;
+    Ok(())
+}
+
+/// Looks for the elements with the name among the rows, which are all of a tree's, and keeps their
+/// places where there are some: each later look finds them at once. Where memory is short, or many
+/// names are kept, no more is.
+pub fn find_named(alloc: Global, names: &mut Names, rows: &[NodeRow], name: &str)
+    ensures { AreNames (map placed rows.now) names.old → AreNames (map placed rows.now) names.new }
+{
+    if names.len() >= MOST_NAMES || names.contains_key(name) {
+        return;
+    }
+    let Ok(places) = places_named(alloc, rows, name) else {
+        return;
+    };
+    if places.is_empty() {
+        return;
+    }
+    let _ = keep(alloc, names, name, places);
+}
