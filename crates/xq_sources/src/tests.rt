@@ -2,9 +2,11 @@
 
 use crate::fragments::Fragments;
 use crate::lenders::{Buffered, RowLender};
+use crate::names::{Names, find_named};
 use crate::sources::{RowSource, TreeSource};
 use crate::{Growing, Trees};
 use std::alloc::{AllocError, Global};
+use std::collections::HashMap;
 use std::process::Abort;
 use xq_atoms::Want;
 use xq_regions::{Fragment, Kind, NodeRow};
@@ -117,5 +119,35 @@ fn lenders_lend_both_kinds(rt: HostRuntime) -> Result<(), Want> {
     assert!(rt; matches!(trees.fetch(alloc, 2, 0, 0), Err(Want::Store)));
     assert_eq!(rt; trees.meter().rows(), 4);
     assert_eq!(rt; trees.meter().singles(), 2);
+    Ok(())
+}
+
+#[test]
+fn the_last_constructed_tree_is_uprooted(rt: HostRuntime) -> Result<(), Want> {
+    let alloc = rt.alloc();
+    let mut trees = Trees::new(alloc, stored(alloc)?);
+    construct(alloc, &mut trees)?;
+    let Some(tree) = trees.uproot() else {
+        panic!(rt; "there is a constructed tree");
+    };
+    assert_eq!(rt; words(alloc, tree.rows())?.as_str(), "constructed B ");
+    assert!(rt; trees.uproot().is_none());
+    gives(&rt, alloc, &mut trees, 0, "stored A ")?;
+    assert!(rt; matches!(trees.range(alloc, 1, 0, 0), Err(Want::Store)));
+    construct(alloc, &mut trees)?;
+    gives(&rt, alloc, &mut trees, 1, "constructed B ")
+}
+
+/// Places are kept of names that were looked for and that elements have, and of no others.
+#[test]
+fn names_are_found(rt: HostRuntime) -> Result<(), Want> {
+    let alloc = rt.alloc();
+    let mut names: Names = HashMap::new(alloc);
+    let rows = element(alloc, "stored", "A")?;
+    for name in ["stored", "stored", "A", "", "store"] {
+        find_named(alloc, &mut names, &rows, name);
+    }
+    assert_eq!(rt; names.len(), 1);
+    assert!(rt; matches!(names.get("stored"), Some(places) if places.as_slice() == [0].as_slice()));
     Ok(())
 }
