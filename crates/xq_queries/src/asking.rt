@@ -1,12 +1,12 @@
 //! A plan asked over trees.
-ghost use Rattle.std.specs.Prelude.{◌≡◌, ◌≤◌, IfOk, IfSome, length, map, string_bytes, string_len};
+ghost use Rattle.std.specs.Prelude.{◌≡◌, ◌≤◌, ◌++◌, ◌∷◌, [], IfNone, IfOk, IfSome, length, map, string_bytes, string_len};
 ghost use Rattle.xq_atoms.specs.Answers.{GivesUnlessWanting};
 ghost use Rattle.xq_regions.specs.Items.{item_view};
 ghost use Rattle.xq_regions.specs.declared.Kind.TheVariants.{Document};
 ghost use Rattle.xq_meaning.specs.Readings.{items_at, AreIn, Extends};
 ghost use Rattle.xq_queries.specs.ReadBack.{HaveNumbersInRange};
 ghost use Rattle.xq_queries.specs.Reads.{ReadsAndCopies, ReadsAndPrints};
-ghost use Rattle.xq_queries.specs.Values.{document, made_document, or_no_document, plan_value, reply_text};
+ghost use Rattle.xq_queries.specs.Values.{document, if_document as if_document_lem, made_document, or_no_document, plan_value, reply_text};
 ghost use Rattle.xq_meaning.specs.Print.{longest_text};
 ghost use Rattle.xq_queries.specs.private.Copying.{CopiesItems};
 ghost use Rattle.xq_queries.specs.private.Ranges.{IsViewInRange, AreViewsInRange};
@@ -83,7 +83,8 @@ fn are_in_range(items: &[Item])
 /// The tree of the one document node that the plan's value is, over the trees of `world`, as for
 /// [`ask`]. It is refused with the code of the plan's error, or as `prof:NOTDOC` where the value is
 /// anything else. Where the plan is a document by its address and k scans, it reads as [`ask`] does
-/// to evaluate it, and then to copy the node each of its rows once by ranges, and its own singly.
+/// to evaluate it, and then to copy the node each of its rows once by ranges, and its own singly. A
+/// document that was constructed for it, the last of all trees, is taken from them without a copy.
 pub fn make<W: Growing>(
     alloc: Global,
     plan: &Plan,
@@ -100,11 +101,47 @@ pub fn make<W: Growing>(
     ensures grows { Extends (W.forest world.old) (W.forest world.new) }
     ensures was_clean { W.is_clean world.new → W.is_clean world.old }
 {
+    let earlier = world.trees();
     let items = eval(alloc, plan, world, addresses)?;
+    if let Some(tree) = uprooted(world, earlier, &items) {
+        return if_document(tree).ok_or(Fault::Code(Code::ProfNotdoc));
+    }
     match document_of(alloc, world, &items)? {
         Some(tree) => Ok(tree),
         None => Err(Fault::Code(Code::ProfNotdoc)),
     }
+}
+
+/// The last of the trees, where it was constructed since there were `earlier` of them and the items
+/// are its root alone: it is taken away and needs no copy. Else None, and all stays as it is.
+fn uprooted<W: Growing>(world: &mut W, earlier: usize, items: &[Item]) -> Option<Fragment>
+    ensures found { IfSome result (λ tree. if_document_lem tree.root.kind tree
+        ≡ document (
+          items_at (W.forest world.old) (map item_view items.now),
+          W.forest world.old,
+        )) }
+    ensures taken { IfSome result (λ tree. (earlier ≤ length (W.forest world.new))
+        × (W.forest world.old ≡ W.forest world.new ++ tree ∷ [])) }
+    ensures kept { IfNone result (W.forest world.new ≡ W.forest world.old) }
+    ensures meter { W.meter world.new ≡ W.meter world.old }
+    ensures was_clean { W.is_clean world.new → W.is_clean world.old }
+{
+    let [Item::Node(node)] = items else {
+        return None;
+    };
+    let last = world.trees().checked_sub(1)?;
+    if node.pre != 0 || node.tree != last || last < earlier {
+        return None;
+    }
+    world.uproot()
+}
+
+/// The tree, where its root is a document node.
+fn if_document(tree: Fragment) -> Option<Fragment>
+    ensures found { result ≡ if_document_lem tree.root.kind tree }
+    ensures kind { IfSome result (λ tree. tree.root.kind ≡ Document) }
+{
+    if tree.is_document() { Some(tree) } else { None }
 }
 
 /// The tree of the one document node that the items are; None for others.
@@ -128,11 +165,7 @@ fn document_of<L: RowLender>(
     match items {
         [Item::Node(node)] => {
             let tree = copy(alloc, source, *node)?;
-            if tree.is_document() {
-                Ok(Some(tree))
-            } else {
-                Ok(None)
-            }
+            Ok(if_document(tree))
         }
         [] | [Item::Atom(_)] | [_, _, ..] => Ok(None),
     }
