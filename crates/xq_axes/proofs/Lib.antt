@@ -7,6 +7,7 @@ pub mod CountedAttributes
 pub mod Copying
 pub mod Trees
 pub mod Lists
+pub mod Named
 pub mod Picking
 pub mod AttributeRows
 pub mod Clusters

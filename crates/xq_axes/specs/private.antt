@@ -5,3 +5,4 @@ pub mod Waiting
 pub mod KnownParents
 pub mod Counted
 pub mod Standing
+pub mod Named

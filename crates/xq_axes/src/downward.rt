@@ -3,17 +3,21 @@ ghost use Rattle.std.specs.Prelude.{◌≡◌, ◌+◌, ◌-◌, ◌<◌, ◌≤
 ghost use Rattle.xq_regions.specs.Forest.{count};
 ghost use Rattle.xq_regions.specs.Tree.{nodes};
 ghost use Rattle.xq_sources.specs.Sources.{tree_at};
+ghost use Rattle.xq_axes.specs.Reads.{span, span_end};
 ghost use Rattle.xq_axes.specs.Scans.{region};
 ghost use Rattle.xq_axes.specs.private.Hits.{is_wanted, below_where, IsRising, IsReached};
+ghost use Rattle.xq_axes.specs.declared.picks.Picker.{Picker as PickerLem};
+ghost use Rattle.xq_axes.specs.declared.downward.Below.{Below as BelowLem};
 ghost use Rattle.xq_axes.specs.declared.downward.Downward.{Downward as DownwardLem};
 ghost use Rattle.xq_axes.specs.declared.downward.Downward.TheVariants.{Child, Attribute, Descendant, DescendantOrSelf};
 ghost use Rattle.xq_axes.specs.private.Downward.{axis_of, is_chosen as is_chosen_lem, is_own as is_own_lem, is_child as is_child_lem, rows_over as rows_over_lem, end_of, IsJudged, IsSearched, IsNext, ReadsBelow};
 
 use crate::contexts::Contexts;
+use crate::names::add_named;
 use crate::passing::end_of_row;
 use crate::picks::{Judge, Picker, Places, Verdict};
 use crate::tests::is_plain;
-use crate::walks::walk;
+use crate::walks::{Visitor, walk};
 use std::alloc::Global;
 use xq_atoms::Want;
 use xq_meaning::Test;
@@ -22,6 +26,9 @@ use xq_sources::RowLender;
 
 /// How many levels a tree may have.
 const LEVELS: usize = 101;
+
+/// From how many rows below a context on places of names are asked for: fewer are read as fast.
+const MANY_ROWS: u32 = 64;
 
 /// An axis to what is below the context nodes.
 #[derive(Clone, Copy)]
@@ -268,6 +275,74 @@ impl<'a, D: Direction> Below<'a, D> {
     }
 }
 
+/// Takes what is on the axis from `low` to `high`, the rows below a context, where these are many,
+/// the axis is that of descendants and the lender tells where such elements are; gives whether it
+/// did. No row is read.
+fn take_told<'t, 'c, L: RowLender, D: Direction + Drop>(
+    alloc: Global,
+    source: &mut L,
+    tree: usize,
+    low: u32,
+    high: u32,
+    picker: &mut Picker<'t, Below<'c, D>>,
+) -> Result<bool, Want>
+    ensures told { L.is_clean source.new
+        → let t = tree_at (L.forest source.old) tree in
+        let s = span low high in
+        let has_read = ⟦<Picker<'t, Below<'c, D>> as Visitor>⟧.has_read in
+        (start : PickerLem (BelowLem D)) → has_read start picker.old t s low
+        → IfOk result (λ is_told. is_told ≡ true → has_read start picker.new t s (span_end t s)) }
+    ensures untold { IfOk result (λ is_told. is_told ≡ false → picker.new ≡ picker.old) }
+    ensures counts { L.meter source.new ≡ L.meter source.old }
+    ensures keeps { L.forest source.new ≡ L.forest source.old }
+    ensures was_clean { L.is_clean source.new → L.is_clean source.old }
+{
+    let Downward::Descendant = picker.judge.direction.which() else {
+        return Ok(false);
+    };
+    if high.saturating_sub(low) < MANY_ROWS {
+        return Ok(false);
+    }
+    add_named(
+        alloc,
+        source,
+        tree,
+        low,
+        high,
+        picker.test,
+        &mut picker.found,
+    )
+}
+
+/// Finds what is on the axis from `low` to `high`, the rows below a context; each is read once at
+/// most.
+fn find_below<'t, 'c, L: RowLender, D: Direction + Drop>(
+    alloc: Global,
+    source: &mut L,
+    tree: usize,
+    low: u32,
+    high: u32,
+    picker: &mut Picker<'t, Below<'c, D>>,
+) -> Result<(), Want>
+    ensures read { L.is_clean source.new
+        → let t = tree_at (L.forest source.old) tree in
+        let s = span low high in
+        let has_read = ⟦<Picker<'t, Below<'c, D>> as Visitor>⟧.has_read in
+        (start : PickerLem (BelowLem D)) → has_read start picker.old t s low
+        → OnOk result (has_read start picker.new t s (span_end t s)) }
+    ensures rows { L.is_clean source.new
+        → (L.meter source.new).rows ≤ (L.meter source.old).rows
+        + (span_end (tree_at (L.forest source.old) tree) (span low high) - low) }
+    ensures singles { (L.meter source.new).singles ≡ (L.meter source.old).singles }
+    ensures keeps { L.forest source.new ≡ L.forest source.old }
+    ensures was_clean { L.is_clean source.new → L.is_clean source.old }
+{
+    if take_told(alloc, source, tree, low, high, picker)? {
+        return Ok(());
+    }
+    walk(alloc, source, tree, low, high, picker)
+}
+
 /// Finds what is on the axis in the rows of a context that stands in no other, and gives the place
 /// after them.
 fn search_one<L: RowLender, D: Direction + Drop>(
@@ -306,7 +381,7 @@ fn search_one<L: RowLender, D: Direction + Drop>(
     picker.pick(is_own, row)?;
     let low = place.saturating_add(1);
     let high = place.saturating_add(size);
-    walk(alloc, source, tree, low, high, picker)?;
+    find_below(alloc, source, tree, low, high, picker)?;
     Ok(u64::from(high) + 1)
 }
 

@@ -8,6 +8,7 @@ mod copies;
 mod downward;
 mod levels;
 mod merges;
+mod names;
 mod onward;
 mod parents;
 mod passing;

@@ -22,7 +22,7 @@ returns-clause-searched g c = λ k n after next before. (
     let d = which old.judge.direction in
     let test = old.test.now in
     let v = c.args.place in
-    let was = c.in_ok-walk.ensures.was_clean k in
+    let was = c.in_ok-find_below.ensures.was_clean k in
     let there = c.in_ok-fetch_row.ensures.exists was in
     let x = c.row-item.result in
     let read = one_row c.lent.result.now x (v, row_at (rows t) v) (c.lent.ensures ∙ c.in_ok-fetch_row.ensures.found was) c.row-item.is in
@@ -53,14 +53,14 @@ returns-clause-searched g c = λ k n after next before. (
     let f0 = c.in_ok-pick.ensures.found ∙ ap (λ q. found ++ cond (own && row_passes test (row_of x)) (q ∷ []) []) pre
     ∙ picked (is_wanted (axis_of d) test t vs) v found (own && row_passes test (row_of x)) (found_before d test t vs n v old.judge.contexts.met (length old.judge.marks) found before after next) w
     ∙ ap (below_where (is_wanted (axis_of d) test t vs)) (sym ex.low_is) in
-    let q = c.walk.new.visitor in
+    let q = c.find_below.new.picker in
     let same : tree_at (g.L.TreeSource.forest c.fetch_row.new.self) c.args.tree ≡ t = ap (λ f. tree_at f c.args.tree) c.in_ok-fetch_row.ensures.keeps in
     let Start : Tree → Type 0 = λ u. ((p.judge.direction ≡ old.judge.direction) × (p.judge.contexts.places.now ≡ vs) × (p.judge.last ≡ high) × IsJudged d u vs (span low high) low p.judge.contexts.met p.judge.marks p.judge.is_open)
     × (p.test.now ≡ test) × (p.found.items ≡ below_where (is_wanted (axis_of d) test u vs) low) in
     let start : Start t = ((ap (λ (j : Below _). j.direction) je ∙ c.in_ok-is_own.ensures.direction, ap (λ (j : Below _). j.contexts.places.now) je ∙ c.in_ok-is_own.ensures.places, last, e5), c.in_ok-pick.ensures.test, f0) in
     let End : Tree → Type 0 = λ u. ((q.judge.direction ≡ old.judge.direction) × (q.judge.contexts.places.now ≡ vs) × (q.judge.last ≡ high) × IsJudged d u vs (span low high) (span_end u (span low high)) q.judge.contexts.met q.judge.marks q.judge.is_open)
     × (q.test.now ≡ test) × (q.found.items ≡ below_where (is_wanted (axis_of d) test u vs) (span_end u (span low high))) in
-    let ended = subst End same (c.in_ok-walk.ensures.read k old (subst Start (sym same) start)) in
+    let ended = subst End same (c.in_ok-find_below.ensures.read k old (subst Start (sym same) start)) in
     let j0 = subst (λ m. IsJudged d t vs (span low high) m q.judge.contexts.met q.judge.marks q.judge.is_open) ex.end_is ended.0.3 in
     let j1 = subst (λ l. IsJudged d t vs (span l high) (v + 1 + x.size) q.judge.contexts.met q.judge.marks q.judge.is_open) ex.low_is j0 in
     let j2 = subst (λ h. IsJudged d t vs (span (v + 1) h) (v + 1 + x.size) q.judge.contexts.met q.judge.marks q.judge.is_open) ex.high_is j1 in
@@ -75,7 +75,7 @@ returns-clause-ends g c = λ k. (
     let trees = g.L.TreeSource.forest c.args.source.now in
     let t = tree_at trees c.args.tree in
     let v = c.args.place in
-    let was = c.in_ok-walk.ensures.was_clean k in
+    let was = c.in_ok-find_below.ensures.was_clean k in
     let there = c.in_ok-fetch_row.ensures.exists was in
     let x = c.row-item.result in
     let read = one_row c.lent.result.now x (v, row_at (rows t) v) (c.lent.ensures ∙ c.in_ok-fetch_row.ensures.found was) c.row-item.is in
@@ -94,7 +94,7 @@ returns-clause-rows g c = λ k. (
     let trees = g.L.TreeSource.forest c.args.source.now in
     let t = tree_at trees c.args.tree in
     let v = c.args.place in
-    let was = c.in_ok-walk.ensures.was_clean k in
+    let was = c.in_ok-find_below.ensures.was_clean k in
     let there = c.in_ok-fetch_row.ensures.exists was in
     let x = c.row-item.result in
     let read = one_row c.lent.result.now x (v, row_at (rows t) v) (c.lent.ensures ∙ c.in_ok-fetch_row.ensures.found was) c.row-item.is in
@@ -105,18 +105,18 @@ returns-clause-rows g c = λ k. (
     let ex = exact_span t v x.size low high sized c.saturating_add-low.ensures c.saturating_add-high.ensures in
     let same : tree_at (g.L.TreeSource.forest c.fetch_row.new.self) c.args.tree ≡ t = ap (λ f. tree_at f c.args.tree) c.in_ok-fetch_row.ensures.keeps in
     let counted = ap (λ (r : Readings). r.rows) c.in_ok-fetch_row.ensures.counts in
-    let more = subst (λ u. (g.L.TreeSource.meter c.walk.new.source).rows ≤ (g.L.TreeSource.meter c.fetch_row.new.self).rows + (span_end u (span low high) - low)) same (c.in_ok-walk.ensures.rows k) in
+    let more = subst (λ u. (g.L.TreeSource.meter c.find_below.new.source).rows ≤ (g.L.TreeSource.meter c.fetch_row.new.self).rows + (span_end u (span low high) - low)) same (c.in_ok-find_below.ensures.rows k) in
     let e = ex.end_is in
     let l = ex.low_is in
     let s = sized.size in
     inr (there.node_in, omega (arith, counted, more, e, l, s)))
 
-pub returns-in_err-walk-clause-rows : goal.returns-in_err-walk-clause-rows
-returns-in_err-walk-clause-rows g c = λ k. (
+pub returns-in_err-find_below-clause-rows : goal.returns-in_err-find_below-clause-rows
+returns-in_err-find_below-clause-rows g c = λ k. (
     let trees = g.L.TreeSource.forest c.args.source.now in
     let t = tree_at trees c.args.tree in
     let v = c.args.place in
-    let was = c.in_err-walk.ensures.was_clean k in
+    let was = c.in_err-find_below.ensures.was_clean k in
     let there = c.in_ok-fetch_row.ensures.exists was in
     let x = c.row-item.result in
     let read = one_row c.lent.result.now x (v, row_at (rows t) v) (c.lent.ensures ∙ c.in_ok-fetch_row.ensures.found was) c.row-item.is in
@@ -127,7 +127,7 @@ returns-in_err-walk-clause-rows g c = λ k. (
     let ex = exact_span t v x.size low high sized c.saturating_add-low.ensures c.saturating_add-high.ensures in
     let same : tree_at (g.L.TreeSource.forest c.fetch_row.new.self) c.args.tree ≡ t = ap (λ f. tree_at f c.args.tree) c.in_ok-fetch_row.ensures.keeps in
     let counted = ap (λ (r : Readings). r.rows) c.in_ok-fetch_row.ensures.counts in
-    let more = subst (λ u. (g.L.TreeSource.meter c.walk.new.source).rows ≤ (g.L.TreeSource.meter c.fetch_row.new.self).rows + (span_end u (span low high) - low)) same (c.in_err-walk.ensures.rows k) in
+    let more = subst (λ u. (g.L.TreeSource.meter c.find_below.new.source).rows ≤ (g.L.TreeSource.meter c.fetch_row.new.self).rows + (span_end u (span low high) - low)) same (c.in_err-find_below.ensures.rows k) in
     let e = ex.end_is in
     let l = ex.low_is in
     let s = sized.size in

@@ -1,0 +1,12 @@
+-- Elements by their names.
+use Rattle.std.specs.Prelude.{ℕ, ◌≡◌, ◌≤◌, Bool, ◌&&◌}
+use Rattle.xq_regions.specs.Tree.{Tree}
+use Rattle.xq_regions.specs.Rows.{row_at, rows}
+use Rattle.xq_regions.specs.RegionTests.{plain_row}
+use Rattle.xq_meaning.specs.declared.node_tests.Test.{Test}
+use Rattle.xq_axes.specs.private.Hits.{row_passes}
+
+-- from low to high those are wanted that are no attributes and pass the test
+abbrev pub IsPlainTest : (ℕ → Bool) → Test → Tree → ℕ → ℕ → Type 0
+IsPlainTest wanted test t low high = (p : ℕ) → low ≤ p → p ≤ high
+    → wanted p ≡ (plain_row (rows t) p && row_passes test (row_at (rows t) p))

@@ -1,0 +1,99 @@
+//! Elements by their names, where the lender tells their places.
+ghost use Rattle.std.specs.Prelude.{◌≡◌, ◌++◌, ◌+◌, ◌<◌, ◌≤◌, ℕ, Bool, Some, true, false, length, IfOk, IfSome};
+ghost use Rattle.xq_regions.specs.Forest.{count};
+ghost use Rattle.xq_regions.specs.Tree.{nodes};
+ghost use Rattle.xq_sources.specs.Sources.{tree_at};
+ghost use Rattle.xq_meaning.specs.declared.node_tests.Test.TheVariants as tests;
+ghost use Rattle.xq_axes.specs.private.Hits.{below_where, IsRising, IsReached};
+ghost use Rattle.xq_axes.specs.private.Named.{IsPlainTest};
+
+use crate::picks::Places;
+use std::alloc::Global;
+use xq_atoms::Want;
+use xq_meaning::Test;
+use xq_sources::RowLender;
+
+/// Of the rows up to the last one the part, one in so many, from which on a lender is asked to look
+/// for a name: it may look at all rows of the tree, and find none.
+const PART: u64 = 8;
+
+/// How many of the places, which rise, come before the place: found by halves.
+fn count_before(places: &[u32], place: u64) -> usize
+    ensures within { result ≤ length places.now }
+    ensures before { IsRising places.now → IsReached places.now result place }
+{
+    let mut low = 0;
+    let mut high = places.len();
+    while low < high {
+        let middle = low + (high - low) / 2;
+        if u64::from(places[middle]) < place {
+            low = middle + 1;
+        } else {
+            high = middle;
+        }
+    }
+    low
+}
+
+/// Those of the places, which rise, that lie from `low` to `high`.
+fn places_between(places: &[u32], low: u32, high: u32) -> &[u32]
+    ensures { (f : ℕ → Bool) (n : ℕ) → places.now ≡ below_where f n → low ≤ high + 1 → high < n
+        → below_where f (high + 1) ≡ below_where f low ++ result.now }
+{
+    let last = count_before(places, u64::from(high) + 1);
+    let up_to = &places[..last];
+    let first = count_before(up_to, u64::from(low));
+    &up_to[first..]
+}
+
+/// The name that elements have to have to pass the test, where it asks for such.
+fn wanted_name(test: &Test) -> Option<&str>
+    ensures { IfSome result (λ name. test.now ≡ tests.Element (Some name.now)) }
+{
+    match test {
+        Test::Element(Some(name)) => Some(name.as_str()),
+        _ => None,
+    }
+}
+
+/// Whether the rows from `low` to `high` are so large a part of those up to there that a look for a
+/// name among all rows of the tree costs little more than one among these.
+fn is_large_part(low: u32, high: u32) -> bool {
+    u64::from(high.saturating_sub(low)) * PART >= u64::from(high)
+}
+
+/// Adds the places from `low` to `high` of the elements that pass the test, where it asks for a
+/// name and the lender tells them, and gives whether it did: no row is read.
+pub fn add_named<L: RowLender>(
+    alloc: Global,
+    source: &mut L,
+    tree: usize,
+    low: u32,
+    high: u32,
+    test: &Test,
+    found: &mut Places,
+) -> Result<bool, Want>
+    ensures added { L.is_clean source.new
+        → let t = tree_at (L.forest source.old) tree in
+        (wanted : ℕ → Bool) → IsPlainTest wanted test.now t low high
+        → low ≤ high + 1 → high < count (nodes t)
+        → found.old.items ≡ below_where wanted low
+        → IfOk result (λ is_told. is_told ≡ true
+        → found.new.items ≡ below_where wanted (high + 1)) }
+    ensures untold { IfOk result (λ is_told. is_told ≡ false → found.new ≡ found.old) }
+    ensures counts { L.meter source.new ≡ L.meter source.old }
+    ensures keeps { L.forest source.new ≡ L.forest source.old }
+    ensures was_clean { L.is_clean source.new → L.is_clean source.old }
+{
+    let Some(name) = wanted_name(test) else {
+        return Ok(false);
+    };
+    if is_large_part(low, high) {
+        source.find_named(alloc, tree, name);
+    }
+    let Some(places) = source.named(tree, name) else {
+        return Ok(false);
+    };
+    found.extend_from_slice(places_between(places, low, high))?;
+    Ok(true)
+}
