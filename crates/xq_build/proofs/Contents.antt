@@ -1,5 +1,5 @@
 -- Content by forests is content by leaves.
-use Rattle.std.proofs.Common.{◌≡◌, ℕ, zero, suc, ◌+◌, List, [], ◌∷◌, ◌++◌, length, map, Bool, true, false, not, ◌&&◌, cond, Option, Some, None, refl, sym, ◌∙◌, ap, subst, arith, append_assoc}
+use Rattle.std.proofs.Common.{◌≡◌, ℕ, zero, suc, ◌+◌, List, [], ◌∷◌, ◌++◌, length, map, Bool, true, false, not, ◌&&◌, ◌||◌, cond, Option, Some, None, refl, sym, ◌∙◌, ap, subst, arith, append_assoc}
 use Rattle.std.specs.Prelude.{filter, codes, nat_lt, nat_eq, IsTrue}
 use Rattle.std.specs.List.{list_all}
 use Rattle.std.proofs.lemmas.Bool.Decides.{nat_tests}
@@ -27,7 +27,7 @@ use Rattle.xq_regions.specs.declared.Kind.TheVariants.{Document, Element, Attrib
 use Rattle.xq_regions.proofs.Paths.{at_place}
 use Rattle.xq_sources.specs.Sources.{tree_at}
 use Rattle.xq_meaning.specs.Readings.{node_at}
-use Rattle.xq_build.specs.private.Content.{so_far, open_text, longer, flattened_with, Childless, is_top_text, glued, put, merged_leaves, may_stand_first, AreApart, is_kept, labels_if, top_labels, raised, are_low}
+use Rattle.xq_build.specs.private.Content.{so_far, open_text, longer, flattened_with, Childless, is_top_text, glued, put, merged_leaves, may_stand_first, AreApart, is_kept, is_loose, are_settled, labels_if, top_labels, raised, are_low}
 use Rattle.xq_copies.proofs.Subtrees.{length-leveled}
 
 pub leaves-leveled : (f : Forest Label) → leaves f ≡ leveled 0 f
@@ -225,6 +225,49 @@ kept (node a below beside) h = by_test (is_empty_text a) refl (kept_deeper 0 bel
         let none : below ≡ end = h.0 (and_first (is_text a.kind) (is_empty a.value) e) in
         kept_gone (0, a) (leveled 1 below ++ leveled 0 beside) (ap not e) ∙ more ∙ ap (λ (f : Forest Label). leveled 1 f ++ leveled 0 (without_empty_texts beside)) none
     by_test false e more = kept_plain (0, a) (leveled 1 below ++ leveled 0 beside) (ap not e) ∙ ap (λ (x : List Leaf). (0, a) ∷ x) more
+
+pub kept_rows : (rows : List NodeRow) → map flat_row (filter (λ r. is_kept (flat_row r)) rows) ≡ filter is_kept (map flat_row rows)
+kept_rows [] = refl
+kept_rows (r ∷ rows) = by_test (is_kept (flat_row r)) (kept_rows rows)
+  where
+    by_test : (b : Bool) → map flat_row (filter (λ x. is_kept (flat_row x)) rows) ≡ filter is_kept (map flat_row rows)
+        → map flat_row (cond b (r ∷ filter (λ x. is_kept (flat_row x)) rows) (filter (λ x. is_kept (flat_row x)) rows))
+        ≡ cond b (flat_row r ∷ filter is_kept (map flat_row rows)) (filter is_kept (map flat_row rows))
+    by_test true e = ap (λ (x : List Leaf). flat_row r ∷ x) e
+    by_test false e = e
+
+-- # Texts that stand alone, none of them empty
+
+firm_is_kept : (text is_after empty : Bool) → not (text && (is_after || empty)) ≡ true → not (text && empty) ≡ true
+firm_is_kept false is_after empty h = refl
+firm_is_kept true true empty h = absurd (cc)
+firm_is_kept true false empty h = h
+
+second_is_apart : (first second empty : Bool) → not (second && (first || empty)) ≡ true → not (first && second) ≡ true
+second_is_apart false second empty h = refl
+second_is_apart true false empty h = refl
+second_is_apart true true empty h = absurd (cc)
+
+settled_kept : (is_after : Bool) (ps : List Leaf) → are_settled is_after ps ≡ true → filter is_kept ps ≡ ps
+settled_kept is_after [] h = refl
+settled_kept is_after (p ∷ ps) h =
+    let one = and_first (not (is_loose is_after p)) (are_settled (is_top_text p) ps) h in
+    let others = and_second (not (is_loose is_after p)) (are_settled (is_top_text p) ps) h in
+    kept_plain p ps (firm_is_kept (is_top_text p) is_after (is_empty p.1.value) one) ∙ ap (λ (x : List Leaf). p ∷ x) (settled_kept (is_top_text p) ps others)
+
+settled_apart : (is_after : Bool) (ps : List Leaf) → are_settled is_after ps ≡ true → AreApart ps
+settled_apart is_after [] h = tt
+settled_apart is_after (p ∷ ps) h =
+    let others = and_second (not (is_loose is_after p)) (are_settled (is_top_text p) ps) h in
+    (first ps others, settled_apart (is_top_text p) ps others)
+  where
+    first : (qs : List Leaf) → are_settled (is_top_text p) qs ≡ true → may_stand_first p qs ≡ true
+    first [] k = refl
+    first (q ∷ qs) k =
+        second_is_apart (is_top_text p) (is_top_text q) (is_empty q.1.value) (and_first (not (is_loose (is_top_text p) q)) (are_settled (is_top_text q) qs) k)
+
+pub settled_same : (ps : List Leaf) → are_settled false ps ≡ true → filter is_kept (merged_leaves ps) ≡ ps
+settled_same ps h = ap (filter is_kept) (merged_apart ps (settled_apart false ps h)) ∙ settled_kept false ps h
 
 -- the leaves of content
 pub content_leaves : (f : Forest Label) → Childless f → filter is_kept (merged_leaves (leaves f)) ≡ leaves (without_empty_texts (merged f))

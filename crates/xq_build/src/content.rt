@@ -1,6 +1,6 @@
 //! Content of elements and documents (XQuery 3.1, section 3.9.1.3), as rows whose levels begin
 //! at 0.
-ghost use Rattle.std.specs.Prelude.{◌≡◌, ◌++◌, ◌∷◌, [], List, true, map, filter, string_bytes, IfOk, OnOk};
+ghost use Rattle.std.specs.Prelude.{◌≡◌, ◌++◌, ◌∷◌, [], List, true, false, map, filter, string_bytes, IfOk, OnOk};
 ghost use Rattle.std.specs.Option.{option_map};
 ghost use Rattle.xq_atoms.specs.Atom.{atomic_of};
 ghost use Rattle.xq_atoms.specs.Cast.{text_of};
@@ -9,7 +9,7 @@ ghost use Rattle.xq_regions.specs.Levels.{flat_row};
 ghost use Rattle.xq_meaning.specs.Content.{content as content_lem};
 ghost use Rattle.xq_meaning.specs.Readings.{item_at, items_at};
 ghost use Rattle.xq_copies.specs.Leaves.{Leaf, leaves};
-ghost use Rattle.xq_build.specs.private.Content.{longer, open_text, is_top_text as is_top_text_lem, glued as glued_lem, merged_leaves, AreApart, is_kept as is_kept_lem};
+ghost use Rattle.xq_build.specs.private.Content.{longer, open_text, is_top_text as is_top_text_lem, glued as glued_lem, merged_leaves, AreApart, is_kept as is_kept_lem, is_loose as is_loose_lem, are_settled as are_settled_lem};
 ghost use Rattle.xq_build.specs.private.Surplus.{is_full, AreSeen, StandsFor, Takes, Flattens};
 
 use crate::copies::append_content;
@@ -87,6 +87,9 @@ fn take_item<L: RowLender>(
     }
 }
 
+/// For how many items there is room at first, beside a root.
+const FEW: usize = 16;
+
 /// The items as nodes, still with texts side by side and empty ones. Where they are too many,
 /// nodes that are judged as these are, no more than are needed for that.
 fn flattened<L: RowLender>(
@@ -99,7 +102,7 @@ fn flattened<L: RowLender>(
     ensures keeps { L.forest source.new ≡ L.forest source.old }
     ensures was_clean { L.is_clean source.new → L.is_clean source.old }
 {
-    let mut rows = Vec::new(alloc);
+    let mut rows = Vec::with_capacity(alloc, items.len().min(FEW).saturating_add(1))?;
     let mut seen = IndexSet::new(alloc);
     let mut gauge = Gauge::new();
     let mut run = None;
@@ -175,27 +178,45 @@ fn is_kept(row: &NodeRow) -> bool
     !is_top_text(row) || !row.value.is_empty()
 }
 
-/// Adds the row where it is kept.
-fn append_kept(rows: &mut Vec<NodeRow>, row: NodeRow) -> Result<(), Want>
-    ensures { OnOk result (map flat_row rows.new.items
-        ≡ map flat_row rows.old.items ++ filter is_kept_lem (flat_row row ∷ [])) }
+/// The rows without empty texts.
+fn without_empty_texts(mut rows: Vec<NodeRow>) -> Vec<NodeRow>
+    ensures { map flat_row result.items ≡ filter is_kept_lem (map flat_row rows.items) }
 {
-    if is_kept(&row) {
-        rows.push(row)?;
-    }
-    Ok(())
+    rows.retain(|row| is_kept(row));
+    rows
 }
 
-/// The rows without empty texts.
-fn without_empty_texts(alloc: Global, rows: Vec<NodeRow>) -> Result<Vec<NodeRow>, Want>
-    ensures { IfOk result (λ kept. map flat_row kept.items
-        ≡ filter is_kept_lem (map flat_row rows.items)) }
+/// Whether the row is that of a text at the top which is empty, or stands after another one.
+fn is_loose(is_after_text: bool, row: &NodeRow) -> bool
+    ensures { result ≡ is_loose_lem is_after_text (flat_row row.now) }
 {
-    let mut kept = Vec::with_capacity(alloc, rows.len())?;
+    is_top_text(row) && (is_after_text || row.value.is_empty())
+}
+
+/// Whether no text at the top is empty, or stands beside another one.
+fn are_settled(rows: &[NodeRow]) -> bool
+    ensures { result ≡ are_settled_lem false (map flat_row rows.now) }
+{
+    let mut is_after_text = false;
     for row in rows {
-        append_kept(&mut kept, row)?;
+        if is_loose(is_after_text, row) {
+            return false;
+        }
+        is_after_text = is_top_text(row);
     }
-    Ok(kept)
+    true
+}
+
+/// The rows with one text for texts side by side, and without empty ones.
+fn settled(alloc: Global, rows: Vec<NodeRow>) -> Result<Vec<NodeRow>, Want>
+    ensures { IfOk result (λ all. map flat_row all.items
+        ≡ filter is_kept_lem (merged_leaves (map flat_row rows.items))) }
+{
+    if are_settled(&rows) {
+        return Ok(rows);
+    }
+    let rows = merged(alloc, rows)?;
+    Ok(without_empty_texts(rows))
 }
 
 /// The content that the items make, or where it has too many nodes to stand in a tree, nodes that
@@ -212,7 +233,6 @@ pub fn content<L: RowLender>(
     ensures was_clean { L.is_clean source.new → L.is_clean source.old }
 {
     let rows = flattened(alloc, source, items)?;
-    let rows = merged(alloc, rows)?;
-    let rows = without_empty_texts(alloc, rows)?;
+    let rows = settled(alloc, rows)?;
     Ok(rows)
 }

@@ -1,5 +1,5 @@
 //! What is judged of the content of an element or a document, and the tree that it becomes.
-ghost use Rattle.std.specs.Prelude.{◌≡◌, ◌∷◌, [], false, map, string_bytes, IfOk, OnOk};
+ghost use Rattle.std.specs.Prelude.{◌≡◌, ◌∷◌, ◌++◌, [], false, map, string_bytes, IfOk, OnOk};
 ghost use Rattle.xq_regions.specs.Forest.{Forest};
 ghost use Rattle.xq_regions.specs.Tree.{Label};
 ghost use Rattle.xq_regions.specs.Levels.{flat_row};
@@ -10,6 +10,7 @@ ghost use Rattle.xq_build.specs.private.Surplus.{StandsFor};
 
 use indexmap::IndexSet;
 use std::alloc::Global;
+use std::mem;
 use xq_atoms::{Code, Fault, Want};
 use xq_regions::{Fragment, Kind, MAX_LEVEL, MAX_NODES, NodeRow};
 
@@ -82,27 +83,39 @@ pub fn are_low(rows: &[NodeRow]) -> bool
     true
 }
 
-/// The row one level further down.
-fn raised(row: NodeRow) -> Result<NodeRow, Want>
-    ensures { IfOk result (λ lower. flat_row lower ≡ raised_lem (flat_row row)) }
+/// Puts the other row in the place of this one, which is given back one level further down.
+fn replaced(row: &mut NodeRow, other: NodeRow) -> Result<NodeRow, Want>
+    ensures lower { IfOk result (λ lower. flat_row lower ≡ raised_lem (flat_row row.old)) }
+    ensures other { OnOk result (row.new ≡ other) }
 {
-    match row.level.checked_add(1) {
-        Some(level) => Ok(NodeRow { level, ..row }),
-        None => Err(Want::Store),
+    let Some(level) = row.level.checked_add(1) else {
+        return Err(Want::Store);
+    };
+    row.level = level;
+    Ok(mem::replace(row, other))
+}
+
+/// Puts the root before the rows, each of which goes one place and one level further down. The last
+/// one, for which there is no place, is given back.
+fn shifted(rows: &mut [NodeRow], root: NodeRow) -> Result<NodeRow, Want>
+    ensures { IfOk result (λ last. map flat_row rows.new ++ flat_row last ∷ []
+        ≡ flat_row root ∷ map raised_lem (map flat_row rows.old)) }
+{
+    let mut next = root;
+    for row in rows.iter_mut() {
+        next = replaced(row, next)?;
     }
+    Ok(next)
 }
 
 /// The root, and the content below it.
-fn with_root(alloc: Global, root: NodeRow, content: Vec<NodeRow>) -> Result<Vec<NodeRow>, Want>
+fn with_root(root: NodeRow, mut content: Vec<NodeRow>) -> Result<Vec<NodeRow>, Want>
     ensures { IfOk result (λ rows. map flat_row rows.items
         ≡ flat_row root ∷ map raised_lem (map flat_row content.items)) }
 {
-    let mut rows = Vec::with_capacity(alloc, content.len().saturating_add(1))?;
-    rows.push(root)?;
-    for row in content {
-        rows.push(raised(row)?)?;
-    }
-    Ok(rows)
+    let last = shifted(&mut content, root)?;
+    content.push(last)?;
+    Ok(content)
 }
 
 /// The tree of a root with the content below it, where that may stand there. Content of too many
@@ -132,7 +145,7 @@ pub fn built(
         name,
         value: String::new(alloc),
     };
-    let rows = with_root(alloc, root, content)?;
+    let rows = with_root(root, content)?;
     match Fragment::from_levels(rows) {
         Some(tree) => Ok(tree),
         None => Err(Fault::Want(Want::Store)),

@@ -26,7 +26,8 @@ fn lowered_row(alloc: Global, row: &NodeRow, base: u32) -> Result<NodeRow, Want>
     })
 }
 
-/// Adds copies of the rows, so many levels further up.
+/// Adds copies of the rows, so many levels further up. There is room for all of them at once, and
+/// for a root that they may come to stand below.
 fn append_rows(
     alloc: Global,
     copies: &mut Vec<NodeRow>,
@@ -36,6 +37,7 @@ fn append_rows(
     ensures { OnOk result (map flat_row copies.new.items
         ≡ map flat_row copies.old.items ++ map (lowered base) (map flat_row rows.now)) }
 {
+    copies.reserve(rows.len().saturating_add(1))?;
     for row in rows {
         copies.push(lowered_row(alloc, row, base)?)?;
     }

@@ -1,5 +1,5 @@
 -- Content of elements and documents on leaves, where a node at the top has the level 0.
-use Rattle.std.specs.Prelude.{ℕ, ◌+◌, List, [], ◌∷◌, ◌++◌, map, reverse, Bool, true, false, not, ◌&&◌, ◌==◌, nat_lt, if◌then◌else◌, Option, Some, None, codes, ◌≡◌, Result, Ok, Err}
+use Rattle.std.specs.Prelude.{ℕ, ◌+◌, List, [], ◌∷◌, ◌++◌, map, reverse, Bool, true, false, not, ◌&&◌, ◌||◌, ◌==◌, nat_lt, if◌then◌else◌, Option, Some, None, codes, ◌≡◌, Result, Ok, Err}
 use Rattle.std.specs.List.{list_all}
 use Rattle.xq_atoms.specs.Text.{Text, is_empty}
 use Rattle.xq_atoms.specs.Cast.{text_of}
@@ -64,6 +64,15 @@ AreApart (p ∷ ps) = (may_stand_first p ps ≡ true) × AreApart ps
 
 abbrev pub is_kept : Leaf → Bool
 is_kept p = not (is_top_text p && is_empty p.1.value)
+
+-- a text at the top that is empty, or stands after another one
+abbrev pub is_loose : Bool → Leaf → Bool
+is_loose is_after p = is_top_text p && (is_after || is_empty p.1.value)
+
+-- there is none, where a text at the top stands before these leaves or not
+abbrev pub are_settled : Bool → List Leaf → Bool
+are_settled is_after [] = true
+are_settled is_after (p ∷ ps) = not (is_loose is_after p) && are_settled (is_top_text p) ps
 
 -- # Labels at the top, and levels
 
