@@ -1,6 +1,9 @@
 -- One row more, picked or not.
 use Rattle.std.proofs.Common.{◌≡◌, ℕ, ◌+◌, ◌≤◌, List, [], ◌∷◌, ◌++◌, Bool, ◌&&◌, cond, suc, sym, ◌∙◌, ap, arith}
 use Rattle.std.proofs.lemmas.Bool.{and_left}
+use Rattle.std.specs.Prelude.{Result, IfOk}
+use Rattle.std.proofs.lemmas.Result.{IfOk-weaker}
+use Rattle.smallvec.specs.SmallVec.{SmallVec}
 use Rattle.xq_regions.specs.declared.NodeRow.{NodeRow}
 use Rattle.xq_regions.specs.declared.Axis.{Axis}
 use Rattle.xq_meaning.specs.declared.node_tests.Test.{Test}
@@ -35,3 +38,7 @@ pub judged_one : (t : Tree) (s : Span) (n : ℕ) (p : ℕ × Row) (f : ℕ → B
 judged_one t s n p f P r h =
     let o = one_on t s n p P r h in
     record { within = o.0; unhit = λ q a b. absurd (omega (arith, a, b)); goes_on = o.1 }
+
+-- what was found is handed over
+pub same_places : {E : Type 0} (r : Result (SmallVec ℕ) E) (xs ys : List ℕ) → IfOk r (λ places. places.items ≡ xs) → xs ≡ ys → IfOk r (λ places. places.items ≡ ys)
+same_places r xs ys found e = IfOk-weaker r (λ (places : SmallVec ℕ). places.items ≡ xs) (λ (places : SmallVec ℕ). places.items ≡ ys) (λ places same. same ∙ e) found

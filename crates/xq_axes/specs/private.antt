@@ -6,3 +6,4 @@ pub mod KnownParents
 pub mod Counted
 pub mod Standing
 pub mod Named
+pub mod Found

@@ -10,7 +10,7 @@ ghost use Rattle.xq_axes.specs.Reads.{span, span_end};
 ghost use Rattle.xq_axes.specs.private.Counted.{passes_each as passes_each_lem, AreAll, AreCounted, AreHits};
 
 use crate::downward::{ToAttributes, search_below};
-use crate::picks::{Judge, Picker, Places, Verdict};
+use crate::picks::{Found, Judge, Picker, Places, Verdict};
 use crate::walks::walk;
 use std::alloc::Global;
 use xq_atoms::Want;
@@ -82,7 +82,7 @@ fn passes_each(test: &Test) -> bool
 }
 
 /// Adds the places from `low` to `high`.
-fn add_places(places: &mut Places, low: u32, high: u32) -> Result<(), Want>
+fn add_places(places: &mut Found, low: u32, high: u32) -> Result<(), Want>
     ensures { (wanted : ℕ → Bool) → AreAll wanted low high
         → places.old.items ≡ below_where wanted low
         → OnOk result (places.new.items ≡ below_where wanted (max low (high + 1))) }
@@ -168,7 +168,7 @@ pub fn search_attributes<L: RowLender>(
     let mut picker = Picker {
         judge: OfContexts { places },
         test,
-        found: Places::new(alloc),
+        found: Found::new(alloc),
     };
     let mut next = 0u32;
     for node in &counted {
@@ -180,5 +180,5 @@ pub fn search_attributes<L: RowLender>(
         take_attributes(alloc, source, tree, low, high, &mut picker)?;
         next = next.max(high.saturating_add(1));
     }
-    Ok(picker.found)
+    picker.found.into_places()
 }

@@ -15,7 +15,7 @@ ghost use Rattle.xq_axes.specs.private.Downward.{axis_of, is_chosen as is_chosen
 use crate::contexts::Contexts;
 use crate::names::add_named;
 use crate::passing::end_of_row;
-use crate::picks::{Judge, Picker, Places, Verdict};
+use crate::picks::{Found, Judge, Picker, Places, Verdict};
 use crate::tests::is_plain;
 use crate::walks::{Visitor, walk};
 use std::alloc::Global;
@@ -412,7 +412,7 @@ pub fn search_below<L: RowLender, D: Direction + Drop>(
     let mut picker = Picker {
         judge: Below::new(direction, places),
         test,
-        found: Places::new(alloc),
+        found: Found::new(alloc),
     };
     let mut next = 0u64;
     for place in places {
@@ -421,5 +421,5 @@ pub fn search_below<L: RowLender, D: Direction + Drop>(
         }
         next = search_one(alloc, source, tree, *place, &mut picker)?;
     }
-    Ok(picker.found)
+    picker.found.into_places()
 }

@@ -7,7 +7,7 @@ ghost use Rattle.xq_meaning.specs.declared.node_tests.Test.TheVariants as tests;
 ghost use Rattle.xq_axes.specs.private.Hits.{below_where, IsRising, IsReached};
 ghost use Rattle.xq_axes.specs.private.Named.{IsPlainTest};
 
-use crate::picks::Places;
+use crate::picks::Found;
 use std::alloc::Global;
 use xq_atoms::Want;
 use xq_meaning::Test;
@@ -71,7 +71,7 @@ pub fn add_named<L: RowLender>(
     low: u32,
     high: u32,
     test: &Test,
-    found: &mut Places,
+    found: &mut Found,
 ) -> Result<bool, Want>
     ensures added { L.is_clean source.new
         → let t = tree_at (L.forest source.old) tree in
@@ -94,6 +94,6 @@ pub fn add_named<L: RowLender>(
     let Some(places) = source.named(tree, name) else {
         return Ok(false);
     };
-    found.extend_from_slice(places_between(places, low, high))?;
+    found.extend(places_between(places, low, high))?;
     Ok(true)
 }

@@ -12,7 +12,7 @@ ghost use Rattle.xq_axes.specs.private.Waiting.{has_siblings, rows_below, next_p
 use crate::contexts::Contexts;
 use crate::levels::Levels;
 use crate::passing::{end_of_node, end_of_row};
-use crate::picks::{Judge, Picker, Places, Verdict};
+use crate::picks::{Found, Judge, Picker, Places, Verdict};
 use crate::tests::is_plain;
 use crate::walks::walk;
 use std::alloc::Global;
@@ -141,7 +141,7 @@ pub fn search_on<L: RowLender>(
     let mut picker = Picker {
         judge: Onward::new(alloc, places),
         test,
-        found: Places::new(alloc),
+        found: Found::new(alloc),
     };
     let mut low = picker.judge.next_place(0, last);
     let mut width = 0;
@@ -152,5 +152,5 @@ pub fn search_on<L: RowLender>(
         walk(alloc, source, tree, low as u32, high as u32, &mut picker)?;
         low = picker.judge.next_place(high + 1, last);
     }
-    Ok(picker.found)
+    picker.found.into_places()
 }

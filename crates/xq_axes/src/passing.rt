@@ -11,7 +11,7 @@ ghost use Rattle.xq_axes.specs.private.Hits.{is_wanted, below_where, IsRising, I
 ghost use Rattle.xq_axes.specs.private.Passing.{axis_above, IsEnd, IsLast, IsLeastEnd};
 
 use crate::contexts::Contexts;
-use crate::picks::{Judge, Picker, Places, Verdict};
+use crate::picks::{Found, Judge, Picker, Places, Verdict};
 use crate::tests::is_plain;
 use crate::walks::walk;
 use std::alloc::Global;
@@ -54,10 +54,10 @@ pub fn search_rows<L: RowLender, J: Judge + Drop>(
     let mut picker = Picker {
         judge,
         test,
-        found: Places::new(alloc),
+        found: Found::new(alloc),
     };
     walk(alloc, source, tree, low, high, &mut picker)?;
-    Ok(picker.found)
+    picker.found.into_places()
 }
 
 /// Whether a row that ends there is before the place, and is no attribute.

@@ -9,12 +9,104 @@ ghost use Rattle.xq_axes.specs.private.Hits.{is_hit as is_hit_lem, is_wanted, ro
 use crate::tests::passes;
 use crate::walks::Visitor;
 use smallvec::SmallVec;
+use std::alloc::Global;
+use std::marker::Model;
 use xq_atoms::Want;
 use xq_meaning::Test;
 use xq_regions::NodeRow;
 
 /// Places in a tree, of which a few take no allocation: most steps from one node lead to few.
 pub type Places = SmallVec<u32, 4>;
+
+/// How many places take no allocation.
+const FEW: usize = 4;
+
+/// Places that are found one after another. A few take no allocation; more lie in a `Vec`, to which
+/// each is added as fast as to any: most steps from one node lead to few, and those from many nodes
+/// to many.
+#[derive(Drop)]
+pub struct Found {
+    few: Places,
+    many: Vec<u32>,
+}
+
+impl Model for Found {
+    ghost use Rattle.std.specs.Prelude.{◌++◌};
+    ghost use Rattle.xq_axes.specs.private.Found.{Found as Items};
+
+    ghost Value = { Items };
+
+    ghost view = { λ found. record { items = found.few.items ++ found.many.items } };
+}
+
+impl Found {
+    /// No place.
+    pub fn new(alloc: Global) -> Found
+        ensures items { result.items ≡ [] }
+    {
+        Found {
+            few: Places::new(alloc),
+            many: Vec::new(alloc),
+        }
+    }
+
+    /// Adds a place.
+    #[inline]
+    pub fn push(&mut self, place: u32) -> Result<(), Want>
+        ensures ok { OnOk result (self.new.items ≡ self.old.items ++ place ∷ []) }
+    {
+        if self.many.is_empty() {
+            return self.push_few(place);
+        }
+        self.many.push(place)?;
+        Ok(())
+    }
+
+    /// Adds a place, where there may be few.
+    #[inline(never)]
+    fn push_few(&mut self, place: u32) -> Result<(), Want>
+        ensures ok { OnOk result (self.new.items ≡ self.old.items ++ place ∷ []) }
+    {
+        self.extend(&[place])
+    }
+
+    /// Adds places.
+    pub fn extend(&mut self, places: &[u32]) -> Result<(), Want>
+        ensures ok { OnOk result (self.new.items ≡ self.old.items ++ places.now) }
+    {
+        if self.many.is_empty() {
+            if places.len() <= FEW.saturating_sub(self.few.len()) {
+                self.few.extend_from_slice(places)?;
+                return Ok(());
+            }
+            spill(&mut self.few, &mut self.many)?;
+        }
+        self.many.extend_from_slice(places)?;
+        Ok(())
+    }
+
+    /// The places.
+    pub fn into_places(self) -> Result<Places, Want>
+        ensures { IfOk result (λ places. places.items ≡ self.items) }
+    {
+        let Found { mut few, many } = self;
+        if few.is_empty() {
+            return Ok(Places::from_vec(many));
+        }
+        few.extend_from_slice(&many)?;
+        Ok(few)
+    }
+}
+
+/// Moves a few places to where many lie, and none so far.
+fn spill(few: &mut Places, many: &mut Vec<u32>) -> Result<(), Want>
+    ensures { many.old.items ≡ [] → OnOk result (few.new.items ++ many.new.items ≡ few.old.items) }
+{
+    many.reserve(4 * FEW)?;
+    many.extend_from_slice(few.as_slice())?;
+    few.clear();
+    Ok(())
+}
 
 /// Adds the place to those found, if it is told that it is wanted.
 pub fn push_if(found: &mut Vec<u32>, is_wanted: bool, place: u32) -> Result<(), Want>
@@ -61,7 +153,7 @@ pub trait Judge {
 pub struct Picker<'a, J> {
     pub judge: J,
     pub test: &'a Test,
-    pub found: Places,
+    pub found: Found,
 }
 
 impl<J> Picker<'_, J> {

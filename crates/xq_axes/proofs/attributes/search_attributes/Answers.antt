@@ -7,6 +7,7 @@ use Rattle.xq_axes.specs.private.Counted.{AreCounted, AreHits}
 use Rattle.xq_axes.specs.Reads.{span, span_end}
 use Rattle.xq_axes.specs.private.Hits.{is_wanted, below_where}
 use Rattle.xq_axes.proofs.CountedAttributes.{IsAsked, none_yet, none_counted_of, asked, are_hits, asked_end, begins, goes_on, all_so_far, read_rows}
+use Rattle.xq_axes.proofs.Picking.{same_places}
 use Rattle.xq_axes.proofs.Scans.{below_ends}
 use Rattle.xq_axes.specs.declared.downward.Downward.TheVariants.{Attribute}
 use Rattle.xq_axes.proofs.attributes.search_attributes.Goals as goal
@@ -131,7 +132,7 @@ returns-clause-found g c = λ k up. (
     let t = tree_at (g.L.TreeSource.forest c.args.source.now) c.args.tree in
     let vs = c.args.places.now in
     let all : length c.deref-node-items.result.now ≡ length vs = ap length c.deref-node-items.ensures.value ∙ subst (λ o. IfSome o (λ (counted : Vec Counted Global). length counted.items ≡ length vs)) c.in-Some.is c.in_ok-counted.ensures.all in
-    all_so_far c.args.test.now t vs c.loop-node.node-index c.loop-node.next c.loop-node.picker.found.items up (c.loop-node.invariant.so_far k up).found (omega (arith, all)))
+    same_places c.into_places.result _ _ c.into_places.ensures (all_so_far c.args.test.now t vs c.loop-node.node-index c.loop-node.next c.loop-node.picker.found.items up (c.loop-node.invariant.so_far k up).found (omega (arith, all))))
 
 pub returns-clause-rows : goal.returns-clause-rows
 returns-clause-rows g c = λ k. (

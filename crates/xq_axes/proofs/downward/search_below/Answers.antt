@@ -5,6 +5,7 @@ use Rattle.xq_sources.specs.Sources.{tree_at}
 use Rattle.xq_regions.specs.Forest.{count}
 use Rattle.xq_regions.specs.Tree.{nodes}
 use Rattle.xq_axes.specs.private.Downward.{end_of, IsNext, ReadsBelow}
+use Rattle.xq_axes.proofs.Picking.{same_places}
 use Rattle.xq_axes.proofs.Scans.{below_goes_on, below_stops, below_ends}
 use Rattle.xq_axes.proofs.Searching.{next_place, move_searched, searched_all}
 use Rattle.xq_axes.proofs.downward.search_below.Goals as goal
@@ -54,7 +55,7 @@ returns-clause-found g c = λ k up. (
     let s = c.loop-place.invariant.searched k up in
     let p = c.loop-place.picker in
     let t = tree_at (g.L.TreeSource.forest c.args.source.now) c.args.tree in
-    searched_all (g.D.Direction.which c.args.direction) c.args.test.now t c.args.places.now c.loop-place.next p.judge.contexts.met (length p.judge.marks) p.found.items s.found (λ j h. s.before j (omega arith)))
+    same_places c.into_places.result _ _ c.into_places.ensures (searched_all (g.D.Direction.which c.args.direction) c.args.test.now t c.args.places.now c.loop-place.next p.judge.contexts.met (length p.judge.marks) p.found.items s.found (λ j h. s.before j (omega arith))))
 
 pub returns-clause-rows : goal.returns-clause-rows
 returns-clause-rows g c = λ k. (

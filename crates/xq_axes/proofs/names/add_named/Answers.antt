@@ -20,5 +20,5 @@ returns-clause-added g c = λ k wanted is h all o _. (
       | else-is_large_part w ↦ ap forest w.source-is
     ] in
     let places : c.in-Some-named.places.now ≡ below_where (is_named_at t name) (count (nodes t)) = c.in-Some-named.ensures k ∙ ap (λ trees. named (placed_rows (tree_at trees tree)) name) same ∙ named_below t name in
-    c.in_ok-extend_from_slice.ensures.ok
+    c.in_ok-extend.ensures.ok
     ∙ told t c.args.test.now name wanted c.args.low c.args.high c.args.found.now.items c.places_between.result.now c.in-Some.ensures is h o (c.places_between.ensures (is_named_at t name) (count (nodes t)) places h all))

@@ -9,6 +9,7 @@ use Rattle.xq_axes.specs.Reads.{span, span_end}
 use Rattle.xq_axes.specs.Scans.{region}
 use Rattle.xq_axes.specs.private.Hits.{is_wanted, below_where}
 use Rattle.xq_axes.specs.private.Waiting.{next_place}
+use Rattle.xq_axes.proofs.Picking.{same_places}
 use Rattle.xq_axes.proofs.Ranges.{empty_step}
 use Rattle.xq_axes.proofs.Scans.{onward_bound}
 use Rattle.xq_axes.proofs.GoingOn.{OnSoFar, on_start, so_far_next, so_far_moved, on_rows, next_from, first_from, last_row}
@@ -137,7 +138,8 @@ returns-clause-found g c = λ k there up. (
     let past = c.loop-low-test.false in
     let w = l.within in
     let n : c.loop-low.low ≡ count (nodes t) = omega (arith, past, w, end) in
-    l.is_found ∙ ap (below_where (is_wanted axis.FollowingSibling c.args.test.now t vs)) n ∙ ap (λ u. below_where (is_wanted axis.FollowingSibling c.args.test.now u vs) (count (nodes u))) (sym same))
+    same_places c.into_places.result _ _ c.into_places.ensures
+    (l.is_found ∙ ap (below_where (is_wanted axis.FollowingSibling c.args.test.now t vs)) n ∙ ap (λ u. below_where (is_wanted axis.FollowingSibling c.args.test.now u vs) (count (nodes u))) (sym same)))
 
 pub returns-clause-rows : goal.returns-clause-rows
 returns-clause-rows g c = λ k. (
