@@ -1,6 +1,9 @@
 -- The first rows of a tree: what they lend, and what is read on.
-use Rattle.std.proofs.Common.{◌≡◌, ◌+◌, ◌-◌, ◌≤◌, ◌<◌, ℕ, zero, suc, List, [], ◌∷◌, ◌++◌, length, map, take, drop, inl, inr, get_or, set, length-append, Result, Ok, Err, OnOk, refl, sym, ap, subst, ◌∙◌, arith}
+use Rattle.std.proofs.Common.{◌≡◌, ◌+◌, ◌-◌, ◌≤◌, ◌<◌, ℕ, zero, suc, List, [], ◌∷◌, ◌++◌, length, map, take, drop, inl, inr, get_or, set, length-append, length-drop, Result, Ok, Err, OnOk, refl, sym, ap, subst, ◌∙◌, arith}
+use Rattle.std.specs.Global.{Vec}
+use Rattle.std.specs.HashMap.{get_by_text}
 use Rattle.std.specs.List.{enumerate_from, AllByRecursion}
+use Rattle.std.specs.Prelude.{slice_get, Option, Some, IfSome}
 use Rattle.std.proofs.lemmas.List.{take-map, drop-map, length-map}
 use Rattle.xq_regions.specs.Forest.{count}
 use Rattle.xq_regions.specs.Tree.{Tree, nodes}
@@ -8,12 +11,13 @@ use Rattle.xq_regions.specs.Rows.{Row, rows, row_at, measured, placed, placed_ro
 use Rattle.xq_regions.specs.Nesting.{count-measured}
 use Rattle.xq_regions.specs.declared.NodeRow.{NodeRow}
 use Rattle.xq_sources.specs.Lenders.{IsRun}
+use Rattle.xq_sources.specs.Names.{named}
 use Rattle.xq_sources.specs.Sources.{rows_between, tree_at}
 use Rattle.xq_sources.proofs.Intervals.{between-places}
 use Rattle.xq_rows.proofs.Loads.{length-labels}
 use Rattle.xq_rows.proofs.ViewLaws.{one_placed}
 use Rattle.xq_rows.specs.declared.shelves.Front.{Front}
-use Rattle.xq_rows.specs.private.Shelves.{AreFronts, HasReached, IsFront, Reaches, front_at, run_of}
+use Rattle.xq_rows.specs.private.Shelves.{AreFronts, HasReached, IsFront, IsFrontOf, Reaches, front_at, run_of}
 
 -- # Lists
 
@@ -84,6 +88,16 @@ all-first zero [] h = refl
 all-first zero (x ∷ xs) h = absurd (omega (arith, h))
 all-first (suc n) [] h = refl
 all-first (suc n) (x ∷ xs) h = ap (λ ys. x ∷ ys) (all-first n xs (omega (arith, h)))
+
+-- one of them alone
+pub one-alone : (v : ℕ) (xs : List NodeRow) → v < length xs → length (map placed (run_of xs v v)) ≡ 1
+one-alone v xs h =
+    let one : v + 1 - v ≡ 1 = omega arith in
+    length-map (run_of xs v v) placed ∙ ap (λ m. length (take m (drop v xs))) one ∙ first (drop v xs) (omega (arith, h, length-drop v xs))
+  where
+    first : (ys : List NodeRow) → 0 < length ys → length (take 1 ys) ≡ 1
+    first [] h = absurd (omega (arith, h))
+    first (y ∷ ys) h = refl
 
 -- # The first rows of a tree
 
@@ -158,21 +172,41 @@ module _ (t : Tree) (kept : List NodeRow) (front : IsFront t kept) where
         let k : high + 1 - low ≡ suc (high - low) = omega (arith, past) in
         none-past (high - low) n (placed_rows t) (ap (λ k. take k (drop n (placed_rows t))) (sym k) ∙ sym read ∙ ap (map placed) none)
 
+-- # All rows of a tree
+
+abbrev first_size : List (ℕ × Row) → ℕ
+first_size [] = 0
+first_size (p ∷ ps) = p.1.size
+
+-- the first tells how many there are
+pub whole_rows : (t : Tree) (kept : List NodeRow) (root : NodeRow) → slice_get kept 0 ≡ Some root → root.size + 1 ≡ length kept → IsFront t kept → map placed kept ≡ placed_rows t
+whole_rows t [] root first n front = absurd cc
+whole_rows t (r ∷ rs) root first n front =
+    let is : r ≡ root = cc in
+    let size : r.size ≡ root.size = ap (λ (x : NodeRow). x.size) is in
+    let below : r.size ≡ count t.below = ap first_size front in
+    let many = sized t in
+    front ∙ all-first (length (r ∷ rs)) (placed_rows t) (omega (arith, n, size, below, many))
+
+-- the places that are kept of a name
+pub names_told : (t : Tree) (front : Front) (name : List ℕ) (places : Option (Vec ℕ)) → places ≡ get_by_text front.names name → IsFrontOf t front → IfSome places (λ found. found.items ≡ named (placed_rows t) name)
+names_told t front name places e is = subst (λ o. IfSome o (λ (found : Vec ℕ). found.items ≡ named (placed_rows t) name)) (sym e) (is.names name)
+
 -- # The first rows of each tree
 
 pub front_is : (trees : List Tree) (fronts : List Front) (i : ℕ) → AreFronts trees fronts → i < length fronts → IsFront (tree_at trees i) (front_at fronts i)
 front_is [] [] i are h = absurd (omega (arith, h))
 front_is [] (f ∷ fronts) i are h = elim are [ ]
 front_is (t ∷ trees) [] i are h = elim are [ ]
-front_is (t ∷ trees) (f ∷ fronts) zero are h = are.0
+front_is (t ∷ trees) (f ∷ fronts) zero are h = are.0.rows
 front_is (t ∷ trees) (f ∷ fronts) (suc i) are h = front_is trees fronts i are.1 (omega (arith, h))
 
 -- that of a list which was looked up
-pub its_front : (trees : List Tree) (fronts : List Front) (i : ℕ) (v : Front) → AreFronts trees fronts → i < length fronts → v ≡ get_or fronts i v → IsFront (tree_at trees i) v.rows.items
+pub its_front : (trees : List Tree) (fronts : List Front) (i : ℕ) (v : Front) → AreFronts trees fronts → i < length fronts → v ≡ get_or fronts i v → IsFrontOf (tree_at trees i) v
 its_front [] [] i v are h e = absurd (omega (arith, h))
 its_front [] (f ∷ fronts) i v are h e = elim are [ ]
 its_front (t ∷ trees) [] i v are h e = elim are [ ]
-its_front (t ∷ trees) (f ∷ fronts) zero v are h e = subst (λ (v : Front). IsFront t v.rows.items) (sym e) are.0
+its_front (t ∷ trees) (f ∷ fronts) zero v are h e = subst (λ (v : Front). IsFrontOf t v) (sym e) are.0
 its_front (t ∷ trees) (f ∷ fronts) (suc i) v are h e = its_front trees fronts i v are.1 (omega (arith, h)) e
 
 pub as_many : (trees : List Tree) (fronts : List Front) → AreFronts trees fronts → length fronts ≡ length trees
@@ -193,21 +227,18 @@ reached_in trees fronts tree place are h = record {
   reaches = inl h;
 }
 
-pub none_yet : (t : Tree) (rows : List NodeRow) → rows ≡ [] → IsFront t rows
-none_yet t rows e = subst (IsFront t) (sym e) refl
-
-pub empty_fronts : (trees : List Tree) (fronts : List Front) → length trees ≡ length fronts → AllByRecursion (λ (v : Front). v.rows.items ≡ []) fronts → AreFronts trees fronts
+pub empty_fronts : (trees : List Tree) (fronts : List Front) → length trees ≡ length fronts → AllByRecursion (λ (v : Front). (t : Tree) → IsFrontOf t v) fronts → AreFronts trees fronts
 empty_fronts [] [] n h = tt
 empty_fronts [] (f ∷ fronts) n h = absurd (omega (arith, n))
 empty_fronts (t ∷ trees) [] n h = absurd (omega (arith, n))
-empty_fronts (t ∷ trees) (f ∷ fronts) n h = (none_yet t f.rows.items h.0, empty_fronts trees fronts (omega (arith, n)) h.1)
+empty_fronts (t ∷ trees) (f ∷ fronts) n h = (h.0 t, empty_fronts trees fronts (omega (arith, n)) h.1)
 
 pub all_pushed : {X : Type 0} (P : X → Type 0) (xs : List X) (x : X) → AllByRecursion P xs → P x → AllByRecursion P (xs ++ x ∷ [])
 all_pushed P [] x all h = (h, tt)
 all_pushed P (y ∷ xs) x all h = (all.0, all_pushed P xs x all.1 h)
 
 -- one list is another
-pub fronts_set : (trees : List Tree) (fronts : List Front) (i : ℕ) (v : Front) → AreFronts trees fronts → IsFront (tree_at trees i) v.rows.items → AreFronts trees (set fronts i v)
+pub fronts_set : (trees : List Tree) (fronts : List Front) (i : ℕ) (v : Front) → AreFronts trees fronts → IsFrontOf (tree_at trees i) v → AreFronts trees (set fronts i v)
 fronts_set [] [] i v are h = are
 fronts_set [] (f ∷ fronts) i v are h = elim are [ ]
 fronts_set (t ∷ trees) [] i v are h = elim are [ ]

@@ -13,7 +13,7 @@ use Rattle.xq_rows.specs.Labels.{shown_rows, IsStoreSchema}
 use Rattle.xq_rows.specs.Views.{Beginning, HeldDocuments, StoodFor, Viewed, beginning, trees_under}
 use Rattle.xq_rows.specs.private.Keeps.{AreOf, IsKeeping, IsKept, Keeps, KeepsShelf, LeavesAlone, StaysOutside}
 use Rattle.xq_rows.specs.declared.shelves.Front.{Front}
-use Rattle.xq_rows.specs.private.Shelves.{AreFronts, AreKeptOf, HasDropped as ShelfHasDropped, HasPut, IsFront, IsShelved}
+use Rattle.xq_rows.specs.private.Shelves.{AreFronts, AreKeptOf, HasDropped as ShelfHasDropped, HasPut, IsFrontOf, IsShelved}
 use Rattle.xq_rows.specs.private.Statements.{AreThere, Deletes, IsEmptyStore, Puts, PutsOver}
 use Rattle.xq_rows.specs.Nodes.{cells}
 use Rattle.xq_atoms.specs.Address.{IsAddress}
@@ -115,7 +115,7 @@ module _ {S : Type 0} (g : Ghosts S) where
 
     -- a document was put
     pub has_put : (a : List ℕ) → IsAddress a → (t : Tree) → IsDocument t → (rows : List NodeRow) → Encodes rows t → (replaced : Bool) → (IsReady (state g new) → Puts a (map cells (map placed rows)) (state g conn).now (state g new).now replaced)
-        → (front : Front) → IsFront t front.rows.items → (later : Option Shelf) → IfSome later (λ l. (earlier : Shelf) × (shelf ≡ Some earlier) × HasPut earlier l a front) → IsKeeping g new later
+        → (front : Front) → IsFrontOf t front → (later : Option Shelf) → IfSome later (λ l. (earlier : Shelf) × (shelf ≡ Some earlier) × HasPut earlier l a front) → IsKeeping g new later
     has_put a good t is rows encodes replaced did front own later edited = record {
       outside = stays.mode;
       holds = λ ready. (

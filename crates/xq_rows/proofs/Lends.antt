@@ -33,6 +33,15 @@ is_held_tree g b v view clean held tree in_it =
     let named = some_at v.addresses tree (omega (arith, many, in_it)) in
     is_its_tree g b v view clean held tree named.0 named.1
 
+-- more was found among what is kept
+pub found_more : {S : Type 0} (g : Ghosts S) (b : Beginning) (v : Viewed S) (fronts later : List Front) (may_stay : Bool) → IsShelved g b v fronts may_stay → ((trees : List Tree) → AreFronts trees fronts → AreFronts trees later)
+    → (lent : List (ℕ × Row)) → IsShelved g b (record { store = v.store; addresses = v.addresses; meter = v.meter; lent = lent }) later may_stay
+found_more g b v fronts later may_stay is more lent = record {
+  view = record { was_clean = is.view.was_clean; was_open = is.view.was_open; stands = is.view.stands; listed = is.view.listed };
+  rows = λ clean held. more (trees_under b v.addresses) (is.rows clean held);
+  stays = is.stays;
+}
+
 module _ {S : Type 0} (g : Ghosts S) (b : Beginning) (v : Viewed S) (fronts : List Front) (may_stay : Bool) (is : IsShelved g b v fronts may_stay) (new : Held S)
     (later : List Front) (was_clean : IsClean g new → IsClean g v.store) where
   abbrev trees : List Tree

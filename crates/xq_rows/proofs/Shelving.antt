@@ -17,7 +17,7 @@ use Rattle.xq_rows.specs.Labels.{shown_rows}
 use Rattle.xq_rows.specs.declared.shelves.Front.{Front}
 use Rattle.xq_rows.specs.declared.shelves.Shelf.{Shelf}
 use Rattle.xq_rows.specs.private.Keeps.{AreOf}
-use Rattle.xq_rows.specs.private.Shelves.{AreFronts, HasDropped as ShelfHasDropped, HasPut, IsFront, front_at}
+use Rattle.xq_rows.specs.private.Shelves.{AreFronts, HasDropped as ShelfHasDropped, HasPut, IsFront, IsFrontOf, front_at}
 use Rattle.xq_rows.specs.private.Statements.{AreThere, HasDropped, HasReplaced}
 use Rattle.xq_rows.proofs.Calls.{encoded}
 use Rattle.xq_rows.proofs.FrontLaws.{all-first}
@@ -41,28 +41,28 @@ module _ (f g : List ℕ → Tree) (a : List ℕ) (others : (b : List ℕ) → b
   same_fronts [] [] all are = are
   same_fronts [] (x ∷ fronts) all are = are
   same_fronts (k ∷ ks) [] all are = are
-  same_fronts (k ∷ ks) (x ∷ fronts) all are = (subst (λ t. IsFront t x.rows.items) (sym (others k all.0)) are.0, same_fronts ks fronts all.1 are.1)
+  same_fronts (k ∷ ks) (x ∷ fronts) all are = (subst (λ t. IsFrontOf t x) (sym (others k all.0)) are.0, same_fronts ks fronts all.1 are.1)
 
   each_apart : (ks : List (List ℕ)) → AllByRecursion (IsBefore a) ks → AllByRecursion (λ b. b ≢ a) ks
   each_apart [] all = tt
   each_apart (k ∷ ks) all = (apart a k all.0, each_apart ks all.1)
 
-  fronts_set : (ks : List (List ℕ)) (fronts : List Front) (i : ℕ) (front : Front) → Rise ks → slice_get ks i ≡ Some a → IsFront (g a) front.rows.items → AreFronts (map f ks) fronts → AreFronts (map g ks) (set fronts i front)
+  fronts_set : (ks : List (List ℕ)) (fronts : List Front) (i : ℕ) (front : Front) → Rise ks → slice_get ks i ≡ Some a → IsFrontOf (g a) front → AreFronts (map f ks) fronts → AreFronts (map g ks) (set fronts i front)
   fronts_set [] fronts i front up here own are = absurd cc
   fronts_set (k ∷ ks) [] i front up here own are = elim are [ ]
   fronts_set (k ∷ ks) (x ∷ fronts) zero front up here own are =
       let same : k ≡ a = subst (λ o. IfSome o (λ y. k ≡ y)) here refl in
-      (subst (λ b. IsFront (g b) front.rows.items) (sym same) own, same_fronts ks fronts (each_apart ks (subst (λ b. AllByRecursion (IsBefore b) ks) same up.0)) are.1)
+      (subst (λ b. IsFrontOf (g b) front) (sym same) own, same_fronts ks fronts (each_apart ks (subst (λ b. AllByRecursion (IsBefore b) ks) same up.0)) are.1)
   fronts_set (k ∷ ks) (x ∷ fronts) (suc i) front up here own are =
       let less = at_all (IsBefore k) ks i a up.0 here in
-      (subst (λ t. IsFront t x.rows.items) (sym (others k (apart_too k a less))) are.0, fronts_set ks fronts i front up.1 here own are.1)
+      (subst (λ t. IsFrontOf t x) (sym (others k (apart_too k a less))) are.0, fronts_set ks fronts i front up.1 here own are.1)
 
-  fronts_insert : (ks : List (List ℕ)) (fronts : List Front) (i : ℕ) (front : Front) → i ≤ length ks → AllByRecursion (λ b. b ≢ a) ks → IsFront (g a) front.rows.items → AreFronts (map f ks) fronts → AreFronts (map g (insert_at ks i a)) (insert_at fronts i front)
+  fronts_insert : (ks : List (List ℕ)) (fronts : List Front) (i : ℕ) (front : Front) → i ≤ length ks → AllByRecursion (λ b. b ≢ a) ks → IsFrontOf (g a) front → AreFronts (map f ks) fronts → AreFronts (map g (insert_at ks i a)) (insert_at fronts i front)
   fronts_insert ks fronts zero front within all own are = (own, same_fronts ks fronts all are)
   fronts_insert [] fronts (suc i) front within all own are = absurd (omega (arith, within))
   fronts_insert (k ∷ ks) [] (suc i) front within all own are = elim are [ ]
   fronts_insert (k ∷ ks) (x ∷ fronts) (suc i) front within all own are =
-      (subst (λ t. IsFront t x.rows.items) (sym (others k all.0)) are.0, fronts_insert ks fronts i front (omega (arith, within)) all.1 own are.1)
+      (subst (λ t. IsFrontOf t x) (sym (others k all.0)) are.0, fronts_insert ks fronts i front (omega (arith, within)) all.1 own are.1)
 
   fronts_remove : (ks : List (List ℕ)) (fronts : List Front) (i : ℕ) → Rise ks → slice_get ks i ≡ Some a → AreFronts (map f ks) fronts → AreFronts (map g (remove_at ks i)) (remove_at fronts i)
   fronts_remove [] fronts i up here are = absurd cc
@@ -72,7 +72,7 @@ module _ (f g : List ℕ → Tree) (a : List ℕ) (others : (b : List ℕ) → b
       same_fronts ks fronts (each_apart ks (subst (λ b. AllByRecursion (IsBefore b) ks) same up.0)) are.1
   fronts_remove (k ∷ ks) (x ∷ fronts) (suc i) up here are =
       let less = at_all (IsBefore k) ks i a up.0 here in
-      (subst (λ t. IsFront t x.rows.items) (sym (others k (apart_too k a less))) are.0, fronts_remove ks fronts i up.1 here are.1)
+      (subst (λ t. IsFrontOf t x) (sym (others k (apart_too k a less))) are.0, fronts_remove ks fronts i up.1 here are.1)
 
 -- the front of an address
 own_front : (f : List ℕ → Tree) (ks : List (List ℕ)) (fronts : List Front) (i : ℕ) (a : List ℕ) → slice_get ks i ≡ Some a → AreFronts (map f ks) fronts → IsFront (f a) (front_at fronts i)
@@ -80,7 +80,7 @@ own_front f [] fronts i a here are = absurd cc
 own_front f (k ∷ ks) [] i a here are = elim are [ ]
 own_front f (k ∷ ks) (x ∷ fronts) zero a here are =
     let same : k ≡ a = subst (λ o. IfSome o (λ y. k ≡ y)) here refl in
-    subst (λ b. IsFront (f b) x.rows.items) same are.0
+    subst (λ b. IsFront (f b) x.rows.items) same are.0.rows
 own_front f (k ∷ ks) (x ∷ fronts) (suc i) a here are = own_front f ks fronts i a here are.1
 
 -- # The shelf
@@ -100,7 +100,7 @@ front_there db store addresses fronts of i a here =
 
 -- a document was put
 module _ (a : List ℕ) (good : IsAddress a) (t : Tree) (is : IsDocument t) (old new : Database) (put : HasReplaced a (map cells (placed_rows t)) old new) (was : IsStore old) where
-  pub kept_put : (earlier later : Shelf) (front : Front) → HasPut earlier later a front → IsFront t front.rows.items → AreOf old earlier.addresses.value earlier.fronts.items → AreOf new later.addresses.value later.fronts.items
+  pub kept_put : (earlier later : Shelf) (front : Front) → HasPut earlier later a front → IsFrontOf t front → AreOf old earlier.addresses.value earlier.fronts.items → AreOf new later.addresses.value later.fronts.items
   kept_put earlier later front did own of =
       let m = documents_of old in
       let ks = earlier.addresses.value in
@@ -108,7 +108,7 @@ module _ (a : List ℕ) (good : IsAddress a) (t : Tree) (is : IsDocument t) (old
       let g = tree_at (shown_rows new) in
       let up : Rise ks = subst Rise (sym of.listed) (keys_rise m) in
       let others = tree_stays_put a t old new put in
-      let owns : IsFront (g a) front.rows.items = subst (λ u. IsFront u front.rows.items) (sym (own_tree a t old new put)) own in
+      let owns : IsFrontOf (g a) front = subst (λ u. IsFrontOf u front) (sym (own_tree a t old new put)) own in
       let map_is = put_map a good t is old new put was in
       elim did.did [
         | inl it ↦ record {

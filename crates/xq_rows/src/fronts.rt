@@ -1,13 +1,15 @@
 //! The rows that are kept of documents: lent, read on where they are wanted, and forgotten.
 ghost use Rattle.std.specs.Prelude.{◌≡◌, IsTrue, List, Some, IfOk, IfSome, OnOk, filter, map};
 ghost use Rattle.std.specs.FinMap.{get};
-ghost use Rattle.xq_regions.specs.Rows.{placed, row_of};
+ghost use Rattle.xq_regions.specs.Rows.{placed, placed_rows, row_of};
 ghost use Rattle.xq_regions.specs.Tree.{Tree};
 ghost use Rattle.xq_rows.specs.Documents.{IsClean, IsOpen, Map, StandsFor};
 ghost use Rattle.xq_rows.specs.declared.shelves.Shelf.{Shelf};
 ghost use Rattle.xq_rows.specs.private.Keeps.{LeavesAlone};
-ghost use Rattle.xq_rows.specs.private.Shelves.{AreFronts, AreListed, HasReached, IsFront, Reaches, front_at, run_of};
+ghost use Rattle.xq_rows.specs.private.Shelves.{AreFronts, AreListed, HasReached, IsFront, IsFrontOf, Reaches, front_at, run_of};
+ghost use Rattle.xq_sources.specs.Names.{named};
 ghost use Rattle.xq_sources.specs.Parents.{IsParentRow};
+ghost use Rattle.xq_sources.specs.Sources.{tree_at};
 
 use crate::shelves::{Front, Shelf, address_at, front_of};
 use crate::stores::Store;
@@ -143,10 +145,10 @@ fn read_front<S: Alter>(
     place: u32,
 ) -> Result<(), Want>
     ensures front { IsClean S.Store store.new → (m : Map) → StandsFor S.Store store.old m
-        → (t : Tree) → get m address.now ≡ Some t → IsFront t front.old.rows.items
-        → IsFront t front.new.rows.items }
+        → (t : Tree) → get m address.now ≡ Some t → IsFrontOf t front.old
+        → IsFrontOf t front.new }
     ensures reaches { IsClean S.Store store.new → (m : Map) → StandsFor S.Store store.old m
-        → (t : Tree) → get m address.now ≡ Some t → IsFront t front.old.rows.items
+        → (t : Tree) → get m address.now ≡ Some t → IsFrontOf t front.old
         → OnOk result (Reaches t place front.new.rows.items) }
     ensures same { IsClean S.Store store.new → (m : Map) → StandsFor S.Store store.old m
         → StandsFor S.Store store.new m }
@@ -167,6 +169,28 @@ pub(crate) fn parent_of(shelf: &Shelf, tree: usize, node: u32) -> Option<u32>
 {
     let front = shelf.fronts.get(tree)?;
     front.guide.parent(front_of(&shelf.fronts, tree), node)
+}
+
+/// Looks for the elements of a tree with a name, where all its rows are kept.
+pub(crate) fn find_in_front(alloc: Global, fronts: &mut Vec<Front>, tree: usize, name: &str)
+    ensures { (trees : List Tree) → AreFronts trees fronts.old.items
+        → AreFronts trees fronts.new.items }
+{
+    let Some(front) = fronts.get_mut(tree) else {
+        return;
+    };
+    front.find_named(alloc, name);
+}
+
+/// The places of all elements of a tree with a name, where they were found.
+pub(crate) fn named_in<'a>(shelf: &'a Shelf, tree: usize, name: &str) -> Option<&'a [u32]>
+    ensures { (trees : List Tree) → AreFronts trees shelf.now.fronts.items
+        → IfSome result (λ places.
+        places.now ≡ named (placed_rows (tree_at trees tree)) name.now) }
+{
+    let front = shelf.fronts.get(tree)?;
+    let places = front.names.get(name)?;
+    Some(places)
 }
 
 /// The rows of a run that are kept.

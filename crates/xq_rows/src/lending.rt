@@ -2,7 +2,7 @@
 ghost use Rattle.std.specs.Prelude.{map};
 ghost use Rattle.xq_regions.specs.Rows.{placed};
 
-use crate::fronts::{NO_ROWS, Run, kept_rows, parent_of, read_on};
+use crate::fronts::{NO_ROWS, Run, find_in_front, kept_rows, named_in, parent_of, read_on};
 use crate::shelves::front_of;
 use crate::views::{Origin, View};
 use sqlite::Alter;
@@ -44,6 +44,14 @@ impl<S: Alter, O: Origin> RowLender for View<S, O> {
 
     fn attributes(&self, tree: usize, node: u32) -> Option<u32> {
         count_attributes(front_of(&self.shelf.fronts, tree), node)
+    }
+
+    fn find_named(&mut self, alloc: Global, tree: usize, name: &str) {
+        find_in_front(alloc, &mut self.shelf.fronts, tree, name);
+    }
+
+    fn named(&self, tree: usize, name: &str) -> Option<&[u32]> {
+        named_in(&self.shelf, tree, name)
     }
 
     fn lent(&self) -> &[NodeRow] {

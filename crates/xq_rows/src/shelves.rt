@@ -1,23 +1,28 @@
 //! What a store keeps in memory of its documents: their addresses, and of each the first rows.
-ghost use Rattle.std.specs.Prelude.{◌≡◌, ◌<◌, [], List, Some, IfOk, IfSome, length, slice_get};
+ghost use Rattle.std.specs.Prelude.{◌≡◌, ◌<◌, [], List, Some, IfOk, IfSome, IsTrue, length, map, slice_get};
 ghost use Rattle.std.specs.List.{insert, remove, slice_set as set};
 ghost use Rattle.xq_sources.specs.Addresses.{IsGap};
-ghost use Rattle.xq_regions.specs.Rows.{Encodes};
+ghost use Rattle.xq_sources.specs.Names.{AreNames};
+ghost use Rattle.xq_regions.specs.Rows.{Encodes, placed, placed_rows};
 ghost use Rattle.xq_regions.specs.Tree.{Tree};
-ghost use Rattle.xq_rows.specs.private.Shelves.{AreFronts, AreKeptOf, HasDropped, HasPut, front_at};
+ghost use Rattle.xq_rows.specs.private.Shelves.{AreFronts, AreKeptOf, HasDropped, HasPut, IsFront, IsFrontOf, front_at};
 
 use std::alloc::Global;
+use std::collections::HashMap;
 use std::rc::Rc;
 use xq_atoms::Want;
 use xq_regions::{Fragment, NodeRow};
-use xq_sources::{Addresses, Guide};
+use xq_sources::{Addresses, Guide, Names, find_named};
 
-/// The first rows of a document.
+/// What is kept of a document: its first rows, and what was found among them.
 #[derive(Drop)]
 pub(crate) struct Front {
     pub rows: Vec<NodeRow>,
     /// Where parents lie among them.
     pub guide: Guide,
+    /// The places of its elements by their names, of names that were looked for while all rows were
+    /// here.
+    pub names: Names,
     /// When they were wanted last, by the clock of the shelf.
     pub wanted: u64,
 }
@@ -39,18 +44,20 @@ pub(crate) struct Shelf {
 impl Front {
     /// No row yet.
     pub fn new(alloc: Global) -> Front
-        ensures { result.rows.items ≡ [] }
+        ensures { (t : Tree) → IsFrontOf t result }
     {
         Front {
             rows: Vec::new(alloc),
             guide: Guide::new(alloc),
+            names: HashMap::new(alloc),
             wanted: 0,
         }
     }
 
     /// All rows of a document, wanted at a time. Where memory is short they are without a guide.
     pub fn whole(alloc: Global, document: Fragment, wanted: u64) -> Front
-        ensures { Encodes result.rows.items document }
+        ensures rows { Encodes result.rows.items document }
+        ensures names { AreNames (placed_rows document) result.names }
     {
         let rows = document.into_rows();
         let mut guide = Guide::new(alloc);
@@ -58,9 +65,31 @@ impl Front {
         Front {
             rows,
             guide,
+            names: HashMap::new(alloc),
             wanted,
         }
     }
+
+    /// Looks for the elements with the name, where these are all rows of the document, so that
+    /// their places can be told.
+    pub fn find_named(&mut self, alloc: Global, name: &str)
+        ensures { (t : Tree) → IsFrontOf t self.old → IsFrontOf t self.new }
+    {
+        if are_whole(&self.rows) {
+            find_named(alloc, &mut self.names, &self.rows, name);
+        }
+    }
+}
+
+/// Whether the first rows of a document are all that it has.
+fn are_whole(rows: &[NodeRow]) -> bool
+    ensures { IsTrue result → (t : Tree) → IsFront t rows.now
+        → map placed rows.now ≡ placed_rows t }
+{
+    let Some(root) = rows.first() else {
+        return false;
+    };
+    root.size as usize + 1 == rows.len()
 }
 
 /// The time by the clock of what is kept.

@@ -8,6 +8,7 @@ use Rattle.xq_regions.specs.declared.NodeRow.{NodeRow}
 use Rattle.xq_rows.specs.declared.shelves.Front.{Front}
 use Rattle.xq_rows.specs.declared.shelves.Shelf.{Shelf}
 use Rattle.xq_sources.specs.Addresses.{IsGap}
+use Rattle.xq_sources.specs.Names.{AreNames}
 use Rattle.std.specs.List.{insert, remove, slice_set as set}
 use Rattle.xq_sources.specs.Sources.{tree_at}
 use Rattle.sqlite.specs.Held.{state}
@@ -23,12 +24,18 @@ IsFront t rows = map placed rows ≡ take (length rows) (placed_rows t)
 abbrev pub Reaches : Tree → ℕ → List NodeRow → Type 0
 Reaches t place rows = (place < length rows) ⊎ (length (placed_rows t) ≤ length rows)
 
--- each has the first rows of its tree
+-- what is kept of a tree are its first rows, and all places of elements by their names, of some
+-- names
+pub record IsFrontOf (t : Tree) (front : Front) : Type 0 where
+  pub rows : IsFront t front.rows.items
+  pub names : AreNames (placed_rows t) front.names
+
+-- each is what is kept of its tree
 abbrev pub AreFronts : List Tree → List Front → Type 0
 AreFronts [] [] = ⊤
 AreFronts [] (front ∷ fronts) = ⊥
 AreFronts (t ∷ trees) [] = ⊥
-AreFronts (t ∷ trees) (front ∷ fronts) = IsFront t front.rows.items × AreFronts trees fronts
+AreFronts (t ∷ trees) (front ∷ fronts) = IsFrontOf t front × AreFronts trees fronts
 
 -- the rows that are kept of the tree with this number
 abbrev pub items_in : Option Front → List NodeRow

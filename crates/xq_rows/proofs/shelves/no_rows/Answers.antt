@@ -1,6 +1,8 @@
 use Rattle.std.proofs.Common.{◌≡◌, ◌+◌, [], ◌∷◌, List, length, length-append, sym, subst, arith}
 use Rattle.std.specs.List.{AllByRecursion}
+use Rattle.xq_regions.specs.Tree.{Tree}
 use Rattle.xq_rows.specs.declared.shelves.Front.{Front}
+use Rattle.xq_rows.specs.private.Shelves.{IsFrontOf}
 use Rattle.xq_rows.proofs.FrontLaws.{empty_fronts, all_pushed}
 use Rattle.xq_rows.proofs.shelves.no_rows.Goals as goal
 
@@ -11,8 +13,8 @@ loop-made-preserved c =
     let more = length-append c.loop-made.fronts.items (c.new.result ∷ []) in
     record {
       count = subst (λ (xs : List Front). length xs ≡ c.loop-made.made + 1) (sym pushed) (omega (arith, more, so_far.count));
-      none = subst (AllByRecursion (λ (v : Front). v.rows.items ≡ [])) (sym pushed)
-          (all_pushed (λ (v : Front). v.rows.items ≡ []) c.loop-made.fronts.items c.new.result so_far.none c.new.ensures);
+      none = subst (AllByRecursion (λ (v : Front). (t : Tree) → IsFrontOf t v)) (sym pushed)
+          (all_pushed (λ (v : Front). (t : Tree) → IsFrontOf t v) c.loop-made.fronts.items c.new.result so_far.none c.new.ensures);
     }
 
 pub returns : goal.returns

@@ -4,6 +4,7 @@ use Rattle.xq_regions.specs.Tree.{IsTree}
 use Rattle.xq_sources.specs.Sources.{HasNode, tree_at as nth_tree}
 use Rattle.xq_rows.specs.Views.{Viewed, trees_under}
 use Rattle.xq_rows.specs.private.Shelves.{front_at, run_of}
+use Rattle.xq_rows.proofs.FrontLaws.{one-alone}
 use Rattle.xq_rows.proofs.Lends.{shelved, has_it, is_one, is_a_tree}
 use Rattle.xq_rows.proofs.lending.ViewRowLender.fetch_row.Goals as goal
 
@@ -37,3 +38,8 @@ pub returns-clause-is_tree : goal.returns-clause-is_tree
 returns-clause-is_tree g c = λ clean.
     let b = g.O.Origin.beginning in
     subst (λ (w : Viewed _). IsTree (nth_tree (trees_under b w.addresses) c.args.tree)) c.self.view_is (is_a_tree g.S.Store b _ _ _ c.self.invariant c.read_on.new.store c.read_on.new.shelf.fronts.items c.read_on.ensures.was_clean c.read_on.ensures.fronts c.args.tree c.args.node c.in_ok-read_on.ensures.reached clean.0 clean.1)
+
+pub returns-clause-one : goal.returns-clause-one
+returns-clause-one g c =
+    let h : c.args.node < length (front_at c.read_on.new.shelf.fronts.items c.args.tree) = subst (λ xs. c.args.node < length xs) (c.front_of.ensures ∙ ap (λ fronts. front_at fronts c.args.tree) c.deref.ensures.value) c.if-node-front_of.false in
+    one-alone c.args.node (front_at c.read_on.new.shelf.fronts.items c.args.tree) h

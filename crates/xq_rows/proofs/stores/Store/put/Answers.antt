@@ -3,7 +3,6 @@ use Rattle.xq_rows.specs.declared.stores.Put.TheVariants.{Replaced, Stored}
 use Rattle.xq_rows.specs.Documents.{StandsFor}
 use Rattle.xq_rows.proofs.Calls.{on_err, was_clean, was_open, kept_stands, put_stands, put_answer, leaves_open}
 use Rattle.xq_rows.proofs.Parts.{few}
-use Rattle.xq_rows.proofs.FrontLaws.{none_yet}
 use Rattle.xq_rows.proofs.Keeping.{has_put, puts_over}
 use Rattle.xq_rows.specs.private.Keeps.{IsKeeping}
 use Rattle.xq_rows.proofs.stores.Store.put.Goals as goal
@@ -49,4 +48,4 @@ invariant_of-self-2 g c =
     let did = puts_over g.S.Store c.self.inside.conn c.put_rows.new.conn c.put_rows.ensures.outside c.take-kept.result keeping c.args.address.now c.kept_of-there.result.now c.kept_of-there.ensures _ c.in_ok-replaced.replaced c.in_ok-replaced.ensures.put in
     has_put g.S.Store c.self.inside.conn c.put_rows.new.conn c.put_rows.ensures.outside c.take-kept.result keeping
     c.args.address.now c.requires.address c.args.document.now (record { is_tree = c.rows.ensures.is_tree; root = c.requires.document }) c.rows.result.now c.rows.ensures c.in_ok-replaced.replaced did
-    c.new.result (none_yet c.args.document.now c.new.result.rows.items c.new.ensures) c.shelf_with.result c.shelf_with.ensures
+    c.new.result (c.new.ensures c.args.document.now) c.shelf_with.result c.shelf_with.ensures

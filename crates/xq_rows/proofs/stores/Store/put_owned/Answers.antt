@@ -50,4 +50,4 @@ invariant_of-self-2 g c =
     has_put g.S.Store c.self.inside.conn c.put_rows.new.conn c.put_rows.ensures.outside c.with_room-shelf.result
     (roomier g.S.Store c.self.inside.conn c.take-others.result c.with_room-shelf.result keeping c.with_room-shelf.ensures)
     c.args.address.now c.requires.address c.args.document (record { is_tree = c.rows.ensures.is_tree; root = c.requires.document }) c.rows.result.now c.rows.ensures c.in_ok-replaced.replaced did
-    c.whole-front.result (whole_front c.args.document c.whole-front.result.rows.items c.whole-front.ensures) c.shelf_with.result c.shelf_with.ensures
+    c.whole-front.result (record { rows = whole_front c.args.document c.whole-front.result.rows.items c.whole-front.ensures.rows; names = c.whole-front.ensures.names }) c.shelf_with.result c.shelf_with.ensures
