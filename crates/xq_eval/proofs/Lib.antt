@@ -4,7 +4,7 @@ pub mod NextValues
 pub mod Quantifying
 pub mod QuantifiedTurns
 pub mod Steps
-pub mod ConstantPredicates
+pub mod PositionalPredicates
 pub mod DocumentScans
 pub mod Joining
 pub mod TextSteps

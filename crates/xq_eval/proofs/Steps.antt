@@ -1,11 +1,10 @@
 -- One turn of a loop from what its part gave.
 use Rattle.std.proofs.Common.{◌≡◌, ℕ, zero, suc, ◌<◌, ◌≤◌, ◌+◌, ◌++◌, List, [], ◌∷◌, map, drop, length, get_or, slice_index_or, refl, sym, ◌∙◌, ap, subst, arith, add-one, Ok, Err, Bool, true, false}
-use Rattle.std.specs.Prelude.{pos, flat_map, reverse, if◌then◌else◌}
+use Rattle.std.specs.Prelude.{pos, reverse, if◌then◌else◌}
 use Rattle.std.specs.List.{AllByRecursion, enumerate_from, zip}
 use Rattle.std.proofs.Math.Seq.{drop-cons}
 use Rattle.std.proofs.lemmas.List.{map-append, append-nil}
 use Rattle.std.proofs.lemmas.List.Concat.{flat_map-cons}
-use Rattle.std.proofs.lemmas.Grind.{flat_map-append}
 use Rattle.xq_atoms.specs.declared.refusals.Code.{Code}
 use Rattle.xq_atoms.specs.declared.refusals.Code.TheVariants.{XPTY0019}
 use Rattle.xq_atoms.specs.declared.refusals.Fault.{Fault}
@@ -29,9 +28,9 @@ use Rattle.xq_regions.specs.declared.Axis.{Axis}
 use Rattle.xq_regions.specs.declared.Axis.TheVariants.{Child, DescendantOrSelf}
 use Rattle.xq_expressions.specs.declared.operators.NamedNode.{NamedNode}
 use Rattle.xq_meaning.specs.Readings.{item_at, items_at, IsIn, AreIn, Extends}
-use Rattle.xq_meaning.specs.Doing.{Doing, Outcome, go_on, ◌>>=◌, give, judged, on_trees, in_turn, more, one_more, collected, for_each}
+use Rattle.xq_meaning.specs.Doing.{Doing, Outcome, go_on, ◌>>=◌, give, judged, on_trees, in_turn, more, one_more, collected}
 use Rattle.xq_meaning.specs.Forms as Forms
-use Rattle.xq_meaning.specs.PlanMeaning.{Frame, Meaning, ClauseMeaning, StepMeaning, at_tuple, next_clause, flwor, plan_mean, plan_step_mean}
+use Rattle.xq_meaning.specs.PlanMeaning.{Frame, Meaning, StepMeaning, at_tuple, plan_mean, plan_step_mean}
 use Rattle.xq_meaning.specs.declared.plans.Plan.{Plan}
 use Rattle.xq_meaning.specs.declared.plans.Plan.TheVariants as plan
 use Rattle.xq_meaning.proofs.Growth.{AllGrowing}
@@ -86,39 +85,6 @@ passed_err part frame focus xs code f f' step answer =
 pub kept_read : (f f' : List Tree) (x : ItemView) (b : Bool) → Extends f f' → IsIn f x → AreIn f' (Forms.kept_if x b) × (Forms.kept_if (item_at f x) b ≡ items_at f' (Forms.kept_if x b))
 kept_read f f' x true grows h = ((in_grown grows x h, tt), ap (λ y. y ∷ []) (sym (item_at_grown grows x h)))
 kept_read f f' x false grows h = (tt, refl)
-
--- the items of all lists
-
-abbrev pub concat : {A : Type 0} → List (List A) → List A
-concat ls = flat_map (λ l. l) ls
-
-pub concat_read : (f : List Tree) (ls : Tuple ItemView) → concat (tuple_at f ls) ≡ items_at f (concat ls)
-concat_read f [] = refl
-concat_read f (l ∷ ls) =
-    flat_map-cons (λ l. l) (items_at f l) (tuple_at f ls) ∙ ap (λ v. items_at f l ++ v) (concat_read f ls) ∙ sym (map-append (item_at f) l (concat ls)) ∙ ap (items_at f) (sym (flat_map-cons (λ l. l) l ls))
-
-pub concat_in : (f : List Tree) (ls : Tuple ItemView) → TupleIn f ls → AreIn f (concat ls)
-concat_in f [] h = tt
-concat_in f (l ∷ ls) h = subst (AreIn f) (sym (flat_map-cons (λ l. l) l ls)) (all_append (IsIn f) l (concat ls) h.0 (concat_in f ls h.1))
-
-concat-end : {A : Type 0} (ls : List (List A)) (l : List A) → concat (ls ++ l ∷ []) ≡ concat ls ++ l
-concat-end ls l = flat_map-append (λ l. l) ls (l ∷ []) ∙ ap (λ v. concat ls ++ v) (flat_map-cons (λ l. l) l [] ∙ append-nil l)
-
-gathers_from : {A B : Type 0} (act : A → Doing (List B)) (done : List (List B)) (xs : List A) (after : (done' : List (List B)) (g : List Tree) → in_turn (more act) (concat done') xs g ≡ go_on (in_turn (one_more act) done' xs g) (λ ls. give (concat ls))) (o : Outcome (List B))
-    → go_on (go_on o (λ ys. give (concat done ++ ys))) (λ next. in_turn (more act) next xs) ≡ go_on (go_on (go_on o (λ y. give (done ++ y ∷ []))) (λ next. in_turn (one_more act) next xs)) (λ ls. give (concat ls))
-gathers_from act done xs after (Err code, g) = refl
-gathers_from act done xs after (Ok p, g) = ap (λ ls. in_turn (more act) ls xs g) (sym (concat-end done p)) ∙ after (done ++ p ∷ []) g
-
-gathers : {A B : Type 0} (act : A → Doing (List B)) (done : List (List B)) (xs : List A) (f : List Tree) → in_turn (more act) (concat done) xs f ≡ go_on (in_turn (one_more act) done xs f) (λ ls. give (concat ls))
-gathers act done [] f = refl
-gathers act done (x ∷ xs) f = gathers_from act done xs (λ d g. gathers act d xs g) (act x f)
-
--- one list after another is what each gives, put together
-pub collected_is : {A B : Type 0} (act : A → Doing (List B)) (xs : List A) (f : List Tree) → collected act xs f ≡ go_on (for_each act xs f) (λ ls. give (concat ls))
-collected_is act xs f = gathers act [] xs f
-
-pub flwor_is : (clauses : List ClauseMeaning) (part : Meaning) (frame : Frame) (f : List Tree) (ts : List (Tuple Item)) (f' : List Tree) → in_turn (next_clause frame) ([] ∷ []) clauses f ≡ (Ok ts, f') → flwor clauses part frame f ≡ go_on (for_each (λ t. part (at_tuple frame t)) ts f') (λ ls. give (concat ls))
-flwor_is clauses part frame f ts f' e = ap (λ o. go_on o (λ tuples. Forms.return_of part (at_tuple frame) tuples)) e ∙ collected_is (λ t. part (at_tuple frame t)) ts f'
 
 -- focuses
 

@@ -7,15 +7,16 @@ ghost use Rattle.xq_regions.specs.Items.{ItemView, Value as AtomView, item_views
 ghost use Rattle.xq_regions.specs.Tuples.{Tuple, expanded};
 ghost use Rattle.xq_tuples.specs.Keys.{row_of, rows_in};
 ghost use Rattle.xq_tuples.specs.Views.{values_of};
-ghost use Rattle.xq_meaning.specs.Doing.{in_turn, one_more, for_each};
+ghost use Rattle.xq_meaning.specs.Doing.{in_turn, one_more, more, for_each};
 ghost use Rattle.xq_meaning.specs.Forms as Forms;
+ghost use Rattle.xq_meaning.specs.Readings.{items_at, AreIn};
 ghost use Rattle.xq_meaning.specs.PlanMeaning.{plan_mean, plan_clause_mean, at_tuple as meant_at, next_clause};
 ghost use Rattle.xq_eval.specs.private.Keys.{keys_at};
 ghost use Rattle.xq_forms.specs.Views.{tuple_at, tuples_at, lists_of, order_specs, frame_at, FrameIn, TupleIn, TuplesIn, Goes, GivesSequence, GivesTuples};
 ghost use Rattle.xq_eval.specs.private.Results.{GivesLists, GivesTests, GivesKey, GivesKeys, GivesRows};
 ghost use Rattle.xq_eval.specs.private.Joining.{GivesMatched};
 
-use crate::evaluation::{evaluate, tested};
+use crate::evaluation::{evaluate, next_part, tested};
 use sqlite_items::at;
 use std::alloc::Global;
 use std::rc::Rc;
@@ -155,7 +156,7 @@ fn expand(
 
 /// The value of a part at each tuple.
 #[cycle(eval)]
-pub fn values<W: Growing>(
+fn values<W: Growing>(
     alloc: Global,
     world: &mut W,
     frame: Frame<'_>,
@@ -209,6 +210,63 @@ fn next_value<W: Growing>(
     let list = at_tuple(alloc, world, frame, slots, part)?;
     lists.push(list)?;
     Ok(lists)
+}
+
+/// The values of a part at all tuples, one after another.
+#[cycle(eval)]
+pub fn returned<W: Growing>(
+    alloc: Global,
+    world: &mut W,
+    frame: Frame<'_>,
+    tuples: &Tuples,
+    part: &Plan,
+) -> Result<Items, Fault>
+    ensures goes { Goes (W.forest world.old) (W.forest world.new) (W.is_clean world.old)
+        (W.is_clean world.new) }
+    ensures gives { W.is_clean world.new → FrameIn (W.forest world.old) frame.entry
+        → TuplesIn (W.forest world.old) tuples.now
+        → GivesSequence (Forms.return_of (plan_mean part.now) (meant_at (frame_at
+        (W.forest world.old) frame.entry)) (tuples_at (W.forest world.old) tuples.now)
+        (W.forest world.old)) (W.forest world.new) result }
+{
+    let outer = frame.slots.len();
+    let mut slots = frame.slots.to_vec(alloc)?;
+    let mut items = Vec::new(alloc);
+    for index in 0..tuples.len() {
+        refill(&mut slots, outer, tuples.tuple(index))?;
+        items = next_returned(alloc, world, frame, items, &slots, part)?;
+    }
+    Ok(items)
+}
+
+/// The items so far, and those of a part at one tuple more, whose slots stand after those of the
+/// frame.
+#[cycle(eval)]
+fn next_returned<W: Growing>(
+    alloc: Global,
+    world: &mut W,
+    frame: Frame<'_>,
+    done: Items,
+    slots: &[Rc<Items>],
+    part: &Plan,
+) -> Result<Items, Fault>
+    ensures goes { Goes (W.forest world.old) (W.forest world.new) (W.is_clean world.old)
+        (W.is_clean world.new) }
+    ensures gives { W.is_clean world.new → FrameIn (W.forest world.old) frame.entry
+        → AreIn (W.forest world.old) (item_views done)
+        → (tuple : Tuple ItemView)
+        → values_of slots.now ≡ values_of frame.entry.slots.now ++ tuple
+        → TupleIn (W.forest world.old) tuple
+        → GivesSequence (more (λ t. plan_mean part.now (meant_at (frame_at (W.forest world.old)
+        frame.entry) t)) (items_at (W.forest world.old) (item_views done)) (tuple_at
+        (W.forest world.old) tuple) (W.forest world.old)) (W.forest world.new) result }
+{
+    let inner = Frame {
+        slots,
+        focus: frame.focus,
+        addresses: frame.addresses,
+    };
+    next_part(alloc, world, inner, done, part)
 }
 
 /// Whether a part holds, at each tuple.

@@ -17,7 +17,7 @@ use crate::expressions::{
     arrow, axis_step, conditional, filtered, flwor, logical, named_node, operands, path,
     quantified, signed, simple_map, unnamed_node,
 };
-use crate::positions::{constant, keep_constant};
+use crate::positions::{keep_positional, positional};
 use crate::texts::text_test_at;
 use sqlite_items::Items as PlanItems;
 use std::alloc::Global;
@@ -113,7 +113,7 @@ fn sequence<W: Growing>(
 
 /// The items of one part, after those before it.
 #[cycle(eval)]
-fn next_part<W: Growing>(
+pub fn next_part<W: Growing>(
     alloc: Global,
     world: &mut W,
     frame: Frame<'_>,
@@ -128,8 +128,40 @@ fn next_part<W: Growing>(
         (W.forest world.old) (item_views done)) (plan_mean part.now) (W.forest world.old))
         (W.forest world.new) result }
 {
+    if let Plan::Call(function, parts) = part {
+        return next_called(alloc, world, frame, done, *function, parts.as_slice());
+    }
     let mut items = done;
     let mut added = evaluate(alloc, world, frame, part)?;
+    items.append(&mut added)?;
+    Ok(items)
+}
+
+/// The items of one call, after those before it. Where it is one atom of one step from a node at
+/// hand, no list is made of it.
+#[cycle(eval)]
+fn next_called<W: Growing>(
+    alloc: Global,
+    world: &mut W,
+    frame: Frame<'_>,
+    done: Items,
+    function: Function,
+    parts: &[Plan],
+) -> Result<Items, Fault>
+    ensures goes { Goes (W.forest world.old) (W.forest world.new) (W.is_clean world.old)
+        (W.is_clean world.new) }
+    ensures gives { W.is_clean world.new → FrameIn (W.forest world.old) frame.entry
+        → AreIn (W.forest world.old) (item_views done)
+        → GivesSequence (more (λ part. part (frame_at (W.forest world.old) frame.entry)) (items_at
+        (W.forest world.old) (item_views done)) (Forms.call function (map plan_mean parts.now))
+        (W.forest world.old)) (W.forest world.new) result }
+{
+    let mut items = done;
+    if let Some(atom) = atom_of_call(alloc, world, frame, function, parts)? {
+        items.push(Item::Atom(atom))?;
+        return Ok(items);
+    }
+    let mut added = called(alloc, world, frame, function, parts)?;
     items.append(&mut added)?;
     Ok(items)
 }
@@ -250,7 +282,7 @@ pub fn filter<W: Growing>(
     Ok(left)
 }
 
-/// The items that one predicate keeps. One that has the same value at each item is not evaluated at
+/// The items that one predicate keeps. One whose value an item's position tells is not evaluated at
 /// each, and one that asks nodes for a text only reads.
 #[cycle(eval)]
 fn keep<W: Growing>(
@@ -268,8 +300,8 @@ fn keep<W: Growing>(
         (W.forest world.old) (map item_view items.now)) (plan_mean predicate.now)
         (W.forest world.old)) (W.forest world.new) result }
 {
-    if let Some(value) = constant(alloc, predicate, items)? {
-        return keep_constant(alloc, items, &value);
+    if let Some(value) = positional(alloc, predicate, items)? {
+        return keep_positional(alloc, items, &value);
     }
     if let Some(test) = text_test_at(frame, predicate, items) {
         return Ok(keep_by_text(alloc, world, items, test)?);

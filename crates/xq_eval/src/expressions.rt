@@ -18,7 +18,7 @@ ghost use Rattle.xq_forms.specs.Views.{frame_at, FrameIn, Goes, GivesSequence};
 ghost use Rattle.xq_eval.specs.Reads.{rows_at};
 ghost use Rattle.xq_eval.specs.private.Quantifying.{IsOf, bindings};
 
-use crate::clauses::{clause_list, values};
+use crate::clauses::{clause_list, returned};
 use crate::evaluation::{call_list, chain, decided, evaluate, filter};
 use crate::paths::{map_list, step_list};
 use crate::quantified::satisfied;
@@ -27,8 +27,8 @@ use std::alloc::Global;
 use xq_atoms::Fault;
 use xq_expressions::{Function, NamedNode, Quantifier, Sign, UnnamedNode};
 use xq_forms::{
-    Frame, axis_items, boolean, concatenated, deciding, in_axis_order, named, node_name, scan_from,
-    short_path, sign, unnamed,
+    Frame, axis_items, boolean, deciding, in_axis_order, named, node_name, scan_from, short_path,
+    sign, unnamed,
 };
 use xq_functions::effective;
 use xq_meaning::{Operator, Plan, PlanClause, PlanStep, Test};
@@ -162,8 +162,7 @@ pub fn flwor<W: Growing>(
         result }
 {
     let tuples = clause_list(alloc, world, frame, clauses)?;
-    let lists = values(alloc, world, frame, &tuples, part)?;
-    Ok(concatenated(alloc, lists)?)
+    returned(alloc, world, frame, &tuples, part)
 }
 
 /// A path (XQuery 3.1, section 3.3). Where it is one scan from a node that is at hand, no list is

@@ -1,65 +1,137 @@
-//! Predicates that have the same value at each item: a position, or `last()` (XQuery 3.1, section
-//! 3.3.3).
-ghost use Rattle.std.specs.Prelude.{◌≡◌, List, [], map, length, true, IfOk, IfSome};
-ghost use Rattle.xq_expressions.specs.declared.signatures.Function.TheVariants.{Last};
-ghost use Rattle.xq_regions.specs.Items.{item_view, item_views};
+//! Predicates whose value at an item its position tells: a number, `last()`, or a comparison of
+//! `position()` with a number (XQuery 3.1, section 3.3.3).
+ghost use Rattle.std.specs.Prelude.{◌≡◌, ◌<◌, ◌^◌, List, ℕ, [], map, length, IfOk, IfSome};
+ghost use Rattle.xq_regions.specs.Items.{item_view};
 ghost use Rattle.xq_regions.specs.Tree.{Tree};
 ghost use Rattle.xq_meaning.specs.declared.plans.Plan.{Plan as PlanLem};
 ghost use Rattle.xq_meaning.specs.declared.plans.Plan.TheVariants as plan_of;
 ghost use Rattle.xq_meaning.specs.Forms as Forms;
+ghost use Rattle.xq_meaning.specs.Operators as Operators;
 ghost use Rattle.xq_meaning.specs.PlanMeaning.{Frame as Meant, plan_mean};
 ghost use Rattle.xq_meaning.specs.Readings.{items_at, AreIn};
 ghost use Rattle.xq_forms.specs.Views.{GivesSequence};
-ghost use Rattle.xq_eval.specs.private.Positions.{IsConstant};
+ghost use Rattle.xq_eval.specs.private.Positions.{IsPositional, value_there};
 
 use std::alloc::Global;
-use xq_atoms::{Atom, Fault, Want};
-use xq_expressions::Function;
+use xq_atoms::{Atom, Code, CompOp, Fault, Want, compare_value};
+use xq_expressions::{ComparisonOperator, Function, Relation};
 use xq_forms::{push_copy, single};
 use xq_functions::keeps;
-use xq_meaning::Plan;
+use xq_meaning::{Operator, Plan};
 use xq_regions::{Item, Items};
 
-/// Whether the plan is `last()`.
-fn asks_for_last(plan: &Plan) -> bool
-    ensures { result ≡ true → plan.now ≡ plan_of.Call Last [] }
-{
-    let Plan::Call(function, parts) = plan else {
-        return false;
-    };
-    let Function::Last = function else {
-        return false;
-    };
-    parts.as_slice().is_empty()
+/// The value of a predicate at each item, as its position tells it.
+#[derive(Drop)]
+pub enum ByPosition {
+    /// The same at each.
+    Same(Items),
+    /// Whether the position compares so with a number.
+    Compared(CompOp, i64),
 }
 
-/// The value of a predicate on these items that is an integer literal or `last()`; `None` for
-/// another one.
-pub fn constant(alloc: Global, predicate: &Plan, items: &[Item]) -> Result<Option<Items>, Want>
+/// The function of a call without arguments.
+fn bare_call(plan: &Plan) -> Option<Function>
+    ensures { IfSome result (λ function. plan.now ≡ plan_of.Call function []) }
+{
+    let Plan::Call(function, parts) = plan else {
+        return None;
+    };
+    if parts.as_slice().is_empty() {
+        Some(*function)
+    } else {
+        None
+    }
+}
+
+/// The comparison that a relation asks for.
+fn related_by(relation: Relation) -> CompOp
+    ensures { result ≡ Operators.related_by relation }
+{
+    match relation {
+        Relation::Equal => CompOp::Eq,
+        Relation::NotEqual => CompOp::Ne,
+        Relation::Less => CompOp::Lt,
+        Relation::LessEqual => CompOp::Le,
+        Relation::Greater => CompOp::Gt,
+        Relation::GreaterEqual => CompOp::Ge,
+    }
+}
+
+/// The value of a predicate that compares `position()` with an integer literal.
+fn compared(predicate: &Plan) -> Option<ByPosition>
+    ensures { IfSome result (λ value. (last : ℕ) → IsPositional predicate.now last value) }
+{
+    let Plan::Chain(first, rest) = predicate else {
+        return None;
+    };
+    let Some(Function::Position) = bare_call(first.get()) else {
+        return None;
+    };
+    let rest = rest.as_slice();
+    if rest.len() != 1 {
+        return None;
+    }
+    let (operator, second) = &rest[0];
+    let Operator::Comparison(comparison) = operator else {
+        return None;
+    };
+    let ComparisonOperator::General(relation) = comparison else {
+        return None;
+    };
+    let Plan::Int(number) = second else {
+        return None;
+    };
+    Some(ByPosition::Compared(related_by(*relation), *number))
+}
+
+/// The value of a predicate on these items that is an integer literal, `last()`, or a comparison of
+/// `position()` with an integer literal; `None` for another one.
+pub fn positional(
+    alloc: Global,
+    predicate: &Plan,
+    items: &[Item],
+) -> Result<Option<ByPosition>, Want>
     ensures { IfOk result (λ found. IfSome found (λ value.
-        IsConstant predicate.now (length items.now) (item_views value))) }
+        IsPositional predicate.now (length items.now) value)) }
 {
     if let Plan::Int(number) = predicate {
-        return Ok(Some(single(alloc, Item::Atom(Atom::Int(*number)))?));
+        let value = single(alloc, Item::Atom(Atom::Int(*number)))?;
+        return Ok(Some(ByPosition::Same(value)));
     }
-    if asks_for_last(predicate) {
+    if let Some(Function::Last) = bare_call(predicate) {
         let last = items.len() as i64;
-        return Ok(Some(single(alloc, Item::Atom(Atom::Int(last)))?));
+        let value = single(alloc, Item::Atom(Atom::Int(last)))?;
+        return Ok(Some(ByPosition::Same(value)));
     }
-    Ok(None)
+    Ok(compared(predicate))
+}
+
+/// Whether a predicate keeps the item at a position, from 1.
+fn passes(value: &ByPosition, position: usize) -> Result<bool, Code>
+    requires { position < 2 ^ 63 }
+    ensures { (trees : List Tree) →
+        result ≡ Operators.keeps position (items_at trees (value_there value.now position)) }
+{
+    match value {
+        ByPosition::Same(items) => keeps(position, items),
+        ByPosition::Compared(operator, number) => {
+            let position = Atom::Int(position as i64);
+            compare_value(*operator, &position, &Atom::Int(*number))
+        }
+    }
 }
 
 /// The items that a predicate keeps which has this value at each of them.
-pub fn keep_constant(alloc: Global, items: &[Item], value: &[Item]) -> Result<Items, Fault>
+pub fn keep_positional(alloc: Global, items: &[Item], value: &ByPosition) -> Result<Items, Fault>
     ensures { (trees : List Tree) (frame : Meant) (p : PlanLem)
-        → IsConstant p (length items.now) (map item_view value.now)
+        → IsPositional p (length items.now) value.now
         → AreIn trees (map item_view items.now)
         → GivesSequence (Forms.filtered frame (items_at trees (map item_view items.now))
         (plan_mean p) trees) trees result }
 {
     let mut kept = Vec::new(alloc);
     for (index, item) in items.iter().enumerate() {
-        let is_kept = keeps(index + 1, value)?;
+        let is_kept = passes(value, index + 1)?;
         kept = push_copy(alloc, kept, item, is_kept)?;
     }
     Ok(kept)

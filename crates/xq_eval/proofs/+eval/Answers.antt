@@ -2,14 +2,13 @@ use Rattle.std.proofs.Common.{rules, to_z, of_z, w64, ◌≡◌, ◌++◌, ◌+�
 use Rattle.std.specs.Global.{Vec, Global}
 use Rattle.std.proofs.lemmas.List.{map-append, drop_all, length-map, length-append, append-nil, take_at, take_all}
 use Rattle.xq_forms.specs.declared.frames.Frame.{Frame as Held}
-use Rattle.std.proofs.lemmas.List.Folds.{flat_map-map}
 use Rattle.xq_atoms.specs.Atom.{Atomic, Integer, atomic_of}
 use Rattle.xq_atoms.specs.declared.refusals.Code.TheVariants.{XPTY0019}
 use Rattle.xq_atoms.specs.declared.refusals.Fault.TheVariants.{Code as OfCode}
 use Rattle.xq_regions.specs.Tuples.{Tuple, expanded, numbered, bound, satisfying}
 use Rattle.xq_regions.specs.Items.{ItemView, Value, item_view, item_views}
-use Rattle.xq_regions.specs.declared.items.Item.{Item as Held_item}
-use Rattle.xq_eval.specs.private.Positions.{IsConstant}
+use Rattle.xq_eval.specs.declared.positions.ByPosition.{ByPosition}
+use Rattle.xq_eval.specs.private.Positions.{IsPositional}
 use Rattle.xq_tuples.specs.Views.{values_of}
 use Rattle.xq_meaning.specs.Items.{Item, Node, Atom, atomized}
 use Rattle.xq_meaning.specs.Arguments.{atomic, boolean, effective, all_nodes}
@@ -57,7 +56,7 @@ use Rattle.xq_meaning.specs.Content.{name_of}
 use Rattle.xq_eval.specs.private.Keys.{keys_at}
 use Rattle.xq_eval.specs.private.Quantifying.{holds, at_top, turn, resumed, weigh, all_weigh, unless_wanted}
 use Rattle.std.specs.Prelude.{string_bytes, IfSome, if◌then◌else◌}
-use Rattle.xq_eval.proofs.Steps.{double_slash_is, parents_below_is, axis_order_read, axis_order_in, step_is, named_is, same_goes, more_next, tested_ok, tested_err, go_on_stop, list_next, passed_ok, passed_err, kept_read, concat, concat_read, concat_in, flwor_is, spots_left, element, left_at, frame_inner, frame_inner_in, bound_in, kept_in, expanded_in, numbered_in, slash_ok, slash_err, same_tests, any_tests}
+use Rattle.xq_eval.proofs.Steps.{double_slash_is, parents_below_is, axis_order_read, axis_order_in, step_is, named_is, same_goes, more_next, tested_ok, tested_err, go_on_stop, list_next, passed_ok, passed_err, kept_read, spots_left, element, left_at, frame_inner, frame_inner_in, bound_in, kept_in, expanded_in, numbered_in, slash_ok, slash_err, same_tests, any_tests}
 use Rattle.xq_forms.proofs.Lists.{all_at}
 use Rattle.xq_forms.proofs.Natural.{bound_natural, kept_natural, expanded_natural, numbered_natural}
 use Rattle.xq_tuples.proofs.Copies.{values_of-clones}
@@ -153,6 +152,81 @@ evaluation::next_part-returns-in_err-append-clause-goes g t c = c.in_ok-added.en
 
 pub evaluation::next_part-returns-clause-goes : goal.evaluation::next_part-returns-clause-goes
 evaluation::next_part-returns-clause-goes g t c = c.in_ok-added.ensures.goes
+
+pub evaluation::next_part-returns-in-Call-clause-gives : goal.evaluation::next_part-returns-in-Call-clause-gives
+evaluation::next_part-returns-in-Call-clause-gives g t c = λ clean inside done_in.
+    rw (c.in-Call.is, plan-Call c.in-Call.function c.in-Call.parts, ← c.as_slice.ensures) (c.next_called.ensures.gives clean inside done_in)
+
+pub evaluation::next_part-returns-in-Call-clause-goes : goal.evaluation::next_part-returns-in-Call-clause-goes
+evaluation::next_part-returns-in-Call-clause-goes g t c = c.next_called.ensures.goes
+
+pub evaluation::next_called-returns-in-Some-clause-gives : goal.evaluation::next_called-returns-in-Some-clause-gives
+evaluation::next_called-returns-in-Some-clause-gives g t c = λ clean inside done_in.
+    let f = g.W.TreeSource.forest c.args.world.now in
+    let f' = g.W.TreeSource.forest c.atom_of_call.new.source in
+    let frame = frame_at f c.args.frame in
+    let act = Forms.call c.args.function (map plan_mean c.args.parts.now) in
+    let a = atomic_of c.in-Some.atom in
+    let keeps = c.atom_of_call.ensures.keeps in
+    let told : act frame f ≡ (Ok (atomic a), f') = subst (λ o. Tells atomic (act frame f) f (Ok o)) c.in-Some.is (c.in_ok-atom.ensures.tells clean inside) ∙ ap (λ h. (Ok (atomic a), h)) (sym keeps) in
+    let goes = same_goes keeps c.atom_of_call.ensures.was_clean in
+    more_next (λ (part : Meaning). part frame) (item_views c.args.done) (Value a ∷ []) (item_views c.push.new.self) act f f' goes.grows done_in ((tt, tt), told)
+    (ap (map item_view) c.in_ok-push.ensures.items ∙ map-append item_view c.args.done.items (_ ∷ []))
+
+pub evaluation::next_called-returns-in-Some-clause-goes : goal.evaluation::next_called-returns-in-Some-clause-goes
+evaluation::next_called-returns-in-Some-clause-goes g t c = same_goes c.atom_of_call.ensures.keeps c.atom_of_call.ensures.was_clean
+
+pub evaluation::next_called-returns-in_err-push-clause-goes : goal.evaluation::next_called-returns-in_err-push-clause-goes
+evaluation::next_called-returns-in_err-push-clause-goes g t c = same_goes c.atom_of_call.ensures.keeps c.atom_of_call.ensures.was_clean
+
+pub evaluation::next_called-returns-in_err-atom-clause-gives : goal.evaluation::next_called-returns-in_err-atom-clause-gives
+evaluation::next_called-returns-in_err-atom-clause-gives g t c = λ clean inside done_in.
+    let f = g.W.TreeSource.forest c.args.world.now in
+    let f' = g.W.TreeSource.forest c.atom_of_call.new.source in
+    let outcome = Forms.call c.args.function (map plan_mean c.args.parts.now) (frame_at f c.args.frame) f in
+    let next = λ (ys : List Item). give (items_at f (item_views c.args.done) ++ ys) in
+    let e = c.in_err-atom.field-0.0 in
+    cut item_views items_at AreIn item_views items_at AreIn _ outcome next f' e c.from_residual.result refl c.from_residual.ensures.1
+    (told_stop atomic item_views items_at AreIn outcome f f' e (c.in_err-atom.ensures.tells clean inside))
+
+pub evaluation::next_called-returns-in_err-atom-clause-goes : goal.evaluation::next_called-returns-in_err-atom-clause-goes
+evaluation::next_called-returns-in_err-atom-clause-goes g t c = same_goes c.atom_of_call.ensures.keeps c.atom_of_call.ensures.was_clean
+
+pub evaluation::next_called-returns-clause-gives : goal.evaluation::next_called-returns-clause-gives
+evaluation::next_called-returns-clause-gives g t c = λ clean inside done_in.
+    let f = g.W.TreeSource.forest c.args.world.now in
+    let f' = g.W.TreeSource.forest c.called.new.world in
+    let held = c.args.frame in
+    let frame = frame_at f held in
+    let act = Forms.call c.args.function (map plan_mean c.args.parts.now) in
+    let keeps = c.atom_of_call.ensures.keeps in
+    let added = item_views c.in_ok-added.added in
+    let goes = goes_on_to (same_goes keeps c.atom_of_call.ensures.was_clean) c.in_ok-added.ensures.goes in
+    let value : AreIn f' added × (act frame f ≡ (Ok (items_at f' added), f')) =
+    subst (λ h. AreIn f' added × (act (frame_at h held) h ≡ (Ok (items_at f' added), f'))) keeps (c.in_ok-added.ensures.gives clean (subst (λ h. FrameIn h held) (sym keeps) inside)) in
+    more_next (λ (part : Meaning). part frame) (item_views c.args.done) added (item_views c.append.new.self) act f f' goes.grows done_in value
+    (ap (map item_view) c.in_ok-append.ensures.items ∙ map-append item_view c.args.done.items c.in_ok-added.added.items)
+
+pub evaluation::next_called-returns-in_err-added-clause-gives : goal.evaluation::next_called-returns-in_err-added-clause-gives
+evaluation::next_called-returns-in_err-added-clause-gives g t c = λ clean inside done_in.
+    let f = g.W.TreeSource.forest c.args.world.now in
+    let f' = g.W.TreeSource.forest c.called.new.world in
+    let held = c.args.frame in
+    let act = Forms.call c.args.function (map plan_mean c.args.parts.now) in
+    let keeps = c.atom_of_call.ensures.keeps in
+    let next = λ (ys : List Item). give (items_at f (item_views c.args.done) ++ ys) in
+    let e = c.in_err-added.field-0.0 in
+    cut item_views items_at AreIn item_views items_at AreIn _ (act (frame_at f held) f) next f' e c.from_residual-in_err-added.result refl c.from_residual-in_err-added.ensures.1
+    (subst (λ h. GivesSequence (act (frame_at h held) h) f' (Err e)) keeps (c.in_err-added.ensures.gives clean (subst (λ h. FrameIn h held) (sym keeps) inside)))
+
+pub evaluation::next_called-returns-in_err-added-clause-goes : goal.evaluation::next_called-returns-in_err-added-clause-goes
+evaluation::next_called-returns-in_err-added-clause-goes g t c = goes_on_to (same_goes c.atom_of_call.ensures.keeps c.atom_of_call.ensures.was_clean) c.in_err-added.ensures.goes
+
+pub evaluation::next_called-returns-in_err-append-clause-goes : goal.evaluation::next_called-returns-in_err-append-clause-goes
+evaluation::next_called-returns-in_err-append-clause-goes g t c = goes_on_to (same_goes c.atom_of_call.ensures.keeps c.atom_of_call.ensures.was_clean) c.in_ok-added.ensures.goes
+
+pub evaluation::next_called-returns-clause-goes : goal.evaluation::next_called-returns-clause-goes
+evaluation::next_called-returns-clause-goes g t c = goes_on_to (same_goes c.atom_of_call.ensures.keeps c.atom_of_call.ensures.was_clean) c.in_ok-added.ensures.goes
 
 pub evaluation::chain-loop-operator-preserved : goal.evaluation::chain-loop-operator-preserved
 evaluation::chain-loop-operator-preserved g t c =
@@ -716,6 +790,100 @@ clauses::next_value-returns-in_err-push-clause-goes g t c = c.in_ok-list.ensures
 
 pub clauses::next_value-returns-clause-goes : goal.clauses::next_value-returns-clause-goes
 clauses::next_value-returns-clause-goes g t c = c.in_ok-list.ensures.goes
+
+pub clauses::returned-loop-index-preserved : goal.clauses::returned-loop-index-preserved
+clauses::returned-loop-index-preserved g t c =
+    let i = c.loop-index.invariant in
+    let old = g.W.TreeSource.forest c.args.world.now in
+    let f = g.W.TreeSource.forest c.loop-index.world in
+    let f' = g.W.TreeSource.forest c.next_returned.new.world in
+    let held = c.args.frame in
+    let n = c.loop-index.index in
+    let tuples = c.args.tuples.now in
+    let x = values_of c.tuple.result.now in
+    let slots = values_of held.slots.now in
+    let at : values_of c.deref.result.now ≡ slots ++ x = ap values_of c.deref.ensures.value ∙ c.in_ok-refill.ensures ∙ ap (λ s. s ++ x) i.in_slots in
+    let p = plan_mean c.args.part.now in
+    let done = item_views c.loop-index.items in
+    let act = λ (fr : Frame). more (λ t. p (at_tuple fr t)) in
+    record {
+      goes = goes_on_to i.goes c.next_returned.ensures.goes;
+      turns = turns_next _ _ _ (item_views c.in_ok-items.items) (tuple_at old x) _ _ i.turns (left_at (tuple_at old) tuples n x [] (omega arith) c.tuple.ensures) c.next_returned.ensures.goes.was_clean
+          (λ clean inside is_in.
+          let x_in = element (TupleIn old) tuples n x [] inside.1 (omega arith) c.tuple.ensures in
+          let s = c.in_ok-items.ensures.gives clean (frame_in_grown i.goes.grows held inside.0) is_in x at (tuple_in_grown i.goes.grows x x_in) in
+          (s.0, ap (λ fr. act fr (items_at f done) (tuple_at old x) f) (sym (frame_grown i.goes.grows held inside.0)) ∙ ap (λ y. act (frame_at f held) (items_at f done) y f) (sym (tuple_grown i.goes.grows x x_in)) ∙ s.1));
+      in_slots =
+          ap (take (length held.slots.now)) (c.in_ok-refill.ensures ∙ ap (λ s. s ++ x) i.in_slots)
+          ∙ take_at slots x (length held.slots.now) (length-map held.slots.now (λ slot. item_views slot.value));
+    }
+
+pub clauses::returned-returns-in_err-items-clause-gives : goal.clauses::returned-returns-in_err-items-clause-gives
+clauses::returned-returns-in_err-items-clause-gives g t c = λ clean inside tuples_in.
+    let i = c.loop-index.invariant in
+    let old = g.W.TreeSource.forest c.args.world.now in
+    let f = g.W.TreeSource.forest c.loop-index.world in
+    let f' = g.W.TreeSource.forest c.next_returned.new.world in
+    let held = c.args.frame in
+    let n = c.loop-index.index in
+    let tuples = c.args.tuples.now in
+    let x = values_of c.tuple.result.now in
+    let slots = values_of held.slots.now in
+    let at : values_of c.deref.result.now ≡ slots ++ x = ap values_of c.deref.ensures.value ∙ c.in_ok-refill.ensures ∙ ap (λ s. s ++ x) i.in_slots in
+    let p = plan_mean c.args.part.now in
+    let done = item_views c.loop-index.items in
+    let act = λ (fr : Frame). more (λ t. p (at_tuple fr t)) in
+    let e = c.in_err-items.field-0.0 in
+    handed_on item_views items_at AreIn _ f' e c.from_residual-in_err-items.result c.from_residual-in_err-items.ensures.1
+    (turns_stop _ _ _ item_views items_at AreIn (tuple_at old x) _ f' e i.turns (left_at (tuple_at old) tuples n x [] (omega arith) c.tuple.ensures) c.next_returned.ensures.goes.was_clean
+    (λ clean inside is_in.
+    let x_in = element (TupleIn old) tuples n x [] inside.1 (omega arith) c.tuple.ensures in
+    subst (λ fr. GivesSequence (act fr (items_at f done) (tuple_at old x) f) f' (Err e)) (frame_grown i.goes.grows held inside.0)
+    (subst (λ y. GivesSequence (act (frame_at f held) (items_at f done) y f) f' (Err e)) (tuple_grown i.goes.grows x x_in)
+    (c.in_err-items.ensures.gives clean (frame_in_grown i.goes.grows held inside.0) is_in x at (tuple_in_grown i.goes.grows x x_in)))) clean (inside, tuples_in))
+
+pub clauses::returned-loop-index-init : goal.clauses::returned-loop-index-init
+clauses::returned-loop-index-init g t c =
+    let old = g.W.TreeSource.forest c.args.world.now in
+    let held = c.args.frame in
+    let p = plan_mean c.args.part.now in
+    let frame = frame_at old held in
+    let none : item_views c.new-items.result ≡ [] = ap (map item_view) c.new-items.ensures.items in
+    let slots = values_of held.slots.now in
+    let long = length-map held.slots.now (λ slot. item_views slot.value) in
+    record {
+      goes = stays _ _;
+      turns = record { rest = λ clean inside. subst (λ xs. AreIn old xs × (in_turn (more (λ t. p (at_tuple frame t))) (items_at old xs) (tuples_at old c.args.tuples.now) old ≡ Forms.return_of p (at_tuple frame) (tuples_at old c.args.tuples.now) old)) (sym none) (tt, refl) };
+      in_slots = ap (take (length held.slots.now)) (values_of-clones held.slots.now c.in_ok-slots.slots.items c.in_ok-slots.ensures.ok) ∙ take_all (length held.slots.now) slots (omega (arith, long));
+    }
+
+pub clauses::returned-returns-in_err-slots-clause-goes : goal.clauses::returned-returns-in_err-slots-clause-goes
+clauses::returned-returns-in_err-slots-clause-goes g t c = stays _ _
+
+pub clauses::returned-returns-in_err-refill-clause-goes : goal.clauses::returned-returns-in_err-refill-clause-goes
+clauses::returned-returns-in_err-refill-clause-goes g t c = c.loop-index.invariant.goes
+
+pub clauses::returned-returns-in_err-items-clause-goes : goal.clauses::returned-returns-in_err-items-clause-goes
+clauses::returned-returns-in_err-items-clause-goes g t c = goes_on_to c.loop-index.invariant.goes c.in_err-items.ensures.goes
+
+pub clauses::returned-returns-clause-goes : goal.clauses::returned-returns-clause-goes
+clauses::returned-returns-clause-goes g t c = c.loop-index.invariant.goes
+
+pub clauses::returned-returns-clause-gives : goal.clauses::returned-returns-clause-gives
+clauses::returned-returns-clause-gives g t c = λ clean inside rest_in.
+    let old = g.W.TreeSource.forest c.args.world.now in
+    turns_end _ _ _ c.loop-index.invariant.turns (ap (map (tuple_at old)) (drop_all c.loop-index.index c.args.tuples.now (omega arith))) clean (inside, rest_in)
+
+pub clauses::next_returned-returns-clause-gives : goal.clauses::next_returned-returns-clause-gives
+clauses::next_returned-returns-clause-gives g t c = λ clean inside done_in tuple at tuple_in.
+    let f = g.W.TreeSource.forest c.args.world.now in
+    let held = c.args.frame in
+    let inner : Held = record { slots = c.args.slots; focus = held.focus; addresses = held.addresses } in
+    subst (λ fr. GivesSequence (more (λ (m : Meaning). m fr) (items_at f (item_views c.args.done)) (plan_mean c.args.part.now) f) (g.W.TreeSource.forest c.next_part.new.world) c.next_part.result) (frame_inner f held inner tuple at refl refl)
+    (c.next_part.ensures.gives clean (frame_inner_in f held inner tuple at refl refl inside tuple_in) done_in)
+
+pub clauses::next_returned-returns-clause-goes : goal.clauses::next_returned-returns-clause-goes
+clauses::next_returned-returns-clause-goes g t c = c.next_part.ensures.goes
 
 pub clauses::tests-loop-index-preserved : goal.clauses::tests-loop-index-preserved
 clauses::tests-loop-index-preserved g t c =
@@ -2859,58 +3027,27 @@ expressions::flwor-returns-in_err-tuples-clause-gives g t c = λ clean inside.
     cut (λ (ts : List (Tuple ItemView)). ts) tuples_at TuplesIn item_views items_at AreIn _ (in_turn (next_clause frame) ([] ∷ []) (map plan_clause_mean c.args.clauses.now) f) next f' c.in_err-tuples.field-0.0 c.from_residual.result refl c.from_residual.ensures.1
     (c.in_err-tuples.ensures.gives clean inside)
 
-pub expressions::flwor-returns-in_err-lists-clause-gives : goal.expressions::flwor-returns-in_err-lists-clause-gives
-expressions::flwor-returns-in_err-lists-clause-gives g t c = λ clean inside.
-    let f = g.W.TreeSource.forest c.args.world.now in
-    let held = c.args.frame in
-    let frame = frame_at f held in
-    let f' = g.W.TreeSource.forest c.clause_list.new.world in
-    let f'' = g.W.TreeSource.forest c.values.new.world in
-    let grows = c.in_ok-tuples.ensures.goes.grows in
-    let stream = c.in_ok-tuples.ensures.gives (c.values.ensures.goes.was_clean clean) inside in
-    let tuples = c.in_ok-tuples.tuples in
-    let part = plan_mean c.args.part.now in
-    let meant : flwor (map plan_clause_mean c.args.clauses.now) part frame f ≡ go_on (for_each (λ t. part (at_tuple (frame_at f' held) t)) (tuples_at f' tuples) f') (λ ls. give (concat ls)) =
-    flwor_is (map plan_clause_mean c.args.clauses.now) part frame f (tuples_at f' tuples) f' stream.1
-    ∙ ap (λ fr. go_on (for_each (λ t. part (at_tuple fr t)) (tuples_at f' tuples) f') (λ ls. give (concat ls))) (sym (frame_grown grows held inside)) in
-    let e = c.in_err-lists.field-0.0 in
-    let refused = c.in_err-lists.ensures.gives clean (frame_in_grown grows held inside) stream.0 in
-    subst (λ o. GivesSequence o f'' c.from_residual-in_err-lists.result) (sym meant)
-    (handed_on item_views items_at AreIn _ f'' e c.from_residual-in_err-lists.result c.from_residual-in_err-lists.ensures.1
-    (go_on_stop lists_of tuple_at TupleIn item_views items_at AreIn _ (λ ls. give (concat ls)) f'' e refused))
-
 pub expressions::flwor-returns-clause-gives : goal.expressions::flwor-returns-clause-gives
 expressions::flwor-returns-clause-gives g t c = λ clean inside.
     let f = g.W.TreeSource.forest c.args.world.now in
     let held = c.args.frame in
     let frame = frame_at f held in
     let f' = g.W.TreeSource.forest c.clause_list.new.world in
-    let f'' = g.W.TreeSource.forest c.values.new.world in
+    let f'' = g.W.TreeSource.forest c.returned.new.world in
     let grows = c.in_ok-tuples.ensures.goes.grows in
-    let stream = c.in_ok-tuples.ensures.gives (c.values.ensures.goes.was_clean clean) inside in
+    let stream = c.in_ok-tuples.ensures.gives (c.returned.ensures.goes.was_clean clean) inside in
     let tuples = c.in_ok-tuples.tuples in
     let part = plan_mean c.args.part.now in
-    let meant : flwor (map plan_clause_mean c.args.clauses.now) part frame f ≡ go_on (for_each (λ t. part (at_tuple (frame_at f' held) t)) (tuples_at f' tuples) f') (λ ls. give (concat ls)) =
-    flwor_is (map plan_clause_mean c.args.clauses.now) part frame f (tuples_at f' tuples) f' stream.1
-    ∙ ap (λ fr. go_on (for_each (λ t. part (at_tuple fr t)) (tuples_at f' tuples) f') (λ ls. give (concat ls))) (sym (frame_grown grows held inside)) in
-    let lists = lists_of c.in_ok-lists.lists in
-    let values = c.in_ok-lists.ensures.gives clean (frame_in_grown grows held inside) stream.0 in
-    let all : item_views c.in_ok-concatenated.field-0 ≡ concat lists = c.in_ok-concatenated.ensures ∙ sym (flat_map-map (λ l. l) item_views c.in_ok-lists.lists.items) in (
-      subst (AreIn f'') (sym all) (concat_in f'' lists values.0),
-      meant ∙ ap (λ o. go_on o (λ ls. give (concat ls))) values.1 ∙ ap (λ xs. (Ok xs, f'')) (concat_read f'' lists ∙ ap (items_at f'') (sym all)),
-    )
+    let meant : flwor (map plan_clause_mean c.args.clauses.now) part frame f ≡ Forms.return_of part (at_tuple (frame_at f' held)) (tuples_at f' tuples) f' =
+    ap (λ o. go_on o (λ ts. Forms.return_of part (at_tuple frame) ts)) stream.1
+    ∙ ap (λ fr. Forms.return_of part (at_tuple fr) (tuples_at f' tuples) f') (sym (frame_grown grows held inside)) in
+    subst (λ o. GivesSequence o f'' c.returned.result) (sym meant) (c.returned.ensures.gives clean (frame_in_grown grows held inside) stream.0)
 
 pub expressions::flwor-returns-in_err-tuples-clause-goes : goal.expressions::flwor-returns-in_err-tuples-clause-goes
 expressions::flwor-returns-in_err-tuples-clause-goes g t c = c.in_err-tuples.ensures.goes
 
-pub expressions::flwor-returns-in_err-lists-clause-goes : goal.expressions::flwor-returns-in_err-lists-clause-goes
-expressions::flwor-returns-in_err-lists-clause-goes g t c = goes_on_to c.in_ok-tuples.ensures.goes c.in_err-lists.ensures.goes
-
-pub expressions::flwor-returns-in_err-concatenated-clause-goes : goal.expressions::flwor-returns-in_err-concatenated-clause-goes
-expressions::flwor-returns-in_err-concatenated-clause-goes g t c = goes_on_to c.in_ok-tuples.ensures.goes c.in_ok-lists.ensures.goes
-
 pub expressions::flwor-returns-clause-goes : goal.expressions::flwor-returns-clause-goes
-expressions::flwor-returns-clause-goes g t c = goes_on_to c.in_ok-tuples.ensures.goes c.in_ok-lists.ensures.goes
+expressions::flwor-returns-clause-goes g t c = goes_on_to c.in_ok-tuples.ensures.goes c.returned.ensures.goes
 
 pub expressions::path-returns-in-Some-clause-gives : goal.expressions::path-returns-in-Some-clause-gives
 expressions::path-returns-in-Some-clause-gives g t c = λ clean inside.
@@ -3226,8 +3363,8 @@ expressions::flwor-clause_list-requires g t c = λ κs live.
     let below : 8 * most size-PlanClause c.args.clauses.now + 8 < t = omega (arith, all) in
     (below, live)
 
-pub expressions::flwor-values-requires : goal.expressions::flwor-values-requires
-expressions::flwor-values-requires g t c = λ κs live.
+pub expressions::flwor-returned-requires : goal.expressions::flwor-returned-requires
+expressions::flwor-returned-requires g t c = λ κs live.
     let all : 8 * max (most size-PlanClause c.args.clauses.now) (size-Plan c.args.part.now) + 9 ≡ t = c.decreases in
     let below : 8 * size-Plan c.args.part.now + 6 < t = omega (arith, all) in
     (below, live)
@@ -3357,15 +3494,15 @@ evaluation::evaluate-simple_map-requires g t c = λ κs live.
     let below : 8 * max (size-Plan c.get-in-Map.result.now) (most size-Plan c.as_slice-in-Map.result.now) + 9 < t = omega (arith, all, whole, e0, e1) in
     (below, live)
 
--- # Predicates with the same value at each item
+-- # Predicates whose value an item's position tells
 
 pub evaluation::keep-returns-in-Some-clause-gives : goal.evaluation::keep-returns-in-Some-clause-gives
 evaluation::keep-returns-in-Some-clause-gives g t c = λ clean inside items_in.
     let f = g.W.TreeSource.forest c.args.world.now in
     let p = c.args.predicate.now in
     let items = c.args.items.now in
-    let fixed = subst (λ r. IfSome r (λ (v : Vec Held_item). IsConstant p (length items) (item_views v))) c.in-Some.is c.in_ok-value.ensures in
-    c.keep_constant.ensures f (frame_at f c.args.frame) p (subst (λ vs. IsConstant p (length items) (map item_view vs)) (sym c.deref.ensures.value) fixed) items_in
+    let told = subst (λ r. IfSome r (λ (v : ByPosition). IsPositional p (length items) v)) c.in-Some.is c.in_ok-value.ensures in
+    c.keep_positional.ensures f (frame_at f c.args.frame) p told items_in
 
 pub evaluation::keep-returns-in-Some-text_test_at-clause-gives : goal.evaluation::keep-returns-in-Some-text_test_at-clause-gives
 evaluation::keep-returns-in-Some-text_test_at-clause-gives g t c = λ clean inside items_in.

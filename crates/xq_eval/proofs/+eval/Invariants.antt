@@ -122,6 +122,19 @@ invariant-clauses::values-loop-index g l =
       in_slots : take l.outer (values_of l.slots.items) ≡ values_of l.frame.slots.now;
     }
 
+abbrev pub invariant-clauses::returned-loop-index : goal.invariant-clauses::returned-loop-index
+invariant-clauses::returned-loop-index g l =
+    let old = g.W.TreeSource.forest l.fn.world in
+    let now = g.W.TreeSource.forest l.world in
+    let frame = frame_at old l.frame in
+    let inside = FrameIn old l.frame in
+    let clean = g.W.TreeSource.is_clean l.world in
+    record {
+      goes : Goes old now (g.W.TreeSource.is_clean l.fn.world) clean;
+      turns : Turns items_at AreIn (more (λ t. plan_mean l.part (meant_at frame t))) (inside × TuplesIn old l.tuples) clean (item_views l.items) (map (tuple_at old) (drop l.index l.tuples)) now (Forms.return_of (plan_mean l.part) (meant_at frame) (tuples_at old l.tuples) old);
+      in_slots : take l.outer (values_of l.slots.items) ≡ values_of l.frame.slots.now;
+    }
+
 abbrev pub invariant-clauses::tests-loop-index : goal.invariant-clauses::tests-loop-index
 invariant-clauses::tests-loop-index g l =
     let old = g.W.TreeSource.forest l.fn.world in
@@ -242,6 +255,9 @@ decreases-evaluation::sequence g a = 8 * goal.size-evaluation::sequence g a + 5
 abbrev pub decreases-evaluation::next_part : goal.decreases-evaluation::next_part
 decreases-evaluation::next_part g a = 8 * goal.size-evaluation::next_part g a + 4
 
+abbrev pub decreases-evaluation::next_called : goal.decreases-evaluation::next_called
+decreases-evaluation::next_called g a = 8 * goal.size-evaluation::next_called g a + 7
+
 abbrev pub decreases-evaluation::chain : goal.decreases-evaluation::chain
 decreases-evaluation::chain g a = 8 * goal.size-evaluation::chain g a + 5
 
@@ -310,6 +326,12 @@ decreases-clauses::values g a = 8 * goal.size-clauses::values g a + 6
 
 abbrev pub decreases-clauses::next_value : goal.decreases-clauses::next_value
 decreases-clauses::next_value g a = 8 * goal.size-clauses::next_value g a + 5
+
+abbrev pub decreases-clauses::returned : goal.decreases-clauses::returned
+decreases-clauses::returned g a = 8 * goal.size-clauses::returned g a + 6
+
+abbrev pub decreases-clauses::next_returned : goal.decreases-clauses::next_returned
+decreases-clauses::next_returned g a = 8 * goal.size-clauses::next_returned g a + 5
 
 abbrev pub decreases-clauses::tests : goal.decreases-clauses::tests
 decreases-clauses::tests g a = 8 * goal.size-clauses::tests g a + 6
