@@ -25,6 +25,6 @@ pub use paths::{ShortPath, held_node, short_path};
 pub use steps::{axis_items, double_slash, in_axis_order, parents_below, scan, scan_from};
 pub use told::{call_on_places, is_told, only_atom};
 pub use values::{
-    boolean, concatenated, context_item, copied, deciding, decimal, integer, joined, opened,
-    push_copy, refill, single, slot, string, variable,
+    boolean, context_item, copied, deciding, decimal, integer, joined, opened, push_copy, refill,
+    single, slot, string, variable,
 };

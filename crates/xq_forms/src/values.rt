@@ -1,5 +1,5 @@
 //! What is done with values alone: no trees are read.
-ghost use Rattle.std.specs.Prelude.{◌≡◌, ◌∷◌, [], ◌++◌, List, map, take, flat_map, IfOk, OnOk};
+ghost use Rattle.std.specs.Prelude.{◌≡◌, ◌∷◌, [], ◌++◌, List, map, take, IfOk, OnOk};
 ghost use Rattle.xq_atoms.specs.Atom.{Integer, Decimal as DecimalView, String as StringView};
 ghost use Rattle.xq_regions.specs.Tree.{Tree};
 ghost use Rattle.xq_regions.specs.Tuples.{value_at};
@@ -147,18 +147,6 @@ pub fn push_copy(alloc: Global, items: Items, item: &Item, keeps: bool) -> Resul
         all.push(item.try_clone(alloc)?)?;
     }
     Ok(all)
-}
-
-/// The items of all lists.
-pub fn concatenated(alloc: Global, lists: Vec<Items>) -> Result<Items, Want>
-    ensures { IfOk result (λ items. item_views items ≡ flat_map item_views lists.items) }
-{
-    let mut items = Vec::new(alloc);
-    for list in lists {
-        let mut more = list;
-        items.append(&mut more)?;
-    }
-    Ok(items)
 }
 
 /// The answer at which a quantifier stops (XQuery 3.1, section 3.16).
