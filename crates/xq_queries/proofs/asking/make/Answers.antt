@@ -1,4 +1,4 @@
-use Rattle.std.proofs.Common.{◌≡◌, ◌≤◌, map, subst, arith, rules}
+use Rattle.std.proofs.Common.{◌≡◌, map, subst, arith, rules}
 use Rattle.std.specs.Prelude.{IfOk}
 use Rattle.xq_regions.specs.Items.{item_view}
 use Rattle.xq_meaning.specs.Readings.{items_at}
