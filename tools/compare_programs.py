@@ -1,0 +1,129 @@
+#!/usr/bin/env python3
+"""Asks two programs of the server the same random requests, and compares their replies.
+
+    tools/compare_programs.py OLD NEW [--seed N] [--documents N] [--requests N]
+
+Documents have up to 1,500 nodes and few names, so that steps by a name find much. The requests are
+paths with predicates, from documents, from nodes and in loops, orders, groups, copies, and now and
+then a store that changes the document. The status is 1 where a reply differs, which is printed.
+"""
+
+import argparse
+import random
+import sys
+from collections.abc import Iterator
+
+import harness
+
+NAMES = ("a", "b", "c", "book", "t")
+SIZES = (20, 150, 400, 1500)
+AXES = ("//", "//", "/", "/descendant::", "/descendant-or-self::", "/ancestor::", "/following::",
+        "/preceding::", "/child::")
+PREDICATES = ("", "", "[1]", "[2]", "[last()]", "[position() <= 2]", "[position() > 3]",
+              "[position() = last()]", "[position() != 2]", "[position() >= 2]", '[@id = "1"]',
+              "[{0}]", '[{0} = "x"]', "[.//{0}]", "[count(.//{0}) > 1]")
+QUERIES = (
+    "{path}", "{path}", "{path}", "count({path})", "({path})[{number}]//{name}",
+    "for $x in {path} return count($x//{name})",
+    'for $x in doc("d")//{other} order by string($x/{name}[1]) return string($x)',
+    '(for $x in doc("d")//{other} order by count($x//{name}), $x/@id descending'
+    " return string($x))[position() <= {number}]",
+    "let $k := document {{element q {{{path}}}}} return ($k//{name}, count($k//{name}))",
+    'for $x in doc("d")//{other} group by $g := count($x//{name}) return ($g, count($x))',
+    "some $x in {path} satisfies $x//{name}",
+)
+GROWN = 'document {{element r {{doc("d")/r/*[position() <= 30], element {name} {{"new"}}}}}}'
+MOST_SHOWN = 5
+
+
+class Requests:
+    """Random documents and requests, by a seed."""
+
+    def __init__(self, seed: int) -> None:
+        self.random = random.Random(seed)
+        self.room = 0
+
+    def name(self) -> str:
+        """A name, or one that no element has."""
+        return self.random.choice((*NAMES, "nosuch"))
+
+    def leaf(self) -> str:
+        """A text, or a comment."""
+        text = 'text {"%s"}' % self.random.choice(("x", "y", "zz", "1", "2", "10"))
+        return self.random.choice((text, text, text, 'comment {"c"}'))
+
+    def element(self, level: int) -> str:
+        """The constructor of an element, as far as there is room for more nodes."""
+        parts = []
+        if self.random.random() < 0.5:
+            name = self.random.choice(("id", "a", "k"))
+            parts.append('attribute %s {"%d"}' % (name, self.random.randint(0, 5)))
+        while self.room > 0 and len(parts) < 40 and self.random.random() < 0.75:
+            self.room -= 1
+            is_inner = level < 8 and self.random.random() < 0.72
+            parts.append(self.element(level + 1) if is_inner else self.leaf())
+        name = self.random.choice(NAMES[:self.random.randint(1, len(NAMES))])
+        return "element %s {%s}" % (name, ", ".join(parts))
+
+    def document(self) -> str:
+        """The constructor of a document."""
+        self.room = self.random.choice(SIZES)
+        parts = [self.element(1) for _ in range(self.random.randint(1, 6))]
+        return "document {element r {%s}}" % ", ".join(parts)
+
+    def path(self) -> str:
+        """A path from the document, of one to three steps."""
+        steps = []
+        for _ in range(self.random.randint(1, 3)):
+            predicate = self.random.choice(PREDICATES).format(self.name())
+            steps.append(self.random.choice(AXES) + self.name() + predicate)
+        return 'doc("d")' + "".join(steps)
+
+    def query(self) -> str:
+        """A query over the document."""
+        return self.random.choice(QUERIES).format(
+            path=self.path(), name=self.name(), other=self.name(),
+            number=self.random.randint(0, 9))
+
+    def request(self) -> tuple[bytes, bytes]:
+        """A kind and a body: mostly a query, sometimes a store."""
+        choice = self.random.random()
+        if choice < 0.06:
+            return b"S", harness.store(b"d", GROWN.format(name=self.name()).encode())
+        if choice < 0.1:
+            return b"S", harness.store(b"e", self.path().encode())
+        return b"Q", self.query().encode()
+
+    def all(self, documents: int, requests: int) -> Iterator[tuple[bytes, bytes]]:
+        """So many requests over each of so many documents."""
+        for _ in range(documents):
+            yield b"S", harness.store(b"d", self.document().encode())
+            for _ in range(requests):
+                yield self.request()
+
+
+def main() -> int:
+    """Compares the programs that the command line names."""
+    parser = argparse.ArgumentParser(description=__doc__.splitlines()[0])
+    parser.add_argument("old")
+    parser.add_argument("new")
+    parser.add_argument("--seed", type=int, default=1)
+    parser.add_argument("--documents", type=int, default=40)
+    parser.add_argument("--requests", type=int, default=100)
+    given = parser.parse_args()
+    old, new = harness.Server([given.old]), harness.Server([given.new])
+    asked = refused = differ = 0
+    for kind, body in Requests(given.seed).all(given.documents, given.requests):
+        replies = old.ask(kind, body), new.ask(kind, body)
+        asked += 1
+        refused += replies[0] is not None and replies[0][0] != 0
+        if replies[0] != replies[1]:
+            differ += 1
+            if differ <= MOST_SHOWN:
+                print(kind, body, *replies, sep="\n  ")
+    print(f"{asked} requests, of which {refused} were refused; {differ} replies differ")
+    return 1 if differ else 0
+
+
+if __name__ == "__main__":
+    sys.exit(main())
