@@ -27,3 +27,5 @@ pub mod GoingOn
 pub mod KnownParents
 pub mod AxisNodes
 pub mod DoubleSlash
+pub mod OneNode
+pub mod ManyChildren

@@ -7,3 +7,4 @@ pub mod Counted
 pub mod Standing
 pub mod Named
 pub mod Found
+pub mod Near

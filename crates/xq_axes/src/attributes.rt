@@ -10,6 +10,7 @@ ghost use Rattle.xq_axes.specs.Reads.{span, span_end};
 ghost use Rattle.xq_axes.specs.private.Counted.{passes_each as passes_each_lem, AreAll, AreCounted, AreHits};
 
 use crate::downward::{ToAttributes, search_below};
+use crate::near::attributes_of;
 use crate::picks::{Found, Judge, Picker, Places, Verdict};
 use crate::walks::walk;
 use std::alloc::Global;
@@ -128,7 +129,7 @@ fn take_attributes<L: RowLender>(
 const FAR: u32 = 3;
 
 /// Whether the places, which rise, are so close to one another that a walk over all rows between
-/// them costs less than a look at each by itself: a single one is.
+/// them costs less than a look at each by itself.
 fn are_close(places: &[u32]) -> bool {
     match (places.first(), places.last()) {
         (Some(first), Some(last)) => (last.saturating_sub(*first) / FAR) as usize <= places.len(),
@@ -159,6 +160,9 @@ pub fn search_attributes<L: RowLender>(
     ensures keeps { L.forest source.new ≡ L.forest source.old }
     ensures was_clean { L.is_clean source.new → L.is_clean source.old }
 {
+    if let [place] = places {
+        return attributes_of(alloc, source, tree, *place, test);
+    }
     if are_close(places) {
         return search_below(alloc, source, tree, ToAttributes, places, test);
     }

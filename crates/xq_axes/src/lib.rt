@@ -3,12 +3,14 @@
 
 mod attributes;
 mod backward;
+mod children;
 mod contexts;
 mod copies;
 mod downward;
 mod levels;
 mod merges;
 mod names;
+mod near;
 mod onward;
 mod parents;
 mod passing;

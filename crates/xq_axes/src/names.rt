@@ -47,7 +47,7 @@ fn places_between(places: &[u32], low: u32, high: u32) -> &[u32]
 }
 
 /// The name that elements have to have to pass the test, where it asks for such.
-fn wanted_name(test: &Test) -> Option<&str>
+pub fn wanted_name(test: &Test) -> Option<&str>
     ensures { IfSome result (λ name. test.now ≡ tests.Element (Some name.now)) }
 {
     match test {
@@ -58,7 +58,7 @@ fn wanted_name(test: &Test) -> Option<&str>
 
 /// Whether the rows from `low` to `high` are so large a part of those up to there that a look for a
 /// name among all rows of the tree costs little more than one among these.
-fn is_large_part(low: u32, high: u32) -> bool {
+pub fn is_large_part(low: u32, high: u32) -> bool {
     u64::from(high.saturating_sub(low)) * PART >= u64::from(high)
 }
 

@@ -17,7 +17,8 @@ ghost use Rattle.xq_axes.specs.Many.{spot, is_found_from, AreSame, AreThere, IsN
 
 use crate::attributes::search_attributes;
 use crate::backward::{Backward, search_back};
-use crate::downward::{ToChildren, ToDescendants, ToDescendantsOrSelf, search_below};
+use crate::children::search_children;
+use crate::downward::{ToDescendants, ToDescendantsOrSelf, search_below};
 use crate::merges::merge;
 use crate::onward::search_on;
 use crate::parents::search_parents;
@@ -52,7 +53,7 @@ fn search<L: RowLender>(
     ensures was_clean { L.is_clean source.new → L.is_clean source.old }
 {
     match axis {
-        Axis::Child => search_below(alloc, source, tree, ToChildren, places, test),
+        Axis::Child => search_children(alloc, source, tree, places, test),
         Axis::Descendant => search_below(alloc, source, tree, ToDescendants, places, test),
         Axis::DescendantOrSelf => {
             search_below(alloc, source, tree, ToDescendantsOrSelf, places, test)

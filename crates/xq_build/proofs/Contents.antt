@@ -27,7 +27,8 @@ use Rattle.xq_regions.specs.declared.Kind.TheVariants.{Document, Element, Attrib
 use Rattle.xq_regions.proofs.Paths.{at_place}
 use Rattle.xq_sources.specs.Sources.{tree_at}
 use Rattle.xq_meaning.specs.Readings.{node_at}
-use Rattle.xq_build.specs.private.Content.{so_far, open_text, longer, flattened_with, Childless, is_top_text, glued, put, merged_leaves, may_stand_first, AreApart, is_kept, is_loose, are_settled, labels_if, top_labels, raised, are_low}
+use Rattle.xq_attributes.specs.Attributes.{labels_if, top_labels}
+use Rattle.xq_build.specs.private.Content.{so_far, open_text, longer, flattened_with, Childless, is_top_text, glued, put, merged_leaves, may_stand_first, AreApart, is_kept, is_loose, are_settled, raised, are_low}
 use Rattle.xq_copies.proofs.Subtrees.{length-leveled}
 
 pub leaves-leveled : (f : Forest Label) → leaves f ≡ leveled 0 f

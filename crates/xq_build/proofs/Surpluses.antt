@@ -32,7 +32,8 @@ use Rattle.xq_meaning.specs.Readings.{node_at, item_at, items_at}
 use Rattle.xq_copies.specs.Leaves.{Leaf, leaves, lowered, leaves_between, IsRowOf}
 use Rattle.xq_copies.proofs.Subtrees.{run_splits, whole_leaves, node_leaves, label}
 use Rattle.xq_build.proofs.Contents.{leaves-leveled, leaves-join, low_leaves, content_at, content_is, tree_content, content_leaves, flattened-with, Childless-join, Childless-open}
-use Rattle.xq_build.specs.private.Content.{is_top_text, glued, put, merged_leaves, is_kept, labels_if, top_labels, are_low, fault_from, open_text, longer, flattened_with, Childless, so_far}
+use Rattle.xq_attributes.specs.Attributes.{labels_if, top_labels, fault_from}
+use Rattle.xq_build.specs.private.Content.{is_top_text, glued, put, merged_leaves, is_kept, are_low, open_text, longer, flattened_with, Childless, so_far}
 use Rattle.xq_build.specs.private.Surplus.{is_firm, firm_count, is_late, is_full, is_top_attribute, kept_fault, Alike, StandsFor, copy_of, AreSeen, Shortens, Takes, Flattens}
 
 -- # What one node does to the fault of those after it

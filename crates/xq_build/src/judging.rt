@@ -1,75 +1,18 @@
 //! What is judged of the content of an element or a document, and the tree that it becomes.
-ghost use Rattle.std.specs.Prelude.{◌≡◌, ◌∷◌, ◌++◌, [], false, map, string_bytes, IfOk, OnOk};
+ghost use Rattle.std.specs.Prelude.{◌≡◌, ◌∷◌, ◌++◌, [], map, string_bytes, IfOk, OnOk};
 ghost use Rattle.xq_regions.specs.Forest.{Forest};
 ghost use Rattle.xq_regions.specs.Tree.{Label};
 ghost use Rattle.xq_regions.specs.Levels.{flat_row};
-ghost use Rattle.xq_meaning.specs.Content.{attribute_fault, built as built_lem, label};
+ghost use Rattle.xq_meaning.specs.Content.{built as built_lem, label};
 ghost use Rattle.xq_atoms.specs.Answers.{GivesUnlessWanting};
-ghost use Rattle.xq_build.specs.private.Content.{are_low as are_low_lem, raised as raised_lem, fault_from, names_of, JudgedAs, JudgesLeaf};
+ghost use Rattle.xq_build.specs.private.Content.{are_low as are_low_lem, raised as raised_lem};
 ghost use Rattle.xq_build.specs.private.Surplus.{StandsFor};
 
-use indexmap::IndexSet;
 use std::alloc::Global;
 use std::mem;
 use xq_atoms::{Code, Fault, Want};
+use xq_attributes::judge_attributes;
 use xq_regions::{Fragment, Kind, MAX_LEVEL, MAX_NODES, NodeRow};
-
-/// Judges an attribute, after others with these names, and perhaps after another node.
-fn judge_attribute<'a>(
-    parent: Kind,
-    names: &mut IndexSet<&'a str>,
-    late: bool,
-    name: &'a str,
-) -> Result<(), Fault>
-    ensures judged { JudgedAs (attribute_fault parent (names_of names.old) late name.now) result }
-    ensures names { OnOk result (names_of names.new ≡ name.now ∷ names_of names.old) }
-{
-    match parent {
-        Kind::Document => return Err(Fault::Code(Code::XPTY0004)),
-        _ => {}
-    }
-    if late {
-        return Err(Fault::Code(Code::XQTY0024));
-    }
-    if !names.insert(name)? {
-        return Err(Fault::Code(Code::XQDY0025));
-    }
-    Ok(())
-}
-
-/// Judges a node, where it is one at the top; tells whether a later attribute is too late.
-fn judge_node<'a>(
-    parent: Kind,
-    names: &mut IndexSet<&'a str>,
-    late: bool,
-    row: &'a NodeRow,
-) -> Result<bool, Fault>
-    ensures { JudgesLeaf parent (names_of names.old) late (flat_row row.now)
-        (names_of names.new) result }
-{
-    if row.level > 0 {
-        return Ok(late);
-    }
-    match row.kind {
-        Kind::Attribute => {
-            judge_attribute(parent, names, late, row.name.as_str())?;
-            Ok(late)
-        }
-        _ => Ok(true),
-    }
-}
-
-/// Judges the attributes among the nodes at the top, in order.
-fn judge_attributes(alloc: Global, parent: Kind, rows: &[NodeRow]) -> Result<(), Fault>
-    ensures { JudgedAs (fault_from parent [] false (map flat_row rows.now)) result }
-{
-    let mut names = IndexSet::new(alloc);
-    let mut late = false;
-    for row in rows {
-        late = judge_node(parent, &mut names, late, row)?;
-    }
-    Ok(())
-}
 
 /// Whether no level is over that of the children of the lowest nodes but one.
 pub fn are_low(rows: &[NodeRow]) -> bool

@@ -1,7 +1,6 @@
 //! Steps along the axes (XQuery 3.1, sections 3.3.2 and 3.3.3).
 ghost use Rattle.std.specs.Prelude.{◌≡◌, ◌*◌, ◌∷◌, [], ℕ, map, IfOk, Ok};
 ghost use Rattle.xq_regions.specs.Items.{item_view, item_views};
-ghost use Rattle.xq_meaning.specs.Steps.{in_axis_order as in_axis_order_lem, is_reverse as is_reverse_lem};
 ghost use Rattle.xq_sources.specs.Sources.{HasNode};
 ghost use Rattle.xq_meaning.specs.Items.{Node as NodeItem};
 ghost use Rattle.xq_meaning.specs.Readings.{node_at, items_at, AreIn};
@@ -13,6 +12,7 @@ use crate::frames::Frame;
 use crate::nodes::{as_items, context_node, nodes_among, only_node, only_nodes};
 use std::alloc::Global;
 use xq_atoms::{Fault, Want};
+use xq_axis_order::in_axis_order;
 use xq_meaning::Test;
 use xq_regions::{Axis, Item, Items, Node};
 use xq_sources::Growing;
@@ -34,37 +34,6 @@ pub fn axis_items<W: Growing>(
     let node = context_node(frame.focus)?;
     let items = xq_axes::items_on_axis(alloc, world, node, axis, test)?;
     Ok(in_axis_order(axis, items))
-}
-
-/// Whether the axis goes up or to the left.
-fn is_reverse(axis: Axis) -> bool
-    ensures { result ≡ is_reverse_lem axis }
-{
-    match axis {
-        Axis::Parent
-        | Axis::Ancestor
-        | Axis::AncestorOrSelf
-        | Axis::Preceding
-        | Axis::PrecedingSibling => true,
-        Axis::Child
-        | Axis::Descendant
-        | Axis::DescendantOrSelf
-        | Axis::SelfNode
-        | Axis::Attributes
-        | Axis::Following
-        | Axis::FollowingSibling => false,
-    }
-}
-
-/// The items from document order to axis order, or back.
-pub fn in_axis_order(axis: Axis, items: Items) -> Items
-    ensures { item_views result ≡ in_axis_order_lem axis (item_views items) }
-{
-    let mut ordered = items;
-    if is_reverse(axis) {
-        ordered.reverse();
-    }
-    ordered
 }
 
 /// [`scan`] from one node.

@@ -1,10 +1,10 @@
 //! What an adoption comes to where memory is refused once: the store of the documents that are
 //! there, at the second time where the first was refused.
-use crate::adopt_tests::{BOOKS, LAYOUT, NODE, ONE, adopted};
+use crate::adopt_tests::{BOOKS, LAYOUT, NODE, ONE};
 use crate::calls::{Call, first_wrong};
-use crate::documents::{Documents, Named};
-use crate::tests::{documents_again, opened_again};
-use sqlite::{Alter, Connection, Error, FileStore, Files, MemStore, Options};
+use crate::documents::LIBRARY;
+use crate::stores::{adopt, adopted, made, made_on_disks, opened_again};
+use sqlite::{Alter, Connection, FileStore};
 use std::alloc::Global;
 use std::test::Fail;
 use xq_atoms::Want;
@@ -19,60 +19,37 @@ const DATABASES: [Made; 2] = [
     (&[], &[Call::List(&[]), Call::Load("b", None)]),
     (
         &[LAYOUT, NODE, ONE, BOOKS],
-        &[Call::List(&["b"]), Call::Load("b", Some(Named::Library))],
+        &[Call::List(&["b"]), Call::Load("b", Some(LIBRARY))],
     ),
 ];
 
-/// Makes the database by these statements.
-fn filled<S: Alter + Drop>(
-    conn: Connection<S>,
-    statements: &[&str],
-) -> Result<Connection<S>, Error> {
-    let mut conn = conn;
-    for statement in statements {
-        let _count = conn.execute(statement, &[])?;
-    }
-    Ok(conn)
-}
-
-fn in_memory(alloc: Global, statements: &[&str]) -> Result<Connection<MemStore>, Error> {
-    filled(Connection::open_in_memory(alloc)?, statements)
-}
-
-fn on_disks(
-    alloc: Global,
-    statements: &[&str],
-) -> Result<Connection<FileStore<MemoryDisk>>, Error> {
-    let files = Files {
-        log: MemoryDisk::new(alloc),
-        db: MemoryDisk::new(alloc),
-    };
-    match Connection::open_files(alloc, files, Options::new(7)) {
-        Ok(conn) => filled(conn, statements),
-        Err((error, _left)) => Err(error),
-    }
-}
-
 /// Adopts the database, and once more where something was wanting.
-fn adopted_again<S: Alter + Drop>(
+fn adopted_again<S: Alter>(
     alloc: Global,
     conn: Connection<S>,
 ) -> Result<Store<S>, (OpenFault, Connection<S>)> {
-    if !conn.is_autocommit() {
-        return Err((OpenFault::NotAStore, conn));
-    }
-    match Store::adopt(alloc, conn) {
+    match adopt(alloc, conn) {
         Ok(store) => Ok(store),
-        Err((OpenFault::Want(_want), conn)) => Store::adopt(alloc, conn),
+        Err((OpenFault::Want(_want), conn)) => adopt(alloc, conn),
         Err((OpenFault::NotAStore, conn)) => Err((OpenFault::NotAStore, conn)),
     }
 }
 
 /// Whether the calls have their answers, at the second time where something was wanting.
-fn answers_again<S: Alter>(store: &mut Store<S>, documents: &Documents, calls: &[Call]) -> bool {
-    match first_wrong(store, documents, calls) {
+fn answers_again<S: Alter + Drop>(alloc: Global, store: Store<S>, calls: &[Call]) -> bool {
+    let mut store = store;
+    match first_wrong(alloc, &mut store, calls) {
         Ok(wrong) => wrong == 0,
-        Err(_want) => matches!(first_wrong(store, documents, calls), Ok(0)),
+        Err(_want) => matches!(first_wrong(alloc, &mut store, calls), Ok(0)),
+    }
+}
+
+/// Whether the database is adopted, and the calls have their answers, each at the second time where
+/// something was wanting.
+fn serves_again<S: Alter + Drop>(alloc: Global, conn: Connection<S>, calls: &[Call]) -> bool {
+    match adopted_again(alloc, conn) {
+        Ok(store) => answers_again(alloc, store, calls),
+        Err(_refused) => false,
     }
 }
 
@@ -81,13 +58,9 @@ fn answers_again<S: Alter>(store: &mut Store<S>, documents: &Documents, calls: &
 #[test]
 fn each_allocation_in_memory(rt: HostRuntime) -> Result<(), Fail> {
     let alloc = rt.alloc();
-    let documents = documents_again(alloc)?;
     for (statements, calls) in DATABASES {
-        let conn = in_memory(alloc, statements).or_else(|_error| in_memory(alloc, statements))?;
-        let Ok(mut store) = adopted_again(alloc, conn) else {
-            return Err(Fail::new("it was not adopted"));
-        };
-        assert!(rt; answers_again(&mut store, &documents, calls));
+        let conn = made(alloc, statements).or_else(|_error| made(alloc, statements))?;
+        assert!(rt; serves_again(alloc, conn, calls));
     }
     Ok(())
 }
@@ -109,11 +82,12 @@ fn adopted_at_last(
 #[test]
 fn each_allocation_on_memory_disks(rt: HostRuntime) -> Result<(), Fail> {
     let alloc = rt.alloc();
-    let documents = documents_again(alloc)?;
     for (statements, calls) in DATABASES {
-        let conn = on_disks(alloc, statements).or_else(|_error| on_disks(alloc, statements))?;
-        let mut store = adopted_at_last(alloc, conn)?;
-        assert!(rt; answers_again(&mut store, &documents, calls));
+        let conn = made_on_disks(alloc, statements).or_else(|_error| made_on_disks(
+            alloc, statements,
+        ))?;
+        let store = adopted_at_last(alloc, conn)?;
+        assert!(rt; answers_again(alloc, store, calls));
     }
     Ok(())
 }

@@ -1,113 +1,125 @@
-//! The tables over the documents of a store: over a view that reads their rows for the first time,
-//! and over one whose rows the store kept.
+//! Steps over the documents of a store: over a view that reads their rows for the first time, and
+//! over one whose rows the store kept.
 
-use crate::part_tests::put;
-use crate::views::{Task, counts_of, seen};
+use crate::stores::{in_memory, load, on_disks, put};
+use crate::views::{Task, seen};
 use sqlite::Alter;
 use std::alloc::Global;
-use std::process::Abort;
 use xq_atoms::Want;
 use xq_regions::{Axis, Fragment};
 use xq_rows::Store;
 use xq_samples::documents::{great_library, held, library, register};
-use xq_samples::scans::{GREAT_SCANS, REGISTER_NODES, REGISTER_SCANS, SCANS, Scan};
+use xq_samples::scans::{
+    Counts, GREAT_SCANS, REGISTER_NODES, REGISTER_SCANS, SCANS, Scan, read_by,
+};
+use xq_sources::Fragments;
 
 /// Puts the one document of the store in its own place, so that no row of it stays.
 fn put_again<S: Alter>(store: &mut Store<S>) -> Result<(), Want> {
-    let Some(document) = store.load("b")? else {
+    let Some(document) = load(store, "b")? else {
         return Err(Want::Store);
     };
     let _put = put(store, "b", &document)?;
     Ok(())
 }
 
-/// The tables hold over a view whose rows are read meanwhile, and over the next, which reads none.
-fn tables_hold<S: Alter + Drop, R: Abort>(
-    rt: &R,
-    alloc: Global,
-    store: Store<S>,
-) -> Result<(), Want> {
-    let mut store = store;
-    let _put = put(&mut store, "b", &library(alloc)?)?;
-    let (store, _counts) = seen(rt, alloc, store, Task::Tables)?;
-    let (_store, _counts) = seen(rt, alloc, store, Task::Tables)?;
-    Ok(())
+/// Whether a step reads as many rows of a view as of fragments: what a view lends is counted, and
+/// not that it reads a document on in parts. At the end of such a part, before it is read on, a
+/// step may go over rows that are not lent yet, and so read fewer. The other differences are
+/// parents, and the attributes of nodes that are far apart. Fragments and kept rows tell them at
+/// once: the rows of the parents alone are read, and of attributes none, since each passes. A view
+/// that has read nothing of the document can't tell them, and looks for parents over the rows
+/// before the nodes, for attributes at each node's own row and over those below it.
+fn reads_as_many((_, axis, to, _): Scan, counts: Counts, unread: Counts) -> bool {
+    match axis {
+        Axis::Parent => counts == (0, to.count()) && unread.1 == 0,
+        Axis::Attributes => counts == (0, 0) && unread.1 == REGISTER_NODES,
+        _ => unread.0 <= counts.0 && unread.1 == counts.1,
+    }
 }
 
-/// Each step reads as many rows of a view as of fragments: what a view lends is counted, and not
-/// that it reads a document on in parts. At the end of such a part, before it is read on, a step may
-/// go over rows that are not lent yet, and so read fewer. The other differences are parents, and the
-/// attributes of nodes that are far apart. Fragments and kept rows tell them at once: the rows of
-/// the parents alone are read, and of attributes none, since each passes. A view that has read
-/// nothing of the document can't tell them, and looks for parents over the rows before the nodes,
-/// for attributes at each node's own row and over those below it.
-fn steps_read_as_many<S: Alter + Drop, R: Abort>(
-    rt: &R,
+/// The store after a step over rows that are not kept and one over kept rows, and whether they are
+/// made, and read as many rows as of fragments.
+fn stepped<S: Alter + Drop>(
     alloc: Global,
     store: Store<S>,
+    scan: Scan,
+    counts: Counts,
+) -> Result<(Store<S>, bool), Want> {
+    let mut store = store;
+    put_again(&mut store)?;
+    let (store, unread) = seen(alloc, store, Task::Step(scan))?;
+    let (store, kept) = seen(alloc, store, Task::Step(scan))?;
+    let is_right = match unread {
+        Some(unread) => reads_as_many(scan, counts, unread),
+        None => false,
+    };
+    Ok((store, is_right && kept == Some(counts)))
+}
+
+/// The place of the first step that is made otherwise over the fragments, or over the store.
+fn wrong_scan<S: Alter + Drop>(
+    alloc: Global,
+    store: Store<S>,
+    fragments: &mut Fragments,
     scans: &[Scan],
+) -> Result<Option<usize>, Want> {
+    let mut store = store;
+    for (place, scan) in scans.iter().enumerate() {
+        let Some(counts) = read_by(alloc, fragments, *scan)? else {
+            return Ok(Some(place));
+        };
+        let (after, is_right) = stepped(alloc, store, *scan, counts)?;
+        store = after;
+        if !is_right {
+            return Ok(Some(place));
+        }
+    }
+    Ok(None)
+}
+
+/// The same of steps over a document.
+fn wrong_scan_of<S: Alter + Drop>(
+    alloc: Global,
+    store: Store<S>,
     document: Fragment,
-) -> Result<(), Want> {
+    scans: &[Scan],
+) -> Result<Option<usize>, Want> {
     let mut store = store;
     let _put = put(&mut store, "b", &document)?;
     let mut fragments = held(alloc, document)?;
-    for scan in scans {
-        let counts = counts_of(rt, alloc, &mut fragments, *scan)?;
-        put_again(&mut store)?;
-        let (after, unread) = seen(rt, alloc, store, Task::Step(*scan))?;
-        let (last, kept) = seen(rt, alloc, after, Task::Step(*scan))?;
-        store = last;
-        assert_eq!(rt; kept, counts);
-        match scan {
-            (_, Axis::Parent, to, _) => {
-                assert_eq!(rt; counts, (0, to.count()));
-                assert_eq!(rt; unread.1, 0);
-            }
-            (_, Axis::Attributes, _, _) => {
-                assert_eq!(rt; counts, (0, 0));
-                assert_eq!(rt; unread.1, REGISTER_NODES);
-            }
-            _ => {
-                assert!(rt; unread.0 <= counts.0);
-                assert_eq!(rt; unread.1, counts.1);
-            }
-        }
-    }
-    Ok(())
-}
-
-#[test]
-fn tables_in_memory(rt: HostRuntime) -> Result<(), Want> {
-    tables_hold(&rt, rt.alloc(), Store::new_in_memory(rt.alloc())?)
-}
-
-#[test]
-fn tables_on_memory_disks(rt: HostRuntime) -> Result<(), Want> {
-    tables_hold(&rt, rt.alloc(), Store::new_on_memory_disks(rt.alloc())?)
+    wrong_scan(alloc, store, &mut fragments, scans)
 }
 
 #[test]
 fn steps_in_memory(rt: HostRuntime) -> Result<(), Want> {
     let alloc = rt.alloc();
-    steps_read_as_many(
-        &rt,
-        alloc,
-        Store::new_in_memory(alloc)?,
-        &SCANS,
-        library(alloc)?,
-    )
+    let document = library(alloc)?;
+    assert_eq!(rt;
+        wrong_scan_of(alloc, in_memory(alloc)?, document, &SCANS)?,
+        None
+    );
+    Ok(())
 }
 
 #[test]
 fn register_steps_in_memory(rt: HostRuntime) -> Result<(), Want> {
     let alloc = rt.alloc();
-    let store = Store::new_in_memory(alloc)?;
-    steps_read_as_many(&rt, alloc, store, &REGISTER_SCANS, register(alloc)?)
+    let document = register(alloc)?;
+    assert_eq!(rt;
+        wrong_scan_of(alloc, in_memory(alloc)?, document, &REGISTER_SCANS)?,
+        None
+    );
+    Ok(())
 }
 
 #[test]
 fn great_steps_on_memory_disks(rt: HostRuntime) -> Result<(), Want> {
     let alloc = rt.alloc();
-    let store = Store::new_on_memory_disks(alloc)?;
-    steps_read_as_many(&rt, alloc, store, &GREAT_SCANS, great_library(alloc)?)
+    let document = great_library(alloc)?;
+    assert_eq!(rt;
+        wrong_scan_of(alloc, on_disks(alloc)?, document, &GREAT_SCANS)?,
+        None
+    );
+    Ok(())
 }

@@ -1,24 +1,30 @@
 //! Calls of a store, each with the answer that is wanted of it.
-use crate::documents::{Documents, Named};
+use crate::documents::{Document, EMPTY, LIBRARY};
+use crate::stores::{hand_over, load, put};
 use sqlite::Alter;
-use xq_atoms::{Want, address_ok};
+use std::alloc::Global;
+use xq_atoms::Want;
 use xq_rows::{Put, Store};
 
 /// A call, and its answer.
 #[derive(Clone, Copy)]
 pub enum Call {
     List(&'static [&'static str]),
-    Put(&'static str, Named, Put),
-    Load(&'static str, Option<Named>),
+    Put(&'static str, Document, Put),
+    /// A put that hands its document over, the rows of which are kept.
+    HandOver(&'static str, Document, Put),
+    /// A put that is refused for want of the store.
+    Refuse(&'static str, Document),
+    Load(&'static str, Option<Document>),
     Drop(&'static str, bool),
 }
 
 /// A document is put, replaced, listed, loaded and dropped.
 pub const CALL_ROWS: [Call; 7] = [
     Call::List(&[]),
-    Call::Put("b", Named::Library, Put::Stored),
-    Call::Put("b", Named::Library, Put::Replaced),
-    Call::Load("b", Some(Named::Library)),
+    Call::Put("b", LIBRARY, Put::Stored),
+    Call::Put("b", LIBRARY, Put::Replaced),
+    Call::Load("b", Some(LIBRARY)),
     Call::List(&["b"]),
     Call::Drop("b", true),
     Call::Drop("b", false),
@@ -27,43 +33,61 @@ pub const CALL_ROWS: [Call; 7] = [
 /// A replaced document has no row of the old one, and no other document is touched; addresses stand
 /// by their bytes, capitals first.
 pub const REPLACING: [Call; 11] = [
-    Call::Put("b", Named::Library, Put::Stored),
-    Call::Put("a/1", Named::Library, Put::Stored),
-    Call::Put("b", Named::Empty, Put::Replaced),
-    Call::Load("b", Some(Named::Empty)),
-    Call::Load("a/1", Some(Named::Library)),
+    Call::Put("b", LIBRARY, Put::Stored),
+    Call::Put("a/1", LIBRARY, Put::Stored),
+    Call::Put("b", EMPTY, Put::Replaced),
+    Call::Load("b", Some(EMPTY)),
+    Call::Load("a/1", Some(LIBRARY)),
     Call::List(&["a/1", "b"]),
     Call::Drop("a/1", true),
     Call::Load("a/1", None),
     Call::List(&["b"]),
-    Call::Put("B", Named::Empty, Put::Stored),
+    Call::Put("B", EMPTY, Put::Stored),
     Call::List(&["B", "b"]),
 ];
 
 /// The number of the first call whose answer is another, or 0.
 pub fn first_wrong<S: Alter>(
+    alloc: Global,
     store: &mut Store<S>,
-    documents: &Documents,
     calls: &[Call],
 ) -> Result<usize, Want> {
     for (place, call) in calls.iter().enumerate() {
-        if !is_answered(store, documents, *call)? {
+        if !is_answered(alloc, store, *call)? {
             return Ok(place.saturating_add(1));
         }
     }
     Ok(0)
 }
 
+/// The same of a store that is let go then.
+pub fn first_wrong_of<S: Alter + Drop>(
+    alloc: Global,
+    store: Store<S>,
+    calls: &[Call],
+) -> Result<usize, Want> {
+    let mut store = store;
+    first_wrong(alloc, &mut store, calls)
+}
+
 /// Makes the call, and tells whether the answer is the one that is wanted.
 pub fn is_answered<S: Alter>(
+    alloc: Global,
     store: &mut Store<S>,
-    documents: &Documents,
     call: Call,
 ) -> Result<bool, Want> {
     match call {
         Call::List(addresses) => lists(store, addresses),
-        Call::Put(address, named, put) => puts(store, documents, address, named, put),
-        Call::Load(address, named) => loads(store, address, named),
+        Call::Put(address, document, wanted) => {
+            Ok(put_made(alloc, store, address, document)? == wanted)
+        }
+        Call::HandOver(address, document, wanted) => {
+            Ok(hand_over(store, address, document.made(alloc)?)? == wanted)
+        }
+        Call::Refuse(address, document) => {
+            Ok(put_made(alloc, store, address, document) == Err(Want::Store))
+        }
+        Call::Load(address, document) => loads(store, address, document),
         Call::Drop(address, was) => drops(store, address, was),
     }
 }
@@ -78,27 +102,22 @@ fn lists<S: Alter>(store: &mut Store<S>, wanted: &[&str]) -> Result<bool, Want> 
     Ok(addresses.len() == wanted.len())
 }
 
-fn puts<S: Alter>(
+fn put_made<S: Alter>(
+    alloc: Global,
     store: &mut Store<S>,
-    documents: &Documents,
     address: &str,
-    named: Named,
-    wanted: Put,
-) -> Result<bool, Want> {
-    let document = documents.get(named);
-    if !address_ok(address.as_bytes()) || !document.is_document() {
-        return Ok(false);
-    }
-    Ok(store.put(address, document)? == wanted)
+    document: Document,
+) -> Result<Put, Want> {
+    put(store, address, &document.made(alloc)?)
 }
 
 fn loads<S: Alter>(
     store: &mut Store<S>,
     address: &str,
-    wanted: Option<Named>,
+    wanted: Option<Document>,
 ) -> Result<bool, Want> {
-    Ok(match (store.load(address)?, wanted) {
-        (Some(document), Some(named)) => named.is(&document),
+    Ok(match (load(store, address)?, wanted) {
+        (Some(found), Some(document)) => document.has(found.rows()),
         (None, None) => true,
         _ => false,
     })

@@ -1,17 +1,17 @@
 //! A view of kept rows reads none by a statement: it answers where the disk answers nothing any
 //! more, so that a statement that reads rows is refused.
 
-use crate::part_tests::put;
-use crate::views::{Task, seen};
-use sqlite::{Connection, FileStore, Files, Options};
+use crate::calls::Call;
+use crate::documents::LIBRARY;
+use crate::stores::adopt;
+use crate::views::{Step, Task, seen, stepped};
+use sqlite::{Alter, Connection, FileStore, Files, Options};
 use sqlite_disk::Fuse;
 use std::alloc::Global;
-use std::process::Abort;
 use xq_atoms::Want;
 use xq_memory_disk::MemoryDisk;
 use xq_regions::Axis;
-use xq_rows::Store;
-use xq_samples::documents::library;
+use xq_rows::{Put, Store};
 use xq_samples::scans::{From, SCANS, Scan, To};
 
 /// A disk in memory that answers so many calls, and then none.
@@ -47,29 +47,40 @@ fn opened(alloc: Global, log: u64, db: u64) -> Result<Connection<FileStore<Dying
     }
 }
 
-/// A store with the library, whose rows a view read, on disks that answer so many calls.
-fn read_once<R: Abort>(
-    rt: &R,
+/// The library is stored, and a view reads each of its rows.
+const FIRST: Step = (
+    &[Call::Put("b", LIBRARY, Put::Stored)],
+    Task::Step(EACH_ROW),
+);
+
+/// A store over an empty database after the first step, and whether that is as it says.
+fn read_over<S: Alter + Drop>(
     alloc: Global,
-    log: u64,
-    db: u64,
-) -> Result<Store<FileStore<Dying>>, Want> {
-    let conn = opened(alloc, log, db)?;
-    if !conn.is_autocommit() {
-        return Err(Want::Store);
+    conn: Connection<S>,
+) -> Result<(Store<S>, bool), Want> {
+    match adopt(alloc, conn) {
+        Ok(store) => stepped(alloc, store, FIRST),
+        Err(_refused) => Err(Want::Store),
     }
-    let Ok(mut store) = Store::adopt(alloc, conn) else {
-        return Err(Want::Store);
-    };
-    let _put = put(&mut store, "b", &library(alloc)?)?;
-    let (store, _counts) = seen(rt, alloc, store, Task::Step(EACH_ROW))?;
-    Ok(store)
+}
+
+/// Whether the rows are stored and read once over an empty database.
+fn is_read_over<S: Alter + Drop>(alloc: Global, conn: Connection<S>) -> bool {
+    matches!(read_over(alloc, conn), Ok((_, true)))
+}
+
+/// Whether the rows are stored and read once on disks that answer so many calls.
+fn is_read(alloc: Global, log: u64, db: u64) -> bool {
+    match opened(alloc, log, db) {
+        Ok(conn) => is_read_over(alloc, conn),
+        Err(_want) => false,
+    }
 }
 
 /// The fewest calls of the log with which the rows are stored and read once, or `MOST`.
-fn fewest_of_log<R: Abort>(rt: &R, alloc: Global) -> u64 {
+fn fewest_of_log(alloc: Global) -> u64 {
     for log in 0..MOST {
-        if read_once(rt, alloc, log, u64::MAX).is_ok() {
+        if is_read(alloc, log, u64::MAX) {
             return log;
         }
     }
@@ -77,27 +88,34 @@ fn fewest_of_log<R: Abort>(rt: &R, alloc: Global) -> u64 {
 }
 
 /// The same of the database, where the log answers so many.
-fn fewest_of_db<R: Abort>(rt: &R, alloc: Global, log: u64) -> u64 {
+fn fewest_of_db(alloc: Global, log: u64) -> u64 {
     for db in 0..MOST {
-        if read_once(rt, alloc, log, db).is_ok() {
+        if is_read(alloc, log, db) {
             return db;
         }
     }
     MOST
 }
 
+/// Whether each step is made over the rows that were read, and a statement is refused then.
+fn reads_kept_rows<S: Alter + Drop>(alloc: Global, conn: Connection<S>) -> Result<bool, Want> {
+    let (mut store, mut is_right) = read_over(alloc, conn)?;
+    for scan in SCANS {
+        let (after, is_made) = stepped(alloc, store, (&[], Task::Step(scan)))?;
+        store = after;
+        is_right = is_right && is_made;
+    }
+    let last = seen(alloc, store, Task::Statement);
+    Ok(is_right && matches!(last, Err(Want::Store)))
+}
+
 /// With a call less the first reading would be refused, so that after it the disks answer no more.
 #[test]
 fn kept_rows_are_read_from_no_disk(rt: HostRuntime) -> Result<(), Want> {
     let alloc = rt.alloc();
-    let log = fewest_of_log(&rt, alloc);
-    let db = fewest_of_db(&rt, alloc, log);
+    let log = fewest_of_log(alloc);
+    let db = fewest_of_db(alloc, log);
     assert!(rt; log < MOST && db < MOST);
-    let mut store = read_once(&rt, alloc, log, db)?;
-    for scan in SCANS {
-        let (after, _counts) = seen(&rt, alloc, store, Task::Step(scan))?;
-        store = after;
-    }
-    assert!(rt; matches!(seen(&rt, alloc, store, Task::Statement), Err(Want::Store)));
+    assert!(rt; reads_kept_rows(alloc, opened(alloc, log, db)?)?);
     Ok(())
 }

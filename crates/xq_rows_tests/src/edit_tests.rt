@@ -1,19 +1,17 @@
 //! Documents that are edited at random, over rows that are kept whole, in part or not at all: the
 //! tables hold afterwards what a fresh put of the last document leaves in them.
-ghost use Rattle.std.specs.Prelude.{◌≡◌, ◌<◌};
-ghost use Rattle.xq_rows.specs.Views.{beginning};
+ghost use Rattle.std.specs.Prelude.{◌<◌};
 
-use crate::part_tests::put;
-use crate::replace_tests::shown;
+use crate::documents::rooted;
+use crate::stores::{hand_over, in_memory, left_in, on_disks, put};
+use crate::views::{Task, seen};
 use sqlite::Alter;
 use std::alloc::Global;
-use std::marker::Brand;
 use std::test::Fail;
-use xq_atoms::{Want, address_ok};
+use xq_atoms::Want;
 use xq_regions::{Fragment, Kind, NodeRow};
-use xq_rows::{Origin, Put, Store};
-use xq_samples::documents::{judged, row};
-use xq_sources::RowLender;
+use xq_rows::{Put, Store};
+use xq_samples::documents::row;
 
 const NAMES: [&str; 3] = ["a", "b", "c"];
 
@@ -204,38 +202,47 @@ fn document(alloc: Global, items: &[Item]) -> Result<Fragment, Want> {
     for item in items {
         push_item(alloc, &mut rows, *item)?;
     }
-    let count = rows.len().min(1_000_000) as u32;
-    if let Some(root) = rows.get_mut(0) {
-        root.size = count.saturating_sub(1);
-    }
-    judged(rows)
+    rooted(rows)
 }
 
-/// Reads the first rows of the first document through a view.
-fn viewed<S: Alter + Drop, O: Origin + Drop>(
-    alloc: Global,
-    store: Store<S>,
-) -> Result<Store<S>, Want>
-    requires { beginning S.Store store ≡ O.beginning }
-{
-    let mut view = match store.view::<O>() {
-        Ok(view) => view,
-        Err((want, _store)) => return Err(want),
-    };
-    view.fetch(alloc, 0, 0, 0)?;
-    Ok(view.into_store())
+/// The elements of a document that is edited, and the numbers by which it is.
+#[derive(Drop)]
+struct Edited {
+    items: Vec<Item>,
+    numbers: Numbers,
 }
 
-/// Hands a document over to the store, which keeps its rows.
-fn hand_over<S: Alter>(
-    store: &mut Store<S>,
-    address: &str,
-    document: Fragment,
-) -> Result<Put, Want> {
-    if !address_ok(address.as_bytes()) || !document.is_document() {
-        return Err(Want::Store);
+impl Edited {
+    /// The elements of the first document of a case.
+    fn new(alloc: Global, case: Case) -> Result<Edited, Want> {
+        let mut items = Vec::new(alloc);
+        let mut numbers = Numbers {
+            state: u64::from(case.seed),
+        };
+        push_items(&mut items, &mut numbers, case.elements)?;
+        Ok(Edited { items, numbers })
     }
-    store.put_owned(address, document)
+
+    /// The document as it is, which is edited then.
+    fn next(&mut self, alloc: Global) -> Result<Fragment, Want> {
+        let made = document(alloc, &self.items)?;
+        let edit = EDITS[self.numbers.below(6) as usize];
+        make_edit(&mut self.items, &mut self.numbers, edit)?;
+        Ok(made)
+    }
+}
+
+fn put_one<S: Alter>(store: &mut Store<S>, document: Fragment, kept: Kept) -> Result<Put, Want> {
+    match kept {
+        Kept::Whole => hand_over(store, "m", document),
+        Kept::Nothing | Kept::Front => put(store, "m", &document),
+    }
+}
+
+/// Reads the first row of the first document through a view.
+fn viewed<S: Alter + Drop>(alloc: Global, store: Store<S>) -> Result<Store<S>, Want> {
+    let (store, _counts) = seen(alloc, store, Task::Front)?;
+    Ok(store)
 }
 
 fn put_kept<S: Alter + Drop>(
@@ -245,68 +252,58 @@ fn put_kept<S: Alter + Drop>(
     kept: Kept,
 ) -> Result<Store<S>, Want> {
     let mut store = store;
-    let _put = match kept {
-        Kept::Whole => hand_over(&mut store, "m", document)?,
-        Kept::Nothing | Kept::Front => put(&mut store, "m", &document)?,
-    };
+    let _put = put_one(&mut store, document, kept)?;
     match kept {
-        Kept::Front => viewed::<S, Brand>(alloc, store),
+        Kept::Front => viewed(alloc, store),
         Kept::Nothing | Kept::Whole => Ok(store),
     }
 }
 
-/// Puts the documents of a case into a store, one in the place of the other, and gives the last
-/// with the store.
+/// Puts the documents of a case into a store, one in the place of the other, but for the last.
 fn put_all<S: Alter + Drop>(
     alloc: Global,
     store: Store<S>,
+    edited: &mut Edited,
     case: Case,
-) -> Result<(Store<S>, Fragment), Want> {
+) -> Result<Store<S>, Want> {
     let mut store = store;
-    let mut items = Vec::new(alloc);
-    let mut numbers = Numbers {
-        state: u64::from(case.seed),
-    };
-    push_items(&mut items, &mut numbers, case.elements)?;
     for _ in 0..case.edits {
-        store = put_kept(alloc, store, document(alloc, &items)?, case.kept)?;
-        let next = EDITS[numbers.below(6) as usize];
-        make_edit(&mut items, &mut numbers, next)?;
+        let document = edited.next(alloc)?;
+        store = put_kept(alloc, store, document, case.kept)?;
     }
-    let last = document(alloc, &items)?;
-    let _put = put(&mut store, "m", &last)?;
-    Ok((store, last))
+    Ok(store)
 }
 
-/// The rows of the tables of a store.
-fn left_in<S: Alter + Drop>(alloc: Global, store: Store<S>) -> Result<String, Fail> {
-    let mut conn = store.release();
-    shown(alloc, &mut conn)
-}
-
-/// Whether the documents of a case, put into the first store, leave what the last of them leaves in
-/// the second.
-fn leaves_the_last<S: Alter + Drop>(
+/// What the tables hold once the document has been put into the store.
+fn left_by<S: Alter + Drop>(
     alloc: Global,
-    first: Store<S>,
-    second: Store<S>,
+    store: Store<S>,
+    document: &Fragment,
+) -> Result<String, Fail> {
+    let mut store = store;
+    let _put = put(&mut store, "m", document)?;
+    Ok(left_in(alloc, store)?)
+}
+
+/// What the tables hold once the documents of a case have been put into the store, and the last.
+fn left_by_all<S: Alter + Drop>(
+    alloc: Global,
+    store: Store<S>,
     case: Case,
-) -> Result<bool, Fail> {
-    let (edited, last) = put_all(alloc, first, case)?;
-    let mut fresh = second;
-    let _put = put(&mut fresh, "m", &last)?;
-    Ok(left_in(alloc, edited)? == left_in(alloc, fresh)?)
+) -> Result<(String, Fragment), Fail> {
+    let mut edited = Edited::new(alloc, case)?;
+    let store = put_all(alloc, store, &mut edited, case)?;
+    let last = edited.next(alloc)?;
+    Ok((left_by(alloc, store, &last)?, last))
 }
 
 #[test]
 fn edits_in_memory(rt: HostRuntime) -> Result<(), Fail> {
+    let alloc = rt.alloc();
     for seed in 0..30 {
-        let first = Store::new_in_memory(rt.alloc())?;
-        let second = Store::new_in_memory(rt.alloc())?;
-        assert!(rt;
-            leaves_the_last(rt.alloc(), first, second, case_of(seed, 12))?,
-            "{seed}"
-        );
+        let (left, last) = left_by_all(alloc, in_memory(alloc)?, case_of(seed, 12))?;
+        let fresh = left_by(alloc, in_memory(alloc)?, &last)?;
+        assert!(rt; left == fresh, "{seed}");
     }
     Ok(())
 }
@@ -314,11 +311,12 @@ fn edits_in_memory(rt: HostRuntime) -> Result<(), Fail> {
 /// The last documents are so long that they are read and kept in parts.
 #[test]
 fn edits_on_memory_disks(rt: HostRuntime) -> Result<(), Fail> {
+    let alloc = rt.alloc();
     for seed in 30..60 {
-        let first = Store::new_on_memory_disks(rt.alloc())?;
-        let second = Store::new_on_memory_disks(rt.alloc())?;
         let case = case_of(seed, if seed < 57 { 12 } else { 600 });
-        assert!(rt; leaves_the_last(rt.alloc(), first, second, case)?, "{seed}");
+        let (left, last) = left_by_all(alloc, on_disks(alloc)?, case)?;
+        let fresh = left_by(alloc, on_disks(alloc)?, &last)?;
+        assert!(rt; left == fresh, "{seed}");
     }
     Ok(())
 }

@@ -1,82 +1,152 @@
 //! Views one after another over each kind of store: what is lent is what the store holds then,
-//! also where its tables were made in another order.
+//! also where its tables were made in another order, and the places of names are those of its
+//! elements.
 
-use crate::adopt_tests::{ORDERS, adopted};
-use crate::calls::{Call, first_wrong};
-use crate::documents::{Documents, Named};
-use crate::views::{Task, seen};
-use sqlite::{Alter, Connection};
-use std::alloc::Global;
-use std::process::Abort;
+use crate::adopt_tests::ORDERS;
+use crate::calls::Call;
+use crate::documents::{EMPTY, LIBRARY, TURNED};
+use crate::loans::Look;
+use crate::stores::{adopted, in_memory, made, on_disks};
+use crate::views::{Step, Task, wrong_step};
 use std::test::Fail;
 use xq_atoms::Want;
-use xq_rows::{Put, Store};
-
-/// Calls of the store, and the documents of the view after them.
-type Step = (&'static [Call], &'static [Named]);
+use xq_rows::Put;
 
 const STEPS: [Step; 9] = [
-    (&[], &[]),
+    (&[], Task::Documents(&[])),
     (
-        &[Call::Put("b", Named::Library, Put::Stored)],
-        &[Named::Library],
+        &[Call::Put("b", LIBRARY, Put::Stored)],
+        Task::Documents(&[LIBRARY]),
     ),
-    (&[], &[Named::Library]),
+    (&[], Task::Documents(&[LIBRARY])),
     (
         &[
             Call::List(&["b"]),
-            Call::Load("b", Some(Named::Library)),
+            Call::Load("b", Some(LIBRARY)),
             Call::Load("c", None),
         ],
-        &[Named::Library],
+        Task::Documents(&[LIBRARY]),
     ),
     (
-        &[Call::Put("b", Named::Empty, Put::Replaced)],
-        &[Named::Empty],
+        &[Call::Put("b", EMPTY, Put::Replaced)],
+        Task::Documents(&[EMPTY]),
     ),
     (
-        &[Call::Put("B", Named::Library, Put::Stored)],
-        &[Named::Library, Named::Empty],
+        &[Call::Put("B", LIBRARY, Put::Stored)],
+        Task::Documents(&[LIBRARY, EMPTY]),
     ),
-    (&[Call::Drop("c", false)], &[Named::Library, Named::Empty]),
-    (&[Call::Drop("b", true)], &[Named::Library]),
-    (&[Call::Drop("B", true), Call::List(&[])], &[]),
+    (
+        &[Call::Drop("c", false)],
+        Task::Documents(&[LIBRARY, EMPTY]),
+    ),
+    (&[Call::Drop("b", true)], Task::Documents(&[LIBRARY])),
+    (
+        &[Call::Drop("B", true), Call::List(&[])],
+        Task::Documents(&[]),
+    ),
 ];
 
-/// Makes the calls of each step, and reads the documents after them.
-fn steps_through<S: Alter + Drop, R: Abort>(
-    rt: &R,
-    alloc: Global,
-    store: Store<S>,
-) -> Result<(), Want> {
-    let documents = Documents::new(alloc)?;
-    let mut store = store;
-    for (calls, named) in STEPS {
-        assert_eq!(rt; first_wrong(&mut store, &documents, calls)?, 0);
-        let (after, _counts) = seen(rt, alloc, store, Task::Documents(named))?;
-        store = after;
+/// Two documents are stored, and the one that was stored last stands first. What a view of both
+/// gives back is the store with both, which takes documents again.
+const BOTH: [Step; 2] = [
+    (
+        &[
+            Call::Put("b", LIBRARY, Put::Stored),
+            Call::Put("B", EMPTY, Put::Stored),
+        ],
+        Task::Both,
+    ),
+    (
+        &[
+            Call::List(&["B", "b"]),
+            Call::Load("b", Some(LIBRARY)),
+            Call::Put("b", EMPTY, Put::Replaced),
+            Call::Load("b", Some(EMPTY)),
+        ],
+        Task::Documents(&[EMPTY, EMPTY]),
+    ),
+];
+
+/// The tables hold over a view whose rows are read meanwhile, and over the next, which reads none.
+const TABLES: [Step; 2] = [
+    (&[Call::Put("b", LIBRARY, Put::Stored)], Task::Tables),
+    (&[], Task::Tables),
+];
+
+/// The places of a name are told once it was looked for among all rows, where there are some: also
+/// in later views, and until another document is put.
+const NAMES: [Step; 4] = [
+    (
+        &[Call::Put("b", LIBRARY, Put::Stored)],
+        Task::Names(&[
+            (0, Look::Find("book")),
+            (0, Look::Told("book", None)),
+            (0, Look::Read),
+            (0, Look::Told("book", None)),
+            (0, Look::Find("book")),
+            (0, Look::Told("book", Some(&[2, 5]))),
+            (0, Look::Told("lib", None)),
+            (0, Look::Find("id")),
+            (0, Look::Told("id", None)),
+            (0, Look::Find("shelf")),
+            (0, Look::Told("shelf", None)),
+            (1, Look::Find("book")),
+            (1, Look::Told("book", None)),
+        ]),
+    ),
+    (
+        &[Call::Put("B", EMPTY, Put::Stored)],
+        Task::Names(&[
+            (1, Look::Told("book", Some(&[2, 5]))),
+            (1, Look::Find("lib")),
+            (1, Look::Told("lib", Some(&[1]))),
+            (0, Look::Read),
+            (0, Look::Find("book")),
+            (0, Look::Told("book", None)),
+        ]),
+    ),
+    (
+        &[Call::Put("b", TURNED, Put::Replaced)],
+        Task::Names(&[
+            (1, Look::Told("book", None)),
+            (1, Look::Told("lib", None)),
+            (1, Look::Read),
+            (1, Look::Find("book")),
+            (1, Look::Find("lib")),
+            (1, Look::Told("book", Some(&[1]))),
+            (1, Look::Told("lib", Some(&[2, 3]))),
+        ]),
+    ),
+    (&[], Task::Names(&[(1, Look::Told("lib", Some(&[2, 3])))])),
+];
+
+/// The steps, each list for a new store.
+const LISTS: [&[Step]; 4] = [&STEPS, &BOTH, &TABLES, &NAMES];
+
+#[test]
+fn views_in_memory(rt: HostRuntime) -> Result<(), Want> {
+    for steps in LISTS {
+        assert_eq!(rt;
+            wrong_step(rt.alloc(), in_memory(rt.alloc())?, steps)?,
+            None
+        );
     }
     Ok(())
 }
 
 #[test]
-fn views_in_memory(rt: HostRuntime) -> Result<(), Fail> {
-    Ok(steps_through(&rt, rt.alloc(), Store::new_in_memory(rt.alloc())?)?)
-}
-
-#[test]
-fn views_on_memory_disks(rt: HostRuntime) -> Result<(), Fail> {
-    Ok(steps_through(&rt, rt.alloc(), Store::new_on_memory_disks(rt.alloc())?)?)
+fn views_on_memory_disks(rt: HostRuntime) -> Result<(), Want> {
+    for steps in LISTS {
+        assert_eq!(rt; wrong_step(rt.alloc(), on_disks(rt.alloc())?, steps)?, None);
+    }
+    Ok(())
 }
 
 #[test]
 fn views_of_other_orders(rt: HostRuntime) -> Result<(), Fail> {
-    for made in ORDERS {
-        let mut conn = Connection::open_in_memory(rt.alloc())?;
-        for statement in made {
-            let _count = conn.execute(statement, &[])?;
-        }
-        steps_through(&rt, rt.alloc(), adopted(rt.alloc(), conn)?)?;
+    for order in ORDERS {
+        let store = adopted(rt.alloc(), made(rt.alloc(), order)?)?;
+        assert_eq!(rt; wrong_step(rt.alloc(), store, &STEPS)?, None);
     }
     Ok(())
 }

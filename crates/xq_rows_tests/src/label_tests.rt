@@ -1,29 +1,19 @@
-//! The labels of a store, and the databases of both editions that are adopted, or are no store.
-use crate::adopt_tests::{Answer, BOOKS, Judged, LAYOUT, NODE, ONE, adopted, answer_of, shown};
-use crate::calls::{Call, first_wrong, is_answered};
-use crate::documents::{Documents, Named};
-use sqlite::{Alter, Connection, MemStore};
+//! Databases that are adopted, and new stores: what they answer, what their tables hold then, and
+//! what is found as they are adopted again. Names have labels, also where tables of edition 1 are
+//! carried over.
+use crate::adopt_tests::{BOOKS, DOCUMENT_2, LABEL, LAYOUT, NODE, NODE2, ONE, TWO, ZERO};
+use crate::calls::{CALL_ROWS, Call, REPLACING, first_wrong, first_wrong_of};
+use crate::documents::{EMPTY, ID, LIBRARY, NEW, Z};
+use crate::stores::{
+    LIBRARY_ROWS, ROWS_AS_TEXT, TABLE_NAMES, adopted, in_memory, made, on_disks, shown,
+};
+use sqlite::{Alter, Connection};
 use std::alloc::Global;
 use std::test::Fail;
-use xq_atoms::{Want, address_ok};
-use xq_regions::Kind;
 use xq_rows::{Put, Store};
-use xq_samples::documents::tree_of;
-
-const LABEL: &str = "CREATE TABLE label (id INTEGER PRIMARY KEY, name TEXT NOT NULL UNIQUE) STRICT";
-
-const NODE2: &str =
-    "CREATE TABLE node2 (address TEXT NOT NULL, pre INTEGER NOT NULL, size INTEGER NOT NULL, level INTEGER NOT NULL, kind INTEGER NOT NULL, label INTEGER NOT NULL, value TEXT NOT NULL, PRIMARY KEY (address, pre)) STRICT";
-
-const TWO: &str = "INSERT INTO layout VALUES (2)";
-
-const ZERO: &str = "INSERT INTO label VALUES (0, '')";
 
 /// The greatest number.
 const LAST: &str = "INSERT INTO label VALUES (2147483647, 'z')";
-
-/// A document under `b` in the tables of edition 2.
-const DOCUMENT: &str = "INSERT INTO node2 VALUES ('b', 0, 0, 0, 0, 0, '')";
 
 /// Each row as a text.
 const LABELS: &str = "SELECT id || ' ' || name FROM label ORDER BY id";
@@ -37,45 +27,8 @@ const EDITIONS: &str = "SELECT edition || '' FROM layout";
 
 const LIBRARY_LABELS: &str = "0 |1 lib|2 book|3 id|";
 
-const LIBRARY_ROWS: &str =
+const NUMBERED_ROWS: &str =
     "b 0 7 0 0 0 |b 1 6 1 1 1 |b 2 2 2 1 2 |b 3 0 3 2 3 1|b 4 0 3 3 0 A|b 5 2 2 1 2 |b 6 0 3 2 3 2|b 7 0 3 3 0 B|";
-
-/// A database in memory that these statements make.
-fn made(alloc: Global, statements: &[&str]) -> Result<Connection<MemStore>, Fail> {
-    let mut conn = Connection::open_in_memory(alloc)?;
-    for statement in statements {
-        let _count = conn.execute(statement, &[])?;
-    }
-    Ok(conn)
-}
-
-/// Puts a document of one element, and tells whether the answer is the one that is wanted.
-fn puts_element<S: Alter>(
-    alloc: Global,
-    store: &mut Store<S>,
-    address: &str,
-    name: &'static str,
-    wanted: Result<Put, Want>,
-) -> Result<bool, Want> {
-    let rows = [
-        (0, 1, 0, Kind::Document, "", ""),
-        (1, 0, 1, Kind::Element, name, ""),
-    ];
-    let document = tree_of(alloc, &rows)?;
-    if !address_ok(address.as_bytes()) || !document.is_document() {
-        return Ok(false);
-    }
-    Ok(store.put(address, &document) == wanted)
-}
-
-/// What is asked of a store.
-#[derive(Clone, Copy)]
-enum Step {
-    /// A document of one element of this name is put under this address, and so answered.
-    PutElement(&'static str, &'static str, Result<Put, Want>),
-    /// A call is made, and answered as it says.
-    Make(Call),
-}
 
 /// A database, what is asked of the store that it is, what queries then show, and what the store
 /// answers that is adopted from it again.
@@ -83,30 +36,43 @@ enum Step {
 struct Case {
     name: &'static str,
     made: &'static [&'static str],
-    asked: &'static [Step],
+    asked: &'static [Call],
     shown: &'static [(&'static str, &'static str)],
     found: &'static [Call],
 }
 
 /// The library under `b`, and nothing else.
-const FOUND: &[Call] = &[Call::List(&["b"]), Call::Load("b", Some(Named::Library))];
+const FOUND: &[Call] = &[Call::List(&["b"]), Call::Load("b", Some(LIBRARY))];
 
 /// What is shown of it where it was carried over.
 const CARRIED: &[(&str, &str)] = &[
     (LABELS, LIBRARY_LABELS),
-    (ROWS, LIBRARY_ROWS),
+    (ROWS, NUMBERED_ROWS),
     (OLD_ROWS, ""),
     (EDITIONS, "2|"),
 ];
 
-const CASES: [Case; 5] = [
+const CASES: [Case; 9] = [
+    Case {
+        name: "an empty database becomes a store",
+        made: &[],
+        asked: &CALL_ROWS,
+        shown: &[
+            (
+                TABLE_NAMES,
+                "label|layout|node2|sqlite_autoindex_label_1|sqlite_autoindex_node2_1|",
+            ),
+            (EDITIONS, "2|"),
+        ],
+        found: &[Call::List(&[])],
+    },
     Case {
         name: "names are numbered as they come",
         made: &[],
-        asked: &[Step::Make(Call::Put("b", Named::Library, Put::Stored))],
+        asked: &[Call::Put("b", LIBRARY, Put::Stored)],
         shown: &[
             (LABELS, LIBRARY_LABELS),
-            (ROWS, LIBRARY_ROWS),
+            (ROWS, NUMBERED_ROWS),
             (EDITIONS, "2|"),
         ],
         found: FOUND,
@@ -115,26 +81,26 @@ const CASES: [Case; 5] = [
         name: "a name that has a label takes no other, and no label goes with its nodes",
         made: &[LAYOUT, NODE, ONE, BOOKS],
         asked: &[
-            Step::PutElement("a", "id", Ok(Put::Stored)),
-            Step::PutElement("c", "new", Ok(Put::Stored)),
-            Step::Make(Call::Drop("a", true)),
-            Step::Make(Call::Drop("c", true)),
+            Call::Put("a", ID, Put::Stored),
+            Call::Put("c", NEW, Put::Stored),
+            Call::Drop("a", true),
+            Call::Drop("c", true),
         ],
         shown: &[(LABELS, "0 |1 lib|2 book|3 id|4 new|")],
         found: FOUND,
     },
     Case {
         name: "above the greatest number a put is refused, and the map is as before",
-        made: &[LAYOUT, LABEL, NODE2, TWO, ZERO, LAST, DOCUMENT],
+        made: &[LAYOUT, LABEL, NODE2, TWO, ZERO, LAST, DOCUMENT_2],
         asked: &[
-            Step::PutElement("c", "new", Err(Want::Store)),
-            Step::Make(Call::List(&["b"])),
-            Step::Make(Call::Load("b", Some(Named::Empty))),
-            Step::Make(Call::Load("c", None)),
-            Step::PutElement("c", "z", Ok(Put::Stored)),
+            Call::Refuse("c", NEW),
+            Call::List(&["b"]),
+            Call::Load("b", Some(EMPTY)),
+            Call::Load("c", None),
+            Call::Put("c", Z, Put::Stored),
         ],
         shown: &[(LABELS, "0 |2147483647 z|")],
-        found: &[Call::List(&["b", "c"]), Call::Load("b", Some(Named::Empty))],
+        found: &[Call::List(&["b", "c"]), Call::Load("b", Some(EMPTY))],
     },
     Case {
         name: "edition 1 is carried over",
@@ -150,28 +116,56 @@ const CASES: [Case; 5] = [
         shown: CARRIED,
         found: FOUND,
     },
+    Case {
+        name: "tables that were made in a store's own order serve",
+        made: &[LAYOUT, NODE, ONE],
+        asked: &REPLACING,
+        shown: &[],
+        found: &[Call::List(&["B", "b"])],
+    },
+    Case {
+        name: "tables that were made in another order serve as well",
+        made: &[NODE, LAYOUT, ONE],
+        asked: &REPLACING,
+        shown: &[],
+        found: &[Call::List(&["B", "b"])],
+    },
+    Case {
+        name: "what is changed where the other table was made first is found again",
+        made: &[NODE, BOOKS, LAYOUT, ONE],
+        asked: &[
+            Call::List(&["b"]),
+            Call::Load("b", Some(LIBRARY)),
+            Call::Load("a/1", None),
+            Call::Put("a/1", LIBRARY, Put::Stored),
+            Call::Put("b", EMPTY, Put::Replaced),
+            Call::List(&["a/1", "b"]),
+        ],
+        shown: &[],
+        found: &[
+            Call::List(&["a/1", "b"]),
+            Call::Load("a/1", Some(LIBRARY)),
+            Call::Load("b", Some(EMPTY)),
+            Call::Drop("b", true),
+            Call::Drop("b", false),
+            Call::List(&["a/1"]),
+        ],
+    },
 ];
 
-/// Whether each step is answered as it says.
-fn are_answered<S: Alter>(
-    alloc: Global,
-    store: &mut Store<S>,
-    documents: &Documents,
-    steps: &[Step],
-) -> Result<bool, Want> {
-    for step in steps {
-        let is_right = match *step {
-            Step::PutElement(address, name, wanted) => {
-                puts_element(alloc, store, address, name, wanted)?
-            }
-            Step::Make(call) => is_answered(store, documents, call)?,
-        };
-        if !is_right {
-            return Ok(false);
-        }
-    }
-    Ok(true)
-}
+/// A new store, which is released and adopted.
+const NEW_STORE: Case = Case {
+    name: "what was released is adopted",
+    made: &[],
+    asked: &[Call::List(&[]), Call::Put("b", LIBRARY, Put::Stored)],
+    shown: &[(ROWS_AS_TEXT, LIBRARY_ROWS)],
+    found: &[
+        Call::Load("b", Some(LIBRARY)),
+        Call::List(&["b"]),
+        Call::Drop("b", true),
+        Call::Drop("b", false),
+    ],
+};
 
 /// Whether each query shows its text.
 fn are_shown<S: Alter>(
@@ -187,114 +181,42 @@ fn are_shown<S: Alter>(
     Ok(true)
 }
 
-/// The database of a case after it was asked; none where an answer was wrong.
-fn asked(
-    alloc: Global,
-    documents: &Documents,
-    case: Case,
-) -> Result<Option<Connection<MemStore>>, Fail> {
-    let mut store = adopted(alloc, made(alloc, case.made)?)?;
-    if are_answered(alloc, &mut store, documents, case.asked)? {
-        Ok(Some(store.release()))
-    } else {
-        Ok(None)
-    }
-}
-
-/// Whether all is as the case says.
-fn holds(alloc: Global, documents: &Documents, case: Case) -> Result<bool, Fail> {
-    let Some(mut conn) = asked(alloc, documents, case)? else {
-        return Ok(false);
-    };
+/// Whether all is as the case says once the store was asked and released.
+fn is_left<S: Alter + Drop>(alloc: Global, conn: Connection<S>, case: Case) -> Result<bool, Fail> {
+    let mut conn = conn;
     if !are_shown(alloc, &mut conn, case.shown)? {
         return Ok(false);
     }
-    let mut store = adopted(alloc, conn)?;
-    Ok(first_wrong(&mut store, documents, case.found)? == 0)
+    Ok(first_wrong_of(alloc, adopted(alloc, conn)?, case.found)? == 0)
+}
+
+/// Whether all is as the case says.
+fn holds<S: Alter + Drop>(alloc: Global, store: Store<S>, case: Case) -> Result<bool, Fail> {
+    let mut store = store;
+    if first_wrong(alloc, &mut store, case.asked)? != 0 {
+        return Ok(false);
+    }
+    is_left(alloc, store.release(), case)
 }
 
 #[test]
-fn labels_of_stores(rt: HostRuntime) -> Result<(), Fail> {
-    let documents = Documents::new(rt.alloc())?;
+fn adopted_stores(rt: HostRuntime) -> Result<(), Fail> {
     for case in CASES {
         let name = case.name;
-        assert!(rt; holds(rt.alloc(), &documents, case)?, "{name}");
+        let store = adopted(rt.alloc(), made(rt.alloc(), case.made)?)?;
+        assert!(rt; holds(rt.alloc(), store, case)?, "{name}");
     }
     Ok(())
 }
 
-/// Tables of edition 2, of which the first alone hold a document.
-const JUDGED: [Judged; 12] = [
-    (
-        &[LAYOUT, LABEL, NODE2, TWO, ZERO, DOCUMENT],
-        Answer::Adopted,
-    ),
-    (&[LAYOUT, LABEL, NODE2, ZERO], Answer::NotAStore),
-    (&[LAYOUT, LABEL, NODE2, ZERO, ONE], Answer::NotAStore),
-    (&[LAYOUT, LABEL, NODE2, ZERO, TWO, TWO], Answer::NotAStore),
-    (&[LAYOUT, LABEL, NODE2, TWO], Answer::NotAStore),
-    (
-        &[
-            LAYOUT,
-            LABEL,
-            NODE2,
-            TWO,
-            "INSERT INTO label VALUES (0, 'a')",
-        ],
-        Answer::NotAStore,
-    ),
-    (
-        &[
-            LAYOUT,
-            LABEL,
-            NODE2,
-            TWO,
-            ZERO,
-            "INSERT INTO label VALUES (-1, 'a')",
-        ],
-        Answer::NotAStore,
-    ),
-    (
-        &[
-            LAYOUT,
-            LABEL,
-            NODE2,
-            TWO,
-            ZERO,
-            "INSERT INTO label VALUES (2147483648, 'a')",
-        ],
-        Answer::NotAStore,
-    ),
-    (
-        &[
-            LAYOUT,
-            LABEL,
-            NODE2,
-            TWO,
-            ZERO,
-            "INSERT INTO node2 VALUES ('b', 0, 0, 0, 0, 1, '')",
-        ],
-        Answer::NotAStore,
-    ),
-    (
-        &[
-            LAYOUT,
-            LABEL,
-            NODE2,
-            TWO,
-            ZERO,
-            "INSERT INTO node2 VALUES ('b', 0, 0, 0, 6, 0, '')",
-        ],
-        Answer::NotAStore,
-    ),
-    (&[LAYOUT, NODE2, TWO], Answer::NotAStore),
-    (&[LAYOUT, NODE, TWO], Answer::NotAStore),
-];
+#[test]
+fn released_in_memory(rt: HostRuntime) -> Result<(), Fail> {
+    assert!(rt; holds(rt.alloc(), in_memory(rt.alloc())?, NEW_STORE)?);
+    Ok(())
+}
 
 #[test]
-fn judges_labels(rt: HostRuntime) -> Result<(), Fail> {
-    for (statements, wanted) in JUDGED {
-        assert_eq!(rt; answer_of(rt.alloc(), statements, None)?, wanted);
-    }
+fn released_on_memory_disks(rt: HostRuntime) -> Result<(), Fail> {
+    assert!(rt; holds(rt.alloc(), on_disks(rt.alloc())?, NEW_STORE)?);
     Ok(())
 }

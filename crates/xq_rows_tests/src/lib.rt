@@ -26,16 +26,14 @@ mod lending_tests;
 #[cfg(test)]
 mod loans;
 #[cfg(test)]
-mod part_tests;
-#[cfg(test)]
 mod refusals;
 #[cfg(test)]
 mod replace_tests;
 #[cfg(test)]
 mod stop_tests;
 #[cfg(test)]
-mod tests;
+mod stores;
 #[cfg(test)]
-mod view_tests;
+mod tests;
 #[cfg(test)]
 mod views;

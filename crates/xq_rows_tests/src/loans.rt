@@ -1,8 +1,8 @@
-//! What a lender lends of documents that are known: each of their rows, in their order.
+//! What a lender lends of documents that are known: each of their rows, in their order, and the
+//! places of names.
 
-use crate::documents::Named;
+use crate::documents::Document;
 use std::alloc::Global;
-use std::process::Abort;
 use xq_atoms::Want;
 use xq_regions::NodeRow;
 use xq_sources::RowLender;
@@ -10,20 +10,101 @@ use xq_sources::RowLender;
 /// A document of comments: how many rows it has, and the text of each comment.
 pub type Comments = (u32, &'static str);
 
-/// Asserts that these documents are lent whole, and no other.
-pub fn lends_documents<L: RowLender>(
-    rt: &impl Abort,
+/// What is done with a document, or told of the elements with a name.
+#[derive(Clone, Copy)]
+pub enum Look {
+    /// Its first rows are lent.
+    Begin,
+    /// Its rows are read to their end.
+    Read,
+    /// The elements with the name are looked for.
+    Find(&'static str),
+    /// Their places are these, or are not told.
+    Told(&'static str, Option<&'static [u32]>),
+}
+
+/// Has the lender lend rows. It has no clause, so that who calls it carries none of the trait.
+fn fetch<L: RowLender>(
     alloc: Global,
     lender: &mut L,
-    documents: &[Named],
+    tree: usize,
+    (low, high): (u32, u32),
 ) -> Result<(), Want> {
-    assert_eq!(rt; lender.trees(), documents.len());
-    for (tree, named) in documents.iter().enumerate() {
-        lender.fetch(alloc, tree, 0, u32::MAX)?;
-        assert!(rt; named.are(lender.lent()));
+    lender.fetch(alloc, tree, low, high)
+}
+
+/// Whether the places of the name are these, or are not told.
+fn is_told<L: RowLender>(
+    lender: &L,
+    tree: usize,
+    name: &str,
+    wanted: Option<&'static [u32]>,
+) -> bool {
+    match (lender.named(tree, name), wanted) {
+        (Some(places), Some(wanted)) => places == wanted,
+        (None, None) => true,
+        _ => false,
     }
-    assert!(rt; matches!(lender.fetch(alloc, documents.len(), 0, 0), Err(Want::Store)));
-    Ok(())
+}
+
+/// Does this, and tells whether what is told is what it says.
+fn is_seen<L: RowLender>(
+    alloc: Global,
+    lender: &mut L,
+    tree: usize,
+    look: Look,
+) -> Result<bool, Want> {
+    match look {
+        Look::Begin => fetch(alloc, lender, tree, (0, u32::MAX))?,
+        Look::Read => fetch(alloc, lender, tree, (u32::MAX, u32::MAX))?,
+        Look::Find(name) => lender.find_named(alloc, tree, name),
+        Look::Told(name, places) => return Ok(is_told(lender, tree, name, places)),
+    }
+    Ok(true)
+}
+
+/// Whether each of these is told as it says, and but for the first rows nothing is counted.
+pub fn are_seen<L: RowLender>(
+    alloc: Global,
+    lender: &mut L,
+    looks: &[(usize, Look)],
+) -> Result<bool, Want> {
+    for (tree, look) in looks {
+        let before = lender.meter();
+        if !is_seen(alloc, lender, *tree, *look)? {
+            return Ok(false);
+        }
+        if !matches!(look, Look::Begin) && lender.meter() != before {
+            return Ok(false);
+        }
+    }
+    Ok(true)
+}
+
+/// Whether all rows of the document are lent at once.
+fn lends_document<L: RowLender>(
+    alloc: Global,
+    lender: &mut L,
+    tree: usize,
+    document: Document,
+) -> Result<bool, Want> {
+    fetch(alloc, lender, tree, (0, u32::MAX))?;
+    Ok(document.has(lender.lent()))
+}
+
+/// Whether these documents are lent whole, and no other.
+pub fn lends_documents<L: RowLender>(
+    alloc: Global,
+    lender: &mut L,
+    documents: &[Document],
+) -> Result<bool, Want> {
+    for (tree, document) in documents.iter().enumerate() {
+        if !lends_document(alloc, lender, tree, *document)? {
+            return Ok(false);
+        }
+    }
+    let beyond = fetch(alloc, lender, documents.len(), (0, 0));
+    Ok(matches!(beyond, Err(Want::Store)) && lender.trees() == documents.len())
 }
 
 /// The place after these rows, where they are numbered one after another from a place on and the
@@ -39,6 +120,24 @@ fn place_after(rows: &[NodeRow], from: u32, text: &str) -> Option<u32> {
     Some(next)
 }
 
+/// The place after the rows that are lent from a place on, where they are those of the tree, and as
+/// many as are counted.
+fn lent_to<L: RowLender>(
+    alloc: Global,
+    lender: &mut L,
+    tree: usize,
+    (from, text): (u32, &str),
+) -> Result<Option<u32>, Want> {
+    let before = lender.meter().rows();
+    fetch(alloc, lender, tree, (from, u32::MAX))?;
+    let Some(after) = place_after(lender.lent(), from, text) else {
+        return Ok(None);
+    };
+    let lent = u64::from(after.saturating_sub(from));
+    let is_counted = lender.meter().rows() == before.saturating_add(lent);
+    Ok(if is_counted { Some(after) } else { None })
+}
+
 /// Whether the rows of the tree are lent, run by run, in their order, and no other, and what is
 /// lent is what is counted.
 fn lends_rows<L: RowLender>(
@@ -47,16 +146,11 @@ fn lends_rows<L: RowLender>(
     tree: usize,
     (rows, text): Comments,
 ) -> Result<bool, Want> {
-    let before = lender.meter().rows();
     let mut next = 0;
     for _ in 0..=rows {
-        lender.fetch(alloc, tree, next, u32::MAX)?;
-        let Some(after) = place_after(lender.lent(), next, text) else {
+        let Some(after) = lent_to(alloc, lender, tree, (next, text))? else {
             return Ok(false);
         };
-        if lender.meter().rows() != before.saturating_add(u64::from(after)) {
-            return Ok(false);
-        }
         if after == next {
             return Ok(next == rows);
         }
@@ -73,27 +167,35 @@ fn refuses_row_past_end<L: RowLender>(
     tree: usize,
     rows: u32,
 ) -> Result<bool, Want> {
-    lender.fetch(alloc, tree, 0, u32::MAX)?;
+    fetch(alloc, lender, tree, (0, u32::MAX))?;
     let before = lender.meter();
     let is_refused = matches!(lender.fetch_row(alloc, tree, rows), Err(Want::Store));
     Ok(is_refused && lender.lent().is_empty() && lender.meter() == before)
 }
 
-/// Asserts that these documents are lent whole, and no row after theirs. The first is lent run by
-/// run as it is read, each other one once a refusal has read it on.
+/// Whether the document is lent whole, and no row after its own. The first is lent run by run as it
+/// is read, each other one once a refusal has read it on.
+fn lends_whole<L: RowLender>(
+    alloc: Global,
+    lender: &mut L,
+    tree: usize,
+    document: Comments,
+) -> Result<bool, Want> {
+    let is_read_on = tree == 0 || refuses_row_past_end(alloc, lender, tree, document.0)?;
+    let is_lent = lends_rows(alloc, lender, tree, document)?;
+    Ok(is_read_on && is_lent && refuses_row_past_end(alloc, lender, tree, document.0)?)
+}
+
+/// Whether these documents are lent whole, and no row after theirs.
 pub fn lends_comments<L: RowLender>(
-    rt: &impl Abort,
     alloc: Global,
     lender: &mut L,
     documents: &[Comments],
-) -> Result<(), Want> {
-    assert_eq!(rt; lender.trees(), documents.len());
+) -> Result<bool, Want> {
     for (tree, document) in documents.iter().enumerate() {
-        if tree > 0 {
-            assert!(rt; refuses_row_past_end(alloc, lender, tree, document.0)?);
+        if !lends_whole(alloc, lender, tree, *document)? {
+            return Ok(false);
         }
-        assert!(rt; lends_rows(alloc, lender, tree, *document)?);
-        assert!(rt; refuses_row_past_end(alloc, lender, tree, document.0)?);
     }
-    Ok(())
+    Ok(lender.trees() == documents.len())
 }

@@ -2,7 +2,7 @@
 //! call of the store that was under way, or those after it, and after an answer those after it.
 use crate::adopt_tests::{BOOKS, LAYOUT, NODE, ONE};
 use crate::calls::{Call, first_wrong};
-use crate::documents::{Documents, Named};
+use crate::documents::{EMPTY, LIBRARY, LONGER};
 use std::alloc::Global;
 use std::test::Fail;
 use xq_atoms::Want;
@@ -16,11 +16,7 @@ impl Task for Call {
         store: StoppingStore,
     ) -> (Result<bool, Want>, StoppingStore) {
         let mut store = store;
-        let documents = match Documents::new(alloc) {
-            Ok(documents) => documents,
-            Err(want) => return (Err(want), store),
-        };
-        match first_wrong(&mut store, &documents, tasks) {
+        match first_wrong(alloc, &mut store, tasks) {
             Ok(wrong) => (Ok(wrong == 0), store),
             Err(want) => (Err(want), store),
         }
@@ -31,28 +27,32 @@ impl Task for Call {
 const NOTHING: &[Call] = &[Call::List(&[])];
 
 /// A document that no call after it names.
-const OTHER: &[Call] = &[
-    Call::List(&["a/1"]),
-    Call::Load("a/1", Some(Named::Library)),
-];
+const OTHER: &[Call] = &[Call::List(&["a/1"]), Call::Load("a/1", Some(LIBRARY))];
 
 /// The same, and the library under `b`.
 const LIBRARY_TOO: &[Call] = &[
     Call::List(&["a/1", "b"]),
-    Call::Load("a/1", Some(Named::Library)),
-    Call::Load("b", Some(Named::Library)),
+    Call::Load("a/1", Some(LIBRARY)),
+    Call::Load("b", Some(LIBRARY)),
 ];
 
 /// The same, and an empty document under `b`.
 const EMPTY_TOO: &[Call] = &[
     Call::List(&["a/1", "b"]),
-    Call::Load("a/1", Some(Named::Library)),
-    Call::Load("b", Some(Named::Empty)),
+    Call::Load("a/1", Some(LIBRARY)),
+    Call::Load("b", Some(EMPTY)),
 ];
 
-const PUT_OTHER: Call = Call::Put("a/1", Named::Library, Put::Stored);
+/// The same, and under `b` the library with a text changed and a row more.
+const LONGER_TOO: &[Call] = &[
+    Call::List(&["a/1", "b"]),
+    Call::Load("a/1", Some(LIBRARY)),
+    Call::Load("b", Some(LONGER)),
+];
 
-const PUT_LIBRARY: Call = Call::Put("b", Named::Library, Put::Stored);
+const PUT_OTHER: Call = Call::Put("a/1", LIBRARY, Put::Stored);
+
+const PUT_LIBRARY: Call = Call::Put("b", LIBRARY, Put::Stored);
 
 /// The row of an empty document under `a/1`, in the table of edition 1.
 const EMPTY_ROW: &str = "INSERT INTO node VALUES ('a/1', 0, 0, 0, 0, '', '')";
@@ -60,12 +60,13 @@ const EMPTY_ROW: &str = "INSERT INTO node VALUES ('a/1', 0, 0, 0, 0, '', '')";
 /// That document, and the library under `b`.
 const CARRIED: &[Call] = &[
     Call::List(&["a/1", "b"]),
-    Call::Load("a/1", Some(Named::Empty)),
-    Call::Load("b", Some(Named::Library)),
+    Call::Load("a/1", Some(EMPTY)),
+    Call::Load("b", Some(LIBRARY)),
 ];
 
-/// An adoption, a first put, a replacement, a drop, and an adoption of tables of edition 1.
-const RUNS: [Run<'static, Call>; 5] = [
+/// An adoption, a first put, a replacement, a drop, an adoption of tables of edition 1, and a put
+/// over rows that are kept: of the same rows, and then of others.
+const RUNS: [Run<'static, Call>; 6] = [
     Run {
         made: &[],
         first: &[],
@@ -83,7 +84,7 @@ const RUNS: [Run<'static, Call>; 5] = [
     Run {
         made: &[],
         first: &[PUT_OTHER, PUT_LIBRARY],
-        asked: &[Call::Put("b", Named::Empty, Put::Replaced)],
+        asked: &[Call::Put("b", EMPTY, Put::Replaced)],
         before: LIBRARY_TOO,
         after: EMPTY_TOO,
     },
@@ -100,6 +101,16 @@ const RUNS: [Run<'static, Call>; 5] = [
         asked: &[],
         before: CARRIED,
         after: CARRIED,
+    },
+    Run {
+        made: &[],
+        first: &[PUT_OTHER, PUT_LIBRARY],
+        asked: &[
+            Call::HandOver("b", LIBRARY, Put::Replaced),
+            Call::HandOver("b", LONGER, Put::Replaced),
+        ],
+        before: LIBRARY_TOO,
+        after: LONGER_TOO,
     },
 ];
 

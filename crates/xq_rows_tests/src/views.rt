@@ -2,17 +2,18 @@
 ghost use Rattle.std.specs.Prelude.{◌≡◌};
 ghost use Rattle.xq_rows.specs.Views.{beginning};
 
-use crate::documents::Named;
-use crate::loans::{Comments, lends_comments, lends_documents};
+use crate::calls::{Call, first_wrong};
+use crate::documents::Document;
+use crate::loans::{Comments, Look, are_seen, lends_comments, lends_documents};
 use sqlite::Alter;
 use std::alloc::Global;
 use std::marker::Brand;
-use std::process::Abort;
 use xq_atoms::Want;
 use xq_rows::{Origin, Store, View};
+use xq_samples::readings::{wrong_gift, wrong_loan};
 use xq_samples::scans::{Counts, Scan, read_by, reads_twice_in_two_steps};
-use xq_samples::tables::first_wrong;
-use xq_sources::{RowLender, RowSource};
+use xq_samples::tables;
+use xq_sources::{Buffered, RowLender, RowSource};
 
 /// What is done over a view.
 #[derive(Clone, Copy)]
@@ -23,58 +24,90 @@ pub enum Task {
     Step(Scan),
     /// The rows of the first document are given as copies, by a statement.
     Statement,
+    /// The first row of the first document is lent.
+    Front,
+    /// Two documents, an empty one and the library, are given and lent, by the view itself and by a
+    /// buffer over it.
+    Both,
     /// These documents are lent.
-    Documents(&'static [Named]),
+    Documents(&'static [Document]),
     /// The same of documents of comments.
     Comments(&'static [Comments]),
+    /// Names are looked for in documents, by their numbers.
+    Names(&'static [(usize, Look)]),
 }
 
-/// A store, and how many rows a task read of it, where that is told.
-pub type Done<S> = (Store<S>, Counts);
+/// A store, and how many rows a task read of it, where that is told; none where something is not as
+/// the task says.
+pub type Done<S> = (Store<S>, Option<Counts>);
 
-/// Makes the step, which holds, and tells how many rows it reads.
-pub fn counts_of<L: RowLender>(
-    rt: &impl Abort,
-    alloc: Global,
-    lender: &mut L,
-    scan: Scan,
-) -> Result<Counts, Want> {
-    match read_by(alloc, lender, scan)? {
-        Some(counts) => Ok(counts),
-        None => panic!(rt; "the step leads elsewhere, or reads too much"),
-    }
+/// What is told where no rows are.
+fn told(is_right: bool) -> Option<Counts> {
+    if is_right { Some((0, 0)) } else { None }
 }
 
-/// Asserts that the tables hold over the library.
-fn tables_hold<L: RowLender>(rt: &impl Abort, alloc: Global, lender: &mut L) -> Result<(), Want> {
-    assert_eq!(rt; first_wrong(alloc, lender)?, None);
-    assert!(rt; reads_twice_in_two_steps(alloc, lender)?);
-    Ok(())
+/// Whether the tables hold over the library.
+fn tables_hold<L: RowLender>(alloc: Global, lender: &mut L) -> Result<bool, Want> {
+    let wrong = tables::first_wrong(alloc, lender)?;
+    Ok(wrong.is_none() && reads_twice_in_two_steps(alloc, lender)?)
+}
+
+/// How many rows of the first tree are given as copies.
+fn copied<L: RowSource>(alloc: Global, source: &mut L) -> Result<u64, Want> {
+    Ok(source.range(alloc, 0, 0, u32::MAX)?.len() as u64)
+}
+
+/// Whether the source gives the rows of two documents, and lends them.
+fn reads_both<L: RowSource + RowLender>(alloc: Global, source: &mut L) -> Result<bool, Want> {
+    let gift = wrong_gift(alloc, source)?;
+    Ok(gift.is_none() && source.trees() == 2 && wrong_loan(alloc, source)?.is_none())
 }
 
 /// Does the task over a view.
-fn done<S: Alter, O: Origin, R: Abort>(
-    rt: &R,
+fn done<S: Alter, O: Origin>(
     alloc: Global,
     view: &mut View<S, O>,
     task: Task,
-) -> Result<Counts, Want> {
+) -> Result<Option<Counts>, Want> {
     match task {
-        Task::Tables => tables_hold(rt, alloc, view)?,
-        Task::Step(scan) => return counts_of(rt, alloc, view, scan),
-        Task::Statement => {
-            let copies = view.range(alloc, 0, 0, u32::MAX)?;
-            return Ok((copies.len() as u64, 0));
+        Task::Tables => Ok(told(tables_hold(alloc, view)?)),
+        Task::Step(scan) => read_by(alloc, view, scan),
+        Task::Statement => Ok(Some((copied(alloc, view)?, 0))),
+        Task::Front => {
+            view.fetch(alloc, 0, 0, 0)?;
+            Ok(told(true))
         }
-        Task::Documents(documents) => lends_documents(rt, alloc, view, documents)?,
-        Task::Comments(documents) => lends_comments(rt, alloc, view, documents)?,
+        Task::Both => Ok(told(view.addresses().len() == 2 && reads_both(alloc, view)?)),
+        Task::Documents(documents) => Ok(told(lends_documents(alloc, view, documents)?)),
+        Task::Comments(documents) => Ok(told(lends_comments(alloc, view, documents)?)),
+        Task::Names(looks) => Ok(told(are_seen(alloc, view, looks)?)),
     }
-    Ok((0, 0))
+}
+
+/// The view, and whether a buffer over it lends the rows of two documents.
+fn buffered<S: Alter + Drop, O: Origin + Drop>(
+    alloc: Global,
+    view: View<S, O>,
+) -> Result<(View<S, O>, bool), Want> {
+    let mut lender = Buffered::new(alloc, view);
+    let wrong = wrong_loan(alloc, &mut lender)?;
+    Ok((lender.into_source(), wrong.is_none()))
+}
+
+/// Does over a view what the task has a buffer do.
+fn done_over<S: Alter + Drop, O: Origin + Drop>(
+    alloc: Global,
+    view: View<S, O>,
+    task: Task,
+) -> Result<(View<S, O>, bool), Want> {
+    match task {
+        Task::Both => buffered(alloc, view),
+        _ => Ok((view, true)),
+    }
 }
 
 /// Does the task over a view of the store, and gives the store back.
-fn viewed<S: Alter + Drop, O: Origin + Drop, R: Abort>(
-    rt: &R,
+fn viewed<S: Alter + Drop, O: Origin + Drop>(
     alloc: Global,
     store: Store<S>,
     task: Task,
@@ -85,16 +118,44 @@ fn viewed<S: Alter + Drop, O: Origin + Drop, R: Abort>(
         Ok(view) => view,
         Err((want, _store)) => return Err(want),
     };
-    let counts = done(rt, alloc, &mut view, task)?;
-    Ok((view.into_store(), counts))
+    let counts = done(alloc, &mut view, task)?;
+    let (view, is_right) = done_over(alloc, view, task)?;
+    Ok((view.into_store(), if is_right { counts } else { None }))
 }
 
 /// The same over any view.
-pub fn seen<S: Alter + Drop, R: Abort>(
-    rt: &R,
+pub fn seen<S: Alter + Drop>(alloc: Global, store: Store<S>, task: Task) -> Result<Done<S>, Want> {
+    viewed::<S, Brand>(alloc, store, task)
+}
+
+/// Calls of the store, and what is done over the view after them.
+pub type Step = (&'static [Call], Task);
+
+/// The store after a step, and whether all was as the step says.
+pub fn stepped<S: Alter + Drop>(
     alloc: Global,
     store: Store<S>,
-    task: Task,
-) -> Result<Done<S>, Want> {
-    viewed::<S, Brand, R>(rt, alloc, store, task)
+    (calls, task): Step,
+) -> Result<(Store<S>, bool), Want> {
+    let mut store = store;
+    let wrong = first_wrong(alloc, &mut store, calls)?;
+    let (store, counts) = seen(alloc, store, task)?;
+    Ok((store, wrong == 0 && counts.is_some()))
+}
+
+/// The place of the first step that is not as it says.
+pub fn wrong_step<S: Alter + Drop>(
+    alloc: Global,
+    store: Store<S>,
+    steps: &[Step],
+) -> Result<Option<usize>, Want> {
+    let mut store = store;
+    for (place, step) in steps.iter().enumerate() {
+        let (after, is_right) = stepped(alloc, store, *step)?;
+        store = after;
+        if !is_right {
+            return Ok(Some(place));
+        }
+    }
+    Ok(None)
 }

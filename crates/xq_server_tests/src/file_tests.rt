@@ -1,6 +1,6 @@
 //! Stores in files: a service, its end, and the next over the same file.
 
-use crate::rows::{LIBRARY, PUT_B};
+use crate::rows::{DOC_B, LIBRARY, PUT_B, Row};
 use crate::servers::FileServer;
 use crate::tests::is_answered;
 use sqlite::{Connection, Unknown};
@@ -16,16 +16,11 @@ fn make_folder(rt: &HostRuntime, folder: &str) -> Result<(), Fail> {
 
 /// Opens a server over the store in a file, sends it one request, and ends the server, which copies
 /// its log into the file. Says whether the reply is the one that is wanted.
-fn ask_file(
-    rt: &HostRuntime,
-    path: &str,
-    request: (u8, &[u8]),
-    wanted: (u8, &[u8]),
-) -> Result<bool, Fail> {
+fn ask_file(rt: &HostRuntime, path: &str, row: &Row) -> Result<bool, Fail> {
     let Some(mut file) = FileServer::open(rt, path) else {
         return Err(Fail::new("the file is no store"));
     };
-    let is_right = is_answered(rt.alloc(), &mut file.server, 3, request, wanted)?;
+    let is_right = is_answered(rt.alloc(), &mut file.server, 3, row.request(), row.reply())?;
     if file.close() {
         Ok(is_right)
     } else {
@@ -33,23 +28,34 @@ fn ask_file(
     }
 }
 
+/// Sends each request to a server of its own over the file, and gives the place of the first that
+/// has another reply.
+fn first_wrong(rt: &HostRuntime, path: &str, rows: &[Row]) -> Result<Option<usize>, Fail> {
+    for (at, row) in rows.iter().enumerate() {
+        if !ask_file(rt, path, row)? {
+            return Ok(Some(at));
+        }
+    }
+    Ok(None)
+}
+
 /// Each request finds what those before it left in the file.
+const KEPT: [Row; 8] = [
+    Row::Answers(b'L', b"", b"()"),
+    Row::Answers(b'S', PUT_B, b"stored"),
+    Row::Answers(b'L', b"", b"\"b\""),
+    Row::Answers(b'Q', DOC_B, LIBRARY),
+    Row::Answers(b'S', PUT_B, b"replaced"),
+    Row::Refuses(b'S', b"\x01adoc(\"c\")", b"FODC0002"),
+    Row::Answers(b'D', b"b", b"dropped"),
+    Row::Answers(b'L', b"", b"()"),
+];
+
 #[test]
 fn documents_outlive_a_service(rt: HostRuntime) -> Result<(), Fail> {
     make_folder(&rt, "xq_server_kept")?;
-    let rows: [((u8, &[u8]), (u8, &[u8])); 8] = [
-        ((b'L', b""), (0, b"()")),
-        ((b'S', PUT_B), (0, b"stored")),
-        ((b'L', b""), (0, b"\"b\"")),
-        ((b'Q', b"doc(\"b\")"), (0, LIBRARY)),
-        ((b'S', PUT_B), (0, b"replaced")),
-        ((b'S', b"\x01adoc(\"c\")"), (1, b"FODC0002")),
-        ((b'D', b"b"), (0, b"dropped")),
-        ((b'L', b""), (0, b"()")),
-    ];
-    for (request, wanted) in rows {
-        assert!(rt; ask_file(&rt, "xq_server_kept/x.db", request, wanted)?);
-    }
+    let wrong = first_wrong(&rt, "xq_server_kept/x.db", &KEPT)?;
+    assert_eq!(rt; wrong, None);
     fs::remove_dir_all(&rt, "xq_server_kept")?;
     Ok(())
 }
@@ -74,22 +80,22 @@ fn make_file(rt: &HostRuntime, path: &str, statements: &[&str]) -> Result<bool, 
     Ok(conn.close().is_ok() && are_done)
 }
 
+/// What is asked of a file of edition 1.
+const UPGRADED: [Row; 5] = [
+    Row::Answers(b'Q', DOC_B, LIBRARY),
+    Row::Answers(b'S', b"\x01adoc(\"b\")", b"stored"),
+    Row::Answers(b'Q', b"doc(\"a\")", LIBRARY),
+    Row::Answers(b'D', b"b", b"dropped"),
+    Row::Answers(b'L', b"", b"\"a\""),
+];
+
 /// A file of edition 1 is opened, served and closed, again and again.
 #[test]
 fn a_file_of_edition_one(rt: HostRuntime) -> Result<(), Fail> {
     make_folder(&rt, "xq_server_edition_one")?;
-    let path = "xq_server_edition_one/x.db";
-    assert!(rt; make_file(&rt, path, &EDITION_ONE)?);
-    let rows: [((u8, &[u8]), (u8, &[u8])); 5] = [
-        ((b'Q', b"doc(\"b\")"), (0, LIBRARY)),
-        ((b'S', b"\x01adoc(\"b\")"), (0, b"stored")),
-        ((b'Q', b"doc(\"a\")"), (0, LIBRARY)),
-        ((b'D', b"b"), (0, b"dropped")),
-        ((b'L', b""), (0, b"\"a\"")),
-    ];
-    for (request, wanted) in rows {
-        assert!(rt; ask_file(&rt, path, request, wanted)?);
-    }
+    assert!(rt; make_file(&rt, "xq_server_edition_one/x.db", &EDITION_ONE)?);
+    let wrong = first_wrong(&rt, "xq_server_edition_one/x.db", &UPGRADED)?;
+    assert_eq!(rt; wrong, None);
     fs::remove_dir_all(&rt, "xq_server_edition_one")?;
     Ok(())
 }
@@ -103,16 +109,20 @@ fn refuse_file(rt: &HostRuntime, path: &str, log: &str, bytes: &[u8]) -> Result<
     Ok(fs::read(rt, path)?.as_slice() == bytes && !fs::exists(rt, log)?)
 }
 
+/// What is no store.
+const REFUSED: [&[u8]; 5] = [
+    b"S",
+    b"x",
+    b"SQLite format 3",
+    b"A text, and no database.",
+    b"This is a text, and no database.",
+];
+
 /// What is refused stays as it is.
 #[test]
 fn refused_files(rt: HostRuntime) -> Result<(), Fail> {
     make_folder(&rt, "xq_server_refused")?;
-    for bytes in [
-        b"S".as_slice(),
-        b"x",
-        b"SQLite format 3",
-        b"A text, and no database.",
-    ] {
+    for bytes in REFUSED {
         let path = "xq_server_refused/x";
         assert!(rt; refuse_file(&rt, path, "xq_server_refused/x-wal", bytes)?);
     }
@@ -120,17 +130,14 @@ fn refused_files(rt: HostRuntime) -> Result<(), Fail> {
     Ok(())
 }
 
-/// An empty file is made a store; a text and a folder are none, and stay.
+/// An empty file is made a store; a folder is none, and stays.
 #[test]
 fn other_files(rt: HostRuntime) -> Result<(), Fail> {
     make_folder(&rt, "xq_server_other")?;
     fs::write(&rt, "xq_server_other/empty", b"")?;
-    assert!(rt; ask_file(&rt, "xq_server_other/empty", (b'L', b""), (0, b"()"))?);
-    let text = b"This is a text, and no database.";
-    fs::write(&rt, "xq_server_other/text", text)?;
-    assert!(rt; FileServer::open(&rt, "xq_server_other/text").is_none());
-    let kept = fs::read(&rt, "xq_server_other/text")?;
-    assert_eq!(rt; kept.as_slice(), text.as_slice());
+    let rows = [Row::Answers(b'L', b"", b"()")];
+    let wrong = first_wrong(&rt, "xq_server_other/empty", &rows)?;
+    assert_eq!(rt; wrong, None);
     assert!(rt; FileServer::open(&rt, "xq_server_other").is_none());
     fs::remove_dir_all(&rt, "xq_server_other")?;
     Ok(())

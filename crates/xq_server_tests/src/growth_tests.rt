@@ -2,10 +2,7 @@
 //! refused; tools/each_allocation.sh runs them once for each of their allocations, refusing that
 //! one.
 
-use crate::rows::{
-    Row, content_rows, dropping_rows, first_rows, function_rows, last_rows, node_rows, number_rows,
-    path_rows, range_rows, static_rows, tuple_rows,
-};
+use crate::rows::{Row, WORKED_ROWS};
 use crate::servers::MemoryServer;
 use crate::tests::{frame, is_reply};
 use sqlite::Alter;
@@ -14,7 +11,7 @@ use std::test::Fail;
 use xq_server::{End, Server};
 
 /// How a request was answered.
-#[derive(Clone, Copy, Debug, PartialEq, Eq)]
+#[derive(Clone, Copy)]
 enum Answer {
     /// By its own reply.
     Own,
@@ -26,7 +23,7 @@ enum Answer {
 }
 
 /// How a server came through.
-#[derive(Clone, Copy, Debug, PartialEq, Eq)]
+#[derive(Clone, Copy)]
 enum Fate {
     /// Each request had its own reply, at the second time where something was wanting.
     Up,
@@ -34,9 +31,6 @@ enum Fate {
     Shut,
     Wrong,
 }
-
-/// How many groups of rows there are.
-const GROUPS: usize = 11;
 
 /// Runs the frame of a row.
 fn answer_of<S: Alter + Drop>(
@@ -47,7 +41,7 @@ fn answer_of<S: Alter + Drop>(
 ) -> Answer {
     let mut out = Vec::new(alloc);
     match server.run(request, &mut out) {
-        End::Finished if is_reply(&out, 1, (row.status, row.text)) => Answer::Own,
+        End::Finished if is_reply(&out, 1, row.reply()) => Answer::Own,
         End::Finished if is_reply(&out, 1, (2, b"memory")) => Answer::Memory,
         End::Finished if is_reply(&out, 1, (2, b"store")) => Answer::Store,
         End::NoRoom if out.is_empty() => Answer::Memory,
@@ -84,7 +78,7 @@ fn fate_when_shut<S: Alter + Drop>(
 ) -> Fate {
     match answer_of(alloc, server, request, row) {
         Answer::Store => Fate::Shut,
-        Answer::Own if row.status == 1 => Fate::Shut,
+        Answer::Own if row.reply().0 == 1 => Fate::Shut,
         _ => Fate::Wrong,
     }
 }
@@ -98,9 +92,8 @@ fn fate_of_rows<S: Alter + Drop>(
 ) -> Result<Fate, AllocError> {
     let mut fate = before;
     for row in rows {
-        let request = frame(alloc, 1, row.kind, row.body).or_else(|_refused| frame(
-            alloc, 1, row.kind, row.body,
-        ))?;
+        let (kind, body) = row.request();
+        let request = frame(alloc, 1, kind, body).or_else(|_refused| frame(alloc, 1, kind, body))?;
         fate = match fate {
             Fate::Up => fate_of_row(alloc, server, &request, row),
             Fate::Shut => fate_when_shut(alloc, server, &request, row),
@@ -110,37 +103,15 @@ fn fate_of_rows<S: Alter + Drop>(
     Ok(fate)
 }
 
-/// The same for one group of the worked rows, but for those of long results.
-fn fate_of_group<S: Alter + Drop>(
-    alloc: Global,
-    server: &mut Server<S>,
-    before: Fate,
-    group: usize,
-) -> Result<Fate, AllocError> {
-    match group {
-        0 => fate_of_rows(alloc, server, before, &first_rows()),
-        1 => fate_of_rows(alloc, server, before, &path_rows()),
-        2 => fate_of_rows(alloc, server, before, &tuple_rows()),
-        3 => fate_of_rows(alloc, server, before, &number_rows()),
-        4 => fate_of_rows(alloc, server, before, &content_rows()),
-        5 => fate_of_rows(alloc, server, before, &node_rows()),
-        6 => fate_of_rows(alloc, server, before, &function_rows()),
-        7 => fate_of_rows(alloc, server, before, &range_rows()),
-        8 => fate_of_rows(alloc, server, before, &static_rows()),
-        9 => fate_of_rows(alloc, server, before, &dropping_rows()),
-        _ => fate_of_rows(alloc, server, before, &last_rows()),
-    }
-}
-
 /// The worked rows in order on one server.
 #[test]
 fn each_allocation_of_the_worked_rows(rt: HostRuntime) -> Result<(), Fail> {
     let alloc = rt.alloc();
     let mut memory = MemoryServer::new(alloc).or_else(|_want| MemoryServer::new(alloc))?;
     let mut fate = Fate::Up;
-    for group in 0..GROUPS {
-        fate = fate_of_group(alloc, &mut memory.server, fate, group)?;
+    for rows in WORKED_ROWS {
+        fate = fate_of_rows(alloc, &mut memory.server, fate, rows)?;
     }
-    assert!(rt; fate != Fate::Wrong);
+    assert!(rt; !matches!(fate, Fate::Wrong));
     Ok(())
 }

@@ -1,8 +1,9 @@
 //! Texts that are long or nest deeply, and frames that are cut anywhere.
 
-use crate::rows::{PUT_B, first_rows};
+use crate::rows::{FIRST_ROWS, PUT_B};
 use crate::servers::MemoryServer;
-use crate::tests::{check_query, check_rows, frame, is_answered, nested};
+use crate::tests::{check_groups, frame, is_answered};
+use std::alloc::{AllocError, Global};
 use std::process::Abort;
 use std::test::Fail;
 use xq_server::End;
@@ -11,7 +12,7 @@ use xq_server::End;
 type Repeated = (u32, (&'static str, &'static str, &'static str));
 
 /// A query, and the status and text of its reply.
-type LongText = (Repeated, u8, Repeated);
+pub type LongText = (Repeated, u8, Repeated);
 
 const LONG_TEXTS: [LongText; 7] = [
     ((500_000, ("", "1", "+1")), 0, (0, ("", "500001", ""))),
@@ -38,27 +39,57 @@ const LONG_TEXTS: [LongText; 7] = [
     ),
 ];
 
-/// Sends the query twice, one right after the other, and checks both replies.
-fn check_twice(
-    rt: &(impl Abort + AllocGlobal),
-    memory: &mut MemoryServer,
-    ((times, parts), status, (reply_times, reply_parts)): LongText,
-) -> Result<(), Fail> {
-    let query = nested(rt.alloc(), times, parts)?;
-    let reply = nested(rt.alloc(), reply_times, reply_parts)?;
-    check_query(rt, memory, &query, (status, reply.as_bytes()))?;
-    check_query(rt, memory, &query, (status, reply.as_bytes()))
+/// Adds the text so many times.
+fn push_often(text: &mut String, count: u32, part: &str) -> Result<(), AllocError> {
+    for _time in 0..count {
+        text.push_str(part)?;
+    }
+    Ok(())
 }
 
-/// Each has its own reply on one server, and has it again: none wants memory or the store.
+/// So many times this text, then the middle, then the other.
+fn nested(alloc: Global, (count, (before, middle, after)): Repeated) -> Result<String, AllocError> {
+    let mut text = String::new(alloc);
+    push_often(&mut text, count, before)?;
+    text.push_str(middle)?;
+    push_often(&mut text, count, after)?;
+    Ok(text)
+}
+
+/// Sends the query twice, one right after the other, and says whether both replies are its own.
+fn is_own_twice(
+    alloc: Global,
+    memory: &mut MemoryServer,
+    (query, status, reply): LongText,
+) -> Result<bool, AllocError> {
+    let query = nested(alloc, query)?;
+    let reply = nested(alloc, reply)?;
+    let request = (b'Q', query.as_bytes());
+    let wanted = (status, reply.as_bytes());
+    Ok(
+        is_answered(alloc, &mut memory.server, 1, request, wanted)?
+            && is_answered(alloc, &mut memory.server, 1, request, wanted)?,
+    )
+}
+
+/// Sends each query twice, and checks the replies: none wants memory or the store.
+pub fn check_texts(
+    rt: &(impl Abort + AllocGlobal),
+    memory: &mut MemoryServer,
+    texts: &[LongText],
+) -> Result<(), Fail> {
+    for (at, text) in texts.iter().enumerate() {
+        assert!(rt; is_own_twice(rt.alloc(), memory, *text)?, "text {at}");
+    }
+    Ok(())
+}
+
+/// Each has its own reply on one server, and has it again.
 #[test]
 fn long_texts(rt: HostRuntime) -> Result<(), Fail> {
     let mut memory = MemoryServer::new(rt.alloc())?;
-    check_rows(&rt, &mut memory, 1, &first_rows())?;
-    for text in LONG_TEXTS {
-        check_twice(&rt, &mut memory, text)?;
-    }
-    Ok(())
+    check_groups(&rt, &mut memory, 1, &[FIRST_ROWS])?;
+    check_texts(&rt, &mut memory, &LONG_TEXTS)
 }
 
 /// A store that is cut after any of its bytes has no reply, and leaves no document.

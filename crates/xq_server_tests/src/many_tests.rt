@@ -28,17 +28,7 @@ fn address_of(alloc: Global, number: u32) -> Result<String, AllocError> {
     format!(in alloc; "d{}", number.saturating_add(1_000))
 }
 
-/// The body of a store of the document that has the step as its text.
-fn store_body(alloc: Global, address: &str, step: u32) -> Result<Vec<u8>, AllocError> {
-    let query = format!(in alloc; "document {{element a {{\"{step}\"}}}}")?;
-    let mut body = Vec::new(alloc);
-    body.push(u8::try_from(address.len()).unwrap_or(0))?;
-    body.extend_from_slice(address.as_bytes())?;
-    body.extend_from_slice(query.as_bytes())?;
-    Ok(body)
-}
-
-/// Stores a document.
+/// Stores the document that has the step as its text.
 fn stores<S: Alter + Drop>(
     alloc: Global,
     server: &mut Server<S>,
@@ -46,14 +36,15 @@ fn stores<S: Alter + Drop>(
     version: &mut Option<u32>,
     step: u32,
 ) -> Result<bool, AllocError> {
-    let body = store_body(alloc, address, step)?;
+    // Each address has five bytes.
+    let body = format!(in alloc; "\x05{address}document {{element a {{\"{step}\"}}}}")?;
     let wanted: &[u8] = if version.is_some() {
         b"replaced"
     } else {
         b"stored"
     };
     *version = Some(step);
-    is_answered(alloc, server, step, (b'S', &body), (0, wanted))
+    is_answered(alloc, server, step, (b'S', body.as_bytes()), (0, wanted))
 }
 
 /// Drops a document, or is told that it is absent.
@@ -71,6 +62,14 @@ fn drops<S: Alter + Drop>(
     is_answered(alloc, server, step, (b'D', address.as_bytes()), wanted)
 }
 
+/// The reply to a query for the text of a document: its status, and its text.
+fn asked(alloc: Global, version: Option<u32>) -> Result<(u8, String), AllocError> {
+    Ok(match version {
+        Some(stored) => (0, format!(in alloc; "\"{stored}\"")?),
+        None => (1, String::from_str(alloc, "FODC0002")?),
+    })
+}
+
 /// Asks for the text of a document, or is told that it is absent.
 fn asks<S: Alter + Drop>(
     alloc: Global,
@@ -80,25 +79,9 @@ fn asks<S: Alter + Drop>(
     step: u32,
 ) -> Result<bool, AllocError> {
     let query = format!(in alloc; "string(doc(\"{address}\"))")?;
-    match version {
-        Some(stored) => {
-            let text = format!(in alloc; "\"{stored}\"")?;
-            is_answered(
-                alloc,
-                server,
-                step,
-                (b'Q', query.as_bytes()),
-                (0, text.as_bytes()),
-            )
-        }
-        None => is_answered(
-            alloc,
-            server,
-            step,
-            (b'Q', query.as_bytes()),
-            (1, b"FODC0002"),
-        ),
-    }
+    let (status, text) = asked(alloc, version)?;
+    let wanted = (status, text.as_bytes());
+    is_answered(alloc, server, step, (b'Q', query.as_bytes()), wanted)
 }
 
 /// Takes one step, and says whether its reply is the one that the versions tell.
@@ -160,9 +143,16 @@ fn many_documents_in_files_in_memory(rt: HostRuntime) -> Result<(), Fail> {
     check_steps(&rt, &mut memory.server)
 }
 
+/// Takes all steps on a server over a store of any kind, which it lets go.
+fn check_server<S: Alter + Drop>(
+    rt: &(impl Abort + AllocGlobal),
+    mut server: Server<S>,
+) -> Result<(), Fail> {
+    check_steps(rt, &mut server)
+}
+
 #[test]
 fn many_documents_in_memory(rt: HostRuntime) -> Result<(), Fail> {
     let store = Store::new_in_memory(rt.alloc())?;
-    let mut server = Server::new(rt.alloc(), store);
-    check_steps(&rt, &mut server)
+    check_server(&rt, Server::new(rt.alloc(), store))
 }

@@ -1,9 +1,9 @@
 //! Services by scripted readers and writers: the worked rows in pieces, and each end.
 
-use crate::rows::{Row, dropping_rows, first_rows, last_rows, node_rows, path_rows};
+use crate::rows::{DROPPING_ROWS, FIRST_ROWS, LAST_ROWS, NODE_ROWS, PATH_ROWS, Row};
 use crate::scripts::{Sink, Source};
 use crate::servers::MemoryServer;
-use crate::tests::{frame, inputs};
+use crate::tests::{INPUTS, frame, is_answered};
 use std::process::Abort;
 use std::test::Fail;
 use xq_server::End;
@@ -35,8 +35,27 @@ fn serve_rows_as_run(
     piece: usize,
 ) -> Result<(), Fail> {
     for row in rows {
-        let input = frame(rt.alloc(), 5, row.kind, row.body)?;
+        let (kind, body) = row.request();
+        let input = frame(rt.alloc(), 5, kind, body)?;
         serve_as_run(rt, (&mut *served, &mut *ran), &input, piece);
+    }
+    Ok(())
+}
+
+/// The requests that are served in pieces.
+const SERVED: [&[Row]; 5] = [FIRST_ROWS, PATH_ROWS, NODE_ROWS, DROPPING_ROWS, LAST_ROWS];
+
+/// The same for each group of requests, and for whole inputs after them.
+fn serve_all_as_run(
+    rt: &(impl Abort + AllocGlobal),
+    (served, ran): (&mut MemoryServer, &mut MemoryServer),
+    piece: usize,
+) -> Result<(), Fail> {
+    for rows in SERVED {
+        serve_rows_as_run(rt, (&mut *served, &mut *ran), rows, piece)?;
+    }
+    for (input, _, _) in INPUTS {
+        serve_as_run(rt, (&mut *served, &mut *ran), input, piece);
     }
     Ok(())
 }
@@ -47,14 +66,7 @@ fn in_pieces(rt: HostRuntime) -> Result<(), Fail> {
     for piece in [1, 2, 3, 7] {
         let mut served = MemoryServer::new(rt.alloc())?;
         let mut ran = MemoryServer::new(rt.alloc())?;
-        serve_rows_as_run(&rt, (&mut served, &mut ran), &first_rows(), piece)?;
-        serve_rows_as_run(&rt, (&mut served, &mut ran), &path_rows(), piece)?;
-        serve_rows_as_run(&rt, (&mut served, &mut ran), &node_rows(), piece)?;
-        serve_rows_as_run(&rt, (&mut served, &mut ran), &dropping_rows(), piece)?;
-        serve_rows_as_run(&rt, (&mut served, &mut ran), &last_rows(), piece)?;
-        for (input, _, _) in inputs() {
-            serve_as_run(&rt, (&mut served, &mut ran), input, piece);
-        }
+        serve_all_as_run(&rt, (&mut served, &mut ran), piece)?;
     }
     Ok(())
 }
@@ -67,165 +79,190 @@ const LISTS: &[u8] =
 const NOTHINGS: &[u8] =
     b"\x00\x00\x00\x07\x00\x00\x00\x01\x00()\x00\x00\x00\x07\x00\x00\x00\x02\x00()\x00\x00\x00\x07\x00\x00\x00\x03\x00()";
 
+/// What a reader gives of these requests, and how: so many bytes, after so many interruptions, and
+/// so many more after each request; whether it fails after the last byte.
+type Reads = (usize, u32, u32, bool);
+
+/// What a writer takes, and how: so many bytes at once, so many in all, after so many
+/// interruptions; whether each flush fails.
+type Writes = (usize, usize, u32, bool);
+
+/// At most so many frames are answered, the end, and how many bytes of the replies are written.
+type Outcome = (u64, End, usize);
+
+type Service = (Reads, Writes, Outcome);
+
+const ALL: Reads = (27, 0, 0, false);
+
+const ANY: Writes = (usize::MAX, usize::MAX, 0, false);
+
+const MOST: u64 = 1_000_000;
+
+const BY_THE_READER: [Service; 6] = [
+    ((18, 0, 0, true), ANY, (MOST, End::ReadFault, 22)),
+    ((20, 0, 0, true), ANY, (MOST, End::ReadFault, 22)),
+    ((20, 0, 0, false), ANY, (MOST, End::Cut, 22)),
+    ((24, 0, 0, false), ANY, (MOST, End::Cut, 22)),
+    ((27, 999, 0, false), ANY, (MOST, End::Finished, 33)),
+    ((27, 1000, 0, false), ANY, (MOST, End::ReadFault, 0)),
+];
+
+const BY_THE_WRITER: [Service; 4] = [
+    (ALL, (1, usize::MAX, 0, false), (MOST, End::Finished, 33)),
+    (ALL, (usize::MAX, 15, 0, false), (MOST, End::WriteFault, 15)),
+    (ALL, (4, 22, 0, false), (MOST, End::WriteFault, 22)),
+    (ALL, (0, usize::MAX, 0, false), (MOST, End::WriteFault, 0)),
+];
+
+/// The interruptions of one frame are counted together: its reads, its writes and its flush.
+const INTERRUPTED: [Service; 4] = [
+    (
+        (27, 500, 0, false),
+        (usize::MAX, usize::MAX, 499, false),
+        (MOST, End::Finished, 33),
+    ),
+    (
+        (27, 500, 0, false),
+        (usize::MAX, usize::MAX, 500, false),
+        (MOST, End::WriteFault, 0),
+    ),
+    (
+        ALL,
+        (usize::MAX, usize::MAX, 999, false),
+        (MOST, End::Finished, 33),
+    ),
+    (
+        ALL,
+        (usize::MAX, usize::MAX, 1000, false),
+        (MOST, End::WriteFault, 0),
+    ),
+];
+
+/// Each frame and its reply has a count of its own: 600 interruptions before each of three frames
+/// are borne, and with 400 of the first reply they are one too many.
+const COUNTED_ANEW: [Service; 3] = [
+    ((27, 600, 600, false), ANY, (MOST, End::Finished, 33)),
+    (
+        (27, 600, 600, false),
+        (usize::MAX, usize::MAX, 399, false),
+        (MOST, End::Finished, 33),
+    ),
+    (
+        (27, 600, 600, false),
+        (usize::MAX, usize::MAX, 400, false),
+        (MOST, End::WriteFault, 0),
+    ),
+];
+
+/// Each reply is flushed.
+const FLUSHED: Service = (ALL, ANY, (MOST, End::Finished, 33));
+
+/// A flush that fails ends the service.
+const STUCK: Service = (
+    ALL,
+    (usize::MAX, usize::MAX, 0, true),
+    (MOST, End::WriteFault, 11),
+);
+
 /// Serves at most so many frames over an empty map, and checks how that ends, and that this many
 /// bytes of the replies were written.
 fn check_replies(
     rt: &(impl Abort + AllocGlobal),
     (source, sink): (&mut Source<'_>, &mut Sink),
-    max_frames: u64,
-    (end, written): (End, usize),
+    (most, end, written): Outcome,
     replies: &[u8],
 ) -> Result<(), Fail> {
     let mut memory = MemoryServer::new(rt.alloc())?;
-    assert_eq!(rt; memory.server.serve(source, sink, max_frames), end);
+    assert_eq!(rt; memory.server.serve(source, sink, most), end);
     assert_eq!(rt; Some(sink.taken.as_slice()), replies.get(..written));
     Ok(())
 }
 
-/// The same where the requests are for all addresses.
-fn check_end(
+/// The same where the requests are for all addresses. Gives how many bytes the reader has left, and
+/// how many flushes succeeded.
+fn check_service(
     rt: &(impl Abort + AllocGlobal),
-    streams: (&mut Source<'_>, &mut Sink),
-    max_frames: u64,
-    wanted: (End, usize),
-) -> Result<(), Fail> {
-    check_replies(rt, streams, max_frames, wanted, NOTHINGS)
+    ((given, before, between, fails), (piece, room, held, flush_fails), outcome): Service,
+) -> Result<(usize, u32), Fail> {
+    let mut source = Source {
+        bytes: LISTS.get(..given).unwrap_or(LISTS),
+        piece: usize::MAX,
+        interruptions: before,
+        again: between,
+        fails,
+    };
+    let mut sink = Sink {
+        taken: Vec::new(rt.alloc()),
+        piece,
+        room,
+        interruptions: held,
+        flushes: 0,
+        flush_fails,
+    };
+    check_replies(rt, (&mut source, &mut sink), outcome, NOTHINGS)?;
+    Ok((source.bytes.len(), sink.flushes))
+}
+
+/// The same for each of the services.
+fn check_services(rt: &(impl Abort + AllocGlobal), services: &[Service]) -> Result<(), Fail> {
+    for service in services {
+        check_service(rt, *service)?;
+    }
+    Ok(())
 }
 
 #[test]
 fn ends_by_the_reader(rt: HostRuntime) -> Result<(), Fail> {
-    let rows = [
-        (&LISTS[..18], true, 0, (End::ReadFault, 22)),
-        (&LISTS[..20], true, 0, (End::ReadFault, 22)),
-        (&LISTS[..20], false, 0, (End::Cut, 22)),
-        (&LISTS[..24], false, 0, (End::Cut, 22)),
-        (LISTS, false, 999, (End::Finished, 33)),
-        (LISTS, false, 1000, (End::ReadFault, 0)),
-    ];
-    for (bytes, fails, interruptions, wanted) in rows {
-        let mut source = Source {
-            bytes,
-            piece: usize::MAX,
-            interruptions,
-            again: 0,
-            fails,
-        };
-        let mut sink = Sink::new(Vec::new(rt.alloc()));
-        check_end(&rt, (&mut source, &mut sink), 1_000_000, wanted)?;
-    }
-    Ok(())
+    check_services(&rt, &BY_THE_READER)
 }
 
 #[test]
 fn ends_by_the_writer(rt: HostRuntime) -> Result<(), Fail> {
-    let rows = [
-        (1, usize::MAX, (End::Finished, 33)),
-        (usize::MAX, 15, (End::WriteFault, 15)),
-        (4, 22, (End::WriteFault, 22)),
-        (0, usize::MAX, (End::WriteFault, 0)),
-    ];
-    for (piece, room, wanted) in rows {
-        let mut sink = Sink::new(Vec::new(rt.alloc()));
-        sink.piece = piece;
-        sink.room = room;
-        check_end(&rt, (&mut Source::new(LISTS), &mut sink), 1_000_000, wanted)?;
-    }
-    Ok(())
+    check_services(&rt, &BY_THE_WRITER)
 }
 
-/// The interruptions of one frame are counted together: its reads, its writes and its flush.
 #[test]
 fn interruptions(rt: HostRuntime) -> Result<(), Fail> {
-    let rows = [
-        (500, 499, (End::Finished, 33)),
-        (500, 500, (End::WriteFault, 0)),
-        (0, 999, (End::Finished, 33)),
-        (0, 1000, (End::WriteFault, 0)),
-    ];
-    for (reads, writes, wanted) in rows {
-        let mut source = Source::new(LISTS);
-        source.interruptions = reads;
-        let mut sink = Sink::new(Vec::new(rt.alloc()));
-        sink.interruptions = writes;
-        check_end(&rt, (&mut source, &mut sink), 1_000_000, wanted)?;
-    }
-    Ok(())
+    check_services(&rt, &INTERRUPTED)
 }
 
-/// Each frame and its reply has a count of its own: 600 interruptions before each of three frames
-/// are borne, and with 400 of the first reply they are one too many.
 #[test]
 fn counts_anew_for_each_frame(rt: HostRuntime) -> Result<(), Fail> {
-    let rows = [
-        (0, (End::Finished, 33)),
-        (399, (End::Finished, 33)),
-        (400, (End::WriteFault, 0)),
-    ];
-    for (writes, wanted) in rows {
-        let mut source = Source::new(LISTS);
-        source.interruptions = 600;
-        source.again = 600;
-        let mut sink = Sink::new(Vec::new(rt.alloc()));
-        sink.interruptions = writes;
-        check_end(&rt, (&mut source, &mut sink), 1_000_000, wanted)?;
-    }
-    Ok(())
+    check_services(&rt, &COUNTED_ANEW)
 }
 
-/// Each reply is flushed, and a flush that fails ends the service.
 #[test]
 fn flushes(rt: HostRuntime) -> Result<(), Fail> {
-    let mut sink = Sink::new(Vec::new(rt.alloc()));
-    check_end(
-        &rt,
-        (&mut Source::new(LISTS), &mut sink),
-        1_000_000,
-        (End::Finished, 33),
-    )?;
-    assert_eq!(rt; sink.flushes, 3);
-    let mut stuck = Sink::new(Vec::new(rt.alloc()));
-    stuck.flush_fails = true;
-    check_end(
-        &rt,
-        (&mut Source::new(LISTS), &mut stuck),
-        1_000_000,
-        (End::WriteFault, 11),
-    )?;
-    Ok(())
+    let (_left, flushed) = check_service(&rt, FLUSHED)?;
+    assert_eq!(rt; flushed, 3);
+    check_services(&rt, &[STUCK])
 }
 
 /// The bound on frames ends the service before the next is read.
 #[test]
 fn bounds(rt: HostRuntime) -> Result<(), Fail> {
-    for (bound, written) in [(0, 0), (1, 11), (2, 22), (3, 33)] {
-        let mut source = Source::new(LISTS);
-        source.fails = true;
-        let mut sink = Sink::new(Vec::new(rt.alloc()));
-        check_end(&rt, (&mut source, &mut sink), bound, (End::Bound, written))?;
-        assert_eq!(rt;
-            source.bytes.len(),
-            LISTS.len().saturating_sub(written / 11 * 9)
-        );
+    for (bound, written, wanted) in [(0, 0, 27), (1, 11, 18), (2, 22, 9), (3, 33, 0)] {
+        let outcome = (bound, End::Bound, written);
+        let (left, _flushed) = check_service(&rt, ((27, 0, 0, true), ANY, outcome))?;
+        assert_eq!(rt; left, wanted);
     }
     Ok(())
 }
+
+/// Stores of `a` and of `c`.
+const STORES: &[u8] =
+    b"\x00\x00\x00\x12\x00\x00\x00\x01S\x01adocument {}\x00\x00\x00\x12\x00\x00\x00\x02S\x01cdocument {}";
 
 /// After a fault of the writer the frame at hand was carried out, and none after it.
 #[test]
 fn carries_out_what_it_cannot_tell(rt: HostRuntime) -> Result<(), Fail> {
     let mut memory = MemoryServer::new(rt.alloc())?;
-    let mut input = frame(rt.alloc(), 1, b'S', b"\x01adocument {}")?;
-    input.extend_from_slice(&frame(rt.alloc(), 2, b'S', b"\x01cdocument {}")?)?;
     let mut sink = Sink::new(Vec::new(rt.alloc()));
     sink.room = 3;
-    let end = memory.server.serve(&mut Source::new(&input), &mut sink, 10);
+    let end = memory.server.serve(&mut Source::new(STORES), &mut sink, 10);
     assert_eq!(rt; end, End::WriteFault);
-    let mut out = Vec::new(rt.alloc());
-    assert_eq!(rt; memory.server.run(&LISTS[..9], &mut out), End::Finished);
-    assert_eq!(rt;
-        out.as_slice(),
-        b"\x00\x00\x00\x08\x00\x00\x00\x01\x00\"a\"".as_slice()
-    );
+    let addresses: (u8, &[u8]) = (0, b"\"a\"");
+    assert!(rt; is_answered(rt.alloc(), &mut memory.server, 1, (b'L', b""), addresses)?);
     Ok(())
 }
 
@@ -237,7 +274,7 @@ fn too_long(rt: HostRuntime) -> Result<(), Fail> {
         let mut sink = Sink::new(Vec::new(rt.alloc()));
         sink.room = room;
         let reply = b"\x00\x00\x00\x0e\x00\x00\x00\x00\x01prof:LONG";
-        check_replies(&rt, (&mut source, &mut sink), 10, (end, written), reply)?;
+        check_replies(&rt, (&mut source, &mut sink), (10, end, written), reply)?;
         assert_eq!(rt; source.bytes, b"rest".as_slice());
     }
     Ok(())

@@ -6,6 +6,7 @@ use crate::rows::{DOC_B, LIBRARY, PUT_B, Row};
 use crate::tests::{frame, is_reply};
 use sqlite::Alter;
 use std::alloc::Global;
+use std::process::Abort;
 use std::test::Fail;
 use xq_atoms::Want;
 use xq_server::{End, Server};
@@ -15,11 +16,12 @@ use xq_stops::{Run, Stop, StoppingStore, Task, wrong_run};
 /// want.
 fn send<S: Alter + Drop>(alloc: Global, server: &mut Server<S>, row: &Row) -> Result<bool, Want> {
     let mut out = Vec::new(alloc);
-    let end = server.run(&frame(alloc, 1, row.kind, row.body)?, &mut out);
+    let (kind, body) = row.request();
+    let end = server.run(&frame(alloc, 1, kind, body)?, &mut out);
     if is_reply(&out, 1, (2, b"store")) {
         return Err(Want::Store);
     }
-    Ok(end == End::Finished && is_reply(&out, 1, (row.status, row.text)))
+    Ok(end == End::Finished && is_reply(&out, 1, row.reply()))
 }
 
 /// Sends the requests in turn, up to the first whose reply is not its own.
@@ -51,68 +53,30 @@ impl Task for Row {
 const NOTE: &[u8] = b"document {element note {text {\"kept\"}}}";
 
 /// The store of a document that no request after it names.
-const PUT_NOTE: Row = Row {
-    kind: b'S',
-    body: b"\x01adocument {element note {text {\"kept\"}}}",
-    status: 0,
-    text: b"stored",
-};
+const PUT_NOTE: Row = Row::Answers(
+    b'S',
+    b"\x01adocument {element note {text {\"kept\"}}}",
+    b"stored",
+);
 
-const PUT_LIBRARY: Row = Row {
-    kind: b'S',
-    body: PUT_B,
-    status: 0,
-    text: b"stored",
-};
+const PUT_LIBRARY: Row = Row::Answers(b'S', PUT_B, b"stored");
 
-const NOTE_IS_THERE: Row = Row {
-    kind: b'Q',
-    body: b"doc(\"a\")",
-    status: 0,
-    text: NOTE,
-};
+const NOTE_IS_THERE: Row = Row::Answers(b'Q', b"doc(\"a\")", NOTE);
 
 /// Both addresses.
-const BOTH: Row = Row {
-    kind: b'L',
-    body: b"",
-    status: 0,
-    text: b"\"a\", \"b\"",
-};
+const BOTH: Row = Row::Answers(b'L', b"", b"\"a\", \"b\"");
 
 /// The note alone.
-const ALONE: &[Row] = &[
-    NOTE_IS_THERE,
-    Row {
-        kind: b'L',
-        body: b"",
-        status: 0,
-        text: b"\"a\"",
-    },
-];
+const ALONE: &[Row] = &[NOTE_IS_THERE, Row::Answers(b'L', b"", b"\"a\"")];
 
 /// The note, and the library under `b`.
-const LIBRARY_TOO: &[Row] = &[
-    NOTE_IS_THERE,
-    BOTH,
-    Row {
-        kind: b'Q',
-        body: DOC_B,
-        status: 0,
-        text: LIBRARY,
-    },
-];
+const LIBRARY_TOO: &[Row] = &[NOTE_IS_THERE, BOTH, Row::Answers(b'Q', DOC_B, LIBRARY)];
 
 /// The note, and an empty document under `b`.
 const EMPTY_TOO: &[Row] = &[
     NOTE_IS_THERE,
     BOTH,
-    Row {
-        kind: b'Q',
-        body: DOC_B,
-        status: 0,
-        text: b"document {}",
-    },
+    Row::Answers(b'Q', DOC_B, b"document {}"),
 ];
 
 /// A first store, a replacement and a drop.
@@ -127,50 +91,44 @@ const RUNS: [Run<'static, Row>; 3] = [
     Run {
         made: &[],
         first: &[PUT_NOTE, PUT_LIBRARY],
-        asked: &[Row {
-            kind: b'S',
-            body: b"\x01bdocument {}",
-            status: 0,
-            text: b"replaced",
-        }],
+        asked: &[Row::Answers(b'S', b"\x01bdocument {}", b"replaced")],
         before: LIBRARY_TOO,
         after: EMPTY_TOO,
     },
     Run {
         made: &[],
         first: &[PUT_NOTE, PUT_LIBRARY],
-        asked: &[Row {
-            kind: b'D',
-            body: b"b",
-            status: 0,
-            text: b"dropped",
-        }],
+        asked: &[Row::Answers(b'D', b"b", b"dropped")],
         before: LIBRARY_TOO,
         after: ALONE,
     },
 ];
 
+/// Makes each run, with a file that stops at each of its calls in turn, and checks that none is
+/// answered wrongly or leaves other documents. A log of one page is copied into the database at
+/// each commit.
+fn check_stops(rt: &(impl Abort + AllocGlobal), stop: Stop, log_pages: usize) -> Result<(), Fail> {
+    let wrong = wrong_run(rt.alloc(), &RUNS, stop, log_pages)?;
+    assert_eq!(rt; wrong, None);
+    Ok(())
+}
+
 #[test]
 fn of_the_log(rt: HostRuntime) -> Result<(), Fail> {
-    assert_eq!(rt; wrong_run(rt.alloc(), &RUNS, Stop::OfLog, 128)?, None);
-    Ok(())
+    check_stops(&rt, Stop::OfLog, 128)
 }
 
 #[test]
 fn of_the_database(rt: HostRuntime) -> Result<(), Fail> {
-    assert_eq!(rt; wrong_run(rt.alloc(), &RUNS, Stop::OfDatabase, 128)?, None);
-    Ok(())
+    check_stops(&rt, Stop::OfDatabase, 128)
 }
 
-/// A log of one page is copied into the database at each commit.
 #[test]
 fn of_a_short_log(rt: HostRuntime) -> Result<(), Fail> {
-    assert_eq!(rt; wrong_run(rt.alloc(), &RUNS, Stop::OfLog, 1)?, None);
-    Ok(())
+    check_stops(&rt, Stop::OfLog, 1)
 }
 
 #[test]
 fn of_the_database_under_a_short_log(rt: HostRuntime) -> Result<(), Fail> {
-    assert_eq!(rt; wrong_run(rt.alloc(), &RUNS, Stop::OfDatabase, 1)?, None);
-    Ok(())
+    check_stops(&rt, Stop::OfDatabase, 1)
 }

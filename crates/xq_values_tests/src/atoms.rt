@@ -45,160 +45,162 @@ enum Comparison {
     Value,
 }
 
-/// An operation, its operands, and what it prints, or the code's text.
-type Combined = (Operation, Sample, Sample, &'static str);
+/// A call, and its operands.
+#[derive(Clone, Copy)]
+enum Call {
+    Two(Operation, Sample, Sample),
+    One(Change, Sample),
+    /// The text of the atom as a string.
+    Text(Sample),
+    Compared(Comparison, CompOp, Sample, Sample),
+    /// The atom as it is printed.
+    Print(Sample),
+    /// The same of a copy of it.
+    Copy(Sample),
+}
 
-/// The same of an operation on one atom.
-type Changed = (Change, Sample, &'static str);
+/// A call, and what it gives: a printed atom, a text, `true` or `false`, or the text of the code.
+type Row = (Call, &'static str);
 
-/// A comparison, its operands, and `true`, `false` or the code's text.
-type Compared = (Comparison, CompOp, Sample, Sample, &'static str);
-
-const PRODUCTS: [Combined; 14] = [
-    (Operation::Mul, Dec(1), Dec(1), "0.0"),
-    (Operation::Mul, Dec(LIMIT / 10), Dec(LIMIT / 10), "FOAR0002"),
-    (Operation::Div, Int(-1), Int(3), "-0.333333"),
-    (Operation::Div, Int(1), Int(3), "0.333333"),
-    (Operation::Div, Int(4), Int(2), "2.0"),
-    (Operation::Div, Int(1), Int(0), "FOAR0001"),
-    (Operation::Idiv, Int(7), Int(2), "3"),
-    (Operation::Idiv, Int(-7), Int(2), "-3"),
-    (Operation::Idiv, Int(i64::MIN), Int(-1), "FOAR0002"),
-    (Operation::Idiv, Dec(LIMIT - 1), Dec(1), "FOAR0002"),
-    (Operation::Mod, Int(-7), Int(2), "-1"),
-    (Operation::Mod, Dec(7_500_000), Int(2), "1.5"),
-    (Operation::Mod, Int(i64::MIN), Int(-1), "0"),
-    (Operation::Mod, Int(1), Int(0), "FOAR0001"),
+const PRODUCTS: [Row; 14] = [
+    (Call::Two(Operation::Mul, Dec(1), Dec(1)), "0.0"),
+    (
+        Call::Two(Operation::Mul, Dec(LIMIT / 10), Dec(LIMIT / 10)),
+        "FOAR0002",
+    ),
+    (Call::Two(Operation::Div, Int(-1), Int(3)), "-0.333333"),
+    (Call::Two(Operation::Div, Int(1), Int(3)), "0.333333"),
+    (Call::Two(Operation::Div, Int(4), Int(2)), "2.0"),
+    (Call::Two(Operation::Div, Int(1), Int(0)), "FOAR0001"),
+    (Call::Two(Operation::Idiv, Int(7), Int(2)), "3"),
+    (Call::Two(Operation::Idiv, Int(-7), Int(2)), "-3"),
+    (
+        Call::Two(Operation::Idiv, Int(i64::MIN), Int(-1)),
+        "FOAR0002",
+    ),
+    (
+        Call::Two(Operation::Idiv, Dec(LIMIT - 1), Dec(1)),
+        "FOAR0002",
+    ),
+    (Call::Two(Operation::Mod, Int(-7), Int(2)), "-1"),
+    (Call::Two(Operation::Mod, Dec(7_500_000), Int(2)), "1.5"),
+    (Call::Two(Operation::Mod, Int(i64::MIN), Int(-1)), "0"),
+    (Call::Two(Operation::Mod, Int(1), Int(0)), "FOAR0001"),
 ];
 
-const SUMS: [Combined; 5] = [
-    (Operation::Add, Int(i64::MAX), Int(1), "FOAR0002"),
-    (Operation::Add, Int(1), Dec(2_500_000), "3.5"),
-    (Operation::Add, Str("1"), Untyped("1"), "XPTY0004"),
-    (Operation::Add, Untyped("1"), Str("1"), "prof:DOUBLE"),
+const SUMS: [Row; 5] = [
+    (Call::Two(Operation::Add, Int(i64::MAX), Int(1)), "FOAR0002"),
+    (Call::Two(Operation::Add, Int(1), Dec(2_500_000)), "3.5"),
     (
-        Operation::Sub,
-        Int(-i64::MAX),
-        Int(1),
+        Call::Two(Operation::Add, Str("1"), Untyped("1")),
+        "XPTY0004",
+    ),
+    (
+        Call::Two(Operation::Add, Untyped("1"), Str("1")),
+        "prof:DOUBLE",
+    ),
+    (
+        Call::Two(Operation::Sub, Int(-i64::MAX), Int(1)),
         "xs:integer(\"-9223372036854775808\")",
     ),
 ];
 
-const SIGNS_AND_ROUNDING: [Changed; 10] = [
-    (Change::Neg, Int(i64::MIN), "FOAR0002"),
-    (Change::Abs, Int(i64::MIN), "FOAR0002"),
-    (Change::Abs, Int(-3), "3"),
-    (Change::Floor, Dec(-500_000), "-1.0"),
-    (Change::Floor, Dec(-10_500_000), "-11.0"),
-    (Change::Ceiling, Dec(10_500_000), "11.0"),
-    (Change::Ceiling, Dec(-10_500_000), "-10.0"),
-    (Change::Round, Dec(2_500_000), "3.0"),
-    (Change::Round, Dec(-2_500_000), "-2.0"),
-    (Change::Round, Dec(LIMIT - 500_000), "FOAR0002"),
+const SIGNS_AND_ROUNDING: [Row; 10] = [
+    (Call::One(Change::Neg, Int(i64::MIN)), "FOAR0002"),
+    (Call::One(Change::Abs, Int(i64::MIN)), "FOAR0002"),
+    (Call::One(Change::Abs, Int(-3)), "3"),
+    (Call::One(Change::Floor, Dec(-500_000)), "-1.0"),
+    (Call::One(Change::Floor, Dec(-10_500_000)), "-11.0"),
+    (Call::One(Change::Ceiling, Dec(10_500_000)), "11.0"),
+    (Call::One(Change::Ceiling, Dec(-10_500_000)), "-10.0"),
+    (Call::One(Change::Round, Dec(2_500_000)), "3.0"),
+    (Call::One(Change::Round, Dec(-2_500_000)), "-2.0"),
+    (Call::One(Change::Round, Dec(LIMIT - 500_000)), "FOAR0002"),
 ];
 
-const CASTS: [Changed; 11] = [
-    (Change::ToInteger, Dec(-1_900_000), "-1"),
-    (Change::ToInteger, Str(" 7 "), "7"),
-    (Change::ToInteger, Str("1.0"), "FORG0001"),
-    (Change::ToInteger, Dec(LIMIT - 1_000_000), "FOCA0003"),
-    (Change::ToDecimal, Str(" +.50 "), "0.5"),
-    (Change::ToDecimal, Str(".5"), "0.5"),
-    (Change::ToDecimal, Str("0.0000001"), "FOCA0006"),
-    (Change::ToDecimal, Str("10000000000000000000"), "FOCA0001"),
-    (Change::ToDecimal, Bool(true), "1.0"),
-    (Change::ToBoolean, Str("1"), "true()"),
-    (Change::ToBoolean, Str("yes"), "FORG0001"),
-];
-
-/// Atoms and their texts as strings.
-const TEXTS: [(Sample, &str); 3] = [
-    (Dec(2_000_000), "2"),
-    (Dec(-500_000), "-0.5"),
-    (Bool(false), "false"),
-];
-
-const COMPARISONS: [Compared; 12] = [
+const CASTS: [Row; 14] = [
+    (Call::One(Change::ToInteger, Dec(-1_900_000)), "-1"),
+    (Call::One(Change::ToInteger, Str(" 7 ")), "7"),
+    (Call::One(Change::ToInteger, Str("1.0")), "FORG0001"),
     (
-        Comparison::General,
-        CompOp::Eq,
-        Untyped("1"),
-        Int(1),
+        Call::One(Change::ToInteger, Dec(LIMIT - 1_000_000)),
+        "FOCA0003",
+    ),
+    (Call::One(Change::ToDecimal, Str(" +.50 ")), "0.5"),
+    (Call::One(Change::ToDecimal, Str(".5")), "0.5"),
+    (Call::One(Change::ToDecimal, Str("0.0000001")), "FOCA0006"),
+    (
+        Call::One(Change::ToDecimal, Str("10000000000000000000")),
+        "FOCA0001",
+    ),
+    (Call::One(Change::ToDecimal, Bool(true)), "1.0"),
+    (Call::One(Change::ToBoolean, Str("1")), "true()"),
+    (Call::One(Change::ToBoolean, Str("yes")), "FORG0001"),
+    (Call::Text(Dec(2_000_000)), "2"),
+    (Call::Text(Dec(-500_000)), "-0.5"),
+    (Call::Text(Bool(false)), "false"),
+];
+
+const COMPARISONS: [Row; 12] = [
+    (
+        Call::Compared(Comparison::General, CompOp::Eq, Untyped("1"), Int(1)),
         "prof:DOUBLE",
     ),
     (
-        Comparison::Value,
-        CompOp::Eq,
-        Untyped("1"),
-        Int(1),
+        Call::Compared(Comparison::Value, CompOp::Eq, Untyped("1"), Int(1)),
         "XPTY0004",
     ),
     (
-        Comparison::Value,
-        CompOp::Lt,
-        Bool(false),
-        Bool(true),
+        Call::Compared(Comparison::Value, CompOp::Lt, Bool(false), Bool(true)),
         "true",
     ),
     (
-        Comparison::Value,
-        CompOp::Eq,
-        Int(1),
-        Dec(1_000_000),
+        Call::Compared(Comparison::Value, CompOp::Eq, Int(1), Dec(1_000_000)),
         "true",
     ),
     (
-        Comparison::Value,
-        CompOp::Lt,
-        Dec(1_000_000),
-        Int(2),
+        Call::Compared(Comparison::Value, CompOp::Lt, Dec(1_000_000), Int(2)),
         "true",
     ),
-    (Comparison::Value, CompOp::Gt, Str("a"), Str("B"), "true"),
-    (Comparison::General, CompOp::Eq, Int(1), Int(1), "true"),
     (
-        Comparison::General,
-        CompOp::Eq,
-        Str("a"),
-        Int(1),
+        Call::Compared(Comparison::Value, CompOp::Gt, Str("a"), Str("B")),
+        "true",
+    ),
+    (
+        Call::Compared(Comparison::General, CompOp::Eq, Int(1), Int(1)),
+        "true",
+    ),
+    (
+        Call::Compared(Comparison::General, CompOp::Eq, Str("a"), Int(1)),
         "XPTY0004",
     ),
     (
-        Comparison::General,
-        CompOp::Lt,
-        Untyped("10"),
-        Untyped("9"),
+        Call::Compared(Comparison::General, CompOp::Lt, Untyped("10"), Untyped("9")),
         "true",
     ),
     (
-        Comparison::General,
-        CompOp::Lt,
-        Untyped("10"),
-        Int(9),
+        Call::Compared(Comparison::General, CompOp::Lt, Untyped("10"), Int(9)),
         "prof:DOUBLE",
     ),
     (
-        Comparison::General,
-        CompOp::Eq,
-        Bool(true),
-        Untyped("1"),
+        Call::Compared(Comparison::General, CompOp::Eq, Bool(true), Untyped("1")),
         "true",
     ),
     (
-        Comparison::General,
-        CompOp::Ge,
-        Bool(true),
-        Untyped("10"),
+        Call::Compared(Comparison::General, CompOp::Ge, Bool(true), Untyped("10")),
         "FORG0001",
     ),
 ];
 
-/// Atoms as they are printed, and their copies.
-const PRINTS: [(Sample, &str); 4] = [
-    (Str("a\"&\rä"), "\"a\"\"&amp;&#xD;ä\""),
-    (Untyped("1"), "xs:untypedAtomic(\"1\")"),
-    (Bool(true), "true()"),
-    (Dec(-500_000), "-0.5"),
+const PRINTS: [Row; 8] = [
+    (Call::Print(Str("a\"&\rä")), "\"a\"\"&amp;&#xD;ä\""),
+    (Call::Copy(Str("a\"&\rä")), "\"a\"\"&amp;&#xD;ä\""),
+    (Call::Print(Untyped("1")), "xs:untypedAtomic(\"1\")"),
+    (Call::Copy(Untyped("1")), "xs:untypedAtomic(\"1\")"),
+    (Call::Print(Bool(true)), "true()"),
+    (Call::Copy(Bool(true)), "true()"),
+    (Call::Print(Dec(-500_000)), "-0.5"),
+    (Call::Copy(Dec(-500_000)), "-0.5"),
 ];
 
 /// How the keys of two values stand.
@@ -225,6 +227,15 @@ fn shown(alloc: Global, outcome: Result<Atom, Code>) -> Result<String, Fault> {
         Err(code) => out.push_str(code.text())?,
     }
     Ok(out)
+}
+
+/// `true`, `false` or the code's text.
+fn told(outcome: Result<bool, Code>) -> &'static str {
+    match outcome {
+        Ok(true) => "true",
+        Ok(false) => "false",
+        Err(code) => code.text(),
+    }
 }
 
 fn operate(operation: Operation, left: &Atom, right: &Atom) -> Result<Atom, Code> {
@@ -263,76 +274,62 @@ fn combined(
     shown(alloc, operate(operation, &left, &right))
 }
 
-/// What the operation on one atom gives.
-fn changed(alloc: Global, by: Change, sample: Sample) -> Result<String, Fault> {
-    let atom = made(alloc, sample)?;
-    shown(alloc, altered(by, &atom))
-}
-
-/// `true`, `false` or the code's text.
-fn answer(outcome: Result<bool, Code>) -> &'static str {
-    match outcome {
-        Ok(true) => "true",
-        Ok(false) => "false",
-        Err(code) => code.text(),
-    }
-}
-
 /// How the comparison of the atoms is answered.
 fn compared(
     alloc: Global,
-    (comparison, op, left, right, _): Compared,
-) -> Result<&'static str, Fault> {
+    comparison: Comparison,
+    op: CompOp,
+    left: Sample,
+    right: Sample,
+) -> Result<String, Fault> {
     let left = made(alloc, left)?;
     let right = made(alloc, right)?;
-    Ok(answer(match comparison {
+    let outcome = match comparison {
         Comparison::General => compare_general(op, &left, &right),
         Comparison::Value => compare_value(op, &left, &right),
-    }))
+    };
+    Ok(String::from_str(alloc, told(outcome))?)
 }
 
-fn assert_combined(rt: &(impl Abort + AllocGlobal), rows: &[Combined]) {
-    for (operation, left, right, wanted) in rows {
-        let found = combined(rt.alloc(), *operation, *left, *right).expect(rt, wanted);
-        assert_eq!(rt; found.as_str(), *wanted);
+/// The atom's copy, as it is printed.
+fn copied(alloc: Global, sample: Sample) -> Result<String, Fault> {
+    let atom = made(alloc, sample)?;
+    shown(alloc, Ok(atom.try_clone(alloc)?))
+}
+
+/// What the call gives.
+fn found(alloc: Global, call: Call) -> Result<String, Fault> {
+    match call {
+        Call::Two(operation, left, right) => combined(alloc, operation, left, right),
+        Call::One(by, sample) => shown(alloc, altered(by, &made(alloc, sample)?)),
+        Call::Text(sample) => Ok(cast_str(alloc, &made(alloc, sample)?)?),
+        Call::Compared(comparison, op, left, right) => compared(alloc, comparison, op, left, right),
+        Call::Print(sample) => shown(alloc, Ok(made(alloc, sample)?)),
+        Call::Copy(sample) => copied(alloc, sample),
     }
 }
 
-fn assert_changed(rt: &(impl Abort + AllocGlobal), rows: &[Changed]) {
-    for (by, sample, wanted) in rows {
-        let found = changed(rt.alloc(), *by, *sample).expect(rt, wanted);
+/// Asserts what each call gives.
+fn assert_rows(rt: &(impl Abort + AllocGlobal), rows: &[Row]) {
+    for (call, wanted) in rows {
+        let found = found(rt.alloc(), *call).expect(rt, wanted);
         assert_eq!(rt; found.as_str(), *wanted);
     }
 }
 
 #[test]
-fn products_and_quotients(rt: HostRuntime) {
-    assert_combined(&rt, &PRODUCTS);
-}
-
-#[test]
-fn sums_signs_and_rounding(rt: HostRuntime) {
-    assert_combined(&rt, &SUMS);
-    assert_changed(&rt, &SIGNS_AND_ROUNDING);
+fn arithmetic(rt: HostRuntime) {
+    assert_rows(&rt, &PRODUCTS);
+    assert_rows(&rt, &SUMS);
+    assert_rows(&rt, &SIGNS_AND_ROUNDING);
     assert_eq!(rt; Decimal::from_millionths(LIMIT), None);
 }
 
 #[test]
-fn casts(rt: HostRuntime) -> Result<(), Fault> {
-    assert_changed(&rt, &CASTS);
-    for (sample, wanted) in TEXTS {
-        let text = cast_str(rt.alloc(), &made(rt.alloc(), sample)?)?;
-        assert_eq!(rt; text.as_str(), wanted);
-    }
-    Ok(())
-}
-
-#[test]
-fn comparisons(rt: HostRuntime) -> Result<(), Fault> {
-    for row in COMPARISONS {
-        assert_eq!(rt; compared(rt.alloc(), row)?, row.4);
-    }
-    Ok(())
+fn casts_and_comparisons(rt: HostRuntime) {
+    assert_rows(&rt, &CASTS);
+    assert_rows(&rt, &COMPARISONS);
+    assert_rows(&rt, &PRINTS);
 }
 
 #[test]
@@ -355,22 +352,10 @@ fn literals(rt: HostRuntime) -> Result<(), Fault> {
     Ok(())
 }
 
-/// The atom as it is printed, and as a copy of it is.
-fn printed_and_copied(alloc: Global, sample: Sample) -> Result<(String, String), Fault> {
-    let atom = made(alloc, sample)?;
-    let copy = shown(alloc, Ok(atom.try_clone(alloc)?))?;
-    Ok((shown(alloc, Ok(atom))?, copy))
-}
-
 #[test]
-fn prints_and_copies(rt: HostRuntime) -> Result<(), Fault> {
-    for (sample, wanted) in PRINTS {
-        let (printed, copied) = printed_and_copied(rt.alloc(), sample)?;
-        assert_eq!(rt; printed.as_str(), wanted);
-        assert_eq!(rt; copied.as_str(), wanted);
-    }
+fn prints_after_a_text(rt: HostRuntime) -> Result<(), Fault> {
     let mut out = String::from_str(rt.alloc(), "2, ")?;
-    print(&made(rt.alloc(), Dec(2_000_000))?, &mut out)?;
+    print(&Atom::Dec(Decimal::from_int(2)), &mut out)?;
     assert_eq!(rt; out.as_str(), "2, 2.0");
     Ok(())
 }
@@ -380,19 +365,23 @@ fn key(alloc: Global, sample: Sample) -> Result<GroupKey, Fault> {
     Ok(GroupKey::of(alloc, atom.as_ref())?)
 }
 
+/// How the keys stand, and whether they are equal.
+fn keys_stand(alloc: Global, left: Sample, right: Sample) -> Result<(Ordering, bool), Fault> {
+    let left = key(alloc, left)?;
+    let right = key(alloc, right)?;
+    Ok((left.cmp(&right), left == right))
+}
+
 #[test]
 fn group_keys(rt: HostRuntime) -> Result<(), Fault> {
     for (left, right, wanted) in KEYS {
-        let left = key(rt.alloc(), left)?;
-        let right = key(rt.alloc(), right)?;
-        assert_eq!(rt; left.cmp(&right), wanted);
-        assert_eq!(rt; left == right, wanted == Ordering::Equal);
+        let stands = keys_stand(rt.alloc(), left, right)?;
+        assert_eq!(rt; stands, (wanted, wanted == Ordering::Equal));
     }
     let text = GroupKey::Text(String::from_str(rt.alloc(), "1")?);
     assert!(rt; key(rt.alloc(), Untyped("1"))? == text);
     Ok(())
 }
-
 /// The value, or None where memory is wanting; any other fault is a failure.
 fn unless_refused<T: Drop>(rt: &impl Abort, outcome: Result<T, Fault>) -> Option<T> {
     match outcome {
@@ -414,7 +403,7 @@ fn each_growth(rt: HostRuntime) {
         return;
     };
     if let Some(copy) = unless_refused(&rt, data.try_clone(alloc).map_err(Fault::Want)) {
-        assert_eq!(rt; answer(compare_value(CompOp::Eq, &copy, &data)), "true");
+        assert_eq!(rt; told(compare_value(CompOp::Eq, &copy, &data)), "true");
     }
     let two = cast_str(alloc, &Atom::Dec(Decimal::from_int(2)));
     if let Some(text) = unless_refused(&rt, two.map_err(Fault::Want)) {

@@ -1,12 +1,13 @@
-//! Rows of single calls, the clauses of worked queries, and calls whose memory is refused.
+//! Streams of tuples: clauses one after another, what the slots hold after them, and calls whose
+//! memory is refused.
 
 use crate::answers::push_items;
 use std::alloc::Global;
 use std::process::Abort;
-use std::test::Fail;
 use xq_atoms::{Atom, Code, Fault, Want};
-use xq_regions::Item;
-use xq_samples::items::{Sample, atom, items};
+use xq_regions::{Item, Items};
+use xq_samples::items::Sample::{Bool, Dec, Int, Nothing, Row, Str, Untyped};
+use xq_samples::items::{Sample, atoms, items};
 use xq_tuples::{Key, OrderSpec, Tuples};
 
 const ASCENDING: OrderSpec = OrderSpec {
@@ -29,60 +30,444 @@ const DESCENDING_EMPTY_GREATEST: OrderSpec = OrderSpec {
     greatest: true,
 };
 
-/// A key of one value, or of none.
-fn key(alloc: Global, sample: Sample) -> Result<Vec<Atom>, Fault> {
-    let mut key = Vec::new(alloc);
-    if let Some(atom) = atom(alloc, sample)? {
-        key.push(atom)?;
-    }
-    Ok(key)
+/// Values or keys, one for each tuple.
+type Lists = &'static [&'static [Sample]];
+
+/// A clause, with what its parts give.
+#[derive(Clone, Copy)]
+enum Clause {
+    /// `for`, and whether it has a position.
+    For(Lists, bool),
+    /// The same where it allows the empty sequence.
+    ForOrEmpty(Lists, bool),
+    Let(Lists),
+    Count,
+    Where(&'static [bool]),
+    /// `group by` the variable of a slot.
+    Group(usize, Lists),
+    /// `group by` the variables of the slots 1 and 2.
+    GroupByTwo(Lists, Lists),
+    /// `order by` one specification.
+    Order(Lists, OrderSpec),
+    /// `order by` two specifications.
+    OrderByTwo(Lists, Lists, [OrderSpec; 2]),
+    /// `order by`, from the keys of each tuple.
+    OrderByRows(&'static [Lists], &'static [OrderSpec]),
 }
 
-/// One key for each tuple.
-fn column(alloc: Global, samples: &[Sample]) -> Result<Vec<Vec<Atom>>, Fault> {
+/// What is found in a stream.
+#[derive(Clone, Copy)]
+enum Found {
+    /// The slot's values, tuple after tuple.
+    Values(usize, &'static str),
+    /// How many items the slot has in each tuple.
+    Counts(usize, &'static str),
+    /// There is no such slot.
+    Lacks(usize),
+}
+
+/// Clauses, how many tuples there are after them, and what is found.
+type Stream = (&'static [Clause], usize, &'static [Found]);
+
+/// The tuples of 7 and 8 with their positions.
+const TWO: Clause = Clause::For(&[&[Int(7), Int(8)]], true);
+
+/// "x" in each of two tuples.
+const LETTERS: Clause = Clause::Let(&[&[Str("x")], &[Str("x")]]);
+
+/// The tuples of the library's books.
+const BOOKS: Clause = Clause::For(&[&[Row(2), Row(5)]], true);
+
+const ONES: Lists = &[&[Int(1)], &[Int(1)]];
+
+const SECOND: Clause = Clause::Where(&[false, true]);
+
+const THREE: Clause = Clause::For(&[&[Int(0), Int(1), Int(2)]], false);
+
+const FOUR: Clause = Clause::For(&[&[Int(0), Int(1), Int(2), Int(3)]], false);
+
+/// The keys of three tuples, two each.
+const ROWS: &[Lists] = &[
+    &[&[Str("b")], &[Int(1)]],
+    &[&[Untyped("a")], &[Int(2)]],
+    &[&[Str("a")], &[Int(1)]],
+];
+
+/// Single calls.
+const CALLS: [Stream; 10] = [
+    (&[], 1, &[]),
+    (&[Clause::For(&[&[]], false), Clause::Count], 0, &[]),
+    (
+        &[TWO, LETTERS],
+        2,
+        &[
+            Found::Values(1, "1, 2"),
+            Found::Values(2, "\"x\", \"x\""),
+            Found::Lacks(3),
+        ],
+    ),
+    (&[TWO, LETTERS, SECOND], 1, &[Found::Values(0, "8")]),
+    (
+        &[Clause::ForOrEmpty(&[&[]], true)],
+        1,
+        &[Found::Counts(0, "0"), Found::Values(1, "0")],
+    ),
+    (
+        &[Clause::ForOrEmpty(&[&[]], false)],
+        1,
+        &[Found::Counts(0, "0"), Found::Lacks(1)],
+    ),
+    (
+        &[Clause::ForOrEmpty(&[&[Int(7), Int(8)]], true)],
+        2,
+        &[Found::Values(0, "7, 8"), Found::Values(1, "1, 2")],
+    ),
+    (
+        &[TWO, LETTERS, Clause::Count],
+        2,
+        &[Found::Values(0, "7, 8"), Found::Values(3, "1, 2")],
+    ),
+    (
+        &[TWO, LETTERS, Clause::Group(2, &[&[Str("x")], &[Str("x")]])],
+        1,
+        &[
+            Found::Values(0, "7, 8"),
+            Found::Values(1, "1, 2"),
+            Found::Values(2, "\"x\""),
+        ],
+    ),
+    (
+        &[
+            TWO,
+            LETTERS,
+            Clause::Order(&[&[Int(7)], &[Int(8)]], DESCENDING),
+        ],
+        2,
+        &[Found::Values(0, "8, 7"), Found::Values(1, "2, 1")],
+    ),
+];
+
+/// The clauses of worked queries: the books by falling number; the second key where the first ones
+/// are equal, where a key after the specifications doesn't count and one that lacks is empty; a
+/// falling order with an empty key; the second of the books; groups, each with the key of its first
+/// tuple; and the books by the lengths of their texts.
+const WORKED: [Stream; 10] = [
+    (
+        &[
+            BOOKS,
+            Clause::Let(&[&[Str("A")], &[Str("B")]]),
+            Clause::Order(&[&[Int(1)], &[Int(2)]], DESCENDING),
+        ],
+        2,
+        &[Found::Values(2, "\"B\", \"A\"")],
+    ),
+    (
+        &[THREE, Clause::OrderByRows(ROWS, &[])],
+        3,
+        &[Found::Values(0, "0, 1, 2")],
+    ),
+    (
+        &[THREE, Clause::OrderByRows(ROWS, &[ASCENDING])],
+        3,
+        &[Found::Values(0, "1, 2, 0")],
+    ),
+    (
+        &[THREE, Clause::OrderByRows(ROWS, &[ASCENDING, ASCENDING])],
+        3,
+        &[Found::Values(0, "2, 1, 0")],
+    ),
+    (
+        &[
+            THREE,
+            Clause::OrderByRows(ROWS, &[DESCENDING, DESCENDING, EMPTY_GREATEST]),
+        ],
+        3,
+        &[Found::Values(0, "0, 1, 2")],
+    ),
+    (
+        &[
+            Clause::For(&[&[Int(1), Int(2)]], false),
+            Clause::Order(&[&[], &[Int(5)]], DESCENDING),
+        ],
+        2,
+        &[Found::Values(0, "2, 1")],
+    ),
+    (
+        &[BOOKS, SECOND],
+        1,
+        &[Found::Values(0, "node 0 5"), Found::Values(1, "2")],
+    ),
+    (
+        &[
+            Clause::For(&[&[Int(1), Dec(1_000_000), Str("1")]], false),
+            Clause::Let(&[&[Int(1)], &[Dec(1_000_000)], &[Str("1")]]),
+            Clause::Group(0, &[&[Int(1)], &[Dec(1_000_000)], &[Str("1")]]),
+        ],
+        2,
+        &[Found::Counts(1, "2, 1")],
+    ),
+    (
+        &[
+            Clause::For(&[&[Dec(1_000_000), Int(1)]], false),
+            Clause::Group(0, &[&[Dec(1_000_000)], &[Int(1)]]),
+        ],
+        1,
+        &[Found::Values(0, "1.0")],
+    ),
+    (
+        &[BOOKS, Clause::Let(ONES), Clause::Group(2, ONES)],
+        1,
+        &[Found::Counts(0, "2")],
+    ),
+];
+
+const WITH_AN_EMPTY_KEY: Lists = &[&[Int(5)], &[], &[Dec(3_000_000)]];
+
+const TRUTHS: Lists = &[&[Bool(true)], &[Bool(false)], &[]];
+
+const TIES: Lists = &[&[Int(1)], &[Int(2)], &[Dec(1_000_000)], &[Int(2)]];
+
+/// Where the empty key stands, with and without `descending`; booleans; ties, which stay as they
+/// were; and the later specification, which decides where the earlier one does not, each with its
+/// own words.
+const ORDERS: [Stream; 9] = [
+    (
+        &[THREE, Clause::Order(WITH_AN_EMPTY_KEY, ASCENDING)],
+        3,
+        &[Found::Values(0, "1, 2, 0")],
+    ),
+    (
+        &[THREE, Clause::Order(WITH_AN_EMPTY_KEY, DESCENDING)],
+        3,
+        &[Found::Values(0, "0, 2, 1")],
+    ),
+    (
+        &[THREE, Clause::Order(WITH_AN_EMPTY_KEY, EMPTY_GREATEST)],
+        3,
+        &[Found::Values(0, "2, 0, 1")],
+    ),
+    (
+        &[
+            THREE,
+            Clause::Order(WITH_AN_EMPTY_KEY, DESCENDING_EMPTY_GREATEST),
+        ],
+        3,
+        &[Found::Values(0, "1, 0, 2")],
+    ),
+    (
+        &[THREE, Clause::Order(TRUTHS, ASCENDING)],
+        3,
+        &[Found::Values(0, "2, 1, 0")],
+    ),
+    (
+        &[THREE, Clause::Order(TRUTHS, DESCENDING)],
+        3,
+        &[Found::Values(0, "0, 1, 2")],
+    ),
+    (
+        &[FOUR, Clause::Order(TIES, ASCENDING)],
+        4,
+        &[Found::Values(0, "0, 2, 1, 3")],
+    ),
+    (
+        &[FOUR, Clause::Order(TIES, DESCENDING)],
+        4,
+        &[Found::Values(0, "1, 3, 0, 2")],
+    ),
+    (
+        &[
+            FOUR,
+            Clause::OrderByTwo(
+                &[&[Int(2)], &[Int(1)], &[Int(2)], &[Int(1)]],
+                &[&[Str("a")], &[Str("a")], &[Str("b")], &[Str("a")]],
+                [ASCENDING, DESCENDING],
+            ),
+        ],
+        4,
+        &[Found::Values(0, "1, 3, 2, 0")],
+    ),
+];
+
+const FIRST_KEYS: Lists = &[&[Int(1)], &[Dec(1_000_000)], &[Nothing], &[Int(1)]];
+
+const SECOND_KEYS: Lists = &[&[Bool(true)], &[Bool(false)], &[Nothing], &[Bool(true)]];
+
+/// Two grouping variables: one group for each pair of keys, in the order of first appearance.
+const GROUPS: [Stream; 1] = [(
+    &[
+        FOUR,
+        Clause::Let(FIRST_KEYS),
+        Clause::Let(SECOND_KEYS),
+        Clause::GroupByTwo(FIRST_KEYS, SECOND_KEYS),
+    ],
+    3,
+    &[Found::Counts(0, "2, 1, 1"), Found::Values(0, "0, 3, 1, 2")],
+)];
+
+/// `for` over nothing.
+const NONE: Clause = Clause::For(&[&[]], true);
+
+/// A stream without tuples stays one through each clause.
+const NO_TUPLES: [Stream; 3] = [
+    (&[NONE], 0, &[]),
+    (
+        &[
+            NONE,
+            Clause::Let(&[]),
+            Clause::Group(0, &[]),
+            Clause::Order(&[], DESCENDING),
+        ],
+        0,
+        &[],
+    ),
+    (
+        &[
+            NONE,
+            Clause::Let(&[]),
+            Clause::Group(0, &[]),
+            Clause::Order(&[], DESCENDING),
+            Clause::Where(&[]),
+        ],
+        0,
+        &[],
+    ),
+];
+
+const PAIR: Clause = Clause::For(&[&[Int(0), Int(1)]], false);
+
+const NUMBERS: &[Lists] = &[&[&[Int(2)], &[Str("x")]], &[&[Int(1)], &[Int(1)]]];
+
+/// Untyped keys are strings; and of the keys of each tuple those after the specifications don't
+/// count.
+const OF_ONE_KIND: [Stream; 2] = [
+    (
+        &[
+            Clause::For(&[&[Untyped("9"), Str("10")]], false),
+            Clause::Order(&[&[Untyped("9")], &[Str("10")]], ASCENDING),
+        ],
+        2,
+        &[Found::Values(0, "\"10\", xs:untypedAtomic(\"9\")")],
+    ),
+    (
+        &[PAIR, Clause::OrderByRows(NUMBERS, &[ASCENDING])],
+        2,
+        &[Found::Values(0, "1, 0")],
+    ),
+];
+
+/// Keys of which one is of another kind than those of other tuples, or too long.
+const REFUSED: [&[Clause]; 5] = [
+    &[
+        Clause::For(&[&[Untyped("9"), Int(9)]], false),
+        Clause::Order(&[&[Untyped("9")], &[Int(9)]], ASCENDING),
+    ],
+    &[
+        Clause::For(&[&[Int(1)]], false),
+        Clause::Group(0, &[&[Int(1), Int(2)]]),
+    ],
+    &[
+        PAIR,
+        Clause::OrderByRows(
+            &[&[&[Int(2)], &[Str("x")]], &[&[Str("1")], &[Int(1)]]],
+            &[ASCENDING],
+        ),
+    ],
+    &[PAIR, Clause::OrderByRows(NUMBERS, &[ASCENDING, ASCENDING])],
+    &[
+        PAIR,
+        Clause::OrderByRows(&[&[&[Int(1), Int(3)]], &[&[Int(2), Int(3)]]], &[ASCENDING]),
+    ],
+];
+
+/// A value for each tuple.
+fn values(alloc: Global, lists: &[&[Sample]]) -> Result<Vec<Items>, Fault> {
+    let mut values = Vec::new(alloc);
+    for list in lists {
+        values.push(items(alloc, list)?)?;
+    }
+    Ok(values)
+}
+
+/// A key for each tuple.
+fn column(alloc: Global, lists: &[&[Sample]]) -> Result<Vec<Vec<Atom>>, Fault> {
     let mut column = Vec::new(alloc);
-    for sample in samples {
-        column.push(key(alloc, *sample)?)?;
+    for list in lists {
+        column.push(atoms(alloc, list)?)?;
     }
     Ok(column)
 }
 
-/// `for` over the samples, as the first clause.
-fn for_each(rt: &impl Abort, alloc: Global, samples: &[Sample], at: bool) -> Result<Tuples, Fault> {
-    let stream = Tuples::one(alloc)?;
-    let mut lists = Vec::new(alloc);
-    lists.push(items(alloc, samples)?)?;
+/// A key for each tuple, by the first of two variables or specifications, and by the second.
+fn columns(
+    alloc: Global,
+    first: &[&[Sample]],
+    second: &[&[Sample]],
+) -> Result<(Vec<Vec<Atom>>, Vec<Vec<Atom>>), Fault> {
+    let first = column(alloc, first)?;
+    Ok((first, column(alloc, second)?))
+}
+
+/// A key of one value, or of so many.
+fn key(alloc: Global, list: &[Sample]) -> Result<Key, Fault> {
+    let mut atoms = atoms(alloc, list)?;
+    if atoms.len() == 1 {
+        if let Some(atom) = atoms.pop() {
+            return Ok(Key::One(atom));
+        }
+    }
+    Ok(Key::Several(atoms))
+}
+
+/// The keys of a tuple.
+fn key_row(alloc: Global, lists: &[&[Sample]]) -> Result<Vec<Key>, Fault> {
+    let mut row = Vec::new(alloc);
+    for list in lists {
+        row.push(key(alloc, list)?)?;
+    }
+    Ok(row)
+}
+
+/// The keys of each tuple.
+fn key_rows(alloc: Global, lists: &[Lists]) -> Result<Vec<Vec<Key>>, Fault> {
+    let mut rows = Vec::new(alloc);
+    for row in lists {
+        rows.push(key_row(alloc, row)?)?;
+    }
+    Ok(rows)
+}
+
+/// `for`, or where the flag is set `for` that allows the empty sequence.
+fn expand(
+    rt: &impl Abort,
+    alloc: Global,
+    stream: Tuples,
+    (lists, at): (&[&[Sample]], bool),
+    allows_empty: bool,
+) -> Result<Tuples, Fault> {
+    let lists = values(alloc, lists)?;
     assert_eq!(rt; lists.len(), stream.len());
+    if allows_empty {
+        return Ok(stream.expand_empty(lists, at)?);
+    }
     Ok(stream.expand(lists, at)?)
 }
 
-/// `for` that allows the empty sequence, as the first clause.
-fn for_each_or_empty(
-    rt: &impl Abort,
-    alloc: Global,
-    samples: &[Sample],
-    at: bool,
-) -> Result<Tuples, Fault> {
-    let stream = Tuples::one(alloc)?;
-    let mut lists = Vec::new(alloc);
-    lists.push(items(alloc, samples)?)?;
-    assert_eq!(rt; lists.len(), stream.len());
-    Ok(stream.expand_empty(lists, at)?)
-}
-
-/// `let`, where each tuple's value is one sample.
+/// `let`.
 fn bind(
     rt: &impl Abort,
     alloc: Global,
     stream: Tuples,
-    samples: &[Sample],
+    lists: &[&[Sample]],
 ) -> Result<Tuples, Fault> {
-    let mut values = Vec::new(alloc);
-    for sample in samples {
-        values.push(items(alloc, &[*sample])?)?;
-    }
+    let values = values(alloc, lists)?;
     assert_eq!(rt; values.len(), stream.len());
     Ok(stream.bind(values)?)
+}
+
+/// `where`.
+fn keep(rt: &impl Abort, stream: Tuples, tests: &[bool]) -> Tuples {
+    assert_eq!(rt; tests.len(), stream.len());
+    stream.keep(tests)
 }
 
 /// `group by` one variable.
@@ -91,8 +476,9 @@ fn group(
     alloc: Global,
     stream: Tuples,
     slot: usize,
-    column: Vec<Vec<Atom>>,
+    lists: &[&[Sample]],
 ) -> Result<Tuples, Fault> {
+    let column = column(alloc, lists)?;
     assert_eq!(rt; column.len(), stream.len());
     let mut keys = Vec::new(alloc);
     keys.push(column)?;
@@ -104,41 +490,45 @@ fn order(
     rt: &impl Abort,
     alloc: Global,
     stream: Tuples,
-    column: Vec<Vec<Atom>>,
+    lists: &[&[Sample]],
     spec: OrderSpec,
 ) -> Result<Tuples, Fault> {
+    let column = column(alloc, lists)?;
     assert_eq!(rt; column.len(), stream.len());
     let mut keys = Vec::new(alloc);
     keys.push(column)?;
     stream.order(keys, &[spec])
 }
 
-/// The key: one atom, or so many.
-fn as_key(mut atoms: Vec<Atom>) -> Key {
-    if atoms.len() == 1 {
-        if let Some(atom) = atoms.pop() {
-            return Key::One(atom);
-        }
-    }
-    Key::Several(atoms)
+/// `group by` the variables of the slots 1 and 2.
+fn group_by_two(
+    rt: &impl Abort,
+    alloc: Global,
+    stream: Tuples,
+    (first, second): (Vec<Vec<Atom>>, Vec<Vec<Atom>>),
+) -> Result<Tuples, Fault> {
+    assert_eq!(rt; first.len(), stream.len());
+    assert_eq!(rt; second.len(), stream.len());
+    let mut keys = Vec::new(alloc);
+    keys.push(first)?;
+    keys.push(second)?;
+    stream.group(&[1, 2], keys)
 }
 
-/// The keys of a tuple.
-fn as_row(alloc: Global, keys: Vec<Vec<Atom>>) -> Result<Vec<Key>, Want> {
-    let mut row = Vec::new(alloc);
-    for atoms in keys {
-        row.push(as_key(atoms))?;
-    }
-    Ok(row)
-}
-
-/// The keys of each tuple.
-fn as_rows(alloc: Global, keys: Vec<Vec<Vec<Atom>>>) -> Result<Vec<Vec<Key>>, Want> {
-    let mut rows = Vec::new(alloc);
-    for row in keys {
-        rows.push(as_row(alloc, row)?)?;
-    }
-    Ok(rows)
+/// `order by` two specifications.
+fn order_by_two(
+    rt: &impl Abort,
+    alloc: Global,
+    stream: Tuples,
+    (first, second): (Vec<Vec<Atom>>, Vec<Vec<Atom>>),
+    specs: [OrderSpec; 2],
+) -> Result<Tuples, Fault> {
+    assert_eq!(rt; first.len(), stream.len());
+    assert_eq!(rt; second.len(), stream.len());
+    let mut keys = Vec::new(alloc);
+    keys.push(first)?;
+    keys.push(second)?;
+    stream.order(keys, &specs)
 }
 
 /// `order by`, from the keys of each tuple.
@@ -146,12 +536,41 @@ fn order_by_rows(
     rt: &impl Abort,
     alloc: Global,
     stream: Tuples,
-    keys: Vec<Vec<Vec<Atom>>>,
+    lists: &[Lists],
     specs: &[OrderSpec],
 ) -> Result<Tuples, Fault> {
-    let rows = as_rows(alloc, keys)?;
+    let rows = key_rows(alloc, lists)?;
     assert_eq!(rt; rows.len(), stream.len());
     stream.order_by_rows(rows, specs)
+}
+
+/// The stream after one more clause.
+fn after(rt: &impl Abort, alloc: Global, stream: Tuples, clause: Clause) -> Result<Tuples, Fault> {
+    match clause {
+        Clause::For(lists, at) => expand(rt, alloc, stream, (lists, at), false),
+        Clause::ForOrEmpty(lists, at) => expand(rt, alloc, stream, (lists, at), true),
+        Clause::Let(lists) => bind(rt, alloc, stream, lists),
+        Clause::Count => Ok(stream.number()?),
+        Clause::Where(tests) => Ok(keep(rt, stream, tests)),
+        Clause::Group(slot, lists) => group(rt, alloc, stream, slot, lists),
+        Clause::GroupByTwo(first, second) => {
+            group_by_two(rt, alloc, stream, columns(alloc, first, second)?)
+        }
+        Clause::Order(lists, spec) => order(rt, alloc, stream, lists, spec),
+        Clause::OrderByTwo(first, second, specs) => {
+            order_by_two(rt, alloc, stream, columns(alloc, first, second)?, specs)
+        }
+        Clause::OrderByRows(lists, specs) => order_by_rows(rt, alloc, stream, lists, specs),
+    }
+}
+
+/// The stream after the clauses.
+fn stream_of(rt: &impl Abort, alloc: Global, clauses: &[Clause]) -> Result<Tuples, Fault> {
+    let mut stream = Tuples::one(alloc)?;
+    for clause in clauses {
+        stream = after(rt, alloc, stream, *clause)?;
+    }
+    Ok(stream)
 }
 
 /// The slot's values, tuple after tuple.
@@ -175,264 +594,51 @@ fn counts(rt: &impl Abort, alloc: Global, stream: &Tuples, slot: usize) -> Resul
     Ok(out)
 }
 
-/// The tuples of 7 and 8 with their positions, each with "x".
-fn two(rt: &impl Abort, alloc: Global) -> Result<Tuples, Fault> {
-    let stream = for_each(rt, alloc, &[Sample::Int(7), Sample::Int(8)], true)?;
-    bind(rt, alloc, stream, &[Sample::Str("x"), Sample::Str("x")])
-}
-
-/// The tuples of the library's books.
-fn books(rt: &impl Abort, alloc: Global) -> Result<Tuples, Fault> {
-    for_each(rt, alloc, &[Sample::Row(2), Sample::Row(5)], true)
-}
-
-fn expands_binds_and_keeps(rt: &impl Abort, alloc: Global) -> Result<(), Fault> {
-    assert_eq!(rt; Tuples::one(alloc)?.len(), 1);
-    let stream = two(rt, alloc)?;
-    assert_eq!(rt; stream.len(), 2);
-    assert_eq!(rt; returned(rt, alloc, &stream, 1)?.as_str(), "1, 2");
-    assert_eq!(rt; returned(rt, alloc, &stream, 2)?.as_str(), "\"x\", \"x\"");
-    assert!(rt; !stream.has_slot(3));
-    let tests = [false, true];
-    assert_eq!(rt; tests.len(), stream.len());
-    let kept = stream.keep(&tests);
-    assert_eq!(rt; kept.len(), 1);
-    assert_eq!(rt; returned(rt, alloc, &kept, 0)?.as_str(), "8");
+/// Asserts what is found in the stream.
+fn check_found(rt: &impl Abort, alloc: Global, stream: &Tuples, found: Found) -> Result<(), Fault> {
+    let (text, wanted) = match found {
+        Found::Values(slot, wanted) => (returned(rt, alloc, stream, slot)?, wanted),
+        Found::Counts(slot, wanted) => (counts(rt, alloc, stream, slot)?, wanted),
+        Found::Lacks(slot) => {
+            assert!(rt; !stream.has_slot(slot));
+            return Ok(());
+        }
+    };
+    assert_eq!(rt; text.as_str(), wanted);
     Ok(())
 }
 
-/// The tuple that `for` allowing empty makes of no item, and of two.
-fn expands_the_empty_sequence(rt: &impl Abort, alloc: Global) -> Result<(), Fault> {
-    let stream = for_each_or_empty(rt, alloc, &[], true)?;
-    assert_eq!(rt; stream.len(), 1);
-    assert_eq!(rt; counts(rt, alloc, &stream, 0)?.as_str(), "0");
-    assert_eq!(rt; returned(rt, alloc, &stream, 1)?.as_str(), "0");
-    let stream = for_each_or_empty(rt, alloc, &[], false)?;
-    assert_eq!(rt; counts(rt, alloc, &stream, 0)?.as_str(), "0");
-    assert!(rt; !stream.has_slot(1));
-    let stream = for_each_or_empty(rt, alloc, &[Sample::Int(7), Sample::Int(8)], true)?;
-    assert_eq!(rt; returned(rt, alloc, &stream, 0)?.as_str(), "7, 8");
-    assert_eq!(rt; returned(rt, alloc, &stream, 1)?.as_str(), "1, 2");
-    Ok(())
-}
-
-fn numbers(rt: &impl Abort, alloc: Global) -> Result<(), Fault> {
-    let stream = two(rt, alloc)?.number()?;
-    assert_eq!(rt; returned(rt, alloc, &stream, 0)?.as_str(), "7, 8");
-    assert_eq!(rt; returned(rt, alloc, &stream, 3)?.as_str(), "1, 2");
-    let stream = for_each(rt, alloc, &[], false)?.number()?;
-    assert_eq!(rt; stream.len(), 0);
-    Ok(())
-}
-
-fn groups(rt: &impl Abort, alloc: Global) -> Result<(), Fault> {
-    let keys = column(alloc, &[Sample::Str("x"), Sample::Str("x")])?;
-    let grouped = group(rt, alloc, two(rt, alloc)?, 2, keys)?;
-    assert_eq!(rt; grouped.len(), 1);
-    assert_eq!(rt; returned(rt, alloc, &grouped, 0)?.as_str(), "7, 8");
-    assert_eq!(rt; returned(rt, alloc, &grouped, 1)?.as_str(), "1, 2");
-    assert_eq!(rt; returned(rt, alloc, &grouped, 2)?.as_str(), "\"x\"");
-    Ok(())
-}
-
-fn orders(rt: &impl Abort, alloc: Global) -> Result<(), Fault> {
-    let keys = column(alloc, &[Sample::Int(7), Sample::Int(8)])?;
-    let ordered = order(rt, alloc, two(rt, alloc)?, keys, DESCENDING)?;
-    assert_eq!(rt; returned(rt, alloc, &ordered, 0)?.as_str(), "8, 7");
-    assert_eq!(rt; returned(rt, alloc, &ordered, 1)?.as_str(), "2, 1");
-    Ok(())
-}
-
-/// The books by falling number.
-fn worked_orders(rt: &impl Abort, alloc: Global) -> Result<(), Fault> {
-    let titles = [Sample::Str("A"), Sample::Str("B")];
-    let stream = bind(rt, alloc, books(rt, alloc)?, &titles)?;
-    let keys = column(alloc, &[Sample::Int(1), Sample::Int(2)])?;
-    let stream = order(rt, alloc, stream, keys, DESCENDING)?;
-    assert_eq!(rt; returned(rt, alloc, &stream, 2)?.as_str(), "\"B\", \"A\"");
-    Ok(())
-}
-
-/// What the values are in the order of one key for each.
-fn ordered(
+/// Asserts how many tuples there are after the clauses, and what is found in them.
+fn check_stream(
     rt: &impl Abort,
     alloc: Global,
-    values: &[Sample],
-    keys: &[Sample],
-    spec: OrderSpec,
-) -> Result<String, Fault> {
-    let stream = for_each(rt, alloc, values, false)?;
-    let stream = order(rt, alloc, stream, column(alloc, keys)?, spec)?;
-    returned(rt, alloc, &stream, 0)
-}
-
-/// A falling order with an empty key.
-fn worked_empty_key(rt: &impl Abort, alloc: Global) -> Result<(), Fault> {
-    let values = [Sample::Int(1), Sample::Int(2)];
-    let keys = [Sample::Nothing, Sample::Int(5)];
-    let found = ordered(rt, alloc, &values, &keys, DESCENDING)?;
-    assert_eq!(rt; found.as_str(), "2, 1");
-    Ok(())
-}
-
-/// Three tuples, ordered by these specifications, of two keys each.
-fn check_rows(
-    rt: &impl Abort,
-    alloc: Global,
-    specs: &[OrderSpec],
-    wanted: &str,
+    (clauses, length, wanted): Stream,
 ) -> Result<(), Fault> {
-    let numbers = [Sample::Int(0), Sample::Int(1), Sample::Int(2)];
-    let stream = for_each(rt, alloc, &numbers, false)?;
-    let mut keys = Vec::new(alloc);
-    keys.push(column(alloc, &[Sample::Str("b"), Sample::Int(1)])?)?;
-    keys.push(column(alloc, &[Sample::Untyped("a"), Sample::Int(2)])?)?;
-    keys.push(column(alloc, &[Sample::Str("a"), Sample::Int(1)])?)?;
-    let ordered = order_by_rows(rt, alloc, stream, keys, specs)?;
-    assert_eq!(rt; returned(rt, alloc, &ordered, 0)?.as_str(), wanted);
+    let stream = stream_of(rt, alloc, clauses)?;
+    assert_eq!(rt; stream.len(), length);
+    for found in wanted {
+        check_found(rt, alloc, &stream, *found)?;
+    }
     Ok(())
 }
 
-/// The second key decides where the first ones are equal; a key after the specifications doesn't
-/// count, and one that lacks is empty.
-fn orders_by_rows(rt: &impl Abort, alloc: Global) -> Result<(), Fault> {
-    check_rows(rt, alloc, &[], "0, 1, 2")?;
-    check_rows(rt, alloc, &[ASCENDING], "1, 2, 0")?;
-    check_rows(rt, alloc, &[ASCENDING, ASCENDING], "2, 1, 0")?;
-    check_rows(
-        rt,
-        alloc,
-        &[DESCENDING, DESCENDING, EMPTY_GREATEST],
-        "0, 1, 2",
-    )
-}
-
-/// The second of the books.
-fn worked_keep(rt: &impl Abort, alloc: Global) -> Result<(), Fault> {
-    let stream = books(rt, alloc)?;
-    let tests = [false, true];
-    assert_eq!(rt; tests.len(), stream.len());
-    let stream = stream.keep(&tests);
-    assert_eq!(rt; returned(rt, alloc, &stream, 0)?.as_str(), "node 0 5");
-    assert_eq!(rt; returned(rt, alloc, &stream, 1)?.as_str(), "2");
+/// The same of each of the streams.
+fn check_streams(rt: &impl Abort, alloc: Global, streams: &[Stream]) -> Result<(), Fault> {
+    for stream in streams {
+        check_stream(rt, alloc, *stream)?;
+    }
     Ok(())
-}
-
-fn worked_groups(rt: &impl Abort, alloc: Global) -> Result<(), Fault> {
-    let samples = [Sample::Int(1), Sample::Dec(1_000_000), Sample::Str("1")];
-    let stream = bind(rt, alloc, for_each(rt, alloc, &samples, false)?, &samples)?;
-    let stream = group(rt, alloc, stream, 0, column(alloc, &samples)?)?;
-    assert_eq!(rt; counts(rt, alloc, &stream, 1)?.as_str(), "2, 1");
-    Ok(())
-}
-
-/// A group has the key of its first tuple.
-fn worked_first_keys(rt: &impl Abort, alloc: Global) -> Result<(), Fault> {
-    let samples = [Sample::Dec(1_000_000), Sample::Int(1)];
-    let stream = for_each(rt, alloc, &samples, false)?;
-    let stream = group(rt, alloc, stream, 0, column(alloc, &samples)?)?;
-    assert_eq!(rt; returned(rt, alloc, &stream, 0)?.as_str(), "1.0");
-    Ok(())
-}
-
-/// The books by the lengths of their texts.
-fn worked_lengths(rt: &impl Abort, alloc: Global) -> Result<(), Fault> {
-    let lengths = [Sample::Int(1), Sample::Int(1)];
-    let stream = bind(rt, alloc, books(rt, alloc)?, &lengths)?;
-    let stream = group(rt, alloc, stream, 2, column(alloc, &lengths)?)?;
-    assert_eq!(rt; counts(rt, alloc, &stream, 0)?.as_str(), "2");
-    Ok(())
-}
-
-/// The clauses of worked queries.
-fn worked_rows(rt: &impl Abort, alloc: Global) -> Result<(), Fault> {
-    worked_orders(rt, alloc)?;
-    orders_by_rows(rt, alloc)?;
-    worked_empty_key(rt, alloc)?;
-    worked_keep(rt, alloc)?;
-    worked_groups(rt, alloc)?;
-    worked_first_keys(rt, alloc)?;
-    worked_lengths(rt, alloc)
 }
 
 /// The rows of the calls, and then those of worked queries.
 fn all_rows(rt: &impl Abort, alloc: Global) -> Result<(), Fault> {
-    expands_binds_and_keeps(rt, alloc)?;
-    expands_the_empty_sequence(rt, alloc)?;
-    numbers(rt, alloc)?;
-    groups(rt, alloc)?;
-    orders(rt, alloc)?;
-    worked_rows(rt, alloc)
+    check_streams(rt, alloc, &CALLS)?;
+    check_streams(rt, alloc, &WORKED)
 }
 
 #[test]
-fn rows_with_ample_memory(rt: HostRuntime) -> Result<(), Fail> {
-    Ok(all_rows(&rt, rt.alloc())?)
-}
-
-/// What groups by a key of two values give.
-fn grouped_by_two_values(rt: &impl Abort, alloc: Global) -> Result<Tuples, Fault> {
-    let mut long = column(alloc, &[Sample::Nothing])?;
-    let stream = for_each(rt, alloc, &[Sample::Int(1)], false)?;
-    for key in &mut long {
-        key.push(Atom::Int(1))?;
-        key.push(Atom::Int(2))?;
-    }
-    group(rt, alloc, stream, 0, long)
-}
-
-/// Untyped keys are strings; one that is too many, or of another kind, is refused.
-#[test]
-fn keys_of_one_kind(rt: HostRuntime) -> Result<(), Fail> {
-    let alloc = rt.alloc();
-    let texts = [Sample::Untyped("9"), Sample::Str("10")];
-    let found = ordered(&rt, alloc, &texts, &texts, ASCENDING)?;
-    assert_eq!(rt; found.as_str(), "\"10\", xs:untypedAtomic(\"9\")");
-    let mixed = [Sample::Untyped("9"), Sample::Int(9)];
-    let refused = ordered(&rt, alloc, &mixed, &mixed, ASCENDING);
-    assert!(rt; matches!(refused, Err(Fault::Code(Code::XPTY0004))));
-    let refused = grouped_by_two_values(&rt, alloc);
-    assert!(rt; matches!(refused, Err(Fault::Code(Code::XPTY0004))));
-    Ok(())
-}
-
-/// Whether two tuples are refused, of which the first has the keys 2 and "x", and the second one
-/// this key and 1.
-fn are_refused(
-    rt: &impl Abort,
-    alloc: Global,
-    first: Sample,
-    specs: &[OrderSpec],
-) -> Result<bool, Fault> {
-    let mut keys = Vec::new(alloc);
-    keys.push(column(alloc, &[Sample::Int(2), Sample::Str("x")])?)?;
-    keys.push(column(alloc, &[first, Sample::Int(1)])?)?;
-    let stream = for_each(rt, alloc, &[Sample::Int(0), Sample::Int(1)], false)?;
-    let ordered = order_by_rows(rt, alloc, stream, keys, specs);
-    Ok(matches!(ordered, Err(Fault::Code(Code::XPTY0004))))
-}
-
-/// Of rows of keys, one of another kind than those of other tuples is refused, but not one after the
-/// specifications, and one that is too long.
-#[test]
-fn rows_of_one_kind(rt: HostRuntime) -> Result<(), Fail> {
-    let alloc = rt.alloc();
-    assert!(rt; !are_refused(&rt, alloc, Sample::Int(1), &[ASCENDING])?);
-    assert!(rt; are_refused(&rt, alloc, Sample::Str("1"), &[ASCENDING])?);
-    assert!(rt; are_refused(&rt, alloc, Sample::Int(1), &[ASCENDING, ASCENDING])?);
-
-    let mut keys = Vec::new(alloc);
-    for number in [Sample::Int(1), Sample::Int(2)] {
-        let mut key = key(alloc, number)?;
-        key.push(Atom::Int(3))?;
-        let mut row = Vec::new(alloc);
-        row.push(key)?;
-        keys.push(row)?;
-    }
-    let stream = for_each(&rt, alloc, &[Sample::Int(0), Sample::Int(1)], false)?;
-    let ordered = order_by_rows(&rt, alloc, stream, keys, &[ASCENDING]);
-    assert!(rt; matches!(ordered, Err(Fault::Code(Code::XPTY0004))));
-    Ok(())
+fn rows_with_ample_memory(rt: HostRuntime) -> Result<(), Fault> {
+    all_rows(&rt, rt.alloc())
 }
 
 /// The rows where a growth may be refused: each result is that of ample memory, or want of memory.
@@ -442,162 +648,26 @@ fn each_allocation(rt: HostRuntime) {
     assert!(rt; matches!(outcome, Ok(()) | Err(Fault::Want(Want::Memory))));
 }
 
-/// The numbers of the samples from 0, in the order of the samples as keys, are these.
-fn check_order(
-    rt: &impl Abort,
-    alloc: Global,
-    samples: &[Sample],
-    spec: OrderSpec,
-    wanted: &str,
-) -> Result<(), Fault> {
-    let mut numbers = Vec::new(alloc);
-    for at in 0..samples.len() {
-        numbers.push(Sample::Int(at as i64))?;
+#[test]
+fn orders(rt: HostRuntime) -> Result<(), Fault> {
+    check_streams(&rt, rt.alloc(), &ORDERS)
+}
+
+#[test]
+fn groups_by_two_variables(rt: HostRuntime) -> Result<(), Fault> {
+    check_streams(&rt, rt.alloc(), &GROUPS)
+}
+
+#[test]
+fn no_tuples(rt: HostRuntime) -> Result<(), Fault> {
+    check_streams(&rt, rt.alloc(), &NO_TUPLES)
+}
+
+#[test]
+fn keys_of_one_kind(rt: HostRuntime) -> Result<(), Fault> {
+    for clauses in REFUSED {
+        let refused = stream_of(&rt, rt.alloc(), clauses);
+        assert!(rt; matches!(refused, Err(Fault::Code(Code::XPTY0004))));
     }
-    let found = ordered(rt, alloc, &numbers, samples, spec)?;
-    assert_eq!(rt; found.as_str(), wanted);
-    Ok(())
-}
-
-/// Where the empty key stands, with and without `descending`.
-#[test]
-fn orders_with_an_empty_key(rt: HostRuntime) -> Result<(), Fail> {
-    let keys = [Sample::Int(5), Sample::Nothing, Sample::Dec(3_000_000)];
-    for (spec, wanted) in [
-        (ASCENDING, "1, 2, 0"),
-        (DESCENDING, "0, 2, 1"),
-        (EMPTY_GREATEST, "2, 0, 1"),
-        (DESCENDING_EMPTY_GREATEST, "1, 0, 2"),
-    ] {
-        check_order(&rt, rt.alloc(), &keys, spec, wanted)?;
-    }
-    Ok(())
-}
-
-/// Booleans, and ties, which stay as they were.
-#[test]
-fn orders_booleans_and_ties(rt: HostRuntime) -> Result<(), Fail> {
-    let truths = [Sample::Bool(true), Sample::Bool(false), Sample::Nothing];
-    let ties = [
-        Sample::Int(1),
-        Sample::Int(2),
-        Sample::Dec(1_000_000),
-        Sample::Int(2),
-    ];
-    for (keys, spec, wanted) in [
-        (&truths as &[Sample], ASCENDING, "2, 1, 0"),
-        (&truths, DESCENDING, "0, 1, 2"),
-        (&ties, ASCENDING, "0, 2, 1, 3"),
-        (&ties, DESCENDING, "1, 3, 0, 2"),
-    ] {
-        check_order(&rt, rt.alloc(), keys, spec, wanted)?;
-    }
-    Ok(())
-}
-
-/// `order by` two specifications.
-fn order_by_two(
-    rt: &impl Abort,
-    alloc: Global,
-    stream: Tuples,
-    (first, second): (Vec<Vec<Atom>>, Vec<Vec<Atom>>),
-    specs: [OrderSpec; 2],
-) -> Result<Tuples, Fault> {
-    assert_eq!(rt; first.len(), stream.len());
-    assert_eq!(rt; second.len(), stream.len());
-    let mut keys = Vec::new(alloc);
-    keys.push(first)?;
-    keys.push(second)?;
-    stream.order(keys, &specs)
-}
-
-/// `group by` the variables of the slots 1 and 2.
-fn group_by_two(
-    rt: &impl Abort,
-    alloc: Global,
-    stream: Tuples,
-    (first, second): (Vec<Vec<Atom>>, Vec<Vec<Atom>>),
-) -> Result<Tuples, Fault> {
-    assert_eq!(rt; first.len(), stream.len());
-    assert_eq!(rt; second.len(), stream.len());
-    let mut keys = Vec::new(alloc);
-    keys.push(first)?;
-    keys.push(second)?;
-    stream.group(&[1, 2], keys)
-}
-
-/// The later specification decides where the earlier one does not, each with its own words.
-#[test]
-fn orders_by_two_keys(rt: HostRuntime) -> Result<(), Fail> {
-    let alloc = rt.alloc();
-    let numbers = [
-        Sample::Int(0),
-        Sample::Int(1),
-        Sample::Int(2),
-        Sample::Int(3),
-    ];
-    let stream = for_each(&rt, alloc, &numbers, false)?;
-    let first = [
-        Sample::Int(2),
-        Sample::Int(1),
-        Sample::Int(2),
-        Sample::Int(1),
-    ];
-    let second = [
-        Sample::Str("a"),
-        Sample::Str("a"),
-        Sample::Str("b"),
-        Sample::Str("a"),
-    ];
-    let keys = (column(alloc, &first)?, column(alloc, &second)?);
-    let stream = order_by_two(&rt, alloc, stream, keys, [ASCENDING, DESCENDING])?;
-    assert_eq!(rt; returned(&rt, alloc, &stream, 0)?.as_str(), "1, 3, 2, 0");
-    Ok(())
-}
-
-/// Two grouping variables: one group for each pair of keys, in the order of first appearance.
-#[test]
-fn groups_by_two_variables(rt: HostRuntime) -> Result<(), Fail> {
-    let alloc = rt.alloc();
-    let first = [
-        Sample::Int(1),
-        Sample::Dec(1_000_000),
-        Sample::Nothing,
-        Sample::Int(1),
-    ];
-    let second = [
-        Sample::Bool(true),
-        Sample::Bool(false),
-        Sample::Nothing,
-        Sample::Bool(true),
-    ];
-    let numbers = [
-        Sample::Int(0),
-        Sample::Int(1),
-        Sample::Int(2),
-        Sample::Int(3),
-    ];
-    let stream = for_each(&rt, alloc, &numbers, false)?;
-    let stream = bind(&rt, alloc, stream, &first)?;
-    let stream = bind(&rt, alloc, stream, &second)?;
-    let keys = (column(alloc, &first)?, column(alloc, &second)?);
-    let stream = group_by_two(&rt, alloc, stream, keys)?;
-    assert_eq!(rt; counts(&rt, alloc, &stream, 0)?.as_str(), "2, 1, 1");
-    assert_eq!(rt; returned(&rt, alloc, &stream, 0)?.as_str(), "0, 3, 1, 2");
-    Ok(())
-}
-
-/// A stream without tuples stays one through each clause.
-#[test]
-fn no_tuples(rt: HostRuntime) -> Result<(), Fail> {
-    let alloc = rt.alloc();
-    let stream = for_each(&rt, alloc, &[], true)?;
-    assert_eq!(rt; stream.len(), 0);
-    let stream = bind(&rt, alloc, stream, &[])?;
-    let stream = group(&rt, alloc, stream, 0, Vec::new(alloc))?;
-    let stream = order(&rt, alloc, stream, Vec::new(alloc), DESCENDING)?;
-    assert_eq!(rt; stream.len(), 0);
-    let kept = stream.keep(&[]);
-    assert_eq!(rt; kept.len(), 0);
-    Ok(())
+    check_streams(&rt, rt.alloc(), &OF_ONE_KIND)
 }

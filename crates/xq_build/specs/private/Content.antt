@@ -1,17 +1,11 @@
 -- Content of elements and documents on leaves, where a node at the top has the level 0.
-use Rattle.std.specs.Prelude.{ℕ, ◌+◌, List, [], ◌∷◌, ◌++◌, map, reverse, Bool, true, false, not, ◌&&◌, ◌||◌, ◌==◌, nat_lt, if◌then◌else◌, Option, Some, None, codes, ◌≡◌, Result, Ok, Err}
+use Rattle.std.specs.Prelude.{◌+◌, List, [], ◌∷◌, ◌++◌, Bool, true, false, not, ◌&&◌, ◌||◌, ◌==◌, nat_lt, if◌then◌else◌, Option, Some, None, codes, ◌≡◌}
 use Rattle.std.specs.List.{list_all}
 use Rattle.xq_atoms.specs.Text.{Text, is_empty}
 use Rattle.xq_atoms.specs.Cast.{text_of}
-use Rattle.xq_atoms.specs.declared.refusals.Code.{Code}
-use Rattle.xq_atoms.specs.declared.refusals.Fault.{Fault}
-use Rattle.xq_atoms.specs.declared.refusals.Fault.TheVariants.{Code as OfCode, Want as OfWant}
 use Rattle.xq_regions.specs.Forest.{Forest, end, node, join}
 use Rattle.xq_regions.specs.Tree.{Label, Tree}
-use Rattle.xq_regions.specs.declared.Kind.{Kind}
-use Rattle.indexmap.specs.IndexSet.{IndexSet}
-use denote.Ref.{Bor}
-use Rattle.xq_meaning.specs.Content.{is_text, text_label, copied, first_fault}
+use Rattle.xq_meaning.specs.Content.{is_text, text_label, copied}
 use Rattle.xq_meaning.specs.Items.{Item, Node, Atom, tree_below}
 use Rattle.xq_copies.specs.Leaves.{Leaf, leaves}
 
@@ -74,15 +68,7 @@ abbrev pub are_settled : Bool → List Leaf → Bool
 are_settled is_after [] = true
 are_settled is_after (p ∷ ps) = not (is_loose is_after p) && are_settled (is_top_text p) ps
 
--- # Labels at the top, and levels
-
-abbrev pub labels_if : Bool → Leaf → List Label → List Label
-labels_if true p labels = p.1 ∷ labels
-labels_if false p labels = labels
-
-abbrev pub top_labels : List Leaf → List Label
-top_labels [] = []
-top_labels (p ∷ ps) = labels_if (p.0 == 0) p (top_labels ps)
+-- # Levels
 
 abbrev pub raised : Leaf → Leaf
 raised p = (p.0 + 1, p.1)
@@ -90,31 +76,8 @@ raised p = (p.0 + 1, p.1)
 abbrev pub are_low : List Leaf → Bool
 are_low ps = list_all (λ p. nat_lt p.0 100) ps
 
--- a code is given where there is a fault
-abbrev pub JudgedAs : Option Code → Result (Unit {0}) Fault → Type 0
-JudgedAs fault (Ok done) = fault ≡ None
-JudgedAs fault (Err (OfCode code)) = fault ≡ Some code
-JudgedAs fault (Err (OfWant want)) = Unit {0}
-
 -- # Taking items one after another
 
 -- leaves so far, and the text of a run that is open, with more items after them
 abbrev pub so_far : List Tree → List Leaf → Option Text → List Item → List Leaf
 so_far trees ps run xs = ps ++ leaves (flattened_with trees run xs)
-
--- # Judging nodes one after another
-
--- the names of attributes, the last one first
-abbrev pub names_of : {S : Type 0} → IndexSet (Bor (List ℕ)) S → List Text
-names_of set = reverse (map (λ k. k.now) set.keys)
-
-abbrev pub fault_from : Kind → List Text → Bool → List Leaf → Option Code
-fault_from parent names late ps = first_fault parent names late (top_labels ps)
-
--- the node is let through, or a code is given, whatever others come
-abbrev pub JudgesLeaf : Kind → List Text → Bool → Leaf → List Text → Result Bool Fault → Type 0
-JudgesLeaf parent old late p new (Ok later) = (others : List Leaf)
-    → fault_from parent new later others ≡ fault_from parent old late (p ∷ others)
-JudgesLeaf parent old late p new (Err (OfCode code)) = (others : List Leaf)
-    → fault_from parent old late (p ∷ others) ≡ Some code
-JudgesLeaf parent old late p new (Err (OfWant want)) = Unit {0}

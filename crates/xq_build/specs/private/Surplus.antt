@@ -11,7 +11,8 @@ use Rattle.xq_meaning.specs.Content.{is_text, copied, flattened}
 use Rattle.xq_meaning.specs.Items.{Item, tree_below}
 use Rattle.xq_meaning.specs.Readings.{node_at}
 use Rattle.xq_copies.specs.Leaves.{Leaf, leaves}
-use Rattle.xq_build.specs.private.Content.{is_top_text, is_kept, are_low, fault_from, so_far, flattened_with, Childless}
+use Rattle.xq_attributes.specs.Attributes.{fault_from}
+use Rattle.xq_build.specs.private.Content.{is_top_text, is_kept, are_low, so_far, flattened_with, Childless}
 
 -- a node that stays a node of its own, whatever stands beside it
 abbrev pub is_firm : Leaf → Bool

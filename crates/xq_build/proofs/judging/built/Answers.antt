@@ -6,7 +6,8 @@ use Rattle.xq_regions.specs.Levels.{flat_row}
 use Rattle.xq_regions.specs.declared.NodeRow.{NodeRow}
 use Rattle.xq_meaning.specs.Content.{label}
 use Rattle.xq_copies.specs.Leaves.{leaves}
-use Rattle.xq_build.specs.private.Content.{are_low, raised, fault_from, JudgedAs}
+use Rattle.xq_attributes.specs.Attributes.{fault_from, JudgedAs}
+use Rattle.xq_build.specs.private.Content.{are_low, raised}
 use Rattle.xq_build.proofs.Judges.{built_refused, built_high, built_large, built_whole}
 use Rattle.xq_build.proofs.judging.built.Goals as goal
 

@@ -1,0 +1,69 @@
+//! What is judged of the attributes in the content of an element or a document: that each stands
+//! before all other nodes, and has a name of its own.
+ghost use Rattle.std.specs.Prelude.{◌≡◌, ◌∷◌, [], false, map, OnOk};
+ghost use Rattle.xq_regions.specs.Levels.{flat_row};
+ghost use Rattle.xq_meaning.specs.Content.{attribute_fault};
+ghost use Rattle.xq_attributes.specs.Attributes.{fault_from, JudgedAs};
+ghost use Rattle.xq_attributes.specs.private.Judging.{names_of, JudgesLeaf};
+
+use indexmap::IndexSet;
+use std::alloc::Global;
+use xq_atoms::{Code, Fault};
+use xq_regions::{Kind, NodeRow};
+
+/// Judges an attribute, after others with these names, and perhaps after another node.
+fn judge_attribute<'a>(
+    parent: Kind,
+    names: &mut IndexSet<&'a str>,
+    late: bool,
+    name: &'a str,
+) -> Result<(), Fault>
+    ensures judged { JudgedAs (attribute_fault parent (names_of names.old) late name.now) result }
+    ensures names { OnOk result (names_of names.new ≡ name.now ∷ names_of names.old) }
+{
+    match parent {
+        Kind::Document => return Err(Fault::Code(Code::XPTY0004)),
+        _ => {}
+    }
+    if late {
+        return Err(Fault::Code(Code::XQTY0024));
+    }
+    if !names.insert(name)? {
+        return Err(Fault::Code(Code::XQDY0025));
+    }
+    Ok(())
+}
+
+/// Judges a node, where it is one at the top; tells whether a later attribute is too late.
+fn judge_node<'a>(
+    parent: Kind,
+    names: &mut IndexSet<&'a str>,
+    late: bool,
+    row: &'a NodeRow,
+) -> Result<bool, Fault>
+    ensures { JudgesLeaf parent (names_of names.old) late (flat_row row.now)
+        (names_of names.new) result }
+{
+    if row.level > 0 {
+        return Ok(late);
+    }
+    match row.kind {
+        Kind::Attribute => {
+            judge_attribute(parent, names, late, row.name.as_str())?;
+            Ok(late)
+        }
+        _ => Ok(true),
+    }
+}
+
+/// Judges the attributes among the nodes at the top, in order.
+pub fn judge_attributes(alloc: Global, parent: Kind, rows: &[NodeRow]) -> Result<(), Fault>
+    ensures { JudgedAs (fault_from parent [] false (map flat_row rows.now)) result }
+{
+    let mut names = IndexSet::new(alloc);
+    let mut late = false;
+    for row in rows {
+        late = judge_node(parent, &mut names, late, row)?;
+    }
+    Ok(())
+}

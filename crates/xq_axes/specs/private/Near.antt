@@ -1,0 +1,21 @@
+-- One node, by whose row those below it are judged.
+use Rattle.std.proofs.Common.{suc}
+use Rattle.std.specs.Prelude.{ℕ, ◌<◌, ◌≡◌}
+use Rattle.xq_regions.specs.Forest.{count}
+use Rattle.xq_regions.specs.Tree.{Tree, IsTree, nodes}
+use Rattle.xq_axes.specs.Reads.{Span}
+use Rattle.xq_axes.specs.private.Downward.{level_of, end_of}
+use Rattle.xq_axes.specs.declared.near.Owner.{Owner}
+
+-- a node of the tree, as its row has it
+pub record IsOwner (t : Tree) (owner : Owner) : Type 0 where
+  pub is_tree : IsTree t
+  pub is_there : owner.place < count (nodes t)
+  pub level : owner.level ≡ level_of t owner.place
+  pub last : owner.last ≡ end_of t owner.place
+
+-- the span is that of the rows below it
+pub record AreBelow (t : Tree) (s : Span) (owner : Owner) : Type 0 where
+  pub is : IsOwner t owner
+  pub low : s.low ≡ suc owner.place
+  pub high : s.high ≡ owner.last

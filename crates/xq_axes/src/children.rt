@@ -1,0 +1,157 @@
+//! Children of many nodes at once.
+ghost use Rattle.std.specs.Prelude.{◌≡◌, ◌+◌, ◌≤◌, filter, true, false, None, length, IfOk, IfSome};
+ghost use Rattle.xq_regions.specs.Forest.{count};
+ghost use Rattle.xq_regions.specs.Tree.{nodes};
+ghost use Rattle.xq_regions.specs.declared.Axis.TheVariants as axes;
+ghost use Rattle.xq_sources.specs.Sources.{tree_at};
+ghost use Rattle.xq_axes.specs.Scans.{region};
+ghost use Rattle.xq_axes.specs.private.Hits.{is_among, is_wanted, below_where, IsRising};
+ghost use Rattle.xq_axes.specs.private.Named.{is_below_one};
+
+use crate::downward::{ToChildren, search_below};
+use crate::names::{is_large_part, wanted_name};
+use crate::near::children_of;
+use crate::picks::{Found, Places};
+use std::alloc::Global;
+use xq_atoms::Want;
+use xq_meaning::Test;
+use xq_sources::RowLender;
+
+/// From how many contexts on places of names are asked for: from fewer a walk is as fast.
+const MANY_CONTEXTS: usize = 64;
+
+/// How many places of a name there may be for each context where they are gone over: a walk reads
+/// no row below a child, so where there are many more it is faster.
+const PLACES_EACH: usize = 4;
+
+/// Whether this one of the places is the place.
+fn is_at(places: &[u32], index: usize, place: u32) -> bool
+    ensures { result ≡ true → is_among places.now place ≡ true }
+{
+    match places.get(index) {
+        Some(found) => *found == place,
+        None => false,
+    }
+}
+
+/// Which of the places, which rise, is the place: it is looked for first where the last one was
+/// found, since one parent after another has its children.
+fn find_near(places: &[u32], near: usize, place: u32) -> Option<usize>
+    ensures some { IsRising places.now → IfSome result (λ _. is_among places.now place ≡ true) }
+    ensures none { IsRising places.now → result ≡ None → is_among places.now place ≡ false }
+{
+    if is_at(places, near, place) {
+        return Some(near);
+    }
+    let next = near.saturating_add(1);
+    if is_at(places, next, place) {
+        return Some(next);
+    }
+    match places.binary_search(&place) {
+        Ok(index) => Some(index),
+        Err(_) => None,
+    }
+}
+
+/// Those of the places at which a child of a context lies, or an attribute, where the lender can
+/// tell the parent of each.
+fn told_below<L: RowLender>(
+    alloc: Global,
+    source: &L,
+    tree: usize,
+    contexts: &[u32],
+    places: &[u32],
+) -> Result<Option<Found>, Want>
+    ensures { L.is_clean source.now → IsRising contexts.now
+        → IfOk result (λ told. IfSome told (λ found. found.items ≡ filter
+        (is_below_one (tree_at (L.forest source.now) tree) contexts.now) places.now)) }
+{
+    let mut found = Found::new(alloc);
+    let mut near = 0;
+    for place in places {
+        let Some(parent) = source.parent(tree, *place) else {
+            return Ok(None);
+        };
+        if let Some(index) = find_near(contexts, near, parent) {
+            near = index;
+            found.push(*place)?;
+        }
+    }
+    Ok(Some(found))
+}
+
+/// Whether the places, which rise, are so many, and so far apart, that places of names are asked
+/// for.
+fn are_many(places: &[u32]) -> bool {
+    let (Some(first), Some(last)) = (places.first(), places.last()) else {
+        return false;
+    };
+    places.len() >= MANY_CONTEXTS && is_large_part(*first, *last)
+}
+
+/// The places of the children of the nodes at the places, which rise, that pass the test, where it
+/// asks for a name, the nodes are many, and the lender tells where the elements with the name lie,
+/// and the parent of each. No row is read.
+fn named_children<L: RowLender>(
+    alloc: Global,
+    source: &mut L,
+    tree: usize,
+    places: &[u32],
+    test: &Test,
+) -> Result<Option<Places>, Want>
+    ensures found { L.is_clean source.new
+        → let t = tree_at (L.forest source.old) tree in
+        IsRising places.now → IfOk result (λ told. IfSome told (λ found. found.items
+        ≡ below_where (is_wanted axes.Child test.now t places.now) (count (nodes t)))) }
+    ensures counts { L.meter source.new ≡ L.meter source.old }
+    ensures keeps { L.forest source.new ≡ L.forest source.old }
+    ensures was_clean { L.is_clean source.new → L.is_clean source.old }
+{
+    let Some(name) = wanted_name(test) else {
+        return Ok(None);
+    };
+    if !are_many(places) {
+        return Ok(None);
+    }
+    source.find_named(alloc, tree, name);
+    let Some(named) = source.named(tree, name) else {
+        return Ok(None);
+    };
+    if named.len() / PLACES_EACH > places.len() {
+        return Ok(None);
+    }
+    let Some(found) = told_below(alloc, source, tree, places, named)? else {
+        return Ok(None);
+    };
+    Ok(Some(found.into_places()?))
+}
+
+/// The places of the children of the nodes at the places, which rise, that pass the test: in
+/// document order, each once.
+pub fn search_children<L: RowLender>(
+    alloc: Global,
+    source: &mut L,
+    tree: usize,
+    places: &[u32],
+    test: &Test,
+) -> Result<Places, Want>
+    ensures found { L.is_clean source.new
+        → let t = tree_at (L.forest source.old) tree in
+        IsRising places.now → IfOk result (λ found. found.items
+        ≡ below_where (is_wanted axes.Child test.now t places.now) (count (nodes t))) }
+    ensures rows { L.is_clean source.new
+        → (L.meter source.new).rows ≤ (L.meter source.old).rows
+        + length (region axes.Child (tree_at (L.forest source.old) tree) places.now) }
+    ensures singles { (L.meter source.new).singles
+        ≤ (L.meter source.old).singles + length places.now }
+    ensures keeps { L.forest source.new ≡ L.forest source.old }
+    ensures was_clean { L.is_clean source.new → L.is_clean source.old }
+{
+    if let [place] = places {
+        return children_of(alloc, source, tree, *place, test);
+    }
+    if let Some(found) = named_children(alloc, source, tree, places, test)? {
+        return Ok(found);
+    }
+    search_below(alloc, source, tree, ToChildren, places, test)
+}

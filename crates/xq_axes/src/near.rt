@@ -1,0 +1,178 @@
+//! Children and attributes of one node: most steps inside a loop or a predicate are such.
+ghost use Rattle.std.specs.Prelude.{◌≡◌, ◌+◌, ◌≤◌, ◌==◌, ◌∷◌, [], suc, length, IfOk};
+ghost use Rattle.xq_regions.specs.Forest.{count};
+ghost use Rattle.xq_regions.specs.Tree.{nodes};
+ghost use Rattle.xq_regions.specs.declared.Axis.TheVariants as axes;
+ghost use Rattle.xq_sources.specs.Sources.{tree_at};
+ghost use Rattle.xq_axes.specs.Scans.{region};
+ghost use Rattle.xq_axes.specs.private.Hits.{is_wanted, below_where};
+ghost use Rattle.xq_axes.specs.private.Near.{IsOwner, AreBelow};
+
+use crate::passing::search_rows;
+use crate::picks::{Judge, Places, Verdict};
+use crate::tests::is_plain;
+use std::alloc::Global;
+use xq_atoms::Want;
+use xq_meaning::Test;
+use xq_regions::NodeRow;
+use xq_sources::RowLender;
+
+/// A node whose children or attributes are looked for, as its row has it.
+#[derive(Clone, Copy)]
+struct Owner {
+    place: u32,
+    level: u32,
+    /// The place of the last row below it, or its own where there is none.
+    last: u32,
+}
+
+impl Owner {
+    /// Whether a row of this level, which is below the node, is that of a child or an attribute.
+    fn is_parent(self, level: u32) -> bool
+        ensures { result ≡ (level == self.level + 1) }
+    {
+        u64::from(level) == u64::from(self.level) + 1
+    }
+}
+
+/// Judges the rows below a node, which of them are its children. What is below a child is gone
+/// over.
+#[derive(Clone, Copy)]
+struct ChildrenOf {
+    owner: Owner,
+}
+
+impl Judge for ChildrenOf {
+    ghost axis = { λ _. axes.Child };
+
+    ghost contexts = { λ j. j.owner.place ∷ [] };
+
+    ghost has_judged = { λ start now t s n. (now ≡ start) × AreBelow t s start.owner };
+
+    fn judge(&mut self, row: &NodeRow) -> Result<Verdict, Want> {
+        Ok(Verdict {
+            is_hit: self.owner.is_parent(row.level) && is_plain(row.kind),
+            over: row.size,
+        })
+    }
+}
+
+/// Judges the rows below a node, which of them are its attributes. They come before all others:
+/// from the first other on nothing is read.
+#[derive(Clone, Copy)]
+struct AttributesOf {
+    owner: Owner,
+}
+
+impl Judge for AttributesOf {
+    ghost axis = { λ _. axes.Attributes };
+
+    ghost contexts = { λ j. j.owner.place ∷ [] };
+
+    ghost has_judged = { λ start now t s n. (now ≡ start) × AreBelow t s start.owner };
+
+    fn judge(&mut self, row: &NodeRow) -> Result<Verdict, Want> {
+        if is_plain(row.kind) {
+            return Ok(Verdict {
+                is_hit: false,
+                over: self.owner.last.saturating_sub(row.pre),
+            });
+        }
+        Ok(Verdict {
+            is_hit: self.owner.is_parent(row.level),
+            over: 0,
+        })
+    }
+}
+
+/// The node at the place, as its row has it.
+fn owner_at<L: RowLender>(
+    alloc: Global,
+    source: &mut L,
+    tree: usize,
+    place: u32,
+) -> Result<Owner, Want>
+    ensures is { L.is_clean source.new → IfOk result (λ owner.
+        IsOwner (tree_at (L.forest source.old) tree) owner) }
+    ensures place { IfOk result (λ owner. owner.place ≡ place) }
+    ensures rows { (L.meter source.new).rows ≡ (L.meter source.old).rows }
+    ensures singles { (L.meter source.new).singles ≤ (L.meter source.old).singles + 1 }
+    ensures keeps { L.forest source.new ≡ L.forest source.old }
+    ensures was_clean { L.is_clean source.new → L.is_clean source.old }
+{
+    source.fetch_row(alloc, tree, place)?;
+    let [row] = source.lent() else {
+        return Err(Want::Store);
+    };
+    Ok(Owner {
+        place,
+        level: row.level,
+        last: place.saturating_add(row.size),
+    })
+}
+
+/// The places of the children of the node that pass the test. Of its rows those below its children
+/// are not read.
+pub fn children_of<L: RowLender>(
+    alloc: Global,
+    source: &mut L,
+    tree: usize,
+    place: u32,
+    test: &Test,
+) -> Result<Places, Want>
+    ensures found { L.is_clean source.new
+        → let t = tree_at (L.forest source.old) tree in
+        IfOk result (λ found. found.items
+        ≡ below_where (is_wanted axes.Child test.now t (place ∷ [])) (count (nodes t))) }
+    ensures rows { L.is_clean source.new
+        → (L.meter source.new).rows ≤ (L.meter source.old).rows
+        + length (region axes.Child (tree_at (L.forest source.old) tree) (place ∷ [])) }
+    ensures singles { (L.meter source.new).singles ≤ (L.meter source.old).singles + 1 }
+    ensures keeps { L.forest source.new ≡ L.forest source.old }
+    ensures was_clean { L.is_clean source.new → L.is_clean source.old }
+{
+    let owner = owner_at(alloc, source, tree, place)?;
+    let low = place.saturating_add(1);
+    search_rows(
+        alloc,
+        source,
+        tree,
+        low,
+        owner.last,
+        ChildrenOf { owner },
+        test,
+    )
+}
+
+/// The places of the attributes of the node that pass the test. Of its rows those of its attributes
+/// are read, and one more at most.
+pub fn attributes_of<L: RowLender>(
+    alloc: Global,
+    source: &mut L,
+    tree: usize,
+    place: u32,
+    test: &Test,
+) -> Result<Places, Want>
+    ensures found { L.is_clean source.new
+        → let t = tree_at (L.forest source.old) tree in
+        IfOk result (λ found. found.items
+        ≡ below_where (is_wanted axes.Attributes test.now t (place ∷ [])) (count (nodes t))) }
+    ensures rows { L.is_clean source.new
+        → (L.meter source.new).rows ≤ (L.meter source.old).rows
+        + length (region axes.Attributes (tree_at (L.forest source.old) tree) (place ∷ [])) }
+    ensures singles { (L.meter source.new).singles ≤ (L.meter source.old).singles + 1 }
+    ensures keeps { L.forest source.new ≡ L.forest source.old }
+    ensures was_clean { L.is_clean source.new → L.is_clean source.old }
+{
+    let owner = owner_at(alloc, source, tree, place)?;
+    let low = place.saturating_add(1);
+    search_rows(
+        alloc,
+        source,
+        tree,
+        low,
+        owner.last,
+        AttributesOf { owner },
+        test,
+    )
+}

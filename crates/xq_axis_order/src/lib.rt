@@ -1,0 +1,6 @@
+//! The order along an axis.
+#![tactic(auto)]
+
+mod orders;
+
+pub use orders::in_axis_order;
