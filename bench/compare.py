@@ -6,8 +6,8 @@
 
 PROVED and OTHER are commands of a server. Milliseconds of the document's store, of the first reply
 after it, and of each query the least of its repeated replies, which work beside changes least; and
-how many times as long the other takes. The status is 1 where one takes more than three times as
-long, which is what `./serve --unproved` may take.
+how many times as long the other takes. The status is 1 where a query takes more than three times as
+long, which is what `./serve --unproved` may take; the store, which runs once, is shown alone.
 """
 
 from __future__ import annotations
@@ -45,7 +45,7 @@ def main(words: Sequence[str]) -> int:
     print(f"{'milliseconds':20} {'proved':>9} {'other':>9} {'times':>7}")
     for name, spent in proved.items():
         print(f"{name:20} {spent:9.2f} {other[name]:9.2f} {times[name]:7.2f}")
-    return 1 if max(times.values()) > MOST_TIMES else 0
+    return 1 if max(times[name] for name, _ in QUERIES) > MOST_TIMES else 0
 
 
 if __name__ == "__main__":

@@ -19,7 +19,7 @@ GROUPS = (
 LITERAL = r'"(?:[^"\\]|\\.)*"'
 WORD = rf"b?{LITERAL}|b'.'|[A-Z_0-9]+"
 ROW = re.compile(
-    rf"\b(gives|fails|answers|refuses)\(\s*({WORD}),\s*({WORD})(?:,\s*({WORD}))?,?\s*\)")
+    rf"\bRow::(Gives|Fails|Answers|Refuses)\(\s*({WORD}),\s*({WORD})(?:,\s*({WORD}))?,?\s*\)")
 
 
 class Misread(Exception):
@@ -55,21 +55,23 @@ def constants_of(source: str) -> dict[str, bytes]:
 
 
 def row_of(made: str, words: list[bytes]) -> Row:
-    """The row that a call with these words makes."""
-    if made in ("gives", "fails"):
+    """The row that these words make, of this variant."""
+    if made in ("Gives", "Fails"):
         words = [b"Q", *words]
     kind, body, text = words
-    return Row(kind, body, 1 if made in ("fails", "refuses") else 0, text)
+    return Row(kind, body, 1 if made in ("Fails", "Refuses") else 0, text)
 
 
 def group(source: str, name: str, constants: dict[str, bytes]) -> Iterator[Row]:
-    """The rows of a group, as many as its type says."""
-    found = re.search(rf"pub fn {name}_rows\(\) -> \[Row; (\d+)\] \{{(.*?)\n\}}\n", source, re.S)
+    """The rows of a group, each of them."""
+    form = rf"pub const {name.upper()}_ROWS: &\[Row\] = &\[\n(.*?)\n\];\n"
+    found = re.search(form, source, re.S)
     if not found:
         raise Misread(f"{TABLE}: no group {name}")
-    rows = ROW.findall(found[2])
-    if len(rows) != int(found[1]):
-        raise Misread(f"{TABLE}: {len(rows)} rows in the group {name}, and not {found[1]}")
+    rows = ROW.findall(found[1])
+    count = found[1].count("Row::")
+    if len(rows) != count:
+        raise Misread(f"{TABLE}: {len(rows)} rows read in the group {name}, and not {count}")
     for made, *words in rows:
         yield row_of(made, [value(word, constants) for word in words if word])
 
