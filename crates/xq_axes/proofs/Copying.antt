@@ -3,15 +3,17 @@ use Rattle.std.proofs.Common.{◌≡◌, ℕ, suc, ◌+◌, ◌-◌, ◌<◌, �
 use Rattle.std.proofs.Math.Seq.{drop-cons}
 use Rattle.std.proofs.lemmas.List.{append-nil, map-append, map_push, length-take, length-drop, get_or-take}
 use Rattle.xq_regions.specs.declared.NodeRow.{NodeRow}
+use Rattle.xq_sources.specs.declared.lent.LentRow.{LentRow}
 use Rattle.xq_regions.specs.declared.Kind.{Kind}
 use Rattle.xq_regions.specs.Forest.{Forest, end, node, count, labels}
 use Rattle.xq_regions.specs.Tree.{Label, Tree, nodes}
 use Rattle.xq_regions.specs.Node.{below_at, subtree}
 use Rattle.xq_regions.specs.Order.{path_at}
-use Rattle.xq_regions.specs.Rows.{Row, no_row, row_at, row_of, rows, placed, measured, AreNumbered, Encodes}
+use Rattle.xq_regions.specs.Rows.{Row, no_row, row_at, row_of, rows, measured, AreNumbered, Encodes}
 use Rattle.xq_regions.proofs.Injective.{rows-injective}
 use Rattle.xq_regions.proofs.Encoding.{length-rows}
 use Rattle.xq_regions.proofs.Walks.{length-map}
+use Rattle.xq_sources.specs.Lent.{placed_lent, row_lent}
 use Rattle.xq_axes.specs.Reads.{Span, span, span_end, IsRowIn, rows_to, lowered, AreCopied, IsSized}
 use Rattle.xq_axes.proofs.Runs.{rows_to-more}
 use Rattle.xq_axes.proofs.Sizes.{node_of, rows_to-none, rows_below}
@@ -26,7 +28,7 @@ copied_none t s level e = record { first = refl; first_level = e; from = omega a
 length-rows_to : (t : Tree) (v n : ℕ) → n ≤ count (nodes t) → length (rows_to (rows t) v n) ≡ n - v
 length-rows_to t v n h = length-drop v (take n (rows t)) ∙ (let a = length-take n (rows t) in let b = length-rows t in omega (arith, a, b, h))
 
-pub copied_more : (t : Tree) (s : Span) (n place level : ℕ) (x y : NodeRow) (xs : List NodeRow) → IsRowIn t s n (placed x) → AreCopied t s n place level xs → y.pre ≡ x.pre - place → row_of y ≡ lowered level (row_of x) → AreCopied t s (n + 1) place level (xs ++ y ∷ [])
+pub copied_more : (t : Tree) (s : Span) (n place level : ℕ) (x : LentRow) (y : NodeRow) (xs : List NodeRow) → IsRowIn t s n (placed_lent x) → AreCopied t s n place level xs → y.pre ≡ x.pre - place → row_of y ≡ lowered level (row_lent x) → AreCopied t s (n + 1) place level (xs ++ y ∷ [])
 copied_more t s n place level x y xs r c p e =
     let l : length xs ≡ n - s.low = sym (length-map row_of xs) ∙ ap length c.rows ∙ length-map (lowered level) (rows_to (rows t) s.low n) ∙ length-rows_to t s.low n (let w = r.is_there in omega arith) in
     let m = rows_to-more (rows t) s.low n c.from (let w = r.is_there in let q = length-rows t in omega arith) in

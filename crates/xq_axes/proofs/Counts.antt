@@ -1,10 +1,11 @@
 -- What single reads, and those of a node with all that is below it, add to a meter.
 use Rattle.std.proofs.Common.{◌≡◌, ℕ, ◌+◌, ◌-◌, ◌≤◌, min, List, ap, arith}
 use Rattle.xq_regions.specs.Forest.{count}
-use Rattle.xq_regions.specs.Rows.{rows, row_at, placed, Row}
+use Rattle.xq_regions.specs.Rows.{rows, row_at, Row}
 use Rattle.xq_regions.specs.Tree.{Tree, nodes}
-use Rattle.xq_regions.specs.declared.NodeRow.{NodeRow}
+use Rattle.xq_sources.specs.declared.lent.LentRow.{LentRow}
 use Rattle.xq_regions.specs.declared.items.Node.{Node as Spot}
+use Rattle.xq_sources.specs.Lent.{placed_lent}
 use Rattle.xq_sources.specs.Meters.{Readings, with_singles}
 use Rattle.xq_sources.specs.Sources.{tree_at, HasNode}
 use Rattle.xq_meaning.specs.Items.{tree_below}
@@ -16,8 +17,8 @@ pub one_single : (old new : Readings) → new ≡ with_singles old 1 → new.sin
 one_single old new e = let s = ap (λ (r : Readings). r.singles) e in omega (arith, s)
 
 -- the rows from a node on, as many as its row says, are those of its subtree
-pub copy_counted : (trees : List Tree) (node : Spot) (x : NodeRow) (t : Tree) (high old mid new : ℕ) → HasNode trees node.tree node.pre
-    → placed x ≡ (node.pre, row_at (rows (tree_at trees node.tree)) node.pre) → high ≡ min (node.pre + x.size) 4294967295 → mid ≡ old
+pub copy_counted : (trees : List Tree) (node : Spot) (x : LentRow) (t : Tree) (high old mid new : ℕ) → HasNode trees node.tree node.pre
+    → placed_lent x ≡ (node.pre, row_at (rows (tree_at trees node.tree)) node.pre) → high ≡ min (node.pre + x.size) 4294967295 → mid ≡ old
     → new ≤ mid + (span_end t (span node.pre high) - node.pre) → new ≤ old + count (nodes (tree_below trees (node_at trees node)))
 copy_counted trees node x t high old mid new there read h same r =
     let d = node_of (tree_at trees node.tree) node.pre there.node_in in

@@ -6,8 +6,9 @@ use Rattle.std.proofs.lemmas.Bool.{cases_lt, eqb-true, eq-eqb, leb-true, le-leb,
 use Rattle.std.proofs.Math.Bool.{and-false}
 use Rattle.xq_regions.specs.Forest.{count}
 use Rattle.xq_regions.specs.Tree.{Tree, nodes, is_attribute}
-use Rattle.xq_regions.specs.declared.NodeRow.{NodeRow}
-use Rattle.xq_regions.specs.Rows.{Row, rows, row_at, row_of}
+use Rattle.xq_sources.specs.Lent.{row_lent}
+use Rattle.xq_sources.specs.declared.lent.LentRow.{LentRow}
+use Rattle.xq_regions.specs.Rows.{Row, rows, row_at}
 use Rattle.xq_regions.specs.Regions.{kind_of_row}
 use Rattle.xq_regions.specs.RegionTests.{plain_row, in_region}
 use Rattle.xq_regions.specs.declared.Axis.TheVariants as axis
@@ -328,11 +329,11 @@ moved d e test other t u vs ws n left levels found a b c f s =
     (subst (λ x. IsLooked d test x ws n left levels found) c
     (subst (λ x. IsLooked d test t x n left levels found) f s)))
 
-pub seen_row : (test now : Test) (x : NodeRow) (r : Row) (plain passes : Bool) → row_of x ≡ r → plain ≡ not (is_attribute x.kind) → passes ≡ row_passes now (row_of x) → now ≡ test
+pub seen_row : (test now : Test) (x : LentRow) (r : Row) (plain passes : Bool) → row_lent x ≡ r → plain ≡ not (is_attribute x.kind) → passes ≡ row_passes now (row_lent x) → now ≡ test
     → ◌≡◌ {A = Seen} (record { level = x.level; is_plain = plain; passes = passes }) (seen_of test r)
-seen_row test now x r plain passes e p q n = first ∙ ap (λ k. seen_of k (row_of x)) n ∙ ap (seen_of test) e
+seen_row test now x r plain passes e p q n = first ∙ ap (λ k. seen_of k (row_lent x)) n ∙ ap (seen_of test) e
   where
-    first : ◌≡◌ {A = Seen} (record { level = x.level; is_plain = plain; passes = passes }) (seen_of now (row_of x))
+    first : ◌≡◌ {A = Seen} (record { level = x.level; is_plain = plain; passes = passes }) (seen_of now (row_lent x))
     first = rw (p, q)
 
 pub latest_none : (vs : List ℕ) (left : ℕ) → latest vs left ≡ None → left ≡ 0

@@ -4,11 +4,12 @@ use Rattle.std.proofs.lemmas.Bool.{and_left}
 use Rattle.std.specs.Prelude.{Result, IfOk}
 use Rattle.std.proofs.lemmas.Result.{IfOk-weaker}
 use Rattle.smallvec.specs.SmallVec.{SmallVec}
-use Rattle.xq_regions.specs.declared.NodeRow.{NodeRow}
+use Rattle.xq_sources.specs.declared.lent.LentRow.{LentRow}
 use Rattle.xq_regions.specs.declared.Axis.{Axis}
 use Rattle.xq_meaning.specs.declared.node_tests.Test.{Test}
 use Rattle.xq_regions.specs.Tree.{Tree}
-use Rattle.xq_regions.specs.Rows.{Row, rows, row_at, row_of}
+use Rattle.xq_regions.specs.Rows.{Row, rows, row_at}
+use Rattle.xq_sources.specs.Lent.{row_lent}
 use Rattle.xq_axes.specs.private.Hits.{is_hit, is_wanted, row_passes, below_where, AreUnhit}
 use Rattle.xq_axes.specs.Reads.{Span, span_end, IsRowIn}
 use Rattle.xq_axes.proofs.Lists.{below_where-none}
@@ -20,8 +21,8 @@ picked f n xs b e h =
     ap (λ l. l ++ cond b (n ∷ []) []) e ∙ ap (λ y. below_where f n ++ cond y (n ∷ []) []) h ∙ ap (below_where f) m
 
 -- the row at n, as code holds it
-pub wanted_is : (axis : Axis) (test now : Test) (t : Tree) (vs : List ℕ) (n : ℕ) (x : NodeRow) (hit : Bool) → row_of x ≡ row_at (rows t) n → now ≡ test → hit ≡ is_hit axis t vs n → (hit && row_passes now (row_of x)) ≡ is_wanted axis test t vs n
-wanted_is axis test now t vs n x hit r e h = ap (λ b. b && row_passes now (row_of x)) h ∙ ap (λ k. is_hit axis t vs n && row_passes k (row_of x)) e ∙ ap (λ y. is_hit axis t vs n && row_passes test y) r
+pub wanted_is : (axis : Axis) (test now : Test) (t : Tree) (vs : List ℕ) (n : ℕ) (x : LentRow) (hit : Bool) → row_lent x ≡ row_at (rows t) n → now ≡ test → hit ≡ is_hit axis t vs n → (hit && row_passes now (row_lent x)) ≡ is_wanted axis test t vs n
+wanted_is axis test now t vs n x hit r e h = ap (λ b. b && row_passes now (row_lent x)) h ∙ ap (λ k. is_hit axis t vs n && row_passes k (row_lent x)) e ∙ ap (λ y. is_hit axis t vs n && row_passes test y) r
 
 -- rows that are on the axis from no context are not picked
 pub picked_over : (axis : Axis) (test : Test) (t : Tree) (vs : List ℕ) (n m : ℕ) (xs : List ℕ) → n ≤ m → AreUnhit (is_hit axis t vs) n m → xs ≡ below_where (is_wanted axis test t vs) n → xs ≡ below_where (is_wanted axis test t vs) m

@@ -1,6 +1,6 @@
 -- What the row of a node says of the rows and nodes below it.
 use Rattle.std.proofs.Common.{◌≡◌, ℕ, suc, ◌+◌, ◌<◌, List, [], ◌∷◌, length, get_or, map, take, min, Result, Ok, Err, true, false, string_bytes, refl, sym, ◌∙◌, ap, subst, arith}
-use Rattle.std.specs.Prelude.{IfOk, OnOk}
+use Rattle.std.specs.Prelude.{Some, slice_get, IfOk, OnOk}
 use Rattle.std.proofs.lemmas.List.{drop_all, length-take}
 use Rattle.xq_regions.specs.declared.Kind.{Kind}
 use Rattle.xq_regions.specs.declared.Kind.TheVariants.{Document, Element, Attribute, Text, Comment, ProcessingInstruction}
@@ -8,12 +8,13 @@ use Rattle.xq_regions.specs.Forest.{count, labels}
 use Rattle.xq_regions.specs.Tree.{Label, Tree, IsTree, nodes}
 use Rattle.xq_regions.specs.Node.{HasPath, below_at, subtree}
 use Rattle.xq_regions.specs.Order.{place_of, path_at}
-use Rattle.xq_regions.specs.Rows.{Row, row_at, row_of, rows, placed, measured}
+use Rattle.xq_regions.specs.Rows.{Row, row_at, rows, measured}
 use Rattle.xq_regions.specs.Value.{texts, string_value, string_value_by}
 use Rattle.xq_regions.proofs.Paths.{at_place, within}
 use Rattle.xq_regions.proofs.Regions.{Describes, row_at-place_of}
-use Rattle.xq_regions.specs.declared.NodeRow.{NodeRow}
+use Rattle.xq_sources.specs.declared.lent.LentRow.{LentRow}
 use Rattle.xq_regions.specs.declared.items.Node.{Node as Spot}
+use Rattle.xq_sources.specs.Lent.{placed_lent, row_lent}
 use Rattle.xq_sources.specs.Sources.{tree_at, HasNode}
 use Rattle.xq_meaning.specs.Items.{tree_below}
 use Rattle.xq_meaning.specs.Readings.{node_at}
@@ -75,9 +76,9 @@ texts_of_walk t v size low high text h a b e =
     ∙ joined_texts-measured (length (path_at (nodes t) v)) (below_at (nodes t) (path_at (nodes t) v))
 
 -- a lone row that was read
-pub one_row : (xs : List NodeRow) (x : NodeRow) (p : ℕ × Row) → map placed xs ≡ p ∷ [] → x ≡ get_or xs 0 x → placed x ≡ p
+pub one_row : (xs : List (ℕ × Row)) (x p : ℕ × Row) → xs ≡ p ∷ [] → Some x ≡ slice_get xs 0 → x ≡ p
 one_row [] x p e h = absurd (cc)
-one_row (y ∷ xs) x p e h = ap placed h ∙ (let f : placed y ≡ p = cc in f)
+one_row (y ∷ xs) x p e h = cc
 
 pub OnOk-if : {T E : Type 0} (r : Result T E) (P Q : T → Type 0) → ((x : T) → P x → Q x) → IfOk r P → IfOk r Q
 OnOk-if (Ok x) P Q f h = f x h
@@ -99,8 +100,8 @@ value_by_leaf Text value joined h = refl
 value_by_leaf Comment value joined h = refl
 value_by_leaf ProcessingInstruction value joined h = refl
 
-module _ (trees : List Tree) (node : Spot) (x : NodeRow) (there : HasNode trees node.tree node.pre) (read : placed x ≡ (node.pre, row_at (rows (tree_at trees node.tree)) node.pre)) where
-  pub label_read : (row_of x).label ≡ (tree_below trees (node_at trees node)).root
+module _ (trees : List Tree) (node : Spot) (x : LentRow) (there : HasNode trees node.tree node.pre) (read : placed_lent x ≡ (node.pre, row_at (rows (tree_at trees node.tree)) node.pre)) where
+  pub label_read : (row_lent x).label ≡ (tree_below trees (node_at trees node)).root
   label_read = ap (λ (p : ℕ × Row). p.1.label) read ∙ (node_of (tree_at trees node.tree) node.pre there.node_in).label
 
   pub size_read : IsTree (tree_at trees node.tree) → IsSized (tree_at trees node.tree) node.pre x.size
@@ -112,7 +113,7 @@ module _ (trees : List Tree) (node : Spot) (x : NodeRow) (there : HasNode trees 
       let h : p.root.kind ≡ x.kind = sym (ap (λ (l : Label). l.kind) label_read) in
       e ∙ sym (value_by_parent p.root.kind p.root.value (texts p.below) (ap is_parent h ∙ k))
 
-  pub leaf_value : (text : List ℕ) → is_parent x.kind ≡ false → text ≡ string_bytes x.value → text ≡ string_value (tree_below trees (node_at trees node))
+  pub leaf_value : (text : List ℕ) → is_parent x.kind ≡ false → text ≡ x.value.now → text ≡ string_value (tree_below trees (node_at trees node))
   leaf_value text k e =
       let p = tree_below trees (node_at trees node) in
       let h : p.root.kind ≡ x.kind = sym (ap (λ (l : Label). l.kind) label_read) in

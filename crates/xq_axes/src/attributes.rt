@@ -16,8 +16,7 @@ use crate::walks::walk;
 use std::alloc::Global;
 use xq_atoms::Want;
 use xq_meaning::Test;
-use xq_regions::NodeRow;
-use xq_sources::RowLender;
+use xq_sources::{LentRow, RowLender};
 
 /// A context node and how many attributes it has.
 #[derive(Clone, Copy)]
@@ -41,7 +40,7 @@ impl Judge for OfContexts<'_> {
         × ((p : ℕ) → s.low ≤ p → p ≤ s.high
         → is_hit_lem axes.Attributes t start.places.now p ≡ true) };
 
-    fn judge(&mut self, _: &NodeRow) -> Result<Verdict, Want> {
+    fn judge(&mut self, _: &LentRow<'_>) -> Result<Verdict, Want> {
         Ok(Verdict {
             is_hit: true,
             over: 0,

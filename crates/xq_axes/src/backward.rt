@@ -20,8 +20,7 @@ use crate::walks::{Visitor, walk};
 use std::alloc::Global;
 use xq_atoms::Want;
 use xq_meaning::Test;
-use xq_regions::NodeRow;
-use xq_sources::RowLender;
+use xq_sources::{LentRow, RowLender};
 
 /// An axis that is searched from the last context back.
 #[derive(Clone, Copy)]
@@ -73,7 +72,7 @@ impl Visitor for Part<'_> {
         × (n ≡ s.low + length part.seen.items)
         × AreSeen start.test.now t s.low part.seen.items };
 
-    fn visit(&mut self, row: &NodeRow) -> Result<u32, Want> {
+    fn visit(&mut self, row: &LentRow<'_>) -> Result<u32, Want> {
         self.seen.push(Seen {
             level: row.level,
             is_plain: is_plain(row.kind),

@@ -11,7 +11,7 @@ use crate::walks::{Visitor, walk};
 use std::alloc::Global;
 use xq_atoms::Want;
 use xq_regions::{Fragment, Node, NodeRow};
-use xq_sources::RowLender;
+use xq_sources::{LentRow, RowLender};
 
 /// Copies of rows, the first of which is at the place and the level, as rows of a tree of their
 /// own.
@@ -26,14 +26,14 @@ struct Copied {
 impl Visitor for Copied {
     ghost has_read = { λ _ v t s n. AreCopied t s n v.place v.level v.rows.items };
 
-    fn visit(&mut self, row: &NodeRow) -> Result<u32, Want> {
+    fn visit(&mut self, row: &LentRow<'_>) -> Result<u32, Want> {
         self.rows.push(NodeRow {
             pre: row.pre.saturating_sub(self.place),
             size: row.size,
             level: row.level.saturating_sub(self.level),
             kind: row.kind,
-            name: String::from_str(self.alloc, row.name.as_str())?,
-            value: String::from_str(self.alloc, row.value.as_str())?,
+            name: String::from_str(self.alloc, row.name)?,
+            value: String::from_str(self.alloc, row.value)?,
         })?;
         Ok(0)
     }
@@ -56,7 +56,7 @@ pub fn copy<L: RowLender>(alloc: Global, source: &mut L, node: Node) -> Result<F
     ensures was_clean { L.is_clean source.new → L.is_clean source.old }
 {
     source.fetch_row(alloc, node.tree, node.pre)?;
-    let [row] = source.lent() else {
+    let Some(row) = source.lent().get(0) else {
         return Err(Want::Store);
     };
     let size = row.size;

@@ -21,8 +21,7 @@ use crate::walks::{Visitor, walk};
 use std::alloc::Global;
 use xq_atoms::Want;
 use xq_meaning::Test;
-use xq_regions::NodeRow;
-use xq_sources::RowLender;
+use xq_sources::{LentRow, RowLender};
 
 /// How many levels a tree may have.
 const LEVELS: usize = 101;
@@ -142,7 +141,7 @@ impl<D: Direction> Judge for Below<'_, D> {
         × IsJudged (D.which start.direction) t start.contexts.places.now s n now.contexts.met
         now.marks now.is_open };
 
-    fn judge(&mut self, row: &NodeRow) -> Result<Verdict, Want> {
+    fn judge(&mut self, row: &LentRow<'_>) -> Result<Verdict, Want> {
         let is_plain = is_plain(row.kind);
         if let Downward::Descendant = self.direction.which() {
             return Ok(Verdict {
@@ -207,7 +206,7 @@ impl<'a, D: Direction> Below<'a, D> {
     /// How many rows right after the row, of which note was taken, are on the axis from no context:
     /// to children those below a row that is no context and holds none, to attributes those before
     /// the next context.
-    fn rows_over(&self, row: &NodeRow, is_context: bool, is_plain: bool) -> u32
+    fn rows_over(&self, row: &LentRow<'_>, is_context: bool, is_plain: bool) -> u32
         ensures { result ≡ rows_over_lem (D.which self.now.direction) is_context is_plain
             (slice_get self.now.contexts.places.now self.now.contexts.met) row.now.pre
             row.now.size self.now.last }
@@ -249,7 +248,7 @@ impl<'a, D: Direction> Below<'a, D> {
     }
 
     /// Takes the row of a context that stands in no other, and tells whether it is on its own axis.
-    fn enter(&mut self, row: &NodeRow) -> Result<bool, Want>
+    fn enter(&mut self, row: &LentRow<'_>) -> Result<bool, Want>
         ensures own { IfOk result (λ own. own ≡ is_own_lem (D.which self.old.direction)) }
         ensures direction { self.new.direction ≡ self.old.direction }
         ensures places { self.new.contexts.places.now ≡ self.old.contexts.places.now }
@@ -373,12 +372,12 @@ fn search_one<L: RowLender, D: Direction + Drop>(
     ensures singles { (L.meter source.new).singles ≤ (L.meter source.old).singles + 1 }
 {
     source.fetch_row(alloc, tree, place)?;
-    let [row] = source.lent() else {
+    let Some(row) = source.lent().get(0) else {
         return Err(Want::Store);
     };
     let size = row.size;
-    let is_own = picker.judge.enter(row)?;
-    picker.pick(is_own, row)?;
+    let is_own = picker.judge.enter(&row)?;
+    picker.pick(is_own, &row)?;
     let low = place.saturating_add(1);
     let high = place.saturating_add(size);
     find_below(alloc, source, tree, low, high, picker)?;

@@ -14,8 +14,7 @@ use crate::tests::is_plain;
 use std::alloc::Global;
 use xq_atoms::Want;
 use xq_meaning::Test;
-use xq_regions::NodeRow;
-use xq_sources::RowLender;
+use xq_sources::{LentRow, RowLender};
 
 /// A node whose children or attributes are looked for, as its row has it.
 #[derive(Clone, Copy)]
@@ -49,7 +48,7 @@ impl Judge for ChildrenOf {
 
     ghost has_judged = { λ start now t s n. (now ≡ start) × AreBelow t s start.owner };
 
-    fn judge(&mut self, row: &NodeRow) -> Result<Verdict, Want> {
+    fn judge(&mut self, row: &LentRow<'_>) -> Result<Verdict, Want> {
         Ok(Verdict {
             is_hit: self.owner.is_parent(row.level) && is_plain(row.kind),
             over: row.size,
@@ -71,7 +70,7 @@ impl Judge for AttributesOf {
 
     ghost has_judged = { λ start now t s n. (now ≡ start) × AreBelow t s start.owner };
 
-    fn judge(&mut self, row: &NodeRow) -> Result<Verdict, Want> {
+    fn judge(&mut self, row: &LentRow<'_>) -> Result<Verdict, Want> {
         if is_plain(row.kind) {
             return Ok(Verdict {
                 is_hit: false,
@@ -101,7 +100,7 @@ fn owner_at<L: RowLender>(
     ensures was_clean { L.is_clean source.new → L.is_clean source.old }
 {
     source.fetch_row(alloc, tree, place)?;
-    let [row] = source.lent() else {
+    let Some(row) = source.lent().get(0) else {
         return Err(Want::Store);
     };
     Ok(Owner {

@@ -18,8 +18,7 @@ use crate::walks::walk;
 use std::alloc::Global;
 use xq_atoms::Want;
 use xq_meaning::Test;
-use xq_regions::NodeRow;
-use xq_sources::RowLender;
+use xq_sources::{LentRow, RowLender};
 
 /// The greatest place that can be asked for.
 const LAST: u64 = u32::MAX as u64;
@@ -56,7 +55,7 @@ impl Judge for Onward<'_> {
         × (now.last ≡ s.high)
         × IsOn t start.contexts.places.now n now.contexts.met now.levels };
 
-    fn judge(&mut self, row: &NodeRow) -> Result<Verdict, Want> {
+    fn judge(&mut self, row: &LentRow<'_>) -> Result<Verdict, Want> {
         let is_context = self.contexts.meets(row.pre);
         let is_plain = is_plain(row.kind);
         let waits = waits(is_context, row.level, is_plain);
@@ -84,7 +83,7 @@ impl<'a> Onward<'a> {
 
     /// How many of the rows right after the row, which was met, are siblings of no context: all
     /// below it, up to the last that is read, where they hold none.
-    fn rows_over(&self, row: &NodeRow) -> u32
+    fn rows_over(&self, row: &LentRow<'_>) -> u32
         ensures { result ≡ rows_below (slice_get self.now.contexts.places.now self.now.contexts.met)
             row.now.pre row.now.size self.now.last }
     {

@@ -17,11 +17,10 @@ use crate::walks::walk;
 use std::alloc::Global;
 use xq_atoms::Want;
 use xq_meaning::Test;
-use xq_regions::NodeRow;
-use xq_sources::RowLender;
+use xq_sources::{LentRow, RowLender};
 
 /// The place of the last row that is the row or below it.
-pub fn end_of_row(row: &NodeRow) -> u64
+pub fn end_of_row(row: &LentRow<'_>) -> u64
     ensures end { result ≡ row.now.pre + row.now.size }
     ensures small { result < 8589934592 }
 {
@@ -82,7 +81,7 @@ impl Judge for Preceding<'_> {
     ghost has_judged = { λ start now t s n. (now.last ≡ start.last)
         × IsLast start.places.now start.last };
 
-    fn judge(&mut self, row: &NodeRow) -> Result<Verdict, Want> {
+    fn judge(&mut self, row: &LentRow<'_>) -> Result<Verdict, Want> {
         Ok(Verdict {
             is_hit: is_before(end_of_row(row), self.last, is_plain(row.kind)),
             over: 0,
@@ -105,7 +104,7 @@ impl Judge for Following<'_> {
     ghost has_judged = { λ start now t s n. (start.least < s.low)
         × IsLeastEnd t start.places.now start.least };
 
-    fn judge(&mut self, row: &NodeRow) -> Result<Verdict, Want> {
+    fn judge(&mut self, row: &LentRow<'_>) -> Result<Verdict, Want> {
         Ok(Verdict {
             is_hit: is_plain(row.kind),
             over: 0,
@@ -144,7 +143,7 @@ impl Judge for Above<'_> {
         × IsRising start.contexts.places.now
         × IsReached start.contexts.places.now now.contexts.met n };
 
-    fn judge(&mut self, row: &NodeRow) -> Result<Verdict, Want> {
+    fn judge(&mut self, row: &LentRow<'_>) -> Result<Verdict, Want> {
         let is_context = self.contexts.meets(row.pre);
         let is_above = self.contexts.is_next_within(end_of_row(row));
         Ok(Verdict {
@@ -170,10 +169,10 @@ pub fn end_of_node<L: RowLender>(
     ensures was_clean { L.is_clean source.new → L.is_clean source.old }
 {
     source.fetch_row(alloc, tree, place)?;
-    let [row] = source.lent() else {
+    let Some(row) = source.lent().get(0) else {
         return Err(Want::Store);
     };
-    Ok(end_of_row(row))
+    Ok(end_of_row(&row))
 }
 
 /// The places of the nodes that are on the preceding axis from one of the places and pass the test.

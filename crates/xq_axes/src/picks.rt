@@ -1,8 +1,8 @@
 //! Picking rows by how they stand to context nodes.
 ghost use Rattle.std.specs.Prelude.{◌≡◌, ◌+◌, ◌≤◌, ◌∷◌, [], ◌++◌, ◌&&◌, if◌then◌else◌, ℕ, List, IfOk, OnOk};
 ghost use Rattle.xq_regions.specs.Tree.{Tree};
-ghost use Rattle.xq_regions.specs.Rows.{placed, row_of};
 ghost use Rattle.xq_regions.specs.declared.Axis.{Axis as AxisLem};
+ghost use Rattle.xq_sources.specs.Lent.{placed_lent, row_lent};
 ghost use Rattle.xq_axes.specs.Reads.{Span, span_end, IsRowIn};
 ghost use Rattle.xq_axes.specs.private.Hits.{is_hit as is_hit_lem, is_wanted, row_passes, below_where, AreUnhit};
 
@@ -13,7 +13,7 @@ use std::alloc::Global;
 use std::marker::Model;
 use xq_atoms::Want;
 use xq_meaning::Test;
-use xq_regions::NodeRow;
+use xq_sources::LentRow;
 
 /// Places in a tree, of which a few take no allocation: most steps from one node lead to few.
 pub type Places = SmallVec<u32, 4>;
@@ -139,9 +139,9 @@ pub trait Judge {
     ghost has_judged: { Self → Self → Tree → Span → ℕ → Type 0 };
 
     /// Whether the row, the next one, is on the axis, and how many after it are not.
-    fn judge(&mut self, row: &NodeRow) -> Result<Verdict, Want>
+    fn judge(&mut self, row: &LentRow<'_>) -> Result<Verdict, Want>
         ensures { (start : Self) (t : Tree) (s : Span) (n : ℕ)
-            → IsRowIn t s n (placed row.now) → has_judged start self.old t s n
+            → IsRowIn t s n (placed_lent row.now) → has_judged start self.old t s n
             → IfOk result (λ verdict. let is_hit = is_hit_lem (axis start) t (contexts start) in
             let next = n + 1 + verdict.over in
             (verdict.is_hit ≡ is_hit n) × (next ≤ span_end t s)
@@ -159,12 +159,12 @@ pub struct Picker<'a, J> {
 impl<J> Picker<'_, J> {
     /// Takes the row if it is on the axis, as it is told, and passes the test.
     #[inline]
-    pub fn pick(&mut self, is_hit: bool, row: &NodeRow) -> Result<(), Want>
+    pub fn pick(&mut self, is_hit: bool, row: &LentRow<'_>) -> Result<(), Want>
         ensures judge { self.new.judge ≡ self.old.judge }
         ensures test { self.new.test.now ≡ self.old.test.now }
         ensures found { OnOk result (self.new.found.items ≡ self.old.found.items
             ++ (if is_hit && row_passes self.old.test.now
-            (row_of row.now) then row.now.pre ∷ [] else [])) }
+            (row_lent row.now) then row.now.pre ∷ [] else [])) }
     {
         if is_hit && passes(self.test, row) {
             self.found.push(row.pre)?;
@@ -179,7 +179,7 @@ impl<J: Judge> Visitor for Picker<'_, J> {
         × (now.found.items ≡ below_where
         (is_wanted (J.axis start.judge) start.test.now t (J.contexts start.judge)) n) };
 
-    fn visit(&mut self, row: &NodeRow) -> Result<u32, Want> {
+    fn visit(&mut self, row: &LentRow<'_>) -> Result<u32, Want> {
         let verdict = self.judge.judge(row)?;
         self.pick(verdict.is_hit, row)?;
         Ok(verdict.over)

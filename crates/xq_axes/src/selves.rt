@@ -34,10 +34,10 @@ pub fn search_selves<L: RowLender>(
     let mut found = Vec::new(alloc);
     for place in places {
         source.fetch_row(alloc, tree, *place)?;
-        let [row] = source.lent() else {
+        let Some(row) = source.lent().get(0) else {
             return Err(Want::Store);
         };
-        push_if(&mut found, passes(test, row), *place)?;
+        push_if(&mut found, passes(test, &row), *place)?;
     }
     Ok(found)
 }

@@ -1,14 +1,15 @@
 //! Node tests on rows.
-ghost use Rattle.std.specs.Prelude.{◌≡◌, not, string_bytes};
+ghost use Rattle.std.specs.Prelude.{◌≡◌, not};
 ghost use Rattle.xq_regions.specs.Tree.{is_attribute};
-ghost use Rattle.xq_regions.specs.Rows.{row_of};
 ghost use Rattle.xq_atoms.specs.Text.{text_eq};
+ghost use Rattle.xq_sources.specs.Lent.{row_lent};
 ghost use Rattle.xq_meaning.specs.Steps.{has_name as has_name_lem};
 ghost use Rattle.xq_axes.specs.private.Hits.{row_passes};
 
 use xq_expressions::Text;
 use xq_meaning::Test;
-use xq_regions::{Kind, NodeRow};
+use xq_regions::Kind;
+use xq_sources::LentRow;
 
 /// Whether two names that are as long are the same.
 #[inline(never)]
@@ -22,14 +23,14 @@ fn is_same(wanted: &str, name: &str) -> bool
 ///
 /// The lengths, which lie in the row, are compared first: the names lie elsewhere.
 #[inline(always)]
-fn has_name(wanted: &Option<Text>, row: &NodeRow) -> bool
-    ensures { result ≡ has_name_lem wanted.now (string_bytes row.now.name) }
+fn has_name(wanted: &Option<Text>, row: &LentRow<'_>) -> bool
+    ensures { result ≡ has_name_lem wanted.now row.now.name.now }
 {
     match wanted {
         None => true,
         Some(text) => {
             let text = text.as_str();
-            let name = row.name.as_str();
+            let name = row.name;
             text.len() == name.len() && is_same(text, name)
         }
     }
@@ -44,8 +45,8 @@ pub fn is_plain(kind: Kind) -> bool
 
 /// Whether the node of the row passes the test (XQuery 3.1, section 3.3.2.2).
 #[inline(always)]
-pub fn passes(test: &Test, row: &NodeRow) -> bool
-    ensures { result ≡ row_passes test.now (row_of row.now) }
+pub fn passes(test: &Test, row: &LentRow<'_>) -> bool
+    ensures { result ≡ row_passes test.now (row_lent row.now) }
 {
     match test {
         Test::Any => true,

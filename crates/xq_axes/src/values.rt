@@ -10,8 +10,8 @@ ghost use Rattle.xq_axes.specs.Reads.{rows_to, joined_texts, IsSized, is_parent 
 use crate::walks::{Visitor, walk};
 use std::alloc::Global;
 use xq_atoms::Want;
-use xq_regions::{Kind, Node, NodeRow};
-use xq_sources::RowLender;
+use xq_regions::{Kind, Node};
+use xq_sources::{LentRow, RowLender};
 
 /// The texts among the rows, joined.
 #[derive(Drop)]
@@ -23,9 +23,9 @@ impl Visitor for Texts {
     ghost has_read = { λ _ v t s n. string_bytes v.joined
         ≡ joined_texts (rows_to (rows t) s.low n) };
 
-    fn visit(&mut self, row: &NodeRow) -> Result<u32, Want> {
+    fn visit(&mut self, row: &LentRow<'_>) -> Result<u32, Want> {
         if let Kind::Text = row.kind {
-            self.joined.push_str(row.value.as_str())?;
+            self.joined.push_str(row.value)?;
         }
         Ok(0)
     }
@@ -76,13 +76,13 @@ pub fn string_value<L: RowLender>(alloc: Global, source: &mut L, node: Node) -> 
     ensures was_clean { L.is_clean source.new → L.is_clean source.old }
 {
     source.fetch_row(alloc, node.tree, node.pre)?;
-    let [row] = source.lent() else {
+    let Some(row) = source.lent().get(0) else {
         return Err(Want::Store);
     };
     if is_parent(row.kind) {
         let size = row.size;
         texts_below(alloc, source, node, size)
     } else {
-        Ok(String::from_str(alloc, row.value.as_str())?)
+        Ok(String::from_str(alloc, row.value)?)
     }
 }

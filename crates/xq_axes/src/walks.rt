@@ -1,14 +1,13 @@
 //! Reading the rows of a range in turn.
-ghost use Rattle.std.specs.Prelude.{◌≡◌, ◌+◌, ◌-◌, ◌≤◌, ℕ, length, map, IfOk, OnOk};
+ghost use Rattle.std.specs.Prelude.{◌≡◌, ◌+◌, ◌-◌, ◌≤◌, ℕ, length, IfOk, OnOk};
 ghost use Rattle.xq_regions.specs.Tree.{Tree};
-ghost use Rattle.xq_regions.specs.Rows.{placed};
+ghost use Rattle.xq_sources.specs.Lent.{placed_lent};
 ghost use Rattle.xq_sources.specs.Sources.{tree_at};
 ghost use Rattle.xq_axes.specs.Reads.{Span, span, span_end, IsRowIn, AreRowsIn};
 
 use std::alloc::Global;
 use xq_atoms::Want;
-use xq_regions::NodeRow;
-use xq_sources::RowLender;
+use xq_sources::{LentRow, LentRows, RowLender};
 
 /// What is made of the rows of a range, one after another.
 pub trait Visitor {
@@ -16,26 +15,26 @@ pub trait Visitor {
     ghost has_read: { Self → Self → Tree → Span → ℕ → Type 0 };
 
     /// Takes one more row, and tells how many of those right after it need no visit.
-    fn visit(&mut self, row: &NodeRow) -> Result<u32, Want>
+    fn visit(&mut self, row: &LentRow<'_>) -> Result<u32, Want>
         ensures { (start : Self) (t : Tree) (s : Span) (n : ℕ)
-            → IsRowIn t s n (placed row.now) → has_read start self.old t s n
+            → IsRowIn t s n (placed_lent row.now) → has_read start self.old t s n
             → IfOk result (λ over. (n + 1 + over ≤ span_end t s)
             × has_read start self.new t s (n + 1 + over)) };
 }
 
 /// Visits the rows in turn, but for those that need no visit, and tells how many it went over: at
 /// least all of them.
-fn visit_all<V: Visitor>(rows: &[NodeRow], visitor: &mut V) -> Result<u64, Want>
+fn visit_all<V: Visitor>(rows: &LentRows<'_>, visitor: &mut V) -> Result<u64, Want>
     ensures all { IfOk result (λ passed. length rows.now ≤ passed) }
     ensures read { (start : V) (t : Tree) (s : Span) (n : ℕ) → s.high ≤ 4294967295
-        → AreRowsIn t s n (map placed rows.now) → n + length rows.now ≤ span_end t s
+        → AreRowsIn t s n rows.now → n + length rows.now ≤ span_end t s
         → V.has_read start visitor.old t s n
         → IfOk result (λ passed. (n + passed ≤ span_end t s)
         × V.has_read start visitor.new t s (n + passed)) }
 {
     let mut passed = 0usize;
     while let Some(row) = rows.get(passed) {
-        let over = visitor.visit(row)?;
+        let over = visitor.visit(&row)?;
         passed = passed.saturating_add(1).saturating_add(over as usize);
     }
     Ok(passed as u64)
@@ -69,7 +68,7 @@ pub fn walk<L: RowLender, V: Visitor>(
         if rows.is_empty() {
             break;
         }
-        let passed = visit_all(rows, visitor)?;
+        let passed = visit_all(&rows, visitor)?;
         next = next.saturating_add(passed);
     }
     Ok(())

@@ -7,7 +7,7 @@ ghost use Rattle.xq_sources.specs.private.Runs.{rows_of_run};
 
 use crate::attributes::count_attributes;
 use crate::rows::{copy_enclosing, copy_rows, rows_between};
-use crate::{Guide, Meter, RowLender, RowSource, TreeSource};
+use crate::{Guide, LentRows, Meter, RowLender, RowSource, TreeSource};
 use std::alloc::Global;
 use xq_atoms::Want;
 use xq_regions::{Fragment, NodeRow};
@@ -194,10 +194,10 @@ impl RowLender for Fragments {
         None
     }
 
-    fn lent(&self) -> &[NodeRow] {
+    fn lent(&self) -> LentRows<'_> {
         match self.rows_of(self.run.tree) {
-            Ok(rows) => rows_between(rows, self.run.low, self.run.high),
-            Err(_) => &[],
+            Ok(rows) => LentRows::new(rows_between(rows, self.run.low, self.run.high)),
+            Err(_) => LentRows::new(&[]),
         }
     }
 }

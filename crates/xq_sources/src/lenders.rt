@@ -8,7 +8,7 @@ ghost use Rattle.xq_sources.specs.Parents.{IsParentRow};
 ghost use Rattle.xq_sources.specs.Sources.{tree_at, HasTree, HasNode, rows_between, after_row};
 ghost use Rattle.xq_sources.specs.Lenders.{IsRun, after_fetch};
 
-use crate::{Meter, RowSource, TreeSource};
+use crate::{LentRows, Meter, RowSource, TreeSource};
 use std::alloc::Global;
 use xq_atoms::Want;
 use xq_regions::NodeRow;
@@ -82,8 +82,8 @@ pub trait RowLender: TreeSource {
             ≡ named_lem (placed_rows (tree_at (Self.forest self.now) tree)) name.now) };
 
     /// The rows that the last call made ready, in document order.
-    fn lent(&self) -> &[NodeRow]
-        ensures { map placed result.now ≡ lent self.now };
+    fn lent(&self) -> LentRows<'_>
+        ensures { result ≡ lent self.now };
 }
 
 /// A source with a buffer beside it, which lends what it read last.
@@ -166,7 +166,7 @@ impl<S: RowSource + Drop> RowLender for Buffered<S> {
         None
     }
 
-    fn lent(&self) -> &[NodeRow] {
-        &self.buffer
+    fn lent(&self) -> LentRows<'_> {
+        LentRows::new(&self.buffer)
     }
 }

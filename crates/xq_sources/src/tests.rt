@@ -4,7 +4,7 @@ use crate::fragments::Fragments;
 use crate::lenders::{Buffered, RowLender};
 use crate::names::{Names, find_named};
 use crate::sources::{RowSource, TreeSource};
-use crate::{Growing, Trees};
+use crate::{Growing, LentRows, Trees};
 use std::alloc::{AllocError, Global};
 use std::collections::HashMap;
 use std::process::Abort;
@@ -51,9 +51,10 @@ fn construct(alloc: Global, trees: &mut impl Growing) -> Result<(), Want> {
 }
 
 /// The names and values of the rows, each followed by a space.
-fn words(alloc: Global, rows: &[NodeRow]) -> Result<String, AllocError> {
+fn words(alloc: Global, rows: &LentRows<'_>) -> Result<String, AllocError> {
     let mut text = String::new(alloc);
-    for row in rows {
+    for at in 0..rows.len() {
+        let row = rows.row(at);
         text.push_str(format!(in alloc; "{}{} ", row.name, row.value)?.as_str())?;
     }
     Ok(text)
@@ -68,7 +69,7 @@ fn gives(
     rows: &str,
 ) -> Result<(), Want> {
     assert_eq!(rt;
-        words(alloc, &trees.range(alloc, tree, 0, 9)?)?.as_str(),
+        words(alloc, &LentRows::new(&trees.range(alloc, tree, 0, 9)?))?.as_str(),
         rows
     );
     assert_eq!(rt; trees.enclosing(alloc, tree, 1)?.len(), 1);
@@ -85,7 +86,7 @@ fn lends(
     rows: &str,
 ) -> Result<(), Want> {
     trees.fetch(alloc, tree, 0, 9)?;
-    assert_eq!(rt; words(alloc, trees.lent())?.as_str(), rows);
+    assert_eq!(rt; words(alloc, &trees.lent())?.as_str(), rows);
     trees.fetch_row(alloc, tree, 1)?;
     assert_eq!(rt; trees.lent().len(), 1);
     assert!(rt; matches!(trees.fetch_row(alloc, tree, 9), Err(Want::Store)));
@@ -130,7 +131,7 @@ fn the_last_constructed_tree_is_uprooted(rt: HostRuntime) -> Result<(), Want> {
     let Some(tree) = trees.uproot() else {
         panic!(rt; "there is a constructed tree");
     };
-    assert_eq!(rt; words(alloc, tree.rows())?.as_str(), "constructed B ");
+    assert_eq!(rt; words(alloc, &LentRows::new(tree.rows()))?.as_str(), "constructed B ");
     assert!(rt; trees.uproot().is_none());
     gives(&rt, alloc, &mut trees, 0, "stored A ")?;
     assert!(rt; matches!(trees.range(alloc, 1, 0, 0), Err(Want::Store)));

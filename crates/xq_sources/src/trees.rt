@@ -6,6 +6,7 @@ ghost use Rattle.xq_sources.specs.Sums.{sum};
 use crate::Growing;
 use crate::fragments::Fragments;
 use crate::lenders::RowLender;
+use crate::lent::LentRows;
 use crate::meters::Meter;
 use crate::sources::{RowSource, TreeSource};
 use std::alloc::Global;
@@ -136,7 +137,7 @@ impl<S: RowLender + Drop> RowLender for Trees<S> {
         }
     }
 
-    fn lent(&self) -> &[NodeRow] {
+    fn lent(&self) -> LentRows<'_> {
         if self.is_stored {
             self.source.lent()
         } else {

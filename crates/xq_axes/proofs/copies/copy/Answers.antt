@@ -1,5 +1,6 @@
 use Rattle.std.proofs.Common.{ℕ, sym, ap, subst, ◌∙◌}
 use Rattle.xq_regions.specs.Rows.{Row, rows, row_at}
+use Rattle.xq_sources.specs.Lent.{placed_lent}
 use Rattle.xq_sources.specs.Meters.{Readings}
 use Rattle.xq_sources.specs.Sources.{tree_at}
 use Rattle.xq_axes.specs.Reads.{span, span_end, AreCopied}
@@ -15,8 +16,8 @@ returns-in-Ok-clause-copied g c = λ k. (
     let t = tree_at trees node.tree in
     let was = c.in_ok-walk.ensures.was_clean k in
     let there = c.in_ok-fetch_row.ensures.exists was in
-    let x = c.row-item.result in
-    let read = one_row c.lent.result.now x (node.pre, row_at (rows t) node.pre) (c.lent.ensures ∙ c.in_ok-fetch_row.ensures.found was) c.row-item.is in
+    let x = c.in-Some.row in
+    let read = one_row c.lent.result (placed_lent x) (node.pre, row_at (rows t) node.pre) (c.lent.ensures ∙ c.in_ok-fetch_row.ensures.found was) c.in-Some.ensures.row in
     let sized = size_read trees node x there read (c.in_ok-fetch_row.ensures.is_tree was) in
     let high = c.saturating_add-high.result in
     let start = subst (AreCopied t (span node.pre high) node.pre node.pre x.level) (sym c.in_ok-with_capacity.ensures.items)
@@ -29,8 +30,8 @@ returns-in_err-walk-clause-rows g c = λ k. (
     let trees = g.L.TreeSource.forest c.args.source.now in
     let node = c.args.node in
     let was = c.walk.ensures.was_clean k in
-    let x = c.row-item.result in
-    let read = one_row c.lent.result.now x (node.pre, row_at (rows (tree_at trees node.tree)) node.pre) (c.lent.ensures ∙ c.in_ok-fetch_row.ensures.found was) c.row-item.is in
+    let x = c.in-Some.row in
+    let read = one_row c.lent.result (placed_lent x) (node.pre, row_at (rows (tree_at trees node.tree)) node.pre) (c.lent.ensures ∙ c.in_ok-fetch_row.ensures.found was) c.in-Some.ensures.row in
     copy_counted trees node x (tree_at (g.L.TreeSource.forest c.fetch_row.new.self) node.tree) c.saturating_add-high.result _ (g.L.TreeSource.meter c.fetch_row.new.self).rows _ (c.in_ok-fetch_row.ensures.exists was) read c.saturating_add-high.ensures
     (ap (λ (m : Readings). m.rows) c.in_ok-fetch_row.ensures.counts) (c.walk.ensures.rows k))
 
@@ -39,8 +40,8 @@ returns-in-Ok-clause-rows g c = λ k. (
     let trees = g.L.TreeSource.forest c.args.source.now in
     let node = c.args.node in
     let was = c.walk.ensures.was_clean k in
-    let x = c.row-item.result in
-    let read = one_row c.lent.result.now x (node.pre, row_at (rows (tree_at trees node.tree)) node.pre) (c.lent.ensures ∙ c.in_ok-fetch_row.ensures.found was) c.row-item.is in
+    let x = c.in-Some.row in
+    let read = one_row c.lent.result (placed_lent x) (node.pre, row_at (rows (tree_at trees node.tree)) node.pre) (c.lent.ensures ∙ c.in_ok-fetch_row.ensures.found was) c.in-Some.ensures.row in
     copy_counted trees node x (tree_at (g.L.TreeSource.forest c.fetch_row.new.self) node.tree) c.saturating_add-high.result _ (g.L.TreeSource.meter c.fetch_row.new.self).rows _ (c.in_ok-fetch_row.ensures.exists was) read c.saturating_add-high.ensures
     (ap (λ (m : Readings). m.rows) c.in_ok-fetch_row.ensures.counts) (c.walk.ensures.rows k))
 
@@ -49,7 +50,7 @@ returns-clause-rows g c = λ k. (
     let trees = g.L.TreeSource.forest c.args.source.now in
     let node = c.args.node in
     let was = c.walk.ensures.was_clean k in
-    let x = c.row-item.result in
-    let read = one_row c.lent.result.now x (node.pre, row_at (rows (tree_at trees node.tree)) node.pre) (c.lent.ensures ∙ c.in_ok-fetch_row.ensures.found was) c.row-item.is in
+    let x = c.in-Some.row in
+    let read = one_row c.lent.result (placed_lent x) (node.pre, row_at (rows (tree_at trees node.tree)) node.pre) (c.lent.ensures ∙ c.in_ok-fetch_row.ensures.found was) c.in-Some.ensures.row in
     copy_counted trees node x (tree_at (g.L.TreeSource.forest c.fetch_row.new.self) node.tree) c.saturating_add-high.result _ (g.L.TreeSource.meter c.fetch_row.new.self).rows _ (c.in_ok-fetch_row.ensures.exists was) read c.saturating_add-high.ensures
     (ap (λ (m : Readings). m.rows) c.in_ok-fetch_row.ensures.counts) (c.walk.ensures.rows k))

@@ -1,6 +1,7 @@
 use Rattle.std.proofs.Common.{◌≡◌, ◌≤◌, ◌-◌, inr, ℕ, ◌+◌, ◌∷◌, [], ◌++◌, ◌&&◌, cond, length, min, set, true, refl, sym, ap, subst, ◌∙◌, arith}
 use Rattle.xq_regions.specs.Tree.{Tree}
-use Rattle.xq_regions.specs.Rows.{Row, rows, row_at, row_of}
+use Rattle.xq_regions.specs.Rows.{Row, rows, row_at}
+use Rattle.xq_sources.specs.Lent.{placed_lent, row_lent}
 use Rattle.xq_sources.specs.Sources.{tree_at}
 use Rattle.xq_axes.specs.Reads.{span, span_end, IsSized}
 use Rattle.xq_axes.specs.private.Hits.{is_wanted, row_passes, below_where, IsReached}
@@ -24,10 +25,10 @@ returns-clause-searched g c = λ k n after next before. (
     let v = c.args.place in
     let was = c.in_ok-find_below.ensures.was_clean k in
     let there = c.in_ok-fetch_row.ensures.exists was in
-    let x = c.row-item.result in
-    let read = one_row c.lent.result.now x (v, row_at (rows t) v) (c.lent.ensures ∙ c.in_ok-fetch_row.ensures.found was) c.row-item.is in
+    let x = c.in-Some.row in
+    let read = one_row c.lent.result (placed_lent x) (v, row_at (rows t) v) (c.lent.ensures ∙ c.in_ok-fetch_row.ensures.found was) c.in-Some.ensures.row in
     let pre : x.pre ≡ v = ap (λ (p : ℕ × Row). p.0) read in
-    let rx : row_of x ≡ row_at (rows t) v = ap (λ (p : ℕ × Row). p.1) read in
+    let rx : row_lent x ≡ row_at (rows t) v = ap (λ (p : ℕ × Row). p.1) read in
     let sized : IsSized t v x.size = record { is_tree = c.in_ok-fetch_row.ensures.is_tree was; is_there = there.node_in; size = ap (λ (r : Row). r.size) rx } in
     let level : x.level ≡ level_of t v = ap (λ (r : Row). r.level) rx in
     let low = c.saturating_add-low.result in
@@ -50,8 +51,8 @@ returns-clause-searched g c = λ k n after next before. (
     let last : p.judge.last ≡ high = ap (λ (j : Below _). j.last) je ∙ c.in_ok-is_own.ensures.last ∙ ap (λ y. min (y + x.size) 4294967295) pre ∙ sym c.saturating_add-high.ensures in
     let own = c.in_ok-is_own.is_own in
     let w = wanted_is (axis_of d) test test t vs v x own rx refl (c.in_ok-is_own.ensures.own ∙ own_is_hit d test t vs n v old.judge.contexts.met (length old.judge.marks) found before after next) in
-    let f0 = c.in_ok-pick.ensures.found ∙ ap (λ q. found ++ cond (own && row_passes test (row_of x)) (q ∷ []) []) pre
-    ∙ picked (is_wanted (axis_of d) test t vs) v found (own && row_passes test (row_of x)) (found_before d test t vs n v old.judge.contexts.met (length old.judge.marks) found before after next) w
+    let f0 = c.in_ok-pick.ensures.found ∙ ap (λ q. found ++ cond (own && row_passes test (row_lent x)) (q ∷ []) []) pre
+    ∙ picked (is_wanted (axis_of d) test t vs) v found (own && row_passes test (row_lent x)) (found_before d test t vs n v old.judge.contexts.met (length old.judge.marks) found before after next) w
     ∙ ap (below_where (is_wanted (axis_of d) test t vs)) (sym ex.low_is) in
     let q = c.find_below.new.picker in
     let same : tree_at (g.L.TreeSource.forest c.fetch_row.new.self) c.args.tree ≡ t = ap (λ f. tree_at f c.args.tree) c.in_ok-fetch_row.ensures.keeps in
@@ -77,9 +78,9 @@ returns-clause-ends g c = λ k. (
     let v = c.args.place in
     let was = c.in_ok-find_below.ensures.was_clean k in
     let there = c.in_ok-fetch_row.ensures.exists was in
-    let x = c.row-item.result in
-    let read = one_row c.lent.result.now x (v, row_at (rows t) v) (c.lent.ensures ∙ c.in_ok-fetch_row.ensures.found was) c.row-item.is in
-    let rx : row_of x ≡ row_at (rows t) v = ap (λ (p : ℕ × Row). p.1) read in
+    let x = c.in-Some.row in
+    let read = one_row c.lent.result (placed_lent x) (v, row_at (rows t) v) (c.lent.ensures ∙ c.in_ok-fetch_row.ensures.found was) c.in-Some.ensures.row in
+    let rx : row_lent x ≡ row_at (rows t) v = ap (λ (p : ℕ × Row). p.1) read in
     let sized : IsSized t v x.size = record { is_tree = c.in_ok-fetch_row.ensures.is_tree was; is_there = there.node_in; size = ap (λ (r : Row). r.size) rx } in
     let low = c.saturating_add-low.result in
     let high = c.saturating_add-high.result in
@@ -96,9 +97,9 @@ returns-clause-rows g c = λ k. (
     let v = c.args.place in
     let was = c.in_ok-find_below.ensures.was_clean k in
     let there = c.in_ok-fetch_row.ensures.exists was in
-    let x = c.row-item.result in
-    let read = one_row c.lent.result.now x (v, row_at (rows t) v) (c.lent.ensures ∙ c.in_ok-fetch_row.ensures.found was) c.row-item.is in
-    let rx : row_of x ≡ row_at (rows t) v = ap (λ (p : ℕ × Row). p.1) read in
+    let x = c.in-Some.row in
+    let read = one_row c.lent.result (placed_lent x) (v, row_at (rows t) v) (c.lent.ensures ∙ c.in_ok-fetch_row.ensures.found was) c.in-Some.ensures.row in
+    let rx : row_lent x ≡ row_at (rows t) v = ap (λ (p : ℕ × Row). p.1) read in
     let sized : IsSized t v x.size = record { is_tree = c.in_ok-fetch_row.ensures.is_tree was; is_there = there.node_in; size = ap (λ (r : Row). r.size) rx } in
     let low = c.saturating_add-low.result in
     let high = c.saturating_add-high.result in
@@ -118,9 +119,9 @@ returns-in_err-find_below-clause-rows g c = λ k. (
     let v = c.args.place in
     let was = c.in_err-find_below.ensures.was_clean k in
     let there = c.in_ok-fetch_row.ensures.exists was in
-    let x = c.row-item.result in
-    let read = one_row c.lent.result.now x (v, row_at (rows t) v) (c.lent.ensures ∙ c.in_ok-fetch_row.ensures.found was) c.row-item.is in
-    let rx : row_of x ≡ row_at (rows t) v = ap (λ (p : ℕ × Row). p.1) read in
+    let x = c.in-Some.row in
+    let read = one_row c.lent.result (placed_lent x) (v, row_at (rows t) v) (c.lent.ensures ∙ c.in_ok-fetch_row.ensures.found was) c.in-Some.ensures.row in
+    let rx : row_lent x ≡ row_at (rows t) v = ap (λ (p : ℕ × Row). p.1) read in
     let sized : IsSized t v x.size = record { is_tree = c.in_ok-fetch_row.ensures.is_tree was; is_there = there.node_in; size = ap (λ (r : Row). r.size) rx } in
     let low = c.saturating_add-low.result in
     let high = c.saturating_add-high.result in

@@ -1,5 +1,6 @@
 use Rattle.std.proofs.Common.{◌≡◌, ◌+◌, ℕ, ap, ◌∙◌, arith}
-use Rattle.xq_regions.specs.Rows.{Row, rows, row_at, row_of}
+use Rattle.xq_regions.specs.Rows.{Row, rows, row_at}
+use Rattle.xq_sources.specs.Lent.{placed_lent, row_lent}
 use Rattle.xq_sources.specs.Sources.{tree_at}
 use Rattle.xq_axes.specs.Reads.{IsSized}
 use Rattle.xq_axes.specs.private.Downward.{level_of, end_of}
@@ -12,9 +13,9 @@ returns-clause-is g c = λ k. (
     let t = tree_at (g.L.TreeSource.forest c.args.source.now) c.args.tree in
     let v = c.args.place in
     let there = c.in_ok-fetch_row.ensures.exists k in
-    let x = c.row-item.result in
-    let read = one_row c.lent.result.now x (v, row_at (rows t) v) (c.lent.ensures ∙ c.in_ok-fetch_row.ensures.found k) c.row-item.is in
-    let rx : row_of x ≡ row_at (rows t) v = ap (λ (p : ℕ × Row). p.1) read in
+    let x = c.in-Some.row in
+    let read = one_row c.lent.result (placed_lent x) (v, row_at (rows t) v) (c.lent.ensures ∙ c.in_ok-fetch_row.ensures.found k) c.in-Some.ensures.row in
+    let rx : row_lent x ≡ row_at (rows t) v = ap (λ (p : ℕ × Row). p.1) read in
     let is_tree = c.in_ok-fetch_row.ensures.is_tree k in
     record {
       is_tree = is_tree;

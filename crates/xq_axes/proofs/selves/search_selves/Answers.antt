@@ -1,5 +1,6 @@
 use Rattle.std.proofs.Common.{ℕ, ◌∷◌, [], ◌++◌, cond, get_or, ap, subst, refl, ◌∙◌, arith}
 use Rattle.xq_regions.specs.Rows.{Row, rows, row_at}
+use Rattle.xq_sources.specs.Lent.{placed_lent}
 use Rattle.xq_sources.specs.Sources.{tree_at, HasNode}
 use Rattle.xq_sources.specs.Meters.{Readings}
 use Rattle.xq_axes.proofs.Counts.{one_single}
@@ -22,8 +23,8 @@ loop-place-preserved g c =
       singles = (let s = inv.singles in let n = one_single _ _ c.in_ok-fetch_row.ensures.counts in omega (arith, s, n));
       so_far = λ k up. (
           let there = subst (λ f. HasNode f c.args.tree v) inv.forest (c.in_ok-fetch_row.ensures.exists k) in
-          let x = c.row-item.result in
-          let read = one_row c.lent.result.now x (v, row_at (rows old) v) (c.lent.ensures ∙ c.in_ok-fetch_row.ensures.found k) c.row-item.is in
+          let x = c.in-Some.row in
+          let read = one_row c.lent.result (placed_lent x) (v, row_at (rows old) v) (c.lent.ensures ∙ c.in_ok-fetch_row.ensures.found k) c.in-Some.ensures.row in
           let same = ap (λ f. tree_at f c.args.tree) inv.forest in
           let r = ap (λ (p : ℕ × Row). p.1) read ∙ ap (λ u. row_at (rows u) v) same in
           one_more c.args.test.now t vs i v x c.loop-place.found.items c.push_if.new.found.items up (omega arith) refl there.node_in r (inv.so_far (c.in_ok-fetch_row.ensures.was_clean k) up)

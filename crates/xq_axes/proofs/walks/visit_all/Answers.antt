@@ -1,4 +1,5 @@
 use Rattle.std.proofs.Common.{◌≡◌, ◌+◌, subst, arith}
+use Rattle.xq_sources.specs.Lent.{placed_lent}
 use Rattle.xq_axes.proofs.Runs.{row_in_turn}
 use Rattle.xq_axes.proofs.walks.visit_all.Goals as goal
 
@@ -6,8 +7,7 @@ pub loop-row-preserved : goal.loop-row-preserved
 loop-row-preserved g c = λ start t s n high h w r. (
     let inv = c.loop-row.invariant start t s n high h w r in
     let i = c.loop-row.passed in
-    let at = c.in-Some.ensures.lookup in
-    let x = row_in_turn t s n c.args.rows.now i c.in-Some.row.now h at.3.0 at.1 in
+    let x = row_in_turn t s n c.args.rows.now i (placed_lent c.in-Some.row) h c.in-Some.ensures.row in
     let v = c.in_ok-over.ensures start t s (n + i) x inv.1 in
     let to = v.0 in
     let from = x.from in

@@ -1,6 +1,4 @@
-use Rattle.std.proofs.Common.{◌≡◌, ◌+◌, length, map, sym, ap, ◌∙◌, subst, eqb-true, arith}
-use Rattle.xq_regions.specs.Rows.{placed}
-use Rattle.xq_regions.proofs.Walks.{length-map}
+use Rattle.std.proofs.Common.{◌≡◌, ◌+◌, length, sym, ap, ◌∙◌, subst, eqb-true, arith}
 use Rattle.xq_sources.specs.Sources.{tree_at, rows_between}
 use Rattle.xq_sources.specs.Lenders.{IsRun}
 use Rattle.xq_sources.specs.Meters.{Readings}
@@ -30,9 +28,9 @@ loop-next-preserved g c =
     let s = span c.args.low c.args.high in
     let next = c.loop-next.next in
     let run = g.L.RowLender.lent c.fetch.new.self in
-    let rows = c.lent-rows.result.now in
+    let rows = c.lent-rows.result in
     let passed = c.in_ok-passed.passed in
-    let n : length rows ≡ length run = sym (length-map placed rows) ∙ ap length c.lent-rows.ensures in
+    let n : length rows ≡ length run = ap length c.lent-rows.ensures in
     let found : g.L.TreeSource.is_clean c.fetch.new.self → IsRun (rows_between t next c.args.high) run =
     λ k. subst (λ f. IsRun (rows_between (tree_at f c.args.tree) next c.args.high) run) inv.forest (c.in_ok-fetch.ensures.found k) in
     record {
@@ -40,7 +38,7 @@ loop-next-preserved g c =
       clean = λ k. inv.clean (c.in_ok-fetch.ensures.was_clean k);
       from = omega arith;
       read = λ k start r. (
-          let turn : AreRowsIn t s next (map placed rows) = subst (AreRowsIn t s next) (sym c.lent-rows.ensures) (run_in_turn t s next run inv.from (found k)) in
+          let turn : AreRowsIn t s next rows = subst (AreRowsIn t s next) (sym c.lent-rows.ensures) (run_in_turn t s next run inv.from (found k)) in
           let before = inv.read (c.in_ok-fetch.ensures.was_clean k) start r in
           let w = run_within t s next run (found k) (omega arith) before.0 in
           let v = c.in_ok-passed.ensures.read start t s next (omega (arith, c.ranges.high.fits)) turn (omega (arith, w, n)) before.1 in
@@ -62,8 +60,8 @@ returns-then-is_empty-clause-read g c = λ k start r. (
     let t = tree_at (g.L.TreeSource.forest c.args.source.now) c.args.tree in
     let s = span c.args.low c.args.high in
     let run = g.L.RowLender.lent c.fetch.new.self in
-    let rows = c.lent-rows.result.now in
-    let n : length rows ≡ length run = sym (length-map placed rows) ∙ ap length c.lent-rows.ensures in
+    let rows = c.lent-rows.result in
+    let n : length rows ≡ length run = ap length c.lent-rows.ensures in
     let found : IsRun (rows_between t c.loop-next.next c.args.high) run =
     subst (λ f. IsRun (rows_between (tree_at f c.args.tree) c.loop-next.next c.args.high) run) inv.forest (c.in_ok-fetch.ensures.found k) in
     let z : length rows ≡ 0 = eqb-true (length rows) 0 (sym c.is_empty.ensures ∙ c.if-is_empty.true) in

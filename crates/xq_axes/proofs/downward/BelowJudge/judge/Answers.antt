@@ -1,8 +1,9 @@
 use Rattle.std.proofs.Common.{◌≡◌, ◌+◌, ◌-◌, ◌&&◌, false, get_or, set, nat_lt, not, sym, ap, ◌∙◌, subst, arith}
 use Rattle.std.specs.Prelude.{slice_get}
-use Rattle.xq_regions.specs.Rows.{Row, rows, placed}
+use Rattle.xq_regions.specs.Rows.{Row, rows}
 use Rattle.xq_regions.specs.Tree.{is_attribute}
 use Rattle.xq_regions.specs.RegionTests.{plain_row}
+use Rattle.xq_sources.specs.Lent.{placed_lent}
 use Rattle.xq_axes.specs.declared.contexts.Contexts.{Contexts}
 use Rattle.xq_axes.specs.private.Hits.{is_among, is_hit, AreUnhit, IsRising, IsReached}
 use Rattle.xq_axes.specs.private.Downward.{axis_of, is_chosen, is_child, level_of, rows_over, IsJudged}
@@ -64,7 +65,7 @@ returns-in-Descendant g c = λ start t s n r h. (
     let ep : plain ≡ plain_row (rows t) n = c.is_plain-is_plain.ensures ∙ ap (λ (y : Row). not (is_attribute y.label.kind)) r.row in
     let j = subst (λ y. IsJudged y t vs s n old.contexts.met old.marks old.is_open) d h.3 in
     let w = descendant t vs s n old.contexts.met old.marks old.is_open plain j r.is_there r.from r.to ep in
-    let o = judged_one t s n (placed x) (is_hit axis.Descendant t vs) (λ m. IsJudged Descendant t vs s m old.contexts.met old.marks old.is_open) r w.goes_on in (
+    let o = judged_one t s n (placed_lent x) (is_hit axis.Descendant t vs) (λ m. IsJudged Descendant t vs s m old.contexts.met old.marks old.is_open) r w.goes_on in (
       w.is_right ∙ ap (λ y. is_hit (axis_of y) t vs n) (sym d),
       o.within,
       subst (λ y. AreUnhit (is_hit (axis_of y) t vs) (n + 1) (n + 1 + 0)) (sym d) o.unhit,

@@ -1,8 +1,9 @@
 use Rattle.std.proofs.Common.{◌≡◌, ◌+◌, ◌-◌, ◌∷◌, [], not, false, nat_eq, sym, ap, ◌∙◌}
-use Rattle.xq_regions.specs.Rows.{Row, rows, placed}
+use Rattle.xq_regions.specs.Rows.{Row, rows}
 use Rattle.xq_regions.specs.Tree.{is_attribute}
 use Rattle.xq_regions.specs.RegionTests.{plain_row}
 use Rattle.xq_regions.specs.declared.Axis.TheVariants as axis
+use Rattle.xq_sources.specs.Lent.{placed_lent}
 use Rattle.xq_axes.specs.declared.near.AttributesOf.{AttributesOf}
 use Rattle.xq_axes.specs.private.Downward.{level_of}
 use Rattle.xq_axes.specs.private.Hits.{is_hit}
@@ -29,7 +30,7 @@ returns c = λ start t s n r h. (
     let level : x.level ≡ level_of t n = ap (λ (y : Row). y.level) r.row in
     let plain : plain_row (rows t) n ≡ false = sym (ap (λ (y : Row). not (is_attribute y.label.kind)) r.row) ∙ sym c.is_plain.ensures ∙ c.if-is_plain.false in
     let more = ap (λ (j : AttributesOf). j.owner.level + 1) h.0 in
-    let one = judged_one t s n (placed x) (is_hit axis.Attributes t (start.owner.place ∷ [])) (λ m. (c.args.self.now ≡ start) × AreBelow t s start.owner) r h in (
+    let one = judged_one t s n (placed_lent x) (is_hit axis.Attributes t (start.owner.place ∷ [])) (λ m. (c.args.self.now ≡ start) × AreBelow t s start.owner) r h in (
       c.is_parent.ensures ∙ ap (nat_eq x.level) more ∙ attribute_hit t s start.owner h.1 n r.is_there r.from r.to x.level level plain,
       one.within,
       one.unhit,

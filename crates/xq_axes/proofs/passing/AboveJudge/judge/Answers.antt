@@ -1,5 +1,6 @@
 use Rattle.std.proofs.Common.{◌≡◌, ◌+◌, ◌&&◌, ◌||◌, sym, ap, subst, ◌∙◌}
-use Rattle.xq_regions.specs.Rows.{Row, placed}
+use Rattle.xq_regions.specs.Rows.{Row}
+use Rattle.xq_sources.specs.Lent.{placed_lent}
 use Rattle.xq_axes.specs.private.Hits.{is_among, is_hit, IsRising, IsReached}
 use Rattle.xq_axes.specs.private.Downward.{end_of}
 use Rattle.xq_axes.specs.private.Passing.{axis_above, is_next_within}
@@ -21,5 +22,5 @@ returns c = λ start t s n r h. (
     let places = c.meets-is_context.ensures.places ∙ h.1 in
     let above = c.is_next_within-is_above.ensures ∙ ap (λ us. is_next_within us new.met c.end_of_row.result) places ∙ ap (is_next_within vs new.met) last ∙ above_some t vs new.met n h.2 met_n.1 in
     let hit = c.is_counted.ensures ∙ ap (λ b. (b && c.meets-is_context.result) || c.is_next_within-is_above.result) h.0 ∙ above_hit t vs start.or_self c.meets-is_context.result c.is_next_within-is_above.result n met_n.0 above in
-    let o = judged_one t s n (placed x) (is_hit (axis_above start.or_self) t vs) (λ m. (old.or_self ≡ start.or_self) × (new.places.now ≡ vs) × IsRising vs × IsReached vs new.met m) r (h.0, places, h.2, met_n.1) in
+    let o = judged_one t s n (placed_lent x) (is_hit (axis_above start.or_self) t vs) (λ m. (old.or_self ≡ start.or_self) × (new.places.now ≡ vs) × IsRising vs × IsReached vs new.met m) r (h.0, places, h.2, met_n.1) in
     (hit, o.within, o.unhit, o.goes_on))

@@ -1,7 +1,8 @@
 use Rattle.std.proofs.Common.{◌<◌, not, ap, ◌∙◌, arith}
-use Rattle.xq_regions.specs.Rows.{Row, placed}
+use Rattle.xq_regions.specs.Rows.{Row}
 use Rattle.xq_regions.specs.Tree.{is_attribute}
 use Rattle.xq_regions.specs.declared.Axis.TheVariants as axes
+use Rattle.xq_sources.specs.Lent.{placed_lent}
 use Rattle.xq_axes.specs.private.Hits.{is_hit}
 use Rattle.xq_axes.specs.private.Passing.{IsLeastEnd}
 use Rattle.xq_axes.proofs.Picking.{judged_one}
@@ -12,7 +13,7 @@ pub returns : goal.returns
 returns c = λ start t s n r h. (
     let f = r.from in
     let l = h.0 in
-    let o = judged_one t s n (placed c.args.row.now) (is_hit axes.Following t start.places.now) (λ _. (start.least < s.low) × IsLeastEnd t start.places.now start.least) r h in (
+    let o = judged_one t s n (placed_lent c.args.row.now) (is_hit axes.Following t start.places.now) (λ _. (start.least < s.low) × IsLeastEnd t start.places.now start.least) r h in (
       c.is_plain.ensures ∙ ap (λ (y : Row). not (is_attribute y.label.kind)) r.row ∙ following_hit t start.places.now start.least n h.1 (omega (arith, f, l)),
       o.within,
       o.unhit,

@@ -1,0 +1,20 @@
+-- Rows as they are lent.
+use Rattle.std.specs.Prelude.{ℕ, List, slice_index_or}
+use Rattle.xq_regions.specs.Rows.{Row, no_row}
+use Rattle.xq_sources.specs.declared.lent.LentRow.{LentRow}
+
+-- a row that is lent, without its place
+abbrev pub row_lent : LentRow → Row
+row_lent r = record {
+  size = r.size;
+  level = r.level;
+  label = record { kind = r.kind; name = r.name.now; value = r.value.now };
+}
+
+-- a row that is lent, with its place
+abbrev pub placed_lent : LentRow → ℕ × Row
+placed_lent r = (r.pre, row_lent r)
+
+-- the row at a place among rows with their places
+abbrev pub lent_at : List (ℕ × Row) → ℕ → ℕ × Row
+lent_at rows at = slice_index_or rows at (0, no_row)
