@@ -33,7 +33,7 @@ pub fn of_node<L: RowLender>(alloc: Global, source: &mut L, node: Node) -> Resul
     ensures was_clean { L.is_clean source.new → L.is_clean source.old }
 {
     source.fetch_row(alloc, node.tree, node.pre)?;
-    let [row] = source.lent() else {
+    let Some(row) = source.lent().get(0) else {
         return Err(Want::Store);
     };
     let kind = row.kind;

@@ -27,10 +27,10 @@ fn name_at<L: RowLender>(alloc: Global, source: &mut L, node: Node) -> Result<St
     ensures was_clean { L.is_clean source.new → L.is_clean source.old }
 {
     source.fetch_row(alloc, node.tree, node.pre)?;
-    let [row] = source.lent() else {
+    let Some(row) = source.lent().get(0) else {
         return Err(Want::Store);
     };
-    Ok(String::from_str(alloc, row.name.as_str())?)
+    Ok(String::from_str(alloc, row.name)?)
 }
 
 /// The string value of an item (F&O 3.1, section 2.3).

@@ -111,7 +111,7 @@ fn is_document<L: RowLender>(alloc: Global, source: &mut L, tree: usize) -> Resu
     ensures was_clean { L.is_clean source.new → L.is_clean source.old }
 {
     source.fetch_row(alloc, tree, 0)?;
-    let [row] = source.lent() else {
+    let Some(row) = source.lent().get(0) else {
         return Err(Want::Store);
     };
     Ok(matches!(row.kind, Kind::Document))

@@ -1,13 +1,14 @@
 -- The text of a node that has one row below it.
-use Rattle.std.proofs.Common.{◌≡◌, ℕ, ◌+◌, ◌<◌, min, List, [], ◌∷◌, ◌++◌, length, true, string_bytes, sym, ◌∙◌, ap, subst, arith}
+use Rattle.std.proofs.Common.{◌≡◌, ℕ, ◌+◌, ◌<◌, min, List, [], ◌∷◌, ◌++◌, length, true, sym, ◌∙◌, ap, subst, arith}
 use Rattle.std.proofs.lemmas.List.{append-nil}
 use Rattle.xq_regions.specs.declared.Kind.TheVariants.{Text}
-use Rattle.xq_regions.specs.declared.NodeRow.{NodeRow}
+use Rattle.xq_sources.specs.declared.lent.LentRow.{LentRow}
+use Rattle.xq_sources.specs.Lent.{placed_lent, row_lent}
 use Rattle.xq_regions.specs.declared.items.Node.{Node as Spot}
 use Rattle.xq_regions.specs.Forest.{count}
 use Rattle.xq_regions.specs.Node.{below_at}
 use Rattle.xq_regions.specs.Order.{path_at}
-use Rattle.xq_regions.specs.Rows.{Row, row_at, row_of, rows, placed}
+use Rattle.xq_regions.specs.Rows.{Row, row_at, rows}
 use Rattle.xq_regions.specs.Tree.{Tree, IsTree, nodes}
 use Rattle.xq_regions.specs.Value.{text_of, texts, string_value}
 use Rattle.xq_regions.proofs.Encoding.{length-rows}
@@ -30,13 +31,13 @@ one_text t v row sized is =
     ∙ ap joined_texts (rows_below t v 1 sized.is_there sized.size)
     ∙ joined_texts-measured (length (path_at (nodes t) v)) (below_at (nodes t) (path_at (nodes t) v))
 
-pub lone_value : (trees : List Tree) (node : Spot) (x y : NodeRow) (place : ℕ) → HasNode trees node.tree node.pre → placed x ≡ (node.pre, row_at (rows (tree_at trees node.tree)) node.pre) → IsTree (tree_at trees node.tree)
-    → is_parent x.kind ≡ true → x.size ≡ 1 → place ≡ min (node.pre + 1) 4294967295 → placed y ≡ (place, row_at (rows (tree_at trees node.tree)) place) → y.kind ≡ Text
-    → string_bytes y.value ≡ string_value (tree_below trees (node_at trees node))
+pub lone_value : (trees : List Tree) (node : Spot) (x y : LentRow) (place : ℕ) → HasNode trees node.tree node.pre → placed_lent x ≡ (node.pre, row_at (rows (tree_at trees node.tree)) node.pre) → IsTree (tree_at trees node.tree)
+    → is_parent x.kind ≡ true → x.size ≡ 1 → place ≡ min (node.pre + 1) 4294967295 → placed_lent y ≡ (place, row_at (rows (tree_at trees node.tree)) place) → y.kind ≡ Text
+    → y.value.now ≡ string_value (tree_below trees (node_at trees node))
 lone_value trees node x y place there read is_tree parent one low below text =
     let t = tree_at trees node.tree in
     let sized = subst (IsSized t node.pre) one (size_read trees node x there read is_tree) in
     let at : place ≡ node.pre + 1 = (let d = (node_of t node.pre sized.is_there).ends in let r = is_tree.room in let s = sized.size in omega (arith, d, r, s, low)) in
-    let row : row_of y ≡ row_at (rows t) (node.pre + 1) = ap (λ (p : ℕ × Row). p.1) below ∙ ap (row_at (rows t)) at in
-    parent_value trees node x there read (string_bytes y.value) parent
-    (ap (λ k. text_of k (string_bytes y.value)) (sym text) ∙ one_text t node.pre (row_of y) sized row)
+    let row : row_lent y ≡ row_at (rows t) (node.pre + 1) = ap (λ (p : ℕ × Row). p.1) below ∙ ap (row_at (rows t)) at in
+    parent_value trees node x there read y.value.now parent
+    (ap (λ k. text_of k y.value.now) (sym text) ∙ one_text t node.pre (row_lent y) sized row)

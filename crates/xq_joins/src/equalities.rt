@@ -202,22 +202,22 @@ fn has_lone_text<L: RowLender>(
     ensures was_clean { L.is_clean source.new → L.is_clean source.old }
 {
     source.fetch_row(alloc, node.tree, node.pre)?;
-    let [row] = source.lent() else {
+    let Some(row) = source.lent().get(0) else {
         return Err(Want::Store);
     };
     if !is_parent(row.kind) {
-        return Ok(Some(is_same(wanted, row.value.as_str())));
+        return Ok(Some(is_same(wanted, row.value)));
     }
     let is_lone = row.size == 1;
     if !is_lone {
         return Ok(None);
     }
     source.fetch_row(alloc, node.tree, node.pre.saturating_add(1))?;
-    let [below] = source.lent() else {
+    let Some(below) = source.lent().get(0) else {
         return Err(Want::Store);
     };
     match below.kind {
-        Kind::Text => Ok(Some(is_same(wanted, below.value.as_str()))),
+        Kind::Text => Ok(Some(is_same(wanted, below.value))),
         _ => Ok(None),
     }
 }

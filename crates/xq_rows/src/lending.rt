@@ -8,8 +8,7 @@ use crate::views::{Origin, View};
 use sqlite::Alter;
 use std::alloc::Global;
 use xq_atoms::Want;
-use xq_regions::NodeRow;
-use xq_sources::{RowLender, count_attributes};
+use xq_sources::{LentRows, RowLender, count_attributes};
 
 impl<S: Alter, O: Origin> RowLender for View<S, O> {
     ghost lent = { λ v. v.lent };
@@ -54,7 +53,7 @@ impl<S: Alter, O: Origin> RowLender for View<S, O> {
         named_in(&self.shelf, tree, name)
     }
 
-    fn lent(&self) -> &[NodeRow] {
-        kept_rows(&self.shelf.fronts, self.run)
+    fn lent(&self) -> LentRows<'_> {
+        LentRows::new(kept_rows(&self.shelf.fronts, self.run))
     }
 }
