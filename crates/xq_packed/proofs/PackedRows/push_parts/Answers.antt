@@ -1,0 +1,29 @@
+use Rattle.std.proofs.Common.{rules, ◌≡◌, ◌+◌, ℕ, List, [], ◌∷◌, ◌++◌, map, length, string_bytes, sym, ap, ◌∙◌, subst, arith, ◌≤◌, ◌^◌}
+use Rattle.std.proofs.lemmas.List.{length-map}
+use Rattle.std.proofs.lemmas.Str.{IsUtf8-string_bytes}
+use Rattle.xq_packed.specs.Packed.{Packed, row}
+use Rattle.xq_packed.specs.declared.shapes.Shape.{Shape}
+use Rattle.xq_packed.specs.private.Shapes.{value_end}
+use Rattle.xq_packed.proofs.Standing.{push-keeps}
+use Rattle.xq_packed.proofs.PackedRows.push_parts.Goals as goal
+
+pub invariant_of-self-2 : goal.invariant_of-self-2
+invariant_of-self-2 c =
+    let text = c.self.inside.text in
+    let value = c.args.value.now in
+    let s : Shape = record { size = c.args.size; name = c.in_ok-name.name; end_low = c.in_ok-end_low.end_low; end_high = c.in_ok-end_low.end_high; level = c.args.level; kind = c.args.kind } in
+    let texts : string_bytes c.push_str.new.self ≡ string_bytes text ++ value = c.in_ok-push_str.ensures.bytes ∙ ap (λ t. t ++ value) c.reserve-2.ensures.bytes in
+    let shapes : c.push_reserved.new.self.items ≡ c.self.inside.shapes.items ++ s ∷ [] = c.push_reserved.ensures.items ∙ ap (λ ss. ss ++ s ∷ []) c.reserve.ensures.items in
+    let ends : value_end s ≡ length (string_bytes text) + length value = search (rules, c.in_ok-end_low.ensures.parts) in
+    (push-keeps (string_bytes text) value _ (map string_bytes c.self.inside.names.keys) _ c.args.name.now c.self.inside.shapes.items _ s (IsUtf8-string_bytes text) c.utf8.value c.self.invariant texts c.in_ok-name.ensures.names shapes ends c.in_ok-name.ensures.number (subst (λ n. n ≤ 2 ^ 32) (sym (length-map c.number_among.new.names.keys string_bytes)) c.number_among.ensures.few)).0
+
+pub returns-clause-rows : goal.returns-clause-rows
+returns-clause-rows c =
+    let text = c.self.inside.text in
+    let value = c.args.value.now in
+    let s : Shape = record { size = c.args.size; name = c.in_ok-name.name; end_low = c.in_ok-end_low.end_low; end_high = c.in_ok-end_low.end_high; level = c.args.level; kind = c.args.kind } in
+    let texts : string_bytes c.push_str.new.self ≡ string_bytes text ++ value = c.in_ok-push_str.ensures.bytes ∙ ap (λ t. t ++ value) c.reserve-2.ensures.bytes in
+    let shapes : c.push_reserved.new.self.items ≡ c.self.inside.shapes.items ++ s ∷ [] = c.push_reserved.ensures.items ∙ ap (λ ss. ss ++ s ∷ []) c.reserve.ensures.items in
+    let ends : value_end s ≡ length (string_bytes text) + length value = search (rules, c.in_ok-end_low.ensures.parts) in
+    (push-keeps (string_bytes text) value _ (map string_bytes c.self.inside.names.keys) _ c.args.name.now c.self.inside.shapes.items _ s (IsUtf8-string_bytes text) c.utf8.value c.self.invariant texts c.in_ok-name.ensures.names shapes ends c.in_ok-name.ensures.number (subst (λ n. n ≤ 2 ^ 32) (sym (length-map c.number_among.new.names.keys string_bytes)) c.number_among.ensures.few)).1
+    ∙ ap (λ (p : Packed). p.rows ++ row c.args.size c.args.level c.args.kind c.args.name.now value ∷ []) c.self.view_is

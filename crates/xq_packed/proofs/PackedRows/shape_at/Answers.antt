@@ -1,0 +1,25 @@
+use Rattle.std.proofs.Common.{rules, ◌≡◌, ◌<◌, ◌≤◌, ◌+◌, ◌-◌, ℕ, List, [], ◌∷◌, take, drop, map, length, string_bytes, Some, sym, ap, ◌∙◌, subst, arith}
+use Rattle.std.proofs.lemmas.List.{length-map}
+use Rattle.std.proofs.lemmas.Str.{IsUtf8-string_bytes, IsCharBoundary-from_take}
+use Rattle.std.specs.Prelude.{slice_index_or, slice_range, IsCharBoundary}
+use Rattle.xq_regions.specs.Rows.{Row, row_at}
+use Rattle.xq_packed.specs.Packed.{Packed, IsNumberOf}
+use Rattle.xq_packed.specs.private.Shapes.{value_end, value_start, name_at}
+use Rattle.xq_packed.proofs.Standing.{inside, told, describes, none-named}
+use Rattle.xq_packed.proofs.Numbering.{found-names, any-names, number-of, name-numbered, read-name}
+use Rattle.xq_packed.proofs.PackedRows.shape_at.Goals as goal
+
+pub index-requires : goal.index-requires
+index-requires c =
+    let text = string_bytes c.self.inside.text in
+    let names = map string_bytes c.self.inside.names.keys in
+    let shapes = c.self.inside.shapes.items in
+    let here : c.args.at < length shapes = inside text names shapes c.args.at c.args.self.now c.self.view_is c.requires in
+    search (rules, here)
+
+pub returns : goal.returns
+returns c =
+    let text = string_bytes c.self.inside.text in
+    let names = map string_bytes c.self.inside.names.keys in
+    let shapes = c.self.inside.shapes.items in
+    describes text names shapes c.args.at c.index.result.now c.args.self.now c.self.invariant c.self.view_is c.requires c.index.ensures

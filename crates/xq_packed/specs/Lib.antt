@@ -1,0 +1,3 @@
+pub mod Packed
+pub mod Moves
+pub mod private
