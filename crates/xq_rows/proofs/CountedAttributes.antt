@@ -2,9 +2,9 @@
 use Rattle.std.proofs.Common.{◌≡◌, ◌+◌, ◌<◌, ◌≤◌, ℕ, Bool, true, false, not, List, length, map, take, sym, subst, arith, Option, Some, None, IfSome}
 use Rattle.sqlite_trees.specs.declared.store.Store.{Ghosts}
 use Rattle.xq_regions.specs.Tree.{Tree, IsTree, is_attribute}
-use Rattle.xq_regions.specs.Rows.{Row, rows, row_of}
+use Rattle.xq_regions.specs.Rows.{Row, rows}
 use Rattle.xq_regions.specs.RegionTests.{plain_row}
-use Rattle.xq_regions.specs.declared.NodeRow.{NodeRow}
+use Rattle.xq_sources.specs.Lent.{unplaced}
 use Rattle.xq_sources.specs.AttributeRows.{AreAttributeRows}
 use Rattle.xq_sources.specs.Sources.{tree_at as nth_tree}
 use Rattle.xq_rows.specs.Documents.{IsClean}
@@ -34,21 +34,21 @@ counted-first n xs v number a =
           (omega (arith, within, most), plain-first n (v + number + 1) xs true within w.1));
     }
 
-counted-of-front : (t : Tree) (rs : List NodeRow) → IsFront t rs → (v number : ℕ) → AreAttributeRows (map row_of rs) v number → AreAttributeRows (rows t) v number
+counted-of-front : (t : Tree) (rs : List (ℕ × Row)) → IsFront t rs → (v number : ℕ) → AreAttributeRows (unplaced rs) v number → AreAttributeRows (rows t) v number
 counted-of-front t rs front v number a = counted-first (length rs) (rows t) v number (subst (λ xs. AreAttributeRows xs v number) (first-rows t rs front) a)
 
 module _ {S : Type 0} (g : Ghosts S) (b : Beginning) (v : Viewed S) (fronts : List Front) (stays : Bool) (is : IsShelved g b v fronts stays) (clean : IsClean g v.store) (held : HeldDocuments b) (tree node : ℕ) where
   abbrev trees : List Tree
   trees = trees_under b v.addresses
 
-  within : (number : ℕ) → AreAttributeRows (map row_of (front_at fronts tree)) node number → tree < length fronts
+  within : (number : ℕ) → AreAttributeRows (unplaced (front_at fronts tree)) node number → tree < length fronts
   within number a = some-front fronts tree node (let h = a.there in omega (arith, h))
 
   -- the number that a view's rows tell, or none
-  pub counted_of : (answer : Option ℕ) → IfSome answer (λ number. AreAttributeRows (map row_of (front_at fronts tree)) node number) → IfSome answer (λ number. AreAttributeRows (rows (nth_tree trees tree)) node number)
+  pub counted_of : (answer : Option ℕ) → IfSome answer (λ number. AreAttributeRows (unplaced (front_at fronts tree)) node number) → IfSome answer (λ number. AreAttributeRows (rows (nth_tree trees tree)) node number)
   counted_of None a = a
   counted_of (Some number) a = counted-of-front (nth_tree trees tree) (front_at fronts tree) (front_is trees fronts tree (is.rows clean held) (within number a)) node number a
 
-  pub tree_of : (answer : Option ℕ) → IfSome answer (λ number. AreAttributeRows (map row_of (front_at fronts tree)) node number) → IfSome answer (λ _. IsTree (nth_tree trees tree))
+  pub tree_of : (answer : Option ℕ) → IfSome answer (λ number. AreAttributeRows (unplaced (front_at fronts tree)) node number) → IfSome answer (λ _. IsTree (nth_tree trees tree))
   tree_of None a = tt
   tree_of (Some number) a = is_held_tree g b v is.view clean held tree (let many = as_many trees fronts (is.rows clean held) in let h = within number a in omega (arith, many, h))

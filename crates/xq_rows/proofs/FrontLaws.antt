@@ -4,12 +4,10 @@ use Rattle.std.specs.Global.{Vec}
 use Rattle.std.specs.HashMap.{get_by_text}
 use Rattle.std.specs.List.{enumerate_from, AllByRecursion}
 use Rattle.std.specs.Prelude.{slice_get, Option, Some, IfSome}
-use Rattle.std.proofs.lemmas.List.{take-map, drop-map, length-map}
 use Rattle.xq_regions.specs.Forest.{count}
 use Rattle.xq_regions.specs.Tree.{Tree, nodes}
-use Rattle.xq_regions.specs.Rows.{Row, rows, row_at, measured, placed, placed_rows}
+use Rattle.xq_regions.specs.Rows.{Row, rows, row_at, measured, placed_rows}
 use Rattle.xq_regions.specs.Nesting.{count-measured}
-use Rattle.xq_regions.specs.declared.NodeRow.{NodeRow}
 use Rattle.xq_sources.specs.Lenders.{IsRun}
 use Rattle.xq_sources.specs.Names.{named}
 use Rattle.xq_sources.specs.Sources.{rows_between, tree_at}
@@ -17,7 +15,7 @@ use Rattle.xq_sources.proofs.Intervals.{between-places}
 use Rattle.xq_rows.proofs.Loads.{length-labels}
 use Rattle.xq_rows.proofs.ViewLaws.{one_placed}
 use Rattle.xq_rows.specs.declared.shelves.Front.{Front}
-use Rattle.xq_rows.specs.private.Shelves.{AreFronts, HasReached, IsFront, IsFrontOf, Reaches, front_at, run_of}
+use Rattle.xq_rows.specs.private.Shelves.{AreFronts, HasReached, IsFront, IsFrontOf, Reaches, front_at, kept_rows, run_of}
 
 -- # Lists
 
@@ -74,10 +72,6 @@ first-next (suc n) k m [] e = sym (nothing k) ∙ nothing m
 first-next (suc n) k zero (x ∷ xs) e = absurd (omega (arith, e))
 first-next (suc n) k (suc m) (x ∷ xs) e = ap (λ ys. x ∷ ys) (first-next n k m xs (omega (arith, e)))
 
-map-both : {X Y : Type 0} (f : X → Y) (xs ys : List X) → map f (xs ++ ys) ≡ map f xs ++ map f ys
-map-both f [] ys = refl
-map-both f (x ∷ xs) ys = ap (λ zs. f x ∷ zs) (map-both f xs ys)
-
 length-first : {X : Type 0} (n : ℕ) (xs : List X) → length (take n xs) ≤ length xs
 length-first zero xs = omega arith
 length-first (suc n) [] = omega arith
@@ -90,12 +84,12 @@ all-first (suc n) [] h = refl
 all-first (suc n) (x ∷ xs) h = ap (λ ys. x ∷ ys) (all-first n xs (omega (arith, h)))
 
 -- one of them alone
-pub one-alone : (v : ℕ) (xs : List NodeRow) → v < length xs → length (map placed (run_of xs v v)) ≡ 1
+pub one-alone : (v : ℕ) (xs : List (ℕ × Row)) → v < length xs → length (run_of xs v v) ≡ 1
 one-alone v xs h =
     let one : v + 1 - v ≡ 1 = omega arith in
-    length-map (run_of xs v v) placed ∙ ap (λ m. length (take m (drop v xs))) one ∙ first (drop v xs) (omega (arith, h, length-drop v xs))
+    ap (λ m. length (take m (drop v xs))) one ∙ first (drop v xs) (omega (arith, h, length-drop v xs))
   where
-    first : (ys : List NodeRow) → 0 < length ys → length (take 1 ys) ≡ 1
+    first : (ys : List (ℕ × Row)) → 0 < length ys → length (take 1 ys) ≡ 1
     first [] h = absurd (omega (arith, h))
     first (y ∷ ys) h = refl
 
@@ -111,13 +105,13 @@ sized t = numbered 0 (rows t) ∙ length-labels (measured 0 (nodes t)) ∙ count
     numbered n [] = refl
     numbered n (r ∷ rs) = ap suc (numbered (n + 1) rs)
 
-module _ (t : Tree) (kept : List NodeRow) (front : IsFront t kept) where
+module _ (t : Tree) (kept : List (ℕ × Row)) (front : IsFront t kept) where
   -- what a run of them shows
-  shown : (low high : ℕ) → map placed (run_of kept low high) ≡ take (high + 1 - low) (take (length kept - low) (drop low (placed_rows t)))
+  shown : (low high : ℕ) → run_of kept low high ≡ take (high + 1 - low) (take (length kept - low) (drop low (placed_rows t)))
   shown low high =
-      sym (take-map placed (high + 1 - low) (drop low kept)) ∙ ap (take (high + 1 - low)) (sym (drop-map placed low kept) ∙ ap (drop low) front ∙ drop-first low (length kept) (length kept - low) (placed_rows t) refl)
+      ap (take (high + 1 - low)) (ap (drop low) front ∙ drop-first low (length kept) (length kept - low) (placed_rows t) refl)
 
-  pub lends : (low high : ℕ) → Reaches t low kept → IsRun (rows_between t low high) (map placed (run_of kept low high))
+  pub lends : (low high : ℕ) → Reaches t low kept → IsRun (rows_between t low high) (run_of kept low high)
   lends low high reaches =
       let all = drop low (placed_rows t) in
       let k = high + 1 - low in
@@ -133,11 +127,11 @@ module _ (t : Tree) (kept : List NodeRow) (front : IsFront t kept) where
       }
 
   within : length kept ≤ length (placed_rows t)
-  within = let l : length kept ≡ length (take (length kept) (placed_rows t)) = sym (length-map kept placed) ∙ ap length front in
+  within = let l : length kept ≡ length (take (length kept) (placed_rows t)) = ap length front in
       let m = length-first (length kept) (placed_rows t) in omega (arith, l, m)
 
   -- one row alone
-  pub lends_one : (v : ℕ) → v < length kept → map placed (run_of kept v v) ≡ (v, row_at (rows t) v) ∷ []
+  pub lends_one : (v : ℕ) → v < length kept → run_of kept v v ≡ (v, row_at (rows t) v) ∷ []
   lends_one v h =
       let one : v + 1 - v ≡ 1 = omega arith in
       let more = within in
@@ -154,23 +148,23 @@ module _ (t : Tree) (kept : List NodeRow) (front : IsFront t kept) where
   has_node v h = let more = within in omega (arith, h, more, sized t)
 
   -- a part that was read follows them
-  module _ (low high : ℕ) (found : List NodeRow) (at : low ≡ length kept) (past : low ≤ high) (are : map placed found ≡ rows_between t low high) where
-    read : map placed found ≡ take (high + 1 - low) (drop (length kept) (placed_rows t))
+  module _ (low high : ℕ) (found : List (ℕ × Row)) (at : low ≡ length kept) (past : low ≤ high) (are : found ≡ rows_between t low high) where
+    read : found ≡ take (high + 1 - low) (drop (length kept) (placed_rows t))
     read = are ∙ between t low high ∙ ap (λ n. take (high + 1 - low) (drop n (placed_rows t))) at
 
     pub read_more : IsFront t (kept ++ found)
     read_more =
         let n = length kept in
         let rest = take (high + 1 - low) (drop n (placed_rows t)) in
-        let l : length rest ≡ length found = ap length (sym read) ∙ length-map found placed in
+        let l : length rest ≡ length found = ap length (sym read) in
         let m : length (kept ++ found) ≡ n + length rest = length-append kept found ∙ ap (λ k. n + k) (sym l) in
-        map-both placed kept found ∙ ap (λ xs. xs ++ map placed found) front ∙ ap (λ xs. take n (placed_rows t) ++ xs) read ∙ first-next n (high + 1 - low) (length (kept ++ found)) (placed_rows t) m
+        ap (λ xs. xs ++ found) front ∙ ap (λ xs. take n (placed_rows t) ++ xs) read ∙ first-next n (high + 1 - low) (length (kept ++ found)) (placed_rows t) m
 
     pub read_all : found ≡ [] → length (placed_rows t) ≤ length kept
     read_all none =
         let n = length kept in
         let k : high + 1 - low ≡ suc (high - low) = omega (arith, past) in
-        none-past (high - low) n (placed_rows t) (ap (λ k. take k (drop n (placed_rows t))) (sym k) ∙ sym read ∙ ap (map placed) none)
+        none-past (high - low) n (placed_rows t) (ap (λ k. take k (drop n (placed_rows t))) (sym k) ∙ sym read ∙ none)
 
 -- # All rows of a tree
 
@@ -179,12 +173,12 @@ first_size [] = 0
 first_size (p ∷ ps) = p.1.size
 
 -- the first tells how many there are
-pub whole_rows : (t : Tree) (kept : List NodeRow) (root : NodeRow) → slice_get kept 0 ≡ Some root → root.size + 1 ≡ length kept → IsFront t kept → map placed kept ≡ placed_rows t
+pub whole_rows : (t : Tree) (kept : List (ℕ × Row)) (root : ℕ × Row) → Some root ≡ slice_get kept 0 → root.1.size + 1 ≡ length kept → IsFront t kept → kept ≡ placed_rows t
 whole_rows t [] root first n front = absurd cc
 whole_rows t (r ∷ rs) root first n front =
     let is : r ≡ root = cc in
-    let size : r.size ≡ root.size = ap (λ (x : NodeRow). x.size) is in
-    let below : r.size ≡ count t.below = ap first_size front in
+    let size : r.1.size ≡ root.1.size = ap (λ (x : ℕ × Row). x.1.size) is in
+    let below : r.1.size ≡ count t.below = ap first_size front in
     let many = sized t in
     front ∙ all-first (length (r ∷ rs)) (placed_rows t) (omega (arith, n, size, below, many))
 
@@ -245,7 +239,7 @@ fronts_set (t ∷ trees) [] i v are h = elim are [ ]
 fronts_set (t ∷ trees) (f ∷ fronts) zero v are h = (h, are.1)
 fronts_set (t ∷ trees) (f ∷ fronts) (suc i) v are h = (are.0, fronts_set trees fronts i v are.1 h)
 
-pub front_set : (fronts : List Front) (i : ℕ) (v : Front) → i < length fronts → front_at (set fronts i v) i ≡ v.rows.items
+pub front_set : (fronts : List Front) (i : ℕ) (v : Front) → i < length fronts → front_at (set fronts i v) i ≡ kept_rows v
 front_set [] i v h = absurd (omega (arith, h))
 front_set (f ∷ fronts) zero v h = refl
 front_set (f ∷ fronts) (suc i) v h = front_set fronts i v (omega (arith, h))
@@ -254,6 +248,6 @@ pub on_ok_then : {A B : Type 0} (P Q : Type 0) (r : Result A B) → (P → Q) �
 on_ok_then P Q (Ok x) f h = f h
 on_ok_then P Q (Err e) f h = tt
 
-pub empty_items : (items : List NodeRow) → {n : ℕ} → n ≡ 0 → n ≡ length items → items ≡ []
+pub empty_items : {X : Type 0} (items : List X) → {n : ℕ} → n ≡ 0 → n ≡ length items → items ≡ []
 empty_items [] none e = refl
 empty_items (x ∷ items) none e = absurd (omega (arith, none, e))

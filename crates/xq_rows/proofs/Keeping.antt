@@ -76,7 +76,7 @@ module _ {S : Type 0} (g : Ghosts S) where
 
   -- # What is kept of a document
 
-  kept_there : (conn : Held S) (shelf : Option Shelf) → IsKeeping g conn shelf → (a : List ℕ) (rows : List NodeRow) → AreKeptOf shelf a rows → IsReady (state g conn) → AreThere a 0 (length rows) rows (state g conn).now
+  kept_there : (conn : Held S) (shelf : Option Shelf) → IsKeeping g conn shelf → (a : List ℕ) (rows : List (ℕ × Node)) → AreKeptOf shelf a rows → IsReady (state g conn) → AreThere a 0 (length rows) rows (state g conn).now
   kept_there conn None keeping a rows none ready = subst (λ l. AreThere a 0 (length l) l (state g conn).now) (sym none) (none_there a (state g conn).now (keeping.holds ready))
   kept_there conn (Some shelf) keeping a rows found ready =
       let db = (state g conn).now in
@@ -109,7 +109,7 @@ module _ {S : Type 0} (g : Ghosts S) where
       goes_on = record { outside = stays.mode; holds = holds_on; keeps = keeps_on shelf keeping.keeps }
 
     -- a put looked at the rows that were kept
-    pub puts_over : (a : List ℕ) (kept : List NodeRow) → AreKeptOf shelf a kept → (rows : List Row) (replaced : Bool) → (IsReady (state g new) → PutsOver a kept rows (state g conn).now (state g new).now replaced)
+    pub puts_over : (a : List ℕ) (kept : List (ℕ × Node)) → AreKeptOf shelf a kept → (rows : List Row) (replaced : Bool) → (IsReady (state g new) → PutsOver a kept rows (state g conn).now (state g new).now replaced)
         → IsReady (state g new) → Puts a rows (state g conn).now (state g new).now replaced
     puts_over a kept are rows replaced did ready = (let was = early ready in did ready (kept_there conn shelf keeping a kept are was))
 

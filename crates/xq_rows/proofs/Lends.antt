@@ -4,7 +4,7 @@ use Rattle.std.specs.Prelude.{slice_get}
 use Rattle.sqlite_trees.specs.declared.store.Store.{Ghosts}
 use Rattle.sqlite.specs.Held.{Held}
 use Rattle.xq_regions.specs.Tree.{Tree, IsTree}
-use Rattle.xq_regions.specs.Rows.{Row, rows, row_at, placed}
+use Rattle.xq_regions.specs.Rows.{Row, rows, row_at}
 use Rattle.xq_sources.specs.Lenders.{IsRun}
 use Rattle.xq_sources.specs.Meters.{Readings}
 use Rattle.xq_sources.specs.Sources.{HasTree, HasNode, rows_between, tree_at as nth_tree}
@@ -87,10 +87,10 @@ module _ {S : Type 0} (g : Ghosts S) (b : Beginning) (v : Viewed S) (fronts : Li
           let within : tree < length later = let many = as_many trees later are in let in_it = reached.tree_in in omega (arith, many, in_it) in
           front_is trees later tree are within
 
-      pub is_run : (high : ℕ) → IsRun (rows_between (nth_tree trees tree) place high) (map placed (run_of (front_at later tree) place high))
+      pub is_run : (high : ℕ) → IsRun (rows_between (nth_tree trees tree) place high) (run_of (front_at later tree) place high)
       is_run high = lends (nth_tree trees tree) (front_at later tree) front place high reached.reaches
 
-      pub is_one : place < length (front_at later tree) → map placed (run_of (front_at later tree) place place) ≡ (place, row_at (rows (nth_tree trees tree)) place) ∷ []
+      pub is_one : place < length (front_at later tree) → run_of (front_at later tree) place place ≡ (place, row_at (rows (nth_tree trees tree)) place) ∷ []
       is_one h = lends_one (nth_tree trees tree) (front_at later tree) front place h
 
       pub has_it : place < length (front_at later tree) → HasNode trees tree place

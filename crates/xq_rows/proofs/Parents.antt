@@ -4,8 +4,8 @@ use Rattle.std.specs.List.{enumerate_from}
 use Rattle.std.proofs.lemmas.List.{take-map, length-map}
 use Rattle.sqlite_trees.specs.declared.store.Store.{Ghosts}
 use Rattle.xq_regions.specs.Tree.{Tree}
-use Rattle.xq_regions.specs.Rows.{Row, rows, row_at, row_of, placed}
-use Rattle.xq_regions.specs.declared.NodeRow.{NodeRow}
+use Rattle.xq_regions.specs.Rows.{Row, rows, row_at}
+use Rattle.xq_sources.specs.Lent.{unplaced}
 use Rattle.xq_sources.specs.Parents.{IsParentRow}
 use Rattle.xq_sources.specs.Sources.{tree_at as nth_tree}
 use Rattle.xq_rows.specs.Documents.{IsClean}
@@ -29,10 +29,6 @@ without-places : (n : ℕ) (xs : List Row) → map (λ (p : ℕ × Row). p.1) (e
 without-places n [] = refl
 without-places n (x ∷ xs) = ap (λ ys. x ∷ ys) (without-places (n + 1) xs)
 
-rows-placed : (rs : List NodeRow) → map (λ (p : ℕ × Row). p.1) (map placed rs) ≡ map row_of rs
-rows-placed [] = refl
-rows-placed (r ∷ rs) = ap (λ ys. row_of r ∷ ys) (rows-placed rs)
-
 -- what the first rows of a tree tell of a parent holds in the tree
 parent-first : (n : ℕ) (xs : List Row) (u v : ℕ) → IsParentRow (take n xs) u v → IsParentRow xs u v
 parent-first n xs u v q =
@@ -48,26 +44,26 @@ parent-first n xs u v q =
     }
 
 -- the rows that are kept of a tree are its first
-pub first-rows : (t : Tree) (rs : List NodeRow) → IsFront t rs → map row_of rs ≡ take (length rs) (rows t)
+pub first-rows : (t : Tree) (rs : List (ℕ × Row)) → IsFront t rs → unplaced rs ≡ take (length rs) (rows t)
 first-rows t rs front =
-    sym (rows-placed rs) ∙ ap (map (λ (p : ℕ × Row). p.1)) front ∙ sym (take-map (λ (p : ℕ × Row). p.1) (length rs) (enumerate_from 0 (rows t)))
+    ap (map (λ (p : ℕ × Row). p.1)) front ∙ sym (take-map (λ (p : ℕ × Row). p.1) (length rs) (enumerate_from 0 (rows t)))
     ∙ ap (take (length rs)) (without-places 0 (rows t))
 
-parent-of-front : (t : Tree) (rs : List NodeRow) → IsFront t rs → (u v : ℕ) → IsParentRow (map row_of rs) u v → IsParentRow (rows t) u v
+parent-of-front : (t : Tree) (rs : List (ℕ × Row)) → IsFront t rs → (u v : ℕ) → IsParentRow (unplaced rs) u v → IsParentRow (rows t) u v
 parent-of-front t rs front u v q = parent-first (length rs) (rows t) u v (subst (λ xs. IsParentRow xs u v) (first-rows t rs front) q)
 
-pub some-front : (fronts : List Front) (tree v : ℕ) → v < length (map row_of (front_at fronts tree)) → tree < length fronts
-some-front fronts tree v h = has_front fronts tree v (let same = length-map (front_at fronts tree) row_of in omega (arith, h, same))
+pub some-front : (fronts : List Front) (tree v : ℕ) → v < length (unplaced (front_at fronts tree)) → tree < length fronts
+some-front fronts tree v h = has_front fronts tree v (let same = length-map (front_at fronts tree) (λ (p : ℕ × Row). p.1) in omega (arith, h, same))
 
 -- the parent that a view's rows tell
 pub told : {S : Type 0} (g : Ghosts S) (b : Beginning) (v : Viewed S) (fronts : List Front) (stays : Bool) → IsShelved g b v fronts stays → IsClean g v.store → HeldDocuments b → (tree place node : ℕ)
-    → IsParentRow (map row_of (front_at fronts tree)) place node → IsParentRow (rows (nth_tree (trees_under b v.addresses) tree)) place node
+    → IsParentRow (unplaced (front_at fronts tree)) place node → IsParentRow (rows (nth_tree (trees_under b v.addresses) tree)) place node
 told g b v fronts stays is clean held tree place node q =
     let within = some-front fronts tree node q.there in
     parent-of-front (nth_tree (trees_under b v.addresses) tree) (front_at fronts tree) (front_is (trees_under b v.addresses) fronts tree (is.rows clean held) within) place node q
 
 -- with an answer or without one
 pub told_of : {S : Type 0} (g : Ghosts S) (b : Beginning) (v : Viewed S) (fronts : List Front) (stays : Bool) → IsShelved g b v fronts stays → IsClean g v.store → HeldDocuments b → (tree node : ℕ) (answer : Option ℕ)
-    → IfSome answer (λ place. IsParentRow (map row_of (front_at fronts tree)) place node) → IfSome answer (λ place. IsParentRow (rows (nth_tree (trees_under b v.addresses) tree)) place node)
+    → IfSome answer (λ place. IsParentRow (unplaced (front_at fronts tree)) place node) → IfSome answer (λ place. IsParentRow (rows (nth_tree (trees_under b v.addresses) tree)) place node)
 told_of g b v fronts stays is clean held tree node None h = h
 told_of g b v fronts stays is clean held tree node (Some place) h = told g b v fronts stays is clean held tree place node h

@@ -168,15 +168,15 @@ module _ (a : List ℕ) (low : ℕ) (nodes : List Node) (db : Database) (runs : 
         let some : IsPermutation (filter (is_between low high) mine) read = subst (λ l. IsPermutation l read) (picks (is_at a) (is_between low high) (shown_rows db)) picked.same in
         sorted_unique by_first first_total (map cells (enumerate_from low (take n nodes))) read (numbers_rise low (take n nodes)) (IsPermutation-trans _ _ _ (IsPermutation-sym _ _ all_within) some) picked.sorted
 
-    module _ (there : List NodeRow) (are : map cells (map placed there) ≡ map cells (enumerate_from low (take n nodes))) where
+    module _ (there : List (ℕ × Node)) (are : map cells there ≡ map cells (enumerate_from low (take n nodes))) where
       -- each lies under its number, and none lies beyond them
-      each_lies : (i p : ℕ) → i < n → p ≡ low + i → LiesAs a p (slice_get (map cells (map placed there)) i) db
+      each_lies : (i p : ℕ) → i < n → p ≡ low + i → LiesAs a p (slice_get (map cells there) i) db
       each_lies i p h e =
           subst (λ o. LiesAs a p o db) (sym (ap (λ l. slice_get l i) are ∙ got i n low p nodes h e)) (lies_one a p (slice_get nodes i) db (under i p e))
 
       -- they are so many
       so_many : length there ≡ length (filter (is_between low high) mine)
-      so_many = sym (length-map (map placed there) cells ∙ length-map there placed) ∙ ap length are ∙ length_permutation _ _ all_within
+      so_many = sym (length-map there cells) ∙ ap length are ∙ length_permutation _ _ all_within
 
 -- # Rows that stay, or give way to others
 
@@ -189,11 +189,11 @@ parts_of p (x ∷ xs) = go (p x) (parts_of p xs)
     go false h = IsPermutation-cons x _ _ h
 
 -- a node among others as a row
-pub one_shown : (rows : List NodeRow) (i : ℕ) (row : NodeRow) → slice_get rows i ≡ Some row → slice_get (map cells (map placed rows)) i ≡ Some (cells (placed row))
-one_shown rows i row e = slice_get-map cells (map placed rows) i ∙ ap (option_map cells) (slice_get-map placed rows i ∙ ap (option_map placed) e)
+pub one_shown : (rows : List (ℕ × Node)) (i : ℕ) (row : ℕ × Node) → Some row ≡ slice_get rows i → slice_get (map cells rows) i ≡ Some (cells row)
+one_shown rows i row e = slice_get-map cells rows i ∙ ap (option_map cells) (sym e)
 
-pub none_shown : (rows : List NodeRow) (i : ℕ) → slice_get rows i ≡ None → slice_get (map cells (map placed rows)) i ≡ None
-none_shown rows i e = slice_get-map cells (map placed rows) i ∙ ap (option_map cells) (slice_get-map placed rows i ∙ ap (option_map placed) e)
+pub none_shown : (rows : List (ℕ × Node)) (i : ℕ) → None ≡ slice_get rows i → slice_get (map cells rows) i ≡ None
+none_shown rows i e = slice_get-map cells rows i ∙ ap (option_map cells) (sym e)
 
 -- the row that is to stand there is there
 pub stays : (a : List ℕ) (p : ℕ) (row : Row) (db : Database) → IsSound db → LiesAs a p (Some row) db → HasRenewed a p (p + 1) (row ∷ []) db db
@@ -304,7 +304,7 @@ still_lies a low p xs o old now below it = moved_on a p o old now same
 -- # Rows, one by one
 
 -- the first so many have come to stand where those others were
-abbrev pub IsRenewed : List ℕ → List NodeRow → List NodeRow → ℕ → List (String Global × ℕ) → List (String Global × ℕ) → Database → Database → Type 0
+abbrev pub IsRenewed : List ℕ → List (ℕ × Node) → List NodeRow → ℕ → List (String Global × ℕ) → List (String Global × ℕ) → Database → Database → Type 0
 IsRenewed a there rows i before after old now = (low : ℕ) → AreNumbered low rows → IsSound old → AreNumbers (label_rows old) before → AreThere a low (length rows) there old
     → HasRenewed a low (low + i) (map cells (map placed (take i rows))) old now × AreNumbers (label_rows now) after
 
@@ -314,7 +314,7 @@ numbered_at low zero (r ∷ rows) row all h is = (let e : low ≡ low + 0 = omeg
 numbered_at low (suc i) (r ∷ rows) row all h is = (let e : suc low + i ≡ low + suc i = omega arith in numbered_at (suc low) i rows row all.1 (omega (arith, h)) is ∙ e)
 
 -- none has
-pub none_renewed : (a : List ℕ) (there rows : List NodeRow) (names : List (String Global × ℕ)) (db : Database) → IsRenewed a there rows 0 names names db db
+pub none_renewed : (a : List ℕ) (there : List (ℕ × Node)) (rows : List NodeRow) (names : List (String Global × ℕ)) (db : Database) → IsRenewed a there rows 0 names names db db
 none_renewed a there rows names db low numbered sound all are = (
   record {
     sound = sound;
@@ -342,12 +342,12 @@ none_renewed a there rows names db low numbered sound all are = (
     all_out (x ∷ xs) = (out x, all_out xs)
 
 -- and one more
-pub one_renewed : (a : List ℕ) (i : ℕ) (there rows : List NodeRow) (row : NodeRow) (before mid after : List (String Global × ℕ)) (old now new : Database) → i < length rows → row ≡ get_or rows i row
-    → IsRenewed a there rows i before mid old now → RenewsRow a (placed row) (slice_get (map cells (map placed there)) i) mid after now new → IsRenewed a there rows (i + 1) before after old new
+pub one_renewed : (a : List ℕ) (i : ℕ) (there : List (ℕ × Node)) (rows : List NodeRow) (row : NodeRow) (before mid after : List (String Global × ℕ)) (old now new : Database) → i < length rows → row ≡ get_or rows i row
+    → IsRenewed a there rows i before mid old now → RenewsRow a (placed row) (slice_get (map cells there) i) mid after now new → IsRenewed a there rows (i + 1) before after old new
 one_renewed a i there rows row before mid after old now new h is so_far step low numbered sound all are =
     let p = low + i in
     let xs = map cells (map placed (take i rows)) in
-    let o = slice_get (map cells (map placed there)) i in
+    let o = slice_get (map cells there) i in
     let done = so_far low numbered sound all are in
     let own : row.pre ≡ p = numbered_at low i rows row numbered h is in
     let below : AllByRecursion (λ x. is_from p x ≡ false) xs = new_before low i rows numbered in
@@ -362,7 +362,7 @@ one_renewed a i there rows row before mid after old now new h is so_far step low
     (subst₂ (λ k l. HasRenewed a low k l old new) next joined more, one.1)
 
 -- then all have
-pub rows_renewed : (a : List ℕ) (i : ℕ) (there rows : List NodeRow) (before after : List (String Global × ℕ)) (old now : Database) → i ≡ length rows → IsRenewed a there rows i before after old now → RenewsRows a there rows before after old now
+pub rows_renewed : (a : List ℕ) (i : ℕ) (there : List (ℕ × Node)) (rows : List NodeRow) (before after : List (String Global × ℕ)) (old now : Database) → i ≡ length rows → IsRenewed a there rows i before after old now → RenewsRows a there rows before after old now
 rows_renewed a i there rows before after old now all_done done low numbered sound all are =
     let it = done low numbered sound all are in
     let whole : take i rows ≡ rows = take_all i rows (omega (arith, all_done)) in
@@ -375,12 +375,12 @@ columns_of : (ns : List (ℕ × Node)) → map node_of (map cells ns) ≡ map ce
 columns_of [] = refl
 columns_of (n ∷ ns) = ap (λ l. cells n ∷ l) (columns_of ns)
 
-pub part_renewed : (a : List ℕ) (low high count : ℕ) (rows there : List NodeRow) (read : List Row) (before after : List (String Global × ℕ)) (old began now : Database) → AreNumbered low rows → high ≡ low + length rows → began ≡ old
-    → (IsStoreSchema old.schema → IsPicked (is_part a low high) node_columns (shown_rows old) read) → map cells (map placed there) ≡ map node_of read
+pub part_renewed : (a : List ℕ) (low high count : ℕ) (rows : List NodeRow) (there : List (ℕ × Node)) (read : List Row) (before after : List (String Global × ℕ)) (old began now : Database) → AreNumbered low rows → high ≡ low + length rows → began ≡ old
+    → (IsStoreSchema old.schema → IsPicked (is_part a low high) node_columns (shown_rows old) read) → map cells there ≡ map node_of read
     → RenewsRows a there rows before after began now → count ≡ length there → RenewsPart a low (low + length rows) (map cells (map placed rows)) before after old now count
 part_renewed a low high count rows there read before after old began now numbered size stays picked same renews counted sound all nodes runs =
     let were = read_is a low nodes old runs (length rows) high size read (picked sound.schema) in
-    let are : map cells (map placed there) ≡ map cells (enumerate_from low (take (length rows) nodes)) = same ∙ ap (map node_of) were ∙ columns_of _ in
+    let are : map cells there ≡ map cells (enumerate_from low (take (length rows) nodes)) = same ∙ ap (map node_of) were ∙ columns_of _ in
     let done = subst (λ db. RenewsRows a there rows before after db now) stays renews low numbered sound all (nodes, runs, are) in
     (done.0, done.1, counted ∙ so_many a low nodes old runs (length rows) (low + length rows) refl there are)
 
@@ -402,7 +402,7 @@ some_numbered zero k nodes = refl
 some_numbered (suc n) k [] = refl
 some_numbered (suc n) k (x ∷ nodes) = ap (λ l. (k, x) ∷ l) (some_numbered n (k + 1) nodes)
 
-pub first_there : (a : List ℕ) (t : Tree) (rows : List NodeRow) (db : Database) → IsPermutation (rows_at a (shown_rows db)) (map cells (placed_rows t)) → map placed rows ≡ take (length rows) (placed_rows t) → AreThere a 0 (length rows) rows db
+pub first_there : (a : List ℕ) (t : Tree) (rows : List (ℕ × Node)) (db : Database) → IsPermutation (rows_at a (shown_rows db)) (map cells (placed_rows t)) → rows ≡ take (length rows) (placed_rows t) → AreThere a 0 (length rows) rows db
 first_there a t rows db same first = (rows_of t, all_run a (rows_of t) db same, ap (map cells) (first ∙ some_numbered (length rows) 0 (rows_of t)))
 
 -- none is a first part as well
@@ -410,11 +410,11 @@ pub none_there : (a : List ℕ) (db : Database) → IsStore db → AreThere a 0 
 none_there a db store = (let whole = listed a db store in (whole.0, all_run a whole.0 db whole.1, refl))
 
 -- and some of the first
-some_there : (a : List ℕ) (i n : ℕ) (rows : List NodeRow) (db : Database) → i ≤ n → AreThere a 0 n rows db → AreThere a 0 i (take i rows) db
+some_there : (a : List ℕ) (i n : ℕ) (rows : List (ℕ × Node)) (db : Database) → i ≤ n → AreThere a 0 n rows db → AreThere a 0 i (take i rows) db
 some_there a i n rows db h are = (
   are.0,
   are.1,
-  ap (map cells) (sym (take-map placed i rows)) ∙ sym (take-map cells i (map placed rows)) ∙ ap (take i) are.2 ∙ take-map cells i (enumerate_from 0 (take n are.0)) ∙ ap (map cells) (some_numbered i 0 (take n are.0) ∙ ap (enumerate_from 0) (take-take i n are.0 h)),
+  sym (take-map cells i rows) ∙ ap (take i) are.2 ∙ take-map cells i (enumerate_from 0 (take n are.0)) ∙ ap (map cells) (some_numbered i 0 (take n are.0) ∙ ap (enumerate_from 0) (take-take i n are.0 h)),
 )
 
 -- # A document, part by part
@@ -451,12 +451,12 @@ either_some zero n = ap (nat_lt 0) (omega arith)
 either_some (suc m) n = grind arith
 
 -- how far a put has come over the rows that are kept
-abbrev pub IsUpTo : List ℕ → List NodeRow → List NodeRow → ℕ → Bool → List (String Global × ℕ) → Database → Database → Type 0
+abbrev pub IsUpTo : List ℕ → List (ℕ × Node) → List NodeRow → ℕ → Bool → List (String Global × ℕ) → Database → Database → Type 0
 IsUpTo a kept rows at replaced names old now = AreThere a 0 (length kept) kept old → IsStore old
     → ((deleted : ℕ) × (replaced ≡ nat_lt 0 deleted) × IsReplaced a at deleted (map cells (map placed (take at rows))) old now) × AreNumbers (label_rows now) names
 
 -- the first rows have given way
-pub first_part : (a : List ℕ) (kept rows : List NodeRow) (at : ℕ) (next : Bool) (before after : List (String Global × ℕ)) (old new : Database) → AreNumbered 0 rows → at ≤ length kept → at ≤ length rows → next ≡ nat_lt 0 at → before ≡ []
+pub first_part : (a : List ℕ) (kept : List (ℕ × Node)) (rows : List NodeRow) (at : ℕ) (next : Bool) (before after : List (String Global × ℕ)) (old new : Database) → AreNumbered 0 rows → at ≤ length kept → at ≤ length rows → next ≡ nat_lt 0 at → before ≡ []
     → RenewsRows a (take at kept) (take at rows) before after old new → IsUpTo a kept rows at next after old new
 first_part a kept rows at next before after old new numbered in_kept in_rows is none renews there store =
     let are = some_there a at (length kept) kept old in_kept there in
@@ -471,7 +471,7 @@ first_part a kept rows at next before after old new numbered in_kept in_rows is 
     ((at, is, subst (λ n. IsReplaced a at n (map cells (map placed ours)) old new) zero_more more), done.1)
 
 -- one part more has given way
-pub part_more : (a : List ℕ) (kept rows : List NodeRow) (at stop count : ℕ) (replaced next : Bool) (before after : List (String Global × ℕ)) (old now new : Database) → AreNumbered 0 rows → at ≤ stop → next ≡ (replaced || nat_lt 0 count) → IsUpTo a kept rows at replaced before old now
+pub part_more : (a : List ℕ) (kept : List (ℕ × Node)) (rows : List NodeRow) (at stop count : ℕ) (replaced next : Bool) (before after : List (String Global × ℕ)) (old now new : Database) → AreNumbered 0 rows → at ≤ stop → next ≡ (replaced || nat_lt 0 count) → IsUpTo a kept rows at replaced before old now
     → RenewsPart a at stop (map cells (map placed (slice_range rows at stop))) before after now new count → IsUpTo a kept rows stop next after old new
 part_more a kept rows at stop count replaced next before after old now new numbered forward is so_far renews there store =
     let up = so_far there store in

@@ -80,7 +80,7 @@ own_front f [] fronts i a here are = absurd cc
 own_front f (k ∷ ks) [] i a here are = elim are [ ]
 own_front f (k ∷ ks) (x ∷ fronts) zero a here are =
     let same : k ≡ a = subst (λ o. IfSome o (λ y. k ≡ y)) here refl in
-    subst (λ b. IsFront (f b) x.rows.items) same are.0.rows
+    subst (λ b. IsFront (f b) (kept_rows x)) same are.0.rows
 own_front f (k ∷ ks) (x ∷ fronts) (suc i) a here are = own_front f ks fronts i a here are.1
 
 -- # The shelf

@@ -1,23 +1,25 @@
 //! The rows that are kept of documents: lent, read on where they are wanted, and forgotten.
-ghost use Rattle.std.specs.Prelude.{◌≡◌, IsTrue, List, Some, IfOk, IfSome, OnOk, filter, map};
+ghost use Rattle.std.specs.Prelude.{◌≡◌, IsTrue, List, Some, IfOk, IfSome, OnOk, filter};
 ghost use Rattle.std.specs.FinMap.{get};
-ghost use Rattle.xq_regions.specs.Rows.{placed, placed_rows, row_of};
+ghost use Rattle.std.specs.List.{enumerate_from};
+ghost use Rattle.xq_regions.specs.Rows.{placed_rows};
 ghost use Rattle.xq_regions.specs.Tree.{Tree};
 ghost use Rattle.xq_rows.specs.Documents.{IsClean, IsOpen, Map, StandsFor};
 ghost use Rattle.xq_rows.specs.declared.shelves.Shelf.{Shelf};
 ghost use Rattle.xq_rows.specs.private.Keeps.{LeavesAlone};
-ghost use Rattle.xq_rows.specs.private.Shelves.{AreFronts, AreListed, HasReached, IsFront, IsFrontOf, Reaches, front_at, run_of};
+ghost use Rattle.xq_rows.specs.private.Shelves.{AreFronts, AreListed, HasReached, IsFront, IsFrontOf, Reaches, front_at, kept_rows, run_of};
+ghost use Rattle.xq_sources.specs.Lent.{unplaced};
 ghost use Rattle.xq_sources.specs.Names.{named};
 ghost use Rattle.xq_sources.specs.Parents.{IsParentRow};
 ghost use Rattle.xq_sources.specs.Sources.{tree_at};
 
-use crate::shelves::{Front, Shelf, address_at, front_of};
+use crate::shelves::{Front, Shelf, address_at};
 use crate::stores::Store;
 use sqlite::Alter;
 use std::alloc::Global;
 use xq_atoms::Want;
-use xq_regions::NodeRow;
-use xq_sources::rows_between;
+use xq_packed::PackedRows;
+use xq_sources::LentRows;
 
 /// How many rows are read at a time.
 const PART: u32 = 1_024;
@@ -107,15 +109,15 @@ fn read_rows<S: Alter>(
     alloc: Global,
     store: &mut Store<S>,
     address: &str,
-    rows: &mut Vec<NodeRow>,
+    rows: &mut PackedRows,
     place: u32,
 ) -> Result<(), Want>
     ensures front { IsClean S.Store store.new → (m : Map) → StandsFor S.Store store.old m
-        → (t : Tree) → get m address.now ≡ Some t → IsFront t rows.old.items
-        → IsFront t rows.new.items }
+        → (t : Tree) → get m address.now ≡ Some t → IsFront t (enumerate_from 0 rows.old.rows)
+        → IsFront t (enumerate_from 0 rows.new.rows) }
     ensures reaches { IsClean S.Store store.new → (m : Map) → StandsFor S.Store store.old m
-        → (t : Tree) → get m address.now ≡ Some t → IsFront t rows.old.items
-        → OnOk result (Reaches t place rows.new.items) }
+        → (t : Tree) → get m address.now ≡ Some t → IsFront t (enumerate_from 0 rows.old.rows)
+        → OnOk result (Reaches t place (enumerate_from 0 rows.new.rows)) }
     ensures same { IsClean S.Store store.new → (m : Map) → StandsFor S.Store store.old m
         → StandsFor S.Store store.new m }
     ensures was_open { IsClean S.Store store.new → IsOpen S.Store store.new
@@ -126,11 +128,11 @@ fn read_rows<S: Alter>(
     while rows.len() <= place as usize {
         let low = rows.len() as u32;
         let high = low.saturating_add(PART - 1);
-        let mut found = store.read_between(alloc, address, low, high)?;
+        let found = store.read_between(alloc, address, low, high)?;
         if found.is_empty() {
             return Ok(());
         }
-        rows.append(&mut found)?;
+        rows.extend(&found)?;
     }
     Ok(())
 }
@@ -149,7 +151,7 @@ fn read_front<S: Alter>(
         → IsFrontOf t front.new }
     ensures reaches { IsClean S.Store store.new → (m : Map) → StandsFor S.Store store.old m
         → (t : Tree) → get m address.now ≡ Some t → IsFrontOf t front.old
-        → OnOk result (Reaches t place front.new.rows.items) }
+        → OnOk result (Reaches t place (kept_rows front.new)) }
     ensures same { IsClean S.Store store.new → (m : Map) → StandsFor S.Store store.old m
         → StandsFor S.Store store.new m }
     ensures was_open { IsClean S.Store store.new → IsOpen S.Store store.new
@@ -158,17 +160,17 @@ fn read_front<S: Alter>(
     ensures alone { LeavesAlone S.Store store.old store.new }
 {
     let read = read_rows(alloc, store, address, &mut front.rows, place);
-    let _ = front.guide.read_on(&front.rows);
+    let _ = front.guide.read_on(&LentRows::packed(&front.rows, 0, usize::MAX));
     read
 }
 
 /// The place of the parent of a node, where the rows that are kept tell it.
 pub(crate) fn parent_of(shelf: &Shelf, tree: usize, node: u32) -> Option<u32>
     ensures { IfSome result (λ place.
-        IsParentRow (map row_of (front_at shelf.now.fronts.items tree)) place node) }
+        IsParentRow (unplaced (front_at shelf.now.fronts.items tree)) place node) }
 {
     let front = shelf.fronts.get(tree)?;
-    front.guide.parent(front_of(&shelf.fronts, tree), node)
+    front.guide.parent(&front.lent(), node)
 }
 
 /// Looks for the elements of a tree with a name, where all its rows are kept.
@@ -194,10 +196,13 @@ pub(crate) fn named_in<'a>(shelf: &'a Shelf, tree: usize, name: &str) -> Option<
 }
 
 /// The rows of a run that are kept.
-pub(crate) fn kept_rows(fronts: &[Front], run: Run) -> &[NodeRow]
-    ensures { result.now ≡ run_of (front_at fronts.now run.tree) run.low run.high }
+pub(crate) fn kept_run(fronts: &[Front], run: Run) -> LentRows<'_>
+    ensures { result ≡ run_of (front_at fronts.now run.tree) run.low run.high }
 {
-    rows_between(front_of(fronts, run.tree), run.low, run.high)
+    match fronts.get(run.tree) {
+        Some(front) => LentRows::packed(&front.rows, run.low as usize, run.high as usize + 1),
+        None => LentRows::new(&[]),
+    }
 }
 
 /// Whether the rows that are kept of a tree reach a place. They are wanted now.

@@ -1,8 +1,6 @@
 //! What a view lends: rows that are kept in memory, read on where they are wanted.
-ghost use Rattle.std.specs.Prelude.{map};
-ghost use Rattle.xq_regions.specs.Rows.{placed};
 
-use crate::fronts::{NO_ROWS, Run, find_in_front, kept_rows, named_in, parent_of, read_on};
+use crate::fronts::{NO_ROWS, Run, find_in_front, kept_run, named_in, parent_of, read_on};
 use crate::shelves::front_of;
 use crate::views::{Origin, View};
 use sqlite::Alter;
@@ -17,7 +15,7 @@ impl<S: Alter, O: Origin> RowLender for View<S, O> {
         self.run = NO_ROWS;
         read_on(alloc, &mut self.store, &mut self.shelf, tree, low)?;
         self.run = Run { tree, low, high };
-        let count = kept_rows(&self.shelf.fronts, self.run).len();
+        let count = kept_run(&self.shelf.fronts, self.run).len();
         self.meter = self.meter.with_rows(count);
         Ok(())
     }
@@ -42,7 +40,7 @@ impl<S: Alter, O: Origin> RowLender for View<S, O> {
     }
 
     fn attributes(&self, tree: usize, node: u32) -> Option<u32> {
-        count_attributes(front_of(&self.shelf.fronts, tree), node)
+        count_attributes(&front_of(&self.shelf.fronts, tree), node)
     }
 
     fn find_named(&mut self, alloc: Global, tree: usize, name: &str) {
@@ -54,6 +52,6 @@ impl<S: Alter, O: Origin> RowLender for View<S, O> {
     }
 
     fn lent(&self) -> LentRows<'_> {
-        LentRows::new(kept_rows(&self.shelf.fronts, self.run))
+        kept_run(&self.shelf.fronts, self.run)
     }
 }

@@ -15,20 +15,21 @@ use crate::statements::{delete_part, insert_named, read_part, update_named};
 use sqlite::{Alter, Error, Transaction};
 use std::alloc::Global;
 use xq_regions::NodeRow;
+use xq_sources::{LentRow, LentRows};
 
 /// How many rows are read at a time, to be compared with new ones.
 const PART: usize = 1_000;
 
 /// Whether two rows are the same.
-fn is_same(there: &NodeRow, row: &NodeRow) -> bool
-    ensures { IsTrue result ↔ (placed there.now ≡ placed row.now) }
+fn is_same(there: &LentRow<'_>, row: &NodeRow) -> bool
+    ensures { IsTrue result ↔ (placed_lent there.now ≡ placed row.now) }
 {
     there.pre == row.pre
         && there.size == row.size
         && there.level == row.level
         && there.kind == row.kind
-        && there.name == row.name
-        && there.value == row.value
+        && there.name == row.name.as_str()
+        && there.value == row.value.as_str()
 }
 
 /// Has a node stand under its number, where the row that is there is the one at this place, or
@@ -37,21 +38,21 @@ fn renew_row<S: Alter>(
     transaction: &mut Transaction<'_, S>,
     names: &mut Names,
     address: &str,
-    rows_there: &[NodeRow],
+    rows_there: &LentRows<'_>,
     at: usize,
     row: &NodeRow,
 ) -> Result<(), Error>
     ensures inside { StaysInside S.Store transaction.old transaction.new }
     ensures renewed { HasCleanDisk (state S.Store transaction.new.conn.now)
         → OnOk result (RenewsRow address.now (placed row.now)
-        (slice_get (map cells (map placed rows_there.now)) at)
+        (slice_get (map cells rows_there.now) at)
         names.old.entries names.new.entries (state S.Store transaction.old.conn.now).now
         (state S.Store transaction.new.conn.now).now) }
 {
     let Some(there) = rows_there.get(at) else {
         return insert_named(transaction, names, address, row);
     };
-    if is_same(there, row) {
+    if is_same(&there, row) {
         return Ok(());
     }
     update_named(transaction, names, address, row)
@@ -62,7 +63,7 @@ fn renew_rows<S: Alter>(
     transaction: &mut Transaction<'_, S>,
     names: &mut Names,
     address: &str,
-    rows_there: &[NodeRow],
+    rows_there: &LentRows<'_>,
     rows: &[NodeRow],
 ) -> Result<(), Error>
     ensures inside { StaysInside S.Store transaction.old transaction.new }
@@ -99,7 +100,7 @@ fn renew_part<S: Alter>(
     let high = low + rows.len() as u32;
     let read = read_part(transaction, address, low, high)?;
     let rows_there = node_rows(alloc, &read)?;
-    renew_rows(transaction, names, address, &rows_there, rows)?;
+    renew_rows(transaction, names, address, &LentRows::new(&rows_there), rows)?;
     Ok(rows_there.len())
 }
 
@@ -112,7 +113,7 @@ pub fn replace_rows<S: Alter>(
     alloc: Global,
     transaction: &mut Transaction<'_, S>,
     address: &str,
-    kept: &[NodeRow],
+    kept: &LentRows<'_>,
     rows: &[NodeRow],
 ) -> Result<bool, Refusal>
     requires numbered { AreNumbered 0 rows.now }
@@ -124,7 +125,7 @@ pub fn replace_rows<S: Alter>(
 {
     let mut names = Names::new(alloc);
     let mut at = rows.len().min(kept.len());
-    renew_rows(transaction, &mut names, address, &kept[..at], &rows[..at])?;
+    renew_rows(transaction, &mut names, address, &kept.first(at), &rows[..at])?;
     let mut replaced = at > 0;
     while at < rows.len() {
         let stop = rows.len().min(at + PART);

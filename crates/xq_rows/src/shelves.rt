@@ -2,22 +2,22 @@
 ghost use Rattle.std.specs.Prelude.{◌≡◌, ◌<◌, [], List, Some, IfOk, IfSome, IsTrue, length, map, slice_get};
 ghost use Rattle.std.specs.List.{insert, remove, slice_set as set};
 ghost use Rattle.xq_sources.specs.Addresses.{IsGap};
-ghost use Rattle.xq_sources.specs.Names.{AreNames};
-ghost use Rattle.xq_regions.specs.Rows.{Encodes, placed, placed_rows};
+ghost use Rattle.xq_regions.specs.Rows.{placed_rows};
 ghost use Rattle.xq_regions.specs.Tree.{Tree};
-ghost use Rattle.xq_rows.specs.private.Shelves.{AreFronts, AreKeptOf, HasDropped, HasPut, IsFront, IsFrontOf, front_at};
+ghost use Rattle.xq_rows.specs.private.Shelves.{AreFronts, AreKeptOf, HasDropped, HasPut, IsFront, IsFrontOf, front_at, kept_rows};
 
 use std::alloc::Global;
 use std::collections::HashMap;
 use std::rc::Rc;
 use xq_atoms::Want;
-use xq_regions::{Fragment, NodeRow};
-use xq_sources::{Addresses, Guide, Names, find_named};
+use xq_packed::PackedRows;
+use xq_regions::Fragment;
+use xq_sources::{Addresses, Guide, LentRows, Names, find_named};
 
 /// What is kept of a document: its first rows, and what was found among them.
 #[derive(Drop)]
 pub(crate) struct Front {
-    pub rows: Vec<NodeRow>,
+    pub rows: PackedRows,
     /// Where parents lie among them.
     pub guide: Guide,
     /// The places of its elements by their names, of names that were looked for while all rows were
@@ -47,21 +47,23 @@ impl Front {
         ensures { (t : Tree) → IsFrontOf t result }
     {
         Front {
-            rows: Vec::new(alloc),
+            rows: PackedRows::new(alloc),
             guide: Guide::new(alloc),
             names: HashMap::new(alloc),
             wanted: 0,
         }
     }
 
-    /// All rows of a document, wanted at a time. Where memory is short they are without a guide.
-    pub fn whole(alloc: Global, document: Fragment, wanted: u64) -> Front
-        ensures rows { Encodes result.rows.items document }
-        ensures names { AreNames (placed_rows document) result.names }
+    /// All rows of a document, wanted at a time. Where memory is short they are without a guide, or
+    /// some alone are kept.
+    pub fn whole(alloc: Global, document: &Fragment, wanted: u64) -> Front
+        ensures { IsFrontOf document.now result }
     {
-        let rows = document.into_rows();
+        let mut rows = PackedRows::new(alloc);
         let mut guide = Guide::new(alloc);
-        let _ = guide.read_on(&rows);
+        if rows.extend(document.rows()).is_ok() {
+            let _ = guide.read_on(&LentRows::packed(&rows, 0, usize::MAX));
+        }
         Front {
             rows,
             guide,
@@ -70,23 +72,30 @@ impl Front {
         }
     }
 
+    /// The rows, lent.
+    pub fn lent(&self) -> LentRows<'_>
+        ensures { result ≡ kept_rows self.now }
+    {
+        LentRows::packed(&self.rows, 0, usize::MAX)
+    }
+
     /// Looks for the elements with the name, where these are all rows of the document, so that
     /// their places can be told.
     pub fn find_named(&mut self, alloc: Global, name: &str)
         ensures { (t : Tree) → IsFrontOf t self.old → IsFrontOf t self.new }
     {
-        if are_whole(&self.rows) {
-            find_named(alloc, &mut self.names, &self.rows, name);
+        let rows = LentRows::packed(&self.rows, 0, usize::MAX);
+        if are_whole(&rows) {
+            find_named(alloc, &mut self.names, &rows, name);
         }
     }
 }
 
 /// Whether the first rows of a document are all that it has.
-fn are_whole(rows: &[NodeRow]) -> bool
-    ensures { IsTrue result → (t : Tree) → IsFront t rows.now
-        → map placed rows.now ≡ placed_rows t }
+fn are_whole(rows: &LentRows<'_>) -> bool
+    ensures { IsTrue result → (t : Tree) → IsFront t rows.now → rows.now ≡ placed_rows t }
 {
-    let Some(root) = rows.first() else {
+    let Some(root) = rows.get(0) else {
         return false;
     };
     root.size as usize + 1 == rows.len()
@@ -101,25 +110,25 @@ pub(crate) fn time_of(shelf: &Option<Shelf>) -> u64 {
 }
 
 /// The rows that are kept of the document of an address, which are its first.
-pub(crate) fn kept_of<'a>(shelf: &'a Option<Shelf>, address: &str) -> &'a [NodeRow]
-    ensures { AreKeptOf shelf.now address.now result.now }
+pub(crate) fn kept_of<'a>(shelf: &'a Option<Shelf>, address: &str) -> LentRows<'a>
+    ensures { AreKeptOf shelf.now address.now result }
 {
     let Some(shelf) = shelf else {
-        return &[];
+        return LentRows::new(&[]);
     };
     match shelf.addresses.search(address) {
         Ok(place) => front_of(&shelf.fronts, place),
-        Err(_) => &[],
+        Err(_) => LentRows::new(&[]),
     }
 }
 
 /// The rows of a document that are kept, by its place.
-pub(crate) fn front_of(fronts: &[Front], place: usize) -> &[NodeRow]
-    ensures { result.now ≡ front_at fronts.now place }
+pub(crate) fn front_of(fronts: &[Front], place: usize) -> LentRows<'_>
+    ensures { result ≡ front_at fronts.now place }
 {
     match fronts.get(place) {
-        Some(front) => &front.rows,
-        None => &[],
+        Some(front) => front.lent(),
+        None => LentRows::new(&[]),
     }
 }
 

@@ -301,7 +301,7 @@ impl<S: Alter> Store<S> {
     {
         let kept = self.shelf.take();
         let there = kept_of(&kept, address);
-        let replaced = put_rows(self.alloc, &mut self.conn, address, there, document.rows())?;
+        let replaced = put_rows(self.alloc, &mut self.conn, address, &there, document.rows())?;
         self.shelf = shelf_with(kept, address, Front::new(self.alloc));
         Ok(Put::of(replaced))
     }
@@ -325,9 +325,9 @@ impl<S: Alter> Store<S> {
     {
         let others = self.shelf.take();
         let there = kept_of(&others, address);
-        let replaced = put_rows(self.alloc, &mut self.conn, address, there, document.rows())?;
+        let replaced = put_rows(self.alloc, &mut self.conn, address, &there, document.rows())?;
         let shelf = with_room(self.alloc, others, document.rows().len());
-        let front = Front::whole(self.alloc, document, time_of(&shelf));
+        let front = Front::whole(self.alloc, &document, time_of(&shelf));
         self.shelf = shelf_with(shelf, address, front);
         Ok(Put::of(replaced))
     }

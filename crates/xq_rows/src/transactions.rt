@@ -15,6 +15,7 @@ use crate::statements::delete_rows;
 use sqlite::{Alter, Connection};
 use std::alloc::Global;
 use xq_regions::NodeRow;
+use xq_sources::LentRows;
 
 /// Takes the rows of an address out, and says how many there were.
 pub fn drop_rows<S: Alter>(conn: &mut Connection<S>, address: &str) -> Result<usize, Refusal>
@@ -41,7 +42,7 @@ pub fn put_rows<S: Alter>(
     alloc: Global,
     conn: &mut Connection<S>,
     address: &str,
-    kept: &[NodeRow],
+    kept: &LentRows<'_>,
     rows: &[NodeRow],
 ) -> Result<bool, Refusal>
     requires outside { conn.old.in_transaction ≡ false }

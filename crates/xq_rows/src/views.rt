@@ -56,8 +56,6 @@ pub struct View<S: Alter, O: Origin> {
 }
 
 impl<S: Alter, O: Origin> Model for View<S, O> {
-    ghost use Rattle.std.specs.Prelude.{map};
-    ghost use Rattle.xq_regions.specs.Rows.{placed};
     ghost use Rattle.xq_rows.specs.Views.{Viewed, viewed_code};
     ghost use Rattle.xq_rows.specs.private.Shelves.{IsShelved, front_at, run_of};
 
@@ -69,14 +67,14 @@ impl<S: Alter, O: Origin> Model for View<S, O> {
       store = v.store;
       addresses = v.shelf.addresses.value;
       meter = v.meter;
-      lent = map placed (run_of (front_at v.shelf.fronts.items v.run.tree) v.run.low v.run.high);
+      lent = run_of (front_at v.shelf.fronts.items v.run.tree) v.run.low v.run.high;
     } };
 
     ghost invariant = { λ v. IsShelved S.Store O.beginning (record {
       store = v.store;
       addresses = v.shelf.addresses.value;
       meter = v.meter;
-      lent = map placed (run_of (front_at v.shelf.fronts.items v.run.tree) v.run.low v.run.high);
+      lent = run_of (front_at v.shelf.fronts.items v.run.tree) v.run.low v.run.high;
     }) v.shelf.fronts.items v.shelf.stays };
 }
 

@@ -1,15 +1,14 @@
 -- What is kept in memory of the documents of a store: their addresses, and of each the first rows.
-use Rattle.std.specs.Prelude.{◌≡◌, ◌<◌, ◌≤◌, ◌+◌, ◌-◌, ◌⊎◌, ⊤, ℕ, List, [], ◌∷◌, length, map, take, drop, slice_get, Option, Some, None, Bool, IsTrue}
+use Rattle.std.specs.Prelude.{◌≡◌, ◌<◌, ◌≤◌, ◌+◌, ◌-◌, ◌⊎◌, ⊤, ℕ, List, [], ◌∷◌, length, take, drop, slice_get, Option, Some, None, Bool, IsTrue}
 use Rattle.std.specs.FinMap.{get}
 use Rattle.sqlite_trees.specs.declared.store.Store.{Ghosts}
 use Rattle.xq_regions.specs.Tree.{Tree}
-use Rattle.xq_regions.specs.Rows.{placed, placed_rows}
-use Rattle.xq_regions.specs.declared.NodeRow.{NodeRow}
+use Rattle.xq_regions.specs.Rows.{Row, placed_rows}
 use Rattle.xq_rows.specs.declared.shelves.Front.{Front}
 use Rattle.xq_rows.specs.declared.shelves.Shelf.{Shelf}
 use Rattle.xq_sources.specs.Addresses.{IsGap}
 use Rattle.xq_sources.specs.Names.{AreNames}
-use Rattle.std.specs.List.{insert, remove, slice_set as set}
+use Rattle.std.specs.List.{enumerate_from, insert, remove, slice_set as set}
 use Rattle.xq_sources.specs.Sources.{tree_at}
 use Rattle.sqlite.specs.Held.{state}
 use Rattle.xq_rows.specs.Documents.{Map, IsClean, IsReady}
@@ -17,17 +16,21 @@ use Rattle.xq_rows.specs.Labels.{IsStoreSchema}
 use Rattle.xq_rows.specs.Views.{Beginning, HeldDocuments, Viewed, IsView, trees_under}
 
 -- these are the first rows of a tree
-abbrev pub IsFront : Tree → List NodeRow → Type 0
-IsFront t rows = map placed rows ≡ take (length rows) (placed_rows t)
+abbrev pub IsFront : Tree → List (ℕ × Row) → Type 0
+IsFront t rows = rows ≡ take (length rows) (placed_rows t)
 
 -- a place lies within the rows that are kept of a tree, or these are all
-abbrev pub Reaches : Tree → ℕ → List NodeRow → Type 0
+abbrev pub Reaches : Tree → ℕ → List (ℕ × Row) → Type 0
 Reaches t place rows = (place < length rows) ⊎ (length (placed_rows t) ≤ length rows)
+
+-- the rows that are kept, with their places
+abbrev pub kept_rows : Front → List (ℕ × Row)
+kept_rows front = enumerate_from 0 front.rows.rows
 
 -- what is kept of a tree are its first rows, and all places of elements by their names, of some
 -- names
 pub record IsFrontOf (t : Tree) (front : Front) : Type 0 where
-  pub rows : IsFront t front.rows.items
+  pub rows : IsFront t (kept_rows front)
   pub names : AreNames (placed_rows t) front.names
 
 -- each is what is kept of its tree
@@ -38,15 +41,15 @@ AreFronts (t ∷ trees) [] = ⊥
 AreFronts (t ∷ trees) (front ∷ fronts) = IsFrontOf t front × AreFronts trees fronts
 
 -- the rows that are kept of the tree with this number
-abbrev pub items_in : Option Front → List NodeRow
+abbrev pub items_in : Option Front → List (ℕ × Row)
 items_in None = []
-items_in (Some front) = front.rows.items
+items_in (Some front) = kept_rows front
 
-abbrev pub front_at : List Front → ℕ → List NodeRow
+abbrev pub front_at : List Front → ℕ → List (ℕ × Row)
 front_at fronts tree = items_in (slice_get fronts tree)
 
 -- the rows that are kept of the document of an address
-abbrev pub AreKeptOf : Option Shelf → List ℕ → List NodeRow → Type 0
+abbrev pub AreKeptOf : Option Shelf → List ℕ → List (ℕ × Row) → Type 0
 AreKeptOf None address rows = rows ≡ []
 AreKeptOf (Some shelf) address rows = (place : ℕ)
     × (((slice_get shelf.addresses.value place ≡ Some address)
@@ -54,7 +57,7 @@ AreKeptOf (Some shelf) address rows = (place : ℕ)
     ⊎ (IsGap shelf.addresses.value place address × (rows ≡ [])))
 
 -- those from low to high
-abbrev pub run_of : List NodeRow → ℕ → ℕ → List NodeRow
+abbrev pub run_of : List (ℕ × Row) → ℕ → ℕ → List (ℕ × Row)
 run_of rows low high = take (high + 1 - low) (drop low rows)
 
 -- there is a tree with this number, and its rows are kept up to a place, or all of them

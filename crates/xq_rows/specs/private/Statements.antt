@@ -192,14 +192,14 @@ UpdatesNamed address node before after old new = (row : Row)
 
 -- these nodes are all of an address under so many numbers from low on, where the rows from low on
 -- are numbered without a gap
-abbrev pub AreThere : List ℕ → ℕ → ℕ → List NodeRow → Database → Type 0
+abbrev pub AreThere : List ℕ → ℕ → ℕ → List (ℕ × Node) → Database → Type 0
 AreThere address low count there db = (nodes : List Node) × RunsFrom address low nodes db
-    × (map cells (map placed there) ≡ map cells (enumerate_from low (take count nodes)))
+    × (map cells there ≡ map cells (enumerate_from low (take count nodes)))
 
 -- nodes have come to stand under their numbers, with the names in hand, where those others were
 -- there
-abbrev pub RenewsRows : List ℕ → List NodeRow → List NodeRow → List (String Global × ℕ)
-    → List (String Global × ℕ) → Database → Database → Type 0
+abbrev pub RenewsRows : List ℕ → List (ℕ × Node) → List NodeRow
+    → List (String Global × ℕ) → List (String Global × ℕ) → Database → Database → Type 0
 RenewsRows address there rows before after old new = (low : ℕ) → AreNumbered low rows
     → IsSound old → AreNumbers (label_rows old) before
     → AreThere address low (length rows) there old
@@ -221,13 +221,14 @@ Puts address rows old new replaced = IsStore old → HasReplaced address rows ol
     × (replaced ≡ nat_lt 0 (length (filter (is_at address) (shown_rows old))))
 
 -- one that looks at the rows that are kept of the document, which are its first
-abbrev pub PutsOver : List ℕ → List NodeRow → List Row → Database → Database → Bool → Type 0
+abbrev pub PutsOver : List ℕ → List (ℕ × Node) → List Row → Database → Database → Bool
+    → Type 0
 PutsOver address kept rows old new replaced = AreThere address 0 (length kept) kept old
     → Puts address rows old new replaced
 
 -- the same inside a transaction
-pub record Replaces (address : List ℕ) (kept : List NodeRow) (rows : List Row) (old new : State)
-    (replaced : Bool) : Type 0 where
+pub record Replaces (address : List ℕ) (kept : List (ℕ × Node)) (rows : List Row)
+    (old new : State) (replaced : Bool) : Type 0 where
   pub inside : new.in_transaction ≡ true
   pub did : PutsOver address kept rows old.now new.now replaced
 

@@ -1,8 +1,9 @@
 use Rattle.std.proofs.Common.{◌<◌, length, set, refl, sym, subst, arith}
 use Rattle.std.proofs.lemmas.Bool.{ltb-true}
+use Rattle.std.proofs.lemmas.List.FromFn.{length-enumerate_from}
 use Rattle.xq_sources.specs.Sources.{tree_at}
 use Rattle.xq_rows.specs.declared.shelves.Front.{Front}
-use Rattle.xq_rows.specs.private.Shelves.{IsFrontOf}
+use Rattle.xq_rows.specs.private.Shelves.{IsFrontOf, kept_rows}
 use Rattle.xq_rows.proofs.FrontLaws.{fronts_set, front_set, its_front, reached_in}
 use Rattle.xq_rows.proofs.fronts.has_reached.Goals as goal
 
@@ -24,5 +25,5 @@ returns-clause-reached c more = λ trees are.
     let before = its_front trees fronts at c.in-Some.front.now are within c.in-Some.ensures.value in
     let wanted : Front = record c.in-Some.front.now { wanted = c.args.shelf.now.clock } in
     let is : IsFrontOf (tree_at trees at) wanted = record { rows = before.rows; names = before.names } in
-    let longer : c.args.place < length c.in-Some.front.now.rows.items = let e = c.len.ensures in let l = c.in-Some.front.now.rows.ok.0 in let m = ltb-true c.args.place c.len.result more in omega (arith, e, l, m) in
+    let longer : c.args.place < length (kept_rows c.in-Some.front.now) = let e = c.len.ensures in let l = length-enumerate_from 0 c.in-Some.front.now.rows.rows in let m = ltb-true c.args.place c.len.result more in omega (arith, e, l, m) in
     reached_in trees (set fronts at wanted) at c.args.place (fronts_set trees fronts at wanted are is) (subst (λ rows. c.args.place < length rows) (sym (front_set fronts at wanted within)) longer)

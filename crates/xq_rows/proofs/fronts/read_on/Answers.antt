@@ -1,7 +1,7 @@
 use Rattle.std.proofs.Common.{◌≡◌, ◌<◌, Some, length, set, rc_value, refl, ap, sym, subst, ◌∙◌, arith}
 use Rattle.std.specs.Prelude.{slice_get}
 use Rattle.xq_sources.specs.Sources.{tree_at}
-use Rattle.xq_rows.specs.private.Shelves.{HasReached, Reaches}
+use Rattle.xq_rows.specs.private.Shelves.{HasReached, Reaches, kept_rows}
 use Rattle.xq_rows.proofs.FrontLaws.{as_many, fronts_set, front_set, its_front, on_ok_then}
 use Rattle.xq_rows.proofs.fronts.read_on.Goals as goal
 
@@ -28,6 +28,6 @@ returns-clause-reached g c = λ clean m stands trees listed are.
     let within : at < length fronts = omega (arith, c.in-Some-get_mut.ensures.variant.0 refl, c.make_room.new.shelf.fronts.ok.0) in
     let before = its_front trees fronts at c.in-Some-get_mut.front.now roomy within c.in-Some-get_mut.ensures.value in
     let many = as_many trees fronts roomy in
-    on_ok_then (Reaches (tree_at trees at) c.args.place c.read_front-read.new.front.rows.items) (HasReached trees (set fronts at c.read_front-read.new.front) at c.args.place) c.read_front-read.result
+    on_ok_then (Reaches (tree_at trees at) c.args.place (kept_rows c.read_front-read.new.front)) (HasReached trees (set fronts at c.read_front-read.new.front) at c.args.place) c.read_front-read.result
     (λ reaches. record { tree_in = omega (arith, within, many); reaches = subst (Reaches (tree_at trees at) c.args.place) (sym (front_set fronts at c.read_front-read.new.front within)) reaches })
     (c.read_front-read.ensures.reaches clean m stands (tree_at trees at) has before)

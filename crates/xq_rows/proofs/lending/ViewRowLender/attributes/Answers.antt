@@ -1,6 +1,7 @@
 use Rattle.std.proofs.Common.{sym, subst, IfSome, ap, ◌∙◌, map}
-use Rattle.xq_regions.specs.Rows.{rows, row_of}
+use Rattle.xq_regions.specs.Rows.{rows}
 use Rattle.xq_regions.specs.Tree.{IsTree}
+use Rattle.xq_sources.specs.Lent.{unplaced}
 use Rattle.xq_sources.specs.AttributeRows.{AreAttributeRows}
 use Rattle.xq_sources.specs.Sources.{tree_at as nth_tree}
 use Rattle.xq_rows.specs.Documents.{IsClean}
@@ -15,7 +16,7 @@ returns-clause-told g c = λ clean.
     let answer = c.count_attributes.result in
     let was = subst (λ (w : Viewed _). IsClean g.S.Store w.store) (sym c.self.view_is) clean.0 in
     let kept = c.front_of.ensures ∙ ap (λ fronts. front_at fronts c.args.tree) c.deref.ensures.value in
-    let counted = subst (λ xs. IfSome answer (λ number. AreAttributeRows (map row_of xs) c.args.node number)) kept c.count_attributes.ensures in
+    let counted = subst (λ xs. IfSome answer (λ number. AreAttributeRows (unplaced xs) c.args.node number)) kept c.count_attributes.ensures in
     subst (λ (w : Viewed _). IfSome answer (λ number. AreAttributeRows (rows (nth_tree (trees_under b w.addresses) c.args.tree)) c.args.node number)) c.self.view_is
     (counted_of g.S.Store b _ _ _ c.self.invariant was clean.1 c.args.tree c.args.node answer counted)
 
@@ -25,6 +26,6 @@ returns-clause-is_tree g c = λ clean.
     let answer = c.count_attributes.result in
     let was = subst (λ (w : Viewed _). IsClean g.S.Store w.store) (sym c.self.view_is) clean.0 in
     let kept = c.front_of.ensures ∙ ap (λ fronts. front_at fronts c.args.tree) c.deref.ensures.value in
-    let counted = subst (λ xs. IfSome answer (λ number. AreAttributeRows (map row_of xs) c.args.node number)) kept c.count_attributes.ensures in
+    let counted = subst (λ xs. IfSome answer (λ number. AreAttributeRows (unplaced xs) c.args.node number)) kept c.count_attributes.ensures in
     subst (λ (w : Viewed _). IfSome answer (λ _. IsTree (nth_tree (trees_under b w.addresses) c.args.tree))) c.self.view_is
     (tree_of g.S.Store b _ _ _ c.self.invariant was clean.1 c.args.tree c.args.node answer counted)

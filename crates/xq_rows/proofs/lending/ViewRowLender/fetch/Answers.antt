@@ -1,6 +1,4 @@
-use Rattle.std.proofs.Common.{◌≡◌, length, map, ap, sym, subst, ◌∙◌, rc_value}
-use Rattle.std.proofs.lemmas.List.{length-map}
-use Rattle.xq_regions.specs.Rows.{placed}
+use Rattle.std.proofs.Common.{◌≡◌, length, ap, subst, ◌∙◌, rc_value}
 use Rattle.xq_sources.specs.Lenders.{IsRun}
 use Rattle.xq_sources.specs.Meters.{with_rows}
 use Rattle.xq_sources.specs.Sources.{HasTree, rows_between, tree_at as nth_tree}
@@ -25,12 +23,12 @@ returns-clause-exists g c = λ clean.
 pub returns-clause-found : goal.returns-clause-found
 returns-clause-found g c = λ clean.
     let b = g.O.Origin.beginning in
-    let run = map placed (run_of (front_at c.read_on.new.shelf.fronts.items c.args.tree) c.args.low c.args.high) in
+    let run = run_of (front_at c.read_on.new.shelf.fronts.items c.args.tree) c.args.low c.args.high in
     subst (λ (w : Viewed _). IsRun (rows_between (nth_tree (trees_under b w.addresses) c.args.tree) c.args.low c.args.high) run) c.self.view_is
     (is_run g.S.Store b _ _ _ c.self.invariant c.read_on.new.store c.read_on.new.shelf.fronts.items c.read_on.ensures.was_clean c.read_on.ensures.fronts c.args.tree c.args.low c.in_ok-read_on.ensures.reached clean.0 clean.1 c.args.high)
 
 pub returns-clause-counts : goal.returns-clause-counts
 returns-clause-counts g c =
     let run = run_of (front_at c.read_on.new.shelf.fronts.items c.args.tree) c.args.low c.args.high in
-    let rows : c.kept_rows-count.result.now ≡ run = c.kept_rows-count.ensures ∙ ap (λ fronts. run_of (front_at fronts c.args.tree) c.args.low c.args.high) c.deref.ensures.value in
-    c.with_rows-self-inside.ensures ∙ ap (with_rows c.self.inside.meter) (ap length rows ∙ sym (length-map run placed)) ∙ ap (λ (w : Viewed _). with_rows w.meter (length (map placed run))) c.self.view_is
+    let rows : c.kept_run-count.result ≡ run = c.kept_run-count.ensures ∙ ap (λ fronts. run_of (front_at fronts c.args.tree) c.args.low c.args.high) c.deref.ensures.value in
+    c.with_rows-self-inside.ensures ∙ ap (with_rows c.self.inside.meter) (ap length rows) ∙ ap (λ (w : Viewed _). with_rows w.meter (length run)) c.self.view_is

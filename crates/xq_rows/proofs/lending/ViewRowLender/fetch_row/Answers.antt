@@ -30,7 +30,7 @@ pub returns-clause-found : goal.returns-clause-found
 returns-clause-found g c = λ clean.
     let b = g.O.Origin.beginning in
     let h : c.args.node < length (front_at c.read_on.new.shelf.fronts.items c.args.tree) = subst (λ xs. c.args.node < length xs) (c.front_of.ensures ∙ ap (λ fronts. front_at fronts c.args.tree) c.deref.ensures.value) c.if-node-front_of.false in
-    let lent = map placed (run_of (front_at c.read_on.new.shelf.fronts.items c.args.tree) c.args.node c.args.node) in
+    let lent = run_of (front_at c.read_on.new.shelf.fronts.items c.args.tree) c.args.node c.args.node in
     subst (λ (w : Viewed _). lent ≡ (c.args.node, row_at (rows (nth_tree (trees_under b w.addresses) c.args.tree)) c.args.node) ∷ []) c.self.view_is
     (is_one g.S.Store b _ _ _ c.self.invariant c.read_on.new.store c.read_on.new.shelf.fronts.items c.read_on.ensures.was_clean c.read_on.ensures.fronts c.args.tree c.args.node c.in_ok-read_on.ensures.reached clean.0 clean.1 h)
 

@@ -14,13 +14,13 @@ returns-in_err-replaced-clause-kept g c clean m stands =
 pub returns-clause-put : goal.returns-clause-put
 returns-clause-put g c =
     let keeping = subst (IsKeeping g.S.Store c.self.inside.conn) (sym c.take-kept.ensures.value) c.self.invariant in
-    let did = puts_over g.S.Store c.self.inside.conn c.put_rows.new.conn c.put_rows.ensures.outside c.take-kept.result keeping c.args.address.now c.kept_of-there.result.now c.kept_of-there.ensures _ c.in_ok-replaced.replaced c.in_ok-replaced.ensures.put in
+    let did = puts_over g.S.Store c.self.inside.conn c.put_rows.new.conn c.put_rows.ensures.outside c.take-kept.result keeping c.args.address.now c.kept_of-there.result c.kept_of-there.ensures _ c.in_ok-replaced.replaced c.in_ok-replaced.ensures.put in
     put_stands g.S.Store c.self.inside.conn c.args.self.now c.put_rows.new.conn c.self.view_is c.put_rows.ensures.outside.was_open c.in_ok-replaced.ensures.ends_open c.args.address.now c.requires.address c.args.document.now c.rows.result.now c.rows.ensures c.requires.document c.in_ok-replaced.replaced did
 
 pub returns-clause-answer : goal.returns-clause-answer
 returns-clause-answer g c clean m stands =
     let keeping = subst (IsKeeping g.S.Store c.self.inside.conn) (sym c.take-kept.ensures.value) c.self.invariant in
-    let did = puts_over g.S.Store c.self.inside.conn c.put_rows.new.conn c.put_rows.ensures.outside c.take-kept.result keeping c.args.address.now c.kept_of-there.result.now c.kept_of-there.ensures _ c.in_ok-replaced.replaced c.in_ok-replaced.ensures.put in
+    let did = puts_over g.S.Store c.self.inside.conn c.put_rows.new.conn c.put_rows.ensures.outside c.take-kept.result keeping c.args.address.now c.kept_of-there.result c.kept_of-there.ensures _ c.in_ok-replaced.replaced c.in_ok-replaced.ensures.put in
     let there = put_answer g.S.Store c.self.inside.conn c.args.self.now c.put_rows.new.conn c.self.view_is c.put_rows.ensures.outside.was_open c.in_ok-replaced.ensures.ends_open c.args.address.now c.requires.address c.args.document.now c.rows.result.now c.rows.ensures c.requires.document c.in_ok-replaced.replaced did clean m stands in
     c.of.ensures ∙ ap (λ b. if b then Replaced else Stored) there
 
@@ -45,7 +45,7 @@ returns-clause-was_clean g c = was_clean g.S.Store c.self.inside.conn c.args.sel
 pub invariant_of-self-2 : goal.invariant_of-self-2
 invariant_of-self-2 g c =
     let keeping = subst (IsKeeping g.S.Store c.self.inside.conn) (sym c.take-kept.ensures.value) c.self.invariant in
-    let did = puts_over g.S.Store c.self.inside.conn c.put_rows.new.conn c.put_rows.ensures.outside c.take-kept.result keeping c.args.address.now c.kept_of-there.result.now c.kept_of-there.ensures _ c.in_ok-replaced.replaced c.in_ok-replaced.ensures.put in
+    let did = puts_over g.S.Store c.self.inside.conn c.put_rows.new.conn c.put_rows.ensures.outside c.take-kept.result keeping c.args.address.now c.kept_of-there.result c.kept_of-there.ensures _ c.in_ok-replaced.replaced c.in_ok-replaced.ensures.put in
     has_put g.S.Store c.self.inside.conn c.put_rows.new.conn c.put_rows.ensures.outside c.take-kept.result keeping
     c.args.address.now c.requires.address c.args.document.now (record { is_tree = c.rows.ensures.is_tree; root = c.requires.document }) c.rows.result.now c.rows.ensures c.in_ok-replaced.replaced did
     c.new.result (c.new.ensures c.args.document.now) c.shelf_with.result c.shelf_with.ensures

@@ -10,7 +10,7 @@ use Rattle.xq_rows.proofs.views.ViewRowSource.enclosing.Goals as goal
 pub returns-clause-found : goal.returns-clause-found
 returns-clause-found g c clean =
     let b = g.O.Origin.beginning in
-    let v : Viewed _ = record { store = c.self.inside.store; addresses = c.self.inside.shelf.addresses.value; meter = c.self.inside.meter; lent = map placed (run_of (front_at c.self.inside.shelf.fronts.items c.self.inside.run.tree) c.self.inside.run.low c.self.inside.run.high) } in
+    let v : Viewed _ = record { store = c.self.inside.store; addresses = c.self.inside.shelf.addresses.value; meter = c.self.inside.meter; lent = run_of (front_at c.self.inside.shelf.fronts.items c.self.inside.run.tree) c.self.inside.run.low c.self.inside.run.high } in
     let early = c.read_above.ensures.was_clean clean.0 in
     let here : slice_get v.addresses c.args.tree ≡ Some c.in-Some.address.now = ap (λ l. slice_get l c.args.tree) (sym c.deref.ensures) ∙ c.in-Some.ensures in
     let at = c.args.tree in

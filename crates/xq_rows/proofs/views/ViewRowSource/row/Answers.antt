@@ -13,7 +13,7 @@ use Rattle.xq_rows.specs.Labels.{shown_rows}
 pub returns-clause-exists : goal.returns-clause-exists
 returns-clause-exists g c clean =
     let b = g.O.Origin.beginning in
-    let v : Viewed _ = record { store = c.self.inside.store; addresses = c.self.inside.shelf.addresses.value; meter = c.self.inside.meter; lent = map placed (run_of (front_at c.self.inside.shelf.fronts.items c.self.inside.run.tree) c.self.inside.run.low c.self.inside.run.high) } in
+    let v : Viewed _ = record { store = c.self.inside.store; addresses = c.self.inside.shelf.addresses.value; meter = c.self.inside.meter; lent = run_of (front_at c.self.inside.shelf.fronts.items c.self.inside.run.tree) c.self.inside.run.low c.self.inside.run.high } in
     let early = c.read_between.ensures.was_clean clean.0 in
     let here : slice_get v.addresses c.args.tree ≡ Some c.in-Some.address.now = ap (λ l. slice_get l c.args.tree) (sym c.deref.ensures) ∙ c.in-Some.ensures in
     let at = c.args.tree in
@@ -26,7 +26,7 @@ returns-clause-exists g c clean =
 pub returns-clause-found : goal.returns-clause-found
 returns-clause-found g c clean =
     let b = g.O.Origin.beginning in
-    let v : Viewed _ = record { store = c.self.inside.store; addresses = c.self.inside.shelf.addresses.value; meter = c.self.inside.meter; lent = map placed (run_of (front_at c.self.inside.shelf.fronts.items c.self.inside.run.tree) c.self.inside.run.low c.self.inside.run.high) } in
+    let v : Viewed _ = record { store = c.self.inside.store; addresses = c.self.inside.shelf.addresses.value; meter = c.self.inside.meter; lent = run_of (front_at c.self.inside.shelf.fronts.items c.self.inside.run.tree) c.self.inside.run.low c.self.inside.run.high } in
     let early = c.read_between.ensures.was_clean clean.0 in
     let here : slice_get v.addresses c.args.tree ≡ Some c.in-Some.address.now = ap (λ l. slice_get l c.args.tree) (sym c.deref.ensures) ∙ c.in-Some.ensures in
     let at = c.args.tree in
@@ -38,7 +38,7 @@ returns-clause-found g c clean =
 pub returns-clause-is_tree : goal.returns-clause-is_tree
 returns-clause-is_tree g c clean =
     let b = g.O.Origin.beginning in
-    let v : Viewed _ = record { store = c.self.inside.store; addresses = c.self.inside.shelf.addresses.value; meter = c.self.inside.meter; lent = map placed (run_of (front_at c.self.inside.shelf.fronts.items c.self.inside.run.tree) c.self.inside.run.low c.self.inside.run.high) } in
+    let v : Viewed _ = record { store = c.self.inside.store; addresses = c.self.inside.shelf.addresses.value; meter = c.self.inside.meter; lent = run_of (front_at c.self.inside.shelf.fronts.items c.self.inside.run.tree) c.self.inside.run.low c.self.inside.run.high } in
     let early = c.read_between.ensures.was_clean clean.0 in
     let here : slice_get v.addresses c.args.tree ≡ Some c.in-Some.address.now = ap (λ l. slice_get l c.args.tree) (sym c.deref.ensures) ∙ c.in-Some.ensures in
     let at = c.args.tree in
