@@ -4,10 +4,12 @@ use Rattle.std.specs.Global.{Vec}
 use Rattle.std.specs.HashMap.{get_by_text}
 use Rattle.std.specs.List.{enumerate_from, AllByRecursion}
 use Rattle.std.specs.Prelude.{slice_get, Option, Some, IfSome}
+use Rattle.std.proofs.lemmas.List.FromFn.{length-enumerate_from}
 use Rattle.xq_regions.specs.Forest.{count}
 use Rattle.xq_regions.specs.Tree.{Tree, nodes}
-use Rattle.xq_regions.specs.Rows.{Row, rows, row_at, measured, placed_rows}
+use Rattle.xq_regions.specs.Rows.{Row, rows, row_at, measured, placed, placed_rows, row_of}
 use Rattle.xq_regions.specs.Nesting.{count-measured}
+use Rattle.xq_regions.specs.declared.NodeRow.{NodeRow}
 use Rattle.xq_sources.specs.Lenders.{IsRun}
 use Rattle.xq_sources.specs.Names.{named}
 use Rattle.xq_sources.specs.Sources.{rows_between, tree_at}
@@ -82,6 +84,46 @@ all-first zero [] h = refl
 all-first zero (x ∷ xs) h = absurd (omega (arith, h))
 all-first (suc n) [] h = refl
 all-first (suc n) (x ∷ xs) h = ap (λ ys. x ∷ ys) (all-first n xs (omega (arith, h)))
+
+-- numbered from a place on, and then from the next place on
+numbered-both : (n : ℕ) (xs ys : List Row) → enumerate_from n (xs ++ ys) ≡ enumerate_from n xs ++ enumerate_from (n + length xs) ys
+numbered-both n [] ys = (let e : n ≡ n + 0 = omega arith in ap (λ k. enumerate_from k ys) e)
+numbered-both n (x ∷ xs) ys = (let e : n + 1 + length xs ≡ n + suc (length xs) = omega arith in ap (λ l. (n, x) ∷ l) (numbered-both (n + 1) xs ys ∙ ap (λ k. enumerate_from (n + 1) xs ++ enumerate_from k ys) e))
+
+first-numbered : (k n : ℕ) (rs : List Row) → take k (enumerate_from n rs) ≡ enumerate_from n (take k rs)
+first-numbered zero n rs = refl
+first-numbered (suc k) n [] = refl
+first-numbered (suc k) n (r ∷ rs) = ap (λ l. (n, r) ∷ l) (first-numbered k (n + 1) rs)
+
+past-numbered : (low n : ℕ) (rs : List Row) → drop low (enumerate_from n rs) ≡ enumerate_from (n + low) (drop low rs)
+past-numbered zero n rs = (let e : n ≡ n + 0 = omega arith in ap (λ k. enumerate_from k rs) e)
+past-numbered (suc low) n [] = refl
+past-numbered (suc low) n (r ∷ rs) = (let e : n + 1 + low ≡ n + suc low = omega arith in past-numbered low (n + 1) rs ∙ ap (λ k. enumerate_from k (drop low rs)) e)
+
+numbers-off : (n : ℕ) (rs : List Row) → map (λ (p : ℕ × Row). p.1) (enumerate_from n rs) ≡ rs
+numbers-off n [] = refl
+numbers-off n (r ∷ rs) = ap (λ l. r ∷ l) (numbers-off (n + 1) rs)
+
+rows-placed : (xs : List NodeRow) → map (λ (p : ℕ × Row). p.1) (map placed xs) ≡ map row_of xs
+rows-placed [] = refl
+rows-placed (x ∷ xs) = ap (λ l. row_of x ∷ l) (rows-placed xs)
+
+-- a part of a tree's rows is numbered from its first place on
+part-numbered : (t : Tree) (low high : ℕ) (found : List NodeRow) → map placed found ≡ take (high + 1 - low) (drop low (placed_rows t)) → enumerate_from low (map row_of found) ≡ map placed found
+part-numbered t low high found are =
+    let k = high + 1 - low in
+    let z : 0 + low ≡ low = omega arith in
+    let part : take k (drop low (placed_rows t)) ≡ enumerate_from low (take k (drop low (rows t))) =
+    ap (take k) (past-numbered low 0 (rows t) ∙ ap (λ i. enumerate_from i (drop low (rows t))) z) ∙ first-numbered k low (drop low (rows t)) in
+    let off : map row_of found ≡ take k (drop low (rows t)) =
+    sym (rows-placed found) ∙ ap (map (λ (p : ℕ × Row). p.1)) (are ∙ part) ∙ numbers-off low (take k (drop low (rows t))) in
+    ap (enumerate_from low) off ∙ sym part ∙ sym are
+
+-- the first rows of a tree, numbered
+pub first_kept : (t : Tree) (k : ℕ) → IsFront t (enumerate_from 0 (take k (rows t)))
+first_kept t k =
+    let is : take k (placed_rows t) ≡ enumerate_from 0 (take k (rows t)) = first-numbered k 0 (rows t) in
+    subst (IsFront t) is (own-length k (placed_rows t))
 
 -- one of them alone
 pub one-alone : (v : ℕ) (xs : List (ℕ × Row)) → v < length xs → length (run_of xs v v) ≡ 1
@@ -165,6 +207,22 @@ module _ (t : Tree) (kept : List (ℕ × Row)) (front : IsFront t kept) where
         let n = length kept in
         let k : high + 1 - low ≡ suc (high - low) = omega (arith, past) in
         none-past (high - low) n (placed_rows t) (ap (λ k. take k (drop n (placed_rows t))) (sym k) ∙ sym read ∙ none)
+
+-- a part that was read and packed follows them
+module _ (t : Tree) (rs : List Row) (front : IsFront t (enumerate_from 0 rs)) (low high : ℕ) (found : List NodeRow) (at : low ≡ length rs) (past : low ≤ high) (are : map placed found ≡ rows_between t low high) where
+  at_all : low ≡ length (enumerate_from 0 rs)
+  at_all = at ∙ sym (length-enumerate_from 0 rs)
+
+  pub packed_more : IsFront t (enumerate_from 0 (rs ++ map row_of found))
+  packed_more =
+      let z : 0 + length rs ≡ low = omega (arith, at) in
+      let own : enumerate_from (0 + length rs) (map row_of found) ≡ map placed found =
+      ap (λ k. enumerate_from k (map row_of found)) z ∙ part-numbered t low high found (are ∙ between t low high) in
+      subst (IsFront t) (sym (numbered-both 0 rs (map row_of found) ∙ ap (λ l. enumerate_from 0 rs ++ l) own))
+      (read_more t (enumerate_from 0 rs) front low high (map placed found) at_all past are)
+
+  pub packed_all : found ≡ [] → length (placed_rows t) ≤ length (enumerate_from 0 rs)
+  packed_all none = read_all t (enumerate_from 0 rs) front low high (map placed found) at_all past are (ap (map placed) none)
 
 -- # All rows of a tree
 

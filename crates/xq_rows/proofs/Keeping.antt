@@ -17,7 +17,7 @@ use Rattle.xq_rows.specs.private.Shelves.{AreFronts, AreKeptOf, HasDropped as Sh
 use Rattle.xq_rows.specs.private.Statements.{AreThere, Deletes, IsEmptyStore, Puts, PutsOver}
 use Rattle.xq_rows.specs.Nodes.{cells}
 use Rattle.xq_atoms.specs.Address.{IsAddress}
-use Rattle.xq_regions.specs.Rows.{Encodes, placed, placed_rows}
+use Rattle.xq_regions.specs.Rows.{Encodes, Row as Node, placed, placed_rows}
 use Rattle.xq_regions.specs.declared.NodeRow.{NodeRow}
 use Rattle.xq_rows.proofs.Calls.{encoded}
 use Rattle.sqlite.specs.Effect.{Database}

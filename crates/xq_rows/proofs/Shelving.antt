@@ -7,8 +7,7 @@ use Rattle.std.proofs.lemmas.List.{length-map}
 use Rattle.sqlite.specs.Effect.{Database}
 use Rattle.xq_atoms.specs.Address.{IsAddress}
 use Rattle.xq_regions.specs.Tree.{Tree, IsDocument}
-use Rattle.xq_regions.specs.Rows.{Encodes, placed, placed_rows}
-use Rattle.xq_regions.specs.declared.NodeRow.{NodeRow}
+use Rattle.xq_regions.specs.Rows.{placed_rows}
 use Rattle.xq_sources.specs.Addresses.{IsBefore, IsGap, Rise}
 use Rattle.xq_sources.proofs.Rising.{at_all}
 use Rattle.xq_rows.specs.Documents.{IsStore, documents_of, is_at, tree_at}
@@ -17,7 +16,7 @@ use Rattle.xq_rows.specs.Labels.{shown_rows}
 use Rattle.xq_rows.specs.declared.shelves.Front.{Front}
 use Rattle.xq_rows.specs.declared.shelves.Shelf.{Shelf}
 use Rattle.xq_rows.specs.private.Keeps.{AreOf}
-use Rattle.xq_rows.specs.private.Shelves.{AreFronts, HasDropped as ShelfHasDropped, HasPut, IsFront, IsFrontOf, front_at}
+use Rattle.xq_rows.specs.private.Shelves.{AreFronts, HasDropped as ShelfHasDropped, HasPut, IsFront, IsFrontOf, front_at, kept_rows}
 use Rattle.xq_rows.specs.private.Statements.{AreThere, HasDropped, HasReplaced}
 use Rattle.xq_rows.proofs.Calls.{encoded}
 use Rattle.xq_rows.proofs.FrontLaws.{all-first}
@@ -25,13 +24,6 @@ use Rattle.xq_rows.proofs.MapPlaces.{apart, apart_too, gap_apart, keys_drop_gap,
 use Rattle.xq_rows.proofs.Keys.{get_at}
 use Rattle.xq_rows.proofs.Renewals.{first_there}
 use Rattle.xq_rows.proofs.Maps.{dropped_map, get-none, get-whole, own_tree, put_map, tree_stays_dropped, tree_stays_put}
-
--- all rows of a tree
-pub whole_front : (t : Tree) (rows : List NodeRow) → Encodes rows t → IsFront t rows
-whole_front t rows is =
-    let e = encoded rows t is in
-    let n : length (placed_rows t) ≡ length rows = ap length (sym e) ∙ length-map rows placed in
-    e ∙ sym (all-first (length rows) (placed_rows t) (omega (arith, n)))
 
 -- # Fronts, place by place
 

@@ -1,7 +1,8 @@
 use Rattle.std.proofs.Common.{◌≤◌, inr, eqb-true, sym, subst, ◌∙◌, arith}
+use Rattle.std.specs.List.{enumerate_from}
 use Rattle.xq_rows.specs.private.Shelves.{IsFront}
 use Rattle.xq_rows.proofs.Keeping.{leaves_refl, leaves_then}
-use Rattle.xq_rows.proofs.FrontLaws.{read_more, read_all, empty_items}
+use Rattle.xq_rows.proofs.FrontLaws.{packed_more, packed_all, empty_items}
 use Rattle.xq_rows.proofs.fronts.read_rows.Goals as goal
 
 pub loop-alloc-init : goal.loop-alloc-init
@@ -27,7 +28,7 @@ loop-alloc-preserved g c =
           let kept = so_far.front early m stands t has front in
           let are = c.in_ok-found.ensures.found clean m (so_far.same early m stands) t has in
           let past : c.len-low.result ≤ c.saturating_add-high.result = omega (arith, c.saturating_add-high.ensures, c.len-low.ensures, c.loop-alloc-test.true, c.ranges.place.fits) in
-          subst (IsFront t) (sym c.in_ok-append.ensures.items) (read_more t c.loop-alloc.rows.items kept c.len-low.result c.saturating_add-high.result c.in_ok-found.found.items (c.len-low.ensures ∙ c.loop-alloc.rows.ok.0) past are));
+          subst (λ rs. IsFront t (enumerate_from 0 rs)) (sym c.in_ok-extend.ensures.rows) (packed_more t c.loop-alloc.rows.rows kept c.len-low.result c.saturating_add-high.result c.in_ok-found.found.items c.len-low.ensures.count past are));
     }
 
 pub returns-then-is_empty-clause-reaches : goal.returns-then-is_empty-clause-reaches
@@ -38,7 +39,7 @@ returns-then-is_empty-clause-reaches g c = λ clean m stands t has front.
     let kept = so_far.front early m stands t has front in
     let are = c.in_ok-found.ensures.found clean m (so_far.same early m stands) t has in
     let past : c.len-low.result ≤ c.saturating_add-high.result = omega (arith, c.saturating_add-high.ensures, c.len-low.ensures, c.loop-alloc-test.true, c.ranges.place.fits) in
-    inr (read_all t c.loop-alloc.rows.items kept c.len-low.result c.saturating_add-high.result c.in_ok-found.found.items (c.len-low.ensures ∙ c.loop-alloc.rows.ok.0) past are (empty_items c.in_ok-found.found.items (eqb-true _ 0 (sym c.is_empty.ensures ∙ c.if-is_empty.true)) c.in_ok-found.found.ok.0))
+    inr (packed_all t c.loop-alloc.rows.rows kept c.len-low.result c.saturating_add-high.result c.in_ok-found.found.items c.len-low.ensures.count past are (empty_items c.in_ok-found.found.items (eqb-true _ 0 (sym c.is_empty.ensures ∙ c.if-is_empty.true)) c.in_ok-found.found.ok.0))
 
 pub returns-in_err-found-clause-alone : goal.returns-in_err-found-clause-alone
 returns-in_err-found-clause-alone g c = leaves_then g.S.Store c.args.store.now c.loop-alloc.store c.read_between.new.self c.loop-alloc.invariant.alone c.read_between.ensures.alone
@@ -46,8 +47,8 @@ returns-in_err-found-clause-alone g c = leaves_then g.S.Store c.args.store.now c
 pub returns-then-is_empty-clause-alone : goal.returns-then-is_empty-clause-alone
 returns-then-is_empty-clause-alone g c = leaves_then g.S.Store c.args.store.now c.loop-alloc.store c.read_between.new.self c.loop-alloc.invariant.alone c.read_between.ensures.alone
 
-pub returns-in_err-append-clause-alone : goal.returns-in_err-append-clause-alone
-returns-in_err-append-clause-alone g c = leaves_then g.S.Store c.args.store.now c.loop-alloc.store c.read_between.new.self c.loop-alloc.invariant.alone c.read_between.ensures.alone
+pub returns-in_err-extend-clause-alone : goal.returns-in_err-extend-clause-alone
+returns-in_err-extend-clause-alone g c = leaves_then g.S.Store c.args.store.now c.loop-alloc.store c.read_between.new.self c.loop-alloc.invariant.alone c.read_between.ensures.alone
 
 pub returns-clause-alone : goal.returns-clause-alone
 returns-clause-alone g c = c.loop-alloc.invariant.alone
