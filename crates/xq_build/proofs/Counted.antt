@@ -1,12 +1,12 @@
 -- What a meter shows after rows were read.
 use Rattle.std.specs.Prelude.{sum_by}
 use Rattle.std.proofs.Common.{◌≡◌, ℕ, ◌+◌, ◌-◌, ◌<◌, ◌≤◌, ◌^◌, min, List, ◌∷◌, length, get_or, drop, map, sym, ◌∙◌, ap, subst, arith}
-use Rattle.std.proofs.lemmas.List.{drop_more, length-map}
+use Rattle.std.proofs.lemmas.List.{drop_more}
 use Rattle.std.proofs.lemmas.List.Sums.{sum_by-cons}
 use Rattle.xq_regions.specs.Forest.{count}
 use Rattle.xq_regions.specs.Tree.{Tree, nodes}
 use Rattle.xq_regions.specs.Order.{place_of, path_at}
-use Rattle.xq_regions.specs.Rows.{Row, row_at, rows, placed}
+use Rattle.xq_regions.specs.Rows.{Row, row_at, rows}
 use Rattle.xq_regions.specs.Items.{item_view}
 use Rattle.xq_regions.specs.declared.NodeRow.{NodeRow}
 use Rattle.xq_regions.specs.declared.items.Node.{Node as Spot}
@@ -26,19 +26,12 @@ use Rattle.xq_copies.proofs.Subtrees.{run_splits}
 
 -- # Runs
 
--- what was lent is a run of the tree as it was before the call
-pub lent_run : (trees now : List Tree) (tree low high : ℕ) (run : List NodeRow) (lent : List (ℕ × Row)) → now ≡ trees → map placed run ≡ lent
-    → IsRun (rows_between (tree_at now tree) low high) lent → IsRun (rows_between (tree_at trees tree) low high) (map placed run)
-lent_run trees now tree low high run lent same is h =
-    subst (λ (ts : List Tree). IsRun (rows_between (tree_at ts tree) low high) (map placed run)) same
-    (subst (IsRun (rows_between (tree_at now tree) low high)) (sym is) h)
-
 -- the rows of a run are counted, and no row after the last place is
-pub run_counted : (t : Tree) (low high : ℕ) (run : List NodeRow) (lent : List (ℕ × Row)) (before after : Readings) → IsRun (rows_between t low high) (map placed run)
-    → map placed run ≡ lent → after ≡ with_rows before (length lent) → after.rows + (high + 1 - (low + length run)) ≤ before.rows + (high + 1 - low)
+pub run_counted : (t : Tree) (low high : ℕ) (run lent : List (ℕ × Row)) (before after : Readings) → IsRun (rows_between t low high) run
+    → run ≡ lent → after ≡ with_rows before (length lent) → after.rows + (high + 1 - (low + length run)) ≤ before.rows + (high + 1 - low)
 run_counted t low high run lent before after h is e =
     let fits = (run_splits t low high run h).fits in
-    let n : length lent ≡ length run = sym (ap length is) ∙ length-map run placed in
+    let n : length lent ≡ length run = sym (ap length is) in
     let r : after.rows ≡ min (before.rows + length lent) (2 ^ 64 - 1) = ap (λ (m : Readings). m.rows) e in
     omega (arith, fits, n, r)
 

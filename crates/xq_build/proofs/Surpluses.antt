@@ -14,7 +14,7 @@ use Rattle.xq_meaning.specs.Content.{is_text, attribute_fault, first_fault, or_e
 use Rattle.xq_regions.specs.Forest.{Forest, end, node, tops, IsWithinHeight, join}
 use Rattle.xq_regions.specs.Node.{HasPath, below_at}
 use Rattle.xq_regions.specs.Order.{path_at, place_of}
-use Rattle.xq_regions.specs.Rows.{Row, rows, row_at, placed}
+use Rattle.xq_regions.specs.Rows.{Row, rows, row_at}
 use Rattle.xq_regions.specs.Levels.{flat_row}
 use Rattle.xq_regions.specs.declared.NodeRow.{NodeRow}
 use Rattle.xq_regions.specs.declared.items.Node.{Node as CodeNode}
@@ -29,7 +29,7 @@ use Rattle.xq_meaning.specs.Items.{Item, Node, Atom, tree_below}
 use Rattle.xq_regions.specs.Items.{item_view}
 use Rattle.xq_regions.specs.declared.items.Item.{Item as CodeItem}
 use Rattle.xq_meaning.specs.Readings.{node_at, item_at, items_at}
-use Rattle.xq_copies.specs.Leaves.{Leaf, leaves, lowered, leaves_between, IsRowOf}
+use Rattle.xq_copies.specs.Leaves.{Leaf, leaf, leaves, lowered, leaves_between, IsRowOf}
 use Rattle.xq_copies.proofs.Subtrees.{run_splits, whole_leaves, node_leaves, label}
 use Rattle.xq_build.proofs.Contents.{leaves-leveled, leaves-join, low_leaves, content_at, content_is, tree_content, content_leaves, flattened-with, Childless-join, Childless-open}
 use Rattle.xq_attributes.specs.Attributes.{labels_if, top_labels, fault_from}
@@ -407,14 +407,14 @@ alike_short before x c others full nx nc low =
 
 -- # A run of rows
 
-pub run_high : (t : Tree) (low high : ℕ) (run : List NodeRow) → IsRun (rows_between t low high) (map placed run) → are_low (map flat_row run) ≡ false → are_low (leaves_between t low high) ≡ false
+pub run_high : (t : Tree) (low high : ℕ) (run : List (ℕ × Row)) → IsRun (rows_between t low high) run → are_low (map leaf run) ≡ false → are_low (leaves_between t low high) ≡ false
 run_high t low high run is h =
-    ap are_low (run_splits t low high run is).is ∙ low-append (map flat_row run) (leaves_between t (low + length run) high) ∙ ap (λ b. b && are_low (leaves_between t (low + length run) high)) h
+    ap are_low (run_splits t low high run is).is ∙ low-append (map leaf run) (leaves_between t (low + length run) high) ∙ ap (λ b. b && are_low (leaves_between t (low + length run) high)) h
 
-pub run_low : (t : Tree) (low high next : ℕ) (run : List NodeRow) → IsRun (rows_between t low high) (map placed run) → next ≡ low + length run → are_low (map flat_row run) ≡ true
+pub run_low : (t : Tree) (low high next : ℕ) (run : List (ℕ × Row)) → IsRun (rows_between t low high) run → next ≡ low + length run → are_low (map leaf run) ≡ true
     → are_low (leaves_between t low high) ≡ are_low (leaves_between t next high)
 run_low t low high next run is n h =
-    ap are_low (run_splits t low high run is).is ∙ low-append (map flat_row run) (leaves_between t (low + length run) high) ∙ ap (λ b. b && are_low (leaves_between t (low + length run) high)) h
+    ap are_low (run_splits t low high run is).is ∙ low-append (map leaf run) (leaves_between t (low + length run) high) ∙ ap (λ b. b && are_low (leaves_between t (low + length run) high)) h
     ∙ ap (λ i. are_low (leaves_between t i high)) (sym n)
 
 -- # Copies of nodes

@@ -20,14 +20,15 @@ use Rattle.xq_regions.specs.Items.{item_view}
 use Rattle.xq_meaning.specs.Items.{Item, tree_below}
 use Rattle.xq_meaning.specs.Readings.{item_at, items_at, node_at}
 use Rattle.xq_meaning.specs.Print.{print_item, print_items, within_reply}
-use Rattle.xq_regions.specs.Rows.{row_of, placed}
+use Rattle.xq_regions.specs.Rows.{Row, row_of, placed}
 use Rattle.xq_regions.specs.declared.items.Node.{Node as CodeNode}
 use Rattle.xq_sources.specs.Lenders.{IsRun}
+use Rattle.xq_sources.specs.Lent.{lent_at}
 use Rattle.xq_sources.specs.Sources.{rows_between, tree_at}
-use Rattle.xq_copies.proofs.Subtrees.{run_splits, whole_leaves}
+use Rattle.xq_copies.proofs.Subtrees.{run_left, run_splits, whole_leaves}
 use Rattle.std.specs.Prelude.{Result, String, string_bytes, codes, nat_le, Ok, Err}
 use Rattle.xq_atoms.specs.Answers.{GivesUnlessWanting}
-use Rattle.xq_copies.specs.Leaves.{Leaf, lowered, leaves_between, IsRowOf}
+use Rattle.xq_copies.specs.Leaves.{Leaf, leaf, lowered, leaves_between, IsRowOf}
 use Rattle.xq_build.specs.private.Writing.{IsTooLong, Appends, each_after_comma, escape_char}
 
 -- a text that is too long stays so
@@ -162,54 +163,64 @@ appended limit piece all (Ok t) old mid new e h = (h.0 ∙ e, h.1)
 appended limit piece all (Err f) old mid new e h = too_long_along limit f (string_bytes mid ++ piece) (string_bytes old ++ all) e h
 
 -- a row that is refused
-pub run_refused : (limit : ℕ) (f : Fault) (text all : List ℕ) (depth base i : ℕ) (rs : List NodeRow) (row : NodeRow) (others : List Leaf) → i < length rs → row ≡ get_or rs i row
-    → text ++ text_from depth (map (lowered base) (map flat_row (drop i rs)) ++ others) ≡ all
-    → ((os : List Leaf) → IsTooLong limit (text ++ text_from depth (lowered base (flat_row row) ∷ os)) f) → IsTooLong limit all f
-run_refused limit f text all depth base i rs row others lt is e h =
-    let d : drop i rs ≡ row ∷ drop (i + 1) rs = drop_more rs i row lt ∙ ap (λ (r : NodeRow). r ∷ drop (i + 1) rs) (sym is) in
-    too_long_along limit f _ all (ap (λ (xs : List NodeRow). text ++ text_from depth (map (lowered base) (map flat_row xs) ++ others)) (sym d) ∙ e)
-    (h (map (lowered base) (map flat_row (drop (i + 1) rs)) ++ others))
+pub run_refused : (limit : ℕ) (f : Fault) (text all : List ℕ) (depth base at : ℕ) (run : List (ℕ × Row)) (p : ℕ × Row) (others : List Leaf) → at < length run → p ≡ lent_at run at
+    → text ++ text_from depth (map (lowered base) (map leaf (drop at run)) ++ others) ≡ all
+    → ((os : List Leaf) → IsTooLong limit (text ++ text_from depth (lowered base (leaf p) ∷ os)) f) → IsTooLong limit all f
+run_refused limit f text all depth base at run p others lt is e h =
+    too_long_along limit f _ all (ap (λ (ps : List (ℕ × Row)). text ++ text_from depth (map (lowered base) (map leaf ps) ++ others)) (sym (run_left run at p lt is)) ∙ e)
+    (h (map (lowered base) (map leaf (drop (at + 1) run)) ++ others))
+
+-- a row that was written
+pub row_written : (text now all : List ℕ) (depth depth' base at : ℕ) (run : List (ℕ × Row)) (p : ℕ × Row) (others : List Leaf) → at < length run → p ≡ lent_at run at
+    → text ++ text_from depth (map (lowered base) (map leaf (drop at run)) ++ others) ≡ all
+    → ((os : List Leaf) → now ++ text_from depth' os ≡ text ++ text_from depth (lowered base (leaf p) ∷ os))
+    → now ++ text_from depth' (map (lowered base) (map leaf (drop (at + 1) run)) ++ others) ≡ all
+row_written text now all depth depth' base at run p others lt is e h =
+    h (map (lowered base) (map leaf (drop (at + 1) run)) ++ others)
+    ∙ ap (λ (ps : List (ℕ × Row)). text ++ text_from depth (map (lowered base) (map leaf ps) ++ others)) (sym (run_left run at p lt is)) ∙ e
 
 -- the leaves of a run, and those after it
-split_lowered : (t : Tree) (low high base : ℕ) (run : List NodeRow) → IsRun (rows_between t low high) (map placed run)
-    → map (lowered base) (leaves_between t low high) ≡ map (lowered base) (map flat_row run) ++ map (lowered base) (leaves_between t (low + length run) high)
+split_lowered : (t : Tree) (low high base : ℕ) (run : List (ℕ × Row)) → IsRun (rows_between t low high) run
+    → map (lowered base) (leaves_between t low high) ≡ map (lowered base) (map leaf run) ++ map (lowered base) (leaves_between t (low + length run) high)
 split_lowered t low high base run is =
-    ap (map (lowered base)) (run_splits t low high run is).is ∙ map-append (lowered base) (map flat_row run) (leaves_between t (low + length run) high)
+    ap (map (lowered base)) (run_splits t low high run is).is ∙ map-append (lowered base) (map leaf run) (leaves_between t (low + length run) high)
 
-pub nodes_refused : (limit : ℕ) (f : Fault) (t : Tree) (low high base : ℕ) (run : List NodeRow) (text all : List ℕ) (depth : ℕ) → IsRun (rows_between t low high) (map placed run)
+pub nodes_refused : (limit : ℕ) (f : Fault) (t : Tree) (low high base : ℕ) (run : List (ℕ × Row)) (text all : List ℕ) (depth : ℕ) → IsRun (rows_between t low high) run
     → text ++ text_from depth (map (lowered base) (leaves_between t low high)) ≡ all
-    → ((os : List Leaf) → IsTooLong limit (text ++ text_from depth (map (lowered base) (map flat_row run) ++ os)) f) → IsTooLong limit all f
+    → ((os : List Leaf) → IsTooLong limit (text ++ text_from depth (map (lowered base) (map leaf run) ++ os)) f) → IsTooLong limit all f
 nodes_refused limit f t low high base run text all depth is e h =
     too_long_along limit f _ all (ap (λ (ps : List Leaf). text ++ text_from depth ps) (sym (split_lowered t low high base run is)) ∙ e)
     (h (map (lowered base) (leaves_between t (low + length run) high)))
 
-pub nodes_next : (t : Tree) (low high base : ℕ) (run : List NodeRow) (next : ℕ) (text now all : List ℕ) (depth depth' : ℕ) → IsRun (rows_between t low high) (map placed run)
+pub nodes_next : (t : Tree) (low high base : ℕ) (run : List (ℕ × Row)) (next : ℕ) (text now all : List ℕ) (depth depth' : ℕ) → IsRun (rows_between t low high) run
     → next ≡ low + length run
-    → ((os : List Leaf) → now ++ text_from depth' os ≡ text ++ text_from depth (map (lowered base) (map flat_row run) ++ os))
+    → ((os : List Leaf) → now ++ text_from depth' os ≡ text ++ text_from depth (map (lowered base) (map leaf run) ++ os))
     → text ++ text_from depth (map (lowered base) (leaves_between t low high)) ≡ all
     → now ++ text_from depth' (map (lowered base) (leaves_between t next high)) ≡ all
 nodes_next t low high base run next text now all depth depth' is n h e =
     ap (λ i. now ++ text_from depth' (map (lowered base) (leaves_between t i high))) n ∙ h (map (lowered base) (leaves_between t (low + length run) high))
     ∙ ap (λ (ps : List Leaf). text ++ text_from depth ps) (sym (split_lowered t low high base run is)) ∙ e
 
-root_leaf : (row : NodeRow) → lowered row.level (flat_row row) ≡ (0, (row_of row).label)
-root_leaf row = let z : row.level - row.level ≡ 0 = omega arith in ap (λ i. (i, (row_of row).label)) z
+root_leaf : (row : NodeRow) (p : ℕ × Row) → p ≡ placed row → lowered row.level (leaf p) ≡ (0, (row_of row).label)
+root_leaf row p e =
+    let z : row.level - row.level ≡ 0 = omega arith in
+    ap (λ (q : ℕ × Row). lowered row.level (leaf q)) e ∙ ap (λ i. (i, (row_of row).label)) z
 
 -- the text of a node is that of its row, and then of what is below it
-node_rows : (trees : List Tree) (n : CodeNode) (row : NodeRow) (last : ℕ) → IsRowOf trees n row → last ≡ n.pre + row.size
-    → text_from 0 (lowered row.level (flat_row row) ∷ map (lowered row.level) (leaves_between (tree_at trees n.tree) (n.pre + 1) last)) ≡ print (tree_below trees (node_at trees n))
-node_rows trees n row last is e =
-    ap (λ i. text_from 0 (lowered row.level (flat_row row) ∷ map (lowered row.level) (leaves_between (tree_at trees n.tree) (n.pre + 1) i))) e
-    ∙ ap (λ (p : Leaf). text_from 0 (p ∷ map (lowered row.level) (leaves_between (tree_at trees n.tree) (n.pre + 1) (n.pre + row.size)))) (root_leaf row)
+node_rows : (trees : List Tree) (n : CodeNode) (row : NodeRow) (p : ℕ × Row) (last : ℕ) → IsRowOf trees n row → p ≡ placed row → last ≡ n.pre + row.size
+    → text_from 0 (lowered row.level (leaf p) ∷ map (lowered row.level) (leaves_between (tree_at trees n.tree) (n.pre + 1) last)) ≡ print (tree_below trees (node_at trees n))
+node_rows trees n row p last is lent e =
+    ap (λ i. text_from 0 (lowered row.level (leaf p) ∷ map (lowered row.level) (leaves_between (tree_at trees n.tree) (n.pre + 1) i))) e
+    ∙ ap (λ (q : Leaf). text_from 0 (q ∷ map (lowered row.level) (leaves_between (tree_at trees n.tree) (n.pre + 1) (n.pre + row.size)))) (root_leaf row p lent)
     ∙ whole_text trees n row is
 
-pub node_begun : (trees : List Tree) (n : CodeNode) (row : NodeRow) (last depth : ℕ) (old mid : List ℕ) → IsRowOf trees n row → last ≡ n.pre + row.size
-    → ((os : List Leaf) → mid ++ text_from depth os ≡ old ++ text_from 0 (lowered row.level (flat_row row) ∷ os))
+pub node_begun : (trees : List Tree) (n : CodeNode) (row : NodeRow) (p : ℕ × Row) (last depth : ℕ) (old mid : List ℕ) → IsRowOf trees n row → p ≡ placed row → last ≡ n.pre + row.size
+    → ((os : List Leaf) → mid ++ text_from depth os ≡ old ++ text_from 0 (lowered row.level (leaf p) ∷ os))
     → mid ++ text_from depth (map (lowered row.level) (leaves_between (tree_at trees n.tree) (n.pre + 1) last)) ≡ old ++ print (tree_below trees (node_at trees n))
-node_begun trees n row last depth old mid is e h =
-    h (map (lowered row.level) (leaves_between (tree_at trees n.tree) (n.pre + 1) last)) ∙ ap (λ (l : List ℕ). old ++ l) (node_rows trees n row last is e)
+node_begun trees n row p last depth old mid is lent e h =
+    h (map (lowered row.level) (leaves_between (tree_at trees n.tree) (n.pre + 1) last)) ∙ ap (λ (l : List ℕ). old ++ l) (node_rows trees n row p last is lent e)
 
-pub node_refused : (limit : ℕ) (f : Fault) (trees : List Tree) (n : CodeNode) (row : NodeRow) (last : ℕ) (old : List ℕ) → IsRowOf trees n row → last ≡ n.pre + row.size
-    → ((os : List Leaf) → IsTooLong limit (old ++ text_from 0 (lowered row.level (flat_row row) ∷ os)) f) → IsTooLong limit (old ++ print (tree_below trees (node_at trees n))) f
-node_refused limit f trees n row last old is e h =
-    too_long_along limit f _ _ (ap (λ (l : List ℕ). old ++ l) (node_rows trees n row last is e)) (h (map (lowered row.level) (leaves_between (tree_at trees n.tree) (n.pre + 1) last)))
+pub node_refused : (limit : ℕ) (f : Fault) (trees : List Tree) (n : CodeNode) (row : NodeRow) (p : ℕ × Row) (last : ℕ) (old : List ℕ) → IsRowOf trees n row → p ≡ placed row → last ≡ n.pre + row.size
+    → ((os : List Leaf) → IsTooLong limit (old ++ text_from 0 (lowered row.level (leaf p) ∷ os)) f) → IsTooLong limit (old ++ print (tree_below trees (node_at trees n))) f
+node_refused limit f trees n row p last old is lent e h =
+    too_long_along limit f _ _ (ap (λ (l : List ℕ). old ++ l) (node_rows trees n row p last is lent e)) (h (map (lowered row.level) (leaves_between (tree_at trees n.tree) (n.pre + 1) last)))

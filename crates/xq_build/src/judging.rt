@@ -4,6 +4,7 @@ ghost use Rattle.xq_regions.specs.Forest.{Forest};
 ghost use Rattle.xq_regions.specs.Tree.{Label};
 ghost use Rattle.xq_regions.specs.Levels.{flat_row};
 ghost use Rattle.xq_meaning.specs.Content.{built as built_lem, label};
+ghost use Rattle.xq_copies.specs.Leaves.{leaf};
 ghost use Rattle.xq_atoms.specs.Answers.{GivesUnlessWanting};
 ghost use Rattle.xq_build.specs.private.Content.{are_low as are_low_lem, raised as raised_lem};
 ghost use Rattle.xq_build.specs.private.Surplus.{StandsFor};
@@ -13,6 +14,7 @@ use std::mem;
 use xq_atoms::{Code, Fault, Want};
 use xq_attributes::judge_attributes;
 use xq_regions::{Fragment, Kind, MAX_LEVEL, MAX_NODES, NodeRow};
+use xq_sources::LentRows;
 
 /// Whether no level is over that of the children of the lowest nodes but one.
 pub fn are_low(rows: &[NodeRow]) -> bool
@@ -20,6 +22,18 @@ pub fn are_low(rows: &[NodeRow]) -> bool
 {
     for row in rows {
         if row.level >= MAX_LEVEL {
+            return false;
+        }
+    }
+    true
+}
+
+/// The same of rows that are lent.
+pub fn are_low_lent(rows: &LentRows<'_>) -> bool
+    ensures { result ≡ are_low_lem (map leaf rows.now) }
+{
+    for at in 0..rows.len() {
+        if rows.row(at).level >= MAX_LEVEL {
             return false;
         }
     }

@@ -5,17 +5,16 @@ ghost use Rattle.std.specs.Char.{encode_utf8};
 ghost use Rattle.xq_atoms.specs.Atom.{atomic_of};
 ghost use Rattle.xq_atoms.specs.Print.{print_atomic, quoted, escaped};
 ghost use Rattle.xq_regions.specs.Items.{item_view};
-ghost use Rattle.xq_regions.specs.Rows.{row_of};
 ghost use Rattle.xq_regions.specs.Print.{heading, content, opening, print};
-ghost use Rattle.xq_regions.specs.Levels.{flat_row};
 ghost use Rattle.xq_regions.specs.Printing.{closing, between, text_from};
+ghost use Rattle.xq_sources.specs.Lent.{placed_lent, row_lent};
 ghost use Rattle.xq_sources.specs.Sources.{tree_at};
 ghost use Rattle.xq_meaning.specs.Print.{longest_text, print_item, print_items as printed_items, within_reply};
 ghost use Rattle.xq_meaning.specs.Items.{tree_below};
 ghost use Rattle.xq_meaning.specs.Readings.{item_at, items_at, node_at};
 ghost use Rattle.xq_atoms.specs.Answers.{GivesUnlessWanting};
 ghost use Rattle.xq_build.specs.Reads.{ReadsItems};
-ghost use Rattle.xq_copies.specs.Leaves.{lowered, leaves_between, IsRowOf};
+ghost use Rattle.xq_copies.specs.Leaves.{leaf, lowered, leaves_between, IsRowOf};
 ghost use Rattle.xq_build.specs.private.Printing.{ReadsItem};
 ghost use Rattle.xq_build.specs.private.Writing.{Appends, GoesOn, each_after_comma, escape_char};
 
@@ -24,7 +23,7 @@ use std::alloc::Global;
 use xq_atoms::{Atom, Code, Fault, Want};
 use xq_copies::row_of_node;
 use xq_regions::{Item, Kind, Node, NodeRow};
-use xq_sources::RowLender;
+use xq_sources::{LentRow, LentRows, RowLender};
 
 /// The greatest length of a reply's text, in bytes.
 const MAX_REPLY: usize = 16_777_216;
@@ -108,12 +107,12 @@ fn append_content(text: &mut String, limit: usize, kind: Kind, value: &str) -> R
 }
 
 /// Writes what stands at a node before its attributes and children.
-fn append_opening(text: &mut String, limit: usize, row: &NodeRow) -> Result<(), Fault>
-    ensures { Appends limit (opening (row_of row.now).label) result text.old text.new }
+fn append_opening(text: &mut String, limit: usize, row: &LentRow<'_>) -> Result<(), Fault>
+    ensures { Appends limit (opening (row_lent row.now).label) result text.old text.new }
 {
     append(text, limit, word(row.kind))?;
-    append_heading(text, limit, row.kind, row.name.as_str())?;
-    append_content(text, limit, row.kind, row.value.as_str())
+    append_heading(text, limit, row.kind, row.name)?;
+    append_content(text, limit, row.kind, row.value)
 }
 
 /// Closes so many nodes.
@@ -147,10 +146,11 @@ fn append_row(
     limit: usize,
     depth: u64,
     base: u32,
-    row: &NodeRow,
+    row: &LentRow<'_>,
 ) -> Result<u64, Fault>
     requires { length (string_bytes text.old) ≤ limit }
-    ensures { GoesOn limit depth (lowered base (flat_row row.now) ∷ []) result text.old text.new }
+    ensures { GoesOn limit depth (lowered base (leaf (placed_lent row.now)) ∷ []) result
+        text.old text.new }
 {
     let level = u64::from(row.level.saturating_sub(base));
     append_between(text, limit, depth, level)?;
@@ -164,15 +164,15 @@ fn append_run(
     limit: usize,
     depth: u64,
     base: u32,
-    rows: &[NodeRow],
+    rows: &LentRows<'_>,
 ) -> Result<u64, Fault>
     requires { length (string_bytes text.old) ≤ limit }
-    ensures { GoesOn limit depth (map (lowered base) (map flat_row rows.now)) result
+    ensures { GoesOn limit depth (map (lowered base) (map leaf rows.now)) result
         text.old text.new }
 {
     let mut depth = depth;
-    for row in rows {
-        depth = append_row(text, limit, depth, base, row)?;
+    for at in 0..rows.len() {
+        depth = append_row(text, limit, depth, base, &rows.row(at))?;
     }
     Ok(depth)
 }
@@ -210,7 +210,7 @@ fn append_nodes<L: RowLender>(
         if run.is_empty() {
             return append_closing(text, limit, depth);
         }
-        depth = append_run(text, limit, depth, base, run)?;
+        depth = append_run(text, limit, depth, base, &run)?;
         next = next.saturating_add(run.len());
     }
     append_closing(text, limit, depth)
@@ -239,7 +239,7 @@ fn append_node<L: RowLender>(
     let Some(last) = node.pre.checked_add(root.size) else {
         return Err(Fault::Want(Want::Store));
     };
-    let depth = append_row(text, limit, 0, root.level, root)?;
+    let depth = append_row(text, limit, 0, root.level, &LentRow::new(root))?;
     let first = node.pre as usize + 1;
     append_nodes(
         alloc, source, text, limit, depth, root.level, node.tree, first, last,

@@ -13,7 +13,7 @@ ghost use Rattle.xq_build.specs.private.Content.{are_low as are_low_lem, Childle
 ghost use Rattle.xq_build.specs.private.Surplus.{firm_count as firm_count_lem, is_late as is_late_lem, is_full as is_full_lem, AreSeen, Shortens};
 
 use crate::content::is_top_text;
-use crate::judging::are_low;
+use crate::judging::are_low_lent;
 use indexmap::IndexSet;
 use std::alloc::Global;
 use xq_atoms::Want;
@@ -112,7 +112,7 @@ fn are_low_between<L: RowLender>(
         if run.is_empty() {
             return Ok(true);
         }
-        if !are_low(run) {
+        if !are_low_lent(&run) {
             return Ok(false);
         }
         next = next.saturating_add(run.len());

@@ -1,14 +1,13 @@
 -- The rows of a node and of all that is below it.
-use Rattle.std.specs.Prelude.{Bool, true, nat_eq}
+use Rattle.std.specs.Prelude.{Some, slice_get}
 use Rattle.std.proofs.Common.{◌≡◌, ℕ, zero, suc, ◌+◌, ◌-◌, ◌<◌, ◌≤◌, List, [], ◌∷◌, ◌++◌, length, take, drop, map, refl, sym, ◌∙◌, ap, subst, arith, append_assoc}
 use Rattle.std.specs.List.{enumerate_from}
-use Rattle.std.proofs.lemmas.Bool.Decides.{nat_tests}
-use Rattle.std.proofs.lemmas.List.{append-nil, map-append, length-append, length-take, take-append-drop, drop-take, drop-drop, drop-append-le, drop_at, take_at, take-map, drop-map, nil_from_length, length-map, map_push}
+use Rattle.std.proofs.lemmas.List.{append-nil, map-append, length-append, length-take, take-append-drop, drop-take, drop-drop, drop-append-le, drop_at, take_at, take-map, drop-map, take_more, drop_more, nil_from_length, map_push}
 use Rattle.xq_regions.specs.Forest.{Forest, end, node, count}
-use Rattle.xq_regions.specs.Tree.{Label, Tree, nodes, no_label}
+use Rattle.xq_regions.specs.Tree.{Label, Tree, IsTree, nodes, no_label}
 use Rattle.xq_regions.specs.Node.{HasPath, label_at, below_at}
 use Rattle.xq_regions.specs.Order.{place_of, path_at}
-use Rattle.xq_regions.specs.Rows.{Row, rows, row_at, row_of, placed, placed_rows}
+use Rattle.xq_regions.specs.Rows.{Row, no_row, rows, row_at, row_of, placed, placed_rows}
 use Rattle.xq_regions.specs.Levels.{flat, flat_row}
 use Rattle.xq_regions.specs.declared.NodeRow.{NodeRow}
 use Rattle.xq_regions.specs.declared.Kind.{Kind}
@@ -17,20 +16,18 @@ use Rattle.xq_regions.specs.declared.items.Node.{Node}
 use Rattle.xq_regions.proofs.Printed.{leveled, flat-measured}
 use Rattle.xq_regions.proofs.Paths.{place_lt, at_place}
 use Rattle.xq_regions.proofs.Regions.{row_at-place_of}
-use Rattle.xq_sources.specs.Sources.{rows_between, tree_at}
+use Rattle.xq_sources.specs.Lent.{lent_at}
+use Rattle.xq_sources.specs.Sources.{rows_between, tree_at, HasNode}
 use Rattle.xq_sources.specs.Lenders.{IsRun}
 use Rattle.xq_sources.proofs.Intervals.{between-places}
 use Rattle.xq_meaning.specs.Items.{tree_below}
 use Rattle.xq_meaning.specs.Readings.{node_at}
 use Rattle.xq_meaning.specs.Content.{copied}
-use Rattle.xq_copies.specs.Leaves.{Leaf, leaves, lowered, leaves_between, IsRowOf}
+use Rattle.xq_copies.specs.Leaves.{Leaf, leaf, leaves, lowered, leaves_between, IsRowOf}
 
 -- # Parts of the rows of a tree
 
-leaf : ℕ × Row → Leaf
-leaf p = flat p.1
-
-leaves-enumerate : (n : ℕ) (rs : List Row) → map (λ (p : ℕ × Row). flat p.1) (enumerate_from n rs) ≡ map flat rs
+leaves-enumerate : (n : ℕ) (rs : List Row) → map leaf (enumerate_from n rs) ≡ map flat rs
 leaves-enumerate n [] = refl
 leaves-enumerate n (r ∷ rs) = ap (λ l. flat r ∷ l) (leaves-enumerate (n + 1) rs)
 
@@ -40,9 +37,8 @@ part t low high = between-places low 0 low high (rows t) (let z : low ≡ 0 + lo
 
 part_leaves : (t : Tree) (low high : ℕ) → leaves_between t low high ≡ take (high + 1 - low) (drop low (leveled 0 (nodes t)))
 part_leaves t low high =
-    let f = λ (p : ℕ × Row). flat p.1 in
-    ap (map f) (part t low high) ∙ sym (take-map f (high + 1 - low) (drop low (placed_rows t)))
-    ∙ ap (take (high + 1 - low)) (sym (drop-map f low (placed_rows t)) ∙ ap (drop low) (leaves-enumerate 0 (rows t) ∙ flat-measured 0 (nodes t)))
+    ap (map leaf) (part t low high) ∙ sym (take-map leaf (high + 1 - low) (drop low (placed_rows t)))
+    ∙ ap (take (high + 1 - low)) (sym (drop-map leaf low (placed_rows t)) ∙ ap (drop low) (leaves-enumerate 0 (rows t) ∙ flat-measured 0 (nodes t)))
 
 -- past the last place there are none
 pub none_left : (t : Tree) (low high : ℕ) → high < low → leaves_between t low high ≡ []
@@ -50,35 +46,34 @@ none_left t low high h =
     let z : high + 1 - low ≡ 0 = omega arith in
     part_leaves t low high ∙ ap (λ n. take n (drop low (leveled 0 (nodes t)))) z
 
-pub none_lent : (t : Tree) (low high : ℕ) (run : List NodeRow) → IsRun (rows_between t low high) (map placed run) → length run ≡ 0 → leaves_between t low high ≡ []
+-- an empty run is lent where there are none
+pub none_lent : (t : Tree) (low high : ℕ) (run : List (ℕ × Row)) → IsRun (rows_between t low high) run → run ≡ [] → leaves_between t low high ≡ []
 none_lent t low high run is e =
-    let n : length (map placed run) ≡ 0 = length-map run placed ∙ e in
-    ap (map (λ (p : ℕ × Row). flat p.1)) (nil_from_length (rows_between t low high) (none (length (rows_between t low high)) (λ h. (let s = is.some h in omega (arith, s, n)))))
+    ap (map leaf) (nil_from_length (rows_between t low high) (none (length (rows_between t low high)) (λ h. (let s = is.some h in let n = ap length e in omega (arith, s, n)))))
   where
     none : (n : ℕ) → (0 < n → ⊥) → n ≡ 0
     none zero h = refl
     none (suc n) h = absurd (h (omega arith))
 
-flat_placed : (run : List NodeRow) → map (λ (p : ℕ × Row). flat p.1) (map placed run) ≡ map flat_row run
-flat_placed [] = refl
-flat_placed (r ∷ rs) = ap (λ l. flat_row r ∷ l) (flat_placed rs)
+-- what was lent is a run of the tree as it was before the call
+pub lent_run : (trees now : List Tree) (tree low high : ℕ) (run lent : List (ℕ × Row)) → now ≡ trees → run ≡ lent
+    → IsRun (rows_between (tree_at now tree) low high) lent → IsRun (rows_between (tree_at trees tree) low high) run
+lent_run trees now tree low high run lent same is h =
+    subst (λ (ts : List Tree). IsRun (rows_between (tree_at ts tree) low high) run) same
+    (subst (IsRun (rows_between (tree_at now tree) low high)) (sym is) h)
 
 -- a run, and the rows after it
-pub record Splits (t : Tree) (low high : ℕ) (run : List NodeRow) : Type 0 where
+pub record Splits (t : Tree) (low high : ℕ) (run : List (ℕ × Row)) : Type 0 where
   pub fits : length run ≤ high + 1 - low
-  pub is : leaves_between t low high ≡ map flat_row run ++ leaves_between t (low + length run) high
+  pub is : leaves_between t low high ≡ map leaf run ++ leaves_between t (low + length run) high
 
-pub run_splits : (t : Tree) (low high : ℕ) (run : List NodeRow) → IsRun (rows_between t low high) (map placed run) → Splits t low high run
+pub run_splits : (t : Tree) (low high : ℕ) (run : List (ℕ × Row)) → IsRun (rows_between t low high) run → Splits t low high run
 run_splits t low high run is =
     let all = leveled 0 (nodes t) in
     let k = length run in
     let m = high + 1 - low in
-    let n : length (map placed run) ≡ k = length-map run placed in
-    let f = λ (p : ℕ × Row). flat p.1 in
-    let lent : map placed run ≡ take k (rows_between t low high) = is.first ∙ ap (λ i. take i (rows_between t low high)) n in
-    let le : k ≤ m = omega (arith, n, ap length lent, length-take k (rows_between t low high), ap length (part t low high), length-take m (drop low (placed_rows t))) in
-    let front : map flat_row run ≡ take k (leaves_between t low high) =
-    sym (flat_placed run) ∙ ap (map f) lent ∙ sym (take-map f k (rows_between t low high)) in
+    let le : k ≤ m = omega (arith, ap length is.first, length-take k (rows_between t low high), ap length (part t low high), length-take m (drop low (placed_rows t))) in
+    let front : map leaf run ≡ take k (leaves_between t low high) = ap (map leaf) is.first ∙ sym (take-map leaf k (rows_between t low high)) in
     let c : m ≡ k + (m - k) = omega arith in
     let c' : m - k ≡ high + 1 - (low + k) = omega arith in
     let rest : drop k (leaves_between t low high) ≡ leaves_between t (low + k) high =
@@ -86,24 +81,46 @@ run_splits t low high run is =
     ∙ ap (take (m - k)) (drop-drop k low all) ∙ ap (λ i. take i (drop (low + k) all)) c' ∙ sym (part_leaves t (low + k) high) in
     record {
       fits = le;
-      is = sym (take-append-drop k (leaves_between t low high)) ∙ ap (λ l. l ++ drop k (leaves_between t low high)) (sym front) ∙ ap (λ l. map flat_row run ++ l) rest;
+      is = sym (take-append-drop k (leaves_between t low high)) ∙ ap (λ l. l ++ drop k (leaves_between t low high)) (sym front) ∙ ap (λ l. map leaf run ++ l) rest;
     }
 
 -- one run further
-pub run_next : (t : Tree) (low high base : ℕ) (run : List NodeRow) (next : ℕ) (copies copies' whole : List Leaf)
-    → IsRun (rows_between t low high) (map placed run)
+pub run_next : (t : Tree) (low high base : ℕ) (run : List (ℕ × Row)) (next : ℕ) (copies copies' whole : List Leaf)
+    → IsRun (rows_between t low high) run
     → next ≡ low + length run
-    → copies' ≡ copies ++ map (lowered base) (map flat_row run)
+    → copies' ≡ copies ++ map (lowered base) (map leaf run)
     → copies ++ map (lowered base) (leaves_between t low high) ≡ whole
     → copies' ++ map (lowered base) (leaves_between t next high) ≡ whole
 run_next t low high base run next copies copies' whole is n e h =
     let s = (run_splits t low high run is).is in
     let rest = map (lowered base) (leaves_between t (low + length run) high) in
     ap (λ l. l ++ map (lowered base) (leaves_between t next high)) e
-    ∙ ap (λ i. (copies ++ map (lowered base) (map flat_row run)) ++ map (lowered base) (leaves_between t i high)) n
-    ∙ append_assoc copies (map (lowered base) (map flat_row run)) rest
-    ∙ ap (λ l. copies ++ l) (sym (map-append (lowered base) (map flat_row run) (leaves_between t (low + length run) high)) ∙ ap (map (lowered base)) (sym s))
+    ∙ ap (λ i. (copies ++ map (lowered base) (map leaf run)) ++ map (lowered base) (leaves_between t i high)) n
+    ∙ append_assoc copies (map (lowered base) (map leaf run)) rest
+    ∙ ap (λ l. copies ++ l) (sym (map-append (lowered base) (map leaf run) (leaves_between t (low + length run) high)) ∙ ap (map (lowered base)) (sym s))
     ∙ h
+
+-- # A run row by row
+
+-- the rows before one, and the row
+pub run_taken : (run : List (ℕ × Row)) (at : ℕ) (p : ℕ × Row) → at < length run → p ≡ lent_at run at → take (at + 1) run ≡ take at run ++ p ∷ []
+run_taken run at p lt is = take_more run at (0, no_row) lt ∙ ap (λ (q : ℕ × Row). take at run ++ q ∷ []) (sym is)
+
+-- a row, and the rows after it
+pub run_left : (run : List (ℕ × Row)) (at : ℕ) (p : ℕ × Row) → at < length run → p ≡ lent_at run at → drop at run ≡ p ∷ drop (at + 1) run
+run_left run at p lt is = drop_more run at (0, no_row) lt ∙ ap (λ (q : ℕ × Row). q ∷ drop (at + 1) run) (sym is)
+
+-- a copy more
+pub row_copied : (run : List (ℕ × Row)) (at base : ℕ) (p : ℕ × Row) (row : NodeRow) (copies now : List NodeRow) (start : List Leaf)
+    → at < length run → p ≡ lent_at run at → flat_row row ≡ lowered base (leaf p) → now ≡ copies ++ row ∷ []
+    → map flat_row copies ≡ start ++ map (lowered base) (map leaf (take at run)) → map flat_row now ≡ start ++ map (lowered base) (map leaf (take (at + 1) run))
+row_copied run at base p row copies now start lt is low pushed h =
+    let front = map (lowered base) (map leaf (take at run)) in
+    let more : map (lowered base) (map leaf (take (at + 1) run)) ≡ front ++ lowered base (leaf p) ∷ [] =
+    ap (λ (ps : List (ℕ × Row)). map (lowered base) (map leaf ps)) (run_taken run at p lt is)
+    ∙ ap (map (lowered base)) (map_push leaf (take at run) p) ∙ map_push (lowered base) (map leaf (take at run)) (leaf p) in
+    ap (map flat_row) pushed ∙ map_push flat_row copies row ∙ ap (λ (ps : List Leaf). ps ++ flat_row row ∷ []) h
+    ∙ append_assoc start front (flat_row row ∷ []) ∙ ap (λ (q : Leaf). start ++ (front ++ q ∷ [])) low ∙ ap (λ (ps : List Leaf). start ++ ps) (sym more)
 
 -- # A node and what is below it
 
@@ -235,8 +252,16 @@ module _ (trees : List Tree) (n : Node) (row : NodeRow) (is : IsRowOf trees n ro
 
 -- # What code does step by step
 
-pub empty_is : (n : ℕ) (b : Bool) → b ≡ nat_eq n 0 → b ≡ true → n ≡ 0
-empty_is n b e h = grind (arith, nat_tests)
+-- the row of a node that was lent alone
+pub row_kept : (trees : List Tree) (n : Node) (run : List (ℕ × Row)) (p : ℕ × Row) (row : NodeRow) → HasNode trees n.tree n.pre → IsTree (tree_at trees n.tree)
+    → run ≡ (n.pre, row_at (rows (tree_at trees n.tree)) n.pre) ∷ [] → Some p ≡ slice_get run 0 → placed row ≡ p → IsRowOf trees n row
+row_kept trees n run p row there is lent first kept =
+    let same : p ≡ (n.pre, row_at (rows (tree_at trees n.tree)) n.pre) = alone run p (n.pre, row_at (rows (tree_at trees n.tree)) n.pre) lent first in
+    record { has_node = there; is_tree = is; is_row = ap (λ (q : ℕ × Row). q.1) (kept ∙ same) }
+  where
+    alone : (run : List (ℕ × Row)) (p q : ℕ × Row) → run ≡ q ∷ [] → Some p ≡ slice_get run 0 → p ≡ q
+    alone [] p q e h = absurd (cc)
+    alone (r ∷ rs) p q e h = cc
 
 -- a row, and then others
 pub pushed : (before now after : List NodeRow) (row : NodeRow) (others whole : List Leaf)

@@ -2,7 +2,7 @@
 use Rattle.std.specs.Prelude.{ℕ, ◌-◌, ◌≡◌, List, map}
 use Rattle.xq_regions.specs.Forest.{Forest, labels}
 use Rattle.xq_regions.specs.Tree.{Label, Tree, IsTree}
-use Rattle.xq_regions.specs.Rows.{measured, rows, row_at, row_of}
+use Rattle.xq_regions.specs.Rows.{Row, measured, rows, row_at, row_of}
 use Rattle.xq_regions.specs.Levels.{flat}
 use Rattle.xq_regions.specs.declared.NodeRow.{NodeRow}
 use Rattle.xq_regions.specs.declared.items.Node.{Node}
@@ -10,6 +10,10 @@ use Rattle.xq_sources.specs.Sources.{rows_between, tree_at, HasNode}
 
 abbrev pub Leaf : Type 0
 Leaf = ℕ × Label
+
+-- the node of a row with its place
+abbrev pub leaf : ℕ × Row → Leaf
+leaf p = flat p.1
 
 -- the nodes, where those at the top have the level 0
 abbrev pub leaves : Forest Label → List Leaf
@@ -21,7 +25,7 @@ lowered base p = (p.0 - base, p.1)
 
 -- the leaves of a tree whose places lie between these, both included
 abbrev pub leaves_between : Tree → ℕ → ℕ → List Leaf
-leaves_between t low high = map (λ p. flat p.1) (rows_between t low high)
+leaves_between t low high = map leaf (rows_between t low high)
 
 -- the row is that of the node
 pub record IsRowOf (trees : List Tree) (node : Node) (row : NodeRow) : Type 0 where

@@ -2,27 +2,28 @@
 ghost use Rattle.std.specs.Prelude.{◌≡◌, ◌≤◌, ◌++◌, ◌+◌, map, IfOk, OnOk};
 ghost use Rattle.xq_regions.specs.Tree.{nodes};
 ghost use Rattle.xq_regions.specs.Levels.{flat_row};
+ghost use Rattle.xq_sources.specs.Lent.{placed_lent};
 ghost use Rattle.xq_sources.specs.Sources.{tree_at};
 ghost use Rattle.xq_meaning.specs.Items.{tree_below};
 ghost use Rattle.xq_meaning.specs.Readings.{node_at};
-ghost use Rattle.xq_copies.specs.Leaves.{leaves, lowered, leaves_between, IsRowOf};
+ghost use Rattle.xq_copies.specs.Leaves.{leaf, leaves, lowered, leaves_between, IsRowOf};
 
 use std::alloc::Global;
 use xq_atoms::Want;
 use xq_regions::{Node, NodeRow};
-use xq_sources::RowLender;
+use xq_sources::{LentRow, LentRows, RowLender};
 
 /// The same row, so many levels further up.
-fn lowered_row(alloc: Global, row: &NodeRow, base: u32) -> Result<NodeRow, Want>
-    ensures { IfOk result (λ copy. flat_row copy ≡ lowered base (flat_row row.now)) }
+fn lowered_row(alloc: Global, row: &LentRow<'_>, base: u32) -> Result<NodeRow, Want>
+    ensures { IfOk result (λ copy. flat_row copy ≡ lowered base (leaf (placed_lent row.now))) }
 {
     Ok(NodeRow {
         pre: 0,
         size: 0,
         level: row.level.saturating_sub(base),
         kind: row.kind,
-        name: String::from_str(alloc, row.name.as_str())?,
-        value: String::from_str(alloc, row.value.as_str())?,
+        name: String::from_str(alloc, row.name)?,
+        value: String::from_str(alloc, row.value)?,
     })
 }
 
@@ -31,15 +32,15 @@ fn lowered_row(alloc: Global, row: &NodeRow, base: u32) -> Result<NodeRow, Want>
 fn append_rows(
     alloc: Global,
     copies: &mut Vec<NodeRow>,
-    rows: &[NodeRow],
+    rows: &LentRows<'_>,
     base: u32,
 ) -> Result<(), Want>
     ensures { OnOk result (map flat_row copies.new.items
-        ≡ map flat_row copies.old.items ++ map (lowered base) (map flat_row rows.now)) }
+        ≡ map flat_row copies.old.items ++ map (lowered base) (map leaf rows.now)) }
 {
     copies.reserve(rows.len().saturating_add(1))?;
-    for row in rows {
-        copies.push(lowered_row(alloc, row, base)?)?;
+    for at in 0..rows.len() {
+        copies.push(lowered_row(alloc, &rows.row(at), base)?)?;
     }
     Ok(())
 }
@@ -67,7 +68,7 @@ fn append_between<L: RowLender>(
         if run.is_empty() {
             return Ok(());
         }
-        append_rows(alloc, copies, run, base)?;
+        append_rows(alloc, copies, &run, base)?;
         next = next.saturating_add(run.len());
     }
     Ok(())
@@ -82,9 +83,9 @@ pub fn row_of_node<L: RowLender>(alloc: Global, source: &mut L, node: Node) -> R
     ensures was_clean { L.is_clean source.new → L.is_clean source.old }
 {
     source.fetch_row(alloc, node.tree, node.pre)?;
-    match source.lent() {
-        [row, ..] => row.try_clone(alloc),
-        [] => Err(Want::Store),
+    match source.lent().get(0) {
+        Some(row) => row.to_row(alloc),
+        None => Err(Want::Store),
     }
 }
 

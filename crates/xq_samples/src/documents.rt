@@ -3,7 +3,7 @@
 use std::alloc::{AllocError, Global};
 use xq_atoms::Want;
 use xq_regions::{Fragment, Kind, Node, NodeRow};
-use xq_sources::Fragments;
+use xq_sources::{Fragments, LentRow, LentRows};
 
 /// A row: pre, size, level, kind, name, value.
 pub type Row = (u32, u32, u32, Kind, &'static str, &'static str);
@@ -146,19 +146,19 @@ pub fn register(alloc: Global) -> Result<Fragment, Want> {
 }
 
 /// Whether the row is this one.
-pub fn is_row(row: &NodeRow, (pre, size, level, kind, name, value): Row) -> bool {
+pub fn is_row(row: &LentRow<'_>, (pre, size, level, kind, name, value): Row) -> bool {
     row.pre == pre
         && row.size == size
         && row.level == level
         && row.kind == kind
-        && row.name.as_str() == name
-        && row.value.as_str() == value
+        && row.name == name
+        && row.value == value
 }
 
 /// Whether the rows are those of the document.
 pub fn are_rows(rows: &[NodeRow], document: &[Row]) -> bool {
     for (row, wanted) in rows.iter().zip(document) {
-        if !is_row(row, *wanted) {
+        if !is_row(&LentRow::new(row), *wanted) {
             return false;
         }
     }
@@ -166,11 +166,13 @@ pub fn are_rows(rows: &[NodeRow], document: &[Row]) -> bool {
 }
 
 /// Whether the rows are those of the document at these places.
-pub fn are_rows_at(rows: &[NodeRow], document: &[Row], places: &[usize]) -> bool {
-    for (row, place) in rows.iter().zip(places) {
-        match document.get(*place) {
-            Some(wanted) if is_row(row, *wanted) => {}
-            _ => return false,
+pub fn are_rows_at(rows: &LentRows<'_>, document: &[Row], places: &[usize]) -> bool {
+    for (at, place) in places.iter().enumerate() {
+        let (Some(row), Some(wanted)) = (rows.get(at), document.get(*place)) else {
+            return false;
+        };
+        if !is_row(&row, *wanted) {
+            return false;
         }
     }
     rows.len() == places.len()

@@ -4,7 +4,7 @@
 use crate::documents::{EMPTY, LIBRARY, Row, are_rows_at, tree_of};
 use std::alloc::Global;
 use xq_atoms::Want;
-use xq_sources::{Fragments, Meter, RowLender, RowSource};
+use xq_sources::{Fragments, LentRows, Meter, RowLender, RowSource};
 
 /// What is read of a tree.
 #[derive(Clone, Copy)]
@@ -107,7 +107,7 @@ fn gives<S: RowSource>(
             rows
         }
     };
-    Ok(are_rows_at(&rows, document(tree), places))
+    Ok(are_rows_at(&LentRows::new(&rows), document(tree), places))
 }
 
 /// Whether the source gives the rows of the nodes above a node that are wanted.
@@ -117,7 +117,11 @@ fn gives_above<S: RowSource>(
     (node, tree, wanted): (u32, usize, Option<&'static [usize]>),
 ) -> Result<bool, Want> {
     let rows = source.enclosing(alloc, tree, node)?;
-    Ok(are_rows_at(&rows, document(tree), places_of(wanted)))
+    Ok(are_rows_at(
+        &LentRows::new(&rows),
+        document(tree),
+        places_of(wanted),
+    ))
 }
 
 /// Whether the lender lends the rows that are wanted.
@@ -130,7 +134,11 @@ fn lends<L: RowLender>(
         Reading::Range(low, high) => lender.fetch(alloc, tree, low, high)?,
         Reading::Node(node) => lender.fetch_row(alloc, tree, node)?,
     }
-    Ok(are_rows_at(lender.lent(), document(tree), places_of(wanted)))
+    Ok(are_rows_at(
+        &lender.lent(),
+        document(tree),
+        places_of(wanted),
+    ))
 }
 
 /// The number of the first reading that the source answers or counts otherwise.

@@ -8,7 +8,7 @@ use xq_axes::{axis, copy, double_slash, step, string_value};
 use xq_expressions::Text;
 use xq_meaning::Test;
 use xq_regions::{Axis, Kind, Node};
-use xq_sources::RowLender;
+use xq_sources::{LentRow, RowLender};
 
 /// An axis from a node at a place, and the places of the nodes there.
 type Way = (u32, Axis, &'static [u32]);
@@ -219,7 +219,7 @@ fn wrong_copy<L: RowLender>(alloc: Global, source: &mut L) -> Result<Option<usiz
     let book = copy(alloc, source, Node { tree: 0, pre: 2 })?;
     for (at, row) in book.rows().iter().enumerate() {
         match COPY.get(at) {
-            Some(wanted) if is_row(row, *wanted) => {}
+            Some(wanted) if is_row(&LentRow::new(row), *wanted) => {}
             _ => return Ok(Some(at)),
         }
     }

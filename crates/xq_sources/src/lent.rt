@@ -1,5 +1,5 @@
 //! Rows as they are lent: read where they lie, and not copied.
-ghost use Rattle.std.specs.Prelude.{◌≡◌, ◌<◌, ◌≤◌, length, map, slice_get, IfOk, IfSome, IfNone, IsTrue, ◌↔◌, []};
+ghost use Rattle.std.specs.Prelude.{◌≡◌, ◌<◌, ◌≤◌, ◌^◌, length, map, slice_get, IfOk, IfSome, IfNone, IsTrue, ◌↔◌, []};
 ghost use Rattle.std.specs.Option.{option_map};
 ghost use Rattle.xq_regions.specs.Rows.{placed};
 ghost use Rattle.xq_sources.specs.Lent.{placed_lent, lent_at};
@@ -52,6 +52,7 @@ impl<'a> LentRow<'a> {
 }
 
 /// Rows beside one another, as they are lent. Contracts see them with their places.
+#[derive(Drop)]
 pub struct LentRows<'a> {
     rows: &'a [NodeRow],
 }
@@ -100,6 +101,7 @@ impl<'a> LentRows<'a> {
         ensures row { option_map placed_lent result ≡ slice_get self.now at }
         ensures within { IfSome result (λ _. at < length self.now) }
         ensures none { IfNone result (length self.now ≤ at) }
+        ensures few { length self.now < 2 ^ 64 }
     {
         match self.rows.get(at) {
             Some(row) => Some(LentRow::new(row)),
@@ -113,6 +115,9 @@ impl<'a> LentRows<'a> {
         requires { at < length self.now }
         ensures { placed_lent result ≡ lent_at self.now at }
     {
-        LentRow::new(&self.rows[at])
+        let Some(row) = self.get(at) else {
+            unreachable!();
+        };
+        row
     }
 }

@@ -1,4 +1,4 @@
-use Rattle.std.proofs.Common.{◌≡◌, ◌+◌, length, sym, ap, ◌∙◌, subst, eqb-true, arith}
+use Rattle.std.proofs.Common.{◌≡◌, ◌+◌, length, sym, ap, ◌∙◌, subst, arith}
 use Rattle.xq_sources.specs.Sources.{tree_at, rows_between}
 use Rattle.xq_sources.specs.Lenders.{IsRun}
 use Rattle.xq_sources.specs.Meters.{Readings}
@@ -64,7 +64,7 @@ returns-then-is_empty-clause-read g c = λ k start r. (
     let n : length rows ≡ length run = ap length c.lent-rows.ensures in
     let found : IsRun (rows_between t c.loop-next.next c.args.high) run =
     subst (λ f. IsRun (rows_between (tree_at f c.args.tree) c.loop-next.next c.args.high) run) inv.forest (c.in_ok-fetch.ensures.found k) in
-    let z : length rows ≡ 0 = eqb-true (length rows) 0 (sym c.is_empty.ensures ∙ c.if-is_empty.true) in
+    let z : length rows ≡ 0 = ap length (c.is_empty.ensures.0 c.if-is_empty.true) in
     let before = inv.read was start r in
     let e = run_last t s c.loop-next.next run found (sym n ∙ z) inv.from (omega arith) before.0 in
     subst (λ m. g.V.Visitor.has_read start c.loop-next.visitor t s m) e before.1)

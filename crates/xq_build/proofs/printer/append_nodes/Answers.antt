@@ -1,14 +1,11 @@
-use Rattle.std.proofs.Common.{◌≡◌, ◌∙◌, ◌++◌, ◌+◌, ◌-◌, ◌≤◌, List, length, ap, sym, subst, arith, map, string_bytes}
+use Rattle.std.proofs.Common.{◌≡◌, ◌∙◌, ◌++◌, ◌+◌, ◌-◌, ◌≤◌, List, length, ap, sym, arith, map, string_bytes}
 use Rattle.std.proofs.lemmas.Result.{err_from_is_err_and}
-use Rattle.xq_regions.specs.Tree.{Tree}
 use Rattle.xq_regions.specs.Printing.{text_from}
-use Rattle.xq_regions.specs.Rows.{placed}
-use Rattle.xq_sources.specs.Lenders.{IsRun}
 use Rattle.xq_sources.specs.Meters.{Readings}
-use Rattle.xq_sources.specs.Sources.{rows_between, tree_at}
+use Rattle.xq_sources.specs.Sources.{tree_at}
 use Rattle.xq_copies.specs.Leaves.{Leaf, lowered}
-use Rattle.xq_copies.proofs.Subtrees.{none_left, none_lent, run_splits, empty_is}
-use Rattle.xq_build.proofs.Counted.{lent_run, run_counted}
+use Rattle.xq_copies.proofs.Subtrees.{none_left, none_lent, lent_run, run_splits}
+use Rattle.xq_build.proofs.Counted.{run_counted}
 use Rattle.xq_build.proofs.Written.{appended, nodes_next, nodes_refused}
 use Rattle.xq_build.proofs.printer.append_nodes.Goals as goal
 
@@ -16,11 +13,9 @@ pub returns-in_err-depth-clause-appends : goal.returns-in_err-depth-clause-appen
 returns-in_err-depth-clause-appends g c = λ h.
     (let i = c.loop-next.invariant in
     let t = tree_at (g.L.TreeSource.forest c.args.source.now) c.args.tree in
-    let run = c.lent-run.result.now in
-    let before : IsRun (rows_between (tree_at (g.L.TreeSource.forest c.loop-next.source) c.args.tree) c.loop-next.next c.args.high) (map placed run) =
-    subst (IsRun (rows_between (tree_at (g.L.TreeSource.forest c.loop-next.source) c.args.tree) c.loop-next.next c.args.high)) (sym c.lent-run.ensures) (c.in_ok-fetch.ensures.found h) in
-    let is : IsRun (rows_between t c.loop-next.next c.args.high) (map placed run) =
-    subst (λ (trees : List Tree). IsRun (rows_between (tree_at trees c.args.tree) c.loop-next.next c.args.high) (map placed run)) i.keeps before in
+    let run = c.lent-run.result in
+    let lent = g.L.RowLender.lent c.fetch.new.self in
+    let is = lent_run (g.L.TreeSource.forest c.args.source.now) (g.L.TreeSource.forest c.loop-next.source) c.args.tree c.loop-next.next c.args.high run lent i.keeps c.lent-run.ensures (c.in_ok-fetch.ensures.found h) in
     let p = err_from_is_err_and c.from_residual-in_err-depth.result c.from_residual-in_err-depth.ensures.1 in
     rw (p.1, p.2)
     (nodes_refused c.args.limit c.in_err-depth.field-0.0 t c.loop-next.next c.args.high c.args.base run (string_bytes c.loop-next.text) _ c.loop-next.depth is (i.written (c.fetch.ensures.was_clean h)) c.in_err-depth.ensures))
@@ -33,11 +28,9 @@ loop-next-preserved g c = record {
   written = λ h.
       (let i = c.loop-next.invariant in
       let t = tree_at (g.L.TreeSource.forest c.args.source.now) c.args.tree in
-      let run = c.lent-run.result.now in
-      let before : IsRun (rows_between (tree_at (g.L.TreeSource.forest c.loop-next.source) c.args.tree) c.loop-next.next c.args.high) (map placed run) =
-      subst (IsRun (rows_between (tree_at (g.L.TreeSource.forest c.loop-next.source) c.args.tree) c.loop-next.next c.args.high)) (sym c.lent-run.ensures) (c.in_ok-fetch.ensures.found h) in
-      let is : IsRun (rows_between t c.loop-next.next c.args.high) (map placed run) =
-      subst (λ (trees : List Tree). IsRun (rows_between (tree_at trees c.args.tree) c.loop-next.next c.args.high) (map placed run)) i.keeps before in
+      let run = c.lent-run.result in
+      let lent = g.L.RowLender.lent c.fetch.new.self in
+      let is = lent_run (g.L.TreeSource.forest c.args.source.now) (g.L.TreeSource.forest c.loop-next.source) c.args.tree c.loop-next.next c.args.high run lent i.keeps c.lent-run.ensures (c.in_ok-fetch.ensures.found h) in
       let fits : length run ≤ c.args.high + 1 - c.loop-next.next = (run_splits t c.loop-next.next c.args.high run is).fits in
       let n : c.saturating_add-next.result ≡ c.loop-next.next + length run = omega (arith, fits) in
       nodes_next t c.loop-next.next c.args.high c.args.base run c.saturating_add-next.result (string_bytes c.loop-next.text) (string_bytes c.append_run.new.text) _ c.loop-next.depth c.in_ok-depth.depth
@@ -45,7 +38,7 @@ loop-next-preserved g c = record {
   rows = λ h.
       (let i = c.loop-next.invariant in
       let t = tree_at (g.L.TreeSource.forest c.args.source.now) c.args.tree in
-      let run = c.lent-run.result.now in
+      let run = c.lent-run.result in
       let lent = g.L.RowLender.lent c.fetch.new.self in
       let is = lent_run (g.L.TreeSource.forest c.args.source.now) (g.L.TreeSource.forest c.loop-next.source) c.args.tree c.loop-next.next c.args.high run lent i.keeps c.lent-run.ensures (c.in_ok-fetch.ensures.found h) in
       let fits : length run ≤ c.args.high + 1 - c.loop-next.next = (run_splits t c.loop-next.next c.args.high run is).fits in
@@ -60,12 +53,10 @@ pub returns-then-is_empty-clause-appends : goal.returns-then-is_empty-clause-app
 returns-then-is_empty-clause-appends g c = λ h.
     (let i = c.loop-next.invariant in
     let t = tree_at (g.L.TreeSource.forest c.args.source.now) c.args.tree in
-    let run = c.lent-run.result.now in
-    let before : IsRun (rows_between (tree_at (g.L.TreeSource.forest c.loop-next.source) c.args.tree) c.loop-next.next c.args.high) (map placed run) =
-    subst (IsRun (rows_between (tree_at (g.L.TreeSource.forest c.loop-next.source) c.args.tree) c.loop-next.next c.args.high)) (sym c.lent-run.ensures) (c.in_ok-fetch.ensures.found h) in
-    let is : IsRun (rows_between t c.loop-next.next c.args.high) (map placed run) =
-    subst (λ (trees : List Tree). IsRun (rows_between (tree_at trees c.args.tree) c.loop-next.next c.args.high) (map placed run)) i.keeps before in
-    let none = none_lent t c.loop-next.next c.args.high run is (empty_is (length run) c.is_empty.result c.is_empty.ensures c.if-is_empty.true) in
+    let run = c.lent-run.result in
+    let lent = g.L.RowLender.lent c.fetch.new.self in
+    let is = lent_run (g.L.TreeSource.forest c.args.source.now) (g.L.TreeSource.forest c.loop-next.source) c.args.tree c.loop-next.next c.args.high run lent i.keeps c.lent-run.ensures (c.in_ok-fetch.ensures.found h) in
+    let none = none_lent t c.loop-next.next c.args.high run is (c.is_empty.ensures.0 c.if-is_empty.true) in
     appended c.args.limit _ _ c.append_closing.result c.args.text.now c.loop-next.text c.append_closing.new.text
     (ap (λ (ps : List Leaf). string_bytes c.loop-next.text ++ text_from c.loop-next.depth (map (lowered c.args.base) ps)) (sym none) ∙ i.written (c.fetch.ensures.was_clean h)) c.append_closing.ensures)
 
@@ -80,7 +71,7 @@ pub returns-in_err-depth-clause-rows : goal.returns-in_err-depth-clause-rows
 returns-in_err-depth-clause-rows g c = λ h.
     (let i = c.loop-next.invariant in
     let t = tree_at (g.L.TreeSource.forest c.args.source.now) c.args.tree in
-    let run = c.lent-run.result.now in
+    let run = c.lent-run.result in
     let lent = g.L.RowLender.lent c.fetch.new.self in
     let is = lent_run (g.L.TreeSource.forest c.args.source.now) (g.L.TreeSource.forest c.loop-next.source) c.args.tree c.loop-next.next c.args.high run lent i.keeps c.lent-run.ensures (c.in_ok-fetch.ensures.found h) in
     let k = run_counted t c.loop-next.next c.args.high run lent (g.L.TreeSource.meter c.loop-next.source) (g.L.TreeSource.meter c.fetch.new.self) is c.lent-run.ensures c.in_ok-fetch.ensures.counts in
@@ -91,7 +82,7 @@ pub returns-then-is_empty-clause-rows : goal.returns-then-is_empty-clause-rows
 returns-then-is_empty-clause-rows g c = λ h.
     (let i = c.loop-next.invariant in
     let t = tree_at (g.L.TreeSource.forest c.args.source.now) c.args.tree in
-    let run = c.lent-run.result.now in
+    let run = c.lent-run.result in
     let lent = g.L.RowLender.lent c.fetch.new.self in
     let is = lent_run (g.L.TreeSource.forest c.args.source.now) (g.L.TreeSource.forest c.loop-next.source) c.args.tree c.loop-next.next c.args.high run lent i.keeps c.lent-run.ensures (c.in_ok-fetch.ensures.found h) in
     let k = run_counted t c.loop-next.next c.args.high run lent (g.L.TreeSource.meter c.loop-next.source) (g.L.TreeSource.meter c.fetch.new.self) is c.lent-run.ensures c.in_ok-fetch.ensures.counts in

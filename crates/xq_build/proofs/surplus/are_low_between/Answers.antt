@@ -1,23 +1,26 @@
-use Rattle.std.proofs.Common.{◌≡◌, ◌∙◌, ◌+◌, ◌-◌, ◌≤◌, List, length, ap, sym, subst, arith, map}
-use Rattle.xq_regions.specs.Tree.{Tree}
-use Rattle.xq_regions.specs.Rows.{placed}
-use Rattle.xq_sources.specs.Lenders.{IsRun}
-use Rattle.xq_sources.specs.Sources.{rows_between, tree_at}
+use Rattle.std.proofs.Common.{◌≡◌, ◌∙◌, ◌+◌, ◌-◌, ◌≤◌, length, ap, sym, arith}
+use Rattle.xq_sources.specs.Sources.{tree_at}
 use Rattle.xq_build.specs.private.Content.{are_low}
-use Rattle.xq_copies.proofs.Subtrees.{none_left, run_splits}
+use Rattle.xq_copies.proofs.Subtrees.{none_left, none_lent, lent_run, run_splits}
 use Rattle.xq_build.proofs.Surpluses.{run_high, run_low}
 use Rattle.xq_build.proofs.surplus.are_low_between.Goals as goal
 
-pub returns-then-not-are_low-clause-low : goal.returns-then-not-are_low-clause-low
-returns-then-not-are_low-clause-low g c = λ h.
+pub returns-then-is_empty-clause-low : goal.returns-then-is_empty-clause-low
+returns-then-is_empty-clause-low g c = λ h.
     (let i = c.loop-next.invariant in
-    let t = tree_at (g.L.TreeSource.forest c.args.source.now) c.args.tree in
-    let run = c.lent-run.result.now in
-    let before : IsRun (rows_between (tree_at (g.L.TreeSource.forest c.loop-next.source) c.args.tree) c.loop-next.next c.args.high) (map placed run) =
-    subst (IsRun (rows_between (tree_at (g.L.TreeSource.forest c.loop-next.source) c.args.tree) c.loop-next.next c.args.high)) (sym c.lent-run.ensures) (c.in_ok-fetch.ensures.found h) in
-    let is : IsRun (rows_between t c.loop-next.next c.args.high) (map placed run) =
-    subst (λ (trees : List Tree). IsRun (rows_between (tree_at trees c.args.tree) c.loop-next.next c.args.high) (map placed run)) i.keeps before in
-    sym (i.left (c.fetch.ensures.was_clean h) ∙ run_high t c.loop-next.next c.args.high run is (sym c.are_low.ensures ∙ c.if-not-are_low.true)))
+    let trees = g.L.TreeSource.forest c.args.source.now in
+    let run = c.lent-run.result in
+    let is = lent_run trees (g.L.TreeSource.forest c.loop-next.source) c.args.tree c.loop-next.next c.args.high run (g.L.RowLender.lent c.fetch.new.self) i.keeps c.lent-run.ensures (c.in_ok-fetch.ensures.found h) in
+    let none = none_lent (tree_at trees c.args.tree) c.loop-next.next c.args.high run is (c.is_empty.ensures.0 c.if-is_empty.true) in
+    sym (i.left (c.fetch.ensures.was_clean h) ∙ ap are_low none))
+
+pub returns-then-not-are_low_lent-clause-low : goal.returns-then-not-are_low_lent-clause-low
+returns-then-not-are_low_lent-clause-low g c = λ h.
+    (let i = c.loop-next.invariant in
+    let trees = g.L.TreeSource.forest c.args.source.now in
+    let run = c.lent-run.result in
+    let is = lent_run trees (g.L.TreeSource.forest c.loop-next.source) c.args.tree c.loop-next.next c.args.high run (g.L.RowLender.lent c.fetch.new.self) i.keeps c.lent-run.ensures (c.in_ok-fetch.ensures.found h) in
+    sym (i.left (c.fetch.ensures.was_clean h) ∙ run_high (tree_at trees c.args.tree) c.loop-next.next c.args.high run is (sym c.are_low_lent.ensures ∙ c.if-not-are_low_lent.true)))
 
 pub loop-next-preserved : goal.loop-next-preserved
 loop-next-preserved g c = record {
@@ -25,15 +28,13 @@ loop-next-preserved g c = record {
   was_clean = λ h. c.loop-next.invariant.was_clean (c.fetch.ensures.was_clean h);
   left = λ h.
       (let i = c.loop-next.invariant in
-      let t = tree_at (g.L.TreeSource.forest c.args.source.now) c.args.tree in
-      let run = c.lent-run.result.now in
-      let before : IsRun (rows_between (tree_at (g.L.TreeSource.forest c.loop-next.source) c.args.tree) c.loop-next.next c.args.high) (map placed run) =
-      subst (IsRun (rows_between (tree_at (g.L.TreeSource.forest c.loop-next.source) c.args.tree) c.loop-next.next c.args.high)) (sym c.lent-run.ensures) (c.in_ok-fetch.ensures.found h) in
-      let is : IsRun (rows_between t c.loop-next.next c.args.high) (map placed run) =
-      subst (λ (trees : List Tree). IsRun (rows_between (tree_at trees c.args.tree) c.loop-next.next c.args.high) (map placed run)) i.keeps before in
+      let trees = g.L.TreeSource.forest c.args.source.now in
+      let t = tree_at trees c.args.tree in
+      let run = c.lent-run.result in
+      let is = lent_run trees (g.L.TreeSource.forest c.loop-next.source) c.args.tree c.loop-next.next c.args.high run (g.L.RowLender.lent c.fetch.new.self) i.keeps c.lent-run.ensures (c.in_ok-fetch.ensures.found h) in
       let fits : length run ≤ c.args.high + 1 - c.loop-next.next = (run_splits t c.loop-next.next c.args.high run is).fits in
       let n : c.saturating_add-next.result ≡ c.loop-next.next + length run = omega (arith, fits) in
-      i.left (c.fetch.ensures.was_clean h) ∙ run_low t c.loop-next.next c.args.high c.saturating_add-next.result run is n (sym c.are_low.ensures ∙ c.if-not-are_low.false));
+      i.left (c.fetch.ensures.was_clean h) ∙ run_low t c.loop-next.next c.args.high c.saturating_add-next.result run is n (sym c.are_low_lent.ensures ∙ c.if-not-are_low_lent.false));
 }
 
 pub returns-clause-low : goal.returns-clause-low

@@ -1,0 +1,8 @@
+use Rattle.std.proofs.Common.{◌≡◌, map, drop}
+use Rattle.xq_copies.specs.Leaves.{leaf}
+use Rattle.xq_build.specs.private.Content.{are_low}
+use Rattle.xq_build.proofs.judging.are_low_lent.Given as goal
+
+-- the rows that are left decide
+abbrev pub invariant-loop-at : goal.invariant-loop-at
+invariant-loop-at l = are_low (map leaf l.rows) ≡ are_low (map leaf (drop l.at l.rows))
