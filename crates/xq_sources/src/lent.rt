@@ -113,6 +113,9 @@ impl<'a> LentRows<'a> {
         requires { at < length self.now }
         ensures { placed_lent result ≡ lent_at self.now at }
     {
-        LentRow::new(&self.rows[at])
+        let Some(row) = self.get(at) else {
+            unreachable!();
+        };
+        row
     }
 }
