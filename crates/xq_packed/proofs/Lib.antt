@@ -1,3 +1,3 @@
+pub mod Extending
 pub mod Numbering
 pub mod Standing
-pub mod Copying

@@ -1,5 +1,5 @@
 -- Rows whose names are numbered.
-use Rattle.std.specs.Prelude.{ℕ, ◌≡◌, ◌↔◌, ◌≢◌, ◌<◌, length, List, [], ◌∷◌, ◌++◌, Option, Some, bytes_eq, slice_get, if◌then◌else◌, refl}
+use Rattle.std.specs.Prelude.{ℕ, ◌≡◌, ◌↔◌, ◌≢◌, ◌<◌, length, List, [], ◌∷◌, ◌++◌, Some, bytes_eq, slice_get, if◌then◌else◌, refl}
 use Rattle.std.specs.List.{list_any}
 use Rattle.std.specs.Coded.{Coded, code_by, coded×, coded_ℕ, coded_list}
 use Rattle.xq_regions.specs.Rows.{Row, row_at}
@@ -49,3 +49,13 @@ with_name names name = if list_any (bytes_eq name) names then names else names +
 -- no row has the name
 abbrev pub NoneNamed : List Row → List ℕ → Type 0
 NoneNamed rows name = (at : ℕ) → at < length rows → (row_at rows at).label.name ≢ name
+
+-- the names with those of rows, each where it is not among those before it
+abbrev pub with_names : List (List ℕ) → List Row → List (List ℕ)
+with_names names [] = names
+with_names names (r ∷ rows) = with_names (with_name names r.label.name) rows
+
+-- the rows with more after them, whose names are numbered after those of the others
+pub record IsExtended (old new : Packed) (more : List Row) : Type 0 where
+  pub rows : new.rows ≡ old.rows ++ more
+  pub names : new.names ≡ with_names old.names more

@@ -1,24 +1,25 @@
 //! Rows of sixteen bytes beside one text of their values, with their names numbered.
 #![tactic(auto)]
 
-ghost use Rattle.std.specs.Prelude.{map, All, ◌≡◌, ◌<◌, ◌^◌, ◌-◌, ◌++◌, take, drop, ◌∷◌, [], length, string_bytes, slice_get, IfSome, IfNone, IfOk, IfErr, OnOk, OnErr};
+ghost use Rattle.std.specs.Prelude.{map, All, ℕ, ◌≡◌, ◌<◌, ◌≤◌, ◌+◌, ◌++◌, take, ◌∷◌, [], length, string_bytes, slice_get, IfSome, IfNone, IfErr, OnOk, OnErr};
 ghost use Rattle.std.specs.Option.{option_map};
+ghost use Rattle.xq_regions.specs.Tree.{most_levels, most_nodes};
 ghost use Rattle.xq_regions.specs.Rows.{row_of, row_at};
-ghost use Rattle.xq_packed.specs.Packed.{row, with_name, IsNumberOf, NoneNamed};
+ghost use Rattle.xq_packed.specs.Packed.{row, with_name, IsExtended, IsNumberOf, NoneNamed};
 ghost use Rattle.xq_packed.specs.private.Shapes.{Describes};
 
 use indexmap::IndexSet;
 use std::alloc::Global;
 use std::marker::Model;
 use xq_atoms::Want;
-use xq_regions::{Kind, NodeRow};
+use xq_regions::{Kind, MAX_LEVEL, MAX_NODES, NodeRow};
 
-mod lent;
 mod names;
+mod row;
 mod shapes;
 
-pub use lent::{PackedRow, PackedRun};
 use names::number_among;
+pub use row::PackedRow;
 use shapes::{Shape, end_after, start_at};
 
 /// Rows in a list, without their places. Contracts see the rows and the distinct names among which
@@ -64,18 +65,21 @@ impl PackedRows {
         }
     }
 
-    /// How many rows there are.
+    /// How many rows there are: never more than a tree may have.
+    #[inline]
     pub fn len(&self) -> usize
-        ensures { result ≡ length self.now.rows }
+        ensures rows { result ≡ length self.now.rows }
+        ensures room { result ≤ most_nodes }
     {
         self.shapes.len()
     }
 
-    /// Adds a row of these parts after the others; where it is refused, they are as before.
+    /// Adds a row of these parts after the others; where it is refused, they are as before. It is
+    /// refused by `Want::Store` where no tree has it: on too deep a level, or as one too many.
     pub fn push_parts(
         &mut self,
         size: u32,
-        level: u8,
+        level: u32,
         kind: Kind,
         name: &str,
         value: &str,
@@ -83,9 +87,15 @@ impl PackedRows {
         ensures rows { OnOk result (self.new.rows
             ≡ self.old.rows ++ row size level kind name.now value.now ∷ []) }
         ensures names { OnOk result (self.new.names ≡ with_name self.old.names name.now) }
+        ensures fits { OnOk result (level < most_levels) }
         ensures err { OnErr result (self.new ≡ self.old) }
-        ensures want { IfErr result (λ want. want ≡ Want.Memory) }
+        ensures want { level < most_levels → length self.old.rows < most_nodes
+            → IfErr result (λ want. want ≡ Want.Memory) }
     {
+        let count = self.shapes.len();
+        if level > MAX_LEVEL || count >= MAX_NODES {
+            return Err(Want::Store);
+        }
         let (end_low, end_high) = end_after(self.text.len(), value.len())?;
         self.shapes.reserve(1)?;
         self.text.reserve(value.len())?;
@@ -96,29 +106,47 @@ impl PackedRows {
             name,
             end_low,
             end_high,
-            level,
+            level: level as u8,
             kind,
         });
         Ok(())
     }
 
-    /// Adds a row after the others; where it is refused, they are as before.
+    /// Adds a row after the others; where it is refused, they are as before. It is refused by
+    /// `Want::Store` where no tree has it: on too deep a level, or as one too many.
     pub fn push(&mut self, row: &NodeRow) -> Result<(), Want>
-        requires { row.now.level < 2 ^ 8 }
         ensures rows { OnOk result (self.new.rows ≡ self.old.rows ++ row_of row.now ∷ []) }
         ensures names { OnOk result (self.new.names
             ≡ with_name self.old.names (string_bytes row.now.name)) }
+        ensures fits { OnOk result (row.now.level < most_levels) }
         ensures err { OnErr result (self.new ≡ self.old) }
-        ensures want { IfErr result (λ want. want ≡ Want.Memory) }
+        ensures want { row.now.level < most_levels → length self.old.rows < most_nodes
+            → IfErr result (λ want. want ≡ Want.Memory) }
     {
-        let level = row.level as u8;
         self.push_parts(
             row.size,
-            level,
+            row.level,
             row.kind,
             row.name.as_str(),
             row.value.as_str(),
         )
+    }
+
+    /// Adds these rows after the others, one by one: where one is refused, as `push` refuses it,
+    /// those before it were added.
+    pub fn extend(&mut self, rows: &[NodeRow]) -> Result<(), Want>
+        ensures all { OnOk result (IsExtended self.old self.new (map row_of rows.now)) }
+        ensures fit { OnOk result (All (λ row. row.level < most_levels) rows.now) }
+        ensures some { OnErr result ((count : ℕ)
+            × IsExtended self.old self.new (map row_of (take count rows.now))) }
+        ensures want { All (λ row. row.level < most_levels) rows.now
+            → length self.old.rows + length rows.now ≤ most_nodes
+            → IfErr result (λ want. want ≡ Want.Memory) }
+    {
+        for row in rows {
+            self.push(row)?;
+        }
+        Ok(())
     }
 
     /// The number of a name, which is that of the rows that have it, and of no others; none where
@@ -134,6 +162,7 @@ impl PackedRows {
     }
 
     /// The shape of the row at a place.
+    #[inline]
     fn shape_at(&self, at: usize) -> Shape
         requires { at < length self.now.rows }
         ensures { Describes self.now.names result (row_at self.now.rows at) }
@@ -142,6 +171,7 @@ impl PackedRows {
     }
 
     /// The name of the row at a place.
+    #[inline]
     fn name_at(&self, at: usize) -> &str
         requires { at < length self.now.rows }
         ensures { result.now ≡ (row_at self.now.rows at).label.name }
@@ -150,6 +180,7 @@ impl PackedRows {
     }
 
     /// The value of the row at a place.
+    #[inline]
     fn value_at(&self, at: usize) -> &str
         requires { at < length self.now.rows }
         ensures { result.now ≡ (row_at self.now.rows at).label.value }
@@ -160,6 +191,7 @@ impl PackedRows {
     }
 
     /// The row at a place.
+    #[inline]
     pub fn get(&self, at: usize) -> Option<PackedRow<'_>>
         ensures row { option_map (λ found. found.row) result ≡ slice_get self.now.rows at }
         ensures names { IfSome result (λ found. found.names ≡ self.now.names) }
@@ -170,26 +202,4 @@ impl PackedRows {
             None
         }
     }
-
-    /// The rows from one place to before another, those that there are.
-    pub fn run(&self, low: usize, high: usize) -> PackedRun<'_>
-        ensures rows { result.rows ≡ take (high - low) (drop low self.now.rows) }
-        ensures names { result.names ≡ self.now.names }
-    {
-        let high = high.min(self.len());
-        PackedRun::new(self, low.min(high), high)
-    }
-}
-
-/// The rows, packed.
-pub fn pack(alloc: Global, rows: &[NodeRow]) -> Result<PackedRows, Want>
-    requires { All (λ row. row.level < 2 ^ 8) rows.now }
-    ensures rows { IfOk result (λ packed. packed.rows ≡ map row_of rows.now) }
-    ensures want { IfErr result (λ want. want ≡ Want.Memory) }
-{
-    let mut packed = PackedRows::new(alloc);
-    for row in rows {
-        packed.push(row)?;
-    }
-    Ok(packed)
 }

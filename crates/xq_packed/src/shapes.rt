@@ -24,6 +24,7 @@ pub struct Shape {
 
 impl Shape {
     /// Where the value ends in the text of all values.
+    #[inline]
     pub fn value_end(&self) -> usize
         ensures { result ≡ value_end self.now }
     {
@@ -44,6 +45,7 @@ pub fn end_after(place: usize, more: usize) -> Result<(u32, u16), Want>
 }
 
 /// Where the value of the row at a place begins.
+#[inline]
 pub fn start_at(shapes: &[Shape], at: usize) -> usize
     requires { at ≤ length shapes.now }
     ensures { result ≡ value_start 0 shapes.now at }

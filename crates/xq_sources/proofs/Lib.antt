@@ -1,4 +1,6 @@
 pub mod AttributeRows
+pub mod Forms
 pub mod Intervals
 pub mod ReadRows
 pub mod Rising
+pub mod Unplaced

@@ -2,13 +2,14 @@
 use Rattle.std.proofs.Common.{◌≡◌, ℕ, zero, suc, ◌+◌, ◌-◌, ◌<◌, List, [], ◌∷◌, length, get_or, take, drop, map, refl, sym, ◌∙◌, ap, arith, add-one}
 use Rattle.std.specs.Prelude.{filter, slice_index, Option, Some, None}
 use Rattle.std.specs.List.{enumerate_from}
-use Rattle.std.proofs.lemmas.List.{take-map, drop-map}
+use Rattle.std.proofs.lemmas.List.{take-map, drop-map, get_or_read}
 use Rattle.xq_regions.specs.declared.NodeRow.{NodeRow}
 use Rattle.xq_regions.specs.Tree.{Tree, nodes}
 use Rattle.xq_regions.specs.Forest.{count}
-use Rattle.xq_regions.specs.Rows.{row_of, row_at, rows, placed, placed_rows, AreNumbered, Encodes, measured}
+use Rattle.xq_regions.specs.Rows.{Row, row_of, row_at, rows, placed, placed_rows, AreNumbered, Encodes, measured}
 use Rattle.xq_regions.specs.Nesting.{count-measured}
-use Rattle.xq_sources.specs.Sources.{encloses, rows_between, rows_enclosing}
+use Rattle.xq_sources.specs.Lent.{unplaced}
+use Rattle.xq_sources.specs.Sources.{no_tree, tree_at, encloses, rows_between, rows_enclosing}
 use Rattle.xq_sources.specs.private.Runs.{rows_of_run}
 use Rattle.xq_sources.proofs.Intervals.{between-places}
 use Rattle.xq_regions.proofs.Walks.{length-map, row_at-map}
@@ -18,6 +19,11 @@ use Rattle.xq_regions.proofs.Encoding.{numbered_at}
 pub map-placed : (n : ℕ) (xs : List NodeRow) → AreNumbered n xs → map placed xs ≡ enumerate_from n (map row_of xs)
 map-placed n [] h = refl
 map-placed n (x ∷ xs) h = rw (h.0, map-placed (suc n) xs h.1, add-one)
+
+-- rows that code holds, without their places
+pub unplaced-placed : (xs : List NodeRow) → unplaced (map placed xs) ≡ map row_of xs
+unplaced-placed [] = refl
+unplaced-placed (x ∷ xs) = ap (λ rs. row_of x ∷ rs) (unplaced-placed xs)
 
 pub pre_at : (xs : List NodeRow) (i : ℕ) (x : NodeRow) → i < length xs → x ≡ get_or xs i x → x.pre ≡ slice_index (map (λ (r : NodeRow). r.pre) xs) i
 pre_at [] i x h e = absurd (omega arith)
@@ -38,6 +44,9 @@ no_rows (Some t) = between-places 1 0 1 0 (rows t) refl
 module _ (xs : List NodeRow) (t : Tree) (encodes : Encodes xs t) where
   pub all_read : map placed xs ≡ placed_rows t
   all_read = map-placed 0 xs encodes.numbered ∙ ap (enumerate_from 0) encodes.rows
+
+  pub all_unplaced : unplaced (map placed xs) ≡ rows t
+  all_unplaced = unplaced-placed xs ∙ encodes.rows
 
   pub read_between : (low high : ℕ) → map placed (take (high + 1 - low) (drop low xs)) ≡ rows_between t low high
   read_between low high =
@@ -62,3 +71,9 @@ module _ (xs : List NodeRow) (t : Tree) (encodes : Encodes xs t) where
 
   pub node_within : (v : ℕ) → v < length xs → v < count (nodes t)
   node_within v h = omega (arith, h, ap length encodes.rows, length-map row_of xs, length-labels (measured 0 (nodes t)), count-measured 0 (nodes t))
+
+-- what is read of a tree that was looked up among others, without places
+pub held_unplaced : (trees held : List Tree) (n : ℕ) (t : Tree) (xs : List NodeRow) (read : List (ℕ × Row)) → held ≡ trees → n < length held → t ≡ get_or held n t → Encodes xs t → read ≡ map placed xs → unplaced read ≡ rows (tree_at trees n)
+held_unplaced trees held n t xs read all within is encodes lent =
+    ap unplaced lent ∙ all_unplaced xs t encodes
+    ∙ ap rows (get_or_read held n t within is no_tree) ∙ ap (λ ts. rows (tree_at ts n)) all

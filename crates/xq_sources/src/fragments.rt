@@ -64,7 +64,7 @@ impl Fragments {
     {
         self.run = NO_ROWS;
         let mut guide = Guide::new(*self.guides.allocator());
-        guide.read_on(tree.rows())?;
+        guide.read_on(&LentRows::new(tree.rows()))?;
         self.guides.truncate(self.list.len());
         self.guides.push(guide)?;
         self.list.push(tree)?;
@@ -180,12 +180,12 @@ impl RowLender for Fragments {
     fn parent(&self, tree: usize, node: u32) -> Option<u32> {
         let guide = self.guides.get(tree)?;
         let fragment = self.list.get(tree)?;
-        guide.parent(fragment.rows(), node)
+        guide.parent(&LentRows::new(fragment.rows()), node)
     }
 
     fn attributes(&self, tree: usize, node: u32) -> Option<u32> {
         let fragment = self.list.get(tree)?;
-        count_attributes(fragment.rows(), node)
+        count_attributes(&LentRows::new(fragment.rows()), node)
     }
 
     fn find_named(&mut self, _: Global, _: usize, _: &str) {}

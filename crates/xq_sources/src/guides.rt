@@ -1,11 +1,11 @@
 //! Where the parent of a node lies.
-ghost use Rattle.std.specs.Prelude.{◌≡◌, true, map, IfSome};
-ghost use Rattle.xq_regions.specs.Rows.{row_of};
+ghost use Rattle.std.specs.Prelude.{◌≡◌, true, IfSome};
+ghost use Rattle.xq_sources.specs.Lent.{unplaced};
 ghost use Rattle.xq_sources.specs.Parents.{IsParentRow};
 
+use crate::LentRows;
 use std::alloc::Global;
 use xq_atoms::Want;
-use xq_regions::NodeRow;
 
 /// In a tree of so many rows, or of fewer, parents are looked for from row to row.
 const FEW: usize = 64;
@@ -32,7 +32,7 @@ impl Guide {
     }
 
     /// Goes on to the last of the rows, which are the first rows of a tree.
-    pub fn read_on(&mut self, rows: &[NodeRow]) -> Result<(), Want> {
+    pub fn read_on(&mut self, rows: &LentRows<'_>) -> Result<(), Want> {
         if rows.len() <= FEW {
             return Ok(());
         }
@@ -48,8 +48,8 @@ impl Guide {
 
     /// The place of the parent of the node, by the rows so far; none where it isn't among them or
     /// can't be told.
-    pub fn parent(&self, rows: &[NodeRow], node: u32) -> Option<u32>
-        ensures { IfSome result (λ place. IsParentRow (map row_of rows.now) place node) }
+    pub fn parent(&self, rows: &LentRows<'_>, node: u32) -> Option<u32>
+        ensures { IfSome result (λ place. IsParentRow (unplaced rows.now) place node) }
     {
         let place = self.guess(rows, node);
         if is_parent(rows, place, node) {
@@ -60,7 +60,7 @@ impl Guide {
     }
 
     /// A place where the parent of the node may lie.
-    fn guess(&self, rows: &[NodeRow], node: u32) -> u32 {
+    fn guess(&self, rows: &LentRows<'_>, node: u32) -> u32 {
         match self.parents.get(node as usize) {
             Some(parent) => *parent,
             None => self.look_back(rows, node),
@@ -69,7 +69,7 @@ impl Guide {
 
     /// The place of the last row of a lesser level before the node: that of the row before it, or
     /// of a node above that one.
-    fn look_back(&self, rows: &[NodeRow], node: u32) -> u32 {
+    fn look_back(&self, rows: &LentRows<'_>, node: u32) -> u32 {
         let level = level_at(rows, node);
         let mut place = node.saturating_sub(1);
         for _ in 0..LOOKS {
@@ -86,7 +86,7 @@ impl Guide {
 }
 
 /// The level of the row at the place, 0 where there is none.
-fn level_at(rows: &[NodeRow], place: u32) -> u32 {
+fn level_at(rows: &LentRows<'_>, place: u32) -> u32 {
     match rows.get(place as usize) {
         Some(row) => row.level,
         None => 0,
@@ -95,8 +95,8 @@ fn level_at(rows: &[NodeRow], place: u32) -> u32 {
 
 /// Whether the rows at both places are there and are those of a node and its parent, the parent's
 /// first.
-fn is_parent(rows: &[NodeRow], place: u32, node: u32) -> bool
-    ensures { result ≡ true → IsParentRow (map row_of rows.now) place node }
+fn is_parent(rows: &LentRows<'_>, place: u32, node: u32) -> bool
+    ensures { result ≡ true → IsParentRow (unplaced rows.now) place node }
 {
     let Some(above) = rows.get(place as usize) else {
         return false;

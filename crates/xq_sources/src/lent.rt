@@ -1,12 +1,14 @@
 //! Rows as they are lent: read where they lie, and not copied.
 ghost use Rattle.std.specs.Prelude.{◌≡◌, ◌<◌, ◌≤◌, ◌^◌, length, map, slice_get, IfOk, IfSome, IfNone, IsTrue, ◌↔◌, []};
 ghost use Rattle.std.specs.Option.{option_map};
-ghost use Rattle.xq_regions.specs.Rows.{placed};
-ghost use Rattle.xq_sources.specs.Lent.{placed_lent, lent_at};
+ghost use Rattle.xq_regions.specs.Rows.{placed, row_at};
+ghost use Rattle.xq_regions.specs.Tree.{most_nodes};
+ghost use Rattle.xq_sources.specs.Lent.{placed_lent, lent_at, placed_between};
 
 use std::alloc::Global;
 use std::marker::Model;
 use xq_atoms::Want;
+use xq_packed::{PackedRow, PackedRows};
 use xq_regions::{Kind, NodeRow};
 
 /// A node with its place among the rows of its tree, as it is lent.
@@ -51,23 +53,54 @@ impl<'a> LentRow<'a> {
     }
 }
 
+/// The row at a place among packed rows, lent.
+#[inline]
+fn packed_row(rows: &PackedRows, at: usize) -> LentRow<'_>
+    requires within { at < length rows.now.rows }
+    requires room { at < most_nodes }
+    ensures { placed_lent result ≡ (at, row_at rows.now.rows at) }
+{
+    let row = PackedRow::new(rows, at);
+    LentRow {
+        pre: at as u32,
+        size: row.size(),
+        level: row.level(),
+        kind: row.kind(),
+        name: row.name(),
+        value: row.value(),
+    }
+}
+
+/// Where rows lie that are lent.
+#[derive(Clone, Copy)]
+enum Form<'a> {
+    /// In a list.
+    Listed(&'a [NodeRow]),
+    /// Among packed rows, from the first place to before the second.
+    Packed(&'a PackedRows, usize, usize),
+}
+
 /// Rows beside one another, as they are lent. Contracts see them with their places.
 #[derive(Drop)]
 pub struct LentRows<'a> {
-    rows: &'a [NodeRow],
+    form: Form<'a>,
 }
 
 impl<'a> Model for LentRows<'a> {
-    ghost use Rattle.std.specs.Prelude.{ℕ, List, map};
+    ghost use Rattle.std.specs.Prelude.{ℕ, List};
     ghost use Rattle.std.specs.Coded.{coded×, coded_ℕ, coded_list};
-    ghost use Rattle.xq_regions.specs.Rows.{Row, placed};
+    ghost use Rattle.xq_regions.specs.Rows.{Row};
     ghost use Rattle.xq_regions.specs.Codes.{row_code};
 
     ghost Value = { List (ℕ × Row) };
 
     ghost coded = { coded_list (coded× coded_ℕ row_code) };
 
-    ghost view = { λ lent. map placed lent.rows.now };
+    ghost use Rattle.xq_sources.specs.private.Forms.{rows_of_form, IsForm};
+
+    ghost view = { λ lent. rows_of_form lent.form };
+
+    ghost invariant = { λ lent. IsForm lent.form };
 }
 
 impl<'a> LentRows<'a> {
@@ -76,7 +109,22 @@ impl<'a> LentRows<'a> {
     pub fn new(rows: &'a [NodeRow]) -> LentRows<'a>
         ensures { result ≡ map placed rows.now }
     {
-        LentRows { rows }
+        LentRows {
+            form: Form::Listed(rows),
+        }
+    }
+
+    /// Packed rows from one place to before another, those that there are, lent. The place of a row
+    /// is that among all of the packed rows.
+    #[inline]
+    pub fn packed(rows: &'a PackedRows, low: usize, high: usize) -> LentRows<'a>
+        ensures { result ≡ placed_between rows.now.rows low high }
+    {
+        let high = high.min(rows.len());
+        let low = low.min(high);
+        LentRows {
+            form: Form::Packed(rows, low, high),
+        }
     }
 
     /// How many rows there are.
@@ -84,7 +132,10 @@ impl<'a> LentRows<'a> {
     pub fn len(&self) -> usize
         ensures { result ≡ length self.now }
     {
-        self.rows.len()
+        match self.form {
+            Form::Listed(rows) => rows.len(),
+            Form::Packed(_, low, high) => high - low,
+        }
     }
 
     /// Whether there is no row.
@@ -92,7 +143,7 @@ impl<'a> LentRows<'a> {
     pub fn is_empty(&self) -> bool
         ensures { IsTrue result ↔ (self.now ≡ []) }
     {
-        self.rows.is_empty()
+        self.len() == 0
     }
 
     /// The row at a place among them, where there is one.
@@ -103,9 +154,18 @@ impl<'a> LentRows<'a> {
         ensures none { IfNone result (length self.now ≤ at) }
         ensures few { length self.now < 2 ^ 64 }
     {
-        match self.rows.get(at) {
-            Some(row) => Some(LentRow::new(row)),
-            None => None,
+        match self.form {
+            Form::Listed(rows) => match rows.get(at) {
+                Some(row) => Some(LentRow::new(row)),
+                None => None,
+            },
+            Form::Packed(rows, low, high) => {
+                if at < high - low {
+                    Some(packed_row(rows, low + at))
+                } else {
+                    None
+                }
+            }
         }
     }
 

@@ -1,14 +1,15 @@
 //! The elements of a tree by their names.
-ghost use Rattle.std.specs.Prelude.{◌≡◌, Some, if◌then◌else◌, map, option_map, IfErr, IfOk, IfSome, OnErr, OnOk};
+ghost use Rattle.std.specs.Prelude.{◌≡◌, Some, if◌then◌else◌, option_map, IfErr, IfOk, IfSome, OnErr, OnOk};
 ghost use Rattle.std.specs.HashMap.{IsEmpty, IsUnchanged, get_by_text};
 ghost use Rattle.xq_atoms.specs.Text.{Text, text_eq};
-ghost use Rattle.xq_regions.specs.Rows.{placed};
+ghost use Rattle.xq_sources.specs.Lent.{placed_lent};
 ghost use Rattle.xq_sources.specs.Names.{is_named as is_named_lem, named as named_lem, AreNames};
 
+use crate::{LentRow, LentRows};
 use std::alloc::Global;
 use std::collections::HashMap;
 use xq_atoms::Want;
-use xq_regions::{Kind, NodeRow};
+use xq_regions::Kind;
 
 /// Of how many names of a tree places are kept at most.
 const MOST_NAMES: usize = 1_000;
@@ -18,19 +19,20 @@ const MOST_NAMES: usize = 1_000;
 pub type Names = HashMap<String, Vec<u32>>;
 
 /// Whether the row is that of an element with the name.
-fn is_named(row: &NodeRow, name: &str) -> bool
-    ensures { result ≡ is_named_lem name.now (placed row.now) }
+fn is_named(row: &LentRow<'_>, name: &str) -> bool
+    ensures { result ≡ is_named_lem name.now (placed_lent row.now) }
 {
-    matches!(row.kind, Kind::Element) && row.name.as_str() == name
+    matches!(row.kind, Kind::Element) && row.name == name
 }
 
 /// The places of the elements with the name, in document order.
-fn places_named(alloc: Global, rows: &[NodeRow], name: &str) -> Result<Vec<u32>, Want>
-    ensures { IfOk result (λ places. places.items ≡ named_lem (map placed rows.now) name.now) }
+fn places_named(alloc: Global, rows: &LentRows<'_>, name: &str) -> Result<Vec<u32>, Want>
+    ensures { IfOk result (λ places. places.items ≡ named_lem rows.now name.now) }
 {
     let mut places = Vec::new(alloc);
-    for row in rows {
-        if is_named(row, name) {
+    for at in 0..rows.len() {
+        let row = rows.row(at);
+        if is_named(&row, name) {
             places.push(row.pre)?;
         }
     }
@@ -51,8 +53,8 @@ fn keep(alloc: Global, names: &mut Names, name: &str, places: Vec<u32>) -> Resul
 /// Looks for the elements with the name among the rows, which are all of a tree's, and keeps their
 /// places where there are some: each later look finds them at once. Where memory is short, or many
 /// names are kept, no more is.
-pub fn find_named(alloc: Global, names: &mut Names, rows: &[NodeRow], name: &str)
-    ensures { AreNames (map placed rows.now) names.old → AreNames (map placed rows.now) names.new }
+pub fn find_named(alloc: Global, names: &mut Names, rows: &LentRows<'_>, name: &str)
+    ensures { AreNames rows.now names.old → AreNames rows.now names.new }
 {
     if names.len() >= MOST_NAMES || names.contains_key(name) {
         return;

@@ -9,6 +9,7 @@ use std::alloc::{AllocError, Global};
 use std::collections::HashMap;
 use std::process::Abort;
 use xq_atoms::Want;
+use xq_packed::PackedRows;
 use xq_regions::{Fragment, Kind, NodeRow};
 
 /// An element of this name with a text.
@@ -131,7 +132,10 @@ fn the_last_constructed_tree_is_uprooted(rt: HostRuntime) -> Result<(), Want> {
     let Some(tree) = trees.uproot() else {
         panic!(rt; "there is a constructed tree");
     };
-    assert_eq!(rt; words(alloc, &LentRows::new(tree.rows()))?.as_str(), "constructed B ");
+    assert_eq!(rt;
+        words(alloc, &LentRows::new(tree.rows()))?.as_str(),
+        "constructed B "
+    );
     assert!(rt; trees.uproot().is_none());
     gives(&rt, alloc, &mut trees, 0, "stored A ")?;
     assert!(rt; matches!(trees.range(alloc, 1, 0, 0), Err(Want::Store)));
@@ -146,9 +150,25 @@ fn names_are_found(rt: HostRuntime) -> Result<(), Want> {
     let mut names: Names = HashMap::new(alloc);
     let rows = element(alloc, "stored", "A")?;
     for name in ["stored", "stored", "A", "", "store"] {
-        find_named(alloc, &mut names, &rows, name);
+        find_named(alloc, &mut names, &LentRows::new(&rows), name);
     }
     assert_eq!(rt; names.len(), 1);
     assert!(rt; matches!(names.get("stored"), Some(places) if places.as_slice() == [0].as_slice()));
+    Ok(())
+}
+
+/// Packed rows are lent as the rows that they were packed from, with their places among all.
+#[test]
+fn packed_rows_are_lent(rt: HostRuntime) -> Result<(), Want> {
+    let alloc = rt.alloc();
+    let mut packed = PackedRows::new(alloc);
+    packed.extend(&element(alloc, "stored", "A")?)?;
+    let all = LentRows::packed(&packed, 0, 9);
+    assert_eq!(rt; words(alloc, &all)?.as_str(), "stored A ");
+    assert!(rt; all.get(2).is_none());
+    let last = LentRows::packed(&packed, 1, 2);
+    assert_eq!(rt; words(alloc, &last)?.as_str(), "A ");
+    assert!(rt; matches!(last.get(0), Some(row) if row.pre == 1 && row.level == 1));
+    assert!(rt; LentRows::packed(&packed, 2, 1).is_empty());
     Ok(())
 }

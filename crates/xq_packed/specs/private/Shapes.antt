@@ -1,10 +1,11 @@
 -- What rows are kept as: shapes, one text of all values, and the names.
 use Rattle.std.proofs.Common.{zero, suc}
-use Rattle.std.specs.Prelude.{ℕ, ◌≡◌, ◌+◌, ◌-◌, ◌*◌, ◌^◌, ◌<◌, ◌≤◌, List, [], ◌∷◌, take, drop, map, length, string_bytes, bytes_eq, slice_get, slice_index_or, String, if◌then◌else◌}
+use Rattle.std.specs.Prelude.{ℕ, ◌≡◌, ◌+◌, ◌-◌, ◌*◌, ◌^◌, ◌<◌, ◌≤◌, List, [], ◌∷◌, take, drop, length, bytes_eq, slice_index_or}
 use Rattle.std.specs.List.{IsDistinct}
 use Rattle.std.specs.Str.{IsUtf8}
+use Rattle.xq_regions.specs.Tree.{most_nodes}
 use Rattle.xq_regions.specs.Rows.{Row}
-use Rattle.xq_packed.specs.Packed.{row, Packed, IsNumbered}
+use Rattle.xq_packed.specs.Packed.{row, IsNumbered}
 use Rattle.xq_packed.specs.declared.shapes.Shape.{Shape}
 
 -- where the value ends
@@ -54,12 +55,14 @@ AreShapes text names start [] = Unit {0}
 AreShapes text names start (s ∷ shapes) =
     IsShape text names start s × AreShapes text names (value_end s) shapes
 
--- what is kept of rows: the text ends with the last value, no name stands twice
+-- what is kept of rows: no more than a tree may have, the text ends with the last value, no name
+-- stands twice
 pub record IsKept (text : List ℕ) (names : List (List ℕ)) (kept : List Shape) : Type 0 where
   pub shapes : AreShapes text names 0 kept
   pub end : last_end 0 kept ≡ length text
   pub distinct : IsDistinct bytes_eq names
   pub few : length names ≤ 2 ^ 32
+  pub room : length kept ≤ most_nodes
 
 -- the shape is that of a row whose name is among these
 pub record Describes (names : List (List ℕ)) (s : Shape) (r : Row) : Type 0 where

@@ -1,12 +1,8 @@
-use Rattle.std.proofs.Common.{rules, ◌≡◌, ◌<◌, ◌≤◌, ◌+◌, ◌-◌, ℕ, List, [], ◌∷◌, take, drop, map, length, string_bytes, Some, sym, ap, ◌∙◌, subst, arith}
+use Rattle.std.proofs.Common.{rules, ◌<◌, map, length, string_bytes, sym, ap, ◌∙◌, arith}
 use Rattle.std.proofs.lemmas.List.{length-map}
-use Rattle.std.proofs.lemmas.Str.{IsUtf8-string_bytes, IsCharBoundary-from_take}
-use Rattle.std.specs.Prelude.{slice_index_or, slice_range, IsCharBoundary}
-use Rattle.xq_regions.specs.Rows.{Row, row_at}
-use Rattle.xq_packed.specs.Packed.{Packed, IsNumberOf}
-use Rattle.xq_packed.specs.private.Shapes.{value_end, value_start, name_at}
-use Rattle.xq_packed.proofs.Standing.{inside, told, describes, none-named}
-use Rattle.xq_packed.proofs.Numbering.{found-names, any-names, number-of, name-numbered, read-name}
+use Rattle.xq_regions.specs.Rows.{Row}
+use Rattle.xq_packed.proofs.Standing.{inside, told}
+use Rattle.xq_packed.proofs.Numbering.{read-name}
 use Rattle.xq_packed.proofs.PackedRows.name_at.Goals as goal
 
 pub index-requires : goal.index-requires

@@ -1,5 +1,4 @@
-use Rattle.std.proofs.Common.{map, string_bytes, sym, ap, ◌∙◌, List, ℕ, [], subst, String, Global}
-use Rattle.xq_packed.specs.private.Shapes.{IsKept}
+use Rattle.std.proofs.Common.{map, string_bytes, ap}
 use Rattle.xq_packed.proofs.Standing.{nothing-kept}
 use Rattle.xq_packed.proofs.PackedRows.new.Goals as goal
 

@@ -1,5 +1,4 @@
-use Rattle.std.proofs.Common.{◌≡◌, map, string_bytes, length, List, ℕ, sym, ap, ◌∙◌, subst, refl, arith}
-use Rattle.std.specs.Prelude.{slice_get}
+use Rattle.std.proofs.Common.{map, string_bytes, sym, ap, ◌∙◌, subst, refl}
 use Rattle.xq_packed.specs.Packed.{with_name, IsNumbered}
 use Rattle.xq_packed.proofs.Numbering.{found-names, any-names, added-names, stored-name}
 use Rattle.xq_packed.proofs.names.number_among.Goals as goal

@@ -1,8 +1,7 @@
-use Rattle.std.proofs.Common.{◌≡◌, map, take}
-use Rattle.xq_regions.specs.Rows.{placed}
+use Rattle.std.proofs.Common.{◌≡◌, take}
 use Rattle.xq_sources.specs.Names.{named}
 use Rattle.xq_sources.proofs.names.places_named.Given as goal
 
 -- of the rows so far the places of those with the name are known
-abbrev pub invariant-loop-row : goal.invariant-loop-row
-invariant-loop-row l = l.places.items ≡ named (map placed (take l.row-index l.rows)) l.name
+abbrev pub invariant-loop-at : goal.invariant-loop-at
+invariant-loop-at l = l.places.items ≡ named (take l.at l.rows) l.name

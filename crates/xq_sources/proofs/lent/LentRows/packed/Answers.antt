@@ -1,0 +1,13 @@
+use Rattle.std.proofs.Common.{◌≡◌, length, min, ap, ◌∙◌}
+use Rattle.xq_sources.specs.Lent.{placed_between}
+use Rattle.xq_sources.proofs.Forms.{clamped}
+use Rattle.xq_sources.proofs.lent.LentRows.packed.Goals as goal
+
+pub returns : goal.returns
+returns c =
+    let rows = c.args.rows.now.rows in
+    let end : c.min-high.result ≡ min c.args.high (length rows) = c.min-high.ensures ∙ ap (min c.args.high) c.len.ensures.rows in
+    let start : c.min-low.result ≡ min c.args.low (min c.args.high (length rows)) = c.min-low.ensures ∙ ap (min c.args.low) end in
+    ap (λ low. placed_between rows low c.min-high.result) start
+    ∙ ap (placed_between rows (min c.args.low (min c.args.high (length rows)))) end
+    ∙ clamped rows c.args.low c.args.high

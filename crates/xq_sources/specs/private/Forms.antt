@@ -1,0 +1,23 @@
+-- Where rows lie that are lent.
+use Rattle.std.specs.Prelude.{ℕ, ◌≤◌, List, length, map}
+use Rattle.xq_regions.specs.Tree.{most_nodes}
+use Rattle.xq_regions.specs.Rows.{Row, placed}
+use Rattle.xq_sources.specs.Lent.{placed_between}
+use Rattle.xq_sources.specs.declared.lent.Form.{Form}
+use Rattle.xq_sources.specs.declared.lent.Form.TheVariants.{Listed, Packed}
+
+-- the rows, with their places
+abbrev pub rows_of_form : Form → List (ℕ × Row)
+rows_of_form (Listed rows) = map placed rows.now
+rows_of_form (Packed rows low high) = placed_between rows.now.rows low high
+
+-- there are rows from one place to before another, and a tree may have so many
+pub record AreThere (rows : List Row) (low high : ℕ) : Type 0 where
+  pub rises : low ≤ high
+  pub within : high ≤ length rows
+  pub room : high ≤ most_nodes
+
+-- the rows are there
+abbrev pub IsForm : Form → Type 0
+IsForm (Listed rows) = Unit {0}
+IsForm (Packed rows low high) = AreThere rows.now.rows low high
