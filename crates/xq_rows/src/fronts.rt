@@ -13,7 +13,7 @@ ghost use Rattle.xq_sources.specs.Names.{named};
 ghost use Rattle.xq_sources.specs.Parents.{IsParentRow};
 ghost use Rattle.xq_sources.specs.Sources.{tree_at};
 
-use crate::shelves::{Front, Shelf, address_at};
+use crate::shelves::{Front, Shelf, address_at, all_of};
 use crate::stores::Store;
 use sqlite::Alter;
 use std::alloc::Global;
@@ -160,7 +160,7 @@ fn read_front<S: Alter>(
     ensures alone { LeavesAlone S.Store store.old store.new }
 {
     let read = read_rows(alloc, store, address, &mut front.rows, place);
-    let _ = front.guide.read_on(&LentRows::packed(&front.rows, 0, usize::MAX));
+    let _ = front.guide.read_on(&all_of(&front.rows));
     read
 }
 

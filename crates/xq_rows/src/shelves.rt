@@ -1,6 +1,6 @@
 //! What a store keeps in memory of its documents: their addresses, and of each the first rows.
 ghost use Rattle.std.specs.Prelude.{◌≡◌, ◌<◌, [], List, Some, IfOk, IfSome, IsTrue, length, map, slice_get};
-ghost use Rattle.std.specs.List.{insert, remove, slice_set as set};
+ghost use Rattle.std.specs.List.{enumerate_from, insert, remove, slice_set as set};
 ghost use Rattle.xq_sources.specs.Addresses.{IsGap};
 ghost use Rattle.xq_regions.specs.Rows.{placed_rows};
 ghost use Rattle.xq_regions.specs.Tree.{Tree};
@@ -62,7 +62,7 @@ impl Front {
         let mut rows = PackedRows::new(alloc);
         let mut guide = Guide::new(alloc);
         if rows.extend(document.rows()).is_ok() {
-            let _ = guide.read_on(&LentRows::packed(&rows, 0, usize::MAX));
+            let _ = guide.read_on(&all_of(&rows));
         }
         Front {
             rows,
@@ -76,7 +76,7 @@ impl Front {
     pub fn lent(&self) -> LentRows<'_>
         ensures { result ≡ kept_rows self.now }
     {
-        LentRows::packed(&self.rows, 0, usize::MAX)
+        all_of(&self.rows)
     }
 
     /// Looks for the elements with the name, where these are all rows of the document, so that
@@ -84,11 +84,18 @@ impl Front {
     pub fn find_named(&mut self, alloc: Global, name: &str)
         ensures { (t : Tree) → IsFrontOf t self.old → IsFrontOf t self.new }
     {
-        let rows = LentRows::packed(&self.rows, 0, usize::MAX);
+        let rows = all_of(&self.rows);
         if are_whole(&rows) {
             find_named(alloc, &mut self.names, &rows, name);
         }
     }
+}
+
+/// Packed rows, lent.
+pub(crate) fn all_of(rows: &PackedRows) -> LentRows<'_>
+    ensures { result ≡ enumerate_from 0 rows.now.rows }
+{
+    LentRows::packed(rows, 0, rows.len())
 }
 
 /// Whether the first rows of a document are all that it has.

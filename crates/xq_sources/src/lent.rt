@@ -1,5 +1,5 @@
 //! Rows as they are lent: read where they lie, and not copied.
-ghost use Rattle.std.specs.Prelude.{◌≡◌, ◌<◌, ◌≤◌, ◌^◌, length, map, slice_get, IfOk, IfSome, IfNone, IsTrue, ◌↔◌, []};
+ghost use Rattle.std.specs.Prelude.{◌≡◌, ◌<◌, ◌≤◌, ◌^◌, length, map, slice_get, take, IfOk, IfSome, IfNone, IsTrue, ◌↔◌, []};
 ghost use Rattle.std.specs.Option.{option_map};
 ghost use Rattle.xq_regions.specs.Rows.{placed, row_at};
 ghost use Rattle.xq_regions.specs.Tree.{most_nodes};
@@ -165,6 +165,18 @@ impl<'a> LentRows<'a> {
                 } else {
                     None
                 }
+            }
+        }
+    }
+
+    /// The first of the rows, so many, those that there are.
+    pub fn first(&self, count: usize) -> LentRows<'a>
+        ensures { result ≡ take count self.now }
+    {
+        match self.form {
+            Form::Listed(rows) => LentRows::new(&rows[..count.min(rows.len())]),
+            Form::Packed(rows, low, high) => {
+                LentRows::packed(rows, low, low + count.min(high - low))
             }
         }
     }
