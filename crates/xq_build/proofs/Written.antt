@@ -10,7 +10,6 @@ use Rattle.xq_atoms.specs.declared.refusals.Code.{Code}
 use Rattle.xq_atoms.specs.declared.refusals.Code.TheVariants.{ProfReply}
 use Rattle.xq_regions.specs.Print.{print}
 use Rattle.xq_atoms.specs.Print.{quoted_character, escaped}
-use Rattle.xq_regions.specs.Levels.{flat_row}
 use Rattle.xq_regions.specs.Printing.{text_from}
 use Rattle.xq_regions.specs.Tree.{Tree}
 use Rattle.xq_regions.specs.declared.NodeRow.{NodeRow}
