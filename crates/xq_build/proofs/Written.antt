@@ -10,7 +10,6 @@ use Rattle.xq_atoms.specs.declared.refusals.Code.{Code}
 use Rattle.xq_atoms.specs.declared.refusals.Code.TheVariants.{ProfReply}
 use Rattle.xq_regions.specs.Print.{print}
 use Rattle.xq_atoms.specs.Print.{quoted_character, escaped}
-use Rattle.xq_regions.specs.Levels.{flat_row}
 use Rattle.xq_regions.specs.Printing.{text_from}
 use Rattle.xq_regions.specs.Tree.{Tree}
 use Rattle.xq_regions.specs.declared.NodeRow.{NodeRow}
@@ -20,12 +19,12 @@ use Rattle.xq_regions.specs.Items.{item_view}
 use Rattle.xq_meaning.specs.Items.{Item, tree_below}
 use Rattle.xq_meaning.specs.Readings.{item_at, items_at, node_at}
 use Rattle.xq_meaning.specs.Print.{print_item, print_items, within_reply}
-use Rattle.xq_regions.specs.Rows.{Row, row_of, placed}
+use Rattle.xq_regions.specs.Rows.{Row, no_row, row_of, placed}
 use Rattle.xq_regions.specs.declared.items.Node.{Node as CodeNode}
 use Rattle.xq_sources.specs.Lenders.{IsRun}
 use Rattle.xq_sources.specs.Lent.{lent_at}
 use Rattle.xq_sources.specs.Sources.{rows_between, tree_at}
-use Rattle.xq_copies.proofs.Subtrees.{run_left, run_splits, whole_leaves}
+use Rattle.xq_copies.proofs.Subtrees.{run_splits, whole_leaves}
 use Rattle.std.specs.Prelude.{Result, String, string_bytes, codes, nat_le, Ok, Err}
 use Rattle.xq_atoms.specs.Answers.{GivesUnlessWanting}
 use Rattle.xq_copies.specs.Leaves.{Leaf, leaf, lowered, leaves_between, IsRowOf}
@@ -162,6 +161,10 @@ pub appended : {Z : Type 0} (limit : ℕ) (piece all : List ℕ) (result : Resul
 appended limit piece all (Ok t) old mid new e h = (h.0 ∙ e, h.1)
 appended limit piece all (Err f) old mid new e h = too_long_along limit f (string_bytes mid ++ piece) (string_bytes old ++ all) e h
 
+-- a row, and the rows after it
+run_left : (run : List (ℕ × Row)) (at : ℕ) (p : ℕ × Row) → at < length run → p ≡ lent_at run at → drop at run ≡ p ∷ drop (at + 1) run
+run_left run at p lt is = drop_more run at (0, no_row) lt ∙ ap (λ (q : ℕ × Row). q ∷ drop (at + 1) run) (sym is)
+
 -- a row that is refused
 pub run_refused : (limit : ℕ) (f : Fault) (text all : List ℕ) (depth base at : ℕ) (run : List (ℕ × Row)) (p : ℕ × Row) (others : List Leaf) → at < length run → p ≡ lent_at run at
     → text ++ text_from depth (map (lowered base) (map leaf (drop at run)) ++ others) ≡ all
@@ -169,15 +172,6 @@ pub run_refused : (limit : ℕ) (f : Fault) (text all : List ℕ) (depth base at
 run_refused limit f text all depth base at run p others lt is e h =
     too_long_along limit f _ all (ap (λ (ps : List (ℕ × Row)). text ++ text_from depth (map (lowered base) (map leaf ps) ++ others)) (sym (run_left run at p lt is)) ∙ e)
     (h (map (lowered base) (map leaf (drop (at + 1) run)) ++ others))
-
--- a row that was written
-pub row_written : (text now all : List ℕ) (depth depth' base at : ℕ) (run : List (ℕ × Row)) (p : ℕ × Row) (others : List Leaf) → at < length run → p ≡ lent_at run at
-    → text ++ text_from depth (map (lowered base) (map leaf (drop at run)) ++ others) ≡ all
-    → ((os : List Leaf) → now ++ text_from depth' os ≡ text ++ text_from depth (lowered base (leaf p) ∷ os))
-    → now ++ text_from depth' (map (lowered base) (map leaf (drop (at + 1) run)) ++ others) ≡ all
-row_written text now all depth depth' base at run p others lt is e h =
-    h (map (lowered base) (map leaf (drop (at + 1) run)) ++ others)
-    ∙ ap (λ (ps : List (ℕ × Row)). text ++ text_from depth (map (lowered base) (map leaf ps) ++ others)) (sym (run_left run at p lt is)) ∙ e
 
 -- the leaves of a run, and those after it
 split_lowered : (t : Tree) (low high base : ℕ) (run : List (ℕ × Row)) → IsRun (rows_between t low high) run

@@ -1,13 +1,12 @@
 -- The rows of a node and of all that is below it.
-use Rattle.std.specs.Prelude.{Some, slice_get}
 use Rattle.std.proofs.Common.{◌≡◌, ℕ, zero, suc, ◌+◌, ◌-◌, ◌<◌, ◌≤◌, List, [], ◌∷◌, ◌++◌, length, take, drop, map, refl, sym, ◌∙◌, ap, subst, arith, append_assoc}
 use Rattle.std.specs.List.{enumerate_from}
-use Rattle.std.proofs.lemmas.List.{append-nil, map-append, length-append, length-take, take-append-drop, drop-take, drop-drop, drop-append-le, drop_at, take_at, take-map, drop-map, take_more, drop_more, nil_from_length, map_push}
+use Rattle.std.proofs.lemmas.List.{append-nil, map-append, length-append, length-take, take-append-drop, drop-take, drop-drop, drop-append-le, drop_at, take_at, take-map, drop-map, nil_from_length, map_push}
 use Rattle.xq_regions.specs.Forest.{Forest, end, node, count}
-use Rattle.xq_regions.specs.Tree.{Label, Tree, IsTree, nodes, no_label}
+use Rattle.xq_regions.specs.Tree.{Label, Tree, nodes, no_label}
 use Rattle.xq_regions.specs.Node.{HasPath, label_at, below_at}
 use Rattle.xq_regions.specs.Order.{place_of, path_at}
-use Rattle.xq_regions.specs.Rows.{Row, no_row, rows, row_at, row_of, placed, placed_rows}
+use Rattle.xq_regions.specs.Rows.{Row, rows, row_at, row_of, placed_rows}
 use Rattle.xq_regions.specs.Levels.{flat, flat_row}
 use Rattle.xq_regions.specs.declared.NodeRow.{NodeRow}
 use Rattle.xq_regions.specs.declared.Kind.{Kind}
@@ -16,8 +15,7 @@ use Rattle.xq_regions.specs.declared.items.Node.{Node}
 use Rattle.xq_regions.proofs.Printed.{leveled, flat-measured}
 use Rattle.xq_regions.proofs.Paths.{place_lt, at_place}
 use Rattle.xq_regions.proofs.Regions.{row_at-place_of}
-use Rattle.xq_sources.specs.Lent.{lent_at}
-use Rattle.xq_sources.specs.Sources.{rows_between, tree_at, HasNode}
+use Rattle.xq_sources.specs.Sources.{rows_between, tree_at}
 use Rattle.xq_sources.specs.Lenders.{IsRun}
 use Rattle.xq_sources.proofs.Intervals.{between-places}
 use Rattle.xq_meaning.specs.Items.{tree_below}
@@ -99,28 +97,6 @@ run_next t low high base run next copies copies' whole is n e h =
     ∙ append_assoc copies (map (lowered base) (map leaf run)) rest
     ∙ ap (λ l. copies ++ l) (sym (map-append (lowered base) (map leaf run) (leaves_between t (low + length run) high)) ∙ ap (map (lowered base)) (sym s))
     ∙ h
-
--- # A run row by row
-
--- the rows before one, and the row
-pub run_taken : (run : List (ℕ × Row)) (at : ℕ) (p : ℕ × Row) → at < length run → p ≡ lent_at run at → take (at + 1) run ≡ take at run ++ p ∷ []
-run_taken run at p lt is = take_more run at (0, no_row) lt ∙ ap (λ (q : ℕ × Row). take at run ++ q ∷ []) (sym is)
-
--- a row, and the rows after it
-pub run_left : (run : List (ℕ × Row)) (at : ℕ) (p : ℕ × Row) → at < length run → p ≡ lent_at run at → drop at run ≡ p ∷ drop (at + 1) run
-run_left run at p lt is = drop_more run at (0, no_row) lt ∙ ap (λ (q : ℕ × Row). q ∷ drop (at + 1) run) (sym is)
-
--- a copy more
-pub row_copied : (run : List (ℕ × Row)) (at base : ℕ) (p : ℕ × Row) (row : NodeRow) (copies now : List NodeRow) (start : List Leaf)
-    → at < length run → p ≡ lent_at run at → flat_row row ≡ lowered base (leaf p) → now ≡ copies ++ row ∷ []
-    → map flat_row copies ≡ start ++ map (lowered base) (map leaf (take at run)) → map flat_row now ≡ start ++ map (lowered base) (map leaf (take (at + 1) run))
-row_copied run at base p row copies now start lt is low pushed h =
-    let front = map (lowered base) (map leaf (take at run)) in
-    let more : map (lowered base) (map leaf (take (at + 1) run)) ≡ front ++ lowered base (leaf p) ∷ [] =
-    ap (λ (ps : List (ℕ × Row)). map (lowered base) (map leaf ps)) (run_taken run at p lt is)
-    ∙ ap (map (lowered base)) (map_push leaf (take at run) p) ∙ map_push (lowered base) (map leaf (take at run)) (leaf p) in
-    ap (map flat_row) pushed ∙ map_push flat_row copies row ∙ ap (λ (ps : List Leaf). ps ++ flat_row row ∷ []) h
-    ∙ append_assoc start front (flat_row row ∷ []) ∙ ap (λ (q : Leaf). start ++ (front ++ q ∷ [])) low ∙ ap (λ (ps : List Leaf). start ++ ps) (sym more)
 
 -- # A node and what is below it
 
@@ -251,17 +227,6 @@ module _ (trees : List Tree) (n : Node) (row : NodeRow) (is : IsRowOf trees n ro
       of_node u ProcessingInstruction e other = rw e refl
 
 -- # What code does step by step
-
--- the row of a node that was lent alone
-pub row_kept : (trees : List Tree) (n : Node) (run : List (ℕ × Row)) (p : ℕ × Row) (row : NodeRow) → HasNode trees n.tree n.pre → IsTree (tree_at trees n.tree)
-    → run ≡ (n.pre, row_at (rows (tree_at trees n.tree)) n.pre) ∷ [] → Some p ≡ slice_get run 0 → placed row ≡ p → IsRowOf trees n row
-row_kept trees n run p row there is lent first kept =
-    let same : p ≡ (n.pre, row_at (rows (tree_at trees n.tree)) n.pre) = alone run p (n.pre, row_at (rows (tree_at trees n.tree)) n.pre) lent first in
-    record { has_node = there; is_tree = is; is_row = ap (λ (q : ℕ × Row). q.1) (kept ∙ same) }
-  where
-    alone : (run : List (ℕ × Row)) (p q : ℕ × Row) → run ≡ q ∷ [] → Some p ≡ slice_get run 0 → p ≡ q
-    alone [] p q e h = absurd (cc)
-    alone (r ∷ rs) p q e h = cc
 
 -- a row, and then others
 pub pushed : (before now after : List NodeRow) (row : NodeRow) (others whole : List Leaf)

@@ -1,18 +1,9 @@
 use Rattle.std.proofs.Common.{◌≡◌, ◌∙◌, ◌+◌, ◌-◌, ◌≤◌, length, ap, sym, arith}
 use Rattle.xq_sources.specs.Sources.{tree_at}
 use Rattle.xq_build.specs.private.Content.{are_low}
-use Rattle.xq_copies.proofs.Subtrees.{none_left, none_lent, lent_run, run_splits}
+use Rattle.xq_copies.proofs.Subtrees.{none_left, lent_run, run_splits}
 use Rattle.xq_build.proofs.Surpluses.{run_high, run_low}
 use Rattle.xq_build.proofs.surplus.are_low_between.Goals as goal
-
-pub returns-then-is_empty-clause-low : goal.returns-then-is_empty-clause-low
-returns-then-is_empty-clause-low g c = λ h.
-    (let i = c.loop-next.invariant in
-    let trees = g.L.TreeSource.forest c.args.source.now in
-    let run = c.lent-run.result in
-    let is = lent_run trees (g.L.TreeSource.forest c.loop-next.source) c.args.tree c.loop-next.next c.args.high run (g.L.RowLender.lent c.fetch.new.self) i.keeps c.lent-run.ensures (c.in_ok-fetch.ensures.found h) in
-    let none = none_lent (tree_at trees c.args.tree) c.loop-next.next c.args.high run is (c.is_empty.ensures.0 c.if-is_empty.true) in
-    sym (i.left (c.fetch.ensures.was_clean h) ∙ ap are_low none))
 
 pub returns-then-not-are_low_lent-clause-low : goal.returns-then-not-are_low_lent-clause-low
 returns-then-not-are_low_lent-clause-low g c = λ h.
