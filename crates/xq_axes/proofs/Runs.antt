@@ -1,6 +1,5 @@
 -- The runs that a lender gives are the rows of a tree in turn.
 use Rattle.std.proofs.Common.{◌≡◌, ℕ, zero, suc, ◌+◌, ◌-◌, ◌<◌, ◌≤◌, List, [], ◌∷◌, ◌++◌, length, get_or, take, drop, map, min, refl, sym, ◌∙◌, ap, subst, inl, inr, arith}
-use Rattle.std.specs.Prelude.{Some, slice_get}
 use Rattle.std.proofs.Math.Seq.{drop-cons}
 use Rattle.std.proofs.lemmas.List.{drop_all, length-take, length-drop, take_more, drop-append-le}
 use Rattle.std.proofs.lemmas.List.FromFn.{get_or-enumerate_from, length-enumerate_from}
@@ -11,18 +10,18 @@ use Rattle.xq_regions.specs.Rows.{Row, no_row, row_at, rows, placed_rows}
 use Rattle.xq_regions.proofs.Encoding.{length-rows}
 use Rattle.xq_sources.specs.Sources.{rows_between}
 use Rattle.xq_sources.specs.Lenders.{IsRun}
+use Rattle.xq_sources.specs.Lent.{lent_at}
 use Rattle.xq_sources.proofs.Intervals.{between-places}
 use Rattle.xq_axes.specs.Reads.{Span, span_end, IsRowIn, AreRowsIn, rows_to}
 
-pub row_in_turn : (t : Tree) (s : Span) (n : ℕ) (ps : List (ℕ × Row)) (i : ℕ) (p : ℕ × Row) → AreRowsIn t s n ps → Some p ≡ slice_get ps i → IsRowIn t s (n + i) p
-row_in_turn t s n [] i p h e = absurd (cc)
-row_in_turn t s n (q ∷ ps) zero p h e =
+pub row_in_turn : (t : Tree) (s : Span) (n : ℕ) (ps : List (ℕ × Row)) (i : ℕ) (p : ℕ × Row) → AreRowsIn t s n ps → i < length ps → p ≡ lent_at ps i → IsRowIn t s (n + i) p
+row_in_turn t s n [] i p h l e = absurd (omega (arith, l))
+row_in_turn t s n (q ∷ ps) zero p h l e =
     let m : n ≡ n + 0 = omega arith in
-    let same : q ≡ p = cc in
-    subst (λ k. IsRowIn t s k p) m (subst (IsRowIn t s n) same h.0)
-row_in_turn t s n (q ∷ ps) (suc i) p h e =
+    subst (λ k. IsRowIn t s k p) m (subst (IsRowIn t s n) (sym e) h.0)
+row_in_turn t s n (q ∷ ps) (suc i) p h l e =
     let m : suc n + i ≡ n + suc i = omega arith in
-    subst (λ k. IsRowIn t s k p) m (row_in_turn t s (suc n) ps i p h.1 e)
+    subst (λ k. IsRowIn t s k p) m (row_in_turn t s (suc n) ps i p h.1 (omega (arith, l)) e)
 
 row_here : (t : Tree) (n : ℕ) → n < count (nodes t) → drop n (placed_rows t) ≡ (n, row_at (rows t) n) ∷ drop (suc n) (placed_rows t)
 row_here t n h =

@@ -32,8 +32,10 @@ fn visit_all<V: Visitor>(rows: &LentRows<'_>, visitor: &mut V) -> Result<u64, Wa
         → IfOk result (λ passed. (n + passed ≤ span_end t s)
         × V.has_read start visitor.new t s (n + passed)) }
 {
+    let count = rows.len();
     let mut passed = 0usize;
-    while let Some(row) = rows.get(passed) {
+    while passed < count {
+        let row = rows.row(passed);
         let over = visitor.visit(&row)?;
         passed = passed.saturating_add(1).saturating_add(over as usize);
     }

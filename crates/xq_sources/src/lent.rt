@@ -1,5 +1,5 @@
 //! Rows as they are lent: read where they lie, and not copied.
-ghost use Rattle.std.specs.Prelude.{◌≡◌, ◌<◌, ◌≤◌, ◌^◌, length, map, slice_get, take, IfOk, IfSome, IfNone, IsTrue, ◌↔◌, []};
+ghost use Rattle.std.specs.Prelude.{◌≡◌, ◌<◌, ◌≤◌, length, map, slice_get, take, IfOk, IfSome, IfNone, IsTrue, ◌↔◌, []};
 ghost use Rattle.std.specs.Option.{option_map};
 ghost use Rattle.xq_regions.specs.Rows.{placed, row_at};
 ghost use Rattle.xq_regions.specs.Tree.{most_nodes};
@@ -152,7 +152,6 @@ impl<'a> LentRows<'a> {
         ensures row { option_map placed_lent result ≡ slice_get self.now at }
         ensures within { IfSome result (λ _. at < length self.now) }
         ensures none { IfNone result (length self.now ≤ at) }
-        ensures few { length self.now < 2 ^ 64 }
     {
         match self.form {
             Form::Listed(rows) => match rows.get(at) {
