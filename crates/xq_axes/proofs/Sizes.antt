@@ -113,7 +113,7 @@ module _ (trees : List Tree) (node : Spot) (x : LentRow) (there : HasNode trees 
       let h : p.root.kind ≡ x.kind = sym (ap (λ (l : Label). l.kind) label_read) in
       e ∙ sym (value_by_parent p.root.kind p.root.value (texts p.below) (ap is_parent h ∙ k))
 
-  pub leaf_value : (text : List ℕ) → is_parent x.kind ≡ false → text ≡ x.value.now → text ≡ string_value (tree_below trees (node_at trees node))
+  pub leaf_value : (text : List ℕ) → is_parent x.kind ≡ false → text ≡ x.texts.value → text ≡ string_value (tree_below trees (node_at trees node))
   leaf_value text k e =
       let p = tree_below trees (node_at trees node) in
       let h : p.root.kind ≡ x.kind = sym (ap (λ (l : Label). l.kind) label_read) in

@@ -20,13 +20,13 @@ no_text Text value h = absurd (h refl)
 no_text Comment value h = refl
 no_text ProcessingInstruction value h = refl
 
-pub texts_more : (t : Tree) (s : Span) (n : ℕ) (x : LentRow) (old new : List ℕ) → IsRowIn t s n (placed_lent x) → old ≡ joined_texts (rows_to (rows t) s.low n) → new ≡ old ++ text_of x.kind (x.value.now)
+pub texts_more : (t : Tree) (s : Span) (n : ℕ) (x : LentRow) (old new : List ℕ) → IsRowIn t s n (placed_lent x) → old ≡ joined_texts (rows_to (rows t) s.low n) → new ≡ old ++ text_of x.kind x.texts.value
     → (n + 1 + 0 ≤ span_end t s) × (new ≡ joined_texts (rows_to (rows t) s.low (n + 1 + 0)))
 texts_more t s n x old new r e a =
     let f = λ (r : Row). text_of r.label.kind r.label.value in
     let m = rows_to-more (rows t) s.low n r.from (omega (arith, r.is_there, length-rows t)) in
     one_on t s n (placed_lent x) (λ k. new ≡ joined_texts (rows_to (rows t) s.low k)) r
-    (a ∙ ap (λ l. l ++ text_of x.kind (x.value.now)) e
+    (a ∙ ap (λ l. l ++ text_of x.kind x.texts.value) e
     ∙ ap (λ (y : Row). joined_texts (rows_to (rows t) s.low n) ++ f y) r.row
     ∙ flat_map_more f [] (rows_to (rows t) s.low n) (row_at (rows t) n)
     ∙ sym (ap joined_texts m))

@@ -32,8 +32,8 @@ impl Visitor for Copied {
             size: row.size,
             level: row.level.saturating_sub(self.level),
             kind: row.kind,
-            name: String::from_str(self.alloc, row.name)?,
-            value: String::from_str(self.alloc, row.value)?,
+            name: String::from_str(self.alloc, row.name())?,
+            value: String::from_str(self.alloc, row.value())?,
         })?;
         Ok(0)
     }

@@ -24,13 +24,13 @@ fn is_same(wanted: &str, name: &str) -> bool
 /// The lengths, which lie in the row, are compared first: the names lie elsewhere.
 #[inline(always)]
 fn has_name(wanted: &Option<Text>, row: &LentRow<'_>) -> bool
-    ensures { result ≡ has_name_lem wanted.now row.now.name.now }
+    ensures { result ≡ has_name_lem wanted.now row.now.texts.name }
 {
     match wanted {
         None => true,
         Some(text) => {
             let text = text.as_str();
-            let name = row.name;
+            let name = row.name();
             text.len() == name.len() && is_same(text, name)
         }
     }

@@ -25,7 +25,7 @@ impl Visitor for Texts {
 
     fn visit(&mut self, row: &LentRow<'_>) -> Result<u32, Want> {
         if let Kind::Text = row.kind {
-            self.joined.push_str(row.value)?;
+            self.joined.push_str(row.value())?;
         }
         Ok(0)
     }
@@ -83,6 +83,6 @@ pub fn string_value<L: RowLender>(alloc: Global, source: &mut L, node: Node) -> 
         let size = row.size;
         texts_below(alloc, source, node, size)
     } else {
-        Ok(String::from_str(alloc, row.value)?)
+        Ok(String::from_str(alloc, row.value())?)
     }
 }

@@ -111,8 +111,8 @@ fn append_opening(text: &mut String, limit: usize, row: &LentRow<'_>) -> Result<
     ensures { Appends limit (opening (row_lent row.now).label) result text.old text.new }
 {
     append(text, limit, word(row.kind))?;
-    append_heading(text, limit, row.kind, row.name)?;
-    append_content(text, limit, row.kind, row.value)
+    append_heading(text, limit, row.kind, row.name())?;
+    append_content(text, limit, row.kind, row.value())
 }
 
 /// Closes so many nodes.

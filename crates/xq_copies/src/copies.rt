@@ -22,8 +22,8 @@ fn lowered_row(alloc: Global, row: &LentRow<'_>, base: u32) -> Result<NodeRow, W
         size: 0,
         level: row.level.saturating_sub(base),
         kind: row.kind,
-        name: String::from_str(alloc, row.name)?,
-        value: String::from_str(alloc, row.value)?,
+        name: String::from_str(alloc, row.name())?,
+        value: String::from_str(alloc, row.value())?,
     })
 }
 

@@ -30,7 +30,7 @@ fn name_at<L: RowLender>(alloc: Global, source: &mut L, node: Node) -> Result<St
     let Some(row) = source.lent().get(0) else {
         return Err(Want::Store);
     };
-    Ok(String::from_str(alloc, row.name)?)
+    Ok(String::from_str(alloc, row.name())?)
 }
 
 /// The string value of an item (F&O 3.1, section 2.3).

@@ -33,11 +33,11 @@ one_text t v row sized is =
 
 pub lone_value : (trees : List Tree) (node : Spot) (x y : LentRow) (place : ℕ) → HasNode trees node.tree node.pre → placed_lent x ≡ (node.pre, row_at (rows (tree_at trees node.tree)) node.pre) → IsTree (tree_at trees node.tree)
     → is_parent x.kind ≡ true → x.size ≡ 1 → place ≡ min (node.pre + 1) 4294967295 → placed_lent y ≡ (place, row_at (rows (tree_at trees node.tree)) place) → y.kind ≡ Text
-    → y.value.now ≡ string_value (tree_below trees (node_at trees node))
+    → y.texts.value ≡ string_value (tree_below trees (node_at trees node))
 lone_value trees node x y place there read is_tree parent one low below text =
     let t = tree_at trees node.tree in
     let sized = subst (IsSized t node.pre) one (size_read trees node x there read is_tree) in
     let at : place ≡ node.pre + 1 = (let d = (node_of t node.pre sized.is_there).ends in let r = is_tree.room in let s = sized.size in omega (arith, d, r, s, low)) in
     let row : row_lent y ≡ row_at (rows t) (node.pre + 1) = ap (λ (p : ℕ × Row). p.1) below ∙ ap (row_at (rows t)) at in
-    parent_value trees node x there read y.value.now parent
-    (ap (λ k. text_of k y.value.now) (sym text) ∙ one_text t node.pre (row_lent y) sized row)
+    parent_value trees node x there read y.texts.value parent
+    (ap (λ k. text_of k y.texts.value) (sym text) ∙ one_text t node.pre (row_lent y) sized row)

@@ -206,7 +206,7 @@ fn has_lone_text<L: RowLender>(
         return Err(Want::Store);
     };
     if !is_parent(row.kind) {
-        return Ok(Some(is_same(wanted, row.value)));
+        return Ok(Some(is_same(wanted, row.value())));
     }
     let is_lone = row.size == 1;
     if !is_lone {
@@ -217,7 +217,7 @@ fn has_lone_text<L: RowLender>(
         return Err(Want::Store);
     };
     match below.kind {
-        Kind::Text => Ok(Some(is_same(wanted, below.value))),
+        Kind::Text => Ok(Some(is_same(wanted, below.value()))),
         _ => Ok(None),
     }
 }

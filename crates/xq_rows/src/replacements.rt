@@ -28,8 +28,8 @@ fn is_same(there: &LentRow<'_>, row: &NodeRow) -> bool
         && there.size == row.size
         && there.level == row.level
         && there.kind == row.kind
-        && there.name == row.name.as_str()
-        && there.value == row.value.as_str()
+        && there.name() == row.name.as_str()
+        && there.value() == row.value.as_str()
 }
 
 /// Has a node stand under its number, where the row that is there is the one at this place, or

@@ -9,7 +9,7 @@ abbrev pub row_lent : LentRow → Row
 row_lent r = record {
   size = r.size;
   level = r.level;
-  label = record { kind = r.kind; name = r.name.now; value = r.value.now };
+  label = record { kind = r.kind; name = r.texts.name; value = r.texts.value };
 }
 
 -- a row that is lent, with its place

@@ -2,6 +2,7 @@ pub mod Meters
 pub mod Sources
 pub mod Lenders
 pub mod Lent
+pub mod Texts
 pub mod Parents
 pub mod AttributeRows
 pub mod Addresses

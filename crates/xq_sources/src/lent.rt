@@ -11,15 +11,63 @@ use xq_atoms::Want;
 use xq_packed::{PackedRow, PackedRows};
 use xq_regions::{Kind, NodeRow};
 
+/// Where the name and the value of a row lie.
+#[derive(Drop)]
+enum TextsForm<'a> {
+    Listed(&'a NodeRow),
+    Packed(PackedRow<'a>),
+}
+
+/// The name and the value of a row that is lent: each is looked for where it is asked for alone.
+#[derive(Drop)]
+pub struct LentTexts<'a> {
+    form: TextsForm<'a>,
+}
+
+impl<'a> Model for LentTexts<'a> {
+    ghost use Rattle.xq_sources.specs.Texts.{Texts, texts_code};
+
+    ghost Value = { Texts };
+
+    ghost coded = { texts_code };
+
+    ghost use Rattle.xq_sources.specs.private.Forms.{texts_of_form};
+
+    ghost view = { λ texts. texts_of_form texts.form };
+}
+
+impl<'a> LentTexts<'a> {
+    /// The name; empty where the row's kind has none.
+    #[inline]
+    fn name(&self) -> &'a str
+        ensures { result.now ≡ self.now.name }
+    {
+        match &self.form {
+            TextsForm::Listed(row) => row.name.as_str(),
+            TextsForm::Packed(row) => row.name(),
+        }
+    }
+
+    /// The value; empty where the row's kind has none.
+    #[inline]
+    fn value(&self) -> &'a str
+        ensures { result.now ≡ self.now.value }
+    {
+        match &self.form {
+            TextsForm::Listed(row) => row.value.as_str(),
+            TextsForm::Packed(row) => row.value(),
+        }
+    }
+}
+
 /// A node with its place among the rows of its tree, as it is lent.
-#[derive(Clone, Copy)]
+#[derive(Drop)]
 pub struct LentRow<'a> {
     pub pre: u32,
     pub size: u32,
     pub level: u32,
     pub kind: Kind,
-    pub name: &'a str,
-    pub value: &'a str,
+    pub texts: LentTexts<'a>,
 }
 
 impl<'a> LentRow<'a> {
@@ -33,9 +81,26 @@ impl<'a> LentRow<'a> {
             size: row.size,
             level: row.level,
             kind: row.kind,
-            name: row.name.as_str(),
-            value: row.value.as_str(),
+            texts: LentTexts {
+                form: TextsForm::Listed(row),
+            },
         }
+    }
+
+    /// Its name; empty where its kind has none.
+    #[inline]
+    pub fn name(&self) -> &'a str
+        ensures { result.now ≡ self.now.texts.name }
+    {
+        self.texts.name()
+    }
+
+    /// Its value; empty where its kind has none.
+    #[inline]
+    pub fn value(&self) -> &'a str
+        ensures { result.now ≡ self.now.texts.value }
+    {
+        self.texts.value()
     }
 
     /// The same row, to keep.
@@ -47,8 +112,8 @@ impl<'a> LentRow<'a> {
             size: self.size,
             level: self.level,
             kind: self.kind,
-            name: String::from_str(alloc, self.name)?,
-            value: String::from_str(alloc, self.value)?,
+            name: String::from_str(alloc, self.name())?,
+            value: String::from_str(alloc, self.value())?,
         })
     }
 }
@@ -66,8 +131,9 @@ fn packed_row(rows: &PackedRows, at: usize) -> LentRow<'_>
         size: row.size(),
         level: row.level(),
         kind: row.kind(),
-        name: row.name(),
-        value: row.value(),
+        texts: LentTexts {
+            form: TextsForm::Packed(row),
+        },
     }
 }
 

@@ -22,7 +22,7 @@ pub type Names = HashMap<String, Vec<u32>>;
 fn is_named(row: &LentRow<'_>, name: &str) -> bool
     ensures { result ≡ is_named_lem name.now (placed_lent row.now) }
 {
-    matches!(row.kind, Kind::Element) && row.name == name
+    matches!(row.kind, Kind::Element) && row.name() == name
 }
 
 /// The places of the elements with the name, in document order.

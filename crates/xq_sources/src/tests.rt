@@ -56,7 +56,7 @@ fn words(alloc: Global, rows: &LentRows<'_>) -> Result<String, AllocError> {
     let mut text = String::new(alloc);
     for at in 0..rows.len() {
         let row = rows.row(at);
-        text.push_str(format!(in alloc; "{}{} ", row.name, row.value)?.as_str())?;
+        text.push_str(format!(in alloc; "{}{} ", row.name(), row.value())?.as_str())?;
     }
     Ok(text)
 }

@@ -1,10 +1,20 @@
 -- Where rows lie that are lent.
-use Rattle.std.specs.Prelude.{ℕ, ◌≤◌, List, length, map}
+use Rattle.std.specs.Prelude.{ℕ, ◌≤◌, List, length, map, string_bytes}
 use Rattle.xq_regions.specs.Tree.{most_nodes}
 use Rattle.xq_regions.specs.Rows.{Row, placed}
 use Rattle.xq_sources.specs.Lent.{placed_between}
 use Rattle.xq_sources.specs.declared.lent.Form.{Form}
 use Rattle.xq_sources.specs.declared.lent.Form.TheVariants.{Listed, Packed}
+use Rattle.xq_sources.specs.declared.lent.TextsForm.{TextsForm}
+use Rattle.xq_sources.specs.declared.lent.TextsForm.TheVariants.{Listed as ListedTexts, Packed as PackedTexts}
+use Rattle.xq_sources.specs.Texts.{Texts}
+
+-- the name and the value of a row
+abbrev pub texts_of_form : TextsForm → Texts
+texts_of_form (ListedTexts row) =
+    record { name = string_bytes row.now.name; value = string_bytes row.now.value }
+texts_of_form (PackedTexts row) =
+    record { name = row.row.label.name; value = row.row.label.value }
 
 -- the rows, with their places
 abbrev pub rows_of_form : Form → List (ℕ × Row)

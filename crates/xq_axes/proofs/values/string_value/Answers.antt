@@ -30,4 +30,4 @@ returns-in_ok-from_str-clause-value g c = λ k. (
     let there = c.in_ok-fetch_row.ensures.exists k in
     let x = c.in-Some.row in
     let read = one_row c.lent.result (placed_lent x) (node.pre, row_at (rows (tree_at trees node.tree)) node.pre) (c.lent.ensures ∙ c.in_ok-fetch_row.ensures.found k) c.in-Some.ensures.row in
-    leaf_value trees node x there read _ (sym c.is_parent.ensures ∙ c.if-is_parent.false) c.in_ok-from_str.ensures.ok)
+    leaf_value trees node x there read _ (sym c.is_parent.ensures ∙ c.if-is_parent.false) (c.in_ok-from_str.ensures.ok ∙ c.value.ensures))

@@ -13,4 +13,4 @@ returns-clause-name g c = λ k.
     let there = c.in_ok-fetch_row.ensures.exists k in
     let x = c.in-Some.row in
     let read = one_row c.lent.result (placed_lent x) (node.pre, row_at (rows (tree_at trees node.tree)) node.pre) (c.lent.ensures ∙ c.in_ok-fetch_row.ensures.found k) c.in-Some.ensures.row in
-    c.in_ok-from_str.ensures.ok ∙ ap (λ (l : Label). l.name) (label_read trees node x there read)
+    c.in_ok-from_str.ensures.ok ∙ c.name.ensures ∙ ap (λ (l : Label). l.name) (label_read trees node x there read)

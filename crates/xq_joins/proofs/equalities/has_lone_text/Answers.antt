@@ -13,8 +13,8 @@ returns-then-not-is_parent-clause-answer g c = λ k.
     let node = c.args.node in
     let x = c.in-Some.row in
     let read = one_row c.lent.result (placed_lent x) (node.pre, row_at (rows (tree_at trees node.tree)) node.pre) (c.lent.ensures ∙ c.in_ok-fetch_row.ensures.found k) c.in-Some.ensures.row in
-    let value = leaf_value trees node x (c.in_ok-fetch_row.ensures.exists k) read x.value.now (sym c.is_parent.ensures ∙ c.if-not-is_parent.true) refl in
-    c.is_same.ensures ∙ ap (text_eq c.args.wanted.now) value
+    let value = leaf_value trees node x (c.in_ok-fetch_row.ensures.exists k) read x.texts.value (sym c.is_parent.ensures ∙ c.if-not-is_parent.true) refl in
+    c.is_same.ensures ∙ ap (text_eq c.args.wanted.now) (c.value.ensures ∙ value)
 
 pub returns-in-Text-clause-answer : goal.returns-in-Text-clause-answer
 returns-in-Text-clause-answer g c = λ k.
@@ -28,4 +28,4 @@ returns-in-Text-clause-answer g c = λ k.
     let below = one_row c.lent-2.result (placed_lent y) (place, row_at (rows (tree_at (g.L.TreeSource.forest c.fetch_row.new.self) node.tree)) place) (c.lent-2.ensures ∙ c.in_ok-fetch_row-2.ensures.found k) c.in-Some-get.ensures.row in
     let same = subst (λ f. placed_lent y ≡ (place, row_at (rows (tree_at f node.tree)) place)) c.in_ok-fetch_row.ensures.keeps below in
     let value = lone_value trees node x y place (c.in_ok-fetch_row.ensures.exists was) read (c.in_ok-fetch_row.ensures.is_tree was) (sym c.is_parent.ensures ∙ c.if-not-is_parent.false) (omega (arith, c.if-not-is_lone.false)) c.saturating_add.ensures same c.in-Text.is in
-    c.is_same-in-Text.ensures ∙ ap (text_eq c.args.wanted.now) value
+    c.is_same-in-Text.ensures ∙ ap (text_eq c.args.wanted.now) (c.value-in-Text.ensures ∙ value)

@@ -12,4 +12,4 @@ returns c = λ _ t s n r h. (
     one_on t s n (placed_lent x) (λ m. AreCopied t s m old.place old.level c.push.new.self.items) r
     (subst (AreCopied t s (n + 1) old.place old.level) (sym c.in_ok-push.ensures.items)
     (copied_more t s n old.place old.level x _ old.rows.items r h c.saturating_sub.ensures
-    (copied_row x.size _ _ x.kind _ x.name.now _ x.value.now c.saturating_sub-2.ensures c.in_ok-from_str.ensures.ok c.in_ok-from_str-2.ensures.ok))))
+    (copied_row x.size _ _ x.kind _ x.texts.name _ x.texts.value c.saturating_sub-2.ensures (c.in_ok-from_str.ensures.ok ∙ c.name.ensures) (c.in_ok-from_str-2.ensures.ok ∙ c.value.ensures)))))
