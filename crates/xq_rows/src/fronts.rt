@@ -49,7 +49,7 @@ fn oldest_but(fronts: &[Front], tree: usize) -> usize {
     let mut oldest = tree;
     let mut wanted = u64::MAX;
     for (other, front) in fronts.iter().enumerate() {
-        if other != tree && !front.rows.is_empty() && front.wanted < wanted {
+        if other != tree && front.rows.len() > 0 && front.wanted < wanted {
             oldest = other;
             wanted = front.wanted;
         }
