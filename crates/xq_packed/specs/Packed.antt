@@ -14,7 +14,8 @@ pub record Packed : Type 0 where
 -- told by both
 abbrev pub packed_code : Coded Packed
 packed_code =
-    code_by (List Row × List (List ℕ)) (coded× (coded_list row_code) (coded_list (coded_list coded_ℕ)))
+    code_by (List Row × List (List ℕ))
+    (coded× (coded_list row_code) (coded_list (coded_list coded_ℕ)))
     (λ p. (p.rows, p.names)) (λ p. record { rows = p.0; names = p.1 }) (λ _. refl)
 
 -- a row of these
@@ -31,7 +32,11 @@ named_code =
 -- a row of its parts
 abbrev pub row : ℕ → ℕ → Kind → List ℕ → List ℕ → Row
 row size level kind name value =
-    record { size = size; level = level; label = record { kind = kind; name = name; value = value } }
+    record {
+      size = size;
+      level = level;
+      label = record { kind = kind; name = name; value = value };
+    }
 
 -- the name has this number
 abbrev pub IsNumbered : List (List ℕ) → ℕ → List ℕ → Type 0

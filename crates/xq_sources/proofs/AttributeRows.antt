@@ -17,6 +17,7 @@ pub record AreSoFar (rs : List Row) (v number : ℕ) : Type 0 where
 plain-got : (rs : List Row) (at : ℕ) (r : LentRow) → IsGot rs at r → plain_row rs at ≡ not (is_attribute r.kind)
 plain-got rs at r got = ap (λ (q : Row). not (is_attribute q.label.kind)) got.is
 
+-- the next row is that of an attribute too
 pub one_more : (rs : List Row) (v number : ℕ) (x : LentRow) → AreSoFar rs v number → IsGot rs (v + 1 + number) x → is_attribute x.kind ≡ true → AreSoFar rs v (number + 1)
 one_more rs v number x s got k = record {
   there = (let there = got.there in omega (arith, there));
@@ -26,6 +27,7 @@ one_more rs v number x s got k = record {
   ];
 }
 
+-- the next row is that of no attribute, so that their number is known
 pub told : (rs : List Row) (v number : ℕ) (x y : LentRow) → AreSoFar rs v number → IsGot rs v y → number < y.size → IsGot rs (v + 1 + number) x → is_attribute x.kind ≡ false → AreAttributeRows rs v number
 told rs v number x y s own less got k =
     let same : v + 1 + number ≡ v + number + 1 = omega arith in

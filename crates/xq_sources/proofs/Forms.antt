@@ -1,4 +1,4 @@
--- Packed rows between two places, with their places.
+-- Packed rows from one place to before another, with their places.
 use Rattle.std.proofs.Common.{◌≡◌, ◌+◌, ◌-◌, ◌<◌, ◌≤◌, ℕ, List, Some, None, Bor, length, take, drop, min, sym, ap, ◌∙◌, subst, arith, inl, inr}
 use Rattle.std.specs.Prelude.{slice_get}
 use Rattle.std.specs.List.{enumerate_from}
@@ -52,7 +52,10 @@ module _ (form : Form) (rows : Bor PackedRows) (low high : ℕ) (seen : List (�
   there = subst IsForm is invariant
 
   pub as_many : length seen ≡ high - low
-  as_many = sym (ap length between) ∙ (let many = length-placed_between rows.now.rows low high in let within = there.within in let all : min (high - low) (length rows.now.rows - low) ≡ high - low = omega (arith, within) in many ∙ all)
+  as_many =
+      let within = there.within in
+      let all : min (high - low) (length rows.now.rows - low) ≡ high - low = omega (arith, within) in
+      sym (ap length between) ∙ length-placed_between rows.now.rows low high ∙ all
 
   -- the row at a place among them
   pub is_got : (at : ℕ) → at < high - low → slice_get seen at ≡ Some (low + at, row_at rows.now.rows (low + at))
@@ -67,5 +70,6 @@ module _ (form : Form) (rows : Bor PackedRows) (low high : ℕ) (seen : List (�
       ∙ get_or-enumerate_from 0 rows.now.rows (low + at) (0, no_row) (omega (arith, inside, within))
       ∙ ap (λ n. (n, row_at rows.now.rows (low + at))) from_none)
 
+  -- there is none past the last
   pub none_got : (at : ℕ) → high - low ≤ at → slice_get seen at ≡ None
   none_got at past = slice_get_past seen at (omega (arith, past, as_many))

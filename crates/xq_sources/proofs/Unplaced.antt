@@ -12,6 +12,7 @@ pub record IsGot (rs : List Row) (at : ℕ) (r : LentRow) : Type 0 where
   pub there : at < length rs
   pub is : row_at rs at ≡ row_lent r
 
+-- it stands there also without its place
 pub row_got : (rows : List (ℕ × Row)) (at : ℕ) (r : LentRow) → Some (placed_lent r) ≡ slice_get rows at → IsGot (unplaced rows) at r
 row_got rows at r found =
     let within : at < length rows = slice_get_within rows at (placed_lent r) (sym found) in

@@ -68,8 +68,8 @@ pub trait RowLender: TreeSource {
             IsTree (tree_at (Self.forest self.now) tree)) };
 
     /// Looks for the elements with the name, where the lender keeps all rows of the tree, so that
-    /// their places can be told. It gives no row, so nothing is counted, and is never refused: where
-    /// it finds nothing, nothing is told.
+    /// their places can be told. It gives no row, so nothing is counted, and is never refused:
+    /// where it finds nothing, nothing is told.
     fn find_named(&mut self, alloc: Global, tree: usize, name: &str)
         ensures counts { Self.meter self.new ≡ Self.meter self.old }
         ensures keeps { Self.forest self.new ≡ Self.forest self.old }
