@@ -117,11 +117,7 @@ fn gives_above<S: RowSource>(
     (node, tree, wanted): (u32, usize, Option<&'static [usize]>),
 ) -> Result<bool, Want> {
     let rows = source.enclosing(alloc, tree, node)?;
-    Ok(are_rows_at(
-        &LentRows::new(&rows),
-        document(tree),
-        places_of(wanted),
-    ))
+    Ok(are_rows_at(&LentRows::new(&rows), document(tree), places_of(wanted)))
 }
 
 /// Whether the lender lends the rows that are wanted.
@@ -134,11 +130,7 @@ fn lends<L: RowLender>(
         Reading::Range(low, high) => lender.fetch(alloc, tree, low, high)?,
         Reading::Node(node) => lender.fetch_row(alloc, tree, node)?,
     }
-    Ok(are_rows_at(
-        &lender.lent(),
-        document(tree),
-        places_of(wanted),
-    ))
+    Ok(are_rows_at(&lender.lent(), document(tree), places_of(wanted)))
 }
 
 /// The number of the first reading that the source answers or counts otherwise.
