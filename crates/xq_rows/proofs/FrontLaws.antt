@@ -1,15 +1,17 @@
 -- The first rows of a tree: what they lend, and what is read on.
-use Rattle.std.proofs.Common.{◌≡◌, ◌+◌, ◌-◌, ◌≤◌, ◌<◌, ℕ, zero, suc, List, [], ◌∷◌, ◌++◌, length, map, take, drop, inl, inr, get_or, set, length-append, length-drop, Result, Ok, Err, OnOk, refl, sym, ap, subst, ◌∙◌, arith}
+use Rattle.std.proofs.Common.{◌≡◌, ◌+◌, ◌-◌, ◌≤◌, ◌<◌, ℕ, zero, suc, List, [], ◌∷◌, ◌++◌, length, map, take, drop, min, inl, inr, append_assoc, get_or, set, length-append, length-drop, Result, Ok, Err, OnOk, refl, sym, ap, subst, ◌∙◌, arith}
 use Rattle.std.specs.Global.{Vec}
 use Rattle.std.specs.HashMap.{get_by_text}
 use Rattle.std.specs.List.{enumerate_from, AllByRecursion}
-use Rattle.std.specs.Prelude.{slice_get, Option, Some, IfSome}
+use Rattle.std.specs.Prelude.{slice_get, Option, Some, IfSome, OnErr}
 use Rattle.std.proofs.lemmas.List.FromFn.{length-enumerate_from}
+use Rattle.std.proofs.lemmas.List.{map-append, take-append-drop, take-append-le, take-map, take-take}
 use Rattle.xq_regions.specs.Forest.{count}
 use Rattle.xq_regions.specs.Tree.{Tree, nodes}
-use Rattle.xq_regions.specs.Rows.{Row, rows, row_at, measured, placed, placed_rows, row_of}
+use Rattle.xq_regions.specs.Rows.{Encodes, Row, rows, row_at, measured, placed, placed_rows, row_of}
 use Rattle.xq_regions.specs.Nesting.{count-measured}
 use Rattle.xq_regions.specs.declared.NodeRow.{NodeRow}
+use Rattle.xq_packed.specs.Packed.{IsExtended, Packed}
 use Rattle.xq_sources.specs.Lenders.{IsRun}
 use Rattle.xq_sources.specs.Names.{named}
 use Rattle.xq_sources.specs.Sources.{rows_between, tree_at}
@@ -223,6 +225,30 @@ module _ (t : Tree) (rs : List Row) (front : IsFront t (enumerate_from 0 rs)) (l
 
   pub packed_all : found ≡ [] → length (placed_rows t) ≤ length (enumerate_from 0 rs)
   packed_all none = read_all t (enumerate_from 0 rs) front low high (map placed found) at_all past are (ap (map placed) none)
+
+-- rows that were packed of a tree's are its first, whether all of them were
+pub packed_front : {E : Type 0} (t : Tree) (r : Result (Unit {0}) E) (old new : Packed) (xs : List NodeRow) → old.rows ≡ [] → Encodes xs t → OnOk r (IsExtended old new (map row_of xs)) → OnErr r ((count : ℕ) × IsExtended old new (map row_of (take count xs))) → IsFront t (enumerate_from 0 new.rows)
+packed_front t (Ok done) old new xs none is all some =
+    subst (λ rs. IsFront t (enumerate_from 0 rs)) (sym (all.rows ∙ ap (λ rs. rs ++ map row_of xs) none ∙ is.rows ∙ sym (all-first (length (rows t)) (rows t) (omega arith)))) (first_kept t (length (rows t)))
+packed_front t (Err e) old new xs none is all some =
+    subst (λ rs. IsFront t (enumerate_from 0 rs)) (sym (some.1.rows ∙ ap (λ rs. rs ++ map row_of (take some.0 xs)) none ∙ sym (take-map row_of some.0 xs) ∙ ap (take some.0) is.rows)) (first_kept t some.0)
+
+-- and so do the first rows of it
+first-of-front : (t : Tree) (ps qs : List (ℕ × Row)) → IsFront t (ps ++ qs) → IsFront t ps
+first-of-front t ps qs front =
+    let n = length ps in
+    let all = placed_rows t in
+    let fewer : min n (length (ps ++ qs)) ≡ n = omega (arith, length-append ps qs) in
+    sym (take-append-le n ps qs (omega arith) ∙ all-first n ps (omega arith)) ∙ ap (take n) front ∙ take-take n (length (ps ++ qs)) all (omega (arith, length-append ps qs))
+
+pub packed_some : (t : Tree) (rs : List Row) (found : List NodeRow) (count : ℕ) → IsFront t (enumerate_from 0 (rs ++ map row_of found)) → IsFront t (enumerate_from 0 (rs ++ map row_of (take count found)))
+packed_some t rs found count front =
+    let some = map row_of (take count found) in
+    let others = map row_of (drop count found) in
+    let parts : rs ++ map row_of found ≡ (rs ++ some) ++ others =
+    ap (λ xs. rs ++ map row_of xs) (sym (take-append-drop count found)) ∙ ap (λ xs. rs ++ xs) (map-append row_of (take count found) (drop count found)) ∙ sym (append_assoc rs some others) in
+    first-of-front t (enumerate_from 0 (rs ++ some)) (enumerate_from (0 + length (rs ++ some)) others)
+    (subst (λ xs. IsFront t xs) (ap (enumerate_from 0) parts ∙ numbered-both 0 (rs ++ some) others) front)
 
 -- # All rows of a tree
 

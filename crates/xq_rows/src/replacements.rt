@@ -3,6 +3,7 @@ ghost use Rattle.std.specs.Prelude.{◌≡◌, ◌↔◌, ◌+◌, ◌≤◌, If
 ghost use Rattle.sqlite.specs.State.{HasCleanDisk};
 ghost use Rattle.sqlite.specs.Held.{state};
 ghost use Rattle.xq_regions.specs.Rows.{AreNumbered, placed};
+ghost use Rattle.xq_sources.specs.Lent.{placed_lent};
 ghost use Rattle.xq_rows.specs.Nodes.{cells};
 ghost use Rattle.xq_rows.specs.private.Statements.{RenewsPart, RenewsRow, RenewsRows, Replaces};
 ghost use Rattle.xq_rows.specs.private.Keeps.{StaysInside};

@@ -1,6 +1,9 @@
-use Rattle.std.proofs.Common.{◌∙◌, refl, arith}
+use Rattle.std.proofs.Common.{◌≡◌, ◌∙◌, length, map, refl, sym, ap, arith}
 use Rattle.sqlite.specs.State.{HasCleanDisk}
 use Rattle.sqlite.specs.Held.{state}
+use Rattle.std.proofs.lemmas.List.{length-map}
+use Rattle.xq_regions.specs.Rows.{placed}
+use Rattle.xq_rows.specs.Nodes.{cells}
 use Rattle.xq_rows.proofs.Renewals.{part_renewed}
 use Rattle.xq_rows.proofs.replacements.renew_part.Goals as goal
 
@@ -11,5 +14,7 @@ returns-clause-renewed g c clean =
     let last = state g.S.Store c.renew_rows.new.transaction.conn.now in
     let earlier : HasCleanDisk began = omega (arith, c.renew_rows.ensures.inside.clean, clean) in
     let given = c.in_ok-read.ensures.rows earlier in
-    part_renewed c.args.address.now c.args.low _ c.len.result c.args.rows.now c.in_ok-rows_there.rows_there.items c.in_ok-read.read.items c.args.names.now.entries c.renew_rows.new.names.entries first.now began.now last.now c.requires.numbered refl
-    given.same given.are (rw c.deref.ensures.value at c.in_ok-rows_there.ensures) (rw c.deref-2.ensures.value at (c.in_ok-renew_rows.ensures.renewed clean)) (c.len.ensures ∙ c.in_ok-rows_there.rows_there.ok.0)
+    let shown : c.new.result ≡ map placed c.in_ok-rows_there.rows_there.items = c.new.ensures ∙ ap (map placed) c.deref-2.ensures.value in
+    part_renewed c.args.address.now c.args.low _ c.len.result c.args.rows.now c.new.result c.in_ok-read.read.items c.args.names.now.entries c.renew_rows.new.names.entries first.now began.now last.now c.requires.numbered refl
+    given.same given.are (ap (map cells) shown ∙ (rw c.deref.ensures.value at c.in_ok-rows_there.ensures)) (c.in_ok-renew_rows.ensures.renewed clean)
+    (c.len.ensures ∙ c.in_ok-rows_there.rows_there.ok.0 ∙ sym (length-map c.in_ok-rows_there.rows_there.items placed) ∙ ap length (sym shown))

@@ -1,12 +1,13 @@
-use Rattle.std.proofs.Common.{◌≡◌, ◌+◌, ◌-◌, ◌∙◌, drop, length, map, refl, subst, arith}
+use Rattle.std.proofs.Common.{◌≡◌, ◌+◌, ◌-◌, ◌∙◌, List, drop, take, length, map, refl, subst, arith}
 use Rattle.std.specs.List.{slice_range}
 use Rattle.std.proofs.lemmas.List.{length-take, length-drop}
 use Rattle.sqlite.specs.State.{HasCleanDisk}
 use Rattle.sqlite.specs.Held.{state}
 use Rattle.xq_rows.proofs.Inserts.{kept_then}
 use Rattle.xq_regions.specs.Rows.{placed}
+use Rattle.xq_regions.specs.declared.NodeRow.{NodeRow}
 use Rattle.xq_rows.specs.Nodes.{cells}
-use Rattle.xq_rows.specs.private.Statements.{RenewsPart}
+use Rattle.xq_rows.specs.private.Statements.{RenewsPart, RenewsRows}
 use Rattle.xq_rows.proofs.Parts.{last_part}
 use Rattle.xq_rows.proofs.Renewals.{first_part, numbered_slice, part_more}
 use Rattle.xq_rows.proofs.replacements.replace_rows.Goals as goal
@@ -16,13 +17,17 @@ loop-at-init g c =
     let first = state g.S.Store c.args.transaction.now.conn.now in
     let now = state g.S.Store c.renew_rows.new.transaction.conn.now in
     let step = c.renew_rows.ensures.inside in
+    let at = c.min-at.result in
+    let ours : List NodeRow = take at c.args.rows.now in
+    let renews : HasCleanDisk now → RenewsRows c.args.address.now (take at c.args.kept.now) ours c.new-names.result.entries c.renew_rows.new.names.entries first.now now.now =
+    λ clean. subst (λ there. RenewsRows c.args.address.now there ours c.new-names.result.entries c.renew_rows.new.names.entries first.now now.now) c.first.ensures (c.in_ok-renew_rows.ensures.renewed clean) in
     record {
       same_reference = step.same_reference;
       clean = step.clean;
       kept = step.kept;
       within = omega (arith, c.min-at.ensures);
       so_far = λ clean. first_part c.args.address.now c.args.kept.now c.args.rows.now c.min-at.result _ _ c.renew_rows.new.names.entries first.now now.now c.requires.numbered (omega (arith, c.min-at.ensures)) (omega (arith, c.min-at.ensures)) refl
-          c.new-names.ensures.empty (c.in_ok-renew_rows.ensures.renewed clean);
+          c.new-names.ensures.empty (renews clean);
     }
 
 pub loop-at-preserved : goal.loop-at-preserved

@@ -30,5 +30,5 @@ returns-clause-found g c = λ clean.
 pub returns-clause-counts : goal.returns-clause-counts
 returns-clause-counts g c =
     let run = run_of (front_at c.read_on.new.shelf.fronts.items c.args.tree) c.args.low c.args.high in
-    let rows : c.kept_run-count.result ≡ run = c.kept_run-count.ensures ∙ ap (λ fronts. run_of (front_at fronts c.args.tree) c.args.low c.args.high) c.deref.ensures.value in
-    c.with_rows-self-inside.ensures ∙ ap (with_rows c.self.inside.meter) (ap length rows) ∙ ap (λ (w : Viewed _). with_rows w.meter (length run)) c.self.view_is
+    let rows : c.kept_run.result ≡ run = c.kept_run.ensures ∙ ap (λ fronts. run_of (front_at fronts c.args.tree) c.args.low c.args.high) c.deref.ensures.value in
+    c.with_rows-self-inside.ensures ∙ ap (with_rows c.self.inside.meter) (c.len-count.ensures ∙ ap length rows) ∙ ap (λ (w : Viewed _). with_rows w.meter (length run)) c.self.view_is
