@@ -6,7 +6,7 @@ pub mod Placing
 pub mod Sorting
 pub mod Rules
 pub mod KeyRows
-pub mod ByRows
+pub mod Columns
 pub mod Comparing
 pub mod Reading
 mod WorkedRows

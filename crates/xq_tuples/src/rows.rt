@@ -1,7 +1,7 @@
 //! Tuples with their keys.
 
 use crate::values::Tuple;
-use xq_atoms::{Atom, GroupKey};
+use xq_atoms::Atom;
 
 /// A tuple with its keys, one for each specification.
 #[derive(Drop)]
@@ -25,9 +25,9 @@ pub enum Key {
     Several(Vec<Atom>),
 }
 
-/// A tuple with what it is ordered by.
+/// A tuple with its number, at which the keys of each specification have its own.
 #[derive(Drop)]
 pub struct Ranked {
     pub tuple: Tuple,
-    pub keys: Vec<GroupKey>,
+    pub number: usize,
 }
