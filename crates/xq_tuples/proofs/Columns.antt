@@ -1,19 +1,13 @@
--- The keys of an order, from those of each tuple to those of each specification, and back.
+-- Keys, from those of each tuple to those of each specification, and back.
 use Rattle.std.proofs.Common.{◌≡◌, ℕ, zero, suc, ◌+◌, ◌<◌, ◌≤◌, List, [], ◌∷◌, ◌++◌, map, take, drop, set, length, get_or, replicate, fold, slice_index_or, refl, ap, sym, ◌∙◌, arith}
 use Rattle.std.specs.Global.{Vec}
 use Rattle.std.specs.List.{All, range_with_len, enumerate_from, zip}
 use Rattle.std.proofs.lemmas.List.{append_assoc, append-nil, length-map, get_or-drop, map_push, take_all, drop_all, drop_more, take_more_set, drop-set-lt}
 use Rattle.std.proofs.lemmas.List.Elements.{All-nil, All-cons, All-head, All-tail}
 use Rattle.xq_atoms.specs.declared.atoms.Atom.{Atom}
-use Rattle.xq_atoms.specs.declared.atoms.GroupKey.{GroupKey}
-use Rattle.xq_atoms.specs.Atom.{Atomic}
-use Rattle.xq_atoms.specs.Compare.{Key, Nothing}
-use Rattle.xq_regions.specs.Items.{ItemView}
-use Rattle.xq_regions.specs.Tuples.{Tuple, extended, key_rows, sort_keys}
+use Rattle.xq_regions.specs.Tuples.{extended, key_rows}
 use Rattle.xq_tuples.specs.Keys.{atomics_of, column_of, by_specification}
 use Rattle.xq_tuples.specs.private.Columns.{filled}
-use Rattle.xq_tuples.specs.private.Groups.{compared_of}
-use Rattle.xq_tuples.specs.private.Ranks.{key_in, keys_at, with_keys}
 use Rattle.xq_tuples.proofs.Lists.{map-map}
 
 -- # Keys by specification, from those by tuple
@@ -45,9 +39,9 @@ filled_all f columns n left all past so_far =
     sym (append-nil (map f columns)) ∙ (λ t. map f (sym (take_all n columns past) t) ++ filled (map f (sym (drop_all n columns past) t)) left) ∙ so_far
 
 -- columns without a value
-pub none_filled : {X B : Type 0} (f : X → B) (a n : ℕ) → map (map f) (replicate n []) ≡ map (λ (i : ℕ). []) (range_with_len a n)
-none_filled f a zero = refl
-none_filled f a (suc n) = ap (λ l. [] ∷ l) (none_filled f (a + 1) n)
+pub none_filled : {A : Type 0} (a n : ℕ) → replicate {A = List A} n [] ≡ map (λ (i : ℕ). []) (range_with_len a n)
+none_filled a zero = refl
+none_filled a (suc n) = ap (λ l. [] ∷ l) (none_filled (a + 1) n)
 
 module _ {A : Type 0} where
   abbrev nothing : List A
@@ -77,48 +71,53 @@ lists_as_long m [] h = All-nil (λ column. length column ≡ m)
 lists_as_long m (c ∷ columns) h =
     All-cons (λ column. length column ≡ m) (column_of c) (map column_of columns) (length-map c.items atomics_of ∙ All-head (λ (column : Vec (Vec Atom)). length column.items ≡ m) c columns h) (lists_as_long m columns (All-tail (λ (column : Vec (Vec Atom)). length column.items ≡ m) c columns h))
 
-pub keys_as_long : (m : ℕ) (columns : List (List (List Atomic))) → All (λ column. length column ≡ m) columns → All (λ keys. length keys ≡ m) (map sort_keys columns)
-keys_as_long m [] h = All-nil (λ keys. length keys ≡ m)
-keys_as_long m (c ∷ columns) h =
-    All-cons (λ keys. length keys ≡ m) (sort_keys c) (map sort_keys columns) (length-map c _ ∙ All-head (λ (column : List (List Atomic)). length column ≡ m) c columns h) (keys_as_long m columns (All-tail (λ (column : List (List Atomic)). length column ≡ m) c columns h))
+pub keys_as_long : {A K : Type 0} (f : A → K) (m : ℕ) (columns : List (List A)) → All (λ column. length column ≡ m) columns → All (λ keys. length keys ≡ m) (map (map f) columns)
+keys_as_long f m [] h = All-nil (λ keys. length keys ≡ m)
+keys_as_long {A} f m (c ∷ columns) h =
+    All-cons (λ keys. length keys ≡ m) (map f c) (map (map f) columns) (length-map c f ∙ All-head (λ (column : List A). length column ≡ m) c columns h) (keys_as_long f m columns (All-tail (λ (column : List A). length column ≡ m) c columns h))
 
 -- # Keys by tuple, from those by specification
-
--- one more key for each
-extended_from : (f : ℕ → List Key) (a m : ℕ) (column : List Key) (rest : List Key) → length rest ≡ m → ((i : ℕ) → i < m → get_or rest i Nothing ≡ key_in (a + i) column) → extended (map f (range_with_len a m)) rest ≡ map (λ n. f n ++ key_in n column ∷ []) (range_with_len a m)
-extended_from f a zero column [] e h = refl
-extended_from f a zero column (k ∷ rest) e h = absurd (omega (arith, e))
-extended_from f a (suc m) column [] e h = absurd (omega (arith, e))
-extended_from f a (suc m) column (k ∷ rest) e h =
-    let z : a + 0 ≡ a = omega arith in
-    let here : k ≡ key_in a column = h 0 (omega arith) ∙ ap (λ n. key_in n column) z in
-    let later = extended_from f (a + 1) m column rest (omega (arith, e)) (λ i l. (let s : a + suc i ≡ a + 1 + i = omega arith in h (suc i) (omega (arith, l)) ∙ ap (λ n. key_in n column) s)) in
-    λ t. (f a ++ here t ∷ []) ∷ later t
-
-rows_from : (f : ℕ → List Key) (m : ℕ) (columns : List (List Key)) → All (λ keys. length keys ≡ m) columns → fold extended (map f (range_with_len 0 m)) columns ≡ map (λ n. f n ++ map (key_in n) columns) (range_with_len 0 m)
-rows_from f m [] h = λ t. map (λ n. sym (append-nil (f n)) t) (range_with_len 0 m)
-rows_from f m (c ∷ columns) h =
-    let long : length c ≡ m = All-head (λ (keys : List Key). length keys ≡ m) c columns h in
-    let first = extended_from f 0 m c c long (λ i l. (let z : i ≡ 0 + i = omega arith in ap (λ n. key_in n c) z)) in
-    ap (λ rows. fold extended rows columns) first
-    ∙ rows_from (λ n. f n ++ key_in n c ∷ []) m columns (All-tail (λ (keys : List Key). length keys ≡ m) c columns h)
-    ∙ (λ t. map (λ n. append_assoc (f n) (key_in n c ∷ []) (map (key_in n) columns) t) (range_with_len 0 m))
-
-abbrev no_keys : List Key
-no_keys = []
-
-none_from : {X : Type 0} (stream : List X) (a : ℕ) → map (λ (x : X). no_keys) stream ≡ map (λ (n : ℕ). no_keys) (range_with_len a (length stream))
-none_from [] a = refl
-none_from (x ∷ stream) a = ap (λ l. no_keys ∷ l) (none_from stream (a + 1))
 
 numbered_from : {X B : Type 0} (f : ℕ → B) (stream : List X) (a : ℕ) → map (λ (p : ℕ × X). (p.1, f p.0)) (enumerate_from a stream) ≡ zip stream (map f (range_with_len a (length stream)))
 numbered_from f [] a = refl
 numbered_from f (x ∷ stream) a = ap (λ l. (x, f a) ∷ l) (numbered_from f stream (a + 1))
 
--- each tuple with its keys
-pub keyed_rows : (stream : List (Tuple ItemView)) (held : List (Vec GroupKey)) (columns : List (List Key)) → map compared_of held ≡ columns → All (λ keys. length keys ≡ length stream) columns → with_keys held stream ≡ zip stream (key_rows stream columns)
-keyed_rows stream held columns e long =
-    let m = length stream in
-    let at : (n : ℕ) → keys_at n held ≡ map (key_in n) columns = λ n. sym (map-map (key_in n) compared_of held) ∙ ap (map (key_in n)) e in
-    let rows : key_rows stream columns ≡ map (λ n. map (key_in n) columns) (range_with_len 0 m) = ap (λ rs. fold extended rs columns) (none_from stream 0) ∙ rows_from (λ n. no_keys) m columns long in
-    (λ t. map (λ (p : ℕ × Tuple ItemView). (p.1, at p.0 t)) (enumerate_from 0 stream)) ∙ numbered_from (λ n. map (key_in n) columns) stream 0 ∙ ap (zip stream) (sym rows)
+module _ {K : Type 0} (none : K) where
+  abbrev at : ℕ → List K → K
+  at n column = get_or column n none
+
+  -- one more key for each
+  extended_from : (f : ℕ → List K) (a m : ℕ) (column : List K) (rest : List K) → length rest ≡ m → ((i : ℕ) → i < m → get_or rest i none ≡ at (a + i) column) → extended (map f (range_with_len a m)) rest ≡ map (λ n. f n ++ at n column ∷ []) (range_with_len a m)
+  extended_from f a zero column [] e h = refl
+  extended_from f a zero column (k ∷ rest) e h = absurd (omega (arith, e))
+  extended_from f a (suc m) column [] e h = absurd (omega (arith, e))
+  extended_from f a (suc m) column (k ∷ rest) e h =
+      let z : a + 0 ≡ a = omega arith in
+      let here : k ≡ at a column = h 0 (omega arith) ∙ ap (λ n. at n column) z in
+      let later = extended_from f (a + 1) m column rest (omega (arith, e)) (λ i l. (let s : a + suc i ≡ a + 1 + i = omega arith in h (suc i) (omega (arith, l)) ∙ ap (λ n. at n column) s)) in
+      λ t. (f a ++ here t ∷ []) ∷ later t
+
+  rows_from : (f : ℕ → List K) (m : ℕ) (columns : List (List K)) → All (λ keys. length keys ≡ m) columns → fold extended (map f (range_with_len 0 m)) columns ≡ map (λ n. f n ++ map (at n) columns) (range_with_len 0 m)
+  rows_from f m [] h = λ t. map (λ n. sym (append-nil (f n)) t) (range_with_len 0 m)
+  rows_from f m (c ∷ columns) h =
+      let long : length c ≡ m = All-head (λ (keys : List K). length keys ≡ m) c columns h in
+      let first = extended_from f 0 m c c long (λ i l. (let z : i ≡ 0 + i = omega arith in ap (λ n. at n c) z)) in
+      ap (λ rows. fold extended rows columns) first
+      ∙ rows_from (λ n. f n ++ at n c ∷ []) m columns (All-tail (λ (keys : List K). length keys ≡ m) c columns h)
+      ∙ (λ t. map (λ n. append_assoc (f n) (at n c ∷ []) (map (at n) columns) t) (range_with_len 0 m))
+
+  abbrev no_keys : List K
+  no_keys = []
+
+  none_from : {X : Type 0} (stream : List X) (a : ℕ) → map (λ (x : X). no_keys) stream ≡ map (λ (n : ℕ). no_keys) (range_with_len a (length stream))
+  none_from [] a = refl
+  none_from (x ∷ stream) a = ap (λ l. no_keys ∷ l) (none_from stream (a + 1))
+
+  -- each tuple with its keys, where view reads a column
+  pub keyed_rows : {X H : Type 0} (view : H → List K) (stream : List X) (held : List H) (columns : List (List K)) → map view held ≡ columns → All (λ keys. length keys ≡ length stream) columns
+      → map (λ (p : ℕ × X). (p.1, map (λ column. at p.0 (view column)) held)) (enumerate_from 0 stream) ≡ zip stream (key_rows stream columns)
+  keyed_rows {X} view stream held columns e long =
+      let m = length stream in
+      let keys : (n : ℕ) → map (λ column. at n (view column)) held ≡ map (at n) columns = λ n. sym (map-map (at n) view held) ∙ ap (map (at n)) e in
+      let rows : key_rows stream columns ≡ map (λ n. map (at n) columns) (range_with_len 0 m) = ap (λ rs. fold extended rs columns) (none_from stream 0) ∙ rows_from (λ n. no_keys) m columns long in
+      (λ t. map (λ (p : ℕ × X). (p.1, keys p.0 t)) (enumerate_from 0 stream)) ∙ numbered_from (λ n. map (at n) columns) stream 0 ∙ ap (zip stream) (sym rows)

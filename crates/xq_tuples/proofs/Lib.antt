@@ -5,7 +5,6 @@ pub mod Refusals
 pub mod Placing
 pub mod Sorting
 pub mod Rules
-pub mod KeyRows
 pub mod Columns
 pub mod Comparing
 pub mod Reading

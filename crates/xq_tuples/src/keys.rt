@@ -1,11 +1,12 @@
 //! Keys of groups and orders: at most one atomic value, where an untyped one is taken as a string.
-ghost use Rattle.std.specs.Prelude.{◌≡◌, [], map, fold, drop, slice_index_or, true, false, replicate, IfOk, IfErr, OnOk};
+ghost use Rattle.std.specs.Prelude.{◌≡◌, [], map, drop, slice_index_or, None, true, false, replicate, IfOk, IfErr, OnOk};
 ghost use Rattle.std.specs.List.{list_all};
+ghost use Rattle.std.specs.Option.{option_copied};
 ghost use Rattle.xq_atoms.specs.Atom.{atomic_of};
 ghost use Rattle.xq_atoms.specs.Compare.{key_of};
-ghost use Rattle.xq_regions.specs.Tuples.{is_key, as_string, key_value, are_keys, extended, comparison_key, comparison_keys, sort_keys};
+ghost use Rattle.xq_regions.specs.Tuples.{is_key, as_string, key_value, are_keys, comparison_key, comparison_keys, sort_keys};
 ghost use Rattle.xq_tuples.specs.Keys.{atomics_of, column_of, columns_of, values_in, row_of, rows_in, by_specification};
-ghost use Rattle.xq_tuples.specs.private.KeyRows.{key_view, keys_of, rows_of};
+ghost use Rattle.xq_tuples.specs.private.KeyRows.{key_view, keys_of, keys_at};
 ghost use Rattle.xq_tuples.specs.private.Columns.{left_of, filled};
 ghost use Rattle.xq_tuples.specs.private.Groups.{compared_of};
 ghost use Rattle.xq_atoms.specs.Answers.{RefusesFor};
@@ -72,61 +73,39 @@ pub fn key_columns(
     Ok(keys)
 }
 
-/// Each row with the key at its place in the column.
-fn extended_rows<K: Drop>(
-    alloc: Global,
-    rows: Vec<Vec<K>>,
-    column: Vec<K>,
-) -> Result<Vec<Vec<K>>, Want>
-    ensures rows { IfOk result (λ longer. rows_of longer ≡ extended (rows_of rows) column.items) }
-    ensures want { IfErr result (λ want. want ≡ Want.Memory) }
+/// The key of the tuple with this number, in a column of keys.
+pub fn key_in(column: &[Option<Atom>], number: usize) -> Option<&Atom>
+    ensures { key_view (option_copied result)
+        ≡ slice_index_or (map key_view column.now) number None }
 {
-    let mut longer = Vec::with_capacity(alloc, rows.len())?;
-    for (mut row, key) in rows.into_iter().zip(column) {
-        row.push(key)?;
-        longer.push(row)?;
+    match column.get(number) {
+        Some(key) => key.as_ref(),
+        None => None,
     }
-    Ok(longer)
 }
 
-/// From the keys by specification, those of each tuple.
-pub fn key_rows<K: Drop>(
-    alloc: Global,
-    count: usize,
-    columns: Vec<Vec<K>>,
-) -> Result<Vec<Vec<K>>, Want>
-    ensures rows { IfOk result (λ rows. rows_of rows
-        ≡ fold extended (replicate count []) (rows_of columns)) }
+/// What that key is compared by.
+fn compared_key(alloc: Global, column: &[Option<Atom>], number: usize) -> Result<GroupKey, Want>
+    ensures key { IfOk result (λ made. key_of made
+        ≡ comparison_key (slice_index_or (map key_view column.now) number None)) }
     ensures want { IfErr result (λ want. want ≡ Want.Memory) }
 {
-    let mut rows = empty_lists(alloc, count, columns.len())?;
+    GroupKey::of(alloc, key_in(column, number))
+}
+
+/// What the keys of the tuple with this number are compared by, one in each column.
+pub fn compared_keys(
+    alloc: Global,
+    columns: &[Vec<Option<Atom>>],
+    number: usize,
+) -> Result<Vec<GroupKey>, Want>
+    ensures keys { IfOk result (λ made. compared_of made
+        ≡ comparison_keys (keys_at number columns.now)) }
+    ensures want { IfErr result (λ want. want ≡ Want.Memory) }
+{
+    let mut made = Vec::with_capacity(alloc, columns.len())?;
     for column in columns {
-        rows = extended_rows(alloc, rows, column)?;
-    }
-    Ok(rows)
-}
-
-/// So many empty lists, each with room for so many keys.
-fn empty_lists<K: Drop>(alloc: Global, count: usize, room: usize) -> Result<Vec<Vec<K>>, Want>
-    ensures lists { IfOk result (λ lists. rows_of lists ≡ replicate count []) }
-    ensures want { IfErr result (λ want. want ≡ Want.Memory) }
-{
-    let mut lists = Vec::with_capacity(alloc, count)?;
-    for _ in 0..count {
-        lists.push(Vec::with_capacity(alloc, room)?)?;
-    }
-    Ok(lists)
-}
-
-/// What the keys are compared by.
-pub fn compared_keys(alloc: Global, keys: &[Option<Atom>]) -> Result<Vec<GroupKey>, Want>
-    ensures keys { IfOk result (λ made. map key_of made.items
-        ≡ comparison_keys (map key_view keys.now)) }
-    ensures want { IfErr result (λ want. want ≡ Want.Memory) }
-{
-    let mut made = Vec::with_capacity(alloc, keys.len())?;
-    for key in keys {
-        made.push(GroupKey::of(alloc, key.as_ref())?)?;
+        made.push(compared_key(alloc, column.as_slice(), number)?)?;
     }
     Ok(made)
 }
@@ -222,6 +201,18 @@ fn add_row(alloc: Global, columns: &mut [Vec<Key>], row: Vec<Key>) -> Result<(),
     Ok(())
 }
 
+/// So many columns without keys, each with room for so many.
+fn empty_columns(alloc: Global, count: usize, room: usize) -> Result<Vec<Vec<Key>>, Want>
+    ensures columns { IfOk result (λ columns. rows_in columns ≡ replicate count []) }
+    ensures want { IfErr result (λ want. want ≡ Want.Memory) }
+{
+    let mut columns = Vec::with_capacity(alloc, count)?;
+    for _ in 0..count {
+        columns.push(Vec::with_capacity(alloc, room)?)?;
+    }
+    Ok(columns)
+}
+
 /// From the keys of each tuple, those of each of so many specifications; one that a tuple lacks is
 /// empty.
 pub fn turned(alloc: Global, rows: Vec<Vec<Key>>, count: usize) -> Result<Vec<Vec<Key>>, Want>
@@ -229,7 +220,7 @@ pub fn turned(alloc: Global, rows: Vec<Vec<Key>>, count: usize) -> Result<Vec<Ve
         ≡ by_specification count (rows_in rows)) }
     ensures want { IfErr result (λ want. want ≡ Want.Memory) }
 {
-    let mut columns = empty_lists(alloc, count, rows.len())?;
+    let mut columns = empty_columns(alloc, count, rows.len())?;
     for row in rows {
         add_row(alloc, &mut columns, row)?;
     }

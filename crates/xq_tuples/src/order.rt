@@ -12,7 +12,7 @@ ghost use Rattle.xq_atoms.specs.Answers.{RefusesFor};
 ghost use Rattle.xq_atoms.specs.declared.refusals.Code.TheVariants.{XPTY0004};
 
 use crate::keys::compared_column;
-use crate::rows::{Key, OrderSpec, Ranked};
+use crate::rows::{Key, Numbered, OrderSpec};
 use crate::values::Tuple;
 use std::alloc::Global;
 use std::cmp::Ordering;
@@ -153,8 +153,8 @@ fn compare(specs: &[OrderSpec], columns: &[Vec<GroupKey>], first: usize, second:
 fn compare_rows(
     specs: &[OrderSpec],
     columns: &[Vec<GroupKey>],
-    first: &Ranked,
-    second: &Ranked,
+    first: &Numbered,
+    second: &Numbered,
 ) -> Ordering
     ensures { result ≡ by_keys specs.now (ranked_of columns.now first.now)
         (ranked_of columns.now second.now) }
@@ -163,20 +163,24 @@ fn compare_rows(
 }
 
 /// Each tuple with its number.
-fn ranked(alloc: Global, tuples: Vec<Tuple>) -> Result<Vec<Ranked>, Want>
+fn ranked(alloc: Global, tuples: Vec<Tuple>) -> Result<Vec<Numbered>, Want>
     ensures rows { IfOk result (λ rows. map numbered_of rows.items
         ≡ enumerate_from 0 (map tuple_of tuples.items)) }
     ensures want { IfErr result (λ want. want ≡ Want.Memory) }
 {
     let mut rows = Vec::with_capacity(alloc, tuples.len())?;
     for (number, tuple) in tuples.into_iter().enumerate() {
-        rows.push(Ranked { tuple, number })?;
+        rows.push(Numbered { tuple, number })?;
     }
     Ok(rows)
 }
 
 /// Puts the rows in the order of their keys, and keeps the order of equals.
-fn sort(specs: &[OrderSpec], columns: &[Vec<GroupKey>], rows: &mut Vec<Ranked>) -> Result<(), Want>
+fn sort(
+    specs: &[OrderSpec],
+    columns: &[Vec<GroupKey>],
+    rows: &mut Vec<Numbered>,
+) -> Result<(), Want>
     ensures rows { OnOk result (map (ranked_of columns.now) rows.new.items
         ≡ sorted (by_keys specs.now) (map (ranked_of columns.now) rows.old.items)) }
     ensures want { IfErr result (λ want. want ≡ Want.Memory) }

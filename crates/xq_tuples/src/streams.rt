@@ -8,7 +8,7 @@ ghost use Rattle.xq_tuples.specs.Views.{values_of};
 ghost use Rattle.xq_regions.specs.Items.{Value as AtomView, item_view, item_views};
 
 use crate::groups::{gather, joined};
-use crate::keys::{key_columns, key_lists, key_rows, turned};
+use crate::keys::{key_columns, key_lists, turned};
 use crate::order::{sort_columns, sorted};
 use crate::rows::{Key, OrderSpec};
 use crate::values::{Tuple, position_value, push_copies, push_each, push_each_or_empty};
@@ -193,12 +193,12 @@ impl Tuples {
             (IsRefusal (grouped AtomView slots.now self (columns_of keys))) }
     {
         let alloc = self.alloc;
-        let columns = key_columns(alloc, keys)?;
-        let rows = key_rows(alloc, self.tuples.len(), columns)?;
-        let groups = gather(alloc, self.tuples, rows)?;
+        let held = key_columns(alloc, keys)?;
+        let columns = held.as_slice();
+        let groups = gather(alloc, self.tuples, columns)?;
         let mut tuples = Vec::with_capacity(alloc, groups.len())?;
         for group in &groups {
-            tuples.push(joined(alloc, slots, group)?)?;
+            tuples.push(joined(alloc, slots, columns, group)?)?;
         }
         Ok(Tuples { alloc, tuples })
     }

@@ -8,7 +8,7 @@ use Rattle.xq_atoms.specs.Compare.{Key, Nothing}
 use Rattle.xq_regions.specs.Items.{ItemView}
 use Rattle.xq_regions.specs.Tuples.{Tuple, keys_cmp}
 use Rattle.xq_tuples.specs.declared.rows.OrderSpec.{OrderSpec}
-use Rattle.xq_tuples.specs.declared.rows.Ranked.{Ranked}
+use Rattle.xq_tuples.specs.declared.rows.Numbered.{Numbered}
 use Rattle.xq_tuples.specs.Orders.{rule_of}
 use Rattle.xq_tuples.specs.Views.{tuple_of}
 use Rattle.xq_tuples.specs.private.Groups.{compared_of}
@@ -21,10 +21,10 @@ key_in index keys = slice_index_or keys index Nothing
 abbrev pub keys_at : ℕ → List (Vec GroupKey) → List Key
 keys_at number columns = map (λ column. key_in number (compared_of column)) columns
 
-abbrev pub numbered_of : Ranked → ℕ × Tuple ItemView
+abbrev pub numbered_of : Numbered → ℕ × Tuple ItemView
 numbered_of row = (row.number, tuple_of row.tuple)
 
-abbrev pub ranked_of : List (Vec GroupKey) → Ranked → Tuple ItemView × List Key
+abbrev pub ranked_of : List (Vec GroupKey) → Numbered → Tuple ItemView × List Key
 ranked_of columns row = (tuple_of row.tuple, keys_at row.number columns)
 
 -- each tuple with its keys

@@ -1,13 +1,12 @@
 use Rattle.std.proofs.Common.{◌≡◌, map, length, ap, sym, ◌∙◌, arith}
 use Rattle.std.proofs.lemmas.List.{map_push, with_items_is}
-use Rattle.xq_tuples.specs.Keys.{values_in, row_of, by_specification}
+use Rattle.xq_tuples.specs.Keys.{row_of, by_specification}
 use Rattle.xq_tuples.specs.private.Columns.{filled}
-use Rattle.xq_tuples.proofs.Lists.{map-map}
 use Rattle.xq_tuples.proofs.Columns.{none_filled, by_specification-push}
 use Rattle.xq_tuples.proofs.keys.turned.Goals as goal
 
 pub loop-row-init : goal.loop-row-init
-loop-row-init c = sym (map-map (map values_in) (λ list. list.items) c.in_ok-columns.columns.items) ∙ ap (map (map values_in)) c.in_ok-columns.ensures.lists ∙ none_filled values_in 0 c.args.count
+loop-row-init c = c.in_ok-columns.ensures.columns ∙ none_filled 0 c.args.count
 
 pub loop-row-preserved : goal.loop-row-preserved
 loop-row-preserved c =

@@ -3,8 +3,10 @@ use Rattle.std.specs.Prelude.{if◌then◌else◌}
 use Rattle.std.specs.List.{zip}
 use Rattle.std.proofs.lemmas.Result.{err_from_is_err_and}
 use Rattle.xq_atoms.specs.declared.refusals.Code.TheVariants.{XPTY0004}
-use Rattle.xq_regions.specs.Tuples.{sorted, key_rows, sort_keys}
+use Rattle.xq_atoms.specs.Compare.{Nothing}
+use Rattle.xq_regions.specs.Tuples.{sorted, key_rows, comparison_key, key_value, sort_keys}
 use Rattle.xq_tuples.specs.Keys.{rows_in}
+use Rattle.xq_tuples.specs.private.Groups.{compared_of}
 use Rattle.xq_tuples.specs.private.Ranks.{by_keys, with_keys}
 use Rattle.xq_tuples.proofs.Columns.{keyed_rows, keys_as_long}
 use Rattle.xq_tuples.proofs.Refusals.{IsRefusal-judged}
@@ -21,6 +23,6 @@ returns-clause-stream c =
     let specs = c.args.specs.now in
     let keys = rows_in c.args.keys in
     let held = c.in_ok-columns.columns.items in
-    let long = keys_as_long (length self) keys c.requires in
-    let all = c.in_ok-tuples.ensures.tuples ∙ (λ t. map (λ p. p.0) (sorted (by_keys specs) (with_keys (c.deref.ensures.value t) (c.self.view_is t)))) ∙ ap (λ rows. map (λ p. p.0) (sorted (by_keys specs) rows)) (keyed_rows self held (map sort_keys keys) c.in_ok-columns.ensures.keys long) in
+    let long = keys_as_long (λ values. comparison_key (key_value values)) (length self) keys c.requires in
+    let all = c.in_ok-tuples.ensures.tuples ∙ (λ t. map (λ p. p.0) (sorted (by_keys specs) (with_keys (c.deref.ensures.value t) (c.self.view_is t)))) ∙ ap (λ rows. map (λ p. p.0) (sorted (by_keys specs) rows)) (keyed_rows Nothing compared_of self held (map sort_keys keys) c.in_ok-columns.ensures.keys long) in
     ap (λ b. if b then Ok (map (λ p. p.0) (sorted (by_keys specs) (zip self (key_rows self (map sort_keys keys))))) else Err XPTY0004) c.in_ok-columns.ensures.can_order ∙ ap Ok (sym all)
