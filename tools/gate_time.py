@@ -2,6 +2,7 @@
 """Runs the gate in a fresh clone of the last commit, and tells where its time goes.
 
     tools/gate_time.py [--keep FOLDER] [COMMAND ..]     (the command is `rt ci` if none is given)
+    tools/gate_time.py --here FILE [COMMAND ..]         in this folder; the dearest parts go to FILE
 
 Prints what the gate prints, and then the processor minutes of each crate's proof, of its tests
 and of its must-fail edits, of what else ran (programs, tests, linking), and their sum, which is
@@ -19,6 +20,7 @@ import time
 
 TICKS = os.sysconf("SC_CLK_TCK")
 PHASES = ("proof", "tests", "edits", "other")
+DEAREST = 20
 
 
 def read(path):
@@ -111,7 +113,29 @@ def watch(command, folder):
     return ran.returncode, table(seen, str(ran.pid)), time.time() - begun
 
 
+def dearest(sums, total, wall):
+    """The whole in processor minutes, and the dearest parts, in lines."""
+    parts = sorted(sums.items(), key=lambda it: -it[1])[:DEAREST]
+    told = [f"{crate} {phase} {seconds / 60:.1f}" for (crate, phase), seconds in parts]
+    phases = [f"{phase} {sum(it for (_, p), it in sums.items() if p == phase) / 60:.1f}"
+              for phase in PHASES]
+    return [f"processor minutes of the gate: {total / 60:.1f} ({', '.join(phases)}); by the clock "
+            f"{wall / 60:.1f}, on {len(os.sched_getaffinity(0))} processors",
+            *(f"  {', '.join(told[at:at + 4])}" for at in range(0, len(told), 4))]
+
+
+def here(file, command):
+    """Runs the command in this folder; writes the dearest parts to the file."""
+    status, sums, wall = watch(command, ".")
+    used = resource.getrusage(resource.RUSAGE_CHILDREN)
+    with open(file, "w", encoding="utf-8") as kept:
+        kept.writelines(f"{line}\n" for line in dearest(sums, used.ru_utime + used.ru_stime, wall))
+    return status
+
+
 def main(words):
+    if words[:1] == ["--here"]:
+        return here(words[1], words[2:] or ["rt", "ci"])
     top = subprocess.check_output(["git", "rev-parse", "--show-toplevel"], text=True).strip()
     kept = None
     if words[:1] == ["--keep"]:

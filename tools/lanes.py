@@ -1,6 +1,7 @@
 """Works on crates side by side: each once those below it are done, the longest way ahead first.
 
-Processors that no other crate waits for are shared among those that begin.
+Processors that no other crate waits for are shared among those that begin, and of four or
+more the crate with the longest way ahead of all has two: every minute of it is one of the whole.
 """
 
 from __future__ import annotations
@@ -82,8 +83,15 @@ class Lanes(concurrent.futures.Executor):
         while (free := self.at_once - sum(self.running.values())) and (ready := self.ready()):
             task = max(ready, key=lambda it: self.chain.get(it.crate.name, 0.0))
             self.waiting.remove(task)
-            self.running[task.crate.name] = max(1, free // len(ready))
+            self.running[task.crate.name] = max(free // len(ready), min(self.least(task), free))
             threading.Thread(target=self.run, args=(task,)).start()
+
+    def least(self, task: Task) -> int:
+        """How many processors a task is to have at least, as far as so many are free."""
+        others = [it.crate.name for it in self.waiting] + list(self.running)
+        own = self.chain.get(task.crate.name, 0.0)
+        is_longest = all(self.chain.get(it, 0.0) <= own for it in others)
+        return 2 if is_longest and self.at_once >= 4 else 1
 
     def ready(self) -> list[Task]:
         """The tasks that wait for no other."""

@@ -26,6 +26,16 @@ class House:
         return [House(it) for it in HOUSE[self.name]]
 
 
+@dataclasses.dataclass
+class Room:
+    """A crate over the ground alone, or the ground."""
+
+    name: str
+
+    def below(self) -> list[Room]:
+        return [] if self.name == "ground" else [Room("ground")]
+
+
 class Chains(unittest.TestCase):
     def test_a_chain_is_the_longest_way_up(self) -> None:
         self.assertEqual(lanes.chains(["ground", "shed", "hall", "roof", "gate"], HOUSE, MINUTES),
@@ -69,6 +79,12 @@ class Pool(unittest.TestCase):
         for name, uses in HOUSE.items():
             for below in uses:
                 self.assertLess(begun.index(below), begun.index(name))
+
+    def test_the_longest_way_ahead_has_two_processors(self) -> None:
+        with lanes.Lanes(4, {"ground": 9.0, "roof": 4.0, "hall": 2.0}) as self.pool:
+            for name in ["ground", "roof", "hall", "yard"]:
+                self.pool.submit(self.work, Room(name))
+        self.assertEqual(self.shares, {"ground": 4, "roof": 2, "hall": 1, "yard": 1})
 
     def test_processors_that_none_waits_for_are_shared(self) -> None:
         self.run_house(4)

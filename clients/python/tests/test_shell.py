@@ -143,7 +143,7 @@ class Terminal(TerminalTest):
 
     def test_interrupts_leave_the_server(self) -> None:
         # (many times the half second after which it is interrupted, on a fast machine too)
-        slow = "every $x in 1 to 6000, $y in 1 to 6000 satisfies $x * $y > 0\r"
+        slow = "every $x in 1 to 3000, $y in 1 to 3000 satisfies $x * $y > 0\r"
         lines = ["(1", INTERRUPT, "2 + 3\r", slow, INTERRUPT, "3 + 4\r", ".quit\r"]
         marks = {1: "(1", 4: "$y > 0\r\n", 5: "interrupted", 6: "7\r\n"}
         seen = self.typed(lines, "--plain", marks=marks)

@@ -6,8 +6,7 @@ use Rattle.std.specs.Ordering.{ordering_then, is_ne}
 use Rattle.std.specs.List.{list_all, find}
 use Rattle.std.proofs.lemmas.Bool.{false≢true}
 use Rattle.std.proofs.lemmas.List.{drop-map, drop_more}
-use Rattle.xq_atoms.specs.declared.atoms.GroupKey.{GroupKey}
-use Rattle.xq_atoms.specs.Compare.{Key, Nothing, Number, Characters, Truth, key_of, of_one_kind}
+use Rattle.xq_atoms.specs.Compare.{Key, Nothing, Number, Characters, Truth, of_one_kind}
 use Rattle.xq_tuples.specs.declared.rows.OrderSpec.{OrderSpec}
 use Rattle.xq_tuples.specs.Orders.{rule_of}
 use Rattle.xq_tuples.proofs.Lists.{list_all-map}
@@ -82,15 +81,14 @@ ordering_then-eq Equal p h = refl
 ordering_then-eq Greater p h = absurd (false≢true (sym h))
 
 -- what a turn of the loop over the specifications compares
-pub compared_at : (specs : List OrderSpec) (first second : List GroupKey) (i : ℕ) (d : OrderSpec) (none j k : GroupKey) {o : Ordering} → i < length specs → key_of none ≡ Nothing
-    → key_of j ≡ get_or (map key_of first) i (key_of none) → key_of k ≡ get_or (map key_of second) i (key_of none) → o ≡ rule_cmp (rule_of (get_or specs i d)) (key_of j) (key_of k)
-    → keys_cmp (map rule_of (drop i specs)) (map key_of (drop i first)) (map key_of (drop i second)) ≡ ordering_then o (keys_cmp (map rule_of (drop (i + 1) specs)) (map key_of (drop (i + 1) first)) (map key_of (drop (i + 1) second)))
-compared_at specs first second i d none j k {o} within is_none at_j at_k is =
+pub compared_at : (specs : List OrderSpec) (js ks : List Key) (i : ℕ) (d : OrderSpec) (j k : Key) {o : Ordering} → i < length specs
+    → j ≡ get_or js i Nothing → k ≡ get_or ks i Nothing → o ≡ rule_cmp (rule_of (get_or specs i d)) j k
+    → keys_cmp (map rule_of (drop i specs)) (drop i js) (drop i ks) ≡ ordering_then o (keys_cmp (map rule_of (drop (i + 1) specs)) (drop (i + 1) js) (drop (i + 1) ks))
+compared_at specs js ks i d j k {o} within at_j at_k is =
     let rules = map rule_of specs in
-    let js = map key_of first in
-    let ks = map key_of second in
-    let split = drop-map rule_of i specs ∙ ap (map rule_of) (drop_more specs i d within) ∙ ap (λ r. rule_of (get_or specs i d) ∷ r) (sym (drop-map rule_of (i + 1) specs)) in
-    (λ t. keys_cmp (sym (drop-map rule_of i specs) t) (sym (drop-map key_of i first) t) (sym (drop-map key_of i second) t))
-    ∙ keys_cmp-drop rules js ks i (rule_of (get_or specs i d)) split
-    ∙ (λ t. ordering_then (rule_cmp (rule_of (get_or specs i d)) (sym (at_j ∙ ap (get_or js i) is_none) t) (sym (at_k ∙ ap (get_or ks i) is_none) t)) (keys_cmp (drop-map rule_of (i + 1) specs t) (drop-map key_of (i + 1) first t) (drop-map key_of (i + 1) second t)))
-    ∙ ap (λ p. ordering_then p (keys_cmp (map rule_of (drop (i + 1) specs)) (map key_of (drop (i + 1) first)) (map key_of (drop (i + 1) second)))) (sym is)
+    let rule = rule_of (get_or specs i d) in
+    let split = drop-map rule_of i specs ∙ ap (map rule_of) (drop_more specs i d within) ∙ ap (λ r. rule ∷ r) (sym (drop-map rule_of (i + 1) specs)) in
+    (λ t. keys_cmp (sym (drop-map rule_of i specs) t) (drop i js) (drop i ks))
+    ∙ keys_cmp-drop rules js ks i rule split
+    ∙ (λ t. ordering_then (rule_cmp rule (sym at_j t) (sym at_k t)) (keys_cmp (drop-map rule_of (i + 1) specs t) (drop (i + 1) js) (drop (i + 1) ks)))
+    ∙ ap (λ p. ordering_then p (keys_cmp (map rule_of (drop (i + 1) specs)) (drop (i + 1) js) (drop (i + 1) ks))) (sym is)

@@ -5,7 +5,8 @@ use Rattle.std.proofs.lemmas.List.{take_more, take_all, take-set-le, drop-set-lt
 use Rattle.xq_regions.specs.Tuples.{satisfying}
 use Rattle.xq_tuples.proofs.Lists.{kept-push}
 
--- ys began as xs. What is kept of the first i of xs stands in the first k places of ys, and from i on ys is as it was
+-- ys began as xs. What is kept of the first i of xs stands in the first k places of ys, and from
+-- i on ys is as it was
 pub record KeepsInPlace {X : Type 0} (xs : List X) (tests : List Bool) (ys : List X) (k i : ℕ) : Type 0 where
   pub front : take k ys ≡ satisfying (take i xs) (take i tests)
   pub rest : drop i ys ≡ drop i xs

@@ -5,8 +5,7 @@ pub mod Refusals
 pub mod Placing
 pub mod Sorting
 pub mod Rules
-pub mod KeyRows
-pub mod ByRows
+pub mod Columns
 pub mod Comparing
 pub mod Reading
 mod WorkedRows

@@ -1,19 +1,20 @@
 -- One more tuple among the groups.
-use Rattle.std.proofs.Common.{◌≡◌, ℕ, suc, ◌+◌, ◌<◌, List, [], ◌∷◌, ◌++◌, map, length, get_or, set, Bool, true, false, not, cond, ◌&&◌, ◌||◌, refl, ap, sym, ◌∙◌, arith}
+use Rattle.std.proofs.Common.{◌≡◌, ℕ, suc, ◌+◌, ◌<◌, List, [], ◌∷◌, ◌++◌, map, length, get_or, set, Bool, true, false, Option, not, cond, ◌&&◌, ◌||◌, refl, ap, sym, ◌∙◌, arith}
 use Rattle.std.specs.Global.{Vec}
 use Rattle.std.specs.List.{list_any, position_or_len}
 use Rattle.std.specs.Cmp.{IsEquivalence, on_equiv}
 use Rattle.std.specs.Cmp.Lexicographic.{pointwise, lists_equiv}
 use Rattle.std.proofs.lemmas.List.{map_push, map-set, get_or-map}
 use Rattle.std.proofs.lemmas.Bool.{false≢true, or_parts}
+use Rattle.xq_atoms.specs.declared.atoms.Atom.{Atom}
 use Rattle.xq_atoms.specs.declared.atoms.GroupKey.{GroupKey}
 use Rattle.xq_atoms.specs.Compare.{Key, key_of, key_eq}
 use Rattle.xq_atoms.specs.Derived.{group_key_eq}
 use Rattle.xq_atoms.proofs.Keys.{group_key_eq-is}
 use Rattle.xq_regions.specs.Tuples.{Keyed as KeyedTuple, comparison_keys, same_keys, firsts, groups}
-use Rattle.xq_tuples.specs.declared.rows.Keyed.{Keyed}
+use Rattle.xq_tuples.specs.declared.rows.Numbered.{Numbered}
 use Rattle.xq_regions.specs.Items.{ItemView}
-use Rattle.xq_tuples.specs.private.KeyRows.{keys_of}
+use Rattle.xq_tuples.specs.private.KeyRows.{keys_at}
 use Rattle.xq_tuples.specs.private.Groups.{Gathers, keyed_of, group_of, compared_of}
 use Rattle.xq_regions.proofs.Grouping.{list_any-map, position_or_len-map, firsts-push, groups-push_new, groups-push_old}
 use Rattle.xq_atoms.proofs.KeyOrder.{key_eq_equiv}
@@ -62,26 +63,29 @@ pub position_or_len-some : {X : Type 0} (p : X → Bool) (xs : List X) → list_
 position_or_len-some p [] h = absurd (false≢true h)
 position_or_len-some p (x ∷ xs) h = position_or_len-some_step (p x) (position_or_len p xs) (length xs) (λ e. position_or_len-some p xs (either (p x) (list_any p xs) h e))
 
-module _ {done : List (KeyedTuple ItemView)} {seen : List (Vec GroupKey)} {gathered : List (Vec Keyed)} (h : Gathers done seen gathered) (key : Vec GroupKey) (row : Keyed) (is : compared_of key ≡ comparison_keys (keys_of row.keys)) where
+module _ {columns : List (Vec (Option Atom))} {done : List (KeyedTuple ItemView)} {seen : List (Vec GroupKey)} {gathered : List (Vec Numbered)} (h : Gathers columns done seen gathered) (key : Vec GroupKey) (row : Numbered) (is : compared_of key ≡ comparison_keys (keys_at row.number columns)) where
+  abbrev keyed : KeyedTuple ItemView
+  keyed = keyed_of columns row
+
   -- a group more
-  pub Gathers-new : list_any (same_compared key) seen ≡ false → (group : Vec Keyed) → group.items ≡ row ∷ [] → Gathers (done ++ keyed_of row ∷ []) (seen ++ key ∷ []) (gathered ++ group ∷ [])
+  pub Gathers-new : list_any (same_compared key) seen ≡ false → (group : Vec Numbered) → group.items ≡ row ∷ [] → Gathers columns (done ++ keyed ∷ []) (seen ++ key ∷ []) (gathered ++ group ∷ [])
   Gathers-new none group items =
-      let absent = sym (seen_any key seen (keyed_of row) (firsts same_keys done) is h.keys) ∙ none in
+      let absent = sym (seen_any key seen keyed (firsts same_keys done) is h.keys) ∙ none in
       record {
         keys =
-            map_push compared_of seen key ∙ (λ i. h.keys i ++ is i ∷ []) ∙ sym (map_push keys_in (firsts same_keys done) (keyed_of row))
-            ∙ ap (map keys_in) (sym (firsts-push laws done (keyed_of row) ∙ ap (λ b. cond b (firsts same_keys done) (firsts same_keys done ++ keyed_of row ∷ [])) absent));
-        groups = map_push group_of gathered group ∙ (λ i. h.groups i ++ map keyed_of (items i) ∷ []) ∙ sym (groups-push_new laws done (keyed_of row) absent);
+            map_push compared_of seen key ∙ (λ i. h.keys i ++ is i ∷ []) ∙ sym (map_push keys_in (firsts same_keys done) keyed)
+            ∙ ap (map keys_in) (sym (firsts-push laws done keyed ∙ ap (λ b. cond b (firsts same_keys done) (firsts same_keys done ++ keyed ∷ [])) absent));
+        groups = map_push (group_of columns) gathered group ∙ (λ i. h.groups i ++ map (keyed_of columns) (items i) ∷ []) ∙ sym (groups-push_new laws done keyed absent);
       }
 
   -- a group that is longer
-  pub Gathers-old : list_any (same_compared key) seen ≡ true → (n : ℕ) → n ≡ position_or_len (same_compared key) seen → n < length gathered → (old group : Vec Keyed) → old ≡ get_or gathered n old → group.items ≡ old.items ++ row ∷ []
-      → Gathers (done ++ keyed_of row ∷ []) seen (set gathered n group)
+  pub Gathers-old : list_any (same_compared key) seen ≡ true → (n : ℕ) → n ≡ position_or_len (same_compared key) seen → n < length gathered → (old group : Vec Numbered) → old ≡ get_or gathered n old → group.items ≡ old.items ++ row ∷ []
+      → Gathers columns (done ++ keyed ∷ []) seen (set gathered n group)
   Gathers-old some n place within old group at items =
-      let present = sym (seen_any key seen (keyed_of row) (firsts same_keys done) is h.keys) ∙ some in
-      let longer : group_of group ≡ get_or (groups same_keys done) n [] ++ keyed_of row ∷ [] =
-      ap (map keyed_of) items ∙ map_push keyed_of old.items row ∙ ap (λ l. l ++ keyed_of row ∷ []) (ap group_of at ∙ sym (get_or-map group_of gathered n old [] within) ∙ ap (λ l. get_or l n []) h.groups) in
+      let present = sym (seen_any key seen keyed (firsts same_keys done) is h.keys) ∙ some in
+      let longer : group_of columns group ≡ get_or (groups same_keys done) n [] ++ keyed ∷ [] =
+      ap (map (keyed_of columns)) items ∙ map_push (keyed_of columns) old.items row ∙ ap (λ l. l ++ keyed ∷ []) (ap (group_of columns) at ∙ sym (get_or-map (group_of columns) gathered n old [] within) ∙ ap (λ l. get_or l n []) h.groups) in
       record {
-        keys = h.keys ∙ ap (map keys_in) (sym (firsts-push laws done (keyed_of row) ∙ ap (λ b. cond b (firsts same_keys done) (firsts same_keys done ++ keyed_of row ∷ [])) present));
-        groups = map-set group_of gathered n group ∙ (λ i. set (h.groups i) n (longer i)) ∙ sym (groups-push_old laws done (keyed_of row) present n (place ∙ seen_at key seen (keyed_of row) (firsts same_keys done) is h.keys));
+        keys = h.keys ∙ ap (map keys_in) (sym (firsts-push laws done keyed ∙ ap (λ b. cond b (firsts same_keys done) (firsts same_keys done ++ keyed ∷ [])) present));
+        groups = map-set (group_of columns) gathered n group ∙ (λ i. set (h.groups i) n (longer i)) ∙ sym (groups-push_old laws done keyed present n (place ∙ seen_at key seen keyed (firsts same_keys done) is h.keys));
       }

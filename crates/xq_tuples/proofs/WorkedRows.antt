@@ -1,4 +1,4 @@
--- The rows of the calls, and what the clauses of worked queries give, computed from the definitions.
+-- The rows of the calls, and what the clauses of worked queries give, computed from definitions.
 use Rattle.std.specs.Prelude.{◌≡◌, refl, ℕ, ◌*◌, List, [], ◌∷◌, map, pos, true, false, Ok, Err, codes}
 use Rattle.xq_atoms.specs.declared.refusals.Code.TheVariants.{XPTY0004}
 use Rattle.xq_atoms.specs.Atom.{Atomic, Integer, Decimal, String, Untyped}

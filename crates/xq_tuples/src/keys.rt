@@ -1,17 +1,20 @@
 //! Keys of groups and orders: at most one atomic value, where an untyped one is taken as a string.
-ghost use Rattle.std.specs.Prelude.{◌≡◌, [], ◌++◌, ◌-◌, length, map, fold, true, false, replicate, IfOk, IfErr};
+ghost use Rattle.std.specs.Prelude.{◌≡◌, [], map, drop, slice_index_or, None, true, false, replicate, IfOk, IfErr, OnOk};
 ghost use Rattle.std.specs.List.{list_all};
+ghost use Rattle.std.specs.Option.{option_copied};
 ghost use Rattle.xq_atoms.specs.Atom.{atomic_of};
 ghost use Rattle.xq_atoms.specs.Compare.{key_of};
-ghost use Rattle.xq_regions.specs.Tuples.{is_key, as_string, key_value, are_keys, extended, comparison_key, comparison_keys, sort_keys};
-ghost use Rattle.xq_tuples.specs.Keys.{atomics_of, column_of, columns_of, values_in, row_of, rows_in};
-ghost use Rattle.xq_tuples.specs.private.KeyRows.{key_view, keys_of, rows_of, fitted as fitted_lem};
+ghost use Rattle.xq_regions.specs.Tuples.{is_key, as_string, key_value, are_keys, comparison_key, comparison_keys, sort_keys};
+ghost use Rattle.xq_tuples.specs.Keys.{atomics_of, column_of, columns_of, values_in, row_of, rows_in, by_specification};
+ghost use Rattle.xq_tuples.specs.private.KeyRows.{key_view, keys_of, keys_at};
+ghost use Rattle.xq_tuples.specs.private.Columns.{left_of, filled};
 ghost use Rattle.xq_tuples.specs.private.Groups.{compared_of};
 ghost use Rattle.xq_atoms.specs.Answers.{RefusesFor};
 ghost use Rattle.xq_atoms.specs.declared.refusals.Code.TheVariants.{XPTY0004};
 
 use crate::rows::Key;
 use std::alloc::Global;
+use std::vec::IntoIter;
 use xq_atoms::{Atom, Code, Fault, GroupKey, Want};
 
 /// The atom; a string in place of an untyped value.
@@ -70,66 +73,44 @@ pub fn key_columns(
     Ok(keys)
 }
 
-/// Each row with the key at its place in the column.
-fn extended_rows<K: Drop>(
-    alloc: Global,
-    rows: Vec<Vec<K>>,
-    column: Vec<K>,
-) -> Result<Vec<Vec<K>>, Want>
-    ensures rows { IfOk result (λ longer. rows_of longer ≡ extended (rows_of rows) column.items) }
-    ensures want { IfErr result (λ want. want ≡ Want.Memory) }
+/// The key of the tuple with this number, in a column of keys.
+pub fn key_in(column: &[Option<Atom>], number: usize) -> Option<&Atom>
+    ensures { key_view (option_copied result)
+        ≡ slice_index_or (map key_view column.now) number None }
 {
-    let mut longer = Vec::with_capacity(alloc, rows.len())?;
-    for (mut row, key) in rows.into_iter().zip(column) {
-        row.push(key)?;
-        longer.push(row)?;
+    match column.get(number) {
+        Some(key) => key.as_ref(),
+        None => None,
     }
-    Ok(longer)
 }
 
-/// From the keys by specification, those of each tuple.
-pub fn key_rows<K: Drop>(
-    alloc: Global,
-    count: usize,
-    columns: Vec<Vec<K>>,
-) -> Result<Vec<Vec<K>>, Want>
-    ensures rows { IfOk result (λ rows. rows_of rows
-        ≡ fold extended (replicate count []) (rows_of columns)) }
+/// What that key is compared by.
+fn compared_key(alloc: Global, column: &[Option<Atom>], number: usize) -> Result<GroupKey, Want>
+    ensures key { IfOk result (λ made. key_of made
+        ≡ comparison_key (slice_index_or (map key_view column.now) number None)) }
     ensures want { IfErr result (λ want. want ≡ Want.Memory) }
 {
-    let mut rows = empty_rows(alloc, count)?;
+    GroupKey::of(alloc, key_in(column, number))
+}
+
+/// What the keys of the tuple with this number are compared by, one in each column.
+pub fn compared_keys(
+    alloc: Global,
+    columns: &[Vec<Option<Atom>>],
+    number: usize,
+) -> Result<Vec<GroupKey>, Want>
+    ensures keys { IfOk result (λ made. compared_of made
+        ≡ comparison_keys (keys_at number columns.now)) }
+    ensures want { IfErr result (λ want. want ≡ Want.Memory) }
+{
+    let mut made = Vec::with_capacity(alloc, columns.len())?;
     for column in columns {
-        rows = extended_rows(alloc, rows, column)?;
-    }
-    Ok(rows)
-}
-
-/// So many rows without keys.
-fn empty_rows<K: Drop>(alloc: Global, count: usize) -> Result<Vec<Vec<K>>, Want>
-    ensures rows { IfOk result (λ rows. rows_of rows ≡ replicate count []) }
-    ensures want { IfErr result (λ want. want ≡ Want.Memory) }
-{
-    let mut rows = Vec::with_capacity(alloc, count)?;
-    for _ in 0..count {
-        rows.push(Vec::new(alloc))?;
-    }
-    Ok(rows)
-}
-
-/// What the keys are compared by.
-pub fn compared_keys(alloc: Global, keys: &[Option<Atom>]) -> Result<Vec<GroupKey>, Want>
-    ensures keys { IfOk result (λ made. map key_of made.items
-        ≡ comparison_keys (map key_view keys.now)) }
-    ensures want { IfErr result (λ want. want ≡ Want.Memory) }
-{
-    let mut made = Vec::with_capacity(alloc, keys.len())?;
-    for key in keys {
-        made.push(GroupKey::of(alloc, key.as_ref())?)?;
+        made.push(compared_key(alloc, column.as_slice(), number)?)?;
     }
     Ok(made)
 }
 
-// # Keys of an order, tuple by tuple
+// # Keys of an order, specification by specification
 
 /// What the key is compared by, which takes its text.
 fn compared(alloc: Global, key: Option<Atom>) -> Result<GroupKey, Want>
@@ -156,62 +137,92 @@ fn only_key(values: Key) -> Result<Option<Atom>, Code>
     }
 }
 
-/// What a tuple is ordered by. XPTY0004 where a key is more than one value.
-fn sort_row(alloc: Global, row: Vec<Key>) -> Result<Vec<GroupKey>, Fault>
-    ensures are_keys { IfOk result (λ _. list_all is_key (row_of row) ≡ true) }
-    ensures keys { IfOk result (λ keys. compared_of keys ≡ sort_keys (row_of row)) }
+/// What one specification orders by, tuple by tuple. XPTY0004 where a key is more than one value.
+pub fn compared_column(alloc: Global, column: Vec<Key>) -> Result<Vec<GroupKey>, Fault>
+    ensures are_keys { IfOk result (λ _. list_all is_key (row_of column) ≡ true) }
+    ensures keys { IfOk result (λ keys. compared_of keys ≡ sort_keys (row_of column)) }
     ensures refused { IfErr result
-        (RefusesFor XPTY0004 (list_all is_key (row_of row) ≡ false)) }
+        (RefusesFor XPTY0004 (list_all is_key (row_of column) ≡ false)) }
 {
-    let mut keys = Vec::with_capacity(alloc, row.len())?;
-    for values in row {
+    let mut keys = Vec::with_capacity(alloc, column.len())?;
+    for values in column {
         let key = only_key(values)?;
         keys.push(compared(alloc, key)?)?;
     }
     Ok(keys)
 }
 
-/// The row, and empty keys after it, up to so many.
-fn padded(alloc: Global, row: Vec<Key>, count: usize) -> Result<Vec<Key>, Want>
-    ensures row { IfOk result (λ longer. row_of longer
-        ≡ row_of row ++ replicate (count - length row.items) []) }
+/// Lists of atoms as keys.
+fn key_list(alloc: Global, column: Vec<Vec<Atom>>) -> Result<Vec<Key>, Want>
+    ensures keys { IfOk result (λ keys. row_of keys ≡ column_of column) }
     ensures want { IfErr result (λ want. want ≡ Want.Memory) }
 {
-    let mut longer = row;
-    for _ in longer.len()..count {
-        longer.push(Key::Several(Vec::new(alloc)))?;
-    }
-    Ok(longer)
-}
-
-/// So many keys of the row; one that it lacks is empty.
-fn fitted(alloc: Global, row: Vec<Key>, count: usize) -> Result<Vec<Key>, Want>
-    ensures row { IfOk result (λ fitted. row_of fitted ≡ fitted_lem count (row_of row)) }
-    ensures want { IfErr result (λ want. want ≡ Want.Memory) }
-{
-    let mut row = row;
-    row.truncate(count);
-    padded(alloc, row, count)
-}
-
-/// What each tuple is ordered by, of so many specifications. XPTY0004 where a key is more than one
-/// value.
-pub fn sort_rows(
-    alloc: Global,
-    rows: Vec<Vec<Key>>,
-    count: usize,
-) -> Result<Vec<Vec<GroupKey>>, Fault>
-    ensures are_keys { IfOk result (λ _. list_all (λ row. list_all is_key (fitted_lem count row))
-        (rows_in rows) ≡ true) }
-    ensures keys { IfOk result (λ keys. map compared_of keys.items
-        ≡ map (λ row. sort_keys (fitted_lem count row)) (rows_in rows)) }
-    ensures refused { IfErr result (RefusesFor XPTY0004
-        (list_all (λ row. list_all is_key (fitted_lem count row)) (rows_in rows) ≡ false)) }
-{
-    let mut keys = Vec::with_capacity(alloc, rows.len())?;
-    for row in rows {
-        let row = fitted(alloc, row, count)?;
-        keys.push(sort_row(alloc, row)?)?;
+    let mut keys = Vec::with_capacity(alloc, column.len())?;
+    for atoms in column {
+        keys.push(Key::Several(atoms))?;
     }
     Ok(keys)
+}
+
+/// The keys of each specification, from lists of atoms.
+pub fn key_lists(alloc: Global, columns: Vec<Vec<Vec<Atom>>>) -> Result<Vec<Vec<Key>>, Want>
+    ensures keys { IfOk result (λ keys. rows_in keys ≡ columns_of columns) }
+    ensures want { IfErr result (λ want. want ≡ Want.Memory) }
+{
+    let mut keys = Vec::with_capacity(alloc, columns.len())?;
+    for column in columns {
+        keys.push(key_list(alloc, column)?)?;
+    }
+    Ok(keys)
+}
+
+/// The next key of a row; the empty one where there are no more.
+fn next_key(alloc: Global, keys: &mut IntoIter<Key>) -> Key
+    ensures key { values_in result ≡ slice_index_or (left_of keys.old) 0 [] }
+    ensures later { left_of keys.new ≡ drop 1 (left_of keys.old) }
+{
+    match keys.next() {
+        Some(key) => key,
+        None => Key::Several(Vec::new(alloc)),
+    }
+}
+
+/// Adds the keys of a row to the columns, one to each: the empty one where the row has no more.
+/// What it has after the columns is let go.
+fn add_row(alloc: Global, columns: &mut [Vec<Key>], row: Vec<Key>) -> Result<(), Want>
+    ensures columns { OnOk result (map row_of columns.new
+        ≡ filled (map row_of columns.old) (row_of row)) }
+    ensures want { IfErr result (λ want. want ≡ Want.Memory) }
+{
+    let mut keys = row.into_iter();
+    for column in columns.iter_mut() {
+        column.push(next_key(alloc, &mut keys))?;
+    }
+    Ok(())
+}
+
+/// So many columns without keys, each with room for so many.
+fn empty_columns(alloc: Global, count: usize, room: usize) -> Result<Vec<Vec<Key>>, Want>
+    ensures columns { IfOk result (λ columns. rows_in columns ≡ replicate count []) }
+    ensures want { IfErr result (λ want. want ≡ Want.Memory) }
+{
+    let mut columns = Vec::with_capacity(alloc, count)?;
+    for _ in 0..count {
+        columns.push(Vec::with_capacity(alloc, room)?)?;
+    }
+    Ok(columns)
+}
+
+/// From the keys of each tuple, those of each of so many specifications; one that a tuple lacks is
+/// empty.
+pub fn turned(alloc: Global, rows: Vec<Vec<Key>>, count: usize) -> Result<Vec<Vec<Key>>, Want>
+    ensures columns { IfOk result (λ columns. rows_in columns
+        ≡ by_specification count (rows_in rows)) }
+    ensures want { IfErr result (λ want. want ≡ Want.Memory) }
+{
+    let mut columns = empty_columns(alloc, count, rows.len())?;
+    for row in rows {
+        add_row(alloc, &mut columns, row)?;
+    }
+    Ok(columns)
 }

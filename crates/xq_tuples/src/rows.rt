@@ -1,14 +1,7 @@
-//! Tuples with their keys.
+//! Tuples with their numbers, keys of an order, and how it orders.
 
 use crate::values::Tuple;
-use xq_atoms::{Atom, GroupKey};
-
-/// A tuple with its keys, one for each specification.
-#[derive(Drop)]
-pub struct Keyed {
-    pub tuple: Tuple,
-    pub keys: Vec<Option<Atom>>,
-}
+use xq_atoms::Atom;
 
 /// How one specification of an `order by` clause orders (XQuery 3.1, section 3.12.8): ascending or
 /// descending, with the empty key least or greatest.
@@ -25,9 +18,9 @@ pub enum Key {
     Several(Vec<Atom>),
 }
 
-/// A tuple with what it is ordered by.
+/// A tuple with its number, at which each column of keys has its own.
 #[derive(Drop)]
-pub struct Ranked {
+pub struct Numbered {
     pub tuple: Tuple,
-    pub keys: Vec<GroupKey>,
+    pub number: usize,
 }

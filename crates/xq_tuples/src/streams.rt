@@ -8,14 +8,14 @@ ghost use Rattle.xq_tuples.specs.Views.{values_of};
 ghost use Rattle.xq_regions.specs.Items.{Value as AtomView, item_view, item_views};
 
 use crate::groups::{gather, joined};
-use crate::keys::{key_columns, key_rows, sort_rows};
-use crate::order::{are_of_kinds, sort_columns, sorted};
+use crate::keys::{key_columns, key_lists, turned};
+use crate::order::{sort_columns, sorted};
 use crate::rows::{Key, OrderSpec};
 use crate::values::{Tuple, position_value, push_copies, push_each, push_each_or_empty};
 use std::alloc::Global;
 use std::marker::Model;
 use std::rc::Rc;
-use xq_atoms::{Atom, Code, Fault, Want};
+use xq_atoms::{Atom, Fault, Want};
 use xq_regions::{Item, Items};
 
 /// A stream of tuples, which have equally many slots. Contracts see the list of tuples, each as
@@ -193,12 +193,12 @@ impl Tuples {
             (IsRefusal (grouped AtomView slots.now self (columns_of keys))) }
     {
         let alloc = self.alloc;
-        let columns = key_columns(alloc, keys)?;
-        let rows = key_rows(alloc, self.tuples.len(), columns)?;
-        let groups = gather(alloc, self.tuples, rows)?;
+        let held = key_columns(alloc, keys)?;
+        let columns = held.as_slice();
+        let groups = gather(alloc, self.tuples, columns)?;
         let mut tuples = Vec::with_capacity(alloc, groups.len())?;
         for group in &groups {
-            tuples.push(joined(alloc, slots, group)?)?;
+            tuples.push(joined(alloc, slots, columns, group)?)?;
         }
         Ok(Tuples { alloc, tuples })
     }
@@ -215,11 +215,8 @@ impl Tuples {
         ensures refused { IfErr result
             (IsRefusal (ordered (map rule_of specs.now) self (columns_of keys))) }
     {
-        let alloc = self.alloc;
-        let columns = sort_columns(alloc, keys)?;
-        let rows = key_rows(alloc, self.tuples.len(), columns)?;
-        let tuples = sorted(alloc, specs, self.tuples, rows)?;
-        Ok(Tuples { alloc, tuples })
+        let columns = key_lists(self.alloc, keys)?;
+        self.order_by_columns(columns, specs)
     }
 
     /// `order by`, as [`Tuples::order`], from the keys of each tuple: `keys` has for each tuple the
@@ -232,13 +229,21 @@ impl Tuples {
         ensures refused { IfErr result (IsRefusal (ordered (map rule_of specs.now) self
             (by_specification (length specs.now) (rows_in keys)))) }
     {
+        let columns = turned(self.alloc, keys, specs.len())?;
+        self.order_by_columns(columns, specs)
+    }
+
+    /// `order by`, as [`Tuples::order`].
+    fn order_by_columns(self, keys: Vec<Vec<Key>>, specs: &[OrderSpec]) -> Result<Tuples, Fault>
+        requires { All (λ column. length column ≡ length self) (rows_in keys) }
+        ensures stream { IfOk result
+            (λ stream. ordered (map rule_of specs.now) self (rows_in keys) ≡ Ok stream) }
+        ensures refused { IfErr result
+            (IsRefusal (ordered (map rule_of specs.now) self (rows_in keys))) }
+    {
         let alloc = self.alloc;
-        let count = specs.len();
-        let keys = sort_rows(alloc, keys, count)?;
-        if !are_of_kinds(&keys, count) {
-            return Err(Fault::Code(Code::XPTY0004));
-        }
-        let tuples = sorted(alloc, specs, self.tuples, keys)?;
+        let columns = sort_columns(alloc, keys)?;
+        let tuples = sorted(alloc, specs, self.tuples, &columns)?;
         Ok(Tuples { alloc, tuples })
     }
 }

@@ -1,28 +1,54 @@
-use Rattle.std.proofs.Common.{◌≡◌, ◌∷◌, ◌++◌, [], map, ap, sym, ◌∙◌, arith, ℕ, List, Option, Bor}
-use Rattle.std.specs.Option.{option_map}
-use Rattle.std.proofs.lemmas.List.{map_push}
+use Rattle.std.proofs.Common.{◌≡◌, ◌∷◌, ◌++◌, [], map, length, ap, sym, ◌∙◌, arith, ℕ, List, Option, Some, Bor}
+use Rattle.std.specs.Prelude.{slice_get}
+use Rattle.std.specs.Global.{Vec, Global}
+use Rattle.std.specs.List.{range_with_len}
+use Rattle.std.specs.declared.rc.Rc.{Rc}
+use Rattle.std.specs.Option.{option_map, option_copied}
+use Rattle.std.proofs.lemmas.List.{map_push, length-map}
+use Rattle.std.proofs.lemmas.List.Folds.{flat_map-map}
 use Rattle.std.proofs.lemmas.List.FromFn.{map-range_with_len_more}
 use Rattle.xq_atoms.specs.declared.atoms.Atom.{Atom}
-use Rattle.xq_regions.specs.Tuples.{grouped_value, slot_key}
+use Rattle.xq_regions.specs.declared.items.Item.{Item}
+use Rattle.xq_regions.specs.Tuples.{Keyed, grouped_value, grouped_tuple, slot_key, value_at}
 use Rattle.xq_regions.specs.Items.{ItemView, Value, item_views}
-use Rattle.xq_tuples.specs.Views.{values_of}
-use Rattle.xq_tuples.specs.private.KeyRows.{key_view, keys_of}
+use Rattle.xq_tuples.specs.declared.rows.Numbered.{Numbered}
+use Rattle.xq_tuples.specs.Views.{values_of, tuple_of}
+use Rattle.xq_tuples.specs.private.KeyRows.{key_view, keys_at}
 use Rattle.xq_tuples.specs.private.Groups.{keyed_of}
 use Rattle.xq_tuples.proofs.groups.joined.Goals as goal
 use Rattle.xq_tuples.proofs.groups.joined.Goals.{in-Some-slot_key+in_ok-value-in-Some-slot_key, in-None+in_ok-value-in-None}
 
+-- the tuple of a group, by the first tuple in it
+by_first : (slots : List ℕ) (columns : List (Vec (Option Atom))) (group : List Numbered) (first : Numbered) (n : ℕ) → slice_get group 0 ≡ Some first → n ≡ length (tuple_of first.tuple)
+    → map (λ slot. grouped_value Value (slot_key slots (keys_at first.number columns) slot) slot (map (keyed_of columns) group)) (range_with_len 0 n) ≡ grouped_tuple Value slots (map (keyed_of columns) group)
+by_first slots columns [] first n e long = cc
+by_first slots columns (row ∷ rows) first n e long =
+    let same : first ≡ row = cc in
+    let end : n ≡ length (tuple_of row.tuple) = long ∙ ap (λ (r : Numbered). length (tuple_of r.tuple)) same in
+    λ t. map (λ slot. grouped_value Value (slot_key slots (keys_at (same t).number columns) slot) slot (map (keyed_of columns) (row ∷ rows))) (range_with_len 0 (end t))
+
 pub loop-slot-preserved : goal.loop-slot-preserved
 loop-slot-preserved c =
     let slots = c.args.slots.now in
+    let columns = c.args.columns.now in
     let slot = c.loop-slot.slot in
-    let first = c.in-Some.first.now in
-    let group = map keyed_of c.args.group.now in
-    let value_of : ℕ → List ItemView = λ slot. grouped_value Value (slot_key slots (keys_of first.keys) slot) slot group in
-    let found = ap (λ l. slot_key slots (map key_view l) slot) (sym c.deref.ensures.value) ∙ sym c.slot_key.ensures in
+    let keys = keys_at (c.in-Some.first.now).number columns in
+    let group = map (keyed_of columns) c.args.group.now in
+    let value_of : ℕ → List ItemView = λ slot. grouped_value Value (slot_key slots keys slot) slot group in
+    let seen = λ (key : Option (Bor Atom)). key_view (option_copied key) in
+    let found = sym c.slot_key.ensures in
     let given : item_views c.match-slot_key.value ≡ value_of slot =
     elim c.match-slot_key.branch [
-      | in-Some-slot_key+in_ok-value-in-Some-slot_key w ↦ ap item_views w.value-is ∙ w.in_ok-value-in-Some-slot_key.ensures.value ∙ ap (λ k. grouped_value Value k slot group) (sym (found ∙ ap (option_map (λ (key : Bor (Option Atom)). key_view key.now)) w.in-Some-slot_key.is))
-      | in-None+in_ok-value-in-None w ↦ ap item_views w.value-is ∙ w.in_ok-value-in-None.ensures.value ∙ ap (λ k. grouped_value Value k slot group) (sym (found ∙ ap (option_map (λ (key : Bor (Option Atom)). key_view key.now)) w.in-None.is))
+      | in-Some-slot_key+in_ok-value-in-Some-slot_key w ↦ ap item_views w.value-is ∙ w.in_ok-value-in-Some-slot_key.ensures.value ∙ ap (λ k. grouped_value Value k slot group) (sym (found ∙ ap (option_map seen) w.in-Some-slot_key.is))
+      | in-None+in_ok-value-in-None w ↦
+          ap item_views w.value-is ∙ w.in_ok-value-in-None.ensures.value ∙ sym (flat_map-map (λ (row : Keyed ItemView). value_at slot row.0) (keyed_of columns) c.args.group.now)
+          ∙ ap (λ k. grouped_value Value k slot group) (sym (found ∙ ap (option_map seen) w.in-None.is))
     ] in
     let value : item_views c.in_ok-new.field-0.value ≡ value_of slot = ap item_views c.in_ok-new.ensures.ok ∙ given in
     ap values_of c.in_ok-push.ensures.items ∙ map_push (λ s. item_views s.value) c.loop-slot.tuple.items c.in_ok-new.field-0 ∙ (λ t. c.loop-slot.invariant t ++ value t ∷ []) ∙ sym (map-range_with_len_more value_of 0 slot slot (omega arith))
+
+pub returns-clause-tuple : goal.returns-clause-tuple
+returns-clause-tuple c =
+    let first = c.in-Some.first.now in
+    let end : c.loop-slot.slot ≡ length (tuple_of first.tuple) = omega (arith, c.loop-slot.auto.slot-end, c.loop-slot-test.false, c.len-slot-end.ensures, first.tuple.ok.0, length-map first.tuple.items (λ (s : Rc (Vec Item) Global). item_views s.value)) in
+    c.loop-slot.invariant ∙ by_first c.args.slots.now c.args.columns.now c.args.group.now first c.loop-slot.slot (sym c.in-Some.ensures.value) end

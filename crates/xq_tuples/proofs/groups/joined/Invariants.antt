@@ -3,9 +3,9 @@ use Rattle.std.specs.List.{range_with_len}
 use Rattle.xq_regions.specs.Tuples.{grouped_value, slot_key}
 use Rattle.xq_regions.specs.Items.{Value}
 use Rattle.xq_tuples.specs.Views.{tuple_of}
-use Rattle.xq_tuples.specs.private.KeyRows.{keys_of}
+use Rattle.xq_tuples.specs.private.KeyRows.{keys_at}
 use Rattle.xq_tuples.specs.private.Groups.{keyed_of}
 use Rattle.xq_tuples.proofs.groups.joined.Given as goal
 
 abbrev pub invariant-loop-slot : goal.invariant-loop-slot
-invariant-loop-slot l = tuple_of l.tuple ≡ map (λ slot. grouped_value Value (slot_key l.slots (keys_of (l.first).keys) slot) slot (map keyed_of l.group)) (range_with_len 0 l.slot)
+invariant-loop-slot l = tuple_of l.tuple ≡ map (λ slot. grouped_value Value (slot_key l.slots (keys_at (l.first).number l.columns) slot) slot (map (keyed_of l.columns) l.group)) (range_with_len 0 l.slot)

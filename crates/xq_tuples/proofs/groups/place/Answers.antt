@@ -1,8 +1,6 @@
-use Rattle.std.proofs.Common.{◌≡◌, ◌<◌, [], ◌∷◌, ◌++◌, map, length, get_or, set, Bool, true, false, not, cond, subst, sym, ap, ◌∙◌, arith}
+use Rattle.std.proofs.Common.{◌≡◌, ◌<◌, [], ◌∷◌, ◌++◌, length, get_or, set, Bool, true, false, not, cond, subst, sym, ap, ◌∙◌, arith}
 use Rattle.std.specs.List.{list_any}
 use Rattle.std.proofs.lemmas.List.{set_at, get_or_at}
-use Rattle.xq_regions.specs.Tuples.{comparison_keys}
-use Rattle.xq_tuples.specs.private.KeyRows.{key_view}
 use Rattle.xq_tuples.specs.private.Groups.{Gathers, keyed_of}
 use Rattle.xq_tuples.proofs.Placing.{Gathers-new, Gathers-old, position_or_len-none, position_or_len-some, same_compared}
 use Rattle.xq_tuples.proofs.groups.place.Goals as goal
@@ -15,9 +13,10 @@ from_not a false c e f = sym (ap not (sym e ∙ f))
 pub returns-clause-placed : goal.returns-clause-placed
 returns-clause-placed c =
     let key = c.in_ok-compared_keys.field-0 in
-    let is = c.in_ok-compared_keys.ensures.keys ∙ ap (λ l. comparison_keys (map key_view l)) c.deref.ensures.value in
+    let is = c.in_ok-compared_keys.ensures.keys in
     let seen = c.args.seen.now.keys in
     let gathered = c.args.groups.now.items in
+    let columns = c.args.columns.now in
     let number = c.in_ok-number.number in
     let lent = c.index_mut.result.now in
     let grown = c.push-2.new.self in
@@ -31,12 +30,12 @@ returns-clause-placed c =
           let items : grown.items ≡ c.args.row ∷ [] = c.in_ok-push-2.ensures.items ∙ ap (λ l. l ++ c.args.row ∷ []) (ap (λ v. v.items) found ∙ w.new.ensures.items) in
           let keys = c.in_ok-number.ensures.keys ∙ ap (λ b. cond b seen (seen ++ key ∷ [])) none in
           let set_last = ap (λ l. set l number grown) groups ∙ set_at gathered w.new.result [] grown number last in
-          subst (λ ks. Gathers (done ++ keyed_of c.args.row ∷ []) ks (set c.if-is_new.groups.items number grown)) (sym keys) (subst (λ gs. Gathers (done ++ keyed_of c.args.row ∷ []) (seen ++ key ∷ []) gs) (sym set_last) (Gathers-new h key c.args.row is none grown items))
+          subst (λ ks. Gathers columns (done ++ keyed_of columns c.args.row ∷ []) ks (set c.if-is_new.groups.items number grown)) (sym keys) (subst (λ gs. Gathers columns (done ++ keyed_of columns c.args.row ∷ []) (seen ++ key ∷ []) gs) (sym set_last) (Gathers-new h key c.args.row is none grown items))
       | else-is_new w ↦
           let some : list_any (same_compared key) seen ≡ true = from_not c.in_ok-number.is_new _ false w.if-is_new.false c.in_ok-number.ensures.added in
           let groups = ap (λ v. v.items) w.groups-is in
           let found : lent ≡ get_or gathered number lent = c.index_mut.ensures.value ∙ ap (λ l. get_or l number lent) groups in
           let keys = c.in_ok-number.ensures.keys ∙ ap (λ b. cond b seen (seen ++ key ∷ [])) some in
           let within : number < length gathered = omega (arith, position_or_len-some (same_compared key) seen some, c.in_ok-number.ensures.index) in
-          subst (λ ks. Gathers (done ++ keyed_of c.args.row ∷ []) ks (set c.if-is_new.groups.items number grown)) (sym keys) (subst (λ gs. Gathers (done ++ keyed_of c.args.row ∷ []) seen gs) (sym (ap (λ l. set l number grown) groups)) (Gathers-old h key c.args.row is some number c.in_ok-number.ensures.index within lent grown found c.in_ok-push-2.ensures.items))
+          subst (λ ks. Gathers columns (done ++ keyed_of columns c.args.row ∷ []) ks (set c.if-is_new.groups.items number grown)) (sym keys) (subst (λ gs. Gathers columns (done ++ keyed_of columns c.args.row ∷ []) seen gs) (sym (ap (λ l. set l number grown) groups)) (Gathers-old h key c.args.row is some number c.in_ok-number.ensures.index within lent grown found c.in_ok-push-2.ensures.items))
     ]

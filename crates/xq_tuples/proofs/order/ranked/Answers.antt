@@ -1,15 +1,13 @@
-use Rattle.std.proofs.Common.{◌∙◌}
-use Rattle.std.proofs.lemmas.Iterator.{YieldsList-from_zip}
+use Rattle.std.proofs.Common.{map, ap, sym, ◌∙◌}
+use Rattle.std.proofs.lemmas.List.{map-id}
 use Rattle.std.proofs.lemmas.Iterator.Adapters.{YieldsList-from_vec}
-use Rattle.std.proofs.lemmas.Iterator.Consumers.{YieldsList-end}
+use Rattle.std.proofs.lemmas.Iterator.Consumers.{YieldsList-end, YieldsList-from_enumerate}
 use Rattle.xq_tuples.specs.Views.{tuple_of}
-use Rattle.xq_tuples.specs.private.Groups.{compared_of}
-use Rattle.xq_tuples.proofs.Lists.{zip-yielded}
+use Rattle.xq_tuples.proofs.Lists.{enumerate_from-map}
 use Rattle.xq_tuples.proofs.order.ranked.Goals as goal
 
 pub returns-clause-rows : goal.returns-clause-rows
 returns-clause-rows c =
     let xs = c.args.tuples.items in
-    let ys = c.args.keys.items in
-    let ended = YieldsList-end (YieldsList-from_zip (YieldsList-from_vec xs (cc) (cc)) (YieldsList-from_vec ys (cc) (cc))) c.loop-tuple.yielded c.loop-tuple.tuple-iterator c.loop-tuple.yielded_by c.next.result c.next.new.self c.in-None.is c.next.ensures.steps in
-    c.loop-tuple.invariant ∙ zip-yielded tuple_of compared_of xs ys c.loop-tuple.yielded ended.0
+    let ended = YieldsList-end (YieldsList-from_enumerate (YieldsList-from_vec xs (cc) (cc)) (cc)) c.loop-number.yielded c.loop-number.number-iterator c.loop-number.yielded_by c.next.result c.next.new.self c.in-None.is c.next.ensures.steps in
+    c.loop-number.invariant ∙ ap (map (λ p. (p.0, tuple_of p.1))) (sym (map-id c.loop-number.yielded) ∙ ended.0) ∙ sym (enumerate_from-map tuple_of 0 xs)

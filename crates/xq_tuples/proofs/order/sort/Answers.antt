@@ -4,10 +4,9 @@ use Rattle.std.specs.Ordering.{is_lt}
 use Rattle.std.specs.Cmp.{IsTotalOrder, IsStrictWeakOrder, on_total}
 use Rattle.std.proofs.lemmas.Fn.{always_returns_same}
 use Rattle.std.proofs.lemmas.List.Sorted.{ranks_by}
-use Rattle.xq_tuples.specs.declared.rows.Ranked.{Ranked}
-use Rattle.xq_tuples.specs.private.Groups.{compared_of}
+use Rattle.xq_tuples.specs.declared.rows.Numbered.{Numbered}
 use Rattle.xq_tuples.specs.Orders.{rule_of}
-use Rattle.xq_tuples.specs.private.Ranks.{ranked_of, by_keys}
+use Rattle.xq_tuples.specs.private.Ranks.{ranked_of, by_keys, keys_at}
 use Rattle.xq_tuples.proofs.Rules.{keys_total}
 use Rattle.xq_tuples.proofs.Sorting.{sorted_from_sort, sorted-map}
 use Rattle.xq_tuples.proofs.order.sort.Goals as goal
@@ -15,10 +14,11 @@ use Rattle.xq_tuples.proofs.order.sort.Goals as goal
 pub returns-clause-rows : goal.returns-clause-rows
 returns-clause-rows c =
     let specs = c.args.specs.now in
-    let cmp : Ranked → Ranked → Ordering = λ a b. by_keys specs (ranked_of a) (ranked_of b) in
-    let total : IsTotalOrder cmp = on_total (λ (row : Ranked). compared_of row.keys) (keys_total (map rule_of specs)) in
-    let weak : IsStrictWeakOrder (λ (a : Ranked) b. is_lt (cmp a b)) = ranks_by total (λ x. x) in
+    let columns = c.args.columns.now in
+    let cmp : Numbered → Numbered → Ordering = λ a b. by_keys specs (ranked_of columns a) (ranked_of columns b) in
+    let total : IsTotalOrder cmp = on_total (λ (row : Numbered). keys_at row.number columns) (keys_total (map rule_of specs)) in
+    let weak : IsStrictWeakOrder (λ (a : Numbered) b. is_lt (cmp a b)) = ranks_by total (λ x. x) in
     let compares = always_returns_same _ (λ a r. is_lt r ≡ is_lt (cmp a.0.now a.1.0.now)) _ (λ a r q k. let e : r ≡ cmp a.0.now a.1.0.now = search rules in (ap is_lt e, search rules)) in
     let up = c.in_ok-sort_by.ensures.sorted (λ a b. is_lt (cmp a b)) weak compares in
     let stable = c.in_ok-sort_by.ensures.stable (λ a b. is_lt (cmp a b)) weak compares in
-    ap (map ranked_of) (sorted_from_sort cmp total c.args.rows.now.items c.sort_by.new.self.items up stable) ∙ sorted-map (by_keys specs) ranked_of c.args.rows.now.items
+    ap (map (ranked_of columns)) (sorted_from_sort cmp total c.args.rows.now.items c.sort_by.new.self.items up stable) ∙ sorted-map (by_keys specs) (ranked_of columns) c.args.rows.now.items

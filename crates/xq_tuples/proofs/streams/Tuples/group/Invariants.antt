@@ -6,4 +6,4 @@ use Rattle.xq_tuples.specs.private.Groups.{group_of}
 use Rattle.xq_tuples.proofs.streams.Tuples.group.Given as goal
 
 abbrev pub invariant-loop-group : goal.invariant-loop-group
-invariant-loop-group l = map tuple_of l.tuples.items ≡ map (grouped_tuple Value l.slots) (map group_of (take l.group-index l.group-items))
+invariant-loop-group l = map tuple_of l.tuples.items ≡ map (grouped_tuple Value l.slots) (map (group_of l.columns) (take l.group-index l.group-items))

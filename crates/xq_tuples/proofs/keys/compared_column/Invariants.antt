@@ -3,7 +3,7 @@ use Rattle.std.specs.List.{list_all}
 use Rattle.xq_regions.specs.Tuples.{is_key, sort_keys}
 use Rattle.xq_tuples.specs.Keys.{values_in}
 use Rattle.xq_tuples.specs.private.Groups.{compared_of}
-use Rattle.xq_tuples.proofs.keys.sort_row.Given as goal
+use Rattle.xq_tuples.proofs.keys.compared_column.Given as goal
 
 abbrev pub invariant-loop-values : goal.invariant-loop-values
 invariant-loop-values l = record {

@@ -6,11 +6,11 @@ use Rattle.std.proofs.lemmas.Iterator.Consumers.{YieldsList-turn}
 use Rattle.std.proofs.lemmas.List.Folds.{list_all_at}
 use Rattle.xq_regions.specs.Tuples.{is_key}
 use Rattle.xq_tuples.specs.Keys.{values_in}
-use Rattle.xq_tuples.proofs.keys.sort_row.Goals as goal
+use Rattle.xq_tuples.proofs.keys.compared_column.Goals as goal
 
 pub returns-in_err-key-clause-refused : goal.returns-in_err-key-clause-refused
 returns-in_err-key-clause-refused c =
-    let xs = c.args.row.items in
+    let xs = c.args.column.items in
     let x = c.in-Some.values in
     let turn = YieldsList-turn (YieldsList-from_vec xs (cc) (cc)) c.loop-values.yielded c.loop-values.values-iterator c.loop-values.yielded_by c.next.result c.next.new.self x c.in-Some.is c.next.ensures.steps in
     let i = length c.loop-values.yielded in
