@@ -1,5 +1,5 @@
 -- What the row of a node says of the rows and nodes below it.
-use Rattle.std.proofs.Common.{◌≡◌, ℕ, suc, ◌+◌, ◌<◌, List, [], ◌∷◌, length, get_or, map, take, min, Result, Ok, Err, true, false, string_bytes, refl, sym, ◌∙◌, ap, subst, arith}
+use Rattle.std.proofs.Common.{◌≡◌, ℕ, suc, ◌+◌, ◌<◌, List, [], ◌∷◌, length, take, min, Result, Ok, Err, true, false, refl, sym, ◌∙◌, ap, subst, arith}
 use Rattle.std.specs.Prelude.{Some, slice_get, IfOk, OnOk}
 use Rattle.std.proofs.lemmas.List.{drop_all, length-take}
 use Rattle.xq_regions.specs.declared.Kind.{Kind}

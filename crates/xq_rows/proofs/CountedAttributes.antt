@@ -1,5 +1,5 @@
 -- The attributes of a node, by the rows that are kept of a tree.
-use Rattle.std.proofs.Common.{◌≡◌, ◌+◌, ◌<◌, ◌≤◌, ℕ, Bool, true, false, not, List, length, map, take, sym, subst, arith, Option, Some, None, IfSome}
+use Rattle.std.proofs.Common.{◌≡◌, ◌+◌, ◌<◌, ◌≤◌, ℕ, Bool, true, false, not, List, length, take, sym, subst, arith, Option, Some, None, IfSome}
 use Rattle.sqlite_trees.specs.declared.store.Store.{Ghosts}
 use Rattle.xq_regions.specs.Tree.{Tree, IsTree, is_attribute}
 use Rattle.xq_regions.specs.Rows.{Row, rows}

@@ -3,7 +3,6 @@ use Rattle.std.proofs.Common.{◌≡◌, ◌≢◌, ◌≤◌, ℕ, zero, suc, L
 use Rattle.std.specs.Prelude.{slice_get}
 use Rattle.std.specs.FinMap.{keys}
 use Rattle.std.specs.List.{AllByRecursion, insert as insert_at, remove as remove_at}
-use Rattle.std.proofs.lemmas.List.{length-map}
 use Rattle.sqlite.specs.Effect.{Database}
 use Rattle.xq_atoms.specs.Address.{IsAddress}
 use Rattle.xq_regions.specs.Tree.{Tree, IsDocument}
@@ -18,8 +17,6 @@ use Rattle.xq_rows.specs.declared.shelves.Shelf.{Shelf}
 use Rattle.xq_rows.specs.private.Keeps.{AreOf}
 use Rattle.xq_rows.specs.private.Shelves.{AreFronts, HasDropped as ShelfHasDropped, HasPut, IsFront, IsFrontOf, front_at, kept_rows}
 use Rattle.xq_rows.specs.private.Statements.{AreThere, HasDropped, HasReplaced}
-use Rattle.xq_rows.proofs.Calls.{encoded}
-use Rattle.xq_rows.proofs.FrontLaws.{all-first}
 use Rattle.xq_rows.proofs.MapPlaces.{apart, apart_too, gap_apart, keys_drop_gap, keys_drop_there, keys_put_gap, keys_put_there, keys_rise}
 use Rattle.xq_rows.proofs.Keys.{get_at}
 use Rattle.xq_rows.proofs.Renewals.{first_there}

@@ -101,7 +101,13 @@ fn renew_part<S: Alter>(
     let high = low + rows.len() as u32;
     let read = read_part(transaction, address, low, high)?;
     let rows_there = node_rows(alloc, &read)?;
-    renew_rows(transaction, names, address, &LentRows::new(&rows_there), rows)?;
+    renew_rows(
+        transaction,
+        names,
+        address,
+        &LentRows::new(&rows_there),
+        rows,
+    )?;
     Ok(rows_there.len())
 }
 
@@ -126,7 +132,13 @@ pub fn replace_rows<S: Alter>(
 {
     let mut names = Names::new(alloc);
     let mut at = rows.len().min(kept.len());
-    renew_rows(transaction, &mut names, address, &kept.first(at), &rows[..at])?;
+    renew_rows(
+        transaction,
+        &mut names,
+        address,
+        &kept.first(at),
+        &rows[..at],
+    )?;
     let mut replaced = at > 0;
     while at < rows.len() {
         let stop = rows.len().min(at + PART);

@@ -1,4 +1,4 @@
-use Rattle.std.proofs.Common.{◌≡◌, true, false, get_or, refl, ap, ◌∙◌, arith}
+use Rattle.std.proofs.Common.{◌≡◌, get_or, refl, ap, ◌∙◌, arith}
 use Rattle.xq_sources.specs.Sources.{tree_at}
 use Rattle.xq_axes.specs.private.Found.{Found}
 use Rattle.xq_axes.specs.private.Hits.{is_among}

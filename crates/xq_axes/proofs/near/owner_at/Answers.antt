@@ -1,9 +1,7 @@
-use Rattle.std.proofs.Common.{◌≡◌, ◌+◌, ℕ, ap, ◌∙◌, arith}
+use Rattle.std.proofs.Common.{◌≡◌, ℕ, ap, ◌∙◌}
 use Rattle.xq_regions.specs.Rows.{Row, rows, row_at}
 use Rattle.xq_sources.specs.Lent.{placed_lent, row_lent}
 use Rattle.xq_sources.specs.Sources.{tree_at}
-use Rattle.xq_axes.specs.Reads.{IsSized}
-use Rattle.xq_axes.specs.private.Downward.{level_of, end_of}
 use Rattle.xq_axes.proofs.OneNode.{ends_there}
 use Rattle.xq_axes.proofs.Sizes.{one_row}
 use Rattle.xq_axes.proofs.near.owner_at.Goals as goal

@@ -1,4 +1,4 @@
-use Rattle.std.proofs.Common.{◌≡◌, ◌∙◌, Some, None, refl, ap}
+use Rattle.std.proofs.Common.{◌≡◌, ◌∙◌, Some, None, ap}
 use Rattle.std.specs.Prelude.{slice_get}
 use Rattle.sqlite.specs.Held.{state}
 use Rattle.xq_regions.specs.Rows.{placed}

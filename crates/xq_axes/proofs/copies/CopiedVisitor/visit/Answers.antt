@@ -1,4 +1,4 @@
-use Rattle.std.proofs.Common.{◌+◌, sym, subst, ◌∙◌, string_bytes}
+use Rattle.std.proofs.Common.{◌+◌, sym, subst, ◌∙◌}
 use Rattle.xq_sources.specs.Lent.{placed_lent}
 use Rattle.xq_axes.specs.Reads.{AreCopied}
 use Rattle.xq_axes.proofs.Runs.{one_on}

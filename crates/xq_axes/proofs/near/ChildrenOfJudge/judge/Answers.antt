@@ -1,4 +1,4 @@
-use Rattle.std.proofs.Common.{◌≡◌, ◌+◌, ◌∷◌, [], ◌&&◌, not, nat_eq, sym, ap, ◌∙◌}
+use Rattle.std.proofs.Common.{◌≡◌, ◌+◌, ◌&&◌, not, nat_eq, sym, ap, ◌∙◌}
 use Rattle.xq_regions.specs.Rows.{Row, rows}
 use Rattle.xq_regions.specs.Tree.{is_attribute}
 use Rattle.xq_regions.specs.RegionTests.{plain_row}

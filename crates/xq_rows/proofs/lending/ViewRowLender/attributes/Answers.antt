@@ -1,4 +1,4 @@
-use Rattle.std.proofs.Common.{sym, subst, IfSome, ap, ◌∙◌, map}
+use Rattle.std.proofs.Common.{sym, subst, IfSome, ap, ◌∙◌}
 use Rattle.xq_regions.specs.Rows.{rows}
 use Rattle.xq_regions.specs.Tree.{IsTree}
 use Rattle.xq_sources.specs.Lent.{unplaced}

@@ -1,5 +1,5 @@
-use Rattle.std.proofs.Common.{◌≡◌, ◌<◌, [], ◌∷◌, length, map, ap, subst, ◌∙◌, rc_value, arith}
-use Rattle.xq_regions.specs.Rows.{placed, row_at, rows}
+use Rattle.std.proofs.Common.{◌≡◌, ◌<◌, [], ◌∷◌, length, ap, subst, ◌∙◌, rc_value, arith}
+use Rattle.xq_regions.specs.Rows.{row_at, rows}
 use Rattle.xq_regions.specs.Tree.{IsTree}
 use Rattle.xq_sources.specs.Sources.{HasNode, tree_at as nth_tree}
 use Rattle.xq_rows.specs.Views.{Viewed, trees_under}
