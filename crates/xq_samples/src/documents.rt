@@ -151,8 +151,8 @@ pub fn is_row(row: &LentRow<'_>, (pre, size, level, kind, name, value): Row) -> 
         && row.size == size
         && row.level == level
         && row.kind == kind
-        && row.name == name
-        && row.value == value
+        && row.name() == name
+        && row.value() == value
 }
 
 /// Whether the rows are those of the document.
