@@ -5,6 +5,7 @@ use sqlite::Alter;
 use std::alloc::Global;
 use xq_atoms::Want;
 use xq_rows::{Put, Store};
+use xq_sources::LentRows;
 
 /// A call, and its answer.
 #[derive(Clone, Copy)]
@@ -117,7 +118,7 @@ fn loads<S: Alter>(
     wanted: Option<Document>,
 ) -> Result<bool, Want> {
     Ok(match (load(store, address)?, wanted) {
-        (Some(found), Some(document)) => document.has(found.rows()),
+        (Some(found), Some(document)) => document.has(&LentRows::new(found.rows())),
         (None, None) => true,
         _ => false,
     })

@@ -4,8 +4,7 @@
 use crate::documents::Document;
 use std::alloc::Global;
 use xq_atoms::Want;
-use xq_regions::NodeRow;
-use xq_sources::RowLender;
+use xq_sources::{LentRows, RowLender};
 
 /// A document of comments: how many rows it has, and the text of each comment.
 pub type Comments = (u32, &'static str);
@@ -89,7 +88,7 @@ fn lends_document<L: RowLender>(
     document: Document,
 ) -> Result<bool, Want> {
     fetch(alloc, lender, tree, (0, u32::MAX))?;
-    Ok(document.has(lender.lent()))
+    Ok(document.has(&lender.lent()))
 }
 
 /// Whether these documents are lent whole, and no other.
@@ -109,10 +108,11 @@ pub fn lends_documents<L: RowLender>(
 
 /// The place after these rows, where they are numbered one after another from a place on and the
 /// comments among them have the text.
-fn place_after(rows: &[NodeRow], from: u32, text: &str) -> Option<u32> {
+fn place_after(rows: &LentRows<'_>, from: u32, text: &str) -> Option<u32> {
     let mut next = from;
-    for row in rows {
-        if row.pre != next || (next > 0 && row.value.as_str() != text) {
+    for at in 0..rows.len() {
+        let row = rows.get(at)?;
+        if row.pre != next || (next > 0 && row.value() != text) {
             return None;
         }
         next = next.saturating_add(1);
@@ -130,7 +130,7 @@ fn lent_to<L: RowLender>(
 ) -> Result<Option<u32>, Want> {
     let before = lender.meter().rows();
     fetch(alloc, lender, tree, (from, u32::MAX))?;
-    let Some(after) = place_after(lender.lent(), from, text) else {
+    let Some(after) = place_after(&lender.lent(), from, text) else {
         return Ok(None);
     };
     let lent = u64::from(after.saturating_sub(from));

@@ -156,9 +156,12 @@ pub fn is_row(row: &LentRow<'_>, (pre, size, level, kind, name, value): Row) -> 
 }
 
 /// Whether the rows are those of the document.
-pub fn are_rows(rows: &[NodeRow], document: &[Row]) -> bool {
-    for (row, wanted) in rows.iter().zip(document) {
-        if !is_row(&LentRow::new(row), *wanted) {
+pub fn are_rows(rows: &LentRows<'_>, document: &[Row]) -> bool {
+    for (at, wanted) in document.iter().enumerate() {
+        let Some(row) = rows.get(at) else {
+            return false;
+        };
+        if !is_row(&row, *wanted) {
             return false;
         }
     }
