@@ -1,7 +1,7 @@
 //! What is judged of the attributes in the content of an element or a document: that each stands
 //! before all other nodes, and has a name of its own.
 ghost use Rattle.std.specs.Prelude.{◌≡◌, ◌∷◌, [], false, map, OnOk};
-ghost use Rattle.xq_regions.specs.Levels.{flat_row};
+ghost use Rattle.xq_regions.specs.Levels.{flat};
 ghost use Rattle.xq_meaning.specs.Content.{attribute_fault};
 ghost use Rattle.xq_attributes.specs.Attributes.{fault_from, JudgedAs};
 ghost use Rattle.xq_attributes.specs.private.Judging.{names_of, JudgesLeaf};
@@ -9,7 +9,8 @@ ghost use Rattle.xq_attributes.specs.private.Judging.{names_of, JudgesLeaf};
 use indexmap::IndexSet;
 use std::alloc::Global;
 use xq_atoms::{Code, Fault};
-use xq_regions::{Kind, NodeRow};
+use xq_packed::{PackedRow, PackedRows};
+use xq_regions::Kind;
 
 /// Judges an attribute, after others with these names, and perhaps after another node.
 fn judge_attribute<'a>(
@@ -39,17 +40,17 @@ fn judge_node<'a>(
     parent: Kind,
     names: &mut IndexSet<&'a str>,
     late: bool,
-    row: &'a NodeRow,
+    row: &PackedRow<'a>,
 ) -> Result<bool, Fault>
-    ensures { JudgesLeaf parent (names_of names.old) late (flat_row row.now)
+    ensures { JudgesLeaf parent (names_of names.old) late (flat row.now.row)
         (names_of names.new) result }
 {
-    if row.level > 0 {
+    if row.level() > 0 {
         return Ok(late);
     }
-    match row.kind {
+    match row.kind() {
         Kind::Attribute => {
-            judge_attribute(parent, names, late, row.name.as_str())?;
+            judge_attribute(parent, names, late, row.name())?;
             Ok(late)
         }
         _ => Ok(true),
@@ -57,13 +58,13 @@ fn judge_node<'a>(
 }
 
 /// Judges the attributes among the nodes at the top, in order.
-pub fn judge_attributes(alloc: Global, parent: Kind, rows: &[NodeRow]) -> Result<(), Fault>
-    ensures { JudgedAs (fault_from parent [] false (map flat_row rows.now)) result }
+pub fn judge_attributes(alloc: Global, parent: Kind, rows: &PackedRows) -> Result<(), Fault>
+    ensures { JudgedAs (fault_from parent [] false (map flat rows.now.rows)) result }
 {
     let mut names = IndexSet::new(alloc);
     let mut late = false;
-    for row in rows {
-        late = judge_node(parent, &mut names, late, row)?;
+    for at in 0..rows.len() {
+        late = judge_node(parent, &mut names, late, &PackedRow::new(rows, at))?;
     }
     Ok(())
 }

@@ -2,51 +2,41 @@
 use Rattle.std.proofs.Common.{◌≡◌, ℕ, suc, ◌+◌, ◌-◌, ◌<◌, ◌≤◌, List, [], ◌∷◌, ◌++◌, length, map, take, drop, min, refl, sym, ◌∙◌, ap, arith}
 use Rattle.std.proofs.Math.Seq.{drop-cons}
 use Rattle.std.proofs.lemmas.List.{append-nil, map-append, map_push, length-take, length-drop, get_or-take}
-use Rattle.xq_regions.specs.declared.NodeRow.{NodeRow}
 use Rattle.xq_sources.specs.declared.lent.LentRow.{LentRow}
-use Rattle.xq_regions.specs.declared.Kind.{Kind}
 use Rattle.xq_regions.specs.Forest.{Forest, end, node, count, labels}
 use Rattle.xq_regions.specs.Tree.{Label, Tree, nodes}
 use Rattle.xq_regions.specs.Node.{below_at, subtree}
 use Rattle.xq_regions.specs.Order.{path_at}
-use Rattle.xq_regions.specs.Rows.{Row, no_row, row_at, row_of, rows, measured, AreNumbered, Encodes}
+use Rattle.xq_regions.specs.Rows.{Row, no_row, row_at, rows, measured}
+use Rattle.xq_regions.specs.Levels.{flat, sized}
 use Rattle.xq_regions.proofs.Injective.{rows-injective}
 use Rattle.xq_regions.proofs.Encoding.{length-rows}
-use Rattle.xq_regions.proofs.Walks.{length-map}
+use Rattle.xq_regions.proofs.Printed.{flat-measured}
+use Rattle.xq_regions.proofs.Sized.{sized-tree}
+use Rattle.xq_packed_trees.specs.PackedTrees.{AreLevels}
 use Rattle.xq_sources.specs.Lent.{placed_lent, row_lent}
 use Rattle.xq_axes.specs.Reads.{Span, span, span_end, IsRowIn, rows_to, lowered, AreCopied, IsSized}
 use Rattle.xq_axes.proofs.Runs.{rows_to-more}
 use Rattle.xq_axes.proofs.Sizes.{node_of, rows_to-none, rows_below}
 
-pub AreNumbered-push : (n : ℕ) (xs : List NodeRow) (x : NodeRow) → AreNumbered n xs → x.pre ≡ n + length xs → AreNumbered n (xs ++ x ∷ [])
-AreNumbered-push n [] x h e = (omega (arith, e), tt)
-AreNumbered-push n (y ∷ xs) x h e = (h.0, AreNumbered-push (suc n) xs x h.1 (omega (arith, e)))
-
-pub copied_none : (t : Tree) (s : Span) (level : ℕ) → level ≡ (row_at (rows t) s.low).level → AreCopied t s s.low s.low level []
-copied_none t s level e = record { first = refl; first_level = e; from = omega arith; rows = sym (ap (map (lowered level)) (rows_to-none t s.low)); numbered = tt }
+pub copied_none : (t : Tree) (s : Span) (level : ℕ) → level ≡ (row_at (rows t) s.low).level → AreCopied t s s.low level []
+copied_none t s level e = record { first_level = e; from = omega arith; rows = sym (ap (map (lowered level)) (rows_to-none t s.low)) }
 
 length-rows_to : (t : Tree) (v n : ℕ) → n ≤ count (nodes t) → length (rows_to (rows t) v n) ≡ n - v
 length-rows_to t v n h = length-drop v (take n (rows t)) ∙ (let a = length-take n (rows t) in let b = length-rows t in omega (arith, a, b, h))
 
-pub copied_more : (t : Tree) (s : Span) (n place level : ℕ) (x : LentRow) (y : NodeRow) (xs : List NodeRow) → IsRowIn t s n (placed_lent x) → AreCopied t s n place level xs → y.pre ≡ x.pre - place → row_of y ≡ lowered level (row_lent x) → AreCopied t s (n + 1) place level (xs ++ y ∷ [])
-copied_more t s n place level x y xs r c p e =
-    let l : length xs ≡ n - s.low = sym (length-map row_of xs) ∙ ap length c.rows ∙ length-map (lowered level) (rows_to (rows t) s.low n) ∙ length-rows_to t s.low n (let w = r.is_there in omega arith) in
+pub copied_more : (t : Tree) (s : Span) (n level : ℕ) (x : LentRow) (y : Row) (xs : List Row) → IsRowIn t s n (placed_lent x) → AreCopied t s n level xs → y ≡ lowered level (row_lent x) → AreCopied t s (n + 1) level (xs ++ y ∷ [])
+copied_more t s n level x y xs r c e =
     let m = rows_to-more (rows t) s.low n c.from (let w = r.is_there in let q = length-rows t in omega arith) in
     record {
-      first = c.first;
       first_level = c.first_level;
       from = (let f = c.from in omega arith);
       rows =
-          map_push row_of xs y ∙ ap (λ rs. rs ++ row_of y ∷ []) c.rows
+          ap (λ rs. rs ++ y ∷ []) c.rows
           ∙ ap (λ (z : Row). map (lowered level) (rows_to (rows t) s.low n) ++ z ∷ []) (e ∙ ap (lowered level) r.row)
           ∙ sym (map_push (lowered level) (rows_to (rows t) s.low n) (row_at (rows t) n))
           ∙ sym (ap (map (lowered level)) m);
-      numbered = AreNumbered-push 0 xs y c.numbered (let q = r.place in let f = c.first in omega (arith, l, p, q, f));
     }
-
-pub copied_row : (size l k : ℕ) (kind : Kind) (a b v w : List ℕ) → l ≡ k → a ≡ b → v ≡ w
-    → ◌≡◌ {A = Row} (record { size = size; level = l; label = record { kind = kind; name = a; value = v } }) (record { size = size; level = k; label = record { kind = kind; name = b; value = w } })
-copied_row size l k kind a b v w e g h = rw (e, g, h)
 
 lowered-measured : (d l m : ℕ) (f : Forest Label) → m ≡ l + d → map (lowered d) (labels (measured m f)) ≡ labels (measured l f)
 lowered-measured d l m end e = refl
@@ -84,11 +74,17 @@ copied_rows t v size level h e =
     same : (x : Row) (s l : ℕ) (a : Label) → x.size ≡ s → x.level ≡ l → x.label ≡ a → ◌≡◌ {A = Row} x (record { size = s; level = l; label = a })
     same x s l a e g i = rw (sym e, sym g, sym i)
 
-pub copied_tree : (t u : Tree) (v size place level high : ℕ) (xs : List NodeRow) → IsSized t v size → high ≡ min (v + size) 4294967295 → AreCopied t (span v high) (span_end t (span v high)) place level xs → Encodes xs u → u ≡ subtree t (path_at (nodes t) v)
-copied_tree t u v size place level high xs h b c enc =
+-- a tree is told by the levels and the labels of its rows
+told : (t u : Tree) → map flat (rows t) ≡ map flat (rows u) → t ≡ u
+told t u e =
+    rows-injective t u (sym (sized-tree t) ∙ ap sized (sym (flat-measured 0 (nodes t)) ∙ e ∙ flat-measured 0 (nodes u)) ∙ sized-tree u)
+
+pub copied_tree : (t u : Tree) (v size level high : ℕ) (xs : List Row) → IsSized t v size → high ≡ min (v + size) 4294967295 → AreCopied t (span v high) (span_end t (span v high)) level xs → AreLevels xs u → u ≡ subtree t (path_at (nodes t) v)
+copied_tree t u v size level high xs h b c levels =
     let d = node_of t v h.is_there in
     let r = h.is_tree.room in
     let w : v + size < count (nodes t) = (let x = d.ends in let s = h.size in omega (arith, x, s)) in
     let g : high ≡ v + size = omega (arith, w, r, b) in
     let n : span_end t (span v high) ≡ v + 1 + size = omega (arith, w, g) in
-    rows-injective u (subtree t (path_at (nodes t) v)) (sym enc.rows ∙ c.rows ∙ ap (λ i. map (lowered level) (rows_to (rows t) v i)) n ∙ copied_rows t v size level h c.first_level)
+    let all : xs ≡ rows (subtree t (path_at (nodes t) v)) = c.rows ∙ ap (λ i. map (lowered level) (rows_to (rows t) v i)) n ∙ copied_rows t v size level h c.first_level in
+    told u (subtree t (path_at (nodes t) v)) (sym levels ∙ ap (map flat) all)

@@ -28,4 +28,5 @@ pub mod KnownParents
 pub mod AxisNodes
 pub mod DoubleSlash
 pub mod OneNode
+pub mod First
 pub mod ManyChildren

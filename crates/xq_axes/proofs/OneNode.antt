@@ -1,5 +1,5 @@
 -- Children and attributes of one node, judged row by row.
-use Rattle.std.proofs.Common.{◌≡◌, ℕ, suc, ◌+◌, ◌-◌, ◌<◌, ◌≤◌, [], ◌∷◌, length, min, Bool, true, false, not, ◌&&◌, ◌||◌, nat_eq, refl, sym, ◌∙◌, ap, arith}
+use Rattle.std.proofs.Common.{◌≡◌, ℕ, suc, ◌+◌, ◌-◌, ◌<◌, ◌≤◌, [], ◌∷◌, length, min, Bool, true, false, not, ◌&&◌, ◌||◌, nat_eq, refl, sym, ◌∙◌, ap, subst, arith}
 use Rattle.std.proofs.lemmas.Bool.{eqb-true, and_parts, false_from_ne_true}
 use Rattle.xq_regions.specs.Forest.{count}
 use Rattle.xq_regions.specs.Tree.{Tree, nodes}
@@ -9,7 +9,7 @@ use Rattle.xq_regions.specs.RegionTests.{inside, one_below, plain_row, in_region
 use Rattle.xq_regions.specs.declared.Axis.{Axis}
 use Rattle.xq_regions.specs.declared.Axis.TheVariants as axis
 use Rattle.xq_meaning.specs.declared.node_tests.Test.{Test}
-use Rattle.xq_axes.specs.Reads.{Span, span_end, IsSized}
+use Rattle.xq_axes.specs.Reads.{Span, span, span_end, IsSized}
 use Rattle.xq_axes.specs.Scans.{in_scan, region}
 use Rattle.xq_axes.specs.private.Hits.{is_hit, is_wanted, below_where, AreUnhit}
 use Rattle.xq_axes.specs.private.Downward.{level_of, end_of}
@@ -83,6 +83,14 @@ module _ (t : Tree) (s : Span) (owner : Owner) (below : AreBelow t s owner) (n :
       let inner = inside_deeper t n q hn hq (omega (arith, a), omega (arith, b, e)) in
       omega (arith, outer, inner, level)))
 
+  -- what is left of the rows below the node
+  pub rest_within : (over : ℕ) → over ≡ owner.last - n → n + 1 + over ≤ span_end t s
+  rest_within over e =
+      let ends = (node_of t owner.place below.is.is_there).ends in
+      let high = below.high in
+      let last = below.is.last in
+      omega (arith, ends, high, last, e, from, to)
+
   -- # Attributes
 
   pub attribute_hit : (level : ℕ) → level ≡ level_of t n → plain_row (rows t) n ≡ false → nat_eq level (owner.level + 1) ≡ is_hit axis.Attributes t (owner.place ∷ []) n
@@ -97,13 +105,6 @@ module _ (t : Tree) (s : Span) (owner : Owner) (below : AreBelow t s owner) (n :
     pub plain_unhit : false ≡ is_hit axis.Attributes t (owner.place ∷ []) n
     plain_unhit = sym (one_hit axis.Attributes t owner.place n ∙ false_from_ne_true (in_region axis.Attributes (rows t) owner.place n) (λ h.
         different (plain_row (rows t) n) plain (no_plain (plain_row (rows t) n) (and_parts _ _ (and_parts _ _ h).1).1)))
-
-    pub plain_within : (over : ℕ) → over ≡ owner.last - n → n + 1 + over ≤ span_end t s
-    plain_within over e =
-        let ends = (node_of t owner.place below.is.is_there).ends in
-        let high = below.high in
-        let last = below.is.last in
-        omega (arith, ends, high, last, e, from, to)
 
     -- attributes come before all others
     pub plain_over : (over : ℕ) → over ≡ owner.last - n → AreUnhit (is_hit axis.Attributes t (owner.place ∷ [])) (n + 1) (n + 1 + over)
@@ -178,3 +179,12 @@ ends_there t v size last sized e =
     let room = sized.is_tree.room in
     let s = sized.size in
     omega (arith, e, ends, room, s)
+
+-- what a search below one node reads
+pub read_below : (a : Axis) → IsDownward a → (t u : Tree) (owner : Owner) (place low before now after : ℕ) → u ≡ t → owner.place ≡ place → IsOwner t owner → low ≡ min (place + 1) 4294967295 → now ≡ before → after ≤ now + (span_end u (span low owner.last) - low) → after ≤ before + length (region a t (place ∷ []))
+read_below a down t u owner place low before now after same at is e none read =
+    let s = span low owner.last in
+    let from = starts_there t owner low is (e ∙ ap (λ p. min (p + 1) 4294967295) (sym at)) in
+    let bound = subst (λ p. span_end t s - low ≤ length (region a t (p ∷ []))) at (read_bound a down t s owner (record { is = is; low = from; high = refl })) in
+    let there = subst (λ z. after ≤ now + (span_end z s - low)) same read in
+    omega (arith, bound, there, none)

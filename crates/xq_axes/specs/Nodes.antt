@@ -1,6 +1,6 @@
 -- Nodes by the number of their tree and their place in it, over trees.
 use Rattle.std.specs.List.{AllByRecursion, flat_map}
-use Rattle.std.specs.Prelude.{◌≡◌, List, [], ◌∷◌, map}
+use Rattle.std.specs.Prelude.{ℕ, ◌≡◌, List, [], ◌∷◌, map, take}
 use Rattle.xq_regions.specs.Items.{ItemView, Place as NodeAt}
 use Rattle.xq_regions.specs.Rising.{AreRising}
 use Rattle.xq_regions.specs.Tree.{Tree}
@@ -26,3 +26,11 @@ pub record AreOnAxis (trees : List Tree) (axis : Axis) (test : Test) (n : Node)
       ≡ in_document_order trees (flat_map (axis_nodes trees axis test) (node_at trees n ∷ []))
   pub there : HaveAll trees nodes
   pub rising : AreRising nodes
+
+-- the items are the first of these, so many at most, in document order
+pub record AreFirstOnAxis (trees : List Tree) (axis : Axis) (test : Test) (n : Node) (most : ℕ)
+    (items : List ItemView) : Type 0 where
+  pub nodes : List Node
+  pub are : items ≡ map NodeAt nodes
+  pub on_axis : map (node_at trees) nodes ≡ take most (axis_nodes trees axis test (node_at trees n))
+  pub there : HaveAll trees nodes

@@ -4,8 +4,7 @@ use Rattle.std.specs.Prelude.{ℕ, ◌+◌, ◌-◌, ◌<◌, ◌≤◌, ◌≡�
 use Rattle.std.specs.List.{flat_map}
 use Rattle.xq_regions.specs.Forest.{count}
 use Rattle.xq_regions.specs.Tree.{Tree, IsTree, nodes}
-use Rattle.xq_regions.specs.Rows.{Row, row_at, row_of, rows, AreNumbered}
-use Rattle.xq_regions.specs.declared.NodeRow.{NodeRow}
+use Rattle.xq_regions.specs.Rows.{Row, row_at, rows}
 use Rattle.xq_regions.specs.Value.{text_of}
 use Rattle.xq_regions.specs.declared.Kind.{Kind}
 use Rattle.xq_regions.specs.declared.Kind.TheVariants.{Document, Element}
@@ -59,12 +58,8 @@ pub record IsSized (t : Tree) (v below : ℕ) : Type 0 where
 abbrev pub lowered : ℕ → Row → Row
 lowered level r = record { size = r.size; level = r.level - level; label = r.label }
 
--- copies of the rows of the span to before n, numbered from 0, their levels counted from that of
--- the first
-pub record AreCopied (t : Tree) (s : Span) (n place level : ℕ)
-    (copies : List NodeRow) : Type 0 where
-  pub first : place ≡ s.low
+-- copies of the rows of the span to before n, their levels counted from that of the first
+pub record AreCopied (t : Tree) (s : Span) (n level : ℕ) (copies : List Row) : Type 0 where
   pub first_level : level ≡ (row_at (rows t) s.low).level
   pub from : s.low ≤ n
-  pub rows : map row_of copies ≡ map (lowered level) (rows_to (rows t) s.low n)
-  pub numbered : AreNumbered 0 copies
+  pub rows : copies ≡ map (lowered level) (rows_to (rows t) s.low n)

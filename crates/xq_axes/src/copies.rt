@@ -10,31 +10,25 @@ ghost use Rattle.xq_axes.specs.Reads.{AreCopied};
 use crate::walks::{Visitor, walk};
 use std::alloc::Global;
 use xq_atoms::Want;
-use xq_regions::{Fragment, Node, NodeRow};
+use xq_packed::PackedRows;
+use xq_packed_trees::PackedTree;
+use xq_regions::Node;
 use xq_sources::{LentRow, RowLender};
 
-/// Copies of rows, the first of which is at the place and the level, as rows of a tree of their
-/// own.
+/// Copies of rows, the first of which is at the level, as rows of a tree of their own.
 #[derive(Drop)]
 struct Copied {
-    alloc: Global,
-    place: u32,
     level: u32,
-    rows: Vec<NodeRow>,
+    rows: PackedRows,
 }
 
 impl Visitor for Copied {
-    ghost has_read = { λ _ v t s n. AreCopied t s n v.place v.level v.rows.items };
+    ghost has_read = { λ _ v t s n. AreCopied t s n v.level v.rows.rows };
 
     fn visit(&mut self, row: &LentRow<'_>) -> Result<u32, Want> {
-        self.rows.push(NodeRow {
-            pre: row.pre.saturating_sub(self.place),
-            size: row.size,
-            level: row.level.saturating_sub(self.level),
-            kind: row.kind,
-            name: String::from_str(self.alloc, row.name())?,
-            value: String::from_str(self.alloc, row.value())?,
-        })?;
+        let level = row.level.saturating_sub(self.level);
+        self.rows
+            .push_parts(row.size, level, row.kind, row.name(), row.value())?;
         Ok(0)
     }
 }
@@ -44,7 +38,7 @@ impl Visitor for Copied {
 ///
 /// `Want::Store` where the source has no such node, or refuses to read it; `Want::Memory` where a
 /// growth was refused.
-pub fn copy<L: RowLender>(alloc: Global, source: &mut L, node: Node) -> Result<Fragment, Want>
+pub fn copy<L: RowLender>(alloc: Global, source: &mut L, node: Node) -> Result<PackedTree, Want>
     ensures exists { L.is_clean source.new
         → OnOk result (HasNode (L.forest source.old) node.tree node.pre) }
     ensures copied { L.is_clean source.new → IfOk result (λ copied.
@@ -61,15 +55,13 @@ pub fn copy<L: RowLender>(alloc: Global, source: &mut L, node: Node) -> Result<F
     };
     let size = row.size;
     let mut copied = Copied {
-        alloc,
-        place: node.pre,
         level: row.level,
-        rows: Vec::with_capacity(alloc, size as usize + 1)?,
+        rows: PackedRows::new(alloc),
     };
     let high = node.pre.saturating_add(size);
     walk(alloc, source, node.tree, node.pre, high, &mut copied)?;
-    match Fragment::from_rows(copied.rows) {
-        Ok(copy) => Ok(copy),
-        Err(_) => Err(Want::Store),
-    }
+    let Some(copy) = PackedTree::from_levels(copied.rows)? else {
+        return Err(Want::Store);
+    };
+    Ok(copy)
 }

@@ -26,5 +26,5 @@ pub use copies::copy;
 pub use merges::merge;
 pub use picks::Places;
 pub use slashes::double_slash;
-pub use steps::{axis, items_on_axis, places_on_axis, step};
+pub use steps::{axis, first_children, items_on_axis, places_on_axis, step};
 pub use values::string_value;

@@ -1,16 +1,17 @@
 //! Children and attributes of one node: most steps inside a loop or a predicate are such.
-ghost use Rattle.std.specs.Prelude.{◌≡◌, ◌+◌, ◌≤◌, ◌==◌, ◌∷◌, [], suc, length, IfOk};
+ghost use Rattle.std.specs.Prelude.{◌≡◌, ◌+◌, ◌≤◌, ◌==◌, ◌∷◌, [], suc, take, length, IfOk};
 ghost use Rattle.xq_regions.specs.Forest.{count};
 ghost use Rattle.xq_regions.specs.Tree.{nodes};
 ghost use Rattle.xq_regions.specs.declared.Axis.TheVariants as axes;
 ghost use Rattle.xq_sources.specs.Sources.{tree_at};
 ghost use Rattle.xq_axes.specs.Scans.{region};
 ghost use Rattle.xq_axes.specs.private.Hits.{is_wanted, below_where};
-ghost use Rattle.xq_axes.specs.private.Near.{IsOwner, AreBelow};
+ghost use Rattle.xq_axes.specs.private.Near.{IsOwner, AreBelow, AreFirst};
 
 use crate::passing::search_rows;
-use crate::picks::{Judge, Places, Verdict};
-use crate::tests::is_plain;
+use crate::picks::{Found, Judge, Places, Verdict};
+use crate::tests::{is_plain, passes};
+use crate::walks::{Visitor, walk};
 use std::alloc::Global;
 use xq_atoms::Want;
 use xq_meaning::Test;
@@ -84,6 +85,36 @@ impl Judge for AttributesOf {
     }
 }
 
+/// Picks the first children of a node that pass a test. Once there are as many as are wanted, all
+/// that is left below the node is gone over.
+#[derive(Drop)]
+struct FirstChildren<'a> {
+    judge: ChildrenOf,
+    test: &'a Test,
+    /// How many are still wanted.
+    left: usize,
+    found: Found,
+}
+
+impl Visitor for FirstChildren<'_> {
+    ghost has_read = { λ start now t s n. (now.judge ≡ start.judge)
+        × AreBelow t s start.judge.owner × (now.test.now ≡ start.test.now)
+        × AreFirst start.left (below_where (is_wanted axes.Child start.test.now t
+        (start.judge.owner.place ∷ [])) n) now.left now.found.items };
+
+    fn visit(&mut self, row: &LentRow<'_>) -> Result<u32, Want> {
+        if self.left == 0 {
+            return Ok(self.judge.owner.last.saturating_sub(row.pre));
+        }
+        let verdict = self.judge.judge(row)?;
+        if verdict.is_hit && passes(self.test, row) {
+            self.found.push(row.pre)?;
+            self.left -= 1;
+        }
+        Ok(verdict.over)
+    }
+}
+
 /// The node at the place, as its row has it.
 fn owner_at<L: RowLender>(
     alloc: Global,
@@ -141,6 +172,39 @@ pub fn children_of<L: RowLender>(
         ChildrenOf { owner },
         test,
     )
+}
+
+/// The places of the first children of the node that pass the test, so many at most. Of its rows
+/// those below its children are not read, nor those after the last of these and one more.
+pub fn first_children_of<L: RowLender>(
+    alloc: Global,
+    source: &mut L,
+    tree: usize,
+    place: u32,
+    test: &Test,
+    most: usize,
+) -> Result<Places, Want>
+    ensures found { L.is_clean source.new
+        → let t = tree_at (L.forest source.old) tree in
+        IfOk result (λ found. found.items ≡ take most
+        (below_where (is_wanted axes.Child test.now t (place ∷ [])) (count (nodes t)))) }
+    ensures rows { L.is_clean source.new
+        → (L.meter source.new).rows ≤ (L.meter source.old).rows
+        + length (region axes.Child (tree_at (L.forest source.old) tree) (place ∷ [])) }
+    ensures singles { (L.meter source.new).singles ≤ (L.meter source.old).singles + 1 }
+    ensures keeps { L.forest source.new ≡ L.forest source.old }
+    ensures was_clean { L.is_clean source.new → L.is_clean source.old }
+{
+    let owner = owner_at(alloc, source, tree, place)?;
+    let mut first = FirstChildren {
+        judge: ChildrenOf { owner },
+        test,
+        left: most,
+        found: Found::new(alloc),
+    };
+    let low = place.saturating_add(1);
+    walk(alloc, source, tree, low, owner.last, &mut first)?;
+    first.found.into_places()
 }
 
 /// The places of the attributes of the node that pass the test. Of its rows those of its attributes

@@ -3,6 +3,7 @@ ghost use Rattle.std.specs.Prelude.{◌≡◌, ◌≤◌, ◌∷◌, ◌++◌, �
 ghost use Rattle.std.specs.List.{flat_map, list_any};
 ghost use Rattle.xq_regions.specs.Forest.{count};
 ghost use Rattle.xq_regions.specs.Tree.{nodes};
+ghost use Rattle.xq_regions.specs.declared.Axis.TheVariants as axes;
 ghost use Rattle.xq_regions.specs.declared.items.Node.{Node as NodeLem};
 ghost use Rattle.xq_sources.specs.Sources.{tree_at, HasNode};
 ghost use Rattle.xq_meaning.specs.Items.{in_document_order};
@@ -10,7 +11,7 @@ ghost use Rattle.xq_meaning.specs.Steps.{axis_nodes};
 ghost use Rattle.xq_meaning.specs.Readings.{node_at};
 ghost use Rattle.xq_regions.specs.Rising.{AreRising};
 ghost use Rattle.xq_regions.specs.Items.{Place as NodeAt, item_views};
-ghost use Rattle.xq_axes.specs.Nodes.{HaveAll, AreOnAxis};
+ghost use Rattle.xq_axes.specs.Nodes.{HaveAll, AreOnAxis, AreFirstOnAxis};
 ghost use Rattle.xq_axes.specs.Scans.{region, places_of, AreOf};
 ghost use Rattle.xq_axes.specs.private.Hits.{is_wanted, below_where, IsRising};
 ghost use Rattle.xq_axes.specs.Many.{spot, is_found_from, AreSame, AreThere, IsNext, IsGathered, IsAt, AreKept};
@@ -20,6 +21,7 @@ use crate::backward::{Backward, search_back};
 use crate::children::search_children;
 use crate::downward::{ToDescendants, ToDescendantsOrSelf, search_below};
 use crate::merges::merge;
+use crate::near::first_children_of;
 use crate::onward::search_on;
 use crate::parents::search_parents;
 use crate::passing::{search_above, search_after, search_before};
@@ -162,6 +164,33 @@ pub fn items_on_axis<L: RowLender>(
     ensures was_clean { L.is_clean source.new → L.is_clean source.old }
 {
     let places = search(alloc, source, node.tree, axis, &[node.pre], test)?;
+    as_items(alloc, node.tree, places.as_slice())
+}
+
+/// The first children of the node that pass the test, so many at most, as items. It reads each row
+/// below the node once at most, none after the first row beyond these, and one row besides.
+///
+/// `Want::Store` where the source refuses to read a row; `Want::Memory` where a growth was
+/// refused.
+pub fn first_children<L: RowLender>(
+    alloc: Global,
+    source: &mut L,
+    node: Node,
+    test: &Test,
+    most: usize,
+) -> Result<Items, Want>
+    ensures items { L.is_clean source.new
+        → HasNode (L.forest source.old) node.tree node.pre
+        → IfOk result (λ found.
+        AreFirstOnAxis (L.forest source.old) axes.Child test.now node most (item_views found)) }
+    ensures rows { L.is_clean source.new
+        → (L.meter source.new).rows ≤ (L.meter source.old).rows
+        + length (region axes.Child (tree_at (L.forest source.old) node.tree) (node.pre ∷ [])) }
+    ensures singles { (L.meter source.new).singles ≤ (L.meter source.old).singles + 1 }
+    ensures keeps { L.forest source.new ≡ L.forest source.old }
+    ensures was_clean { L.is_clean source.new → L.is_clean source.old }
+{
+    let places = first_children_of(alloc, source, node.tree, node.pre, test, most)?;
     as_items(alloc, node.tree, places.as_slice())
 }
 

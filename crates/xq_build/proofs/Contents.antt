@@ -1,26 +1,29 @@
 -- Content by forests is content by leaves.
-use Rattle.std.proofs.Common.{◌≡◌, ℕ, zero, suc, ◌+◌, List, [], ◌∷◌, ◌++◌, length, map, Bool, true, false, not, ◌&&◌, ◌||◌, cond, Option, Some, None, refl, sym, ◌∙◌, ap, subst, arith, append_assoc}
+use Rattle.std.proofs.Common.{◌≡◌, ℕ, zero, suc, ◌+◌, ◌-◌, ◌<◌, List, [], ◌∷◌, ◌++◌, length, take, map, Bool, true, false, not, ◌&&◌, ◌||◌, cond, Option, Some, None, refl, sym, ◌∙◌, ap, subst, arith, append_assoc}
 use Rattle.std.specs.Prelude.{filter, codes, nat_lt, nat_eq, IsTrue}
 use Rattle.std.specs.List.{list_all}
 use Rattle.std.proofs.lemmas.Bool.Decides.{nat_tests}
-use Rattle.std.proofs.lemmas.List.{append-nil, map-append, map_push}
-use Rattle.xq_regions.specs.Levels.{flat_row, sized}
+use Rattle.std.proofs.lemmas.List.{append-nil, map-append, map_push, map_more}
+use Rattle.std.proofs.lemmas.List.Elements.{filter-append}
+use Rattle.xq_regions.specs.Levels.{flat, sized}
 use Rattle.xq_atoms.specs.Text.{Text, is_empty}
 use Rattle.xq_atoms.specs.Atom.{Atomic}
 use Rattle.xq_atoms.specs.Cast.{text_of}
 use Rattle.xq_regions.specs.Forest.{Forest, end, node, count, join, tops, EachNode}
 use Rattle.xq_regions.specs.Tree.{Label, Tree, nodes, IsTree, no_label, is_content, may_stand}
-use Rattle.xq_regions.specs.Rows.{rows}
+use Rattle.xq_regions.specs.Rows.{Row, rows, row_at, no_row}
 use Rattle.xq_regions.proofs.Injective.{rows-injective}
 use Rattle.xq_regions.proofs.Printed.{leveled, flat-measured}
 use Rattle.xq_regions.proofs.Sized.{sized-tree}
 use Rattle.xq_meaning.specs.Texts.{joined}
-use Rattle.xq_meaning.specs.Content.{is_text, text_label, copied, run, spaced, flattened_after, flattened, in_front, merged, in_front_unless, is_empty_text, without_empty_texts, is_within_height, copied_as}
+use Rattle.xq_meaning.specs.Content.{is_text, text_label, copied, run, spaced, flattened_after, flattened, in_front, merged, in_front_unless, is_empty_text, without_empty_texts, is_within_height, copied_as, label}
 use Rattle.xq_meaning.specs.Items.{Item, Node, Atom, tree_below}
-use Rattle.xq_copies.specs.Leaves.{Leaf, leaves, IsRowOf}
+use Rattle.xq_packed.specs.Packed.{row}
+use Rattle.xq_packed.specs.Changes.{moved, with_longer_last, longer as longer_row}
+use Rattle.xq_copies.specs.declared.copies.NodeShape.{NodeShape}
+use Rattle.xq_copies.specs.Leaves.{Leaf, leaves, IsShapeOf}
 use Rattle.xq_regions.specs.Node.{HasPath, label_at, below_at}
 use Rattle.xq_regions.specs.Order.{path_at}
-use Rattle.xq_regions.specs.declared.NodeRow.{NodeRow}
 use Rattle.xq_regions.specs.declared.items.Node.{Node as CodeNode}
 use Rattle.xq_regions.specs.declared.Kind.{Kind}
 use Rattle.xq_regions.specs.declared.Kind.TheVariants.{Document, Element, Attribute, Text as TextKind, Comment, ProcessingInstruction}
@@ -28,7 +31,7 @@ use Rattle.xq_regions.proofs.Paths.{at_place}
 use Rattle.xq_sources.specs.Sources.{tree_at}
 use Rattle.xq_meaning.specs.Readings.{node_at}
 use Rattle.xq_attributes.specs.Attributes.{labels_if, top_labels}
-use Rattle.xq_build.specs.private.Content.{so_far, open_text, longer, flattened_with, Childless, is_top_text, glued, put, merged_leaves, may_stand_first, AreApart, is_kept, is_loose, are_settled, raised, are_low}
+use Rattle.xq_build.specs.private.Content.{so_far, open_text, longer, flattened_with, Childless, is_top_text, glued, put, merged_leaves, may_stand_first, AreApart, is_kept, ends_with_text, HasNamelessEnd, is_loose, are_settled, raised, are_low}
 use Rattle.xq_copies.proofs.Subtrees.{length-leveled}
 
 pub leaves-leveled : (f : Forest Label) → leaves f ≡ leveled 0 f
@@ -113,12 +116,6 @@ merged_apart (p ∷ ps) h = ap (put p) (merged_apart ps h.1) ∙ first p ps h.0
         by_test : (b : Bool) → not b ≡ true → cond b (glued p q ∷ qs) (p ∷ q ∷ qs) ≡ p ∷ q ∷ qs
         by_test false h = refl
         by_test true h = absurd (cc)
-
--- one leaf more, which is no second text
-pub apart_more : (ps : List Leaf) (p q : Leaf) → AreApart (ps ++ p ∷ []) → not (is_top_text p && is_top_text q) ≡ true → AreApart (ps ++ p ∷ q ∷ [])
-apart_more [] p q h k = (k, (refl, tt))
-apart_more (x ∷ []) p q h k = (h.0, apart_more [] p q h.1 k)
-apart_more (x ∷ y ∷ ps) p q h k = (h.0, apart_more (y ∷ ps) p q h.1 k)
 
 -- another text in the place of the last
 pub apart_other : (ps : List Leaf) (p q : Leaf) → AreApart (ps ++ p ∷ []) → is_top_text p ≡ true → is_top_text q ≡ true → AreApart (ps ++ q ∷ [])
@@ -227,16 +224,6 @@ kept (node a below beside) h = by_test (is_empty_text a) refl (kept_deeper 0 bel
         kept_gone (0, a) (leveled 1 below ++ leveled 0 beside) (ap not e) ∙ more ∙ ap (λ (f : Forest Label). leveled 1 f ++ leveled 0 (without_empty_texts beside)) none
     by_test false e more = kept_plain (0, a) (leveled 1 below ++ leveled 0 beside) (ap not e) ∙ ap (λ (x : List Leaf). (0, a) ∷ x) more
 
-pub kept_rows : (rows : List NodeRow) → map flat_row (filter (λ r. is_kept (flat_row r)) rows) ≡ filter is_kept (map flat_row rows)
-kept_rows [] = refl
-kept_rows (r ∷ rows) = by_test (is_kept (flat_row r)) (kept_rows rows)
-  where
-    by_test : (b : Bool) → map flat_row (filter (λ x. is_kept (flat_row x)) rows) ≡ filter is_kept (map flat_row rows)
-        → map flat_row (cond b (r ∷ filter (λ x. is_kept (flat_row x)) rows) (filter (λ x. is_kept (flat_row x)) rows))
-        ≡ cond b (flat_row r ∷ filter is_kept (map flat_row rows)) (filter is_kept (map flat_row rows))
-    by_test true e = ap (λ (x : List Leaf). flat_row r ∷ x) e
-    by_test false e = e
-
 -- # Texts that stand alone, none of them empty
 
 firm_is_kept : (text is_after empty : Bool) → not (text && (is_after || empty)) ≡ true → not (text && empty) ≡ true
@@ -249,7 +236,7 @@ second_is_apart false second empty h = refl
 second_is_apart true false empty h = refl
 second_is_apart true true empty h = absurd (cc)
 
-settled_kept : (is_after : Bool) (ps : List Leaf) → are_settled is_after ps ≡ true → filter is_kept ps ≡ ps
+pub settled_kept : (is_after : Bool) (ps : List Leaf) → are_settled is_after ps ≡ true → filter is_kept ps ≡ ps
 settled_kept is_after [] h = refl
 settled_kept is_after (p ∷ ps) h =
     let one = and_first (not (is_loose is_after p)) (are_settled (is_top_text p) ps) h in
@@ -369,9 +356,9 @@ copied_childless TextKind t h c = (none_below t.root t.below h, tt)
 copied_childless Comment t h c = (none_below t.root t.below h, tt)
 copied_childless ProcessingInstruction t h c = (none_below t.root t.below h, tt)
 
-pub childless_node : (trees : List Tree) (n : CodeNode) (row : NodeRow) → IsRowOf trees n row → Childless (copied (tree_below trees (node_at trees n)))
+pub childless_node : (trees : List Tree) (n : CodeNode) (shape : NodeShape) → IsShapeOf trees n shape → Childless (copied (tree_below trees (node_at trees n)))
 unfolding IsContent
-childless_node trees n row is =
+childless_node trees n shape is =
     let t = tree_at trees n.tree in
     let a = at_place (nodes t) n.pre is.has_node.node_in in
     let w = content_at (nodes t) (path_at (nodes t) n.pre) a.exists is.is_tree.content in
@@ -380,52 +367,174 @@ childless_node trees n row is =
 
 -- # What code does step by step
 
+-- one row more of those that are gone through
+pub row_more : (rows : List Row) (i : ℕ) (row : Row) → i < length rows → row ≡ row_at rows i → map flat (take (i + 1) rows) ≡ map flat (take i rows) ++ flat row ∷ []
+row_more rows i row h e = map_more flat rows i no_row h ∙ ap (λ (r : Row). map flat (take i rows) ++ flat r ∷ []) (sym e)
+
+-- a row that was added
+pub leaf_added : (old new : List Row) (row : Row) → new ≡ old ++ row ∷ [] → map flat new ≡ map flat old ++ flat row ∷ []
+leaf_added old new row e = ap (map flat) e ∙ map_push flat old row
+
+-- a row of parts that are those of a row
+pub row_of_parts : (r : Row) (size level : ℕ) (kind : Kind) (name value : Text) → size ≡ r.size → level ≡ r.level → kind ≡ r.label.kind → name ≡ r.label.name → value ≡ r.label.value
+    → row size level kind name value ≡ r
+row_of_parts r size level kind name value s l k n v = rw (s, l, k, n, v) refl
+
 -- a row more
-pub merged_next : (all now rows : List NodeRow) (row : NodeRow)
-    → ((others : List Leaf) → merged_leaves (map flat_row now ++ others) ≡ merged_leaves (map flat_row all ++ flat_row row ∷ others))
-    → ((others : List Leaf) → merged_leaves (map flat_row all ++ others) ≡ merged_leaves (map flat_row rows ++ others))
-    → (others : List Leaf) → merged_leaves (map flat_row now ++ others) ≡ merged_leaves (map flat_row (rows ++ row ∷ []) ++ others)
-merged_next all now rows row step so_far others =
-    step others ∙ so_far (flat_row row ∷ others)
-    ∙ ap merged_leaves (sym (append_assoc (map flat_row rows) (flat_row row ∷ []) others) ∙ ap (λ (l : List Leaf). l ++ others) (sym (map_push flat_row rows row)))
+pub merged_next : (all now before after : List Leaf) (p : Leaf)
+    → ((others : List Leaf) → merged_leaves (now ++ others) ≡ merged_leaves (all ++ p ∷ others))
+    → ((others : List Leaf) → merged_leaves (all ++ others) ≡ merged_leaves (before ++ others))
+    → after ≡ before ++ p ∷ []
+    → (others : List Leaf) → merged_leaves (now ++ others) ≡ merged_leaves (after ++ others)
+merged_next all now before after p step so_far e others =
+    step others ∙ so_far (p ∷ others)
+    ∙ ap merged_leaves (sym (append_assoc before (p ∷ []) others) ∙ ap (λ (l : List Leaf). l ++ others) (sym e))
 
-pub merged_all : (all rows : List NodeRow) → ((others : List Leaf) → merged_leaves (map flat_row all ++ others) ≡ merged_leaves (map flat_row rows ++ others)) → AreApart (map flat_row all)
-    → map flat_row all ≡ merged_leaves (map flat_row rows)
-merged_all all rows h apart =
-    sym (merged_apart (map flat_row all) apart) ∙ ap merged_leaves (sym (append-nil (map flat_row all))) ∙ h [] ∙ ap merged_leaves (append-nil (map flat_row rows))
+pub merged_all : (all ps : List Leaf) → ((others : List Leaf) → merged_leaves (all ++ others) ≡ merged_leaves (ps ++ others)) → AreApart all → all ≡ merged_leaves ps
+merged_all all ps h apart =
+    sym (merged_apart all apart) ∙ ap merged_leaves (sym (append-nil all)) ∙ h [] ∙ ap merged_leaves (append-nil ps)
 
--- the rows before the last, the last, and then one row in the place of two
-pub record Glues (old new : List NodeRow) (row : NodeRow) : Type 0 where
-  pub merges : (others : List Leaf) → merged_leaves (map flat_row new ++ others) ≡ merged_leaves (map flat_row old ++ flat_row row ∷ others)
-  pub apart : AreApart (map flat_row old) → AreApart (map flat_row new)
+-- rows that stand for others and one more
+pub record Glues (old new : List Row) (row : Row) : Type 0 where
+  pub merges : (others : List Leaf) → merged_leaves (map flat new ++ others) ≡ merged_leaves (map flat old ++ flat row ∷ others)
+  pub apart : AreApart (map flat old) → AreApart (map flat new)
 
-pub one_glued : (front old new : List NodeRow) (last row both : NodeRow) → old ≡ front ++ last ∷ [] → new ≡ front ++ both ∷ [] → flat_row both ≡ glued (flat_row last) (flat_row row)
-    → true ≡ is_top_text (flat_row last) → true ≡ is_top_text (flat_row row) → Glues old new row
-one_glued front old new last row both o n g h k =
-    let old_is : map flat_row old ≡ map flat_row front ++ flat_row last ∷ [] = ap (map flat_row) o ∙ map_push flat_row front last in
-    let new_is : map flat_row new ≡ map flat_row front ++ glued (flat_row last) (flat_row row) ∷ [] =
-    ap (map flat_row) n ∙ map_push flat_row front both ∙ ap (λ (p : Leaf). map flat_row front ++ p ∷ []) g in
+-- rows whose last one is that of a text at the top
+record LastText (more : Text) (rows : List Row) : Type 0 where
+  front : List Row
+  last : Row
+  is : rows ≡ front ++ last ∷ []
+  lengthened : with_longer_last more rows ≡ front ++ longer_row more last ∷ []
+  text : is_top_text (flat last) ≡ true
+  nameless : last.label.name ≡ []
+
+last_text : (more : Text) (rows : List Row) → ends_with_text (map flat rows) ≡ true → HasNamelessEnd (map flat rows) → LastText more rows
+last_text more [] h n = absurd (cc)
+last_text more (r ∷ []) h n = record { front = []; last = r; is = refl; lengthened = refl; text = h; nameless = n }
+last_text more (r ∷ q ∷ rows) h n =
+    let w = last_text more (q ∷ rows) h n in
     record {
-      merges = λ others.
-          (ap (λ (l : List Leaf). merged_leaves (l ++ others)) new_is ∙ ap merged_leaves (append_assoc (map flat_row front) (glued (flat_row last) (flat_row row) ∷ []) others)
-          ∙ sym (merged_glued (map flat_row front) (flat_row last) (flat_row row) others (sym h) (sym k))
-          ∙ ap merged_leaves (sym (append_assoc (map flat_row front) (flat_row last ∷ []) (flat_row row ∷ others)))
-          ∙ ap (λ (l : List Leaf). merged_leaves (l ++ flat_row row ∷ others)) (sym old_is));
-      apart = λ a. subst AreApart (sym new_is) (apart_other (map flat_row front) (flat_row last) (glued (flat_row last) (flat_row row)) (subst AreApart old_is a) (sym h) refl);
+      front = r ∷ w.front;
+      last = w.last;
+      is = ap (λ (rs : List Row). r ∷ rs) w.is;
+      lengthened = ap (λ (rs : List Row). r ∷ rs) w.lengthened;
+      text = w.text;
+      nameless = w.nameless;
     }
 
-pub one_added : (front old mid new : List NodeRow) (last row : NodeRow) → old ≡ front ++ last ∷ [] → mid ≡ front ++ last ∷ [] → new ≡ mid ++ row ∷ []
-    → not (is_top_text (flat_row last) && is_top_text (flat_row row)) ≡ true → AreApart (map flat_row old) → AreApart (map flat_row new)
-one_added front old mid new last row o m n h a =
-    let old_is : map flat_row old ≡ map flat_row front ++ flat_row last ∷ [] = ap (map flat_row) o ∙ map_push flat_row front last in
-    let new_is : map flat_row new ≡ map flat_row front ++ flat_row last ∷ flat_row row ∷ [] =
-    ap (map flat_row) n ∙ map_push flat_row mid row ∙ ap (λ (l : List Leaf). l ++ flat_row row ∷ []) (ap (map flat_row) m ∙ map_push flat_row front last)
-    ∙ append_assoc (map flat_row front) (flat_row last ∷ []) (flat_row row ∷ []) in
-    subst AreApart (sym new_is) (apart_more (map flat_row front) (flat_row last) (flat_row row) (subst AreApart old_is a) h)
+text_kind : (k : Kind) → is_text k ≡ true → k ≡ TextKind
+text_kind TextKind h = refl
+text_kind Document h = absurd (cc)
+text_kind Element h = absurd (cc)
+text_kind Attribute h = absurd (cc)
+text_kind Comment h = absurd (cc)
+text_kind ProcessingInstruction h = absurd (cc)
 
-pub not_both : (a b : Bool) → a ≡ false → not (a && b) ≡ true
-not_both a b e = rw e refl
+-- a text that has more is that of two
+longer_glued : (last row : Row) → is_top_text (flat last) ≡ true → last.label.name ≡ [] → flat (longer_row row.label.value last) ≡ glued (flat last) (flat row)
+longer_glued last row h n =
+    let top : last.level ≡ 0 = (let t = and_first (nat_eq last.level 0) (is_text last.label.kind) h in grind (arith, nat_tests)) in
+    let kind : last.label.kind ≡ TextKind = text_kind last.label.kind (and_second (nat_eq last.level 0) (is_text last.label.kind) h) in
+    rw (top, kind, n) refl
 
-pub not_second : (a b : Bool) → b ≡ false → not (a && b) ≡ true
-not_second true b e = rw e refl
-not_second false b e = refl
+pub one_lengthened : (old new : List Row) (row : Row) (value : Text) → true ≡ (ends_with_text (map flat old) && is_top_text (flat row)) → HasNamelessEnd (map flat old)
+    → value ≡ row.label.value → new ≡ with_longer_last value old → Glues old new row
+one_lengthened old new row value h n v e =
+    let w = last_text row.label.value old (and_first (ends_with_text (map flat old)) (is_top_text (flat row)) (sym h)) n in
+    let text : is_top_text (flat row) ≡ true = and_second (ends_with_text (map flat old)) (is_top_text (flat row)) (sym h) in
+    let front = map flat w.front in
+    let last = flat w.last in
+    let old_is : map flat old ≡ front ++ last ∷ [] = ap (map flat) w.is ∙ map_push flat w.front w.last in
+    let new_is : map flat new ≡ front ++ glued last (flat row) ∷ [] =
+    ap (map flat) (e ∙ ap (λ (more : Text). with_longer_last more old) v ∙ w.lengthened) ∙ map_push flat w.front (longer_row row.label.value w.last)
+    ∙ ap (λ (p : Leaf). front ++ p ∷ []) (longer_glued w.last row w.text w.nameless) in
+    record {
+      merges = λ others.
+          (ap (λ (l : List Leaf). merged_leaves (l ++ others)) new_is ∙ ap merged_leaves (append_assoc front (glued last (flat row) ∷ []) others)
+          ∙ sym (merged_glued front last (flat row) others w.text text)
+          ∙ ap merged_leaves (sym (append_assoc front (last ∷ []) (flat row ∷ others)))
+          ∙ ap (λ (l : List Leaf). merged_leaves (l ++ flat row ∷ others)) (sym old_is));
+      apart = λ a. subst AreApart (sym new_is) (apart_other front last (glued last (flat row)) (subst AreApart old_is a) w.text refl);
+    }
+
+-- one leaf more, which is no second text
+apart_added : (ps : List Leaf) (p : Leaf) → (ends_with_text ps && is_top_text p) ≡ false → AreApart ps → AreApart (ps ++ p ∷ [])
+apart_added [] p h a = (refl, tt)
+apart_added (x ∷ []) p h a = (ap not h, (refl, tt))
+apart_added (x ∷ y ∷ ps) p h a = (a.0, apart_added (y ∷ ps) p h a.1)
+
+pub one_added : (old new : List Row) (row : Row) → false ≡ (ends_with_text (map flat old) && is_top_text (flat row)) → new ≡ old ++ row ∷ [] → Glues old new row
+one_added old new row h e =
+    let new_is : map flat new ≡ map flat old ++ flat row ∷ [] = leaf_added old new row e in
+    record {
+      merges = λ others. ap (λ (l : List Leaf). merged_leaves (l ++ others)) new_is ∙ ap merged_leaves (append_assoc (map flat old) (flat row ∷ []) others);
+      apart = λ a. subst AreApart (sym new_is) (apart_added (map flat old) (flat row) (sym h) a);
+    }
+
+-- the place of the last row, where the rows are not none
+pub last_place : (rows : List Row) (none : Bool) (n : ℕ) → (rows ≡ [] → none ≡ true) → none ≡ false → n ≡ length rows → length rows ≡ n - 1 + 1
+last_place [] none n h e l = absurd (clash none (h refl) e)
+  where
+    clash : (b : Bool) → b ≡ true → b ≡ false → ⊥
+    clash true h e = absurd (cc)
+    clash false h e = absurd (cc)
+last_place (r ∷ rows) none n h e l = omega (arith, l)
+
+-- the last of the rows tells
+pub last_tells : (rows : List Row) (i : ℕ) → length rows ≡ i + 1 → ends_with_text (map flat rows) ≡ is_top_text (flat (row_at rows i))
+last_tells [] i e = absurd (omega (arith, e))
+last_tells (r ∷ []) zero e = refl
+last_tells (r ∷ []) (suc i) e = absurd (omega (arith, e))
+last_tells (r ∷ q ∷ rows) zero e = absurd (omega (arith, e))
+last_tells (r ∷ q ∷ rows) (suc i) e = last_tells (q ∷ rows) i (omega (arith, e))
+
+pub last_nameless : (rows : List Row) (i : ℕ) → length rows ≡ i + 1 → (row_at rows i).label.name ≡ [] → HasNamelessEnd (map flat rows)
+last_nameless [] i e n = tt
+last_nameless (r ∷ []) zero e n = n
+last_nameless (r ∷ []) (suc i) e n = absurd (omega (arith, e))
+last_nameless (r ∷ q ∷ rows) zero e n = absurd (omega (arith, e))
+last_nameless (r ∷ q ∷ rows) (suc i) e n = last_nameless (q ∷ rows) i (omega (arith, e)) n
+
+-- no two texts, where there is no row, the row after them is no text, or the last is none
+pub none_before : (rows : List Row) (p : Leaf) → rows ≡ [] → false ≡ (ends_with_text (map flat rows) && is_top_text p)
+none_before rows p e = rw e refl
+
+pub no_text_after : (rows : List Row) (p : Leaf) → is_top_text p ≡ false → false ≡ (ends_with_text (map flat rows) && is_top_text p)
+no_text_after rows p e = sym (ap (λ b. ends_with_text (map flat rows) && b) e ∙ and_false (ends_with_text (map flat rows)))
+  where
+    and_false : (a : Bool) → (a && false) ≡ false
+    and_false true = refl
+    and_false false = refl
+
+pub tells_by_last : (rows : List Row) (last : Row) (p : Leaf) (i : ℕ) (b : Bool) → length rows ≡ i + 1 → last ≡ row_at rows i → is_top_text (flat last) ≡ b → is_top_text p ≡ true
+    → b ≡ (ends_with_text (map flat rows) && is_top_text p)
+tells_by_last rows last p i b e l h k =
+    let ends : ends_with_text (map flat rows) ≡ b = last_tells rows i e ∙ ap (λ (r : Row). is_top_text (flat r)) (sym l) ∙ h in
+    sym (ap (λ x. x && is_top_text p) ends ∙ ap (λ x. b && x) k ∙ and_true b)
+  where
+    and_true : (a : Bool) → (a && true) ≡ a
+    and_true true = refl
+    and_true false = refl
+
+-- one row more is kept, or not
+pub kept_more : (old new rows : List Row) (i : ℕ) (row : Row) → i < length rows → row ≡ row_at rows i → map flat new ≡ map flat old ++ filter is_kept (flat row ∷ [])
+    → map flat old ≡ filter is_kept (map flat (take i rows)) → map flat new ≡ filter is_kept (map flat (take (i + 1) rows))
+kept_more old new rows i row lt is e so_far =
+    e ∙ ap (λ (l : List Leaf). l ++ filter is_kept (flat row ∷ [])) so_far ∙ sym (filter-append is_kept (map flat (take i rows)) (flat row ∷ []))
+    ∙ ap (filter is_kept) (sym (row_more rows i row lt is))
+
+pub kept_added : (old new : List Row) (row : Row) → is_kept (flat row) ≡ true → new ≡ old ++ row ∷ [] → map flat new ≡ map flat old ++ filter is_kept (flat row ∷ [])
+kept_added old new row h e = leaf_added old new row e ∙ ap (λ (l : List Leaf). map flat old ++ l) (sym (kept_plain (flat row) [] h))
+
+pub none_kept : (old : List Row) (row : Row) → is_kept (flat row) ≡ false → map flat old ≡ map flat old ++ filter is_kept (flat row ∷ [])
+none_kept old row h = sym (ap (λ (l : List Leaf). map flat old ++ l) (kept_gone (flat row) [] h) ∙ append-nil (map flat old))
+
+-- a root above rows
+pub rooted : (kind : Kind) (name : Text) (rows now : List Row) → now ≡ row 0 0 kind name [] ∷ map (moved 0 1) rows → map flat now ≡ (0, label kind name []) ∷ map raised (map flat rows)
+rooted kind name rows now e = ap (map flat) e ∙ ap (λ (l : List Leaf). (0, label kind name []) ∷ l) (each rows)
+  where
+    each : (rs : List Row) → map flat (map (moved 0 1) rs) ≡ map raised (map flat rs)
+    each [] = refl
+    each (r ∷ rs) =
+        let z : r.level - 0 + 1 ≡ r.level + 1 = omega arith in
+        ap (λ i. (i, r.label) ∷ map flat (map (moved 0 1) rs)) z ∙ ap (λ (l : List Leaf). raised (flat r) ∷ l) (each rs)

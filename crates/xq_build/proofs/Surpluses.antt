@@ -3,7 +3,7 @@ use Rattle.std.proofs.Common.{◌≡◌, ℕ, zero, suc, ◌+◌, ◌-◌, ◌<�
 use Rattle.std.specs.Prelude.{filter, nat_lt, nat_le, nat_eq}
 use Rattle.std.specs.List.{list_any}
 use Rattle.std.proofs.lemmas.Bool.Decides.{nat_tests}
-use Rattle.std.proofs.lemmas.List.{append-nil, drop_more, length-append, map_push}
+use Rattle.std.proofs.lemmas.List.{append-nil, drop_more, length-append}
 use Rattle.std.proofs.lemmas.List.Elements.{filter-append}
 use Rattle.std.proofs.lemmas.List.Folds.{list_any-append}
 use Rattle.xq_atoms.specs.Text.{Text, is_empty}
@@ -15,8 +15,6 @@ use Rattle.xq_regions.specs.Forest.{Forest, end, node, tops, IsWithinHeight, joi
 use Rattle.xq_regions.specs.Node.{HasPath, below_at}
 use Rattle.xq_regions.specs.Order.{path_at, place_of}
 use Rattle.xq_regions.specs.Rows.{Row, rows, row_at}
-use Rattle.xq_regions.specs.Levels.{flat_row}
-use Rattle.xq_regions.specs.declared.NodeRow.{NodeRow}
 use Rattle.xq_regions.specs.declared.items.Node.{Node as CodeNode}
 use Rattle.xq_regions.proofs.Printed.{leveled}
 use Rattle.xq_regions.proofs.Paths.{at_place}
@@ -29,8 +27,9 @@ use Rattle.xq_meaning.specs.Items.{Item, Node, Atom, tree_below}
 use Rattle.xq_regions.specs.Items.{item_view}
 use Rattle.xq_regions.specs.declared.items.Item.{Item as CodeItem}
 use Rattle.xq_meaning.specs.Readings.{node_at, item_at, items_at}
-use Rattle.xq_copies.specs.Leaves.{Leaf, leaf, leaves, lowered, leaves_between, IsRowOf}
-use Rattle.xq_copies.proofs.Subtrees.{run_splits, whole_leaves, node_leaves, label}
+use Rattle.xq_copies.specs.declared.copies.NodeShape.{NodeShape}
+use Rattle.xq_copies.specs.Leaves.{Leaf, leaf, leaves, lowered, leaves_between, IsShapeOf}
+use Rattle.xq_copies.proofs.Subtrees.{run_splits, root_leaves, node_leaves, root_kind}
 use Rattle.xq_build.proofs.Contents.{leaves-leveled, leaves-join, low_leaves, content_at, content_is, tree_content, content_leaves, flattened-with, Childless-join, Childless-open}
 use Rattle.xq_attributes.specs.Attributes.{labels_if, top_labels, fault_from}
 use Rattle.xq_build.specs.private.Content.{is_top_text, glued, put, merged_leaves, is_kept, are_low, open_text, longer, flattened_with, Childless, so_far}
@@ -469,48 +468,48 @@ within_true n end h = refl
 within_true zero (node a below beside) h = absurd h
 within_true (suc n) (node a below beside) h = rw (within_true n below h.0) (within_true (suc n) beside h.1)
 
-module _ (trees : List Tree) (n : CodeNode) (row : NodeRow) (is : IsRowOf trees n row) where
+module _ (trees : List Tree) (n : CodeNode) (shape : NodeShape) (is : IsShapeOf trees n shape) where
   t : Tree
   t = tree_at trees n.tree
 
   s : Tree
   s = tree_below trees (node_at trees n)
 
-  kind_is : row.kind ≡ (tree_below trees (node_at trees n)).root.kind
-  kind_is = ap (λ (a : Label). a.kind) (label trees n row is)
+  kind_is : shape.kind ≡ (tree_below trees (node_at trees n)).root.kind
+  kind_is = root_kind trees n shape is
 
-  document_copy : row.kind ≡ Document → copied (tree_below trees (node_at trees n)) ≡ (tree_below trees (node_at trees n)).below
+  document_copy : shape.kind ≡ Document → copied (tree_below trees (node_at trees n)) ≡ (tree_below trees (node_at trees n)).below
   document_copy e = of_document (tree_below trees (node_at trees n)) (sym kind_is ∙ e)
     where
       of_document : (u : Tree) → u.root.kind ≡ Document → copied u ≡ u.below
       of_document u k = rw k refl
 
-  depth : suc row.level ≡ length (path_at (nodes (tree_at trees n.tree)) n.pre)
+  depth : suc shape.level ≡ length (path_at (nodes (tree_at trees n.tree)) n.pre)
   depth =
       let f = nodes (tree_at trees n.tree) in
       let a = at_place f n.pre is.has_node.node_in in
       let d = row_at-place_of 0 f (path_at f n.pre) a.exists in
       let at : row_at (rows (tree_at trees n.tree)) (place_of f (path_at f n.pre)) ≡ row_at (rows (tree_at trees n.tree)) n.pre = ap (row_at (rows (tree_at trees n.tree))) a.place in
-      omega (arith, d.level, ap (λ (x : Row). x.level) at, ap (λ (x : Row). x.level) is.is_row)
+      omega (arith, d.level, ap (λ (x : Row). x.level) at, is.level)
 
-  height : (m : ℕ) → 101 ≤ m + suc row.level → IsWithinHeight m (tree_below trees (node_at trees n)).below
+  height : (m : ℕ) → 101 ≤ m + suc shape.level → IsWithinHeight m (tree_below trees (node_at trees n)).below
   height m le =
       let f = nodes (tree_at trees n.tree) in
       let a = at_place f n.pre is.has_node.node_in in
       height_at 101 f (path_at f n.pre) a.exists is.is_tree.height m (let d = depth in omega (arith, le, d))
 
   -- attributes aside, a copy has none at its top
-  pub copy_plain : (row.kind ≡ Attribute → ⊥) → list_any is_top_attribute (copy_of trees n) ≡ false
-  copy_plain other = by_kind row.kind refl
+  pub copy_plain : (shape.kind ≡ Attribute → ⊥) → list_any is_top_attribute (copy_of trees n) ≡ false
+  copy_plain other = by_kind shape.kind refl
     where
-      whole_plain : (row.kind ≡ Document → ⊥) → list_any is_top_attribute (copy_of trees n) ≡ false
+      whole_plain : (shape.kind ≡ Document → ⊥) → list_any is_top_attribute (copy_of trees n) ≡ false
       whole_plain d =
           let u = tree_below trees (node_at trees n) in
           let plain : is_attribute u.root.kind ≡ false = plain_kind u.root.kind (λ e. other (kind_is ∙ e)) in
-          ap (list_any is_top_attribute) (sym (node_leaves trees n row is d) ∙ leaves-leveled (nodes u))
+          ap (list_any is_top_attribute) (sym (node_leaves trees n shape is d) ∙ leaves-leveled (nodes u))
           ∙ ap (λ b. b || list_any is_top_attribute (leveled 1 u.below ++ [])) plain ∙ attributes_deeper 0 u.below []
 
-      by_kind : (k : Kind) → row.kind ≡ k → list_any is_top_attribute (copy_of trees n) ≡ false
+      by_kind : (k : Kind) → shape.kind ≡ k → list_any is_top_attribute (copy_of trees n) ≡ false
       by_kind Document e =
           let f = nodes (tree_at trees n.tree) in
           let a = at_place f n.pre is.has_node.node_in in
@@ -524,24 +523,24 @@ module _ (trees : List Tree) (n : CodeNode) (row : NodeRow) (is : IsRowOf trees 
       by_kind ProcessingInstruction e = whole_plain (λ d. absurd (cc))
 
   -- a copy of a document's children is low, and so is one of a node below a root
-  pub document_low : row.kind ≡ Document → are_low (copy_of trees n) ≡ true
+  pub document_low : shape.kind ≡ Document → are_low (copy_of trees n) ≡ true
   document_low e =
       let u = tree_below trees (node_at trees n) in
       ap (λ (f : Forest Label). are_low (leaves f)) (document_copy e) ∙ low_leaves u.below ∙ within_true 100 u.below (height 100 (omega arith))
 
-  pub deep_low : (row.kind ≡ Document → ⊥) → 0 < row.level → are_low (copy_of trees n) ≡ true
+  pub deep_low : (shape.kind ≡ Document → ⊥) → 0 < shape.level → are_low (copy_of trees n) ≡ true
   deep_low d lt =
       let u = tree_below trees (node_at trees n) in
-      ap are_low (sym (node_leaves trees n row is d)) ∙ low_leaves (nodes u) ∙ within_true 100 (nodes u) (height 99 (omega (arith, lt)), tt)
+      ap are_low (sym (node_leaves trees n shape is d)) ∙ low_leaves (nodes u) ∙ within_true 100 (nodes u) (height 99 (omega (arith, lt)), tt)
 
   -- a copy of a root is low where the rows below it are
-  pub root_low : (row.kind ≡ Document → ⊥) → row.level ≡ 0 → n.pre ≡ 0 → are_low (copy_of trees n) ≡ are_low (leaves_between (tree_at trees n.tree) 1 row.size)
+  pub root_low : (shape.kind ≡ Document → ⊥) → shape.level ≡ 0 → n.pre ≡ 0 → are_low (copy_of trees n) ≡ are_low (leaves_between (tree_at trees n.tree) 1 shape.size)
   root_low d l e =
       let one : n.pre + 1 ≡ 1 = omega (arith, e) in
-      let last : n.pre + row.size ≡ row.size = omega (arith, e) in
-      ap are_low (sym (node_leaves trees n row is d) ∙ sym (whole_leaves trees n row is))
-      ∙ lowered_low row.level (leaves_between (tree_at trees n.tree) (n.pre + 1) (n.pre + row.size)) l
-      ∙ ap (λ i. are_low (leaves_between (tree_at trees n.tree) i (n.pre + row.size))) one ∙ ap (λ i. are_low (leaves_between (tree_at trees n.tree) 1 i)) last
+      let last : n.pre + shape.size ≡ shape.size = omega (arith, e) in
+      ap are_low (sym (node_leaves trees n shape is d) ∙ sym (root_leaves trees n shape is))
+      ∙ lowered_low shape.level (leaves_between (tree_at trees n.tree) (n.pre + 1) (n.pre + shape.size)) l
+      ∙ ap (λ i. are_low (leaves_between (tree_at trees n.tree) i (n.pre + shape.size))) one ∙ ap (λ i. are_low (leaves_between (tree_at trees n.tree) 1 i)) last
     where
       lowered_low : (base : ℕ) (ps : List Leaf) → base ≡ 0 → are_low (map (lowered base) ps) ≡ are_low ps
       lowered_low base [] e = refl
@@ -595,25 +594,23 @@ low_both before c h = low-append before [] ∙ both (are_low before) (are_low c)
     both false b h = refl
 
 -- a node without which nothing is judged otherwise
-pub short_nothing : (trees : List Tree) (n : CodeNode) (row : NodeRow) (before after : List Leaf) (keys : List ℕ) → IsRowOf trees n row → (row.kind ≡ Attribute → ⊥) → after ≡ before
+pub short_nothing : (trees : List Tree) (n : CodeNode) (shape : NodeShape) (before after : List Leaf) (keys : List ℕ) → IsShapeOf trees n shape → (shape.kind ≡ Attribute → ⊥) → after ≡ before
     → (are_low before ≡ true → are_low (copy_of trees n) ≡ true) → AreSeen trees before keys → Shortens trees n before after keys
-short_nothing trees n row before after keys is other e low seen =
-    shortened trees n before [] after keys (e ∙ sym (append-nil before)) refl (copy_plain trees n row is other) (low_both before (copy_of trees n) low) (subst (λ (l : List Leaf). AreSeen trees l keys) (sym e) seen)
+short_nothing trees n shape before after keys is other e low seen =
+    shortened trees n before [] after keys (e ∙ sym (append-nil before)) refl (copy_plain trees n shape is other) (low_both before (copy_of trees n) low) (subst (λ (l : List Leaf). AreSeen trees l keys) (sym e) seen)
 
--- a row in the place of a high copy
-pub short_high : (trees : List Tree) (n : CodeNode) (row : NodeRow) (rows now : List NodeRow) (high : NodeRow) (keys : List ℕ) → IsRowOf trees n row → (row.kind ≡ Attribute → ⊥)
-    → now ≡ rows ++ high ∷ [] → (flat_row high).0 ≡ 100 → are_low (copy_of trees n) ≡ false → Shortens trees n (map flat_row rows) (map flat_row now) keys
-short_high trees n row rows now high keys is other e h low =
-    let x : List Leaf = flat_row high ∷ [] in
-    let before = map flat_row rows in
-    let after : map flat_row now ≡ before ++ x = ap (map flat_row) e ∙ map_push flat_row rows high in
-    let no : nat_lt (flat_row high).0 100 ≡ false = grind (arith, nat_tests) in
-    let deeper : nat_eq (flat_row high).0 0 ≡ false = grind (arith, nat_tests) in
+-- a leaf in the place of a high copy
+pub short_high : (trees : List Tree) (n : CodeNode) (shape : NodeShape) (before after : List Leaf) (high : Leaf) (keys : List ℕ) → IsShapeOf trees n shape → (shape.kind ≡ Attribute → ⊥)
+    → after ≡ before ++ high ∷ [] → high.0 ≡ 100 → are_low (copy_of trees n) ≡ false → Shortens trees n before after keys
+short_high trees n shape before after high keys is other e h low =
+    let x : List Leaf = high ∷ [] in
+    let no : nat_lt high.0 100 ≡ false = grind (arith, nat_tests) in
+    let deeper : nat_eq high.0 0 ≡ false = grind (arith, nat_tests) in
     let none : are_low (before ++ x) ≡ false = low-append before x ∙ ap (λ b. are_low before && (b && true)) no ∙ and_false (are_low before) in
-    let nx : list_any is_top_attribute x ≡ false = ap (λ b. (b && is_attribute (flat_row high).1.kind) || false) deeper in
-    shortened trees n before x (map flat_row now) keys after nx (copy_plain trees n row is other)
+    let nx : list_any is_top_attribute x ≡ false = ap (λ b. (b && is_attribute high.1.kind) || false) deeper in
+    shortened trees n before x after keys e nx (copy_plain trees n shape is other)
     (none ∙ sym (low-append before (copy_of trees n) ∙ ap (λ b. are_low before && b) low ∙ and_false (are_low before)))
-    (λ tree _ l. absurd (clash (are_low (map flat_row now)) l (ap are_low after ∙ none)))
+    (λ tree _ l. absurd (clash (are_low after) l (ap are_low e ∙ none)))
   where
     and_false : (a : Bool) → (a && false) ≡ false
     and_false true = refl
@@ -628,12 +625,12 @@ short_attribute trees n before after keys e seen = record {
 }
 
 -- a root of a tree that was seen
-pub short_seen : (trees : List Tree) (n : CodeNode) (row : NodeRow) (before after : List Leaf) (keys now : List ℕ) (new : Bool) → IsRowOf trees n row → (row.kind ≡ Attribute → ⊥) → n.pre ≡ 0 → after ≡ before
+pub short_seen : (trees : List Tree) (n : CodeNode) (shape : NodeShape) (before after : List Leaf) (keys now : List ℕ) (new : Bool) → IsShapeOf trees n shape → (shape.kind ≡ Attribute → ⊥) → n.pre ≡ 0 → after ≡ before
     → AreSeen trees before keys → new ≡ not (list_any (nat_eq n.tree) keys) → new ≡ false → now ≡ cond (list_any (nat_eq n.tree) keys) keys (keys ++ n.tree ∷ []) → Shortens trees n before after now
-short_seen trees n row before after keys now new is other e same seen added was keys_are =
+short_seen trees n shape before after keys now new is other e same seen added was keys_are =
     let among : list_any (nat_eq n.tree) keys ≡ true = of_not (list_any (nat_eq n.tree) keys) (sym added ∙ was) in
     let stay : now ≡ keys = keys_are ∙ ap (λ b. cond b keys (keys ++ n.tree ∷ [])) among in
-    short_nothing trees n row before after now is other same
+    short_nothing trees n shape before after now is other same
     (λ l. ap are_low (seen_root trees n e) ∙ seen n.tree among l) (subst (λ (ks : List ℕ). AreSeen trees before ks) (sym stay) seen)
   where
     of_not : (b : Bool) → not b ≡ false → b ≡ true
@@ -650,11 +647,11 @@ added_last keys now k new added was keys_are =
     of_not true h = absurd (cc)
 
 -- a root of a low tree that was not seen
-pub short_low : (trees : List Tree) (n : CodeNode) (row : NodeRow) (before after : List Leaf) (keys now : List ℕ) (new : Bool) → IsRowOf trees n row → (row.kind ≡ Attribute → ⊥) → n.pre ≡ 0 → after ≡ before
+pub short_low : (trees : List Tree) (n : CodeNode) (shape : NodeShape) (before after : List Leaf) (keys now : List ℕ) (new : Bool) → IsShapeOf trees n shape → (shape.kind ≡ Attribute → ⊥) → n.pre ≡ 0 → after ≡ before
     → AreSeen trees before keys → new ≡ not (list_any (nat_eq n.tree) keys) → new ≡ true → now ≡ cond (list_any (nat_eq n.tree) keys) keys (keys ++ n.tree ∷ [])
     → are_low (copy_of trees n) ≡ true → Shortens trees n before after now
-short_low trees n row before after keys now new is other e same seen added was keys_are low =
-    short_nothing trees n row before after now is other same (λ _. low)
+short_low trees n shape before after keys now new is other e same seen added was keys_are low =
+    short_nothing trees n shape before after now is other same (λ _. low)
     (seen_more trees before keys now n.tree (added_last keys now n.tree new added was keys_are) seen (λ _. ap are_low (sym (seen_root trees n e)) ∙ low))
 
 -- # Items
@@ -750,13 +747,13 @@ content_stands trees xs ps all =
         omega (arith, m, k, l, n)
 
 -- the same trees
-pub short_along : (trees same : List Tree) (n : CodeNode) (row : NodeRow) (before after : List Leaf) (old keys : List ℕ) → same ≡ trees → IsRowOf trees n row → AreSeen trees before old
-    → (IsRowOf same n row → AreSeen same before old → Shortens same n before after keys) → Shortens trees n before after keys
-short_along trees same n row before after old keys e is seen made =
-    subst (λ (ts : List Tree). IsRowOf ts n row → AreSeen ts before old → Shortens ts n before after keys) e made is seen
+pub short_along : (trees same : List Tree) (n : CodeNode) (shape : NodeShape) (before after : List Leaf) (old keys : List ℕ) → same ≡ trees → IsShapeOf trees n shape → AreSeen trees before old
+    → (IsShapeOf same n shape → AreSeen same before old → Shortens same n before after keys) → Shortens trees n before after keys
+short_along trees same n shape before after old keys e is seen made =
+    subst (λ (ts : List Tree). IsShapeOf ts n shape → AreSeen ts before old → Shortens ts n before after keys) e made is seen
 
-pub short_document : (trees : List Tree) (n : CodeNode) (row : NodeRow) (before : List Leaf) (keys : List ℕ) → IsRowOf trees n row → row.kind ≡ Document → AreSeen trees before keys → Shortens trees n before before keys
-short_document trees n row before keys is e seen = short_nothing trees n row before before keys is (other row.kind e) refl (λ _. document_low trees n row is e) seen
+pub short_document : (trees : List Tree) (n : CodeNode) (shape : NodeShape) (before : List Leaf) (keys : List ℕ) → IsShapeOf trees n shape → shape.kind ≡ Document → AreSeen trees before keys → Shortens trees n before before keys
+short_document trees n shape before keys is e seen = short_nothing trees n shape before before keys is (other shape.kind e) refl (λ _. document_low trees n shape is e) seen
   where
     other : (k : Kind) → k ≡ Document → k ≡ Attribute → ⊥
     other Document e h = absurd (cc)

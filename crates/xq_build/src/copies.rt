@@ -1,6 +1,6 @@
 //! Copies of nodes as content.
 ghost use Rattle.std.specs.Prelude.{◌≡◌, ◌++◌, map, OnOk};
-ghost use Rattle.xq_regions.specs.Levels.{flat_row};
+ghost use Rattle.xq_regions.specs.Levels.{flat};
 ghost use Rattle.xq_meaning.specs.Items.{tree_below};
 ghost use Rattle.xq_meaning.specs.Readings.{node_at};
 ghost use Rattle.xq_meaning.specs.Content.{copied};
@@ -9,8 +9,9 @@ ghost use Rattle.xq_build.specs.private.Content.{Childless};
 
 use std::alloc::Global;
 use xq_atoms::Want;
-use xq_copies::{append_below, append_whole, row_of_node};
-use xq_regions::{Kind, Node, NodeRow};
+use xq_copies::{append_below, append_whole, shape_of_node};
+use xq_packed::PackedRows;
+use xq_regions::{Kind, Node};
 use xq_sources::RowLender;
 
 /// Adds copies of the node and of all that is below it; of a document, of what is below it alone
@@ -18,11 +19,11 @@ use xq_sources::RowLender;
 pub fn append_content<L: RowLender>(
     alloc: Global,
     source: &mut L,
-    copies: &mut Vec<NodeRow>,
+    copies: &mut PackedRows,
     node: Node,
 ) -> Result<(), Want>
     ensures copied { L.is_clean source.new
-        → OnOk result (map flat_row copies.new.items ≡ map flat_row copies.old.items
+        → OnOk result (map flat copies.new.rows ≡ map flat copies.old.rows
         ++ leaves (copied (tree_below (L.forest source.old)
         (node_at (L.forest source.old) node)))) }
     ensures childless { L.is_clean source.new → OnOk result
@@ -31,15 +32,15 @@ pub fn append_content<L: RowLender>(
     ensures keeps { L.forest source.new ≡ L.forest source.old }
     ensures was_clean { L.is_clean source.new → L.is_clean source.old }
 {
-    let row = row_of_node(alloc, source, node)?;
-    match row.kind {
+    let shape = shape_of_node(alloc, source, node)?;
+    match shape.kind {
         Kind::Document => {
-            let Some(base) = row.level.checked_add(1) else {
+            let Some(base) = shape.level.checked_add(1) else {
                 return Err(Want::Store);
             };
-            append_below(alloc, source, copies, node, row.size, base)?;
+            append_below(alloc, source, copies, node, shape.size, base)?;
         }
-        _ => append_whole(alloc, source, copies, node, row)?,
+        _ => append_whole(alloc, source, copies, node, shape)?,
     }
     Ok(())
 }

@@ -9,7 +9,8 @@ use crate::content::content;
 use crate::judging::built;
 use std::alloc::Global;
 use xq_atoms::Fault;
-use xq_regions::{Fragment, Item, Kind};
+use xq_packed_trees::PackedTree;
+use xq_regions::{Item, Kind};
 use xq_sources::RowLender;
 
 /// An element with the items as its content (XQuery 3.1, sections 3.9.1.3 and 3.9.3.1): atomic
@@ -28,7 +29,7 @@ pub fn element<L: RowLender>(
     source: &mut L,
     name: String,
     items: &[Item],
-) -> Result<Fragment, Fault>
+) -> Result<PackedTree, Fault>
     ensures gives { L.is_clean source.new → GivesUnlessWanting (λ tree. tree)
         (element_tree (string_bytes name) (L.forest source.old)
         (items_at (L.forest source.old) (map item_view items.now))) result }
@@ -36,7 +37,7 @@ pub fn element<L: RowLender>(
     ensures was_clean { L.is_clean source.new → L.is_clean source.old }
 {
     let content = content(alloc, source, items)?;
-    built(alloc, Kind::Element, name, content)
+    built(alloc, Kind::Element, name.as_str(), content)
 }
 
 /// A document with the items as its content (XQuery 3.1, sections 3.9.1.3 and 3.9.3.3), as for
@@ -45,7 +46,7 @@ pub fn document<L: RowLender>(
     alloc: Global,
     source: &mut L,
     items: &[Item],
-) -> Result<Fragment, Fault>
+) -> Result<PackedTree, Fault>
     ensures gives { L.is_clean source.new → GivesUnlessWanting (λ tree. tree)
         (document_tree (L.forest source.old)
         (items_at (L.forest source.old) (map item_view items.now))) result }
@@ -53,5 +54,5 @@ pub fn document<L: RowLender>(
     ensures was_clean { L.is_clean source.new → L.is_clean source.old }
 {
     let content = content(alloc, source, items)?;
-    built(alloc, Kind::Document, String::new(alloc), content)
+    built(alloc, Kind::Document, "", content)
 }

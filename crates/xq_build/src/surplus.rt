@@ -2,13 +2,13 @@
 //! then, so what is still to come is looked at, and not copied.
 ghost use Rattle.std.specs.Prelude.{◌≡◌, true, false, map, IfOk, OnOk};
 ghost use Rattle.std.specs.List.{list_any};
-ghost use Rattle.xq_regions.specs.Levels.{flat_row};
+ghost use Rattle.xq_regions.specs.Levels.{flat};
 ghost use Rattle.xq_regions.specs.declared.Kind.TheVariants.{Document, Attribute};
 ghost use Rattle.xq_sources.specs.Sources.{tree_at};
 ghost use Rattle.xq_meaning.specs.Content.{copied};
 ghost use Rattle.xq_meaning.specs.Items.{tree_below};
 ghost use Rattle.xq_meaning.specs.Readings.{node_at};
-ghost use Rattle.xq_copies.specs.Leaves.{leaves_between, IsRowOf};
+ghost use Rattle.xq_copies.specs.Leaves.{leaves_between, IsShapeOf};
 ghost use Rattle.xq_build.specs.private.Content.{are_low as are_low_lem, Childless};
 ghost use Rattle.xq_build.specs.private.Surplus.{firm_count as firm_count_lem, is_late as is_late_lem, is_full as is_full_lem, AreSeen, Shortens};
 
@@ -17,17 +17,18 @@ use crate::judging::are_low_lent;
 use indexmap::IndexSet;
 use std::alloc::Global;
 use xq_atoms::Want;
-use xq_copies::{append_whole, row_of_node};
-use xq_regions::{Kind, MAX_LEVEL, MAX_NODES, Node, NodeRow};
+use xq_copies::{NodeShape, append_whole, shape_of_node};
+use xq_packed::{PackedRow, PackedRows};
+use xq_regions::{Kind, MAX_LEVEL, MAX_NODES, Node};
 use xq_sources::RowLender;
 
 /// How many rows stay rows of their own, whatever texts stand beside them.
-fn firm_count(rows: &[NodeRow]) -> usize
-    ensures { result ≡ firm_count_lem (map flat_row rows.now) }
+fn firm_count(rows: &PackedRows) -> usize
+    ensures { result ≡ firm_count_lem (map flat rows.now.rows) }
 {
     let mut count = 0;
-    for row in rows {
-        if !is_top_text(row) {
+    for at in 0..rows.len() {
+        if !is_top_text(&PackedRow::new(rows, at)) {
             count += 1;
         }
     }
@@ -35,18 +36,18 @@ fn firm_count(rows: &[NodeRow]) -> usize
 }
 
 /// Whether each attribute after the row is too late.
-fn is_late(row: &NodeRow) -> bool
-    ensures { result ≡ is_late_lem (flat_row row.now) }
+fn is_late(row: &PackedRow<'_>) -> bool
+    ensures { result ≡ is_late_lem (flat row.now.row) }
 {
-    row.level == 0 && !matches!(row.kind, Kind::Text | Kind::Attribute)
+    row.level() == 0 && !matches!(row.kind(), Kind::Text | Kind::Attribute)
 }
 
 /// Whether each attribute after the rows is too late.
-fn are_late(rows: &[NodeRow]) -> bool
-    ensures { result ≡ list_any is_late_lem (map flat_row rows.now) }
+fn are_late(rows: &PackedRows) -> bool
+    ensures { result ≡ list_any is_late_lem (map flat rows.now.rows) }
 {
-    for row in rows {
-        if is_late(row) {
+    for at in 0..rows.len() {
+        if is_late(&PackedRow::new(rows, at)) {
             return true;
         }
     }
@@ -54,8 +55,8 @@ fn are_late(rows: &[NodeRow]) -> bool
 }
 
 /// Whether the rows are too many, whatever comes after them, and each later attribute too late.
-fn is_full(rows: &[NodeRow]) -> bool
-    ensures { result ≡ is_full_lem (map flat_row rows.now) }
+fn is_full(rows: &PackedRows) -> bool
+    ensures { result ≡ is_full_lem (map flat rows.now.rows) }
 {
     firm_count(rows) >= MAX_NODES && are_late(rows)
 }
@@ -79,9 +80,9 @@ impl Gauge {
     }
 
     /// Whether the rows, which grow from call to call, are known to be too many.
-    pub fn reads(&mut self, rows: &[NodeRow]) -> bool
-        ensures full { (self.old.full ≡ true → is_full_lem (map flat_row rows.now) ≡ true)
-            → self.new.full ≡ true → is_full_lem (map flat_row rows.now) ≡ true }
+    pub fn reads(&mut self, rows: &PackedRows) -> bool
+        ensures full { (self.old.full ≡ true → is_full_lem (map flat rows.now.rows) ≡ true)
+            → self.new.full ≡ true → is_full_lem (map flat rows.now.rows) ≡ true }
         ensures told { result ≡ self.new.full }
     {
         if !self.full && rows.len() >= self.next {
@@ -120,39 +121,25 @@ fn are_low_between<L: RowLender>(
     Ok(true)
 }
 
-/// A row at a level that none may have.
-fn high_row(alloc: Global) -> NodeRow
-    ensures { (flat_row result).0 ≡ 100 }
-{
-    NodeRow {
-        pre: 0,
-        size: 0,
-        level: MAX_LEVEL,
-        kind: Kind::Comment,
-        name: String::new(alloc),
-        value: String::new(alloc),
-    }
-}
-
-/// Adds a row at a level that none may have, where the copy of the node whose row this is would
+/// Adds a row at a level that none may have, where the copy of the node with this shape would
 /// have one. That of a root alone may: it is one level further down. Each tree is looked at once.
 fn append_if_high<L: RowLender>(
     alloc: Global,
     source: &mut L,
-    rows: &mut Vec<NodeRow>,
+    rows: &mut PackedRows,
     seen: &mut IndexSet<usize>,
     node: Node,
-    row: &NodeRow,
+    shape: NodeShape,
 ) -> Result<(), Want>
-    requires { (row.now.kind ≡ Document → ⊥) × (row.now.kind ≡ Attribute → ⊥) }
-    ensures shortens { L.is_clean source.new → IsRowOf (L.forest source.old) node row.now
-        → AreSeen (L.forest source.old) (map flat_row rows.old.items) seen.old.keys
-        → OnOk result (Shortens (L.forest source.old) node (map flat_row rows.old.items)
-        (map flat_row rows.new.items) seen.new.keys) }
+    requires { (shape.kind ≡ Document → ⊥) × (shape.kind ≡ Attribute → ⊥) }
+    ensures shortens { L.is_clean source.new → IsShapeOf (L.forest source.old) node shape
+        → AreSeen (L.forest source.old) (map flat rows.old.rows) seen.old.keys
+        → OnOk result (Shortens (L.forest source.old) node (map flat rows.old.rows)
+        (map flat rows.new.rows) seen.new.keys) }
     ensures keeps { L.forest source.new ≡ L.forest source.old }
     ensures was_clean { L.is_clean source.new → L.is_clean source.old }
 {
-    if row.level > 0 {
+    if shape.level > 0 {
         return Ok(());
     }
     if node.pre > 0 {
@@ -161,8 +148,8 @@ fn append_if_high<L: RowLender>(
     if !seen.insert(node.tree)? {
         return Ok(());
     }
-    if !are_low_between(alloc, source, node.tree, 1, row.size)? {
-        rows.push(high_row(alloc))?;
+    if !are_low_between(alloc, source, node.tree, 1, shape.size)? {
+        rows.push_parts(0, MAX_LEVEL, Kind::Comment, "", "")?;
     }
     Ok(())
 }
@@ -172,25 +159,25 @@ fn append_if_high<L: RowLender>(
 pub fn append_judged<L: RowLender>(
     alloc: Global,
     source: &mut L,
-    rows: &mut Vec<NodeRow>,
+    rows: &mut PackedRows,
     seen: &mut IndexSet<usize>,
     node: Node,
 ) -> Result<(), Want>
     ensures shortens { L.is_clean source.new
-        → AreSeen (L.forest source.old) (map flat_row rows.old.items) seen.old.keys
-        → OnOk result (Shortens (L.forest source.old) node (map flat_row rows.old.items)
-        (map flat_row rows.new.items) seen.new.keys) }
+        → AreSeen (L.forest source.old) (map flat rows.old.rows) seen.old.keys
+        → OnOk result (Shortens (L.forest source.old) node (map flat rows.old.rows)
+        (map flat rows.new.rows) seen.new.keys) }
     ensures childless { L.is_clean source.new → OnOk result
         (Childless (copied (tree_below (L.forest source.old)
         (node_at (L.forest source.old) node)))) }
     ensures keeps { L.forest source.new ≡ L.forest source.old }
     ensures was_clean { L.is_clean source.new → L.is_clean source.old }
 {
-    let row = row_of_node(alloc, source, node)?;
-    match row.kind {
-        Kind::Attribute => append_whole(alloc, source, rows, node, row)?,
+    let shape = shape_of_node(alloc, source, node)?;
+    match shape.kind {
+        Kind::Attribute => append_whole(alloc, source, rows, node, shape)?,
         Kind::Document => {}
-        _ => append_if_high(alloc, source, rows, seen, node, &row)?,
+        _ => append_if_high(alloc, source, rows, seen, node, shape)?,
     }
     Ok(())
 }

@@ -1,13 +1,13 @@
 -- The rows of a node and of all that is below it.
 use Rattle.std.proofs.Common.{◌≡◌, ℕ, zero, suc, ◌+◌, ◌-◌, ◌<◌, ◌≤◌, List, [], ◌∷◌, ◌++◌, length, take, drop, map, refl, sym, ◌∙◌, ap, subst, arith, append_assoc}
 use Rattle.std.specs.List.{enumerate_from}
-use Rattle.std.proofs.lemmas.List.{append-nil, map-append, length-append, length-take, take-append-drop, drop-take, drop-drop, drop-append-le, drop_at, take_at, take-map, drop-map, nil_from_length, map_push}
+use Rattle.std.proofs.lemmas.List.{append-nil, map-append, length-append, length-take, take-append-drop, drop-take, drop-drop, drop-append-le, drop_at, take_at, take-map, drop-map, nil_from_length}
 use Rattle.xq_regions.specs.Forest.{Forest, end, node, count}
 use Rattle.xq_regions.specs.Tree.{Label, Tree, nodes, no_label}
 use Rattle.xq_regions.specs.Node.{HasPath, label_at, below_at}
 use Rattle.xq_regions.specs.Order.{place_of, path_at}
 use Rattle.xq_regions.specs.Rows.{Row, rows, row_at, row_of, placed_rows}
-use Rattle.xq_regions.specs.Levels.{flat, flat_row}
+use Rattle.xq_regions.specs.Levels.{flat}
 use Rattle.xq_regions.specs.declared.NodeRow.{NodeRow}
 use Rattle.xq_regions.specs.declared.Kind.{Kind}
 use Rattle.xq_regions.specs.declared.Kind.TheVariants.{Document, Element, Attribute, Text, Comment, ProcessingInstruction}
@@ -15,13 +15,16 @@ use Rattle.xq_regions.specs.declared.items.Node.{Node}
 use Rattle.xq_regions.proofs.Printed.{leveled, flat-measured}
 use Rattle.xq_regions.proofs.Paths.{place_lt, at_place}
 use Rattle.xq_regions.proofs.Regions.{row_at-place_of}
+use Rattle.xq_sources.specs.Lent.{unplaced}
 use Rattle.xq_sources.specs.Sources.{rows_between, tree_at}
 use Rattle.xq_sources.specs.Lenders.{IsRun}
 use Rattle.xq_sources.proofs.Intervals.{between-places}
 use Rattle.xq_meaning.specs.Items.{tree_below}
 use Rattle.xq_meaning.specs.Readings.{node_at}
 use Rattle.xq_meaning.specs.Content.{copied}
-use Rattle.xq_copies.specs.Leaves.{Leaf, leaf, leaves, lowered, leaves_between, IsRowOf}
+use Rattle.xq_packed.specs.Changes.{moved}
+use Rattle.xq_copies.specs.declared.copies.NodeShape.{NodeShape}
+use Rattle.xq_copies.specs.Leaves.{Leaf, leaf, leaves, lowered, leaves_between, IsRowOf, IsShapeOf}
 
 -- # Parts of the rows of a tree
 
@@ -150,10 +153,12 @@ from l (node a k r) (suc i ∷ p) h =
           ∙ w.is;
     }
 
--- the row of a node, and the leaves below it
+-- the row of a node, and the leaves below it and from it on
 pub record Below (t : Tree) (v : ℕ) : Type 0 where
   pub label : (row_at (rows t) v).label ≡ label_at no_label (nodes t) (path_at (nodes t) v)
   pub is : leaves_between t (v + 1) (v + (row_at (rows t) v).size) ≡ leveled (suc (row_at (rows t) v).level) (below_at (nodes t) (path_at (nodes t) v))
+  pub whole : leaves_between t v (v + (row_at (rows t) v).size)
+      ≡ ((row_at (rows t) v).level, label_at no_label (nodes t) (path_at (nodes t) v)) ∷ leveled (suc (row_at (rows t) v).level) (below_at (nodes t) (path_at (nodes t) v))
 
 pub below_node : (t : Tree) (v : ℕ) → v < count (nodes t) → Below t v
 below_node t v h =
@@ -167,17 +172,39 @@ below_node t v h =
     let level : w.level ≡ r.level = omega (arith, w.is_level, d.level, ap (λ (x : Row). x.level) at) in
     let size : r.size ≡ count (below_at f p) = sym (ap (λ (x : Row). x.size) at) ∙ d.size in
     let n : v + r.size + 1 - (v + 1) ≡ r.size = omega arith in
+    let m : v + r.size + 1 - v ≡ suc r.size = omega arith in
+    let here : drop v (leveled 0 f) ≡ (w.level, label_at no_label f p) ∷ leveled (suc w.level) (below_at f p) ++ w.rest =
+    ap (λ i. drop i (leveled 0 f)) (sym a.place) ∙ w.is in
     let one : drop (v + 1) (leveled 0 f) ≡ leveled (suc w.level) (below_at f p) ++ w.rest =
-    sym (drop-drop 1 v (leveled 0 f)) ∙ ap (drop 1) (ap (λ i. drop i (leveled 0 f)) (sym a.place) ∙ w.is) in
+    sym (drop-drop 1 v (leveled 0 f)) ∙ ap (drop 1) here in
+    let below : take r.size (leveled (suc w.level) (below_at f p) ++ w.rest) ≡ leveled (suc r.level) (below_at f p) =
+    take_at (leveled (suc w.level) (below_at f p)) w.rest r.size (length-leveled (suc w.level) (below_at f p) ∙ sym size)
+    ∙ ap (λ i. leveled (suc i) (below_at f p)) level in
     record {
       label = sym (ap (λ (x : Row). x.label) at) ∙ d.label;
       is =
-          part_leaves t (v + 1) (v + r.size) ∙ ap (λ i. take i (drop (v + 1) (leveled 0 f))) n ∙ ap (take r.size) one
-          ∙ take_at (leveled (suc w.level) (below_at f p)) w.rest r.size (length-leveled (suc w.level) (below_at f p) ∙ sym size)
-          ∙ ap (λ i. leveled (suc i) (below_at f p)) level;
+          part_leaves t (v + 1) (v + r.size) ∙ ap (λ i. take i (drop (v + 1) (leveled 0 f))) n ∙ ap (take r.size) one ∙ below;
+      whole =
+          part_leaves t v (v + r.size) ∙ ap (λ i. take i (drop v (leveled 0 f))) m ∙ ap (take (suc r.size)) here
+          ∙ ap (λ (l : List Leaf). (w.level, label_at no_label f p) ∷ l) below
+          ∙ ap (λ i. (i, label_at no_label f p) ∷ leveled (suc r.level) (below_at f p)) level;
     }
 
-module _ (trees : List Tree) (n : Node) (row : NodeRow) (is : IsRowOf trees n row) where
+-- the shape that a row has
+abbrev pub shape_of : NodeRow → NodeShape
+shape_of row = record { size = row.size; level = row.level; kind = row.kind }
+
+-- that of a node's row is that of the node
+pub is_shape : (trees : List Tree) (n : Node) (row : NodeRow) → IsRowOf trees n row → IsShapeOf trees n (shape_of row)
+is_shape trees n row is = record {
+  has_node = is.has_node;
+  is_tree = is.is_tree;
+  size = ap (λ (r : Row). r.size) is.is_row;
+  level = ap (λ (r : Row). r.level) is.is_row;
+  kind = ap (λ (r : Row). r.label.kind) is.is_row;
+}
+
+module _ (trees : List Tree) (n : Node) (shape : NodeShape) (is : IsShapeOf trees n shape) where
   abbrev t : Tree
   t = tree_at trees n.tree
 
@@ -187,36 +214,52 @@ module _ (trees : List Tree) (n : Node) (row : NodeRow) (is : IsRowOf trees n ro
   below : Below t n.pre
   below = below_node t n.pre is.has_node.node_in
 
-  pub label : (row_of row).label ≡ s.root
-  label = ap (λ (r : Row). r.label) is.is_row ∙ below.label
+  pub root_kind : shape.kind ≡ (tree_below trees (node_at trees n)).root.kind
+  root_kind = is.kind ∙ ap (λ (a : Label). a.kind) below.label
 
-  below_leaves : leaves_between t (n.pre + 1) (n.pre + row.size) ≡ leveled (suc row.level) s.below
+  below_leaves : leaves_between t (n.pre + 1) (n.pre + shape.size) ≡ leveled (suc shape.level) s.below
   below_leaves =
-      ap (λ (r : Row). leaves_between t (n.pre + 1) (n.pre + r.size)) is.is_row ∙ below.is
-      ∙ ap (λ (r : Row). leveled (suc r.level) s.below) (sym is.is_row)
+      ap (λ i. leaves_between t (n.pre + 1) (n.pre + i)) is.size ∙ below.is
+      ∙ ap (λ i. leveled (suc i) s.below) (sym is.level)
 
-  -- the node, and what is below it further up
-  pub whole_leaves : (0, (row_of row).label) ∷ map (lowered row.level) (leaves_between (tree_at trees n.tree) (n.pre + 1) (n.pre + row.size)) ≡ leaves (nodes (tree_below trees (node_at trees n)))
-  whole_leaves =
-      let one : suc row.level ≡ row.level + 1 = omega arith in
-      ap (λ a. (0, a) ∷ map (lowered row.level) (leaves_between t (n.pre + 1) (n.pre + row.size))) label
-      ∙ ap (λ l. (0, s.root) ∷ l) (ap (map (lowered row.level)) (below_leaves ∙ ap (λ i. leveled i s.below) one) ∙ lowered-leveled row.level 1 s.below ∙ sym (append-nil (leveled 1 s.below)))
-      ∙ sym (flat-measured 0 (nodes s))
+  -- what is below a node, further up
+  raised_below : map (lowered shape.level) (leveled (suc shape.level) s.below) ≡ leveled 1 s.below
+  raised_below =
+      let one : suc shape.level ≡ shape.level + 1 = omega arith in
+      ap (λ i. map (lowered shape.level) (leveled i s.below)) one ∙ lowered-leveled shape.level 1 s.below
+
+  -- the node and what is below it
+  node_below : (0, s.root) ∷ leveled 1 s.below ≡ leaves (nodes s)
+  node_below = ap (λ (l : List Leaf). (0, s.root) ∷ l) (sym (append-nil (leveled 1 s.below))) ∙ sym (flat-measured 0 (nodes s))
+
+  pub root_leaves : (0, (tree_below trees (node_at trees n)).root) ∷ map (lowered shape.level) (leaves_between (tree_at trees n.tree) (n.pre + 1) (n.pre + shape.size))
+      ≡ leaves (nodes (tree_below trees (node_at trees n)))
+  root_leaves = ap (λ (l : List Leaf). (0, s.root) ∷ l) (ap (map (lowered shape.level)) below_leaves ∙ raised_below) ∙ node_below
+
+  -- the run from the node on
+  pub run_leaves : map (lowered shape.level) (leaves_between (tree_at trees n.tree) n.pre (n.pre + shape.size)) ≡ leaves (nodes (tree_below trees (node_at trees n)))
+  run_leaves =
+      let run : leaves_between t n.pre (n.pre + shape.size) ≡ (shape.level, s.root) ∷ leveled (suc shape.level) s.below =
+      ap (λ i. leaves_between t n.pre (n.pre + i)) is.size ∙ below.whole ∙ ap (λ i. (i, s.root) ∷ leveled (suc i) s.below) (sym is.level) in
+      let z : shape.level - shape.level ≡ 0 = omega arith in
+      ap (map (lowered shape.level)) run
+      ∙ ap (λ i. (i, s.root) ∷ map (lowered shape.level) (leveled (suc shape.level) s.below)) z
+      ∙ ap (λ (l : List Leaf). (0, s.root) ∷ l) raised_below ∙ node_below
 
   -- what is below a document
-  pub document_leaves : row.kind ≡ Document → map (lowered (row.level + 1)) (leaves_between (tree_at trees n.tree) (n.pre + 1) (n.pre + row.size)) ≡ leaves (copied (tree_below trees (node_at trees n)))
+  pub document_leaves : shape.kind ≡ Document → map (lowered (shape.level + 1)) (leaves_between (tree_at trees n.tree) (n.pre + 1) (n.pre + shape.size)) ≡ leaves (copied (tree_below trees (node_at trees n)))
   document_leaves e =
-      let one : suc row.level ≡ row.level + 1 + 0 = omega arith in
-      let k : s.root.kind ≡ Document = sym (ap (λ (a : Label). a.kind) label) ∙ e in
-      ap (map (lowered (row.level + 1))) (below_leaves ∙ ap (λ i. leveled i s.below) one) ∙ lowered-leveled (row.level + 1) 0 s.below
+      let one : suc shape.level ≡ shape.level + 1 + 0 = omega arith in
+      let k : s.root.kind ≡ Document = sym root_kind ∙ e in
+      ap (map (lowered (shape.level + 1))) (below_leaves ∙ ap (λ i. leveled i s.below) one) ∙ lowered-leveled (shape.level + 1) 0 s.below
       ∙ sym (flat-measured 0 s.below) ∙ ap leaves (sym (of_document s k))
     where
       of_document : (u : Tree) → u.root.kind ≡ Document → copied u ≡ u.below
       of_document u k = rw k refl
 
   -- any other node is copied itself
-  pub node_leaves : (row.kind ≡ Document → ⊥) → leaves (nodes (tree_below trees (node_at trees n))) ≡ leaves (copied (tree_below trees (node_at trees n)))
-  node_leaves e = ap leaves (sym (of_node s s.root.kind refl (λ k. e (ap (λ (a : Label). a.kind) label ∙ k))))
+  pub node_leaves : (shape.kind ≡ Document → ⊥) → leaves (nodes (tree_below trees (node_at trees n))) ≡ leaves (copied (tree_below trees (node_at trees n)))
+  node_leaves e = ap leaves (sym (of_node s s.root.kind refl (λ k. e (root_kind ∙ k))))
     where
       of_node : (u : Tree) (k : Kind) → u.root.kind ≡ k → (k ≡ Document → ⊥) → copied u ≡ nodes u
       of_node u Document e other = absurd (other refl)
@@ -226,20 +269,36 @@ module _ (trees : List Tree) (n : Node) (row : NodeRow) (is : IsRowOf trees n ro
       of_node u Comment e other = rw e refl
       of_node u ProcessingInstruction e other = rw e refl
 
+-- the node of a row, and what is below it further up
+pub whole_leaves : (trees : List Tree) (n : Node) (row : NodeRow) → IsRowOf trees n row
+    → (0, (row_of row).label) ∷ map (lowered row.level) (leaves_between (tree_at trees n.tree) (n.pre + 1) (n.pre + row.size)) ≡ leaves (nodes (tree_below trees (node_at trees n)))
+whole_leaves trees n row is =
+    let label : (row_of row).label ≡ (tree_below trees (node_at trees n)).root =
+    ap (λ (r : Row). r.label) is.is_row ∙ (below_node (tree_at trees n.tree) n.pre is.has_node.node_in).label in
+    ap (λ a. (0, a) ∷ map (lowered row.level) (leaves_between (tree_at trees n.tree) (n.pre + 1) (n.pre + row.size))) label
+    ∙ root_leaves trees n (shape_of row) (is_shape trees n row is)
+
 -- # What code does step by step
 
--- a row, and then others
-pub pushed : (before now after : List NodeRow) (row : NodeRow) (others whole : List Leaf)
-    → now ≡ before ++ row ∷ [] → map flat_row after ≡ map flat_row now ++ others → flat_row row ∷ others ≡ whole
-    → map flat_row after ≡ map flat_row before ++ whole
-pushed before now after row others whole p e w =
-    e ∙ ap (λ (l : List Leaf). l ++ others) (ap (map flat_row) p ∙ map_push flat_row before row) ∙ append_assoc (map flat_row before) (flat_row row ∷ []) others ∙ ap (λ (l : List Leaf). map flat_row before ++ l) w
+-- rows whose levels are moved up
+pub flat-moved : (base : ℕ) (run : List (ℕ × Row)) → map flat (map (moved base 0) (unplaced run)) ≡ map (lowered base) (map leaf run)
+flat-moved base [] = refl
+flat-moved base (p ∷ run) =
+    let z : p.1.level - base + 0 ≡ p.1.level - base = omega arith in
+    ap (λ i. (i, p.1.label) ∷ map flat (map (moved base 0) (unplaced run))) z
+    ∙ ap (λ (l : List Leaf). lowered base (leaf p) ∷ l) (flat-moved base run)
+
+-- rows that were added, and then their leaves
+pub moved_added : (base : ℕ) (old now : List Row) (run : List (ℕ × Row)) → now ≡ old ++ map (moved base 0) (unplaced run)
+    → map flat now ≡ map flat old ++ map (lowered base) (map leaf run)
+moved_added base old now run e =
+    ap (map flat) e ∙ map-append flat old (map (moved base 0) (unplaced run)) ∙ ap (λ (l : List Leaf). map flat old ++ l) (flat-moved base run)
 
 -- a node that is no document, copied from the same trees
-pub whole_copied : (trees same : List Tree) (n : Node) (row : NodeRow) (before after : List Leaf) → trees ≡ same → IsRowOf trees n row → (row.kind ≡ Document → ⊥)
-    → (IsRowOf same n row → after ≡ before ++ leaves (nodes (tree_below same (node_at same n))))
+pub whole_copied : (trees same : List Tree) (n : Node) (shape : NodeShape) (before after : List Leaf) → trees ≡ same → IsShapeOf trees n shape → (shape.kind ≡ Document → ⊥)
+    → (IsShapeOf same n shape → after ≡ before ++ leaves (nodes (tree_below same (node_at same n))))
     → after ≡ before ++ leaves (copied (tree_below trees (node_at trees n)))
-whole_copied trees same n row before after e is other made =
-    made (subst (λ (ts : List Tree). IsRowOf ts n row) e is)
+whole_copied trees same n shape before after e is other made =
+    made (subst (λ (ts : List Tree). IsShapeOf ts n shape) e is)
     ∙ ap (λ (ts : List Tree). before ++ leaves (nodes (tree_below ts (node_at ts n)))) (sym e)
-    ∙ ap (λ (l : List Leaf). before ++ l) (node_leaves trees n row is other)
+    ∙ ap (λ (l : List Leaf). before ++ l) (node_leaves trees n shape is other)

@@ -7,6 +7,7 @@ use Rattle.xq_regions.specs.Levels.{flat}
 use Rattle.xq_regions.specs.declared.NodeRow.{NodeRow}
 use Rattle.xq_regions.specs.declared.items.Node.{Node}
 use Rattle.xq_sources.specs.Sources.{rows_between, tree_at, HasNode}
+use Rattle.xq_copies.specs.declared.copies.NodeShape.{NodeShape}
 
 abbrev pub Leaf : Type 0
 Leaf = ℕ × Label
@@ -32,3 +33,11 @@ pub record IsRowOf (trees : List Tree) (node : Node) (row : NodeRow) : Type 0 wh
   pub has_node : HasNode trees node.tree node.pre
   pub is_tree : IsTree (tree_at trees node.tree)
   pub is_row : row_of row ≡ row_at (rows (tree_at trees node.tree)) node.pre
+
+-- the size, the level and the kind are those of the node's row
+pub record IsShapeOf (trees : List Tree) (node : Node) (shape : NodeShape) : Type 0 where
+  pub has_node : HasNode trees node.tree node.pre
+  pub is_tree : IsTree (tree_at trees node.tree)
+  pub size : shape.size ≡ (row_at (rows (tree_at trees node.tree)) node.pre).size
+  pub level : shape.level ≡ (row_at (rows (tree_at trees node.tree)) node.pre).level
+  pub kind : shape.kind ≡ (row_at (rows (tree_at trees node.tree)) node.pre).label.kind

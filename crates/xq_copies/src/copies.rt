@@ -1,62 +1,39 @@
 //! Copies of nodes and of all that is below them, as rows whose levels begin at 0.
 ghost use Rattle.std.specs.Prelude.{◌≡◌, ◌≤◌, ◌++◌, ◌+◌, map, IfOk, OnOk};
 ghost use Rattle.xq_regions.specs.Tree.{nodes};
-ghost use Rattle.xq_regions.specs.Levels.{flat_row};
-ghost use Rattle.xq_sources.specs.Lent.{placed_lent};
+ghost use Rattle.xq_regions.specs.Levels.{flat};
 ghost use Rattle.xq_sources.specs.Sources.{tree_at};
 ghost use Rattle.xq_meaning.specs.Items.{tree_below};
 ghost use Rattle.xq_meaning.specs.Readings.{node_at};
-ghost use Rattle.xq_copies.specs.Leaves.{leaf, leaves, lowered, leaves_between, IsRowOf};
+ghost use Rattle.xq_copies.specs.Leaves.{leaves, lowered, leaves_between, IsRowOf, IsShapeOf};
 
 use std::alloc::Global;
 use xq_atoms::Want;
-use xq_regions::{Node, NodeRow};
-use xq_sources::{LentRow, LentRows, RowLender};
+use xq_packed::PackedRows;
+use xq_regions::{Kind, Node, NodeRow};
+use xq_sources::RowLender;
 
-/// The same row, so many levels further up.
-fn lowered_row(alloc: Global, row: &LentRow<'_>, base: u32) -> Result<NodeRow, Want>
-    ensures { IfOk result (λ copy. flat_row copy ≡ lowered base (leaf (placed_lent row.now))) }
-{
-    Ok(NodeRow {
-        pre: 0,
-        size: 0,
-        level: row.level.saturating_sub(base),
-        kind: row.kind,
-        name: String::from_str(alloc, row.name())?,
-        value: String::from_str(alloc, row.value())?,
-    })
-}
-
-/// Adds copies of the rows, so many levels further up. There is room for all of them at once, and
-/// for a root that they may come to stand below.
-fn append_rows(
-    alloc: Global,
-    copies: &mut Vec<NodeRow>,
-    rows: &LentRows<'_>,
-    base: u32,
-) -> Result<(), Want>
-    ensures { OnOk result (map flat_row copies.new.items
-        ≡ map flat_row copies.old.items ++ map (lowered base) (map leaf rows.now)) }
-{
-    copies.reserve(rows.len().saturating_add(1))?;
-    for at in 0..rows.len() {
-        copies.push(lowered_row(alloc, &rows.row(at), base)?)?;
-    }
-    Ok(())
+/// What its row tells of a node beside its name and its value.
+#[derive(Clone, Copy)]
+pub struct NodeShape {
+    /// The number of nodes below it.
+    pub size: u32,
+    pub level: u32,
+    pub kind: Kind,
 }
 
 /// Adds copies of the rows of the tree from `low` to `high`, so many levels further up.
 fn append_between<L: RowLender>(
     alloc: Global,
     source: &mut L,
-    copies: &mut Vec<NodeRow>,
+    copies: &mut PackedRows,
     tree: usize,
     low: u32,
     high: u32,
     base: u32,
 ) -> Result<(), Want>
-    ensures copied { L.is_clean source.new → OnOk result (map flat_row copies.new.items
-        ≡ map flat_row copies.old.items
+    ensures copied { L.is_clean source.new → OnOk result (map flat copies.new.rows
+        ≡ map flat copies.old.rows
         ++ map (lowered base) (leaves_between (tree_at (L.forest source.old) tree) low high)) }
     ensures keeps { L.forest source.new ≡ L.forest source.old }
     ensures was_clean { L.is_clean source.new → L.is_clean source.old }
@@ -68,7 +45,7 @@ fn append_between<L: RowLender>(
         if run.is_empty() {
             return Ok(());
         }
-        append_rows(alloc, copies, &run, base)?;
+        run.append_to(copies, base, 0)?;
         next = next.saturating_add(run.len());
     }
     Ok(())
@@ -89,17 +66,39 @@ pub fn row_of_node<L: RowLender>(alloc: Global, source: &mut L, node: Node) -> R
     }
 }
 
-/// Adds copies of the rows below the node whose row this is, so many levels further up.
+/// What the node's row tells beside its name and its value.
+pub fn shape_of_node<L: RowLender>(
+    alloc: Global,
+    source: &mut L,
+    node: Node,
+) -> Result<NodeShape, Want>
+    ensures found { L.is_clean source.new → IfOk result (IsShapeOf (L.forest source.old) node) }
+    ensures keeps { L.forest source.new ≡ L.forest source.old }
+    ensures was_clean { L.is_clean source.new → L.is_clean source.old }
+{
+    source.fetch_row(alloc, node.tree, node.pre)?;
+    match source.lent().get(0) {
+        Some(row) => Ok(NodeShape {
+            size: row.size,
+            level: row.level,
+            kind: row.kind,
+        }),
+        None => Err(Want::Store),
+    }
+}
+
+/// Adds copies of the rows below the node, below which there are so many, so many levels further
+/// up.
 pub fn append_below<L: RowLender>(
     alloc: Global,
     source: &mut L,
-    copies: &mut Vec<NodeRow>,
+    copies: &mut PackedRows,
     node: Node,
     size: u32,
     base: u32,
 ) -> Result<(), Want>
-    ensures copied { L.is_clean source.new → OnOk result (map flat_row copies.new.items
-        ≡ map flat_row copies.old.items ++ map (lowered base)
+    ensures copied { L.is_clean source.new → OnOk result (map flat copies.new.rows
+        ≡ map flat copies.old.rows ++ map (lowered base)
         (leaves_between (tree_at (L.forest source.old) node.tree) (node.pre + 1)
         (node.pre + size))) }
     ensures keeps { L.forest source.new ≡ L.forest source.old }
@@ -118,19 +117,26 @@ pub fn append_below<L: RowLender>(
 pub fn append_whole<L: RowLender>(
     alloc: Global,
     source: &mut L,
-    copies: &mut Vec<NodeRow>,
+    copies: &mut PackedRows,
     node: Node,
-    row: NodeRow,
+    shape: NodeShape,
 ) -> Result<(), Want>
-    ensures copied { L.is_clean source.new → IsRowOf (L.forest source.old) node row
-        → OnOk result (map flat_row copies.new.items ≡ map flat_row copies.old.items
+    ensures copied { L.is_clean source.new → IsShapeOf (L.forest source.old) node shape
+        → OnOk result (map flat copies.new.rows ≡ map flat copies.old.rows
         ++ leaves (nodes (tree_below (L.forest source.old) (node_at (L.forest source.old) node)))) }
     ensures keeps { L.forest source.new ≡ L.forest source.old }
     ensures was_clean { L.is_clean source.new → L.is_clean source.old }
 {
-    let size = row.size;
-    let base = row.level;
-    copies.push(NodeRow { level: 0, ..row })?;
-    append_below(alloc, source, copies, node, size, base)?;
-    Ok(())
+    let Some(last) = node.pre.checked_add(shape.size) else {
+        return Err(Want::Store);
+    };
+    append_between(
+        alloc,
+        source,
+        copies,
+        node.tree,
+        node.pre,
+        last,
+        shape.level,
+    )
 }

@@ -4,4 +4,4 @@
 
 mod copies;
 
-pub use copies::{append_below, append_whole, row_of_node};
+pub use copies::{NodeShape, append_below, append_whole, row_of_node, shape_of_node};

@@ -1,13 +1,10 @@
 -- The value of one variable, as the argument of a call.
 use Rattle.std.proofs.Common.{◌≡◌, ℕ, zero, suc, ◌<◌, List, [], ◌∷◌, length, get_or, sym, ◌∙◌, ap, arith, Ok, Err, Result, Option, Some, None}
 use Rattle.std.specs.Prelude.{IfOk, IfSome}
-use Rattle.std.specs.Global.{Vec, Global}
-use Rattle.std.specs.declared.rc.Rc.{Rc}
-use Rattle.xq_regions.specs.declared.items.Item.{Item as Held}
-use Rattle.xq_regions.specs.Items.{item_views}
 use Rattle.xq_regions.specs.Tree.{Tree}
 use Rattle.xq_regions.specs.Tuples.{value_at}
-use Rattle.xq_tuples.specs.Views.{values_of}
+use Rattle.xq_tuples.specs.Views.{slot_items, values_of}
+use Rattle.xq_tuples.specs.declared.slots.SlotValue.{SlotValue}
 use Rattle.xq_atoms.specs.Text.{Text}
 use Rattle.xq_meaning.specs.declared.plans.Plan.{Plan}
 use Rattle.xq_meaning.specs.declared.plans.Plan.TheVariants as plan
@@ -19,10 +16,10 @@ only_one [] x h e = absurd (omega arith)
 only_one (y ∷ []) x h e = ap (λ z. z ∷ []) (sym e)
 only_one (y ∷ z ∷ xs) x h e = absurd (omega arith)
 
-pub slot_value : (trees : List Tree) (slots : List (Rc (Vec Held) Global)) (n : ℕ) (slot : Rc (Vec Held) Global) → n < length slots → slot ≡ get_or slots n slot
-    → value_at n (tuple_at trees (values_of slots)) ≡ items_at trees (item_views slot.value)
+pub slot_value : (trees : List Tree) (slots : List SlotValue) (n : ℕ) (slot : SlotValue) → n < length slots → slot ≡ get_or slots n slot
+    → value_at n (tuple_at trees (values_of slots)) ≡ items_at trees (slot_items slot)
 slot_value trees [] n slot h e = absurd (omega arith)
-slot_value trees (s ∷ slots) zero slot h e = ap (λ r. items_at trees (item_views r.value)) (sym e)
+slot_value trees (s ∷ slots) zero slot h e = ap (λ r. items_at trees (slot_items r)) (sym e)
 slot_value trees (s ∷ slots) (suc n) slot h e = slot_value trees slots n slot (omega arith) e
 
 pub given_so : {X E : Type 0} (r : Result (Option X) E) (P Q : X → Type 0) → ((x : X) → P x → Q x) → IfOk r (λ o. IfSome o P) → IfOk r (λ o. IfSome o Q)

@@ -9,3 +9,6 @@ pub mod DocumentScans
 pub mod Joining
 pub mod TextSteps
 pub mod Telling
+pub mod Choosing
+pub mod FlatKeys
+pub mod LoneFor

@@ -230,6 +230,18 @@ pub step_is : (axis : Axis) (test : Test) (predicates : List Meaning) (frame : F
 step_is axis test predicates frame f =
     sym (then_after (judged (context_node frame.focus) f) (λ p. on_trees (λ trees. Ok (map Node (in_axis_order axis (axis_nodes trees axis test p))))) (λ xs. in_turn (Forms.filtered frame) xs predicates >>= (λ ys. give (in_axis_order axis ys))))
 
+-- a step, from nodes of which its predicates keep the same as of all on its axis
+pub step_from : (axis : Axis) (test : Test) (predicates : List Meaning) (frame : Frame) (f : List Tree) (o : Outcome (List Item))
+    → go_on o (λ xs. in_turn (Forms.filtered frame) xs predicates) ≡ go_on (on_axis axis test frame.focus f) (λ xs. in_turn (Forms.filtered frame) xs predicates)
+    → Forms.step axis test predicates frame f ≡ go_on o (λ xs. in_turn (Forms.filtered frame) xs predicates >>= (λ ys. give (in_axis_order axis ys)))
+step_from axis test predicates frame f o keeps =
+    let filtering = λ (xs : List Item). in_turn (Forms.filtered frame) xs predicates in
+    let ordered = λ (ys : List Item). give (in_axis_order axis ys) in
+    step_is axis test predicates frame f
+    ∙ sym (then_after (on_axis axis test frame.focus f) filtering ordered)
+    ∙ ap (λ q. go_on q ordered) (sym keeps)
+    ∙ then_after o filtering ordered
+
 -- a named node, from the value that computes its name
 pub named_is : (kind : NamedNode) (name part : Meaning) (frame : Frame) (f : List Tree)
     → Forms.named_node kind name part frame f ≡ go_on (name frame f) (λ xs. on_trees (λ trees. name_of kind (atomized trees xs)) >>= (λ good. part frame >>= (λ ys. plant_named kind good ys)))

@@ -8,3 +8,4 @@ pub mod Results
 pub mod Scanning
 pub mod Joining
 pub mod Texts
+pub mod Choosing

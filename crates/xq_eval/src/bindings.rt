@@ -8,8 +8,8 @@ use crate::variables::Variable;
 use std::alloc::Global;
 use std::rc::Rc;
 use xq_atoms::Want;
-use xq_forms::push_copy;
 use xq_regions::Items;
+use xq_tuples::SlotValue;
 
 /// What the next value is taken from, and its place there: these items, or where there are none,
 /// those of the last variable that has a value left. The variables from that one on are taken off.
@@ -41,7 +41,7 @@ fn next_value(stack: &mut Vec<Variable>, items: Rc<Items>) -> Option<(Rc<Items>,
 pub fn advance(
     alloc: Global,
     outer: usize,
-    slots: &mut Vec<Rc<Items>>,
+    slots: &mut Vec<SlotValue>,
     stack: &mut Vec<Variable>,
     items: Rc<Items>,
 ) -> Result<bool, Want>
@@ -52,10 +52,7 @@ pub fn advance(
     let Some((items, current)) = next_value(stack, items) else {
         return Ok(false);
     };
-    let value = Rc::new(
-        alloc,
-        push_copy(alloc, Vec::new(alloc), &items[current], true)?,
-    )?;
+    let value = SlotValue::of_item(alloc, items[current].try_clone(alloc)?)?;
     slots.truncate(outer + stack.len());
     slots.push(value)?;
     stack.push(Variable { items, current })?;

@@ -3,31 +3,30 @@
 ghost use Rattle.std.specs.Prelude.{◌≡◌, [], ◌∷◌, ◌++◌, map, length, IfOk, IfErr, IfSome, IsSome};
 ghost use Rattle.std.specs.Option.{option_copied};
 ghost use Rattle.std.proofs.Common.{suc};
-ghost use Rattle.xq_regions.specs.Items.{ItemView, Value as AtomView, item_views};
+ghost use Rattle.xq_regions.specs.Items.{ItemView, Value as AtomView, item_view, item_views};
 ghost use Rattle.xq_regions.specs.Tuples.{Tuple, expanded};
-ghost use Rattle.xq_tuples.specs.Keys.{row_of, rows_in};
+ghost use Rattle.xq_tuples.specs.Keys.{row_of};
 ghost use Rattle.xq_tuples.specs.Views.{values_of};
-ghost use Rattle.xq_meaning.specs.Doing.{in_turn, one_more, more, for_each};
+ghost use Rattle.xq_meaning.specs.Doing.{in_turn, one_more, more, for_each, collected};
 ghost use Rattle.xq_meaning.specs.Forms as Forms;
 ghost use Rattle.xq_meaning.specs.Readings.{items_at, AreIn};
 ghost use Rattle.xq_meaning.specs.PlanMeaning.{plan_mean, plan_clause_mean, at_tuple as meant_at, next_clause};
 ghost use Rattle.xq_eval.specs.private.Keys.{keys_at};
 ghost use Rattle.xq_forms.specs.Views.{tuple_at, tuples_at, lists_of, order_specs, frame_at, FrameIn, TupleIn, TuplesIn, Goes, GivesSequence, GivesTuples};
-ghost use Rattle.xq_eval.specs.private.Results.{GivesLists, GivesTests, GivesKey, GivesKeys, GivesRows};
+ghost use Rattle.xq_eval.specs.private.Results.{GivesLists, GivesTests, GivesKey, GivesKeys};
 ghost use Rattle.xq_eval.specs.private.Joining.{GivesMatched};
 
 use crate::evaluation::{evaluate, next_part, tested};
 use sqlite_items::at;
 use std::alloc::Global;
-use std::rc::Rc;
 use xq_atoms::{Fault, Want};
 use xq_expressions::{AllowingEmpty, OrderModifier};
-use xq_forms::{Frame, group, into_atoms, joined, order, refill};
+use xq_forms::{Frame, group, into_atoms, joined, order_by_keys, rebind, refill};
 use xq_joins::{atom_of, join_at, matching};
 use xq_meaning::{Plan, PlanClause};
-use xq_regions::Items;
+use xq_regions::{Item, Items};
 use xq_sources::Growing;
-use xq_tuples::{Key, Tuples};
+use xq_tuples::{Key, SlotValue, Tuples};
 
 /// The tuples after all clauses.
 #[cycle(eval)]
@@ -128,8 +127,8 @@ fn next_tuples<W: Growing>(
         PlanClause::Group(slots) => group(alloc, world, tuples, slots.as_slice()),
         PlanClause::Order(specs) => {
             let specs = specs.as_slice();
-            let rows = key_rows(alloc, world, frame, &tuples, specs)?;
-            order(alloc, tuples, specs, rows)
+            let keys = all_keys(alloc, world, frame, &tuples, specs)?;
+            order_by_keys(alloc, tuples, specs, keys)
         }
         PlanClause::Count => Ok(tuples.number()?),
         PlanClause::Refused(code) => Err(Fault::Code(*code)),
@@ -190,7 +189,7 @@ fn next_value<W: Growing>(
     world: &mut W,
     frame: Frame<'_>,
     done: Vec<Items>,
-    slots: &[Rc<Items>],
+    slots: &[SlotValue],
     part: &Plan,
 ) -> Result<Vec<Items>, Fault>
     ensures goes { Goes (W.forest world.old) (W.forest world.new) (W.is_clean world.old)
@@ -239,6 +238,33 @@ pub fn returned<W: Growing>(
     Ok(items)
 }
 
+/// The values of a part at each item of a list, which one slot more holds, one after another.
+#[cycle(eval)]
+pub fn returned_each<W: Growing>(
+    alloc: Global,
+    world: &mut W,
+    frame: Frame<'_>,
+    items: &[Item],
+    part: &Plan,
+) -> Result<Items, Fault>
+    ensures goes { Goes (W.forest world.old) (W.forest world.new) (W.is_clean world.old)
+        (W.is_clean world.new) }
+    ensures gives { W.is_clean world.new → FrameIn (W.forest world.old) frame.entry
+        → AreIn (W.forest world.old) (map item_view items.now)
+        → GivesSequence (collected (λ x. plan_mean part.now (meant_at (frame_at
+        (W.forest world.old) frame.entry) ((x ∷ []) ∷ []))) (items_at (W.forest world.old)
+        (map item_view items.now)) (W.forest world.old)) (W.forest world.new) result }
+{
+    let outer = frame.slots.len();
+    let mut slots = frame.slots.to_vec(alloc)?;
+    let mut found = Vec::new(alloc);
+    for item in items {
+        rebind(alloc, &mut slots, outer, item)?;
+        found = next_returned(alloc, world, frame, found, &slots, part)?;
+    }
+    Ok(found)
+}
+
 /// The items so far, and those of a part at one tuple more, whose slots stand after those of the
 /// frame.
 #[cycle(eval)]
@@ -247,7 +273,7 @@ fn next_returned<W: Growing>(
     world: &mut W,
     frame: Frame<'_>,
     done: Items,
-    slots: &[Rc<Items>],
+    slots: &[SlotValue],
     part: &Plan,
 ) -> Result<Items, Fault>
     ensures goes { Goes (W.forest world.old) (W.forest world.new) (W.is_clean world.old)
@@ -305,7 +331,7 @@ fn next_test<W: Growing>(
     world: &mut W,
     frame: Frame<'_>,
     done: Vec<bool>,
-    slots: &[Rc<Items>],
+    slots: &[SlotValue],
     part: &Plan,
 ) -> Result<Vec<bool>, Fault>
     ensures goes { Goes (W.forest world.old) (W.forest world.new) (W.is_clean world.old)
@@ -335,7 +361,7 @@ fn at_tuple<W: Growing>(
     alloc: Global,
     world: &mut W,
     frame: Frame<'_>,
-    slots: &[Rc<Items>],
+    slots: &[SlotValue],
     part: &Plan,
 ) -> Result<Items, Fault>
     ensures goes { Goes (W.forest world.old) (W.forest world.new) (W.is_clean world.old)
@@ -356,81 +382,77 @@ fn at_tuple<W: Growing>(
     evaluate(alloc, world, inner, part)
 }
 
-/// The keys of each tuple.
+/// The keys of all tuples, one tuple after another.
 #[cycle(eval)]
-fn key_rows<W: Growing>(
+fn all_keys<W: Growing>(
     alloc: Global,
     world: &mut W,
     frame: Frame<'_>,
     tuples: &Tuples,
     specs: &[(Plan, OrderModifier)],
-) -> Result<Vec<Vec<Key>>, Fault>
+) -> Result<Vec<Key>, Fault>
     ensures goes { Goes (W.forest world.old) (W.forest world.new) (W.is_clean world.old)
         (W.is_clean world.new) }
     ensures gives { W.is_clean world.new → FrameIn (W.forest world.old) frame.entry
         → TuplesIn (W.forest world.old) tuples.now
-        → GivesRows (for_each (λ t. keys_at (order_specs specs.now) (meant_at (frame_at
+        → GivesKeys (collected (λ t. keys_at (order_specs specs.now) (meant_at (frame_at
         (W.forest world.old) frame.entry) t)) (tuples_at (W.forest world.old) tuples.now)
         (W.forest world.old)) (W.forest world.new) result }
-    ensures long { IfOk result (λ rows. length rows.items ≡ length tuples.now) }
 {
     let outer = frame.slots.len();
     let mut slots = frame.slots.to_vec(alloc)?;
-    let mut rows = Vec::new(alloc);
+    let mut done = Vec::with_capacity(alloc, tuples.len().saturating_mul(specs.len()))?;
     for index in 0..tuples.len() {
         refill(&mut slots, outer, tuples.tuple(index))?;
-        rows = next_row(alloc, world, frame, rows, &slots, specs)?;
+        done = next_keys(alloc, world, frame, done, &slots, specs)?;
     }
-    Ok(rows)
+    Ok(done)
 }
 
 /// The keys so far, and those of one tuple more, whose slots stand after those of the frame.
 #[cycle(eval)]
-fn next_row<W: Growing>(
+fn next_keys<W: Growing>(
     alloc: Global,
     world: &mut W,
     frame: Frame<'_>,
-    done: Vec<Vec<Key>>,
-    slots: &[Rc<Items>],
+    done: Vec<Key>,
+    slots: &[SlotValue],
     specs: &[(Plan, OrderModifier)],
-) -> Result<Vec<Vec<Key>>, Fault>
+) -> Result<Vec<Key>, Fault>
     ensures goes { Goes (W.forest world.old) (W.forest world.new) (W.is_clean world.old)
         (W.is_clean world.new) }
     ensures gives { W.is_clean world.new → FrameIn (W.forest world.old) frame.entry
         → (tuple : Tuple ItemView)
         → values_of slots.now ≡ values_of frame.entry.slots.now ++ tuple
         → TupleIn (W.forest world.old) tuple
-        → GivesRows (one_more (λ t. keys_at (order_specs specs.now) (meant_at (frame_at
-        (W.forest world.old) frame.entry) t)) (rows_in done) (tuple_at (W.forest world.old)
+        → GivesKeys (more (λ t. keys_at (order_specs specs.now) (meant_at (frame_at
+        (W.forest world.old) frame.entry) t)) (row_of done) (tuple_at (W.forest world.old)
         tuple) (W.forest world.old)) (W.forest world.new) result }
-    ensures long { IfOk result (λ rows. length rows.items ≡ suc (length done.items)) }
 {
-    let mut rows = done;
     let inner = Frame {
         slots,
         focus: frame.focus,
         addresses: frame.addresses,
     };
-    let row = keys(alloc, world, inner, specs)?;
-    rows.push(row)?;
-    Ok(rows)
+    keys(alloc, world, inner, done, specs)
 }
 
-/// The keys of one tuple, in its frame.
+/// The keys so far, and those of one tuple more, in its frame.
 #[cycle(eval)]
 fn keys<W: Growing>(
     alloc: Global,
     world: &mut W,
     frame: Frame<'_>,
+    done: Vec<Key>,
     specs: &[(Plan, OrderModifier)],
 ) -> Result<Vec<Key>, Fault>
     ensures goes { Goes (W.forest world.old) (W.forest world.new) (W.is_clean world.old)
         (W.is_clean world.new) }
     ensures gives { W.is_clean world.new → FrameIn (W.forest world.old) frame.entry
-        → GivesKeys (keys_at (order_specs specs.now) (frame_at (W.forest world.old) frame.entry)
-        (W.forest world.old)) (W.forest world.new) result }
+        → GivesKeys (more (keys_at (order_specs specs.now)) (row_of done) (frame_at
+        (W.forest world.old) frame.entry) (W.forest world.old)) (W.forest world.new) result }
 {
-    let mut keys = Vec::new(alloc);
+    let mut keys = done;
     for (part, _modifier) in specs {
         keys = next_key(alloc, world, frame, keys, part)?;
     }

@@ -11,12 +11,12 @@ ghost use Rattle.xq_meaning.specs.PlanMeaning.{Frame as Meant, plan_mean};
 ghost use Rattle.xq_forms.specs.Views.{tuple_at};
 
 use std::alloc::Global;
-use std::rc::Rc;
 use xq_atoms::{Atom, Want};
 use xq_expressions::Function;
 use xq_forms::single;
 use xq_meaning::Plan;
 use xq_regions::{Item, Items};
+use xq_tuples::SlotValue;
 
 /// What a function that only counts gives; `None` for another function.
 fn counted(alloc: Global, function: Function, items: &[Item]) -> Result<Option<Items>, Want>
@@ -44,7 +44,7 @@ fn counted(alloc: Global, function: Function, items: &[Item]) -> Result<Option<I
 /// The value of a call that only counts the value of a variable; `None` for another call.
 pub fn counted_variable(
     alloc: Global,
-    slots: &[Rc<Items>],
+    slots: &[SlotValue],
     function: Function,
     parts: &[Plan],
 ) -> Result<Option<Items>, Want>
@@ -63,5 +63,5 @@ pub fn counted_variable(
     if *number >= slots.len() {
         return Ok(None);
     }
-    counted(alloc, function, &slots[*number])
+    counted(alloc, function, slots[*number].items())
 }

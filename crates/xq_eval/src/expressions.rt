@@ -1,11 +1,12 @@
 //! The forms of expressions that keep something while their parts are evaluated. Each is a function
 //! of its own, so that [`evaluate`], which every part of a plan enters, keeps nothing itself: a
 //! function pays at its entry for all that any of its arms keeps.
-ghost use Rattle.std.specs.Prelude.{◌≡◌, ◌*◌, ◌∷◌, [], List, map, length};
+ghost use Rattle.std.specs.Prelude.{◌≡◌, ◌*◌, ◌∷◌, [], List, map, length, false, IfSome};
 ghost use Rattle.xq_atoms.specs.Text.{Text};
 ghost use Rattle.xq_regions.specs.declared.Axis.{Axis as AxisLem};
 ghost use Rattle.xq_meaning.specs.declared.node_tests.Test.{Test as TestLem};
 ghost use Rattle.xq_meaning.specs.declared.plans.Plan.TheVariants as plan_of;
+ghost use Rattle.xq_meaning.specs.declared.plans.PlanClause.TheVariants as plan_clause;
 ghost use Rattle.xq_meaning.specs.declared.plans.PlanStep.TheVariants as plan_step;
 ghost use Rattle.xq_expressions.specs.declared.signatures.Function.TheVariants.{Doc};
 ghost use Rattle.xq_meaning.specs.Arguments.{boolean as boolean_lem};
@@ -18,17 +19,17 @@ ghost use Rattle.xq_forms.specs.Views.{frame_at, FrameIn, Goes, GivesSequence};
 ghost use Rattle.xq_eval.specs.Reads.{rows_at};
 ghost use Rattle.xq_eval.specs.private.Quantifying.{IsOf, bindings};
 
-use crate::clauses::{clause_list, returned};
+use crate::chosen::nodes_of_step;
+use crate::clauses::{clause_list, returned, returned_each};
 use crate::evaluation::{call_list, chain, decided, evaluate, filter};
 use crate::paths::{map_list, step_list};
 use crate::quantified::satisfied;
 use sqlite_items::Items as PlanItems;
 use std::alloc::Global;
 use xq_atoms::Fault;
-use xq_expressions::{Function, NamedNode, Quantifier, Sign, UnnamedNode};
+use xq_expressions::{AllowingEmpty, Function, NamedNode, Quantifier, Sign, UnnamedNode};
 use xq_forms::{
-    Frame, axis_items, boolean, deciding, in_axis_order, named, node_name, scan_from, short_path,
-    sign, unnamed,
+    Frame, boolean, deciding, in_axis_order, named, node_name, scan_from, short_path, sign, unnamed,
 };
 use xq_functions::effective;
 use xq_meaning::{Operator, Plan, PlanClause, PlanStep, Test};
@@ -144,7 +145,26 @@ pub fn filtered<W: Growing>(
     filter(alloc, world, frame, items, predicates)
 }
 
-/// A FLWOR expression (XQuery 3.1, section 3.12).
+/// What the only clause ranges over, where that is a `for` of one variable that allows no empty
+/// sequence.
+fn lone_for(clauses: &[PlanClause]) -> Option<&Plan>
+    ensures { IfSome result (λ source.
+        clauses.now ≡ plan_clause.For AllowingEmpty.No false source.now ∷ []) }
+{
+    let [clause] = clauses else {
+        return None;
+    };
+    let PlanClause::For(empties, at, source) = clause else {
+        return None;
+    };
+    let AllowingEmpty::No = empties else {
+        return None;
+    };
+    if *at { None } else { Some(source) }
+}
+
+/// A FLWOR expression (XQuery 3.1, section 3.12). Where its only clause is a `for` of one variable,
+/// no tuples are made.
 #[cycle(eval)]
 #[inline(never)]
 pub fn flwor<W: Growing>(
@@ -161,6 +181,10 @@ pub fn flwor<W: Growing>(
         (frame_at (W.forest world.old) frame.entry) (W.forest world.old)) (W.forest world.new)
         result }
 {
+    if let Some(source) = lone_for(clauses) {
+        let items = evaluate(alloc, world, frame, source)?;
+        return returned_each(alloc, world, frame, &items, part);
+    }
     let tuples = clause_list(alloc, world, frame, clauses)?;
     returned(alloc, world, frame, &tuples, part)
 }
@@ -214,7 +238,7 @@ pub fn axis_step<W: Growing>(
         (frame_at (W.forest world.old) frame.entry) (W.forest world.old)) (W.forest world.new)
         result }
 {
-    let nodes = axis_items(alloc, world, frame, axis, test)?;
+    let nodes = nodes_of_step(alloc, world, frame, axis, test, predicates)?;
     let kept = filter(alloc, world, frame, nodes, predicates)?;
     Ok(in_axis_order(axis, kept))
 }

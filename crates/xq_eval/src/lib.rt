@@ -2,6 +2,7 @@
 #![tactic(auto)]
 
 mod bindings;
+mod chosen;
 mod clauses;
 mod counting;
 mod evaluation;

@@ -6,12 +6,12 @@ ghost use Rattle.xq_eval.specs.Reads.{ReadsItsDocument};
 
 use crate::evaluation::evaluate;
 use std::alloc::Global;
-use std::rc::Rc;
 use xq_atoms::Fault;
 use xq_forms::Frame;
 use xq_meaning::Plan;
 use xq_regions::Items;
 use xq_sources::{Addresses, Growing};
+use xq_tuples::SlotValue;
 
 /// The value of a query's plan, and beside it, in `world`, the trees that it constructed, after
 /// those that were there (XQuery 3.1, sections 2.1 and 3). `addresses` are those of the documents,
@@ -43,6 +43,6 @@ pub fn eval<W: Growing>(
         → ReadsItsDocument plan.now addresses.now (W.forest world.old) (W.meter world.old)
         (W.meter world.new) }
 {
-    let slots: Vec<Rc<Items>> = Vec::new(alloc);
+    let slots: Vec<SlotValue> = Vec::new(alloc);
     evaluate(alloc, world, Frame::outermost(&slots, addresses), plan)
 }

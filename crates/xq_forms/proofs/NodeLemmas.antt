@@ -1,7 +1,8 @@
 -- Items that have to be nodes.
-use Rattle.std.proofs.Common.{◌≡◌, ◌++◌, List, [], ◌∷◌, map, reverse, true, false, Option, Some, None, Ok, Err, refl, sym, ◌∙◌, ap, subst}
+use Rattle.std.proofs.Common.{◌≡◌, ◌++◌, ℕ, List, [], ◌∷◌, map, take, reverse, true, false, Option, Some, None, Ok, Err, refl, sym, ◌∙◌, ap, subst}
 use Rattle.std.specs.Prelude.{if◌then◌else◌}
 use Rattle.std.specs.List.{AllByRecursion, flat_map}
+use Rattle.std.proofs.lemmas.List.{take-map}
 use Rattle.xq_atoms.specs.declared.refusals.Code.{Code}
 use Rattle.xq_atoms.specs.declared.refusals.Code.TheVariants.{XPTY0019, XPTY0020}
 use Rattle.xq_atoms.specs.Judged.{Judged, ◌>>=◌}
@@ -21,10 +22,10 @@ use Rattle.xq_meaning.specs.Items.{Place, Item, Node, in_document_order}
 use Rattle.xq_meaning.specs.Operators.{in_order}
 use Rattle.xq_meaning.specs.Readings.{node_at, item_at, items_at, IsIn, AreIn}
 use Rattle.xq_meaning.specs.Steps.{context_node, axis_nodes, in_axis_order, is_reverse}
-use Rattle.xq_meaning.specs.Doing.{Doing, Outcome, go_on, judged, on_trees}
+use Rattle.xq_meaning.specs.Doing.{Doing, Outcome, go_on, give, judged, on_trees}
 use Rattle.xq_meaning.specs.Forms as Forms
 use Rattle.xq_forms.specs.declared.frames.Focus.{Focus}
-use Rattle.xq_forms.specs.Views.{forget, focus_at, FocusIn, on_axis, after_double_slash}
+use Rattle.xq_forms.specs.Views.{forget, focus_at, FocusIn, on_axis, first_on_axis, after_double_slash}
 use Rattle.xq_forms.specs.Nodes.{nodes_among}
 use Rattle.xq_forms.proofs.Existing.{Exists, exists_at, is_in}
 use Rattle.xq_regions.proofs.Lists.{map_reverse, all_reverse}
@@ -101,6 +102,16 @@ axis_gives f axis test focus node nodes views context found have is = (
       ∙ ap (λ xs. (Ok xs, f))
       (ap (λ ps. map Node (in_axis_order axis ps)) (sym found) ∙ turned_map Node axis (map (node_at f) nodes) ∙ ap (in_axis_order axis) (sym (items_read f nodes))
       ∙ sym (turned_map (item_at f) axis (map NodeAt nodes)) ∙ ap (items_at f) (sym is)),
+)
+
+-- the first children
+pub first_gives : (f : List Tree) (test : Test) (most : ℕ) (focus : Option Meant) (node : Spot) (nodes : List Spot) (views : List ItemView)
+    → Ok (node_at f node) ≡ context_node focus → map (node_at f) nodes ≡ take most (axis_nodes f Child test (node_at f node)) → HaveAll f nodes → views ≡ map NodeAt nodes
+    → AreIn f views × (first_on_axis most Child test focus f ≡ (Ok (items_at f views), f))
+first_gives f test most focus node nodes views context found have is = (
+  subst (AreIn f) (sym is) (items_in f nodes have),
+  ap (λ r. go_on (go_on (judged r f) (λ p. on_trees (λ trees. Ok (map Node (in_axis_order Child (axis_nodes trees Child test p)))))) (λ xs. give (take most xs))) (sym context)
+      ∙ ap (λ xs. (Ok xs, f)) (take-map Node most (axis_nodes f Child test (node_at f node)) ∙ ap (map Node) (sym found) ∙ sym (items_read f nodes) ∙ ap (items_at f) (sym is)),
 )
 
 -- # Scans

@@ -1,5 +1,5 @@
 -- What the values of an evaluation stand for over a list of trees, and what its calls give.
-use Rattle.std.specs.Prelude.{◌≡◌, ◌≤◌, ℕ, length, List, map, Option, Some, None, Result, Ok, Err, String, string_bytes}
+use Rattle.std.specs.Prelude.{◌≡◌, ◌≤◌, ℕ, length, List, map, take, Option, Some, None, Result, Ok, Err, String, string_bytes}
 use Rattle.std.specs.List.{AllByRecursion}
 use Rattle.std.specs.Global.{Global, Vec}
 use Rattle.xq_atoms.specs.declared.refusals.Fault.{Fault}
@@ -25,7 +25,7 @@ use Rattle.xq_meaning.specs.declared.node_tests.Test.{Test}
 use Rattle.xq_meaning.specs.declared.node_tests.Test.TheVariants.{Any}
 use Rattle.xq_meaning.specs.Content.{named_tree, unnamed_tree}
 use Rattle.xq_meaning.specs.Steps.{context_node, axis_nodes, in_axis_order}
-use Rattle.xq_meaning.specs.Doing.{Doing, Outcome, ◌>>=◌, judged, on_trees}
+use Rattle.xq_meaning.specs.Doing.{Doing, Outcome, ◌>>=◌, give, judged, on_trees}
 use Rattle.xq_meaning.specs.Forms as Forms
 use Rattle.xq_meaning.specs.declared.plans.Plan.{Plan}
 use Rattle.xq_meaning.specs.PlanMeaning.{Frame as Meant, Meaning, plan_mean}
@@ -146,6 +146,12 @@ abbrev pub on_axis : Axis → Test → Option Spot → Doing (List Item)
 on_axis axis test focus = do
   p ← judged (context_node focus)
   on_trees (λ trees. Ok (map Node (in_axis_order axis (axis_nodes trees axis test p))))
+
+-- the first of them, so many at most
+abbrev pub first_on_axis : ℕ → Axis → Test → Option Spot → Doing (List Item)
+first_on_axis most axis test focus = do
+  xs ← on_axis axis test focus
+  give (take most xs)
 
 -- `//` and a step to children: descendant-or-self::node(), and then that step
 abbrev pub after_double_slash : Test → List Item → Doing (List Item)

@@ -1,10 +1,10 @@
 //! Clauses of a FLWOR expression that look at all tuples at once (XQuery 3.1, sections 3.12.7 and
 //! 3.12.8).
 ghost use Rattle.std.specs.Prelude.{◌≡◌, List, length, map, nat_eq, All, IfOk};
-ghost use Rattle.xq_atoms.specs.Atom.{atomic_of};
+ghost use Rattle.xq_regions.specs.Items.{item_view};
 ghost use Rattle.xq_regions.specs.Tree.{Tree};
 ghost use Rattle.xq_regions.specs.Tuples.{firsts, value_at};
-ghost use Rattle.xq_tuples.specs.Keys.{atomics_of, column_of, columns_of, rows_in};
+ghost use Rattle.xq_tuples.specs.Keys.{by_tuple, row_of, rows_in, values_in};
 ghost use Rattle.xq_tuples.specs.Orders.{rule_of as rule_of_lem};
 ghost use Rattle.xq_tuples.specs.Views.{values_of};
 ghost use Rattle.xq_meaning.specs.Items.{atomized as atomized_lem};
@@ -12,15 +12,14 @@ ghost use Rattle.xq_meaning.specs.Readings.{items_at};
 ghost use Rattle.xq_meaning.specs.Forms as Forms;
 ghost use Rattle.xq_forms.specs.Views.{tuples_at, order_specs, ordering, TuplesIn, Goes, GivesTuples};
 
-use crate::atoms::atomized;
+use crate::atoms::{atomized, of_item};
 use std::alloc::Global;
-use std::rc::Rc;
-use xq_atoms::{Atom, Fault, Want};
+use xq_atoms::{Fault, Want};
 use xq_expressions::{Direction, EmptyOrder, OrderModifier};
 use xq_meaning::Plan;
-use xq_regions::Items;
+use xq_regions::Item;
 use xq_sources::{Growing, RowLender};
-use xq_tuples::{Key, OrderSpec, Tuples};
+use xq_tuples::{Key, OrderSpec, SlotValue, Tuples};
 
 // # group by
 
@@ -37,23 +36,39 @@ fn distinct(alloc: Global, slots: &[usize]) -> Result<Vec<usize>, Want>
     Ok(distinct)
 }
 
+/// The atoms of the items, of which one is put into no list.
+fn key_of<L: RowLender>(alloc: Global, source: &mut L, items: &[Item]) -> Result<Key, Want>
+    ensures value { L.is_clean source.new → IfOk result (λ key. values_in key
+        ≡ atomized_lem (L.forest source.old) (items_at (L.forest source.old) (map item_view
+        items.now))) }
+    ensures keeps { L.forest source.new ≡ L.forest source.old }
+    ensures was_clean { L.is_clean source.new → L.is_clean source.old }
+{
+    if let [item] = items {
+        let atom = of_item(alloc, source, item)?;
+        return Ok(Key::One(atom));
+    }
+    let atoms = atomized(alloc, source, items)?;
+    Ok(Key::Several(atoms))
+}
+
 /// The atoms of a slot of one tuple.
-fn slot_atoms<L: RowLender>(
+fn slot_key<L: RowLender>(
     alloc: Global,
     source: &mut L,
-    tuple: &[Rc<Items>],
+    tuple: &[SlotValue],
     slot: usize,
-) -> Result<Vec<Atom>, Want>
-    ensures value { L.is_clean source.new → IfOk result (λ atoms. atomics_of atoms
+) -> Result<Key, Want>
+    ensures value { L.is_clean source.new → IfOk result (λ key. values_in key
         ≡ atomized_lem (L.forest source.old) (items_at (L.forest source.old) (value_at slot
         (values_of tuple.now)))) }
     ensures keeps { L.forest source.new ≡ L.forest source.old }
     ensures was_clean { L.is_clean source.new → L.is_clean source.old }
 {
     if slot >= tuple.len() {
-        return Ok(Vec::new(alloc));
+        return Ok(Key::Several(Vec::new(alloc)));
     }
-    atomized(alloc, source, &tuple[slot])
+    key_of(alloc, source, tuple[slot].items())
 }
 
 /// The atoms of a slot at each tuple.
@@ -62,17 +77,17 @@ fn slot_column<L: RowLender>(
     source: &mut L,
     tuples: &Tuples,
     slot: usize,
-) -> Result<Vec<Vec<Atom>>, Want>
-    ensures value { L.is_clean source.new → IfOk result (λ column. column_of column
+) -> Result<Vec<Key>, Want>
+    ensures value { L.is_clean source.new → IfOk result (λ column. row_of column
         ≡ Forms.slot_values (L.forest source.old) (tuples_at (L.forest source.old) tuples.now)
         slot) }
     ensures long { IfOk result (λ column. length column.items ≡ length tuples.now) }
     ensures keeps { L.forest source.new ≡ L.forest source.old }
     ensures was_clean { L.is_clean source.new → L.is_clean source.old }
 {
-    let mut column = Vec::new(alloc);
+    let mut column = Vec::with_capacity(alloc, tuples.len())?;
     for index in 0..tuples.len() {
-        column.push(slot_atoms(alloc, source, tuples.tuple(index), slot)?)?;
+        column.push(slot_key(alloc, source, tuples.tuple(index), slot)?)?;
     }
     Ok(column)
 }
@@ -83,8 +98,8 @@ fn slot_columns<L: RowLender>(
     source: &mut L,
     tuples: &Tuples,
     slots: &[usize],
-) -> Result<Vec<Vec<Vec<Atom>>>, Want>
-    ensures value { L.is_clean source.new → IfOk result (λ columns. columns_of columns
+) -> Result<Vec<Vec<Key>>, Want>
+    ensures value { L.is_clean source.new → IfOk result (λ columns. rows_in columns
         ≡ map (Forms.slot_values (L.forest source.old) (tuples_at (L.forest source.old)
         tuples.now)) slots.now) }
     ensures wide { IfOk result (λ columns. length columns.items ≡ length slots.now) }
@@ -116,7 +131,7 @@ pub fn group<W: Growing>(
 {
     let slots = distinct(alloc, slots)?;
     let columns = slot_columns(alloc, world, &tuples, &slots)?;
-    tuples.group(&slots, columns)
+    tuples.group_by_keys(&slots, columns)
 }
 
 // # order by
@@ -141,6 +156,22 @@ fn rules_of(alloc: Global, specs: &[(Plan, OrderModifier)]) -> Result<Vec<OrderS
         rules.push(rule_of(*modifier))?;
     }
     Ok(rules)
+}
+
+/// `order by` the keys of all tuples, one tuple after another, each one for each specification.
+/// XPTY0004 where one is more than one value, or those of one specification are of two kinds.
+pub fn order_by_keys(
+    alloc: Global,
+    tuples: Tuples,
+    specs: &[(Plan, OrderModifier)],
+    keys: Vec<Key>,
+) -> Result<Tuples, Fault>
+    ensures { (trees : List Tree) → TuplesIn trees tuples
+        → GivesTuples (ordering specs.now (tuples_at trees tuples) (by_tuple (length tuples)
+        (length specs.now) (row_of keys)) trees) trees result }
+{
+    let rules = rules_of(alloc, specs)?;
+    tuples.order_by_keys(keys, &rules)
 }
 
 /// `order by` the keys of each tuple, one for each specification; one that a row lacks is empty.

@@ -17,7 +17,8 @@ use std::alloc::Global;
 use xq_atoms::{Atom, Fault, Want};
 use xq_build::{attribute, comment, document, element, name_of, pi, text};
 use xq_expressions::{NamedNode, UnnamedNode};
-use xq_regions::{Fragment, Item, Items, Node};
+use xq_packed_trees::PackedTree;
+use xq_regions::{Item, Items, Node};
 use xq_sources::{Growing, RowLender};
 
 /// The name of a constructed node, from the value that computes it.
@@ -52,7 +53,7 @@ fn named_tree<L: RowLender>(
     kind: NamedNode,
     name: String,
     content: &[Item],
-) -> Result<Fragment, Fault>
+) -> Result<PackedTree, Fault>
     ensures gives { L.is_clean source.new → GivesUnlessWanting (λ tree. tree) (named_tree_lem kind
         (string_bytes name) (L.forest source.old) (items_at (L.forest source.old) (map item_view
         content.now))) result }
@@ -76,7 +77,7 @@ fn unnamed_tree<L: RowLender>(
     source: &mut L,
     kind: UnnamedNode,
     content: &[Item],
-) -> Result<Option<Fragment>, Fault>
+) -> Result<Option<PackedTree>, Fault>
     ensures gives { L.is_clean source.new → GivesUnlessWanting (λ tree. tree) (unnamed_tree_lem kind
         (L.forest source.old) (items_at (L.forest source.old) (map item_view content.now)))
         result }
@@ -96,7 +97,7 @@ fn unnamed_tree<L: RowLender>(
 }
 
 /// Adds the tree after the others, and answers its root.
-fn planted<W: Growing>(alloc: Global, world: &mut W, tree: Fragment) -> Result<Items, Want>
+fn planted<W: Growing>(alloc: Global, world: &mut W, tree: PackedTree) -> Result<Items, Want>
     ensures goes { Goes (W.forest world.old) (W.forest world.new) (W.is_clean world.old)
         (W.is_clean world.new) }
     ensures gives { IfOk result (λ items. GivesSequence (planted_lem tree (W.forest world.old))

@@ -1,9 +1,9 @@
 //! What a part of a plan is evaluated in.
 ghost use Rattle.std.specs.Prelude.{◌≡◌, ◌<◌, ◌^◌, None};
 
-use std::rc::Rc;
-use xq_regions::{Item, Items};
+use xq_regions::Item;
 use xq_sources::Addresses;
+use xq_tuples::SlotValue;
 
 /// An item with its position, from 1, and how many there are (XQuery 3.1, section 2.1.2): no more
 /// than a list can hold.
@@ -20,14 +20,14 @@ pub struct Focus<'a> {
 /// the first trees.
 #[derive(Clone, Copy)]
 pub struct Frame<'a> {
-    pub slots: &'a [Rc<Items>],
+    pub slots: &'a [SlotValue],
     pub focus: Option<Focus<'a>>,
     pub addresses: &'a Addresses,
 }
 
 impl<'a> Frame<'a> {
     /// That of a whole query: no focus.
-    pub fn outermost(slots: &'a [Rc<Items>], addresses: &'a Addresses) -> Frame<'a>
+    pub fn outermost(slots: &'a [SlotValue], addresses: &'a Addresses) -> Frame<'a>
         ensures { result
             ≡ record { slots = slots.entry; focus = None; addresses = addresses.entry } }
     {

@@ -16,16 +16,16 @@ mod values;
 
 pub use atoms::{atomized, into_atoms};
 pub use calls::{call, call_on_one};
-pub use clauses::{group, order};
+pub use clauses::{group, order, order_by_keys};
 pub use constructors::{named, node_name, unnamed};
 pub use frames::{Focus, Frame};
 pub use nodes::{gather, only_nodes, root};
 pub use operators::{operate, sign};
 pub use paths::{ShortPath, held_node, short_path};
-pub use steps::{axis_items, double_slash, parents_below, scan, scan_from};
+pub use steps::{axis_items, double_slash, first_children, parents_below, scan, scan_from};
 pub use told::{call_on_places, is_told, only_atom};
 pub use values::{
-    boolean, context_item, copied, deciding, decimal, integer, joined, opened, push_copy, refill,
-    single, slot, string, variable,
+    boolean, context_item, copied, deciding, decimal, integer, joined, opened, push_copy, rebind,
+    refill, single, slot, string, variable,
 };
 pub use xq_axis_order::in_axis_order;

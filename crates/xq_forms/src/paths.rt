@@ -8,18 +8,18 @@ ghost use Rattle.xq_forms.specs.Paths.{IsHeld};
 
 use crate::frames::Frame;
 use crate::nodes::{as_node, only_node};
-use std::rc::Rc;
 use xq_meaning::{Plan, PlanStep, Test};
-use xq_regions::{Axis, Items, Node};
+use xq_regions::{Axis, Node};
+use xq_tuples::SlotValue;
 
 /// The node that is the value of a slot.
-fn node_in(slots: &[Rc<Items>], number: usize) -> Option<Node>
+fn node_in(slots: &[SlotValue], number: usize) -> Option<Node>
     ensures { IfSome result (λ node. value_at number (values_of slots.now) ≡ Place node ∷ []) }
 {
     if number >= slots.len() {
         return None;
     }
-    only_node(&slots[number])
+    only_node(slots[number].items())
 }
 
 /// The node that the plan means, where that is one, of a variable or the context item.

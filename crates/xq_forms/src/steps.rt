@@ -1,12 +1,13 @@
 //! Steps along the axes (XQuery 3.1, sections 3.3.2 and 3.3.3).
 ghost use Rattle.std.specs.Prelude.{◌≡◌, ◌*◌, ◌∷◌, [], ℕ, map, IfOk, Ok};
+ghost use Rattle.xq_regions.specs.declared.Axis.TheVariants as axes;
 ghost use Rattle.xq_regions.specs.Items.{item_view, item_views};
 ghost use Rattle.xq_sources.specs.Sources.{HasNode};
 ghost use Rattle.xq_meaning.specs.Items.{Node as NodeItem};
 ghost use Rattle.xq_meaning.specs.Readings.{node_at, items_at, AreIn};
 ghost use Rattle.xq_meaning.specs.Forms as Forms;
 ghost use Rattle.xq_forms.specs.Reads.{rows_of, AreOf, HasGrown};
-ghost use Rattle.xq_forms.specs.Views.{focus_at, on_axis, after_double_slash, parents_below as parents_below_lem, FrameIn, Goes, GivesSequence};
+ghost use Rattle.xq_forms.specs.Views.{focus_at, on_axis, first_on_axis, after_double_slash, parents_below as parents_below_lem, FrameIn, Goes, GivesSequence};
 
 use crate::frames::Frame;
 use crate::nodes::{as_items, context_node, nodes_among, only_node, only_nodes};
@@ -34,6 +35,26 @@ pub fn axis_items<W: Growing>(
     let node = context_node(frame.focus)?;
     let items = xq_axes::items_on_axis(alloc, world, node, axis, test)?;
     Ok(in_axis_order(axis, items))
+}
+
+/// The first children of the context node that pass the test, so many at most.
+pub fn first_children<W: Growing>(
+    alloc: Global,
+    world: &mut W,
+    frame: Frame<'_>,
+    test: &Test,
+    most: usize,
+) -> Result<Items, Fault>
+    ensures goes { Goes (W.forest world.old) (W.forest world.new) (W.is_clean world.old)
+        (W.is_clean world.new) }
+    ensures gives { W.is_clean world.new → FrameIn (W.forest world.old) frame.entry
+        → GivesSequence (first_on_axis most axes.Child test.now
+        (focus_at (W.forest world.old) frame.entry.focus) (W.forest world.old))
+        (W.forest world.new) result }
+{
+    let node = context_node(frame.focus)?;
+    let items = xq_axes::first_children(alloc, world, node, test, most)?;
+    Ok(items)
 }
 
 /// [`scan`] from one node.

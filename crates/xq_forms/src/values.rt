@@ -13,10 +13,10 @@ ghost use Rattle.xq_forms.specs.Views.{focus_at, tuple_at, FocusIn, TupleIn, Giv
 
 use crate::frames::Focus;
 use std::alloc::Global;
-use std::rc::Rc;
 use xq_atoms::{Atom, Code, Decimal, Fault, Want};
 use xq_expressions::Quantifier;
 use xq_regions::{Item, Items};
+use xq_tuples::SlotValue;
 
 /// The same items.
 pub fn copied(alloc: Global, items: &[Item]) -> Result<Items, Want>
@@ -71,7 +71,7 @@ pub fn boolean(alloc: Global, value: bool) -> Result<Items, Fault>
 }
 
 /// A copy of the value of a slot.
-pub fn variable(alloc: Global, slots: &[Rc<Items>], number: usize) -> Result<Items, Fault>
+pub fn variable(alloc: Global, slots: &[SlotValue], number: usize) -> Result<Items, Fault>
     ensures { (trees : List Tree) → TupleIn trees (values_of slots.now)
         → GivesSequence (give (value_at number (tuple_at trees (values_of slots.now))) trees) trees
         result }
@@ -80,13 +80,13 @@ pub fn variable(alloc: Global, slots: &[Rc<Items>], number: usize) -> Result<Ite
 }
 
 /// The value of a slot.
-pub fn slot(alloc: Global, slots: &[Rc<Items>], slot: usize) -> Result<Items, Want>
+pub fn slot(alloc: Global, slots: &[SlotValue], slot: usize) -> Result<Items, Want>
     ensures { IfOk result (λ items. item_views items ≡ value_at slot (values_of slots.now)) }
 {
     if slot >= slots.len() {
         return Ok(Vec::new(alloc));
     }
-    copied(alloc, &slots[slot])
+    copied(alloc, slots[slot].items())
 }
 
 /// The context item (XQuery 3.1, section 3.1.4); XPDY0002 where there is none.
@@ -104,9 +104,9 @@ pub fn context_item(alloc: Global, focus: Option<Focus<'_>>) -> Result<Items, Fa
 /// The slots, and after them those of a tuple.
 pub fn joined(
     alloc: Global,
-    slots: &[Rc<Items>],
-    tuple: &[Rc<Items>],
-) -> Result<Vec<Rc<Items>>, Want>
+    slots: &[SlotValue],
+    tuple: &[SlotValue],
+) -> Result<Vec<SlotValue>, Want>
     ensures { IfOk result (λ all. values_of all.items ≡ values_of slots.now ++ values_of
         tuple.now) }
 {
@@ -117,7 +117,7 @@ pub fn joined(
 }
 
 /// Keeps the first `outer` slots, and puts those of a tuple after them.
-pub fn refill(slots: &mut Vec<Rc<Items>>, outer: usize, tuple: &[Rc<Items>]) -> Result<(), Want>
+pub fn refill(slots: &mut Vec<SlotValue>, outer: usize, tuple: &[SlotValue]) -> Result<(), Want>
     ensures { OnOk result (values_of slots.new.items
         ≡ take outer (values_of slots.old.items) ++ values_of tuple.now) }
 {
@@ -126,14 +126,28 @@ pub fn refill(slots: &mut Vec<Rc<Items>>, outer: usize, tuple: &[Rc<Items>]) -> 
     Ok(())
 }
 
+/// Keeps the first `kept` slots, and puts one after them that holds the item.
+pub fn rebind(
+    alloc: Global,
+    slots: &mut Vec<SlotValue>,
+    kept: usize,
+    item: &Item,
+) -> Result<(), Want>
+    ensures { OnOk result (values_of slots.new.items
+        ≡ take kept (values_of slots.old.items) ++ (item_view item.now ∷ []) ∷ []) }
+{
+    slots.truncate(kept);
+    slots.push(SlotValue::of_item(alloc, item.try_clone(alloc)?)?)?;
+    Ok(())
+}
+
 /// The slots, and after them one that holds the item.
-pub fn opened(alloc: Global, slots: &[Rc<Items>], item: &Item) -> Result<Vec<Rc<Items>>, Want>
+pub fn opened(alloc: Global, slots: &[SlotValue], item: &Item) -> Result<Vec<SlotValue>, Want>
     ensures { IfOk result (λ all. values_of all.items
         ≡ values_of slots.now ++ (item_view item.now ∷ []) ∷ []) }
 {
     let mut all = slots.to_vec(alloc)?;
-    let value = single(alloc, item.try_clone(alloc)?)?;
-    all.push(Rc::new(alloc, value)?)?;
+    all.push(SlotValue::of_item(alloc, item.try_clone(alloc)?)?)?;
     Ok(all)
 }
 

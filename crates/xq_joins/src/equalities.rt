@@ -19,13 +19,13 @@ ghost use Rattle.xq_joins.specs.private.Texts.{IsText, AreText, GivesText, IsSte
 use crate::shapes::operands;
 use crate::values::value;
 use std::alloc::Global;
-use std::rc::Rc;
 use xq_atoms::{Atom, Want};
 use xq_axes::{places_on_axis, string_value};
 use xq_forms::{Frame, ShortPath, push_copy, short_path};
 use xq_meaning::{Plan, Test};
 use xq_regions::{Axis, Item, Items, Kind, Node};
 use xq_sources::RowLender;
+use xq_tuples::SlotValue;
 
 /// A step, and the text that one of the nodes must have to which it leads.
 #[derive(Clone, Copy)]
@@ -82,7 +82,7 @@ fn only_text(items: &[Item]) -> Option<&str>
 
 /// The text that a plan gives: that of a string literal, or of a variable that holds one string or
 /// untyped value.
-fn text_of<'a>(slots: &'a [Rc<Items>], plan: &'a Plan) -> Option<&'a str>
+fn text_of<'a>(slots: &'a [SlotValue], plan: &'a Plan) -> Option<&'a str>
     ensures { IfSome result (λ text. GivesText (values_of slots.now) text.now plan.now) }
 {
     match plan {
@@ -94,7 +94,7 @@ fn text_of<'a>(slots: &'a [Rc<Items>], plan: &'a Plan) -> Option<&'a str>
 
 /// The test that a predicate is where the slots hold these values: a step to children or
 /// attributes and a text, in either order, compared for equality. None where it is no such test.
-pub fn text_test<'a>(slots: &'a [Rc<Items>], predicate: &'a Plan) -> Option<TextTest<'a>>
+pub fn text_test<'a>(slots: &'a [SlotValue], predicate: &'a Plan) -> Option<TextTest<'a>>
     ensures { IfSome result (λ found.
         IsTextTest (values_of slots.now) found predicate.now) }
 {

@@ -7,11 +7,9 @@ ghost use Rattle.xq_joins.specs.Joins.{AreJoin, Fits, IsTest, first_of, start_va
 
 use crate::shapes::{key_of, operands, start_of};
 use crate::values::{are_nodes, are_one_node, value};
-use std::rc::Rc;
 use xq_expressions::AllowingEmpty;
 use xq_meaning::{Plan, PlanClause, PlanStep};
-use xq_regions::Items;
-use xq_tuples::Tuples;
+use xq_tuples::{SlotValue, Tuples};
 
 /// A key: the nodes to which scans lead from the nodes in a slot, by their texts.
 #[derive(Clone, Copy)]
@@ -55,9 +53,9 @@ fn keys_of(test: &Plan, next: usize) -> Option<Join<'_>>
 
 /// Whether what a plan starts from is the same at both tuples.
 fn is_steady(
-    outside: &[Rc<Items>],
-    first: &[Rc<Items>],
-    tuple: &[Rc<Items>],
+    outside: &[SlotValue],
+    first: &[SlotValue],
+    tuple: &[SlotValue],
     start: Option<usize>,
 ) -> bool
     ensures { result ≡ true → start_value start (values_of outside.now ++ values_of tuple.now)
@@ -77,9 +75,9 @@ fn is_steady(
 fn fits(
     join: Join<'_>,
     start: Option<usize>,
-    outside: &[Rc<Items>],
-    first: &[Rc<Items>],
-    tuple: &[Rc<Items>],
+    outside: &[SlotValue],
+    first: &[SlotValue],
+    tuple: &[SlotValue],
 ) -> bool
     ensures { result ≡ true → Fits join.entry start (values_of outside.now) (values_of first.now)
         (values_of tuple.now) }
@@ -90,7 +88,7 @@ fn fits(
 }
 
 /// Whether that is so at all tuples.
-fn all_fit(join: Join<'_>, start: Option<usize>, outside: &[Rc<Items>], tuples: &Tuples) -> bool
+fn all_fit(join: Join<'_>, start: Option<usize>, outside: &[SlotValue], tuples: &Tuples) -> bool
     ensures { result ≡ true → AllByRecursion (Fits join.entry start (values_of outside.now)
         (first_of tuples.now)) tuples.now }
 {
@@ -111,7 +109,7 @@ pub fn join_at<'a>(
     at: bool,
     source: &Plan,
     next: Option<&'a PlanClause>,
-    outside: &[Rc<Items>],
+    outside: &[SlotValue],
     tuples: &Tuples,
 ) -> Option<Join<'a>>
     ensures { IfSome result (λ join. AreJoin empties at source.now (option_copied next.entry)

@@ -17,11 +17,10 @@ use crate::joins::Join;
 use crate::keys::{Table, gathered, key_texts, table_of};
 use crate::values::{are_nodes, as_items, nodes_among, value};
 use std::alloc::Global;
-use std::rc::Rc;
 use xq_atoms::Want;
 use xq_regions::{Item, Items, merge, rises};
 use xq_sources::RowLender;
-use xq_tuples::Tuples;
+use xq_tuples::{SlotValue, Tuples};
 
 /// The nodes of the table of which a key is one of the tuple's, in document order.
 fn matching_at<L: RowLender>(
@@ -29,8 +28,8 @@ fn matching_at<L: RowLender>(
     source: &mut L,
     join: Join<'_>,
     table: &Table,
-    outside: &[Rc<Items>],
-    tuple: &[Rc<Items>],
+    outside: &[SlotValue],
+    tuple: &[SlotValue],
 ) -> Result<Items, Want>
     ensures items { L.is_clean source.new
         → TupleIn (L.forest source.old) (values_of outside.now ++ values_of tuple.now)
@@ -56,7 +55,7 @@ pub fn matching<L: RowLender>(
     alloc: Global,
     source: &mut L,
     join: Join<'_>,
-    outside: &[Rc<Items>],
+    outside: &[SlotValue],
     tuples: &Tuples,
     items: &[Item],
 ) -> Result<Option<Vec<Items>>, Want>

@@ -8,21 +8,21 @@ ghost use Rattle.xq_regions.specs.Tuples.{value_at};
 ghost use Rattle.xq_tuples.specs.Views.{values_of};
 
 use std::alloc::Global;
-use std::rc::Rc;
 use xq_atoms::Want;
 use xq_regions::{Item, Items, Node};
+use xq_tuples::SlotValue;
 
 /// The value of a slot, of those outside and then those of a tuple.
-pub fn value<'a>(outside: &'a [Rc<Items>], tuple: &'a [Rc<Items>], slot: usize) -> &'a [Item]
+pub fn value<'a>(outside: &'a [SlotValue], tuple: &'a [SlotValue], slot: usize) -> &'a [Item]
     ensures { map item_view result.now
         ≡ value_at slot (values_of outside.now ++ values_of tuple.now) }
 {
     if slot < outside.len() {
-        return &outside[slot];
+        return outside[slot].items();
     }
     let slot = slot - outside.len();
     if slot < tuple.len() {
-        return &tuple[slot];
+        return tuple[slot].items();
     }
     &[]
 }

@@ -8,7 +8,6 @@ use Rattle.std.proofs.lemmas.Str.{IsUtf8-append, IsUtf8-nil}
 use Rattle.std.proofs.Math.Seq.{drop-append_seam}
 use Rattle.std.proofs.lemmas.List.{take-append-le, drop-append-le, length-append, length-drop, take_all}
 use Rattle.std.proofs.lemmas.Option.{slice_get-get_or}
-use Rattle.xq_regions.specs.Tree.{most_nodes}
 use Rattle.xq_regions.specs.Rows.{Row, row_at}
 use Rattle.xq_regions.specs.declared.Kind.TheVariants.{Document}
 use Rattle.xq_packed.specs.declared.shapes.Shape.{Shape}
@@ -99,7 +98,7 @@ between-end text more end e =
 
 -- # A row more at the end
 
-pub push-here : (text value : Text) (names more : List Text) (name : Text) (shapes : List Shape) (s : Shape) → IsUtf8 text → IsUtf8 value → IsKept text names shapes → value_end s ≡ length text + length value → IsNumbered (names ++ more) s.name name → IsDistinct bytes_eq (names ++ more) → length (names ++ more) ≤ 2 ^ 32 → length shapes < most_nodes → IsKept (text ++ value) (names ++ more) (shapes ++ s ∷ []) × (rows_of_shapes (text ++ value) (names ++ more) 0 (shapes ++ s ∷ []) ≡ rows_of_shapes text names 0 shapes ++ row s.size s.level s.kind name value ∷ [])
+pub push-here : (text value : Text) (names more : List Text) (name : Text) (shapes : List Shape) (s : Shape) → IsUtf8 text → IsUtf8 value → IsKept text names shapes → value_end s ≡ length text + length value → IsNumbered (names ++ more) s.name name → IsDistinct bytes_eq (names ++ more) → length (names ++ more) ≤ 2 ^ 32 → length shapes + 1 < 2 ^ 32 → IsKept (text ++ value) (names ++ more) (shapes ++ s ∷ []) × (rows_of_shapes (text ++ value) (names ++ more) 0 (shapes ++ s ∷ []) ≡ rows_of_shapes text names 0 shapes ++ row s.size s.level s.kind name value ∷ [])
 push-here text value names more name shapes s u v kept ends numbered distinct few room =
     let whole : value_end s ≡ length (text ++ value) = omega (arith, length-append text value, ends) in
     let last : IsShape (text ++ value) (names ++ more) (last_end 0 shapes) s = record {
@@ -129,7 +128,7 @@ abbrev pub IsPushed : Text → List Text → List Shape → Text → List Text �
 IsPushed text names shapes text' names' shapes' new =
     IsKept text' names' shapes' × (rows_of_shapes text' names' 0 shapes' ≡ rows_of_shapes text names 0 shapes ++ new ∷ [])
 
-pub push-keeps : (text value text' : Text) (names names' : List Text) (name : Text) (shapes shapes' : List Shape) (s : Shape) → IsUtf8 text → IsUtf8 value → IsKept text names shapes → text' ≡ text ++ value → names' ≡ with_name names name → shapes' ≡ shapes ++ s ∷ [] → value_end s ≡ length text + length value → IsNumbered names' s.name name → length names' ≤ 2 ^ 32 → length shapes < most_nodes → IsPushed text names shapes text' names' shapes' (row s.size s.level s.kind name value)
+pub push-keeps : (text value text' : Text) (names names' : List Text) (name : Text) (shapes shapes' : List Shape) (s : Shape) → IsUtf8 text → IsUtf8 value → IsKept text names shapes → text' ≡ text ++ value → names' ≡ with_name names name → shapes' ≡ shapes ++ s ∷ [] → value_end s ≡ length text + length value → IsNumbered names' s.name name → length names' ≤ 2 ^ 32 → length shapes + 1 < 2 ^ 32 → IsPushed text names shapes text' names' shapes' (row s.size s.level s.kind name value)
 push-keeps text value text' names names' name shapes shapes' s u v kept te ne se ends numbered few room =
     let more = grown names name in
     let e : names' ≡ names ++ more.0 = ne ∙ more.1 in

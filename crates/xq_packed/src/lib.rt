@@ -1,9 +1,9 @@
 //! Rows of sixteen bytes beside one text of their values, with their names numbered.
 #![tactic(auto)]
 
-ghost use Rattle.std.specs.Prelude.{map, All, ℕ, ◌≡◌, ◌<◌, ◌≤◌, ◌+◌, ◌++◌, take, ◌∷◌, [], length, string_bytes, slice_get, IfSome, IfNone, IfErr, OnOk, OnErr};
+ghost use Rattle.std.specs.Prelude.{map, All, ℕ, ◌≡◌, ◌↔◌, ◌^◌, ◌<◌, ◌++◌, take, ◌∷◌, [], length, string_bytes, slice_get, IfSome, IfNone, IfErr, OnOk, OnErr, IsTrue};
 ghost use Rattle.std.specs.Option.{option_map};
-ghost use Rattle.xq_regions.specs.Tree.{most_levels, most_nodes};
+ghost use Rattle.xq_regions.specs.Tree.{most_levels};
 ghost use Rattle.xq_regions.specs.Rows.{row_of, row_at};
 ghost use Rattle.xq_packed.specs.Packed.{row, with_name, IsExtended, IsNumberOf, NoneNamed};
 ghost use Rattle.xq_packed.specs.private.Shapes.{Describes};
@@ -12,15 +12,21 @@ use indexmap::IndexSet;
 use std::alloc::Global;
 use std::marker::Model;
 use xq_atoms::Want;
-use xq_regions::{Kind, MAX_LEVEL, MAX_NODES, NodeRow};
+use xq_regions::{Kind, MAX_LEVEL, NodeRow};
 
+mod changes;
+mod judged;
 mod names;
 mod row;
+mod runs;
 mod shapes;
 
 use names::number_among;
 pub use row::PackedRow;
 use shapes::{Shape, end_after, start_at};
+
+/// The most rows: their places have four bytes.
+pub const MOST_ROWS: usize = 0xFFFF_FFFF;
 
 /// Rows in a list, without their places. Contracts see the rows and the distinct names among which
 /// theirs are, in the order of their numbers.
@@ -65,17 +71,25 @@ impl PackedRows {
         }
     }
 
-    /// How many rows there are: never more than a tree may have.
+    /// How many rows there are: their places have four bytes.
     #[inline]
     pub fn len(&self) -> usize
         ensures rows { result ≡ length self.now.rows }
-        ensures room { result ≤ most_nodes }
+        ensures room { result < 2 ^ 32 }
     {
         self.shapes.len()
     }
 
+    /// Whether there is no row.
+    #[inline]
+    pub fn is_empty(&self) -> bool
+        ensures { IsTrue result ↔ (self.now.rows ≡ []) }
+    {
+        self.len() == 0
+    }
+
     /// Adds a row of these parts after the others; where it is refused, they are as before. It is
-    /// refused by `Want::Store` where no tree has it: on too deep a level, or as one too many.
+    /// refused by `Want::Store` where no tree has it: on too deep a level.
     pub fn push_parts(
         &mut self,
         size: u32,
@@ -89,12 +103,13 @@ impl PackedRows {
         ensures names { OnOk result (self.new.names ≡ with_name self.old.names name.now) }
         ensures fits { OnOk result (level < most_levels) }
         ensures err { OnErr result (self.new ≡ self.old) }
-        ensures want { level < most_levels → length self.old.rows < most_nodes
-            → IfErr result (λ want. want ≡ Want.Memory) }
+        ensures want { level < most_levels → IfErr result (λ want. want ≡ Want.Memory) }
     {
-        let count = self.shapes.len();
-        if level > MAX_LEVEL || count >= MAX_NODES {
+        if level > MAX_LEVEL {
             return Err(Want::Store);
+        }
+        if self.shapes.len() >= MOST_ROWS {
+            return Err(Want::Memory);
         }
         let (end_low, end_high) = end_after(self.text.len(), value.len())?;
         self.shapes.reserve(1)?;
@@ -113,14 +128,14 @@ impl PackedRows {
     }
 
     /// Adds a row after the others; where it is refused, they are as before. It is refused by
-    /// `Want::Store` where no tree has it: on too deep a level, or as one too many.
+    /// `Want::Store` where no tree has it: on too deep a level.
     pub fn push(&mut self, row: &NodeRow) -> Result<(), Want>
         ensures rows { OnOk result (self.new.rows ≡ self.old.rows ++ row_of row.now ∷ []) }
         ensures names { OnOk result (self.new.names
             ≡ with_name self.old.names (string_bytes row.now.name)) }
         ensures fits { OnOk result (row.now.level < most_levels) }
         ensures err { OnErr result (self.new ≡ self.old) }
-        ensures want { row.now.level < most_levels → length self.old.rows < most_nodes
+        ensures want { row.now.level < most_levels
             → IfErr result (λ want. want ≡ Want.Memory) }
     {
         self.push_parts(
@@ -140,7 +155,6 @@ impl PackedRows {
         ensures some { OnErr result ((count : ℕ)
             × IsExtended self.old self.new (map row_of (take count rows.now))) }
         ensures want { All (λ row. row.level < most_levels) rows.now
-            → length self.old.rows + length rows.now ≤ most_nodes
             → IfErr result (λ want. want ≡ Want.Memory) }
     {
         for row in rows {

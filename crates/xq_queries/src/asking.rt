@@ -17,7 +17,8 @@ use xq_axes::copy;
 use xq_build::print_items;
 use xq_eval::eval;
 use xq_meaning::Plan;
-use xq_regions::{Fragment, Item};
+use xq_packed_trees::PackedTree;
+use xq_regions::Item;
 use xq_sources::{Addresses, Growing, RowLender};
 
 /// The text of the plan's value over the trees of `world`, of which the first are the documents at
@@ -90,7 +91,7 @@ pub fn make<W: Growing>(
     plan: &Plan,
     world: &mut W,
     addresses: &Addresses,
-) -> Result<Fragment, Fault>
+) -> Result<PackedTree, Fault>
     ensures gives { W.is_clean world.new → length addresses.now ≤ length (W.forest world.old)
         → GivesUnlessWanting (λ tree. tree)
         (made_document (plan_value plan.now addresses.now (W.forest world.old))) result }
@@ -114,7 +115,7 @@ pub fn make<W: Growing>(
 
 /// The last of the trees, where it was constructed since there were `earlier` of them and the items
 /// are its root alone: it is taken away and needs no copy. Else None, and all stays as it is.
-fn uprooted<W: Growing>(world: &mut W, earlier: usize, items: &[Item]) -> Option<Fragment>
+fn uprooted<W: Growing>(world: &mut W, earlier: usize, items: &[Item]) -> Option<PackedTree>
     ensures found { IfSome result (λ tree. if_document_lem tree.root.kind tree
         ≡ document (
           items_at (W.forest world.old) (map item_view items.now),
@@ -137,7 +138,7 @@ fn uprooted<W: Growing>(world: &mut W, earlier: usize, items: &[Item]) -> Option
 }
 
 /// The tree, where its root is a document node.
-fn if_document(tree: Fragment) -> Option<Fragment>
+fn if_document(tree: PackedTree) -> Option<PackedTree>
     ensures found { result ≡ if_document_lem tree.root.kind tree }
     ensures kind { IfSome result (λ tree. tree.root.kind ≡ Document) }
 {
@@ -149,7 +150,7 @@ fn document_of<L: RowLender>(
     alloc: Global,
     source: &mut L,
     items: &[Item],
-) -> Result<Option<Fragment>, Want>
+) -> Result<Option<PackedTree>, Want>
     ensures found { L.is_clean source.new → IfOk result (λ found.
         found ≡ document (
           items_at (L.forest source.old) (map item_view items.now),

@@ -21,7 +21,7 @@ fn library(alloc: Global) -> Result<Fragments, Fault> {
         &mut Trees::new(alloc, Fragments::new(alloc)),
         &Addresses::new(alloc),
     )?;
-    fragments.push(tree)?;
+    fragments.push_packed(tree)?;
     Ok(fragments)
 }
 

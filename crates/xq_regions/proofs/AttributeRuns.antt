@@ -1,21 +1,21 @@
 -- The attributes of a row are the rows that follow it at once.
-use Rattle.std.proofs.Common.{◌≡◌, ℕ, zero, suc, ◌+◌, ◌-◌, ◌<◌, ◌≤◌, List, [], ◌∷◌, ◌++◌, length, get_or, drop, take, map, filter, cond, Bool, true, false, ◌&&◌, refl, sym, ◌∙◌, ap, subst, arith, ◌↔◌}
-use Rattle.std.specs.Prelude.{slice_range, IsTrue}
+use Rattle.std.proofs.Common.{◌≡◌, ℕ, zero, suc, ◌+◌, ◌-◌, ◌<◌, ◌≤◌, List, [], ◌∷◌, ◌++◌, length, drop, take, map, filter, cond, Bool, true, false, ◌&&◌, refl, sym, ◌∙◌, ap, subst, arith, ◌↔◌}
+use Rattle.std.specs.Prelude.{slice_range, IsTrue, IfOk, Result, Ok, Err}
 use Rattle.std.specs.List.{IsDistinct}
 use Rattle.std.specs.Str.{bytes_eq}
 use Rattle.std.specs.List.Sorted.{IsStrictlyIncreasing}
 use Rattle.std.proofs.Math.Seq.{drop-cons}
 use Rattle.std.proofs.lemmas.Bool.{eqb-true, true≢false}
-use Rattle.std.proofs.lemmas.List.{take_more, append-nil, get_or-drop, length-drop}
+use Rattle.std.proofs.lemmas.List.{take_more, append-nil, get_or-drop, length-drop, take-map, drop-map}
 use Rattle.xq_regions.specs.Forest.{tops}
 use Rattle.xq_regions.specs.Tree.{Label, is_attribute, may_stand, may_follow, is_content, attribute_names, are_attributes_first}
-use Rattle.xq_regions.specs.Rows.{Row, no_row, row_at, row_of, AreNumbered, front, nest}
+use Rattle.xq_regions.specs.Rows.{Row, no_row, row_at, row_name, row_of, AreNumbered, front, nest}
 use Rattle.xq_regions.specs.private.Checks.{label_of, name_of, pre_of, IsChecked, RowOk, is_run, roots, AreNamed, IsNamedAt}
 use Rattle.xq_regions.specs.declared.NodeRow.{NodeRow}
 use Rattle.xq_regions.specs.declared.Kind.{Kind}
 use Rattle.xq_regions.specs.declared.Kind.TheVariants.{Document, Element, Attribute, Text, Comment, ProcessingInstruction}
 use Rattle.xq_regions.proofs.Checking.{both, child_is_ok, roots_stop, IsChecked-drop, checked_later}
-use Rattle.xq_regions.proofs.Walks.{length-map, row_at-map, roots_next, run_within}
+use Rattle.xq_regions.proofs.Walks.{length-map, roots_next, run_within}
 use Rattle.xq_regions.proofs.Encoding.{row_parts, run_content, numbered_at, checked_at, roots_of_row}
 
 no_child_of_attribute : (a b : Kind) → is_attribute a ≡ true → may_stand a b ≡ true → ⊥
@@ -70,61 +70,59 @@ no_more_names a (b ∷ labels) h e =
 
 -- # A walk over the attributes
 
-size_zero : (xs : List NodeRow) (c : ℕ) (x : NodeRow) → c < length xs → x ≡ get_or xs c x → IsChecked (drop c (map row_of xs)) → is_attribute x.kind ≡ true → x.size ≡ 0
-size_zero xs c x b here h a =
-    let rs = map row_of xs in
+size_zero : (rs : List Row) (c : ℕ) → c < length rs → IsChecked (drop c rs) → is_attribute (row_at rs c).label.kind ≡ true → (row_at rs c).size ≡ 0
+size_zero rs c b h a =
     let r = row_at rs c in
-    let same : r ≡ row_of x = row_at-map xs c x b here in
-    let g : IsChecked (r ∷ drop (suc c) rs) = subst IsChecked (drop-cons rs c no_row (let l = length-map row_of xs in omega arith)) h in
-    let k : is_attribute r.label.kind ≡ true = ap (λ (y : Row). is_attribute y.label.kind) same ∙ a in
-    let z : r.size ≡ 0 = attribute_size r (tops (front r.size (nest (drop (suc c) rs)))) k g.0 in
-    omega (arith, z, ap (λ (y : Row). y.size) same)
+    let g : IsChecked (r ∷ drop (suc c) rs) = subst IsChecked (drop-cons rs c no_row b) h in
+    attribute_size r (tops (front r.size (nest (drop (suc c) rs)))) a g.0
 
-abbrev pub names_from : List NodeRow → ℕ → ℕ → List (List ℕ)
-names_from xs c stop = attribute_names (map label_of (roots (map row_of xs) c stop))
+abbrev pub names_from : List Row → ℕ → ℕ → List (List ℕ)
+names_from rs c stop = attribute_names (map label_of (roots rs c stop))
 
-abbrev pub InFront : List NodeRow → ℕ → ℕ → Type 0
-InFront xs c stop = are_attributes_first (map label_of (roots (map row_of xs) c stop)) ≡ true
+abbrev pub InFront : List Row → ℕ → ℕ → Type 0
+InFront rs c stop = are_attributes_first (map label_of (roots rs c stop)) ≡ true
 
-module _ (xs : List NodeRow) (c stop : ℕ) (x : NodeRow) (before : c < stop) (within : stop ≤ length xs) (here : x ≡ get_or xs c x) (checked : IsChecked (drop c (map row_of xs))) (first : InFront xs c stop) where
-  pub next_names : is_attribute x.kind ≡ true → InFront xs (c + 1) stop × (names_from xs c stop ≡ name_of x ∷ names_from xs (c + 1) stop)
+module _ (rs : List Row) (c stop : ℕ) (before : c < stop) (within : stop ≤ length rs) (checked : IsChecked (drop c rs)) (first : InFront rs c stop) where
+  pub next_names : is_attribute (row_at rs c).label.kind ≡ true → InFront rs (c + 1) stop × (names_from rs c stop ≡ row_name (row_at rs c) ∷ names_from rs (c + 1) stop)
   next_names a =
-      let z = size_zero xs c x (omega arith) here checked a in
-      let step : roots (map row_of xs) c stop ≡ row_of x ∷ roots (map row_of xs) (c + 1) stop = roots_next xs c stop x before within here checked (c + 1) (omega (arith, z)) in
-      let later = map label_of (roots (map row_of xs) (c + 1) stop) in
-      let front : are_attributes_first (label_of (row_of x) ∷ later) ≡ true = sym (ap (λ rs. are_attributes_first (map label_of rs)) step) ∙ first in
-      ((both _ _ front).1, ap (λ rs. attribute_names (map label_of rs)) step ∙ names-cons (label_of (row_of x)) later true a)
+      let r = row_at rs c in
+      let z = size_zero rs c (omega arith) checked a in
+      let step : roots rs c stop ≡ r ∷ roots rs (c + 1) stop = roots_next rs c stop before within checked (c + 1) (omega (arith, z)) in
+      let later = map label_of (roots rs (c + 1) stop) in
+      let front : are_attributes_first (label_of r ∷ later) ≡ true = sym (ap (λ rs. are_attributes_first (map label_of rs)) step) ∙ first in
+      ((both _ _ front).1, ap (λ rs. attribute_names (map label_of rs)) step ∙ names-cons (label_of r) later true a)
 
-  pub no_names : is_attribute x.kind ≡ false → names_from xs c stop ≡ []
+  pub no_names : is_attribute (row_at rs c).label.kind ≡ false → names_from rs c stop ≡ []
   no_names a =
-      let step : roots (map row_of xs) c stop ≡ row_of x ∷ roots (map row_of xs) (suc c + x.size) stop = roots_next xs c stop x before within here checked (suc c + x.size) refl in
-      let later = map label_of (roots (map row_of xs) (suc c + x.size) stop) in
-      let front : are_attributes_first (label_of (row_of x) ∷ later) ≡ true = sym (ap (λ rs. are_attributes_first (map label_of rs)) step) ∙ first in
-      ap (λ rs. attribute_names (map label_of rs)) step ∙ no_more_names (label_of (row_of x)) later front a
+      let r = row_at rs c in
+      let step : roots rs c stop ≡ r ∷ roots rs (suc c + r.size) stop = roots_next rs c stop before within checked (suc c + r.size) refl in
+      let later = map label_of (roots rs (suc c + r.size) stop) in
+      let front : are_attributes_first (label_of r ∷ later) ≡ true = sym (ap (λ rs. are_attributes_first (map label_of rs)) step) ∙ first in
+      ap (λ rs. attribute_names (map label_of rs)) step ∙ no_more_names (label_of r) later front a
 
-pub names_at_stop : (xs : List NodeRow) (c stop : ℕ) → stop ≤ c → names_from xs c stop ≡ []
-names_at_stop xs c stop h = ap (λ rs. attribute_names (map label_of rs)) (roots_stop (map row_of xs) c stop h)
+pub names_at_stop : (rs : List Row) (c stop : ℕ) → stop ≤ c → names_from rs c stop ≡ []
+names_at_stop rs c stop h = ap (λ rs. attribute_names (map label_of rs)) (roots_stop rs c stop h)
 
 pub checked_next : (rs : List Row) (c : ℕ) → IsChecked (drop c rs) → IsChecked (drop (c + 1) rs)
 checked_next rs c h = checked_later rs c (c + 1) h (omega arith)
 
 -- one more row in a slice
-slice_more : (xs : List NodeRow) (from at : ℕ) (x : NodeRow) → from ≤ at → at < length xs → x ≡ get_or xs at x → slice_range xs from (at + 1) ≡ slice_range xs from at ++ x ∷ []
-slice_more xs from at x l b here =
+slice_more : (rs : List Row) (from at : ℕ) → from ≤ at → at < length rs → slice_range rs from (at + 1) ≡ slice_range rs from at ++ row_at rs at ∷ []
+slice_more rs from at l b =
     let n : at + 1 - from ≡ at - from + 1 = omega arith in
     let i : from + (at - from) ≡ at = omega arith in
-    let e : get_or (drop from xs) (at - from) x ≡ x = get_or-drop from xs (at - from) x ∙ ap (λ k. get_or xs k x) i ∙ sym here in
-    ap (λ k. take k (drop from xs)) n
-    ∙ take_more (drop from xs) (at - from) x (let d = length-drop from xs in omega arith)
-    ∙ ap (λ y. take (at - from) (drop from xs) ++ y ∷ []) e
+    let e : row_at (drop from rs) (at - from) ≡ row_at rs at = get_or-drop from rs (at - from) no_row ∙ ap (λ k. row_at rs k) i in
+    ap (λ k. take k (drop from rs)) n
+    ∙ take_more (drop from rs) (at - from) no_row (let d = length-drop from rs in omega arith)
+    ∙ ap (λ (y : Row). take (at - from) (drop from rs) ++ y ∷ []) e
 
-names_push : (zs : List NodeRow) (x : NodeRow) (rest : List (List ℕ)) → map name_of (zs ++ x ∷ []) ++ rest ≡ map name_of zs ++ (name_of x ∷ rest)
+names_push : (zs : List Row) (x : Row) (rest : List (List ℕ)) → map row_name (zs ++ x ∷ []) ++ rest ≡ map row_name zs ++ (row_name x ∷ rest)
 names_push [] x rest = refl
-names_push (z ∷ zs) x rest = ap (λ l. name_of z ∷ l) (names_push zs x rest)
+names_push (z ∷ zs) x rest = ap (λ l. row_name z ∷ l) (names_push zs x rest)
 
-pub names_more : (xs : List NodeRow) (from at : ℕ) (x : NodeRow) (rest : List (List ℕ)) → from ≤ at → at < length xs → x ≡ get_or xs at x → map name_of (slice_range xs from at) ++ (name_of x ∷ rest) ≡ map name_of (slice_range xs from (at + 1)) ++ rest
-names_more xs from at x rest l b here =
-    sym (names_push (slice_range xs from at) x rest) ∙ ap (λ ys. map name_of ys ++ rest) (sym (slice_more xs from at x l b here))
+pub names_more : (rs : List Row) (from at : ℕ) (rest : List (List ℕ)) → from ≤ at → at < length rs → map row_name (slice_range rs from at) ++ (row_name (row_at rs at) ∷ rest) ≡ map row_name (slice_range rs from (at + 1)) ++ rest
+names_more rs from at rest l b =
+    sym (names_push (slice_range rs from at) (row_at rs at) rest) ∙ ap (λ ys. map row_name ys ++ rest) (sym (slice_more rs from at l b))
 
 pub names_end : (all some rest : List (List ℕ)) → all ≡ some ++ rest → rest ≡ [] → all ≡ some
 names_end all some rest e g = e ∙ ap (λ l. some ++ l) g ∙ append-nil some
@@ -150,44 +148,49 @@ pub places_rise : (xs : List NodeRow) (from to : ℕ) → AreNumbered 0 xs → I
 places_rise xs from to h = numbered_rise (0 + from) (slice_range xs from to) (numbered_take (0 + from) (to - from) (drop from xs) (numbered_drop 0 from xs h))
 
 -- the rows below a row end within the rows, attributes first
-pub record Below (xs : List NodeRow) (i : ℕ) (x : NodeRow) : Type 0 where
-  pub within : i + 1 + x.size ≤ length xs
-  pub checked : IsChecked (drop (i + 1) (map row_of xs))
-  pub in_front : InFront xs (i + 1) (i + 1 + x.size)
+pub record Below (rs : List Row) (i : ℕ) (stop : ℕ) : Type 0 where
+  pub within : stop ≤ length rs
+  pub checked : IsChecked (drop (i + 1) rs)
+  pub in_front : InFront rs (i + 1) stop
 
-pub below : (xs : List NodeRow) (i : ℕ) (x : NodeRow) → i < length xs → x ≡ get_or xs i x → IsChecked (map row_of xs) → Below xs i x
-below xs i x b here h =
-    let rs = map row_of xs in
+pub below : (rs : List Row) (i stop : ℕ) → i < length rs → stop ≡ i + 1 + (row_at rs i).size → IsChecked rs → Below rs i stop
+below rs i stop b e h =
     let r = row_at rs i in
-    let same : r ≡ row_of x = row_at-map xs i x b here in
-    let s : r.size ≡ x.size = ap (λ (y : Row). y.size) same in
-    let n : suc i + r.size ≡ i + 1 + x.size = omega (arith, s) in
+    let n : suc i + r.size ≡ stop = omega (arith, e) in
     let m : suc i ≡ i + 1 = omega arith in
-    let len = length-map row_of xs in
     let tail : IsChecked (drop (suc i) rs) = IsChecked-drop (suc i) rs h in
-    let run = (row_parts r (roots rs (suc i) (suc i + r.size)) (checked_at rs i (omega arith) h)).run in
-    let room = run_within r xs (suc i) r.size (omega arith) tail run in
+    let run = (row_parts r (roots rs (suc i) (suc i + r.size)) (checked_at rs i b h)).run in
+    let room = run_within r rs (suc i) r.size (omega arith) tail run in
     record {
-      within = omega (arith, room, s);
+      within = omega (arith, room, n);
       checked = subst (λ k. IsChecked (drop k rs)) m tail;
       in_front =
-          ap (λ k. are_attributes_first (map label_of (roots rs k (i + 1 + x.size)))) (sym m)
+          ap (λ k. are_attributes_first (map label_of (roots rs k stop))) (sym m)
           ∙ ap (λ k. are_attributes_first (map label_of (roots rs (suc i) k))) (sym n)
           ∙ content_in_front r.label (map label_of (roots rs (suc i) (suc i + r.size))) (run_content r r.size (roots rs (suc i) (suc i + r.size)) run);
     }
 
--- the names that the row's attributes have are those of the slice
-pub names_at : (xs : List NodeRow) (i : ℕ) (x : NodeRow) (to : ℕ) (r : Bool) → i < length xs → x ≡ get_or xs i x → names_from xs (i + 1) (i + 1 + x.size) ≡ map name_of (slice_range xs (i + 1) to)
-    → IsTrue r ↔ IsDistinct bytes_eq (map name_of (slice_range xs (i + 1) to)) → IsTrue r ↔ IsNamedAt (map row_of xs) i
-names_at xs i x to r b here e h =
-    let rs = map row_of xs in
-    let s : (row_at rs i).size ≡ x.size = ap (λ (y : Row). y.size) (row_at-map xs i x b here) in
-    let n : suc i + (row_at rs i).size ≡ i + 1 + x.size = omega (arith, s) in
+-- the names that the row's attributes have are these
+pub names_at : (rs : List Row) (i stop : ℕ) (names : List (List ℕ)) (r : Bool) → stop ≡ i + 1 + (row_at rs i).size → names_from rs (i + 1) stop ≡ names
+    → IsTrue r ↔ IsDistinct bytes_eq names → IsTrue r ↔ IsNamedAt rs i
+names_at rs i stop names r s e h =
+    let n : suc i + (row_at rs i).size ≡ stop = omega (arith, s) in
     let m : suc i ≡ i + 1 = omega arith in
-    let names : List Row → List (List ℕ) = λ below. attribute_names (map label_of below) in
-    let same : names (tops (front (row_at rs i).size (nest (drop (suc i) rs)))) ≡ map name_of (slice_range xs (i + 1) to) =
-    ap names (sym (roots_of_row rs i (row_at rs i))) ∙ ap (λ k. names_from xs (suc i) k) n ∙ ap (λ k. names_from xs k (i + 1 + x.size)) m ∙ e in
+    let of : List Row → List (List ℕ) = λ below. attribute_names (map label_of below) in
+    let same : of (tops (front (row_at rs i).size (nest (drop (suc i) rs)))) ≡ names =
+    ap of (sym (roots_of_row rs i (row_at rs i))) ∙ ap (λ k. names_from rs (suc i) k) n ∙ ap (λ k. names_from rs k stop) m ∙ e in
     (λ t. subst (IsDistinct bytes_eq) (sym same) (h.0 t), λ d. h.1 (subst (IsDistinct bytes_eq) same d))
+
+-- names in a list of rows that code holds
+pub names_listed : (xs : List NodeRow) (from to : ℕ) → map row_name (slice_range (map row_of xs) from to) ≡ map name_of (slice_range xs from to)
+names_listed xs from to =
+    ap (λ ys. map row_name (take (to - from) ys)) (drop-map row_of from xs)
+    ∙ ap (map row_name) (take-map row_of (to - from) (drop from xs))
+    ∙ names-map (slice_range xs from to)
+  where
+    names-map : (ys : List NodeRow) → map row_name (map row_of ys) ≡ map name_of ys
+    names-map [] = refl
+    names-map (y ∷ ys) = ap (λ l. name_of y ∷ l) (names-map ys)
 
 -- # The attributes of all rows
 
@@ -202,3 +205,8 @@ named_at (r ∷ rs) (suc i) l h = named_at rs i (omega arith) h.1
 
 pub not_named : (rs : List Row) (i : ℕ) (r : Bool) → i < length rs → IsTrue r ↔ IsNamedAt rs i → r ≡ false → IsTrue false ↔ AreNamed rs
 not_named rs i r l h e = (λ t. absurd (true≢false (sym t)), λ a. absurd (true≢false (sym (h.1 (named_at rs i l a)) ∙ e)))
+
+-- what an answer says where it says more
+pub if_ok : {A E : Type 0} (P Q : A → Type 0) → ((x : A) → P x → Q x) → (r : Result A E) → IfOk r P → IfOk r Q
+if_ok P Q f (Ok x) h = f x h
+if_ok P Q f (Err e) h = tt

@@ -9,8 +9,8 @@ use Rattle.std.specs.Prelude.{nat_eq, nat_le, slice_index}
 use Rattle.xq_regions.specs.declared.NodeRow.{NodeRow}
 use Rattle.xq_regions.specs.Forest.{Forest, end, node, count, labels, tops, map_forest, EachNode, IsWithinHeight}
 use Rattle.xq_regions.specs.Tree.{Label, Tree, IsText, IsTree, nodes, may_stand, has_text, may_precede, attribute_names, is_content, is_legal}
-use Rattle.xq_regions.specs.Rows.{Row, rows, measured, front, back, nest, tree_of, no_row, row_at, row_of, AreNumbered, Encodes, IsEncoding}
-use Rattle.xq_regions.specs.private.Checks.{label_of, child_ok, is_run, RowOk, IsChecked, NamesOk, AreNamed, Passes, IsNested, roots, IsSoundAt}
+use Rattle.xq_regions.specs.Rows.{Row, rows, measured, front, back, nest, tree_of, no_row, row_at, row_of, AreNumbered, AreRowsOf, Encodes, IsEncoding}
+use Rattle.xq_regions.specs.private.Checks.{label_of, child_ok, is_run, RowOk, IsChecked, NamesOk, AreNamed, AreTexts, Passes, roots, IsSoundAt}
 use Rattle.xq_regions.specs.Nesting.{count-measured, nest-rows, tree_of-rows}
 use Rattle.xq_regions.proofs.Nests.{labels-nest}
 use Rattle.xq_regions.proofs.Regions.{length-labels}
@@ -96,11 +96,6 @@ rows_named end h = tt
 rows_named (node r below beside) h =
     (subst (λ l. IsDistinct bytes_eq (attribute_names l)) (sym (tops-map label_of below)) h.0, (rows_named below h.1.0, rows_named beside h.1.1))
 
--- the names and values of the rows are UTF-8
-abbrev pub AreTexts : List Row → Type 0
-AreTexts [] = Unit {0}
-AreTexts (r ∷ rs) = IsText r.label × AreTexts rs
-
 abbrev IsTextRow : Row → List Row → Type 0
 IsTextRow r below = IsText r.label
 
@@ -121,11 +116,7 @@ texts_of (x ∷ xs) = ((IsUtf8-string_bytes x.name, IsUtf8-string_bytes x.value)
 pub count-nest : (rs : List Row) → count (nest rs) ≡ length rs
 count-nest rs = sym (length-labels (nest rs)) ∙ ap length (labels-nest rs)
 
-pub record EncodesRows (rs : List Row) (t : Tree) : Type 0 where
-  pub is_tree : IsTree t
-  pub rows : rs ≡ rows t
-
-pub encodes : (rs : List Row) → AreTexts rs → Passes rs → AreNamed rs → EncodesRows rs (tree_of rs)
+pub encodes : (rs : List Row) → AreTexts rs → Passes rs → AreNamed rs → AreRowsOf rs (tree_of rs)
 unfolding IsAtLevel
 encodes [] u h d = absurd (omega (arith, h.root_size))
 encodes (r ∷ rs) u h d =
@@ -217,6 +208,9 @@ numbered_at n (x ∷ xs) (suc i) g h = omega (arith, numbered_at (suc n) xs i g.
 pub roots_of_row : (rs : List Row) (i : ℕ) (r : Row) → roots rs (suc i) (suc i + r.size) ≡ tops (front r.size (nest (drop (suc i) rs)))
 roots_of_row rs i r = let e : suc i + r.size - suc i ≡ r.size = omega arith in ap (λ n. tops (front n (nest (drop (suc i) rs)))) e
 
+pub texts_step : (rs : List Row) (i : ℕ) → i < length rs → IsText (row_at rs i).label → AreTexts (drop (suc i) rs) → AreTexts (drop i rs)
+texts_step rs i h t more = subst AreTexts (sym (drop-cons rs i no_row h)) (t, more)
+
 pub checked_step : (rs : List Row) (i : ℕ) → i < length rs → IsChecked (drop (suc i) rs) → RowOk (row_at rs i) (roots rs (suc i) (suc i + (row_at rs i).size)) → IsChecked (drop i rs)
 checked_step rs i h g k =
     let r = row_at rs i in
@@ -234,20 +228,16 @@ passes xs t h = subst Passes (sym h.rows) (rows_pass t h.is_tree)
 pub names_of_rows : (xs : List NodeRow) (t : Tree) → Encodes xs t → AreNamed (map row_of xs)
 names_of_rows xs t h = subst AreNamed (sym h.rows) (rows_named_of t h.is_tree)
 
-pub nested : (xs : List NodeRow) → IsEncoding xs → IsNested xs
-nested xs e = record { passes = passes xs e.0 e.1; numbered = e.1.numbered }
+pub sound_at : (rs : List Row) (i : ℕ) → i < length rs → Passes rs → IsSoundAt rs i
+sound_at rs i h e = checked_at rs i h e.checked
 
-pub sound_at : (xs : List NodeRow) (i : ℕ) → i < length xs → IsNested xs → IsSoundAt xs i
-sound_at xs i h e =
-    (let n = numbered_at 0 xs i e.numbered h in omega arith, checked_at (map row_of xs) i (let l = length-map row_of xs in omega arith) e.passes.checked)
+pub encoding : (xs : List NodeRow) → AreNumbered 0 xs → Passes (map row_of xs) → AreNamed (map row_of xs) → IsEncoding xs
+encoding xs n h d =
+    let e = encodes (map row_of xs) (texts_of xs) h d in
+    (tree_of (map row_of xs), record { is_tree = e.is_tree; rows = e.rows; numbered = n })
 
-pub encoding : (xs : List NodeRow) → IsNested xs → AreNamed (map row_of xs) → IsEncoding xs
-encoding xs h d =
-    let e = encodes (map row_of xs) (texts_of xs) h.passes d in
-    (tree_of (map row_of xs), record { is_tree = e.is_tree; rows = e.rows; numbered = h.numbered })
-
-pub refused : (xs : List NodeRow) → (IsNested xs → ⊥) → (false ≡ true → IsNested xs) × (IsNested xs → false ≡ true)
-refused xs h = (λ e. absurd (cc), λ e. absurd (h e))
+pub refused : (rs : List Row) → (Passes rs → ⊥) → (false ≡ true → Passes rs) × (Passes rs → false ≡ true)
+refused rs h = (λ e. absurd (cc), λ e. absurd (h e))
 
 pub some_rows : (n : ℕ) → nat_eq n 0 ≡ false → 0 < n
 some_rows zero h = absurd (cc)
@@ -260,3 +250,14 @@ Encodes-tree_of xs e = subst (Encodes xs) (sym (ap tree_of e.1.rows ∙ tree_of-
 -- as many rows as nodes
 pub length-encoded : (xs : List NodeRow) (t : Tree) → map row_of xs ≡ rows t → length xs ≡ count (nodes t)
 length-encoded xs t e = sym (length-map row_of xs) ∙ ap length e ∙ length-rows t
+
+-- rows that are those of a tree pass the test, and their attributes have distinct names
+pub rows_pass_of : (rs : List Row) (t : Tree) → AreRowsOf rs t → Passes rs
+rows_pass_of rs t h = subst Passes (sym h.rows) (rows_pass t h.is_tree)
+
+pub rows_are_named : (rs : List Row) (t : Tree) → AreRowsOf rs t → AreNamed rs
+rows_are_named rs t h = subst AreNamed (sym h.rows) (rows_named_of t h.is_tree)
+
+-- they are those of the tree that they give
+pub AreRowsOf-tree_of : (rs : List Row) (t : Tree) → AreRowsOf rs t → AreRowsOf rs (tree_of rs)
+AreRowsOf-tree_of rs t h = subst (AreRowsOf rs) (sym (ap tree_of h.rows ∙ tree_of-rows t)) h

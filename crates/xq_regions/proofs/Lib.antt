@@ -17,6 +17,7 @@ pub mod AttributeRuns
 pub mod RegionTable
 pub mod SizedRows
 pub mod Sized
+pub mod Numbered
 pub mod Rising
 pub mod Subtrees
 pub mod Grouping

@@ -1,12 +1,12 @@
 -- Rows whose sizes come from their levels.
 use Rattle.std.proofs.Common.{◌≡◌, ℕ, zero, suc, ◌+◌, ◌-◌, ◌<◌, ◌≤◌, List, [], ◌∷◌, ◌++◌, length, map, drop, get_or, set, refl, sym, ap, ◌∙◌, subst, arith, Bool, true, false, cond, nat_lt, slice_index}
 use Rattle.std.proofs.lemmas.Bool.Decides.{nat_tests}
-use Rattle.std.proofs.lemmas.List.{drop_more, drop-drop, length-drop, drop-set}
+use Rattle.std.proofs.lemmas.List.{drop_more, drop_all, drop-drop, drop-map, length-drop, drop-set}
 use Rattle.std.specs.List.{prefix_len}
 use Rattle.xq_regions.specs.Tree.{Label, Tree, IsTree, nodes}
-use Rattle.xq_regions.specs.Rows.{AreNumbered, Encodes, row_of, rows, measured}
+use Rattle.xq_regions.specs.Rows.{Row, no_row, row_at, AreNumbered, AreRowsOf, Encodes, row_of, rows, measured}
 use Rattle.xq_regions.specs.declared.NodeRow.{NodeRow}
-use Rattle.xq_regions.specs.Levels.{flat, flat_row, sized}
+use Rattle.xq_regions.specs.Levels.{flat, flat_row, sized, count_deeper, AreSized}
 use Rattle.xq_regions.specs.private.Sizes.{IsSized, deeper, level_of}
 use Rattle.xq_regions.proofs.Printed.{flat-measured}
 use Rattle.xq_regions.specs.Nesting.{count-measured}
@@ -41,53 +41,90 @@ prefix_jump low level (p ∷ ps) le = by_test (nat_lt level p.0) refl (prefix_ju
         rw t (rw one (omega arith))
     by_test false e more = omega arith
 
-pub sized_drop : (n : ℕ) (rs : List NodeRow) → IsSized rs → IsSized (drop n rs)
+pub sized_drop : (n : ℕ) (rs : List Row) → AreSized rs → AreSized (drop n rs)
 sized_drop zero rs h = h
 sized_drop (suc n) [] h = h
 sized_drop (suc n) (r ∷ rs) h = sized_drop n rs h.1
 
 -- rows with the right sizes
-pub sized_rows : (rs : List NodeRow) → IsSized rs → map row_of rs ≡ sized (map flat_row rs)
-sized_rows [] h = refl
-sized_rows (r ∷ rs) h =
+pub sized_listed : (rs : List Row) → AreSized rs → rs ≡ sized (map flat rs)
+sized_listed [] h = refl
+sized_listed (r ∷ rs) h =
     let size = h.0 in
-    rw size (ap (λ l. record { size = prefix_len (λ (q : Leaf). nat_lt r.level q.0) (map flat_row rs); level = r.level; label = (row_of r).label } ∷ l) (sized_rows rs h.1))
+    rw size (ap (λ l. record { size = prefix_len (λ (q : Leaf). nat_lt r.level q.0) (map flat rs); level = r.level; label = r.label } ∷ l) (sized_listed rs h.1))
 
-deeper_le : (level : ℕ) (rs : List NodeRow) → deeper level rs ≤ length rs
+pub flat_listed : (rs : List NodeRow) → map flat (map row_of rs) ≡ map flat_row rs
+flat_listed [] = refl
+flat_listed (r ∷ rs) = ap (λ l. flat_row r ∷ l) (flat_listed rs)
+
+-- those that code holds, too
+pub are_sized : (rs : List NodeRow) → IsSized rs → AreSized (map row_of rs)
+are_sized [] h = tt
+are_sized (r ∷ rs) h = (h.0 ∙ ap (λ l. prefix_len (λ (q : Leaf). nat_lt r.level q.0) l) (sym (flat_listed rs)), are_sized rs h.1)
+
+level_listed : (rs : List NodeRow) (at : ℕ) → (row_at (map row_of rs) at).level ≡ slice_index (map level_of rs) at
+level_listed [] at = refl
+level_listed (r ∷ rs) zero = refl
+level_listed (r ∷ rs) (suc at) = level_listed rs at
+
+-- how many of the rows after one are deeper
+pub deeper_listed : (rs : List NodeRow) (at : ℕ) → count_deeper (row_at (map row_of rs) at).level (drop (at + 1) (map row_of rs)) ≡ deeper (slice_index (map level_of rs) at) (drop (at + 1) rs)
+deeper_listed rs at =
+    ap (λ l. count_deeper l (drop (at + 1) (map row_of rs))) (level_listed rs at)
+    ∙ ap (count_deeper (slice_index (map level_of rs) at)) (drop-map row_of (at + 1) rs)
+    ∙ ap (prefix_len (λ (q : Leaf). nat_lt (slice_index (map level_of rs) at) q.0)) (flat_listed (drop (at + 1) rs))
+
+pub sized_rows : (rs : List NodeRow) → IsSized rs → map row_of rs ≡ sized (map flat_row rs)
+sized_rows rs h = sized_listed (map row_of rs) (are_sized rs h) ∙ ap sized (flat_listed rs)
+
+deeper_le : (level : ℕ) (rs : List Row) → count_deeper level rs ≤ length rs
 deeper_le level [] = omega arith
 deeper_le level (r ∷ rs) = by_test (nat_lt level r.level) (deeper_le level rs)
   where
-    by_test : (b : Bool) → deeper level rs ≤ length rs → cond b (1 + deeper level rs) 0 ≤ suc (length rs)
+    by_test : (b : Bool) → count_deeper level rs ≤ length rs → cond b (1 + count_deeper level rs) 0 ≤ suc (length rs)
     by_test true h = omega arith
     by_test false h = omega arith
 
-map-drop : (n : ℕ) (rs : List NodeRow) → map flat_row (drop n rs) ≡ drop n (map flat_row rs)
+map-drop : (n : ℕ) (rs : List Row) → map flat (drop n rs) ≡ drop n (map flat rs)
 map-drop zero rs = refl
 map-drop (suc n) [] = refl
 map-drop (suc n) (r ∷ rs) = map-drop n rs
 
 -- past a row that is deeper, and those below it
-jump_one : (low : ℕ) (r : NodeRow) (rs : List NodeRow) → IsSized (r ∷ rs) → low < r.level → (deeper low (r ∷ rs) ≡ 1 + r.size + deeper low (drop r.size rs)) × (r.size ≤ length rs)
+jump_one : (low : ℕ) (r : Row) (rs : List Row) → AreSized (r ∷ rs) → low < r.level → (count_deeper low (r ∷ rs) ≡ 1 + r.size + count_deeper low (drop r.size rs)) × (r.size ≤ length rs)
 jump_one low r rs h lt =
     let t : nat_lt low r.level ≡ true = grind (arith, nat_tests) in
-    let j = prefix_jump low r.level (map flat_row rs) (omega arith) in
-    let e : deeper low rs ≡ r.size + deeper low (drop r.size rs) = rw (h.0, map-drop) j in
+    let j = prefix_jump low r.level (map flat rs) (omega arith) in
+    let e : count_deeper low rs ≡ r.size + count_deeper low (drop r.size rs) = rw (h.0, map-drop) j in
     (rw t (omega arith), omega (arith, h.0, deeper_le r.level rs))
 
-pub jump_next : (low next : ℕ) (rs : List NodeRow) (r : NodeRow) → next < length rs → r ≡ get_or rs next r → IsSized (drop next rs) → low < r.level
-    → (deeper low (drop next rs) ≡ 1 + r.size + deeper low (drop (next + (1 + r.size)) rs)) × (next + (1 + r.size) ≤ length rs)
-jump_next low next rs r lt e h less =
-    let d : drop next rs ≡ r ∷ drop (next + 1) rs = drop_more rs next r lt ∙ ap (λ x. x ∷ drop (next + 1) rs) (sym e) in
-    let j = jump_one low r (drop (next + 1) rs) (rw d at h) less in
+pub jump_next : (low next : ℕ) (rs : List Row) → next < length rs → AreSized (drop next rs) → low < (row_at rs next).level
+    → (count_deeper low (drop next rs) ≡ 1 + (row_at rs next).size + count_deeper low (drop (next + (1 + (row_at rs next).size)) rs)) × (next + (1 + (row_at rs next).size) ≤ length rs)
+jump_next low next rs lt h less =
+    let r = row_at rs next in
+    let d : drop next rs ≡ r ∷ drop (next + 1) rs = drop_more rs next no_row lt in
+    let j = jump_one low r (drop (next + 1) rs) (subst AreSized d h) less in
     let q : next + 1 + r.size ≡ next + (1 + r.size) = omega arith in
     let s : drop r.size (drop (next + 1) rs) ≡ drop (next + (1 + r.size)) rs = drop-drop r.size (next + 1) rs ∙ ap (λ n. drop n rs) q in
-    (ap (deeper low) d ∙ j.0 ∙ ap (λ x. 1 + r.size + deeper low x) s, omega (arith, j.1, length-drop (next + 1) rs))
+    (ap (count_deeper low) d ∙ j.0 ∙ ap (λ x. 1 + r.size + count_deeper low x) s, omega (arith, j.1, length-drop (next + 1) rs))
+
+-- the first that is no deeper ends those that are
+pub jump_ends : (low next : ℕ) (rs : List Row) → next < length rs → (row_at rs next).level ≤ low → count_deeper low (drop next rs) ≡ 0
+jump_ends low next rs lt le =
+    let r = row_at rs next in
+    let d : drop next rs ≡ r ∷ drop (next + 1) rs = drop_more rs next no_row lt in
+    let t : nat_lt low r.level ≡ false = grind (arith, nat_tests) in
+    ap (count_deeper low) d ∙ ap (λ b. cond b (1 + count_deeper low (drop (next + 1) rs)) 0) t
+
+-- and so does the end
+pub jump_past : (low next : ℕ) (rs : List Row) → length rs ≤ next → count_deeper low (drop next rs) ≡ 0
+jump_past low next rs le = ap (count_deeper low) (drop_all next rs le)
 
 -- the sizes are known also further on
-pub sized_after : (from to : ℕ) (rs : List NodeRow) → from ≤ to → IsSized (drop from rs) → IsSized (drop to rs)
+pub sized_after : (from to : ℕ) (rs : List Row) → from ≤ to → AreSized (drop from rs) → AreSized (drop to rs)
 sized_after from to rs le h =
     let q : from + (to - from) ≡ to = omega arith in
-    subst IsSized (drop-drop (to - from) from rs ∙ ap (λ n. drop n rs) q) (sized_drop (to - from) (drop from rs) h)
+    subst AreSized (drop-drop (to - from) from rs ∙ ap (λ n. drop n rs) q) (sized_drop (to - from) (drop from rs) h)
 
 -- a row in the place of another with the same level and label
 pub flat_set : (rs : List NodeRow) (i : ℕ) (d n : NodeRow) → flat_row n ≡ flat_row (get_or rs i d) → map flat_row (set rs i n) ≡ map flat_row rs
@@ -121,13 +158,14 @@ encodes_levels rs t is s n e =
 
 -- and a tree that they are of has them
 pub levels_encoded : (rs : List NodeRow) (t : Tree) → Encodes rs t → map flat_row rs ≡ map flat (rows t)
-levels_encoded rs t h = flat_rows rs ∙ ap (map flat) h.rows
-  where
-    flat_rows : (rs : List NodeRow) → map flat_row rs ≡ map flat (map row_of rs)
-    flat_rows [] = refl
-    flat_rows (r ∷ rs) = ap (λ l. flat_row r ∷ l) (flat_rows rs)
+levels_encoded rs t h = sym (flat_listed rs) ∙ ap (map flat) h.rows
 
 -- there are as many rows as nodes
 pub few_levels : (rs : List NodeRow) (t : Tree) → IsTree t → map flat_row rs ≡ map flat (rows t) → length rs ≤ 1000000
 few_levels rs t is e =
     omega (arith, is.room, length-map flat_row rs, ap length e, length-map flat (rows t), length-labels (measured 0 (nodes t)), count-measured 0 (nodes t))
+
+-- the same of rows without places
+pub levels_are_rows : (rs : List Row) (t : Tree) → IsTree t → AreSized rs → map flat rs ≡ map flat (rows t) → AreRowsOf rs t
+levels_are_rows rs t is s e =
+    record { is_tree = is; rows = sized_listed rs s ∙ ap sized (e ∙ flat-measured 0 (nodes t)) ∙ sized-tree t }

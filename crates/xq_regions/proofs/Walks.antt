@@ -1,6 +1,6 @@
 -- The steps of a walk over the children of a row.
 use Rattle.std.proofs.Common.{◌≡◌, ℕ, zero, suc, ◌+◌, ◌-◌, ◌<◌, ◌≤◌, List, [], ◌∷◌, length, get_or, drop, map, Bool, true, false, ◌&&◌, refl, sym, ◌∙◌, ap, arith}
-use Rattle.std.specs.Prelude.{string_bytes, nat_eq, nat_lt}
+use Rattle.std.specs.Prelude.{nat_eq, nat_lt}
 use Rattle.std.proofs.Math.Bool.{and-true}
 use Rattle.std.proofs.lemmas.Bool.{le-leb, eq-eqb}
 use Rattle.xq_regions.specs.Forest.{count, tops}
@@ -27,19 +27,16 @@ pub false_unless : (b : Bool) → (b ≡ true → ⊥) → false ≡ b
 false_unless true h = absurd (h refl)
 false_unless false h = refl
 
-module _ (xs : List NodeRow) (c stop : ℕ) (x : NodeRow) (before : c < stop) (within : stop ≤ length xs) (here : x ≡ get_or xs c x) (checked : IsChecked (drop c (map row_of xs))) where
-  pub roots_next : (n : ℕ) → n ≡ suc c + x.size → roots (map row_of xs) c stop ≡ row_of x ∷ roots (map row_of xs) n stop
-  roots_next n e =
-      let r : row_at (map row_of xs) c ≡ row_of x = row_at-map xs c x (omega arith) here in
-      roots_step (map row_of xs) c stop before (let l = length-map row_of xs in omega arith) checked
-      ∙ ap (λ (y : Row). y ∷ roots (map row_of xs) (suc c + y.size) stop) r
-      ∙ ap (λ m. row_of x ∷ roots (map row_of xs) m stop) (sym e)
+-- the first root, and those after it
+pub roots_next : (rs : List Row) (c stop : ℕ) → c < stop → stop ≤ length rs → IsChecked (drop c rs) → (n : ℕ) → n ≡ suc c + (row_at rs c).size → roots rs c stop ≡ row_at rs c ∷ roots rs n stop
+roots_next rs c stop before within checked n e =
+    roots_step rs c stop before (omega arith) checked ∙ ap (λ m. row_at rs c ∷ roots rs m stop) (sym e)
 
 pub may_precede_none : (rs : List Row) (c stop : ℕ) (kind : Kind) → stop ≤ c → may_precede kind (map label_of (roots rs c stop)) ≡ true
 may_precede_none rs c stop kind h = ap (λ xs. may_precede kind (map label_of xs)) (roots_stop rs c stop h)
 
-pub may_precede_some : (xs : List NodeRow) (c stop : ℕ) (kind : Kind) (x : NodeRow) → c < stop → stop ≤ length xs → x ≡ get_or xs c x → IsChecked (drop c (map row_of xs)) → may_precede kind (map label_of (roots (map row_of xs) c stop)) ≡ may_follow kind x.kind
-may_precede_some xs c stop kind x h w e g = ap (λ rs. may_precede kind (map label_of rs)) (roots_next xs c stop x h w e g (suc c + x.size) refl)
+pub may_precede_some : (rs : List Row) (c stop : ℕ) (kind : Kind) → c < stop → stop ≤ length rs → IsChecked (drop c rs) → may_precede kind (map label_of (roots rs c stop)) ≡ may_follow kind (row_at rs c).label.kind
+may_precede_some rs c stop kind h w g = ap (λ xs. may_precede kind (map label_of xs)) (roots_next rs c stop h w g (suc c + (row_at rs c).size) refl)
 
 -- what is left to test of a child, where the other tests passed
 pub child_decided : (parent r : Row) (n : ℕ) (labels : List Label) (p : Bool) → r.level ≡ suc parent.level → may_stand parent.label.kind r.label.kind ≡ true → has_text r.label.kind r.label.value ≡ true → r.size < n → p ≡ may_precede r.label.kind labels → p ≡ child_ok parent n r labels
@@ -54,49 +51,42 @@ child_decided parent r n labels p l k t s hp =
     ∙ ap (λ b. b && (e && nat_lt r.size n)) t
     ∙ ap (λ b. e && b) d)
 
-pub child_decided_at : (xs : List NodeRow) (i c stop n : ℕ) (y x : NodeRow) (p : Bool) → i < length xs → c < length xs → y ≡ get_or xs i y → x ≡ get_or xs c x → n ≡ suc c + x.size → x.level ≡ suc y.level → may_stand y.kind x.kind ≡ true → has_text x.kind (string_bytes x.value) ≡ true → x.size < stop - c → p ≡ may_precede x.kind (map label_of (roots (map row_of xs) n stop)) → p ≡ may_be_child (row_at (map row_of xs) i) (map row_of xs) c stop
-child_decided_at xs i c stop n y x p hi hc hy hx e l k t s hp =
-    let ey : row_at (map row_of xs) i ≡ row_of y = row_at-map xs i y hi hy in
-    let ex : row_at (map row_of xs) c ≡ row_of x = row_at-map xs c x hc hx in
-    let labels = map label_of (roots (map row_of xs) n stop) in
-    child_decided (row_of y) (row_of x) (stop - c) labels p l k t s hp
-    ∙ ap (λ m. child_ok (row_of y) (stop - c) (row_of x) (map label_of (roots (map row_of xs) m stop))) e
-    ∙ sym (ap (λ (z : Row). child_ok (row_at (map row_of xs) i) (stop - c) z (map label_of (roots (map row_of xs) (suc c + z.size) stop))) ex
-    ∙ ap (λ (z : Row). child_ok z (stop - c) (row_of x) (map label_of (roots (map row_of xs) (suc c + x.size) stop))) ey)
+pub child_decided_at : (rs : List Row) (i c stop n : ℕ) (p : Bool) → n ≡ suc c + (row_at rs c).size → (row_at rs c).level ≡ suc (row_at rs i).level → may_stand (row_at rs i).label.kind (row_at rs c).label.kind ≡ true → has_text (row_at rs c).label.kind (row_at rs c).label.value ≡ true → (row_at rs c).size < stop - c → p ≡ may_precede (row_at rs c).label.kind (map label_of (roots rs n stop)) → p ≡ may_be_child (row_at rs i) rs c stop
+child_decided_at rs i c stop n p e l k t s hp =
+    child_decided (row_at rs i) (row_at rs c) (stop - c) (map label_of (roots rs n stop)) p l k t s hp
+    ∙ ap (λ m. child_ok (row_at rs i) (stop - c) (row_at rs c) (map label_of (roots rs m stop))) e
 
-pub run_step : (parent : Row) (xs : List NodeRow) (c stop : ℕ) → c < stop → stop ≤ length xs → IsChecked (drop c (map row_of xs)) → is_run parent (stop - c) (roots (map row_of xs) c stop) ≡ (may_be_child parent (map row_of xs) c stop && is_run parent (stop - c - suc (row_at (map row_of xs) c).size) (roots (map row_of xs) (suc c + (row_at (map row_of xs) c).size) stop))
-run_step parent xs c stop h w g = ap (is_run parent (stop - c)) (roots_step (map row_of xs) c stop h (let l = length-map row_of xs in omega arith) g)
+pub run_step : (parent : Row) (rs : List Row) (c stop : ℕ) → c < stop → stop ≤ length rs → IsChecked (drop c rs) → is_run parent (stop - c) (roots rs c stop) ≡ (may_be_child parent rs c stop && is_run parent (stop - c - suc (row_at rs c).size) (roots rs (suc c + (row_at rs c).size) stop))
+run_step parent rs c stop h w g = ap (is_run parent (stop - c)) (roots_step rs c stop h (omega arith) g)
 
-pub run_fails : (parent : Row) (xs : List NodeRow) (c stop : ℕ) → c < stop → stop ≤ length xs → IsChecked (drop c (map row_of xs)) → may_be_child parent (map row_of xs) c stop ≡ false → is_run parent (stop - c) (roots (map row_of xs) c stop) ≡ false
-run_fails parent xs c stop h w g e =
-    run_step parent xs c stop h w g ∙ ap (λ b. b && is_run parent (stop - c - suc (row_at (map row_of xs) c).size) (roots (map row_of xs) (suc c + (row_at (map row_of xs) c).size) stop)) e
+pub run_fails : (parent : Row) (rs : List Row) (c stop : ℕ) → c < stop → stop ≤ length rs → IsChecked (drop c rs) → may_be_child parent rs c stop ≡ false → is_run parent (stop - c) (roots rs c stop) ≡ false
+run_fails parent rs c stop h w g e =
+    run_step parent rs c stop h w g ∙ ap (λ b. b && is_run parent (stop - c - suc (row_at rs c).size) (roots rs (suc c + (row_at rs c).size) stop)) e
 
 -- one child further
-pub record RunGoesOn (parent : Row) (xs : List NodeRow) (c stop m : ℕ) : Type 0 where
+pub record RunGoesOn (parent : Row) (rs : List Row) (c stop m : ℕ) : Type 0 where
   pub within : m ≤ stop
-  pub same : is_run parent (stop - c) (roots (map row_of xs) c stop) ≡ is_run parent (stop - m) (roots (map row_of xs) m stop)
+  pub same : is_run parent (stop - c) (roots rs c stop) ≡ is_run parent (stop - m) (roots rs m stop)
 
-pub run_goes_on : (parent : Row) (xs : List NodeRow) (c stop m : ℕ) (x : NodeRow) → c < stop → stop ≤ length xs → IsChecked (drop c (map row_of xs)) → x ≡ get_or xs c x → m ≡ suc c + x.size → may_be_child parent (map row_of xs) c stop ≡ true → RunGoesOn parent xs c stop m
-run_goes_on parent xs c stop m x h w g hx hm e =
-    let ex : row_at (map row_of xs) c ≡ row_of x = row_at-map xs c x (omega arith) hx in
-    let s : (row_at (map row_of xs) c).size ≡ x.size = ap (λ (r : Row). r.size) ex in
-    let k = (child_is_ok parent (stop - c) (row_at (map row_of xs) c) _ e).room in
-    let d : suc c + (row_at (map row_of xs) c).size ≡ m = omega (arith, s, hm) in
-    let n : stop - c - suc (row_at (map row_of xs) c).size ≡ stop - m = omega (arith, s, hm) in
+pub run_goes_on : (parent : Row) (rs : List Row) (c stop m : ℕ) → c < stop → stop ≤ length rs → IsChecked (drop c rs) → m ≡ suc c + (row_at rs c).size → may_be_child parent rs c stop ≡ true → RunGoesOn parent rs c stop m
+run_goes_on parent rs c stop m h w g hm e =
+    let k = (child_is_ok parent (stop - c) (row_at rs c) _ e).room in
+    let d : suc c + (row_at rs c).size ≡ m = sym hm in
+    let n : stop - c - suc (row_at rs c).size ≡ stop - m = omega (arith, hm) in
     record {
-      within = omega (arith, s, hm, k);
+      within = omega (arith, hm, k);
       same =
-          run_step parent xs c stop h w g
-          ∙ ap (λ b. b && is_run parent (stop - c - suc (row_at (map row_of xs) c).size) (roots (map row_of xs) (suc c + (row_at (map row_of xs) c).size) stop)) e
-          ∙ ap (λ i. is_run parent i (roots (map row_of xs) (suc c + (row_at (map row_of xs) c).size) stop)) n
-          ∙ ap (λ i. is_run parent (stop - m) (roots (map row_of xs) i stop)) d;
+          run_step parent rs c stop h w g
+          ∙ ap (λ b. b && is_run parent (stop - c - suc (row_at rs c).size) (roots rs (suc c + (row_at rs c).size) stop)) e
+          ∙ ap (λ i. is_run parent i (roots rs (suc c + (row_at rs c).size) stop)) n
+          ∙ ap (λ i. is_run parent (stop - m) (roots rs i stop)) d;
     }
 
 -- a run ends within the rows
-pub run_within : (parent : Row) (xs : List NodeRow) (c n : ℕ) → c ≤ length xs → IsChecked (drop c (map row_of xs)) → is_run parent n (roots (map row_of xs) c (c + n)) ≡ true → c + n ≤ length xs
-run_within parent xs c n h g e =
-    let rs = drop c (map row_of xs) in
+pub run_within : (parent : Row) (rs : List Row) (c n : ℕ) → c ≤ length rs → IsChecked (drop c rs) → is_run parent n (roots rs c (c + n)) ≡ true → c + n ≤ length rs
+run_within parent rs c n h g e =
+    let tail = drop c rs in
     let m : c + n - c ≡ n = omega arith in
-    let k : count (front n (nest rs)) ≡ n = count_run parent n (front n (nest rs)) (EachRow-front n (nest rs) (each_row rs g)) (ap (λ i. is_run parent n (tops (front i (nest rs)))) (sym m) ∙ e) in
-    let l : count (nest rs) ≡ length rs = sym (length-labels (nest rs)) ∙ ap length (labels-nest rs) in
-    omega (arith, k, l, count-front-back n (nest rs), length-drop c (map row_of xs), length-map row_of xs)
+    let k : count (front n (nest tail)) ≡ n = count_run parent n (front n (nest tail)) (EachRow-front n (nest tail) (each_row tail g)) (ap (λ i. is_run parent n (tops (front i (nest tail)))) (sym m) ∙ e) in
+    let l : count (nest tail) ≡ length tail = sym (length-labels (nest tail)) ∙ ap length (labels-nest tail) in
+    omega (arith, k, l, count-front-back n (nest tail), length-drop c rs)

@@ -22,3 +22,12 @@ abbrev pub sized : List (ℕ × Label) → List Row
 sized [] = []
 sized (p ∷ ps) = record { size = prefix_len (λ q. nat_lt p.0 q.0) ps; level = p.0; label = p.1 }
     ∷ sized ps
+
+-- how many rows at the front are deeper than the level
+abbrev pub count_deeper : ℕ → List Row → ℕ
+count_deeper level rs = prefix_len (λ q. nat_lt level q.0) (map flat rs)
+
+-- each row's size is how many of the rows after it are deeper
+abbrev pub AreSized : List Row → Type 0
+AreSized [] = Unit {0}
+AreSized (r ∷ rs) = (r.size ≡ count_deeper r.level rs) × AreSized rs

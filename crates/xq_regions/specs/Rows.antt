@@ -33,6 +33,15 @@ no_row = record { size = 0; level = 0; label = no_label }
 abbrev pub row_at : List Row → ℕ → Row
 row_at rs n = slice_index_or rs n no_row
 
+-- the name in a row
+abbrev pub row_name : Row → List ℕ
+row_name r = r.label.name
+
+-- the rows are those of the tree
+pub record AreRowsOf (rs : List Row) (t : Tree) : Type 0 where
+  pub is_tree : IsTree t
+  pub rows : rs ≡ rows t
+
 -- # The rows that code holds
 
 -- a row that code holds, without its place

@@ -1,13 +1,34 @@
 //! Trees from the levels of their nodes, in document order.
 ghost use Rattle.std.specs.Prelude.{◌≡◌, ◌≤◌, ◌<◌, ◌+◌, length, map, drop, slice_index, vec_len, IsNone, IfSome};
 ghost use Rattle.xq_regions.specs.Tree.{Tree, IsTree, most_nodes};
-ghost use Rattle.xq_regions.specs.Rows.{AreNumbered};
-ghost use Rattle.xq_regions.specs.Levels.{HasLevels, flat_row};
+ghost use Rattle.xq_regions.specs.Rows.{row_at, AreNumbered};
+ghost use Rattle.xq_regions.specs.Levels.{HasLevels, flat_row, count_deeper, AreSized};
 ghost use Rattle.xq_regions.specs.private.Sizes.{IsSized, deeper, level_of};
 
+use crate::rows::TreeRows;
 use crate::{Fragment, MAX_NODES, NodeRow};
 
 /// How many rows after the row `at` are deeper, where the sizes of those are known.
+pub fn size_below<R: TreeRows>(rows: &R, at: usize) -> usize
+    requires at_in { at < length (R.listed rows.now) }
+    requires after { AreSized (drop (at + 1) (R.listed rows.now)) }
+    ensures value { result ≡ count_deeper (row_at (R.listed rows.now) at).level
+        (drop (at + 1) (R.listed rows.now)) }
+    ensures bound { at + result < length (R.listed rows.now) }
+{
+    let count = rows.count();
+    let level = rows.level(at);
+    let mut next = at + 1;
+    while next < count {
+        if rows.level(next) <= level {
+            return next - at - 1;
+        }
+        next += 1 + rows.size(next) as usize;
+    }
+    next - at - 1
+}
+
+/// The same in a list.
 fn size_at(rows: &[NodeRow], at: usize) -> usize
     requires at_in { at < length rows.now }
     requires after { IsSized (drop (at + 1) rows.now) }
@@ -15,16 +36,7 @@ fn size_at(rows: &[NodeRow], at: usize) -> usize
         ≡ deeper (slice_index (map level_of rows.now) at) (drop (at + 1) rows.now) }
     ensures bound { at + result < length rows.now }
 {
-    let level = rows[at].level;
-    let mut next = at + 1;
-    while next < rows.len() {
-        let row = &rows[next];
-        if row.level <= level {
-            return next - at - 1;
-        }
-        next += 1 + row.size as usize;
-    }
-    next - at - 1
+    size_below(&rows, at)
 }
 
 /// Sets the sizes.

@@ -14,15 +14,20 @@ mod encodings;
 mod items;
 mod laws;
 mod levels;
+mod listings;
 mod merges;
 mod names;
+mod rows;
 mod values;
 
-use encodings::is_encoding;
+pub use encodings::is_tree;
 pub use items::{Item, Items, Node};
 pub use laws::{subtrees_are_trees, trees_are_their_rows};
+pub use levels::size_below;
+use listings::is_encoding;
 pub use merges::{comes_after, merge, rises};
 pub use names::is_target;
+pub use rows::{NamedRows, TreeRows};
 pub use values::{ends_with_dash, holds_an_end, holds_two_dashes};
 
 /// The greatest level of a node, where the root has 0.

@@ -8,9 +8,8 @@ use Rattle.sqlite.specs.Held.{Held, state}
 use Rattle.sqlite.specs.State.{HasCleanDisk}
 use Rattle.xq_atoms.specs.Address.{IsAddress}
 use Rattle.xq_regions.specs.Tree.{Tree, IsDocument}
-use Rattle.xq_regions.specs.Rows.{row_of, placed, placed_rows, AreNumbered, Encodes}
+use Rattle.xq_regions.specs.Rows.{Row, row_of, placed, placed_rows, AreNumbered, Encodes}
 use Rattle.xq_regions.specs.declared.NodeRow.{NodeRow}
-use Rattle.xq_regions.specs.declared.Kind.TheVariants.{Document}
 use Rattle.xq_rows.specs.Nodes.{cells}
 use Rattle.xq_rows.specs.Documents.{Map, IsReady, IsClean, IsOpen, StandsFor, documents_in, is_at, IsStore}
 use Rattle.xq_rows.specs.private.Statements.{IsEmptyStore, AreAbove, AreAddresses, Deletes, Finds, IsRange, Puts}
@@ -141,13 +140,10 @@ module _ {S : Type 0} (g : Ghosts S) (conn old new : Held S) (same : conn ≡ ol
           was_there a (state g conn).now count was (did ready was.sound).1 ∙ ap (λ d. contains_key d a) held.1
 
     -- the rows of a document were put in their place
-    module _ (ends : HasCleanDisk (state g new) → IsTrue (state g new).is_open) (a : List ℕ) (good : IsAddress a) (t : Tree) (rs : List NodeRow) (encodes : Encodes rs t)
-        (root : t.root.kind ≡ Document) (replaced : Bool) (did : IsReady (state g new) → Puts a (map cells (map placed rs)) (state g conn).now (state g new).now replaced) where
-      is : IsDocument t
-      is = record { is_tree = encodes.is_tree; root = root }
-
+    module _ (ends : HasCleanDisk (state g new) → IsTrue (state g new).is_open) (a : List ℕ) (good : IsAddress a) (t : Tree) (is : IsDocument t)
+        (rows : List (ℕ × Row)) (same_rows : rows ≡ placed_rows t) (replaced : Bool) (did : IsReady (state g new) → Puts a (map cells rows) (state g conn).now (state g new).now replaced) where
       puts : IsReady (state g new) → Puts a (map cells (placed_rows t)) (state g conn).now (state g new).now replaced
-      puts up = subst (λ l. Puts a (map cells l) (state g conn).now (state g new).now replaced) (encoded rs t encodes) (did up)
+      puts up = subst (λ l. Puts a (map cells l) (state g conn).now (state g new).now replaced) same_rows (did up)
 
       pub put_stands : IsClean g new → (m : Map) → StandsFor g old m → StandsFor g new (insert m a t)
       unfolding IsClean StandsFor

@@ -3,15 +3,16 @@ use Rattle.std.proofs.Common.{◌≡◌, ◌+◌, ◌-◌, ◌≤◌, ◌<◌, �
 use Rattle.std.specs.Global.{Vec}
 use Rattle.std.specs.HashMap.{get_by_text}
 use Rattle.std.specs.List.{enumerate_from, AllByRecursion}
-use Rattle.std.specs.Prelude.{slice_get, Option, Some, IfSome, OnErr}
+use Rattle.std.specs.Prelude.{slice_get, Option, Some, IfSome}
 use Rattle.std.proofs.lemmas.List.FromFn.{length-enumerate_from}
-use Rattle.std.proofs.lemmas.List.{map-append, take-append-drop, take-append-le, take-map, take-take}
+use Rattle.std.proofs.lemmas.List.{map-append, take-append-drop, take-append-le, take-take}
 use Rattle.xq_regions.specs.Forest.{count}
 use Rattle.xq_regions.specs.Tree.{Tree, nodes}
-use Rattle.xq_regions.specs.Rows.{Encodes, Row, rows, row_at, measured, placed, placed_rows, row_of}
+use Rattle.xq_regions.specs.Rows.{Row, rows, row_at, measured, placed, placed_rows, row_of}
 use Rattle.xq_regions.specs.Nesting.{count-measured}
 use Rattle.xq_regions.specs.declared.NodeRow.{NodeRow}
-use Rattle.xq_packed.specs.Packed.{IsExtended, Packed}
+use Rattle.xq_packed.specs.Packed.{Packed}
+use Rattle.xq_packed_trees.specs.PackedTrees.{Packs}
 use Rattle.xq_sources.specs.Lenders.{IsRun}
 use Rattle.xq_sources.specs.Names.{named}
 use Rattle.xq_sources.specs.Sources.{rows_between, tree_at}
@@ -226,12 +227,10 @@ module _ (t : Tree) (rs : List Row) (front : IsFront t (enumerate_from 0 rs)) (l
   pub packed_all : found ≡ [] → length (placed_rows t) ≤ length (enumerate_from 0 rs)
   packed_all none = read_all t (enumerate_from 0 rs) front low high (map placed found) at_all past are (ap (map placed) none)
 
--- rows that were packed of a tree's are its first, whether all of them were
-pub packed_front : {E : Type 0} (t : Tree) (r : Result (Unit {0}) E) (old new : Packed) (xs : List NodeRow) → old.rows ≡ [] → Encodes xs t → OnOk r (IsExtended old new (map row_of xs)) → OnErr r ((count : ℕ) × IsExtended old new (map row_of (take count xs))) → IsFront t (enumerate_from 0 new.rows)
-packed_front t (Ok done) old new xs none is all some =
-    subst (λ rs. IsFront t (enumerate_from 0 rs)) (sym (all.rows ∙ ap (λ rs. rs ++ map row_of xs) none ∙ is.rows ∙ sym (all-first (length (rows t)) (rows t) (omega arith)))) (first_kept t (length (rows t)))
-packed_front t (Err e) old new xs none is all some =
-    subst (λ rs. IsFront t (enumerate_from 0 rs)) (sym (some.1.rows ∙ ap (λ rs. rs ++ map row_of (take some.0 xs)) none ∙ sym (take-map row_of some.0 xs) ∙ ap (take some.0) is.rows)) (first_kept t some.0)
+-- the packed rows of a tree are its first
+pub packed_front : (t : Tree) (p : Packed) → Packs p t → IsFront t (enumerate_from 0 p.rows)
+packed_front t p is =
+    subst (λ rs. IsFront t (enumerate_from 0 rs)) (sym (is.rows ∙ sym (all-first (length (rows t)) (rows t) (omega arith)))) (first_kept t (length (rows t)))
 
 -- and so do the first rows of it
 first-of-front : (t : Tree) (ps qs : List (ℕ × Row)) → IsFront t (ps ++ qs) → IsFront t ps

@@ -17,9 +17,7 @@ use Rattle.xq_rows.specs.private.Shelves.{AreFronts, AreKeptOf, HasDropped as Sh
 use Rattle.xq_rows.specs.private.Statements.{AreThere, Deletes, IsEmptyStore, Puts, PutsOver}
 use Rattle.xq_rows.specs.Nodes.{cells}
 use Rattle.xq_atoms.specs.Address.{IsAddress}
-use Rattle.xq_regions.specs.Rows.{Encodes, Row as Node, placed, placed_rows}
-use Rattle.xq_regions.specs.declared.NodeRow.{NodeRow}
-use Rattle.xq_rows.proofs.Calls.{encoded}
+use Rattle.xq_regions.specs.Rows.{Row as Node, placed_rows}
 use Rattle.sqlite.specs.Effect.{Database}
 use Rattle.xq_rows.proofs.Maps.{no_keys, store_drops, store_puts}
 use Rattle.xq_rows.proofs.Renewals.{none_there}
@@ -114,9 +112,9 @@ module _ {S : Type 0} (g : Ghosts S) where
     puts_over a kept are rows replaced did ready = (let was = early ready in did ready (kept_there conn shelf keeping a kept are was))
 
     -- a document was put
-    pub has_put : (a : List ℕ) → IsAddress a → (t : Tree) → IsDocument t → (rows : List NodeRow) → Encodes rows t → (replaced : Bool) → (IsReady (state g new) → Puts a (map cells (map placed rows)) (state g conn).now (state g new).now replaced)
+    pub has_put : (a : List ℕ) → IsAddress a → (t : Tree) → IsDocument t → (rows : List (ℕ × Node)) → rows ≡ placed_rows t → (replaced : Bool) → (IsReady (state g new) → Puts a (map cells rows) (state g conn).now (state g new).now replaced)
         → (front : Front) → IsFrontOf t front → (later : Option Shelf) → IfSome later (λ l. (earlier : Shelf) × (shelf ≡ Some earlier) × HasPut earlier l a front) → IsKeeping g new later
-    has_put a good t is rows encodes replaced did front own later edited = record {
+    has_put a good t is rows same_rows replaced did front own later edited = record {
       outside = stays.mode;
       holds = λ ready. (
           let was = keeping.holds (early ready) in
@@ -126,7 +124,7 @@ module _ {S : Type 0} (g : Ghosts S) where
     }
       where
         puts_tree : (ready : IsReady (state g new)) → Puts a (map cells (placed_rows t)) (state g conn).now (state g new).now replaced
-        puts_tree ready = subst (λ l. Puts a (map cells l) (state g conn).now (state g new).now replaced) (encoded rows t encodes) (did ready)
+        puts_tree ready = subst (λ l. Puts a (map cells l) (state g conn).now (state g new).now replaced) same_rows (did ready)
 
         kept : (later : Option Shelf) → IfSome later (λ l. (earlier : Shelf) × (shelf ≡ Some earlier) × HasPut earlier l a front) → Keeps g new later
         kept None edited = tt

@@ -8,6 +8,7 @@ use Rattle.std.proofs.lemmas.Int.{ints}
 use Rattle.std.proofs.lemmas.List.{length-map, length-append, take_all}
 use Rattle.std.proofs.lemmas.List.Elements.{filter-append}
 use Rattle.std.proofs.lemmas.List.Filters.{length-filter_both}
+use Rattle.std.proofs.lemmas.List.FromFn.{length-enumerate_from}
 use Rattle.std.proofs.lemmas.List.Sorted.{IsPermutation-refl, IsPermutation-trans, IsPermutation-append_left, IsPermutation-sym, length_permutation}
 use Rattle.sqlite_value.specs.Order.{Row, column, value_cmp}
 use Rattle.sqlite_value.specs.declared.value.Value.{Value}
@@ -17,14 +18,13 @@ use Rattle.sqlite_trees.proofs.ListLemmas.{IsPermutation-filter, filter-filter, 
 use Rattle.sqlite_keyed.specs.Lists.{delete_where}
 use Rattle.sqlite.specs.Effect.{Database}
 use Rattle.xq_atoms.specs.Address.{IsAddress}
-use Rattle.xq_regions.specs.Tree.{Tree, nodes}
+use Rattle.xq_regions.specs.Tree.{Tree, IsTree, nodes}
 use Rattle.xq_regions.specs.Forest.{count}
-use Rattle.xq_regions.specs.Rows.{Row as Node, rows as rows_of, row_of, measured, placed, placed_rows, AreNumbered, Encodes}
+use Rattle.xq_regions.specs.Rows.{Row as Node, rows as rows_of, measured, placed_rows}
 use Rattle.xq_regions.specs.Nesting.{count-measured}
-use Rattle.xq_regions.specs.declared.NodeRow.{NodeRow}
 use Rattle.xq_rows.specs.Documents.{is_at, node_columns, rows_at, HasAddress, IsSound, IsStore}
 use Rattle.xq_rows.specs.Nodes.{cells}
-use Rattle.xq_rows.specs.private.Statements.{Deletes, HasDropped, HasRenewed, Puts, is_between, is_from, is_part}
+use Rattle.xq_rows.specs.private.Statements.{AreFrom, Deletes, HasDropped, HasRenewed, Puts, is_between, is_from, is_part}
 use Rattle.xq_rows.specs.Labels.{shown_rows}
 use Rattle.xq_rows.specs.Tables.{layout_rows}
 use Rattle.xq_rows.proofs.Lists.{both_filters, same_test}
@@ -186,7 +186,7 @@ renew_more a j k deleted count added more old mid new h below it renewed counted
         let parts = length-filter_both (is_between j k) (λ x. not (is_between j k x)) (λ x. refl) (rows_at a (shown_rows mid)) in
         omega (arith, parts, length_permutation _ _ it.own, length-append (filter (is_from j) all) added, length_permutation _ _ stay, length-append (filter (is_from k) all) added, counted, it.gone)
 
-pub take_then : (j k : ℕ) (xs : List NodeRow) → j ≤ k → take k xs ≡ take j xs ++ slice_range xs j k
+pub take_then : (j k : ℕ) (xs : List (ℕ × Node)) → j ≤ k → take k xs ≡ take j xs ++ slice_range xs j k
 take_then j k xs h = ap (λ n. take n xs) (let e : k ≡ j + (k - j) = omega (arith, h) in e) ∙ take-add j (k - j) xs
 
 -- # The rows of a document
@@ -199,21 +199,29 @@ numbers_before : (k n : ℕ) (list : List Node) → n + length list ≤ k → Al
 numbers_before k n [] h = tt
 numbers_before k n (x ∷ list) h = (number_before k n (omega (arith, h)), numbers_before k (n + 1) list (omega (arith, h)))
 
-pub new_before : (n j : ℕ) (rows : List NodeRow) → AreNumbered n rows → AllByRecursion (λ x. is_from (n + j) x ≡ false) (map cells (map placed (take j rows)))
+pub new_before : (n j : ℕ) (rows : List (ℕ × Node)) → AreFrom n rows → AllByRecursion (λ x. is_from (n + j) x ≡ false) (map cells (take j rows))
 new_before n zero rows h = tt
 new_before n (suc j) [] h = tt
 new_before n (suc j) (r ∷ rows) h =
-    let here : is_from (n + suc j) (cells (placed r)) ≡ false = ap (λ m. is_ge (value_cmp (Int (pos m)) (Int (pos (n + suc j))))) h.0 ∙ number_before (n + suc j) n (omega arith) in
+    let here : is_from (n + suc j) (cells r) ≡ false = ap (λ m. is_ge (value_cmp (Int (pos m)) (Int (pos (n + suc j))))) h.0 ∙ number_before (n + suc j) n (omega arith) in
     let next : suc n + j ≡ n + suc j = omega arith in
-    (here, subst (λ m. AllByRecursion (λ x. is_from m x ≡ false) (map cells (map placed (take j rows)))) next (new_before (suc n) j rows h.1))
+    (here, subst (λ m. AllByRecursion (λ x. is_from m x ≡ false) (map cells (take j rows))) next (new_before (suc n) j rows h.1))
 
 -- # From the first part to the last
 
 rows_few : (t : Tree) → count (nodes t) ≤ 1000000 → length (rows_of t) ≤ 1000000
 rows_few t room = (let s = length-labels (measured 0 (nodes t)) in let c = count-measured 0 (nodes t) in omega (arith, s, c, room))
 
-pub few : (rows : List NodeRow) (t : Tree) → Encodes rows t → length rows ≤ 1000000
-few rows t it = (let n = length-map rows row_of in let same = ap length it.rows in let h = rows_few t it.is_tree.room in omega (arith, n, same, h))
+pub few : (rows : List (ℕ × Node)) (t : Tree) → IsTree t → rows ≡ placed_rows t → length rows ≤ 1000000
+few rows t tree is = (let n = length-enumerate_from 0 (rows_of t) in let same = ap length is in let h = rows_few t tree.room in omega (arith, n, same, h))
+
+-- the rows of a tree are numbered from 0 on
+numbered_so : (n : ℕ) (rs : List Node) → AreFrom n (enumerate_from n rs)
+numbered_so n [] = tt
+numbered_so n (r ∷ rs) = (refl, let e : n + 1 ≡ suc n = omega arith in subst (λ m. AreFrom m (enumerate_from (n + 1) rs)) e (numbered_so (n + 1) rs))
+
+pub from_root : (rows : List (ℕ × Node)) (t : Tree) → rows ≡ placed_rows t → AreFrom 0 rows
+from_root rows t is = subst (AreFrom 0) (sym is) (numbered_so 0 (rows_of t))
 
 pub nothing_yet : (a : List ℕ) (db : Database) → IsStore db → IsReplaced a 0 0 [] db db
 nothing_yet a db store = record {
@@ -277,24 +285,24 @@ either_some zero n = ap (nat_lt 0) (omega arith)
 either_some (suc m) n = grind arith
 
 -- how far a put has come: the rows of the address with numbers below `at` have given way to the first `at` new ones
-abbrev pub IsAt : List ℕ → List NodeRow → ℕ → Bool → Database → Database → Type 0
-IsAt a rows at replaced old now = IsStore old → (deleted : ℕ) × (replaced ≡ nat_lt 0 deleted) × IsReplaced a at deleted (map cells (map placed (take at rows))) old now
+abbrev pub IsAt : List ℕ → List (ℕ × Node) → ℕ → Bool → Database → Database → Type 0
+IsAt a rows at replaced old now = IsStore old → (deleted : ℕ) × (replaced ≡ nat_lt 0 deleted) × IsReplaced a at deleted (map cells (take at rows)) old now
 
-module _ (a : List ℕ) (rows : List NodeRow) (numbered : AreNumbered 0 rows) (at stop count : ℕ) (forward : at ≤ stop) (replaced next : Bool) (is : next ≡ (replaced || nat_lt 0 count)) (old now mid : Database)
+module _ (a : List ℕ) (rows : List (ℕ × Node)) (numbered : AreFrom 0 rows) (at stop count : ℕ) (forward : at ≤ stop) (replaced next : Bool) (is : next ≡ (replaced || nat_lt 0 count)) (old now mid : Database)
     (so_far : IsAt a rows at replaced old now) (did : Deletes (is_part a at stop) now mid count) where
   some_gone : (deleted : ℕ) → replaced ≡ nat_lt 0 deleted → next ≡ nat_lt 0 (deleted + count)
   some_gone deleted e = is ∙ ap (λ b. b || nat_lt 0 count) e ∙ either_some deleted count
 
-  cut : (store : IsStore old) → IsReplaced a stop ((so_far store).0 + count) (map cells (map placed (take at rows))) old mid
+  cut : (store : IsStore old) → IsReplaced a stop ((so_far store).0 + count) (map cells (take at rows)) old mid
   cut store =
       let done = (so_far store).2 in
       let gone = did done.sound in
       let same : 0 + at ≡ at = omega arith in
-      let below = subst (λ k. AllByRecursion (λ x. is_from k x ≡ false) (map cells (map placed (take at rows)))) same (new_before 0 at rows numbered) in
+      let below = subst (λ k. AllByRecursion (λ x. is_from k x ≡ false) (map cells (take at rows))) same (new_before 0 at rows numbered) in
       cut_more a at stop (so_far store).0 count _ old now mid forward below done gone.0 gone.1
 
   -- the rest was deleted
-  pub last_part : length rows ≤ at → 1000000 ≤ stop → Puts a (map cells (map placed rows)) old mid next
+  pub last_part : length rows ≤ at → 1000000 ≤ stop → Puts a (map cells rows) old mid next
   last_part all high store =
-      let gone = subst (λ l. IsReplaced a stop ((so_far store).0 + count) (map cells (map placed l)) old mid) (take_all at rows all) (cut store) in
+      let gone = subst (λ l. IsReplaced a stop ((so_far store).0 + count) (map cells l) old mid) (take_all at rows all) (cut store) in
       puts_all a stop ((so_far store).0 + count) _ old mid next high (some_gone (so_far store).0 (so_far store).1) gone store

@@ -15,14 +15,13 @@ use Rattle.sqlite_keyed.proofs.SortLemmas.{sorted_unique}
 use Rattle.sqlite.specs.Effect.{Database}
 use Rattle.sqlite.specs.State.{State}
 use Rattle.sqlite.proofs.Callers.{one_permutation}
-use Rattle.xq_regions.specs.Rows.{Row as Node, rows as rows_of, placed, placed_rows, AreNumbered}
+use Rattle.xq_regions.specs.Rows.{Row as Node, rows as rows_of, placed_rows}
 use Rattle.xq_regions.specs.Tree.{Tree}
-use Rattle.xq_regions.specs.declared.NodeRow.{NodeRow}
 use Rattle.xq_rows.specs.Documents.{is_at, node_columns, rows_at, by_first, HasAddress, IsSound, IsStore}
 use Rattle.xq_rows.specs.Labels.{label_rows, shown_rows, IsNumberOf, IsStoreSchema}
 use Rattle.xq_rows.specs.Nodes.{cells}
 use Rattle.xq_rows.specs.private.Columns.{node_of}
-use Rattle.xq_rows.specs.private.Statements.{is_between, is_from, is_part, AddsNamed, AreNumbers, HasAdded, HasDropped, AreThere, HasRenewed, IsPicked, LiesAs, RenewsPart, RenewsRow, RenewsRows, RunsFrom, UpdatesNamed}
+use Rattle.xq_rows.specs.private.Statements.{is_between, is_from, is_part, AddsNamed, AreFrom, AreNumbers, HasAdded, HasDropped, AreThere, HasRenewed, IsPicked, LiesAs, RenewsPart, RenewsRow, RenewsRows, RunsFrom, UpdatesNamed}
 use Rattle.xq_rows.proofs.Lists.{both_filters, same_test}
 use Rattle.xq_rows.proofs.Orders.{first_total, numbers_rise}
 use Rattle.xq_rows.proofs.Parts.{all_pass, from_before, new_before, none_pass, number_before, number_from, nothing_yet, outside, rows_beside, rows_without, renew_more, take_then, IsReplaced}
@@ -304,17 +303,17 @@ still_lies a low p xs o old now below it = moved_on a p o old now same
 -- # Rows, one by one
 
 -- the first so many have come to stand where those others were
-abbrev pub IsRenewed : List ℕ → List (ℕ × Node) → List NodeRow → ℕ → List (String Global × ℕ) → List (String Global × ℕ) → Database → Database → Type 0
-IsRenewed a there rows i before after old now = (low : ℕ) → AreNumbered low rows → IsSound old → AreNumbers (label_rows old) before → AreThere a low (length rows) there old
-    → HasRenewed a low (low + i) (map cells (map placed (take i rows))) old now × AreNumbers (label_rows now) after
+abbrev pub IsRenewed : List ℕ → List (ℕ × Node) → List (ℕ × Node) → ℕ → List (String Global × ℕ) → List (String Global × ℕ) → Database → Database → Type 0
+IsRenewed a there rows i before after old now = (low : ℕ) → AreFrom low rows → IsSound old → AreNumbers (label_rows old) before → AreThere a low (length rows) there old
+    → HasRenewed a low (low + i) (map cells (take i rows)) old now × AreNumbers (label_rows now) after
 
-numbered_at : (low i : ℕ) (rows : List NodeRow) (row : NodeRow) → AreNumbered low rows → i < length rows → row ≡ get_or rows i row → row.pre ≡ low + i
-numbered_at low i [] row all h is = absurd (omega (arith, h))
-numbered_at low zero (r ∷ rows) row all h is = (let e : low ≡ low + 0 = omega arith in ap (λ (r : NodeRow). r.pre) is ∙ all.0 ∙ e)
-numbered_at low (suc i) (r ∷ rows) row all h is = (let e : suc low + i ≡ low + suc i = omega arith in numbered_at (suc low) i rows row all.1 (omega (arith, h)) is ∙ e)
+numbered_at : (low i : ℕ) (rows : List (ℕ × Node)) (row none : ℕ × Node) → AreFrom low rows → i < length rows → row ≡ get_or rows i none → row.0 ≡ low + i
+numbered_at low i [] row none all h is = absurd (omega (arith, h))
+numbered_at low zero (r ∷ rows) row none all h is = (let e : low ≡ low + 0 = omega arith in ap (λ (r : ℕ × Node). r.0) is ∙ all.0 ∙ e)
+numbered_at low (suc i) (r ∷ rows) row none all h is = (let e : suc low + i ≡ low + suc i = omega arith in numbered_at (suc low) i rows row none all.1 (omega (arith, h)) is ∙ e)
 
 -- none has
-pub none_renewed : (a : List ℕ) (there : List (ℕ × Node)) (rows : List NodeRow) (names : List (String Global × ℕ)) (db : Database) → IsRenewed a there rows 0 names names db db
+pub none_renewed : (a : List ℕ) (there : List (ℕ × Node)) (rows : List (ℕ × Node)) (names : List (String Global × ℕ)) (db : Database) → IsRenewed a there rows 0 names names db db
 none_renewed a there rows names db low numbered sound all are = (
   record {
     sound = sound;
@@ -342,32 +341,32 @@ none_renewed a there rows names db low numbered sound all are = (
     all_out (x ∷ xs) = (out x, all_out xs)
 
 -- and one more
-pub one_renewed : (a : List ℕ) (i : ℕ) (there : List (ℕ × Node)) (rows : List NodeRow) (row : NodeRow) (before mid after : List (String Global × ℕ)) (old now new : Database) → i < length rows → row ≡ get_or rows i row
-    → IsRenewed a there rows i before mid old now → RenewsRow a (placed row) (slice_get (map cells there) i) mid after now new → IsRenewed a there rows (i + 1) before after old new
-one_renewed a i there rows row before mid after old now new h is so_far step low numbered sound all are =
+pub one_renewed : (a : List ℕ) (i : ℕ) (there : List (ℕ × Node)) (rows : List (ℕ × Node)) (row none : ℕ × Node) (before mid after : List (String Global × ℕ)) (old now new : Database) → i < length rows → row ≡ get_or rows i none
+    → IsRenewed a there rows i before mid old now → RenewsRow a row (slice_get (map cells there) i) mid after now new → IsRenewed a there rows (i + 1) before after old new
+one_renewed a i there rows row none before mid after old now new h is so_far step low numbered sound all are =
     let p = low + i in
-    let xs = map cells (map placed (take i rows)) in
+    let xs = map cells (take i rows) in
     let o = slice_get (map cells there) i in
     let done = so_far low numbered sound all are in
-    let own : row.pre ≡ p = numbered_at low i rows row numbered h is in
+    let own : row.0 ≡ p = numbered_at low i rows row none numbered h is in
     let below : AllByRecursion (λ x. is_from p x ≡ false) xs = new_before low i rows numbered in
     let first = each_lies a low are.0 old are.1 (length rows) (low + length rows) refl there are.2 i p h refl in
     let lies = still_lies a low p xs o old now below done.0 first in
     let one = step done.0.sound done.1 (subst (λ n. LiesAs a n o now) (sym own) lies) in
-    let here : HasRenewed a p (p + 1) (cells (placed row) ∷ []) now new = subst (λ n. HasRenewed a n (n + 1) (cells (placed row) ∷ []) now new) own one.0 in
-    let more = renewed_then a low p (p + 1) xs (cells (placed row) ∷ []) old now new (omega arith) (omega arith) below done.0 here in
-    let joined : xs ++ cells (placed row) ∷ [] ≡ map cells (map placed (take (i + 1) rows)) =
-    sym (ap (λ l. map cells (map placed l)) (take_more rows i row h ∙ ap (λ y. take i rows ++ y ∷ []) (sym is)) ∙ ap (map cells) (map-append placed (take i rows) (row ∷ [])) ∙ map-append cells (map placed (take i rows)) (placed row ∷ [])) in
+    let here : HasRenewed a p (p + 1) (cells row ∷ []) now new = subst (λ n. HasRenewed a n (n + 1) (cells row ∷ []) now new) own one.0 in
+    let more = renewed_then a low p (p + 1) xs (cells row ∷ []) old now new (omega arith) (omega arith) below done.0 here in
+    let joined : xs ++ cells row ∷ [] ≡ map cells (take (i + 1) rows) =
+    sym (ap (map cells) (take_more rows i none h ∙ ap (λ y. take i rows ++ y ∷ []) (sym is)) ∙ map-append cells (take i rows) (row ∷ [])) in
     let next : p + 1 ≡ low + (i + 1) = omega arith in
     (subst₂ (λ k l. HasRenewed a low k l old new) next joined more, one.1)
 
 -- then all have
-pub rows_renewed : (a : List ℕ) (i : ℕ) (there : List (ℕ × Node)) (rows : List NodeRow) (before after : List (String Global × ℕ)) (old now : Database) → i ≡ length rows → IsRenewed a there rows i before after old now → RenewsRows a there rows before after old now
+pub rows_renewed : (a : List ℕ) (i : ℕ) (there : List (ℕ × Node)) (rows : List (ℕ × Node)) (before after : List (String Global × ℕ)) (old now : Database) → i ≡ length rows → IsRenewed a there rows i before after old now → RenewsRows a there rows before after old now
 rows_renewed a i there rows before after old now all_done done low numbered sound all are =
     let it = done low numbered sound all are in
     let whole : take i rows ≡ rows = take_all i rows (omega (arith, all_done)) in
     let last : low + i ≡ low + length rows = omega (arith, all_done) in
-    (subst₂ (λ k l. HasRenewed a low k (map cells (map placed l)) old now) last whole it.0, it.1)
+    (subst₂ (λ k l. HasRenewed a low k (map cells l) old now) last whole it.0, it.1)
 
 -- # A part that is read
 
@@ -375,9 +374,9 @@ columns_of : (ns : List (ℕ × Node)) → map node_of (map cells ns) ≡ map ce
 columns_of [] = refl
 columns_of (n ∷ ns) = ap (λ l. cells n ∷ l) (columns_of ns)
 
-pub part_renewed : (a : List ℕ) (low high count : ℕ) (rows : List NodeRow) (there : List (ℕ × Node)) (read : List Row) (before after : List (String Global × ℕ)) (old began now : Database) → AreNumbered low rows → high ≡ low + length rows → began ≡ old
+pub part_renewed : (a : List ℕ) (low high count : ℕ) (rows : List (ℕ × Node)) (there : List (ℕ × Node)) (read : List Row) (before after : List (String Global × ℕ)) (old began now : Database) → AreFrom low rows → high ≡ low + length rows → began ≡ old
     → (IsStoreSchema old.schema → IsPicked (is_part a low high) node_columns (shown_rows old) read) → map cells there ≡ map node_of read
-    → RenewsRows a there rows before after began now → count ≡ length there → RenewsPart a low (low + length rows) (map cells (map placed rows)) before after old now count
+    → RenewsRows a there rows before after began now → count ≡ length there → RenewsPart a low (low + length rows) (map cells rows) before after old now count
 part_renewed a low high count rows there read before after old began now numbered size stays picked same renews counted sound all nodes runs =
     let were = read_is a low nodes old runs (length rows) high size read (picked sound.schema) in
     let are : map cells there ≡ map cells (enumerate_from low (take (length rows) nodes)) = same ∙ ap (map node_of) were ∙ columns_of _ in
@@ -432,31 +431,31 @@ runs_on a k deleted added old now store below it =
     (drop k whole.0, IsPermutation-trans _ _ _ (IsPermutation-sym _ _ own) are)
 
 -- the first of rows that are numbered are so
-first_numbered : (k m : ℕ) (rs : List NodeRow) → AreNumbered m rs → AreNumbered m (take k rs)
+first_numbered : (k m : ℕ) (rs : List (ℕ × Node)) → AreFrom m rs → AreFrom m (take k rs)
 first_numbered zero m rs all = tt
 first_numbered (suc k) m [] all = tt
 first_numbered (suc k) m (r ∷ rs) all = (all.0, first_numbered k (suc m) rs all.1)
 
 -- a slice of rows that are numbered is numbered from its first on
-pub numbered_slice : (n at first stop : ℕ) (rows : List NodeRow) → first ≡ n + at → AreNumbered n rows → AreNumbered first (slice_range rows at stop)
-numbered_slice n at first stop rows is all = subst (λ k. AreNumbered k (slice_range rows at stop)) (let e : at + n ≡ first = omega (arith, is) in e) (first_numbered (stop - at) (at + n) (drop at rows) (dropped at n rows all))
+pub numbered_slice : (n at first stop : ℕ) (rows : List (ℕ × Node)) → first ≡ n + at → AreFrom n rows → AreFrom first (slice_range rows at stop)
+numbered_slice n at first stop rows is all = subst (λ k. AreFrom k (slice_range rows at stop)) (let e : at + n ≡ first = omega (arith, is) in e) (first_numbered (stop - at) (at + n) (drop at rows) (dropped at n rows all))
   where
-    dropped : (k m : ℕ) (rs : List NodeRow) → AreNumbered m rs → AreNumbered (k + m) (drop k rs)
-    dropped zero m rs all = subst (λ i. AreNumbered i rs) (let e : m ≡ zero + m = omega arith in e) all
+    dropped : (k m : ℕ) (rs : List (ℕ × Node)) → AreFrom m rs → AreFrom (k + m) (drop k rs)
+    dropped zero m rs all = subst (λ i. AreFrom i rs) (let e : m ≡ zero + m = omega arith in e) all
     dropped (suc k) m [] all = tt
-    dropped (suc k) m (r ∷ rs) all = subst (λ i. AreNumbered i (drop k rs)) (let e : k + suc m ≡ suc k + m = omega arith in e) (dropped k (suc m) rs all.1)
+    dropped (suc k) m (r ∷ rs) all = subst (λ i. AreFrom i (drop k rs)) (let e : k + suc m ≡ suc k + m = omega arith in e) (dropped k (suc m) rs all.1)
 
 either_some : (m n : ℕ) → (nat_lt 0 m || nat_lt 0 n) ≡ nat_lt 0 (m + n)
 either_some zero n = ap (nat_lt 0) (omega arith)
 either_some (suc m) n = grind arith
 
 -- how far a put has come over the rows that are kept
-abbrev pub IsUpTo : List ℕ → List (ℕ × Node) → List NodeRow → ℕ → Bool → List (String Global × ℕ) → Database → Database → Type 0
+abbrev pub IsUpTo : List ℕ → List (ℕ × Node) → List (ℕ × Node) → ℕ → Bool → List (String Global × ℕ) → Database → Database → Type 0
 IsUpTo a kept rows at replaced names old now = AreThere a 0 (length kept) kept old → IsStore old
-    → ((deleted : ℕ) × (replaced ≡ nat_lt 0 deleted) × IsReplaced a at deleted (map cells (map placed (take at rows))) old now) × AreNumbers (label_rows now) names
+    → ((deleted : ℕ) × (replaced ≡ nat_lt 0 deleted) × IsReplaced a at deleted (map cells (take at rows)) old now) × AreNumbers (label_rows now) names
 
 -- the first rows have given way
-pub first_part : (a : List ℕ) (kept : List (ℕ × Node)) (rows : List NodeRow) (at : ℕ) (next : Bool) (before after : List (String Global × ℕ)) (old new : Database) → AreNumbered 0 rows → at ≤ length kept → at ≤ length rows → next ≡ nat_lt 0 at → before ≡ []
+pub first_part : (a : List ℕ) (kept : List (ℕ × Node)) (rows : List (ℕ × Node)) (at : ℕ) (next : Bool) (before after : List (String Global × ℕ)) (old new : Database) → AreFrom 0 rows → at ≤ length kept → at ≤ length rows → next ≡ nat_lt 0 at → before ≡ []
     → RenewsRows a (take at kept) (take at rows) before after old new → IsUpTo a kept rows at next after old new
 first_part a kept rows at next before after old new numbered in_kept in_rows is none renews there store =
     let are = some_there a at (length kept) kept old in_kept there in
@@ -464,24 +463,24 @@ first_part a kept rows at next before after old new numbered in_kept in_rows is 
     let size : length ours ≡ at = length-take-le at rows in_rows in
     let zero_more : 0 + at ≡ at = omega arith in
     let done = renews 0 (first_numbered at 0 rows numbered) store.sound (subst (AreNumbers (label_rows old)) (sym none) tt) (subst (λ k. AreThere a 0 k (take at kept) old) (sym size) are) in
-    let here : HasRenewed a 0 at (map cells (map placed ours)) old new = subst (λ k. HasRenewed a 0 k (map cells (map placed ours)) old new) (let e : 0 + length ours ≡ at = omega (arith, size) in e) done.0 in
+    let here : HasRenewed a 0 at (map cells ours) old new = subst (λ k. HasRenewed a 0 k (map cells ours) old new) (let e : 0 + length ours ≡ at = omega (arith, size) in e) done.0 in
     let many : at ≡ length (take at kept) = sym (length-take-le at kept in_kept) in
     let counted : at ≡ length (filter (is_between 0 at) (rows_at a (shown_rows old))) = many ∙ so_many a 0 are.0 old are.1 at at (sym zero_more) (take at kept) are.2 in
-    let more = renew_more a 0 at 0 at [] (map cells (map placed ours)) old old new (omega arith) tt (nothing_yet a old store) here counted in
-    ((at, is, subst (λ n. IsReplaced a at n (map cells (map placed ours)) old new) zero_more more), done.1)
+    let more = renew_more a 0 at 0 at [] (map cells ours) old old new (omega arith) tt (nothing_yet a old store) here counted in
+    ((at, is, subst (λ n. IsReplaced a at n (map cells ours) old new) zero_more more), done.1)
 
 -- one part more has given way
-pub part_more : (a : List ℕ) (kept : List (ℕ × Node)) (rows : List NodeRow) (at stop count : ℕ) (replaced next : Bool) (before after : List (String Global × ℕ)) (old now new : Database) → AreNumbered 0 rows → at ≤ stop → next ≡ (replaced || nat_lt 0 count) → IsUpTo a kept rows at replaced before old now
-    → RenewsPart a at stop (map cells (map placed (slice_range rows at stop))) before after now new count → IsUpTo a kept rows stop next after old new
+pub part_more : (a : List ℕ) (kept : List (ℕ × Node)) (rows : List (ℕ × Node)) (at stop count : ℕ) (replaced next : Bool) (before after : List (String Global × ℕ)) (old now new : Database) → AreFrom 0 rows → at ≤ stop → next ≡ (replaced || nat_lt 0 count) → IsUpTo a kept rows at replaced before old now
+    → RenewsPart a at stop (map cells (slice_range rows at stop)) before after now new count → IsUpTo a kept rows stop next after old new
 part_more a kept rows at stop count replaced next before after old now new numbered forward is so_far renews there store =
     let up = so_far there store in
     let done = up.0 in
     let zero_more : 0 + at ≡ at = omega arith in
-    let below = subst (λ k. AllByRecursion (λ x. is_from k x ≡ false) (map cells (map placed (take at rows)))) zero_more (new_before 0 at rows numbered) in
-    let runs = runs_on a at done.0 (map cells (map placed (take at rows))) old now store below done.2 in
+    let below = subst (λ k. AllByRecursion (λ x. is_from k x ≡ false) (map cells (take at rows))) zero_more (new_before 0 at rows numbered) in
+    let runs = runs_on a at done.0 (map cells (take at rows)) old now store below done.2 in
     let part = renews done.2.sound up.1 runs.0 runs.1 in
-    let more = renew_more a at stop done.0 count (map cells (map placed (take at rows))) (map cells (map placed (slice_range rows at stop))) old now new forward below done.2 part.0 part.2 in
-    let joined : map cells (map placed (take at rows)) ++ map cells (map placed (slice_range rows at stop)) ≡ map cells (map placed (take stop rows)) =
-    sym (ap (λ l. map cells (map placed l)) (take_then at stop rows forward) ∙ ap (map cells) (map-append placed (take at rows) (slice_range rows at stop)) ∙ map-append cells (map placed (take at rows)) (map placed (slice_range rows at stop))) in
+    let more = renew_more a at stop done.0 count (map cells (take at rows)) (map cells (slice_range rows at stop)) old now new forward below done.2 part.0 part.2 in
+    let joined : map cells (take at rows) ++ map cells (slice_range rows at stop) ≡ map cells (take stop rows) =
+    sym (ap (map cells) (take_then at stop rows forward) ∙ map-append cells (take at rows) (slice_range rows at stop)) in
     let some : next ≡ nat_lt 0 (done.0 + count) = is ∙ ap (λ b. b || nat_lt 0 count) done.1 ∙ either_some done.0 count in
     ((done.0 + count, some, subst (λ l. IsReplaced a stop (done.0 + count) l old new) joined more), part.1)

@@ -1,5 +1,5 @@
 //! The labels: a name of nodes stands once, under a number, in the table `label`.
-ghost use Rattle.std.specs.Prelude.{IfOk, string_bytes};
+ghost use Rattle.std.specs.Prelude.{IfOk};
 ghost use Rattle.sqlite.specs.Held.{state};
 ghost use Rattle.sqlite.specs.State.{HasCleanDisk};
 ghost use Rattle.xq_rows.specs.private.Keeps.{StaysInside};
@@ -70,18 +70,19 @@ fn number_of_name<S: Alter>(transaction: &mut Transaction<'_, S>, name: &str) ->
 pub fn number_in_hand<S: Alter>(
     transaction: &mut Transaction<'_, S>,
     names: &mut Names,
-    name: &String,
+    name: &str,
 ) -> Result<u32, Error>
     ensures inside { StaysInside S.Store transaction.old transaction.new }
     ensures numbered { HasCleanDisk (state S.Store transaction.new.conn.now)
-        → IfOk result (λ number. NumbersInHand (string_bytes name.now) number names.old.entries
+        → IfOk result (λ number. NumbersInHand name.now number names.old.entries
         names.new.entries (state S.Store transaction.old.conn.now)
         (state S.Store transaction.new.conn.now)) }
 {
-    if let Some(number) = names.get(name.as_str()) {
+    if let Some(number) = names.get(name) {
         return Ok(*number);
     }
-    let number = number_of_name(transaction, name.as_str())?;
-    names.insert(name.clone()?, number)?;
+    let number = number_of_name(transaction, name)?;
+    let own = String::from_str(*names.allocator(), name)?;
+    names.insert(own, number)?;
     Ok(number)
 }

@@ -2,10 +2,9 @@
 ghost use Rattle.std.specs.Prelude.{◌≡◌, ◌↔◌, ◌+◌, ◌≤◌, IfOk, IsTrue, OnOk, length, map, slice_get};
 ghost use Rattle.sqlite.specs.State.{HasCleanDisk};
 ghost use Rattle.sqlite.specs.Held.{state};
-ghost use Rattle.xq_regions.specs.Rows.{AreNumbered, placed};
 ghost use Rattle.xq_sources.specs.Lent.{placed_lent};
 ghost use Rattle.xq_rows.specs.Nodes.{cells};
-ghost use Rattle.xq_rows.specs.private.Statements.{RenewsPart, RenewsRow, RenewsRows, Replaces};
+ghost use Rattle.xq_rows.specs.private.Statements.{AreFrom, RenewsPart, RenewsRow, RenewsRows, Replaces};
 ghost use Rattle.xq_rows.specs.private.Keeps.{StaysInside};
 ghost use Rattle.xq_regions.specs.Tree.{most_nodes};
 
@@ -15,22 +14,21 @@ use crate::refusals::Refusal;
 use crate::statements::{delete_part, insert_named, read_part, update_named};
 use sqlite::{Alter, Error, Transaction};
 use std::alloc::Global;
-use xq_regions::NodeRow;
 use xq_sources::{LentRow, LentRows};
 
 /// How many rows are read at a time, to be compared with new ones.
 const PART: usize = 1_000;
 
 /// Whether two rows are the same.
-fn is_same(there: &LentRow<'_>, row: &NodeRow) -> bool
-    ensures { IsTrue result ↔ (placed_lent there.now ≡ placed row.now) }
+fn is_same(there: &LentRow<'_>, row: &LentRow<'_>) -> bool
+    ensures { IsTrue result ↔ (placed_lent there.now ≡ placed_lent row.now) }
 {
     there.pre == row.pre
         && there.size == row.size
         && there.level == row.level
         && there.kind == row.kind
-        && there.name() == row.name.as_str()
-        && there.value() == row.value.as_str()
+        && there.name() == row.name()
+        && there.value() == row.value()
 }
 
 /// Has a node stand under its number, where the row that is there is the one at this place, or
@@ -41,11 +39,11 @@ fn renew_row<S: Alter>(
     address: &str,
     rows_there: &LentRows<'_>,
     at: usize,
-    row: &NodeRow,
+    row: &LentRow<'_>,
 ) -> Result<(), Error>
     ensures inside { StaysInside S.Store transaction.old transaction.new }
     ensures renewed { HasCleanDisk (state S.Store transaction.new.conn.now)
-        → OnOk result (RenewsRow address.now (placed row.now)
+        → OnOk result (RenewsRow address.now (placed_lent row.now)
         (slice_get (map cells rows_there.now) at)
         names.old.entries names.new.entries (state S.Store transaction.old.conn.now).now
         (state S.Store transaction.new.conn.now).now) }
@@ -65,7 +63,7 @@ fn renew_rows<S: Alter>(
     names: &mut Names,
     address: &str,
     rows_there: &LentRows<'_>,
-    rows: &[NodeRow],
+    rows: &LentRows<'_>,
 ) -> Result<(), Error>
     ensures inside { StaysInside S.Store transaction.old transaction.new }
     ensures renewed { HasCleanDisk (state S.Store transaction.new.conn.now)
@@ -73,8 +71,8 @@ fn renew_rows<S: Alter>(
         names.old.entries names.new.entries (state S.Store transaction.old.conn.now).now
         (state S.Store transaction.new.conn.now).now) }
 {
-    for (at, row) in rows.iter().enumerate() {
-        renew_row(transaction, names, address, rows_there, at, row)?;
+    for at in 0..rows.len() {
+        renew_row(transaction, names, address, rows_there, at, &rows.row(at))?;
     }
     Ok(())
 }
@@ -86,15 +84,15 @@ fn renew_part<S: Alter>(
     transaction: &mut Transaction<'_, S>,
     names: &mut Names,
     address: &str,
-    rows: &[NodeRow],
+    rows: &LentRows<'_>,
     low: u32,
 ) -> Result<usize, Refusal>
-    requires numbered { AreNumbered low rows.now }
+    requires numbered { AreFrom low rows.now }
     requires few { low + length rows.now ≤ most_nodes }
     ensures inside { StaysInside S.Store transaction.old transaction.new }
     ensures renewed { HasCleanDisk (state S.Store transaction.new.conn.now)
         → IfOk result (RenewsPart address.now low (low + length rows.now)
-        (map cells (map placed rows.now)) names.old.entries names.new.entries
+        (map cells rows.now) names.old.entries names.new.entries
         (state S.Store transaction.old.conn.now).now
         (state S.Store transaction.new.conn.now).now) }
 {
@@ -121,29 +119,30 @@ pub fn replace_rows<S: Alter>(
     transaction: &mut Transaction<'_, S>,
     address: &str,
     kept: &LentRows<'_>,
-    rows: &[NodeRow],
+    rows: &LentRows<'_>,
 ) -> Result<bool, Refusal>
-    requires numbered { AreNumbered 0 rows.now }
+    requires numbered { AreFrom 0 rows.now }
     requires few { length rows.now ≤ most_nodes }
     ensures inside { StaysInside S.Store transaction.old transaction.new }
     ensures replaced { HasCleanDisk (state S.Store transaction.new.conn.now)
-        → IfOk result (Replaces address.now kept.now (map cells (map placed rows.now))
+        → IfOk result (Replaces address.now kept.now (map cells rows.now)
         (state S.Store transaction.old.conn.now) (state S.Store transaction.new.conn.now)) }
 {
+    let end = rows.len();
     let mut names = Names::new(alloc);
-    let mut at = rows.len().min(kept.len());
+    let mut at = end.min(kept.len());
     renew_rows(
         transaction,
         &mut names,
         address,
         &kept.first(at),
-        &rows[..at],
+        &rows.first(at),
     )?;
     let mut replaced = at > 0;
-    while at < rows.len() {
-        let stop = rows.len().min(at + PART);
-        let part = &rows[at..stop];
-        let count = renew_part(alloc, transaction, &mut names, address, part, at as u32)?;
+    while at < end {
+        let stop = end.min(at + PART);
+        let part = rows.between(at, stop);
+        let count = renew_part(alloc, transaction, &mut names, address, &part, at as u32)?;
         replaced |= count > 0;
         at = stop;
     }

@@ -11,7 +11,7 @@ use std::collections::HashMap;
 use std::rc::Rc;
 use xq_atoms::Want;
 use xq_packed::PackedRows;
-use xq_regions::Fragment;
+use xq_packed_trees::PackedTree;
 use xq_sources::{Addresses, Guide, LentRows, Names, find_named};
 
 /// What is kept of a document: its first rows, and what was found among them.
@@ -54,16 +54,13 @@ impl Front {
         }
     }
 
-    /// All rows of a document, wanted at a time. Where memory is short they are without a guide, or
-    /// some alone are kept.
-    pub fn whole(alloc: Global, document: &Fragment, wanted: u64) -> Front
-        ensures { IsFrontOf document.now result }
+    /// All rows of a document, wanted at a time. Where memory is short they are without a guide.
+    pub fn whole(alloc: Global, document: PackedTree, wanted: u64) -> Front
+        ensures { IsFrontOf document result }
     {
-        let mut rows = PackedRows::new(alloc);
+        let rows = document.into_rows();
         let mut guide = Guide::new(alloc);
-        if rows.extend(document.rows()).is_ok() {
-            let _ = guide.read_on(&all_of(&rows));
-        }
+        let _ = guide.read_on(&all_of(&rows));
         Front {
             rows,
             guide,

@@ -13,6 +13,7 @@ ghost use Rattle.xq_regions.specs.Codes.{kind_number as number_of_lem};
 ghost use Rattle.xq_rows.specs.private.Statements.{Adds, AddsNamed, AreAbove, AreAddresses, Drops, IsRange, ReadsPart, Updates, UpdatesNamed, is_part};
 ghost use Rattle.xq_rows.specs.private.Keeps.{StaysInside, StaysOutside};
 ghost use Rattle.xq_rows.specs.Labels.{IsStoreSchema};
+ghost use Rattle.xq_sources.specs.Lent.{placed_lent};
 
 use crate::labels::{Names, number_in_hand};
 use crate::refusals::Refusal;
@@ -20,6 +21,7 @@ use crate::rows::{rest_as_nodes, rest_as_texts};
 use sqlite::{Alter, Connection, Error, Row, Transaction, params};
 use std::alloc::Global;
 use xq_regions::{Kind, NodeRow};
+use xq_sources::LentRow;
 
 /// The number that stands for a kind in the tables.
 pub fn number_of(kind: Kind) -> u32
@@ -71,20 +73,19 @@ pub fn delete_part<S: Alter>(
 pub fn insert_row<S: Alter>(
     transaction: &mut Transaction<'_, S>,
     address: &str,
-    row: &NodeRow,
+    row: &LentRow<'_>,
     label: u32,
 ) -> Result<usize, Error>
     ensures inside { StaysInside S.Store transaction.old transaction.new }
     ensures added { HasCleanDisk (state S.Store transaction.new.conn.now)
-        → OnOk result (Adds address.now (placed row.now) label
+        → OnOk result (Adds address.now (placed_lent row.now) label
         (state S.Store transaction.old.conn.now) (state S.Store transaction.new.conn.now)) }
 {
     let kind = number_of(row.kind);
+    let text = row.value();
     transaction.execute(
         "INSERT INTO node2 (address, pre, size, level, kind, label, value) VALUES (?1, ?2, ?3, ?4, ?5, ?6, ?7)",
-        params![
-            address, row.pre, row.size, row.level, kind, label, &row.value
-        ],
+        params![address, row.pre, row.size, row.level, kind, label, text],
     )
 }
 
@@ -93,21 +94,20 @@ pub fn insert_row<S: Alter>(
 pub fn update_row<S: Alter>(
     transaction: &mut Transaction<'_, S>,
     address: &str,
-    row: &NodeRow,
+    row: &LentRow<'_>,
     label: u32,
 ) -> Result<usize, Error>
     ensures inside { StaysInside S.Store transaction.old transaction.new }
     ensures updated { HasCleanDisk (state S.Store transaction.new.conn.now)
-        → OnOk result (Updates address.now (placed row.now) label
+        → OnOk result (Updates address.now (placed_lent row.now) label
         (state S.Store transaction.old.conn.now).now
         (state S.Store transaction.new.conn.now).now) }
 {
     let kind = number_of(row.kind);
+    let text = row.value();
     transaction.execute(
         "UPDATE node2 SET size = ?3, level = ?4, kind = ?5, label = ?6, value = ?7 WHERE address = ?1 AND pre = ?2",
-        params![
-            address, row.pre, row.size, row.level, kind, label, &row.value
-        ],
+        params![address, row.pre, row.size, row.level, kind, label, text],
     )
 }
 
@@ -116,15 +116,15 @@ pub fn insert_named<S: Alter>(
     transaction: &mut Transaction<'_, S>,
     names: &mut Names,
     address: &str,
-    row: &NodeRow,
+    row: &LentRow<'_>,
 ) -> Result<(), Error>
     ensures inside { StaysInside S.Store transaction.old transaction.new }
     ensures added { HasCleanDisk (state S.Store transaction.new.conn.now)
-        → OnOk result (AddsNamed address.now (cells (placed row.now) ∷ [])
+        → OnOk result (AddsNamed address.now (cells (placed_lent row.now) ∷ [])
         names.old.entries names.new.entries (state S.Store transaction.old.conn.now)
         (state S.Store transaction.new.conn.now)) }
 {
-    let label = number_in_hand(transaction, names, &row.name)?;
+    let label = number_in_hand(transaction, names, row.name())?;
     let _count = insert_row(transaction, address, row, label)?;
     Ok(())
 }
@@ -134,15 +134,15 @@ pub fn update_named<S: Alter>(
     transaction: &mut Transaction<'_, S>,
     names: &mut Names,
     address: &str,
-    row: &NodeRow,
+    row: &LentRow<'_>,
 ) -> Result<(), Error>
     ensures inside { StaysInside S.Store transaction.old transaction.new }
     ensures updated { HasCleanDisk (state S.Store transaction.new.conn.now)
-        → OnOk result (UpdatesNamed address.now (placed row.now) names.old.entries
+        → OnOk result (UpdatesNamed address.now (placed_lent row.now) names.old.entries
         names.new.entries (state S.Store transaction.old.conn.now).now
         (state S.Store transaction.new.conn.now).now) }
 {
-    let label = number_in_hand(transaction, names, &row.name)?;
+    let label = number_in_hand(transaction, names, row.name())?;
     let _count = update_row(transaction, address, row, label)?;
     Ok(())
 }
@@ -161,7 +161,7 @@ pub fn insert_rows<S: Alter>(
         (state S.Store transaction.new.conn.now)) }
 {
     for row in rows {
-        insert_named(transaction, names, address, row)?;
+        insert_named(transaction, names, address, &LentRow::new(row))?;
     }
     Ok(())
 }

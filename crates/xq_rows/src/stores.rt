@@ -29,7 +29,7 @@ use crate::listings::list_shelf;
 use crate::memory_files::open_empty;
 use crate::readings::{check_open, document_of, nodes_above, nodes_between};
 use crate::schemas::tables_in;
-use crate::shelves::{Front, Shelf, kept_of, time_of};
+use crate::shelves::{Front, Shelf, all_of, kept_of, time_of};
 use crate::tables::make_tables;
 use crate::transactions::{drop_rows, put_rows};
 use sqlite::{Alter, Connection, FileStore, MemStore};
@@ -37,7 +37,9 @@ use std::alloc::Global;
 use std::marker::Model;
 use xq_atoms::Want;
 use xq_memory_disk::MemoryDisk;
+use xq_packed_trees::PackedTree;
 use xq_regions::{Fragment, NodeRow};
+use xq_sources::LentRows;
 
 /// Documents under addresses, in the tables of a database. Contracts see the store's connection,
 /// which is in no transaction, and speak of it by `IsClean`, `IsOpen` and `StandsFor`.
@@ -301,14 +303,15 @@ impl<S: Alter> Store<S> {
     {
         let kept = self.shelf.take();
         let there = kept_of(&kept, address);
-        let replaced = put_rows(self.alloc, &mut self.conn, address, &there, document.rows())?;
+        let rows = LentRows::new(document.rows());
+        let replaced = put_rows(self.alloc, &mut self.conn, address, &there, &rows)?;
         self.shelf = shelf_with(kept, address, Front::new(self.alloc));
         Ok(Put::of(replaced))
     }
 
     /// The same of a document that is handed over: its rows are kept for the next view, which need
     /// not read them. After a refusal the document is gone.
-    pub fn put_owned(&mut self, address: &str, document: Fragment) -> Result<Put, Want>
+    pub fn put_owned(&mut self, address: &str, document: PackedTree) -> Result<Put, Want>
         requires address { IsAddress address.now }
         requires document { document.root.kind ≡ Document }
         ensures put { IsClean S.Store self.new → (m : Map) → StandsFor S.Store self.old m
@@ -325,9 +328,10 @@ impl<S: Alter> Store<S> {
     {
         let others = self.shelf.take();
         let there = kept_of(&others, address);
-        let replaced = put_rows(self.alloc, &mut self.conn, address, &there, document.rows())?;
+        let rows = all_of(document.rows());
+        let replaced = put_rows(self.alloc, &mut self.conn, address, &there, &rows)?;
         let shelf = with_room(self.alloc, others, document.rows().len());
-        let front = Front::whole(self.alloc, &document, time_of(&shelf));
+        let front = Front::whole(self.alloc, document, time_of(&shelf));
         self.shelf = shelf_with(shelf, address, front);
         Ok(Put::of(replaced))
     }

@@ -2,10 +2,9 @@
 ghost use Rattle.std.specs.Prelude.{◌≡◌, ◌≤◌, length, map, false, IfOk, OnErr, OnOk, IsTrue};
 ghost use Rattle.sqlite.specs.State.{HasCleanDisk};
 ghost use Rattle.sqlite.specs.Held.{state};
-ghost use Rattle.xq_regions.specs.Rows.{AreNumbered, placed};
 ghost use Rattle.xq_rows.specs.Documents.{IsReady, is_at};
 ghost use Rattle.xq_rows.specs.Nodes.{cells};
-ghost use Rattle.xq_rows.specs.private.Statements.{Deletes, PutsOver};
+ghost use Rattle.xq_rows.specs.private.Statements.{AreFrom, Deletes, PutsOver};
 ghost use Rattle.xq_rows.specs.private.Keeps.{StaysOutside};
 ghost use Rattle.xq_regions.specs.Tree.{most_nodes};
 
@@ -14,7 +13,6 @@ use crate::replacements::replace_rows;
 use crate::statements::delete_rows;
 use sqlite::{Alter, Connection};
 use std::alloc::Global;
-use xq_regions::NodeRow;
 use xq_sources::LentRows;
 
 /// Takes the rows of an address out, and says how many there were.
@@ -43,10 +41,10 @@ pub fn put_rows<S: Alter>(
     conn: &mut Connection<S>,
     address: &str,
     kept: &LentRows<'_>,
-    rows: &[NodeRow],
+    rows: &LentRows<'_>,
 ) -> Result<bool, Refusal>
     requires outside { conn.old.in_transaction ≡ false }
-    requires numbered { AreNumbered 0 rows.now }
+    requires numbered { AreFrom 0 rows.now }
     requires few { length rows.now ≤ most_nodes }
     ensures outside { StaysOutside S.Store conn.old conn.new }
     ensures ends_open { HasCleanDisk (state S.Store conn.new)
@@ -54,7 +52,7 @@ pub fn put_rows<S: Alter>(
     ensures kept { IsReady (state S.Store conn.new)
         → OnErr result ((state S.Store conn.new).now ≡ (state S.Store conn.old).now) }
     ensures put { IsReady (state S.Store conn.new)
-        → IfOk result (PutsOver address.now kept.now (map cells (map placed rows.now))
+        → IfOk result (PutsOver address.now kept.now (map cells rows.now)
         (state S.Store conn.old).now (state S.Store conn.new).now) }
 {
     let _settled = conn.is_autocommit();

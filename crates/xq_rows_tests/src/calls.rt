@@ -83,7 +83,7 @@ pub fn is_answered<S: Alter>(
             Ok(put_made(alloc, store, address, document)? == wanted)
         }
         Call::HandOver(address, document, wanted) => {
-            Ok(hand_over(store, address, document.made(alloc)?)? == wanted)
+            Ok(hand_over(alloc, store, address, document.made(alloc)?)? == wanted)
         }
         Call::Refuse(address, document) => {
             Ok(put_made(alloc, store, address, document) == Err(Want::Store))

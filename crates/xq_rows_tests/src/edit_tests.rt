@@ -232,9 +232,14 @@ impl Edited {
     }
 }
 
-fn put_one<S: Alter>(store: &mut Store<S>, document: Fragment, kept: Kept) -> Result<Put, Want> {
+fn put_one<S: Alter>(
+    alloc: Global,
+    store: &mut Store<S>,
+    document: Fragment,
+    kept: Kept,
+) -> Result<Put, Want> {
     match kept {
-        Kept::Whole => hand_over(store, "m", document),
+        Kept::Whole => hand_over(alloc, store, "m", document),
         Kept::Nothing | Kept::Front => put(store, "m", &document),
     }
 }
@@ -252,7 +257,7 @@ fn put_kept<S: Alter + Drop>(
     kept: Kept,
 ) -> Result<Store<S>, Want> {
     let mut store = store;
-    let _put = put_one(&mut store, document, kept)?;
+    let _put = put_one(alloc, &mut store, document, kept)?;
     match kept {
         Kept::Front => viewed(alloc, store),
         Kept::Nothing | Kept::Whole => Ok(store),

@@ -6,6 +6,7 @@ use std::alloc::Global;
 use std::test::Fail;
 use xq_atoms::{Want, address_ok};
 use xq_memory_disk::MemoryDisk;
+use xq_packed_trees::PackedTree;
 use xq_regions::Fragment;
 use xq_rows::{OpenFault, Put, Store};
 
@@ -44,14 +45,16 @@ pub fn put<S: Alter>(
 
 /// Hands a document over to the store, which keeps its rows.
 pub fn hand_over<S: Alter>(
+    alloc: Global,
     store: &mut Store<S>,
     address: &str,
     document: Fragment,
 ) -> Result<Put, Want> {
-    if !address_ok(address.as_bytes()) || !document.is_document() {
+    let tree = PackedTree::of(alloc, &document)?;
+    if !address_ok(address.as_bytes()) || !tree.is_document() {
         return Err(Want::Store);
     }
-    store.put_owned(address, document)
+    store.put_owned(address, tree)
 }
 
 /// The document of the address.

@@ -8,7 +8,7 @@ use xq_axes::{axis, copy, double_slash, step, string_value};
 use xq_expressions::Text;
 use xq_meaning::Test;
 use xq_regions::{Axis, Kind, Node};
-use xq_sources::{LentRow, RowLender};
+use xq_sources::{LentRows, RowLender};
 
 /// An axis from a node at a place, and the places of the nodes there.
 type Way = (u32, Axis, &'static [u32]);
@@ -217,13 +217,14 @@ fn wrong_value<L: RowLender>(alloc: Global, source: &mut L) -> Result<Option<usi
 
 fn wrong_copy<L: RowLender>(alloc: Global, source: &mut L) -> Result<Option<usize>, Want> {
     let book = copy(alloc, source, Node { tree: 0, pre: 2 })?;
-    for (at, row) in book.rows().iter().enumerate() {
+    let rows = LentRows::all(book.rows());
+    for at in 0..rows.len() {
         match COPY.get(at) {
-            Some(wanted) if is_row(&LentRow::new(row), *wanted) => {}
+            Some(wanted) if is_row(&rows.row(at), *wanted) => {}
             _ => return Ok(Some(at)),
         }
     }
-    let count = book.rows().len();
+    let count = rows.len();
     Ok(if count == COPY.len() {
         None
     } else {

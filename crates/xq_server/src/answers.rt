@@ -13,8 +13,8 @@ use sqlite::Alter;
 use std::alloc::Global;
 use xq_atoms::{Code, Fault, address_ok};
 use xq_frame::Request;
+use xq_packed_trees::PackedTree;
 use xq_queries::{reads_at_most_once, reads_back, values_are_printable};
-use xq_regions::Fragment;
 use xq_rows::{Put, Store};
 
 /// What a request is told that isn't refused.
@@ -82,7 +82,7 @@ fn document_of<S: Alter + Drop>(
     alloc: Global,
     store: &mut Store<S>,
     text: &[u8],
-) -> Result<Fragment, Fault>
+) -> Result<PackedTree, Fault>
     ensures made { IsClean S.Store store.new → (m : Map) → StandsFor S.Store store.old m
         → GivesDocument text.now m result }
     ensures document { IfOk result HasDocumentRoot }
@@ -93,7 +93,7 @@ fn document_of<S: Alter + Drop>(
         → IsOpen S.Store store.old }
 {
     let plan = understand(alloc, text)?;
-    let document: Fragment = evaluate(alloc, store, &plan)?;
+    let document: PackedTree = evaluate(alloc, store, &plan)?;
     Ok(document)
 }
 

@@ -12,8 +12,8 @@ ghost use Rattle.xq_server.specs.private.Work.{Makes, MakesText, MakesDocument, 
 use std::alloc::Global;
 use xq_atoms::Fault;
 use xq_meaning::Plan;
+use xq_packed_trees::PackedTree;
 use xq_queries::{ask, make};
-use xq_regions::Fragment;
 use xq_sources::{Addresses, Growing};
 
 /// The text of a reply, or a document to be stored.
@@ -61,7 +61,7 @@ impl Product for String {
     }
 }
 
-impl Product for Fragment {
+impl Product for PackedTree {
     ghost makes = { MakesDocument };
 
     ghost is_sound = { HasDocumentRoot };
@@ -73,7 +73,7 @@ impl Product for Fragment {
         plan: &Plan,
         world: &mut W,
         addresses: &Addresses,
-    ) -> Result<Fragment, Fault> {
+    ) -> Result<PackedTree, Fault> {
         make(alloc, plan, world, addresses)
     }
 }

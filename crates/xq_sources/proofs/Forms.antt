@@ -1,13 +1,13 @@
 -- Packed rows from one place to before another, with their places.
-use Rattle.std.proofs.Common.{◌≡◌, ◌+◌, ◌-◌, ◌<◌, ◌≤◌, ℕ, List, Some, None, Bor, length, take, drop, min, sym, ap, ◌∙◌, subst, arith, inl, inr}
-use Rattle.std.specs.Prelude.{slice_get}
+use Rattle.std.proofs.Common.{◌≡◌, ◌+◌, ◌-◌, ◌<◌, ◌≤◌, ℕ, List, [], ◌∷◌, Some, None, Bor, length, take, drop, min, refl, sym, ap, ◌∙◌, subst, arith, inl, inr}
+use Rattle.std.specs.Prelude.{slice_get, slice_range}
 use Rattle.std.specs.List.{enumerate_from}
 use Rattle.std.proofs.lemmas.Bool.{cases_lt}
-use Rattle.std.proofs.lemmas.List.{length-take, length-drop, get_or-take, get_or-drop, take_min}
+use Rattle.std.proofs.lemmas.List.{length-take, length-drop, get_or-take, get_or-drop, take_min, take-map, drop-map}
 use Rattle.std.proofs.lemmas.List.FromFn.{length-enumerate_from, get_or-enumerate_from}
 use Rattle.std.proofs.lemmas.Option.{slice_get-get_or, slice_get_past}
 use Rattle.xq_regions.specs.Rows.{Row, row_at, no_row}
-use Rattle.xq_sources.specs.Lent.{lent_at, placed_between}
+use Rattle.xq_sources.specs.Lent.{lent_at, unplaced, placed_between}
 use Rattle.xq_sources.specs.private.Forms.{rows_of_form, AreThere, IsForm}
 use Rattle.xq_sources.specs.declared.lent.Form.{Form}
 use Rattle.xq_sources.specs.declared.lent.Form.TheVariants.{Packed}
@@ -73,3 +73,14 @@ module _ (form : Form) (rows : Bor PackedRows) (low high : ℕ) (seen : List (�
   -- there is none past the last
   pub none_got : (at : ℕ) → high - low ≤ at → slice_get seen at ≡ None
   none_got at past = slice_get_past seen at (omega (arith, past, as_many))
+
+-- # Rows without their places
+
+unplaced-enumerate : (n : ℕ) (rs : List Row) → unplaced (enumerate_from n rs) ≡ rs
+unplaced-enumerate n [] = refl
+unplaced-enumerate n (r ∷ rs) = ap (λ (l : List Row). r ∷ l) (unplaced-enumerate (n + 1) rs)
+
+pub unplaced-between : (rs : List Row) (low high : ℕ) → unplaced (placed_between rs low high) ≡ slice_range rs low high
+unplaced-between rs low high =
+    sym (take-map (λ (p : ℕ × Row). p.1) (high - low) (placed_from rs low))
+    ∙ ap (take (high - low)) (sym (drop-map (λ (p : ℕ × Row). p.1) low (enumerate_from 0 rs)) ∙ ap (drop low) (unplaced-enumerate 0 rs))

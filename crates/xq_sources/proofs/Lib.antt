@@ -1,4 +1,5 @@
 pub mod AttributeRows
+pub mod Between
 pub mod Forms
 pub mod Intervals
 pub mod ReadRows

@@ -1,79 +1,82 @@
 -- What is read of the rows of a tree.
-use Rattle.std.proofs.Common.{◌≡◌, ℕ, zero, suc, ◌+◌, ◌-◌, ◌<◌, List, [], ◌∷◌, length, get_or, take, drop, map, refl, sym, ◌∙◌, ap, arith, add-one}
-use Rattle.std.specs.Prelude.{filter, slice_index, Option, Some, None}
+use Rattle.std.proofs.Common.{◌≡◌, ℕ, ◌+◌, ◌-◌, ◌<◌, List, [], ◌∷◌, length, get_or, map, take, drop, drop-cons, refl, sym, ◌∙◌, ap, arith}
+use Rattle.std.specs.Prelude.{filter, slice_get, Option, Some, None}
 use Rattle.std.specs.List.{enumerate_from}
-use Rattle.std.proofs.lemmas.List.{take-map, drop-map, get_or_read}
-use Rattle.xq_regions.specs.declared.NodeRow.{NodeRow}
+use Rattle.std.proofs.lemmas.List.{get_or_read}
+use Rattle.std.proofs.lemmas.List.FromFn.{length-enumerate_from, get_or-enumerate_from}
+use Rattle.std.proofs.lemmas.Option.{slice_get_within, get_or_from_slice_get}
 use Rattle.xq_regions.specs.Tree.{Tree, nodes}
 use Rattle.xq_regions.specs.Forest.{count}
-use Rattle.xq_regions.specs.Rows.{Row, row_of, row_at, rows, placed, placed_rows, AreNumbered, Encodes, measured}
+use Rattle.xq_regions.specs.declared.NodeRow.{NodeRow}
+use Rattle.xq_regions.specs.Rows.{Row, row_of, row_at, no_row, rows, placed, placed_rows, measured}
 use Rattle.xq_regions.specs.Nesting.{count-measured}
-use Rattle.xq_sources.specs.Lent.{unplaced}
+use Rattle.xq_packed.specs.Packed.{Packed}
+use Rattle.xq_packed_trees.specs.PackedTrees.{Packs}
+use Rattle.xq_sources.specs.Lent.{placed_lent, placed_between, unplaced}
+use Rattle.xq_sources.specs.declared.lent.LentRow.{LentRow}
 use Rattle.xq_sources.specs.Sources.{no_tree, tree_at, encloses, rows_between, rows_enclosing}
 use Rattle.xq_sources.specs.private.Runs.{rows_of_run}
 use Rattle.xq_sources.proofs.Intervals.{between-places}
-use Rattle.xq_regions.proofs.Walks.{length-map, row_at-map}
 use Rattle.xq_regions.proofs.Regions.{length-labels}
-use Rattle.xq_regions.proofs.Encoding.{numbered_at}
-
-pub map-placed : (n : ℕ) (xs : List NodeRow) → AreNumbered n xs → map placed xs ≡ enumerate_from n (map row_of xs)
-map-placed n [] h = refl
-map-placed n (x ∷ xs) h = rw (h.0, map-placed (suc n) xs h.1, add-one)
-
--- rows that code holds, without their places
-pub unplaced-placed : (xs : List NodeRow) → unplaced (map placed xs) ≡ map row_of xs
-unplaced-placed [] = refl
-unplaced-placed (x ∷ xs) = ap (λ rs. row_of x ∷ rs) (unplaced-placed xs)
-
-pub pre_at : (xs : List NodeRow) (i : ℕ) (x : NodeRow) → i < length xs → x ≡ get_or xs i x → x.pre ≡ slice_index (map (λ (r : NodeRow). r.pre) xs) i
-pre_at [] i x h e = absurd (omega arith)
-pre_at (y ∷ xs) zero x h e = ap (λ (r : NodeRow). r.pre) e
-pre_at (y ∷ xs) (suc i) x h e = pre_at xs i x (omega arith) e
-
--- the part with one row alone
-pub one_at : (xs : List NodeRow) (i : ℕ) → i < length xs → map placed (take 1 (drop i xs)) ≡ (slice_index (map (λ (r : NodeRow). r.pre) xs) i, row_at (map row_of xs) i) ∷ []
-one_at [] i h = absurd (omega arith)
-one_at (y ∷ xs) zero h = refl
-one_at (y ∷ xs) (suc i) h = one_at xs i (omega arith)
 
 -- no row of any tree
 pub no_rows : (held : Option Tree) → rows_of_run held 1 0 ≡ []
 no_rows None = refl
 no_rows (Some t) = between-places 1 0 1 0 (rows t) refl
 
-module _ (xs : List NodeRow) (t : Tree) (encodes : Encodes xs t) where
-  pub all_read : map placed xs ≡ placed_rows t
-  all_read = map-placed 0 xs encodes.numbered ∙ ap (enumerate_from 0) encodes.rows
+module _ (p : Packed) (t : Tree) (packs : Packs p t) where
+  pub all_read : enumerate_from 0 p.rows ≡ placed_rows t
+  all_read = ap (enumerate_from 0) packs.rows
 
-  pub all_unplaced : unplaced (map placed xs) ≡ rows t
-  all_unplaced = unplaced-placed xs ∙ encodes.rows
-
-  pub read_between : (low high : ℕ) → map placed (take (high + 1 - low) (drop low xs)) ≡ rows_between t low high
+  pub read_between : (low high : ℕ) → placed_between p.rows low (high + 1) ≡ rows_between t low high
   read_between low high =
-      sym (take-map placed (high + 1 - low) (drop low xs)) ∙ ap (take (high + 1 - low)) (sym (drop-map placed low xs) ∙ ap (drop low) all_read)
+      ap (λ rs. placed_between rs low (high + 1)) packs.rows
       ∙ sym (between-places low 0 low high (rows t) (let z : low ≡ 0 + low = omega arith in z))
 
-  pub read_enclosing : (v : ℕ) → filter (encloses v) (map placed xs) ≡ rows_enclosing t v
+  pub read_enclosing : (v : ℕ) → filter (encloses v) (enumerate_from 0 p.rows) ≡ rows_enclosing t v
   read_enclosing v = ap (filter (encloses v)) all_read
 
-  pub read_row : (v : ℕ) (x : NodeRow) → v < length xs → x ≡ get_or xs v x → placed x ≡ (v, row_at (rows t) v)
-  read_row v x h e =
-      let p : x.pre ≡ v = pre_at xs v x h e ∙ numbered_at 0 xs v encodes.numbered h ∙ (let z : 0 + v ≡ v = omega arith in z) in
-      let r : row_of x ≡ row_at (rows t) v = sym (row_at-map xs v x h e) ∙ ap (λ rs. row_at rs v) encodes.rows in
-      rw (p, r)
+  -- a row that was looked up
+  pub read_row : (v : ℕ) (r : LentRow) → Some (placed_lent r) ≡ slice_get (enumerate_from 0 p.rows) v → placed_lent r ≡ (v, row_at (rows t) v)
+  read_row v r found =
+      let all : slice_get (enumerate_from 0 p.rows) v ≡ Some (placed_lent r) = sym found in
+      let within : v < length (enumerate_from 0 p.rows) = slice_get_within (enumerate_from 0 p.rows) v (placed_lent r) all in
+      let many = length-enumerate_from 0 p.rows in
+      let from_none : 0 + v ≡ v = omega arith in
+      sym (get_or_from_slice_get (enumerate_from 0 p.rows) v (placed_lent r) (0, no_row) all)
+      ∙ get_or-enumerate_from 0 p.rows v (0, no_row) (omega (arith, within, many))
+      ∙ ap (λ n. (n, row_at p.rows v)) from_none
+      ∙ ap (λ rs. (v, row_at rs v)) packs.rows
 
-  pub read_one : (v : ℕ) → v < length xs → rows_between t v v ≡ (v, row_at (rows t) v) ∷ []
+  pub there_within : (v : ℕ) → v < length (enumerate_from 0 p.rows) → v < length p.rows
+  there_within v h = (let many = length-enumerate_from 0 p.rows in omega (arith, h, many))
+
+  pub read_one : (v : ℕ) → v < length p.rows → rows_between t v v ≡ (v, row_at (rows t) v) ∷ []
   read_one v h =
       let n : v + 1 - v ≡ 1 = omega arith in
-      let p : slice_index (map (λ (r : NodeRow). r.pre) xs) v ≡ v = numbered_at 0 xs v encodes.numbered h ∙ (let z : 0 + v ≡ v = omega arith in z) in
-      sym (read_between v v) ∙ ap (λ m. map placed (take m (drop v xs))) n ∙ one_at xs v h
-      ∙ ap (λ q. (q, row_at (map row_of xs) v) ∷ []) p ∙ ap (λ rs. (v, row_at rs v) ∷ []) encodes.rows
+      let many = length-enumerate_from 0 p.rows in
+      let from_none : 0 + v ≡ v = omega arith in
+      sym (read_between v v) ∙ ap (λ m. take m (drop v (enumerate_from 0 p.rows))) n
+      ∙ ap (take 1) (drop-cons (enumerate_from 0 p.rows) v (0, no_row) (omega (arith, h, many)))
+      ∙ ap (λ (r : ℕ × Row). r ∷ []) (get_or-enumerate_from 0 p.rows v (0, no_row) h)
+      ∙ ap (λ n. (n, row_at p.rows v) ∷ []) from_none
+      ∙ ap (λ rs. (v, row_at rs v) ∷ []) packs.rows
 
-  pub node_within : (v : ℕ) → v < length xs → v < count (nodes t)
-  node_within v h = omega (arith, h, ap length encodes.rows, length-map row_of xs, length-labels (measured 0 (nodes t)), count-measured 0 (nodes t))
+  pub node_within : (v : ℕ) → v < length p.rows → v < count (nodes t)
+  node_within v h = omega (arith, h, ap length packs.rows, length-labels (measured 0 (nodes t)), count-measured 0 (nodes t))
+
+-- rows that code holds, without their places
+pub unplaced-placed : (xs : List NodeRow) → unplaced (map placed xs) ≡ map row_of xs
+unplaced-placed [] = refl
+unplaced-placed (x ∷ xs) = ap (λ rs. row_of x ∷ rs) (unplaced-placed xs)
+
+-- rows without the places that they were given
+unplaced-numbered : (n : ℕ) (rs : List Row) → unplaced (enumerate_from n rs) ≡ rs
+unplaced-numbered n [] = refl
+unplaced-numbered n (r ∷ rs) = ap (λ qs. r ∷ qs) (unplaced-numbered (n + 1) rs)
 
 -- what is read of a tree that was looked up among others, without places
-pub held_unplaced : (trees held : List Tree) (n : ℕ) (t : Tree) (xs : List NodeRow) (read : List (ℕ × Row)) → held ≡ trees → n < length held → t ≡ get_or held n t → Encodes xs t → read ≡ map placed xs → unplaced read ≡ rows (tree_at trees n)
-held_unplaced trees held n t xs read all within is encodes lent =
-    ap unplaced lent ∙ all_unplaced xs t encodes
+pub held_unplaced : (trees held : List Tree) (n : ℕ) (t : Tree) (p : Packed) (read : List (ℕ × Row)) → held ≡ trees → n < length held → t ≡ get_or held n t → Packs p t → read ≡ enumerate_from 0 p.rows → unplaced read ≡ rows (tree_at trees n)
+held_unplaced trees held n t p read all within is packs lent =
+    ap unplaced lent ∙ unplaced-numbered 0 p.rows ∙ packs.rows
     ∙ ap rows (get_or_read held n t within is no_tree) ∙ ap (λ ts. rows (tree_at ts n)) all

@@ -1,15 +1,18 @@
 //! Trees in memory.
-ghost use Rattle.std.specs.Prelude.{◌≡◌, ◌++◌, ◌∷◌, [], Some, None, slice_get, IfNone, IfOk, IfSome, OnErr, OnOk};
-ghost use Rattle.xq_regions.specs.Rows.{Encodes};
+ghost use Rattle.std.specs.Prelude.{◌≡◌, ◌+◌, ◌++◌, ◌∷◌, [], Some, None, slice_get, IfNone, IfOk, IfSome, OnErr, OnOk};
+ghost use Rattle.xq_packed_trees.specs.PackedTrees.{Packs};
+ghost use Rattle.xq_sources.specs.Lent.{placed_between};
 ghost use Rattle.xq_sources.specs.Meters.{no_readings};
 ghost use Rattle.xq_sources.specs.Sources.{tree_at, HasTree};
 ghost use Rattle.xq_sources.specs.private.Runs.{rows_of_run};
 
 use crate::attributes::count_attributes;
-use crate::rows::{copy_enclosing, copy_rows, rows_between};
+use crate::rows::{copy_enclosing, copy_rows};
 use crate::{Guide, LentRows, Meter, RowLender, RowSource, TreeSource};
 use std::alloc::Global;
 use xq_atoms::Want;
+use xq_packed::PackedRows;
+use xq_packed_trees::PackedTree;
 use xq_regions::{Fragment, NodeRow};
 
 /// The rows of a tree from `low` to `high`.
@@ -27,11 +30,18 @@ const NO_ROWS: Run = Run {
     high: 0,
 };
 
-/// Trees in memory, which give copies of their rows and lend the rows themselves. They are always
-/// clean.
+/// The rows from `low` to `high`, lent.
+fn between(rows: &PackedRows, low: u32, high: u32) -> LentRows<'_>
+    ensures { result ≡ placed_between rows.now.rows low (high + 1) }
+{
+    LentRows::packed(rows, low as usize, high as usize + 1)
+}
+
+/// Trees in memory, packed, which give copies of their rows and lend the rows themselves. They are
+/// always clean.
 #[derive(Drop)]
 pub struct Fragments {
-    list: Vec<Fragment>,
+    list: Vec<PackedTree>,
     /// Where parents lie, at the same places.
     guides: Vec<Guide>,
     meter: Meter,
@@ -63,8 +73,23 @@ impl Fragments {
         ensures lent { ⟦<Fragments as RowLender>⟧.lent self.new ≡ [] }
     {
         self.run = NO_ROWS;
+        let tree = PackedTree::of(*self.guides.allocator(), &tree)?;
+        self.push_packed(tree)
+    }
+
+    /// The same of a tree whose rows are packed.
+    pub fn push_packed(&mut self, tree: PackedTree) -> Result<(), Want>
+        ensures ok { OnOk result (⟦<Fragments as TreeSource>⟧.forest self.new
+            ≡ ⟦<Fragments as TreeSource>⟧.forest self.old ++ tree ∷ []) }
+        ensures err { OnErr result (⟦<Fragments as TreeSource>⟧.forest self.new
+            ≡ ⟦<Fragments as TreeSource>⟧.forest self.old) }
+        ensures meter { ⟦<Fragments as TreeSource>⟧.meter self.new
+            ≡ ⟦<Fragments as TreeSource>⟧.meter self.old }
+        ensures lent { ⟦<Fragments as RowLender>⟧.lent self.new ≡ [] }
+    {
+        self.run = NO_ROWS;
         let mut guide = Guide::new(*self.guides.allocator());
-        guide.read_on(&LentRows::new(tree.rows()))?;
+        guide.read_on(&LentRows::all(tree.rows()))?;
         self.guides.truncate(self.list.len());
         self.guides.push(guide)?;
         self.list.push(tree)?;
@@ -72,7 +97,7 @@ impl Fragments {
     }
 
     /// Takes the last tree away; none where there is none. No row is lent then.
-    pub fn pop(&mut self) -> Option<Fragment>
+    pub fn pop(&mut self) -> Option<PackedTree>
         ensures taken { IfSome result (λ tree. ⟦<Fragments as TreeSource>⟧.forest self.old
             ≡ ⟦<Fragments as TreeSource>⟧.forest self.new ++ tree ∷ []) }
         ensures none { IfNone result (⟦<Fragments as TreeSource>⟧.forest self.new
@@ -88,15 +113,15 @@ impl Fragments {
     }
 
     /// The rows of the tree; `Want::Store` where there is none of this number.
-    fn rows_of(&self, tree: usize) -> Result<&[NodeRow], Want>
+    fn rows_of(&self, tree: usize) -> Result<&PackedRows, Want>
         ensures exists { OnOk result (HasTree self.now.list.items tree) }
         ensures held { OnOk result (slice_get self.now.list.items tree
             ≡ Some (tree_at self.now.list.items tree)) }
         ensures absent { OnErr result (slice_get self.now.list.items tree ≡ None) }
-        ensures rows { IfOk result (λ rows. Encodes rows.now (tree_at self.now.list.items tree)) }
+        ensures rows { IfOk result (λ rows. Packs rows.now (tree_at self.now.list.items tree)) }
     {
         match self.list.get(tree) {
-            Some(fragment) => Ok(fragment.rows()),
+            Some(held) => Ok(held.rows()),
             None => Err(Want::Store),
         }
     }
@@ -127,24 +152,24 @@ impl RowSource for Fragments {
         high: u32,
     ) -> Result<Vec<NodeRow>, Want> {
         let rows = self.rows_of(tree)?;
-        let found = copy_rows(alloc, rows_between(rows, low, high))?;
+        let found = copy_rows(alloc, &between(rows, low, high))?;
         self.meter = self.meter.with_rows(found.len());
         Ok(found)
     }
 
     fn enclosing(&mut self, alloc: Global, tree: usize, node: u32) -> Result<Vec<NodeRow>, Want> {
         let rows = self.rows_of(tree)?;
-        let found = copy_enclosing(alloc, rows, node)?;
+        let found = copy_enclosing(alloc, &LentRows::all(rows), node)?;
         self.meter = self.meter.with_singles(found.len());
         Ok(found)
     }
 
     fn row(&mut self, alloc: Global, tree: usize, node: u32) -> Result<NodeRow, Want> {
         let rows = self.rows_of(tree)?;
-        if node as usize >= rows.len() {
+        let Some(row) = LentRows::all(rows).get(node as usize) else {
             return Err(Want::Store);
-        }
-        let found = rows[node as usize].try_clone(alloc)?;
+        };
+        let found = row.to_row(alloc)?;
         self.meter = self.meter.with_singles(1);
         Ok(found)
     }
@@ -156,7 +181,7 @@ impl RowLender for Fragments {
     fn fetch(&mut self, _: Global, tree: usize, low: u32, high: u32) -> Result<(), Want> {
         self.run = NO_ROWS;
         let rows = self.rows_of(tree)?;
-        let count = rows_between(rows, low, high).len();
+        let count = between(rows, low, high).len();
         self.run = Run { tree, low, high };
         self.meter = self.meter.with_rows(count);
         Ok(())
@@ -179,13 +204,13 @@ impl RowLender for Fragments {
 
     fn parent(&self, tree: usize, node: u32) -> Option<u32> {
         let guide = self.guides.get(tree)?;
-        let fragment = self.list.get(tree)?;
-        guide.parent(&LentRows::new(fragment.rows()), node)
+        let held = self.list.get(tree)?;
+        guide.parent(&LentRows::all(held.rows()), node)
     }
 
     fn attributes(&self, tree: usize, node: u32) -> Option<u32> {
-        let fragment = self.list.get(tree)?;
-        count_attributes(&LentRows::new(fragment.rows()), node)
+        let held = self.list.get(tree)?;
+        count_attributes(&LentRows::all(held.rows()), node)
     }
 
     fn find_named(&mut self, _: Global, _: usize, _: &str) {}
@@ -196,7 +221,7 @@ impl RowLender for Fragments {
 
     fn lent(&self) -> LentRows<'_> {
         match self.rows_of(self.run.tree) {
-            Ok(rows) => LentRows::new(rows_between(rows, self.run.low, self.run.high)),
+            Ok(rows) => between(rows, self.run.low, self.run.high),
             Err(_) => LentRows::new(&[]),
         }
     }

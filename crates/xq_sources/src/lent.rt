@@ -1,9 +1,10 @@
 //! Rows as they are lent: read where they lie, and not copied.
-ghost use Rattle.std.specs.Prelude.{◌≡◌, ◌<◌, ◌≤◌, length, map, slice_get, take, IfOk, IfSome, IfNone, IsTrue, ◌↔◌, []};
+ghost use Rattle.std.specs.Prelude.{◌≡◌, ◌^◌, ◌<◌, ◌≤◌, ◌++◌, ◌∷◌, length, map, slice_get, slice_range, take, IfOk, IfSome, IfNone, OnOk, IsTrue, ◌↔◌, []};
+ghost use Rattle.std.specs.List.{enumerate_from};
 ghost use Rattle.std.specs.Option.{option_map};
-ghost use Rattle.xq_regions.specs.Rows.{placed, row_at};
-ghost use Rattle.xq_regions.specs.Tree.{most_nodes};
-ghost use Rattle.xq_sources.specs.Lent.{placed_lent, lent_at, placed_between};
+ghost use Rattle.xq_regions.specs.Rows.{placed, row_at, row_of};
+ghost use Rattle.xq_packed.specs.Changes.{moved};
+ghost use Rattle.xq_sources.specs.Lent.{placed_lent, lent_at, unplaced, placed_between};
 
 use std::alloc::Global;
 use std::marker::Model;
@@ -122,7 +123,7 @@ impl<'a> LentRow<'a> {
 #[inline]
 fn packed_row(rows: &PackedRows, at: usize) -> LentRow<'_>
     requires within { at < length rows.now.rows }
-    requires room { at < most_nodes }
+    requires room { at < 2 ^ 32 }
     ensures { placed_lent result ≡ (at, row_at rows.now.rows at) }
 {
     let row = PackedRow::new(rows, at);
@@ -135,6 +136,35 @@ fn packed_row(rows: &PackedRows, at: usize) -> LentRow<'_>
             form: TextsForm::Packed(row),
         },
     }
+}
+
+/// Adds a row after packed ones: on the level `to` where it is on the level `from`, otherwise as
+/// far below or above. Where no tree has a row on that level, `Want::Store` is answered.
+fn append_row(rows: &mut PackedRows, row: &NodeRow, from: u32, to: u32) -> Result<(), Want>
+    ensures { OnOk result (rows.new.rows
+        ≡ rows.old.rows ++ moved from to (row_of row.now) ∷ []) }
+{
+    let Some(level) = row.level.saturating_sub(from).checked_add(to) else {
+        return Err(Want::Store);
+    };
+    rows.push_parts(
+        row.size,
+        level,
+        row.kind,
+        row.name.as_str(),
+        row.value.as_str(),
+    )
+}
+
+/// Adds these rows after packed ones, with their levels moved so.
+fn append_listed(rows: &mut PackedRows, listed: &[NodeRow], from: u32, to: u32) -> Result<(), Want>
+    ensures { OnOk result (rows.new.rows
+        ≡ rows.old.rows ++ map (moved from to) (map row_of listed.now)) }
+{
+    for row in listed {
+        append_row(rows, row, from, to)?;
+    }
+    Ok(())
 }
 
 /// Where rows lie that are lent.
@@ -191,6 +221,14 @@ impl<'a> LentRows<'a> {
         LentRows {
             form: Form::Packed(rows, low, high),
         }
+    }
+
+    /// All packed rows, lent.
+    #[inline]
+    pub fn all(rows: &'a PackedRows) -> LentRows<'a>
+        ensures { result ≡ enumerate_from 0 rows.now.rows }
+    {
+        LentRows::packed(rows, 0, rows.len())
     }
 
     /// How many rows there are.
@@ -256,5 +294,35 @@ impl<'a> LentRows<'a> {
             unreachable!();
         };
         row
+    }
+
+    /// Adds the rows, without their places, after packed ones: on the level `to` where they are on
+    /// the level `from`, others as far below or above as here. Where no tree has a row on such a
+    /// level, `Want::Store` is answered.
+    pub fn append_to(&self, rows: &mut PackedRows, from: u32, to: u32) -> Result<(), Want>
+        ensures { OnOk result (rows.new.rows
+            ≡ rows.old.rows ++ map (moved from to) (unplaced self.now)) }
+    {
+        match self.form {
+            Form::Listed(listed) => append_listed(rows, listed, from, to),
+            Form::Packed(packed, low, high) => rows.append_run(packed, low, high, from, to),
+        }
+    }
+
+    /// The rows from one place among them to before another, those that there are.
+    pub fn between(&self, low: usize, high: usize) -> LentRows<'a>
+        ensures { result ≡ slice_range self.now low high }
+    {
+        match self.form {
+            Form::Listed(rows) => {
+                let high = high.min(rows.len());
+                let (_, part) = rows[..high].split_at(low.min(high));
+                LentRows::new(part)
+            }
+            Form::Packed(rows, start, end) => {
+                let high = high.min(end - start);
+                LentRows::packed(rows, start + low.min(high), start + high)
+            }
+        }
     }
 }

@@ -26,6 +26,5 @@ pub use lenders::{Buffered, RowLender};
 pub use lent::{LentRow, LentRows};
 pub use meters::Meter;
 pub use names::{Names, find_named};
-pub use rows::rows_between;
 pub use sources::{RowSource, TreeSource};
 pub use trees::Trees;

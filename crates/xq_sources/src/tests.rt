@@ -10,6 +10,7 @@ use std::collections::HashMap;
 use std::process::Abort;
 use xq_atoms::Want;
 use xq_packed::PackedRows;
+use xq_packed_trees::PackedTree;
 use xq_regions::{Fragment, Kind, NodeRow};
 
 /// An element of this name with a text.
@@ -46,7 +47,7 @@ fn stored(alloc: Global) -> Result<Fragments, Want> {
 /// Adds a constructed tree.
 fn construct(alloc: Global, trees: &mut impl Growing) -> Result<(), Want> {
     match Fragment::from_rows(element(alloc, "constructed", "B")?) {
-        Ok(tree) => trees.plant(tree),
+        Ok(tree) => trees.plant(PackedTree::of(alloc, &tree)?),
         Err(_) => Ok(()),
     }
 }
@@ -133,7 +134,7 @@ fn the_last_constructed_tree_is_uprooted(rt: HostRuntime) -> Result<(), Want> {
         panic!(rt; "there is a constructed tree");
     };
     assert_eq!(rt;
-        words(alloc, &LentRows::new(tree.rows()))?.as_str(),
+        words(alloc, &LentRows::all(tree.rows()))?.as_str(),
         "constructed B "
     );
     assert!(rt; trees.uproot().is_none());

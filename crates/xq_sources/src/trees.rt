@@ -11,7 +11,8 @@ use crate::meters::Meter;
 use crate::sources::{RowSource, TreeSource};
 use std::alloc::Global;
 use xq_atoms::Want;
-use xq_regions::{Fragment, NodeRow};
+use xq_packed_trees::PackedTree;
+use xq_regions::NodeRow;
 
 /// The trees of a source, and after them those that were constructed. The meter shows the sums of
 /// both, each standing still at `u64::MAX`; they are clean while the source is.
@@ -73,14 +74,14 @@ impl<S: TreeSource + Drop> TreeSource for Trees<S> {
 }
 
 impl<S: RowLender + Drop> Growing for Trees<S> {
-    fn plant(&mut self, tree: Fragment) -> Result<(), Want> {
+    fn plant(&mut self, tree: PackedTree) -> Result<(), Want> {
         if self.trees() == usize::MAX {
             return Err(Want::Memory);
         }
-        self.constructed.push(tree)
+        self.constructed.push_packed(tree)
     }
 
-    fn uproot(&mut self) -> Option<Fragment> {
+    fn uproot(&mut self) -> Option<PackedTree> {
         self.constructed.pop()
     }
 }

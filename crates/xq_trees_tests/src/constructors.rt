@@ -5,7 +5,8 @@ use std::process::Abort;
 use xq_atoms::Fault;
 use xq_build::{attribute, comment, document, element, name_of, pi, print_items, text};
 use xq_expressions::NamedNode;
-use xq_regions::{Fragment, Item, Node};
+use xq_packed_trees::PackedTree;
+use xq_regions::{Item, Node};
 use xq_samples::documents::{held, library};
 use xq_samples::items::Sample::{Bool, Dec, Int, Row, RowOf, Str, Untyped};
 use xq_samples::items::{Sample, atoms, items};
@@ -139,7 +140,7 @@ pub fn made<L: RowLender>(
     lender: &mut L,
     constructor: Constructor,
     items: &[Item],
-) -> Result<Fragment, Fault> {
+) -> Result<PackedTree, Fault> {
     match constructor {
         Constructor::Document => document(alloc, lender, items),
         Constructor::Element(name) => {
@@ -167,7 +168,7 @@ fn printed<L: RowLender>(
     let items = items(alloc, content)?;
     let tree = made(alloc, lender, constructor, &items)?;
     let root = Item::Node(Node { tree: 0, pre: 0 });
-    print_items(alloc, &mut held(alloc, tree)?, &[root])
+    print_items(alloc, &mut held(alloc, tree.to_fragment(alloc)?)?, &[root])
 }
 
 /// Asserts what each constructor makes over the lender.

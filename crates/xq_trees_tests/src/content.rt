@@ -5,6 +5,7 @@ use std::alloc::Global;
 use std::process::Abort;
 use xq_atoms::{Code, Fault, Want};
 use xq_build::{print_items, text};
+use xq_packed_trees::PackedTree;
 use xq_regions::{Fragment, Item, Items, Kind, Node, NodeRow};
 use xq_samples::items::Sample::RowOf;
 use xq_samples::items::{Sample, items};
@@ -139,7 +140,7 @@ fn nodes_over_the_limit_are_refused(rt: HostRuntime) -> Result<(), Fault> {
 }
 
 /// A text of a million letters.
-fn long_text(alloc: Global) -> Result<Fragment, Fault> {
+fn long_text(alloc: Global) -> Result<PackedTree, Fault> {
     let mut value = String::new(alloc);
     for _letter in 0..1_000_000 {
         value.push('a')?;
@@ -157,7 +158,7 @@ fn printed_length<L: RowLender>(alloc: Global, lender: &mut L, count: u32) -> Re
 fn replies_over_the_limit_are_refused(rt: HostRuntime) -> Result<(), Fault> {
     let alloc = rt.alloc();
     let mut trees = Fragments::new(alloc);
-    trees.push(long_text(alloc)?)?;
+    trees.push_packed(long_text(alloc)?)?;
     for (count, wanted) in [
         (15, Ok(16_000_174)),
         (16, Err(Fault::Code(Code::ProfReply))),

@@ -2,12 +2,14 @@
 use Rattle.std.proofs.Common.{◌≡◌, ℕ, zero, suc, ◌+◌, ◌<◌, ◌≤◌, List, [], ◌∷◌, ◌++◌, map, take, drop, set, length, get_or, replicate, fold, slice_index_or, refl, ap, sym, ◌∙◌, arith}
 use Rattle.std.specs.Global.{Vec}
 use Rattle.std.specs.List.{All, range_with_len, enumerate_from, zip}
-use Rattle.std.proofs.lemmas.List.{append_assoc, append-nil, length-map, get_or-drop, map_push, take_all, drop_all, drop_more, take_more_set, drop-set-lt}
+use Rattle.std.proofs.lemmas.List.{append_assoc, append-nil, length-map, get_or-drop, map_push, take_all, drop_all, drop_more, take_more_set, drop-set-lt, drop-drop, get_or-take}
+use Rattle.std.proofs.lemmas.List.FromFn.{length-range_with_len}
 use Rattle.std.proofs.lemmas.List.Elements.{All-nil, All-cons, All-head, All-tail}
 use Rattle.xq_atoms.specs.declared.atoms.Atom.{Atom}
 use Rattle.xq_regions.specs.Tuples.{extended, key_rows}
-use Rattle.xq_tuples.specs.Keys.{atomics_of, column_of, by_specification}
-use Rattle.xq_tuples.specs.private.Columns.{filled}
+use Rattle.xq_tuples.specs.declared.rows.Key.{Key}
+use Rattle.xq_tuples.specs.Keys.{atomics_of, column_of, values_in, row_of, by_specification, by_tuple}
+use Rattle.xq_tuples.specs.private.Columns.{filled, after_tuples}
 use Rattle.xq_tuples.proofs.Lists.{map-map}
 
 -- # Keys by specification, from those by tuple
@@ -38,6 +40,9 @@ pub filled_all : {X A : Type 0} (f : X → List (List A)) (columns : List X) (n 
 filled_all f columns n left all past so_far =
     sym (append-nil (map f columns)) ∙ (λ t. map f (sym (take_all n columns past) t) ++ filled (map f (sym (drop_all n columns past) t)) left) ∙ so_far
 
+pub dropped_more : {A : Type 0} (i : ℕ) (left all : List A) → left ≡ drop i all → drop 1 left ≡ drop (i + 1) all
+dropped_more i left all e = ap (drop 1) e ∙ drop-drop 1 i all
+
 -- columns without a value
 pub none_filled : {A : Type 0} (a n : ℕ) → replicate {A = List A} n [] ≡ map (λ (i : ℕ). []) (range_with_len a n)
 none_filled a zero = refl
@@ -62,6 +67,36 @@ module _ {A : Type 0} where
       filled_from (λ i. map (λ r. slice_index_or r i nothing) rows) (λ i. slice_index_or row i nothing) 0 n row (λ i l. (let z : i ≡ 0 + i = omega arith in ap (λ j. get_or row j nothing) z))
       ∙ (λ t. map (λ i. sym (map_push (λ (r : List (List A)). slice_index_or r i nothing) rows row) t) (range_with_len 0 n))
 
+  -- and where there are more keys than the tuple's
+  by_specification-first : (n : ℕ) (rows : List (List (List A))) (left : List (List A)) → filled (by_specification n rows) left ≡ by_specification n (rows ++ take n left ∷ [])
+  by_specification-first n rows left =
+      filled_from (λ i. map (λ r. slice_index_or r i nothing) rows) (λ i. slice_index_or (take n left) i nothing) 0 n left (λ i l. (let z : i ≡ 0 + i = omega arith in sym (get_or-take n left i nothing l) ∙ ap (λ j. get_or (take n left) j nothing) z))
+      ∙ (λ t. map (λ i. sym (map_push (λ (r : List (List A)). slice_index_or r i nothing) rows (take n left)) t) (range_with_len 0 n))
+
+  by_tuple-more : (m n : ℕ) (keys : List (List A)) → by_tuple (suc m) n keys ≡ by_tuple m n keys ++ take n (after_tuples m n keys) ∷ []
+  by_tuple-more zero n keys = refl
+  by_tuple-more (suc m) n keys = ap (λ rows. take n keys ∷ rows) (by_tuple-more m n (drop n keys))
+
+  -- the columns of one tuple more, of keys that stand one tuple after another
+  pub by_tuple-push : (m n : ℕ) (keys : List (List A)) → filled (by_specification n (by_tuple m n keys)) (after_tuples m n keys) ≡ by_specification n (by_tuple (m + 1) n keys)
+  by_tuple-push m n keys =
+      let one : suc m ≡ m + 1 = omega arith in
+      by_specification-first n (by_tuple m n keys) (after_tuples m n keys) ∙ ap (by_specification n) (sym (by_tuple-more m n keys)) ∙ ap (λ k. by_specification n (by_tuple k n keys)) one
+
+  after_suc : (m n : ℕ) (keys : List (List A)) → drop n (after_tuples m n keys) ≡ after_tuples (suc m) n keys
+  after_suc zero n keys = refl
+  after_suc (suc m) n keys = after_suc m n (drop n keys)
+
+  pub after_tuples-more : (m n : ℕ) (keys : List (List A)) → drop n (after_tuples m n keys) ≡ after_tuples (m + 1) n keys
+  after_tuples-more m n keys = let one : suc m ≡ m + 1 = omega arith in after_suc m n keys ∙ ap (λ k. after_tuples k n keys) one
+
+  pub by_specification-wide : (n : ℕ) (rows : List (List (List A))) → length (by_specification n rows) ≡ n
+  by_specification-wide n rows = length-map (range_with_len 0 n) (λ i. map (λ row. slice_index_or row i nothing) rows) ∙ length-range_with_len 0 n
+
+  pub by_tuple-long : (m n : ℕ) (keys : List (List A)) → length (by_tuple m n keys) ≡ m
+  by_tuple-long zero n keys = refl
+  by_tuple-long (suc m) n keys = omega (arith, by_tuple-long m n (drop n keys))
+
   -- each has one for each tuple
   pub all_as_long : (n : ℕ) (rows : List (List (List A))) (m : ℕ) → length rows ≡ m → All (λ column. length column ≡ m) (by_specification n rows)
   all_as_long n rows m e = always (λ column. length column ≡ m) (λ i. map (λ row. slice_index_or row i nothing) rows) (λ i. length-map rows (λ row. slice_index_or row i nothing) ∙ e) 0 n
@@ -70,6 +105,11 @@ pub lists_as_long : (m : ℕ) (columns : List (Vec (Vec Atom))) → All (λ colu
 lists_as_long m [] h = All-nil (λ column. length column ≡ m)
 lists_as_long m (c ∷ columns) h =
     All-cons (λ column. length column ≡ m) (column_of c) (map column_of columns) (length-map c.items atomics_of ∙ All-head (λ (column : Vec (Vec Atom)). length column.items ≡ m) c columns h) (lists_as_long m columns (All-tail (λ (column : Vec (Vec Atom)). length column.items ≡ m) c columns h))
+
+pub rows_as_long : (m : ℕ) (columns : List (Vec Key)) → All (λ column. length column.items ≡ m) columns → All (λ column. length column ≡ m) (map row_of columns)
+rows_as_long m [] h = All-nil (λ column. length column ≡ m)
+rows_as_long m (c ∷ columns) h =
+    All-cons (λ column. length column ≡ m) (row_of c) (map row_of columns) (length-map c.items values_in ∙ All-head (λ (column : Vec Key). length column.items ≡ m) c columns h) (rows_as_long m columns (All-tail (λ (column : Vec Key). length column.items ≡ m) c columns h))
 
 pub keys_as_long : {A K : Type 0} (f : A → K) (m : ℕ) (columns : List (List A)) → All (λ column. length column ≡ m) columns → All (λ keys. length keys ≡ m) (map (map f) columns)
 keys_as_long f m [] h = All-nil (λ keys. length keys ≡ m)

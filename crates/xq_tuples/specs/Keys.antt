@@ -1,5 +1,5 @@
 -- What contracts see of keys.
-use Rattle.std.specs.Prelude.{ℕ, List, [], ◌∷◌, map, slice_index_or}
+use Rattle.std.specs.Prelude.{ℕ, zero, suc, List, [], ◌∷◌, map, take, drop, slice_index_or}
 use Rattle.std.specs.Global.{Vec}
 use Rattle.std.specs.List.{range_with_len}
 use Rattle.xq_atoms.specs.declared.atoms.Atom.{Atom}
@@ -33,6 +33,11 @@ row_of row = map values_in row.items
 -- those of each tuple
 abbrev pub rows_in : Vec (Vec Key) → List (List (List Atomic))
 rows_in rows = map row_of rows.items
+
+-- from keys that stand one tuple after another, those of each of so many tuples, so many each
+abbrev pub by_tuple : {A : Type 0} → ℕ → ℕ → List A → List (List A)
+by_tuple zero n keys = []
+by_tuple (suc m) n keys = take n keys ∷ by_tuple m n (drop n keys)
 
 -- from the keys of each tuple, those of each of so many specifications; one that a tuple lacks is
 -- empty

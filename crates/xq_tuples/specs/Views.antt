@@ -1,15 +1,20 @@
 -- What contracts see of the program's tuples.
-use Rattle.std.specs.Prelude.{List, map}
-use Rattle.std.specs.Global.{Vec, Global}
-use Rattle.std.specs.declared.rc.Rc.{Rc}
-use Rattle.xq_regions.specs.declared.items.Item.{Item}
-use Rattle.xq_regions.specs.Items.{ItemView, item_views}
+use Rattle.std.specs.Prelude.{List, [], ◌∷◌, map}
+use Rattle.std.specs.Global.{Vec}
+use Rattle.xq_regions.specs.Items.{ItemView, item_view, item_views}
 use Rattle.xq_regions.specs.Tuples.{Tuple}
+use Rattle.xq_tuples.specs.declared.slots.SlotValue.{SlotValue}
+use Rattle.xq_tuples.specs.declared.slots.SlotValue.TheVariants.{Lone, Shared}
+
+-- the items of a slot
+abbrev pub slot_items : SlotValue → List ItemView
+slot_items (Lone item) = item_view item ∷ []
+slot_items (Shared items) = item_views items.value
 
 -- the values that a tuple shares with others
-abbrev pub values_of : List (Rc (Vec Item) Global) → Tuple ItemView
-values_of slots = map (λ slot. item_views slot.value) slots
+abbrev pub values_of : List SlotValue → Tuple ItemView
+values_of slots = map slot_items slots
 
 -- the values of a tuple of the program, slot by slot
-abbrev pub tuple_of : Vec (Rc (Vec Item) Global) → Tuple ItemView
+abbrev pub tuple_of : Vec SlotValue → Tuple ItemView
 tuple_of slots = values_of slots.items

@@ -10,10 +10,10 @@ ghost use Rattle.xq_tuples.specs.private.Groups.{Gathers, keyed_of, group_of, al
 
 use crate::keys::{compared_keys, key_in};
 use crate::rows::Numbered;
+use crate::slots::SlotValue;
 use crate::values::{Tuple, push_copies};
 use indexmap::IndexSet;
 use std::alloc::Global;
-use std::rc::Rc;
 use xq_atoms::{Atom, GroupKey, Want};
 use xq_regions::{Item, Items};
 
@@ -111,10 +111,10 @@ fn concatenated(alloc: Global, slot: usize, group: &[Numbered]) -> Result<Items,
         ≡ flat_map (λ row. value_at slot (tuple_of row.tuple)) group.now) }
     ensures want { IfErr result (λ want. want ≡ Want.Memory) }
 {
-    let mut value = Vec::new(alloc);
+    let mut value = Vec::with_capacity(alloc, group.len())?;
     for row in group {
-        if let Some(items) = row.tuple.get(slot) {
-            push_copies(alloc, &mut value, items)?;
+        if let Some(found) = row.tuple.get(slot) {
+            push_copies(alloc, &mut value, found.items())?;
         }
     }
     Ok(value)
@@ -140,7 +140,7 @@ pub fn joined(
             Some(key) => key_value(alloc, key)?,
             None => concatenated(alloc, slot, group)?,
         };
-        tuple.push(Rc::new(alloc, value)?)?;
+        tuple.push(SlotValue::of_items(alloc, value)?)?;
     }
     Ok(tuple)
 }

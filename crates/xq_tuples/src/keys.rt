@@ -1,11 +1,11 @@
 //! Keys of groups and orders: at most one atomic value, where an untyped one is taken as a string.
-ghost use Rattle.std.specs.Prelude.{◌≡◌, [], map, drop, slice_index_or, None, true, false, replicate, IfOk, IfErr, OnOk};
+ghost use Rattle.std.specs.Prelude.{◌≡◌, [], map, drop, length, slice_index_or, None, true, false, replicate, IfOk, IfErr, OnOk};
 ghost use Rattle.std.specs.List.{list_all};
 ghost use Rattle.std.specs.Option.{option_copied};
 ghost use Rattle.xq_atoms.specs.Atom.{atomic_of};
 ghost use Rattle.xq_atoms.specs.Compare.{key_of};
 ghost use Rattle.xq_regions.specs.Tuples.{is_key, as_string, key_value, are_keys, comparison_key, comparison_keys, sort_keys};
-ghost use Rattle.xq_tuples.specs.Keys.{atomics_of, column_of, columns_of, values_in, row_of, rows_in, by_specification};
+ghost use Rattle.xq_tuples.specs.Keys.{atomics_of, column_of, columns_of, values_in, row_of, rows_in, by_specification, by_tuple};
 ghost use Rattle.xq_tuples.specs.private.KeyRows.{key_view, keys_of, keys_at};
 ghost use Rattle.xq_tuples.specs.private.Columns.{left_of, filled};
 ghost use Rattle.xq_tuples.specs.private.Groups.{compared_of};
@@ -42,16 +42,29 @@ fn single_key(mut values: Vec<Atom>) -> Result<Option<Atom>, Code>
     }
 }
 
+/// The key that the values are. XPTY0004 for more than one value.
+fn only_key(values: Key) -> Result<Option<Atom>, Code>
+    ensures is_key { IfOk result (λ _. is_key (values_in values) ≡ true) }
+    ensures key { IfOk result (λ key. key_view key ≡ key_value (values_in values)) }
+    ensures refused { IfErr result (λ code. (code ≡ Code.XPTY0004)
+        × (is_key (values_in values) ≡ false)) }
+{
+    match values {
+        Key::One(atom) => Ok(Some(as_string(atom))),
+        Key::Several(atoms) => single_key(atoms),
+    }
+}
+
 /// The keys of one specification, tuple by tuple. XPTY0004 where one is more than one value.
-pub fn key_column(alloc: Global, column: Vec<Vec<Atom>>) -> Result<Vec<Option<Atom>>, Fault>
-    ensures are_keys { IfOk result (λ _. list_all is_key (column_of column) ≡ true) }
-    ensures keys { IfOk result (λ keys. keys_of keys ≡ map key_value (column_of column)) }
+fn key_column(alloc: Global, column: Vec<Key>) -> Result<Vec<Option<Atom>>, Fault>
+    ensures are_keys { IfOk result (λ _. list_all is_key (row_of column) ≡ true) }
+    ensures keys { IfOk result (λ keys. keys_of keys ≡ map key_value (row_of column)) }
     ensures refused { IfErr result
-        (RefusesFor XPTY0004 (list_all is_key (column_of column) ≡ false)) }
+        (RefusesFor XPTY0004 (list_all is_key (row_of column) ≡ false)) }
 {
     let mut keys = Vec::with_capacity(alloc, column.len())?;
     for values in column {
-        keys.push(single_key(values)?)?;
+        keys.push(only_key(values)?)?;
     }
     Ok(keys)
 }
@@ -59,12 +72,12 @@ pub fn key_column(alloc: Global, column: Vec<Vec<Atom>>) -> Result<Vec<Option<At
 /// The keys of each specification. XPTY0004 where a key is more than one value.
 pub fn key_columns(
     alloc: Global,
-    columns: Vec<Vec<Vec<Atom>>>,
+    columns: Vec<Vec<Key>>,
 ) -> Result<Vec<Vec<Option<Atom>>>, Fault>
-    ensures are_keys { IfOk result (λ _. are_keys (columns_of columns) ≡ true) }
+    ensures are_keys { IfOk result (λ _. are_keys (rows_in columns) ≡ true) }
     ensures keys { IfOk result (λ keys. map keys_of keys.items
-        ≡ map (map key_value) (columns_of columns)) }
-    ensures refused { IfErr result (RefusesFor XPTY0004 (are_keys (columns_of columns) ≡ false)) }
+        ≡ map (map key_value) (rows_in columns)) }
+    ensures refused { IfErr result (RefusesFor XPTY0004 (are_keys (rows_in columns) ≡ false)) }
 {
     let mut keys = Vec::with_capacity(alloc, columns.len())?;
     for column in columns {
@@ -124,19 +137,6 @@ fn compared(alloc: Global, key: Option<Atom>) -> Result<GroupKey, Want>
     }
 }
 
-/// The key that the values are. XPTY0004 for more than one value.
-fn only_key(values: Key) -> Result<Option<Atom>, Code>
-    ensures is_key { IfOk result (λ _. is_key (values_in values) ≡ true) }
-    ensures key { IfOk result (λ key. key_view key ≡ key_value (values_in values)) }
-    ensures refused { IfErr result (λ code. (code ≡ Code.XPTY0004)
-        × (is_key (values_in values) ≡ false)) }
-{
-    match values {
-        Key::One(atom) => Ok(Some(as_string(atom))),
-        Key::Several(atoms) => single_key(atoms),
-    }
-}
-
 /// What one specification orders by, tuple by tuple. XPTY0004 where a key is more than one value.
 pub fn compared_column(alloc: Global, column: Vec<Key>) -> Result<Vec<GroupKey>, Fault>
     ensures are_keys { IfOk result (λ _. list_all is_key (row_of column) ≡ true) }
@@ -187,6 +187,23 @@ fn next_key(alloc: Global, keys: &mut IntoIter<Key>) -> Key
     }
 }
 
+/// Adds the next keys to the columns, one to each: the empty one where there are no more.
+fn add_keys(
+    alloc: Global,
+    columns: &mut [Vec<Key>],
+    keys: &mut IntoIter<Key>,
+) -> Result<(), Want>
+    ensures columns { OnOk result (map row_of columns.new
+        ≡ filled (map row_of columns.old) (left_of keys.old)) }
+    ensures later { OnOk result (left_of keys.new ≡ drop (length columns.old) (left_of keys.old)) }
+    ensures want { IfErr result (λ want. want ≡ Want.Memory) }
+{
+    for column in columns.iter_mut() {
+        column.push(next_key(alloc, keys))?;
+    }
+    Ok(())
+}
+
 /// Adds the keys of a row to the columns, one to each: the empty one where the row has no more.
 /// What it has after the columns is let go.
 fn add_row(alloc: Global, columns: &mut [Vec<Key>], row: Vec<Key>) -> Result<(), Want>
@@ -195,10 +212,7 @@ fn add_row(alloc: Global, columns: &mut [Vec<Key>], row: Vec<Key>) -> Result<(),
     ensures want { IfErr result (λ want. want ≡ Want.Memory) }
 {
     let mut keys = row.into_iter();
-    for column in columns.iter_mut() {
-        column.push(next_key(alloc, &mut keys))?;
-    }
-    Ok(())
+    add_keys(alloc, columns, &mut keys)
 }
 
 /// So many columns without keys, each with room for so many.
@@ -223,6 +237,26 @@ pub fn turned(alloc: Global, rows: Vec<Vec<Key>>, count: usize) -> Result<Vec<Ve
     let mut columns = empty_columns(alloc, count, rows.len())?;
     for row in rows {
         add_row(alloc, &mut columns, row)?;
+    }
+    Ok(columns)
+}
+
+/// From the keys of so many tuples, which stand one tuple after another, those of each of so many
+/// specifications. One that is lacking is empty.
+pub fn dealt(
+    alloc: Global,
+    keys: Vec<Key>,
+    tuples: usize,
+    count: usize,
+) -> Result<Vec<Vec<Key>>, Want>
+    ensures columns { IfOk result (λ columns. rows_in columns
+        ≡ by_specification count (by_tuple tuples count (row_of keys))) }
+    ensures want { IfErr result (λ want. want ≡ Want.Memory) }
+{
+    let mut columns = empty_columns(alloc, count, tuples)?;
+    let mut left = keys.into_iter();
+    for _ in 0..tuples {
+        add_keys(alloc, &mut columns, &mut left)?;
     }
     Ok(columns)
 }

@@ -5,8 +5,10 @@ mod groups;
 mod keys;
 mod order;
 mod rows;
+mod slots;
 mod streams;
 mod values;
 
 pub use rows::{Key, OrderSpec};
+pub use slots::SlotValue;
 pub use streams::Tuples;

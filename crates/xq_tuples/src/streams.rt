@@ -1,20 +1,20 @@
 //! The stream of tuples, and the clauses that make one stream of another.
 ghost use Rattle.std.specs.Prelude.{◌≡◌, ◌<◌, [], ◌∷◌, length, map, slice_index_or, All, IsTrue, ◌↔◌, IfOk, IfErr, Ok, false, true};
 ghost use Rattle.xq_regions.specs.Tuples.{bound, expanded, grouped, numbered, satisfying, ordered, value_at};
-ghost use Rattle.xq_tuples.specs.Keys.{columns_of, rows_in, by_specification};
+ghost use Rattle.xq_tuples.specs.Keys.{columns_of, row_of, rows_in, by_specification, by_tuple};
 ghost use Rattle.xq_atoms.specs.Answers.{IsRefusal};
 ghost use Rattle.xq_tuples.specs.Orders.{rule_of};
 ghost use Rattle.xq_tuples.specs.Views.{values_of};
 ghost use Rattle.xq_regions.specs.Items.{Value as AtomView, item_view, item_views};
 
 use crate::groups::{gather, joined};
-use crate::keys::{key_columns, key_lists, turned};
+use crate::keys::{dealt, key_columns, key_lists, turned};
 use crate::order::{sort_columns, sorted};
 use crate::rows::{Key, OrderSpec};
+use crate::slots::SlotValue;
 use crate::values::{Tuple, position_value, push_copies, push_each, push_each_or_empty};
 use std::alloc::Global;
 use std::marker::Model;
-use std::rc::Rc;
 use xq_atoms::{Atom, Fault, Want};
 use xq_regions::{Item, Items};
 
@@ -72,7 +72,7 @@ impl Tuples {
         let mut column = Vec::new(alloc);
         for tuple in &self.tuples {
             let mut value = Vec::new(alloc);
-            push_copies(alloc, &mut value, &tuple[slot])?;
+            push_copies(alloc, &mut value, tuple[slot].items())?;
             column.push(value)?;
         }
         Ok(column)
@@ -84,11 +84,11 @@ impl Tuples {
         requires slot { slot < length (slice_index_or self.now tuple []) }
         ensures { map item_view result.now ≡ value_at slot (slice_index_or self.now tuple []) }
     {
-        &self.tuples[tuple][slot]
+        self.tuples[tuple][slot].items()
     }
 
     /// The values of one tuple, which it may share with others.
-    pub fn tuple(&self, index: usize) -> &[Rc<Items>]
+    pub fn tuple(&self, index: usize) -> &[SlotValue]
         requires { index < length self.now }
         ensures { values_of result.now ≡ slice_index_or self.now index [] }
     {
@@ -153,7 +153,7 @@ impl Tuples {
         let alloc = self.alloc;
         let mut tuples = Vec::new(alloc);
         for (mut tuple, value) in self.tuples.into_iter().zip(values) {
-            tuple.push(Rc::new(alloc, value)?)?;
+            tuple.push(SlotValue::of_items(alloc, value)?)?;
             tuples.push(tuple)?;
         }
         Ok(Tuples { alloc, tuples })
@@ -191,6 +191,19 @@ impl Tuples {
             ≡ Ok stream) }
         ensures refused { IfErr result
             (IsRefusal (grouped AtomView slots.now self (columns_of keys))) }
+    {
+        let columns = key_lists(self.alloc, keys)?;
+        self.group_by_keys(slots, columns)
+    }
+
+    /// `group by`, as [`Tuples::group`], from keys of which one that is one value is no list.
+    pub fn group_by_keys(self, slots: &[usize], keys: Vec<Vec<Key>>) -> Result<Tuples, Fault>
+        requires slots { length slots.now ≡ length keys.items }
+        requires keys { All (λ column. length column ≡ length self) (rows_in keys) }
+        ensures stream { IfOk result (λ stream. grouped AtomView slots.now self (rows_in keys)
+            ≡ Ok stream) }
+        ensures refused { IfErr result
+            (IsRefusal (grouped AtomView slots.now self (rows_in keys))) }
     {
         let alloc = self.alloc;
         let held = key_columns(alloc, keys)?;
@@ -230,6 +243,21 @@ impl Tuples {
             (by_specification (length specs.now) (rows_in keys)))) }
     {
         let columns = turned(self.alloc, keys, specs.len())?;
+        self.order_by_columns(columns, specs)
+    }
+
+    /// `order by`, as [`Tuples::order`], from the keys of all tuples, one tuple after another, each
+    /// the atomized values of the specifications. One that is lacking at the end is empty.
+    pub fn order_by_keys(self, keys: Vec<Key>, specs: &[OrderSpec]) -> Result<Tuples, Fault>
+        ensures stream { IfOk result (λ stream. ordered (map rule_of specs.now) self
+            (by_specification (length specs.now) (by_tuple (length self) (length specs.now)
+            (row_of keys))) ≡ Ok stream) }
+        ensures refused { IfErr result (IsRefusal (ordered (map rule_of specs.now) self
+            (by_specification (length specs.now) (by_tuple (length self) (length specs.now)
+            (row_of keys))))) }
+    {
+        let count = self.len();
+        let columns = dealt(self.alloc, keys, count, specs.len())?;
         self.order_by_columns(columns, specs)
     }
 

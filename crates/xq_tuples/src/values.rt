@@ -3,16 +3,15 @@ ghost use Rattle.std.specs.Prelude.{◌≡◌, ◌<◌, ◌^◌, [], ◌∷◌, 
 ghost use Rattle.xq_atoms.specs.Atom.{Integer};
 ghost use Rattle.xq_regions.specs.Tuples.{empty_values, item_values, with_each, with_each_or_empty};
 ghost use Rattle.xq_regions.specs.Items.{Value as AtomView, item_view, item_views};
-ghost use Rattle.xq_tuples.specs.Views.{values_of, tuple_of};
+ghost use Rattle.xq_tuples.specs.Views.{slot_items, values_of, tuple_of};
 
+use crate::slots::SlotValue;
 use std::alloc::Global;
-use std::rc::Rc;
 use xq_atoms::{Atom, Want};
 use xq_regions::{Item, Items};
 
-/// A tuple: the value of each slot. Tuples share the values that they have in common, so that a
-/// tuple is copied without a copy of its items.
-pub type Tuple = Vec<Rc<Items>>;
+/// A tuple: the value of each slot.
+pub type Tuple = Vec<SlotValue>;
 
 /// Adds the same items to `copies`.
 pub fn push_copies(alloc: Global, copies: &mut Items, items: &[Item]) -> Result<(), Want>
@@ -26,34 +25,24 @@ pub fn push_copies(alloc: Global, copies: &mut Items, items: &[Item]) -> Result<
     Ok(())
 }
 
-/// The value of one item.
-pub fn single(alloc: Global, item: Item) -> Result<Rc<Items>, Want>
-    ensures value { IfOk result (λ value. item_views value.value ≡ item_view item ∷ []) }
-    ensures want { IfErr result (λ want. want ≡ Want.Memory) }
-{
-    let mut items = Vec::with_capacity(alloc, 1)?;
-    items.push(item)?;
-    Ok(Rc::new(alloc, items)?)
-}
-
 /// The value of a position, one integer.
-pub fn position_value(alloc: Global, position: usize) -> Result<Rc<Items>, Want>
+pub fn position_value(alloc: Global, position: usize) -> Result<SlotValue, Want>
     requires { position < 2 ^ 63 }
     ensures value { IfOk result (λ value.
-        item_views value.value ≡ AtomView (Integer (pos position)) ∷ []) }
+        slot_items value ≡ AtomView (Integer (pos position)) ∷ []) }
     ensures want { IfErr result (λ want. want ≡ Want.Memory) }
 {
-    single(alloc, Item::Atom(Atom::Int(position as i64)))
+    SlotValue::of_item(alloc, Item::Atom(Atom::Int(position as i64)))
 }
 
 /// The tuple with the empty sequence, and with 0 for its position where `at` asks for it.
-fn with_empty(alloc: Global, tuple: &[Rc<Items>], at: bool) -> Result<Tuple, Want>
+fn with_empty(alloc: Global, tuple: &[SlotValue], at: bool) -> Result<Tuple, Want>
     ensures tuple { IfOk result (λ longer.
         tuple_of longer ≡ values_of tuple.now ++ empty_values AtomView at) }
     ensures want { IfErr result (λ want. want ≡ Want.Memory) }
 {
     let mut extended = tuple.to_vec(alloc)?;
-    extended.push(Rc::new(alloc, Vec::new(alloc))?)?;
+    extended.push(SlotValue::of_items(alloc, Vec::new(alloc))?)?;
     if at {
         extended.push(position_value(alloc, 0)?)?;
     }
@@ -63,7 +52,7 @@ fn with_empty(alloc: Global, tuple: &[Rc<Items>], at: bool) -> Result<Tuple, Wan
 /// The tuple with the item, and with its position where `at` asks for it.
 fn with_item(
     alloc: Global,
-    tuple: &[Rc<Items>],
+    tuple: &[SlotValue],
     item: Item,
     position: usize,
     at: bool,
@@ -74,8 +63,9 @@ fn with_item(
         ++ item_values AtomView at position (item_view item)) }
     ensures want { IfErr result (λ want. want ≡ Want.Memory) }
 {
-    let mut longer = tuple.to_vec(alloc)?;
-    longer.push(single(alloc, item)?)?;
+    let mut longer: Tuple = Vec::with_capacity(alloc, tuple.len() + 2)?;
+    longer.extend_from_slice(tuple)?;
+    longer.push(SlotValue::of_item(alloc, item)?)?;
     if at {
         longer.push(position_value(alloc, position)?)?;
     }
@@ -86,7 +76,7 @@ fn with_item(
 pub fn push_each(
     alloc: Global,
     tuples: &mut Vec<Tuple>,
-    tuple: &[Rc<Items>],
+    tuple: &[SlotValue],
     items: Items,
     at: bool,
 ) -> Result<(), Want>
@@ -95,6 +85,7 @@ pub fn push_each(
         ++ with_each AtomView at (values_of tuple.now) (item_views items)) }
     ensures want { IfErr result (λ want. want ≡ Want.Memory) }
 {
+    tuples.reserve(items.len())?;
     for (index, item) in items.into_iter().enumerate() {
         tuples.push(with_item(alloc, tuple, item, index + 1, at)?)?;
     }
@@ -105,7 +96,7 @@ pub fn push_each(
 pub fn push_each_or_empty(
     alloc: Global,
     tuples: &mut Vec<Tuple>,
-    tuple: &[Rc<Items>],
+    tuple: &[SlotValue],
     items: Items,
     at: bool,
 ) -> Result<(), Want>

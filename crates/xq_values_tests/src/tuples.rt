@@ -53,6 +53,10 @@ enum Clause {
     OrderByTwo(Lists, Lists, [OrderSpec; 2]),
     /// `order by`, from the keys of each tuple.
     OrderByRows(&'static [Lists], &'static [OrderSpec]),
+    /// `order by`, from the keys of all tuples, one tuple after another.
+    OrderByKeys(Lists, &'static [OrderSpec]),
+    /// `group by` the variable of a slot, from keys of which one value is no list.
+    GroupByKeys(usize, Lists),
 }
 
 /// What is found in a stream.
@@ -151,7 +155,7 @@ const CALLS: [Stream; 10] = [
 /// are equal, where a key after the specifications doesn't count and one that lacks is empty; a
 /// falling order with an empty key; the second of the books; groups, each with the key of its first
 /// tuple; and the books by the lengths of their texts.
-const WORKED: [Stream; 10] = [
+const WORKED: [Stream; 13] = [
     (
         &[
             BOOKS,
@@ -219,6 +223,34 @@ const WORKED: [Stream; 10] = [
         1,
         &[Found::Counts(0, "2")],
     ),
+    (
+        &[THREE, Clause::OrderByKeys(PAIRS, &[ASCENDING, ASCENDING])],
+        3,
+        &[Found::Values(0, "2, 1, 0")],
+    ),
+    (
+        &[THREE, Clause::OrderByKeys(PAIRS, &[DESCENDING, ASCENDING])],
+        3,
+        &[Found::Values(0, "0, 2, 1")],
+    ),
+    (
+        &[
+            Clause::For(&[&[Dec(1_000_000), Int(1)]], false),
+            Clause::GroupByKeys(0, &[&[Dec(1_000_000)], &[Int(1)]]),
+        ],
+        1,
+        &[Found::Values(0, "1.0")],
+    ),
+];
+
+/// Two keys of each of three tuples.
+const PAIRS: Lists = &[
+    &[Int(2)],
+    &[Str("b")],
+    &[Int(1)],
+    &[Str("z")],
+    &[Int(1)],
+    &[Str("a")],
 ];
 
 const WITH_AN_EMPTY_KEY: Lists = &[&[Int(5)], &[], &[Dec(3_000_000)]];
@@ -544,6 +576,32 @@ fn order_by_rows(
     stream.order_by_rows(rows, specs)
 }
 
+/// `order by`, from the keys of all tuples.
+fn order_by_keys(
+    alloc: Global,
+    stream: Tuples,
+    lists: &[&[Sample]],
+    specs: &[OrderSpec],
+) -> Result<Tuples, Fault> {
+    let keys = key_row(alloc, lists)?;
+    stream.order_by_keys(keys, specs)
+}
+
+/// `group by` one variable, from keys of which one value is no list.
+fn group_by_keys(
+    rt: &impl Abort,
+    alloc: Global,
+    stream: Tuples,
+    slot: usize,
+    lists: &[&[Sample]],
+) -> Result<Tuples, Fault> {
+    let column = key_row(alloc, lists)?;
+    assert_eq!(rt; column.len(), stream.len());
+    let mut keys = Vec::new(alloc);
+    keys.push(column)?;
+    stream.group_by_keys(&[slot], keys)
+}
+
 /// The stream after one more clause.
 fn after(rt: &impl Abort, alloc: Global, stream: Tuples, clause: Clause) -> Result<Tuples, Fault> {
     match clause {
@@ -561,6 +619,8 @@ fn after(rt: &impl Abort, alloc: Global, stream: Tuples, clause: Clause) -> Resu
             order_by_two(rt, alloc, stream, columns(alloc, first, second)?, specs)
         }
         Clause::OrderByRows(lists, specs) => order_by_rows(rt, alloc, stream, lists, specs),
+        Clause::OrderByKeys(lists, specs) => order_by_keys(alloc, stream, lists, specs),
+        Clause::GroupByKeys(slot, lists) => group_by_keys(rt, alloc, stream, slot, lists),
     }
 }
 

@@ -1,5 +1,5 @@
 -- Content of elements and documents on leaves, where a node at the top has the level 0.
-use Rattle.std.specs.Prelude.{◌+◌, List, [], ◌∷◌, ◌++◌, Bool, true, not, ◌&&◌, ◌||◌, ◌==◌, nat_lt, if◌then◌else◌, Option, Some, None, codes, ◌≡◌}
+use Rattle.std.specs.Prelude.{◌+◌, List, [], ◌∷◌, ◌++◌, Bool, true, false, not, ◌&&◌, ◌||◌, ◌==◌, nat_lt, if◌then◌else◌, Option, Some, None, codes, ◌≡◌}
 use Rattle.std.specs.List.{list_all}
 use Rattle.xq_atoms.specs.Text.{Text, is_empty}
 use Rattle.xq_atoms.specs.Cast.{text_of}
@@ -58,6 +58,18 @@ AreApart (p ∷ ps) = (may_stand_first p ps ≡ true) × AreApart ps
 
 abbrev pub is_kept : Leaf → Bool
 is_kept p = not (is_top_text p && is_empty p.1.value)
+
+-- the last leaf is that of a text at the top
+abbrev pub ends_with_text : List Leaf → Bool
+ends_with_text [] = false
+ends_with_text (p ∷ []) = is_top_text p
+ends_with_text (p ∷ q ∷ qs) = ends_with_text (q ∷ qs)
+
+-- the last leaf has no name
+abbrev pub HasNamelessEnd : List Leaf → Type 0
+HasNamelessEnd [] = Unit {0}
+HasNamelessEnd (p ∷ []) = p.1.name ≡ []
+HasNamelessEnd (p ∷ q ∷ qs) = HasNamelessEnd (q ∷ qs)
 
 -- a text at the top that is empty, or stands after another one
 abbrev pub is_loose : Bool → Leaf → Bool

@@ -9,7 +9,7 @@ use Rattle.xq_regions.specs.Tuples.{Tuple, expanded, numbered, bound, satisfying
 use Rattle.xq_regions.specs.Items.{ItemView, Value, item_view, item_views}
 use Rattle.xq_eval.specs.declared.positions.ByPosition.{ByPosition}
 use Rattle.xq_eval.specs.private.Positions.{IsPositional}
-use Rattle.xq_tuples.specs.Views.{values_of}
+use Rattle.xq_tuples.specs.Views.{slot_items, values_of}
 use Rattle.xq_meaning.specs.Items.{Item, Node, Atom, atomized}
 use Rattle.xq_meaning.specs.Arguments.{atomic, boolean, effective, all_nodes}
 use Rattle.xq_meaning.specs.Functions.{Focus as Spot}
@@ -18,7 +18,7 @@ use Rattle.xq_meaning.specs.Steps.{focuses, focuses_from, in_axis_order}
 use Rattle.xq_meaning.specs.Readings.{node_at, item_at, items_at, IsIn, AreIn}
 use Rattle.xq_meaning.specs.declared.plans.Plan.{Plan, size-Plan}
 use Rattle.xq_meaning.specs.declared.plans.Plan.TheVariants as plan
-use Rattle.xq_meaning.specs.declared.plans.Plan.TheViews.{sized-Quantified, sized-Chain, sized-If, sized-Filter, sized-Flwor, sized-Path, sized-Named, sized-Arrow, sized-Map}
+use Rattle.xq_meaning.specs.declared.plans.Plan.TheViews.{sized-Quantified, sized-Chain, sized-If, sized-Filter, sized-Flwor, sized-Path, sized-Named, sized-Arrow, sized-Map, sized-For}
 use Rattle.xq_meaning.specs.declared.plans.PlanClause.{size-PlanClause}
 use Rattle.xq_meaning.specs.declared.plans.PlanStep.{size-PlanStep}
 use denote.Param.Weighed.{most, at_most}
@@ -29,7 +29,7 @@ use Rattle.xq_meaning.specs.Doing.{◌>>=◌, Outcome, go_on, give, judged, on_t
 use Rattle.xq_meaning.specs.PlanMeaning.{Frame, Meaning, flwor, plan_mean, plan_clause_mean, plan_step_mean, at_tuple, next_clause, next_step}
 use Rattle.xq_meaning.proofs.PlanEquations.{plan-Int, plan-Str, plan-Root, plan-Step, plan-Named, plan-Unnamed, plan-Call, plan-Quantified, clause-Group, clause-Order, clause-Refused, step-Scan, plan-Dec, plan-Slot, plan-ContextItem, plan-Sequence, plan-Chain, plan-Unary, plan-If, plan-Or, plan-And, plan-Filter, plan-Path, plan-Flwor, step-Each, clause-For, clause-Let, clause-Where, clause-Count, plan-Arrow, plan-Map}
 use Rattle.xq_meaning.proofs.Turns.{begun_then}
-use Rattle.xq_forms.specs.Views.{order_specs, calling, ordering, on_axis, after_double_slash, parents_below, plant_named, plant_unnamed, tuple_at, tuples_at, lists_of, spot_at, forget, frame_at, TupleIn, TuplesIn, GivesSequence, GivesTuples, FrameIn}
+use Rattle.xq_forms.specs.Views.{order_specs, calling, ordering, after_double_slash, parents_below, plant_named, plant_unnamed, tuple_at, tuples_at, lists_of, spot_at, forget, frame_at, TupleIn, TuplesIn, GivesSequence, GivesTuples, FrameIn}
 use Rattle.xq_eval.specs.private.Results.{GivesKey, GivesKeys, GivesRows, GivesLists, GivesTests, GivesPlain}
 use Rattle.xq_forms.proofs.Growth.{extends_more, stays, frame_grown, frame_in_grown, items_grown, are_in_grown, item_at_grown, in_grown, tuple_grown, tuple_in_grown, tuples_grown, tuples_in_grown, goes_on_to}
 use Rattle.xq_regions.specs.declared.Axis.TheVariants.{Child}
@@ -49,14 +49,14 @@ use Rattle.xq_eval.proofs.Loops.{got_at, left_over, left_from, two_left, none_ta
 use Rattle.xq_atoms.specs.Text.{Text}
 use Rattle.xq_expressions.specs.declared.operators.OrderModifier.{OrderModifier}
 use Rattle.xq_tuples.specs.declared.rows.Key.TheVariants.{One, Several}
-use Rattle.xq_tuples.specs.Keys.{values_in, row_of, rows_in}
+use Rattle.xq_tuples.specs.Keys.{values_in, row_of, rows_in, by_tuple}
 use Rattle.xq_joins.specs.Atoms.{Tells}
 use Rattle.xq_eval.proofs.Telling.{told, told_stop}
 use Rattle.xq_meaning.specs.Content.{name_of}
 use Rattle.xq_eval.specs.private.Keys.{keys_at}
 use Rattle.xq_eval.specs.private.Quantifying.{holds, at_top, turn, resumed, weigh, all_weigh, unless_wanted}
 use Rattle.std.specs.Prelude.{string_bytes, IfSome, if◌then◌else◌}
-use Rattle.xq_eval.proofs.Steps.{double_slash_is, parents_below_is, axis_order_read, axis_order_in, step_is, named_is, same_goes, more_next, tested_ok, tested_err, go_on_stop, list_next, passed_ok, passed_err, kept_read, spots_left, element, left_at, frame_inner, frame_inner_in, bound_in, kept_in, expanded_in, numbered_in, slash_ok, slash_err, same_tests, any_tests}
+use Rattle.xq_eval.proofs.Steps.{double_slash_is, parents_below_is, axis_order_read, axis_order_in, step_from, named_is, same_goes, more_next, tested_ok, tested_err, go_on_stop, list_next, passed_ok, passed_err, kept_read, spots_left, element, left_at, frame_inner, frame_inner_in, bound_in, kept_in, expanded_in, numbered_in, slash_ok, slash_err, same_tests, any_tests}
 use Rattle.xq_forms.proofs.Lists.{all_at}
 use Rattle.xq_forms.proofs.Natural.{bound_natural, kept_natural, expanded_natural, numbered_natural}
 use Rattle.xq_tuples.proofs.Copies.{values_of-clones}
@@ -75,6 +75,9 @@ use Rattle.xq_eval.proofs.DocumentScans.{other_form, literal_scans, call_scans, 
 use Rattle.xq_eval.proofs.TextSteps.{texts_kept, text_steps_are}
 use Rattle.xq_eval.proofs.Counted.{only_text, first_same}
 use Rattle.xq_forms.specs.Reads.{IsAtom}
+use Rattle.xq_expressions.specs.declared.operators.AllowingEmpty.TheVariants.{No}
+use Rattle.xq_eval.proofs.FlatKeys.{from_done, collected_is, for_each_length, are_rows, order_is, order_stops}
+use Rattle.xq_eval.proofs.LoneFor.{lone_for_is}
 use Rattle.xq_eval.proofs.+eval.Goals as goal
 
 pub evaluation::evaluate-returns-in-ContextItem-clause-gives : goal.evaluation::evaluate-returns-in-ContextItem-clause-gives
@@ -705,7 +708,7 @@ clauses::values-loop-index-preserved g t c =
       long = c.in_ok-lists.ensures.long ∙ ap suc i.long ∙ sym (add-one n);
       in_slots =
           ap (take (length held.slots.now)) (c.in_ok-refill.ensures ∙ ap (λ s. s ++ x) i.in_slots)
-          ∙ take_at slots x (length held.slots.now) (length-map held.slots.now (λ slot. item_views slot.value));
+          ∙ take_at slots x (length held.slots.now) (length-map held.slots.now slot_items);
     }
 
 pub clauses::values-returns-in_err-lists-clause-gives : goal.clauses::values-returns-in_err-lists-clause-gives
@@ -738,7 +741,7 @@ clauses::values-loop-index-init g t c =
     let frame = frame_at old held in
     let none : lists_of c.new-lists.result ≡ [] = ap (map item_views) c.new-lists.ensures.items in
     let slots = values_of held.slots.now in
-    let long = length-map held.slots.now (λ slot. item_views slot.value) in
+    let long = length-map held.slots.now slot_items in
     record {
       goes = stays _ _;
       turns = record { rest = λ clean inside. subst (λ ls. TupleIn old ls × (in_turn (one_more (λ t. plan_mean c.args.part.now (at_tuple frame t))) (tuple_at old ls) (tuples_at old c.args.tuples.now) old ≡ for_each (λ t. plan_mean c.args.part.now (at_tuple frame t)) (tuples_at old c.args.tuples.now) old)) (sym none) (tt, refl) };
@@ -815,7 +818,7 @@ clauses::returned-loop-index-preserved g t c =
           (s.0, ap (λ fr. act fr (items_at f done) (tuple_at old x) f) (sym (frame_grown i.goes.grows held inside.0)) ∙ ap (λ y. act (frame_at f held) (items_at f done) y f) (sym (tuple_grown i.goes.grows x x_in)) ∙ s.1));
       in_slots =
           ap (take (length held.slots.now)) (c.in_ok-refill.ensures ∙ ap (λ s. s ++ x) i.in_slots)
-          ∙ take_at slots x (length held.slots.now) (length-map held.slots.now (λ slot. item_views slot.value));
+          ∙ take_at slots x (length held.slots.now) (length-map held.slots.now slot_items);
     }
 
 pub clauses::returned-returns-in_err-items-clause-gives : goal.clauses::returned-returns-in_err-items-clause-gives
@@ -850,7 +853,7 @@ clauses::returned-loop-index-init g t c =
     let frame = frame_at old held in
     let none : item_views c.new-items.result ≡ [] = ap (map item_view) c.new-items.ensures.items in
     let slots = values_of held.slots.now in
-    let long = length-map held.slots.now (λ slot. item_views slot.value) in
+    let long = length-map held.slots.now slot_items in
     record {
       goes = stays _ _;
       turns = record { rest = λ clean inside. subst (λ xs. AreIn old xs × (in_turn (more (λ t. p (at_tuple frame t))) (items_at old xs) (tuples_at old c.args.tuples.now) old ≡ Forms.return_of p (at_tuple frame) (tuples_at old c.args.tuples.now) old)) (sym none) (tt, refl) };
@@ -873,6 +876,94 @@ pub clauses::returned-returns-clause-gives : goal.clauses::returned-returns-clau
 clauses::returned-returns-clause-gives g t c = λ clean inside rest_in.
     let old = g.W.TreeSource.forest c.args.world.now in
     turns_end _ _ _ c.loop-index.invariant.turns (ap (map (tuple_at old)) (drop_all c.loop-index.index c.args.tuples.now (omega arith))) clean (inside, rest_in)
+
+pub clauses::returned_each-loop-item-preserved : goal.clauses::returned_each-loop-item-preserved
+clauses::returned_each-loop-item-preserved g t c =
+    let i = c.loop-item.invariant in
+    let old = g.W.TreeSource.forest c.args.world.now in
+    let f = g.W.TreeSource.forest c.loop-item.world in
+    let held = c.args.frame in
+    let n = c.loop-item.item-index in
+    let items = c.args.items.now in
+    let item = c.item-item.result in
+    let x : Tuple ItemView = (item_view item ∷ []) ∷ [] in
+    let slots = values_of held.slots.now in
+    let at : values_of c.deref.result.now ≡ slots ++ x = ap values_of c.deref.ensures.value ∙ c.in_ok-rebind.ensures ∙ ap (λ s. s ++ x) i.in_slots in
+    let p = plan_mean c.args.part.now in
+    let done = item_views c.loop-item.found in
+    let act = λ (fr : Frame). more (λ t. p (at_tuple fr t)) in
+    record {
+      goes = goes_on_to i.goes c.next_returned.ensures.goes;
+      turns = turns_next _ _ _ (item_views c.in_ok-found.found) (item_at old (item_view item)) _ _ i.turns (ap (items_at old) (left_over item_view items n item (omega arith) c.item-item.is)) c.next_returned.ensures.goes.was_clean
+          (λ clean inside is_in.
+          let item_in = all_at (IsIn old) item_view items n item inside.1 (omega arith) c.item-item.is in
+          let x_in : TupleIn old x = ((item_in, tt), tt) in
+          let s = c.in_ok-found.ensures.gives clean (frame_in_grown i.goes.grows held inside.0) is_in x at (tuple_in_grown i.goes.grows x x_in) in
+          (s.0, ap (λ fr. act fr (items_at f done) (tuple_at old x) f) (sym (frame_grown i.goes.grows held inside.0)) ∙ ap (λ y. act (frame_at f held) (items_at f done) y f) (sym (tuple_grown i.goes.grows x x_in)) ∙ s.1));
+      in_slots =
+          ap (take (length held.slots.now)) (c.in_ok-rebind.ensures ∙ ap (λ s. s ++ x) i.in_slots)
+          ∙ take_at slots x (length held.slots.now) (length-map held.slots.now slot_items);
+    }
+
+pub clauses::returned_each-returns-in_err-found-clause-gives : goal.clauses::returned_each-returns-in_err-found-clause-gives
+clauses::returned_each-returns-in_err-found-clause-gives g t c = λ clean inside items_in.
+    let i = c.loop-item.invariant in
+    let old = g.W.TreeSource.forest c.args.world.now in
+    let f = g.W.TreeSource.forest c.loop-item.world in
+    let f' = g.W.TreeSource.forest c.next_returned.new.world in
+    let held = c.args.frame in
+    let n = c.loop-item.item-index in
+    let items = c.args.items.now in
+    let item = c.item-item.result in
+    let x : Tuple ItemView = (item_view item ∷ []) ∷ [] in
+    let slots = values_of held.slots.now in
+    let at : values_of c.deref.result.now ≡ slots ++ x = ap values_of c.deref.ensures.value ∙ c.in_ok-rebind.ensures ∙ ap (λ s. s ++ x) i.in_slots in
+    let p = plan_mean c.args.part.now in
+    let done = item_views c.loop-item.found in
+    let act = λ (fr : Frame). more (λ t. p (at_tuple fr t)) in
+    let e = c.in_err-found.field-0.0 in
+    handed_on item_views items_at AreIn _ f' e c.from_residual-in_err-found.result c.from_residual-in_err-found.ensures.1
+    (turns_stop _ _ _ item_views items_at AreIn (item_at old (item_view item)) _ f' e i.turns (ap (items_at old) (left_over item_view items n item (omega arith) c.item-item.is)) c.next_returned.ensures.goes.was_clean
+    (λ clean inside is_in.
+    let item_in = all_at (IsIn old) item_view items n item inside.1 (omega arith) c.item-item.is in
+    let x_in : TupleIn old x = ((item_in, tt), tt) in
+    subst (λ fr. GivesSequence (act fr (items_at f done) (tuple_at old x) f) f' (Err e)) (frame_grown i.goes.grows held inside.0)
+    (subst (λ y. GivesSequence (act (frame_at f held) (items_at f done) y f) f' (Err e)) (tuple_grown i.goes.grows x x_in)
+    (c.in_err-found.ensures.gives clean (frame_in_grown i.goes.grows held inside.0) is_in x at (tuple_in_grown i.goes.grows x x_in)))) clean (inside, items_in))
+
+pub clauses::returned_each-loop-item-init : goal.clauses::returned_each-loop-item-init
+clauses::returned_each-loop-item-init g t c =
+    let old = g.W.TreeSource.forest c.args.world.now in
+    let held = c.args.frame in
+    let p = plan_mean c.args.part.now in
+    let frame = frame_at old held in
+    let items = map item_view c.args.items.now in
+    let none : item_views c.new-found.result ≡ [] = ap (map item_view) c.new-found.ensures.items in
+    let slots = values_of held.slots.now in
+    let long = length-map held.slots.now slot_items in
+    let act = λ (x : Item). p (at_tuple frame ((x ∷ []) ∷ [])) in
+    record {
+      goes = stays _ _;
+      turns = record { rest = λ clean inside. subst (λ xs. AreIn old xs × (in_turn (more act) (items_at old xs) (items_at old items) old ≡ collected act (items_at old items) old)) (sym none) (tt, refl) };
+      in_slots = ap (take (length held.slots.now)) (values_of-clones held.slots.now c.in_ok-slots.slots.items c.in_ok-slots.ensures.ok) ∙ take_all (length held.slots.now) slots (omega (arith, long));
+    }
+
+pub clauses::returned_each-returns-in_err-slots-clause-goes : goal.clauses::returned_each-returns-in_err-slots-clause-goes
+clauses::returned_each-returns-in_err-slots-clause-goes g t c = stays _ _
+
+pub clauses::returned_each-returns-in_err-rebind-clause-goes : goal.clauses::returned_each-returns-in_err-rebind-clause-goes
+clauses::returned_each-returns-in_err-rebind-clause-goes g t c = c.loop-item.invariant.goes
+
+pub clauses::returned_each-returns-in_err-found-clause-goes : goal.clauses::returned_each-returns-in_err-found-clause-goes
+clauses::returned_each-returns-in_err-found-clause-goes g t c = goes_on_to c.loop-item.invariant.goes c.in_err-found.ensures.goes
+
+pub clauses::returned_each-returns-clause-goes : goal.clauses::returned_each-returns-clause-goes
+clauses::returned_each-returns-clause-goes g t c = c.loop-item.invariant.goes
+
+pub clauses::returned_each-returns-clause-gives : goal.clauses::returned_each-returns-clause-gives
+clauses::returned_each-returns-clause-gives g t c = λ clean inside items_in.
+    let old = g.W.TreeSource.forest c.args.world.now in
+    turns_end _ _ _ c.loop-item.invariant.turns (ap (λ (xs : List Item_held). items_at old (map item_view xs)) (drop_all c.loop-item.item-index c.args.items.now (omega arith))) clean (inside, items_in)
 
 pub clauses::next_returned-returns-clause-gives : goal.clauses::next_returned-returns-clause-gives
 clauses::next_returned-returns-clause-gives g t c = λ clean inside done_in tuple at tuple_in.
@@ -909,7 +1000,7 @@ clauses::tests-loop-index-preserved g t c =
       long = c.in_ok-tests.ensures.long ∙ ap suc i.long ∙ sym (add-one n);
       in_slots =
           ap (take (length held.slots.now)) (c.in_ok-refill.ensures ∙ ap (λ s. s ++ x) i.in_slots)
-          ∙ take_at slots x (length held.slots.now) (length-map held.slots.now (λ slot. item_views slot.value));
+          ∙ take_at slots x (length held.slots.now) (length-map held.slots.now slot_items);
     }
 
 pub clauses::tests-returns-in_err-tests-clause-gives : goal.clauses::tests-returns-in_err-tests-clause-gives
@@ -942,7 +1033,7 @@ clauses::tests-loop-index-init g t c =
     let frame = frame_at old held in
     let none : c.new-tests.result.items ≡ [] = c.new-tests.ensures.items in
     let slots = values_of held.slots.now in
-    let long = length-map held.slots.now (λ slot. item_views slot.value) in
+    let long = length-map held.slots.now slot_items in
     record {
       goes = stays _ _;
       turns = record { rest = λ clean inside. subst (λ bs. Unit {0} × (in_turn (one_more (λ t. Forms.tested (plan_mean c.args.part.now) (at_tuple frame t))) bs (tuples_at old c.args.tuples.now) old ≡ for_each (λ t. Forms.tested (plan_mean c.args.part.now) (at_tuple frame t)) (tuples_at old c.args.tuples.now) old)) (sym none) (tt, refl) };
@@ -1564,40 +1655,51 @@ clauses::next_tuples-returns-in-Group-clause-gives g t c = λ clean inside tuple
 pub clauses::next_tuples-returns-in-Group-clause-goes : goal.clauses::next_tuples-returns-in-Group-clause-goes
 clauses::next_tuples-returns-in-Group-clause-goes g t c = c.group.ensures.goes
 
-pub clauses::next_tuples-returns-in_err-rows-in-Order-clause-gives : goal.clauses::next_tuples-returns-in_err-rows-in-Order-clause-gives
-clauses::next_tuples-returns-in_err-rows-in-Order-clause-gives g t c = λ clean inside tuples_in.
+pub clauses::next_tuples-returns-in_err-keys-in-Order-clause-gives : goal.clauses::next_tuples-returns-in_err-keys-in-Order-clause-gives
+clauses::next_tuples-returns-in_err-keys-in-Order-clause-gives g t c = λ clean inside tuples_in.
     let f = g.W.TreeSource.forest c.args.world.now in
     let frame = frame_at f c.args.frame in
     let tuples = tuples_at f c.args.tuples in
-    let f' = g.W.TreeSource.forest c.key_rows.new.world in
+    let f' = g.W.TreeSource.forest c.all_keys.new.world in
+    let e = c.in_err-keys-in-Order.field-0.0 in
+    let held = c.as_slice-specs.result.now in
+    let act = λ (t : Tuple Item). keys_at (order_specs held) (at_tuple frame t) in
     let keys = λ (specs : List (Plan × OrderModifier)). for_each (λ t. keys_at (order_specs specs) (at_tuple frame t)) tuples f in
     let next = λ (rows : List (List (List Atomic))). ordering c.in-Order.specs tuples rows in
-    cut rows_in (λ trees rows. rows) (λ trees rows. Unit {0}) (λ (ts : List (Tuple ItemView)). ts) tuples_at TuplesIn (plan_clause_mean c.args.clause.now frame tuples f) (keys c.as_slice-specs.result.now) next f' c.in_err-rows-in-Order.field-0.0 c.from_residual-in_err-rows-in-Order.result
-    (ap (λ k. plan_clause_mean k frame tuples f) c.in-Order.is ∙ ap (λ m. m frame tuples f) (clause-Order c.in-Order.specs) ∙ ap (λ ss. go_on (keys ss) next) (sym c.as_slice-specs.ensures)) c.from_residual-in_err-rows-in-Order.ensures.1
-    (c.in_err-rows-in-Order.ensures.gives clean inside tuples_in)
+    cut rows_in (λ trees rows. rows) (λ trees rows. Unit {0}) (λ (ts : List (Tuple ItemView)). ts) tuples_at TuplesIn (plan_clause_mean c.args.clause.now frame tuples f) (keys held) next f' e c.from_residual-in_err-keys-in-Order.result
+    (ap (λ k. plan_clause_mean k frame tuples f) c.in-Order.is ∙ ap (λ m. m frame tuples f) (clause-Order c.in-Order.specs) ∙ ap (λ ss. go_on (keys ss) next) (sym c.as_slice-specs.ensures)) c.from_residual-in_err-keys-in-Order.ensures.1
+    (order_stops (keys held) f' e (subst (λ o. GivesKeys o f' (Err e)) (collected_is act tuples f) (c.in_err-keys-in-Order.ensures.gives clean inside tuples_in)))
 
-pub clauses::next_tuples-returns-in_ok-rows-in-Order-clause-gives : goal.clauses::next_tuples-returns-in_ok-rows-in-Order-clause-gives
-clauses::next_tuples-returns-in_ok-rows-in-Order-clause-gives g t c = λ clean inside tuples_in.
+pub clauses::next_tuples-returns-in_ok-keys-in-Order-clause-gives : goal.clauses::next_tuples-returns-in_ok-keys-in-Order-clause-gives
+clauses::next_tuples-returns-in_ok-keys-in-Order-clause-gives g t c = λ clean inside tuples_in.
     let f = g.W.TreeSource.forest c.args.world.now in
     let frame = frame_at f c.args.frame in
     let held = c.args.tuples in
     let tuples = tuples_at f held in
-    let f' = g.W.TreeSource.forest c.key_rows.new.world in
-    let grows = c.in_ok-rows-in-Order.ensures.goes.grows in
+    let f' = g.W.TreeSource.forest c.all_keys.new.world in
+    let grows = c.in_ok-keys-in-Order.ensures.goes.grows in
+    let specs = c.as_slice-specs.result.now in
+    let m = length held in
+    let n = length specs in
+    let act = λ (t : Tuple Item). keys_at (order_specs specs) (at_tuple frame t) in
     let keys = λ (specs : List (Plan × OrderModifier)). for_each (λ t. keys_at (order_specs specs) (at_tuple frame t)) tuples f in
-    let rows = rows_in c.in_ok-rows-in-Order.rows in
-    let values = c.in_ok-rows-in-Order.ensures.gives clean inside tuples_in in
-    let meant : plan_clause_mean c.args.clause.now frame tuples f ≡ ordering c.as_slice-specs.result.now (tuples_at f' held) rows f' =
-    ap (λ k. plan_clause_mean k frame tuples f) c.in-Order.is ∙ ap (λ m. m frame tuples f) (clause-Order c.in-Order.specs) ∙ ap (λ ss. go_on (keys ss) (λ rows. ordering c.in-Order.specs tuples rows)) (sym c.as_slice-specs.ensures)
-    ∙ ap (λ o. go_on o (λ rows. ordering c.in-Order.specs tuples rows)) values.1
-    ∙ ap (λ ss. ordering ss tuples rows f') (sym c.as_slice-specs.ensures) ∙ ap (λ ts. ordering c.as_slice-specs.result.now ts rows f') (sym (tuples_grown grows held tuples_in)) in
-    subst (λ o. GivesTuples o f' c.order.result) (sym meant) (c.order.ensures f' (tuples_in_grown grows held tuples_in))
+    let flat = row_of c.in_ok-keys-in-Order.keys in
+    let rows = by_tuple m n flat in
+    let values = c.in_ok-keys-in-Order.ensures.gives clean inside tuples_in in
+    let next = λ (rows : List (List (List Atomic))). ordering c.in-Order.specs tuples rows in
+    let wide : length (order_specs specs) ≡ n = length-map specs _ in
+    let long = are_rows act n (λ t g. for_each_length (λ (p : Meaning × OrderModifier). Forms.atoms_of p.0 (at_tuple frame t)) (order_specs specs) n wide g) tuples m (length-map held (tuple_at f)) f in
+    let meant : plan_clause_mean c.args.clause.now frame tuples f ≡ ordering specs (tuples_at f' held) rows f' =
+    ap (λ k. plan_clause_mean k frame tuples f) c.in-Order.is ∙ ap (λ m. m frame tuples f) (clause-Order c.in-Order.specs) ∙ ap (λ ss. go_on (keys ss) next) (sym c.as_slice-specs.ensures)
+    ∙ order_is m n (keys specs) next flat f' long (sym (collected_is act tuples f) ∙ values.1)
+    ∙ ap (λ ss. ordering ss tuples rows f') (sym c.as_slice-specs.ensures) ∙ ap (λ ts. ordering specs ts rows f') (sym (tuples_grown grows held tuples_in)) in
+    subst (λ o. GivesTuples o f' c.order_by_keys.result) (sym meant) (c.order_by_keys.ensures f' (tuples_in_grown grows held tuples_in))
 
-pub clauses::next_tuples-returns-in_err-rows-in-Order-clause-goes : goal.clauses::next_tuples-returns-in_err-rows-in-Order-clause-goes
-clauses::next_tuples-returns-in_err-rows-in-Order-clause-goes g t c = c.in_err-rows-in-Order.ensures.goes
+pub clauses::next_tuples-returns-in_err-keys-in-Order-clause-goes : goal.clauses::next_tuples-returns-in_err-keys-in-Order-clause-goes
+clauses::next_tuples-returns-in_err-keys-in-Order-clause-goes g t c = c.in_err-keys-in-Order.ensures.goes
 
-pub clauses::next_tuples-returns-in_ok-rows-in-Order-clause-goes : goal.clauses::next_tuples-returns-in_ok-rows-in-Order-clause-goes
-clauses::next_tuples-returns-in_ok-rows-in-Order-clause-goes g t c = c.in_ok-rows-in-Order.ensures.goes
+pub clauses::next_tuples-returns-in_ok-keys-in-Order-clause-goes : goal.clauses::next_tuples-returns-in_ok-keys-in-Order-clause-goes
+clauses::next_tuples-returns-in_ok-keys-in-Order-clause-goes g t c = c.in_ok-keys-in-Order.ensures.goes
 
 pub clauses::next_tuples-returns-in-Refused-clause-gives : goal.clauses::next_tuples-returns-in-Refused-clause-gives
 clauses::next_tuples-returns-in-Refused-clause-gives g t c = λ clean inside tuples_in.
@@ -1609,8 +1711,8 @@ clauses::next_tuples-returns-in-Refused-clause-gives g t c = λ clean inside tup
 pub clauses::next_tuples-returns-in-Refused-clause-goes : goal.clauses::next_tuples-returns-in-Refused-clause-goes
 clauses::next_tuples-returns-in-Refused-clause-goes g t c = stays _ _
 
-pub clauses::key_rows-loop-index-preserved : goal.clauses::key_rows-loop-index-preserved
-clauses::key_rows-loop-index-preserved g t c =
+pub clauses::all_keys-loop-index-preserved : goal.clauses::all_keys-loop-index-preserved
+clauses::all_keys-loop-index-preserved g t c =
     let i = c.loop-index.invariant in
     let old = g.W.TreeSource.forest c.args.world.now in
     let f = g.W.TreeSource.forest c.loop-index.world in
@@ -1621,27 +1723,26 @@ clauses::key_rows-loop-index-preserved g t c =
     let slots = values_of held.slots.now in
     let at : values_of c.deref.result.now ≡ slots ++ x = ap values_of c.deref.ensures.value ∙ c.in_ok-refill.ensures ∙ ap (λ s. s ++ x) i.in_slots in
     let specs = order_specs c.args.specs.now in
-    let done = rows_in c.loop-index.rows in
-    let act = λ (fr : Frame). one_more (λ t. keys_at specs (at_tuple fr t)) in
+    let done = row_of c.loop-index.done in
+    let act = λ (fr : Frame). more (λ t. keys_at specs (at_tuple fr t)) in
     record {
-      goes = goes_on_to i.goes c.next_row.ensures.goes;
-      turns = turns_next _ _ _ (rows_in c.in_ok-rows.rows) (tuple_at old x) _ _ i.turns (left_at (tuple_at old) tuples n x [] (omega arith) c.tuple.ensures) c.next_row.ensures.goes.was_clean
+      goes = goes_on_to i.goes c.next_keys.ensures.goes;
+      turns = turns_next _ _ _ (row_of c.in_ok-done-2.done) (tuple_at old x) _ _ i.turns (left_at (tuple_at old) tuples n x [] (omega arith) c.tuple.ensures) c.next_keys.ensures.goes.was_clean
           (λ clean inside is_in.
           let x_in = element (TupleIn old) tuples n x [] inside.1 (omega arith) c.tuple.ensures in
-          let s = c.in_ok-rows.ensures.gives clean (frame_in_grown i.goes.grows held inside.0) x at (tuple_in_grown i.goes.grows x x_in) in
+          let s = c.in_ok-done-2.ensures.gives clean (frame_in_grown i.goes.grows held inside.0) x at (tuple_in_grown i.goes.grows x x_in) in
           (s.0, ap (λ fr. act fr done (tuple_at old x) f) (sym (frame_grown i.goes.grows held inside.0)) ∙ ap (λ y. act (frame_at f held) done y f) (sym (tuple_grown i.goes.grows x x_in)) ∙ s.1));
-      long = c.in_ok-rows.ensures.long ∙ ap suc i.long ∙ sym (add-one n);
       in_slots =
           ap (take (length held.slots.now)) (c.in_ok-refill.ensures ∙ ap (λ s. s ++ x) i.in_slots)
-          ∙ take_at slots x (length held.slots.now) (length-map held.slots.now (λ slot. item_views slot.value));
+          ∙ take_at slots x (length held.slots.now) (length-map held.slots.now slot_items);
     }
 
-pub clauses::key_rows-returns-in_err-rows-clause-gives : goal.clauses::key_rows-returns-in_err-rows-clause-gives
-clauses::key_rows-returns-in_err-rows-clause-gives g t c = λ clean inside tuples_in.
+pub clauses::all_keys-returns-in_err-done-2-clause-gives : goal.clauses::all_keys-returns-in_err-done-2-clause-gives
+clauses::all_keys-returns-in_err-done-2-clause-gives g t c = λ clean inside tuples_in.
     let i = c.loop-index.invariant in
     let old = g.W.TreeSource.forest c.args.world.now in
     let f = g.W.TreeSource.forest c.loop-index.world in
-    let f' = g.W.TreeSource.forest c.next_row.new.world in
+    let f' = g.W.TreeSource.forest c.next_keys.new.world in
     let held = c.args.frame in
     let n = c.loop-index.index in
     let tuples = c.args.tuples.now in
@@ -1649,81 +1750,62 @@ clauses::key_rows-returns-in_err-rows-clause-gives g t c = λ clean inside tuple
     let slots = values_of held.slots.now in
     let at : values_of c.deref.result.now ≡ slots ++ x = ap values_of c.deref.ensures.value ∙ c.in_ok-refill.ensures ∙ ap (λ s. s ++ x) i.in_slots in
     let specs = order_specs c.args.specs.now in
-    let done = rows_in c.loop-index.rows in
-    let act = λ (fr : Frame). one_more (λ t. keys_at specs (at_tuple fr t)) in
-    let e = c.in_err-rows.field-0.0 in
-    handed_on rows_in same_tests any_tests _ f' e c.from_residual-in_err-rows.result c.from_residual-in_err-rows.ensures.1
-    (turns_stop _ _ _ rows_in same_tests any_tests (tuple_at old x) _ f' e i.turns (left_at (tuple_at old) tuples n x [] (omega arith) c.tuple.ensures) c.next_row.ensures.goes.was_clean
+    let done = row_of c.loop-index.done in
+    let act = λ (fr : Frame). more (λ t. keys_at specs (at_tuple fr t)) in
+    let e = c.in_err-done-2.field-0.0 in
+    handed_on row_of same_tests any_tests _ f' e c.from_residual-in_err-done-2.result c.from_residual-in_err-done-2.ensures.1
+    (turns_stop _ _ _ row_of same_tests any_tests (tuple_at old x) _ f' e i.turns (left_at (tuple_at old) tuples n x [] (omega arith) c.tuple.ensures) c.next_keys.ensures.goes.was_clean
     (λ clean inside is_in.
     let x_in = element (TupleIn old) tuples n x [] inside.1 (omega arith) c.tuple.ensures in
-    subst (λ fr. GivesRows (act fr done (tuple_at old x) f) f' (Err e)) (frame_grown i.goes.grows held inside.0)
-    (subst (λ y. GivesRows (act (frame_at f held) done y f) f' (Err e)) (tuple_grown i.goes.grows x x_in)
-    (c.in_err-rows.ensures.gives clean (frame_in_grown i.goes.grows held inside.0) x at (tuple_in_grown i.goes.grows x x_in)))) clean (inside, tuples_in))
+    subst (λ fr. GivesKeys (act fr done (tuple_at old x) f) f' (Err e)) (frame_grown i.goes.grows held inside.0)
+    (subst (λ y. GivesKeys (act (frame_at f held) done y f) f' (Err e)) (tuple_grown i.goes.grows x x_in)
+    (c.in_err-done-2.ensures.gives clean (frame_in_grown i.goes.grows held inside.0) x at (tuple_in_grown i.goes.grows x x_in)))) clean (inside, tuples_in))
 
-pub clauses::key_rows-loop-index-init : goal.clauses::key_rows-loop-index-init
-clauses::key_rows-loop-index-init g t c =
+pub clauses::all_keys-loop-index-init : goal.clauses::all_keys-loop-index-init
+clauses::all_keys-loop-index-init g t c =
     let old = g.W.TreeSource.forest c.args.world.now in
     let held = c.args.frame in
     let frame = frame_at old held in
-    let none : rows_in c.new-rows.result ≡ [] = ap (map row_of) c.new-rows.ensures.items in
+    let none : row_of c.in_ok-done.done ≡ [] = ap (map values_in) c.in_ok-done.ensures.items in
     let slots = values_of held.slots.now in
-    let long = length-map held.slots.now (λ slot. item_views slot.value) in
+    let long = length-map held.slots.now slot_items in
     record {
       goes = stays _ _;
-      turns = record { rest = λ clean inside. subst (λ rows. Unit {0} × (in_turn (one_more (λ t. keys_at (order_specs c.args.specs.now) (at_tuple frame t))) rows (tuples_at old c.args.tuples.now) old ≡ for_each (λ t. keys_at (order_specs c.args.specs.now) (at_tuple frame t)) (tuples_at old c.args.tuples.now) old)) (sym none) (tt, refl) };
-      long = ap length c.new-rows.ensures.items;
+      turns = record { rest = λ clean inside. subst (λ keys. Unit {0} × (in_turn (more (λ t. keys_at (order_specs c.args.specs.now) (at_tuple frame t))) keys (tuples_at old c.args.tuples.now) old ≡ collected (λ t. keys_at (order_specs c.args.specs.now) (at_tuple frame t)) (tuples_at old c.args.tuples.now) old)) (sym none) (tt, refl) };
       in_slots = ap (take (length held.slots.now)) (values_of-clones held.slots.now c.in_ok-slots.slots.items c.in_ok-slots.ensures.ok) ∙ take_all (length held.slots.now) slots (omega (arith, long));
     }
 
-pub clauses::key_rows-returns-in_err-slots-clause-goes : goal.clauses::key_rows-returns-in_err-slots-clause-goes
-clauses::key_rows-returns-in_err-slots-clause-goes g t c = stays _ _
+pub clauses::all_keys-returns-in_err-slots-clause-goes : goal.clauses::all_keys-returns-in_err-slots-clause-goes
+clauses::all_keys-returns-in_err-slots-clause-goes g t c = stays _ _
 
-pub clauses::key_rows-returns-in_err-refill-clause-goes : goal.clauses::key_rows-returns-in_err-refill-clause-goes
-clauses::key_rows-returns-in_err-refill-clause-goes g t c = c.loop-index.invariant.goes
+pub clauses::all_keys-returns-in_err-done-clause-goes : goal.clauses::all_keys-returns-in_err-done-clause-goes
+clauses::all_keys-returns-in_err-done-clause-goes g t c = stays _ _
 
-pub clauses::key_rows-returns-in_err-rows-clause-goes : goal.clauses::key_rows-returns-in_err-rows-clause-goes
-clauses::key_rows-returns-in_err-rows-clause-goes g t c = goes_on_to c.loop-index.invariant.goes c.in_err-rows.ensures.goes
+pub clauses::all_keys-returns-in_err-refill-clause-goes : goal.clauses::all_keys-returns-in_err-refill-clause-goes
+clauses::all_keys-returns-in_err-refill-clause-goes g t c = c.loop-index.invariant.goes
 
-pub clauses::key_rows-returns-clause-goes : goal.clauses::key_rows-returns-clause-goes
-clauses::key_rows-returns-clause-goes g t c = c.loop-index.invariant.goes
+pub clauses::all_keys-returns-in_err-done-2-clause-goes : goal.clauses::all_keys-returns-in_err-done-2-clause-goes
+clauses::all_keys-returns-in_err-done-2-clause-goes g t c = goes_on_to c.loop-index.invariant.goes c.in_err-done-2.ensures.goes
 
-pub clauses::key_rows-returns-clause-gives : goal.clauses::key_rows-returns-clause-gives
-clauses::key_rows-returns-clause-gives g t c = λ clean inside rest_in.
+pub clauses::all_keys-returns-clause-goes : goal.clauses::all_keys-returns-clause-goes
+clauses::all_keys-returns-clause-goes g t c = c.loop-index.invariant.goes
+
+pub clauses::all_keys-returns-clause-gives : goal.clauses::all_keys-returns-clause-gives
+clauses::all_keys-returns-clause-gives g t c = λ clean inside rest_in.
     let old = g.W.TreeSource.forest c.args.world.now in
     turns_end _ _ _ c.loop-index.invariant.turns (ap (map (tuple_at old)) (drop_all c.loop-index.index c.args.tuples.now (omega arith))) clean (inside, rest_in)
 
-pub clauses::next_row-returns-clause-gives : goal.clauses::next_row-returns-clause-gives
-clauses::next_row-returns-clause-gives g t c = λ clean inside tuple at tuple_in.
+pub clauses::next_keys-returns-clause-gives : goal.clauses::next_keys-returns-clause-gives
+clauses::next_keys-returns-clause-gives g t c = λ clean inside tuple at tuple_in.
     let f = g.W.TreeSource.forest c.args.world.now in
     let held = c.args.frame in
-    let f' = g.W.TreeSource.forest c.keys.new.world in
     let specs = order_specs c.args.specs.now in
     let inner : Held = record { slots = c.args.slots; focus = held.focus; addresses = held.addresses } in
-    let row = c.in_ok-row.ensures.gives clean (frame_inner_in f held inner tuple at refl refl inside tuple_in) in
-    let made : keys_at specs (at_tuple (frame_at f held) (tuple_at f tuple)) f ≡ (Ok (row_of c.in_ok-row.row), f') = ap (λ fr. keys_at specs fr f) (sym (frame_inner f held inner tuple at refl refl)) ∙ row.1 in
-    (tt, ap (λ o. go_on o (λ y. give (rows_in c.args.done ++ y ∷ []))) made ∙ ap (λ rs. (Ok rs, f')) (sym (ap (map row_of) c.in_ok-push.ensures.items ∙ map-append row_of c.args.done.items (c.in_ok-row.row ∷ []))))
+    subst (λ fr. GivesKeys (more (keys_at specs) (row_of c.args.done) fr f) (g.W.TreeSource.forest c.keys.new.world) c.keys.result) (frame_inner f held inner tuple at refl refl)
+    (c.keys.ensures.gives clean (frame_inner_in f held inner tuple at refl refl inside tuple_in))
 
-pub clauses::next_row-returns-in_err-row-clause-gives : goal.clauses::next_row-returns-in_err-row-clause-gives
-clauses::next_row-returns-in_err-row-clause-gives g t c = λ clean inside tuple at tuple_in.
-    let f = g.W.TreeSource.forest c.args.world.now in
-    let held = c.args.frame in
-    let f' = g.W.TreeSource.forest c.keys.new.world in
-    let specs = order_specs c.args.specs.now in
-    let inner : Held = record { slots = c.args.slots; focus = held.focus; addresses = held.addresses } in
-    let meant = at_tuple (frame_at f held) (tuple_at f tuple) in
-    let next = λ (y : List (List Atomic)). give (rows_in c.args.done ++ y ∷ []) in
-    cut row_of (λ trees keys. keys) (λ trees keys. Unit {0}) rows_in (λ trees rows. rows) (λ trees rows. Unit {0}) _ (keys_at specs meant f) next f' c.in_err-row.field-0.0 c.from_residual.result refl c.from_residual.ensures.1
-    (subst (λ fr. GivesKeys (keys_at specs fr f) f' (Err c.in_err-row.field-0.0)) (frame_inner f held inner tuple at refl refl)
-    (c.in_err-row.ensures.gives clean (frame_inner_in f held inner tuple at refl refl inside tuple_in)))
-
-pub clauses::next_row-returns-in_err-row-clause-goes : goal.clauses::next_row-returns-in_err-row-clause-goes
-clauses::next_row-returns-in_err-row-clause-goes g t c = c.in_err-row.ensures.goes
-
-pub clauses::next_row-returns-in_err-push-clause-goes : goal.clauses::next_row-returns-in_err-push-clause-goes
-clauses::next_row-returns-in_err-push-clause-goes g t c = c.in_ok-row.ensures.goes
-
-pub clauses::next_row-returns-clause-goes : goal.clauses::next_row-returns-clause-goes
-clauses::next_row-returns-clause-goes g t c = c.in_ok-row.ensures.goes
+pub clauses::next_keys-returns-clause-goes : goal.clauses::next_keys-returns-clause-goes
+clauses::next_keys-returns-clause-goes g t c = c.keys.ensures.goes
 
 pub clauses::keys-loop-part-preserved : goal.clauses::keys-loop-part-preserved
 clauses::keys-loop-part-preserved g t c =
@@ -1751,9 +1833,12 @@ clauses::keys-returns-in_err-keys-clause-gives g t c = λ clean inside.
     let done = row_of c.loop-part.keys in
     let act = λ (fr : Frame). one_more (λ (part : Meaning). Forms.atoms_of part fr) in
     let e = c.in_err-keys.field-0.0 in
-    handed_on row_of same_tests any_tests _ f' e c.from_residual.result c.from_residual.ensures.1
+    let old = g.W.TreeSource.forest c.args.world.now in
+    let frame = frame_at old held in
+    subst (λ o. GivesKeys o f' c.from_residual.result) (from_done (λ (p : Meaning × OrderModifier). Forms.atoms_of p.0 frame) (row_of c.args.done) (order_specs c.args.specs.now) old)
+    (handed_on row_of same_tests any_tests _ f' e c.from_residual.result c.from_residual.ensures.1
     (turns_stop _ _ _ row_of same_tests any_tests (plan_mean spec.0, spec.1) _ f' e i.turns (left_over (λ (part, modifier). (plan_mean part, modifier)) c.args.specs.now c.loop-part.part-index spec (omega arith) c.loop-part-item.is) c.next_key.ensures.goes.was_clean
-    (λ clean inside is_in. subst (λ fr. GivesKeys (act fr done (plan_mean spec.0) f) f' (Err e)) (frame_grown i.goes.grows held inside) (c.in_err-keys.ensures.gives clean (frame_in_grown i.goes.grows held inside))) clean inside)
+    (λ clean inside is_in. subst (λ fr. GivesKeys (act fr done (plan_mean spec.0) f) f' (Err e)) (frame_grown i.goes.grows held inside) (c.in_err-keys.ensures.gives clean (frame_in_grown i.goes.grows held inside))) clean inside))
 
 pub clauses::keys-returns-in_err-keys-clause-goes : goal.clauses::keys-returns-in_err-keys-clause-goes
 clauses::keys-returns-in_err-keys-clause-goes g t c = goes_on_to c.loop-part.invariant.goes c.in_err-keys.ensures.goes
@@ -1763,7 +1848,10 @@ clauses::keys-returns-clause-goes g t c = c.loop-part.invariant.goes
 
 pub clauses::keys-returns-clause-gives : goal.clauses::keys-returns-clause-gives
 clauses::keys-returns-clause-gives g t c = λ clean inside.
-    turns_end _ _ _ c.loop-part.invariant.turns (ap order_specs (drop_all c.loop-part.part-index c.args.specs.now (omega arith))) clean inside
+    let old = g.W.TreeSource.forest c.args.world.now in
+    let frame = frame_at old c.args.frame in
+    let end = turns_end _ _ _ c.loop-part.invariant.turns (ap order_specs (drop_all c.loop-part.part-index c.args.specs.now (omega arith))) clean inside in
+    (end.0, sym (from_done (λ (p : Meaning × OrderModifier). Forms.atoms_of p.0 frame) (row_of c.args.done) (order_specs c.args.specs.now) old) ∙ end.1)
 
 pub clauses::next_key-returns-clause-gives : goal.clauses::next_key-returns-clause-gives
 clauses::next_key-returns-clause-gives g t c = λ clean inside.
@@ -2010,7 +2098,7 @@ quantified::satisfied-turns-preserved g t c =
     record {
       goes = goes_on_to i.goes c.turn.ensures.goes;
       within = omega arith;
-      in_slots = moved_slots outer (values_of held.slots.now) slots stack slots' stack' items (sym (length-map held.slots.now (λ slot. item_views slot.value))) i.in_slots moved;
+      in_slots = moved_slots outer (values_of held.slots.now) slots stack slots' stack' items (sym (length-map held.slots.now slot_items)) i.in_slots moved;
       rest = λ clean inside.
           let was = c.turn.ensures.goes.was_clean clean in
           let gives = c.in_ok-found.ensures.gives clean (inner_in was inside) in
@@ -2058,8 +2146,8 @@ pub quantified::satisfied-advance-requires : goal.quantified::satisfied-advance-
 quantified::satisfied-advance-requires g t c =
     let i = c.turns.invariant in
     let held = c.args.frame in
-    let a = length-map c.turns.slots.items (λ slot. item_views slot.value) in
-    let b = length-map held.slots.now (λ slot. item_views slot.value) in
+    let a = length-map c.turns.slots.items slot_items in
+    let b = length-map held.slots.now slot_items in
     let d = length-map (stack_of c.turns.stack) (take 1) in
     let h = length-map c.turns.stack.items values_left in
     let long = ap length i.in_slots ∙ length-append (values_of held.slots.now) (map (take 1) (stack_of c.turns.stack)) in
@@ -3017,6 +3105,58 @@ expressions::quantified-returns-in_err-answer-clause-goes g t c = c.in_err-answe
 pub expressions::quantified-returns-clause-goes : goal.expressions::quantified-returns-clause-goes
 expressions::quantified-returns-clause-goes g t c = c.in_ok-answer.ensures.goes
 
+pub expressions::flwor-returns-in_err-items-clause-gives : goal.expressions::flwor-returns-in_err-items-clause-gives
+expressions::flwor-returns-in_err-items-clause-gives g t c = λ clean inside.
+    let f = g.W.TreeSource.forest c.args.world.now in
+    let held = c.args.frame in
+    let frame = frame_at f held in
+    let f' = g.W.TreeSource.forest c.evaluate.new.world in
+    let source = c.in-Some.source.now in
+    let part = plan_mean c.args.part.now in
+    let next = λ (xs : List Item). collected (λ x. part (at_tuple frame ((x ∷ []) ∷ []))) xs in
+    cut item_views items_at AreIn item_views items_at AreIn _ (plan_mean source frame f) next f' c.in_err-items.field-0.0 c.from_residual.result (lone_for_is c.args.clauses.now source part frame f c.in-Some.ensures) c.from_residual.ensures.1
+    (c.in_err-items.ensures.gives clean inside)
+
+pub expressions::flwor-returns-in-Some-clause-gives : goal.expressions::flwor-returns-in-Some-clause-gives
+expressions::flwor-returns-in-Some-clause-gives g t c = λ clean inside.
+    let f = g.W.TreeSource.forest c.args.world.now in
+    let held = c.args.frame in
+    let frame = frame_at f held in
+    let f' = g.W.TreeSource.forest c.evaluate.new.world in
+    let f'' = g.W.TreeSource.forest c.returned_each.new.world in
+    let source = c.in-Some.source.now in
+    let grows = c.in_ok-items.ensures.goes.grows in
+    let found = c.in_ok-items.ensures.gives (c.returned_each.ensures.goes.was_clean clean) inside in
+    let items = c.in_ok-items.items in
+    let part = plan_mean c.args.part.now in
+    let each = λ (fr : Frame) (x : Item). part (at_tuple fr ((x ∷ []) ∷ [])) in
+    let same : map item_view c.deref.result.now ≡ item_views items = ap (map item_view) c.deref.ensures.value in
+    let meant : flwor (map plan_clause_mean c.args.clauses.now) part frame f ≡ collected (each (frame_at f' held)) (items_at f' (map item_view c.deref.result.now)) f' =
+    lone_for_is c.args.clauses.now source part frame f c.in-Some.ensures
+    ∙ ap (λ o. go_on o (λ xs. collected (each frame) xs)) found.1
+    ∙ (λ i. collected (each (sym (frame_grown grows held inside) i)) (items_at f' (sym same i)) f') in
+    subst (λ o. GivesSequence o f'' c.returned_each.result) (sym meant) (c.returned_each.ensures.gives clean (frame_in_grown grows held inside) (subst (AreIn f') (sym same) found.0))
+
+pub expressions::flwor-returns-in_err-items-clause-goes : goal.expressions::flwor-returns-in_err-items-clause-goes
+expressions::flwor-returns-in_err-items-clause-goes g t c = c.in_err-items.ensures.goes
+
+pub expressions::flwor-returns-in-Some-clause-goes : goal.expressions::flwor-returns-in-Some-clause-goes
+expressions::flwor-returns-in-Some-clause-goes g t c = goes_on_to c.in_ok-items.ensures.goes c.returned_each.ensures.goes
+
+pub expressions::flwor-evaluate-requires : goal.expressions::flwor-evaluate-requires
+expressions::flwor-evaluate-requires g t c = λ κs live.
+    let all : 8 * max (most size-PlanClause c.args.clauses.now) (size-Plan c.args.part.now) + 9 ≡ t = c.decreases in
+    let one : most size-PlanClause c.args.clauses.now ≡ max (size-PlanClause (clause.For No false c.in-Some.source.now)) 0 = ap (most size-PlanClause) c.in-Some.ensures in
+    let whole = sized-For No false c.in-Some.source.now in
+    let below : 8 * size-Plan c.in-Some.source.now + 3 < t = omega (arith, all, one, whole) in
+    (below, live)
+
+pub expressions::flwor-returned_each-requires : goal.expressions::flwor-returned_each-requires
+expressions::flwor-returned_each-requires g t c = λ κs live.
+    let all : 8 * max (most size-PlanClause c.args.clauses.now) (size-Plan c.args.part.now) + 9 ≡ t = c.decreases in
+    let below : 8 * size-Plan c.args.part.now + 6 < t = omega (arith, all) in
+    (below, live)
+
 pub expressions::flwor-returns-in_err-tuples-clause-gives : goal.expressions::flwor-returns-in_err-tuples-clause-gives
 expressions::flwor-returns-in_err-tuples-clause-gives g t c = λ clean inside.
     let f = g.W.TreeSource.forest c.args.world.now in
@@ -3024,7 +3164,7 @@ expressions::flwor-returns-in_err-tuples-clause-gives g t c = λ clean inside.
     let frame = frame_at f held in
     let f' = g.W.TreeSource.forest c.clause_list.new.world in
     let next = λ (tuples : List (Tuple Item)). Forms.return_of (plan_mean c.args.part.now) (at_tuple frame) tuples in
-    cut (λ (ts : List (Tuple ItemView)). ts) tuples_at TuplesIn item_views items_at AreIn _ (in_turn (next_clause frame) ([] ∷ []) (map plan_clause_mean c.args.clauses.now) f) next f' c.in_err-tuples.field-0.0 c.from_residual.result refl c.from_residual.ensures.1
+    cut (λ (ts : List (Tuple ItemView)). ts) tuples_at TuplesIn item_views items_at AreIn _ (in_turn (next_clause frame) ([] ∷ []) (map plan_clause_mean c.args.clauses.now) f) next f' c.in_err-tuples.field-0.0 c.from_residual-in_err-tuples.result refl c.from_residual-in_err-tuples.ensures.1
     (c.in_err-tuples.ensures.gives clean inside)
 
 pub expressions::flwor-returns-clause-gives : goal.expressions::flwor-returns-clause-gives
@@ -3101,31 +3241,33 @@ expressions::axis_step-returns-in_err-nodes-clause-gives g t c = λ clean inside
     let f = g.W.TreeSource.forest c.args.world.now in
     let held = c.args.frame in
     let frame = frame_at f held in
-    let f' = g.W.TreeSource.forest c.axis_items.new.world in
+    let f' = g.W.TreeSource.forest c.nodes_of_step.new.world in
     let axis = c.args.axis in
     let test = c.args.test.now in
     let predicates = map plan_mean c.args.predicates.now in
     let next = λ (xs : List Item). in_turn (Forms.filtered frame) xs predicates >>= (λ ys. give (in_axis_order axis ys)) in
-    cut item_views items_at AreIn item_views items_at AreIn _ (on_axis axis test frame.focus f) next f' c.in_err-nodes.field-0.0 c.from_residual.result
-    (step_is axis test predicates frame f) c.from_residual.ensures.1 (c.in_err-nodes.ensures.gives clean inside)
+    let nodes = c.in_err-nodes.ensures.gives clean inside in
+    cut item_views items_at AreIn item_views items_at AreIn _ nodes.outcome next f' c.in_err-nodes.field-0.0 c.from_residual.result
+    (step_from axis test predicates frame f nodes.outcome nodes.keeps) c.from_residual.ensures.1 nodes.gives
 
 pub expressions::axis_step-returns-in_err-kept-clause-gives : goal.expressions::axis_step-returns-in_err-kept-clause-gives
 expressions::axis_step-returns-in_err-kept-clause-gives g t c = λ clean inside.
     let f = g.W.TreeSource.forest c.args.world.now in
     let held = c.args.frame in
     let frame = frame_at f held in
-    let f' = g.W.TreeSource.forest c.axis_items.new.world in
+    let f' = g.W.TreeSource.forest c.nodes_of_step.new.world in
     let axis = c.args.axis in
     let test = c.args.test.now in
     let f'' = g.W.TreeSource.forest c.filter.new.world in
     let grows = c.in_ok-nodes.ensures.goes.grows in
     let predicates = map plan_mean c.args.predicates.now in
     let nodes = item_views c.in_ok-nodes.nodes in
-    let first = c.in_ok-nodes.ensures.gives (c.filter.ensures.goes.was_clean clean) inside in
+    let some = c.in_ok-nodes.ensures.gives (c.filter.ensures.goes.was_clean clean) inside in
+    let first = some.gives in
     let filtering = λ (fr : Frame). in_turn (Forms.filtered fr) (items_at f' nodes) predicates f' in
     let next = λ (ys : List Item). give (in_axis_order axis ys) in
     let meant : Forms.step axis test predicates frame f ≡ go_on (filtering (frame_at f' held)) next =
-    step_is axis test predicates frame f ∙ ap (λ o. go_on o (λ xs. in_turn (Forms.filtered frame) xs predicates >>= next)) first.1 ∙ ap (λ fr. go_on (filtering fr) next) (sym (frame_grown grows held inside)) in
+    step_from axis test predicates frame f some.outcome some.keeps ∙ ap (λ o. go_on o (λ xs. in_turn (Forms.filtered frame) xs predicates >>= next)) first.1 ∙ ap (λ fr. go_on (filtering fr) next) (sym (frame_grown grows held inside)) in
     cut item_views items_at AreIn item_views items_at AreIn _ (filtering (frame_at f' held)) next f'' c.in_err-kept.field-0.0 c.from_residual-in_err-kept.result
     meant c.from_residual-in_err-kept.ensures.1 (c.in_err-kept.ensures.gives clean (frame_in_grown grows held inside) first.0)
 
@@ -3134,18 +3276,19 @@ expressions::axis_step-returns-clause-gives g t c = λ clean inside.
     let f = g.W.TreeSource.forest c.args.world.now in
     let held = c.args.frame in
     let frame = frame_at f held in
-    let f' = g.W.TreeSource.forest c.axis_items.new.world in
+    let f' = g.W.TreeSource.forest c.nodes_of_step.new.world in
     let axis = c.args.axis in
     let test = c.args.test.now in
     let f'' = g.W.TreeSource.forest c.filter.new.world in
     let grows = c.in_ok-nodes.ensures.goes.grows in
     let predicates = map plan_mean c.args.predicates.now in
     let nodes = item_views c.in_ok-nodes.nodes in
-    let first = c.in_ok-nodes.ensures.gives (c.filter.ensures.goes.was_clean clean) inside in
+    let some = c.in_ok-nodes.ensures.gives (c.filter.ensures.goes.was_clean clean) inside in
+    let first = some.gives in
     let filtering = λ (fr : Frame). in_turn (Forms.filtered fr) (items_at f' nodes) predicates f' in
     let next = λ (ys : List Item). give (in_axis_order axis ys) in
     let meant : Forms.step axis test predicates frame f ≡ go_on (filtering (frame_at f' held)) next =
-    step_is axis test predicates frame f ∙ ap (λ o. go_on o (λ xs. in_turn (Forms.filtered frame) xs predicates >>= next)) first.1 ∙ ap (λ fr. go_on (filtering fr) next) (sym (frame_grown grows held inside)) in
+    step_from axis test predicates frame f some.outcome some.keeps ∙ ap (λ o. go_on o (λ xs. in_turn (Forms.filtered frame) xs predicates >>= next)) first.1 ∙ ap (λ fr. go_on (filtering fr) next) (sym (frame_grown grows held inside)) in
     let kept = item_views c.in_ok-kept.kept in
     let second = c.in_ok-kept.ensures.gives clean (frame_in_grown grows held inside) first.0 in
     let ordered : item_views c.in_axis_order.result ≡ in_axis_order axis kept = c.in_axis_order.ensures in (

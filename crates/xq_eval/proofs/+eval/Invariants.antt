@@ -6,6 +6,7 @@ use Rattle.xq_meaning.specs.Doing.{in_turn, more, one_more, for_each, collected,
 use Rattle.xq_meaning.specs.Forms as Forms
 use Rattle.xq_meaning.specs.PlanMeaning.{Meaning, plan_mean, plan_clause_mean, plan_step_mean, at_tuple as meant_at, next_clause, next_step}
 use Rattle.xq_meaning.specs.Functions.{Focus as Spot}
+use Rattle.xq_meaning.specs.Items.{Item}
 use Rattle.xq_meaning.specs.declared.operators.Operator.{Operator}
 use Rattle.xq_expressions.specs.declared.signatures.Function.{Function}
 use Rattle.xq_meaning.specs.declared.plans.Plan.{Plan, size-Plan}
@@ -17,7 +18,7 @@ use Rattle.xq_meaning.specs.Steps.{focuses, focuses_from}
 use Rattle.xq_meaning.specs.Readings.{items_at, AreIn}
 use Rattle.xq_forms.specs.Views.{tuple_at, tuples_at, lists_of, order_specs, frame_at, FrameIn, TupleIn, TuplesIn, Goes}
 use Rattle.xq_forms.specs.Reads.{rows_of, AreOf, HasGrown}
-use Rattle.xq_tuples.specs.Keys.{row_of, rows_in}
+use Rattle.xq_tuples.specs.Keys.{row_of}
 use Rattle.xq_tuples.specs.Views.{values_of}
 use Rattle.xq_eval.specs.private.Bindings.{stack_of}
 use Rattle.xq_eval.specs.private.Keys.{keys_at}
@@ -199,8 +200,8 @@ invariant-evaluation::arguments-loop-part g l =
       reads : g.W.TreeSource.is_clean l.world → FrameIn old l.frame → AllByRecursion IsLiteral l.parts → g.W.TreeSource.meter l.world ≡ g.W.TreeSource.meter l.fn.world;
     }
 
-abbrev pub invariant-clauses::key_rows-loop-index : goal.invariant-clauses::key_rows-loop-index
-invariant-clauses::key_rows-loop-index g l =
+abbrev pub invariant-clauses::all_keys-loop-index : goal.invariant-clauses::all_keys-loop-index
+invariant-clauses::all_keys-loop-index g l =
     let old = g.W.TreeSource.forest l.fn.world in
     let now = g.W.TreeSource.forest l.world in
     let frame = frame_at old l.frame in
@@ -209,8 +210,7 @@ invariant-clauses::key_rows-loop-index g l =
     let specs = order_specs l.specs in
     record {
       goes : Goes old now (g.W.TreeSource.is_clean l.fn.world) clean;
-      turns : Turns same_tests any_tests (one_more (λ t. keys_at specs (meant_at frame t))) (inside × TuplesIn old l.tuples) clean (rows_in l.rows) (map (tuple_at old) (drop l.index l.tuples)) now (for_each (λ t. keys_at specs (meant_at frame t)) (tuples_at old l.tuples) old);
-      long : length l.rows.items ≡ l.index;
+      turns : Turns same_tests any_tests (more (λ t. keys_at specs (meant_at frame t))) (inside × TuplesIn old l.tuples) clean (row_of l.done) (map (tuple_at old) (drop l.index l.tuples)) now (collected (λ t. keys_at specs (meant_at frame t)) (tuples_at old l.tuples) old);
       in_slots : take l.outer (values_of l.slots.items) ≡ values_of l.frame.slots.now;
     }
 
@@ -222,7 +222,21 @@ invariant-clauses::keys-loop-part g l =
     let clean = g.W.TreeSource.is_clean l.world in
     record {
       goes : Goes old now (g.W.TreeSource.is_clean l.fn.world) clean;
-      turns : Turns same_tests any_tests (one_more (λ (part, modifier). Forms.atoms_of part frame)) (FrameIn old l.frame) clean (row_of l.keys) (order_specs (drop l.part-index l.specs)) now (keys_at (order_specs l.specs) frame old);
+      turns : Turns same_tests any_tests (one_more (λ (part, modifier). Forms.atoms_of part frame)) (FrameIn old l.frame) clean (row_of l.keys) (order_specs (drop l.part-index l.specs)) now (in_turn (one_more (λ (part, modifier). Forms.atoms_of part frame)) (row_of l.fn.done) (order_specs l.specs) old);
+    }
+
+abbrev pub invariant-clauses::returned_each-loop-item : goal.invariant-clauses::returned_each-loop-item
+invariant-clauses::returned_each-loop-item g l =
+    let old = g.W.TreeSource.forest l.fn.world in
+    let now = g.W.TreeSource.forest l.world in
+    let frame = frame_at old l.frame in
+    let inside = FrameIn old l.frame in
+    let clean = g.W.TreeSource.is_clean l.world in
+    let act = λ (x : Item). plan_mean l.part (meant_at frame ((x ∷ []) ∷ [])) in
+    record {
+      goes : Goes old now (g.W.TreeSource.is_clean l.fn.world) clean;
+      turns : Turns items_at AreIn (more act) (inside × AreIn old (map item_view l.items)) clean (item_views l.found) (items_at old (map item_view (drop l.item-index l.items))) now (collected act (items_at old (map item_view l.items)) old);
+      in_slots : take l.outer (values_of l.slots.items) ≡ values_of l.frame.slots.now;
     }
 
 abbrev pub invariant-quantified::satisfied-turns : goal.invariant-quantified::satisfied-turns
@@ -342,11 +356,14 @@ decreases-clauses::next_test g a = 8 * goal.size-clauses::next_test g a + 5
 abbrev pub decreases-clauses::at_tuple : goal.decreases-clauses::at_tuple
 decreases-clauses::at_tuple g a = 8 * goal.size-clauses::at_tuple g a + 4
 
-abbrev pub decreases-clauses::key_rows : goal.decreases-clauses::key_rows
-decreases-clauses::key_rows g a = 8 * goal.size-clauses::key_rows g a + 8
+abbrev pub decreases-clauses::returned_each : goal.decreases-clauses::returned_each
+decreases-clauses::returned_each g a = 8 * goal.size-clauses::returned_each g a + 6
 
-abbrev pub decreases-clauses::next_row : goal.decreases-clauses::next_row
-decreases-clauses::next_row g a = 8 * goal.size-clauses::next_row g a + 7
+abbrev pub decreases-clauses::all_keys : goal.decreases-clauses::all_keys
+decreases-clauses::all_keys g a = 8 * goal.size-clauses::all_keys g a + 8
+
+abbrev pub decreases-clauses::next_keys : goal.decreases-clauses::next_keys
+decreases-clauses::next_keys g a = 8 * goal.size-clauses::next_keys g a + 7
 
 abbrev pub decreases-clauses::keys : goal.decreases-clauses::keys
 decreases-clauses::keys g a = 8 * goal.size-clauses::keys g a + 6

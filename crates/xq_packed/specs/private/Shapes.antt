@@ -3,7 +3,6 @@ use Rattle.std.proofs.Common.{zero, suc}
 use Rattle.std.specs.Prelude.{ℕ, ◌≡◌, ◌+◌, ◌-◌, ◌*◌, ◌^◌, ◌<◌, ◌≤◌, List, [], ◌∷◌, take, drop, length, bytes_eq, slice_index_or}
 use Rattle.std.specs.List.{IsDistinct}
 use Rattle.std.specs.Str.{IsUtf8}
-use Rattle.xq_regions.specs.Tree.{most_nodes}
 use Rattle.xq_regions.specs.Rows.{Row}
 use Rattle.xq_packed.specs.Packed.{row, IsNumbered}
 use Rattle.xq_packed.specs.declared.shapes.Shape.{Shape}
@@ -55,14 +54,14 @@ AreShapes text names start [] = Unit {0}
 AreShapes text names start (s ∷ shapes) =
     IsShape text names start s × AreShapes text names (value_end s) shapes
 
--- what is kept of rows: no more than a tree may have, the text ends with the last value, no name
--- stands twice
+-- what is kept of rows: the text ends with the last value, no name stands twice, places and numbers
+-- have four bytes
 pub record IsKept (text : List ℕ) (names : List (List ℕ)) (kept : List Shape) : Type 0 where
   pub shapes : AreShapes text names 0 kept
   pub end : last_end 0 kept ≡ length text
   pub distinct : IsDistinct bytes_eq names
   pub few : length names ≤ 2 ^ 32
-  pub room : length kept ≤ most_nodes
+  pub room : length kept < 2 ^ 32
 
 -- the shape is that of a row whose name is among these
 pub record Describes (names : List (List ℕ)) (s : Shape) (r : Row) : Type 0 where
@@ -70,3 +69,19 @@ pub record Describes (names : List (List ℕ)) (s : Shape) (r : Row) : Type 0 wh
   pub level : s.level ≡ r.level
   pub kind : s.kind ≡ r.label.kind
   pub name : IsNumbered names s.name r.label.name
+
+-- the shape one level further down
+abbrev pub sunk : Shape → Shape
+sunk s =
+    record {
+      size = s.size;
+      name = s.name;
+      end_low = s.end_low;
+      end_high = s.end_high;
+      level = s.level + 1;
+      kind = s.kind;
+    }
+
+-- the number of its name
+abbrev pub number_of : Shape → ℕ
+number_of s = s.name

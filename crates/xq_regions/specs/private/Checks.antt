@@ -1,11 +1,11 @@
 -- The test of rows, from the last to the first, without a list of what is open.
 use Rattle.std.proofs.Common.{suc}
-use Rattle.std.specs.Prelude.{ℕ, ◌+◌, ◌-◌, ◌≡◌, ◌≤◌, length, slice_index, string_bytes, List, [], ◌∷◌, map, drop, Bool, true, ◌&&◌, nat_eq, nat_le, nat_lt}
+use Rattle.std.specs.Prelude.{ℕ, ◌+◌, ◌-◌, ◌≡◌, ◌≤◌, length, string_bytes, List, [], ◌∷◌, map, drop, Bool, true, ◌&&◌, nat_eq, nat_le, nat_lt}
 use Rattle.std.specs.List.{IsDistinct}
 use Rattle.std.specs.Str.{bytes_eq}
 use Rattle.xq_regions.specs.Forest.{tops}
-use Rattle.xq_regions.specs.Tree.{Label, may_stand, has_text, may_precede, attribute_names, is_legal, most_nodes}
-use Rattle.xq_regions.specs.Rows.{Row, row_of, row_at, AreNumbered, front, nest}
+use Rattle.xq_regions.specs.Tree.{Label, IsText, may_stand, has_text, may_precede, attribute_names, is_legal, most_nodes}
+use Rattle.xq_regions.specs.Rows.{Row, row_at, front, nest}
 use Rattle.xq_regions.specs.declared.NodeRow.{NodeRow}
 
 abbrev pub label_of : Row → Label
@@ -62,9 +62,10 @@ pub record Passes (rs : List Row) : Type 0 where
   pub root_size : suc (row_at rs 0).size ≡ length rs
   pub room : length rs ≤ most_nodes
 
-pub record IsNested (rs : List NodeRow) : Type 0 where
-  pub passes : Passes (map row_of rs)
-  pub numbered : AreNumbered 0 rs
+-- the names and values of the rows are UTF-8
+abbrev pub AreTexts : List Row → Type 0
+AreTexts [] = Unit {0}
+AreTexts (r ∷ rs) = IsText r.label × AreTexts rs
 
 -- the rows at the top, from the row c to before the row `stop`
 abbrev pub roots : List Row → ℕ → ℕ → List Row
@@ -82,11 +83,8 @@ are_children_after rs p = is_run (row_at rs p) (row_at rs p).size
     (roots rs (suc p) (suc p + (row_at rs p).size))
 
 -- the row at the place i is right, where those after it are
-abbrev pub IsSoundAt : List NodeRow → ℕ → Type 0
-IsSoundAt rs i =
-    (slice_index (map (λ (r : NodeRow). r.pre) rs) i ≡ i)
-    × RowOk (row_at (map row_of rs) i)
-    (roots (map row_of rs) (suc i) (suc i + (row_at (map row_of rs) i).size))
+abbrev pub IsSoundAt : List Row → ℕ → Type 0
+IsSoundAt rs i = RowOk (row_at rs i) (roots rs (suc i) (suc i + (row_at rs i).size))
 
 -- the attributes of the row at the place i have distinct names
 abbrev pub IsNamedAt : List Row → ℕ → Type 0

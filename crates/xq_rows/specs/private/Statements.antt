@@ -1,4 +1,5 @@
 -- What each statement of the store does to the tables, or gives of them.
+use Rattle.std.proofs.Common.{suc}
 use Rattle.std.specs.Prelude.{◌≡◌, ◌≢◌, ◌+◌, ◌++◌, ◌&&◌, not, ℕ, pos, Bool, true, List, [], ◌∷◌, map, filter, length, take, Option, Some, None, IsPermutation, IsSorted, nat_lt, nat_le, ◌⊎◌, IfSome, String, string_bytes}
 use Rattle.std.specs.declared.alloc.Global.{Global}
 use Rattle.std.specs.Ordering.{is_ge, is_le, is_lt}
@@ -12,7 +13,7 @@ use Rattle.sqlite.specs.Effect.{Database}
 use Rattle.sqlite.specs.State.{State, Shows}
 use Rattle.xq_atoms.specs.Address.{IsAddress}
 use Rattle.xq_regions.specs.Tree.{Tree}
-use Rattle.xq_regions.specs.Rows.{AreNumbered, Encodes, placed, Row as Node}
+use Rattle.xq_regions.specs.Rows.{Encodes, Row as Node}
 use Rattle.xq_regions.specs.declared.NodeRow.{NodeRow}
 use Rattle.xq_rows.specs.Documents.{is_at, is_first, node_columns, rows_at, by_first, HasAddress, IsSound, IsStore}
 use Rattle.xq_rows.specs.Nodes.{cells, number_in}
@@ -196,14 +197,19 @@ abbrev pub AreThere : List ℕ → ℕ → ℕ → List (ℕ × Node) → Databa
 AreThere address low count there db = (nodes : List Node) × RunsFrom address low nodes db
     × (map cells there ≡ map cells (enumerate_from low (take count nodes)))
 
+-- the places of rows are the numbers from n on
+abbrev pub AreFrom : ℕ → List (ℕ × Node) → Type 0
+AreFrom n [] = Unit {0}
+AreFrom n (row ∷ rows) = (row.0 ≡ n) × AreFrom (suc n) rows
+
 -- nodes have come to stand under their numbers, with the names in hand, where those others were
 -- there
-abbrev pub RenewsRows : List ℕ → List (ℕ × Node) → List NodeRow
+abbrev pub RenewsRows : List ℕ → List (ℕ × Node) → List (ℕ × Node)
     → List (String Global × ℕ) → List (String Global × ℕ) → Database → Database → Type 0
-RenewsRows address there rows before after old new = (low : ℕ) → AreNumbered low rows
+RenewsRows address there rows before after old new = (low : ℕ) → AreFrom low rows
     → IsSound old → AreNumbers (label_rows old) before
     → AreThere address low (length rows) there old
-    → HasRenewed address low (low + length rows) (map cells (map placed rows)) old new
+    → HasRenewed address low (low + length rows) (map cells rows) old new
     × AreNumbers (label_rows new) after
 
 -- these have come to stand under the numbers from low up to, and without, high, with the names in

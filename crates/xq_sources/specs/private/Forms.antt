@@ -1,6 +1,5 @@
 -- Where rows lie that are lent.
-use Rattle.std.specs.Prelude.{ℕ, ◌≤◌, List, length, map, string_bytes}
-use Rattle.xq_regions.specs.Tree.{most_nodes}
+use Rattle.std.specs.Prelude.{ℕ, ◌^◌, ◌<◌, ◌≤◌, List, length, map, string_bytes}
 use Rattle.xq_regions.specs.Rows.{Row, placed}
 use Rattle.xq_sources.specs.Lent.{placed_between}
 use Rattle.xq_sources.specs.declared.lent.Form.{Form}
@@ -21,11 +20,11 @@ abbrev pub rows_of_form : Form → List (ℕ × Row)
 rows_of_form (Listed rows) = map placed rows.now
 rows_of_form (Packed rows low high) = placed_between rows.now.rows low high
 
--- there are rows from one place to before another, and a tree may have so many
+-- there are rows from one place to before another, whose places have four bytes
 pub record AreThere (rows : List Row) (low high : ℕ) : Type 0 where
   pub rises : low ≤ high
   pub within : high ≤ length rows
-  pub room : high ≤ most_nodes
+  pub room : high < 2 ^ 32
 
 -- the rows are there
 abbrev pub IsForm : Form → Type 0

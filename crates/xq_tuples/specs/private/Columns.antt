@@ -1,5 +1,5 @@
 -- Keys of an order on their way from those of each tuple to those of each specification.
-use Rattle.std.specs.Prelude.{List, [], ◌∷◌, ◌++◌, map, drop, slice_index_or}
+use Rattle.std.specs.Prelude.{ℕ, zero, suc, List, [], ◌∷◌, ◌++◌, map, drop, slice_index_or}
 use Rattle.std.specs.Global.{Global}
 use Rattle.std.specs.Vec.Iter.{into_iter_items}
 use Rattle.std.specs.declared.vec.IntoIter.{IntoIter}
@@ -16,3 +16,8 @@ abbrev pub filled : {A : Type 0} → List (List (List A)) → List (List A) → 
 filled [] values = []
 filled (column ∷ columns) values =
     (column ++ slice_index_or values 0 [] ∷ []) ∷ filled columns (drop 1 values)
+
+-- what is left of keys after those of so many tuples, so many each
+abbrev pub after_tuples : {A : Type 0} → ℕ → ℕ → List A → List A
+after_tuples zero n keys = keys
+after_tuples (suc m) n keys = after_tuples m n (drop n keys)

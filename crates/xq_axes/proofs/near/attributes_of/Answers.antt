@@ -1,14 +1,13 @@
-use Rattle.std.proofs.Common.{◌≡◌, ◌≤◌, ◌+◌, ◌-◌, ◌∷◌, [], ℕ, length, min, refl, sym, ap, subst, ◌∙◌, arith}
+use Rattle.std.proofs.Common.{◌≡◌, ◌+◌, ◌∷◌, [], ℕ, min, refl, sym, ap, subst, ◌∙◌}
 use Rattle.smallvec.specs.SmallVec.{SmallVec}
 use Rattle.xq_regions.specs.Forest.{count}
 use Rattle.xq_regions.specs.Tree.{nodes}
 use Rattle.xq_regions.specs.declared.Axis.TheVariants as axis
 use Rattle.xq_sources.specs.Sources.{tree_at}
 use Rattle.xq_axes.specs.Reads.{span, span_end}
-use Rattle.xq_axes.specs.Scans.{region}
 use Rattle.xq_axes.specs.private.Hits.{is_wanted, below_where}
 use Rattle.xq_axes.specs.private.Near.{AreBelow}
-use Rattle.xq_axes.proofs.OneNode.{none_before, none_after, read_bound, starts_there, to_attributes}
+use Rattle.xq_axes.proofs.OneNode.{none_before, none_after, read_below, starts_there, to_attributes}
 use Rattle.xq_axes.proofs.Sizes.{OnOk-if}
 use Rattle.xq_axes.proofs.near.attributes_of.Goals as goal
 
@@ -32,17 +31,9 @@ returns-clause-found g c = λ k. (
     ∙ ap (λ p. below_where (is_wanted axis.Attributes test t (p ∷ [])) (count (nodes t))) place) read)
 
 pub returns-clause-rows : goal.returns-clause-rows
-returns-clause-rows g c = λ k. (
-    let t = tree_at (g.L.TreeSource.forest c.args.source.now) c.args.tree in
-    let u = tree_at (g.L.TreeSource.forest c.owner_at.new.source) c.args.tree in
-    let same : u ≡ t = ap (λ f. tree_at f c.args.tree) c.in_ok-owner.ensures.keeps in
-    let owner = c.in_ok-owner.owner in
-    let place : owner.place ≡ c.args.place = c.in_ok-owner.ensures.place in
-    let is = c.in_ok-owner.ensures.is (c.search_rows.ensures.was_clean k) in
-    let low = c.saturating_add-low.result in
-    let s = span low owner.last in
-    let from = starts_there t owner low is (c.saturating_add-low.ensures ∙ ap (λ p. min (p + 1) 4294967295) (sym place)) in
-    let bound = subst (λ p. span_end t s - low ≤ length (region axis.Attributes t (p ∷ []))) place (read_bound axis.Attributes to_attributes t s owner (record { is = is; low = from; high = refl })) in
-    let read = subst (λ z. (g.L.TreeSource.meter c.search_rows.new.source).rows ≤ (g.L.TreeSource.meter c.owner_at.new.source).rows + (span_end z s - low)) same (c.search_rows.ensures.rows k) in
-    let before = c.in_ok-owner.ensures.rows in
-    omega (arith, bound, read, before))
+returns-clause-rows g c = λ k.
+    let trees = g.L.TreeSource.forest c.args.source.now in
+    let same = ap (λ f. tree_at f c.args.tree) c.in_ok-owner.ensures.keeps in
+    read_below axis.Attributes to_attributes (tree_at trees c.args.tree) (tree_at (g.L.TreeSource.forest c.owner_at.new.source) c.args.tree) c.in_ok-owner.owner c.args.place c.saturating_add-low.result
+    (g.L.TreeSource.meter c.args.source.now).rows (g.L.TreeSource.meter c.owner_at.new.source).rows (g.L.TreeSource.meter c.search_rows.new.source).rows
+    same c.in_ok-owner.ensures.place (c.in_ok-owner.ensures.is (c.search_rows.ensures.was_clean k)) c.saturating_add-low.ensures c.in_ok-owner.ensures.rows (c.search_rows.ensures.rows k)

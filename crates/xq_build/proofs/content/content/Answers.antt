@@ -1,6 +1,6 @@
 use Rattle.std.proofs.Common.{sym, subst, List, map}
 use Rattle.xq_regions.specs.Items.{item_view}
-use Rattle.xq_regions.specs.Levels.{flat_row}
+use Rattle.xq_regions.specs.Levels.{flat}
 use Rattle.xq_meaning.specs.Content.{content}
 use Rattle.xq_meaning.specs.Readings.{items_at}
 use Rattle.xq_copies.specs.Leaves.{Leaf}
@@ -12,4 +12,4 @@ pub returns-clause-content : goal.returns-clause-content
 returns-clause-content g c = λ h.
     (let trees = g.L.TreeSource.forest c.args.source.now in
     let xs = items_at trees (map item_view c.args.items.now) in
-    subst (λ (ps : List Leaf). StandsFor ps (content trees xs)) (sym c.in_ok-rows-2.ensures) (content_stands trees xs (map flat_row c.in_ok-rows.rows.items) (c.in_ok-rows.ensures.flattens h)))
+    subst (λ (ps : List Leaf). StandsFor ps (content trees xs)) (sym c.in_ok-rows-2.ensures) (content_stands trees xs (map flat c.in_ok-rows.rows.rows) (c.in_ok-rows.ensures.flattens h)))

@@ -4,9 +4,8 @@ use Rattle.std.specs.Option.{option_map}
 use Rattle.std.proofs.lemmas.List.{drop_all}
 use Rattle.xq_regions.specs.declared.items.Item.{Item}
 use Rattle.xq_regions.specs.Items.{item_view}
-use Rattle.xq_regions.specs.Levels.{flat_row}
+use Rattle.xq_regions.specs.Levels.{flat}
 use Rattle.xq_meaning.specs.Readings.{items_at}
-use Rattle.xq_regions.specs.declared.NodeRow.{NodeRow}
 use Rattle.xq_build.specs.private.Surplus.{is_full, AreSeen}
 use Rattle.xq_build.proofs.Surpluses.{Next, alike_then, flattened_all, item_next}
 use Rattle.xq_build.proofs.content.flattened.Goals as goal
@@ -16,7 +15,7 @@ returns-clause-flattens g c = λ h.
     (let trees = g.L.TreeSource.forest c.args.source.now in
     let i = c.loop-item.invariant in
     flattened_all trees (option_map string_bytes c.loop-item.run) (items_at trees (map item_view (drop c.loop-item.item-index c.args.items.now))) (items_at trees (map item_view c.args.items.now))
-    (map flat_row c.loop-item.rows.items) (map flat_row c.append_run.new.rows.items)
+    (map flat c.loop-item.rows.rows) (map flat c.append_run.new.rows.rows)
     (ap (λ (xs : List Item). items_at trees (map item_view xs)) (drop_all c.loop-item.item-index c.args.items.now (omega arith)))
     c.in_ok-append_run.ensures (i.is h) (i.childless h))
 
@@ -24,15 +23,14 @@ pub loop-item-preserved : goal.loop-item-preserved
 loop-item-preserved g c =
     let i = c.loop-item.invariant in
     let trees = g.L.TreeSource.forest c.args.source.now in
-    let before = map flat_row c.loop-item.rows.items in
+    let before = map flat c.loop-item.rows.rows in
     let gauged : g.L.TreeSource.is_clean c.loop-item.source → c.reads-full.new.self.full ≡ true → is_full before ≡ true =
-    λ h. (let same : is_full (map flat_row c.deref.result.now) ≡ is_full before = ap (λ (rs : List NodeRow). is_full (map flat_row rs)) c.deref.ensures.value in
-    λ e. sym same ∙ c.reads-full.ensures.full (λ o. same ∙ i.full h o) e) in
+    λ h e. c.reads-full.ensures.full (i.full h) e in
     let step : g.L.TreeSource.is_clean c.take_item.new.source → Next trees c.args.items.now c.loop-item.item-index before (option_map string_bytes c.loop-item.run)
-    (map flat_row c.take_item.new.rows.items) (option_map string_bytes c.in_ok-run.run') c.take_item.new.seen.keys =
+    (map flat c.take_item.new.rows.rows) (option_map string_bytes c.in_ok-run.run') c.take_item.new.seen.keys =
     λ h. (let hl = c.take_item.ensures.was_clean h in
     item_next trees (g.L.TreeSource.forest c.loop-item.source) c.args.items.now c.loop-item.item-index c.item-item.result before (option_map string_bytes c.loop-item.run)
-    (map flat_row c.take_item.new.rows.items) (option_map string_bytes c.in_ok-run.run') c.take_item.new.seen.keys i.keeps (omega arith) c.item-item.is
+    (map flat c.take_item.new.rows.rows) (option_map string_bytes c.in_ok-run.run') c.take_item.new.seen.keys i.keeps (omega arith) c.item-item.is
     (c.in_ok-run.ensures.takes h (λ e. gauged hl (sym c.reads-full.ensures.told ∙ e)) (subst (λ ts. AreSeen ts before c.loop-item.seen.keys) (sym i.keeps) (i.seen hl)))) in
     record {
       keeps = c.take_item.ensures.keeps ∙ i.keeps;

@@ -1,27 +1,30 @@
-use Rattle.std.proofs.Common.{◌∙◌, ◌++◌, List, ap, sym, map, subst}
-use Rattle.std.proofs.lemmas.List.{map-id}
-use Rattle.std.proofs.lemmas.Iterator.Adapters.{YieldsList-from_vec}
-use Rattle.std.proofs.lemmas.Iterator.Consumers.{YieldsList-end}
-use Rattle.xq_regions.specs.declared.NodeRow.{NodeRow}
-use Rattle.xq_regions.specs.Levels.{flat_row}
+use Rattle.std.proofs.Common.{◌∙◌, ◌+◌, ◌++◌, List, ap, sym, map, subst, take, arith}
+use Rattle.std.proofs.lemmas.List.{take_all}
+use Rattle.xq_regions.specs.Rows.{Row}
+use Rattle.xq_regions.specs.Levels.{flat}
 use Rattle.xq_build.specs.private.Content.{merged_leaves, AreApart}
-use Rattle.xq_build.proofs.Contents.{merged_next, merged_all}
+use Rattle.xq_build.proofs.Contents.{row_more, merged_next, merged_all}
 use Rattle.xq_build.proofs.content.merged.Goals as goal
 
-pub loop-row-init : goal.loop-row-init
-loop-row-init c = record {
-  merges = λ others. ap (λ (rs : List NodeRow). merged_leaves (map flat_row rs ++ others)) c.in_ok-all.ensures.items;
-  apart = subst (λ (rs : List NodeRow). AreApart (map flat_row rs)) (sym c.in_ok-all.ensures.items) tt;
+pub loop-at-init : goal.loop-at-init
+loop-at-init c = record {
+  merges = λ others. ap (λ (rs : List Row). merged_leaves (map flat rs ++ others)) c.new-all.ensures.rows;
+  apart = subst (λ (rs : List Row). AreApart (map flat rs)) (sym c.new-all.ensures.rows) tt;
 }
 
-pub loop-row-preserved : goal.loop-row-preserved
-loop-row-preserved c = record {
-  merges = λ others. merged_next c.loop-row.all.items c.append_merged.new.rows.items c.loop-row.yielded c.in-Some.row c.in_ok-append_merged.ensures.merges c.loop-row.invariant.merges others;
-  apart = c.in_ok-append_merged.ensures.apart c.loop-row.invariant.apart;
-}
+pub loop-at-preserved : goal.loop-at-preserved
+loop-at-preserved c =
+    let rows = c.args.rows.now.rows in
+    let i = c.loop-at.at in
+    let more = row_more rows i c.new.result.row (omega arith) c.new.ensures.row in
+    record {
+      merges = merged_next (map flat c.loop-at.all.rows) (map flat c.append_merged.new.rows.rows) (map flat (take i rows)) (map flat (take (i + 1) rows)) (flat c.new.result.row)
+          c.in_ok-append_merged.ensures.merges c.loop-at.invariant.merges more;
+      apart = c.in_ok-append_merged.ensures.apart c.loop-at.invariant.apart;
+    }
 
 pub returns : goal.returns
 returns c =
-    let xs = c.args.rows.items in
-    let ended = YieldsList-end (YieldsList-from_vec xs (cc) (cc)) c.loop-row.yielded c.loop-row.row-iterator c.loop-row.yielded_by c.next.result c.next.new.self c.in-None.is c.next.ensures.steps in
-    merged_all c.loop-row.all.items c.loop-row.yielded c.loop-row.invariant.merges c.loop-row.invariant.apart ∙ ap (λ (rs : List NodeRow). merged_leaves (map flat_row rs)) (sym (map-id c.loop-row.yielded) ∙ ended.0)
+    let rows = c.args.rows.now.rows in
+    merged_all (map flat c.loop-at.all.rows) (map flat (take c.loop-at.at rows)) c.loop-at.invariant.merges c.loop-at.invariant.apart
+    ∙ ap (λ (rs : List Row). merged_leaves (map flat rs)) (take_all c.loop-at.at rows (omega arith))

@@ -1,11 +1,8 @@
-use Rattle.std.proofs.Common.{◌∙◌, ap, map, rules}
-use Rattle.std.proofs.lemmas.Fn.{filter_same}
-use Rattle.xq_regions.specs.Levels.{flat_row}
-use Rattle.xq_build.specs.private.Content.{is_kept}
-use Rattle.xq_build.proofs.Contents.{kept_rows}
+use Rattle.std.proofs.Common.{arith}
+use Rattle.xq_build.proofs.Contents.{kept_more}
 use Rattle.xq_build.proofs.content.without_empty_texts.Goals as goal
 
-pub returns : goal.returns
-returns c =
-    ap (map flat_row) (filter_same _ (λ r. is_kept (flat_row r)) _ (λ r b f' k. search rules) c.args.rows.items c.retain.new.self.items c.retain.ensures.filtered)
-    ∙ kept_rows c.args.rows.items
+pub loop-at-preserved : goal.loop-at-preserved
+loop-at-preserved c =
+    kept_more c.loop-at.kept.rows c.append_kept.new.rows.rows c.args.rows.now.rows c.loop-at.at c.new.result.row (omega arith) c.new.ensures.row
+    c.in_ok-append_kept.ensures c.loop-at.invariant

@@ -1,5 +1,5 @@
 use Rattle.std.proofs.Common.{◌≡◌, ◌++◌, ◌-◌, suc, map}
-use Rattle.xq_regions.specs.Levels.{flat_row}
+use Rattle.xq_regions.specs.Levels.{flat}
 use Rattle.xq_sources.specs.Sources.{tree_at}
 use Rattle.xq_copies.specs.Leaves.{lowered, leaves_between}
 use Rattle.xq_copies.proofs.copies.append_between.Given as goal
@@ -12,8 +12,8 @@ invariant-loop-next g l =
       keeps : g.L.TreeSource.forest l.source ≡ g.L.TreeSource.forest l.fn.source;
       was_clean : g.L.TreeSource.is_clean l.source → g.L.TreeSource.is_clean l.fn.source;
       copied : g.L.TreeSource.is_clean l.source
-          → map flat_row l.copies.items ++ map (lowered l.base) (leaves_between t l.next l.high)
-          ≡ map flat_row l.fn.copies.items ++ map (lowered l.base) (leaves_between t l.low l.high);
+          → map flat l.copies.rows ++ map (lowered l.base) (leaves_between t l.next l.high)
+          ≡ map flat l.fn.copies.rows ++ map (lowered l.base) (leaves_between t l.low l.high);
     }
 
 abbrev pub decreases-loop-next : goal.decreases-loop-next

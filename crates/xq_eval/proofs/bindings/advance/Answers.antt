@@ -1,7 +1,7 @@
 use Rattle.std.proofs.Common.{◌≡◌, ◌++◌, ◌+◌, ◌∷◌, [], take, drop, length, map, ap, ◌∙◌, sym, subst, arith, get_or}
 use Rattle.std.proofs.lemmas.List.{map-append, length-map, take-map}
 use Rattle.xq_regions.specs.Items.{item_view, item_views}
-use Rattle.xq_tuples.specs.Views.{values_of}
+use Rattle.xq_tuples.specs.Views.{slot_items, values_of}
 use Rattle.xq_eval.specs.private.Bindings.{values_left, stack_of, Falls}
 use Rattle.xq_eval.proofs.NextValues.{next_left}
 use Rattle.xq_eval.proofs.bindings.advance.Goals as goal
@@ -22,7 +22,7 @@ returns c =
       left = left;
       falls = subst (Falls (stack_of c.args.stack.now) (item_views c.args.items.value) below) split c.in-Some.ensures.found;
       in_stack = ap (map values_left) c.in_ok-push-2.ensures.items ∙ map-append values_left c.next_value.new.stack.items _ ∙ ap (λ e. below ++ e ∷ []) split;
-      in_slots = ap values_of c.in_ok-push.ensures.items ∙ map-append (λ slot. item_views slot.value) c.truncate.new.self.items (c.in_ok-value.value ∷ [])
-          ∙ ap (λ s. s ++ item_views c.in_ok-value.value.value ∷ []) (ap values_of c.truncate.ensures.items ∙ sym (take-map (λ slot. item_views slot.value) (c.args.outer + c.len.result) c.args.slots.now.items) ∙ ap (λ k. take k (values_of c.args.slots.now.items)) n')
-          ∙ ap (λ v. take (c.args.outer + length below) (values_of c.args.slots.now.items) ++ v ∷ []) (ap item_views c.in_ok-value.ensures.ok ∙ c.in_ok-push_copy.ensures ∙ ap (λ v. map item_view v ++ item_view x ∷ []) c.new.ensures.items);
+      in_slots = ap values_of c.in_ok-push.ensures.items ∙ map-append slot_items c.truncate.new.self.items (c.in_ok-value.value ∷ [])
+          ∙ ap (λ s. s ++ slot_items c.in_ok-value.value ∷ []) (ap values_of c.truncate.ensures.items ∙ sym (take-map slot_items (c.args.outer + c.len.result) c.args.slots.now.items) ∙ ap (λ k. take k (values_of c.args.slots.now.items)) n')
+          ∙ ap (λ v. take (c.args.outer + length below) (values_of c.args.slots.now.items) ++ v ∷ []) (c.in_ok-value.ensures.value ∙ ap (λ y. y ∷ []) c.in_ok-try_clone.ensures.item);
     }

@@ -16,9 +16,9 @@ returns c = λ trees frame env.
     let number = c.in-Slot.number in
     let one : c.args.parts.now ≡ plan.Slot number ∷ [] = only_one c.args.parts.now c.index-parts-0.result (omega arith) c.index-parts-0.is ∙ ap (λ p. p ∷ []) c.in-Slot.is in
     let slot = c.index-slots-number.result in
-    let items = c.deref-2.result.now in
+    let items = c.items.result.now in
     let value : value_at number frame.env ≡ items_at trees (map item_view items) =
-    ap (value_at number) env ∙ slot_value trees c.args.slots.now number slot (omega arith) c.index-slots-number.is ∙ sym (ap (λ xs. items_at trees (map item_view xs)) c.deref-2.ensures.value ∙ ap (λ v. items_at trees (map item_view v.items)) c.deref.ensures) in
+    ap (value_at number) env ∙ slot_value trees c.args.slots.now number slot (omega arith) c.index-slots-number.is ∙ sym (ap (items_at trees) c.items.ensures) in
     given_so c.counted.result _ _
     (λ given h. (
       h.0,

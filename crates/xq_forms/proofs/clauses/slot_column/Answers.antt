@@ -2,7 +2,7 @@ use Rattle.std.proofs.Common.{◌≡◌, ◌<◌, ◌++◌, ◌∷◌, [], ◌�
 use Rattle.std.proofs.lemmas.List.{map-append, take_more, length-append}
 use Rattle.xq_regions.specs.Tuples.{Tuple, value_at}
 use Rattle.xq_meaning.specs.Forms as Forms
-use Rattle.xq_tuples.specs.Keys.{atomics_of}
+use Rattle.xq_tuples.specs.Keys.{values_in}
 use Rattle.xq_tuples.specs.Views.{values_of}
 use Rattle.xq_meaning.specs.Items.{Item, atomized}
 use Rattle.xq_meaning.specs.Readings.{items_at}
@@ -19,19 +19,19 @@ loop-index-preserved g c =
     let slot = c.args.slot in
     let n = c.loop-index.index in
     let tuple = slice_index_or tuples n [] in
-    let atoms = c.in_ok-slot_atoms.field-0 in
+    let atoms = c.in_ok-slot_key.field-0 in
     let read = λ (t : Tuple Item). atomized old (value_at slot t) in
     let within : n < length tuples = omega (arith, c.loop-index-test.true, c.len-index-end.ensures) in
     record {
-      keeps = c.slot_atoms.ensures.keeps ∙ i.keeps;
-      was_clean = λ k. i.was_clean (c.slot_atoms.ensures.was_clean k);
+      keeps = c.slot_key.ensures.keeps ∙ i.keeps;
+      was_clean = λ k. i.was_clean (c.slot_key.ensures.was_clean k);
       long = omega (arith, ap length c.in_ok-push.ensures.items, length-append c.loop-index.column.items (atoms ∷ []), i.long);
       value = λ k.
-          let one : atomics_of atoms ≡ read (tuple_at old tuple) =
-          subst (λ f. atomics_of atoms ≡ atomized f (items_at f (value_at slot (values_of c.tuple.result.now)))) i.keeps (c.in_ok-slot_atoms.ensures.value k)
+          let one : values_in atoms ≡ read (tuple_at old tuple) =
+          subst (λ f. values_in atoms ≡ atomized f (items_at f (value_at slot (values_of c.tuple.result.now)))) i.keeps (c.in_ok-slot_key.ensures.value k)
           ∙ ap (λ t. atomized old (items_at old (value_at slot t))) c.tuple.ensures ∙ ap (atomized old) (sym (value_read old slot tuple)) in
-          ap (map atomics_of) c.in_ok-push.ensures.items ∙ map-append atomics_of c.loop-index.column.items (atoms ∷ [])
-          ∙ ap (λ l. l ++ atomics_of atoms ∷ []) (i.value (c.slot_atoms.ensures.was_clean k))
+          ap (map values_in) c.in_ok-push.ensures.items ∙ map-append values_in c.loop-index.column.items (atoms ∷ [])
+          ∙ ap (λ l. l ++ values_in atoms ∷ []) (i.value (c.slot_key.ensures.was_clean k))
           ∙ ap (λ a. Forms.slot_values old (tuples_at old (take n tuples)) slot ++ a ∷ []) one
           ∙ sym (ap (λ ts. Forms.slot_values old (tuples_at old ts) slot) (take_more tuples n [] within)
           ∙ ap (map read) (map-append (tuple_at old) (take n tuples) (tuple ∷ []))

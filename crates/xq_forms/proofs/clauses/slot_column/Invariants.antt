@@ -1,6 +1,6 @@
 use Rattle.std.proofs.Common.{◌≡◌, length, take}
 use Rattle.xq_meaning.specs.Forms as Forms
-use Rattle.xq_tuples.specs.Keys.{column_of}
+use Rattle.xq_tuples.specs.Keys.{row_of}
 use Rattle.xq_forms.specs.Views.{tuples_at}
 use Rattle.xq_forms.proofs.clauses.slot_column.Given as goal
 
@@ -12,5 +12,5 @@ invariant-loop-index g l =
       keeps : g.L.TreeSource.forest l.source ≡ old;
       was_clean : clean → g.L.TreeSource.is_clean l.fn.source;
       long : length l.column.items ≡ l.index;
-      value : clean → column_of l.column ≡ Forms.slot_values old (tuples_at old (take l.index l.tuples)) l.slot;
+      value : clean → row_of l.column ≡ Forms.slot_values old (tuples_at old (take l.index l.tuples)) l.slot;
     }

@@ -1,7 +1,7 @@
 use Rattle.std.proofs.Common.{◌≡◌, length, map, take}
 use Rattle.std.specs.List.{All}
 use Rattle.xq_meaning.specs.Forms as Forms
-use Rattle.xq_tuples.specs.Keys.{columns_of}
+use Rattle.xq_tuples.specs.Keys.{rows_in}
 use Rattle.xq_forms.specs.Views.{tuples_at}
 use Rattle.xq_forms.proofs.clauses.slot_columns.Given as goal
 
@@ -14,5 +14,5 @@ invariant-loop-slot g l =
       was_clean : clean → g.L.TreeSource.is_clean l.fn.source;
       wide : length l.columns.items ≡ l.slot-index;
       long : All (λ column. length column.items ≡ length l.tuples) l.columns.items;
-      value : clean → columns_of l.columns ≡ map (Forms.slot_values old (tuples_at old l.tuples)) (take l.slot-index l.slots);
+      value : clean → rows_in l.columns ≡ map (Forms.slot_values old (tuples_at old l.tuples)) (take l.slot-index l.slots);
     }

@@ -1,11 +1,10 @@
-use Rattle.std.proofs.Common.{rules, ◌≡◌, ◌<◌, ◌≤◌, ◌+◌, ◌^◌, [], ◌∷◌, ◌++◌, map, length, string_bytes, inl, inr, sym, ap, ◌∙◌, subst, arith}
+use Rattle.std.proofs.Common.{rules, ◌≡◌, ◌<◌, ◌≤◌, ◌+◌, ◌^◌, [], ◌∷◌, ◌++◌, map, length, string_bytes, sym, ap, ◌∙◌, subst, arith}
 use Rattle.std.proofs.lemmas.List.{length-map}
 use Rattle.std.proofs.lemmas.Str.{IsUtf8-string_bytes}
-use Rattle.xq_regions.specs.Tree.{most_nodes}
 use Rattle.xq_packed.specs.Packed.{Packed, row}
 use Rattle.xq_packed.specs.declared.shapes.Shape.{Shape}
 use Rattle.xq_packed.specs.private.Shapes.{value_end}
-use Rattle.xq_packed.proofs.Standing.{IsPushed, push-keeps, rows-length}
+use Rattle.xq_packed.proofs.Standing.{IsPushed, push-keeps}
 use Rattle.xq_packed.proofs.PackedRows.push_parts.Goals as goal
 use Rattle.xq_packed.proofs.PackedRows.push_parts.Goals.{After-push_reserved}
 
@@ -18,8 +17,8 @@ pushed c =
     let texts : string_bytes c.push_str.new.self ≡ string_bytes text ++ value = c.in_ok-push_str.ensures.bytes ∙ ap (λ t. t ++ value) c.reserve-2.ensures.bytes in
     let shapes : c.push_reserved.new.self.items ≡ c.self.inside.shapes.items ++ s ∷ [] = c.push_reserved.ensures.items ∙ ap (λ ss. ss ++ s ∷ []) c.reserve.ensures.items in
     let ends : value_end s ≡ length (string_bytes text) + length value = search (rules, c.in_ok-end_low.ensures.parts) in
-    let count : c.len-count.result ≡ length c.self.inside.shapes.items = search (rules, c.len-count.ensures) in
-    let room : length c.self.inside.shapes.items < most_nodes = omega (arith, count, c.if-count-ge-MAX_NODES.false) in
+    let count : c.len.result ≡ length c.self.inside.shapes.items = search (rules, c.len.ensures) in
+    let room : length c.self.inside.shapes.items + 1 < 2 ^ 32 = omega (arith, count, c.if-len-ge-MOST_ROWS.false) in
     let few = subst (λ n. n ≤ 2 ^ 32) (sym (length-map c.number_among.new.names.keys string_bytes)) c.number_among.ensures.few in
     push-keeps (string_bytes text) value _ (map string_bytes c.self.inside.names.keys) _ c.args.name.now c.self.inside.shapes.items _ s (IsUtf8-string_bytes text) c.utf8.value c.self.invariant texts c.in_ok-name.ensures.names shapes ends c.in_ok-name.ensures.number few room
 
@@ -30,14 +29,3 @@ pub returns-clause-rows : goal.returns-clause-rows
 returns-clause-rows c =
     (pushed c).1
     ∙ ap (λ (p : Packed). p.rows ++ row c.args.size c.args.level c.args.kind c.args.name.now c.args.value.now ∷ []) c.self.view_is
-
-pub returns-then-level-gt-MAX_LEVEL-clause-want : goal.returns-then-level-gt-MAX_LEVEL-clause-want
-returns-then-level-gt-MAX_LEVEL-clause-want c = λ shallow room.
-    (let kept = c.self.inside in
-    let count : c.len-count.result ≡ length kept.shapes.items = search (rules, c.len-count.ensures) in
-    let rows = rows-length (string_bytes kept.text) (map string_bytes kept.names.keys) 0 kept.shapes.items in
-    let seen : length c.args.self.now.rows ≡ length kept.shapes.items = ap (λ (p : Packed). length p.rows) (sym c.self.view_is) ∙ rows in
-    elim c.then-level-gt-MAX_LEVEL.either [
-      | inl deep ↦ absurd (omega (arith, deep, shallow))
-      | inr full ↦ absurd (omega (arith, full.1, room, count, seen))
-    ])

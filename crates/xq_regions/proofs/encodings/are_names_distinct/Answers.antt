@@ -1,17 +1,10 @@
-use Rattle.std.proofs.Common.{◌↔◌, map, refl, arith, subst}
-use Rattle.std.specs.Prelude.{IsTrue}
-use Rattle.xq_regions.specs.Rows.{row_of}
-use Rattle.xq_regions.specs.private.Checks.{IsNamedAt}
-use Rattle.xq_regions.proofs.Walks.{length-map}
+use Rattle.std.proofs.Common.{refl, arith}
 use Rattle.xq_regions.proofs.AttributeRuns.{named_rows, not_named}
 use Rattle.xq_regions.proofs.encodings.are_names_distinct.Goals as goal
 
-pub returns-then-not-has_distinct_attributes-clause-distinct : goal.returns-then-not-has_distinct_attributes-clause-distinct
-returns-then-not-has_distinct_attributes-clause-distinct c =
-    let r = c.has_distinct_attributes.result in
-    let at_row : IsTrue r ↔ IsNamedAt (map row_of c.args.rows.now) c.loop-at.at =
-    subst (λ xs. IsTrue r ↔ IsNamedAt (map row_of xs) c.loop-at.at) c.loop-at.invariant.0 c.has_distinct_attributes.ensures.distinct in
-    not_named (map row_of c.args.rows.now) c.loop-at.at r (let n = length-map row_of c.args.rows.now in omega (arith, c.loop-at-test.true)) at_row c.if-not-has_distinct_attributes.true
+pub returns-then-not-branch-clause-distinct : goal.returns-then-not-branch-clause-distinct
+returns-then-not-branch-clause-distinct g c =
+    not_named (g.R.TreeRows.listed c.args.rows.now) c.loop-at.at c.in_ok-has_distinct_attributes.field-0 (omega (arith, c.loop-at-test.true, c.count-at-end.ensures)) c.in_ok-has_distinct_attributes.ensures.distinct c.if-not-branch.true
 
 pub returns-clause-distinct : goal.returns-clause-distinct
-returns-clause-distinct c = (λ t. named_rows (map row_of c.args.rows.now) (λ i l. c.loop-at.invariant.1 i (let n = length-map row_of c.args.rows.now in omega arith)), λ a. refl)
+returns-clause-distinct g c = (λ t. named_rows (g.R.TreeRows.listed c.args.rows.now) (λ i l. c.loop-at.invariant i (omega (arith, c.count-at-end.ensures))), λ a. refl)

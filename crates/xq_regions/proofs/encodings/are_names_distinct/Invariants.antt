@@ -1,7 +1,6 @@
-use Rattle.std.proofs.Common.{ℕ, ◌≡◌, ◌<◌, map}
-use Rattle.xq_regions.specs.Rows.{row_of}
+use Rattle.std.proofs.Common.{ℕ, ◌<◌}
 use Rattle.xq_regions.specs.private.Checks.{IsNamedAt}
 use Rattle.xq_regions.proofs.encodings.are_names_distinct.Given as goal
 
 abbrev pub invariant-loop-at : goal.invariant-loop-at
-invariant-loop-at l = (l.rows ≡ l.fn.rows) × ((i : ℕ) → i < l.at → IsNamedAt (map row_of l.fn.rows) i)
+invariant-loop-at g l = (i : ℕ) → i < l.at → IsNamedAt (g.R.TreeRows.listed l.rows) i

@@ -1,6 +1,8 @@
 use Rattle.std.proofs.Common.{◌∙◌, refl, arith}
 use Rattle.sqlite.specs.State.{HasCleanDisk}
 use Rattle.sqlite.specs.Held.{state}
+use Rattle.xq_regions.specs.Rows.{no_row}
+use Rattle.xq_sources.specs.Lent.{placed_lent}
 use Rattle.xq_rows.proofs.Inserts.{kept_then}
 use Rattle.xq_rows.proofs.Renewals.{none_renewed, one_renewed, rows_renewed}
 use Rattle.xq_rows.proofs.replacements.renew_rows.Goals as goal
@@ -30,8 +32,8 @@ loop-at-preserved g c =
           kept_then first now last (held.kept early) (step.kept clean));
       so_far = λ clean. (
           let early : HasCleanDisk now = omega (arith, step.clean) in
-          one_renewed c.args.address.now c.loop-at.at c.args.rows_there.now c.args.rows.now c.index-rows-at.result c.args.names.now.entries c.loop-at.names.entries c.renew_row.new.names.entries first.now now.now last.now
-          (omega arith) c.index-rows-at.is (held.so_far early) (c.in_ok-renew_row.ensures.renewed clean));
+          one_renewed c.args.address.now c.loop-at.at c.args.rows_there.now c.args.rows.now (placed_lent c.row.result) (0, no_row) c.args.names.now.entries c.loop-at.names.entries c.renew_row.new.names.entries first.now now.now last.now
+          (omega arith) c.row.ensures (held.so_far early) (c.in_ok-renew_row.ensures.renewed clean));
     }
 
 pub returns-clause-renewed : goal.returns-clause-renewed

@@ -1,16 +1,18 @@
-use Rattle.std.proofs.Common.{◌≡◌, ◌+◌, ◌-◌, ◌∙◌, List, drop, take, length, map, refl, subst, arith}
+use Rattle.std.proofs.Common.{◌≡◌, ◌+◌, ◌-◌, ◌≤◌, ◌∙◌, ℕ, List, drop, take, length, map, refl, sym, ap, subst, subst₂, arith}
 use Rattle.std.specs.List.{slice_range}
 use Rattle.std.proofs.lemmas.List.{length-take, length-drop}
 use Rattle.sqlite.specs.State.{HasCleanDisk}
 use Rattle.sqlite.specs.Held.{state}
 use Rattle.xq_rows.proofs.Inserts.{kept_then}
-use Rattle.xq_regions.specs.Rows.{placed}
-use Rattle.xq_regions.specs.declared.NodeRow.{NodeRow}
 use Rattle.xq_rows.specs.Nodes.{cells}
-use Rattle.xq_rows.specs.private.Statements.{RenewsPart, RenewsRows}
+use Rattle.xq_rows.specs.private.Statements.{AreFrom, RenewsPart, RenewsRows}
 use Rattle.xq_rows.proofs.Parts.{last_part}
 use Rattle.xq_rows.proofs.Renewals.{first_part, numbered_slice, part_more}
 use Rattle.xq_rows.proofs.replacements.replace_rows.Goals as goal
+
+-- as many as there are from one place to before another
+many_between : {X : Type 0} (rows : List X) (at stop : ℕ) → at ≤ stop → stop ≤ length rows → at + length (slice_range rows at stop) ≡ stop
+many_between rows at stop forward within = omega (arith, length-take (stop - at) (drop at rows), length-drop at rows)
 
 pub loop-at-init : goal.loop-at-init
 loop-at-init g c =
@@ -18,9 +20,8 @@ loop-at-init g c =
     let now = state g.S.Store c.renew_rows.new.transaction.conn.now in
     let step = c.renew_rows.ensures.inside in
     let at = c.min-at.result in
-    let ours : List NodeRow = take at c.args.rows.now in
-    let renews : HasCleanDisk now → RenewsRows c.args.address.now (take at c.args.kept.now) ours c.new-names.result.entries c.renew_rows.new.names.entries first.now now.now =
-    λ clean. subst (λ there. RenewsRows c.args.address.now there ours c.new-names.result.entries c.renew_rows.new.names.entries first.now now.now) c.first.ensures (c.in_ok-renew_rows.ensures.renewed clean) in
+    let renews : HasCleanDisk now → RenewsRows c.args.address.now (take at c.args.kept.now) (take at c.args.rows.now) c.new-names.result.entries c.renew_rows.new.names.entries first.now now.now =
+    λ clean. subst₂ (λ there rows. RenewsRows c.args.address.now there rows c.new-names.result.entries c.renew_rows.new.names.entries first.now now.now) c.first.ensures c.first-2.ensures (c.in_ok-renew_rows.ensures.renewed clean) in
     record {
       same_reference = step.same_reference;
       clean = step.clean;
@@ -40,9 +41,12 @@ loop-at-preserved g c =
     let at = c.loop-at.at in
     let stop = c.min-stop.result in
     let part = slice_range c.args.rows.now at stop in
-    let size : at + length part ≡ stop = omega (arith, c.min-stop.ensures, length-take (stop - at) (drop at c.args.rows.now), length-drop at c.args.rows.now) in
-    let renewed : HasCleanDisk last → RenewsPart c.args.address.now at stop (map cells (map placed part)) c.loop-at.names.entries c.renew_part.new.names.entries now.now last.now c.in_ok-count.count =
-    λ clean. subst (λ k. RenewsPart c.args.address.now at k (map cells (map placed part)) c.loop-at.names.entries c.renew_part.new.names.entries now.now last.now c.in_ok-count.count) size (c.in_ok-count.ensures.renewed clean) in
+    let size : at + length part ≡ stop = many_between c.args.rows.now at stop (omega (arith, c.min-stop.ensures)) (omega (arith, c.min-stop.ensures)) in
+    let renewed : HasCleanDisk last → RenewsPart c.args.address.now at stop (map cells part) c.loop-at.names.entries c.renew_part.new.names.entries now.now last.now c.in_ok-count.count =
+    λ clean.
+    let here : RenewsPart c.args.address.now at (at + length part) (map cells part) c.loop-at.names.entries c.renew_part.new.names.entries now.now last.now c.in_ok-count.count =
+    subst (λ l. RenewsPart c.args.address.now at (at + length l) (map cells l) c.loop-at.names.entries c.renew_part.new.names.entries now.now last.now c.in_ok-count.count) c.between-part.ensures (c.in_ok-count.ensures.renewed clean) in
+    subst (λ k. RenewsPart c.args.address.now at k (map cells part) c.loop-at.names.entries c.renew_part.new.names.entries now.now last.now c.in_ok-count.count) size here in
     record {
       same_reference = step.same_reference ∙ held.same_reference;
       clean = omega (arith, held.clean, step.clean);
@@ -70,4 +74,11 @@ returns-clause-replaced g c clean =
     }
 
 pub renew_part-requires-clause-numbered : goal.renew_part-requires-clause-numbered
-renew_part-requires-clause-numbered g c = numbered_slice 0 c.loop-at.at _ c.min-stop.result c.args.rows.now (omega arith) c.requires.numbered
+renew_part-requires-clause-numbered g c =
+    subst (AreFrom c.loop-at.at) (sym c.between-part.ensures) (numbered_slice 0 c.loop-at.at _ c.min-stop.result c.args.rows.now (omega arith) c.requires.numbered)
+
+pub renew_part-requires-clause-few : goal.renew_part-requires-clause-few
+renew_part-requires-clause-few g c =
+    let size = ap length c.between-part.ensures in
+    let many = many_between c.args.rows.now c.loop-at.at c.min-stop.result (omega (arith, c.min-stop.ensures)) (omega (arith, c.min-stop.ensures)) in
+    omega (arith, size, many, c.min-stop.ensures, c.requires.few)

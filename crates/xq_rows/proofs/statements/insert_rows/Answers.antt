@@ -31,7 +31,7 @@ loop-row-preserved g c =
           let next : map placed (take (i + 1) rows) ≡ so_far ++ placed x ∷ [] =
           ap (map placed) (take_more rows i x c.loop-row-test.true ∙ ap (λ y. take i rows ++ y ∷ []) (sym c.row-item.is)) ∙ map-append placed (take i rows) (x ∷ []) in
           let more : map cells (map placed (take (i + 1) rows)) ≡ map cells so_far ++ cells (placed x) ∷ [] = ap (map cells) next ∙ map-append cells so_far (placed x ∷ []) in
-          subst (λ l. AddsNamed c.args.address.now l c.args.names.now.entries c.insert_named.new.names.entries first last) (sym more) (adds_both c.args.address.now (map cells so_far) (cells (placed x) ∷ []) c.args.names.now.entries c.loop-row.names.entries c.insert_named.new.names.entries first mid last (held.added early) (c.in_ok-insert_named.ensures.added clean));
+          subst (λ l. AddsNamed c.args.address.now l c.args.names.now.entries c.insert_named.new.names.entries first last) (sym more) (adds_both c.args.address.now (map cells so_far) (cells (placed x) ∷ []) c.args.names.now.entries c.loop-row.names.entries c.insert_named.new.names.entries first mid last (held.added early) (subst (λ n. AddsNamed c.args.address.now (cells n ∷ []) c.loop-row.names.entries c.insert_named.new.names.entries mid last) c.new.ensures (c.in_ok-insert_named.ensures.added clean)));
     }
 
 pub loop-row-init : goal.loop-row-init

@@ -1,18 +1,16 @@
 use Rattle.std.proofs.Common.{◌≡◌, ◌∷◌, ◌++◌, [], map, length, ap, sym, ◌∙◌, arith, ℕ, List, Option, Some, Bor}
 use Rattle.std.specs.Prelude.{slice_get}
-use Rattle.std.specs.Global.{Vec, Global}
+use Rattle.std.specs.Global.{Vec}
 use Rattle.std.specs.List.{range_with_len}
-use Rattle.std.specs.declared.rc.Rc.{Rc}
 use Rattle.std.specs.Option.{option_map, option_copied}
 use Rattle.std.proofs.lemmas.List.{map_push, length-map}
 use Rattle.std.proofs.lemmas.List.Folds.{flat_map-map}
 use Rattle.std.proofs.lemmas.List.FromFn.{map-range_with_len_more}
 use Rattle.xq_atoms.specs.declared.atoms.Atom.{Atom}
-use Rattle.xq_regions.specs.declared.items.Item.{Item}
 use Rattle.xq_regions.specs.Tuples.{Keyed, grouped_value, grouped_tuple, slot_key, value_at}
 use Rattle.xq_regions.specs.Items.{ItemView, Value, item_views}
 use Rattle.xq_tuples.specs.declared.rows.Numbered.{Numbered}
-use Rattle.xq_tuples.specs.Views.{values_of, tuple_of}
+use Rattle.xq_tuples.specs.Views.{slot_items, values_of, tuple_of}
 use Rattle.xq_tuples.specs.private.KeyRows.{key_view, keys_at}
 use Rattle.xq_tuples.specs.private.Groups.{keyed_of}
 use Rattle.xq_tuples.proofs.groups.joined.Goals as goal
@@ -44,11 +42,11 @@ loop-slot-preserved c =
           ap item_views w.value-is ∙ w.in_ok-value-in-None.ensures.value ∙ sym (flat_map-map (λ (row : Keyed ItemView). value_at slot row.0) (keyed_of columns) c.args.group.now)
           ∙ ap (λ k. grouped_value Value k slot group) (sym (found ∙ ap (option_map seen) w.in-None.is))
     ] in
-    let value : item_views c.in_ok-new.field-0.value ≡ value_of slot = ap item_views c.in_ok-new.ensures.ok ∙ given in
-    ap values_of c.in_ok-push.ensures.items ∙ map_push (λ s. item_views s.value) c.loop-slot.tuple.items c.in_ok-new.field-0 ∙ (λ t. c.loop-slot.invariant t ++ value t ∷ []) ∙ sym (map-range_with_len_more value_of 0 slot slot (omega arith))
+    let value : slot_items c.in_ok-of_items.field-0 ≡ value_of slot = c.in_ok-of_items.ensures.value ∙ given in
+    ap values_of c.in_ok-push.ensures.items ∙ map_push slot_items c.loop-slot.tuple.items c.in_ok-of_items.field-0 ∙ (λ t. c.loop-slot.invariant t ++ value t ∷ []) ∙ sym (map-range_with_len_more value_of 0 slot slot (omega arith))
 
 pub returns-clause-tuple : goal.returns-clause-tuple
 returns-clause-tuple c =
     let first = c.in-Some.first.now in
-    let end : c.loop-slot.slot ≡ length (tuple_of first.tuple) = omega (arith, c.loop-slot.auto.slot-end, c.loop-slot-test.false, c.len-slot-end.ensures, first.tuple.ok.0, length-map first.tuple.items (λ (s : Rc (Vec Item) Global). item_views s.value)) in
+    let end : c.loop-slot.slot ≡ length (tuple_of first.tuple) = omega (arith, c.loop-slot.auto.slot-end, c.loop-slot-test.false, c.len-slot-end.ensures, first.tuple.ok.0, length-map first.tuple.items slot_items) in
     c.loop-slot.invariant ∙ by_first c.args.slots.now c.args.columns.now c.args.group.now first c.loop-slot.slot (sym c.in-Some.ensures.value) end

@@ -8,7 +8,7 @@ use Rattle.xq_axes.specs.declared.near.AttributesOf.{AttributesOf}
 use Rattle.xq_axes.specs.private.Downward.{level_of}
 use Rattle.xq_axes.specs.private.Hits.{is_hit}
 use Rattle.xq_axes.specs.private.Near.{AreBelow}
-use Rattle.xq_axes.proofs.OneNode.{attribute_hit, plain_unhit, plain_within, plain_over}
+use Rattle.xq_axes.proofs.OneNode.{attribute_hit, plain_unhit, plain_over, rest_within}
 use Rattle.xq_axes.proofs.Picking.{judged_one}
 use Rattle.xq_axes.proofs.near.AttributesOfJudge.judge.Goals as goal
 
@@ -18,7 +18,7 @@ returns-then-is_plain c = λ start t s n r h. (
     let plain = sym (ap (λ (y : Row). not (is_attribute y.label.kind)) r.row) ∙ sym c.is_plain.ensures ∙ c.if-is_plain.true in
     let over = c.saturating_sub.ensures ∙ ap (λ (j : AttributesOf). j.owner.last - x.pre) h.0 ∙ ap (λ p. start.owner.last - p) r.place in (
       plain_unhit t s start.owner h.1 n r.is_there r.from r.to plain,
-      plain_within t s start.owner h.1 n r.is_there r.from r.to plain c.saturating_sub.result over,
+      rest_within t s start.owner h.1 n r.is_there r.from r.to c.saturating_sub.result over,
       plain_over t s start.owner h.1 n r.is_there r.from r.to plain c.saturating_sub.result over,
       h,
     ))

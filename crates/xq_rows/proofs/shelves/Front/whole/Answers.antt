@@ -4,6 +4,6 @@ use Rattle.xq_rows.proofs.shelves.Front.whole.Goals as goal
 
 pub returns : goal.returns
 returns c = record {
-  rows = packed_front c.args.document.now c.extend.result c.new-rows.result c.extend.new.self c.rows.result.now c.new-rows.ensures.rows c.rows.ensures c.extend.ensures.all c.extend.ensures.some;
+  rows = packed_front c.args.document c.into_rows-rows.result c.into_rows-rows.ensures;
   names = search rules;
 }

@@ -1,7 +1,5 @@
-use Rattle.std.proofs.Common.{◌∙◌, ap, sym, map, length, rules}
+use Rattle.std.proofs.Common.{◌∙◌, ap, sym, length, rules}
 use Rattle.std.specs.Prelude.{slice_get}
-use Rattle.xq_regions.specs.Rows.{placed}
-use Rattle.xq_regions.proofs.Walks.{length-map}
 use Rattle.xq_sources.specs.Meters.{with_rows}
 use Rattle.xq_sources.specs.private.Runs.{rows_of_run}
 use Rattle.xq_sources.proofs.ReadRows.{no_rows, read_between}
@@ -9,9 +7,8 @@ use Rattle.xq_sources.proofs.fragments.FragmentsRowLender.fetch.Goals as goal
 
 pub returns-clause-counts : goal.returns-clause-counts
 returns-clause-counts c =
-    let rows = c.rows_between-count.result.now in
-    let run = ap (map placed) c.rows_between-count.ensures ∙ read_between _ _ c.in_ok-rows.ensures.rows c.args.low c.args.high ∙ ap (λ held. rows_of_run held c.args.low c.args.high) (sym c.in_ok-rows.ensures.held) in
-    c.with_rows-self.ensures ∙ ap (with_rows c.args.self.now.meter) (sym (length-map placed rows) ∙ ap length run)
+    let run = c.between.ensures ∙ read_between _ _ c.in_ok-rows.ensures.rows c.args.low c.args.high ∙ ap (λ held. rows_of_run held c.args.low c.args.high) (sym c.in_ok-rows.ensures.held) in
+    c.with_rows-self.ensures ∙ ap (with_rows c.args.self.now.meter) (c.len-count.ensures ∙ ap length run)
 
 pub returns-in_err-rows-clause-refused : goal.returns-in_err-rows-clause-refused
 returns-in_err-rows-clause-refused c = let none = no_rows (slice_get c.args.self.now.list.items 0) in search rules

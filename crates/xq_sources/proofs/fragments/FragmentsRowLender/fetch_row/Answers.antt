@@ -1,4 +1,4 @@
-use Rattle.std.proofs.Common.{◌∙◌, ap, length, rules}
+use Rattle.std.proofs.Common.{◌<◌, ◌∙◌, ap, length, rules, arith}
 use Rattle.std.specs.Prelude.{slice_get}
 use Rattle.xq_sources.specs.private.Runs.{rows_of_run}
 use Rattle.xq_sources.proofs.ReadRows.{no_rows, read_one, node_within}
@@ -6,12 +6,14 @@ use Rattle.xq_sources.proofs.fragments.FragmentsRowLender.fetch_row.Goals as goa
 
 pub returns-clause-exists : goal.returns-clause-exists
 returns-clause-exists c =
-    λ _. record { tree_in = c.in_ok-rows.ensures.exists; node_in = node_within _ _ c.in_ok-rows.ensures.rows c.args.node c.if-node-rows.false }
+    let within : c.args.node < length c.in_ok-rows.rows.now.rows = (let outside = c.if-node-len.false in let many = c.len.ensures.rows in omega arith) in
+    λ _. record { tree_in = c.in_ok-rows.ensures.exists; node_in = node_within _ _ c.in_ok-rows.ensures.rows c.args.node within }
 
 pub returns-clause-found : goal.returns-clause-found
 returns-clause-found c =
+    let within : c.args.node < length c.in_ok-rows.rows.now.rows = (let outside = c.if-node-len.false in let many = c.len.ensures.rows in omega arith) in
     λ _. ap (λ held. rows_of_run held c.args.node c.args.node) c.in_ok-rows.ensures.held
-    ∙ read_one _ _ c.in_ok-rows.ensures.rows c.args.node c.if-node-rows.false
+    ∙ read_one _ _ c.in_ok-rows.ensures.rows c.args.node within
 
 pub returns-clause-one : goal.returns-clause-one
 returns-clause-one c = ap length (returns-clause-found c tt)
@@ -19,5 +21,5 @@ returns-clause-one c = ap length (returns-clause-found c tt)
 pub returns-in_err-rows-clause-refused : goal.returns-in_err-rows-clause-refused
 returns-in_err-rows-clause-refused c = let none = no_rows (slice_get c.args.self.now.list.items 0) in search rules
 
-pub returns-then-node-rows-clause-refused : goal.returns-then-node-rows-clause-refused
-returns-then-node-rows-clause-refused c = let none = no_rows (slice_get c.args.self.now.list.items 0) in search rules
+pub returns-then-node-len-clause-refused : goal.returns-then-node-len-clause-refused
+returns-then-node-len-clause-refused c = let none = no_rows (slice_get c.args.self.now.list.items 0) in search rules

@@ -1,5 +1,4 @@
-use Rattle.std.proofs.Common.{◌∙◌, ap, map, sym}
-use Rattle.xq_regions.specs.Rows.{placed}
+use Rattle.std.proofs.Common.{◌∙◌, ap, sym}
 use Rattle.xq_sources.specs.private.Runs.{rows_of_run}
 use Rattle.xq_sources.proofs.ReadRows.{read_between}
 use Rattle.xq_sources.proofs.fragments.FragmentsRowLender.lent.Goals as goal
@@ -7,11 +6,11 @@ use Rattle.xq_sources.proofs.fragments.FragmentsRowLender.lent.Goals as goal
 pub returns-in-Ok : goal.returns-in-Ok
 returns-in-Ok c =
     let run = c.args.self.now.run in
-    c.new.ensures ∙ ap (map placed) c.rows_between.ensures
+    c.between.ensures
     ∙ read_between _ _ c.in-Ok.ensures.rows run.low run.high
     ∙ ap (λ held. rows_of_run held run.low run.high) (sym c.in-Ok.ensures.held)
 
 pub returns-in-Err : goal.returns-in-Err
 returns-in-Err c =
     let run = c.args.self.now.run in
-    c.new-in-Err.ensures ∙ ap (λ held. rows_of_run held run.low run.high) (sym c.in-Err.ensures.absent)
+    c.new.ensures ∙ ap (λ held. rows_of_run held run.low run.high) (sym c.in-Err.ensures.absent)

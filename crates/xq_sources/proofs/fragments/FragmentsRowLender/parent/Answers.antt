@@ -6,6 +6,6 @@ use Rattle.xq_sources.proofs.fragments.FragmentsRowLender.parent.Goals as goal
 
 pub returns : goal.returns
 returns c =
-    let found = c.in_ok-fragment.ensures.lookup in
-    let read = held_unplaced c.args.self.now.list.items c.deref-2.result.now c.args.tree c.in_ok-fragment.fragment.now c.rows.result.now c.new.result c.deref-2.ensures.value found.3.0 found.1 c.rows.ensures c.new.ensures in
+    let found = c.in_ok-held.ensures.lookup in
+    let read = held_unplaced c.args.self.now.list.items c.deref-2.result.now c.args.tree c.in_ok-held.held.now c.rows.result.now c.all.result c.deref-2.ensures.value found.3.0 found.1 c.rows.ensures c.all.ensures in
     λ _. subst (λ (rs : List Row). IfSome c.parent.result (λ place. IsParentRow rs place c.args.node)) read c.parent.ensures

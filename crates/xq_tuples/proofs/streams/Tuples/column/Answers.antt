@@ -26,8 +26,8 @@ loop-tuple-preserved c =
     let is = c.tuple-item.is ∙ ap (λ l. get_or l i x) here in
     let read = tuple_read xs self c.self.view_is i x within is in
     let in_tuple = slot_within xs self c.self.view_is i x within is c.args.slot c.requires in
-    let copied = c.in_ok-push_copies.ensures.items ∙ ap (λ l. map item_view l ++ map item_view c.deref-in-loop-tuple.result.now) c.new-value.ensures.items in
-    let source = ap (map item_view) (c.deref-in-loop-tuple.ensures.value ∙ ap (λ v. v.items) c.deref.ensures) in
+    let copied = c.in_ok-push_copies.ensures.items ∙ ap (λ l. map item_view l ++ map item_view c.items.result.now) c.new-value.ensures.items in
+    let source = c.items.ensures in
     let value : item_views c.push_copies.new.copies ≡ value_at c.args.slot (get_or self i []) =
     copied ∙ source ∙ sym (value_read x.items c.args.slot c.index.result.now in_tuple c.index.ensures) ∙ ap (value_at c.args.slot) (sym read) in
     ap (map item_views) c.in_ok-push.ensures.items ∙ map_push item_views c.loop-tuple.column.items c.push_copies.new.copies ∙ (λ t. c.loop-tuple.invariant t ++ value t ∷ []) ∙ sym (map_more (value_at c.args.slot) self i [] (omega (arith, ap length c.self.view_is, length-map xs tuple_of)))

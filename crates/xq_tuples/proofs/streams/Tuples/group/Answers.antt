@@ -1,34 +1,25 @@
-use Rattle.std.proofs.Common.{◌≡◌, Ok, Err, None, map, length, ap, sym, ◌∙◌, arith}
-use Rattle.std.specs.Prelude.{if◌then◌else◌}
-use Rattle.std.specs.List.{zip}
-use Rattle.std.proofs.lemmas.List.{take_all}
-use Rattle.std.proofs.lemmas.Result.{err_from_is_err_and}
-use Rattle.xq_atoms.specs.declared.refusals.Code.TheVariants.{XPTY0004}
-use Rattle.xq_regions.specs.Tuples.{grouped_tuple, groups, same_keys, key_rows, key_value}
+use Rattle.std.proofs.Common.{◌≡◌, Ok, length, sym, subst, ◌∙◌, ap}
+use Rattle.std.specs.List.{All}
+use Rattle.std.specs.Prelude.{IfOk, IfErr}
+use Rattle.std.proofs.lemmas.List.{length-map}
+use Rattle.xq_atoms.specs.Answers.{IsRefusal}
+use Rattle.xq_regions.specs.Tuples.{grouped}
 use Rattle.xq_regions.specs.Items.{Value}
-use Rattle.xq_tuples.specs.Views.{tuple_of}
-use Rattle.xq_tuples.specs.Keys.{columns_of}
-use Rattle.xq_tuples.specs.private.KeyRows.{keys_of}
-use Rattle.xq_tuples.specs.private.Groups.{group_of, all_keyed}
-use Rattle.xq_tuples.proofs.Columns.{keyed_rows, lists_as_long, keys_as_long}
-use Rattle.xq_tuples.proofs.Refusals.{IsRefusal-judged}
+use Rattle.xq_tuples.specs.Keys.{column_of, row_of}
+use Rattle.xq_tuples.specs.Orders.{rule_of}
+use Rattle.xq_tuples.proofs.Columns.{lists_as_long}
 use Rattle.xq_tuples.proofs.streams.Tuples.group.Goals as goal
 
-pub returns-in_err-held-clause-refused : goal.returns-in_err-held-clause-refused
-returns-in_err-held-clause-refused c =
-    let p = err_from_is_err_and c.from_residual.result c.from_residual.ensures.1 in
-    rw (p.1, p.2) (IsRefusal-judged _ _ _ c.in_err-held.ensures.refused)
+pub group_by_keys-requires : goal.group_by_keys-requires
+group_by_keys-requires c = record {
+  slots = c.requires.slots ∙ sym (length-map c.args.keys.items column_of) ∙ ap length (sym c.in_ok-columns.ensures.keys) ∙ length-map c.in_ok-columns.columns.items row_of;
+  keys = subst (λ columns. All (λ column. length column ≡ length c.args.self) columns) (sym c.in_ok-columns.ensures.keys) (lists_as_long (length c.args.self) c.args.keys.items c.requires.keys);
+}
 
 pub returns-clause-stream : goal.returns-clause-stream
 returns-clause-stream c =
-    let self = c.args.self in
-    let slots = c.args.slots.now in
-    let judged = columns_of c.args.keys in
-    let keys = map (map key_value) judged in
-    let held = c.in_ok-held.held.items in
-    let columns = c.as_slice-columns.result.now in
-    let long = keys_as_long key_value (length self) judged (lists_as_long (length self) c.args.keys.items c.requires.keys) in
-    let of_groups = c.in_ok-groups.ensures.groups ∙ (λ t. groups same_keys (all_keyed (c.as_slice-columns.ensures.value t) (c.self.view_is t))) ∙ ap (groups same_keys) (keyed_rows None keys_of self held keys c.in_ok-held.ensures.keys long) in
-    let all : map tuple_of c.loop-group.tuples.items ≡ map (grouped_tuple Value slots) (groups same_keys (zip self (key_rows self keys))) =
-    c.loop-group.invariant ∙ ap (λ l. map (grouped_tuple Value slots) (map (group_of columns) l)) (take_all c.loop-group.group-index c.deref-group-items.result.now (omega (arith, c.loop-group-test.false)) ∙ c.deref-group-items.ensures.value) ∙ ap (map (grouped_tuple Value slots)) of_groups in
-    ap (λ b. if b then Ok (map (grouped_tuple Value slots) (groups same_keys (zip self (key_rows self keys)))) else Err XPTY0004) c.in_ok-held.ensures.are_keys ∙ ap Ok (sym all)
+    subst (λ columns. IfOk c.group_by_keys.result (λ stream. grouped Value c.args.slots.now c.args.self columns ≡ Ok stream)) c.in_ok-columns.ensures.keys c.group_by_keys.ensures.stream
+
+pub returns-clause-refused : goal.returns-clause-refused
+returns-clause-refused c =
+    subst (λ columns. IfErr c.group_by_keys.result (IsRefusal (grouped Value c.args.slots.now c.args.self columns))) c.in_ok-columns.ensures.keys c.group_by_keys.ensures.refused

@@ -1,0 +1,50 @@
+//! The nodes among which the predicates of a step choose (XQuery 3.1, section 3.3.3).
+ghost use Rattle.std.specs.Prelude.{IfSome};
+ghost use Rattle.xq_forms.specs.Views.{frame_at, FrameIn, Goes};
+ghost use Rattle.xq_eval.specs.private.Choosing.{Suffices, Chooses};
+
+use std::alloc::Global;
+use xq_atoms::Fault;
+use xq_forms::{Frame, axis_items, first_children};
+use xq_meaning::{Plan, Test};
+use xq_regions::{Axis, Items};
+use xq_sources::Growing;
+
+/// How many of the first items suffice for the predicates: where the first of them is a positive
+/// integer literal, it keeps none that comes later.
+fn sufficient(predicates: &[Plan]) -> Option<usize>
+    ensures { IfSome result (λ most. Suffices predicates.now most) }
+{
+    let Plan::Int(number) = predicates.first()? else {
+        return None;
+    };
+    if *number > 0 {
+        Some(*number as usize)
+    } else {
+        None
+    }
+}
+
+/// The nodes on the axis from the context node that pass the test, in axis order. Children are
+/// looked for only as far as the predicates may keep them.
+pub fn nodes_of_step<W: Growing>(
+    alloc: Global,
+    world: &mut W,
+    frame: Frame<'_>,
+    axis: Axis,
+    test: &Test,
+    predicates: &[Plan],
+) -> Result<Items, Fault>
+    ensures goes { Goes (W.forest world.old) (W.forest world.new) (W.is_clean world.old)
+        (W.is_clean world.new) }
+    ensures gives { W.is_clean world.new → FrameIn (W.forest world.old) frame.entry
+        → Chooses axis test.now predicates.now (frame_at (W.forest world.old) frame.entry)
+        (W.forest world.old) (W.forest world.new) result }
+{
+    if let Axis::Child = axis {
+        if let Some(most) = sufficient(predicates) {
+            return first_children(alloc, world, frame, test, most);
+        }
+    }
+    axis_items(alloc, world, frame, axis, test)
+}

@@ -1,0 +1,174 @@
+//! Runs of rows that are copied after others.
+ghost use Rattle.std.specs.Prelude.{ℕ, List, ◌≡◌, ◌+◌, ◌-◌, ◌^◌, ◌<◌, ◌≤◌, ◌++◌, map, take, length, slice_range, string_bytes, All, IfOk, IfErr, OnOk, OnErr};
+ghost use Rattle.xq_regions.specs.Tree.{most_levels};
+ghost use Rattle.xq_packed.specs.Packed.{IsNumbered, with_name, with_names};
+ghost use Rattle.xq_packed.specs.Changes.{moved, AreMovable};
+ghost use Rattle.xq_packed.specs.private.Shapes.{value_end, name_at};
+ghost use Rattle.xq_packed.specs.private.Copies.{IsKnown, IsReadable, IsMovedTo, AreMovedAfter, with_named};
+ghost use Rattle.xq_packed.specs.declared.shapes.Shape.{Shape};
+
+use crate::names::number_among;
+use crate::shapes::{Shape, end_after, start_at};
+use crate::{MOST_ROWS, PackedRows};
+use indexmap::IndexSet;
+use xq_atoms::Want;
+use xq_regions::MAX_LEVEL;
+
+/// How many numbers of names are kept at hand while rows are copied.
+const KEPT: usize = 16;
+
+/// How rows are moved that are copied: their values from one place in a text to another, their
+/// levels from one to another.
+#[derive(Clone, Copy)]
+struct Move {
+    low: usize,
+    base: usize,
+    from: u32,
+    to: u32,
+}
+
+/// The number of the name that has a number among others. Of some names that were asked for before,
+/// it is known.
+fn number_again(
+    known: &mut [Option<(u32, u32)>],
+    names: &mut IndexSet<String>,
+    others: &IndexSet<String>,
+    number: u32,
+) -> Result<u32, Want>
+    requires some { 0 < length known.old }
+    requires known { All (IsKnown (map string_bytes others.now.keys)
+        (map string_bytes names.old.keys)) known.old }
+    requires few { length names.old.keys ≤ 2 ^ 32 }
+    requires numbered { number < length others.now.keys }
+    ensures number { IfOk result (λ found. IsNumbered (map string_bytes names.new.keys) found
+        (name_at (map string_bytes others.now.keys) number)) }
+    ensures names { OnOk result (map string_bytes names.new.keys
+        ≡ with_name (map string_bytes names.old.keys)
+        (name_at (map string_bytes others.now.keys) number)) }
+    ensures known { OnOk result (All (IsKnown (map string_bytes others.now.keys)
+        (map string_bytes names.new.keys)) known.new) }
+    ensures few { length names.new.keys ≤ 2 ^ 32 }
+    ensures err { OnErr result (names.new.keys ≡ names.old.keys) }
+    ensures want { IfErr result (λ want. want ≡ Want.Memory) }
+{
+    let at = number as usize % known.len();
+    if let Some((other, found)) = known[at] {
+        if other == number {
+            return Ok(found);
+        }
+    }
+    let found = number_among(names, others[number as usize].as_str())?;
+    known[at] = Some((number, found));
+    Ok(found)
+}
+
+/// The shape with another number of the name, moved.
+fn moved_shape(shape: Shape, name: u32, way: Move) -> Result<Shape, Want>
+    requires { way.low ≤ value_end shape }
+    ensures moved { IfOk result (IsMovedTo way.low way.base way.from way.to shape name) }
+    ensures fits { OnOk result (shape.level - way.from + way.to < most_levels) }
+    ensures want { shape.level - way.from + way.to < most_levels
+        → IfErr result (λ want. want ≡ Want.Memory) }
+{
+    let level = u32::from(shape.level)
+        .saturating_sub(way.from)
+        .saturating_add(way.to);
+    if level > MAX_LEVEL {
+        return Err(Want::Store);
+    }
+    let (end_low, end_high) = end_after(shape.value_end() - way.low, way.base)?;
+    Ok(Shape {
+        size: shape.size,
+        name,
+        end_low,
+        end_high,
+        level: level as u8,
+        kind: shape.kind,
+    })
+}
+
+/// Adds the shapes of a run of rows whose names are numbered among others, moved. Where one is
+/// refused, some of them were added.
+fn append_shapes(
+    shapes: &mut Vec<Shape>,
+    names: &mut IndexSet<String>,
+    others: &IndexSet<String>,
+    run: &[Shape],
+    way: Move,
+) -> Result<(), Want>
+    requires few { length names.old.keys ≤ 2 ^ 32 }
+    requires readable { All (IsReadable (map string_bytes others.now.keys) way.low) run.now }
+    ensures moved { OnOk result (AreMovedAfter (map string_bytes others.now.keys)
+        (map string_bytes names.new.keys) way.low way.base way.from way.to
+        shapes.old.items run.now shapes.new.items) }
+    ensures names { OnOk result (map string_bytes names.new.keys
+        ≡ with_named (map string_bytes others.now.keys)
+        (map string_bytes names.old.keys) run.now) }
+    ensures fit { OnOk result (All (λ shape. shape.level - way.from + way.to < most_levels)
+        run.now) }
+    ensures front { (more : List Shape) × (shapes.new.items ≡ shapes.old.items ++ more) }
+    ensures some { OnErr result ((count : ℕ) × (map string_bytes names.new.keys
+        ≡ with_named (map string_bytes others.now.keys)
+        (map string_bytes names.old.keys) (take count run.now))) }
+    ensures few { length names.new.keys ≤ 2 ^ 32 }
+    ensures want { All (λ shape. shape.level - way.from + way.to < most_levels) run.now
+        → IfErr result (λ want. want ≡ Want.Memory) }
+{
+    let mut known = [None; KEPT];
+    for shape in run {
+        let name = number_again(&mut known, names, others, shape.name)?;
+        shapes.push(moved_shape(*shape, name, way)?)?;
+    }
+    Ok(())
+}
+
+impl PackedRows {
+    /// Adds the rows of others from one place to before another, those that there are, after these:
+    /// on the level `to` where they are on the level `from`, others as far below or above as there.
+    /// Where it is refused, the rows are as before. It is refused by `Want::Store` where no tree
+    /// has one of them: on too deep a level.
+    pub fn append_run(
+        &mut self,
+        other: &PackedRows,
+        low: usize,
+        high: usize,
+        from: u32,
+        to: u32,
+    ) -> Result<(), Want>
+        ensures rows { OnOk result (self.new.rows
+            ≡ self.old.rows ++ map (moved from to) (slice_range other.now.rows low high)) }
+        ensures names { OnOk result (self.new.names
+            ≡ with_names self.old.names (slice_range other.now.rows low high)) }
+        ensures fit { OnOk result (AreMovable from to (slice_range other.now.rows low high)) }
+        ensures err { OnErr result (self.new.rows ≡ self.old.rows) }
+        ensures some { OnErr result ((count : ℕ) × (self.new.names
+            ≡ with_names self.old.names (take count (slice_range other.now.rows low high)))) }
+        ensures want { AreMovable from to (slice_range other.now.rows low high)
+            → IfErr result (λ want. want ≡ Want.Memory) }
+    {
+        let high = high.min(other.shapes.len());
+        let low = low.min(high);
+        let run = &other.shapes[low..high];
+        if run.len() > MOST_ROWS - self.shapes.len() {
+            return Err(Want::Memory);
+        }
+        let start = start_at(&other.shapes, low);
+        let values = &other.text[start..start_at(&other.shapes, high)];
+        self.shapes.reserve(run.len())?;
+        self.text.reserve(values.len())?;
+        let way = Move {
+            low: start,
+            base: self.text.len(),
+            from,
+            to,
+        };
+        let count = self.shapes.len();
+        let done = append_shapes(&mut self.shapes, &mut self.names, &other.names, run, way);
+        if let Err(want) = done {
+            self.shapes.truncate(count);
+            return Err(want);
+        }
+        self.text.push_str(values)?;
+        Ok(())
+    }
+}
