@@ -28,11 +28,7 @@ fn encloses(row: &LentRow<'_>, node: u32) -> bool
 }
 
 /// Copies of the rows of the nodes above the node.
-pub fn copy_enclosing(
-    alloc: Global,
-    rows: &LentRows<'_>,
-    node: u32,
-) -> Result<Vec<NodeRow>, Want>
+pub fn copy_enclosing(alloc: Global, rows: &LentRows<'_>, node: u32) -> Result<Vec<NodeRow>, Want>
     ensures { IfOk result (λ copies. map placed copies.items
         ≡ filter (encloses_lem node) rows.now) }
 {

@@ -70,10 +70,7 @@ fn key_column(alloc: Global, column: Vec<Key>) -> Result<Vec<Option<Atom>>, Faul
 }
 
 /// The keys of each specification. XPTY0004 where a key is more than one value.
-pub fn key_columns(
-    alloc: Global,
-    columns: Vec<Vec<Key>>,
-) -> Result<Vec<Vec<Option<Atom>>>, Fault>
+pub fn key_columns(alloc: Global, columns: Vec<Vec<Key>>) -> Result<Vec<Vec<Option<Atom>>>, Fault>
     ensures are_keys { IfOk result (λ _. are_keys (rows_in columns) ≡ true) }
     ensures keys { IfOk result (λ keys. map keys_of keys.items
         ≡ map (map key_value) (rows_in columns)) }
@@ -188,11 +185,7 @@ fn next_key(alloc: Global, keys: &mut IntoIter<Key>) -> Key
 }
 
 /// Adds the next keys to the columns, one to each: the empty one where there are no more.
-fn add_keys(
-    alloc: Global,
-    columns: &mut [Vec<Key>],
-    keys: &mut IntoIter<Key>,
-) -> Result<(), Want>
+fn add_keys(alloc: Global, columns: &mut [Vec<Key>], keys: &mut IntoIter<Key>) -> Result<(), Want>
     ensures columns { OnOk result (map row_of columns.new
         ≡ filled (map row_of columns.old) (left_of keys.old)) }
     ensures later { OnOk result (left_of keys.new ≡ drop (length columns.old) (left_of keys.old)) }

@@ -11,7 +11,7 @@ loop-column-preserved c =
     let longer = ap (map values_in) c.in_ok-push.ensures.items ∙ map_push values_in _ c.next_key.result in
     record {
       columns = filled_more row_of loop.columns loop.column-index _ c.push.new.self (values_in c.next_key.result) (left_of loop.keys) (left_of c.next_key.new.keys) _ (omega arith)
-      longer c.next_key.ensures.key c.next_key.ensures.later loop.invariant.columns;
+          longer c.next_key.ensures.key c.next_key.ensures.later loop.invariant.columns;
       later = c.next_key.ensures.later ∙ dropped_more loop.column-index (left_of loop.keys) (left_of c.args.keys.now) loop.invariant.later;
     }
 
