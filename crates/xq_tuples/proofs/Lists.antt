@@ -1,8 +1,9 @@
 -- Lists side by side, and one function after another on a list.
-use Rattle.std.proofs.Common.{◌≡◌, ℕ, ◌+◌, List, [], ◌∷◌, ◌++◌, map, length, Bool, true, false, ◌&&◌, cond, refl, ap, ◌∙◌, sym, arith}
-use Rattle.std.specs.List.{zip, enumerate_from, filter, list_all}
+use Rattle.std.proofs.Common.{◌≡◌, ℕ, suc, ◌+◌, ◌<◌, List, [], ◌∷◌, ◌++◌, map, length, get_or, Bool, true, false, ◌&&◌, cond, refl, ap, ◌∙◌, sym, arith}
+use Rattle.std.specs.List.{zip, enumerate_from, range_with_len, filter, list_all}
 use Rattle.std.proofs.lemmas.List.{map-id, map-append}
 use Rattle.std.proofs.lemmas.List.Elements.{filter-append}
+use Rattle.std.proofs.lemmas.List.FromFn.{map-range_with_len_more}
 pub use mathlib.Core.List.{map-map}
 use Rattle.xq_regions.specs.Tuples.{satisfying}
 
@@ -18,6 +19,28 @@ zip-map f g (x ∷ xs) (y ∷ ys) = ap (λ ps. (f x, g y) ∷ ps) (zip-map f g x
 pub enumerate_from-map : {A B : Type 0} (f : A → B) (n : ℕ) (xs : List A) → enumerate_from n (map f xs) ≡ map (λ p. (p.0, f p.1)) (enumerate_from n xs)
 enumerate_from-map f n [] = refl
 enumerate_from-map f n (x ∷ xs) = ap (λ ps. (n, f x) ∷ ps) (enumerate_from-map f (n + 1) xs)
+
+pub enumerate_push : {A : Type 0} (n : ℕ) (xs : List A) (y : A) (m : ℕ) → m ≡ n + length xs → enumerate_from n (xs ++ y ∷ []) ≡ enumerate_from n xs ++ (m, y) ∷ []
+enumerate_push n [] y m e = let same : n ≡ m = omega (arith, e) in λ i. (same i, y) ∷ []
+enumerate_push n (x ∷ xs) y m e = ap (λ l. (n, x) ∷ l) (enumerate_push (n + 1) xs y m (omega (arith, e)))
+
+pub range_more : (n : ℕ) → range_with_len 0 (n + 1) ≡ range_with_len 0 n ++ n ∷ []
+range_more n = sym (map-id (range_with_len 0 (n + 1))) ∙ map-range_with_len_more (λ k. k) 0 n n (omega arith) ∙ ap (λ l. l ++ n ∷ []) (map-id (range_with_len 0 n))
+
+-- the numbers of a list that is counted
+pub numbers_in : {A : Type 0} (n : ℕ) (xs : List A) → map (λ (p : ℕ × A). p.0) (enumerate_from n xs) ≡ range_with_len n (length xs)
+numbers_in n [] = refl
+numbers_in n (x ∷ xs) = ap (λ l. n ∷ l) (numbers_in (n + 1) xs)
+
+-- what f says of the elements of a list and g of their numbers
+pub by_number : {A B : Type 0} (g : ℕ → B) (d : A) (all : List A) (n : ℕ) (xs : List A) → ((i : ℕ) → i < length xs → get_or all (n + i) d ≡ get_or xs i d)
+    → map {B = A × B} (λ k. (get_or all k d, g k)) (range_with_len n (length xs)) ≡ map {B = A × B} (λ (p : ℕ × A). (p.1, g p.0)) (enumerate_from n xs)
+by_number g d all n [] h = refl
+by_number g d all n (x ∷ xs) h =
+    let zero_more : n ≡ n + 0 = omega arith in
+    let here : get_or all n d ≡ x = ap (λ k. get_or all k d) zero_more ∙ h 0 (omega arith) in
+    let later = by_number g d all (n + 1) xs (λ i l. (let s : n + 1 + i ≡ n + suc i = omega arith in ap (λ k. get_or all k d) s ∙ h (suc i) (omega (arith, l)))) in
+    λ j. (here j, g n) ∷ later j
 
 -- counted from one more
 pub enumerate_from-more : {A : Type 0} (n : ℕ) (xs : List A) → enumerate_from (n + 1) xs ≡ map (λ p. (p.0 + 1, p.1)) (enumerate_from n xs)

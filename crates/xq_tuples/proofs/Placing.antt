@@ -11,8 +11,7 @@ use Rattle.xq_atoms.specs.declared.atoms.GroupKey.{GroupKey}
 use Rattle.xq_atoms.specs.Compare.{Key, key_of, key_eq}
 use Rattle.xq_atoms.specs.Derived.{group_key_eq}
 use Rattle.xq_atoms.proofs.Keys.{group_key_eq-is}
-use Rattle.xq_regions.specs.Tuples.{Keyed as KeyedTuple, comparison_keys, same_keys, firsts, groups}
-use Rattle.xq_tuples.specs.declared.rows.Numbered.{Numbered}
+use Rattle.xq_regions.specs.Tuples.{Tuple, Keyed as KeyedTuple, comparison_keys, same_keys, firsts, groups}
 use Rattle.xq_regions.specs.Items.{ItemView}
 use Rattle.xq_tuples.specs.private.KeyRows.{keys_at}
 use Rattle.xq_tuples.specs.private.Groups.{Gathers, keyed_of, group_of, compared_of}
@@ -26,7 +25,7 @@ same_compared x y = pointwise group_key_eq x.items y.items
 abbrev keys_in : KeyedTuple ItemView → List Key
 keys_in row = comparison_keys row.1
 
-laws : IsEquivalence (same_keys {X = ItemView})
+pub laws : IsEquivalence (same_keys {X = ItemView})
 laws = on_equiv keys_in (lists_equiv key_eq_equiv)
 
 pointwise-key_of : (js ks : List GroupKey) → pointwise group_key_eq js ks ≡ pointwise key_eq (map key_of js) (map key_of ks)
@@ -63,29 +62,29 @@ pub position_or_len-some : {X : Type 0} (p : X → Bool) (xs : List X) → list_
 position_or_len-some p [] h = absurd (false≢true h)
 position_or_len-some p (x ∷ xs) h = position_or_len-some_step (p x) (position_or_len p xs) (length xs) (λ e. position_or_len-some p xs (either (p x) (list_any p xs) h e))
 
-module _ {columns : List (Vec (Option Atom))} {done : List (KeyedTuple ItemView)} {seen : List (Vec GroupKey)} {gathered : List (Vec Numbered)} (h : Gathers columns done seen gathered) (key : Vec GroupKey) (row : Numbered) (is : compared_of key ≡ comparison_keys (keys_at row.number columns)) where
+module _ {columns : List (Vec (Option Atom))} {stream : List (Tuple ItemView)} {done : List (KeyedTuple ItemView)} {seen : List (Vec GroupKey)} {gathered : List (Vec ℕ)} (h : Gathers columns stream done seen gathered) (key : Vec GroupKey) (number : ℕ) (is : compared_of key ≡ comparison_keys (keys_at number columns)) where
   abbrev keyed : KeyedTuple ItemView
-  keyed = keyed_of columns row
+  keyed = keyed_of columns stream number
 
   -- a group more
-  pub Gathers-new : list_any (same_compared key) seen ≡ false → (group : Vec Numbered) → group.items ≡ row ∷ [] → Gathers columns (done ++ keyed ∷ []) (seen ++ key ∷ []) (gathered ++ group ∷ [])
+  pub Gathers-new : list_any (same_compared key) seen ≡ false → (group : Vec ℕ) → group.items ≡ number ∷ [] → Gathers columns stream (done ++ keyed ∷ []) (seen ++ key ∷ []) (gathered ++ group ∷ [])
   Gathers-new none group items =
       let absent = sym (seen_any key seen keyed (firsts same_keys done) is h.keys) ∙ none in
       record {
         keys =
             map_push compared_of seen key ∙ (λ i. h.keys i ++ is i ∷ []) ∙ sym (map_push keys_in (firsts same_keys done) keyed)
             ∙ ap (map keys_in) (sym (firsts-push laws done keyed ∙ ap (λ b. cond b (firsts same_keys done) (firsts same_keys done ++ keyed ∷ [])) absent));
-        groups = map_push (group_of columns) gathered group ∙ (λ i. h.groups i ++ map (keyed_of columns) (items i) ∷ []) ∙ sym (groups-push_new laws done keyed absent);
+        groups = map_push (group_of columns stream) gathered group ∙ (λ i. h.groups i ++ map (keyed_of columns stream) (items i) ∷ []) ∙ sym (groups-push_new laws done keyed absent);
       }
 
   -- a group that is longer
-  pub Gathers-old : list_any (same_compared key) seen ≡ true → (n : ℕ) → n ≡ position_or_len (same_compared key) seen → n < length gathered → (old group : Vec Numbered) → old ≡ get_or gathered n old → group.items ≡ old.items ++ row ∷ []
-      → Gathers columns (done ++ keyed ∷ []) seen (set gathered n group)
+  pub Gathers-old : list_any (same_compared key) seen ≡ true → (n : ℕ) → n ≡ position_or_len (same_compared key) seen → n < length gathered → (old group : Vec ℕ) → old ≡ get_or gathered n old → group.items ≡ old.items ++ number ∷ []
+      → Gathers columns stream (done ++ keyed ∷ []) seen (set gathered n group)
   Gathers-old some n place within old group at items =
       let present = sym (seen_any key seen keyed (firsts same_keys done) is h.keys) ∙ some in
-      let longer : group_of columns group ≡ get_or (groups same_keys done) n [] ++ keyed ∷ [] =
-      ap (map (keyed_of columns)) items ∙ map_push (keyed_of columns) old.items row ∙ ap (λ l. l ++ keyed ∷ []) (ap (group_of columns) at ∙ sym (get_or-map (group_of columns) gathered n old [] within) ∙ ap (λ l. get_or l n []) h.groups) in
+      let longer : group_of columns stream group ≡ get_or (groups same_keys done) n [] ++ keyed ∷ [] =
+      ap (map (keyed_of columns stream)) items ∙ map_push (keyed_of columns stream) old.items number ∙ ap (λ l. l ++ keyed ∷ []) (ap (group_of columns stream) at ∙ sym (get_or-map (group_of columns stream) gathered n old [] within) ∙ ap (λ l. get_or l n []) h.groups) in
       record {
         keys = h.keys ∙ ap (map keys_in) (sym (firsts-push laws done keyed ∙ ap (λ b. cond b (firsts same_keys done) (firsts same_keys done ++ keyed ∷ [])) present));
-        groups = map-set (group_of columns) gathered n group ∙ (λ i. set (h.groups i) n (longer i)) ∙ sym (groups-push_old laws done keyed present n (place ∙ seen_at key seen keyed (firsts same_keys done) is h.keys));
+        groups = map-set (group_of columns stream) gathered n group ∙ (λ i. set (h.groups i) n (longer i)) ∙ sym (groups-push_old laws done keyed present n (place ∙ seen_at key seen keyed (firsts same_keys done) is h.keys));
       }

@@ -11,7 +11,7 @@ placed_total : (greatest : Bool) → IsTotalOrder (placed_cmp greatest)
 placed_total false = key_cmp_total
 placed_total true = then_total (on_total is_nothing bool_cmp_total) key_cmp_total
 
-directed_total : {K : Type 0} (descending : Bool) {R : K → K → Ordering} → IsTotalOrder R → IsTotalOrder (λ j k. if descending then R k j else R j k)
+pub directed_total : {K : Type 0} (descending : Bool) {R : K → K → Ordering} → IsTotalOrder R → IsTotalOrder (λ j k. if descending then R k j else R j k)
 directed_total true o = back_total o
 directed_total false o = o
 

@@ -3,22 +3,18 @@ use Rattle.std.proofs.Common.{◌≡◌, ℕ, suc, ◌<◌, ◌≤◌, List, [],
 use Rattle.std.specs.declared.cmp.Ordering.{Ordering}
 use Rattle.std.specs.Ordering.{is_lt}
 use Rattle.std.specs.Cmp.{IsTotalOrder, IsStrictWeakOrder, tied_itself}
-use Rattle.std.specs.List.{filter}
+use Rattle.std.specs.List.{AllByRecursion as Each, filter}
 use Rattle.std.specs.List.Sorted.{IsSortedBy, IsStableBy, ties}
 use Rattle.std.proofs.lemmas.List.Sorted.{ranks_by, sorted_far}
 use Rattle.std.proofs.lemmas.Bool.{false≢true}
 use Rattle.xq_regions.specs.Tuples.{inserted, sorted}
-
-abbrev Each : {X : Type 0} → (X → Type 0) → List X → Type 0
-Each P [] = Unit {0}
-Each P (x ∷ xs) = P x × Each P xs
 
 -- from what holds at each place
 each_from : {X : Type 0} (P : X → Type 0) (xs : List X) → ((k : ℕ) (d : X) → k < length xs → P (get_or xs k d)) → Each P xs
 each_from P [] h = tt
 each_from P (x ∷ xs) h = (h 0 x (omega arith), each_from P xs (λ k d l. h (suc k) d (omega arith)))
 
-each_weaker : {X : Type 0} (P Q : X → Type 0) → ((x : X) → P x → Q x) → (xs : List X) → Each P xs → Each Q xs
+pub each_weaker : {X : Type 0} (P Q : X → Type 0) → ((x : X) → P x → Q x) → (xs : List X) → Each P xs → Each Q xs
 each_weaker P Q f [] h = tt
 each_weaker P Q f (x ∷ xs) h = (f x h.0, each_weaker P Q f xs h.1)
 
@@ -44,6 +40,20 @@ from_both : (a b : Bool) → (not a && not b) ≡ true → (a ≡ false) × (b �
 from_both true b e = absurd (false≢true e)
 from_both false true e = absurd (false≢true e)
 from_both false false e = (refl, refl)
+
+-- what holds of each element holds of those that are sorted
+module _ {X : Type 0} (P : X → Type 0) (cmp : X → X → Ordering) where
+  each_inserted_step : (x y : X) (ys zs : List X) (b : Bool) → P x → P y → Each P ys → Each P zs → Each P (cond b (y ∷ zs) (x ∷ y ∷ ys))
+  each_inserted_step x y ys zs true px py h k = (py, k)
+  each_inserted_step x y ys zs false px py h k = (px, (py, h))
+
+  each_inserted : (x : X) (ys : List X) → P x → Each P ys → Each P (inserted cmp x ys)
+  each_inserted x [] p h = (p, tt)
+  each_inserted x (y ∷ ys) p h = each_inserted_step x y ys (inserted cmp x ys) (is_lt (cmp y x)) p h.0 h.1 (each_inserted x ys p h.1)
+
+  pub each_sorted : (xs : List X) → Each P xs → Each P (sorted cmp xs)
+  each_sorted [] h = tt
+  each_sorted (x ∷ xs) h = each_inserted x (sorted cmp xs) h.0 (each_sorted xs h.1)
 
 module _ {X : Type 0} (cmp : X → X → Ordering) (o : IsTotalOrder cmp) where
   abbrev below : X → X → Bool
@@ -84,16 +94,8 @@ module _ {X : Type 0} (cmp : X → X → Ordering) (o : IsTotalOrder cmp) where
       let rests : (x : X) → filter (ties below x) ys ≡ filter (ties below x) zs = λ x. rest_step y z (filter (ties below x) ys) (filter (ties below x) zs) (ties below x y) (h x ∙ ap (λ w. cond (ties below x w) (z ∷ filter (ties below x) zs) (filter (ties below x) zs)) (sym heads)) in
       λ i. heads i ∷ same_from_ties ys zs p.1 q.1 rests i
 
-  each_inserted_step : (P : X → Type 0) (x y : X) (ys zs : List X) (b : Bool) → P x → P y → Each P ys → Each P zs → Each P (cond b (y ∷ zs) (x ∷ y ∷ ys))
-  each_inserted_step P x y ys zs true px py h k = (py, k)
-  each_inserted_step P x y ys zs false px py h k = (px, (py, h))
-
-  each_inserted : (P : X → Type 0) (x : X) (ys : List X) → P x → Each P ys → Each P (inserted cmp x ys)
-  each_inserted P x [] p h = (p, tt)
-  each_inserted P x (y ∷ ys) p h = each_inserted_step P x y ys (inserted cmp x ys) (below y x) p h.0 h.1 (each_inserted P x ys p h.1)
-
   ascends_inserted_step : (x y : X) (ys : List X) (b : Bool) → below y x ≡ b → Ascends (y ∷ ys) → Ascends (inserted cmp x ys) → Ascends (cond b (y ∷ inserted cmp x ys) (x ∷ y ∷ ys))
-  ascends_inserted_step x y ys true e h rest = (each_inserted (λ w. below w y ≡ false) x ys (weak.one_way y x e) h.0, rest)
+  ascends_inserted_step x y ys true e h rest = (each_inserted (λ w. below w y ≡ false) cmp x ys (weak.one_way y x e) h.0, rest)
   ascends_inserted_step x y ys false e h rest = ((e, each_weaker (λ w. below w y ≡ false) (λ w. below w x ≡ false) (λ w k. weak.chain w y x k e) ys h.0), h)
 
   ascends_inserted : (x : X) (ys : List X) → Ascends ys → Ascends (inserted cmp x ys)

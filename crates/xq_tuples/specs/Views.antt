@@ -1,6 +1,5 @@
 -- What contracts see of the program's tuples.
 use Rattle.std.specs.Prelude.{List, [], ◌∷◌, map}
-use Rattle.std.specs.Global.{Vec}
 use Rattle.xq_regions.specs.Items.{ItemView, item_view, item_views}
 use Rattle.xq_regions.specs.Tuples.{Tuple}
 use Rattle.xq_tuples.specs.declared.slots.SlotValue.{SlotValue}
@@ -11,10 +10,6 @@ abbrev pub slot_items : SlotValue → List ItemView
 slot_items (Lone item) = item_view item ∷ []
 slot_items (Shared items) = item_views items.value
 
--- the values that a tuple shares with others
+-- the values of slots that stand one after another, as those of a tuple do
 abbrev pub values_of : List SlotValue → Tuple ItemView
 values_of slots = map slot_items slots
-
--- the values of a tuple of the program, slot by slot
-abbrev pub tuple_of : Vec SlotValue → Tuple ItemView
-tuple_of slots = values_of slots.items

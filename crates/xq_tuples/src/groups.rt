@@ -1,62 +1,63 @@
-//! Groups of tuples with equal keys, and the tuples that they become.
-ghost use Rattle.std.specs.Prelude.{◌≡◌, [], ◌∷◌, ◌++◌, length, map, vec_len, slice_get, IfOk, IfErr, OnOk};
+//! Groups of tuples with equal keys, by their numbers, and the tuples that they become.
+ghost use Rattle.std.specs.Prelude.{◌≡◌, List, [], ◌∷◌, ◌++◌, length, map, vec_len, slice_get, slice_index_or, IfOk, IfErr, OnOk};
 ghost use Rattle.std.specs.Option.{option_map, option_copied};
 ghost use Rattle.std.specs.List.{flat_map};
-ghost use Rattle.xq_regions.specs.Tuples.{groups, same_keys, slot_key, key_items, grouped_tuple, value_at};
-ghost use Rattle.xq_regions.specs.Items.{Value as AtomView, item_views};
-ghost use Rattle.xq_tuples.specs.Views.{tuple_of};
+ghost use Rattle.xq_regions.specs.Tuples.{Tuple, groups, same_keys, slot_key, key_items, grouped_tuple, value_at};
+ghost use Rattle.xq_regions.specs.Items.{ItemView, Value as AtomView, item_views};
+ghost use Rattle.xq_tuples.specs.Views.{values_of};
 ghost use Rattle.xq_tuples.specs.private.KeyRows.{key_view, keys_at};
 ghost use Rattle.xq_tuples.specs.private.Groups.{Gathers, keyed_of, group_of, all_keyed};
 
 use crate::keys::{compared_keys, key_in};
-use crate::rows::Numbered;
 use crate::slots::SlotValue;
-use crate::values::{Tuple, push_copies};
+use crate::streams::Tuples;
+use crate::values::push_copies;
 use indexmap::IndexSet;
 use std::alloc::Global;
 use xq_atoms::{Atom, GroupKey, Want};
 use xq_regions::{Item, Items};
 
-/// Puts the tuple into the group of its keys, which is a new one where no tuple before it has them.
+/// Puts the number of a tuple into the group of its keys, which is a new one where no tuple before
+/// it has them.
 fn place(
     alloc: Global,
     columns: &[Vec<Option<Atom>>],
     seen: &mut IndexSet<Vec<GroupKey>>,
-    groups: &mut Vec<Vec<Numbered>>,
-    row: Numbered,
+    groups: &mut Vec<Vec<usize>>,
+    number: usize,
 ) -> Result<(), Want>
     requires { length seen.old.keys ≡ vec_len groups.old }
-    ensures placed { OnOk result ((done : _)
-        → Gathers columns.now done seen.old.keys groups.old.items
-        → Gathers columns.now (done ++ keyed_of columns.now row ∷ []) seen.new.keys
-        groups.new.items) }
+    ensures placed { OnOk result ((stream : List (Tuple ItemView)) (done : _)
+        → Gathers columns.now stream done seen.old.keys groups.old.items
+        → Gathers columns.now stream (done ++ keyed_of columns.now stream number ∷ [])
+        seen.new.keys groups.new.items) }
     ensures long { OnOk result (length seen.new.keys ≡ vec_len groups.new) }
     ensures want { IfErr result (λ want. want ≡ Want.Memory) }
 {
-    let (number, is_new) = seen.insert_full(compared_keys(alloc, columns, row.number)?)?;
+    let (group, is_new) = seen.insert_full(compared_keys(alloc, columns, number)?)?;
     if is_new {
         groups.push(Vec::new(alloc))?;
     }
-    groups[number].push(row)?;
+    groups[group].push(number)?;
     Ok(())
 }
 
-/// The tuples of equal keys together, the groups by their first tuples. Each column has the keys of
-/// one grouping variable, tuple by tuple.
+/// The numbers of so many tuples, those of equal keys together, the groups by their first tuples.
+/// Each column has the keys of one grouping variable, tuple by tuple.
 pub fn gather(
     alloc: Global,
-    tuples: Vec<Tuple>,
+    count: usize,
     columns: &[Vec<Option<Atom>>],
-) -> Result<Vec<Vec<Numbered>>, Want>
-    ensures groups { IfOk result (λ gathered. map (group_of columns.now) gathered.items
-        ≡ groups same_keys (all_keyed columns.now (map tuple_of tuples.items))) }
+) -> Result<Vec<Vec<usize>>, Want>
+    ensures groups { IfOk result (λ gathered. (stream : List (Tuple ItemView))
+        → length stream ≡ count → map (group_of columns.now stream) gathered.items
+        ≡ groups same_keys (all_keyed columns.now stream)) }
     ensures want { IfErr result (λ want. want ≡ Want.Memory) }
 {
     let mut seen = IndexSet::new(alloc);
     let mut groups = Vec::new(alloc);
-    for (number, tuple) in tuples.into_iter().enumerate() {
-        let row = Numbered { tuple, number };
-        place(alloc, columns, &mut seen, &mut groups, row)?;
+    for number in 0..count {
+        place(alloc, columns, &mut seen, &mut groups, number)?;
     }
     Ok(groups)
 }
@@ -105,42 +106,63 @@ fn key_value(alloc: Global, key: Option<&Atom>) -> Result<Items, Want>
     Ok(value)
 }
 
-/// The values of a slot, one tuple after another.
-fn concatenated(alloc: Global, slot: usize, group: &[Numbered]) -> Result<Items, Want>
+/// The values of a slot in the tuples of these numbers, one after another.
+fn concatenated(alloc: Global, stream: &Tuples, slot: usize, group: &[usize]) -> Result<Items, Want>
     ensures value { IfOk result (λ value. item_views value
-        ≡ flat_map (λ row. value_at slot (tuple_of row.tuple)) group.now) }
+        ≡ flat_map (λ number. value_at slot (slice_index_or stream.now number [])) group.now) }
     ensures want { IfErr result (λ want. want ≡ Want.Memory) }
 {
     let mut value = Vec::with_capacity(alloc, group.len())?;
-    for row in group {
-        if let Some(found) = row.tuple.get(slot) {
+    for number in group {
+        if let Some(found) = stream.found(*number).get(slot) {
             push_copies(alloc, &mut value, found.items())?;
         }
     }
     Ok(value)
 }
 
-/// The tuple of a group: a grouping variable has the first tuple's key, any other its values.
-pub fn joined(
+/// Adds the tuple of a group: a grouping variable has the first tuple's key, any other its values.
+fn push_joined(
     alloc: Global,
+    joined: &mut Vec<SlotValue>,
+    stream: &Tuples,
     slots: &[usize],
     columns: &[Vec<Option<Atom>>],
-    group: &[Numbered],
-) -> Result<Tuple, Want>
-    ensures tuple { IfOk result (λ tuple. tuple_of tuple
-        ≡ grouped_tuple AtomView slots.now (map (keyed_of columns.now) group.now)) }
+    group: &[usize],
+) -> Result<(), Want>
+    ensures tuple { OnOk result (values_of joined.new.items ≡ values_of joined.old.items
+        ++ grouped_tuple AtomView slots.now (map (keyed_of columns.now stream.now) group.now)) }
     ensures want { IfErr result (λ want. want ≡ Want.Memory) }
 {
-    let mut tuple = Vec::new(alloc);
     let Some(first) = group.first() else {
-        return Ok(tuple);
+        return Ok(());
     };
-    for slot in 0..first.tuple.len() {
-        let value = match slot_key(slots, columns, first.number, slot) {
+    for slot in 0..stream.found(*first).len() {
+        let value = match slot_key(slots, columns, *first, slot) {
             Some(key) => key_value(alloc, key)?,
-            None => concatenated(alloc, slot, group)?,
+            None => concatenated(alloc, stream, slot, group)?,
         };
-        tuple.push(SlotValue::of_items(alloc, value)?)?;
+        joined.push(SlotValue::of_items(alloc, value)?)?;
     }
-    Ok(tuple)
+    Ok(())
+}
+
+/// The slots of the tuples of groups.
+pub fn joined(
+    alloc: Global,
+    stream: &Tuples,
+    slots: &[usize],
+    columns: &[Vec<Option<Atom>>],
+    groups: &[Vec<usize>],
+) -> Result<Vec<SlotValue>, Want>
+    ensures slots { IfOk result (λ joined. values_of joined.items
+        ≡ flat_map (λ group. grouped_tuple AtomView slots.now
+        (group_of columns.now stream.now group)) groups.now) }
+    ensures want { IfErr result (λ want. want ≡ Want.Memory) }
+{
+    let mut joined = Vec::new(alloc);
+    for group in groups {
+        push_joined(alloc, &mut joined, stream, slots, columns, group)?;
+    }
+    Ok(joined)
 }

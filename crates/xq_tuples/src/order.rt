@@ -1,19 +1,17 @@
-//! The order of tuples by their keys.
-ghost use Rattle.std.specs.Prelude.{◌≡◌, ◌||◌, map, slice_index_or, true, false, IfOk, IfErr, OnOk};
-ghost use Rattle.std.specs.List.{list_all, enumerate_from};
-ghost use Rattle.xq_atoms.specs.Compare.{Nothing, key_of, of_one_kind};
+//! The numbers of tuples in the order of their keys.
+ghost use Rattle.std.specs.Prelude.{◌≡◌, ◌||◌, map, slice_index_or, true, false, IfOk, IfErr, IfSome, OnOk};
+ghost use Rattle.std.specs.List.{list_all, enumerate_from, range_with_len};
+ghost use Rattle.xq_atoms.specs.Compare.{Nothing, Number, key_of, of_one_kind};
 ghost use Rattle.xq_regions.specs.Tuples.{is_nothing, placed_cmp, rule_cmp, keys_cmp, are_of_one_kind, sort_keys, can_order, sorted};
-ghost use Rattle.xq_tuples.specs.Views.{tuple_of};
 ghost use Rattle.xq_tuples.specs.Keys.{row_of, rows_in};
 ghost use Rattle.xq_tuples.specs.private.Groups.{compared_of};
 ghost use Rattle.xq_tuples.specs.Orders.{rule_of};
-ghost use Rattle.xq_tuples.specs.private.Ranks.{numbered_of, ranked_of, with_keys, by_keys, key_in, keys_at};
+ghost use Rattle.xq_tuples.specs.private.Ranks.{by_keys_at, by_numbers, first_of, key_in, keys_at, number_cmp};
 ghost use Rattle.xq_atoms.specs.Answers.{RefusesFor};
 ghost use Rattle.xq_atoms.specs.declared.refusals.Code.TheVariants.{XPTY0004};
 
 use crate::keys::compared_column;
-use crate::rows::{Key, Numbered, OrderSpec};
-use crate::values::Tuple;
+use crate::rows::{Key, OrderSpec, Ranked};
 use std::alloc::Global;
 use std::cmp::Ordering;
 use xq_atoms::{Code, Fault, GroupKey, Want};
@@ -149,62 +147,158 @@ fn compare(specs: &[OrderSpec], columns: &[Vec<GroupKey>], first: usize, second:
     Ordering::Equal
 }
 
-/// The order of two rows by their keys.
-fn compare_rows(
-    specs: &[OrderSpec],
-    columns: &[Vec<GroupKey>],
-    first: &Numbered,
-    second: &Numbered,
-) -> Ordering
-    ensures { result ≡ by_keys specs.now (ranked_of columns.now first.now)
-        (ranked_of columns.now second.now) }
-{
-    compare(specs, columns, first.number, second.number)
-}
-
-/// Each tuple with its number.
-fn ranked(alloc: Global, tuples: Vec<Tuple>) -> Result<Vec<Numbered>, Want>
-    ensures rows { IfOk result (λ rows. map numbered_of rows.items
-        ≡ enumerate_from 0 (map tuple_of tuples.items)) }
+/// The numbers of so many tuples.
+fn all_numbers(alloc: Global, count: usize) -> Result<Vec<usize>, Want>
+    ensures numbers { IfOk result (λ numbers. numbers.items ≡ range_with_len 0 count) }
     ensures want { IfErr result (λ want. want ≡ Want.Memory) }
 {
-    let mut rows = Vec::with_capacity(alloc, tuples.len())?;
-    for (number, tuple) in tuples.into_iter().enumerate() {
-        rows.push(Numbered { tuple, number })?;
+    let mut numbers = Vec::with_capacity(alloc, count)?;
+    for number in 0..count {
+        numbers.push(number)?;
     }
-    Ok(rows)
+    Ok(numbers)
 }
 
-/// Puts the rows in the order of their keys, and keeps the order of equals.
+/// Puts the numbers of tuples in the order of their keys, and keeps the order of equals.
 fn sort(
     specs: &[OrderSpec],
     columns: &[Vec<GroupKey>],
-    rows: &mut Vec<Numbered>,
+    numbers: &mut Vec<usize>,
 ) -> Result<(), Want>
-    ensures rows { OnOk result (map (ranked_of columns.now) rows.new.items
-        ≡ sorted (by_keys specs.now) (map (ranked_of columns.now) rows.old.items)) }
+    ensures numbers { OnOk result (numbers.new.items
+        ≡ sorted (by_keys_at specs.now columns.now) numbers.old.items) }
     ensures want { IfErr result (λ want. want ≡ Want.Memory) }
 {
-    rows.sort_by(|first, second| compare_rows(specs, columns, first, second))?;
+    numbers.sort_by(|first, second| compare(specs, columns, *first, *second))?;
     Ok(())
 }
 
-/// The tuples in the order of their keys, which each specification has at the tuple's number.
+/// The numbers of so many tuples in the order of their keys, each of which is looked up.
+fn sorted_by_keys(
+    alloc: Global,
+    specs: &[OrderSpec],
+    count: usize,
+    columns: &[Vec<GroupKey>],
+) -> Result<Vec<usize>, Want>
+    ensures numbers { IfOk result (λ numbers. numbers.items
+        ≡ sorted (by_keys_at specs.now columns.now) (range_with_len 0 count)) }
+    ensures want { IfErr result (λ want. want ≡ Want.Memory) }
+{
+    let mut numbers = all_numbers(alloc, count)?;
+    sort(specs, columns, &mut numbers)?;
+    Ok(numbers)
+}
+
+// # Where the first keys are numbers
+
+/// The number that a key is, where that is one of 64 bits.
+fn small_number(key: &GroupKey) -> Option<i64>
+    ensures { IfSome result (λ number. key_of key.now ≡ Number number) }
+{
+    match key {
+        GroupKey::Num(number) => i64::try_from(*number).ok(),
+        _ => None,
+    }
+}
+
+/// Each tuple's number with its first key, where all of these are numbers of 64 bits.
+fn small_numbers(alloc: Global, column: &[GroupKey]) -> Result<Option<Vec<Ranked>>, Want>
+    ensures rows { IfOk result (λ found. IfSome found (λ rows.
+        map first_of rows.items ≡ enumerate_from 0 (map key_of column.now))) }
+    ensures want { IfErr result (λ want. want ≡ Want.Memory) }
+{
+    let mut rows = Vec::with_capacity(alloc, column.len())?;
+    for (number, key) in column.iter().enumerate() {
+        let Some(first) = small_number(key) else {
+            return Ok(None);
+        };
+        rows.push(Ranked { first, number })?;
+    }
+    Ok(Some(rows))
+}
+
+/// The order of two numbers by one specification.
+fn compare_numbers(spec: OrderSpec, first: i64, second: i64) -> Ordering
+    ensures { result ≡ number_cmp spec first second }
+{
+    match spec.descending {
+        true => second.cmp(&first),
+        false => first.cmp(&second),
+    }
+}
+
+/// The order of two rows by their first keys, and then by the later ones.
+fn compare_ranked(
+    spec: OrderSpec,
+    later: &[OrderSpec],
+    columns: &[Vec<GroupKey>],
+    first: &Ranked,
+    second: &Ranked,
+) -> Ordering
+    ensures { result ≡ by_numbers spec later.now columns.now first.now second.now }
+{
+    let by_first = compare_numbers(spec, first.first, second.first);
+    if by_first.is_ne() {
+        return by_first;
+    }
+    compare(later, columns, first.number, second.number)
+}
+
+/// Puts the rows in the order of their keys, and keeps the order of equals.
+fn sort_ranked(
+    spec: OrderSpec,
+    later: &[OrderSpec],
+    columns: &[Vec<GroupKey>],
+    rows: &mut Vec<Ranked>,
+) -> Result<(), Want>
+    ensures rows { OnOk result (rows.new.items
+        ≡ sorted (by_numbers spec later.now columns.now) rows.old.items) }
+    ensures want { IfErr result (λ want. want ≡ Want.Memory) }
+{
+    rows.sort_by(|first, second| compare_ranked(spec, later, columns, first, second))?;
+    Ok(())
+}
+
+/// The numbers of the tuples of rows.
+fn numbers_of(alloc: Global, rows: &[Ranked]) -> Result<Vec<usize>, Want>
+    ensures numbers { IfOk result (λ numbers. numbers.items ≡ map (λ row. row.number) rows.now) }
+    ensures want { IfErr result (λ want. want ≡ Want.Memory) }
+{
+    let mut numbers = Vec::with_capacity(alloc, rows.len())?;
+    for row in rows {
+        numbers.push(row.number)?;
+    }
+    Ok(numbers)
+}
+
+/// The numbers of so many tuples in the order of their keys, which each specification has at the
+/// tuple's number. Where the first keys are numbers of 64 bits, these are sorted with the tuples'
+/// numbers.
 pub fn sorted(
     alloc: Global,
     specs: &[OrderSpec],
-    tuples: Vec<Tuple>,
+    count: usize,
     columns: &[Vec<GroupKey>],
-) -> Result<Vec<Tuple>, Want>
-    ensures tuples { IfOk result (λ sorted_tuples. map tuple_of sorted_tuples.items ≡ map (λ p. p.0)
-        (sorted (by_keys specs.now) (with_keys columns.now (map tuple_of tuples.items)))) }
+) -> Result<Vec<usize>, Want>
+    ensures numbers { IfOk result (λ numbers. numbers.items
+        ≡ sorted (by_keys_at specs.now columns.now) (range_with_len 0 count)) }
     ensures want { IfErr result (λ want. want ≡ Want.Memory) }
 {
-    let mut rows = ranked(alloc, tuples)?;
-    sort(specs, columns, &mut rows)?;
-    let mut sorted = Vec::with_capacity(alloc, rows.len())?;
-    for row in rows {
-        sorted.push(row.tuple)?;
+    let Some((spec, later)) = specs.split_first() else {
+        return sorted_by_keys(alloc, specs, count, columns);
+    };
+    let Some((column, others)) = columns.split_first() else {
+        return sorted_by_keys(alloc, specs, count, columns);
+    };
+    if column.len() != count {
+        return sorted_by_keys(alloc, specs, count, columns);
     }
-    Ok(sorted)
+    match small_numbers(alloc, column)? {
+        Some(found) => {
+            let mut rows = found;
+            sort_ranked(*spec, later, others, &mut rows)?;
+            numbers_of(alloc, &rows)
+        }
+        None => sorted_by_keys(alloc, specs, count, columns),
+    }
 }

@@ -1,6 +1,5 @@
-//! Tuples with their numbers, keys of an order, and how it orders.
+//! Keys of an order, how it orders, and numbers of tuples with their first keys.
 
-use crate::values::Tuple;
 use xq_atoms::Atom;
 
 /// How one specification of an `order by` clause orders (XQuery 3.1, section 3.12.8): ascending or
@@ -18,9 +17,9 @@ pub enum Key {
     Several(Vec<Atom>),
 }
 
-/// A tuple with its number, at which each column of keys has its own.
-#[derive(Drop)]
-pub struct Numbered {
-    pub tuple: Tuple,
+/// A tuple's number and its first key, where that is a number of 64 bits.
+#[derive(Clone, Copy)]
+pub struct Ranked {
+    pub first: i64,
     pub number: usize,
 }

@@ -1,5 +1,6 @@
 //! The stream of tuples, and the clauses that make one stream of another.
-ghost use Rattle.std.specs.Prelude.{◌≡◌, ◌<◌, [], ◌∷◌, length, map, slice_index_or, All, IsTrue, ◌↔◌, IfOk, IfErr, Ok, false, true};
+ghost use Rattle.std.specs.Prelude.{◌≡◌, ◌*◌, ◌<◌, ◌^◌, [], ◌∷◌, length, map, slice_index_or, All, IsTrue, ◌↔◌, IfOk, IfErr, Ok, false, true};
+ghost use Rattle.std.specs.List.{flat_map};
 ghost use Rattle.xq_regions.specs.Tuples.{bound, expanded, grouped, numbered, satisfying, ordered, value_at};
 ghost use Rattle.xq_tuples.specs.Keys.{columns_of, row_of, rows_in, by_specification, by_tuple};
 ghost use Rattle.xq_atoms.specs.Answers.{IsRefusal};
@@ -12,7 +13,9 @@ use crate::keys::{dealt, key_columns, key_lists, turned};
 use crate::order::{sort_columns, sorted};
 use crate::rows::{Key, OrderSpec};
 use crate::slots::SlotValue;
-use crate::values::{Tuple, position_value, push_copies, push_each, push_each_or_empty};
+use crate::values::{
+    move_slots, position_value, push_copies, push_each, push_each_or_empty, push_tuple, slots_bound,
+};
 use std::alloc::Global;
 use std::marker::Model;
 use xq_atoms::{Atom, Fault, Want};
@@ -23,42 +26,75 @@ use xq_regions::{Item, Items};
 #[derive(Drop)]
 pub struct Tuples {
     alloc: Global,
-    tuples: Vec<Tuple>,
+    /// The slots of all tuples, one tuple after another.
+    slots: Vec<SlotValue>,
+    /// How many slots each tuple has, and none where there is no tuple.
+    width: usize,
+    /// How many tuples there are.
+    count: usize,
 }
 
 impl Model for Tuples {
-    ghost use Rattle.std.specs.Prelude.{List, map};
+    ghost use Rattle.std.specs.Prelude.{List, length};
     ghost use Rattle.xq_regions.specs.Items.{ItemView};
-    ghost use Rattle.xq_tuples.specs.Views.{tuple_of};
+    ghost use Rattle.xq_tuples.specs.Keys.{by_tuple};
+    ghost use Rattle.xq_tuples.specs.Views.{values_of};
+    ghost use Rattle.xq_tuples.specs.private.Laid.{AreLaid};
 
     ghost Value = { List (List (List ItemView)) };
 
-    ghost view = { λ t. map tuple_of t.tuples.items };
+    ghost view = { λ t. by_tuple t.count t.width (values_of t.slots.items) };
+
+    ghost invariant = { λ t. AreLaid t.count t.width (length t.slots.items) };
 }
 
 impl Tuples {
+    /// The stream of so many tuples, of so many slots each, which lie one after another.
+    fn of_slots(alloc: Global, slots: Vec<SlotValue>, count: usize, width: usize) -> Tuples
+        requires long { length slots.items ≡ count * width }
+        requires few { count < 2 ^ 63 }
+        ensures { result ≡ by_tuple count width (values_of slots.items) }
+    {
+        if count == 0 {
+            return Tuples {
+                alloc,
+                slots,
+                width: 0,
+                count,
+            };
+        }
+        Tuples {
+            alloc,
+            slots,
+            width,
+            count,
+        }
+    }
+
     /// The stream of one tuple without slots, with which a FLWOR expression begins.
     pub fn one(alloc: Global) -> Result<Tuples, Want>
         ensures stream { IfOk result (λ stream. stream ≡ [] ∷ []) }
         ensures want { IfErr result (λ want. want ≡ Want.Memory) }
     {
-        let mut tuples = Vec::new(alloc);
-        tuples.push(Vec::new(alloc))?;
-        Ok(Tuples { alloc, tuples })
+        Ok(Tuples::of_slots(alloc, Vec::new(alloc), 1, 0))
     }
 
     /// The number of tuples.
+    #[inline]
     pub fn len(&self) -> usize
         ensures { result ≡ length self.now }
     {
-        self.tuples.len()
+        self.count
     }
 
     /// Whether each tuple has the slot.
     pub fn has_slot(&self, slot: usize) -> bool
         ensures { IsTrue result ↔ All (λ tuple. slot < length tuple) self.now }
     {
-        self.tuples.iter().all(|tuple| slot < tuple.len())
+        if self.count == 0 {
+            return true;
+        }
+        slot < self.width
     }
 
     /// The value of the slot in each tuple.
@@ -69,10 +105,10 @@ impl Tuples {
         ensures want { IfErr result (λ want. want ≡ Want.Memory) }
     {
         let alloc = self.alloc;
-        let mut column = Vec::new(alloc);
-        for tuple in &self.tuples {
+        let mut column = Vec::with_capacity(alloc, self.count)?;
+        for index in 0..self.count {
             let mut value = Vec::new(alloc);
-            push_copies(alloc, &mut value, tuple[slot].items())?;
+            push_copies(alloc, &mut value, self.value(index, slot))?;
             column.push(value)?;
         }
         Ok(column)
@@ -84,15 +120,40 @@ impl Tuples {
         requires slot { slot < length (slice_index_or self.now tuple []) }
         ensures { map item_view result.now ≡ value_at slot (slice_index_or self.now tuple []) }
     {
-        self.tuples[tuple][slot].items()
+        self.tuple(tuple)[slot].items()
     }
 
     /// The values of one tuple, which it may share with others.
+    #[inline]
     pub fn tuple(&self, index: usize) -> &[SlotValue]
         requires { index < length self.now }
         ensures { values_of result.now ≡ slice_index_or self.now index [] }
     {
-        &self.tuples[index]
+        let start = index * self.width;
+        &self.slots[start..start + self.width]
+    }
+
+    /// The values of the tuple with this number; none where there is no such tuple.
+    pub(crate) fn found(&self, number: usize) -> &[SlotValue]
+        ensures { values_of result.now ≡ slice_index_or self.now number [] }
+    {
+        if number >= self.count {
+            return &self.slots[..0];
+        }
+        self.tuple(number)
+    }
+
+    /// The slots of the tuples with these numbers, one tuple after another.
+    fn arranged(&self, numbers: &[usize]) -> Result<Vec<SlotValue>, Want>
+        ensures slots { IfOk result (λ slots. values_of slots.items
+            ≡ flat_map (λ number. slice_index_or self.now number []) numbers.now) }
+        ensures want { IfErr result (λ want. want ≡ Want.Memory) }
+    {
+        let mut slots = Vec::with_capacity(self.alloc, self.slots.len())?;
+        for number in numbers {
+            push_tuple(&mut slots, self.found(*number))?;
+        }
+        Ok(slots)
     }
 
     /// `for`: the stream where each tuple stands once for each item of the list at its place in
@@ -105,11 +166,15 @@ impl Tuples {
         ensures want { IfErr result (λ want. want ≡ Want.Memory) }
     {
         let alloc = self.alloc;
-        let mut tuples = Vec::new(alloc);
-        for (tuple, items) in self.tuples.into_iter().zip(lists) {
-            push_each(alloc, &mut tuples, &tuple, items, at)?;
+        let mut slots = Vec::new(alloc);
+        let mut count = 0;
+        for (index, items) in lists.into_iter().enumerate() {
+            let more = items.len();
+            push_each(alloc, &mut slots, self.tuple(index), items, at)?;
+            count += more;
         }
-        Ok(Tuples { alloc, tuples })
+        let width = self.width + slots_bound(at);
+        Ok(Tuples::of_slots(alloc, slots, count, width))
     }
 
     /// `for` that allows the empty sequence: as [`Tuples::expand`], and where the list at a tuple's
@@ -122,11 +187,15 @@ impl Tuples {
         ensures want { IfErr result (λ want. want ≡ Want.Memory) }
     {
         let alloc = self.alloc;
-        let mut tuples = Vec::new(alloc);
-        for (tuple, items) in self.tuples.into_iter().zip(lists) {
-            push_each_or_empty(alloc, &mut tuples, &tuple, items, at)?;
+        let mut slots = Vec::new(alloc);
+        let mut count = 0;
+        for (index, items) in lists.into_iter().enumerate() {
+            let more = items.len().max(1);
+            push_each_or_empty(alloc, &mut slots, self.tuple(index), items, at)?;
+            count += more;
         }
-        Ok(Tuples { alloc, tuples })
+        let width = self.width + slots_bound(at);
+        Ok(Tuples::of_slots(alloc, slots, count, width))
     }
 
     /// `count`: the stream where each tuple has one slot more, with the tuple's number from 1.
@@ -135,12 +204,13 @@ impl Tuples {
         ensures want { IfErr result (λ want. want ≡ Want.Memory) }
     {
         let alloc = self.alloc;
-        let mut tuples = Vec::new(alloc);
-        for (index, mut tuple) in self.tuples.into_iter().enumerate() {
-            tuple.push(position_value(alloc, index + 1)?)?;
-            tuples.push(tuple)?;
+        let room = self.slots.len().saturating_add(self.count);
+        let mut slots = Vec::with_capacity(alloc, room)?;
+        for index in 0..self.count {
+            push_tuple(&mut slots, self.tuple(index))?;
+            slots.push(position_value(alloc, index + 1)?)?;
         }
-        Ok(Tuples { alloc, tuples })
+        Ok(Tuples::of_slots(alloc, slots, self.count, self.width + 1))
     }
 
     /// `let`: the stream where each tuple has one slot more, with the value at its place in
@@ -151,12 +221,13 @@ impl Tuples {
         ensures want { IfErr result (λ want. want ≡ Want.Memory) }
     {
         let alloc = self.alloc;
-        let mut tuples = Vec::new(alloc);
-        for (mut tuple, value) in self.tuples.into_iter().zip(values) {
-            tuple.push(SlotValue::of_items(alloc, value)?)?;
-            tuples.push(tuple)?;
+        let room = self.slots.len().saturating_add(self.count);
+        let mut slots = Vec::with_capacity(alloc, room)?;
+        for (index, value) in values.into_iter().enumerate() {
+            push_tuple(&mut slots, self.tuple(index))?;
+            slots.push(SlotValue::of_items(alloc, value)?)?;
         }
-        Ok(Tuples { alloc, tuples })
+        Ok(Tuples::of_slots(alloc, slots, self.count, self.width + 1))
     }
 
     /// `where`: the stream of the tuples at whose places `tests` holds.
@@ -164,19 +235,21 @@ impl Tuples {
         requires { length tests.now ≡ length self }
         ensures { result ≡ satisfying self tests.now }
     {
-        let mut tuples = self.tuples;
+        let width = self.width;
+        let mut slots = self.slots;
         let mut count = 0;
-        for (index, test) in tests.iter().enumerate() {
-            if *test {
-                tuples.swap(count, index);
+        let mut kept = 0;
+        let mut start = 0;
+        for holds in tests {
+            if *holds {
+                move_slots(&mut slots, kept, start, width);
                 count += 1;
+                kept += width;
             }
+            start += width;
         }
-        tuples.truncate(count);
-        Tuples {
-            alloc: self.alloc,
-            tuples,
-        }
+        slots.truncate(kept);
+        Tuples::of_slots(self.alloc, slots, count, width)
     }
 
     /// `group by`: the stream of one tuple for each group of tuples whose keys are equal, the
@@ -208,12 +281,9 @@ impl Tuples {
         let alloc = self.alloc;
         let held = key_columns(alloc, keys)?;
         let columns = held.as_slice();
-        let groups = gather(alloc, self.tuples, columns)?;
-        let mut tuples = Vec::with_capacity(alloc, groups.len())?;
-        for group in &groups {
-            tuples.push(joined(alloc, slots, columns, group)?)?;
-        }
-        Ok(Tuples { alloc, tuples })
+        let groups = gather(alloc, self.count, columns)?;
+        let made = joined(alloc, &self, slots, columns, &groups)?;
+        Ok(Tuples::of_slots(alloc, made, groups.len(), self.width))
     }
 
     /// `order by`: the stream of the same tuples in the order of their keys, by the first
@@ -271,7 +341,8 @@ impl Tuples {
     {
         let alloc = self.alloc;
         let columns = sort_columns(alloc, keys)?;
-        let tuples = sorted(alloc, specs, self.tuples, &columns)?;
-        Ok(Tuples { alloc, tuples })
+        let numbers = sorted(alloc, specs, self.count, &columns)?;
+        let slots = self.arranged(&numbers)?;
+        Ok(Tuples::of_slots(alloc, slots, numbers.len(), self.width))
     }
 }

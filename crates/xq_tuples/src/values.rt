@@ -1,17 +1,16 @@
-//! Values of slots: copies, and the values that a `for` clause adds to a tuple.
-ghost use Rattle.std.specs.Prelude.{◌≡◌, ◌<◌, ◌^◌, [], ◌∷◌, ◌++◌, map, pos, IfOk, IfErr, OnOk};
+//! Slots of tuples one after another: copies, and what a `for` clause adds.
+ghost use Rattle.std.specs.Prelude.{◌≡◌, ◌+◌, ◌<◌, ◌≤◌, ◌^◌, List, [], ◌∷◌, ◌++◌, map, length, pos, Bool, true, IfOk, IfErr, OnOk};
+ghost use Rattle.std.specs.List.{AllWithin};
 ghost use Rattle.xq_atoms.specs.Atom.{Integer};
 ghost use Rattle.xq_regions.specs.Tuples.{empty_values, item_values, with_each, with_each_or_empty};
 ghost use Rattle.xq_regions.specs.Items.{Value as AtomView, item_view, item_views};
-ghost use Rattle.xq_tuples.specs.Views.{slot_items, values_of, tuple_of};
+ghost use Rattle.xq_tuples.specs.Views.{slot_items, values_of};
+ghost use Rattle.xq_tuples.specs.private.Laid.{KeepsInPlace, laid, slots_bound as slots_bound_lem};
 
 use crate::slots::SlotValue;
 use std::alloc::Global;
 use xq_atoms::{Atom, Want};
 use xq_regions::{Item, Items};
-
-/// A tuple: the value of each slot.
-pub type Tuple = Vec<SlotValue>;
 
 /// Adds the same items to `copies`.
 pub fn push_copies(alloc: Global, copies: &mut Items, items: &[Item]) -> Result<(), Want>
@@ -35,59 +34,79 @@ pub fn position_value(alloc: Global, position: usize) -> Result<SlotValue, Want>
     SlotValue::of_item(alloc, Item::Atom(Atom::Int(position as i64)))
 }
 
-/// The tuple with the empty sequence, and with 0 for its position where `at` asks for it.
-fn with_empty(alloc: Global, tuple: &[SlotValue], at: bool) -> Result<Tuple, Want>
-    ensures tuple { IfOk result (λ longer.
-        tuple_of longer ≡ values_of tuple.now ++ empty_values AtomView at) }
-    ensures want { IfErr result (λ want. want ≡ Want.Memory) }
+/// How many slots a `for` binds.
+pub fn slots_bound(at: bool) -> usize
+    ensures { result ≡ slots_bound_lem at }
 {
-    let mut extended = tuple.to_vec(alloc)?;
-    extended.push(SlotValue::of_items(alloc, Vec::new(alloc))?)?;
-    if at {
-        extended.push(position_value(alloc, 0)?)?;
-    }
-    Ok(extended)
+    if at { 2 } else { 1 }
 }
 
-/// The tuple with the item, and with its position where `at` asks for it.
-fn with_item(
+/// Adds the slots of a tuple, which shares its values.
+pub fn push_tuple(slots: &mut Vec<SlotValue>, tuple: &[SlotValue]) -> Result<(), Want>
+    ensures slots { OnOk result (values_of slots.new.items
+        ≡ values_of slots.old.items ++ values_of tuple.now) }
+    ensures want { IfErr result (λ want. want ≡ Want.Memory) }
+{
+    slots.extend_from_slice(tuple)?;
+    Ok(())
+}
+
+/// Adds the tuple with the empty sequence, and with 0 for its position where `at` asks for it.
+fn push_empty(
     alloc: Global,
+    slots: &mut Vec<SlotValue>,
+    tuple: &[SlotValue],
+    at: bool,
+) -> Result<(), Want>
+    ensures slots { OnOk result (values_of slots.new.items ≡ values_of slots.old.items
+        ++ (values_of tuple.now ++ empty_values AtomView at)) }
+    ensures want { IfErr result (λ want. want ≡ Want.Memory) }
+{
+    push_tuple(slots, tuple)?;
+    slots.push(SlotValue::of_items(alloc, Vec::new(alloc))?)?;
+    if at {
+        slots.push(position_value(alloc, 0)?)?;
+    }
+    Ok(())
+}
+
+/// Adds the tuple with the item, and with its position where `at` asks for it.
+fn push_item(
+    alloc: Global,
+    slots: &mut Vec<SlotValue>,
     tuple: &[SlotValue],
     item: Item,
     position: usize,
     at: bool,
-) -> Result<Tuple, Want>
+) -> Result<(), Want>
     requires { position < 2 ^ 63 }
-    ensures tuple { IfOk result (λ longer.
-        tuple_of longer ≡ values_of tuple.now
-        ++ item_values AtomView at position (item_view item)) }
+    ensures slots { OnOk result (values_of slots.new.items ≡ values_of slots.old.items
+        ++ (values_of tuple.now ++ item_values AtomView at position (item_view item))) }
     ensures want { IfErr result (λ want. want ≡ Want.Memory) }
 {
-    let mut longer: Tuple = Vec::with_capacity(alloc, tuple.len() + 2)?;
-    longer.extend_from_slice(tuple)?;
-    longer.push(SlotValue::of_item(alloc, item)?)?;
+    push_tuple(slots, tuple)?;
+    slots.push(SlotValue::of_item(alloc, item)?)?;
     if at {
-        longer.push(position_value(alloc, position)?)?;
+        slots.push(position_value(alloc, position)?)?;
     }
-    Ok(longer)
+    Ok(())
 }
 
-/// Adds the tuple to `tuples` once for each item, with its position from 1 where `at` asks for it.
+/// Adds the tuple once for each item, with its position from 1 where `at` asks for it.
 pub fn push_each(
     alloc: Global,
-    tuples: &mut Vec<Tuple>,
+    slots: &mut Vec<SlotValue>,
     tuple: &[SlotValue],
     items: Items,
     at: bool,
 ) -> Result<(), Want>
-    ensures tuples { OnOk result (map tuple_of tuples.new.items
-        ≡ map tuple_of tuples.old.items
-        ++ with_each AtomView at (values_of tuple.now) (item_views items)) }
+    ensures slots { OnOk result (values_of slots.new.items ≡ values_of slots.old.items
+        ++ laid (with_each AtomView at (values_of tuple.now) (item_views items))) }
     ensures want { IfErr result (λ want. want ≡ Want.Memory) }
 {
-    tuples.reserve(items.len())?;
+    slots.reserve(items.len().saturating_mul(tuple.len() + slots_bound(at)))?;
     for (index, item) in items.into_iter().enumerate() {
-        tuples.push(with_item(alloc, tuple, item, index + 1, at)?)?;
+        push_item(alloc, slots, tuple, item, index + 1, at)?;
     }
     Ok(())
 }
@@ -95,20 +114,32 @@ pub fn push_each(
 /// As [`push_each`], and where there is no item, the tuple once with the empty sequence.
 pub fn push_each_or_empty(
     alloc: Global,
-    tuples: &mut Vec<Tuple>,
+    slots: &mut Vec<SlotValue>,
     tuple: &[SlotValue],
     items: Items,
     at: bool,
 ) -> Result<(), Want>
-    ensures tuples { OnOk result (map tuple_of tuples.new.items
-        ≡ map tuple_of tuples.old.items
-        ++ with_each_or_empty AtomView at (values_of tuple.now) (item_views items)) }
+    ensures slots { OnOk result (values_of slots.new.items ≡ values_of slots.old.items
+        ++ laid (with_each_or_empty AtomView at (values_of tuple.now) (item_views items))) }
     ensures want { IfErr result (λ want. want ≡ Want.Memory) }
 {
     if items.is_empty() {
-        tuples.push(with_empty(alloc, tuple, at)?)?;
-        Ok(())
+        push_empty(alloc, slots, tuple, at)
     } else {
-        push_each(alloc, tuples, tuple, items, at)
+        push_each(alloc, slots, tuple, items, at)
+    }
+}
+
+/// Moves so many slots from one place to an earlier one. What was there is where they were.
+pub fn move_slots(slots: &mut [SlotValue], to: usize, from: usize, width: usize)
+    requires order { to ≤ from }
+    requires within { from + width ≤ length slots.old }
+    ensures keeps { (xs : _) (tests : List Bool) → length tests ≡ length xs
+        → AllWithin (λ test. test ≡ true) tests from (from + width)
+        → KeepsInPlace xs tests slots.old to from
+        → KeepsInPlace xs tests slots.new (to + width) (from + width) }
+{
+    for offset in 0..width {
+        slots.swap(to + offset, from + offset);
     }
 }

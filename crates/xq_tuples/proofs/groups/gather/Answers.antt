@@ -1,18 +1,30 @@
-use Rattle.std.proofs.Common.{ℕ, map, ap, sym, ◌∙◌}
-use Rattle.std.proofs.lemmas.List.{map-id}
-use Rattle.std.proofs.lemmas.Iterator.Adapters.{YieldsList-from_vec}
-use Rattle.std.proofs.lemmas.Iterator.Consumers.{YieldsList-end, YieldsList-from_enumerate}
-use Rattle.xq_regions.specs.Items.{ItemView}
-use Rattle.xq_regions.specs.Tuples.{Tuple, Keyed, groups, same_keys}
-use Rattle.xq_tuples.specs.Views.{tuple_of}
+use Rattle.std.proofs.Common.{◌≡◌, ◌+◌, [], map, length, get_or, ap, sym, subst, ◌∙◌, arith, rules}
+use Rattle.std.specs.List.{range_with_len}
+use Rattle.std.proofs.lemmas.List.FromFn.{map-range_with_len_more}
+use Rattle.xq_regions.specs.Tuples.{groups, same_keys}
 use Rattle.xq_tuples.specs.private.KeyRows.{keys_at}
-use Rattle.xq_tuples.proofs.Lists.{map-map, enumerate_from-map}
+use Rattle.xq_tuples.specs.private.Groups.{Gathers, keyed_of}
+use Rattle.xq_tuples.proofs.Lists.{by_number}
 use Rattle.xq_tuples.proofs.groups.gather.Goals as goal
 
+pub loop-number-init : goal.loop-number-init
+loop-number-init c = record {
+  gathers = λ stream. record { keys = search rules; groups = search rules };
+  long = search rules;
+}
+
+pub loop-number-preserved : goal.loop-number-preserved
+loop-number-preserved c =
+    let columns = c.args.columns.now in
+    let n = c.loop-number.number in
+    record {
+      gathers = λ stream. subst (λ rows. Gathers columns stream rows c.place.new.seen.keys c.place.new.groups.items) (sym (map-range_with_len_more (keyed_of columns stream) 0 n n (omega arith))) (c.in_ok-place.ensures.placed stream (map (keyed_of columns stream) (range_with_len 0 n)) (c.loop-number.invariant.gathers stream));
+      long = c.in_ok-place.ensures.long;
+    }
+
 pub returns-clause-groups : goal.returns-clause-groups
-returns-clause-groups c =
-    let xs = c.args.tuples.items in
-    let ended = YieldsList-end (YieldsList-from_enumerate (YieldsList-from_vec xs (cc) (cc)) (cc)) c.loop-number.yielded c.loop-number.number-iterator c.loop-number.yielded_by c.next.result c.next.new.self c.in-None.is c.next.ensures.steps in
-    let keyed : ℕ × Tuple ItemView → Keyed ItemView = λ p. (p.1, keys_at p.0 c.args.columns.now) in
-    (c.loop-number.invariant.gathers).groups
-    ∙ ap (groups same_keys) (sym (map-map keyed (λ p. (p.0, tuple_of p.1)) c.loop-number.yielded) ∙ ap (λ ps. map keyed (map (λ p. (p.0, tuple_of p.1)) ps)) (sym (map-id c.loop-number.yielded) ∙ ended.0) ∙ ap (map keyed) (sym (enumerate_from-map tuple_of 0 xs)))
+returns-clause-groups c = λ stream long.
+    let columns = c.args.columns.now in
+    let ended : c.loop-number.number ≡ length stream = omega (arith, c.loop-number.auto.number-end, c.loop-number-test.false, long) in
+    (c.loop-number.invariant.gathers stream).groups
+    ∙ ap (groups same_keys) (ap (λ n. map (keyed_of columns stream) (range_with_len 0 n)) ended ∙ by_number (λ n. keys_at n columns) [] stream 0 stream (λ i l. (let z : 0 + i ≡ i = omega arith in ap (λ k. get_or stream k []) z)))

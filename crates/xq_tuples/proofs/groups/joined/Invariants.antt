@@ -1,11 +1,10 @@
-use Rattle.std.proofs.Common.{◌≡◌, map}
-use Rattle.std.specs.List.{range_with_len}
-use Rattle.xq_regions.specs.Tuples.{grouped_value, slot_key}
+use Rattle.std.proofs.Common.{◌≡◌, take}
+use Rattle.std.specs.List.{flat_map}
+use Rattle.xq_regions.specs.Tuples.{grouped_tuple}
 use Rattle.xq_regions.specs.Items.{Value}
-use Rattle.xq_tuples.specs.Views.{tuple_of}
-use Rattle.xq_tuples.specs.private.KeyRows.{keys_at}
-use Rattle.xq_tuples.specs.private.Groups.{keyed_of}
+use Rattle.xq_tuples.specs.Views.{values_of}
+use Rattle.xq_tuples.specs.private.Groups.{group_of}
 use Rattle.xq_tuples.proofs.groups.joined.Given as goal
 
-abbrev pub invariant-loop-slot : goal.invariant-loop-slot
-invariant-loop-slot l = tuple_of l.tuple ≡ map (λ slot. grouped_value Value (slot_key l.slots (keys_at (l.first).number l.columns) slot) slot (map (keyed_of l.columns) l.group)) (range_with_len 0 l.slot)
+abbrev pub invariant-loop-group : goal.invariant-loop-group
+invariant-loop-group l = values_of l.joined.items ≡ flat_map (λ group. grouped_tuple Value l.slots (group_of l.columns l.stream group)) (take l.group-index l.groups)

@@ -1,7 +1,7 @@
 use Rattle.std.proofs.Common.{◌≡◌, map, drop, length, ap, sym, ◌∙◌, arith}
 use Rattle.std.proofs.lemmas.List.{with_items_is, length-map}
-use Rattle.xq_tuples.specs.Keys.{values_in, row_of, by_specification, by_tuple}
-use Rattle.xq_tuples.specs.private.Columns.{filled, left_of, after_tuples}
+use Rattle.xq_tuples.specs.Keys.{values_in, row_of, by_tuple}
+use Rattle.xq_tuples.specs.private.Columns.{filled, left_of}
 use Rattle.xq_tuples.proofs.Columns.{none_filled, by_tuple-push, after_tuples-more, by_specification-wide}
 use Rattle.xq_tuples.proofs.keys.dealt.Goals as goal
 

@@ -1,4 +1,4 @@
-use Rattle.std.proofs.Common.{◌≡◌, map}
+use Rattle.std.proofs.Common.{◌≡◌}
 use Rattle.xq_tuples.specs.Keys.{row_of, rows_in, by_specification, by_tuple}
 use Rattle.xq_tuples.specs.private.Columns.{left_of, after_tuples}
 use Rattle.xq_tuples.proofs.keys.dealt.Given as goal

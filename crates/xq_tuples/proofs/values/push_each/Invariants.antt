@@ -1,9 +1,10 @@
-use Rattle.std.proofs.Common.{◌≡◌, ◌+◌, ◌++◌, map}
+use Rattle.std.proofs.Common.{◌≡◌, ◌+◌, ◌++◌}
+use Rattle.std.specs.List.{flat_map}
 use Rattle.xq_regions.specs.Tuples.{item_values}
 use Rattle.xq_regions.specs.Items.{Value, item_view}
-use Rattle.xq_tuples.specs.Views.{values_of, tuple_of}
+use Rattle.xq_tuples.specs.Views.{values_of}
 use Rattle.xq_tuples.proofs.values.push_each.Given as goal
 
 abbrev pub invariant-loop-index : goal.invariant-loop-index
 invariant-loop-index l =
-    map tuple_of l.tuples.items ≡ map tuple_of l.fn.tuples.items ++ map (λ p. values_of l.tuple ++ item_values Value l.at (p.0 + 1) (item_view p.1)) l.yielded
+    values_of l.slots.items ≡ values_of l.fn.slots.items ++ flat_map (λ p. values_of l.tuple ++ item_values Value l.at (p.0 + 1) (item_view p.1)) l.yielded

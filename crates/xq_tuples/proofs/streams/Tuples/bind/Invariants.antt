@@ -1,7 +1,9 @@
-use Rattle.std.proofs.Common.{◌≡◌, [], ◌∷◌, ◌++◌, map}
+use Rattle.std.proofs.Common.{length, map}
+use Rattle.xq_regions.specs.Tuples.{bound}
 use Rattle.xq_regions.specs.Items.{item_views}
-use Rattle.xq_tuples.specs.Views.{tuple_of}
+use Rattle.xq_tuples.specs.Views.{values_of}
+use Rattle.xq_tuples.proofs.Laid.{IsLaid}
 use Rattle.xq_tuples.proofs.streams.Tuples.bind.Given as goal
 
-abbrev pub invariant-loop-tuple : goal.invariant-loop-tuple
-invariant-loop-tuple l = map tuple_of l.tuples.items ≡ map (λ p. tuple_of p.0 ++ item_views p.1 ∷ []) l.yielded
+abbrev pub invariant-loop-index : goal.invariant-loop-index
+invariant-loop-index l = IsLaid (length l.yielded) (values_of l.slots.items) (bound l.fn.self (map (λ p. item_views p.1) l.yielded))

@@ -6,7 +6,6 @@ use Rattle.xq_atoms.specs.Answers.{IsRefusal}
 use Rattle.xq_regions.specs.Tuples.{grouped}
 use Rattle.xq_regions.specs.Items.{Value}
 use Rattle.xq_tuples.specs.Keys.{column_of, row_of}
-use Rattle.xq_tuples.specs.Orders.{rule_of}
 use Rattle.xq_tuples.proofs.Columns.{lists_as_long}
 use Rattle.xq_tuples.proofs.streams.Tuples.group.Goals as goal
 

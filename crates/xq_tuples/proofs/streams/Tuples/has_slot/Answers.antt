@@ -1,14 +1,17 @@
-use Rattle.std.proofs.Common.{◌≡◌, ap, ◌∙◌, rules, tests}
-use Rattle.std.specs.Prelude.{vec_len, nat_lt}
-use Rattle.std.specs.List.{list_all}
-use Rattle.std.proofs.lemmas.Iterator.{YieldsList-from_slice}
-use Rattle.std.proofs.lemmas.Iterator.Search.{all_from_yields_List}
-use Rattle.xq_tuples.proofs.Copies.{has_slot-decides}
+use Rattle.std.proofs.Common.{[], length, ap, ◌∙◌, arith}
+use Rattle.std.proofs.lemmas.Bool.{ltb-true, lt-ltb}
+use Rattle.std.proofs.lemmas.List.{length-map, get_or_default}
+use Rattle.xq_tuples.specs.Views.{slot_items, values_of}
+use Rattle.xq_tuples.proofs.Laid.{counted, wide_at}
 use Rattle.xq_tuples.proofs.streams.Tuples.has_slot.Goals as goal
 
 pub returns : goal.returns
 returns c =
-    let xs = c.self.inside.tuples.items in
-    let slot = c.args.slot in
-    let all : c.all.result ≡ list_all (λ x. nat_lt slot (vec_len x)) c.deref.result.now = all_from_yields_List (λ x. nat_lt slot (vec_len x)) _ _ c.all.result c.all.ensures.ran (YieldsList-from_slice c.deref.result.now (cc)) (λ x b q k. search (rules, tests)) in
-    has_slot-decides xs c.args.self.now c.self.view_is slot c.all.result (all ∙ ap (list_all (λ x. nat_lt slot (vec_len x))) c.deref.ensures.value)
+    let i = c.self.inside in
+    let self = c.args.self.now in
+    let slots = values_of i.slots.items in
+    let long = length-map i.slots.items slot_items ∙ c.self.invariant.long in
+    let many = counted i.count i.width slots self c.self.view_is in (
+      λ h. λ k d within. omega (arith, ltb-true _ _ h, wide_at i.count i.width slots self c.self.view_is long k within, ap length (get_or_default self k d [] within)),
+      λ h. lt-ltb _ _ (omega (arith, h 0 [] (omega (arith, many, c.if-self-eq0.false)), wide_at i.count i.width slots self c.self.view_is long 0 (omega (arith, many, c.if-self-eq0.false)))),
+    )

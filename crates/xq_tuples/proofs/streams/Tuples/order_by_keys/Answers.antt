@@ -5,8 +5,6 @@ use Rattle.xq_atoms.specs.Answers.{IsRefusal}
 use Rattle.xq_regions.specs.Tuples.{ordered}
 use Rattle.xq_tuples.specs.Keys.{row_of, by_specification, by_tuple}
 use Rattle.xq_tuples.specs.Orders.{rule_of}
-use Rattle.xq_tuples.specs.Views.{tuple_of}
-use Rattle.std.proofs.lemmas.List.{length-map}
 use Rattle.xq_tuples.proofs.Columns.{all_as_long, by_tuple-long}
 use Rattle.xq_tuples.proofs.streams.Tuples.order_by_keys.Goals as goal
 

@@ -1,0 +1,25 @@
+use Rattle.std.proofs.Common.{◌≡◌, map, ap, rules}
+use Rattle.std.specs.declared.cmp.Ordering.{Ordering}
+use Rattle.std.specs.Ordering.{is_lt}
+use Rattle.std.specs.Cmp.{IsTotalOrder, IsStrictWeakOrder, int_cmp_total, on_total, then_total}
+use Rattle.std.proofs.lemmas.Fn.{always_returns_same}
+use Rattle.std.proofs.lemmas.List.Sorted.{ranks_by}
+use Rattle.xq_tuples.specs.declared.rows.Ranked.{Ranked}
+use Rattle.xq_tuples.specs.Orders.{rule_of}
+use Rattle.xq_tuples.specs.private.Ranks.{by_numbers, keys_at}
+use Rattle.xq_tuples.proofs.Rules.{keys_total, directed_total}
+use Rattle.xq_tuples.proofs.Sorting.{sorted_from_sort}
+use Rattle.xq_tuples.proofs.order.sort_ranked.Goals as goal
+
+pub returns-clause-rows : goal.returns-clause-rows
+returns-clause-rows c =
+    let spec = c.args.spec in
+    let later = c.args.later.now in
+    let columns = c.args.columns.now in
+    let cmp : Ranked → Ranked → Ordering = by_numbers spec later columns in
+    let total : IsTotalOrder cmp = then_total (on_total (λ (row : Ranked). row.first) (directed_total spec.descending int_cmp_total)) (on_total (λ (row : Ranked). keys_at row.number columns) (keys_total (map rule_of later))) in
+    let weak : IsStrictWeakOrder (λ (a : Ranked) b. is_lt (cmp a b)) = ranks_by total (λ x. x) in
+    let compares = always_returns_same _ (λ a r. is_lt r ≡ is_lt (cmp a.0.now a.1.0.now)) _ (λ a r q k. let e : r ≡ cmp a.0.now a.1.0.now = search rules in (ap is_lt e, search rules)) in
+    let up = c.in_ok-sort_by.ensures.sorted (λ a b. is_lt (cmp a b)) weak compares in
+    let stable = c.in_ok-sort_by.ensures.stable (λ a b. is_lt (cmp a b)) weak compares in
+    sorted_from_sort cmp total c.args.rows.now.items c.sort_by.new.self.items up stable
