@@ -24,7 +24,8 @@ spread width tests = flat_map (λ test. replicate width test) tests
 
 -- ys began as xs. What is kept of the first i of xs stands in the first k places of ys, and from
 -- i on ys is as it was
-pub record KeepsInPlace {X : Type 0} (xs : List X) (tests : List Bool) (ys : List X) (k i : ℕ) : Type 0 where
+pub record KeepsInPlace {X : Type 0} (xs : List X) (tests : List Bool) (ys : List X)
+    (k i : ℕ) : Type 0 where
   pub front : take k ys ≡ satisfying (take i xs) (take i tests)
   pub rest : drop i ys ≡ drop i xs
   pub behind : k ≤ i
