@@ -121,10 +121,14 @@ class TerminalTest(FolderTest):
                                    preexec_fn=lambda: fcntl.ioctl(0, termios.TIOCSCTTY, 0))
         os.close(inner)
         screen = Screen(outer)
+        before = ""
         for number, line in enumerate(lines):
-            screen.wait_for((marks or {}).get(number, ">").encode())
+            # (an interrupt that comes as the shell begins to wait is seen with the next key alone)
+            again = before if before == INTERRUPT else ""
+            screen.wait_for((marks or {}).get(number, ">").encode(), again.encode())
             time.sleep(0.5 if line == INTERRUPT else 0)
             os.write(outer, line.encode())
+            before = line
         screen.wait_for(None)
         process.wait(30)
         os.close(outer)
@@ -158,9 +162,10 @@ class Screen:
         self._terminal, self._at = terminal, 0
         self.seen = b""
 
-    def wait_for(self, mark: bytes | None) -> None:
-        """Reads up to the next such mark, or to the end."""
+    def wait_for(self, mark: bytes | None, again: bytes = b"") -> None:
+        """Reads up to the next such mark, or to the end; `again` is typed every ten seconds."""
         end = time.monotonic() + 120
+        typed = time.monotonic()
         while time.monotonic() < end:
             found = -1 if mark is None else self.seen.find(mark, self._at)
             if mark is not None and found >= 0:
@@ -168,6 +173,9 @@ class Screen:
                 return
             if select.select([self._terminal], [], [], 1)[0] and not self._read():
                 return
+            if again and time.monotonic() > typed + 10:
+                os.write(self._terminal, again)
+                typed = time.monotonic()
         raise TimeoutError(f"{mark!r} does not come: {self.seen!r}")
 
     def _read(self) -> bool:
