@@ -109,10 +109,10 @@ ONLY_MEMORY = (
           + " ".join(f"let $a{n + 1} := concat($a{n}, $a{n})" for n in range(40))
           + " return string-length($a40)", (2, "memory")),
 )
+# (10^12 tuples are no longer among these: they fill 24 GB within 20 seconds, see ONLY_MEMORY)
 ENDLESS = (
     ("some of 10^12 pairs",
      "some $a in 1 to 1000000, $b in 1 to 1000000 satisfies $a + $b = 0"),
-    ("10^12 tuples", tuples("return 1", 1_000_000, 1_000_000)),
 )
 
 
