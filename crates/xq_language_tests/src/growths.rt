@@ -25,14 +25,15 @@ const TEXTS: [(&str, Outcome); 4] = [
     ),
 ];
 
-/// Where a growth is refused the text wants memory, and gives its expression when it is parsed again.
+/// Where a growth is refused the text wants memory, and gives its expression when it is parsed
+/// again.
 #[test]
 fn each_growth_of_a_parse(rt: HostRuntime) {
-    for (text, level) in TEXTS {
+    for (text, level) in &TEXTS {
         let outcome = match outcome_of(rt.alloc(), text) {
             Outcome::Memory => outcome_of(rt.alloc(), text),
             outcome => outcome,
         };
-        assert_eq!(rt; outcome, level, "{text}");
+        assert_eq!(rt; outcome, *level, "{text}");
     }
 }

@@ -78,16 +78,38 @@ fn level(expression: &Expr) -> Outcome {
     }
 }
 
-/// The expression that a text stands for.
-pub fn parsed(alloc: Global, text: &str) -> Result<Expr, Fault> {
+/// What a text stands for.
+pub struct HeldExpression {
+    pub expression: Expr,
+}
+
+// It is written out, so that who holds an expression does not go through all of its forms wherever
+// it lets one go.
+impl Drop for HeldExpression {
+    fn drop(self) {
+        let HeldExpression {
+            expression: _expression,
+        } = self;
+    }
+}
+
+fn expression(alloc: Global, text: &str) -> Result<Expr, Fault> {
     let tokens = lex(alloc, text)?;
     parse(alloc, &tokens)
+}
+
+/// The expression that a text stands for.
+pub fn parsed(alloc: Global, text: &str) -> Result<HeldExpression, Fault> {
+    match expression(alloc, text) {
+        Ok(expression) => Ok(HeldExpression { expression }),
+        Err(fault) => Err(fault),
+    }
 }
 
 /// The level of what the text stands for, or the code that it is refused with.
 pub fn outcome_of(alloc: Global, text: &str) -> Outcome {
     match parsed(alloc, text) {
-        Ok(expression) => level(&expression),
+        Ok(found) => level(&found.expression),
         Err(Fault::Code(code)) => Outcome::Refused(code),
         Err(Fault::Want(_)) => Outcome::Memory,
     }

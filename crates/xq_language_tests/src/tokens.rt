@@ -29,105 +29,119 @@ fn assert_shown(rt: &(impl Abort + AllocGlobal), rows: &[(&str, &str)]) {
     }
 }
 
+/// Tokens with the places where they begin and end.
+const PLACES: [(&str, &str); 2] = [
+    (
+        "a:=1",
+        "[Token { lexeme: Name(\"a\"), start: 0, end: 1 }, Token { lexeme: Sym(Assign), start: 1, end: 3 }, Token { lexeme: Int(1), start: 3, end: 4 }]",
+    ),
+    (
+        " \u{10000}\u{E9} ",
+        "[Token { lexeme: Name(\"\u{10000}\u{E9}\"), start: 1, end: 7 }]",
+    ),
+];
+
 #[test]
 fn tokens_stand_in_their_places(rt: HostRuntime) {
-    let rows = [
-        (
-            "a:=1",
-            "[Token { lexeme: Name(\"a\"), start: 0, end: 1 }, Token { lexeme: Sym(Assign), start: 1, end: 3 }, Token { lexeme: Int(1), start: 3, end: 4 }]",
-        ),
-        (
-            " \u{10000}\u{E9} ",
-            "[Token { lexeme: Name(\"\u{10000}\u{E9}\"), start: 1, end: 7 }]",
-        ),
-    ];
-    assert_shown(&rt, &rows);
+    assert_shown(&rt, &PLACES);
 }
+
+/// Symbols of which one begins another.
+const BANGS_AND_ARROWS: [(&str, &str); 3] = [
+    (
+        "!!=!",
+        "[Token { lexeme: Sym(Bang), start: 0, end: 1 }, Token { lexeme: Sym(NotEqual), start: 1, end: 3 }, Token { lexeme: Sym(Bang), start: 3, end: 4 }]",
+    ),
+    (
+        "=>>=",
+        "[Token { lexeme: Sym(Arrow), start: 0, end: 2 }, Token { lexeme: Sym(GreaterEqual), start: 2, end: 4 }]",
+    ),
+    (
+        "= >",
+        "[Token { lexeme: Sym(Equal), start: 0, end: 1 }, Token { lexeme: Sym(Greater), start: 2, end: 3 }]",
+    ),
+];
 
 /// `!=` and `=>` are the longest at their places, and no space stands in them.
 #[test]
 fn bangs_and_arrows_are_read(rt: HostRuntime) {
-    let rows = [
-        (
-            "!!=!",
-            "[Token { lexeme: Sym(Bang), start: 0, end: 1 }, Token { lexeme: Sym(NotEqual), start: 1, end: 3 }, Token { lexeme: Sym(Bang), start: 3, end: 4 }]",
-        ),
-        (
-            "=>>=",
-            "[Token { lexeme: Sym(Arrow), start: 0, end: 2 }, Token { lexeme: Sym(GreaterEqual), start: 2, end: 4 }]",
-        ),
-        (
-            "= >",
-            "[Token { lexeme: Sym(Equal), start: 0, end: 1 }, Token { lexeme: Sym(Greater), start: 2, end: 3 }]",
-        ),
-    ];
-    assert_shown(&rt, &rows);
+    assert_shown(&rt, &BANGS_AND_ARROWS);
 }
+
+/// Names with hyphens and with prefixes.
+const NAMES: [(&str, &str); 3] = [
+    ("a-1", "[Token { lexeme: Name(\"a-1\"), start: 0, end: 3 }]"),
+    (
+        "a -1",
+        "[Token { lexeme: Name(\"a\"), start: 0, end: 1 }, Token { lexeme: Sym(Minus), start: 2, end: 3 }, Token { lexeme: Int(1), start: 3, end: 4 }]",
+    ),
+    (
+        "a:b",
+        "[Token { lexeme: Prefixed { prefix: \"a\", local: \"b\" }, start: 0, end: 3 }]",
+    ),
+];
 
 #[test]
 fn names_take_hyphens_and_colons(rt: HostRuntime) {
-    let rows = [
-        ("a-1", "[Token { lexeme: Name(\"a-1\"), start: 0, end: 3 }]"),
-        (
-            "a -1",
-            "[Token { lexeme: Name(\"a\"), start: 0, end: 1 }, Token { lexeme: Sym(Minus), start: 2, end: 3 }, Token { lexeme: Int(1), start: 3, end: 4 }]",
-        ),
-        (
-            "a:b",
-            "[Token { lexeme: Prefixed { prefix: \"a\", local: \"b\" }, start: 0, end: 3 }]",
-        ),
-    ];
-    assert_shown(&rt, &rows);
+    assert_shown(&rt, &NAMES);
 }
+
+/// A comment in a comment.
+const COMMENTS: [(&str, &str); 1] = [(
+    "(: a (: b :) c :) 1",
+    "[Token { lexeme: Int(1), start: 18, end: 19 }]",
+)];
 
 #[test]
 fn comments_nest(rt: HostRuntime) {
-    let rows = [(
-        "(: a (: b :) c :) 1",
-        "[Token { lexeme: Int(1), start: 18, end: 19 }]",
-    )];
-    assert_shown(&rt, &rows);
+    assert_shown(&rt, &COMMENTS);
 }
+
+/// A string with a doubled quote and references.
+const STRINGS: [(&str, &str); 1] = [(
+    "\"a\"\"&amp;&#x41;\"",
+    "[Token { lexeme: Str(\"a\\\"&A\"), start: 0, end: 16 }]",
+)];
 
 #[test]
 fn strings_are_read(rt: HostRuntime) {
-    let rows = [(
-        "\"a\"\"&amp;&#x41;\"",
-        "[Token { lexeme: Str(\"a\\\"&A\"), start: 0, end: 16 }]",
-    )];
-    assert_shown(&rt, &rows);
+    assert_shown(&rt, &STRINGS);
 }
+
+/// A decimal with zeros at its end.
+const DECIMALS: [(&str, &str); 1] = [(
+    "0.1000000",
+    "[Token { lexeme: Dec(Decimal { millionths: 100000 }), start: 0, end: 9 }]",
+)];
 
 #[test]
 fn decimals_drop_trailing_zeros(rt: HostRuntime) {
-    let rows = [(
-        "0.1000000",
-        "[Token { lexeme: Dec(Decimal { millionths: 100000 }), start: 0, end: 9 }]",
-    )];
-    assert_shown(&rt, &rows);
+    assert_shown(&rt, &DECIMALS);
 }
+
+/// Texts that are no tokens, with their codes.
+const FAULTS: [(&str, Code); 15] = [
+    ("a :b", Code::XPST0003),
+    ("a(::):b", Code::XPST0003),
+    ("1..2", Code::XPST0003),
+    (".5.", Code::XPST0003),
+    ("1e", Code::XPST0003),
+    ("1.e5", Code::ProfDouble),
+    ("1e3", Code::ProfDouble),
+    ("1a", Code::XPST0003),
+    ("\"&#x110000;\"", Code::XQST0090),
+    ("\"&#0;\"", Code::XQST0090),
+    ("\"&x;\"", Code::XPST0003),
+    ("1 \"", Code::XPST0003),
+    ("(: a", Code::XPST0003),
+    ("0.1234567", Code::ProfDigits),
+    ("9223372036854775808", Code::FOAR0002),
+];
 
 #[test]
 fn faults_have_their_codes(rt: HostRuntime) {
-    let rows = [
-        ("a :b", Code::XPST0003),
-        ("a(::):b", Code::XPST0003),
-        ("1..2", Code::XPST0003),
-        (".5.", Code::XPST0003),
-        ("1e", Code::XPST0003),
-        ("1.e5", Code::ProfDouble),
-        ("1e3", Code::ProfDouble),
-        ("1a", Code::XPST0003),
-        ("\"&#x110000;\"", Code::XQST0090),
-        ("\"&#0;\"", Code::XQST0090),
-        ("\"&x;\"", Code::XPST0003),
-        ("1 \"", Code::XPST0003),
-        ("(: a", Code::XPST0003),
-        ("0.1234567", Code::ProfDigits),
-        ("9223372036854775808", Code::FOAR0002),
-    ];
-    for (text, code) in rows {
-        assert_eq!(rt; code_of(rt.alloc(), text), Some(code), "{text}");
+    for (text, code) in &FAULTS {
+        assert_eq!(rt; code_of(rt.alloc(), text), Some(*code), "{text}");
     }
 }
 

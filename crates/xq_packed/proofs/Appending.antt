@@ -1,7 +1,6 @@
 -- Runs of shapes, and the rows that they stand for.
 use Rattle.std.proofs.Common.{◌≡◌, ◌<◌, ◌≤◌, ◌+◌, ◌-◌, ◌^◌, ℕ, zero, suc, List, [], ◌∷◌, ◌++◌, take, drop, map, length, get_or, min, refl, sym, ap, ◌∙◌, subst, arith, inl, inr, append_assoc}
-use Rattle.std.specs.Prelude.{bytes_eq, All, slice_range}
-use Rattle.std.specs.List.{IsDistinct}
+use Rattle.std.specs.Prelude.{All, slice_range}
 use Rattle.std.specs.Str.{IsUtf8}
 use Rattle.std.proofs.lemmas.Bool.{cases_lt}
 use Rattle.std.proofs.lemmas.Str.{IsUtf8-nil}
@@ -13,7 +12,7 @@ use Rattle.xq_packed.specs.Packed.{Packed, with_name, IsNumbered}
 use Rattle.xq_packed.specs.Changes.{moved}
 use Rattle.xq_packed.specs.private.Shapes.{value_end, last_end, value_start, text_between, name_at, row_of_shape, rows_of_shapes, AreShapes, IsKept}
 use Rattle.xq_packed.specs.private.Copies.{IsReadable, IsMovedTo, AreMoved, AreMovedAfter, with_named}
-use Rattle.xq_packed.proofs.Numbering.{distinct-with, grown}
+use Rattle.xq_packed.proofs.Numbering.{grown}
 use Rattle.xq_packed.proofs.Standing.{shapes-stay, rows-stay, shapes-append, rows-append, end-append, rows-length}
 use Rattle.xq_packed.proofs.Copying.{end-rises, rows-copied, shapes-copied, end-copied, length-copied, moved-push, with_named-push}
 
@@ -131,10 +130,6 @@ clamped rs low high = elim (cases_lt (min high (length rs)) low) [
 
 -- # A run after others
 
-named-distinct : (others names : List Text) (shapes : List Shape) → IsDistinct bytes_eq names → IsDistinct bytes_eq (with_named others names shapes)
-named-distinct others names [] d = d
-named-distinct others names (s ∷ shapes) d = named-distinct others (with_name names (name_at others s.name)) shapes (distinct-with names (name_at others s.name) d)
-
 named-grown : (others names : List Text) (shapes : List Shape) → (more : List Text) × (with_named others names shapes ≡ names ++ more)
 named-grown others names [] = ([], sym (append-nil names))
 named-grown others names (s ∷ shapes) =
@@ -148,8 +143,8 @@ pub record IsAppended (text' : Text) (names' : List Text) (shapes' : List Shape)
   pub rows : rows_of_shapes text' names' 0 shapes' ≡ before ++ more
 
 -- names may have been added alone
-pub names-kept : (text : Text) (others names names' : List Text) (shapes added : List Shape) → IsKept text names shapes → names' ≡ with_named others names added → length names' ≤ 2 ^ 32 → IsAppended text names' shapes (rows_of_shapes text names 0 shapes) []
-names-kept text others names names' shapes added kept ne few =
+pub names-kept : (text : Text) (others names names' : List Text) (shapes added : List Shape) → IsKept text names shapes → names' ≡ with_named others names added → IsAppended text names' shapes (rows_of_shapes text names 0 shapes) []
+names-kept text others names names' shapes added kept ne =
     let more = named-grown others names added in
     let e : names' ≡ names ++ more.0 = ne ∙ more.1 in
     let there : AreShapes text names' 0 shapes =
@@ -158,8 +153,6 @@ names-kept text others names names' shapes added kept ne few =
       kept = record {
         shapes = there;
         end = kept.end;
-        distinct = subst (IsDistinct bytes_eq) (sym ne) (named-distinct others names added kept.distinct);
-        few = few;
         room = kept.room;
       };
       rows =
@@ -171,8 +164,8 @@ names-kept text others names names' shapes added kept ne few =
 
 -- a run of others that lies between two places of their text, after all
 module _ (text o : Text) (others names : List Text) (shapes run : List Shape) (low high from to : ℕ) (u : IsUtf8 text) (v : IsUtf8 o) (kept : IsKept text names shapes) (cut : IsCut o low) (end : IsCut o high) (stand : AreShapes o others low run) (ends : last_end low run ≡ high) where
-  here : (more : List Text) (ts : List Shape) → AreMoved others (names ++ more) low (length text) from to run ts → IsDistinct bytes_eq (names ++ more) → length (names ++ more) ≤ 2 ^ 32 → length shapes + length run < 2 ^ 32 → IsAppended (text ++ text_between o low high) (names ++ more) (shapes ++ ts) (rows_of_shapes text names 0 shapes) (map (moved from to) (rows_of_shapes o others low run))
-  here more ts m distinct few room =
+  here : (more : List Text) (ts : List Shape) → AreMoved others (names ++ more) low (length text) from to run ts → length shapes + length run < 2 ^ 32 → IsAppended (text ++ text_between o low high) (names ++ more) (shapes ++ ts) (rows_of_shapes text names 0 shapes) (map (moved from to) (rows_of_shapes o others low run))
+  here more ts m room =
       let ns = names ++ more in
       let all = text ++ text_between o low high in
       let at : length text + low ≡ low + length text = omega arith in
@@ -185,8 +178,6 @@ module _ (text o : Text) (others names : List Text) (shapes run : List Shape) (l
         kept = record {
           shapes = shapes-append all ns 0 shapes ts front (subst (λ i. AreShapes all ns i ts) (sym kept.end) moved_ones);
           end = end-append 0 shapes ts ∙ ap (λ i. last_end i ts) kept.end ∙ (let e : last_end (length text) ts ≡ length all = omega (arith, last, ends, piece, rises, length-append text (text_between o low high)) in e);
-          distinct = distinct;
-          few = few;
           room = omega (arith, room, length-append shapes ts, length-copied others ns low (length text) from to run ts m);
         };
         rows =
@@ -196,14 +187,14 @@ module _ (text o : Text) (others names : List Text) (shapes run : List Shape) (l
             ∙ ap (λ rs. rows_of_shapes text names 0 shapes ++ rs) (rows-copied text o others ns low high from to low (length text) run ts (omega arith) at (omega (arith, ends)) stand m);
       }
 
-  pub run-appended : (text' : Text) (names' : List Text) (shapes' : List Shape) → text' ≡ text ++ text_between o low high → names' ≡ with_named others names run → AreMovedAfter others names' low (length text) from to shapes run shapes' → length names' ≤ 2 ^ 32 → length shapes + length run < 2 ^ 32 → IsAppended text' names' shapes' (rows_of_shapes text names 0 shapes) (map (moved from to) (rows_of_shapes o others low run))
-  run-appended text' names' shapes' te ne m few room =
+  pub run-appended : (text' : Text) (names' : List Text) (shapes' : List Shape) → text' ≡ text ++ text_between o low high → names' ≡ with_named others names run → AreMovedAfter others names' low (length text) from to shapes run shapes' → length shapes + length run < 2 ^ 32 → IsAppended text' names' shapes' (rows_of_shapes text names 0 shapes) (map (moved from to) (rows_of_shapes o others low run))
+  run-appended text' names' shapes' te ne m room =
       let more = named-grown others names run in
       let e : names' ≡ names ++ more.0 = ne ∙ more.1 in
       let rows = rows_of_shapes text names 0 shapes in
       let added = map (moved from to) (rows_of_shapes o others low run) in
       let whole : IsAppended (text ++ text_between o low high) (names ++ more.0) (shapes ++ m.0) rows added =
-      here more.0 m.0 (subst (λ ns. AreMoved others ns low (length text) from to run m.0) e m.2) (subst (IsDistinct bytes_eq) more.1 (named-distinct others names run kept.distinct)) (subst (λ ns. length ns ≤ 2 ^ 32) e few) room in
+      here more.0 m.0 (subst (λ ns. AreMoved others ns low (length text) from to run m.0) e m.2) room in
       let one : IsAppended (text ++ text_between o low high) (names ++ more.0) shapes' rows added = subst (λ ss. IsAppended (text ++ text_between o low high) (names ++ more.0) ss rows added) (sym m.1) whole in
       let two : IsAppended (text ++ text_between o low high) names' shapes' rows added = subst (λ ns. IsAppended (text ++ text_between o low high) ns shapes' rows added) (sym e) one in
       subst (λ t. IsAppended t names' shapes' rows added) (sym te) two

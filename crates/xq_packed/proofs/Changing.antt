@@ -1,7 +1,6 @@
 -- Rows that are changed where they stand, and a root that is put above them.
 use Rattle.std.proofs.Common.{◌≡◌, ◌<◌, ◌≤◌, ◌+◌, ◌-◌, ◌^◌, ℕ, zero, suc, List, [], ◌∷◌, ◌++◌, take, drop, map, length, get_or, set, refl, sym, ap, ◌∙◌, subst, arith}
-use Rattle.std.specs.Prelude.{bytes_eq, All}
-use Rattle.std.specs.List.{IsDistinct}
+use Rattle.std.specs.Prelude.{All}
 use Rattle.std.specs.Str.{IsUtf8}
 use Rattle.std.proofs.lemmas.Str.{IsUtf8-append, IsUtf8-nil}
 use Rattle.std.proofs.lemmas.List.{append-nil, drop-append-le, drop_more, drop-set-lt, take_more_set, map_more, length-append, length-drop, length-set, length-map, take_all}
@@ -13,7 +12,7 @@ use Rattle.xq_packed.specs.declared.shapes.Shape.{Shape}
 use Rattle.xq_packed.specs.Packed.{row, with_name, IsNumbered}
 use Rattle.xq_packed.specs.Changes.{moved, AreMovable, longer, with_longer_last, with_size}
 use Rattle.xq_packed.specs.private.Shapes.{value_end, last_end, text_between, name_at, row_of_shape, rows_of_shapes, IsShape, AreShapes, IsKept, sunk}
-use Rattle.xq_packed.proofs.Numbering.{name-numbered, grown, distinct-with}
+use Rattle.xq_packed.proofs.Numbering.{name-numbered, grown}
 use Rattle.xq_packed.proofs.Standing.{shape-stays, row-stays, shapes-stay, rows-stay}
 
 abbrev Text : Type 0
@@ -46,8 +45,6 @@ pub kept-sized : (text : Text) (names : List Text) (shapes : List Shape) (at siz
 kept-sized text names shapes at size d kept = record {
   shapes = shapes-sized text names 0 shapes at size d kept.shapes;
   end = end-sized 0 shapes at size d ∙ kept.end;
-  distinct = kept.distinct;
-  few = kept.few;
   room = omega (arith, kept.room, length-set shapes at (sized_shape size (get_or shapes at d)));
 }
 
@@ -122,8 +119,6 @@ module _ (text value : Text) (names : List Text) (u : IsUtf8 text) (v : IsUtf8 v
         record {
           shapes = more.shapes;
           end = more.end;
-          distinct = kept.distinct;
-          few = kept.few;
           room = omega (arith, kept.room, length-set shapes at t);
         },
         more.rows,
@@ -185,8 +180,8 @@ module _ (text : Text) (names : List Text) (shapes : List Shape) (s : Shape) (na
       ∙ ap (λ rs. row s.size 0 s.kind name [] ∷ rs) (rows-sunk text ns 0 shapes)
       ∙ ap (λ rs. row s.size 0 s.kind name [] ∷ map (moved 0 1) rs) wider
 
-  private_kept : (more : List Text) → IsNumbered (names ++ more) s.name name → IsDistinct bytes_eq (names ++ more) → length (names ++ more) ≤ 2 ^ 32 → length shapes + 1 < 2 ^ 32 → IsKept text (names ++ more) (s ∷ map sunk shapes)
-  private_kept more numbered distinct few room =
+  private_kept : (more : List Text) → IsNumbered (names ++ more) s.name name → length shapes + 1 < 2 ^ 32 → IsKept text (names ++ more) (s ∷ map sunk shapes)
+  private_kept more numbered room =
       let ns = names ++ more in
       let there : AreShapes text ns 0 (map sunk shapes) = shapes-sunk text ns 0 shapes (subst (λ t. AreShapes t ns 0 shapes) (append-nil text) (shapes-stay text [] names more 0 shapes kept.shapes)) in
       record {
@@ -200,18 +195,16 @@ module _ (text : Text) (names : List Text) (shapes : List Shape) (s : Shape) (na
           subst (λ i. AreShapes text ns i (map sunk shapes)) (sym root.end) there,
         );
         end = ap (λ i. last_end i (map sunk shapes)) root.end ∙ end-sunk 0 shapes ∙ kept.end;
-        distinct = distinct;
-        few = few;
         room = omega (arith, room, length-map shapes sunk);
       }
 
-  pub rooted : (names' : List Text) (shapes' : List Shape) → names' ≡ with_name names name → shapes' ≡ s ∷ map sunk shapes → IsNumbered names' s.name name → length names' ≤ 2 ^ 32 → length shapes + 1 < 2 ^ 32 → IsRooted text names shapes names' shapes' (row s.size 0 s.kind name [])
-  rooted names' shapes' ne se numbered few room =
+  pub rooted : (names' : List Text) (shapes' : List Shape) → names' ≡ with_name names name → shapes' ≡ s ∷ map sunk shapes → IsNumbered names' s.name name → length shapes + 1 < 2 ^ 32 → IsRooted text names shapes names' shapes' (row s.size 0 s.kind name [])
+  rooted names' shapes' ne se numbered room =
       let more = grown names name in
       let e : names' ≡ names ++ more.0 = ne ∙ more.1 in
       let here : IsNumbered (names ++ more.0) s.name name = subst (λ ns. IsNumbered ns s.name name) e numbered in
       let whole : IsRooted text names shapes (names ++ more.0) (s ∷ map sunk shapes) (row s.size 0 s.kind name []) =
-      (private_kept more.0 here (subst (IsDistinct bytes_eq) more.1 (distinct-with names name kept.distinct)) (subst (λ ns. length ns ≤ 2 ^ 32) e few) room, private_rows more.0 here) in
+      (private_kept more.0 here room, private_rows more.0 here) in
       let one : IsRooted text names shapes names' (s ∷ map sunk shapes) (row s.size 0 s.kind name []) = subst (λ ns. IsRooted text names shapes ns (s ∷ map sunk shapes) (row s.size 0 s.kind name [])) (sym e) whole in
       subst (λ ss. IsRooted text names shapes names' ss (row s.size 0 s.kind name [])) (sym se) one
 

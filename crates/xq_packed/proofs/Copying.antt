@@ -9,7 +9,7 @@ use Rattle.xq_packed.specs.Packed.{row, with_name, with_names, IsNumbered}
 use Rattle.xq_packed.specs.Changes.{moved}
 use Rattle.xq_packed.specs.private.Shapes.{value_end, last_end, text_between, name_at, row_of_shape, rows_of_shapes, IsShape, AreShapes}
 use Rattle.xq_packed.specs.private.Copies.{IsMovedTo, IsMoved, AreMoved, with_named}
-use Rattle.xq_packed.proofs.Numbering.{name-numbered, grown}
+use Rattle.xq_packed.proofs.Numbering.{name-numbered, grown, numbered-stays}
 
 abbrev Text : Type 0
 Text = List ℕ
@@ -111,11 +111,6 @@ length-copied others names low base from to (s ∷ ss) [] m = absurd m
 length-copied others names low base from to (s ∷ ss) (t ∷ ts) m = ap suc (length-copied others names low base from to ss ts m.1)
 
 -- # One more of them
-
-numbered-stays : (names more : List Text) (n : ℕ) (name : Text) → IsNumbered names n name → IsNumbered (names ++ more) n name
-numbered-stays [] more n name h = absurd (omega (arith, (name-numbered [] n name h).0))
-numbered-stays (x ∷ names) more zero name h = h
-numbered-stays (x ∷ names) more (suc n) name h = numbered-stays names more n name h
 
 -- a name keeps its number where another is added
 pub numbered-with : (names : List Text) (other : Text) (n : ℕ) (name : Text) → IsNumbered names n name → IsNumbered (with_name names other) n name

@@ -1,6 +1,6 @@
 -- Names are distinct where their numbers are.
 use Rattle.std.proofs.Common.{◌≡◌, ◌↔◌, ◌<◌, ◌+◌, ℕ, zero, suc, List, [], ◌∷◌, ◌++◌, map, take, length, get_or, Bool, true, false, not, ◌||◌, Some, refl, sym, ap, ◌∙◌, subst, arith, if◌then◌else◌}
-use Rattle.std.specs.Prelude.{bytes_eq, nat_eq, nat_lt, IsTrue, IfOk, Result, Ok, Err}
+use Rattle.std.specs.Prelude.{bytes_eq, nat_eq, nat_lt, IsTrue, IfOk, IfNone, Option, None, Result, Ok, Err}
 use Rattle.std.specs.Cmp.{nat_eq_equiv}
 use Rattle.std.specs.List.{list_any, IsDistinct, AllByRecursion, IsAllAdjacentAnswer}
 use Rattle.std.specs.List.Sorted.{IsStrictlyIncreasing}
@@ -148,3 +148,7 @@ is_new fresh false e t = refl
 pub if_ok : {A E : Type 0} (P Q : A → Type 0) → ((x : A) → P x → Q x) → (r : Result A E) → IfOk r P → IfOk r Q
 if_ok P Q f (Ok x) h = f x h
 if_ok P Q f (Err e) h = tt
+
+pub if_none : {A : Type 0} (P Q : Type 0) → (P → Q) → (r : Option A) → IfNone r P → IfNone r Q
+if_none P Q f (Some x) h = tt
+if_none P Q f None h = f h

@@ -4,5 +4,6 @@ pub mod Extending
 pub mod Judging
 pub mod Knowing
 pub mod Numbering
+pub mod Parting
 pub mod Appending
 pub mod Standing

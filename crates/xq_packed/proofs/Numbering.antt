@@ -1,9 +1,10 @@
 -- Distinct names, and their numbers.
-use Rattle.std.proofs.Common.{◌≡◌, ◌<◌, ℕ, zero, suc, List, [], ◌∷◌, ◌++◌, map, length, Bool, true, false, ◌||◌, Some, String, string_bytes, refl, sym, ap, ◌∙◌, subst, arith, if◌then◌else◌, append-nil}
-use Rattle.std.specs.Prelude.{bytes_eq, slice_get}
+use Rattle.std.proofs.Common.{◌≡◌, ◌<◌, ◌+◌, ℕ, zero, suc, List, [], ◌∷◌, ◌++◌, map, length, get_or, Bool, true, false, ◌||◌, Option, Some, None, String, string_bytes, refl, sym, ap, ◌∙◌, subst, arith, if◌then◌else◌, append-nil}
+use Rattle.std.specs.Prelude.{bytes_eq, slice_get, cond}
 use Rattle.std.specs.Option.{option_map}
-use Rattle.std.specs.List.{list_any, position, IsDistinct, AllByRecursion}
+use Rattle.std.specs.List.{list_any, position, position_from, IsDistinct, AllByRecursion}
 use Rattle.std.proofs.lemmas.List.{get_or-map, length-map}
+use Rattle.std.proofs.lemmas.Iterator.Adapters.{position_from-zero}
 use Rattle.std.proofs.lemmas.List.Quantifiers.{position-Some}
 use Rattle.std.proofs.lemmas.Option.{slice_get-map, slice_get-get_or, slice_get_within, get_or_from_slice_get, none-some, same_Some}
 use Rattle.std.proofs.lemmas.Slice.Eq.{bytes_eq-Decides}
@@ -29,23 +30,27 @@ found-names name (k ∷ keys) n h =
     slice_get-get_or (map string_bytes (k ∷ keys)) n [] inside
     ∙ ap Some (get_or-map string_bytes (k ∷ keys) n k [] at.0 ∙ sym ((bytes_eq-Decides name _).0 at.1))
 
--- a name that was put in stands at its number
-pub stored-name : {Z : Type 0} (keys : List (String Z)) (n : ℕ) (put k : String Z) → slice_get keys n ≡ Some k → bytes_eq (string_bytes put) (string_bytes k) ≡ true → IsNumbered (map string_bytes keys) n (string_bytes put)
-stored-name keys n put k at same =
-    slice_get-map string_bytes keys n ∙ ap (option_map string_bytes) at ∙ ap Some (sym ((bytes_eq-Decides (string_bytes put) (string_bytes k)).0 same))
+-- a name that a list of strings holds stands at its number
+pub read-few : {Z : Type 0} (names : List (String Z)) (n : ℕ) (k : String Z) → n < length names → k ≡ get_or names n k → IsNumbered (map string_bytes names) n (string_bytes k)
+read-few names n k inside is =
+    slice_get-map string_bytes names n ∙ ap (option_map string_bytes) (slice_get-get_or names n k inside ∙ ap Some (sym is))
 
-map_snoc : {Z : Type 0} (keys : List (String Z)) (k : String Z) → map string_bytes (keys ++ k ∷ []) ≡ map string_bytes keys ++ string_bytes k ∷ []
-map_snoc [] k = refl
-map_snoc (j ∷ keys) k = ap (λ l. string_bytes j ∷ l) (map_snoc keys k)
+-- and so does one that a table holds
+pub read-many : {Z : Type 0} (keys : List (String Z)) (n : ℕ) (k : String Z) → slice_get keys n ≡ Some k → IsNumbered (map string_bytes keys) n (string_bytes k)
+read-many keys n k at = slice_get-map string_bytes keys n ∙ ap (option_map string_bytes) at
 
-added_step : {Z : Type 0} (keys : List (String Z)) (k : String Z) (b c : Bool) → b ≡ c → map string_bytes (if b then keys else keys ++ k ∷ []) ≡ (if c then map string_bytes keys else map string_bytes keys ++ string_bytes k ∷ [])
-added_step keys k true c e = rw (← e) refl
-added_step keys k false c e = rw (← e) (map_snoc keys k)
+none_step : (b c : Bool) (i : ℕ) (r : Option ℕ) → cond b (Some i) r ≡ None → (r ≡ None → c ≡ false) → (b || c) ≡ false
+none_step true c i r h rest = cc
+none_step false c i r h rest = rest h
 
--- what the names are after a name is added
-pub added-names : {Z : Type 0} (keys : List (String Z)) (k : String Z) → map string_bytes (if list_any (λ j. bytes_eq (string_bytes k) (string_bytes j)) keys then keys else keys ++ k ∷ []) ≡ with_name (map string_bytes keys) (string_bytes k)
-added-names keys k =
-    added_step keys k _ _ (any-names (string_bytes k) keys)
+none_from : {X : Type 0} (p : X → Bool) (i : ℕ) (xs : List X) → position_from p i xs ≡ None → list_any p xs ≡ false
+none_from p i [] h = refl
+none_from p i (x ∷ xs) h = none_step (p x) (list_any p xs) i (position_from p (i + 1) xs) h (none_from p (i + 1) xs)
+
+-- a name that has no place is not among the strings
+pub none-found : {Z : Type 0} (name : Text) (names : List (String Z)) → position (λ k. bytes_eq name (string_bytes k)) names ≡ None → list_any (bytes_eq name) (map string_bytes names) ≡ false
+none-found name names h =
+    sym (any-names name names) ∙ none_from (λ k. bytes_eq name (string_bytes k)) 0 names (sym (position_from-zero (λ k. bytes_eq name (string_bytes k)) names) ∙ h)
 
 -- # More names at the end
 
@@ -99,13 +104,9 @@ unfolding IsDistinct
 distinct_snoc [] name d a = (tt, tt)
 distinct_snoc (x ∷ names) name d a = (all_snoc x names name d.0 a.0, distinct_snoc names name d.1 a.1)
 
-distinct_step : (names : List Text) (name : Text) → IsDistinct bytes_eq names → (b : Bool) → list_any (bytes_eq name) names ≡ b → IsDistinct bytes_eq (if b then names else names ++ name ∷ [])
-distinct_step names name d true e = d
-distinct_step names name d false e = distinct_snoc names name d (apart names name e)
-
--- names stay distinct
-pub distinct-with : (names : List Text) (name : Text) → IsDistinct bytes_eq names → IsDistinct bytes_eq (with_name names name)
-distinct-with names name d = distinct_step names name d _ refl
+-- a name that is not among them may be added
+pub distinct-more : (names : List Text) (name : Text) → IsDistinct bytes_eq names → list_any (bytes_eq name) names ≡ false → IsDistinct bytes_eq (names ++ name ∷ [])
+distinct-more names name d h = distinct_snoc names name d (apart names name h)
 
 not_again : (x name : Text) (names : List Text) (m : ℕ) → x ≡ name → AllByRecursion (λ y. bytes_eq x y ≡ false) names → IsNumbered names m name → ⊥
 not_again x name [] m e a h = absurd (omega (arith, slice_get_within [] m name h))
@@ -147,7 +148,38 @@ unnumbered (x ∷ names) name a zero h e =
     not_first (bytes_eq name x) _ also a
 unnumbered (x ∷ names) name a (suc n) h e = unnumbered names name (apart_rest (bytes_eq name x) _ a) n (omega arith) e
 
--- the name that a string at a number holds
-pub read-name : {Z : Type 0} (keys : List (String Z)) (n : ℕ) (k : String Z) → slice_get keys n ≡ Some k → name_at (map string_bytes keys) n ≡ string_bytes k
-read-name keys n k at =
-    (name-numbered (map string_bytes keys) n (string_bytes k) (slice_get-map string_bytes keys n ∙ ap (option_map string_bytes) at)).1
+-- # Names after others
+
+-- a name keeps its number where others follow
+pub numbered-stays : (names more : List Text) (n : ℕ) (name : Text) → IsNumbered names n name → IsNumbered (names ++ more) n name
+numbered-stays [] more n name h = absurd (omega (arith, slice_get_within [] n name h))
+numbered-stays (x ∷ names) more zero name h = h
+numbered-stays (x ∷ names) more (suc n) name h = numbered-stays names more n name h
+
+-- a name after others has a number that is greater by how many they are
+pub numbered-after : (names more : List Text) (n : ℕ) (name : Text) → IsNumbered more n name → IsNumbered (names ++ more) (length names + n) name
+numbered-after [] more n name h = (let e : n ≡ 0 + n = omega arith in subst (λ i. IsNumbered more i name) e h)
+numbered-after (x ∷ names) more n name h =
+    let e : suc (length names + n) ≡ suc (length names) + n = omega arith in
+    subst (λ i. IsNumbered (x ∷ (names ++ more)) i name) e (numbered-after names more n name h)
+
+-- the number of the last name
+pub numbered-last : (names : List Text) (name : Text) (n : ℕ) → n ≡ length names → IsNumbered (names ++ name ∷ []) n name
+numbered-last names name n e =
+    let here : IsNumbered (name ∷ []) 0 name = refl in
+    let at : length names + 0 ≡ n = omega arith in
+    subst (λ i. IsNumbered (names ++ name ∷ []) i name) at (numbered-after names (name ∷ []) 0 name here)
+
+-- a name that is in neither part is not among both
+pub absent-both : (name : Text) (names more : List Text) → list_any (bytes_eq name) names ≡ false → list_any (bytes_eq name) more ≡ false → list_any (bytes_eq name) (names ++ more) ≡ false
+absent-both name [] more a b = b
+absent-both name (x ∷ names) more a b = absent_step (bytes_eq name x) (list_any (bytes_eq name) names) (list_any (bytes_eq name) (names ++ more)) a (λ rest. absent-both name names more rest b)
+  where
+    absent_step : (b c d : Bool) → (b || c) ≡ false → (c ≡ false → d ≡ false) → (b || d) ≡ false
+    absent_step true c d h rest = cc
+    absent_step false c d h rest = rest h
+
+-- a name that is not among both is not in the second part
+pub absent-after : (name : Text) (names more : List Text) → list_any (bytes_eq name) (names ++ more) ≡ false → list_any (bytes_eq name) more ≡ false
+absent-after name [] more h = h
+absent-after name (x ∷ names) more h = absent-after name names more (apart_rest (bytes_eq name x) _ h)

@@ -2,7 +2,7 @@
 use Rattle.std.proofs.Common.{false, ◌≡◌, ◌<◌, ◌≤◌, ◌+◌, ◌-◌, ℕ, zero, suc, List, [], ◌∷◌, ◌++◌, take, drop, length, refl, sym, ap, ◌∙◌, subst, arith}
 use Rattle.std.specs.Prelude.{slice_index_or}
 use Rattle.std.specs.Prelude.{bytes_eq, ◌^◌}
-use Rattle.std.specs.List.{IsDistinct, list_any}
+use Rattle.std.specs.List.{list_any}
 use Rattle.std.specs.Str.{IsUtf8}
 use Rattle.std.proofs.lemmas.Str.{IsUtf8-append, IsUtf8-nil}
 use Rattle.std.proofs.Math.Seq.{drop-append_seam}
@@ -13,7 +13,7 @@ use Rattle.xq_regions.specs.declared.Kind.TheVariants.{Document}
 use Rattle.xq_packed.specs.declared.shapes.Shape.{Shape}
 use Rattle.xq_packed.specs.private.Shapes.{value_end, last_end, value_start, text_between, name_at, row_of_shape, rows_of_shapes, IsShape, AreShapes, IsKept, Describes}
 use Rattle.xq_packed.specs.Packed.{Packed, row, with_name, IsNumbered, NoneNamed}
-use Rattle.xq_packed.proofs.Numbering.{name-stays, name-numbered, grown, distinct-with, unnumbered}
+use Rattle.xq_packed.proofs.Numbering.{name-stays, name-numbered, grown, unnumbered}
 
 abbrev Text : Type 0
 Text = List ℕ
@@ -98,8 +98,8 @@ between-end text more end e =
 
 -- # A row more at the end
 
-pub push-here : (text value : Text) (names more : List Text) (name : Text) (shapes : List Shape) (s : Shape) → IsUtf8 text → IsUtf8 value → IsKept text names shapes → value_end s ≡ length text + length value → IsNumbered (names ++ more) s.name name → IsDistinct bytes_eq (names ++ more) → length (names ++ more) ≤ 2 ^ 32 → length shapes + 1 < 2 ^ 32 → IsKept (text ++ value) (names ++ more) (shapes ++ s ∷ []) × (rows_of_shapes (text ++ value) (names ++ more) 0 (shapes ++ s ∷ []) ≡ rows_of_shapes text names 0 shapes ++ row s.size s.level s.kind name value ∷ [])
-push-here text value names more name shapes s u v kept ends numbered distinct few room =
+pub push-here : (text value : Text) (names more : List Text) (name : Text) (shapes : List Shape) (s : Shape) → IsUtf8 text → IsUtf8 value → IsKept text names shapes → value_end s ≡ length text + length value → IsNumbered (names ++ more) s.name name → length shapes + 1 < 2 ^ 32 → IsKept (text ++ value) (names ++ more) (shapes ++ s ∷ []) × (rows_of_shapes (text ++ value) (names ++ more) 0 (shapes ++ s ∷ []) ≡ rows_of_shapes text names 0 shapes ++ row s.size s.level s.kind name value ∷ [])
+push-here text value names more name shapes s u v kept ends numbered room =
     let whole : value_end s ≡ length (text ++ value) = omega (arith, length-append text value, ends) in
     let last : IsShape (text ++ value) (names ++ more) (last_end 0 shapes) s = record {
       rises = omega (arith, kept.end, ends);
@@ -114,8 +114,6 @@ push-here text value names more name shapes s u v kept ends numbered distinct fe
       record {
         shapes = shapes-append (text ++ value) (names ++ more) 0 shapes (s ∷ []) (shapes-stay text value names more 0 shapes kept.shapes) (last, tt);
         end = end-append 0 shapes (s ∷ []) ∙ whole;
-        distinct = distinct;
-        few = few;
         room = omega (arith, length-append shapes (s ∷ []));
       },
       rows-append (text ++ value) (names ++ more) 0 shapes (s ∷ [])
@@ -128,12 +126,12 @@ abbrev pub IsPushed : Text → List Text → List Shape → Text → List Text �
 IsPushed text names shapes text' names' shapes' new =
     IsKept text' names' shapes' × (rows_of_shapes text' names' 0 shapes' ≡ rows_of_shapes text names 0 shapes ++ new ∷ [])
 
-pub push-keeps : (text value text' : Text) (names names' : List Text) (name : Text) (shapes shapes' : List Shape) (s : Shape) → IsUtf8 text → IsUtf8 value → IsKept text names shapes → text' ≡ text ++ value → names' ≡ with_name names name → shapes' ≡ shapes ++ s ∷ [] → value_end s ≡ length text + length value → IsNumbered names' s.name name → length names' ≤ 2 ^ 32 → length shapes + 1 < 2 ^ 32 → IsPushed text names shapes text' names' shapes' (row s.size s.level s.kind name value)
-push-keeps text value text' names names' name shapes shapes' s u v kept te ne se ends numbered few room =
+pub push-keeps : (text value text' : Text) (names names' : List Text) (name : Text) (shapes shapes' : List Shape) (s : Shape) → IsUtf8 text → IsUtf8 value → IsKept text names shapes → text' ≡ text ++ value → names' ≡ with_name names name → shapes' ≡ shapes ++ s ∷ [] → value_end s ≡ length text + length value → IsNumbered names' s.name name → length shapes + 1 < 2 ^ 32 → IsPushed text names shapes text' names' shapes' (row s.size s.level s.kind name value)
+push-keeps text value text' names names' name shapes shapes' s u v kept te ne se ends numbered room =
     let more = grown names name in
     let e : names' ≡ names ++ more.0 = ne ∙ more.1 in
     let new = row s.size s.level s.kind name value in
-    let here = push-here text value names more.0 name shapes s u v kept ends (subst (λ ns. IsNumbered ns s.name name) e numbered) (subst (IsDistinct bytes_eq) more.1 (distinct-with names name kept.distinct)) (subst (λ ns. length ns ≤ 2 ^ 32) e few) room in
+    let here = push-here text value names more.0 name shapes s u v kept ends (subst (λ ns. IsNumbered ns s.name name) e numbered) room in
     let one : IsPushed text names shapes (text ++ value) (names ++ more.0) shapes' new = subst (λ ss. IsPushed text names shapes (text ++ value) (names ++ more.0) ss new) (sym se) here in
     let two : IsPushed text names shapes (text ++ value) names' shapes' new = subst (λ ns. IsPushed text names shapes (text ++ value) ns shapes' new) (sym e) one in
     subst (λ t. IsPushed text names shapes t names' shapes' new) (sym te) two
@@ -141,8 +139,7 @@ push-keeps text value text' names names' name shapes shapes' s u v kept te ne se
 -- # No row
 
 nothing : IsKept [] [] []
-unfolding IsDistinct
-nothing = record { shapes = tt; end = refl; distinct = tt; few = omega arith; room = omega arith }
+nothing = record { shapes = tt; end = refl; room = omega arith }
 
 pub nothing-kept : (text : Text) (names : List Text) (shapes : List Shape) → text ≡ [] → names ≡ [] → shapes ≡ [] → IsKept text names shapes
 nothing-kept text names shapes te ne se = rw (te, ne, se) nothing

@@ -5,7 +5,6 @@ ghost use Rattle.xq_packed.specs.Packed.{row, with_name};
 ghost use Rattle.xq_packed.specs.Changes.{moved, AreMovable, with_longer_last, with_size};
 ghost use Rattle.xq_packed.specs.private.Shapes.{sunk};
 
-use crate::names::number_among;
 use crate::shapes::{Shape, end_after};
 use crate::{MOST_ROWS, PackedRows};
 use xq_atoms::Want;
@@ -85,7 +84,7 @@ impl PackedRows {
             return Err(Want::Memory);
         }
         self.shapes.reserve(1)?;
-        let name = number_among(&mut self.names, name)?;
+        let name = self.names.number_among(name)?;
         let root = Shape {
             size,
             name,

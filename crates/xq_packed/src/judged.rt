@@ -68,10 +68,11 @@ fn are_numbers_distinct(alloc: Global, shapes: &[Shape]) -> Result<bool, Want>
 
 impl NamedRows for PackedRows {
     fn has_distinct_names(&self, low: usize, high: usize) -> Result<bool, Want> {
+        let alloc = self.names.allocator();
         let run = &self.shapes[low..high];
         if numbers_ascend(run) {
             return Ok(true);
         }
-        are_numbers_distinct(*self.names.allocator(), run)
+        are_numbers_distinct(alloc, run)
     }
 }

@@ -8,7 +8,6 @@ ghost use Rattle.xq_regions.specs.Rows.{row_of, row_at};
 ghost use Rattle.xq_packed.specs.Packed.{row, with_name, IsExtended, IsNumberOf, NoneNamed};
 ghost use Rattle.xq_packed.specs.private.Shapes.{Describes};
 
-use indexmap::IndexSet;
 use std::alloc::Global;
 use std::marker::Model;
 use xq_atoms::Want;
@@ -21,7 +20,7 @@ mod row;
 mod runs;
 mod shapes;
 
-use names::number_among;
+use names::Names;
 pub use row::PackedRow;
 use shapes::{Shape, end_after, start_at};
 
@@ -35,11 +34,11 @@ pub struct PackedRows {
     shapes: Vec<Shape>,
     /// The values of the rows, one after another.
     text: String,
-    names: IndexSet<String>,
+    names: Names,
 }
 
 impl Model for PackedRows {
-    ghost use Rattle.std.specs.Prelude.{map, string_bytes};
+    ghost use Rattle.std.specs.Prelude.{string_bytes};
     ghost use Rattle.xq_packed.specs.Packed.{Packed, packed_code};
 
     ghost Value = { Packed };
@@ -49,13 +48,11 @@ impl Model for PackedRows {
     ghost use Rattle.xq_packed.specs.private.Shapes.{rows_of_shapes, IsKept};
 
     ghost view = { λ p. record {
-      rows = rows_of_shapes (string_bytes p.text) (map string_bytes p.names.keys) 0
-          p.shapes.items;
-      names = map string_bytes p.names.keys;
+      rows = rows_of_shapes (string_bytes p.text) p.names 0 p.shapes.items;
+      names = p.names;
     } };
 
-    ghost invariant = { λ p. IsKept (string_bytes p.text) (map string_bytes p.names.keys)
-        p.shapes.items };
+    ghost invariant = { λ p. IsKept (string_bytes p.text) p.names p.shapes.items };
 }
 
 impl PackedRows {
@@ -67,7 +64,7 @@ impl PackedRows {
         PackedRows {
             shapes: Vec::new(alloc),
             text: String::new(alloc),
-            names: IndexSet::new(alloc),
+            names: Names::new(alloc),
         }
     }
 
@@ -114,7 +111,7 @@ impl PackedRows {
         let (end_low, end_high) = end_after(self.text.len(), value.len())?;
         self.shapes.reserve(1)?;
         self.text.reserve(value.len())?;
-        let name = number_among(&mut self.names, name)?;
+        let name = self.names.number_among(name)?;
         self.text.push_str(value)?;
         self.shapes.push_reserved(Shape {
             size,
@@ -169,10 +166,7 @@ impl PackedRows {
         ensures number { IfSome result (λ number. IsNumberOf self.now.names number name.now) }
         ensures none { IfNone result (NoneNamed self.now.rows name.now) }
     {
-        match self.names.get_index_of(name) {
-            Some(number) => Some(number as u32),
-            None => None,
-        }
+        self.names.number_of(name)
     }
 
     /// The shape of the row at a place.
@@ -190,7 +184,7 @@ impl PackedRows {
         requires { at < length self.now.rows }
         ensures { result.now ≡ (row_at self.now.rows at).label.name }
     {
-        self.names[self.shapes[at].name as usize].as_str()
+        self.names.get(self.shapes[at].name)
     }
 
     /// The value of the row at a place.

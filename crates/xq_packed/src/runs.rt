@@ -1,5 +1,5 @@
 //! Runs of rows that are copied after others.
-ghost use Rattle.std.specs.Prelude.{ℕ, List, ◌≡◌, ◌+◌, ◌-◌, ◌^◌, ◌<◌, ◌≤◌, ◌++◌, map, take, length, slice_range, string_bytes, All, IfOk, IfErr, OnOk, OnErr};
+ghost use Rattle.std.specs.Prelude.{ℕ, List, ◌≡◌, ◌+◌, ◌-◌, ◌<◌, ◌≤◌, ◌++◌, map, take, length, slice_range, All, IfOk, IfErr, OnOk, OnErr};
 ghost use Rattle.xq_regions.specs.Tree.{most_levels};
 ghost use Rattle.xq_packed.specs.Packed.{IsNumbered, with_name, with_names};
 ghost use Rattle.xq_packed.specs.Changes.{moved, AreMovable};
@@ -7,10 +7,9 @@ ghost use Rattle.xq_packed.specs.private.Shapes.{value_end, name_at};
 ghost use Rattle.xq_packed.specs.private.Copies.{IsKnown, IsReadable, IsMovedTo, AreMovedAfter, with_named};
 ghost use Rattle.xq_packed.specs.declared.shapes.Shape.{Shape};
 
-use crate::names::number_among;
+use crate::names::Names;
 use crate::shapes::{Shape, end_after, start_at};
 use crate::{MOST_ROWS, PackedRows};
-use indexmap::IndexSet;
 use xq_atoms::Want;
 use xq_regions::MAX_LEVEL;
 
@@ -31,24 +30,19 @@ struct Move {
 /// it is known.
 fn number_again(
     known: &mut [Option<(u32, u32)>],
-    names: &mut IndexSet<String>,
-    others: &IndexSet<String>,
+    names: &mut Names,
+    others: &Names,
     number: u32,
 ) -> Result<u32, Want>
     requires some { 0 < length known.old }
-    requires known { All (IsKnown (map string_bytes others.now.keys)
-        (map string_bytes names.old.keys)) known.old }
-    requires few { length names.old.keys ≤ 2 ^ 32 }
-    requires numbered { number < length others.now.keys }
-    ensures number { IfOk result (λ found. IsNumbered (map string_bytes names.new.keys) found
-        (name_at (map string_bytes others.now.keys) number)) }
-    ensures names { OnOk result (map string_bytes names.new.keys
-        ≡ with_name (map string_bytes names.old.keys)
-        (name_at (map string_bytes others.now.keys) number)) }
-    ensures known { OnOk result (All (IsKnown (map string_bytes others.now.keys)
-        (map string_bytes names.new.keys)) known.new) }
-    ensures few { length names.new.keys ≤ 2 ^ 32 }
-    ensures err { OnErr result (names.new.keys ≡ names.old.keys) }
+    requires known { All (IsKnown others.now names.old) known.old }
+    requires numbered { number < length others.now }
+    ensures number { IfOk result (λ found. IsNumbered names.new found
+        (name_at others.now number)) }
+    ensures names { OnOk result (names.new
+        ≡ with_name names.old (name_at others.now number)) }
+    ensures known { OnOk result (All (IsKnown others.now names.new) known.new) }
+    ensures err { OnErr result (names.new ≡ names.old) }
     ensures want { IfErr result (λ want. want ≡ Want.Memory) }
 {
     let at = number as usize % known.len();
@@ -57,7 +51,7 @@ fn number_again(
             return Ok(found);
         }
     }
-    let found = number_among(names, others[number as usize].as_str())?;
+    let found = names.number_among(others.get(number))?;
     known[at] = Some((number, found));
     Ok(found)
 }
@@ -91,26 +85,20 @@ fn moved_shape(shape: Shape, name: u32, way: Move) -> Result<Shape, Want>
 /// refused, some of them were added.
 fn append_shapes(
     shapes: &mut Vec<Shape>,
-    names: &mut IndexSet<String>,
-    others: &IndexSet<String>,
+    names: &mut Names,
+    others: &Names,
     run: &[Shape],
     way: Move,
 ) -> Result<(), Want>
-    requires few { length names.old.keys ≤ 2 ^ 32 }
-    requires readable { All (IsReadable (map string_bytes others.now.keys) way.low) run.now }
-    ensures moved { OnOk result (AreMovedAfter (map string_bytes others.now.keys)
-        (map string_bytes names.new.keys) way.low way.base way.from way.to
+    requires { All (IsReadable others.now way.low) run.now }
+    ensures moved { OnOk result (AreMovedAfter others.now names.new way.low way.base way.from way.to
         shapes.old.items run.now shapes.new.items) }
-    ensures names { OnOk result (map string_bytes names.new.keys
-        ≡ with_named (map string_bytes others.now.keys)
-        (map string_bytes names.old.keys) run.now) }
+    ensures names { OnOk result (names.new ≡ with_named others.now names.old run.now) }
     ensures fit { OnOk result (All (λ shape. shape.level - way.from + way.to < most_levels)
         run.now) }
     ensures front { (more : List Shape) × (shapes.new.items ≡ shapes.old.items ++ more) }
-    ensures some { OnErr result ((count : ℕ) × (map string_bytes names.new.keys
-        ≡ with_named (map string_bytes others.now.keys)
-        (map string_bytes names.old.keys) (take count run.now))) }
-    ensures few { length names.new.keys ≤ 2 ^ 32 }
+    ensures some { OnErr result ((count : ℕ) × (names.new
+        ≡ with_named others.now names.old (take count run.now))) }
     ensures want { All (λ shape. shape.level - way.from + way.to < most_levels) run.now
         → IfErr result (λ want. want ≡ Want.Memory) }
 {

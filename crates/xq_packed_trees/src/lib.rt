@@ -13,8 +13,6 @@ use xq_regions::{Fragment, Kind, is_tree};
 
 mod lists;
 mod sizes;
-#[cfg(test)]
-mod tests;
 
 use lists::listed;
 use sizes::set_sizes;

@@ -49,12 +49,10 @@ pub fn expression<'a>(
             Ok(Plan::Unary(signs, boxed(alloc, scope, part.get())?))
         }
         Core::Step(axis, tested, predicates) => {
+            // The list first: where the test is refused, it is let go in one call.
+            let predicates = expressions(alloc, scope, predicates.as_slice())?;
             let tested = test(alloc, tested)?;
-            Ok(Plan::Step(
-                *axis,
-                tested,
-                expressions(alloc, scope, predicates.as_slice())?,
-            ))
+            Ok(Plan::Step(*axis, tested, predicates))
         }
         Core::Filter(start, predicates) => {
             let start = boxed(alloc, scope, start.get())?;

@@ -4,6 +4,8 @@ use std::alloc::Global;
 use std::process::Abort;
 use xq_atoms::{Fault, Want};
 use xq_eval::eval;
+use xq_meaning::Plan;
+use xq_packed_trees::PackedTree;
 use xq_queries::{ask, make, read};
 use xq_sources::{Addresses, Fragments, Meter, TreeSource, Trees};
 
@@ -11,18 +13,54 @@ use xq_sources::{Addresses, Fragments, Meter, TreeSource, Trees};
 const LIBRARY: &str = "document {element lib {element book {attribute id {\"1\"}, text {\"A\"}}, \
 element book {attribute id {\"2\"}, text {\"B\"}}}}";
 
+/// The plan of a query.
+struct HeldPlan {
+    plan: Plan,
+}
+
+// It is written out, so that who holds a plan does not go through all of its forms wherever it lets
+// one go.
+impl Drop for HeldPlan {
+    fn drop(self) {
+        let HeldPlan { plan: _plan } = self;
+    }
+}
+
+/// The plan of the query, to be held.
+fn held(alloc: Global, query: &str) -> Result<HeldPlan, Fault> {
+    match read(alloc, query.as_bytes()) {
+        Ok(plan) => Ok(HeldPlan { plan }),
+        Err(fault) => Err(fault),
+    }
+}
+
+/// No documents, to which trees can be added.
+fn nothing(alloc: Global) -> Trees<Fragments> {
+    Trees::new(alloc, Fragments::new(alloc))
+}
+
+/// The document that the query makes over none.
+fn document(alloc: Global, query: &str) -> Result<PackedTree, Fault> {
+    let query = held(alloc, query)?;
+    make(
+        alloc,
+        &query.plan,
+        &mut nothing(alloc),
+        &Addresses::new(alloc),
+    )
+}
+
 /// The library as a source of one tree.
 fn library(alloc: Global) -> Result<Fragments, Fault> {
+    let tree = document(alloc, LIBRARY)?;
     let mut fragments = Fragments::new(alloc);
-    let plan = read(alloc, LIBRARY.as_bytes())?;
-    let tree = make(
-        alloc,
-        &plan,
-        &mut Trees::new(alloc, Fragments::new(alloc)),
-        &Addresses::new(alloc),
-    )?;
     fragments.push_packed(tree)?;
     Ok(fragments)
+}
+
+/// The library, to which trees can be added.
+fn world(alloc: Global) -> Result<Trees<Fragments>, Fault> {
+    Ok(Trees::new(alloc, library(alloc)?))
 }
 
 /// The address of the library.
@@ -36,28 +74,23 @@ fn addresses(alloc: Global) -> Result<Addresses, Want> {
 
 /// The text of the reply to the query over the library.
 fn asked(alloc: Global, query: &str) -> Result<String, Fault> {
-    let plan = read(alloc, query.as_bytes())?;
-    ask(
-        alloc,
-        &plan,
-        &mut Trees::new(alloc, library(alloc)?),
-        &addresses(alloc)?,
-    )
+    let query = held(alloc, query)?;
+    ask(alloc, &query.plan, &mut world(alloc)?, &addresses(alloc)?)
 }
 
 /// What the meter shows once the query was evaluated over the library, whatever its value is.
 pub fn read_to_evaluate(alloc: Global, query: &str) -> Result<Meter, Fault> {
-    let plan = read(alloc, query.as_bytes())?;
-    let mut world = Trees::new(alloc, library(alloc)?);
-    let _value = eval(alloc, &plan, &mut world, &addresses(alloc)?);
+    let query = held(alloc, query)?;
+    let mut world = world(alloc)?;
+    let _value = eval(alloc, &query.plan, &mut world, &addresses(alloc)?);
     Ok(world.meter())
 }
 
 /// What the meter shows once its value was printed as well.
 pub fn read_to_answer(alloc: Global, query: &str) -> Result<Meter, Fault> {
-    let plan = read(alloc, query.as_bytes())?;
-    let mut world = Trees::new(alloc, library(alloc)?);
-    let _text = ask(alloc, &plan, &mut world, &addresses(alloc)?);
+    let query = held(alloc, query)?;
+    let mut world = world(alloc)?;
+    let _text = ask(alloc, &query.plan, &mut world, &addresses(alloc)?);
     Ok(world.meter())
 }
 
@@ -72,11 +105,11 @@ fn answer(alloc: Global, query: &str) -> Result<String, Want> {
 
 /// The text of the reply to a text that is asked over no documents.
 fn asked_again(alloc: Global, text: &str) -> Result<String, Fault> {
-    let plan = read(alloc, text.as_bytes())?;
+    let query = held(alloc, text)?;
     ask(
         alloc,
-        &plan,
-        &mut Trees::new(alloc, Fragments::new(alloc)),
+        &query.plan,
+        &mut nothing(alloc),
         &Addresses::new(alloc),
     )
 }

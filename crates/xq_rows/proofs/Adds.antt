@@ -1,5 +1,5 @@
 -- What INSERTs do to the rows that tables show.
-use Rattle.std.proofs.Common.{◌≡◌, ◌≤◌, ◌++◌, inl, inr, ℕ, ℤ, pos, Bool, true, false, List, [], ◌∷◌, map, filter, get_or, IsTrue, String, Global, Result, Ok, Err, OnOk, refl, sym, ap, ap₂, subst, subst₂, ◌∙◌, append-nil, append_assoc}
+use Rattle.std.proofs.Common.{◌≡◌, ◌≤◌, ◌++◌, inl, inr, ℕ, ℤ, pos, Bool, true, false, List, [], ◌∷◌, map, filter, get_or, IsTrue, String, Global, Result, Ok, Err, refl, sym, ap, ap₂, subst, subst₂, ◌∙◌, append-nil, append_assoc}
 use Rattle.std.specs.List.{AllByRecursion}
 use Rattle.std.specs.List.Sorted.{IsPermutation}
 use Rattle.std.proofs.lemmas.List.{map-append}
@@ -12,7 +12,6 @@ use Rattle.sqlite_trees.specs.View.{is_int}
 use Rattle.sqlite_trees.proofs.ListLemmas.{filter-map, map-map, IsPermutation-filter}
 use Rattle.sqlite_trees.proofs.TreeLemmas.{all-put_row}
 use Rattle.sqlite_keyed.proofs.ListLemmas.{all_map, all_unmap, all_weaker}
-use Rattle.sqlite_rules.specs.Edit.{next_rowid}
 use Rattle.sqlite.specs.Effect.{Database}
 use Rattle.sqlite.specs.State.{State, ExecutesInside}
 use Rattle.sqlite.specs.declared.error.Error.{Error}
@@ -20,11 +19,11 @@ use Rattle.xq_regions.specs.Rows.{Row as Node}
 use Rattle.xq_rows.specs.Nodes.{cells}
 use Rattle.xq_rows.specs.Documents.{is_at, node_columns, rows_at, AreApart, AreLabels, HasAddress, HaveInts, IsSound}
 use Rattle.xq_rows.specs.Labels.{label_rows, most_label, named, named_rows, node2_rows, shown_rows, HasLabel, IsNumbered, IsNumberOf, IsStoreSchema}
-use Rattle.xq_rows.specs.private.Statements.{Adds, AddsNamed, AreNumbers, HasAdded, HasNumbered, KeepsLabels, Numbers, NumbersInHand}
+use Rattle.xq_rows.specs.private.Statements.{AreNumbers, HasAdded, HasNumbered, KeepsLabels, Numbers}
 use Rattle.xq_rows.proofs.Inserts.{apart-put_row, other_address, own_address, put_passed, put_permutes}
-use Rattle.xq_rows.proofs.LabelInserts.{labelled, new_label, noted, noted_row, numbered_cells, IsLabelled, IsNoted}
+use Rattle.xq_rows.proofs.LabelInserts.{labelled, new_label, noted_row, IsLabelled, IsNoted}
 use Rattle.xq_rows.proofs.LabelPlaces.{shown_are}
-use Rattle.xq_rows.proofs.LabelTexts.{add_label_text, insert2_text}
+use Rattle.xq_rows.proofs.LabelTexts.{add_label_text}
 use Rattle.xq_rows.proofs.Named.{held_stays, named_each, named_stays, number_new, number_stays, with_name}
 
 -- # A label
@@ -189,42 +188,7 @@ adds_more address xs ys first mid last p q = record {
   others = λ b apart. q.others b apart ∙ p.others b apart;
 }
 
--- a name was numbered, and a node with it was inserted
-pub adds_numbered : (address : List ℕ) (n : ℕ × Node) (label : ℕ) (before after : List (String Global × ℕ)) (old named new : State) → NumbersInHand n.1.label.name label before after old named → Adds address n label named new
-    → AddsNamed address (cells n ∷ []) before after old new
-adds_numbered address n label before after old named new q r = record {
-  mode = λ inside. r.mode (q.mode inside);
-  did = λ sound all. (
-      let two = q.did sound all in
-      let three = r.did two.0.sound two.0.number in
-      (adds_more address [] (cells n ∷ []) old.now named.now new.now (numbered_adds address n.1.label.name label old.now named.now two.0) three, kept_numbers named.now new.now after three.keeps two.1));
-}
-
--- some were inserted, and then others
-pub adds_both : (address : List ℕ) (xs ys : List Row) (start before after : List (String Global × ℕ)) (first mid last : State) → AddsNamed address xs start before first mid → AddsNamed address ys before after mid last → AddsNamed address (xs ++ ys) start after first last
-adds_both address xs ys start before after first mid last p q = record {
-  mode = λ inside. q.mode (p.mode inside);
-  did = λ sound all. (
-      let one = p.did sound all in
-      let two = q.did one.0.sound one.1 in
-      (adds_more address xs ys first.now mid.now last.now one.0 two.0, two.1));
-}
-
-pub adds_nothing : (address : List ℕ) (names : List (String Global × ℕ)) (s : State) → AddsNamed address [] names names s s
-adds_nothing address names s = record { mode = λ inside. inside; did = λ sound all. (adds_none address s.now sound, all) }
-
 -- # Inside a transaction
-
-pub node_inside : (old new : State) (address : List ℕ) (n : ℕ × Node) (label : ℕ) (e : Error) (r : Result ℕ Error) → (old.in_transaction ≡ false → r ≡ Err e)
-    → (IsTrue old.in_transaction → ExecutesInside 0 insert2_text (Text address ∷ numbered_cells n label) old new r) → OnOk r (Adds address n label old new)
-node_inside old new address n label e (Err f) ended runs = tt
-node_inside old new address n label e (Ok count) ended runs = go old.in_transaction refl
-  where
-    go : (b : Bool) → old.in_transaction ≡ b → Adds address n label old new
-    go true inside =
-        let ran = runs inside in
-        record { mode = λ _. ran.1.mode; did = λ sound known. adds_one address n label (next_rowid (node2_rows old.now)) old.now new.now sound known (noted old new address n label count sound.schema ran.0) }
-    go false outside = absurd (let e = ended outside in cc)
 
 pub label_inside : (old new : State) (name : List ℕ) (n : ℕ) (e : Error) (count : ℕ) → n ≤ most_label → pos n ≡ new.last_rowid → (old.in_transaction ≡ false → ◌≡◌ {A = Result ℕ Error} (Ok count) (Err e))
     → (IsTrue old.in_transaction → ExecutesInside 0 add_label_text (Text name ∷ []) old new (Ok count)) → Numbers name n old new

@@ -4,7 +4,7 @@ use Rattle.std.specs.List.{AllByRecursion}
 use Rattle.std.specs.Ordering.{is_eq}
 use Rattle.std.proofs.lemmas.Cmp.{tied_itself}
 use Rattle.sqlite_value.specs.declared.value.Value.TheVariants.{Int}
-use Rattle.sqlite_value.specs.Order.{column}
+use Rattle.sqlite_value.specs.Order.{Row, column}
 use Rattle.sqlite_value.proofs.OrderLemmas.{value_cmp_total}
 use Rattle.sqlite_trees.specs.Tree.{Trees}
 use Rattle.sqlite_catalog.specs.Change.{KeepsRows}
@@ -240,10 +240,10 @@ pub kept_same : (s : State) → KeepsCommit s s
 kept_same s = record { was_open = λ up. up; committed = λ up. refl }
 
 -- what was committed stays, whatever the statement answers
-pub kept_inside : (text : List ℕ) (old new : State) (r : Result ℕ Error) → (old.in_transaction ≡ false → KeepsCommit old new) → (IsTrue old.in_transaction → ExecutesInside 0 text [] old new r) → KeepsCommit old new
-kept_inside text old new r ended runs = go old.in_transaction refl r runs
+pub kept_inside : (text : List ℕ) (params : Row) (old new : State) (r : Result ℕ Error) → (old.in_transaction ≡ false → KeepsCommit old new) → (IsTrue old.in_transaction → ExecutesInside 0 text params old new r) → KeepsCommit old new
+kept_inside text params old new r ended runs = go old.in_transaction refl r runs
   where
-    go : (b : Bool) → old.in_transaction ≡ b → (r : Result ℕ Error) → (IsTrue old.in_transaction → ExecutesInside 0 text [] old new r) → KeepsCommit old new
+    go : (b : Bool) → old.in_transaction ≡ b → (r : Result ℕ Error) → (IsTrue old.in_transaction → ExecutesInside 0 text params old new r) → KeepsCommit old new
     go false outside r runs = ended outside
     go true inside (Ok count) runs = shown_kept old new new.now true (runs inside).1
     go true inside (Err e) runs = elim (runs inside) [ inl h ↦ undone_kept old new h.1 | inr h ↦ undone_kept old new (inl h.2) ]

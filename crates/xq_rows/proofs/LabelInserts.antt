@@ -1,5 +1,5 @@
--- What INSERT does to the tables of labels and of their nodes.
-use Rattle.std.proofs.Common.{◌≡◌, ℕ, ℤ, pos, Some, None, Ok, List, [], ◌∷◌, false, refl, sym, ap, subst, ◌∙◌, unwrap_or}
+-- What INSERT does to the table of labels, and the row of a node beside others.
+use Rattle.std.proofs.Common.{◌≡◌, ℕ, ℤ, Some, None, Ok, List, [], ◌∷◌, false, refl, sym, ap, subst, ◌∙◌, unwrap_or}
 use Rattle.sqlite_value.specs.Order.{Row}
 use Rattle.sqlite_value.specs.declared.value.Value.TheVariants.{Null, Int, Text}
 use Rattle.sqlite_trees.specs.Tree.{Trees, put_row}
@@ -13,16 +13,15 @@ use Rattle.sqlite.specs.Listing.{understood}
 use Rattle.sqlite.specs.Effect.{Database}
 use Rattle.sqlite.specs.State.{State, mode_of, Executes}
 use Rattle.sqlite.proofs.Callers.{statement_of, runs_as, one_step}
-use Rattle.xq_regions.specs.Codes.{kind_number}
 use Rattle.xq_regions.specs.Rows.{Row as Node}
 use Rattle.xq_rows.specs.Labels.{label_rows, node2_rows, IsStoreSchema}
+use Rattle.xq_rows.specs.private.Numbered.{numbered_cells}
 use Rattle.xq_rows.specs.Tables.{layout_rows, node_rows}
 use Rattle.xq_rows.proofs.Deletes.{went, same_value}
-use Rattle.xq_rows.proofs.Inserts.{cast_int, cast_null, one_fresh}
-use Rattle.xq_rows.proofs.LabelPlaces.{Made, schema_of, label_tree, label_place, label_table_of, label_there, node2_tree, node2_place, node2_table_of, node2_there, which, nodes_lie, labels_lie, layout_lies, old_lie, old_beside_labels, old_beside_nodes, no_works, OthersStay, layout_stays, labels_stay, nodes_stay, layout_not_label, layout_not_node2, label_not_node2}
-use Rattle.xq_rows.proofs.LabelTexts.{add_label_text, add_label_terms, add_label_is, add_label_plain, insert2_text, insert2_is, insert2_plain}
+use Rattle.xq_rows.proofs.Inserts.{cast_null, one_fresh}
+use Rattle.xq_rows.proofs.LabelPlaces.{Made, schema_of, label_tree, label_place, label_table_of, label_there, which, nodes_lie, labels_lie, layout_lies, old_lie, old_beside_labels, no_works, OthersStay, layout_stays, nodes_stay, layout_not_label, label_not_node2}
+use Rattle.xq_rows.proofs.LabelTexts.{add_label_text, add_label_terms, add_label_is, add_label_plain}
 use Rattle.xq_rows.proofs.Places.{on_table}
-use Rattle.xq_rows.proofs.Texts.{insert_terms}
 
 -- # A label
 
@@ -100,11 +99,7 @@ labelled old new name count has h =
 
 -- # A node
 
--- the columns of a node, with the number of its label
-abbrev pub numbered_cells : ℕ × Node → ℕ → Row
-numbered_cells p label = let n = p.1 in Int (pos p.0) ∷ Int (pos n.size) ∷ Int (pos n.level) ∷ Int (pos (kind_number n.label.kind)) ∷ Int (pos label) ∷ Text n.label.value ∷ []
-
--- its row under an address, by its rowid
+-- the row of a node under an address, by its rowid
 abbrev pub noted_row : List ℕ → ℕ × Node → ℕ → ℤ → Row
 noted_row address n label id = Int id ∷ Text address ∷ numbered_cells n label
 
@@ -119,60 +114,3 @@ pub record IsNoted (address : List ℕ) (n : ℕ × Node) (label : ℕ) (id : �
   pub beside : node_rows new ≡ node_rows old
   pub nodes : node2_rows new ≡ put_row (noted_row address n label id) (node2_rows old)
   pub fresh : is_taken (node2_rows old) (noted_row address n label id) ≡ false
-
-node_is : (made : Made) (address : List ℕ) (n : ℕ × Node) (label : ℕ) (db : Trees)
-    → (edit_of db (node2_table_of made) [] Chosen 0 ((Null ∷ Text address ∷ numbered_cells n label) ∷ [])).news ≡ new_node address n label (db (node2_tree made)) ∷ []
-node_is made address n label db = rw (cast_null, cast_int (pos n.0), cast_int (pos n.1.size), cast_int (pos n.1.level), cast_int (pos (kind_number n.1.label.kind)), cast_int (pos label)) refl
-
--- what it makes of the trees
-record NodesIn (made : Made) (address : List ℕ) (n : ℕ × Node) (label : ℕ) (old new : Database) : Type 0 where
-  schema : new.schema ≡ old.schema
-  others : OthersStay made (node2_tree made) old.trees new.trees
-  nodes : new.trees (node2_tree made) ≡ put_row (new_node address n label (old.trees (node2_tree made))) (old.trees (node2_tree made))
-  fresh : is_taken (old.trees (node2_tree made)) (new_node address n label (old.trees (node2_tree made))) ≡ false
-
-nodes_in : (made : Made) (old new : State) (address : List ℕ) (n : ℕ × Node) (label count : ℕ) → old.now.schema ≡ schema_of made → Executes insert2_text (Text address ∷ numbered_cells n label) old new (Ok count)
-    → NodesIn made address n label old.now new.now
-nodes_in made old new address n label count has h =
-    let params = Text address ∷ numbered_cells n label in
-    let db = old.now.trees in
-    let tree = node2_tree made in
-    let schema = schema_of made in
-    let command = Insert (node2_place made) (Values insert_terms 8) in
-    let w = runs_as insert2_text params old new schema has command (insert2_is made) (insert2_plain made) count h in
-    let text = statement_of insert2_text (understood schema insert2_text) in
-    let changed = subst (λ s. Does old.step_limit (mode_of old) params (record old.now { schema = s }) text None command (Ok (w.tally, new.now))) has w.changed in
-    let done = went (on_table schema (node2_place made) (node2_table_of made) (node2_there made) old.step_limit (mode_of old) params db (λ task. OnRows task (mode_of old) None command db) (Ok (w.tally, new.now)) changed) in
-    let now = ap (λ (p : Tally × Database). p.1) (same_value (went (went done.2).2).2) in
-    let given = went done.1 in
-    let written = went (went given.2).2 in
-    let counted = went written.2 in
-    let trees : new.now.trees ≡ written.0 = ap (λ (d : Database). d.trees) now ∙ ap (λ (it : Written). it.trees) (same_value counted.2) ∙ same_value counted.1 in
-    let e = edit_of db (node2_table_of made) [] Chosen 0 given.0 in
-    let keys = (mode_of old).keys in
-    let step = one_step schema keys db written.0 e (no_works made tree keys (taken_by db e) e.news) written.1 in
-    let sources : given.0 ≡ (Null ∷ params) ∷ [] = given.1.1 in
-    let row = new_node address n label (db tree) in
-    let news : e.news ≡ row ∷ [] = ap (λ all. (edit_of db (node2_table_of made) [] Chosen 0 all).news) sources ∙ node_is made address n label db in record {
-      schema = ap (λ (d : Database). d.schema) now ∙ sym has;
-      others = subst (OthersStay made tree db) (sym trees) step.tables;
-      nodes = ap (λ (t : Trees). t tree) trees ∙ step.rows ∙ ap (λ rows. put_all (db tree) rows) news;
-      fresh = one_fresh (db tree) row (ap (λ rows. are_fresh (db tree) rows) (sym news) ∙ step.fresh);
-    }
-
-pub noted : (old new : State) (address : List ℕ) (n : ℕ × Node) (label count : ℕ) → IsStoreSchema old.now.schema → Executes insert2_text (Text address ∷ numbered_cells n label) old new (Ok count)
-    → IsNoted address n label (next_rowid (node2_rows old.now)) old.now new.now
-noted old new address n label count has h =
-    let place = which old.now.schema has in
-    let made = place.0 in
-    let tree = node2_tree made in
-    let was = sym (nodes_lie made old.now place.1) in
-    let it = nodes_in made old new address n label count place.1 h in
-    let still = it.schema ∙ place.1 in record {
-      schema = it.schema;
-      layout = layout_lies made new.now still ∙ layout_stays tree old.now.trees new.now.trees made it.others (layout_not_node2 made) ∙ sym (layout_lies made old.now place.1);
-      labels = labels_lie made new.now still ∙ labels_stay tree old.now.trees new.now.trees made it.others (label_not_node2 made) ∙ sym (labels_lie made old.now place.1);
-      beside = old_lie made new.now still ∙ old_beside_nodes old.now.trees new.now.trees made it.others ∙ sym (old_lie made old.now place.1);
-      nodes = nodes_lie made new.now still ∙ it.nodes ∙ ap (λ rows. put_row (new_node address n label rows) rows) was;
-      fresh = sym (ap (λ rows. is_taken rows (new_node address n label rows)) was) ∙ it.fresh;
-    }

@@ -44,3 +44,6 @@ pub mod Moving
 pub mod Carrying
 pub mod Renewals
 pub mod Updates
+pub mod EightTexts
+pub mod Together
+pub mod Numberings

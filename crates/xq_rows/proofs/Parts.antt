@@ -1,11 +1,11 @@
 -- A part of an address's rows after the other gives way to new rows.
-use Rattle.std.proofs.Common.{◌≡◌, ◌≢◌, ◌&&◌, ◌||◌, ◌+◌, ◌-◌, ◌<◌, ◌≤◌, inl, inr, ℕ, zero, suc, pos, Bool, true, false, not, cond, List, [], ◌∷◌, ◌++◌, map, filter, length, take, refl, sym, ap, ap₂, subst, subst₂, ◌∙◌, arith, append-nil, append_assoc, take-add, Ordering, Less, Equal, Greater, nat_lt}
+use Rattle.std.proofs.Common.{◌≡◌, ◌≢◌, ◌&&◌, ◌||◌, ◌+◌, ◌-◌, ◌<◌, ◌≤◌, inl, inr, ℕ, zero, suc, pos, Bool, true, false, not, cond, List, [], ◌∷◌, ◌++◌, map, filter, length, take, drop, refl, sym, ap, ap₂, subst, subst₂, ◌∙◌, arith, append-nil, append_assoc, take-add, Ordering, Less, Equal, Greater, nat_lt}
 use Rattle.std.specs.Ordering.{is_ge, is_gt, is_lt, ordering_reverse}
 use Rattle.std.specs.List.{AllByRecursion, enumerate_from, slice_range}
 use Rattle.std.specs.List.Sorted.{IsPermutation}
 use Rattle.std.proofs.lemmas.Cmp.{upto}
 use Rattle.std.proofs.lemmas.Int.{ints}
-use Rattle.std.proofs.lemmas.List.{length-map, length-append, take_all}
+use Rattle.std.proofs.lemmas.List.{length-map, length-append, length-drop, length-take, take_all}
 use Rattle.std.proofs.lemmas.List.Elements.{filter-append}
 use Rattle.std.proofs.lemmas.List.Filters.{length-filter_both}
 use Rattle.std.proofs.lemmas.List.FromFn.{length-enumerate_from}
@@ -186,8 +186,12 @@ renew_more a j k deleted count added more old mid new h below it renewed counted
         let parts = length-filter_both (is_between j k) (λ x. not (is_between j k x)) (λ x. refl) (rows_at a (shown_rows mid)) in
         omega (arith, parts, length_permutation _ _ it.own, length-append (filter (is_from j) all) added, length_permutation _ _ stay, length-append (filter (is_from k) all) added, counted, it.gone)
 
-pub take_then : (j k : ℕ) (xs : List (ℕ × Node)) → j ≤ k → take k xs ≡ take j xs ++ slice_range xs j k
+pub take_then : {X : Type 0} (j k : ℕ) (xs : List X) → j ≤ k → take k xs ≡ take j xs ++ slice_range xs j k
 take_then j k xs h = ap (λ n. take n xs) (let e : k ≡ j + (k - j) = omega (arith, h) in e) ∙ take-add j (k - j) xs
+
+-- as many as there are from one place to before another
+pub many_between : {X : Type 0} (xs : List X) (j k : ℕ) → j ≤ k → k ≤ length xs → j + length (slice_range xs j k) ≡ k
+many_between xs j k forward within = omega (arith, length-take (k - j) (drop j xs), length-drop j xs)
 
 -- # The rows of a document
 
@@ -195,7 +199,7 @@ numbers_from : (n m : ℕ) (list : List Node) → AllByRecursion (λ x. is_from 
 numbers_from n m [] = tt
 numbers_from n m (x ∷ list) = (number_from 0 n (omega arith), numbers_from (n + 1) m list)
 
-numbers_before : (k n : ℕ) (list : List Node) → n + length list ≤ k → AllByRecursion (λ x. is_from k x ≡ false) (map cells (enumerate_from n list))
+pub numbers_before : (k n : ℕ) (list : List Node) → n + length list ≤ k → AllByRecursion (λ x. is_from k x ≡ false) (map cells (enumerate_from n list))
 numbers_before k n [] h = tt
 numbers_before k n (x ∷ list) h = (number_before k n (omega (arith, h)), numbers_before k (n + 1) list (omega (arith, h)))
 

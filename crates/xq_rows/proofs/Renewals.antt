@@ -4,9 +4,11 @@ use Rattle.std.specs.Prelude.{slice_get, option_map}
 use Rattle.std.specs.Ordering.{is_ge, is_lt}
 use Rattle.std.specs.List.{AllByRecursion, enumerate_from, slice_range}
 use Rattle.std.specs.List.Sorted.{IsPermutation}
-use Rattle.std.proofs.lemmas.Option.{slice_get-map}
-use Rattle.std.proofs.lemmas.List.{length-map, length-take-le, map-append, take-map, take-take, take_all, take_more}
+use Rattle.std.proofs.lemmas.Bool.{cases_lt}
+use Rattle.std.proofs.lemmas.Option.{slice_get-get_or, slice_get-map}
+use Rattle.std.proofs.lemmas.List.{length-map, length-take, length-take-le, map-append, take-map, take-take, take_all, take_more}
 use Rattle.std.proofs.lemmas.List.Elements.{filter-append}
+use Rattle.std.proofs.lemmas.List.FromFn.{length-enumerate_from}
 use Rattle.std.proofs.lemmas.List.Sorted.{IsPermutation-refl, IsPermutation-trans, IsPermutation-sym, IsPermutation-cons, IsPermutation-middle, IsPermutation-append_left, length_permutation}
 use Rattle.sqlite_value.specs.Order.{Row, column, value_cmp}
 use Rattle.sqlite_value.specs.declared.value.Value.TheVariants.{Int}
@@ -24,7 +26,7 @@ use Rattle.xq_rows.specs.private.Columns.{node_of}
 use Rattle.xq_rows.specs.private.Statements.{is_between, is_from, is_part, AddsNamed, AreFrom, AreNumbers, HasAdded, HasDropped, AreThere, HasRenewed, IsPicked, LiesAs, RenewsPart, RenewsRow, RenewsRows, RunsFrom, UpdatesNamed}
 use Rattle.xq_rows.proofs.Lists.{both_filters, same_test}
 use Rattle.xq_rows.proofs.Orders.{first_total, numbers_rise}
-use Rattle.xq_rows.proofs.Parts.{all_pass, from_before, new_before, none_pass, number_before, number_from, nothing_yet, outside, rows_beside, rows_without, renew_more, take_then, IsReplaced}
+use Rattle.xq_rows.proofs.Parts.{all_pass, from_before, new_before, none_pass, number_before, number_from, numbers_before, nothing_yet, outside, rows_beside, rows_without, renew_more, take_then, IsReplaced}
 use Rattle.xq_rows.proofs.Ranges.{picks}
 
 -- # The numbers of rows
@@ -177,6 +179,33 @@ module _ (a : List ℕ) (low : ℕ) (nodes : List Node) (db : Database) (runs : 
       so_many : length there ≡ length (filter (is_between low high) mine)
       so_many = sym (length-map there cells) ∙ ap length are ∙ length_permutation _ _ all_within
 
+none_left : (xs ys : List Row) → IsPermutation xs ys → xs ≡ [] → ys ≡ []
+none_left xs [] same none = refl
+none_left xs (y ∷ ys) same none = absurd (let e = length_permutation _ _ same in let n = ap length none in omega (arith, e, n))
+
+never_later : (a b : Bool) → (a ≡ true → b ≡ true) → (a && not b) ≡ false
+never_later true true h = refl
+never_later true false h = absurd (let e = h refl in cc)
+never_later false b h = refl
+
+none_within : (j k : ℕ) → k ≤ j → (xs : List Row) → AllByRecursion (λ x. is_between j k x ≡ false) xs
+none_within j k h [] = tt
+none_within j k h (x ∷ xs) = (between_is j k x ∙ never_later (is_from j x) (is_from k x) (from_before k j h x), none_within j k h xs)
+
+-- none lies beyond those that are read
+none_beyond : (a : List ℕ) (low n : ℕ) (there : List (ℕ × Node)) (db : Database) → AreThere a low n there db → filter (is_between (low + length there) (low + n)) (rows_at a (shown_rows db)) ≡ []
+none_beyond a low n there db are = elim (cases_lt (length there) n) [
+  | inl fewer ↦
+      let given = map cells (enumerate_from low are.0) in
+      let below : low + length are.0 ≤ low + length there = omega (arith, fewer, size, length-take n are.0) in
+      let none : filter (is_between (low + length there) (low + n)) given ≡ [] = none_pass (is_between (low + length there) (low + n)) given (none_between (low + length there) (low + n) given (numbers_before (low + length there) low are.0 below)) in
+      none_left _ _ (IsPermutation-sym _ _ (passing a low are.0 db are.1 (is_between (low + length there) (low + n)) (between_from low (low + length there) (low + n) (omega arith)))) none
+  | inr all ↦ none_pass (is_between (low + length there) (low + n)) _ (none_within (low + length there) (low + n) (omega (arith, all)) _)
+]
+  where
+    size : length there ≡ length (take n are.0)
+    size = sym (length-map there cells) ∙ ap length are.2 ∙ length-map (enumerate_from low (take n are.0)) cells ∙ length-enumerate_from low (take n are.0)
+
 -- # Rows that stay, or give way to others
 
 parts_of : (p : Row → Bool) (xs : List Row) → IsPermutation (filter (λ x. not (p x)) xs ++ filter p xs) xs
@@ -188,11 +217,8 @@ parts_of p (x ∷ xs) = go (p x) (parts_of p xs)
     go false h = IsPermutation-cons x _ _ h
 
 -- a node among others as a row
-pub one_shown : (rows : List (ℕ × Node)) (i : ℕ) (row : ℕ × Node) → Some row ≡ slice_get rows i → slice_get (map cells rows) i ≡ Some (cells row)
-one_shown rows i row e = slice_get-map cells rows i ∙ ap (option_map cells) (sym e)
-
-pub none_shown : (rows : List (ℕ × Node)) (i : ℕ) → None ≡ slice_get rows i → slice_get (map cells rows) i ≡ None
-none_shown rows i e = slice_get-map cells rows i ∙ ap (option_map cells) (sym e)
+pub shown_at : (rows : List (ℕ × Node)) (i : ℕ) (row none : ℕ × Node) → i < length rows → row ≡ get_or rows i none → slice_get (map cells rows) i ≡ Some (cells row)
+shown_at rows i row none h is = slice_get-map cells rows i ∙ ap (option_map cells) (slice_get-get_or rows i none h ∙ ap Some (sym is))
 
 -- the row that is to stand there is there
 pub stays : (a : List ℕ) (p : ℕ) (row : Row) (db : Database) → IsSound db → LiesAs a p (Some row) db → HasRenewed a p (p + 1) (row ∷ []) db db
@@ -206,8 +232,8 @@ stays a p row db sound lies = record {
 }
 
 -- none is there, and some are added
-pub added_there : (a : List ℕ) (p : ℕ) (rows : List Row) (old new : Database) → LiesAs a p None old → HasAdded a rows old new → HasRenewed a p (p + 1) rows old new
-added_there a p rows old new none it = record {
+added_there : (a : List ℕ) (j k : ℕ) (rows : List Row) (old new : Database) → filter (is_between j k) (rows_at a (shown_rows old)) ≡ [] → HasAdded a rows old new → HasRenewed a j k rows old new
+added_there a j k rows old new none it = record {
   sound = it.sound;
   layout = it.layout;
   keeps = it.keeps;
@@ -219,24 +245,16 @@ added_there a p rows old new none it = record {
     all : List Row
     all = rows_at a (shown_rows old)
 
-    all_left : IsPermutation (filter (λ x. not (is_between p (p + 1) x)) all) all
-    all_left = subst (λ l. IsPermutation l all) (append-nil (filter (λ x. not (is_between p (p + 1) x)) all)) (subst (λ l. IsPermutation (filter (λ x. not (is_between p (p + 1) x)) all ++ l) all) none (parts_of (is_between p (p + 1)) all))
+    all_left : IsPermutation (filter (λ x. not (is_between j k x)) all) all
+    all_left = subst (λ l. IsPermutation l all) (append-nil (filter (λ x. not (is_between j k x)) all)) (subst (λ l. IsPermutation (filter (λ x. not (is_between j k x)) all ++ l) all) none (parts_of (is_between j k) all))
 
--- so a row with a name in hand does
-pub inserts_row : (a : List ℕ) (n : ℕ × Node) (before after : List (String Global × ℕ)) (old new : State) → AddsNamed a (cells n ∷ []) before after old new → RenewsRow a n None before after old.now new.now
-inserts_row a n before after old new it sound all none = (let did = it.did sound all in (added_there a n.0 (cells n ∷ []) old.now new.now none did.0, did.1))
+-- a row that gives way to another
+pub updated_row : {E : Type 0} (a : List ℕ) (n : ℕ × Node) (there : Row) (before after : List (String Global × ℕ)) (old new : Database) (r : Result (Unit {0}) E) → OnOk r (UpdatesNamed a n before after old new)
+    → OnOk r (RenewsRow a n (Some there) before after old new)
+updated_row a n there before after old new (Err e) it = tt
+updated_row a n there before after old new (Ok x) it = it there
 
-pub inserted_row : {E : Type 0} (a : List ℕ) (n : ℕ × Node) (o : Option Row) (before after : List (String Global × ℕ)) (old new : State) (r : Result (Unit {0}) E) → o ≡ None → OnOk r (AddsNamed a (cells n ∷ []) before after old new)
-    → OnOk r (RenewsRow a n o before after old.now new.now)
-inserted_row a n o before after old new (Err e) none it = tt
-inserted_row a n o before after old new (Ok x) none it = subst (λ o. RenewsRow a n o before after old.now new.now) (sym none) (inserts_row a n before after old new it)
-
-pub updated_row : {E : Type 0} (a : List ℕ) (n : ℕ × Node) (o : Option Row) (there : Row) (before after : List (String Global × ℕ)) (old new : Database) (r : Result (Unit {0}) E) → o ≡ Some there → OnOk r (UpdatesNamed a n before after old new)
-    → OnOk r (RenewsRow a n o before after old new)
-updated_row a n o there before after old new (Err e) some it = tt
-updated_row a n o there before after old new (Ok x) some it = subst (λ o. RenewsRow a n o before after old new) (sym some) (it there)
-
--- and so does one that is the same
+-- and one that is the same
 pub stays_row : (a : List ℕ) (n : ℕ × Node) (o : Option Row) (names : List (String Global × ℕ)) (db : Database) → o ≡ Some (cells n) → RenewsRow a n o names names db db
 stays_row a n o names db some sound all lies = (stays a n.0 (cells n) db sound (subst (λ o. LiesAs a n.0 o db) some lies), all)
 
@@ -277,28 +295,28 @@ renewed_then a j k l xs ys first mid last low high below p q = record {
     own : IsPermutation (filter (λ x. not (is_between j l x)) all ++ (xs ++ ys)) (rows_at a (shown_rows last))
     own = subst (λ zs. IsPermutation zs (rows_at a (shown_rows last))) (append_assoc (filter (λ x. not (is_between j l x)) all) xs ys) (IsPermutation-trans _ _ _ (IsPermutation-append_left ys _ _ stay) q.own)
 
--- what lies under a number still lies there where others before it gave way
-moved_on : (a : List ℕ) (p : ℕ) (o : Option Row) (old now : Database) → IsPermutation (filter (is_between p (p + 1)) (rows_at a (shown_rows old))) (filter (is_between p (p + 1)) (rows_at a (shown_rows now))) → LiesAs a p o old → LiesAs a p o now
-moved_on a p None old now same none = none_left _ (subst (λ l. IsPermutation l (filter (is_between p (p + 1)) (rows_at a (shown_rows now)))) none same)
-  where
-    none_left : (xs : List Row) → IsPermutation [] xs → xs ≡ []
-    none_left [] same = refl
-    none_left (x ∷ xs) same = absurd (let e = length_permutation _ _ same in omega (arith, e))
-moved_on a p (Some row) old now same lies = (lies.0, lies.1, lies.2, one_permutation row _ (subst (λ l. IsPermutation l (filter (is_between p (p + 1)) (rows_at a (shown_rows now)))) lies.3 same))
-
-pub still_lies : (a : List ℕ) (low p : ℕ) (xs : List Row) (o : Option Row) (old now : Database) → AllByRecursion (λ x. is_from p x ≡ false) xs → HasRenewed a low p xs old now → LiesAs a p o old → LiesAs a p o now
-still_lies a low p xs o old now below it = moved_on a p o old now same
+-- those between later numbers are still there where others before them gave way
+still_same : (a : List ℕ) (low j k : ℕ) (xs : List Row) (old now : Database) → AllByRecursion (λ x. is_from j x ≡ false) xs → HasRenewed a low j xs old now
+    → IsPermutation (filter (is_between j k) (rows_at a (shown_rows old))) (filter (is_between j k) (rows_at a (shown_rows now)))
+still_same a low j k xs old now below it = subst (λ l. IsPermutation l (filter (is_between j k) (rows_at a (shown_rows now)))) left (IsPermutation-filter (is_between j k) _ _ it.own)
   where
     all : List Row
     all = rows_at a (shown_rows old)
 
-    left : filter (is_between p (p + 1)) (filter (λ x. not (is_between low p x)) all ++ xs) ≡ filter (is_between p (p + 1)) all
+    left : filter (is_between j k) (filter (λ x. not (is_between low j x)) all ++ xs) ≡ filter (is_between j k) all
     left =
-        filter-append (is_between p (p + 1)) (filter (λ x. not (is_between low p x)) all) xs
-        ∙ ap₂ ◌++◌ (filter-filter (is_between p (p + 1)) (λ x. not (is_between low p x)) (between_later low p (p + 1)) all) (none_pass (is_between p (p + 1)) xs (none_between p (p + 1) xs below)) ∙ append-nil (filter (is_between p (p + 1)) all)
+        filter-append (is_between j k) (filter (λ x. not (is_between low j x)) all) xs
+        ∙ ap₂ ◌++◌ (filter-filter (is_between j k) (λ x. not (is_between low j x)) (between_later low j k) all) (none_pass (is_between j k) xs (none_between j k xs below)) ∙ append-nil (filter (is_between j k) all)
 
-    same : IsPermutation (filter (is_between p (p + 1)) all) (filter (is_between p (p + 1)) (rows_at a (shown_rows now)))
-    same = subst (λ l. IsPermutation l (filter (is_between p (p + 1)) (rows_at a (shown_rows now)))) left (IsPermutation-filter (is_between p (p + 1)) _ _ it.own)
+-- so what lies under a number still lies there
+still_lies : (a : List ℕ) (low p : ℕ) (xs : List Row) (o : Option Row) (old now : Database) → AllByRecursion (λ x. is_from p x ≡ false) xs → HasRenewed a low p xs old now → LiesAs a p o old → LiesAs a p o now
+still_lies a low p xs None old now below it none = none_left _ _ (still_same a low p (p + 1) xs old now below it) none
+still_lies a low p xs (Some row) old now below it lies = (
+  lies.0,
+  lies.1,
+  lies.2,
+  one_permutation row _ (subst (λ l. IsPermutation l (filter (is_between p (p + 1)) (rows_at a (shown_rows now)))) lies.3 (still_same a low p (p + 1) xs old now below it)),
+)
 
 -- # Rows, one by one
 
@@ -368,6 +386,51 @@ rows_renewed a i there rows before after old now all_done done low numbered soun
     let last : low + i ≡ low + length rows = omega (arith, all_done) in
     (subst₂ (λ k l. HasRenewed a low k (map cells l) old now) last whole it.0, it.1)
 
+-- # The first rows, and those beyond the ones that were there
+
+-- the first of rows that are numbered are so
+first_numbered : (k m : ℕ) (rs : List (ℕ × Node)) → AreFrom m rs → AreFrom m (take k rs)
+first_numbered zero m rs all = tt
+first_numbered (suc k) m [] all = tt
+first_numbered (suc k) m (r ∷ rs) all = (all.0, first_numbered k (suc m) rs all.1)
+
+some_numbered : (n k : ℕ) (nodes : List Node) → take n (enumerate_from k nodes) ≡ enumerate_from k (take n nodes)
+some_numbered zero k nodes = refl
+some_numbered (suc n) k [] = refl
+some_numbered (suc n) k (x ∷ nodes) = ap (λ l. (k, x) ∷ l) (some_numbered n (k + 1) nodes)
+
+-- some of the first are there
+some_there : (a : List ℕ) (low i n : ℕ) (rows : List (ℕ × Node)) (db : Database) → i ≤ n → AreThere a low n rows db → AreThere a low i (take i rows) db
+some_there a low i n rows db h are = (
+  are.0,
+  are.1,
+  sym (take-map cells i rows) ∙ ap (take i) are.2 ∙ take-map cells i (enumerate_from low (take n are.0)) ∙ ap (map cells) (some_numbered i low (take n are.0) ∙ ap (enumerate_from low) (take-take i n are.0 h)),
+)
+
+-- the first have come to stand where others were, and the rest was added
+pub rest_added : {E : Type 0} (a : List ℕ) (many : ℕ) (there : List (ℕ × Node)) (rows : List (ℕ × Node)) (before between after : List (String Global × ℕ)) (old : Database) (mid new : State) (r : Result (Unit {0}) E) → many ≤ length rows → many ≤ length there
+    → (length there ≤ length rows → length there ≤ many) → RenewsRows a (take many there) (take many rows) before between old mid.now → OnOk r (AddsNamed a (map cells (slice_range rows many (length rows))) between after mid new) → OnOk r (RenewsRows a there rows before after old new.now)
+rest_added a many there rows before between after old mid new (Err e) in_rows in_there covers renews adds = tt
+rest_added a many there rows before between after old mid new (Ok x) in_rows in_there covers renews adds = λ low numbered sound all are.
+    let size : length (take many rows) ≡ many = length-take-le many rows in_rows in
+    let fits : length there ≤ length rows = omega (arith, sym (length-map there cells) ∙ ap length are.2 ∙ length-map (enumerate_from low (take (length rows) are.0)) cells ∙ length-enumerate_from low (take (length rows) are.0), length-take (length rows) are.0) in
+    let same : length there ≡ many = omega (arith, in_there, covers fits) in
+    let first_are = subst (λ n. AreThere a low n (take many there) old) (sym size) (some_there a low many (length rows) there old in_rows are) in
+    let done = renews low (first_numbered many low rows numbered) sound all first_are in
+    let j = low + many in
+    let k = low + length rows in
+    let xs = map cells (take many rows) in
+    let ys = map cells (slice_range rows many (length rows)) in
+    let first : HasRenewed a low j xs old mid.now = subst (λ n. HasRenewed a low (low + n) xs old mid.now) size done.0 in
+    let below : AllByRecursion (λ x. is_from j x ≡ false) xs = new_before low many rows numbered in
+    let none : filter (is_between j k) (rows_at a (shown_rows old)) ≡ [] = subst (λ n. filter (is_between (low + n) k) (rows_at a (shown_rows old)) ≡ []) same (none_beyond a low (length rows) there old are) in
+    let still : filter (is_between j k) (rows_at a (shown_rows mid.now)) ≡ [] = none_left _ _ (still_same a low j k xs old mid.now below first) none in
+    let added = adds.did first.sound done.1 in
+    let last = added_there a j k ys mid.now new.now still added.0 in
+    let joined : xs ++ ys ≡ map cells rows =
+    sym (map-append cells (take many rows) (slice_range rows many (length rows))) ∙ ap (map cells) (sym (take_then many (length rows) rows in_rows) ∙ take_all (length rows) rows (omega arith)) in
+    (subst (λ l. HasRenewed a low k l old new.now) joined (renewed_then a low j k xs ys old mid.now new.now (omega arith) (omega (arith, in_rows)) below first last), added.1)
+
 -- # A part that is read
 
 columns_of : (ns : List (ℕ × Node)) → map node_of (map cells ns) ≡ map cells ns
@@ -396,25 +459,12 @@ listed a db store = elim (store.whole a) [
 all_run : (a : List ℕ) (nodes : List Node) (db : Database) → IsPermutation (rows_at a (shown_rows db)) (map cells (enumerate_from 0 nodes)) → RunsFrom a 0 nodes db
 all_run a nodes db same = subst (IsPermutation (filter (is_from 0) (rows_at a (shown_rows db)))) (from_numbered 0 0 0 nodes refl) (IsPermutation-filter (is_from 0) _ _ same)
 
-some_numbered : (n k : ℕ) (nodes : List Node) → take n (enumerate_from k nodes) ≡ enumerate_from k (take n nodes)
-some_numbered zero k nodes = refl
-some_numbered (suc n) k [] = refl
-some_numbered (suc n) k (x ∷ nodes) = ap (λ l. (k, x) ∷ l) (some_numbered n (k + 1) nodes)
-
 pub first_there : (a : List ℕ) (t : Tree) (rows : List (ℕ × Node)) (db : Database) → IsPermutation (rows_at a (shown_rows db)) (map cells (placed_rows t)) → rows ≡ take (length rows) (placed_rows t) → AreThere a 0 (length rows) rows db
 first_there a t rows db same first = (rows_of t, all_run a (rows_of t) db same, ap (map cells) (first ∙ some_numbered (length rows) 0 (rows_of t)))
 
 -- none is a first part as well
 pub none_there : (a : List ℕ) (db : Database) → IsStore db → AreThere a 0 0 [] db
 none_there a db store = (let whole = listed a db store in (whole.0, all_run a whole.0 db whole.1, refl))
-
--- and some of the first
-some_there : (a : List ℕ) (i n : ℕ) (rows : List (ℕ × Node)) (db : Database) → i ≤ n → AreThere a 0 n rows db → AreThere a 0 i (take i rows) db
-some_there a i n rows db h are = (
-  are.0,
-  are.1,
-  sym (take-map cells i rows) ∙ ap (take i) are.2 ∙ take-map cells i (enumerate_from 0 (take n are.0)) ∙ ap (map cells) (some_numbered i 0 (take n are.0) ∙ ap (enumerate_from 0) (take-take i n are.0 h)),
-)
 
 -- # A document, part by part
 
@@ -429,12 +479,6 @@ runs_on a k deleted added old now store below it =
     let zero_more : k ≡ 0 + k = omega arith in
     let are : IsPermutation (filter (is_from k) all) (map cells (enumerate_from k (drop k whole.0))) = subst (IsPermutation (filter (is_from k) all)) (from_numbered k 0 k whole.0 zero_more) (IsPermutation-filter (is_from k) _ _ whole.1) in
     (drop k whole.0, IsPermutation-trans _ _ _ (IsPermutation-sym _ _ own) are)
-
--- the first of rows that are numbered are so
-first_numbered : (k m : ℕ) (rs : List (ℕ × Node)) → AreFrom m rs → AreFrom m (take k rs)
-first_numbered zero m rs all = tt
-first_numbered (suc k) m [] all = tt
-first_numbered (suc k) m (r ∷ rs) all = (all.0, first_numbered k (suc m) rs all.1)
 
 -- a slice of rows that are numbered is numbered from its first on
 pub numbered_slice : (n at first stop : ℕ) (rows : List (ℕ × Node)) → first ≡ n + at → AreFrom n rows → AreFrom first (slice_range rows at stop)
@@ -458,7 +502,7 @@ IsUpTo a kept rows at replaced names old now = AreThere a 0 (length kept) kept o
 pub first_part : (a : List ℕ) (kept : List (ℕ × Node)) (rows : List (ℕ × Node)) (at : ℕ) (next : Bool) (before after : List (String Global × ℕ)) (old new : Database) → AreFrom 0 rows → at ≤ length kept → at ≤ length rows → next ≡ nat_lt 0 at → before ≡ []
     → RenewsRows a (take at kept) (take at rows) before after old new → IsUpTo a kept rows at next after old new
 first_part a kept rows at next before after old new numbered in_kept in_rows is none renews there store =
-    let are = some_there a at (length kept) kept old in_kept there in
+    let are = some_there a 0 at (length kept) kept old in_kept there in
     let ours = take at rows in
     let size : length ours ≡ at = length-take-le at rows in_rows in
     let zero_more : 0 + at ≡ at = omega arith in

@@ -1,5 +1,5 @@
 -- What UPDATE does to the row of a node: as if the row had been taken out, and another been put in.
-use Rattle.std.proofs.Common.{◌≡◌, ◌≢◌, ◌&&◌, ◌+◌, inl, inr, ℕ, ℤ, pos, Bool, true, false, not, cond, List, [], ◌∷◌, ◌++◌, map, filter, length, Some, None, Ok, Err, Result, OnOk, IsTrue, refl, sym, ap, ap₂, subst, ◌∙◌, arith, eq-eqb, ne_eqb, String, Global}
+use Rattle.std.proofs.Common.{◌≡◌, ◌&&◌, ◌+◌, inl, inr, ℕ, ℤ, pos, Bool, true, false, not, List, [], ◌∷◌, ◌++◌, map, filter, length, Some, None, Ok, Err, Result, OnOk, IsTrue, refl, sym, ap, ap₂, subst, ◌∙◌, arith, String, Global}
 use Rattle.std.specs.Ordering.{is_eq, is_ge, is_lt}
 use Rattle.std.specs.List.{AllByRecursion, list_all}
 use Rattle.std.specs.List.Sorted.{IsPermutation}
@@ -10,8 +10,8 @@ use Rattle.sqlite_value.specs.Order.{Row, column, value_cmp}
 use Rattle.sqlite_value.specs.declared.value.Value.{Value}
 use Rattle.sqlite_value.specs.declared.value.Value.TheVariants.{Int, Text}
 use Rattle.sqlite_value.proofs.OrderLemmas.{value_cmp_total}
-use Rattle.sqlite_trees.specs.Tree.{Trees, put_row, rowid, with_tree}
-use Rattle.sqlite_trees.proofs.ListLemmas.{all_of, filter-map, filter_same, map-map}
+use Rattle.sqlite_trees.specs.Tree.{Trees, put_row, rowid}
+use Rattle.sqlite_trees.proofs.ListLemmas.{filter-map, filter_same, map-map}
 use Rattle.sqlite_sql.specs.Term.{holds}
 use Rattle.sqlite_keyed.specs.Lists.{delete_where}
 use Rattle.sqlite_rules.specs.Calls.{ids_of}
@@ -26,7 +26,6 @@ use Rattle.sqlite.specs.Rows.{Written}
 use Rattle.sqlite.specs.Listing.{understood}
 use Rattle.sqlite.specs.Effect.{Database}
 use Rattle.sqlite.specs.State.{State, mode_of, Executes, ExecutesInside}
-use Rattle.sqlite.specs.Table.{Table}
 use Rattle.sqlite.specs.declared.error.Error.{Error}
 use Rattle.sqlite.proofs.Callers.{statement_of, runs_as, one_step, one_permutation}
 use Rattle.xq_regions.specs.Codes.{kind_number}
@@ -34,12 +33,13 @@ use Rattle.xq_regions.specs.Rows.{Row as Node}
 use Rattle.xq_rows.specs.Documents.{is_at, node_columns, rows_at, AreApart, HasAddress, HaveInts, IsSound}
 use Rattle.xq_rows.specs.Labels.{label_rows, named, node2_rows, shown_rows, IsNumberOf}
 use Rattle.xq_rows.specs.Nodes.{cells}
+use Rattle.xq_rows.specs.private.Numbered.{numbered_cells}
 use Rattle.xq_rows.specs.private.Statements.{is_between, is_part, HasAdded, HasDropped, HasRenewed, LiesAs, NumbersInHand, Updates, UpdatesNamed}
 use Rattle.xq_rows.proofs.Adds.{adds_one, kept_numbers}
 use Rattle.xq_rows.proofs.Deletes.{dropped_in, same_value, went, DeletesIn}
 use Rattle.xq_rows.proofs.Inserts.{cast_int, one_fresh}
-use Rattle.xq_rows.proofs.LabelInserts.{noted_row, numbered_cells, IsNoted}
-use Rattle.xq_rows.proofs.LabelPlaces.{Made, schema_of, node2_place, node2_table_of, node2_there, node2_tree, which, nodes_lie, labels_lie, layout_lies, old_lie, old_beside_nodes, no_works, OthersStay, layout_stays, labels_stay, layout_not_node2, label_not_node2, shown_are}
+use Rattle.xq_rows.proofs.LabelInserts.{noted_row, IsNoted}
+use Rattle.xq_rows.proofs.LabelPlaces.{Made, schema_of, node2_place, node2_table_of, node2_there, node2_tree, which, nodes_lie, no_works, OthersStay, shown_are}
 use Rattle.xq_rows.proofs.LabelTexts.{key_tests, update2_is, update2_plain, update2_text, update_program, update_terms}
 use Rattle.xq_rows.proofs.Lists.{same_test, takes_out, tied}
 use Rattle.xq_rows.proofs.Maps.{text_is}
@@ -48,6 +48,7 @@ use Rattle.xq_rows.proofs.Places.{on_table}
 use Rattle.xq_rows.proofs.Ranges.{less, picks}
 use Rattle.xq_rows.proofs.Renewals.{exchanged}
 use Rattle.xq_rows.proofs.Selects.{and_true, equals_int, equals_text, selected, selected_rows}
+use Rattle.xq_rows.proofs.Together.{others_stay, rows_are, stand_beside, with_nodes, StandBeside}
 
 -- # Which rows it finds
 
@@ -176,10 +177,6 @@ module _ (made : Made) (address : List ℕ) (n : ℕ × Node) (label : ℕ) (old
 
 -- # As if the row had been taken out first
 
--- a database in which the table has other rows
-abbrev with_nodes : Made → Database → List Row → Database
-with_nodes made db rows = record db { trees = with_tree db.trees (node2_tree made) rows }
-
 module _ (made : Made) (db : Database) (gone : Row → Bool) where
   abbrev left : List Row
   left = delete_where gone (db.trees (node2_tree made))
@@ -187,14 +184,8 @@ module _ (made : Made) (db : Database) (gone : Row → Bool) where
   abbrev mid : Database
   mid = with_nodes made db left
 
-  others_stay : OthersStay made (node2_tree made) db.trees mid.trees
-  others_stay = all_of (λ (t : Table). t.tree ≢ node2_tree made → mid.trees t.tree ≡ db.trees t.tree) (λ (t : Table) other. ap (λ b. cond b left (db.trees t.tree)) (ne_eqb t.tree (node2_tree made) other)) (schema_of made).tables
-
-  rows_left : mid.trees (node2_tree made) ≡ left
-  rows_left = ap (λ b. cond b left (db.trees (node2_tree made))) (eq-eqb (node2_tree made) (node2_tree made) refl)
-
   taken : DeletesIn (schema_of made) (node2_table_of made) gone db mid (length (filter gone (db.trees (node2_tree made))))
-  taken = record { schema = refl; others = others_stay; rows = rows_left; counted = refl }
+  taken = record { schema = refl; others = others_stay made db left; rows = rows_are made db left; counted = refl }
 
 only_one : (f : Row → Row) (xs : List Row) (v : Row) → map f xs ≡ v ∷ [] → (r : Row) × (xs ≡ r ∷ []) × (f r ≡ v)
 only_one f [] v e = absurd cc
@@ -235,15 +226,16 @@ module _ (address : List ℕ) (n : ℕ × Node) (label : ℕ) (old new : State) 
       let it = updates_in made address n label old r (subst (λ t. filter part t ≡ r ∷ []) lie the_row.1) its_number (subst AreApart lie sound.apart) (subst HaveInts lie sound.ints) new count place.1 h in
       let still = it.schema ∙ place.1 in
       let between = mid made old.now part in
-      let stay = others_stay made old.now part in
       let took = taken made old.now part in
       let dropped : HasDropped part old.now between = (dropped_in made part (λ r l. refl) old.now between _ place.1 sound took).0 in
-      let rows : node2_rows between ≡ delete_where part (old.now.trees tree) = nodes_lie made between place.1 ∙ rows_left made old.now part in
+      let gone : StandBeside old.now between = stand_beside made old.now between place.1 refl (others_stay made old.now (left made old.now part)) in
+      let beside : StandBeside old.now new.now = stand_beside made old.now new.now place.1 it.schema it.others in
+      let rows : node2_rows between ≡ delete_where part (old.now.trees tree) = nodes_lie made between place.1 ∙ rows_are made old.now (left made old.now part) in
       let noted : IsNoted address n label id between new.now = record {
         schema = it.schema;
-        layout = layout_lies made new.now still ∙ layout_stays tree old.now.trees new.now.trees made it.others (layout_not_node2 made) ∙ sym (layout_lies made old.now place.1) ∙ sym dropped.layout;
-        labels = labels_lie made new.now still ∙ labels_stay tree old.now.trees new.now.trees made it.others (label_not_node2 made) ∙ sym (labels_lie made old.now place.1) ∙ sym dropped.labels;
-        beside = old_lie made new.now still ∙ old_beside_nodes old.now.trees new.now.trees made it.others ∙ sym (old_lie made between place.1 ∙ old_beside_nodes old.now.trees between.trees made stay);
+        layout = beside.layout ∙ sym gone.layout;
+        labels = beside.labels ∙ sym gone.labels;
+        beside = beside.beside ∙ sym gone.beside;
         nodes = nodes_lie made new.now still ∙ it.nodes ∙ ap (put_row (noted_row address n label id)) (sym rows);
         fresh = ap (λ l. is_taken l (noted_row address n label id)) rows ∙ it.fresh;
       } in

@@ -7,3 +7,4 @@ pub mod Adopt
 pub mod Statements
 pub mod Refusals
 pub mod Carries
+pub mod Numbered

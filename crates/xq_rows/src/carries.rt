@@ -11,6 +11,7 @@ ghost use Rattle.xq_rows.specs.private.Carries.{CarriesAll, CarriesOne, Empties,
 ghost use Rattle.xq_rows.specs.private.Keeps.{AreOf, StaysInside, StaysOutside};
 ghost use Rattle.xq_rows.specs.private.Shelves.{AreFronts};
 
+use crate::additions::insert_rows;
 use crate::adopt::{check_ids, check_old};
 use crate::faults::OpenFault;
 use crate::labels::Names;
@@ -18,12 +19,11 @@ use crate::readings::node_rows;
 use crate::refusals::Refusal;
 use crate::rows::rest_as_texts;
 use crate::shelves::Shelf;
-use crate::statements::insert_rows;
 use crate::tables::{make_labels, write_edition};
 use sqlite::{Alter, Connection, Error, Row, Transaction, params};
 use std::alloc::Global;
 use xq_atoms::{Want, address_ok};
-use xq_sources::Addresses;
+use xq_sources::{Addresses, LentRows};
 
 /// Judges the ids of the table `layout`, which a DELETE needs.
 fn check_layout<S: Alter>(conn: &mut Connection<S>) -> Result<(), OpenFault>
@@ -117,10 +117,11 @@ fn carry_document<S: Alter>(
     if !address_ok(address.as_bytes()) {
         return Err(OpenFault::Want(Want::Store));
     }
-    let rows = read_old_rows(transaction, address)?;
-    let nodes = node_rows(alloc, &rows)?;
+    let read = read_old_rows(transaction, address)?;
+    let nodes = node_rows(alloc, &read)?;
     let mut names = Names::new(alloc);
-    Ok(insert_rows(transaction, &mut names, address, &nodes)?)
+    let rows = LentRows::new(&nodes);
+    Ok(insert_rows(transaction, &mut names, address, &rows)?)
 }
 
 /// Carries the documents of these addresses over, one after another.

@@ -5,6 +5,7 @@
 //! above it sees a [`Store`] and its [`View`] alone.
 #![tactic(auto)]
 
+mod additions;
 mod adopt;
 mod adoptions;
 mod carries;

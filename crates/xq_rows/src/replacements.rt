@@ -1,5 +1,5 @@
 //! The rows of one document in the place of those of another: what is the same stays.
-ghost use Rattle.std.specs.Prelude.{◌≡◌, ◌↔◌, ◌+◌, ◌≤◌, IfOk, IsTrue, OnOk, length, map, slice_get};
+ghost use Rattle.std.specs.Prelude.{◌≡◌, ◌↔◌, ◌+◌, ◌≤◌, IfOk, IsTrue, OnOk, Some, length, map};
 ghost use Rattle.sqlite.specs.State.{HasCleanDisk};
 ghost use Rattle.sqlite.specs.Held.{state};
 ghost use Rattle.xq_sources.specs.Lent.{placed_lent};
@@ -8,10 +8,11 @@ ghost use Rattle.xq_rows.specs.private.Statements.{AreFrom, RenewsPart, RenewsRo
 ghost use Rattle.xq_rows.specs.private.Keeps.{StaysInside};
 ghost use Rattle.xq_regions.specs.Tree.{most_nodes};
 
+use crate::additions::insert_rows;
 use crate::labels::Names;
 use crate::readings::node_rows;
 use crate::refusals::Refusal;
-use crate::statements::{delete_part, insert_named, read_part, update_named};
+use crate::statements::{delete_part, read_part, update_named};
 use sqlite::{Alter, Error, Transaction};
 use std::alloc::Global;
 use xq_sources::{LentRow, LentRows};
@@ -31,33 +32,51 @@ fn is_same(there: &LentRow<'_>, row: &LentRow<'_>) -> bool
         && there.value() == row.value()
 }
 
-/// Has a node stand under its number, where the row that is there is the one at this place, or
-/// there is none: what is the same stays.
+/// Has a node stand under its number, where this row is there: what is the same stays.
 fn renew_row<S: Alter>(
     transaction: &mut Transaction<'_, S>,
     names: &mut Names,
     address: &str,
-    rows_there: &LentRows<'_>,
-    at: usize,
+    there: &LentRow<'_>,
     row: &LentRow<'_>,
 ) -> Result<(), Error>
     ensures inside { StaysInside S.Store transaction.old transaction.new }
     ensures renewed { HasCleanDisk (state S.Store transaction.new.conn.now)
         → OnOk result (RenewsRow address.now (placed_lent row.now)
-        (slice_get (map cells rows_there.now) at)
+        (Some (cells (placed_lent there.now)))
         names.old.entries names.new.entries (state S.Store transaction.old.conn.now).now
         (state S.Store transaction.new.conn.now).now) }
 {
-    let Some(there) = rows_there.get(at) else {
-        return insert_named(transaction, names, address, row);
-    };
-    if is_same(&there, row) {
+    if is_same(there, row) {
         return Ok(());
     }
     update_named(transaction, names, address, row)
 }
 
-/// Has these rows stand under their numbers, where those others are all that stand there.
+/// Has these rows stand under their numbers, where as many others are there.
+fn renew_each<S: Alter>(
+    transaction: &mut Transaction<'_, S>,
+    names: &mut Names,
+    address: &str,
+    rows_there: &LentRows<'_>,
+    rows: &LentRows<'_>,
+) -> Result<(), Error>
+    requires { length rows.now ≤ length rows_there.now }
+    ensures inside { StaysInside S.Store transaction.old transaction.new }
+    ensures renewed { HasCleanDisk (state S.Store transaction.new.conn.now)
+        → OnOk result (RenewsRows address.now rows_there.now rows.now
+        names.old.entries names.new.entries (state S.Store transaction.old.conn.now).now
+        (state S.Store transaction.new.conn.now).now) }
+{
+    for at in 0..rows.len() {
+        let there = rows_there.row(at);
+        renew_row(transaction, names, address, &there, &rows.row(at))?;
+    }
+    Ok(())
+}
+
+/// Has these rows stand under their numbers, where those others are all that stand there: rows
+/// beyond them are inserted.
 fn renew_rows<S: Alter>(
     transaction: &mut Transaction<'_, S>,
     names: &mut Names,
@@ -71,10 +90,11 @@ fn renew_rows<S: Alter>(
         names.old.entries names.new.entries (state S.Store transaction.old.conn.now).now
         (state S.Store transaction.new.conn.now).now) }
 {
-    for at in 0..rows.len() {
-        renew_row(transaction, names, address, rows_there, at, &rows.row(at))?;
-    }
-    Ok(())
+    let end = rows.len();
+    let many = end.min(rows_there.len());
+    let first = rows_there.first(many);
+    renew_each(transaction, names, address, &first, &rows.first(many))?;
+    insert_rows(transaction, names, address, &rows.between(many, end))
 }
 
 /// Has these rows stand under the numbers from `low` on, where those that are there are read, and

@@ -5,12 +5,14 @@
 ghost use Rattle.std.specs.Prelude.{◌≡◌, [], ◌∷◌, map, false, string_bytes, IfOk, OnOk, IsTrue};
 ghost use Rattle.sqlite.specs.State.{HasCleanDisk};
 ghost use Rattle.sqlite.specs.Held.{state};
+ghost use Rattle.sqlite.specs.Values.{bound};
 ghost use Rattle.sqlite_value.specs.declared.value.Value.TheVariants.{Text};
 ghost use Rattle.xq_regions.specs.Rows.{placed};
 ghost use Rattle.xq_rows.specs.Documents.{IsReady, is_at};
 ghost use Rattle.xq_rows.specs.Nodes.{cells};
 ghost use Rattle.xq_regions.specs.Codes.{kind_number as number_of_lem};
-ghost use Rattle.xq_rows.specs.private.Statements.{Adds, AddsNamed, AreAbove, AreAddresses, Drops, IsRange, ReadsPart, Updates, UpdatesNamed, is_part};
+ghost use Rattle.xq_rows.specs.private.Numbered.{AddsEight};
+ghost use Rattle.xq_rows.specs.private.Statements.{Adds, AreAbove, AreAddresses, Drops, IsRange, ReadsPart, Updates, UpdatesNamed, is_part};
 ghost use Rattle.xq_rows.specs.private.Keeps.{StaysInside, StaysOutside};
 ghost use Rattle.xq_rows.specs.Labels.{IsStoreSchema};
 ghost use Rattle.xq_sources.specs.Lent.{placed_lent};
@@ -18,6 +20,7 @@ ghost use Rattle.xq_sources.specs.Lent.{placed_lent};
 use crate::labels::{Names, number_in_hand};
 use crate::refusals::Refusal;
 use crate::rows::{rest_as_nodes, rest_as_texts};
+use sqlite::types::ValueRef;
 use sqlite::{Alter, Connection, Error, Row, Transaction, params};
 use std::alloc::Global;
 use xq_regions::{Kind, NodeRow};
@@ -89,6 +92,27 @@ pub fn insert_row<S: Alter>(
     )
 }
 
+/// Inserts eight rows. The values are the address and then the other columns of each row, with the
+/// number of the label of its name.
+pub fn insert_eight<S: Alter>(
+    transaction: &mut Transaction<'_, S>,
+    values: &[ValueRef<'_>],
+) -> Result<usize, Error>
+    ensures inside { StaysInside S.Store transaction.old transaction.new }
+    ensures added { HasCleanDisk (state S.Store transaction.new.conn.now)
+        → OnOk result (AddsEight (bound values.now) (state S.Store transaction.old.conn.now)
+        (state S.Store transaction.new.conn.now)) }
+{
+    transaction.execute(
+        "INSERT INTO node2 (address, pre, size, level, kind, label, value) VALUES \
+         (?1, ?2, ?3, ?4, ?5, ?6, ?7), (?1, ?8, ?9, ?10, ?11, ?12, ?13), \
+         (?1, ?14, ?15, ?16, ?17, ?18, ?19), (?1, ?20, ?21, ?22, ?23, ?24, ?25), \
+         (?1, ?26, ?27, ?28, ?29, ?30, ?31), (?1, ?32, ?33, ?34, ?35, ?36, ?37), \
+         (?1, ?38, ?39, ?40, ?41, ?42, ?43), (?1, ?44, ?45, ?46, ?47, ?48, ?49)",
+        values,
+    )
+}
+
 /// Sets the columns of the row of a node that is there under an address, but for its number, with
 /// the number of the label of its name.
 pub fn update_row<S: Alter>(
@@ -111,24 +135,6 @@ pub fn update_row<S: Alter>(
     )
 }
 
-/// Inserts one row under an address, and the label that its name wants.
-pub fn insert_named<S: Alter>(
-    transaction: &mut Transaction<'_, S>,
-    names: &mut Names,
-    address: &str,
-    row: &LentRow<'_>,
-) -> Result<(), Error>
-    ensures inside { StaysInside S.Store transaction.old transaction.new }
-    ensures added { HasCleanDisk (state S.Store transaction.new.conn.now)
-        → OnOk result (AddsNamed address.now (cells (placed_lent row.now) ∷ [])
-        names.old.entries names.new.entries (state S.Store transaction.old.conn.now)
-        (state S.Store transaction.new.conn.now)) }
-{
-    let label = number_in_hand(transaction, names, row.name())?;
-    let _count = insert_row(transaction, address, row, label)?;
-    Ok(())
-}
-
 /// Sets the row of a node that is there, and inserts the label that its name wants.
 pub fn update_named<S: Alter>(
     transaction: &mut Transaction<'_, S>,
@@ -144,25 +150,6 @@ pub fn update_named<S: Alter>(
 {
     let label = number_in_hand(transaction, names, row.name())?;
     let _count = update_row(transaction, address, row, label)?;
-    Ok(())
-}
-
-/// Inserts rows under an address, and the labels that their names want.
-pub fn insert_rows<S: Alter>(
-    transaction: &mut Transaction<'_, S>,
-    names: &mut Names,
-    address: &str,
-    rows: &[NodeRow],
-) -> Result<(), Error>
-    ensures inside { StaysInside S.Store transaction.old transaction.new }
-    ensures added { HasCleanDisk (state S.Store transaction.new.conn.now)
-        → OnOk result (AddsNamed address.now (map cells (map placed rows.now))
-        names.old.entries names.new.entries (state S.Store transaction.old.conn.now)
-        (state S.Store transaction.new.conn.now)) }
-{
-    for row in rows {
-        insert_named(transaction, names, address, &LentRow::new(row))?;
-    }
     Ok(())
 }
 

@@ -265,7 +265,7 @@ const PICTURE: [&str; 4] = [
 /// What a database holds.
 fn picture<S: Alter>(alloc: Global, conn: &mut Connection<S>) -> Result<String, Error> {
     let mut text = String::new(alloc);
-    for sql in PICTURE {
+    for sql in &PICTURE {
         text.push_str(shown(alloc, conn, sql)?.as_str())?;
     }
     Ok(text)

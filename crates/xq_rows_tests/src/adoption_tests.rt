@@ -58,7 +58,7 @@ fn serves_again<S: Alter + Drop>(alloc: Global, conn: Connection<S>, calls: &[Ca
 #[test]
 fn each_allocation_in_memory(rt: HostRuntime) -> Result<(), Fail> {
     let alloc = rt.alloc();
-    for (statements, calls) in DATABASES {
+    for (statements, calls) in &DATABASES {
         let conn = made(alloc, statements).or_else(|_error| made(alloc, statements))?;
         assert!(rt; serves_again(alloc, conn, calls));
     }
@@ -82,7 +82,7 @@ fn adopted_at_last(
 #[test]
 fn each_allocation_on_memory_disks(rt: HostRuntime) -> Result<(), Fail> {
     let alloc = rt.alloc();
-    for (statements, calls) in DATABASES {
+    for (statements, calls) in &DATABASES {
         let conn = made_on_disks(alloc, statements).or_else(|_error| made_on_disks(
             alloc, statements,
         ))?;

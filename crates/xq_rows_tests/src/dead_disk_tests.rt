@@ -100,8 +100,8 @@ fn fewest_of_db(alloc: Global, log: u64) -> u64 {
 /// Whether each step is made over the rows that were read, and a statement is refused then.
 fn reads_kept_rows<S: Alter + Drop>(alloc: Global, conn: Connection<S>) -> Result<bool, Want> {
     let (mut store, mut is_right) = read_over(alloc, conn)?;
-    for scan in SCANS {
-        let (after, is_made) = stepped(alloc, store, (&[], Task::Step(scan)))?;
+    for scan in &SCANS {
+        let (after, is_made) = stepped(alloc, store, (&[], Task::Step(*scan)))?;
         store = after;
         is_right = is_right && is_made;
     }

@@ -125,7 +125,7 @@ const LISTS: [&[Step]; 4] = [&STEPS, &BOTH, &TABLES, &NAMES];
 
 #[test]
 fn views_in_memory(rt: HostRuntime) -> Result<(), Want> {
-    for steps in LISTS {
+    for steps in &LISTS {
         assert_eq!(rt;
             wrong_step(rt.alloc(), in_memory(rt.alloc())?, steps)?,
             None
@@ -136,7 +136,7 @@ fn views_in_memory(rt: HostRuntime) -> Result<(), Want> {
 
 #[test]
 fn views_on_memory_disks(rt: HostRuntime) -> Result<(), Want> {
-    for steps in LISTS {
+    for steps in &LISTS {
         assert_eq!(rt; wrong_step(rt.alloc(), on_disks(rt.alloc())?, steps)?, None);
     }
     Ok(())
@@ -144,7 +144,7 @@ fn views_on_memory_disks(rt: HostRuntime) -> Result<(), Want> {
 
 #[test]
 fn views_of_other_orders(rt: HostRuntime) -> Result<(), Fail> {
-    for order in ORDERS {
+    for order in &ORDERS {
         let store = adopted(rt.alloc(), made(rt.alloc(), order)?)?;
         assert_eq!(rt; wrong_step(rt.alloc(), store, &STEPS)?, None);
     }

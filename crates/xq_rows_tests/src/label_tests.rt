@@ -182,7 +182,7 @@ fn are_shown<S: Alter>(
 }
 
 /// Whether all is as the case says once the store was asked and released.
-fn is_left<S: Alter + Drop>(alloc: Global, conn: Connection<S>, case: Case) -> Result<bool, Fail> {
+fn is_left<S: Alter + Drop>(alloc: Global, conn: Connection<S>, case: &Case) -> Result<bool, Fail> {
     let mut conn = conn;
     if !are_shown(alloc, &mut conn, case.shown)? {
         return Ok(false);
@@ -191,7 +191,7 @@ fn is_left<S: Alter + Drop>(alloc: Global, conn: Connection<S>, case: Case) -> R
 }
 
 /// Whether all is as the case says.
-fn holds<S: Alter + Drop>(alloc: Global, store: Store<S>, case: Case) -> Result<bool, Fail> {
+fn holds<S: Alter + Drop>(alloc: Global, store: Store<S>, case: &Case) -> Result<bool, Fail> {
     let mut store = store;
     if first_wrong(alloc, &mut store, case.asked)? != 0 {
         return Ok(false);
@@ -201,7 +201,7 @@ fn holds<S: Alter + Drop>(alloc: Global, store: Store<S>, case: Case) -> Result<
 
 #[test]
 fn adopted_stores(rt: HostRuntime) -> Result<(), Fail> {
-    for case in CASES {
+    for case in &CASES {
         let name = case.name;
         let store = adopted(rt.alloc(), made(rt.alloc(), case.made)?)?;
         assert!(rt; holds(rt.alloc(), store, case)?, "{name}");
@@ -211,12 +211,12 @@ fn adopted_stores(rt: HostRuntime) -> Result<(), Fail> {
 
 #[test]
 fn released_in_memory(rt: HostRuntime) -> Result<(), Fail> {
-    assert!(rt; holds(rt.alloc(), in_memory(rt.alloc())?, NEW_STORE)?);
+    assert!(rt; holds(rt.alloc(), in_memory(rt.alloc())?, &NEW_STORE)?);
     Ok(())
 }
 
 #[test]
 fn released_on_memory_disks(rt: HostRuntime) -> Result<(), Fail> {
-    assert!(rt; holds(rt.alloc(), on_disks(rt.alloc())?, NEW_STORE)?);
+    assert!(rt; holds(rt.alloc(), on_disks(rt.alloc())?, &NEW_STORE)?);
     Ok(())
 }

@@ -14,6 +14,8 @@ mod calls;
 #[cfg(test)]
 mod dead_disk_tests;
 #[cfg(test)]
+mod disk_tests;
+#[cfg(test)]
 mod documents;
 #[cfg(test)]
 mod edit_tests;

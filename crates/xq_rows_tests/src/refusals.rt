@@ -44,8 +44,8 @@ pub enum Fate {
 
 /// Makes each kind of call, until one leaves the store shut.
 pub fn fate_of_calls<S: Alter>(alloc: Global, store: &mut Store<S>) -> Fate {
-    for (call, before) in STEPS {
-        match fate_of_call(alloc, store, call, before) {
+    for (call, before) in &STEPS {
+        match fate_of_call(alloc, store, *call, *before) {
             Fate::Up => {}
             end => return end,
         }
@@ -80,8 +80,8 @@ fn fate_after_refusal<S: Alter>(
 }
 
 fn fate_if_shut<S: Alter>(alloc: Global, store: &mut Store<S>, rows: &'static str) -> Fate {
-    for (call, _before) in STEPS {
-        if !is_refused(alloc, store, call) {
+    for (call, _before) in &STEPS {
+        if !is_refused(alloc, store, *call) {
             return Fate::Wrong;
         }
     }

@@ -31,9 +31,13 @@ const EDITS: [(&str, Runs, Runs); 10] = [
     ("a part more", &[(0, 400)], &[(1, 1_010)]),
 ];
 
+fn target_of(number: u32) -> &'static str {
+    if number % 2 == 0 { "even" } else { "odd" }
+}
+
 /// A processing instruction: the number is its text, and gives its target.
 fn instruction(alloc: Global, pre: u32, number: u32) -> Result<NodeRow, Want> {
-    let target = if number % 2 == 0 { "even" } else { "odd" };
+    let target = target_of(number);
     let text = format!(in alloc; "{number}")?;
     Ok(row(
         alloc,
@@ -83,10 +87,42 @@ fn left_by<S: Alter + Drop>(
 #[test]
 fn each_edit_leaves_what_a_fresh_put_leaves(rt: HostRuntime) -> Result<(), Fail> {
     let alloc = rt.alloc();
-    for (edit, first, runs) in EDITS {
-        let replaced = left_by(alloc, on_disks(alloc)?, &[first, runs])?;
-        let fresh = left_by(alloc, on_disks(alloc)?, &[runs])?;
+    for (edit, first, runs) in &EDITS {
+        let replaced = left_by(alloc, on_disks(alloc)?, &[*first, *runs])?;
+        let fresh = left_by(alloc, on_disks(alloc)?, &[*runs])?;
         assert!(rt; replaced == fresh, "{edit}");
+    }
+    Ok(())
+}
+
+/// What the tables hold of a document with the first so many instructions alone.
+fn left_of(alloc: Global, count: u32) -> Result<String, Fail> {
+    let mut nodes = Vec::new(alloc);
+    nodes.push(row(alloc, (0, count, 0), Kind::Document, "", "")?)?;
+    push_run(alloc, &mut nodes, 0, count)?;
+    let mut store = on_disks(alloc)?;
+    let _put = put(&mut store, "m", &rooted(nodes)?)?;
+    Ok(left_in(alloc, store)?)
+}
+
+/// What they are to hold of it.
+fn rows_of(alloc: Global, count: u32) -> Result<String, Fail> {
+    let mut rows = format!(in alloc; "m 0 {count} 0 0  |")?;
+    for number in 0..count {
+        let pre = number + 1;
+        let target = target_of(number);
+        let more = format!(in alloc; "m {pre} 0 1 5 {target} {number}|")?;
+        rows.push_str(more.as_str())?;
+    }
+    Ok(rows)
+}
+
+/// One statement inserts eight rows, where there are so many.
+#[test]
+fn each_number_of_rows_is_put_whole(rt: HostRuntime) -> Result<(), Fail> {
+    let alloc = rt.alloc();
+    for count in 0..26 {
+        assert!(rt; left_of(alloc, count)? == rows_of(alloc, count)?, "{count}");
     }
     Ok(())
 }

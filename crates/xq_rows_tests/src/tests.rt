@@ -14,7 +14,7 @@ const TABLES: [&[Call]; 2] = [&CALL_ROWS, &REPLACING];
 
 #[test]
 fn calls_in_memory(rt: HostRuntime) -> Result<(), Want> {
-    for calls in TABLES {
+    for calls in &TABLES {
         assert_eq!(rt;
             first_wrong_of(rt.alloc(), in_memory(rt.alloc())?, calls)?,
             0
@@ -25,7 +25,7 @@ fn calls_in_memory(rt: HostRuntime) -> Result<(), Want> {
 
 #[test]
 fn calls_on_memory_disks(rt: HostRuntime) -> Result<(), Want> {
-    for calls in TABLES {
+    for calls in &TABLES {
         assert_eq!(rt;
             first_wrong_of(rt.alloc(), on_disks(rt.alloc())?, calls)?,
             0

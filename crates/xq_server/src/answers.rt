@@ -71,8 +71,8 @@ fn answer_query<S: Alter + Drop>(
     reads_at_most_once();
     reads_back();
     values_are_printable();
-    let plan = understand(alloc, text)?;
-    let printed: String = evaluate(alloc, store, &plan)?;
+    let held = understand(alloc, text)?;
+    let printed: String = evaluate(alloc, store, &held.plan)?;
     Ok(Answer::Text(printed))
 }
 
@@ -92,8 +92,8 @@ fn document_of<S: Alter + Drop>(
     ensures was_open { IsClean S.Store store.new → IsOpen S.Store store.new
         → IsOpen S.Store store.old }
 {
-    let plan = understand(alloc, text)?;
-    let document: PackedTree = evaluate(alloc, store, &plan)?;
+    let held = understand(alloc, text)?;
+    let document: PackedTree = evaluate(alloc, store, &held.plan)?;
     Ok(document)
 }
 

@@ -13,8 +13,6 @@ mod meters;
 mod names;
 mod rows;
 mod sources;
-#[cfg(test)]
-mod tests;
 mod trees;
 
 pub use addresses::Addresses;

@@ -56,14 +56,14 @@ fn library(alloc: Global) -> Result<(Vec<NodeRow>, Vec<u32>), AllocError> {
     let mut wanted = Vec::new(alloc);
     add(alloc, (&mut rows, &mut wanted), (0, Kind::Element, 0), 1)?;
     add(alloc, (&mut rows, &mut wanted), (1, Kind::Attribute, 0), 0)?;
-    for (attributes, has_text) in BOOKS {
+    for (attributes, has_text) in &BOOKS {
         let book = (1, Kind::Element, 0);
-        add(alloc, (&mut rows, &mut wanted), book, attributes)?;
-        for number in 0..attributes {
+        add(alloc, (&mut rows, &mut wanted), book, *attributes)?;
+        for number in 0..*attributes {
             let attribute = (2, Kind::Attribute, number);
             add(alloc, (&mut rows, &mut wanted), attribute, 0)?;
         }
-        if has_text {
+        if *has_text {
             add(alloc, (&mut rows, &mut wanted), (2, Kind::Text, 0), 0)?;
         }
     }

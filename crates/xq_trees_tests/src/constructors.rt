@@ -196,9 +196,9 @@ fn print_of<L: RowLender>(
 
 /// Asserts how items are printed over a lender whose one tree is the library.
 fn prints<L: RowLender>(rt: &impl Abort, alloc: Global, lender: &mut L) -> Result<(), Fault> {
-    for (samples, wanted) in PRINTS {
+    for (samples, wanted) in &PRINTS {
         let found = shown(alloc, print_of(alloc, lender, samples))?;
-        assert_eq!(rt; found.as_str(), wanted);
+        assert_eq!(rt; found.as_str(), *wanted);
     }
     Ok(())
 }
@@ -242,9 +242,9 @@ fn named(alloc: Global, kind: NamedNode, samples: &[Sample]) -> Result<String, F
 
 #[test]
 fn names_are_judged(rt: HostRuntime) -> Result<(), Fault> {
-    for (kind, samples, wanted) in NAMES {
-        let found = shown(rt.alloc(), named(rt.alloc(), kind, samples))?;
-        assert_eq!(rt; found.as_str(), wanted);
+    for (kind, samples, wanted) in &NAMES {
+        let found = shown(rt.alloc(), named(rt.alloc(), *kind, samples))?;
+        assert_eq!(rt; found.as_str(), *wanted);
     }
     Ok(())
 }

@@ -89,10 +89,10 @@ const LEVELS: [(Constructor, &[Sample], Result<usize, Fault>); 4] = [
 fn levels_over_the_limit_are_refused(rt: HostRuntime) -> Result<(), Fault> {
     let alloc = rt.alloc();
     let mut trees = both(alloc, deep(alloc, 99)?, deep(alloc, 100)?)?;
-    for (constructor, samples, wanted) in LEVELS {
+    for (constructor, samples, wanted) in &LEVELS {
         let items = items(alloc, samples)?;
-        let found = count_of(alloc, &mut trees, constructor, &items);
-        assert_eq!(rt; found, wanted);
+        let found = count_of(alloc, &mut trees, *constructor, &items);
+        assert_eq!(rt; found, *wanted);
     }
     Ok(())
 }
@@ -124,10 +124,14 @@ fn refuses_too_many<L: RowLender>(
     alloc: Global,
     lender: &mut L,
 ) -> Result<(), Fault> {
-    for (constructor, count, (tree, pre), code) in TOO_MANY {
-        let items = many(alloc, count, Node { tree, pre })?;
-        let found = count_of(alloc, lender, constructor, &items);
-        assert_eq!(rt; found, Err(Fault::Code(code)), "{count}");
+    for (constructor, count, (tree, pre), code) in &TOO_MANY {
+        let last = Node {
+            tree: *tree,
+            pre: *pre,
+        };
+        let items = many(alloc, *count, last)?;
+        let found = count_of(alloc, lender, *constructor, &items);
+        assert_eq!(rt; found, Err(Fault::Code(*code)), "{count}");
     }
     Ok(())
 }

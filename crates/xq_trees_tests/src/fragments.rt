@@ -2,7 +2,7 @@
 
 use std::alloc::{AllocError, Global};
 use xq_regions::{Fragment, Kind, NodeRow};
-use xq_samples::documents::{LIBRARY, row, rows_of};
+use xq_samples::documents::{LIBRARY, Row, row, rows_of};
 
 #[test]
 fn takes_the_library(rt: HostRuntime) -> Result<(), AllocError> {
@@ -14,60 +14,76 @@ fn takes_the_library(rt: HostRuntime) -> Result<(), AllocError> {
     Ok(())
 }
 
+/// Rows of the library, each changed so that its rows are those of no tree.
+const CHANGED: [(usize, Row); 11] = [
+    (0, (0, 8, 0, Kind::Document, "", "")),
+    (0, (0, 7, 1, Kind::Document, "", "")),
+    (2, (2, 3, 2, Kind::Element, "book", "")),
+    (2, (2, 2, 3, Kind::Element, "book", "")),
+    (3, (4, 0, 3, Kind::Attribute, "id", "1")),
+    (4, (4, 0, 3, Kind::Text, "", "")),
+    (4, (4, 0, 3, Kind::Document, "", "")),
+    (4, (4, 0, 3, Kind::Attribute, "id", "A")),
+    (3, (3, 0, 3, Kind::Text, "", "1")),
+    (3, (3, 0, 3, Kind::Comment, "", "1--")),
+    (7, (7, 0, 101, Kind::Text, "", "B")),
+];
+
+/// The rows of the library, of which one is another.
+fn changed(
+    alloc: Global,
+    at: usize,
+    (pre, size, level, kind, name, value): Row,
+) -> Result<Vec<NodeRow>, AllocError> {
+    let mut rows = rows_of(alloc, &LIBRARY)?;
+    if let Some(old) = rows.get_mut(at) {
+        *old = row(alloc, (pre, size, level), kind, name, value)?;
+    }
+    Ok(rows)
+}
+
 #[test]
 fn refuses_another_row(rt: HostRuntime) -> Result<(), AllocError> {
-    let alloc = rt.alloc();
-    for (at, place, kind, name, value) in [
-        (0, (0, 8, 0), Kind::Document, "", ""),
-        (0, (0, 7, 1), Kind::Document, "", ""),
-        (2, (2, 3, 2), Kind::Element, "book", ""),
-        (2, (2, 2, 3), Kind::Element, "book", ""),
-        (3, (4, 0, 3), Kind::Attribute, "id", "1"),
-        (4, (4, 0, 3), Kind::Text, "", ""),
-        (4, (4, 0, 3), Kind::Document, "", ""),
-        (4, (4, 0, 3), Kind::Attribute, "id", "A"),
-        (3, (3, 0, 3), Kind::Text, "", "1"),
-        (3, (3, 0, 3), Kind::Comment, "", "1--"),
-        (7, (7, 0, 101), Kind::Text, "", "B"),
-    ] {
-        let mut rows = rows_of(alloc, &LIBRARY)?;
-        if let Some(old) = rows.get_mut(at) {
-            *old = row(alloc, place, kind, name, value)?;
-        }
+    for (at, other) in &CHANGED {
+        let rows = changed(rt.alloc(), *at, *other)?;
         assert!(rt; Fragment::from_rows(rows).is_err(), "at {at}");
     }
     Ok(())
 }
 
+/// Kinds, names and values of single nodes, and whether these are trees.
+const JUDGED: [(Kind, &str, &str, bool); 17] = [
+    (Kind::Document, "", "", true),
+    (Kind::Text, "", "", true),
+    (Kind::Text, "", "\u{FFFE}", false),
+    (Kind::Attribute, "id", "<&\"", true),
+    (Kind::Attribute, "xmlns", "", false),
+    (Kind::Attribute, "xml", "", true),
+    (Kind::Element, "\u{3b1}\u{10000}-1", "", true),
+    (Kind::Element, "1a", "", false),
+    (Kind::Element, "p:a", "", false),
+    (Kind::Element, "a", "b", false),
+    (Kind::Comment, "", "a-b", true),
+    (Kind::Comment, "", "a--b", false),
+    (Kind::Comment, "", "a-", false),
+    (Kind::ProcessingInstruction, "t", "a?b>", true),
+    (Kind::ProcessingInstruction, "t", "a?>", false),
+    (Kind::ProcessingInstruction, "t", " a", false),
+    (Kind::ProcessingInstruction, "XmL", "a", false),
+];
+
+/// Whether the node is a tree.
+fn is_tree(alloc: Global, kind: Kind, name: &str, value: &str) -> Result<bool, AllocError> {
+    let mut rows = Vec::new(alloc);
+    rows.push(row(alloc, (0, 0, 0), kind, name, value)?)?;
+    Ok(Fragment::from_rows(rows).is_ok())
+}
+
 #[test]
 fn judges_names_and_values(rt: HostRuntime) -> Result<(), AllocError> {
-    let alloc = rt.alloc();
-    for (kind, name, value, is_tree) in [
-        (Kind::Document, "", "", true),
-        (Kind::Text, "", "", true),
-        (Kind::Text, "", "\u{FFFE}", false),
-        (Kind::Attribute, "id", "<&\"", true),
-        (Kind::Attribute, "xmlns", "", false),
-        (Kind::Attribute, "xml", "", true),
-        (Kind::Element, "\u{3b1}\u{10000}-1", "", true),
-        (Kind::Element, "1a", "", false),
-        (Kind::Element, "p:a", "", false),
-        (Kind::Element, "a", "b", false),
-        (Kind::Comment, "", "a-b", true),
-        (Kind::Comment, "", "a--b", false),
-        (Kind::Comment, "", "a-", false),
-        (Kind::ProcessingInstruction, "t", "a?b>", true),
-        (Kind::ProcessingInstruction, "t", "a?>", false),
-        (Kind::ProcessingInstruction, "t", " a", false),
-        (Kind::ProcessingInstruction, "XmL", "a", false),
-    ] {
-        let mut rows = Vec::new(alloc);
-        rows.push(row(alloc, (0, 0, 0), kind, name, value)?)?;
-        assert_eq!(rt;
-            Fragment::from_rows(rows).is_ok(),
-            is_tree,
-            "name {name}, value {value}"
-        );
+    for (kind, name, value, wanted) in &JUDGED {
+        let found = is_tree(rt.alloc(), *kind, name, value)?;
+        assert_eq!(rt; found, *wanted, "name {name}, value {value}");
     }
     Ok(())
 }
@@ -87,15 +103,18 @@ fn wide(alloc: Global, kind: Kind, name: &str, count: u32) -> Result<Vec<NodeRow
     Ok(rows)
 }
 
+/// How many children of a kind and a name an element has, and whether that is a tree.
+const WIDE: [(Kind, &str, u32, bool); 3] = [
+    (Kind::Comment, "", 999_999, true),
+    (Kind::Comment, "", 1_000_000, false),
+    (Kind::Attribute, "n", 20_000, true),
+];
+
 #[test]
 fn takes_many_nodes(rt: HostRuntime) -> Result<(), AllocError> {
-    for (kind, name, count, is_tree) in [
-        (Kind::Comment, "", 999_999, true),
-        (Kind::Comment, "", 1_000_000, false),
-        (Kind::Attribute, "n", 20_000, true),
-    ] {
-        let rows = wide(rt.alloc(), kind, name, count)?;
-        assert_eq!(rt; Fragment::from_rows(rows).is_ok(), is_tree, "{count}");
+    for (kind, name, count, is_tree) in &WIDE {
+        let rows = wide(rt.alloc(), *kind, name, *count)?;
+        assert_eq!(rt; Fragment::from_rows(rows).is_ok(), *is_tree, "{count}");
     }
     Ok(())
 }

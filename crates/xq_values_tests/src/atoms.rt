@@ -332,22 +332,28 @@ fn casts_and_comparisons(rt: HostRuntime) {
     assert_rows(&rt, &PRINTS);
 }
 
+/// Decimal literals.
+const DECIMALS: [(&str, &str); 3] = [
+    ("1.", "1.0"),
+    ("0.1000000", "0.1"),
+    ("0.1234567", "prof:DIGITS"),
+];
+
+/// Integer literals.
+const INTEGERS: [(&str, &str); 2] = [
+    ("9223372036854775807", "9223372036854775807"),
+    ("9223372036854775808", "FOAR0002"),
+];
+
 #[test]
 fn literals(rt: HostRuntime) -> Result<(), Fault> {
-    for (text, wanted) in [
-        ("1.", "1.0"),
-        ("0.1000000", "0.1"),
-        ("0.1234567", "prof:DIGITS"),
-    ] {
+    for (text, wanted) in &DECIMALS {
         let found = shown(rt.alloc(), dec_literal(text).map(Atom::Dec))?;
-        assert_eq!(rt; found.as_str(), wanted);
+        assert_eq!(rt; found.as_str(), *wanted);
     }
-    for (text, wanted) in [
-        ("9223372036854775807", "9223372036854775807"),
-        ("9223372036854775808", "FOAR0002"),
-    ] {
+    for (text, wanted) in &INTEGERS {
         let found = shown(rt.alloc(), int_literal(text).map(Atom::Int))?;
-        assert_eq!(rt; found.as_str(), wanted);
+        assert_eq!(rt; found.as_str(), *wanted);
     }
     Ok(())
 }
@@ -374,9 +380,9 @@ fn keys_stand(alloc: Global, left: Sample, right: Sample) -> Result<(Ordering, b
 
 #[test]
 fn group_keys(rt: HostRuntime) -> Result<(), Fault> {
-    for (left, right, wanted) in KEYS {
-        let stands = keys_stand(rt.alloc(), left, right)?;
-        assert_eq!(rt; stands, (wanted, wanted == Ordering::Equal));
+    for (left, right, wanted) in &KEYS {
+        let stands = keys_stand(rt.alloc(), *left, *right)?;
+        assert_eq!(rt; stands, (*wanted, *wanted == Ordering::Equal));
     }
     let text = GroupKey::Text(String::from_str(rt.alloc(), "1")?);
     assert!(rt; key(rt.alloc(), Untyped("1"))? == text);

@@ -45,10 +45,10 @@ fn found(
 fn documents(rt: HostRuntime) -> Result<(), Fault> {
     let alloc = rt.alloc();
     let addresses = Addresses::from_rising(two_addresses(alloc)?).expect(&rt, "they rise");
-    for (samples, node, is_there) in DOCUMENTS {
+    for (samples, node, is_there) in &DOCUMENTS {
         let (found_node, found_there) = found(alloc, &addresses, samples)?;
-        assert_eq!(rt; found_node.as_str(), node);
-        assert_eq!(rt; found_there.as_str(), is_there);
+        assert_eq!(rt; found_node.as_str(), *node);
+        assert_eq!(rt; found_there.as_str(), *is_there);
     }
     let all = answer(alloc, Ok(collection(alloc, &addresses)?))?;
     assert_eq!(rt; all.as_str(), "node 0 0, node 1 0");

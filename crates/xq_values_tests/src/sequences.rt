@@ -75,13 +75,13 @@ const EFFECTIVE: [(Option<usize>, &[Sample], bool); 6] = [
 
 #[test]
 fn truths(rt: HostRuntime) -> Result<(), Fault> {
-    for (position, samples, wanted) in EFFECTIVE {
+    for (position, samples, wanted) in &EFFECTIVE {
         let items = items(rt.alloc(), samples)?;
         let found = match position {
-            Some(position) => keeps(position, &items),
+            Some(position) => keeps(*position, &items),
             None => effective(&items),
         };
-        assert_eq!(rt; found, Ok(wanted));
+        assert_eq!(rt; found, Ok(*wanted));
     }
     Ok(())
 }

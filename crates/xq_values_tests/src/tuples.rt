@@ -725,7 +725,7 @@ fn no_tuples(rt: HostRuntime) -> Result<(), Fault> {
 
 #[test]
 fn keys_of_one_kind(rt: HostRuntime) -> Result<(), Fault> {
-    for clauses in REFUSED {
+    for clauses in &REFUSED {
         let refused = stream_of(&rt, rt.alloc(), clauses);
         assert!(rt; matches!(refused, Err(Fault::Code(Code::XPTY0004))));
     }

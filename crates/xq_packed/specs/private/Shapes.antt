@@ -1,7 +1,6 @@
 -- What rows are kept as: shapes, one text of all values, and the names.
 use Rattle.std.proofs.Common.{zero, suc}
-use Rattle.std.specs.Prelude.{ℕ, ◌≡◌, ◌+◌, ◌-◌, ◌*◌, ◌^◌, ◌<◌, ◌≤◌, List, [], ◌∷◌, take, drop, length, bytes_eq, slice_index_or}
-use Rattle.std.specs.List.{IsDistinct}
+use Rattle.std.specs.Prelude.{ℕ, ◌≡◌, ◌+◌, ◌-◌, ◌*◌, ◌^◌, ◌<◌, ◌≤◌, List, [], ◌∷◌, take, drop, length, slice_index_or}
 use Rattle.std.specs.Str.{IsUtf8}
 use Rattle.xq_regions.specs.Rows.{Row}
 use Rattle.xq_packed.specs.Packed.{row, IsNumbered}
@@ -54,13 +53,10 @@ AreShapes text names start [] = Unit {0}
 AreShapes text names start (s ∷ shapes) =
     IsShape text names start s × AreShapes text names (value_end s) shapes
 
--- what is kept of rows: the text ends with the last value, no name stands twice, places and numbers
--- have four bytes
+-- what is kept of rows: the text ends with the last value, and places have four bytes
 pub record IsKept (text : List ℕ) (names : List (List ℕ)) (kept : List Shape) : Type 0 where
   pub shapes : AreShapes text names 0 kept
   pub end : last_end 0 kept ≡ length text
-  pub distinct : IsDistinct bytes_eq names
-  pub few : length names ≤ 2 ^ 32
   pub room : length kept < 2 ^ 32
 
 -- the shape is that of a row whose name is among these

@@ -1,7 +1,7 @@
 use Rattle.std.proofs.Common.{rules, ◌≡◌, ◌≤◌, ◌<◌, ◌+◌, ◌-◌, ◌^◌, ℕ, [], ◌++◌, map, take, length, min, string_bytes, refl, sym, ap, ◌∙◌, subst, arith}
 use Rattle.std.specs.Prelude.{All, slice_range, IsCharBoundary}
 use Rattle.std.proofs.lemmas.Str.{IsUtf8-string_bytes, IsCharBoundary-from_take}
-use Rattle.std.proofs.lemmas.List.{append-nil, length-map, take_at}
+use Rattle.std.proofs.lemmas.List.{append-nil, take_at}
 use Rattle.xq_regions.specs.Tree.{most_levels}
 use Rattle.xq_packed.specs.declared.shapes.Shape.{Shape}
 use Rattle.xq_packed.specs.Packed.{Packed, with_names}
@@ -24,9 +24,9 @@ high c =
 low_le : (c : After-start_at) → c.min-low.result ≤ c.min-high.result
 low_le c = omega (arith, c.min-low.ensures)
 
-found : (c : After-start_at) → IsRun (string_bytes c.other.inside.text) (map string_bytes c.other.inside.names.keys) c.other.inside.shapes.items (slice_range c.other.inside.shapes.items c.min-low.result c.min-high.result) c.min-low.result c.min-high.result
+found : (c : After-start_at) → IsRun (string_bytes c.other.inside.text) c.other.inside.names c.other.inside.shapes.items (slice_range c.other.inside.shapes.items c.min-low.result c.min-high.result) c.min-low.result c.min-high.result
 found c =
-    run-of (string_bytes c.other.inside.text) (map string_bytes c.other.inside.names.keys) c.other.inside.shapes.items c.min-low.result c.min-high.result (low_le c) c.other.invariant.shapes
+    run-of (string_bytes c.other.inside.text) c.other.inside.names c.other.inside.shapes.items c.min-low.result c.min-high.result (low_le c) c.other.invariant.shapes
 
 start : (c : After-start_at) → c.start_at-start.result ≡ value_start 0 c.other.inside.shapes.items c.min-low.result
 start c = c.start_at-start.ensures ∙ ap (λ ss. value_start 0 ss c.min-low.result) c.deref-2.ensures.value
@@ -37,12 +37,12 @@ stop c = c.start_at.ensures ∙ ap (λ ss. value_start 0 ss c.min-high.result) c
 cut_at : (c : After-start_at) (place at : ℕ) → at ≡ value_start 0 c.other.inside.shapes.items place → IsCut (string_bytes c.other.inside.text) at
 cut_at c place at e =
     let o = string_bytes c.other.inside.text in
-    subst (IsCut o) (sym e) (start-cut o (map string_bytes c.other.inside.names.keys) 0 c.other.inside.shapes.items place (first-cut o) c.other.invariant.shapes)
+    subst (IsCut o) (sym e) (start-cut o c.other.inside.names 0 c.other.inside.shapes.items place (first-cut o) c.other.invariant.shapes)
 
 -- its rows are those that are asked for
-asked : (c : After-start_at) → slice_range c.args.other.now.rows c.args.low c.args.high ≡ rows_of_shapes (string_bytes c.other.inside.text) (map string_bytes c.other.inside.names.keys) (value_start 0 c.other.inside.shapes.items c.min-low.result) (slice_range c.other.inside.shapes.items c.min-low.result c.min-high.result)
+asked : (c : After-start_at) → slice_range c.args.other.now.rows c.args.low c.args.high ≡ rows_of_shapes (string_bytes c.other.inside.text) c.other.inside.names (value_start 0 c.other.inside.shapes.items c.min-low.result) (slice_range c.other.inside.shapes.items c.min-low.result c.min-high.result)
 asked c =
-    run-found (string_bytes c.other.inside.text) (map string_bytes c.other.inside.names.keys) c.other.inside.shapes.items c.args.other.now c.args.low c.args.high (length c.other.inside.shapes.items) c.min-low.result c.min-high.result c.other.invariant.shapes c.other.view_is refl (high c) c.min-low.ensures
+    run-found (string_bytes c.other.inside.text) c.other.inside.names c.other.inside.shapes.items c.args.other.now c.args.low c.args.high (length c.other.inside.shapes.items) c.min-low.result c.min-high.result c.other.invariant.shapes c.other.view_is refl (high c) c.min-low.ensures
 
 -- the run as it is passed on
 passed : (c : After-start_at) → slice_range c.deref.result.now c.min-low.result c.min-high.result ≡ slice_range c.other.inside.shapes.items c.min-low.result c.min-high.result
@@ -62,32 +62,31 @@ range-values-requires-clause-start_boundary c above = boundary c c.start_at-star
 pub range-values-requires-clause-end_boundary : goal.range-values-requires-clause-end_boundary
 range-values-requires-clause-end_boundary c = boundary c c.start_at.result (cut_at c c.min-high.result c.start_at.result (stop c))
 
-pub append_shapes-done-requires-clause-readable : goal.append_shapes-done-requires-clause-readable
-append_shapes-done-requires-clause-readable c =
-    let at = (goal.at.append_shapes-done-requires-clause-readable c).After-start_at in
+pub append_shapes-done-requires : goal.append_shapes-done-requires
+append_shapes-done-requires c =
+    let at = (goal.at.append_shapes-done-requires c).After-start_at in
     let o = string_bytes c.other.inside.text in
-    let others = map string_bytes c.other.inside.names.keys in
+    let others = c.other.inside.names in
     let run = slice_range c.other.inside.shapes.items c.min-low.result c.min-high.result in
     let all : All (IsReadable others c.start_at-start.result) run = readable o others c.start_at-start.result (value_start 0 c.other.inside.shapes.items c.min-low.result) run (omega (arith, start at)) (found at).stand in
     subst (All (IsReadable others c.start_at-start.result)) (sym (passed at)) all
 
 -- # Where it is refused
 
-refused : (c : After-truncate) → IsAppended (string_bytes c.reserve-2.new.self) (map string_bytes c.append_shapes-done.new.names.keys) c.truncate.new.self.items (rows_of_shapes (string_bytes c.self.inside.text) (map string_bytes c.self.inside.names.keys) 0 c.self.inside.shapes.items) []
+refused : (c : After-truncate) → IsAppended (string_bytes c.reserve-2.new.self) c.append_shapes-done.new.names c.truncate.new.self.items (rows_of_shapes (string_bytes c.self.inside.text) c.self.inside.names 0 c.self.inside.shapes.items) []
 refused c =
     let text = string_bytes c.self.inside.text in
-    let names = map string_bytes c.self.inside.names.keys in
+    let names = c.self.inside.names in
     let mine = c.self.inside.shapes.items in
-    let others = map string_bytes c.other.inside.names.keys in
-    let later = map string_bytes c.append_shapes-done.new.names.keys in
+    let others = c.other.inside.names in
+    let later = c.append_shapes-done.new.names in
     let some = c.in-Err.ensures.some in
     let more = c.append_shapes-done.ensures.front in
-    let few : length later ≤ 2 ^ 32 = subst (λ n. n ≤ 2 ^ 32) (sym (length-map c.append_shapes-done.new.names.keys string_bytes)) c.append_shapes-done.ensures.few in
     let count : length c.reserve.new.self.items ≡ c.len-count.result = sym (search (rules, c.len-count.ensures)) in
     let back : c.truncate.new.self.items ≡ mine =
     c.truncate.ensures.items ∙ ap (take c.len-count.result) more.1 ∙ take_at c.reserve.new.self.items more.0 c.len-count.result count ∙ c.reserve.ensures.items in
     let rows = rows_of_shapes text names 0 mine in
-    let kept : IsAppended text later mine rows [] = names-kept text others names later mine (take some.0 (slice_range c.deref.result.now c.min-low.result c.min-high.result)) c.self.invariant some.1 few in
+    let kept : IsAppended text later mine rows [] = names-kept text others names later mine (take some.0 (slice_range c.deref.result.now c.min-low.result c.min-high.result)) c.self.invariant some.1 in
     subst (λ t. IsAppended t later c.truncate.new.self.items rows []) (sym c.reserve-2.ensures.bytes)
     (subst (λ ss. IsAppended text later ss rows []) (sym back) kept)
 
@@ -96,15 +95,15 @@ invariant_of-self-in-Err c = (refused c).kept
 
 pub returns-in-Err-clause-err : goal.returns-in-Err-clause-err
 returns-in-Err-clause-err c =
-    (refused c).rows ∙ append-nil (rows_of_shapes (string_bytes c.self.inside.text) (map string_bytes c.self.inside.names.keys) 0 c.self.inside.shapes.items)
+    (refused c).rows ∙ append-nil (rows_of_shapes (string_bytes c.self.inside.text) c.self.inside.names 0 c.self.inside.shapes.items)
     ∙ ap (λ (p : Packed). p.rows) c.self.view_is
 
 pub returns-in-Err-clause-some : goal.returns-in-Err-clause-some
 returns-in-Err-clause-some c =
     let at = (goal.at.returns-in-Err-clause-some c).After-start_at in
     let o = string_bytes c.other.inside.text in
-    let names = map string_bytes c.self.inside.names.keys in
-    let others = map string_bytes c.other.inside.names.keys in
+    let names = c.self.inside.names in
+    let others = c.other.inside.names in
     let from = value_start 0 c.other.inside.shapes.items c.min-low.result in
     let run = slice_range c.other.inside.shapes.items c.min-low.result c.min-high.result in
     let some = c.in-Err.ensures.some in (
@@ -119,7 +118,7 @@ returns-in-Err-clause-some c =
 movable : (c : After-start_at) → AreMovable c.args.from c.args.to (slice_range c.args.other.now.rows c.args.low c.args.high) → All (λ (s : Shape). s.level - c.args.from + c.args.to < most_levels) (slice_range c.deref.result.now c.min-low.result c.min-high.result)
 movable c may =
     let o = string_bytes c.other.inside.text in
-    let others = map string_bytes c.other.inside.names.keys in
+    let others = c.other.inside.names in
     let from = value_start 0 c.other.inside.shapes.items c.min-low.result in
     let run = slice_range c.other.inside.shapes.items c.min-low.result c.min-high.result in
     subst (All (λ (s : Shape). s.level - c.args.from + c.args.to < most_levels)) (sym (passed c))
@@ -130,15 +129,15 @@ returns-in-Err-clause-want c = λ may. c.in-Err.ensures.want (movable (goal.at.r
 
 -- # Where it was added
 
-added : (c : In_ok-push_str) → IsAppended (string_bytes c.push_str.new.self) (map string_bytes c.append_shapes-done.new.names.keys) c.append_shapes-done.new.shapes.items (rows_of_shapes (string_bytes c.self.inside.text) (map string_bytes c.self.inside.names.keys) 0 c.self.inside.shapes.items) (map (moved c.args.from c.args.to) (rows_of_shapes (string_bytes c.other.inside.text) (map string_bytes c.other.inside.names.keys) c.start_at-start.result (slice_range c.other.inside.shapes.items c.min-low.result c.min-high.result)))
+added : (c : In_ok-push_str) → IsAppended (string_bytes c.push_str.new.self) c.append_shapes-done.new.names c.append_shapes-done.new.shapes.items (rows_of_shapes (string_bytes c.self.inside.text) c.self.inside.names 0 c.self.inside.shapes.items) (map (moved c.args.from c.args.to) (rows_of_shapes (string_bytes c.other.inside.text) c.other.inside.names c.start_at-start.result (slice_range c.other.inside.shapes.items c.min-low.result c.min-high.result)))
 added c =
     let at = (goal.at.invariant_of-self-2 c).After-start_at in
     let text = string_bytes c.self.inside.text in
-    let names = map string_bytes c.self.inside.names.keys in
+    let names = c.self.inside.names in
     let mine = c.self.inside.shapes.items in
     let o = string_bytes c.other.inside.text in
-    let others = map string_bytes c.other.inside.names.keys in
-    let later = map string_bytes c.append_shapes-done.new.names.keys in
+    let others = c.other.inside.names in
+    let later = c.append_shapes-done.new.names in
     let run = slice_range c.other.inside.shapes.items c.min-low.result c.min-high.result in
     let low = c.start_at-start.result in
     let high = c.start_at.result in
@@ -154,10 +153,9 @@ added c =
     subst (λ ss. AreMovedAfter others later low (length text) c.args.from c.args.to mine ss c.append_shapes-done.new.shapes.items) (passed at)
     (subst (λ ss. AreMovedAfter others later low (length text) c.args.from c.args.to ss (slice_range c.deref.result.now c.min-low.result c.min-high.result) c.append_shapes-done.new.shapes.items) c.reserve.ensures.items
     (subst (λ n. AreMovedAfter others later low n c.args.from c.args.to c.reserve.new.self.items (slice_range c.deref.result.now c.min-low.result c.min-high.result) c.append_shapes-done.new.shapes.items) base c.in_default.ensures.moved)) in
-    let few : length later ≤ 2 ^ 32 = subst (λ n. n ≤ 2 ^ 32) (sym (length-map c.append_shapes-done.new.names.keys string_bytes)) c.append_shapes-done.ensures.few in
     let count : c.len-2.result ≡ length mine = search (rules, c.len-2.ensures) in
     let room : length mine + length run < 2 ^ 32 = omega (arith, count, c.if-run-len.false, ap length (passed at), c.self.invariant.room) in
-    run-appended text o others names mine run low high c.args.from c.args.to (IsUtf8-string_bytes c.self.inside.text) (IsUtf8-string_bytes c.other.inside.text) c.self.invariant (cut_at at c.min-low.result low (start at)) (cut_at at c.min-high.result high (stop at)) stand ends (string_bytes c.push_str.new.self) later c.append_shapes-done.new.shapes.items piece named after few room
+    run-appended text o others names mine run low high c.args.from c.args.to (IsUtf8-string_bytes c.self.inside.text) (IsUtf8-string_bytes c.other.inside.text) c.self.invariant (cut_at at c.min-low.result low (start at)) (cut_at at c.min-high.result high (stop at)) stand ends (string_bytes c.push_str.new.self) later c.append_shapes-done.new.shapes.items piece named after room
 
 pub invariant_of-self-2 : goal.invariant_of-self-2
 invariant_of-self-2 c = (added c).kept
@@ -166,9 +164,9 @@ pub returns-clause-rows : goal.returns-clause-rows
 returns-clause-rows c =
     let at = (goal.at.invariant_of-self-2 c).After-start_at in
     let o = string_bytes c.other.inside.text in
-    let others = map string_bytes c.other.inside.names.keys in
+    let others = c.other.inside.names in
     let run = slice_range c.other.inside.shapes.items c.min-low.result c.min-high.result in
-    let rows = rows_of_shapes (string_bytes c.self.inside.text) (map string_bytes c.self.inside.names.keys) 0 c.self.inside.shapes.items in
+    let rows = rows_of_shapes (string_bytes c.self.inside.text) c.self.inside.names 0 c.self.inside.shapes.items in
     (added c).rows
     ∙ ap (λ i. rows ++ map (moved c.args.from c.args.to) (rows_of_shapes o others i run)) (start at)
     ∙ ap (λ rs. rows ++ map (moved c.args.from c.args.to) rs) (sym (asked at))
@@ -178,8 +176,8 @@ pub returns-clause-names : goal.returns-clause-names
 returns-clause-names c =
     let at = (goal.at.invariant_of-self-2 c).After-start_at in
     let o = string_bytes c.other.inside.text in
-    let others = map string_bytes c.other.inside.names.keys in
-    let names = map string_bytes c.self.inside.names.keys in
+    let others = c.other.inside.names in
+    let names = c.self.inside.names in
     let from = value_start 0 c.other.inside.shapes.items c.min-low.result in
     let run = slice_range c.other.inside.shapes.items c.min-low.result c.min-high.result in
     c.in_default.ensures.names ∙ ap (with_named others names) (passed at)
@@ -191,7 +189,7 @@ pub returns-clause-fit : goal.returns-clause-fit
 returns-clause-fit c =
     let at = (goal.at.invariant_of-self-2 c).After-start_at in
     let o = string_bytes c.other.inside.text in
-    let others = map string_bytes c.other.inside.names.keys in
+    let others = c.other.inside.names in
     let from = value_start 0 c.other.inside.shapes.items c.min-low.result in
     let run = slice_range c.other.inside.shapes.items c.min-low.result c.min-high.result in
     let low : All (λ (s : Shape). s.level - c.args.from + c.args.to < most_levels) run = subst (All (λ (s : Shape). s.level - c.args.from + c.args.to < most_levels)) (passed at) c.in_default.ensures.fit in

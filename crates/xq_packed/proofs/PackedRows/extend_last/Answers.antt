@@ -1,4 +1,4 @@
-use Rattle.std.proofs.Common.{rules, ◌≡◌, ◌+◌, ◌-◌, suc, ◌++◌, map, length, set, get_or, string_bytes, sym, ap, ◌∙◌, subst, arith}
+use Rattle.std.proofs.Common.{rules, ◌≡◌, ◌+◌, ◌-◌, suc, ◌++◌, length, set, get_or, string_bytes, sym, ap, ◌∙◌, subst, arith}
 use Rattle.std.proofs.lemmas.Str.{IsUtf8-string_bytes}
 use Rattle.xq_packed.specs.declared.shapes.Shape.{Shape}
 use Rattle.xq_packed.specs.Packed.{Packed}
@@ -9,10 +9,10 @@ use Rattle.xq_packed.proofs.PackedRows.extend_last.Goals as goal
 use Rattle.xq_packed.proofs.PackedRows.extend_last.Goals.{After-self-1}
 
 -- what is kept then, and the rows
-longer_one : (c : After-self-1) → IsLonger-kept (string_bytes c.push_str.new.self) (map string_bytes c.self.inside.names.keys) (set c.self.inside.shapes.items (c.len-count.result - 1) (record { size = c.index-last.result.now.size; name = c.index-last.result.now.name; end_low = c.in_ok-end_low.end_low; end_high = c.in_ok-end_low.end_high; level = c.index-last.result.now.level; kind = c.index-last.result.now.kind })) (with_longer_last c.args.value.now (rows_of_shapes (string_bytes c.self.inside.text) (map string_bytes c.self.inside.names.keys) 0 c.self.inside.shapes.items))
+longer_one : (c : After-self-1) → IsLonger-kept (string_bytes c.push_str.new.self) c.self.inside.names (set c.self.inside.shapes.items (c.len-count.result - 1) (record { size = c.index-last.result.now.size; name = c.index-last.result.now.name; end_low = c.in_ok-end_low.end_low; end_high = c.in_ok-end_low.end_high; level = c.index-last.result.now.level; kind = c.index-last.result.now.kind })) (with_longer_last c.args.value.now (rows_of_shapes (string_bytes c.self.inside.text) c.self.inside.names 0 c.self.inside.shapes.items))
 longer_one c =
     let text = string_bytes c.self.inside.text in
-    let names = map string_bytes c.self.inside.names.keys in
+    let names = c.self.inside.names in
     let shapes = c.self.inside.shapes.items in
     let value = c.args.value.now in
     let last = c.index-last.result.now in

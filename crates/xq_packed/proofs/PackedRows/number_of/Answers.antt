@@ -1,21 +1,19 @@
-use Rattle.std.proofs.Common.{◌≡◌, map, string_bytes, sym, ◌∙◌, subst}
-use Rattle.xq_packed.specs.Packed.{Packed, IsNumberOf}
-use Rattle.xq_packed.proofs.Standing.{none-named}
-use Rattle.xq_packed.proofs.Numbering.{found-names, any-names, number-of}
-use Rattle.std.specs.Prelude.{bytes_eq, false}
+use Rattle.std.proofs.Common.{◌≡◌, false, string_bytes, subst}
+use Rattle.std.specs.Prelude.{bytes_eq, IfSome}
 use Rattle.std.specs.List.{list_any}
+use Rattle.xq_packed.specs.Packed.{Packed, IsNumberOf, NoneNamed}
+use Rattle.xq_packed.proofs.Standing.{none-named}
+use Rattle.xq_packed.proofs.Judging.{if_none}
 use Rattle.xq_packed.proofs.PackedRows.number_of.Goals as goal
 
-pub returns-in-Some-clause-number : goal.returns-in-Some-clause-number
-returns-in-Some-clause-number c =
-    let keys = c.self.inside.names.keys in
-    subst (λ (p : Packed). IsNumberOf p.names c.in-Some.number c.args.name.now) c.self.view_is
-    (number-of (map string_bytes keys) c.in-Some.number c.args.name.now c.self.invariant.distinct (found-names c.args.name.now keys c.in-Some.number (sym c.in-Some.ensures.index)))
+pub returns-clause-number : goal.returns-clause-number
+returns-clause-number c =
+    subst (λ (p : Packed). IfSome c.number_of.result (λ number. IsNumberOf p.names number c.args.name.now)) c.self.view_is c.number_of.ensures.number
 
-pub returns-in-None-clause-none : goal.returns-in-None-clause-none
-returns-in-None-clause-none c =
+pub returns-clause-none : goal.returns-clause-none
+returns-clause-none c =
     let text = string_bytes c.self.inside.text in
-    let names = map string_bytes c.self.inside.names.keys in
+    let names = c.self.inside.names in
     let shapes = c.self.inside.shapes.items in
-    let absent : list_any (bytes_eq c.args.name.now) names ≡ false = sym (any-names c.args.name.now c.self.inside.names.keys) ∙ sym c.in-None.ensures.found in
-    none-named text names shapes c.args.name.now c.args.self.now c.self.invariant c.self.view_is absent
+    let name = c.args.name.now in
+    if_none (list_any (bytes_eq name) names ≡ false) (NoneNamed c.args.self.now.rows name) (none-named text names shapes name c.args.self.now c.self.invariant c.self.view_is) c.number_of.result c.number_of.ensures.none

@@ -1,5 +1,4 @@
-use Rattle.std.proofs.Common.{rules, ◌≡◌, ◌<◌, ◌≤◌, ◌+◌, ◌^◌, [], ◌∷◌, ◌++◌, map, length, string_bytes, sym, ap, ◌∙◌, subst, arith}
-use Rattle.std.proofs.lemmas.List.{length-map}
+use Rattle.std.proofs.Common.{rules, ◌≡◌, ◌<◌, ◌+◌, ◌^◌, [], ◌∷◌, ◌++◌, length, string_bytes, ap, ◌∙◌, arith}
 use Rattle.std.proofs.lemmas.Str.{IsUtf8-string_bytes}
 use Rattle.xq_packed.specs.Packed.{Packed, row}
 use Rattle.xq_packed.specs.declared.shapes.Shape.{Shape}
@@ -9,7 +8,7 @@ use Rattle.xq_packed.proofs.PackedRows.push_parts.Goals as goal
 use Rattle.xq_packed.proofs.PackedRows.push_parts.Goals.{After-push_reserved}
 
 -- what is kept then, and the rows
-pushed : (c : After-push_reserved) → IsPushed (string_bytes c.self.inside.text) (map string_bytes c.self.inside.names.keys) c.self.inside.shapes.items (string_bytes c.push_str.new.self) (map string_bytes c.number_among.new.names.keys) c.push_reserved.new.self.items (row c.args.size c.args.level c.args.kind c.args.name.now c.args.value.now)
+pushed : (c : After-push_reserved) → IsPushed (string_bytes c.self.inside.text) c.self.inside.names c.self.inside.shapes.items (string_bytes c.push_str.new.self) c.number_among.new.self c.push_reserved.new.self.items (row c.args.size c.args.level c.args.kind c.args.name.now c.args.value.now)
 pushed c =
     let text = c.self.inside.text in
     let value = c.args.value.now in
@@ -19,8 +18,7 @@ pushed c =
     let ends : value_end s ≡ length (string_bytes text) + length value = search (rules, c.in_ok-end_low.ensures.parts) in
     let count : c.len.result ≡ length c.self.inside.shapes.items = search (rules, c.len.ensures) in
     let room : length c.self.inside.shapes.items + 1 < 2 ^ 32 = omega (arith, count, c.if-len-ge-MOST_ROWS.false) in
-    let few = subst (λ n. n ≤ 2 ^ 32) (sym (length-map c.number_among.new.names.keys string_bytes)) c.number_among.ensures.few in
-    push-keeps (string_bytes text) value _ (map string_bytes c.self.inside.names.keys) _ c.args.name.now c.self.inside.shapes.items _ s (IsUtf8-string_bytes text) c.utf8.value c.self.invariant texts c.in_ok-name.ensures.names shapes ends c.in_ok-name.ensures.number few room
+    push-keeps (string_bytes text) value _ c.self.inside.names _ c.args.name.now c.self.inside.shapes.items _ s (IsUtf8-string_bytes text) c.utf8.value c.self.invariant texts c.in_ok-name.ensures.names shapes ends c.in_ok-name.ensures.number room
 
 pub invariant_of-self-2 : goal.invariant_of-self-2
 invariant_of-self-2 c = (pushed c).0

@@ -1,8 +1,8 @@
-use Rattle.std.proofs.Common.{rules, ◌≡◌, ◌≤◌, ◌<◌, ◌+◌, ◌^◌, [], ◌∷◌, map, length, string_bytes, refl, sym, ap, ◌∙◌, subst, arith}
+use Rattle.std.proofs.Common.{rules, ◌≡◌, ◌<◌, ◌+◌, ◌^◌, [], ◌∷◌, map, length, string_bytes, refl, sym, ap, ◌∙◌, subst, arith}
 use Rattle.std.specs.Prelude.{All}
 use Rattle.std.specs.Vec.{with_items}
 use Rattle.std.proofs.lemmas.Bool.{true≢false}
-use Rattle.std.proofs.lemmas.List.{length-map, with_items_is}
+use Rattle.std.proofs.lemmas.List.{with_items_is}
 use Rattle.xq_regions.specs.Tree.{most_levels}
 use Rattle.xq_packed.specs.declared.shapes.Shape.{Shape}
 use Rattle.xq_packed.specs.Packed.{Packed, row}
@@ -15,16 +15,16 @@ use Rattle.xq_packed.proofs.PackedRows.put_root.Goals.{In_ok-insert}
 pub returns-then-not-may_sink-clause-want : goal.returns-then-not-may_sink-clause-want
 returns-then-not-may_sink-clause-want c = λ may.
     (let text = string_bytes c.self.inside.text in
-    let names = map string_bytes c.self.inside.names.keys in
+    let names = c.self.inside.names in
     let shapes = c.self.inside.shapes.items in
     let low : All (λ (s : Shape). s.level + 1 < most_levels) shapes = sinkable-shapes text names 0 shapes (subst (λ (p : Packed). AreMovable 0 1 p.rows) (sym c.self.view_is) may) in
     absurd (true≢false (sym (c.may_sink.ensures.1 (subst (All (λ (s : Shape). s.level + 1 < most_levels)) (sym c.deref.ensures.value) low)) ∙ c.if-not-may_sink.true)))
 
 -- what is kept then, and the rows
-with_root : (c : In_ok-insert) → IsRooted (string_bytes c.self.inside.text) (map string_bytes c.self.inside.names.keys) c.self.inside.shapes.items (map string_bytes c.number_among.new.names.keys) c.insert.new.self.items (row c.args.size 0 c.args.kind c.args.name.now [])
+with_root : (c : In_ok-insert) → IsRooted (string_bytes c.self.inside.text) c.self.inside.names c.self.inside.shapes.items c.number_among.new.self c.insert.new.self.items (row c.args.size 0 c.args.kind c.args.name.now [])
 with_root c =
     let text = string_bytes c.self.inside.text in
-    let names = map string_bytes c.self.inside.names.keys in
+    let names = c.self.inside.names in
     let shapes = c.self.inside.shapes.items in
     let s : Shape = record { size = c.args.size; name = c.in_ok-name.name; end_low = 0; end_high = 0; level = 0; kind = c.args.kind } in
     let long : length c.sink.new.shapes ≡ c.reserve.new.self.len = omega (arith, c.sink.auto.shapes, ap length c.deref_mut.ensures.value, c.reserve.new.self.ok.0) in
@@ -33,8 +33,7 @@ with_root c =
     let after : c.insert.new.self.items ≡ s ∷ map sunk shapes = c.in_ok-insert.ensures.items ∙ ap (λ ss. s ∷ ss) before in
     let count : c.len.result ≡ length shapes = search (rules, c.len.ensures) in
     let room : length shapes + 1 < 2 ^ 32 = omega (arith, count, c.if-len-ge-MOST_ROWS.false) in
-    let few = subst (λ n. n ≤ 2 ^ 32) (sym (length-map c.number_among.new.names.keys string_bytes)) c.number_among.ensures.few in
-    rooted text names shapes s c.args.name.now c.self.invariant (record { level = refl; end = refl }) (map string_bytes c.number_among.new.names.keys) c.insert.new.self.items c.in_ok-name.ensures.names after c.in_ok-name.ensures.number few room
+    rooted text names shapes s c.args.name.now c.self.invariant (record { level = refl; end = refl }) c.number_among.new.self c.insert.new.self.items c.in_ok-name.ensures.names after c.in_ok-name.ensures.number room
 
 pub invariant_of-self-2 : goal.invariant_of-self-2
 invariant_of-self-2 c = (with_root c).0
@@ -47,7 +46,7 @@ returns-clause-rows c =
 pub returns-clause-fits : goal.returns-clause-fits
 returns-clause-fits c =
     let text = string_bytes c.self.inside.text in
-    let names = map string_bytes c.self.inside.names.keys in
+    let names = c.self.inside.names in
     let shapes = c.self.inside.shapes.items in
     let low : All (λ (s : Shape). s.level + 1 < most_levels) shapes = subst (All (λ (s : Shape). s.level + 1 < most_levels)) c.deref.ensures.value (c.may_sink.ensures.0 c.if-not-may_sink.false) in
     subst (λ (p : Packed). AreMovable 0 1 p.rows) c.self.view_is (sinkable-rows text names 0 shapes low)

@@ -1,4 +1,4 @@
-use Rattle.std.proofs.Common.{rules, ◌≡◌, ◌<◌, map, length, string_bytes, sym, ap, ◌∙◌, subst, arith}
+use Rattle.std.proofs.Common.{rules, ◌≡◌, ◌<◌, length, string_bytes, sym, ap, ◌∙◌, subst, arith}
 use Rattle.std.proofs.lemmas.Str.{IsUtf8-string_bytes, IsCharBoundary-from_take}
 use Rattle.std.specs.Prelude.{slice_range, IsCharBoundary}
 use Rattle.xq_regions.specs.Rows.{Row}
@@ -9,7 +9,7 @@ use Rattle.xq_packed.proofs.PackedRows.value_at.Goals as goal
 pub start_at-start-requires : goal.start_at-start-requires
 start_at-start-requires c =
     let text = string_bytes c.self.inside.text in
-    let names = map string_bytes c.self.inside.names.keys in
+    let names = c.self.inside.names in
     let shapes = c.self.inside.shapes.items in
     let here : c.args.at < length shapes = inside text names shapes c.args.at c.args.self.now c.self.view_is c.requires in
     omega (arith, here, ap length c.deref.ensures.value)
@@ -17,7 +17,7 @@ start_at-start-requires c =
 pub index-requires : goal.index-requires
 index-requires c =
     let text = string_bytes c.self.inside.text in
-    let names = map string_bytes c.self.inside.names.keys in
+    let names = c.self.inside.names in
     let shapes = c.self.inside.shapes.items in
     let here : c.args.at < length shapes = inside text names shapes c.args.at c.args.self.now c.self.view_is c.requires in
     search (rules, here)
@@ -25,7 +25,7 @@ index-requires c =
 pub range-requires-clause-start_le_end : goal.range-requires-clause-start_le_end
 range-requires-clause-start_le_end c =
     let text = string_bytes c.self.inside.text in
-    let names = map string_bytes c.self.inside.names.keys in
+    let names = c.self.inside.names in
     let shapes = c.self.inside.shapes.items in
     let t = told text names shapes c.args.at c.index.result.now c.args.self.now c.self.invariant c.self.view_is c.requires c.index.ensures in
     let from : c.start_at-start.result ≡ value_start 0 shapes c.args.at = c.start_at-start.ensures ∙ ap (λ ss. value_start 0 ss c.args.at) c.deref.ensures.value in
@@ -34,7 +34,7 @@ range-requires-clause-start_le_end c =
 pub range-requires-clause-start_boundary : goal.range-requires-clause-start_boundary
 range-requires-clause-start_boundary c above =
     let text = string_bytes c.self.inside.text in
-    let names = map string_bytes c.self.inside.names.keys in
+    let names = c.self.inside.names in
     let shapes = c.self.inside.shapes.items in
     let t = told text names shapes c.args.at c.index.result.now c.args.self.now c.self.invariant c.self.view_is c.requires c.index.ensures in
     let from : c.start_at-start.result ≡ value_start 0 shapes c.args.at = c.start_at-start.ensures ∙ ap (λ ss. value_start 0 ss c.args.at) c.deref.ensures.value in
@@ -45,7 +45,7 @@ range-requires-clause-start_boundary c above =
 pub range-requires-clause-end_boundary : goal.range-requires-clause-end_boundary
 range-requires-clause-end_boundary c =
     let text = string_bytes c.self.inside.text in
-    let names = map string_bytes c.self.inside.names.keys in
+    let names = c.self.inside.names in
     let shapes = c.self.inside.shapes.items in
     let t = told text names shapes c.args.at c.index.result.now c.args.self.now c.self.invariant c.self.view_is c.requires c.index.ensures in
     subst (λ i. IsCharBoundary c.deref-2.result.now i) (sym c.value_end-end.ensures)
@@ -55,7 +55,7 @@ range-requires-clause-end_boundary c =
 pub returns : goal.returns
 returns c =
     let text = string_bytes c.self.inside.text in
-    let names = map string_bytes c.self.inside.names.keys in
+    let names = c.self.inside.names in
     let shapes = c.self.inside.shapes.items in
     let t = told text names shapes c.args.at c.index.result.now c.args.self.now c.self.invariant c.self.view_is c.requires c.index.ensures in
     let from : c.start_at-start.result ≡ value_start 0 shapes c.args.at = c.start_at-start.ensures ∙ ap (λ ss. value_start 0 ss c.args.at) c.deref.ensures.value in

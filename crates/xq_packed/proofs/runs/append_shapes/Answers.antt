@@ -1,4 +1,4 @@
-use Rattle.std.proofs.Common.{◌≡◌, ◌<◌, ◌+◌, ◌-◌, ℕ, Result, Ok, Err, map, take, length, string_bytes, arith}
+use Rattle.std.proofs.Common.{◌≡◌, ◌<◌, ◌+◌, ◌-◌, ℕ, Result, Ok, Err, take, length, arith}
 use Rattle.std.specs.Prelude.{OnErr}
 use Rattle.std.proofs.lemmas.List.Elements.{All-more}
 use Rattle.xq_regions.specs.Tree.{most_levels}
@@ -14,15 +14,15 @@ on_err P (Ok x) p = tt
 on_err P (Err e) p = p
 
 -- the names after the next
-named : (c : In_ok-name) → map string_bytes c.number_again.new.names.keys ≡ with_named (map string_bytes c.args.others.now.keys) (map string_bytes c.args.names.now.keys) (take (c.loop-shape.shape-index + 1) c.args.run.now)
+named : (c : In_ok-name) → c.number_again.new.names ≡ with_named c.args.others.now c.args.names.now (take (c.loop-shape.shape-index + 1) c.args.run.now)
 named c =
-    named_more (map string_bytes c.args.others.now.keys) (map string_bytes c.args.names.now.keys) (map string_bytes c.loop-shape.names.keys) (map string_bytes c.number_again.new.names.keys) c.args.run.now c.loop-shape.shape-index no_shape c.loop-shape-test.true c.loop-shape.invariant.names c.in_ok-name.ensures.names
+    named_more c.args.others.now c.args.names.now c.loop-shape.names c.number_again.new.names c.args.run.now c.loop-shape.shape-index no_shape c.loop-shape-test.true c.loop-shape.invariant.names c.in_ok-name.ensures.names
 
 pub loop-shape-preserved : goal.loop-shape-preserved
 loop-shape-preserved c =
-    let others = map string_bytes c.args.others.now.keys in
-    let names = map string_bytes c.loop-shape.names.keys in
-    let later = map string_bytes c.number_again.new.names.keys in
+    let others = c.args.others.now in
+    let names = c.loop-shape.names in
+    let later = c.number_again.new.names in
     let run = c.args.run.now in
     let at = c.loop-shape.shape-index in
     let i = c.loop-shape.invariant in
@@ -31,15 +31,14 @@ loop-shape-preserved c =
     record {
       some = omega (arith, c.number_again.auto.known, i.some);
       known = c.in_ok-name.ensures.known;
-      few = c.number_again.ensures.few;
       moved = moved_more others names later way.low way.base way.from way.to c.args.shapes.now.items run at no_shape c.in_ok-moved_shape.field-0 c.in_ok-name.name c.loop-shape.shapes.items c.push.new.self.items inside i.moved c.in_ok-name.ensures.names c.in_ok-moved_shape.ensures.moved c.in_ok-name.ensures.number c.in_ok-push.ensures.items;
-      names = named_more others (map string_bytes c.args.names.now.keys) names later run at no_shape inside i.names c.in_ok-name.ensures.names;
+      names = named_more others c.args.names.now names later run at no_shape inside i.names c.in_ok-name.ensures.names;
       fit = All-more (λ (s : Shape). s.level - way.from + way.to < most_levels) run at no_shape inside i.fit c.in_ok-moved_shape.ensures.fits;
     }
 
 -- some of the names were added
 abbrev Added : In_ok-name → Type 0
-Added c = (count : ℕ) × (map string_bytes c.number_again.new.names.keys ≡ with_named (map string_bytes c.args.others.now.keys) (map string_bytes c.args.names.now.keys) (take count c.args.run.now))
+Added c = (count : ℕ) × (c.number_again.new.names ≡ with_named c.args.others.now c.args.names.now (take count c.args.run.now))
 
 added : (c : In_ok-name) → Added c
 added c = (c.loop-shape.shape-index + 1, named c)

@@ -1,4 +1,4 @@
-use Rattle.std.proofs.Common.{◌≡◌, ◌≤◌, ◌<◌, ◌+◌, ◌-◌, ◌^◌, map, take, length, string_bytes}
+use Rattle.std.proofs.Common.{◌≡◌, ◌<◌, ◌+◌, ◌-◌, take, length}
 use Rattle.std.specs.Prelude.{All}
 use Rattle.xq_regions.specs.Tree.{most_levels}
 use Rattle.xq_packed.specs.private.Copies.{IsKnown, AreMovedAfter, with_named}
@@ -8,9 +8,8 @@ use Rattle.xq_packed.proofs.runs.append_shapes.Given as goal
 abbrev pub invariant-loop-shape : goal.invariant-loop-shape
 invariant-loop-shape l = record {
   some : length l.known ≡ 16;
-  known : All (IsKnown (map string_bytes l.others.keys) (map string_bytes l.names.keys)) l.known;
-  few : length l.names.keys ≤ 2 ^ 32;
-  moved : AreMovedAfter (map string_bytes l.others.keys) (map string_bytes l.names.keys) l.way.low l.way.base l.way.from l.way.to l.fn.shapes.items (take l.shape-index l.run) l.shapes.items;
-  names : map string_bytes l.names.keys ≡ with_named (map string_bytes l.others.keys) (map string_bytes l.fn.names.keys) (take l.shape-index l.run);
+  known : All (IsKnown l.others l.names) l.known;
+  moved : AreMovedAfter l.others l.names l.way.low l.way.base l.way.from l.way.to l.fn.shapes.items (take l.shape-index l.run) l.shapes.items;
+  names : l.names ≡ with_named l.others l.fn.names (take l.shape-index l.run);
   fit : All (λ shape. shape.level - l.way.from + l.way.to < most_levels) (take l.shape-index l.run);
 }

@@ -63,10 +63,10 @@ expression-returns-in_ok-boxed-in-Unary-clause-planned t c =
     as_is c.args.scope.now c.args.core.now (core.Unary c.in_ok-signs-in-Unary.signs c.in-Unary.part) (plan.Unary c.in_ok-signs-in-Unary.signs c.in_ok-boxed-in-Unary.field-0) (c.in-Unary.is ∙ ap (λ s. core.Unary s c.in-Unary.part) (sym (c.in_ok-signs-in-Unary.ensures ∙ c.as_slice-in-Unary.ensures)))
     (forms.unary_plan c.args.scope.now c.in_ok-signs-in-Unary.signs c.in-Unary.part c.in_ok-boxed-in-Unary.field-0 (part_at c.args.scope.now c.args.scope.now c.get-in-Unary.result.now c.in-Unary.part c.in_ok-boxed-in-Unary.field-0 (refl) c.get-in-Unary.ensures c.in_ok-boxed-in-Unary.ensures.planned))
 
-pub expression-returns-in_ok-expressions-in-Step-clause-planned : goal.expression-returns-in_ok-expressions-in-Step-clause-planned
-expression-returns-in_ok-expressions-in-Step-clause-planned t c =
-    as_is c.args.scope.now c.args.core.now (core.Step c.in-Step.axis c.in_ok-tested-in-Step.tested c.in-Step.predicates) (plan.Step c.in-Step.axis c.in_ok-tested-in-Step.tested c.in_ok-expressions-in-Step.field-0) (c.in-Step.is ∙ ap (λ s. core.Step c.in-Step.axis s c.in-Step.predicates) (sym c.in_ok-tested-in-Step.ensures))
-    (forms.step_plan c.args.scope.now c.in-Step.axis c.in_ok-tested-in-Step.tested c.in-Step.predicates c.in_ok-expressions-in-Step.field-0 (list_at IsPlan c.args.scope.now c.args.scope.now c.as_slice-in-Step.result.now c.in-Step.predicates c.in_ok-expressions-in-Step.field-0 (refl) c.as_slice-in-Step.ensures c.in_ok-expressions-in-Step.ensures.planned))
+pub expression-returns-in_ok-tested-in-Step-clause-planned : goal.expression-returns-in_ok-tested-in-Step-clause-planned
+expression-returns-in_ok-tested-in-Step-clause-planned t c =
+    as_is c.args.scope.now c.args.core.now (core.Step c.in-Step.axis c.in_ok-tested-in-Step.tested c.in-Step.predicates) (plan.Step c.in-Step.axis c.in_ok-tested-in-Step.tested c.in_ok-predicates-in-Step.predicates) (c.in-Step.is ∙ ap (λ s. core.Step c.in-Step.axis s c.in-Step.predicates) (sym c.in_ok-tested-in-Step.ensures))
+    (forms.step_plan c.args.scope.now c.in-Step.axis c.in_ok-tested-in-Step.tested c.in-Step.predicates c.in_ok-predicates-in-Step.predicates (list_at IsPlan c.args.scope.now c.args.scope.now c.as_slice-in-Step.result.now c.in-Step.predicates c.in_ok-predicates-in-Step.predicates (refl) c.as_slice-in-Step.ensures c.in_ok-predicates-in-Step.ensures.planned))
 
 pub expression-returns-in_ok-expressions-in-Filter-clause-planned : goal.expression-returns-in_ok-expressions-in-Filter-clause-planned
 expression-returns-in_ok-expressions-in-Filter-clause-planned t c =
@@ -285,10 +285,10 @@ expression-returns-in_ok-boxed-in-Unary-clause-shape t c =
     shape_at c.args.core.now (Core-F.Unary c.in_ok-signs-in-Unary.signs c.in-Unary.part) _ (ap out-Core (c.in-Unary.is ∙ ap (λ s. core.Unary s c.in-Unary.part) (sym (c.in_ok-signs-in-Unary.ensures ∙ c.as_slice-in-Unary.ensures))) ∙ core.outs-Unary c.in_ok-signs-in-Unary.signs c.in-Unary.part)
     (tt, tt, tt, tt)
 
-pub expression-returns-in_ok-expressions-in-Step-clause-shape : goal.expression-returns-in_ok-expressions-in-Step-clause-shape
-expression-returns-in_ok-expressions-in-Step-clause-shape t c =
+pub expression-returns-in_ok-tested-in-Step-clause-shape : goal.expression-returns-in_ok-tested-in-Step-clause-shape
+expression-returns-in_ok-tested-in-Step-clause-shape t c =
     shape_at c.args.core.now (Core-F.Step c.in-Step.axis c.in_ok-tested-in-Step.tested c.in-Step.predicates) _ (ap out-Core (c.in-Step.is ∙ ap (λ s. core.Step c.in-Step.axis s c.in-Step.predicates) (sym c.in_ok-tested-in-Step.ensures)) ∙ core.outs-Step c.in-Step.axis c.in_ok-tested-in-Step.tested c.in-Step.predicates)
-    (tt, tt, step_shape IsLiteral c.in-Step.axis c.in_ok-tested-in-Step.tested c.in-Step.predicates c.in_ok-expressions-in-Step.field-0 (subst (λ cs. AreAll IsLiteral cs c.in_ok-expressions-in-Step.field-0) c.as_slice-in-Step.ensures c.in_ok-expressions-in-Step.ensures.literals), tt)
+    (tt, tt, step_shape IsLiteral c.in-Step.axis c.in_ok-tested-in-Step.tested c.in-Step.predicates c.in_ok-predicates-in-Step.predicates (subst (λ cs. AreAll IsLiteral cs c.in_ok-predicates-in-Step.predicates) c.as_slice-in-Step.ensures c.in_ok-predicates-in-Step.ensures.literals), tt)
 
 pub expression-returns-in_ok-expressions-in-Filter-clause-shape : goal.expression-returns-in_ok-expressions-in-Filter-clause-shape
 expression-returns-in_ok-expressions-in-Filter-clause-shape t c =

@@ -13,4 +13,4 @@ returns-clause-carried g c clean =
     let early : HasCleanDisk mid = omega (arith, c.insert_rows.ensures.inside.clean, clean) in
     let good : IsAddress c.args.address.now = search rules in
     let are = rw c.deref.ensures.value at c.in_ok-nodes.ensures in
-    carries_one c.args.address.now c.in_ok-rows.rows.items _ c.new-names.result.entries _ old mid new good (c.in_ok-rows.ensures.rows early) are c.new-names.ensures.empty (rw c.deref-2.ensures.value at (c.in_ok-insert_rows.ensures.added clean))
+    carries_one c.args.address.now c.in_ok-read.read.items _ c.new-names.result.entries _ old mid new good (c.in_ok-read.ensures.rows early) are c.new-names.ensures.empty (rw (c.new-rows.ensures, c.deref-2.ensures.value) at (c.in_ok-insert_rows.ensures.added clean))

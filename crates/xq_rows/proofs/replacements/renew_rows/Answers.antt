@@ -1,43 +1,19 @@
-use Rattle.std.proofs.Common.{◌∙◌, refl, arith}
+use Rattle.std.proofs.Common.{take, subst₂, arith}
 use Rattle.sqlite.specs.State.{HasCleanDisk}
 use Rattle.sqlite.specs.Held.{state}
-use Rattle.xq_regions.specs.Rows.{no_row}
-use Rattle.xq_sources.specs.Lent.{placed_lent}
-use Rattle.xq_rows.proofs.Inserts.{kept_then}
-use Rattle.xq_rows.proofs.Renewals.{none_renewed, one_renewed, rows_renewed}
+use Rattle.xq_rows.specs.private.Statements.{RenewsRows}
+use Rattle.xq_rows.proofs.Renewals.{rest_added}
 use Rattle.xq_rows.proofs.replacements.renew_rows.Goals as goal
-
-pub loop-at-init : goal.loop-at-init
-loop-at-init g c =
-    let here = state g.S.Store c.args.transaction.now.conn.now in
-    record {
-      same_reference = refl;
-      clean = omega arith;
-      kept = λ clean. record { was_open = λ up. up; committed = λ up. refl };
-      so_far = λ clean. none_renewed c.args.address.now c.args.rows_there.now c.args.rows.now c.args.names.now.entries here.now;
-    }
-
-pub loop-at-preserved : goal.loop-at-preserved
-loop-at-preserved g c =
-    let first = state g.S.Store c.args.transaction.now.conn.now in
-    let now = state g.S.Store c.loop-at.transaction.conn.now in
-    let last = state g.S.Store c.renew_row.new.transaction.conn.now in
-    let held = c.loop-at.invariant in
-    let step = c.renew_row.ensures.inside in
-    record {
-      same_reference = step.same_reference ∙ held.same_reference;
-      clean = omega (arith, held.clean, step.clean);
-      kept = λ clean. (
-          let early : HasCleanDisk now = omega (arith, step.clean) in
-          kept_then first now last (held.kept early) (step.kept clean));
-      so_far = λ clean. (
-          let early : HasCleanDisk now = omega (arith, step.clean) in
-          one_renewed c.args.address.now c.loop-at.at c.args.rows_there.now c.args.rows.now (placed_lent c.row.result) (0, no_row) c.args.names.now.entries c.loop-at.names.entries c.renew_row.new.names.entries first.now now.now last.now
-          (omega arith) c.row.ensures (held.so_far early) (c.in_ok-renew_row.ensures.renewed clean));
-    }
 
 pub returns-clause-renewed : goal.returns-clause-renewed
 returns-clause-renewed g c clean =
-    let first = state g.S.Store c.args.transaction.now.conn.now in
-    let now = state g.S.Store c.loop-at.transaction.conn.now in
-    rows_renewed c.args.address.now c.loop-at.at c.args.rows_there.now c.args.rows.now c.args.names.now.entries c.loop-at.names.entries first.now now.now (omega (arith, c.loop-at-test.false, c.loop-at.auto.at-end)) (c.loop-at.invariant.so_far clean)
+    let old = state g.S.Store c.args.transaction.now.conn.now in
+    let mid = state g.S.Store c.renew_each.new.transaction.conn.now in
+    let new = state g.S.Store c.insert_rows.new.transaction.conn.now in
+    let early : HasCleanDisk mid = omega (arith, c.insert_rows.ensures.inside.clean, clean) in
+    let many = c.min-many.result in
+    let renews : RenewsRows c.args.address.now (take many c.args.rows_there.now) (take many c.args.rows.now) c.args.names.now.entries c.renew_each.new.names.entries old.now mid.now =
+    subst₂ (λ there rows. RenewsRows c.args.address.now there rows c.args.names.now.entries c.renew_each.new.names.entries old.now mid.now) c.first-first.ensures c.first.ensures (c.in_ok-renew_each.ensures.renewed early) in
+    rest_added c.args.address.now many c.args.rows_there.now c.args.rows.now c.args.names.now.entries c.renew_each.new.names.entries c.insert_rows.new.names.entries old.now mid new c.insert_rows.result (omega (arith, c.min-many.ensures, c.len-end.ensures, c.len.ensures)) (omega (arith, c.min-many.ensures, c.len-end.ensures, c.len.ensures))
+    (λ fits. omega (arith, fits, c.min-many.ensures, c.len-end.ensures, c.len.ensures)) renews
+    (rw (c.between.ensures, c.len-end.ensures) at (c.insert_rows.ensures.added clean))

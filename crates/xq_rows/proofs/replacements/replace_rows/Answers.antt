@@ -1,18 +1,13 @@
-use Rattle.std.proofs.Common.{◌≡◌, ◌+◌, ◌-◌, ◌≤◌, ◌∙◌, ℕ, List, drop, take, length, map, refl, sym, ap, subst, subst₂, arith}
+use Rattle.std.proofs.Common.{◌≡◌, ◌+◌, ◌∙◌, take, length, map, refl, sym, ap, subst, subst₂, arith}
 use Rattle.std.specs.List.{slice_range}
-use Rattle.std.proofs.lemmas.List.{length-take, length-drop}
 use Rattle.sqlite.specs.State.{HasCleanDisk}
 use Rattle.sqlite.specs.Held.{state}
 use Rattle.xq_rows.proofs.Inserts.{kept_then}
 use Rattle.xq_rows.specs.Nodes.{cells}
 use Rattle.xq_rows.specs.private.Statements.{AreFrom, RenewsPart, RenewsRows}
-use Rattle.xq_rows.proofs.Parts.{last_part}
+use Rattle.xq_rows.proofs.Parts.{last_part, many_between}
 use Rattle.xq_rows.proofs.Renewals.{first_part, numbered_slice, part_more}
 use Rattle.xq_rows.proofs.replacements.replace_rows.Goals as goal
-
--- as many as there are from one place to before another
-many_between : {X : Type 0} (rows : List X) (at stop : ℕ) → at ≤ stop → stop ≤ length rows → at + length (slice_range rows at stop) ≡ stop
-many_between rows at stop forward within = omega (arith, length-take (stop - at) (drop at rows), length-drop at rows)
 
 pub loop-at-init : goal.loop-at-init
 loop-at-init g c =

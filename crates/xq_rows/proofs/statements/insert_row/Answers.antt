@@ -1,5 +1,5 @@
 use Rattle.std.proofs.Common.{rules}
-use Rattle.xq_rows.proofs.Adds.{node_inside}
+use Rattle.xq_rows.proofs.Together.{node_inside}
 use Rattle.sqlite.specs.Held.{state}
 use Rattle.xq_sources.specs.Lent.{placed_lent}
 use Rattle.xq_rows.proofs.statements.insert_row.Goals as goal

@@ -1,4 +1,4 @@
-use Rattle.std.proofs.Common.{subst, sym}
+use Rattle.std.proofs.Common.{[], subst, sym}
 use Rattle.sqlite.specs.Held.{Held, state}
 use Rattle.sqlite.specs.State.{KeepsCommit}
 use Rattle.xq_rows.specs.private.Statements.{MakesLayout}
@@ -19,5 +19,5 @@ returns-clause-inside g c =
     record {
       same_reference = c.execute.ensures.same_reference;
       clean = c.execute.ensures.survives.clean;
-      kept = λ clean. kept_inside layout_text old new c.execute.result (λ out. subst (λ (h : Held _). KeepsCommit old (state g.S.Store h)) (sym (c.execute.ensures.ended out).1) (kept_same old)) (c.execute.ensures.runs clean);
+      kept = λ clean. kept_inside layout_text [] old new c.execute.result (λ out. subst (λ (h : Held _). KeepsCommit old (state g.S.Store h)) (sym (c.execute.ensures.ended out).1) (kept_same old)) (c.execute.ensures.runs clean);
     }

@@ -14,7 +14,7 @@ use Rattle.xq_packed.proofs.judged.PackedRowsNamedRows.has_distinct_names.Goals.
 within : (c : After-deref) → c.args.high ≤ length c.deref.result.now
 within c =
     let text = string_bytes c.self.inside.text in
-    let names = map string_bytes c.self.inside.names.keys in
+    let names = c.self.inside.names in
     let count = ap (λ (p : Packed). length p.rows) c.self.view_is in
     omega (arith, c.requires.within, count, rows-length text names 0 c.self.inside.shapes.items, ap length c.deref.ensures.value)
 
@@ -22,14 +22,14 @@ within c =
 told : (c : After-deref) (r : Bool) → IsTrue r ↔ IsDistinct nat_eq (map number_of (slice_range c.deref.result.now c.args.low c.args.high)) → IsTrue r ↔ IsDistinct bytes_eq (map row_name (slice_range c.args.self.now.rows c.args.low c.args.high))
 told c r h =
     let text = string_bytes c.self.inside.text in
-    let names = map string_bytes c.self.inside.names.keys in
+    let names = c.self.inside.names in
     let shapes = c.self.inside.shapes.items in
     let run = slice_range shapes c.args.low c.args.high in
     let is = run-of text names shapes c.args.low c.args.high c.requires.rises c.self.invariant.shapes in
     let numbers : IsTrue r ↔ IsDistinct nat_eq (map number_of run) = subst (λ (ss : List Shape). IsTrue r ↔ IsDistinct nat_eq (map number_of (slice_range ss c.args.low c.args.high))) c.deref.ensures.value h in
     let rows : slice_range c.args.self.now.rows c.args.low c.args.high ≡ rows_of_shapes text names (value_start 0 shapes c.args.low) run =
     ap (λ (p : Packed). slice_range p.rows c.args.low c.args.high) (sym c.self.view_is) ∙ is.rows in
-    distinct-rows text names c.self.invariant.distinct (value_start 0 shapes c.args.low) run (slice_range c.args.self.now.rows c.args.low c.args.high) r is.stand rows numbers
+    distinct-rows text names c.allocator-alloc.ensures (value_start 0 shapes c.args.low) run (slice_range c.args.self.now.rows c.args.low c.args.high) r is.stand rows numbers
 
 pub offset_bounds-deref-low : goal.offset_bounds-deref-low
 offset_bounds-deref-low c =

@@ -1,0 +1,4 @@
+pub mod Naming
+pub mod Order
+pub mod Places
+pub mod Runs

@@ -1,0 +1,262 @@
+//! Packed rows that grow and change, and the trees that they become.
+
+use std::alloc::Global;
+use xq_atoms::Want;
+use xq_packed::PackedRows;
+use xq_packed_trees::PackedTree;
+use xq_regions::Kind;
+use xq_samples::documents::Row;
+
+/// What is done with packed rows.
+#[derive(Clone, Copy)]
+enum Change {
+    /// These are pushed.
+    Push(&'static [Row]),
+    /// An element is put above them.
+    Root,
+    /// Rows of the element with two attributes are appended: those from one place to before
+    /// another, with their levels moved from one to another.
+    Run((usize, usize), (u32, u32)),
+    /// The last value becomes longer.
+    Longer(&'static str),
+    /// A row gets another size.
+    Size(usize, u32),
+}
+
+/// A change, and whether it is refused.
+type Step = (Change, bool);
+
+/// Content of an element: two attributes and a text.
+const CONTENT: [Row; 3] = [
+    (0, 0, 0, Kind::Attribute, "b", "1"),
+    (1, 0, 0, Kind::Attribute, "c", "2"),
+    (2, 0, 0, Kind::Text, "", "A"),
+];
+
+/// An element with this content.
+const ELEMENT: [Row; 4] = [
+    (0, 0, 0, Kind::Element, "a", ""),
+    (1, 0, 1, Kind::Attribute, "b", "1"),
+    (2, 0, 1, Kind::Attribute, "c", "2"),
+    (3, 0, 1, Kind::Text, "", "A"),
+];
+
+/// A text on the last level.
+const DEEP: [Row; 1] = [(0, 0, 100, Kind::Text, "", "A")];
+
+/// Changes, and the rows after them.
+const CHANGES: [(&[Step], &[Row]); 6] = [
+    // A root is put above the rows.
+    (
+        &[(Change::Push(&CONTENT), false), (Change::Root, false)],
+        &ELEMENT,
+    ),
+    // A root above a row on the last level is refused.
+    (&[(Change::Push(&DEEP), false), (Change::Root, true)], &DEEP),
+    // A run of rows is appended on other levels, as far as there are rows.
+    (
+        &[
+            (Change::Push(&CONTENT), false),
+            (Change::Run((1, 9), (1, 0)), false),
+        ],
+        &[
+            (0, 0, 0, Kind::Attribute, "b", "1"),
+            (1, 0, 0, Kind::Attribute, "c", "2"),
+            (2, 0, 0, Kind::Text, "", "A"),
+            (3, 0, 0, Kind::Attribute, "b", "1"),
+            (4, 0, 0, Kind::Attribute, "c", "2"),
+            (5, 0, 0, Kind::Text, "", "A"),
+        ],
+    ),
+    // A run that comes to stand too deep is refused, and one of no row changes nothing.
+    (
+        &[
+            (Change::Push(&CONTENT), false),
+            (Change::Run((0, 4), (0, 100)), true),
+            (Change::Run((3, 2), (0, 0)), false),
+        ],
+        &CONTENT,
+    ),
+    // The last value becomes longer, where there is one, and a row gets another size.
+    (&[(Change::Longer("A"), false)], &[]),
+    (
+        &[
+            (Change::Push(&CONTENT), false),
+            (Change::Longer("\u{3b1}"), false),
+            (Change::Size(1, 7), false),
+        ],
+        &[
+            (0, 0, 0, Kind::Attribute, "b", "1"),
+            (1, 7, 0, Kind::Attribute, "c", "2"),
+            (2, 0, 0, Kind::Text, "", "A\u{3b1}"),
+        ],
+    ),
+];
+
+/// Rows, and those of the tree that they become: its sizes are told by the levels.
+const TREES: [(&[Row], Option<&[Row]>); 3] = [
+    (
+        &ELEMENT,
+        Some(&[
+            (0, 3, 0, Kind::Element, "a", ""),
+            (1, 0, 1, Kind::Attribute, "b", "1"),
+            (2, 0, 1, Kind::Attribute, "c", "2"),
+            (3, 0, 1, Kind::Text, "", "A"),
+        ]),
+    ),
+    // Attributes may have their names in any order: the name that was numbered first stands last.
+    (
+        &[
+            (0, 0, 0, Kind::Element, "b", ""),
+            (1, 0, 1, Kind::Attribute, "a", ""),
+            (2, 0, 1, Kind::Attribute, "b", ""),
+        ],
+        Some(&[
+            (0, 2, 0, Kind::Element, "b", ""),
+            (1, 0, 1, Kind::Attribute, "a", ""),
+            (2, 0, 1, Kind::Attribute, "b", ""),
+        ]),
+    ),
+    // Attributes of one name are those of no tree.
+    (
+        &[
+            (0, 0, 0, Kind::Element, "a", ""),
+            (1, 0, 1, Kind::Attribute, "b", "1"),
+            (2, 0, 1, Kind::Attribute, "b", "2"),
+            (3, 0, 1, Kind::Text, "", "A"),
+        ],
+        None,
+    ),
+];
+
+fn push(packed: &mut PackedRows, rows: &[Row]) -> Result<(), Want> {
+    for (_, size, level, kind, name, value) in rows {
+        packed.push_parts(*size, *level, *kind, name, value)?;
+    }
+    Ok(())
+}
+
+fn packed_rows(alloc: Global, rows: &[Row]) -> Result<PackedRows, Want> {
+    let mut packed = PackedRows::new(alloc);
+    push(&mut packed, rows)?;
+    Ok(packed)
+}
+
+fn append(
+    alloc: Global,
+    rows: &mut PackedRows,
+    (low, high): (usize, usize),
+    (from, to): (u32, u32),
+) -> Result<(), Want> {
+    let other = packed_rows(alloc, &ELEMENT)?;
+    rows.append_run(&other, low, high, from, to)
+}
+
+fn set_size(rows: &mut PackedRows, at: usize, size: u32) {
+    if at < rows.len() {
+        rows.set_size(at, size);
+    }
+}
+
+fn make(alloc: Global, rows: &mut PackedRows, change: Change) -> Result<(), Want> {
+    match change {
+        Change::Push(more) => push(rows, more),
+        Change::Root => rows.put_root(0, Kind::Element, "a"),
+        Change::Run(places, levels) => append(alloc, rows, places, levels),
+        Change::Longer(text) => rows.extend_last(text),
+        Change::Size(at, size) => {
+            set_size(rows, at, size);
+            Ok(())
+        }
+    }
+}
+
+/// Whether each of the changes is made or refused as it says.
+fn are_made(alloc: Global, rows: &mut PackedRows, steps: &[Step]) -> bool {
+    for (step, is_refused) in steps {
+        let is_right = match make(alloc, rows, *step) {
+            Ok(()) => !*is_refused,
+            Err(want) => *is_refused && want == Want::Store,
+        };
+        if !is_right {
+            return false;
+        }
+    }
+    true
+}
+
+/// Whether the row at a place has these parts.
+fn has_row(rows: &PackedRows, at: usize, (_, size, level, kind, name, value): Row) -> bool {
+    match rows.get(at) {
+        Some(row) => {
+            row.size() == size
+                && row.level() == level
+                && row.kind() == kind
+                && row.name() == name
+                && row.value() == value
+        }
+        None => false,
+    }
+}
+
+/// Whether these are all rows.
+fn has_rows(rows: &PackedRows, wanted: &[Row]) -> bool {
+    for (at, row) in wanted.iter().enumerate() {
+        if !has_row(rows, at, *row) {
+            return false;
+        }
+    }
+    rows.len() == wanted.len() && rows.get(wanted.len()).is_none()
+}
+
+#[test]
+fn packed_rows_are_changed(rt: HostRuntime) {
+    for (at, (steps, wanted)) in CHANGES.iter().enumerate() {
+        let mut rows = PackedRows::new(rt.alloc());
+        assert!(rt; are_made(rt.alloc(), &mut rows, steps), "{at}");
+        assert!(rt; has_rows(&rows, wanted), "{at}");
+        assert_eq!(rt; rows.is_empty(), wanted.is_empty(), "{at}");
+    }
+}
+
+/// Whether the tree is no document and has these rows, as a fragment as well.
+fn is_element(alloc: Global, tree: PackedTree, wanted: &[Row]) -> Result<bool, Want> {
+    let again = PackedTree::of(alloc, &tree.to_fragment(alloc)?)?;
+    let is_right = !tree.is_document() && has_rows(tree.rows(), wanted);
+    Ok(is_right && has_rows(&again.into_rows(), wanted))
+}
+
+/// Whether the rows become the tree that is wanted, or none.
+fn become_tree(alloc: Global, rows: &[Row], wanted: Option<&[Row]>) -> Result<bool, Want> {
+    let Some(tree) = PackedTree::from_levels(packed_rows(alloc, rows)?)? else {
+        return Ok(wanted.is_none());
+    };
+    match wanted {
+        Some(rows) => is_element(alloc, tree, rows),
+        None => Ok(false),
+    }
+}
+
+#[test]
+fn levels_make_trees(rt: HostRuntime) -> Result<(), Want> {
+    for (at, (rows, wanted)) in TREES.iter().enumerate() {
+        assert!(rt; become_tree(rt.alloc(), rows, *wanted)?, "{at}");
+    }
+    Ok(())
+}
+
+/// Each name has one number, also where there are more names than are looked for one by one.
+#[test]
+fn many_names_have_their_numbers(rt: HostRuntime) -> Result<(), Want> {
+    let names = ["a", "b", "c", "d", "e", "f", "g", "h", "i", "j", "k"];
+    let mut rows = PackedRows::new(rt.alloc());
+    for name in names.iter().chain(names.iter()) {
+        rows.push_parts(0, 1, Kind::Attribute, name, "")?;
+    }
+    for (number, name) in names.iter().enumerate() {
+        assert_eq!(rt; rows.number_of(name), Some(number as u32));
+        assert!(rt; has_row(&rows, number + 11, (0, 0, 1, Kind::Attribute, name, "")));
+    }
+    assert_eq!(rt; rows.number_of("l"), None);
+    Ok(())
+}

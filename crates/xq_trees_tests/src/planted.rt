@@ -1,0 +1,220 @@
+//! The trees of a source and those that are constructed after them, read through each trait; packed
+//! rows as they are lent, and the places of elements by their names.
+
+use std::alloc::Global;
+use std::collections::HashMap;
+use xq_atoms::Want;
+use xq_packed::PackedRows;
+use xq_packed_trees::PackedTree;
+use xq_regions::Kind;
+use xq_samples::documents::{Row, are_rows, held, rows_of, tree_of};
+use xq_sources::{
+    Buffered, Fragments, Growing, LentRows, Names, RowLender, RowSource, Trees, find_named,
+};
+
+/// An element of the source, with a text.
+const STORED: [Row; 2] = [
+    (0, 1, 0, Kind::Element, "stored", ""),
+    (1, 0, 1, Kind::Text, "", "A"),
+];
+
+/// An element that is constructed, with a text.
+const CONSTRUCTED: [Row; 2] = [
+    (0, 1, 0, Kind::Element, "constructed", ""),
+    (1, 0, 1, Kind::Text, "", "B"),
+];
+
+/// What is done with trees, or found of them.
+#[derive(Clone, Copy)]
+enum Look {
+    /// There are so many.
+    Count(usize),
+    /// One is constructed.
+    Construct,
+    /// The last one is taken away, where it was constructed.
+    Uproot(Option<&'static [Row]>),
+    /// The tree with a number has these rows.
+    Gives(usize, &'static [Row]),
+    /// There is no tree with the number.
+    Refuses(usize),
+    /// So many rows of ranges were given, and so many single ones.
+    Meter(u64, u64),
+}
+
+/// Trees of both kinds are given, and counted.
+const GIVEN: [Look; 8] = [
+    Look::Count(1),
+    Look::Refuses(1),
+    Look::Construct,
+    Look::Count(2),
+    Look::Gives(0, &STORED),
+    Look::Gives(1, &CONSTRUCTED),
+    Look::Refuses(2),
+    Look::Meter(4, 4),
+];
+
+/// The last constructed tree is uprooted, and none of the source.
+const UPROOTED: [Look; 7] = [
+    Look::Construct,
+    Look::Uproot(Some(&CONSTRUCTED)),
+    Look::Uproot(None),
+    Look::Gives(0, &STORED),
+    Look::Refuses(1),
+    Look::Construct,
+    Look::Gives(1, &CONSTRUCTED),
+];
+
+/// A source with one tree.
+fn stored(alloc: Global) -> Result<Fragments, Want> {
+    held(alloc, tree_of(alloc, &STORED)?)
+}
+
+/// Adds a constructed tree.
+fn construct<T: Growing>(alloc: Global, trees: &mut T) -> Result<(), Want> {
+    let tree = tree_of(alloc, &CONSTRUCTED)?;
+    trees.plant(PackedTree::of(alloc, &tree)?)
+}
+
+/// Takes the last tree away, and tells whether it has these rows.
+fn is_uprooted<T: Growing>(trees: &mut T, wanted: Option<&[Row]>) -> bool {
+    let Some(tree) = trees.uproot() else {
+        return wanted.is_none();
+    };
+    match wanted {
+        Some(rows) => are_rows(&LentRows::all(tree.rows()), rows),
+        None => false,
+    }
+}
+
+/// Whether the tree is given: its rows, the one above its second, and that one.
+fn gives<T: RowSource>(
+    alloc: Global,
+    trees: &mut T,
+    tree: usize,
+    wanted: &[Row],
+) -> Result<bool, Want> {
+    let rows = trees.range(alloc, tree, 0, 9)?;
+    let above = trees.enclosing(alloc, tree, 1)?.len();
+    let level = trees.row(alloc, tree, 1)?.level;
+    Ok(are_rows(&LentRows::new(&rows), wanted) && above == 1 && level == 1)
+}
+
+/// Whether no row of the tree is given.
+fn refuses<T: RowSource>(alloc: Global, trees: &mut T, tree: usize) -> bool {
+    matches!(trees.range(alloc, tree, 0, 0), Err(Want::Store))
+        && matches!(trees.row(alloc, tree, 0), Err(Want::Store))
+}
+
+/// Does this, and tells whether what is found is what it says.
+fn is_right<T: Growing + RowSource>(
+    alloc: Global,
+    trees: &mut T,
+    look: Look,
+) -> Result<bool, Want> {
+    match look {
+        Look::Count(count) => Ok(trees.trees() == count),
+        Look::Construct => {
+            construct(alloc, trees)?;
+            Ok(true)
+        }
+        Look::Uproot(wanted) => Ok(is_uprooted(trees, wanted)),
+        Look::Gives(tree, rows) => gives(alloc, trees, tree, rows),
+        Look::Refuses(tree) => Ok(refuses(alloc, trees, tree)),
+        Look::Meter(rows, singles) => {
+            Ok((trees.meter().rows(), trees.meter().singles()) == (rows, singles))
+        }
+    }
+}
+
+/// The place of the first of these that is not as it says.
+fn wrong_look<T: Growing + RowSource>(
+    alloc: Global,
+    trees: &mut T,
+    looks: &[Look],
+) -> Result<Option<usize>, Want> {
+    for (place, look) in looks.iter().enumerate() {
+        if !is_right(alloc, trees, *look)? {
+            return Ok(Some(place));
+        }
+    }
+    Ok(None)
+}
+
+/// Lists of what is done and found, each for trees of their own.
+const LISTS: [&[Look]; 2] = [&GIVEN, &UPROOTED];
+
+#[test]
+fn sources_give_both_kinds(rt: HostRuntime) -> Result<(), Want> {
+    for looks in &LISTS {
+        let mut trees = Trees::new(rt.alloc(), stored(rt.alloc())?);
+        assert_eq!(rt; wrong_look(rt.alloc(), &mut trees, looks)?, None);
+    }
+    Ok(())
+}
+
+/// Whether the rows of the tree are lent, one of them alone, and nothing where a row is refused.
+fn lends<L: RowLender>(
+    alloc: Global,
+    lender: &mut L,
+    tree: usize,
+    wanted: &[Row],
+) -> Result<bool, Want> {
+    lender.fetch(alloc, tree, 0, 9)?;
+    let are_lent = are_rows(&lender.lent(), wanted);
+    lender.fetch_row(alloc, tree, 1)?;
+    let is_one = lender.lent().len() == 1;
+    let is_refused = matches!(lender.fetch_row(alloc, tree, 9), Err(Want::Store));
+    Ok(are_lent && is_one && is_refused && lender.lent().is_empty())
+}
+
+/// Whether trees of both kinds are lent, and counted.
+fn lends_both<T: Growing>(alloc: Global, trees: &mut T) -> Result<bool, Want> {
+    construct(alloc, trees)?;
+    let are_lent = lends(alloc, trees, 1, &CONSTRUCTED)? && lends(alloc, trees, 0, &STORED)?;
+    let is_refused = matches!(trees.fetch(alloc, 2, 0, 0), Err(Want::Store));
+    let counts = (trees.meter().rows(), trees.meter().singles());
+    Ok(are_lent && is_refused && counts == (4, 2))
+}
+
+#[test]
+fn lenders_lend_both_kinds(rt: HostRuntime) -> Result<(), Want> {
+    let source = Buffered::new(rt.alloc(), stored(rt.alloc())?);
+    let mut trees = Trees::new(rt.alloc(), source);
+    assert!(rt; lends_both(rt.alloc(), &mut trees)?);
+    Ok(())
+}
+
+/// Places are kept of names that were looked for and that elements have, and of no others.
+#[test]
+fn names_are_found(rt: HostRuntime) -> Result<(), Want> {
+    let mut names: Names = HashMap::new(rt.alloc());
+    let rows = rows_of(rt.alloc(), &STORED)?;
+    for name in ["stored", "stored", "A", "", "store"] {
+        find_named(rt.alloc(), &mut names, &LentRows::new(&rows), name);
+    }
+    assert_eq!(rt; names.len(), 1);
+    assert!(rt; matches!(names.get("stored"), Some(places) if places.as_slice() == [0].as_slice()));
+    Ok(())
+}
+
+/// Packed rows from one place to before another, and the rows that are lent of them.
+const PARTS: [(usize, usize, &[Row]); 3] = [
+    (0, 9, &STORED),
+    (1, 2, &[(1, 0, 1, Kind::Text, "", "A")]),
+    (2, 1, &[]),
+];
+
+/// Packed rows are lent as the rows that they were packed from, with their places among all.
+#[test]
+fn packed_rows_are_lent(rt: HostRuntime) -> Result<(), Want> {
+    let mut packed = PackedRows::new(rt.alloc());
+    packed.extend(&rows_of(rt.alloc(), &STORED)?)?;
+    for (low, high, wanted) in &PARTS {
+        let lent = LentRows::packed(&packed, *low, *high);
+        assert!(rt;
+            are_rows(&lent, wanted) && lent.get(wanted.len()).is_none(),
+            "{low}"
+        );
+    }
+    Ok(())
+}
