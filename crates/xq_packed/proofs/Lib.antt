@@ -1,4 +1,5 @@
 pub mod Changing
+pub mod Comparing
 pub mod Copying
 pub mod Extending
 pub mod Judging

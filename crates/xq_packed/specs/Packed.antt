@@ -1,5 +1,5 @@
 -- Rows whose names are numbered.
-use Rattle.std.specs.Prelude.{ℕ, ◌≡◌, ◌↔◌, ◌≢◌, ◌<◌, length, List, [], ◌∷◌, ◌++◌, Some, bytes_eq, slice_get, if◌then◌else◌, refl}
+use Rattle.std.specs.Prelude.{ℕ, ◌≡◌, ◌↔◌, ◌≢◌, ◌<◌, ◌≤◌, length, List, [], ◌∷◌, ◌++◌, Some, bytes_eq, slice_get, if◌then◌else◌, refl}
 use Rattle.std.specs.List.{list_any}
 use Rattle.std.specs.Coded.{Coded, code_by, coded×, coded_ℕ, coded_list}
 use Rattle.xq_regions.specs.Rows.{Row, row_at}
@@ -64,3 +64,7 @@ with_names names (r ∷ rows) = with_names (with_name names r.label.name) rows
 pub record IsExtended (old new : Packed) (more : List Row) : Type 0 where
   pub rows : new.rows ≡ old.rows ++ more
   pub names : new.names ≡ with_names old.names more
+
+-- the rows from one place to before another are the same as others there
+abbrev pub AreSame : List Row → List Row → ℕ → ℕ → Type 0
+AreSame rows others low high = (k : ℕ) → low ≤ k → k < high → row_at rows k ≡ row_at others k

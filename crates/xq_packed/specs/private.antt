@@ -1,3 +1,4 @@
+pub mod Alike
 pub mod Copies
 pub mod Names
 pub mod Shapes

@@ -14,6 +14,7 @@ use xq_atoms::Want;
 use xq_regions::{Kind, MAX_LEVEL, NodeRow};
 
 mod changes;
+mod equal;
 mod judged;
 mod names;
 mod row;

@@ -1,17 +1,20 @@
 //! Where the parent of a node lies.
-ghost use Rattle.std.specs.Prelude.{◌≡◌, true, IfSome};
+ghost use Rattle.std.specs.Prelude.{◌≡◌, ◌<◌, true, IfSome};
 ghost use Rattle.xq_sources.specs.Lent.{unplaced};
 ghost use Rattle.xq_sources.specs.Parents.{IsParentRow};
 
-use crate::LentRows;
+use crate::{LentRow, LentRows};
 use std::alloc::Global;
 use xq_atoms::Want;
 
 /// In a tree of so many rows, or of fewer, parents are looked for from row to row.
 const FEW: usize = 64;
 
+/// How many levels a tree may have.
+const LEVELS: usize = 101;
+
 /// How far a look goes: up from a row to the root, or back over few rows.
-const LOOKS: usize = 101;
+const LOOKS: usize = LEVELS;
 
 /// The places of the parents of the rows of a tree, four bytes a row, so that the parent of any is
 /// told at once, however many rows lie between. Of a tree of few rows nothing is kept.
@@ -33,17 +36,39 @@ impl Guide {
 
     /// Goes on to the last of the rows, which are the first rows of a tree.
     pub fn read_on(&mut self, rows: &LentRows<'_>) -> Result<(), Want> {
-        if rows.len() <= FEW {
+        let count = rows.len();
+        let kept = self.parents.len();
+        if count <= FEW || count <= kept {
             return Ok(());
         }
-        for place in self.parents.len()..rows.len() {
-            let Some(row) = rows.get(place) else {
-                return Ok(());
-            };
-            let parent = self.look_back(rows, row.pre);
+        let mut lasts = self.lasts(rows);
+        self.parents.reserve(count - kept)?;
+        for place in kept..count {
+            let row = rows.row(place);
+            let level = level_of(&row);
+            let parent = if level > 0 { lasts[level - 1] } else { 0 };
+            lasts[level] = row.pre;
             self.parents.push(parent)?;
         }
         Ok(())
+    }
+
+    /// Of each level, where the last row lies that has it, of the last row of which the parent is kept
+    /// and those above that row.
+    fn lasts(&self, rows: &LentRows<'_>) -> [u32; LEVELS] {
+        let mut lasts = [0; LEVELS];
+        let mut place = self.parents.len().saturating_sub(1);
+        for _ in 0..LEVELS {
+            let Some(row) = rows.get(place) else {
+                return lasts;
+            };
+            lasts[level_of(&row)] = row.pre;
+            let Some(parent) = self.parents.get(place) else {
+                return lasts;
+            };
+            place = *parent as usize;
+        }
+        lasts
     }
 
     /// The place of the parent of the node, by the rows so far; none where it isn't among them or
@@ -83,6 +108,14 @@ impl Guide {
         }
         place
     }
+}
+
+/// The level of a row, as far as a tree may have it.
+#[inline]
+fn level_of(row: &LentRow<'_>) -> usize
+    ensures { result < LEVELS }
+{
+    (row.level as usize).min(LEVELS - 1)
 }
 
 /// The level of the row at the place, 0 where there is none.

@@ -1,5 +1,5 @@
 //! Rows as they are lent: read where they lie, and not copied.
-ghost use Rattle.std.specs.Prelude.{◌≡◌, ◌^◌, ◌<◌, ◌≤◌, ◌++◌, ◌∷◌, length, map, slice_get, slice_range, take, IfOk, IfSome, IfNone, OnOk, IsTrue, ◌↔◌, []};
+ghost use Rattle.std.specs.Prelude.{ℕ, ◌≡◌, ◌^◌, ◌<◌, ◌≤◌, ◌++◌, ◌∷◌, length, map, slice_get, slice_range, take, IfOk, IfSome, IfNone, OnOk, IsTrue, ◌↔◌, []};
 ghost use Rattle.std.specs.List.{enumerate_from};
 ghost use Rattle.std.specs.Option.{option_map};
 ghost use Rattle.xq_regions.specs.Rows.{placed, row_at, row_of};
@@ -294,6 +294,28 @@ impl<'a> LentRows<'a> {
             unreachable!();
         };
         row
+    }
+
+    /// A place from one among them on up to which the rows are the same as others: packed rows are the
+    /// same up to the first that isn't. Of others nothing is told.
+    pub fn same_until(&self, other: &LentRows<'_>, low: usize) -> usize
+        requires mine { low ≤ length self.now }
+        requires its { low ≤ length other.now }
+        ensures after { low ≤ result }
+        ensures mine { result ≤ length self.now }
+        ensures its { result ≤ length other.now }
+        ensures same { (k : ℕ) → low ≤ k → k < result → lent_at self.now k ≡ lent_at other.now k }
+    {
+        let Form::Packed(rows, start, end) = self.form else {
+            return low;
+        };
+        let Form::Packed(others, first, last) = other.form else {
+            return low;
+        };
+        if start != first {
+            return low;
+        }
+        rows.same_until(others, start + low, end.min(last)) - start
     }
 
     /// Adds the rows, without their places, after packed ones: on the level `to` where they are on

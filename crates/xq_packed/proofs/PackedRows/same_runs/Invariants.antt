@@ -1,0 +1,14 @@
+use Rattle.std.proofs.Common.{◌-◌, ◌≤◌}
+use Rattle.xq_packed.specs.Packed.{AreSame}
+use Rattle.xq_packed.proofs.PackedRows.same_runs.Given as goal
+
+-- the rows so far are the same
+abbrev pub invariant-loop-at : goal.invariant-loop-at
+invariant-loop-at l = record {
+  after : l.low ≤ l.at;
+  before : l.at ≤ l.high;
+  same : AreSame l.self.rows l.other.rows l.low l.at;
+}
+
+abbrev pub decreases-loop-at : goal.decreases-loop-at
+decreases-loop-at l = l.high - l.at
