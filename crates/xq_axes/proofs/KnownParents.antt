@@ -157,7 +157,7 @@ length-rows t = length-labels (measured 0 (nodes t)) ∙ count-measured 0 (nodes
 
 -- us has the parents that were told, of all places or of all after the root
 module _ (test : Test) (t : Tree) (us : List ℕ) where
-  parents_hit : (vs told : List ℕ) (p : ℕ) → AreTold t vs told → length told ≡ length vs → ((n : ℕ) → is_among us n ≡ is_among told n) → is_hit axis.SelfNode t us p ≡ is_hit axis.Parent t vs p
+  pub parents_hit : (vs told : List ℕ) (p : ℕ) → AreTold t vs told → length told ≡ length vs → ((n : ℕ) → is_among us n ≡ is_among told n) → is_hit axis.SelfNode t us p ≡ is_hit axis.Parent t vs p
   parents_hit vs told p all n same = same_test (is_hit axis.SelfNode t us p) (is_hit axis.Parent t vs p)
       (λ e. (
       let i = among_index told p (sym (same p) ∙ e) in

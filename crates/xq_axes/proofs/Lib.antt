@@ -30,3 +30,5 @@ pub mod DoubleSlash
 pub mod OneNode
 pub mod First
 pub mod ManyChildren
+pub mod Owning
+pub mod Owned

@@ -158,7 +158,7 @@ one_place q n r = by (q (n, r))
     by true = refl
     by false = refl
 
-front_places : (q : ℕ × Row → Bool) (rs : List Row) (n : ℕ) → n ≤ length rs → map (λ (p : ℕ × Row). p.0) (filter q (take n (enumerate_from 0 rs))) ≡ below_where (λ k. q (k, row_at rs k)) n
+pub front_places : (q : ℕ × Row → Bool) (rs : List Row) (n : ℕ) → n ≤ length rs → map (λ (p : ℕ × Row). p.0) (filter q (take n (enumerate_from 0 rs))) ≡ below_where (λ k. q (k, row_at rs k)) n
 front_places q rs zero h = refl
 front_places q rs (suc n) h =
     let ps = enumerate_from 0 rs in

@@ -36,7 +36,7 @@ fn is_at(places: &[u32], index: usize, place: u32) -> bool
 
 /// Which of the places, which rise, is the place: it is looked for first where the last one was
 /// found, since one parent after another has its children.
-fn find_near(places: &[u32], near: usize, place: u32) -> Option<usize>
+pub fn find_near(places: &[u32], near: usize, place: u32) -> Option<usize>
     ensures some { IsRising places.now → IfSome result (λ _. is_among places.now place ≡ true) }
     ensures none { IsRising places.now → result ≡ None → is_among places.now place ≡ false }
 {

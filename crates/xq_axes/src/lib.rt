@@ -12,6 +12,7 @@ mod merges;
 mod names;
 mod near;
 mod onward;
+mod owners;
 mod parents;
 mod passing;
 mod picks;
@@ -24,6 +25,7 @@ mod walks;
 
 pub use copies::copy;
 pub use merges::merge;
+pub use owners::with_value;
 pub use picks::Places;
 pub use slashes::double_slash;
 pub use steps::{axis, first_children, items_on_axis, places_on_axis, step};

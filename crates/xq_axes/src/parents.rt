@@ -47,7 +47,7 @@ fn add_place(places: &mut Vec<u32>, place: u32) -> Result<(), Want>
 }
 
 /// The places in document order, each once.
-fn in_order(alloc: Global, places: &[u32]) -> Result<Vec<u32>, Want>
+pub fn in_order(alloc: Global, places: &[u32]) -> Result<Vec<u32>, Want>
     ensures rising { IfOk result (λ ordered. IsRising ordered.items) }
     ensures among { IfOk result (λ ordered. (n : ℕ)
         → is_among ordered.items n ≡ is_among places.now n) }
@@ -62,7 +62,7 @@ fn in_order(alloc: Global, places: &[u32]) -> Result<Vec<u32>, Want>
 
 /// The place of the parent of the node at each of the places, where the source can tell all of them
 /// at once. It only asks: so that the source can look up the next while the last is on its way.
-fn told_parents<L: RowLender>(
+pub fn told_parents<L: RowLender>(
     alloc: Global,
     source: &L,
     tree: usize,

@@ -7,5 +7,6 @@ pub mod Parents
 pub mod AttributeRows
 pub mod Addresses
 pub mod Names
+pub mod Values
 pub mod private
 pub mod Sums

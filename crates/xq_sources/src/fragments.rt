@@ -219,6 +219,12 @@ impl RowLender for Fragments {
         None
     }
 
+    fn find_values(&mut self, _: Global, _: usize, _: &str) {}
+
+    fn valued(&self, _: usize, _: &str, _: &str) -> Option<&[u32]> {
+        None
+    }
+
     fn lent(&self) -> LentRows<'_> {
         match self.rows_of(self.run.tree) {
             Ok(rows) => between(rows, self.run.low, self.run.high),

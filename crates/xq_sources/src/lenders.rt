@@ -3,6 +3,7 @@ ghost use Rattle.std.specs.Prelude.{◌≡◌, ◌↔◌, ◌∷◌, [], ℕ, Li
 ghost use Rattle.xq_regions.specs.Tree.{IsTree};
 ghost use Rattle.xq_regions.specs.Rows.{Row, placed, placed_rows, row_at, rows};
 ghost use Rattle.xq_sources.specs.AttributeRows.{AreAttributeRows};
+ghost use Rattle.xq_found.specs.Values.{valued as valued_lem};
 ghost use Rattle.xq_sources.specs.Names.{named as named_lem};
 ghost use Rattle.xq_sources.specs.Parents.{IsParentRow};
 ghost use Rattle.xq_sources.specs.Sources.{tree_at, HasTree, HasNode, rows_between, after_row};
@@ -80,6 +81,21 @@ pub trait RowLender: TreeSource {
     fn named(&self, tree: usize, name: &str) -> Option<&[u32]>
         ensures { Self.is_clean self.now → IfSome result (λ places. places.now
             ≡ named_lem (placed_rows (tree_at (Self.forest self.now) tree)) name.now) };
+
+    /// Looks for the attributes with the name, where the lender keeps all rows of the tree, so that
+    /// the places of those with a value can be told. It gives no row, so nothing is counted, and is
+    /// never refused: where it finds nothing, nothing is told.
+    fn find_values(&mut self, alloc: Global, tree: usize, name: &str)
+        ensures counts { Self.meter self.new ≡ Self.meter self.old }
+        ensures keeps { Self.forest self.new ≡ Self.forest self.old }
+        ensures was_clean { Self.is_clean self.new → Self.is_clean self.old };
+
+    /// The places of all attributes of the tree with the name and the value, in document order,
+    /// where the lender can tell them at once; none says nothing. A place is no row, so nothing is
+    /// counted.
+    fn valued(&self, tree: usize, name: &str, value: &str) -> Option<&[u32]>
+        ensures { Self.is_clean self.now → IfSome result (λ places. places.now
+            ≡ valued_lem (rows (tree_at (Self.forest self.now) tree)) name.now value.now) };
 
     /// The rows that the last call made ready, in document order.
     fn lent(&self) -> LentRows<'_>
@@ -163,6 +179,12 @@ impl<S: RowSource + Drop> RowLender for Buffered<S> {
     fn find_named(&mut self, _: Global, _: usize, _: &str) {}
 
     fn named(&self, _: usize, _: &str) -> Option<&[u32]> {
+        None
+    }
+
+    fn find_values(&mut self, _: Global, _: usize, _: &str) {}
+
+    fn valued(&self, _: usize, _: &str, _: &str) -> Option<&[u32]> {
         None
     }
 

@@ -14,6 +14,7 @@ mod names;
 mod rows;
 mod sources;
 mod trees;
+mod values;
 
 pub use addresses::Addresses;
 pub use attributes::count_attributes;
@@ -26,3 +27,4 @@ pub use meters::Meter;
 pub use names::{Names, find_named};
 pub use sources::{RowSource, TreeSource};
 pub use trees::Trees;
+pub use values::{Values, find_values};

@@ -12,7 +12,7 @@ use xq_atoms::Want;
 use xq_regions::Kind;
 
 /// Of how many names of a tree places are kept at most.
-const MOST_NAMES: usize = 1_000;
+pub(crate) const MOST_NAMES: usize = 1_000;
 
 /// The places of the elements of a tree by their names, of names that were asked for: four bytes
 /// for each element with one of them.

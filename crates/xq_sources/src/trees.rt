@@ -138,6 +138,20 @@ impl<S: RowLender + Drop> RowLender for Trees<S> {
         }
     }
 
+    fn find_values(&mut self, alloc: Global, tree: usize, name: &str) {
+        if tree < self.stored {
+            self.source.find_values(alloc, tree, name);
+        }
+    }
+
+    fn valued(&self, tree: usize, name: &str, value: &str) -> Option<&[u32]> {
+        if tree < self.stored {
+            self.source.valued(tree, name, value)
+        } else {
+            None
+        }
+    }
+
     fn lent(&self) -> LentRows<'_> {
         if self.is_stored {
             self.source.lent()
