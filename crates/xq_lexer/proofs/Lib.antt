@@ -1,5 +1,6 @@
 pub mod Classes
 pub mod Contents
+pub mod Cuts
 pub mod Forms
 pub mod Fronts
 pub mod Lists

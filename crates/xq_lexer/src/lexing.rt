@@ -6,7 +6,7 @@ ghost use Rattle.xq_atoms.specs.declared.refusals.Fault.TheVariants.{Want as Fau
 ghost use Rattle.xq_atoms.specs.declared.refusals.Want.TheVariants.{Memory as WantMemory};
 ghost use Rattle.xq_lexer.specs.Chars.{Text};
 ghost use Rattle.xq_atoms.specs.Answers.{Gives};
-ghost use Rattle.xq_lexer.specs.private.Lexes.{GivesAlways, Lexes, Nexts, lexed};
+ghost use Rattle.xq_lexer.specs.private.Lexes.{GivesAlways, Lexes, Nexts, SpelledAt, lexed};
 ghost use Rattle.xq_lexer.specs.Lexeme.{Placed, lex_of, placed};
 ghost use Rattle.xq_lexer.specs.Reading as spec;
 ghost use Rattle.xq_lexer.specs.Spelling.{Spells, bytes as bytes_of};
@@ -34,29 +34,33 @@ pub fn lex(alloc: Global, text: &str) -> Result<Vec<Token>, Fault>
     ensures refused { IfErr result (λ fault. RefusesText (chars_of text.now) fault) }
 {
     let chars = chars(alloc, text)?;
-    tokens(alloc, &chars)
+    tokens(alloc, text, &chars)
 }
 
 /// The characters of the text.
 fn chars(alloc: Global, text: &str) -> Result<Vec<char>, Fault>
     ensures chars { IfOk result (λ chars. chars.items ≡ chars_of text.now) }
+    ensures spelled { IfOk result (λ chars. SpelledAt text.now 0 chars.items) }
     ensures short { IfOk result (λ chars. bytes_of chars.items < 2 ^ 64) }
     ensures want { IfErr result (λ fault. fault ≡ FaultWant WantMemory) }
 {
     // A text's length is a `usize`, so the places of its tokens are.
-    let _bytes = text.len();
-    Ok(text.chars().collect(alloc)?)
+    let mut chars = Vec::with_capacity(alloc, text.len())?;
+    chars.extend(text.chars())?;
+    Ok(chars)
 }
 
 /// The tokens that the characters spell, or the code of their first fault.
-fn tokens(alloc: Global, chars: &[char]) -> Result<Vec<Token>, Fault>
-    requires { bytes_of chars.now < 2 ^ 64 }
+fn tokens(alloc: Global, text: &str, chars: &[char]) -> Result<Vec<Token>, Fault>
+    requires short { bytes_of chars.now < 2 ^ 64 }
+    requires spelled { SpelledAt text.now 0 chars.now }
     ensures { Lexes chars.now result }
 {
-    let mut tokens = Vec::new(alloc);
+    // Most tokens have five characters and more, with what separates them.
+    let mut tokens = Vec::with_capacity(alloc, chars.len() / 8)?;
     let mut place = 0;
     let mut rest = chars;
-    while let Some((token, after)) = next(alloc, place, rest)? {
+    while let Some((token, after)) = next(alloc, text, place, rest)? {
         place = token.end;
         rest = after;
         tokens.push(token)?;
@@ -64,22 +68,24 @@ fn tokens(alloc: Global, chars: &[char]) -> Result<Vec<Token>, Fault>
     Ok(tokens)
 }
 
-/// The next token behind separators and what is left, or None at the end; so many bytes stand
-/// before the characters.
+/// The next token behind separators and what is left, or None at the end; so many bytes of the text
+/// stand before the characters.
 fn next<'a>(
     alloc: Global,
+    text: &str,
     place: usize,
     chars: &'a [char],
 ) -> Result<Option<(Token, &'a [char])>, Fault>
-    requires { place + bytes_of chars.now < 2 ^ 64 }
+    requires short { place + bytes_of chars.now < 2 ^ 64 }
+    requires spelled { SpelledAt text.now place chars.now }
     ensures { Nexts place chars.now result }
 {
     let begun = skip(chars)?;
     if begun.is_empty() {
         return Ok(None);
     }
-    let (lexeme, rest) = token(alloc, begun)?;
     let start = place + passed(chars, begun);
+    let (lexeme, rest) = token(alloc, text, start, begun)?;
     let end = start + passed(begun, rest);
     Ok(Some((Token { lexeme, start, end }, rest)))
 }
@@ -93,20 +99,28 @@ fn passed(chars: &[char], rest: &[char]) -> usize
     bytes(&chars[..chars.len() - rest.len()])
 }
 
-/// What the token at the front is, and what is left behind it.
+/// What the token at the front is, and what is left behind it; so many bytes of the text stand
+/// before it.
 #[tactic(auto, unfolding(crate::specs::Reading::read_token))]
-fn token<'a>(alloc: Global, chars: &'a [char]) -> Result<(Lexeme, &'a [char]), Fault>
+fn token<'a>(
+    alloc: Global,
+    text: &str,
+    place: usize,
+    chars: &'a [char],
+) -> Result<(Lexeme, &'a [char]), Fault>
+    requires short { place + bytes_of chars.now < 2 ^ 64 }
+    requires spelled { SpelledAt text.now place chars.now }
     ensures { Gives (λ x. (lex_of x.0, x.1.now)) (lexed (spec.read_token chars.now)) result }
 {
     match chars {
         [] => Err(Fault::Code(Code::XPST0003)),
         [c, rest @ ..] => {
             if is_name_start(*c) {
-                name(alloc, chars)
+                name(alloc, text, place, chars)
             } else if begins_number(chars) {
                 number(alloc, chars)
             } else if is_quote(*c) {
-                string(alloc, *c, rest)
+                string(alloc, text, place, *c, rest)
             } else {
                 Ok(symbol(chars)?)
             }

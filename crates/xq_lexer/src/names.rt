@@ -1,18 +1,27 @@
 //! Names.
-ghost use Rattle.std.specs.Prelude.{◌≡◌, Ok};
+ghost use Rattle.std.specs.Prelude.{◌≡◌, ◌+◌, ◌<◌, ◌^◌, Ok};
 ghost use Rattle.xq_atoms.specs.Answers.{Gives};
-ghost use Rattle.xq_lexer.specs.private.Lexes.{lexed};
+ghost use Rattle.xq_lexer.specs.private.Lexes.{SpelledAt, lexed};
 ghost use Rattle.xq_lexer.specs.Lexeme.{lex_of};
 ghost use Rattle.xq_lexer.specs.Reading as spec;
+ghost use Rattle.xq_lexer.specs.Spelling.{bytes as bytes_of};
 
-use crate::runs::{Class, run, text};
+use crate::runs::{Class, cut, run, text};
 use crate::tokens::Lexeme;
 use std::alloc::Global;
 use xq_atoms::{Fault, is_name_start};
 
-/// The name at the front, or the two names with a colon between them, and what is left.
+/// The name at the front, or the two names with a colon between them, and what is left; so many
+/// bytes stand before it in what is written.
 #[tactic(auto, unfolding(crate::specs::Reading::read_name, crate::specs::Reading::after_name))]
-pub fn name<'a>(alloc: Global, chars: &'a [char]) -> Result<(Lexeme, &'a [char]), Fault>
+pub fn name<'a>(
+    alloc: Global,
+    written: &str,
+    place: usize,
+    chars: &'a [char],
+) -> Result<(Lexeme, &'a [char]), Fault>
+    requires short { place + bytes_of chars.now < 2 ^ 64 }
+    requires spelled { SpelledAt written.now place chars.now }
     ensures { Gives (λ x. (lex_of x.0, x.1.now)) (lexed (Ok (spec.read_name chars.now))) result }
 {
     let (first, rest) = run(Class::Name, chars);
@@ -23,6 +32,6 @@ pub fn name<'a>(alloc: Global, chars: &'a [char]) -> Result<(Lexeme, &'a [char])
             let local = text(alloc, local)?;
             Ok((Lexeme::Prefixed { prefix, local }, rest))
         }
-        _ => Ok((Lexeme::Name(text(alloc, first)?), rest)),
+        _ => Ok((Lexeme::Name(cut(alloc, written, place, first)?), rest)),
     }
 }

@@ -1,7 +1,8 @@
 //! Runs of characters of one class, and their bytes.
-ghost use Rattle.std.specs.Prelude.{◌≡◌, ◌+◌, ◌++◌, length, IfOk, OnOk, string_bytes, ◌<◌, ◌^◌};
+ghost use Rattle.std.specs.Prelude.{◌≡◌, ◌+◌, ◌++◌, length, take, drop, IfOk, IfSome, OnOk, string_bytes, ◌<◌, ◌^◌};
 ghost use Rattle.std.specs.Str.{encode_utf8_all};
-ghost use Rattle.xq_lexer.specs.private.Lexes.{test};
+ghost use Rattle.xq_atoms.specs.Characters.{is_name_char as is_name_char_lem};
+ghost use Rattle.xq_lexer.specs.private.Lexes.{BeginsAt, test};
 ghost use Rattle.xq_lexer.specs.Reading.{span};
 ghost use Rattle.xq_lexer.specs.Spelling.{bytes as bytes_of};
 
@@ -25,12 +26,20 @@ impl Class {
         ensures { result ≡ test self c }
     {
         match self {
-            Class::Name => is_name_char(c),
+            Class::Name => is_in_name(c),
             Class::Digit => is_digit(c),
             Class::HexDigit => is_hex(c),
             Class::Plain(quote) => c != quote && c != '&' && is_char(c),
         }
     }
+}
+
+/// Whether the character may stand in a name. Most are small letters, of which one look tells.
+#[tactic(auto, unfolding(xq_atoms::specs::Characters::is_name_char, xq_atoms::specs::Characters::is_name_start))]
+fn is_in_name(c: char) -> bool
+    ensures { result ≡ is_name_char_lem c }
+{
+    matches!(c, 'a'..='z') || is_name_char(c)
 }
 
 /// The longest front whose characters are of the class, and what is left.
@@ -43,6 +52,32 @@ pub fn run(class: Class, chars: &[char]) -> (&[char], &[char])
         }
     }
     chars.split_at(chars.len())
+}
+
+/// The characters as a text, which is cut out of what is written: it spells them there.
+pub fn cut(
+    alloc: Global,
+    written: &str,
+    place: usize,
+    chars: &[char],
+) -> Result<String, AllocError>
+    requires short { bytes_of chars.now < 2 ^ 64 }
+    requires spelled { BeginsAt written.now place chars.now }
+    ensures { IfOk result (λ text. string_bytes text ≡ encode_utf8_all chars.now) }
+{
+    match piece(written, place, bytes(chars)) {
+        Some(piece) => String::from_str(alloc, piece),
+        None => text(alloc, chars),
+    }
+}
+
+/// So many bytes from a place on, where a text may be cut there.
+fn piece(written: &str, place: usize, length: usize) -> Option<&str>
+    ensures { IfSome result (λ piece. piece.now ≡ take length (drop place written.now)) }
+{
+    let (_before, rest) = written.split_at_checked(place)?;
+    let (piece, _after) = rest.split_at_checked(length)?;
+    Some(piece)
 }
 
 /// The characters as a text.
@@ -71,9 +106,12 @@ pub fn bytes(chars: &[char]) -> usize
     requires { bytes_of chars.now < 2 ^ 64 }
     ensures { result ≡ bytes_of chars.now }
 {
-    let mut bytes = 0;
+    // Each has a byte, and most have no more.
+    let mut bytes = chars.len();
     for c in chars {
-        bytes += c.len_utf8();
+        if *c >= '\u{80}' {
+            bytes += c.len_utf8() - 1;
+        }
     }
     bytes
 }

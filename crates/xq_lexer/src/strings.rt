@@ -1,13 +1,14 @@
 //! String literals.
-ghost use Rattle.std.specs.Prelude.{◌≡◌, ◌≤◌, min, true, option_map, Ok};
+ghost use Rattle.std.specs.Prelude.{◌≡◌, ◌+◌, ◌<◌, ◌≤◌, ◌^◌, ◌∷◌, min, true, option_map, Ok};
 ghost use Rattle.xq_atoms.specs.Answers.{Gives};
-ghost use Rattle.xq_lexer.specs.private.Lexes.{GivesAlways, lexed, refers, referred_char, next_inside};
+ghost use Rattle.xq_lexer.specs.private.Lexes.{GivesAlways, SpelledAt, lexed, refers, referred_char, next_inside};
 ghost use Rattle.xq_lexer.specs.Chars as chars_spec;
 ghost use Rattle.xq_lexer.specs.Lexeme.{lex_of};
 ghost use Rattle.xq_lexer.specs.Literals as lit;
 ghost use Rattle.xq_lexer.specs.Reading as spec;
+ghost use Rattle.xq_lexer.specs.Spelling.{bytes as bytes_of};
 
-use crate::runs::{Class, append, run};
+use crate::runs::{Class, append, cut, run};
 use crate::tokens::Lexeme;
 use std::alloc::Global;
 use xq_atoms::{Code, Fault, is_char, is_digit};
@@ -15,25 +16,31 @@ use xq_atoms::{Code, Fault, is_char, is_digit};
 /// One more than the greatest number of a character: numbers are counted up to here.
 const PAST_CHARS: u32 = 0x11_0000;
 
-/// The string whose first quote was read, and what is left behind its last one. XQST0090 where a
-/// reference stands for no character, XPST0003 at another fault or where the string stays open.
+/// The string whose first quote was read, and what is left behind its last one; so many bytes stand
+/// before the first quote in what is written. XQST0090 where a reference stands for no character,
+/// XPST0003 at another fault or where the string stays open.
 pub fn string<'a>(
     alloc: Global,
+    written: &str,
+    place: usize,
     quote: char,
     chars: &'a [char],
 ) -> Result<(Lexeme, &'a [char]), Fault>
-    requires { chars_spec.is_quote quote ≡ true }
+    requires quote { chars_spec.is_quote quote ≡ true }
+    requires short { place + bytes_of (quote ∷ chars.now) < 2 ^ 64 }
+    requires spelled { SpelledAt written.now place (quote ∷ chars.now) }
     ensures { Gives (λ x. (lex_of x.0, x.1.now)) (lexed (spec.read_string quote chars.now)) result }
 {
-    let mut text = String::new(alloc);
-    let mut rest = chars;
+    let (plain, special) = run(Class::Plain(quote), chars);
+    let mut text = cut(alloc, written, place + 1, plain)?;
+    let mut rest = special;
     'pieces: loop {
-        let (plain, special) = run(Class::Plain(quote), rest);
-        append(&mut text, plain)?;
-        match inside(quote, special)? {
+        match inside(quote, rest)? {
             (Some(c), after) => {
                 text.push(c)?;
-                rest = after;
+                let (plain, special) = run(Class::Plain(quote), after);
+                append(&mut text, plain)?;
+                rest = special;
             }
             (None, after) => return Ok((Lexeme::Str(text), after)),
         }

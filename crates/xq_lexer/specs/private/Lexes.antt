@@ -1,5 +1,6 @@
 -- What a function that reads ensures: what the reader on lists gives, unless memory is wanting.
-use Rattle.std.specs.Prelude.{◌≡◌, ℕ, ℤ, min, [], Bool, true, false, if◌then◌else◌, Option, Some, None, option_map, Result, Ok, Err, ◌+◌, ◌<◌, length}
+use Rattle.std.specs.Prelude.{◌≡◌, ℕ, ℤ, min, [], Bool, true, false, if◌then◌else◌, Option, Some, None, option_map, Result, Ok, Err, ◌+◌, ◌++◌, ◌<◌, length, drop}
+use Rattle.std.specs.Str.{encode_utf8_all}
 use Rattle.xq_atoms.specs.declared.refusals.Code.{Code}
 use denote.Ref.{Bor}
 use Rattle.xq_atoms.specs.declared.refusals.Code.TheVariants.{XPST0003, XQST0090}
@@ -33,6 +34,15 @@ test Name = is_name_char
 test Digit = is_digit
 test HexDigit = is_hex
 test (Plain quote) = is_plain quote
+
+-- from a place on, the bytes of a text are the characters
+abbrev pub SpelledAt : Text → ℕ → Text → Type 0
+SpelledAt written place chars = drop place written ≡ encode_utf8_all chars
+
+-- the same of the bytes there that come first
+abbrev pub BeginsAt : Text → ℕ → Text → Type 0
+BeginsAt written place chars = (after : Text)
+    × (drop place written ≡ encode_utf8_all chars ++ after)
 
 -- what a token read stands for
 abbrev pub lexed : Result (Form × Text) Code → Result (Lex × Text) Code

@@ -3,6 +3,7 @@ use Rattle.std.proofs.lemmas.Result.{err_from_is_err_and}
 use Rattle.xq_lexer.specs.Lexeme.{lex_of}
 use Rattle.xq_lexer.proofs.SeparatorLemmas.{skip_suffix}
 use Rattle.xq_lexer.proofs.StepLemmas.{was_read, next_is, step_fault, empty_left, some_left}
+use Rattle.xq_lexer.proofs.Cuts.{spelled_past}
 use Rattle.xq_lexer.proofs.lexing.next.Goals as goal
 
 pub returns-in_err-begun : goal.returns-in_err-begun
@@ -23,6 +24,11 @@ passed-requires-2-clause-suffix c =
     let some = some_left c.in_ok-begun.begun.now c.if-is_empty.ensures in
     let r = was_read c.in_ok-begun.begun.now (lex_of c.in_ok-lexeme.lexeme) c.in_ok-lexeme.rest.now some c.in_ok-lexeme.ensures in
     (_, r.found.whole)
+
+pub token-requires-clause-spelled : goal.token-requires-clause-spelled
+token-requires-clause-spelled c =
+    let s = skip_suffix c.args.chars.now c.in_ok-begun.begun.now c.in_ok-begun.ensures in
+    spelled_past c.args.text.now c.args.place _ c.args.chars.now s.front c.in_ok-begun.begun.now c.requires.spelled s.whole (omega (arith, c.passed.ensures))
 
 pub returns : goal.returns
 returns c =

@@ -4,16 +4,21 @@ use denote.Ref.{Bor}
 use Rattle.xq_lexer.specs.declared.tokens.Token.{Token}
 use Rattle.xq_lexer.specs.private.Lexes.{Nexts}
 use Rattle.xq_lexer.proofs.StepLemmas.{lexed_more, lexed_all, lexed_error}
+use Rattle.xq_lexer.specs.Lexeme.{place_of}
+use Rattle.xq_lexer.proofs.Cuts.{spelled_next}
 use Rattle.xq_lexer.proofs.lexing.tokens.Goals as goal
 
-pub next-requires : goal.next-requires
-next-requires c = let r = c.loop-tokens.invariant.room in omega (arith, r, c.requires)
+pub next-requires-clause-short : goal.next-requires-clause-short
+next-requires-clause-short c = let r = c.loop-tokens.invariant.lexed.room in omega (arith, r, c.requires.short)
 
 pub loop-tokens-preserved : goal.loop-tokens-preserved
 loop-tokens-preserved c =
     let l = c.loop-tokens in
     let n : Nexts l.place l.rest.now (Ok (Some (c.in-Some.token, c.in-Some.after))) = subst (λ (o : Option (Token × Bor (List ℕ))). Nexts l.place l.rest.now (Ok o)) c.in-Some.is c.in_ok-token.ensures in
-    rw c.in_ok-push.ensures.items (lexed_more c.args.chars.now l.tokens.items l.place l.rest.now c.in-Some.token c.in-Some.after.now l.invariant n.0)
+    record {
+      lexed = rw c.in_ok-push.ensures.items (lexed_more c.args.chars.now l.tokens.items l.place l.rest.now c.in-Some.token c.in-Some.after.now l.invariant.lexed n.0);
+      spelled = spelled_next c.args.text.now l.place l.rest.now (place_of c.in-Some.token) c.in-Some.after.now l.invariant.spelled n.0;
+    }
 
 pub loop-tokens-smaller : goal.loop-tokens-smaller
 loop-tokens-smaller c =
@@ -25,10 +30,10 @@ pub returns : goal.returns
 returns c =
     let l = c.loop-tokens in
     let n : Nexts l.place l.rest.now (Ok None) = subst (λ (o : Option (Token × Bor (List ℕ))). Nexts l.place l.rest.now (Ok o)) c.in_default.is c.in_ok-token.ensures in
-    lexed_all c.args.chars.now l.tokens.items l.place l.rest.now l.invariant n
+    lexed_all c.args.chars.now l.tokens.items l.place l.rest.now l.invariant.lexed n
 
 pub returns-in_err-token : goal.returns-in_err-token
 returns-in_err-token c =
     let l = c.loop-tokens in
-    let p = err_from_is_err_and c.from_residual.result c.from_residual.ensures.1 in
-    rw (p.1, p.2) (lexed_error c.args.chars.now l.tokens.items l.place l.rest.now c.in_err-token.field-0.0 l.invariant c.in_err-token.ensures)
+    let p = err_from_is_err_and c.from_residual-in_err-token.result c.from_residual-in_err-token.ensures.1 in
+    rw (p.1, p.2) (lexed_error c.args.chars.now l.tokens.items l.place l.rest.now c.in_err-token.field-0.0 l.invariant.lexed c.in_err-token.ensures)
