@@ -1,14 +1,13 @@
 -- Rows that are compared with others, shape by shape, and their values as one text.
-use Rattle.std.proofs.Common.{◌≡◌, ◌<◌, ◌≤◌, ◌+◌, ◌-◌, ◌^◌, ℕ, zero, suc, List, [], ◌∷◌, take, drop, length, refl, sym, ap, ◌∙◌, subst, arith, inl, inr}
+use Rattle.std.proofs.Common.{◌≡◌, ◌<◌, ◌≤◌, ◌+◌, ◌-◌, ℕ, zero, suc, List, take, drop, length, sym, ap, ◌∙◌, subst, arith, inl, inr}
 use Rattle.std.specs.Prelude.{slice_index_or}
 use Rattle.std.proofs.lemmas.Bool.{cases_lt}
 use Rattle.std.proofs.lemmas.Str.{IsUtf8-nil}
 use Rattle.std.proofs.lemmas.List.{take-take, drop-drop, drop-take}
-use Rattle.xq_regions.specs.Rows.{Row, row_at}
 use Rattle.xq_packed.specs.declared.shapes.Shape.{Shape}
 use Rattle.xq_packed.specs.Packed.{Packed, row, AreSame}
 use Rattle.xq_packed.specs.private.Alike.{AreAlike, AreWithin, no_shape}
-use Rattle.xq_packed.specs.private.Shapes.{value_end, value_start, text_between, name_at, row_of_shape, rows_of_shapes, AreShapes, IsKept}
+use Rattle.xq_packed.specs.private.Shapes.{value_end, value_start, text_between, name_at, rows_of_shapes, AreShapes}
 use Rattle.xq_packed.proofs.Standing.{rows-length, shape-placed, start-after}
 use Rattle.xq_packed.proofs.Appending.{run-of}
 

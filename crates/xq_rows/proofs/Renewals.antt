@@ -378,6 +378,20 @@ one_renewed a i there rows row none before mid after old now new h is so_far ste
     let next : p + 1 ≡ low + (i + 1) = omega arith in
     (subst₂ (λ k l. HasRenewed a low k l old new) next joined more, one.1)
 
+-- rows that are the same as those that are there have done so as well
+pub same_renewed : (a : List ℕ) (n i j : ℕ) (there : List (ℕ × Node)) (rows : List (ℕ × Node)) (none : ℕ × Node) (before after : List (String Global × ℕ)) (old now : Database) → j ≡ i + n → j ≤ length rows → length rows ≤ length there
+    → ((k : ℕ) → i ≤ k → k < j → get_or rows k none ≡ get_or there k none) → IsRenewed a there rows i before after old now → IsRenewed a there rows j before after old now
+same_renewed a zero i j there rows none before after old now size within covers same so_far =
+    subst (λ k. IsRenewed a there rows k before after old now) (let e : i ≡ j = omega (arith, size) in e) so_far
+same_renewed a (suc n) i j there rows none before after old now size within covers same so_far =
+    let row = get_or rows i none in
+    let in_rows : i < length rows = omega (arith, size, within) in
+    let in_there : i < length there = omega (arith, in_rows, covers) in
+    let here : row ≡ get_or there i none = same i (omega arith) (omega (arith, size)) in
+    let step : RenewsRow a row (slice_get (map cells there) i) after after now now = stays_row a row (slice_get (map cells there) i) after now (shown_at there i row none in_there here) in
+    let one : IsRenewed a there rows (i + 1) before after old now = one_renewed a i there rows row none before after after old now now in_rows refl so_far step in
+    same_renewed a n (i + 1) j there rows none before after old now (omega (arith, size)) within covers (λ k from to. same k (omega (arith, from)) to) one
+
 -- then all have
 pub rows_renewed : (a : List ℕ) (i : ℕ) (there : List (ℕ × Node)) (rows : List (ℕ × Node)) (before after : List (String Global × ℕ)) (old now : Database) → i ≡ length rows → IsRenewed a there rows i before after old now → RenewsRows a there rows before after old now
 rows_renewed a i there rows before after old now all_done done low numbered sound all are =

@@ -53,7 +53,8 @@ fn renew_row<S: Alter>(
     update_named(transaction, names, address, row)
 }
 
-/// Has these rows stand under their numbers, where as many others are there.
+/// Has these rows stand under their numbers, where as many others are there: runs that are the same
+/// are passed over.
 fn renew_each<S: Alter>(
     transaction: &mut Transaction<'_, S>,
     names: &mut Names,
@@ -68,9 +69,11 @@ fn renew_each<S: Alter>(
         names.old.entries names.new.entries (state S.Store transaction.old.conn.now).now
         (state S.Store transaction.new.conn.now).now) }
 {
-    for at in 0..rows.len() {
+    let mut at = rows.same_until(rows_there, 0);
+    while at < rows.len() {
         let there = rows_there.row(at);
         renew_row(transaction, names, address, &there, &rows.row(at))?;
+        at = rows.same_until(rows_there, at + 1);
     }
     Ok(())
 }

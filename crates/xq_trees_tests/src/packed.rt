@@ -260,3 +260,105 @@ fn many_names_have_their_numbers(rt: HostRuntime) -> Result<(), Want> {
     assert_eq!(rt; rows.number_of("l"), None);
     Ok(())
 }
+
+/// A row that stands alone, and others that are not the same: of another size, level, kind, name and
+/// value, and with a value that is as long.
+const ALONE: [Row; 1] = [(0, 0, 1, Kind::Attribute, "b", "12")];
+
+const LARGER: [Row; 1] = [(0, 1, 1, Kind::Attribute, "b", "12")];
+
+const DEEPER: [Row; 1] = [(0, 0, 2, Kind::Attribute, "b", "12")];
+
+const ANOTHER_KIND: [Row; 1] = [(0, 0, 1, Kind::Element, "b", "12")];
+
+const ANOTHER_NAME: [Row; 1] = [(0, 0, 1, Kind::Attribute, "c", "12")];
+
+const LONGER: [Row; 1] = [(0, 0, 1, Kind::Attribute, "b", "123")];
+
+const AS_LONG: [Row; 1] = [(0, 0, 1, Kind::Attribute, "b", "13")];
+
+/// Rows of which the first alone has another value, of another length, and with it another name,
+/// by which the names of the others get other numbers.
+const NAMES: [Row; 3] = [
+    (0, 0, 1, Kind::Element, "a", "A"),
+    (1, 0, 1, Kind::Element, "b", "1"),
+    (2, 0, 1, Kind::Element, "a", "2"),
+];
+
+const NAMES_TURNED: [Row; 3] = [
+    (0, 0, 1, Kind::Element, "b", "ABC"),
+    (1, 0, 1, Kind::Element, "b", "1"),
+    (2, 0, 1, Kind::Element, "a", "2"),
+];
+
+/// Rows with the same text of all values, which they part otherwise.
+const PARTED: [Row; 2] = [
+    (0, 0, 1, Kind::Text, "", "1"),
+    (1, 0, 1, Kind::Text, "", "23"),
+];
+
+const PARTED_LATER: [Row; 2] = [
+    (0, 0, 1, Kind::Text, "", "12"),
+    (1, 0, 1, Kind::Text, "", "3"),
+];
+
+/// Rows and others, a place, and the first place from that one on at which they are not the same.
+const SAMES: [(&[Row], &[Row], usize, usize); 15] = [
+    (&[], &[], 0, 0),
+    (&ELEMENT, &ELEMENT, 0, 4),
+    (&ELEMENT, &ELEMENT, 3, 4),
+    (&ELEMENT, &ELEMENT, 4, 4),
+    (&ALONE, &ALONE, 0, 1),
+    (&ALONE, &LARGER, 0, 0),
+    (&ALONE, &DEEPER, 0, 0),
+    (&ALONE, &ANOTHER_KIND, 0, 0),
+    (&ALONE, &ANOTHER_NAME, 0, 0),
+    (&ALONE, &LONGER, 0, 0),
+    (&ALONE, &AS_LONG, 0, 0),
+    (&NAMES, &NAMES_TURNED, 0, 0),
+    (&NAMES, &NAMES_TURNED, 1, 3),
+    (&PARTED, &PARTED_LATER, 0, 0),
+    // One of them is shorter.
+    (&ELEMENT, &CONTENT, 0, 0),
+];
+
+/// So many rows that are the same, and then these.
+fn rows_after(alloc: Global, count: usize, rows: &[Row]) -> Result<PackedRows, Want> {
+    let mut packed = PackedRows::new(alloc);
+    for _ in 0..count {
+        push(&mut packed, &CONTENT[2..])?;
+    }
+    push(&mut packed, rows)?;
+    Ok(packed)
+}
+
+/// The first place from one on at which the rows, after so many others, are not the same.
+fn same_until(
+    alloc: Global,
+    count: usize,
+    rows: (&[Row], &[Row]),
+    low: usize,
+) -> Result<usize, Want> {
+    let mine = rows_after(alloc, count, rows.0)?;
+    let its = rows_after(alloc, count, rows.1)?;
+    let high = mine.len().min(its.len());
+    Ok(mine.same_until(&its, low.min(high), high))
+}
+
+#[test]
+fn rows_are_the_same_up_to_a_place(rt: HostRuntime) -> Result<(), Want> {
+    for (at, (mine, its, low, wanted)) in SAMES.iter().enumerate() {
+        let alloc = rt.alloc();
+        for count in [0, 1, 255, 600] {
+            let from = count + *low;
+            let found = same_until(alloc, count, (*mine, *its), from)?;
+            assert_eq!(rt; found, count + *wanted, "{at} after {count}");
+            let turned = same_until(alloc, count, (*its, *mine), from)?;
+            assert_eq!(rt; turned, found, "{at} after {count}");
+        }
+        let all = same_until(alloc, 600, (*mine, *its), 0)?;
+        let first = same_until(alloc, 0, (*mine, *its), 0)?;
+        assert_eq!(rt; all, 600 + first, "{at}");
+    }
+    Ok(())
+}

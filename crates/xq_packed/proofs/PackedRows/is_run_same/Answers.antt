@@ -1,5 +1,5 @@
 use Rattle.std.proofs.Common.{◌≡◌, ◌≤◌, ℕ, refl, length, string_bytes, sym, ap, ◌∙◌, subst, subst₂, arith}
-use Rattle.std.specs.Prelude.{bytes_eq, slice_range, IsCharBoundary}
+use Rattle.std.specs.Prelude.{slice_range, IsCharBoundary}
 use Rattle.std.proofs.lemmas.Slice.Eq.{bytes_eq-Decides}
 use Rattle.std.proofs.lemmas.Str.{IsUtf8-string_bytes, IsCharBoundary-from_take}
 use Rattle.xq_packed.specs.Packed.{Packed, AreSame}

@@ -1,4 +1,4 @@
-use Rattle.std.proofs.Common.{◌≡◌, ◌≤◌}
+use Rattle.std.proofs.Common.{◌≡◌, ◌≤◌, ◌-◌, length}
 use Rattle.sqlite.specs.State.{HasCleanDisk, KeepsCommit}
 use Rattle.sqlite.specs.Held.{state}
 use Rattle.sqlite_trees.specs.View.{doubt}
@@ -13,5 +13,9 @@ invariant-loop-at g l =
       same_reference : l.transaction.conn.ghost_name ≡ l.fn.transaction.conn.ghost_name;
       clean : doubt old.is_clean ≤ doubt now.is_clean;
       kept : HasCleanDisk now → KeepsCommit old now;
+      within : l.at ≤ length l.rows;
       so_far : HasCleanDisk now → IsRenewed l.address l.rows_there l.rows l.at l.fn.names.entries l.names.entries old.now now.now;
     }
+
+abbrev pub decreases-loop-at : goal.decreases-loop-at
+decreases-loop-at g l = length l.rows - l.at
