@@ -6,4 +6,5 @@ pub mod Clauses
 pub mod Found
 pub mod TextTests
 pub mod LoneTexts
+pub mod Valued
 pub mod Told

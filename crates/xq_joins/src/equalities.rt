@@ -1,12 +1,14 @@
 //! Predicates that ask whether a step from the item leads to a node with a given text (XQuery 3.1,
 //! sections 3.3.3 and 3.7.2): the texts are read where they lie, and no values are made.
-ghost use Rattle.std.specs.Prelude.{◌≡◌, [], List, map, filter, false, Ok, IfOk, IfSome};
+ghost use Rattle.std.specs.Prelude.{◌≡◌, [], List, map, filter, false, Ok, Some, IfOk, IfSome};
 ghost use Rattle.xq_atoms.specs.Atom.{atomic_of};
 ghost use Rattle.xq_atoms.specs.Text.{text_eq};
 ghost use Rattle.xq_regions.specs.Items.{item_view, item_views};
+ghost use Rattle.xq_regions.specs.declared.Axis.TheVariants as axes;
 ghost use Rattle.xq_axes.specs.Reads.{is_parent as is_parent_lem};
 ghost use Rattle.xq_sources.specs.Sources.{HasNode};
 ghost use Rattle.xq_tuples.specs.Views.{values_of};
+ghost use Rattle.xq_meaning.specs.declared.node_tests.Test.TheVariants as tests;
 ghost use Rattle.xq_meaning.specs.declared.plans.Plan.TheVariants as plan_of;
 ghost use Rattle.xq_meaning.specs.Readings.{node_at, IsIn, AreIn};
 ghost use Rattle.xq_meaning.specs.Steps.{context_node as context_node_lem, is_reverse};
@@ -20,7 +22,7 @@ use crate::shapes::operands;
 use crate::values::value;
 use std::alloc::Global;
 use xq_atoms::{Atom, Want};
-use xq_axes::{places_on_axis, string_value};
+use xq_axes::{places_on_axis, string_value, with_value};
 use xq_forms::{Frame, ShortPath, push_copy, short_path};
 use xq_meaning::{Plan, Test};
 use xq_regions::{Axis, Item, Items, Kind, Node};
@@ -303,8 +305,40 @@ fn passes<L: RowLender>(
     }
 }
 
-/// The nodes among the items that pass the test, in their order.
-pub fn keep_by_text<L: RowLender>(
+/// The name of the attributes to which the step of the test leads, where it leads to such alone.
+fn wanted_attribute<'a>(found: TextTest<'a>) -> Option<&'a str>
+    ensures { IfSome result (λ name. (found.entry.axis ≡ axes.Attributes)
+        × (found.entry.test.now ≡ tests.Attribute (Some name.now))) }
+{
+    match (found.axis, found.test) {
+        (Axis::Attributes, Test::Attribute(Some(name))) => Some(name.as_str()),
+        _ => None,
+    }
+}
+
+/// The items that pass the test, in their order, where the source tells at once which nodes have an
+/// attribute with the text.
+fn keep_by_value<L: RowLender>(
+    alloc: Global,
+    source: &mut L,
+    items: &[Item],
+    found: TextTest<'_>,
+) -> Result<Option<Items>, Want>
+    ensures kept { L.is_clean source.new
+        → AreIn (L.forest source.old) (map item_view items.now)
+        → IfOk result (λ told. IfSome told (λ kept. item_views kept
+        ≡ filter (passes_text (L.forest source.old) found.entry) (map item_view items.now))) }
+    ensures keeps { L.forest source.new ≡ L.forest source.old }
+    ensures was_clean { L.is_clean source.new → L.is_clean source.old }
+{
+    let Some(name) = wanted_attribute(found) else {
+        return Ok(None);
+    };
+    with_value(alloc, source, items, name, found.text)
+}
+
+/// The nodes among the items that pass the test, in their order: each of them is asked.
+fn keep_each<L: RowLender>(
     alloc: Global,
     source: &mut L,
     items: &[Item],
@@ -323,4 +357,24 @@ pub fn keep_by_text<L: RowLender>(
         kept = push_copy(alloc, kept, item, is_kept)?;
     }
     Ok(kept)
+}
+
+/// The nodes among the items that pass the test, in their order.
+pub fn keep_by_text<L: RowLender>(
+    alloc: Global,
+    source: &mut L,
+    items: &[Item],
+    found: TextTest<'_>,
+) -> Result<Items, Want>
+    ensures kept { L.is_clean source.new
+        → AreIn (L.forest source.old) (map item_view items.now)
+        → IfOk result (λ kept. item_views kept
+        ≡ filter (passes_text (L.forest source.old) found.entry) (map item_view items.now)) }
+    ensures keeps { L.forest source.new ≡ L.forest source.old }
+    ensures was_clean { L.is_clean source.new → L.is_clean source.old }
+{
+    if let Some(kept) = keep_by_value(alloc, source, items, found)? {
+        return Ok(kept);
+    }
+    keep_each(alloc, source, items, found)
 }

@@ -3,7 +3,7 @@ use Rattle.std.specs.Prelude.{filter}
 use Rattle.xq_regions.specs.Items.{item_view, item_views}
 use Rattle.xq_meaning.specs.Readings.{AreIn}
 use Rattle.xq_joins.specs.Equalities.{passes_text}
-use Rattle.xq_joins.proofs.equalities.keep_by_text.Given as goal
+use Rattle.xq_joins.proofs.equalities.keep_each.Given as goal
 
 -- those that were kept, and what is to be kept of the items that are left
 abbrev pub invariant-loop-item : goal.invariant-loop-item

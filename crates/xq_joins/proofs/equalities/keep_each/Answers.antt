@@ -8,7 +8,7 @@ use Rattle.xq_forms.proofs.Lists.{all_at}
 use Rattle.xq_joins.specs.Equalities.{passes_text}
 use Rattle.xq_joins.proofs.TextTests.{kept_next}
 use Rattle.xq_joins.proofs.Lists.{left_first}
-use Rattle.xq_joins.proofs.equalities.keep_by_text.Goals as goal
+use Rattle.xq_joins.proofs.equalities.keep_each.Goals as goal
 
 pub loop-item-init : goal.loop-item-init
 loop-item-init g c =
