@@ -26,6 +26,7 @@ pub mod Adopts
 pub mod Runs
 pub mod Adopted
 pub mod Parents
+pub mod Values
 pub mod CountedAttributes
 pub mod Streams
 pub mod Judging

@@ -25,7 +25,7 @@ length-first zero xs = omega arith
 length-first (suc n) [] = omega arith
 length-first (suc n) (x ∷ xs) = let more = length-first n xs in omega (arith, more)
 
-without-places : (n : ℕ) (xs : List Row) → map (λ (p : ℕ × Row). p.1) (enumerate_from n xs) ≡ xs
+pub without-places : (n : ℕ) (xs : List Row) → map (λ (p : ℕ × Row). p.1) (enumerate_from n xs) ≡ xs
 without-places n [] = refl
 without-places n (x ∷ xs) = ap (λ ys. x ∷ ys) (without-places (n + 1) xs)
 

@@ -2,18 +2,19 @@
 ghost use Rattle.std.specs.Prelude.{◌≡◌, IsTrue, List, Some, IfOk, IfSome, OnOk, filter};
 ghost use Rattle.std.specs.FinMap.{get};
 ghost use Rattle.std.specs.List.{enumerate_from};
-ghost use Rattle.xq_regions.specs.Rows.{placed_rows};
+ghost use Rattle.xq_regions.specs.Rows.{placed_rows, rows};
 ghost use Rattle.xq_regions.specs.Tree.{Tree};
 ghost use Rattle.xq_rows.specs.Documents.{IsClean, IsOpen, Map, StandsFor};
 ghost use Rattle.xq_rows.specs.declared.shelves.Shelf.{Shelf};
 ghost use Rattle.xq_rows.specs.private.Keeps.{LeavesAlone};
 ghost use Rattle.xq_rows.specs.private.Shelves.{AreFronts, AreListed, HasReached, IsFront, IsFrontOf, Reaches, front_at, kept_rows, run_of};
+ghost use Rattle.xq_found.specs.Values.{valued};
 ghost use Rattle.xq_sources.specs.Lent.{unplaced};
 ghost use Rattle.xq_sources.specs.Names.{named};
 ghost use Rattle.xq_sources.specs.Parents.{IsParentRow};
 ghost use Rattle.xq_sources.specs.Sources.{tree_at};
 
-use crate::shelves::{Front, Shelf, address_at, all_of};
+use crate::shelves::{Front, Shelf, address_at, all_of, are_whole};
 use crate::stores::Store;
 use sqlite::Alter;
 use std::alloc::Global;
@@ -193,6 +194,37 @@ pub(crate) fn named_in<'a>(shelf: &'a Shelf, tree: usize, name: &str) -> Option<
     let front = shelf.fronts.get(tree)?;
     let places = front.names.get(name)?;
     Some(places)
+}
+
+/// Looks for the attributes of a tree with a name, where all its rows are kept.
+pub(crate) fn find_values_in(alloc: Global, fronts: &mut Vec<Front>, tree: usize, name: &str)
+    ensures { (trees : List Tree) → AreFronts trees fronts.old.items
+        → AreFronts trees fronts.new.items }
+{
+    let Some(front) = fronts.get_mut(tree) else {
+        return;
+    };
+    front.find_values(alloc, name);
+}
+
+/// The places of all attributes of a tree with a name and a value, where those with the name were
+/// found.
+pub(crate) fn valued_in<'a>(
+    shelf: &'a Shelf,
+    tree: usize,
+    name: &str,
+    value: &str,
+) -> Option<&'a [u32]>
+    ensures { (trees : List Tree) → AreFronts trees shelf.now.fronts.items
+        → IfSome result (λ places.
+        places.now ≡ valued (rows (tree_at trees tree)) name.now value.now) }
+{
+    let front = shelf.fronts.get(tree)?;
+    let places = front.values.get(name)?;
+    if !are_whole(&front.lent()) {
+        return None;
+    }
+    Some(places.with_value(&front.rows, value))
 }
 
 /// The rows of a run that are kept.

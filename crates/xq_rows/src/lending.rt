@@ -1,6 +1,8 @@
 //! What a view lends: rows that are kept in memory, read on where they are wanted.
 
-use crate::fronts::{NO_ROWS, Run, find_in_front, kept_run, named_in, parent_of, read_on};
+use crate::fronts::{
+    NO_ROWS, Run, find_in_front, find_values_in, kept_run, named_in, parent_of, read_on, valued_in,
+};
 use crate::shelves::front_of;
 use crate::views::{Origin, View};
 use sqlite::Alter;
@@ -49,6 +51,14 @@ impl<S: Alter, O: Origin> RowLender for View<S, O> {
 
     fn named(&self, tree: usize, name: &str) -> Option<&[u32]> {
         named_in(&self.shelf, tree, name)
+    }
+
+    fn find_values(&mut self, alloc: Global, tree: usize, name: &str) {
+        find_values_in(alloc, &mut self.shelf.fronts, tree, name);
+    }
+
+    fn valued(&self, tree: usize, name: &str, value: &str) -> Option<&[u32]> {
+        valued_in(&self.shelf, tree, name, value)
     }
 
     fn lent(&self) -> LentRows<'_> {

@@ -12,7 +12,7 @@ use std::rc::Rc;
 use xq_atoms::Want;
 use xq_packed::PackedRows;
 use xq_packed_trees::PackedTree;
-use xq_sources::{Addresses, Guide, LentRows, Names, find_named};
+use xq_sources::{Addresses, Guide, LentRows, Names, Values, find_named, find_values};
 
 /// What is kept of a document: its first rows, and what was found among them.
 #[derive(Drop)]
@@ -23,6 +23,9 @@ pub(crate) struct Front {
     /// The places of its elements by their names, of names that were looked for while all rows were
     /// here.
     pub names: Names,
+    /// The places of its attributes in the order of their values, of names that were looked for
+    /// while all rows were here.
+    pub values: Values,
     /// When they were wanted last, by the clock of the shelf.
     pub wanted: u64,
 }
@@ -50,6 +53,7 @@ impl Front {
             rows: PackedRows::new(alloc),
             guide: Guide::new(alloc),
             names: HashMap::new(alloc),
+            values: HashMap::new(alloc),
             wanted: 0,
         }
     }
@@ -65,6 +69,7 @@ impl Front {
             rows,
             guide,
             names: HashMap::new(alloc),
+            values: HashMap::new(alloc),
             wanted,
         }
     }
@@ -86,6 +91,16 @@ impl Front {
             find_named(alloc, &mut self.names, &rows, name);
         }
     }
+
+    /// The same of the attributes with the name.
+    pub fn find_values(&mut self, alloc: Global, name: &str)
+        ensures { (t : Tree) → IsFrontOf t self.old → IsFrontOf t self.new }
+    {
+        if !are_whole(&all_of(&self.rows)) {
+            return;
+        }
+        find_values(alloc, &mut self.values, &self.rows, name);
+    }
 }
 
 /// Packed rows, lent.
@@ -96,7 +111,7 @@ pub(crate) fn all_of(rows: &PackedRows) -> LentRows<'_>
 }
 
 /// Whether the first rows of a document are all that it has.
-fn are_whole(rows: &LentRows<'_>) -> bool
+pub(crate) fn are_whole(rows: &LentRows<'_>) -> bool
     ensures { IsTrue result → (t : Tree) → IsFront t rows.now → rows.now ≡ placed_rows t }
 {
     let Some(root) = rows.get(0) else {

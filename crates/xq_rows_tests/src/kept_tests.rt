@@ -4,7 +4,7 @@
 
 use crate::adopt_tests::ORDERS;
 use crate::calls::Call;
-use crate::documents::{EMPTY, LIBRARY, TURNED};
+use crate::documents::{EMPTY, LIBRARY, RENUMBERED, TURNED};
 use crate::loans::Look;
 use crate::stores::{adopted, in_memory, made, on_disks};
 use crate::views::{Step, Task, wrong_step};
@@ -120,8 +120,56 @@ const NAMES: [Step; 4] = [
     (&[], Task::Names(&[(1, Look::Told("lib", Some(&[2, 3])))])),
 ];
 
+/// The places of a value are told once its name was looked for among all rows, where there are
+/// some: also in later views, and until another document is put.
+const VALUES: [Step; 4] = [
+    (
+        &[Call::Put("b", LIBRARY, Put::Stored)],
+        Task::Names(&[
+            (0, Look::FindValues("id")),
+            (0, Look::Valued("id", "1", None)),
+            (0, Look::Read),
+            (0, Look::Valued("id", "1", None)),
+            (0, Look::FindValues("id")),
+            (0, Look::Valued("id", "1", Some(&[3]))),
+            (0, Look::Valued("id", "2", Some(&[6]))),
+            (0, Look::Valued("id", "3", Some(&[]))),
+            (0, Look::Valued("id", "", Some(&[]))),
+            (0, Look::FindValues("book")),
+            (0, Look::Valued("book", "", None)),
+            (0, Look::FindValues("shelf")),
+            (0, Look::Valued("shelf", "1", None)),
+            (1, Look::FindValues("id")),
+            (1, Look::Valued("id", "1", None)),
+        ]),
+    ),
+    (
+        &[Call::Put("B", EMPTY, Put::Stored)],
+        Task::Names(&[
+            (1, Look::Valued("id", "2", Some(&[6]))),
+            (0, Look::Read),
+            (0, Look::FindValues("id")),
+            (0, Look::Valued("id", "2", None)),
+        ]),
+    ),
+    (
+        &[Call::Put("b", RENUMBERED, Put::Replaced)],
+        Task::Names(&[
+            (1, Look::Valued("id", "2", None)),
+            (1, Look::Read),
+            (1, Look::FindValues("id")),
+            (1, Look::Valued("id", "1", Some(&[]))),
+            (1, Look::Valued("id", "2", Some(&[2, 4]))),
+        ]),
+    ),
+    (
+        &[],
+        Task::Names(&[(1, Look::Valued("id", "2", Some(&[2, 4])))]),
+    ),
+];
+
 /// The steps, each list for a new store.
-const LISTS: [&[Step]; 4] = [&STEPS, &BOTH, &TABLES, &NAMES];
+const LISTS: [&[Step]; 5] = [&STEPS, &BOTH, &TABLES, &NAMES, &VALUES];
 
 #[test]
 fn views_in_memory(rt: HostRuntime) -> Result<(), Want> {

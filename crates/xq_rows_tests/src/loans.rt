@@ -1,5 +1,5 @@
 //! What a lender lends of documents that are known: each of their rows, in their order, and the
-//! places of names.
+//! places of names and of values.
 
 use crate::documents::Document;
 use std::alloc::Global;
@@ -9,7 +9,8 @@ use xq_sources::{LentRows, RowLender};
 /// A document of comments: how many rows it has, and the text of each comment.
 pub type Comments = (u32, &'static str);
 
-/// What is done with a document, or told of the elements with a name.
+/// What is done with a document, or told of the elements with a name or the attributes with a
+/// value.
 #[derive(Clone, Copy)]
 pub enum Look {
     /// Its first rows are lent.
@@ -20,6 +21,10 @@ pub enum Look {
     Find(&'static str),
     /// Their places are these, or are not told.
     Told(&'static str, Option<&'static [u32]>),
+    /// The attributes with the name are looked for.
+    FindValues(&'static str),
+    /// The places of those with the name and the value are these, or are not told.
+    Valued(&'static str, &'static str, Option<&'static [u32]>),
 }
 
 /// Has the lender lend rows. It has no clause, so that who calls it carries none of the trait.
@@ -32,14 +37,9 @@ fn fetch<L: RowLender>(
     lender.fetch(alloc, tree, low, high)
 }
 
-/// Whether the places of the name are these, or are not told.
-fn is_told<L: RowLender>(
-    lender: &L,
-    tree: usize,
-    name: &str,
-    wanted: Option<&'static [u32]>,
-) -> bool {
-    match (lender.named(tree, name), wanted) {
+/// Whether the places are these, or are not told.
+fn are_these(told: Option<&[u32]>, wanted: Option<&'static [u32]>) -> bool {
+    match (told, wanted) {
         (Some(places), Some(wanted)) => places == wanted,
         (None, None) => true,
         _ => false,
@@ -57,7 +57,11 @@ fn is_seen<L: RowLender>(
         Look::Begin => fetch(alloc, lender, tree, (0, u32::MAX))?,
         Look::Read => fetch(alloc, lender, tree, (u32::MAX, u32::MAX))?,
         Look::Find(name) => lender.find_named(alloc, tree, name),
-        Look::Told(name, places) => return Ok(is_told(lender, tree, name, places)),
+        Look::Told(name, places) => return Ok(are_these(lender.named(tree, name), places)),
+        Look::FindValues(name) => lender.find_values(alloc, tree, name),
+        Look::Valued(name, value, places) => {
+            return Ok(are_these(lender.valued(tree, name, value), places));
+        }
     }
     Ok(true)
 }

@@ -1,5 +1,6 @@
 //! The trees of a source and those that are constructed after them, read through each trait; packed
-//! rows as they are lent, and the places of elements by their names.
+//! rows as they are lent, and the places of elements by their names and of attributes by their
+//! values.
 
 use std::alloc::Global;
 use std::collections::HashMap;
@@ -9,7 +10,8 @@ use xq_packed_trees::PackedTree;
 use xq_regions::Kind;
 use xq_samples::documents::{Row, are_rows, held, rows_of, tree_of};
 use xq_sources::{
-    Buffered, Fragments, Growing, LentRows, Names, RowLender, RowSource, Trees, find_named,
+    Buffered, Fragments, Growing, LentRows, Names, RowLender, RowSource, Trees, Values, find_named,
+    find_values,
 };
 
 /// An element of the source, with a text.
@@ -194,6 +196,62 @@ fn names_are_found(rt: HostRuntime) -> Result<(), Want> {
     }
     assert_eq!(rt; names.len(), 1);
     assert!(rt; matches!(names.get("stored"), Some(places) if places.as_slice() == [0].as_slice()));
+    Ok(())
+}
+
+/// An element with attributes, and another with some of the same values.
+const VALUED: [Row; 8] = [
+    (0, 7, 0, Kind::Element, "id", "x"),
+    (1, 0, 1, Kind::Attribute, "id", "x"),
+    (2, 0, 1, Kind::Attribute, "of", "b"),
+    (3, 1, 1, Kind::Element, "id", ""),
+    (4, 0, 2, Kind::Attribute, "id", "b"),
+    (5, 1, 1, Kind::Element, "id", ""),
+    (6, 0, 2, Kind::Attribute, "id", "x"),
+    (7, 0, 1, Kind::Text, "", "x"),
+];
+
+/// Names and values, and the places of the attributes that have both, where the name is kept.
+const PLACES: [(&str, &str, Option<&[u32]>); 7] = [
+    ("id", "x", Some(&[1, 6])),
+    ("id", "b", Some(&[4])),
+    ("id", "", Some(&[])),
+    ("id", "xx", Some(&[])),
+    ("of", "b", Some(&[2])),
+    ("of", "x", Some(&[])),
+    ("no", "x", None),
+];
+
+/// Places are kept of names that were looked for and that attributes have, and of no others.
+#[test]
+fn values_are_found(rt: HostRuntime) -> Result<(), Want> {
+    let mut values: Values = HashMap::new(rt.alloc());
+    let mut rows = PackedRows::new(rt.alloc());
+    rows.extend(&rows_of(rt.alloc(), &VALUED)?)?;
+    for name in ["id", "id", "of", "no", "", "x"] {
+        find_values(rt.alloc(), &mut values, &rows, name);
+    }
+    assert_eq!(rt; values.len(), 2);
+    for (name, value, wanted) in &PLACES {
+        let told = values
+            .get(*name)
+            .map(|places| places.with_value(&rows, value));
+        assert!(rt; told == *wanted, "{name} {value}");
+    }
+    Ok(())
+}
+
+/// Trees over a source without places tell none, of the source's trees or of those that are
+/// constructed.
+#[test]
+fn trees_tell_no_values(rt: HostRuntime) -> Result<(), Want> {
+    let source = Buffered::new(rt.alloc(), stored(rt.alloc())?);
+    let mut trees = Trees::new(rt.alloc(), source);
+    construct(rt.alloc(), &mut trees)?;
+    for tree in 0..3 {
+        trees.find_values(rt.alloc(), tree, "id");
+        assert!(rt; trees.valued(tree, "id", "x").is_none(), "{tree}");
+    }
     Ok(())
 }
 

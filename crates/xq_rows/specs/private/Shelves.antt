@@ -3,11 +3,12 @@ use Rattle.std.specs.Prelude.{◌≡◌, ◌<◌, ◌≤◌, ◌+◌, ◌-◌, �
 use Rattle.std.specs.FinMap.{get}
 use Rattle.sqlite_trees.specs.declared.store.Store.{Ghosts}
 use Rattle.xq_regions.specs.Tree.{Tree}
-use Rattle.xq_regions.specs.Rows.{Row, placed_rows}
+use Rattle.xq_regions.specs.Rows.{Row, placed_rows, rows as rows_of}
 use Rattle.xq_rows.specs.declared.shelves.Front.{Front}
 use Rattle.xq_rows.specs.declared.shelves.Shelf.{Shelf}
 use Rattle.xq_sources.specs.Addresses.{IsGap}
 use Rattle.xq_sources.specs.Names.{AreNames}
+use Rattle.xq_sources.specs.Values.{AreValues}
 use Rattle.std.specs.List.{enumerate_from, insert, remove, slice_set as set}
 use Rattle.xq_sources.specs.Sources.{tree_at}
 use Rattle.sqlite.specs.Held.{state}
@@ -27,11 +28,12 @@ Reaches t place rows = (place < length rows) ⊎ (length (placed_rows t) ≤ len
 abbrev pub kept_rows : Front → List (ℕ × Row)
 kept_rows front = enumerate_from 0 front.rows.rows
 
--- what is kept of a tree are its first rows, and all places of elements by their names, of some
--- names
+-- what is kept of a tree are its first rows, all places of elements by their names, of some names,
+-- and all places of attributes by their names and in the order of their values, of some names
 pub record IsFrontOf (t : Tree) (front : Front) : Type 0 where
   pub rows : IsFront t (kept_rows front)
   pub names : AreNames (placed_rows t) front.names
+  pub values : AreValues (rows_of t) front.values
 
 -- each is what is kept of its tree
 abbrev pub AreFronts : List Tree → List Front → Type 0

@@ -6,4 +6,5 @@ pub returns : goal.returns
 returns c = record {
   rows = packed_front c.args.document c.into_rows-rows.result c.into_rows-rows.ensures;
   names = search rules;
+  values = search rules;
 }
