@@ -412,8 +412,8 @@ impl<'a, F: Fn(Global, usize, &'a [Token]) -> Result<(Boxed<Expr>, &'a [Token]),
         self.with_ors(first, rest)
     }
 
-    /// Operands with operators between them, from disjunctions down. Most expressions are an operand
-    /// alone, and no operator is looked for behind one where a token stands that ends it.
+    /// Operands with operators between them, from disjunctions down. Most expressions are an
+    /// operand alone: behind one no operator is looked for where a token stands that ends it.
     pub(crate) fn disjunction(
         &self,
         tokens: &'a [Token],
@@ -429,8 +429,8 @@ impl<'a, F: Fn(Global, usize, &'a [Token]) -> Result<(Boxed<Expr>, &'a [Token]),
         self.operators(operand, rest)
     }
 
-    /// The same, where a constructor comes first: it is read without a look for what else an operand
-    /// may begin with.
+    /// The same, where a constructor comes first: it is read without a look for what else an
+    /// operand may begin with.
     pub(crate) fn constructed(
         &self,
         tokens: &'a [Token],
