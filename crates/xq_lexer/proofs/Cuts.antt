@@ -37,6 +37,9 @@ begins_at p written place cs run after h s =
     let w = (run_parts p cs run after h).whole in
     (encode_utf8_all after, s ∙ ap encode_utf8_all (sym w) ∙ encodes-append run after)
 
+pub front_at : (written : Text) (place : ℕ) (cs : Text) (n : ℕ) → SpelledAt written place cs → BeginsAt written place (take n cs)
+front_at written place cs n s = (encode_utf8_all (drop n cs), s ∙ ap encode_utf8_all (sym (take-append-drop n cs)) ∙ encodes-append (take n cs) (drop n cs))
+
 pub run_short : (p : ℕ → Bool) (cs run after : Text) → ◌≡◌ {A = Text × Text} (run, after) (span p cs) → bytes run ≤ bytes cs
 run_short p cs run after h =
     let e = ap bytes (run_parts p cs run after h).whole in

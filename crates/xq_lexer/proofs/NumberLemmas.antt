@@ -1,5 +1,5 @@
 -- A number's literal, what it stands for, and its fault.
-use Rattle.std.proofs.Common.{◌≡◌, ℕ, ◌+◌, ◌-◌, ◌<◌, ◌≤◌, ℤ, pos, Bool, true, false, cond, [], ◌∷◌, ◌++◌, length, take, drop, Some, None, Result, Ok, Err, refl, sym, ap, ◌∙◌, arith, append_assoc, encode_utf8_all}
+use Rattle.std.proofs.Common.{◌≡◌, ℕ, ◌+◌, ◌-◌, ◌<◌, ◌≤◌, ℤ, pos, Bool, true, false, cond, [], ◌∷◌, ◌++◌, length, take, drop, Some, None, Result, Ok, Err, refl, sym, ap, ap₂, ◌∙◌, arith, append_assoc, encode_utf8_all}
 use Rattle.std.specs.Prelude.{IsTrue, nat_lt}
 use Rattle.std.specs.Bool.{OnTrue, OnFalse}
 use Rattle.std.specs.List.{list_all, position_or_len}
@@ -9,6 +9,9 @@ use Rattle.std.proofs.lemmas.Bool.Decides.{nat_tests}
 use Rattle.std.proofs.lemmas.Bool.{and_parts}
 use Rattle.xq_atoms.specs.declared.refusals.Code.{Code}
 use Rattle.xq_atoms.specs.declared.refusals.Code.TheVariants.{ProfDigits, FOAR0002}
+use Rattle.xq_atoms.specs.declared.refusals.Fault.{Fault}
+use Rattle.xq_atoms.specs.declared.refusals.Fault.TheVariants.{Code as OfCode, Want as OfWant}
+use Rattle.xq_atoms.specs.Answers.{IsRefusal}
 use Rattle.xq_atoms.specs.Text.{is_whole}
 use Rattle.xq_atoms.specs.Judged.{only_if}
 use Rattle.xq_atoms.specs.Decimal as d
@@ -135,3 +138,8 @@ stands_for (decimal w f) rest e = rw e (decimal_at w f rest (decimal_literal (w 
 pub refused : (n : Number) (rest : Text) (c : Code) → follow_fault rest ≡ Some c → lexed (judged (n, rest)) ≡ Err c
 unfolding judged
 refused n rest c e = rw e refl
+
+-- the fault of a value is that of the number
+pub refused_with : (n : Number) (rest : Text) (b : Bool) (t : Text) (f : Fault) → follow_fault rest ≡ None → b ≡ is_decimal n → t ≡ number_text n → IsRefusal (valued_lex b t) f → IsRefusal (lexed (judged (n, rest))) f
+refused_with n rest b t (OfCode c) e point same h = stands_for n rest e ∙ ap (with_rest rest) (ap₂ valued_lex (sym point) (sym same) ∙ h)
+refused_with n rest b t (OfWant w) e point same h = h

@@ -20,7 +20,7 @@ use crate::separators::skip;
 use crate::strings::string;
 use crate::symbols::{double_symbol, single_symbol};
 use crate::tokens::{Lexeme, Token};
-use std::alloc::Global;
+use std::alloc::{AllocError, Global};
 use xq_atoms::{Code, Fault, is_name_start};
 
 /// The tokens that the text spells, with their places in bytes (XQuery 3.1, appendix A.2). Else
@@ -45,6 +45,30 @@ fn chars(alloc: Global, text: &str) -> Result<Vec<char>, Fault>
     ensures want { IfErr result (λ fault. fault ≡ FaultWant WantMemory) }
 {
     // A text's length is a `usize`, so the places of its tokens are.
+    let _bytes = text.len();
+    let chars = if text.is_ascii() {
+        narrow_chars(alloc, text.as_bytes())?
+    } else {
+        wide_chars(alloc, text)?
+    };
+    Ok(chars)
+}
+
+/// The characters that the bytes are, one by one.
+fn narrow_chars(alloc: Global, written: &[u8]) -> Result<Vec<char>, AllocError>
+    ensures { IfOk result (λ chars. chars.items ≡ written.now) }
+{
+    let mut chars = Vec::with_capacity(alloc, written.len())?;
+    for byte in written {
+        chars.push_reserved(char::from(*byte));
+    }
+    Ok(chars)
+}
+
+/// The characters of any text.
+fn wide_chars(alloc: Global, text: &str) -> Result<Vec<char>, AllocError>
+    ensures { IfOk result (λ chars. chars.items ≡ chars_of text.now) }
+{
     let mut chars = Vec::with_capacity(alloc, text.len())?;
     chars.extend(text.chars())?;
     Ok(chars)
@@ -118,7 +142,7 @@ fn token<'a>(
             if is_name_start(*c) {
                 name(alloc, text, place, chars)
             } else if begins_number(chars) {
-                number(alloc, chars)
+                number(alloc, text, place, chars)
             } else if is_quote(*c) {
                 string(alloc, text, place, *c, rest)
             } else {

@@ -1,17 +1,19 @@
 //! Number literals.
-ghost use Rattle.std.specs.Prelude.{◌≡◌, true, IsTrue};
+ghost use Rattle.std.specs.Prelude.{◌≡◌, ◌+◌, ◌<◌, ◌^◌, true, IsTrue};
+ghost use Rattle.std.specs.Str.{encode_utf8_all};
 ghost use Rattle.std.specs.Bool.{OnTrue, OnFalse};
 ghost use Rattle.xq_atoms.specs.Literal.{is_number};
 ghost use Rattle.xq_atoms.specs.Text.{is_whole};
 ghost use Rattle.xq_atoms.specs.Characters.{is_digit as is_digit_lem};
 ghost use Rattle.xq_atoms.specs.Answers.{Gives};
-ghost use Rattle.xq_lexer.specs.private.Lexes.{GivesAlways, lexed, pointed, valued_lex};
+ghost use Rattle.xq_lexer.specs.private.Lexes.{BeginsAt, GivesAlways, SpelledAt, lexed, pointed, valued_lex};
 ghost use Rattle.xq_lexer.specs.Lexeme.{lex_of};
 ghost use Rattle.xq_lexer.specs.Literals as lit;
 ghost use Rattle.xq_lexer.specs.Chars as chars_spec;
 ghost use Rattle.xq_lexer.specs.Reading as spec;
+ghost use Rattle.xq_lexer.specs.Spelling.{bytes as bytes_of};
 
-use crate::runs::{Class, run, text};
+use crate::runs::{Class, piece, run, text};
 use crate::tokens::Lexeme;
 use std::alloc::Global;
 use xq_atoms::{Code, Fault, dec_literal, int_literal, is_digit, is_name_start};
@@ -28,8 +30,15 @@ pub fn begins_number(chars: &[char]) -> bool
 
 /// The number at the front and what is left: prof:DOUBLE before an exponent, XPST0003 before what
 /// may not follow a number, then prof:DIGITS and FOAR0002 by its value.
-pub fn number<'a>(alloc: Global, chars: &'a [char]) -> Result<(Lexeme, &'a [char]), Fault>
-    requires { spec.begins_number chars.now ≡ true }
+pub fn number<'a>(
+    alloc: Global,
+    written: &str,
+    place: usize,
+    chars: &'a [char],
+) -> Result<(Lexeme, &'a [char]), Fault>
+    requires begun { spec.begins_number chars.now ≡ true }
+    requires short { place + bytes_of chars.now < 2 ^ 64 }
+    requires spelled { SpelledAt written.now place chars.now }
     ensures { Gives (λ x. (lex_of x.0, x.1.now))
         (lexed (spec.judged (spec.read_number chars.now))) result }
 {
@@ -37,8 +46,31 @@ pub fn number<'a>(alloc: Global, chars: &'a [char]) -> Result<(Lexeme, &'a [char
     if let Some(code) = follow_fault(rest) {
         return Err(Fault::Code(code));
     }
-    let literal = text(alloc, &chars[..chars.len() - rest.len()])?;
-    Ok((valued(has_point, literal.as_str())?, rest))
+    let literal = &chars[..chars.len() - rest.len()];
+    Ok((read(alloc, written, place, has_point, literal)?, rest))
+}
+
+/// What the characters of a literal stand for, which is read where it is written.
+fn read(
+    alloc: Global,
+    written: &str,
+    place: usize,
+    has_point: bool,
+    literal: &[char],
+) -> Result<Lexeme, Fault>
+    requires short { bytes_of literal.now < 2 ^ 64 }
+    requires spelled { BeginsAt written.now place literal.now }
+    requires whole { OnFalse has_point (IsTrue (is_whole (encode_utf8_all literal.now))) }
+    requires number { OnTrue has_point (IsTrue (is_number (encode_utf8_all literal.now))) }
+    ensures { Gives lex_of (valued_lex has_point (encode_utf8_all literal.now)) result }
+{
+    match piece(written, place, literal) {
+        Some(piece) => Ok(valued(has_point, piece)?),
+        None => {
+            let copy = text(alloc, literal)?;
+            Ok(valued(has_point, copy.as_str())?)
+        }
+    }
 }
 
 /// Whether a point stands among the digits at the front, and what is left behind them.

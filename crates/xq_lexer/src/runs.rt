@@ -1,7 +1,7 @@
 //! Runs of characters of one class, and their bytes.
-ghost use Rattle.std.specs.Prelude.{◌≡◌, ◌+◌, ◌++◌, length, take, drop, IfOk, IfSome, OnOk, string_bytes, ◌<◌, ◌^◌};
+ghost use Rattle.std.specs.Prelude.{◌≡◌, ◌+◌, ◌++◌, length, IfOk, IfSome, OnOk, string_bytes, ◌<◌, ◌^◌};
 ghost use Rattle.std.specs.Str.{encode_utf8_all};
-ghost use Rattle.xq_atoms.specs.Characters.{is_name_char as is_name_char_lem};
+ghost use Rattle.xq_atoms.specs.Characters.{is_char as is_char_lem, is_name_char as is_name_char_lem};
 ghost use Rattle.xq_lexer.specs.private.Lexes.{BeginsAt, test};
 ghost use Rattle.xq_lexer.specs.Reading.{span};
 ghost use Rattle.xq_lexer.specs.Spelling.{bytes as bytes_of};
@@ -29,9 +29,17 @@ impl Class {
             Class::Name => is_in_name(c),
             Class::Digit => is_digit(c),
             Class::HexDigit => is_hex(c),
-            Class::Plain(quote) => c != quote && c != '&' && is_char(c),
+            Class::Plain(quote) => c != quote && c != '&' && is_written(c),
         }
     }
+}
+
+/// Whether the character may stand in a query. Most are letters, of which one look tells.
+#[tactic(auto, unfolding(xq_atoms::specs::Characters::is_char))]
+fn is_written(c: char) -> bool
+    ensures { result ≡ is_char_lem c }
+{
+    matches!(c, ' '..='\u{D7FF}') || is_char(c)
 }
 
 /// Whether the character may stand in a name. Most are small letters, of which one look tells.
@@ -55,28 +63,25 @@ pub fn run(class: Class, chars: &[char]) -> (&[char], &[char])
 }
 
 /// The characters as a text, which is cut out of what is written: it spells them there.
-pub fn cut(
-    alloc: Global,
-    written: &str,
-    place: usize,
-    chars: &[char],
-) -> Result<String, AllocError>
+pub fn cut(alloc: Global, written: &str, place: usize, chars: &[char]) -> Result<String, AllocError>
     requires short { bytes_of chars.now < 2 ^ 64 }
     requires spelled { BeginsAt written.now place chars.now }
     ensures { IfOk result (λ text. string_bytes text ≡ encode_utf8_all chars.now) }
 {
-    match piece(written, place, bytes(chars)) {
+    match piece(written, place, chars) {
         Some(piece) => String::from_str(alloc, piece),
         None => text(alloc, chars),
     }
 }
 
-/// So many bytes from a place on, where a text may be cut there.
-fn piece(written: &str, place: usize, length: usize) -> Option<&str>
-    ensures { IfSome result (λ piece. piece.now ≡ take length (drop place written.now)) }
+/// What spells the characters from a place on, if what is written may be cut there.
+pub fn piece<'a>(written: &'a str, place: usize, chars: &[char]) -> Option<&'a str>
+    requires short { bytes_of chars.now < 2 ^ 64 }
+    requires spelled { BeginsAt written.now place chars.now }
+    ensures { IfSome result (λ piece. piece.now ≡ encode_utf8_all chars.now) }
 {
     let (_before, rest) = written.split_at_checked(place)?;
-    let (piece, _after) = rest.split_at_checked(length)?;
+    let (piece, _after) = rest.split_at_checked(bytes(chars))?;
     Some(piece)
 }
 

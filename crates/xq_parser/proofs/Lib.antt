@@ -15,5 +15,6 @@ pub mod PrimaryLines
 pub mod OperatorLines
 pub mod ClauseLines
 pub mod Begins
+pub mod Behind
 pub mod Top
 pub mod Worked

@@ -4,7 +4,7 @@ ghost use Rattle.xq_lexer.specs.Lexeme.{lexemes, name as name_lex, symbol as sym
 ghost use Rattle.xq_parser.specs.Look as look;
 ghost use Rattle.xq_parser.specs.Grammar as g;
 ghost use Rattle.xq_parser.specs.private.Reading as spec;
-ghost use Rattle.xq_parser.specs.private.Alone.{stands_alone};
+ghost use Rattle.xq_parser.specs.private.Alone.{begins_end, ends as ends_lem, stands_alone};
 ghost use Rattle.xq_parser.specs.private.Parses.{ParsesAs, Parses};
 
 use crate::words::{
@@ -374,7 +374,7 @@ fn is_constructor(word: &str, tokens: &[Token]) -> bool
 
 /// Whether the next tokens begin a constructor.
 #[tactic(auto, unfolding(crate::specs::private::Reading::begins_make))]
-fn begins_constructor(tokens: &[Token]) -> bool
+pub(crate) fn begins_constructor(tokens: &[Token]) -> bool
     ensures { result ≡ spec.begins_make (lexemes tokens.now) }
 {
     match tokens {
@@ -438,6 +438,33 @@ pub(crate) fn is_alone(tokens: &[Token]) -> bool
         ] => true,
         _ => false,
     }
+}
+
+/// Whether the next token ends an expression.
+#[tactic(auto, unfolding(crate::specs::private::Alone::begins_end))]
+pub(crate) fn ends_expression(tokens: &[Token]) -> bool
+    ensures { result ≡ begins_end (lexemes tokens.now) }
+{
+    match tokens {
+        [
+            Token {
+                lexeme: Lexeme::Sym(symbol),
+                ..
+            },
+            ..
+        ] => ends(*symbol),
+        _ => false,
+    }
+}
+
+/// Whether no expression goes on with the symbol.
+fn ends(symbol: Symbol) -> bool
+    ensures { result ≡ ends_lem (symbol_lex symbol) }
+{
+    matches!(
+        symbol,
+        Symbol::Comma | Symbol::CloseParenthesis | Symbol::CloseBracket | Symbol::CloseBrace
+    )
 }
 
 /// Whether the next tokens begin a primary expression.

@@ -1,13 +1,17 @@
 //! Operators, from maps to disjunctions (XQuery 3.1, sections 3.4 to 3.8, 3.19 and 3.20).
+ghost use Rattle.std.specs.Prelude.{◌≡◌, true};
 ghost use Rattle.xq_lexer.specs.Lexeme.{lexemes, symbol as symbol_lex};
 ghost use Rattle.xq_lexer.specs.declared.tokens.Symbol.TheVariants as s;
 ghost use Rattle.xq_parser.specs.Look as look;
 ghost use Rattle.xq_parser.specs.Grammar as g;
+ghost use Rattle.xq_parser.specs.private.Behind as behind;
 ghost use Rattle.xq_parser.specs.private.Reading as spec;
 ghost use Rattle.xq_parser.specs.private.Parses.{Nests, Parses};
 
 use crate::lists::{Repeated, many};
-use crate::lookahead::{begins_union, expect_symbol, expect_word, is_symbol, is_word};
+use crate::lookahead::{
+    begins_union, ends_expression, expect_symbol, expect_word, is_symbol, is_word,
+};
 use crate::primaries::Grammar;
 use crate::values::{
     arrow, compared, concatenation, conjunction, disjunction, product, ranged, set_operation,
@@ -31,6 +35,20 @@ impl<'a, F: Fn(Global, usize, &'a [Token]) -> Result<(Boxed<Expr>, &'a [Token]),
             (spec.simple_map (spec.single self.now.depth) (lexemes tokens.now)) }
     {
         let (first, rest) = self.path(tokens)?;
+        self.with_maps(first, rest)
+    }
+
+    /// A path, and what stands after each `!` behind it.
+    #[inline(always)]
+    fn with_maps(
+        &self,
+        first: Boxed<Expr>,
+        rest: &'a [Token],
+    ) -> Result<(Boxed<Expr>, &'a [Token]), Fault>
+        requires { Nests self.now.depth (F.pre self.now.single) (F.post self.now.single) }
+        ensures { Parses result
+            (behind.with_maps (spec.single self.now.depth) first (lexemes rest.now)) }
+    {
         let (more, rest) = many(self.alloc, &MapItem(self), rest)?;
         Ok((simple_map(self.alloc, first, more)?, rest))
     }
@@ -53,6 +71,20 @@ impl<'a, F: Fn(Global, usize, &'a [Token]) -> Result<(Boxed<Expr>, &'a [Token]),
         ensures { Parses result (spec.arrow (spec.single self.now.depth) (lexemes tokens.now)) }
     {
         let (first, rest) = self.unary(tokens)?;
+        self.with_calls(first, rest)
+    }
+
+    /// An operand, and the calls after each `=>` behind it.
+    #[inline(always)]
+    fn with_calls(
+        &self,
+        first: Boxed<Expr>,
+        rest: &'a [Token],
+    ) -> Result<(Boxed<Expr>, &'a [Token]), Fault>
+        requires { Nests self.now.depth (F.pre self.now.single) (F.post self.now.single) }
+        ensures { Parses result
+            (behind.with_calls (spec.single self.now.depth) first (lexemes rest.now)) }
+    {
         let (calls, rest) = many(self.alloc, &ArrowItem(self), rest)?;
         Ok((arrow(self.alloc, first, calls)?, rest))
     }
@@ -64,6 +96,20 @@ impl<'a, F: Fn(Global, usize, &'a [Token]) -> Result<(Boxed<Expr>, &'a [Token]),
         ensures { Parses result (spec.inter (spec.single self.now.depth) (lexemes tokens.now)) }
     {
         let (first, rest) = self.arrow(tokens)?;
+        self.with_sets(first, rest)
+    }
+
+    /// An operand, and those of intersections and differences behind it.
+    #[inline(always)]
+    fn with_sets(
+        &self,
+        first: Boxed<Expr>,
+        rest: &'a [Token],
+    ) -> Result<(Boxed<Expr>, &'a [Token]), Fault>
+        requires { Nests self.now.depth (F.pre self.now.single) (F.post self.now.single) }
+        ensures { Parses result
+            (behind.with_sets (spec.single self.now.depth) first (lexemes rest.now)) }
+    {
         let (more, rest) = many(self.alloc, &SetItem(self), rest)?;
         Ok((set_operation(self.alloc, first, more)?, rest))
     }
@@ -75,6 +121,20 @@ impl<'a, F: Fn(Global, usize, &'a [Token]) -> Result<(Boxed<Expr>, &'a [Token]),
         ensures { Parses result (spec.union (spec.single self.now.depth) (lexemes tokens.now)) }
     {
         let (first, rest) = self.intersection(tokens)?;
+        self.with_unions(first, rest)
+    }
+
+    /// An operand, and those of unions behind it.
+    #[inline(always)]
+    fn with_unions(
+        &self,
+        first: Boxed<Expr>,
+        rest: &'a [Token],
+    ) -> Result<(Boxed<Expr>, &'a [Token]), Fault>
+        requires { Nests self.now.depth (F.pre self.now.single) (F.post self.now.single) }
+        ensures { Parses result
+            (behind.with_unions (spec.single self.now.depth) first (lexemes rest.now)) }
+    {
         let (more, rest) = many(self.alloc, &UnionItem(self), rest)?;
         Ok((united(self.alloc, first, more)?, rest))
     }
@@ -86,6 +146,20 @@ impl<'a, F: Fn(Global, usize, &'a [Token]) -> Result<(Boxed<Expr>, &'a [Token]),
         ensures { Parses result (spec.product (spec.single self.now.depth) (lexemes tokens.now)) }
     {
         let (first, rest) = self.unions(tokens)?;
+        self.with_factors(first, rest)
+    }
+
+    /// A factor, and those behind it.
+    #[inline(always)]
+    fn with_factors(
+        &self,
+        first: Boxed<Expr>,
+        rest: &'a [Token],
+    ) -> Result<(Boxed<Expr>, &'a [Token]), Fault>
+        requires { Nests self.now.depth (F.pre self.now.single) (F.post self.now.single) }
+        ensures { Parses result
+            (behind.with_factors (spec.single self.now.depth) first (lexemes rest.now)) }
+    {
         let (more, rest) = many(self.alloc, &ProductItem(self), rest)?;
         Ok((product(self.alloc, first, more)?, rest))
     }
@@ -97,6 +171,20 @@ impl<'a, F: Fn(Global, usize, &'a [Token]) -> Result<(Boxed<Expr>, &'a [Token]),
         ensures { Parses result (spec.sum (spec.single self.now.depth) (lexemes tokens.now)) }
     {
         let (first, rest) = self.product(tokens)?;
+        self.with_terms(first, rest)
+    }
+
+    /// A term, and those behind it.
+    #[inline(always)]
+    fn with_terms(
+        &self,
+        first: Boxed<Expr>,
+        rest: &'a [Token],
+    ) -> Result<(Boxed<Expr>, &'a [Token]), Fault>
+        requires { Nests self.now.depth (F.pre self.now.single) (F.post self.now.single) }
+        ensures { Parses result
+            (behind.with_terms (spec.single self.now.depth) first (lexemes rest.now)) }
+    {
         let (more, rest) = many(self.alloc, &SumItem(self), rest)?;
         Ok((sum(self.alloc, first, more)?, rest))
     }
@@ -132,6 +220,20 @@ impl<'a, F: Fn(Global, usize, &'a [Token]) -> Result<(Boxed<Expr>, &'a [Token]),
         ensures { Parses result (spec.range (spec.single self.now.depth) (lexemes tokens.now)) }
     {
         let (first, rest) = self.sum(tokens)?;
+        self.with_end(first, rest)
+    }
+
+    /// What a range begins with, and its end behind it.
+    #[inline(always)]
+    fn with_end(
+        &self,
+        first: Boxed<Expr>,
+        rest: &'a [Token],
+    ) -> Result<(Boxed<Expr>, &'a [Token]), Fault>
+        requires { Nests self.now.depth (F.pre self.now.single) (F.post self.now.single) }
+        ensures { Parses result
+            (behind.with_end (spec.single self.now.depth) first (lexemes rest.now)) }
+    {
         let (more, rest) = self.range_end(rest)?;
         Ok((ranged(self.alloc, first, more)?, rest))
     }
@@ -143,6 +245,20 @@ impl<'a, F: Fn(Global, usize, &'a [Token]) -> Result<(Boxed<Expr>, &'a [Token]),
         ensures { Parses result (spec.concat (spec.single self.now.depth) (lexemes tokens.now)) }
     {
         let (first, rest) = self.range(tokens)?;
+        self.with_texts(first, rest)
+    }
+
+    /// An operand, and those of concatenations behind it.
+    #[inline(always)]
+    fn with_texts(
+        &self,
+        first: Boxed<Expr>,
+        rest: &'a [Token],
+    ) -> Result<(Boxed<Expr>, &'a [Token]), Fault>
+        requires { Nests self.now.depth (F.pre self.now.single) (F.post self.now.single) }
+        ensures { Parses result
+            (behind.with_texts (spec.single self.now.depth) first (lexemes rest.now)) }
+    {
         let (more, rest) = many(self.alloc, &ConcatItem(self), rest)?;
         Ok((concatenation(self.alloc, first, more)?, rest))
     }
@@ -186,6 +302,20 @@ impl<'a, F: Fn(Global, usize, &'a [Token]) -> Result<(Boxed<Expr>, &'a [Token]),
             (spec.comparison (spec.single self.now.depth) (lexemes tokens.now)) }
     {
         let (first, rest) = self.concat(tokens)?;
+        self.with_compared(first, rest)
+    }
+
+    /// An operand, and what it is compared with behind it.
+    #[inline(always)]
+    fn with_compared(
+        &self,
+        first: Boxed<Expr>,
+        rest: &'a [Token],
+    ) -> Result<(Boxed<Expr>, &'a [Token]), Fault>
+        requires { Nests self.now.depth (F.pre self.now.single) (F.post self.now.single) }
+        ensures { Parses result
+            (behind.with_compared (spec.single self.now.depth) first (lexemes rest.now)) }
+    {
         let (more, rest) = self.comparison_end(rest)?;
         Ok((compared(self.alloc, first, more)?, rest))
     }
@@ -198,12 +328,92 @@ impl<'a, F: Fn(Global, usize, &'a [Token]) -> Result<(Boxed<Expr>, &'a [Token]),
             (spec.conjunction (spec.single self.now.depth) (lexemes tokens.now)) }
     {
         let (first, rest) = self.comparison(tokens)?;
+        self.with_ands(first, rest)
+    }
+
+    /// An operand, and those after each `and` behind it.
+    #[inline(always)]
+    fn with_ands(
+        &self,
+        first: Boxed<Expr>,
+        rest: &'a [Token],
+    ) -> Result<(Boxed<Expr>, &'a [Token]), Fault>
+        requires { Nests self.now.depth (F.pre self.now.single) (F.post self.now.single) }
+        ensures { Parses result
+            (behind.with_ands (spec.single self.now.depth) first (lexemes rest.now)) }
+    {
         let (more, rest) = many(self.alloc, &AndItem(self), rest)?;
         Ok((conjunction(self.alloc, first, more)?, rest))
     }
 
-    /// Disjunctions.
-    #[tactic(auto, unfolding(crate::specs::private::Reading::disjunction))]
+    /// An operand, and those after each `or` behind it.
+    #[inline(always)]
+    fn with_ors(
+        &self,
+        first: Boxed<Expr>,
+        rest: &'a [Token],
+    ) -> Result<(Boxed<Expr>, &'a [Token]), Fault>
+        requires { Nests self.now.depth (F.pre self.now.single) (F.post self.now.single) }
+        ensures { Parses result
+            (behind.with_ors (spec.single self.now.depth) first (lexemes rest.now)) }
+    {
+        let (more, rest) = many(self.alloc, &OrItem(self), rest)?;
+        Ok((disjunction(self.alloc, first, more)?, rest))
+    }
+
+    /// An operand, and what follows it up to products.
+    #[tactic(auto, unfolding(crate::specs::private::Behind::up_to_factors))]
+    fn up_to_factors(
+        &self,
+        first: Boxed<Expr>,
+        rest: &'a [Token],
+    ) -> Result<(Boxed<Expr>, &'a [Token]), Fault>
+        requires { Nests self.now.depth (F.pre self.now.single) (F.post self.now.single) }
+        ensures { Parses result
+            (behind.up_to_factors (spec.single self.now.depth) first (lexemes rest.now)) }
+    {
+        let (first, rest) = self.with_calls(first, rest)?;
+        let (first, rest) = self.with_sets(first, rest)?;
+        let (first, rest) = self.with_unions(first, rest)?;
+        self.with_factors(first, rest)
+    }
+
+    /// An operand, and what follows it up to comparisons.
+    #[tactic(auto, unfolding(crate::specs::private::Behind::up_to_compared))]
+    fn up_to_compared(
+        &self,
+        first: Boxed<Expr>,
+        rest: &'a [Token],
+    ) -> Result<(Boxed<Expr>, &'a [Token]), Fault>
+        requires { Nests self.now.depth (F.pre self.now.single) (F.post self.now.single) }
+        ensures { Parses result
+            (behind.up_to_compared (spec.single self.now.depth) first (lexemes rest.now)) }
+    {
+        let (first, rest) = self.up_to_factors(first, rest)?;
+        let (first, rest) = self.with_terms(first, rest)?;
+        let (first, rest) = self.with_end(first, rest)?;
+        let (first, rest) = self.with_texts(first, rest)?;
+        self.with_compared(first, rest)
+    }
+
+    /// An operand, and all operators that follow it with their other operands.
+    #[tactic(auto, unfolding(crate::specs::private::Behind::operators))]
+    fn operators(
+        &self,
+        first: Boxed<Expr>,
+        rest: &'a [Token],
+    ) -> Result<(Boxed<Expr>, &'a [Token]), Fault>
+        requires { Nests self.now.depth (F.pre self.now.single) (F.post self.now.single) }
+        ensures { Parses result
+            (behind.operators (spec.single self.now.depth) first (lexemes rest.now)) }
+    {
+        let (first, rest) = self.up_to_compared(first, rest)?;
+        let (first, rest) = self.with_ands(first, rest)?;
+        self.with_ors(first, rest)
+    }
+
+    /// Operands with operators between them, from disjunctions down. Most expressions are an
+    /// operand alone: behind one no operator is looked for where a token stands that ends it.
     pub(crate) fn disjunction(
         &self,
         tokens: &'a [Token],
@@ -212,9 +422,31 @@ impl<'a, F: Fn(Global, usize, &'a [Token]) -> Result<(Boxed<Expr>, &'a [Token]),
         ensures { Parses result
             (spec.disjunction (spec.single self.now.depth) (lexemes tokens.now)) }
     {
-        let (first, rest) = self.conjunction(tokens)?;
-        let (more, rest) = many(self.alloc, &OrItem(self), rest)?;
-        Ok((disjunction(self.alloc, first, more)?, rest))
+        let (operand, rest) = self.unary(tokens)?;
+        if ends_expression(rest) {
+            return Ok((operand, rest));
+        }
+        self.operators(operand, rest)
+    }
+
+    /// The same, where a constructor comes first: it is read without a look for what else an
+    /// operand may begin with.
+    pub(crate) fn constructed(
+        &self,
+        tokens: &'a [Token],
+    ) -> Result<(Boxed<Expr>, &'a [Token]), Fault>
+        requires nests { Nests self.now.depth (F.pre self.now.single) (F.post self.now.single) }
+        requires begun { spec.begins_make (lexemes tokens.now) ≡ true }
+        ensures { Parses result
+            (spec.disjunction (spec.single self.now.depth) (lexemes tokens.now)) }
+    {
+        let (node, rest) = self.make(tokens)?;
+        if ends_expression(rest) {
+            return Ok((node, rest));
+        }
+        let (path, rest) = self.path_from(node, rest)?;
+        let (operand, rest) = self.with_maps(path, rest)?;
+        self.operators(operand, rest)
     }
 }
 

@@ -8,7 +8,7 @@ ghost use Rattle.xq_parser.specs.private.Reading as spec;
 ghost use Rattle.xq_parser.specs.private.Parses.{ParsesAs, Nests, Parses};
 ghost use Rattle.xq_parser.specs.Answers.{RefusesTokens};
 
-use crate::lookahead::{begins_flwor, begins_if, begins_quantified, is_alone};
+use crate::lookahead::{begins_constructor, begins_flwor, begins_if, begins_quantified, is_alone};
 use crate::primaries::Grammar;
 use sqlite_items::Boxed;
 use std::alloc::Global;
@@ -31,6 +31,8 @@ fn any<'a, F: Fn(Global, usize, &'a [Token]) -> Result<(Boxed<Expr>, &'a [Token]
 {
     if is_alone(tokens) {
         grammar.primary(tokens)
+    } else if begins_constructor(tokens) {
+        grammar.constructed(tokens)
     } else if begins_flwor(tokens) {
         grammar.flwor(tokens)
     } else if begins_quantified(tokens) {

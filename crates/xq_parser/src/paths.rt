@@ -4,6 +4,7 @@ ghost use Rattle.xq_lexer.specs.Lexeme.{lexemes, symbol as symbol_lex};
 ghost use Rattle.xq_lexer.specs.declared.tokens.Symbol.TheVariants as s;
 ghost use Rattle.xq_expressions.specs.declared.expressions.Expr.TheVariants as e;
 ghost use Rattle.xq_parser.specs.Grammar as g;
+ghost use Rattle.xq_parser.specs.private.Behind as behind;
 ghost use Rattle.xq_parser.specs.private.Reading as spec;
 ghost use Rattle.xq_parser.specs.private.Parses.{Nests, Parses};
 
@@ -129,6 +130,25 @@ impl<'a, F: Fn(Global, usize, &'a [Token]) -> Result<(Boxed<Expr>, &'a [Token]),
     {
         let ((first, more), rest) = self.steps(tokens)?;
         Ok((relative(self.alloc, first, more)?, rest))
+    }
+
+    /// A path whose first step begins with what was read.
+    #[tactic(auto, unfolding(crate::specs::private::Behind::path_from))]
+    pub(crate) fn path_from(
+        &self,
+        first: Boxed<Expr>,
+        rest: &'a [Token],
+    ) -> Result<(Boxed<Expr>, &'a [Token]), Fault>
+        requires { Nests self.now.depth (F.pre self.now.single) (F.post self.now.single) }
+        ensures { Parses result
+            (behind.path_from (spec.single self.now.depth) first (lexemes rest.now)) }
+    {
+        let (predicates, rest) = self.predicates(rest)?;
+        let (more, rest) = many(self.alloc, &NextStep(self), rest)?;
+        Ok((
+            relative(self.alloc, Step::Primary(first, predicates), more)?,
+            rest,
+        ))
     }
 
     /// A path.

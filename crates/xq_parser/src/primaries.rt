@@ -239,7 +239,7 @@ impl<'a, F: Fn(Global, usize, &'a [Token]) -> Result<(Boxed<Expr>, &'a [Token]),
 
     /// A constructor.
     #[tactic(auto, unfolding(crate::specs::private::Reading::make))]
-    fn make(&self, tokens: &'a [Token]) -> Result<(Boxed<Expr>, &'a [Token]), Fault>
+    pub(crate) fn make(&self, tokens: &'a [Token]) -> Result<(Boxed<Expr>, &'a [Token]), Fault>
         requires { Nests self.now.depth (F.pre self.now.single) (F.post self.now.single) }
         ensures { Parses result (spec.make (spec.single self.now.depth) (lexemes tokens.now)) }
     {

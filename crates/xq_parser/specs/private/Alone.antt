@@ -1,5 +1,5 @@
 -- Literals that are expressions by themselves, as what stands behind them ends the expression.
-use Rattle.std.specs.Prelude.{◌∷◌, Bool, true, false}
+use Rattle.std.specs.Prelude.{[], ◌∷◌, Bool, true, false}
 use Rattle.xq_lexer.specs.Lexeme.{Lex, int, dec, str, symbol}
 use Rattle.xq_lexer.specs.declared.tokens.Symbol.TheVariants as s
 use Rattle.xq_parser.specs.Look.{Tokens}
@@ -17,3 +17,8 @@ stands_alone (int i ∷ t ∷ ts) = ends t
 stands_alone (dec m ∷ t ∷ ts) = ends t
 stands_alone (str n ∷ t ∷ ts) = ends t
 stands_alone _ = false
+
+-- no expression goes on with the next token
+unfoldable pub begins_end : Tokens → Bool
+begins_end [] = false
+begins_end (t ∷ ts) = ends t

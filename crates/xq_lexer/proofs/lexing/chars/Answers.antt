@@ -1,15 +1,17 @@
-use Rattle.std.proofs.Common.{◌≡◌, ℕ, List, ◌++◌, length, sym, ap, ◌∙◌, arith, encode_utf8_all}
-use Rattle.std.specs.Str.{chars as chars_of}
-use Rattle.std.proofs.lemmas.Str.{Chars-Drains, encodes-chars}
-use Rattle.xq_lexer.specs.Chars.{Text}
+use Rattle.std.proofs.Common.{◌≡◌, ℕ, List, length, sym, ap, ◌∙◌, arith, IsAscii, encode_utf8_all}
+use Rattle.std.proofs.lemmas.Str.{chars-IsAscii, encodes-chars}
 use Rattle.xq_lexer.proofs.lexing.chars.Goals as goal
+use Rattle.xq_lexer.proofs.lexing.chars.Goals.{then-is_ascii+in_ok-chars, else-is_ascii+in_ok-chars-2}
 
 pub returns-clause-chars : goal.returns-clause-chars
 returns-clause-chars c =
     let text = c.args.text.now in
-    let ran = c.in_ok-extend.ensures.ran in
-    let spelled : encode_utf8_all (chars_of text) ≡ ran.0.rest.now = encodes-chars text c.utf8.text ∙ sym (ap (λ s. s.rest.now) ran.2 ∙ c.chars.ensures.rest) in
-    ran.3.0 ∙ ap (λ (begun : List ℕ). begun ++ ran.1) c.in_ok-chars.ensures.items ∙ Chars-Drains (chars_of text) ran.1 ran.0 spelled ran.4
+    elim c.if-is_ascii.branch [
+      | then-is_ascii+in_ok-chars w ↦
+          let ascii : IsAscii text = rw w.if-is_ascii.true at c.is_ascii.ensures.cases in
+          ap (λ v. v.items) w.chars-is ∙ w.in_ok-chars.ensures ∙ w.as_bytes.ensures.value ∙ sym (chars-IsAscii text ascii)
+      | else-is_ascii+in_ok-chars-2 w ↦ ap (λ v. v.items) w.chars-is ∙ w.in_ok-chars-2.ensures
+    ]
 
 pub returns-clause-spelled : goal.returns-clause-spelled
 returns-clause-spelled c = sym (ap encode_utf8_all (returns-clause-chars c) ∙ encodes-chars c.args.text.now c.utf8.text)
