@@ -1,12 +1,11 @@
 -- Pieces of a text whose bytes are characters, cut out of it where these stand.
 use Rattle.std.proofs.Common.{◌≡◌, ℕ, ◌+◌, ◌-◌, ◌<◌, ◌≤◌, Bool, true, [], ◌∷◌, ◌++◌, length, take, drop, refl, append_assoc, sym, ap, ◌∙◌, subst, arith, encode_utf8_all, encode_utf8}
 use Rattle.std.specs.Char.{len_utf8}
-use Rattle.std.proofs.lemmas.List.{take-append-drop, length-append, length-drop, drop-drop, drop_at}
+use Rattle.std.proofs.lemmas.List.{take-append-drop, length-drop, drop-drop, drop_at}
 use Rattle.std.proofs.lemmas.Str.{encodes-append, length-le-encodes, length-encode, len_utf8_ascii, drop_past_char}
 use Rattle.std.proofs.lemmas.Bool.Decides.{nat_tests}
 use Rattle.xq_lexer.specs.Chars.{Text, is_quote}
 use Rattle.xq_lexer.specs.Reading.{span}
-use Rattle.xq_lexer.specs.Separators.{skip}
 use Rattle.xq_lexer.specs.Lexeme.{Placed}
 use Rattle.xq_lexer.specs.Spelling.{bytes, form_text, Next}
 use Rattle.xq_lexer.specs.private.Lexes.{SpelledAt, BeginsAt}

@@ -1,4 +1,4 @@
-use Rattle.std.proofs.Common.{◌≡◌, ℕ, List, length, sym, ap, ◌∙◌, arith, IsAscii, encode_utf8_all}
+use Rattle.std.proofs.Common.{ℕ, List, length, sym, ap, ◌∙◌, arith, IsAscii, encode_utf8_all}
 use Rattle.std.proofs.lemmas.Str.{chars-IsAscii, encodes-chars}
 use Rattle.xq_lexer.proofs.lexing.chars.Goals as goal
 use Rattle.xq_lexer.proofs.lexing.chars.Goals.{then-is_ascii+in_ok-chars, else-is_ascii+in_ok-chars-2}

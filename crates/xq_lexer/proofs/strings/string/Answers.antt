@@ -1,4 +1,4 @@
-use Rattle.std.proofs.Common.{ℕ, Option, Ok, [], ap, ◌∙◌, string_bytes, arith}
+use Rattle.std.proofs.Common.{ℕ, Option, Ok, [], ap, ◌∙◌, arith}
 use Rattle.std.proofs.lemmas.Result.{err_from_is_err_and}
 use Rattle.xq_lexer.specs.Literals.{is_plain}
 use Rattle.xq_lexer.proofs.Cuts.{begins_at, past_quote, quoted_short, run_short}
