@@ -1,4 +1,4 @@
--- The places that are kept of the attributes of a tree by their names, in the order of their values.
+-- The places that are kept of attributes by their names, in the order of their values.
 use Rattle.std.specs.Prelude.{ℕ, List, IfSome, String}
 use Rattle.std.specs.Global.{Global}
 use Rattle.std.specs.HashMap.{HashMap, get_by_text}

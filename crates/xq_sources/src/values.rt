@@ -16,12 +16,7 @@ use xq_packed::PackedRows;
 pub type Values = HashMap<String, ValuePlaces>;
 
 /// Keeps these places for the name.
-fn keep(
-    alloc: Global,
-    values: &mut Values,
-    name: &str,
-    places: ValuePlaces,
-) -> Result<(), Want>
+fn keep(alloc: Global, values: &mut Values, name: &str, places: ValuePlaces) -> Result<(), Want>
     ensures kept { OnOk result ((q : Text) → get_by_text values.new q
         ≡ (if text_eq q name.now then Some places else get_by_text values.old q)) }
     ensures same { OnErr result (IsUnchanged values.old values.new) }
