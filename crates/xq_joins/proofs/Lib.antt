@@ -7,3 +7,4 @@ pub mod Found
 pub mod TextTests
 pub mod LoneTexts
 pub mod Told
+pub mod Keying
