@@ -1,9 +1,12 @@
 -- Predicates that ask nodes for a text, and steps with them.
-use Rattle.std.proofs.Common.{◌≡◌, List, [], ◌∷◌, map, Ok, Err, sym, ◌∙◌, ap, subst}
-use Rattle.std.specs.Prelude.{filter}
+use Rattle.std.proofs.Common.{◌≡◌, ◌<◌, ◌≤◌, List, [], ◌∷◌, map, length, get_or, Bool, Ok, Err, sym, ◌∙◌, ap, subst, arith}
+use Rattle.std.specs.Prelude.{filter, IsErrAnd, Option, Result}
+use Rattle.std.specs.Global.{Vec}
 use Rattle.std.specs.List.{AllByRecursion, flat_map}
 use Rattle.xq_atoms.specs.declared.refusals.Code.TheVariants.{XPTY0019}
+use Rattle.xq_atoms.specs.declared.refusals.Fault.{Fault}
 use Rattle.xq_atoms.specs.Judged.{Judged}
+use Rattle.xq_regions.specs.declared.items.Item.{Item as Held}
 use Rattle.xq_regions.specs.declared.Axis.{Axis}
 use Rattle.xq_regions.specs.declared.Axis.TheVariants.{Child, DescendantOrSelf}
 use Rattle.xq_regions.specs.Items.{ItemView, Place as NodeAt, Value}
@@ -16,8 +19,8 @@ use Rattle.xq_meaning.specs.declared.plans.Plan.{Plan}
 use Rattle.xq_meaning.specs.declared.plans.Plan.TheVariants as plan
 use Rattle.xq_meaning.specs.declared.plans.PlanStep.{PlanStep}
 use Rattle.xq_meaning.specs.declared.plans.PlanStep.TheVariants as plan_step
-use Rattle.xq_meaning.specs.Arguments.{all_nodes}
-use Rattle.xq_meaning.specs.Doing.{Outcome, go_on, judged, on_trees}
+use Rattle.xq_meaning.specs.Arguments.{all_nodes, boolean}
+use Rattle.xq_meaning.specs.Doing.{Doing, Outcome, go_on, judged, on_trees}
 use Rattle.xq_meaning.specs.Forms as Forms
 use Rattle.xq_meaning.specs.Items.{Place, Item, Node, Atom}
 use Rattle.xq_meaning.specs.Operators.{in_order}
@@ -25,34 +28,39 @@ use Rattle.xq_meaning.specs.PlanMeaning.{Frame, Meaning, StepMeaning, plan_mean,
 use Rattle.xq_meaning.specs.Readings.{items_at, IsIn, AreIn}
 use Rattle.xq_meaning.specs.Steps.{axis_nodes}
 use Rattle.xq_meaning.proofs.PlanEquations.{plan-Step, step-Each, step-Scan}
-use Rattle.xq_forms.specs.Views.{tuple_at, after_double_slash}
+use Rattle.xq_forms.specs.Views.{tuple_at, after_double_slash, GivesSequence}
 use Rattle.xq_joins.specs.declared.equalities.TextTest.{TextTest}
-use Rattle.xq_joins.specs.Equalities.{passes_text, IsTextTest}
+use Rattle.xq_joins.specs.declared.keyed.KeyedTest.{KeyedTest}
+use Rattle.xq_joins.specs.Equalities.{leads_to_text, on_nodes, Asks, IsTextTestIn}
+use Rattle.xq_joins.specs.Keyed.{leads_to_key, IsKeyedTest}
 use Rattle.xq_joins.specs.Keys.{IsNode}
 use Rattle.xq_joins.proofs.TextTests.{items_filtered, scan_by_text}
 use Rattle.xq_joins.proofs.Walks.{then_stays, scan_stays}
+use Rattle.xq_eval.specs.private.Texts.{GivesFound}
 
-module _ (slots : Tuple ItemView) (found : TextTest) (p : Plan) (is : IsTextTest slots found p) (frame : Frame) (f : List Tree) (env : frame.env ≡ tuple_at f slots) where
+module _ (f : List Tree) (slots : Tuple ItemView) (passing : Place → Bool) (p : Plan) (is : Asks f slots passing p) (frame : Frame) (env : frame.env ≡ tuple_at f slots) where
   -- what the predicate keeps of nodes
-  pub texts_kept : (f' : List Tree) (xs kept : List ItemView) → AllByRecursion IsNode xs → AreIn f xs → kept ≡ filter (passes_text f found) xs → f' ≡ f
+  pub texts_kept : (f' : List Tree) (xs kept : List ItemView) → AllByRecursion IsNode xs → AreIn f xs → kept ≡ filter (on_nodes f passing) xs → f' ≡ f
       → AreIn f' kept × (Forms.filtered frame (items_at f xs) (plan_mean p) f ≡ (Ok (items_at f' kept), f'))
   texts_kept f' xs kept nodes xs_in are same =
       subst (λ g. AreIn g kept × (Forms.filtered frame (items_at f xs) (plan_mean p) f ≡ (Ok (items_at g kept), g))) (sym same) (
-        subst (AreIn f) (sym are) (all_filter (IsIn f) (passes_text f found) xs xs_in),
-        items_filtered slots found p is frame f env xs nodes ∙ ap (λ l. (Ok (items_at f l), f)) (sym are),
+        subst (AreIn f) (sym are) (all_filter (IsIn f) (on_nodes f passing) xs xs_in),
+        items_filtered f slots passing p is frame env xs nodes ∙ ap (λ l. (Ok (items_at f l), f)) (sym are),
       )
 
   -- a step to children with this predicate, after descendant-or-self::node()
-  pub text_steps_are : (s q : PlanStep) (of : Test) (xs : List Item) → s ≡ plan_step.Scan DescendantOrSelf Any → q ≡ plan_step.Each (plan.Step Child of (p ∷ []))
-      → go_on (plan_step_mean s frame xs f) (λ ys. plan_step_mean q frame ys) ≡ go_on (after_double_slash of xs f) (λ ys. Forms.filtered frame ys (plan_mean p))
-  text_steps_are s q of xs hs hq =
+  pub text_step_is : (q : PlanStep) (of : Test) (xs : List Item) → q ≡ plan_step.Each (plan.Step Child of (p ∷ []))
+      → go_on (Forms.scan DescendantOrSelf Any xs f) (λ ys. plan_step_mean q frame ys) ≡ go_on (after_double_slash of xs f) (λ ys. Forms.filtered frame ys (plan_mean p))
+  text_step_is q of xs hq =
       let part = Forms.step Child of (plan_mean p ∷ []) in
-      let first : plan_step_mean s frame xs f ≡ Forms.scan DescendantOrSelf Any xs f = ap (λ m. m frame xs f) (ap plan_step_mean hs ∙ step-Scan DescendantOrSelf Any) in
       let later : plan_step_mean q ≡ (λ frame ys. Forms.slash frame ys part) =
       ap plan_step_mean hq ∙ step-Each (plan.Step Child of (p ∷ [])) ∙ ap (λ (m : Meaning). λ (frame : Frame) (ys : List Item). Forms.slash frame ys m) (plan-Step Child of (p ∷ [])) in
-      ap (λ o. go_on o (λ ys. plan_step_mean q frame ys)) first
-      ∙ ap (λ (m : StepMeaning). go_on (Forms.scan DescendantOrSelf Any xs f) (λ ys. m frame ys)) later
-      ∙ scan_by_text slots found p is frame f env of xs
+      ap (λ (m : StepMeaning). go_on (Forms.scan DescendantOrSelf Any xs f) (λ ys. m frame ys)) later
+      ∙ scan_by_text f slots passing p is frame env of xs
+
+-- descendant-or-self::node(), and what comes after it
+pub slashes_then : (s : PlanStep) (next : List Item → Doing (List Item)) (frame : Frame) (xs : List Item) (f : List Tree) → s ≡ plan_step.Scan DescendantOrSelf Any → go_on (plan_step_mean s frame xs f) next ≡ go_on (Forms.scan DescendantOrSelf Any xs f) next
+slashes_then s next frame xs f is = ap (λ o. go_on o next) (ap (λ m. m frame xs f) (ap plan_step_mean is ∙ step-Scan DescendantOrSelf Any))
 
 -- # What a scan gives
 
@@ -92,3 +100,34 @@ module _ (of : Test) (xs : List Item) (f f' : List Tree) (found : List ItemView)
 
   pub after_nodes : AllByRecursion IsNode found
   after_nodes = are_nodes f' found (subst GivesNodes value (second_gives of (Forms.scan DescendantOrSelf Any xs f)))
+
+-- # One scan, and then what a predicate keeps
+
+pub scan_kept : (ask : List Tree → Place → Bool) (slots : Tuple ItemView) (p : Plan) (f f1 f2 : List Tree) → Asks f slots (ask f) p → (frame : Frame) → frame.env ≡ tuple_at f slots
+    → (of : Test) (xs : List Item) (found kept : List ItemView) → AreIn f1 found × (after_double_slash of xs f ≡ (Ok (items_at f1 found), f1)) → kept ≡ filter (on_nodes f1 (ask f1)) found → f2 ≡ f1
+    → AreIn f2 kept × (go_on (after_double_slash of xs f) (λ ys. Forms.filtered frame ys (plan_mean p)) ≡ (Ok (items_at f2 kept), f2))
+scan_kept ask slots p f f1 f2 is frame env of xs found kept first are keeps =
+    let same = after_stays of xs f f1 found first.1 in
+    let nodes = after_nodes of xs f f1 found first.1 in
+    let here : Asks f1 slots (ask f1) p = subst (λ t. Asks t slots (ask t) p) (sym same) is in
+    let next = λ (ys : List Item). Forms.filtered frame ys (plan_mean p) in
+    let second = texts_kept f1 slots (ask f1) p here frame (env ∙ ap (λ t. tuple_at t slots) (sym same)) f2 found kept nodes first.0 are keeps in
+    (second.0, ap (λ o. go_on o next) first.1 ∙ second.1)
+
+-- with one text alone
+pub only_asks : (f : List Tree) (slots : Tuple ItemView) (found : KeyedTest) (only : TextTest) (p : Plan) → IsKeyedTest f slots found p → ((trees : List Tree) (q : Place) → leads_to_text trees only q ≡ leads_to_key trees found q)
+    → IsTextTestIn f slots only p
+only_asks f slots found only p is same = record {
+  says = λ frame place position last env. is.says frame place position last env ∙ ap (λ b. (Ok (boolean b), f)) (sym (same f place));
+}
+
+-- a refusal that `?` hands on
+pub found_stop : (whole : Outcome (List Item)) (f : List Tree) (e : Fault) (r : Result (Option (Vec Held)) Fault) → IsErrAnd r (λ e'. e' ≡ e) → GivesSequence whole f (Err e) → GivesFound whole f r
+found_stop whole f e (Err e') h g = subst (λ x. GivesSequence whole f (Err x)) (sym h) g
+found_stop whole f e (Ok v) h g = elim h [ ]
+
+-- the element of a list of one
+pub only_one : {A : Type 0} (xs : List A) (x : A) → x ≡ get_or xs 0 x → 1 ≤ length xs → length xs < 2 → xs ≡ x ∷ []
+only_one [] x is h k = absurd (omega (arith, h))
+only_one (y ∷ []) x is h k = ap (λ z. z ∷ []) (sym is)
+only_one (y ∷ z ∷ zs) x is h k = absurd (omega (arith, k))

@@ -18,7 +18,7 @@ use crate::expressions::{
     quantified, signed, simple_map, unnamed_node,
 };
 use crate::positions::{keep_positional, positional};
-use crate::texts::text_test_at;
+use crate::texts::keep_by_texts;
 use sqlite_items::Items as PlanItems;
 use std::alloc::Global;
 use xq_atoms::Fault;
@@ -28,7 +28,7 @@ use xq_forms::{
     single, string, variable,
 };
 use xq_functions::{effective, keeps};
-use xq_joins::{atom_of_call, keep_by_text, leads_to_text, node_test};
+use xq_joins::{atom_of_call, leads_to_text, node_test};
 use xq_meaning::{Operator, Plan};
 use xq_regions::{Item, Items};
 use xq_sources::Growing;
@@ -283,7 +283,7 @@ pub fn filter<W: Growing>(
 }
 
 /// The items that one predicate keeps. One whose value an item's position tells is not evaluated at
-/// each, and one that asks nodes for a text only reads.
+/// each, and one that asks nodes for a text, or for those of a key, only reads.
 #[cycle(eval)]
 fn keep<W: Growing>(
     alloc: Global,
@@ -303,8 +303,8 @@ fn keep<W: Growing>(
     if let Some(value) = positional(alloc, predicate, items)? {
         return keep_positional(alloc, items, &value);
     }
-    if let Some(test) = text_test_at(frame, predicate, items) {
-        return Ok(keep_by_text(alloc, world, items, test)?);
+    if let Some(found) = keep_by_texts(alloc, world, frame, items, predicate)? {
+        return Ok(found);
     }
     let last = items.len();
     let mut kept = Vec::new(alloc);

@@ -15,7 +15,7 @@ ghost use Rattle.xq_eval.specs.private.Children.{IsToChildren};
 ghost use Rattle.xq_eval.specs.private.Scanning.{IsScan};
 
 use crate::evaluation::evaluate;
-use crate::texts::{children_by_text, double_slash_by_text};
+use crate::texts::{ChosenChildren, below_by_texts};
 use sqlite_items::at;
 use std::alloc::Global;
 use xq_atoms::Fault;
@@ -52,25 +52,28 @@ fn children(next: Option<&PlanStep>) -> Option<&Test>
     Some(test)
 }
 
-/// The test of a step to children with predicates, where that is the next step.
-fn chosen_children(next: Option<&PlanStep>) -> Option<&Test>
-    ensures { IfSome result (λ test. IsToChildren test.now (option_copied next.entry)) }
+/// A step to children with predicates, where that is the next step.
+fn chosen_children(next: Option<&PlanStep>) -> Option<ChosenChildren<'_>>
+    ensures { IfSome result (λ found. IsToChildren found (option_copied next.entry)) }
 {
     let Some(PlanStep::Each(part)) = next else {
         return None;
     };
-    let Plan::Step(direction, test, _) = part else {
+    let Plan::Step(direction, test, predicates) = part else {
         return None;
     };
     let Axis::Child = direction else {
         return None;
     };
-    Some(test)
+    Some(ChosenChildren {
+        test,
+        predicates: predicates.as_slice(),
+    })
 }
 
 /// The items after all steps. Two that are `//` and a step to children are one scan, also where
-/// that step has one predicate, which asks for a text; where it has others, it is tried at those
-/// nodes alone that have such children.
+/// that step has one predicate, which asks for a text or for those of a key; where it has others,
+/// it is tried at those nodes alone that have such children.
 #[cycle(eval)]
 pub fn step_list<W: Growing>(
     alloc: Global,
@@ -107,14 +110,13 @@ pub fn step_list<W: Growing>(
                 is_taken = true;
                 continue;
             }
-            if let Some(chosen) = children_by_text(frame, next) {
-                let kept = double_slash_by_text(alloc, world, &left, chosen)?;
-                left = kept;
-                is_taken = true;
-                continue;
-            }
-            if let Some(test) = chosen_children(next) {
-                let parents = parents_below(alloc, world, &left, test)?;
+            if let Some(chosen) = chosen_children(next) {
+                if let Some(kept) = below_by_texts(alloc, world, frame, &left, chosen)? {
+                    left = kept;
+                    is_taken = true;
+                    continue;
+                }
+                let parents = parents_below(alloc, world, &left, chosen.test)?;
                 left = parents;
                 continue;
             }

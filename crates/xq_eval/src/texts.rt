@@ -1,40 +1,69 @@
-//! Predicates that ask nodes for a text, of which each reads without making values.
-ghost use Rattle.std.specs.Prelude.{◌≡◌, ◌∷◌, [], List, map, IfSome, Some};
+//! Predicates that ask nodes for a text, or for those of a key, of which each reads without making
+//! values.
+ghost use Rattle.std.specs.Prelude.{◌≡◌, map, IfOk, IfSome, None, Ok};
 ghost use Rattle.std.specs.List.{AllByRecursion};
-ghost use Rattle.std.specs.Option.{option_copied};
 ghost use Rattle.xq_regions.specs.Items.{ItemView, item_view};
 ghost use Rattle.xq_regions.specs.Tuples.{Tuple};
 ghost use Rattle.xq_tuples.specs.Views.{values_of};
 ghost use Rattle.xq_meaning.specs.declared.plans.Plan.{Plan as PlanLem};
+ghost use Rattle.xq_meaning.specs.declared.plans.Plan.TheVariants as plan_of;
+ghost use Rattle.xq_meaning.specs.declared.plans.PlanStep.TheVariants as plan_step;
 ghost use Rattle.xq_meaning.specs.Doing.{go_on};
 ghost use Rattle.xq_meaning.specs.Forms as Forms;
-ghost use Rattle.xq_meaning.specs.PlanMeaning.{Frame as Meant, plan_mean};
+ghost use Rattle.xq_meaning.specs.PlanMeaning.{Frame as Meant, plan_mean, plan_step_mean};
 ghost use Rattle.xq_meaning.specs.Readings.{items_at, AreIn};
-ghost use Rattle.xq_forms.specs.Views.{after_double_slash, tuple_at, Goes, GivesSequence};
-ghost use Rattle.xq_joins.specs.Equalities.{IsTextTest};
+ghost use Rattle.xq_forms.specs.Views.{after_double_slash, frame_at, tuple_at, FrameIn, TupleIn, Goes, GivesSequence};
+ghost use Rattle.xq_joins.specs.Equalities.{IsTextTest, IsTextTestIn};
+ghost use Rattle.xq_joins.specs.Keyed.{IsKeyedTest};
 ghost use Rattle.xq_joins.specs.Keys.{IsNode};
-ghost use Rattle.xq_eval.specs.private.Texts.{IsToTexts};
+ghost use Rattle.xq_eval.specs.private.Texts.{GivesFound};
 
 use std::alloc::Global;
-use xq_atoms::Fault;
+use xq_atoms::{Fault, Want};
 use xq_forms::{Frame, double_slash};
-use xq_joins::{TextTest, are_nodes, keep_by_text, text_test};
-use xq_meaning::{Plan, PlanStep, Test};
+use xq_joins::{
+    KeyedTest, TextTest, are_nodes, keep_by_key, keep_by_text, keyed_test, only_text_test,
+    text_test,
+};
+use xq_meaning::{Plan, Test};
 use xq_regions::{Axis, Item, Items};
 use xq_sources::Growing;
 
 /// The test for a text that the predicate is, where all items are nodes: it refuses none of them.
-pub fn text_test_at<'a>(
-    frame: Frame<'a>,
-    predicate: &'a Plan,
-    items: &[Item],
-) -> Option<TextTest<'a>>
+fn text_test_at<'a>(frame: Frame<'a>, predicate: &'a Plan, items: &[Item]) -> Option<TextTest<'a>>
     ensures test { IfSome result (λ test.
         IsTextTest (values_of frame.entry.slots.now) test predicate.now) }
     ensures nodes { IfSome result (λ _. AllByRecursion IsNode (map item_view items.now)) }
 {
     let test = text_test(frame.slots, predicate)?;
     if are_nodes(items) { Some(test) } else { None }
+}
+
+/// The items that a predicate keeps which asks nodes for a text, or for those of a key: they are
+/// only read. None where it is no such predicate, or where it may refuse an item.
+pub fn keep_by_texts<W: Growing>(
+    alloc: Global,
+    world: &mut W,
+    frame: Frame<'_>,
+    items: &[Item],
+    predicate: &Plan,
+) -> Result<Option<Items>, Want>
+    ensures gives { W.is_clean world.new → FrameIn (W.forest world.old) frame.entry
+        → AreIn (W.forest world.old) (map item_view items.now)
+        → IfOk result (λ found. IfSome found (λ kept. GivesSequence (Forms.filtered
+        (frame_at (W.forest world.old) frame.entry) (items_at (W.forest world.old) (map item_view
+        items.now)) (plan_mean predicate.now) (W.forest world.old)) (W.forest world.new)
+        (Ok kept))) }
+    ensures keeps { W.forest world.new ≡ W.forest world.old }
+    ensures was_clean { W.is_clean world.new → W.is_clean world.old }
+{
+    if let Some(test) = text_test_at(frame, predicate, items) {
+        return Ok(Some(keep_by_text(alloc, world, items, test)?));
+    }
+    let Some(test) = keyed_test(alloc, world, frame.slots, items, predicate)? else {
+        return Ok(None);
+    };
+    Ok(Some(keep_by_key(alloc, world, items, &test)?))
 }
 
 /// A step to children, and the test for a text that is its predicate.
@@ -44,30 +73,9 @@ pub struct TextStep<'a> {
     pub predicate: TextTest<'a>,
 }
 
-/// The next step, where it is one to children with one predicate that asks for a text.
-pub fn children_by_text<'a>(frame: Frame<'a>, next: Option<&'a PlanStep>) -> Option<TextStep<'a>>
-    ensures { IfSome result (λ found.
-        IsToTexts (values_of frame.entry.slots.now) found (option_copied next.entry)) }
-{
-    let Some(PlanStep::Each(part)) = next else {
-        return None;
-    };
-    let Plan::Step(direction, test, predicates) = part else {
-        return None;
-    };
-    let Axis::Child = direction else {
-        return None;
-    };
-    let [predicate] = predicates.as_slice() else {
-        return None;
-    };
-    let predicate = text_test(frame.slots, predicate)?;
-    Some(TextStep { test, predicate })
-}
-
 /// What `//` and then a step to children with that predicate lead to from all items: one scan of
 /// what is below them, and then the test. XPTY0019 where an item is no node.
-pub fn double_slash_by_text<W: Growing>(
+fn double_slash_by_text<W: Growing>(
     alloc: Global,
     world: &mut W,
     items: &[Item],
@@ -77,7 +85,7 @@ pub fn double_slash_by_text<W: Growing>(
         (W.is_clean world.new) }
     ensures gives { W.is_clean world.new → AreIn (W.forest world.old) (map item_view items.now)
         → (slots : Tuple ItemView) (p : PlanLem) (frame : Meant)
-        → IsTextTest slots step.entry.predicate p
+        → IsTextTestIn (W.forest world.old) slots step.entry.predicate p
         → frame.env ≡ tuple_at (W.forest world.old) slots
         → GivesSequence (go_on (after_double_slash step.entry.test.now
         (items_at (W.forest world.old) (map item_view items.now)) (W.forest world.old))
@@ -85,4 +93,79 @@ pub fn double_slash_by_text<W: Growing>(
 {
     let found = double_slash(alloc, world, items, step.test)?;
     Ok(keep_by_text(alloc, world, &found, step.predicate)?)
+}
+
+/// The same with a predicate that asks for the texts of a key.
+fn double_slash_by_key<W: Growing>(
+    alloc: Global,
+    world: &mut W,
+    items: &[Item],
+    test: &Test,
+    predicate: &KeyedTest<'_>,
+) -> Result<Items, Fault>
+    ensures goes { Goes (W.forest world.old) (W.forest world.new) (W.is_clean world.old)
+        (W.is_clean world.new) }
+    ensures gives { W.is_clean world.new → AreIn (W.forest world.old) (map item_view items.now)
+        → (slots : Tuple ItemView) (p : PlanLem) (frame : Meant)
+        → IsKeyedTest (W.forest world.old) slots predicate.now p
+        → frame.env ≡ tuple_at (W.forest world.old) slots
+        → GivesSequence (go_on (after_double_slash test.now
+        (items_at (W.forest world.old) (map item_view items.now)) (W.forest world.old))
+        (λ xs. Forms.filtered frame xs (plan_mean p))) (W.forest world.new) result }
+{
+    if let Some(only) = only_text_test(predicate) {
+        let step = TextStep {
+            test,
+            predicate: only,
+        };
+        return double_slash_by_text(alloc, world, items, step);
+    }
+    let found = double_slash(alloc, world, items, test)?;
+    Ok(keep_by_key(alloc, world, &found, predicate)?)
+}
+
+/// A step to children, and its predicates.
+#[derive(Clone, Copy)]
+pub struct ChosenChildren<'a> {
+    pub test: &'a Test,
+    pub predicates: &'a [Plan],
+}
+
+/// What `//` and then those children lead to from all items, where their only predicate asks for a
+/// text or for those of a key. None where it is no such predicate.
+pub fn below_by_texts<W: Growing>(
+    alloc: Global,
+    world: &mut W,
+    frame: Frame<'_>,
+    items: &[Item],
+    chosen: ChosenChildren<'_>,
+) -> Result<Option<Items>, Fault>
+    ensures goes { Goes (W.forest world.old) (W.forest world.new) (W.is_clean world.old)
+        (W.is_clean world.new) }
+    ensures keeps { IfOk result (λ found. found ≡ None
+        → W.forest world.new ≡ W.forest world.old) }
+    ensures gives { W.is_clean world.new
+        → TupleIn (W.forest world.old) (values_of frame.entry.slots.now)
+        → AreIn (W.forest world.old) (map item_view items.now) → (meant : Meant)
+        → meant.env ≡ tuple_at (W.forest world.old) (values_of frame.entry.slots.now)
+        → GivesFound (go_on (Forms.scan Axis.DescendantOrSelf Test.Any (items_at
+        (W.forest world.old) (map item_view items.now)) (W.forest world.old)) (λ xs. plan_step_mean
+        (plan_step.Each (plan_of.Step Axis.Child chosen.entry.test.now
+        chosen.entry.predicates.now)) meant xs)) (W.forest world.new) result }
+{
+    let [predicate] = chosen.predicates else {
+        return Ok(None);
+    };
+    if let Some(test) = text_test(frame.slots, predicate) {
+        let step = TextStep {
+            test: chosen.test,
+            predicate: test,
+        };
+        return Ok(Some(double_slash_by_text(alloc, world, items, step)?));
+    }
+    let Some(test) = keyed_test(alloc, world, frame.slots, items, predicate)? else {
+        return Ok(None);
+    };
+    let kept = double_slash_by_key(alloc, world, items, chosen.test, &test)?;
+    Ok(Some(kept))
 }

@@ -123,12 +123,12 @@ module _ (frame : Frame) (f : List Tree) (ts : List (Tuple ItemView)) where
 
 -- # Values of slots
 
-value_front : {X : Type 0} (n : ℕ) (slots more : Tuple X) → n < length slots → value_at n (slots ++ more) ≡ value_at n slots
+pub value_front : {X : Type 0} (n : ℕ) (slots more : Tuple X) → n < length slots → value_at n (slots ++ more) ≡ value_at n slots
 value_front n [] more h = absurd (omega arith)
 value_front zero (v ∷ vs) more h = refl
 value_front (suc n) (v ∷ vs) more h = value_front n vs more (omega (arith, h))
 
-value_last : {X : Type 0} (slots : Tuple X) (v : List X) → value_at (length slots) (slots ++ v ∷ []) ≡ v
+pub value_last : {X : Type 0} (slots : Tuple X) (v : List X) → value_at (length slots) (slots ++ v ∷ []) ≡ v
 value_last [] v = refl
 value_last (w ∷ ws) v = value_last ws v
 
@@ -137,7 +137,7 @@ nodes_read f [] h = refl
 nodes_read f (NodeAt n ∷ xs) h = ap (λ l. Node (node_at f n) ∷ l) (nodes_read f xs h.1)
 nodes_read f (Value a ∷ xs) h = absurd h.0
 
-filter_same : {X : Type 0} (p q : X → Bool) (xs : List X) → ((x : X) → p x ≡ q x) → filter p xs ≡ filter q xs
+pub filter_same : {X : Type 0} (p q : X → Bool) (xs : List X) → ((x : X) → p x ≡ q x) → filter p xs ≡ filter q xs
 filter_same p q [] same = refl
 filter_same p q (x ∷ xs) same = (λ i. if same x i then x ∷ filter_same p q xs same i else filter_same p q xs same i)
 

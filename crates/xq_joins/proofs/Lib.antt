@@ -8,3 +8,4 @@ pub mod TextTests
 pub mod LoneTexts
 pub mod Valued
 pub mod Told
+pub mod Keying

@@ -53,7 +53,7 @@ use Rattle.xq_forms.specs.Views.{tuple_at, focus_at, frame_at, FrameIn, after_do
 use Rattle.xq_forms.specs.Nodes.{nodes_among}
 use Rattle.xq_joins.specs.declared.equalities.NodeTest.{NodeTest}
 use Rattle.xq_joins.specs.declared.equalities.TextTest.{TextTest}
-use Rattle.xq_joins.specs.Equalities.{have_text, leads_to_text, passes_text, at_node, IsNodeTest, IsTextTest}
+use Rattle.xq_joins.specs.Equalities.{have_text, leads_to_text, on_nodes, at_node, Asks, IsNodeTest, IsTextTest}
 use Rattle.xq_joins.specs.Keys.{IsNode}
 use Rattle.xq_joins.specs.private.Shapes.{equality}
 use Rattle.xq_joins.specs.private.Texts.{AreText, GivesText, IsStepAt}
@@ -66,7 +66,7 @@ abbrev turned : {A : Type 0} → Bool → List A → List A
 turned b xs = if b then reverse xs else xs
 
 -- a step to children or attributes, without predicates, from a node
-near_is : (a : Axis) (of : Test) → is_reverse a ≡ false → (frame : Frame) (f : List Tree) (p : Place) (position last : ℕ)
+pub near_is : (a : Axis) (of : Test) → is_reverse a ≡ false → (frame : Frame) (f : List Tree) (p : Place) (position last : ℕ)
     → plan_mean (plan.Step a of []) (at_node frame p position last) f ≡ (Ok (map Node (axis_nodes f a of p)), f)
 near_is a of forward frame f p position last =
     ap (λ m. m (at_node frame p position last) f) (plan-Step a of [])
@@ -96,7 +96,7 @@ slot_text slots t n p is held = record {
 }
 
 -- a comparison for equality, from the values of its operands
-equality_gives : (first second : Plan) (frame : Frame) (f : List Tree) (xs ys : List Item) (answer : Bool) → plan_mean first frame f ≡ (Ok xs, f) → plan_mean second frame f ≡ (Ok ys, f)
+pub equality_gives : (first second : Plan) (frame : Frame) (f : List Tree) (xs ys : List Item) (answer : Bool) → plan_mean first frame f ≡ (Ok xs, f) → plan_mean second frame f ≡ (Ok ys, f)
     → some_pair comp.Eq (atomized f xs) (atomized f ys) ≡ Ok answer → plan_mean (equality first second) frame f ≡ (Ok (boolean answer), f)
 equality_gives first second frame f xs ys answer a b pairs =
     let op = operator.Comparison (comparing.General relation.Equal) in
@@ -111,16 +111,16 @@ module _ (slots : Tuple ItemView) (found : TextTest) (near other : Plan) (is : n
 
   -- the step is the first operand, or the second
   pub step_first : (p : Plan) → p ≡ equality near other → IsTextTest slots found p
-  step_first p e = record {
-    says = λ frame f place position last env.
+  step_first p e = λ f. record {
+    says = λ frame place position last env.
         ap (λ q. plan_mean q (at_node frame place position last) f) e
         ∙ equality_gives near other (at_node frame place position last) f _ _ (leads_to_text f found place) (step_gives frame f place position last) (text.gives (at_node frame place position last) f env)
         (texts_after f text.atom found.text.now text.is_text (axis_nodes f found.axis found.test.now place));
   }
 
   pub step_second : (p : Plan) → p ≡ equality other near → IsTextTest slots found p
-  step_second p e = record {
-    says = λ frame f place position last env.
+  step_second p e = λ f. record {
+    says = λ frame place position last env.
         ap (λ q. plan_mean q (at_node frame place position last) f) e
         ∙ equality_gives other near (at_node frame place position last) f _ _ (leads_to_text f found place) (text.gives (at_node frame place position last) f env) (step_gives frame f place position last)
         (texts_before f text.atom found.text.now text.is_text (axis_nodes f found.axis found.test.now place));
@@ -214,14 +214,11 @@ filter-flat : {A B : Type 0} (h : B → Bool) (g : A → List B) (xs : List A) �
 filter-flat h g [] = refl
 filter-flat h g (x ∷ xs) = ap (λ l. filter h (g x) ++ l) (filter-flat h g xs) ∙ sym (filter-append h (g x) (flat_map g xs))
 
-module _ (slots : Tuple ItemView) (found : TextTest) (p : Plan) (is : IsTextTest slots found p) (frame : Frame) (f : List Tree) (env : frame.env ≡ tuple_at f slots) where
-  abbrev passing : Place → Bool
-  passing = leads_to_text f found
-
+module _ (f : List Tree) (slots : Tuple ItemView) (passing : Place → Bool) (p : Plan) (is : Asks f slots passing p) (frame : Frame) (env : frame.env ≡ tuple_at f slots) where
   passed_is : (q : Place) (position last : ℕ)
       → Forms.passed (plan_mean p) frame (record { item = Node q; position = position; last = last }) f ≡ (Ok (Forms.kept_if (Node q) (passing q)), f)
   passed_is q position last =
-      ap (λ o. go_on o (λ v. judged (keeps position v) >>= (λ k. give (Forms.kept_if (Node q) k)))) (is.says frame f q position last env)
+      ap (λ o. go_on o (λ v. judged (keeps position v) >>= (λ k. give (Forms.kept_if (Node q) k)))) (is.says frame q position last env)
 
   node_kept : (q : Place) (b : Bool) → Forms.kept_if (Node q) b ≡ map Node (Forms.kept_if q b)
   node_kept q true = refl
@@ -245,7 +242,7 @@ module _ (slots : Tuple ItemView) (found : TextTest) (p : Plan) (is : IsTextTest
   places_filtered ps = passed_from [] 1 _ ps
 
   -- of items of code that are nodes
-  pub items_filtered : (xs : List ItemView) → AllByRecursion IsNode xs → Forms.filtered frame (items_at f xs) (plan_mean p) f ≡ (Ok (items_at f (filter (passes_text f found) xs)), f)
+  pub items_filtered : (xs : List ItemView) → AllByRecursion IsNode xs → Forms.filtered frame (items_at f xs) (plan_mean p) f ≡ (Ok (items_at f (filter (on_nodes f passing) xs)), f)
   items_filtered xs h =
       let ns = nodes_among xs in
       let are = are_places xs h in
@@ -254,7 +251,7 @@ module _ (slots : Tuple ItemView) (found : TextTest) (p : Plan) (is : IsTextTest
       ∙ ap (λ l. (Ok l, f))
       (ap (map Node) (filter-map passing (node_at f) ns)
       ∙ sym (items_read f (filter (λ n. passing (node_at f n)) ns))
-      ∙ ap (items_at f) (sym (filter-map (passes_text f found) NodeAt ns) ∙ ap (filter (passes_text f found)) (sym are)))
+      ∙ ap (items_at f) (sym (filter-map (on_nodes f passing) NodeAt ns) ∙ ap (filter (on_nodes f passing)) (sym are)))
 
   -- # After `//`
 
@@ -301,10 +298,7 @@ module _ (slots : Tuple ItemView) (found : TextTest) (p : Plan) (is : IsTextTest
       filter_agree (is_among (filter passing ys)) (λ x. is_among ys x && passing x) (places_from 0 f) (among_passing ys)
       ∙ sym (filter_twice (is_among ys) (places_from 0 f))
 
-module _ (slots : Tuple ItemView) (found : TextTest) (p : Plan) (is : IsTextTest slots found p) (frame : Frame) (f : List Tree) (env : frame.env ≡ tuple_at f slots) (of : Test) where
-  abbrev passing_of : Place → Bool
-  passing_of = leads_to_text f found
-
+module _ (f : List Tree) (slots : Tuple ItemView) (passing : Place → Bool) (p : Plan) (is : Asks f slots passing p) (frame : Frame) (env : frame.env ≡ tuple_at f slots) (of : Test) where
   abbrev part : Meaning
   part = Forms.step axis.Child of (plan_mean p ∷ [])
 
@@ -315,11 +309,11 @@ module _ (slots : Tuple ItemView) (found : TextTest) (p : Plan) (is : IsTextTest
   children q = axis_nodes f axis.Child of q
 
   abbrev chosen : Place → List Place
-  chosen q = filter passing_of (children q)
+  chosen q = filter passing (children q)
 
   chosen_at : (q : Place) (i n : ℕ) → act (record { item = Node q; position = i; last = n }) f ≡ (Ok (map Node (chosen q)), f)
   chosen_at q i n =
-      ap (λ o. go_on (go_on o (λ next. give next)) (λ ys. give (in_axis_order axis.Child ys))) (places_filtered slots found p is (at_node frame q i n) f env (children q))
+      ap (λ o. go_on (go_on o (λ next. give next)) (λ ys. give (in_axis_order axis.Child ys))) (places_filtered f slots passing p is (at_node frame q i n) env (children q))
 
   collected_from : (done : List Item) (i n : ℕ) (qs : List Place) → in_turn (more act) done (focuses_from i n (map Node qs)) f ≡ (Ok (done ++ map Node (flat_map chosen qs)), f)
   collected_from done i n [] = ap (λ l. (Ok l, f)) (sym (append-nil done))
@@ -334,12 +328,12 @@ module _ (slots : Tuple ItemView) (found : TextTest) (p : Plan) (is : IsTextTest
   abbrev slash_of : List Item → Judged (List Place) → Outcome (List Item)
   slash_of xs r = go_on (judged r f) (λ (qs : List Place). λ g. go_on (collected act (focuses xs) g) gather)
 
-  slash_is : (qs : List Place) → Forms.slash frame (map Node qs) part f ≡ (Ok (map Node (filter passing_of (in_document_order f (flat_map children qs)))), f)
+  slash_is : (qs : List Place) → Forms.slash frame (map Node qs) part f ≡ (Ok (map Node (filter passing (in_document_order f (flat_map children qs)))), f)
   slash_is qs =
       ap (slash_of (map Node qs)) (are_nodes XPTY0019 qs)
       ∙ ap (λ o. go_on o gather) (collected_from [] 1 (length (map Node qs)) qs)
       ∙ ap (λ r. (nodes_or_atoms f (map Node (flat_map chosen qs)) r, f)) (are_nodes XPTY0018 (flat_map chosen qs))
-      ∙ ap (λ l. (Ok (map Node l), f)) (ap (in_document_order f) (filter-flat passing_of children qs) ∙ ordered_passing slots found p is frame f env (flat_map children qs))
+      ∙ ap (λ l. (Ok (map Node l), f)) (ap (in_document_order f) (filter-flat passing children qs) ∙ ordered_passing f slots passing p is frame env (flat_map children qs))
 
   abbrev scanned : Axis → Test → Judged (List Place) → Outcome (List Item)
   scanned a t r = go_on (judged r f) (λ places. on_trees (λ trees. Ok (in_order trees (flat_map (axis_nodes trees a t) places))))
@@ -353,7 +347,7 @@ module _ (slots : Tuple ItemView) (found : TextTest) (p : Plan) (is : IsTextTest
       let below = selves_and_below f ps in
       slash_is below
       ∙ sym (ap (λ r. then_test (scanned axis.Child of r)) (are_nodes XPTY0019 below)
-      ∙ places_filtered slots found p is frame f env (in_document_order f (flat_map children below)))
+      ∙ places_filtered f slots passing p is frame env (in_document_order f (flat_map children below)))
 
   -- a step to children with such a predicate, after `//`, is a scan, and then the test
   pub scan_by_text : (xs : List Item) → go_on (Forms.scan axis.DescendantOrSelf test.Any xs f) (λ ys. Forms.slash frame ys part) ≡ go_on (after_double_slash of xs f) (λ ys. Forms.filtered frame ys (plan_mean p))

@@ -28,23 +28,35 @@ abbrev pub leads_to_text : List Tree → TextTest → Place → Bool
 leads_to_text trees found p =
     have_text trees found.text.now (axis_nodes trees found.axis found.test.now p)
 
--- the same of an item that code holds, which has to be a node
+-- what is asked of nodes, of an item that code holds: it has to be one
+abbrev pub on_nodes : List Tree → (Place → Bool) → ItemView → Bool
+on_nodes trees passes (NodeAt n) = passes (node_at trees n)
+on_nodes trees passes (Value a) = false
+
+-- the test, of an item that code holds
 abbrev pub passes_text : List Tree → TextTest → ItemView → Bool
-passes_text trees found (NodeAt n) = leads_to_text trees found (node_at trees n)
-passes_text trees found (Value a) = false
+passes_text trees found = on_nodes trees (leads_to_text trees found)
 
 -- the frame with a node as its context item
 abbrev pub at_node : Frame → Place → ℕ → ℕ → Frame
 at_node frame p position last =
     Forms.in_focus frame (record { item = Node p; position = position; last = last })
 
--- where the slots hold these values, the plan says of a node whether it passes the test, and
--- refuses and constructs nothing
-pub record IsTextTest (slots : Tuple ItemView) (found : TextTest) (p : Plan) : Type 0 where
-  pub says : (frame : Frame) (trees : List Tree) (place : Place) (position last : ℕ)
-      → frame.env ≡ tuple_at trees slots
+-- over these trees, where the slots hold these values, the plan says of a node whether it passes,
+-- and refuses and constructs nothing
+pub record Asks (trees : List Tree) (slots : Tuple ItemView) (passes : Place → Bool) (p : Plan)
+    : Type 0 where
+  pub says : (frame : Frame) (place : Place) (position last : ℕ) → frame.env ≡ tuple_at trees slots
       → plan_mean p (at_node frame place position last) trees
-      ≡ (Ok (boolean (leads_to_text trees found place)), trees)
+      ≡ (Ok (boolean (passes place)), trees)
+
+-- it says whether it passes the test, over these trees
+abbrev pub IsTextTestIn : List Tree → Tuple ItemView → TextTest → Plan → Type 0
+IsTextTestIn trees slots found p = Asks trees slots (leads_to_text trees found) p
+
+-- the same over any trees
+abbrev pub IsTextTest : Tuple ItemView → TextTest → Plan → Type 0
+IsTextTest slots found p = (trees : List Tree) → IsTextTestIn trees slots found p
 
 -- # With a node at hand
 

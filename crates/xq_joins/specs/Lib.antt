@@ -1,5 +1,6 @@
 pub mod Keys
 pub mod Joins
 pub mod Equalities
+pub mod Keyed
 pub mod Atoms
 pub mod private

@@ -1,3 +1,4 @@
 pub mod Shapes
 pub mod Tables
 pub mod Texts
+pub mod Keyed

@@ -40,7 +40,7 @@ pub struct TextTest<'a> {
 // # Which predicates are such tests
 
 /// The axis and the node test of a step to children or attributes without predicates.
-fn near_step(plan: &Plan) -> Option<(Axis, &Test)>
+pub fn near_step(plan: &Plan) -> Option<(Axis, &Test)>
     ensures step { IfSome result (λ found.
         plan.now ≡ plan_of.Step found.0 found.1.now []) }
     ensures forward { IfSome result (λ found. is_reverse found.0 ≡ false) }
@@ -245,7 +245,7 @@ fn has_text<L: RowLender>(
 }
 
 /// Whether one of the nodes of a tree at these places has the text.
-fn have_text<L: RowLender>(
+pub fn have_text<L: RowLender>(
     alloc: Global,
     source: &mut L,
     tree: usize,

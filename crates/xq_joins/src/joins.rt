@@ -28,7 +28,7 @@ pub struct Join<'a> {
 
 /// The keys of a test for equality, in either order, of which one is in the slot that is bound
 /// next.
-fn keys_of(test: &Plan, next: usize) -> Option<Join<'_>>
+pub fn keys_of(test: &Plan, next: usize) -> Option<Join<'_>>
     ensures test { IfSome result (λ join. IsTest join test.now) }
     ensures next { IfSome result (λ join. join.item.slot ≡ next) }
     ensures earlier { IfSome result (λ join. join.tuple.slot < next) }

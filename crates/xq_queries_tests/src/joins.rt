@@ -1,5 +1,5 @@
-//! Rows of joins: a `for` and the `where` after it that compare keys, and what looks like them
-//! (XQuery 3.1, sections 3.12.2 and 3.12.4).
+//! Rows of joins: a `for` and the `where` after it that compare keys, predicates that do, and what
+//! looks like them (XQuery 3.1, sections 3.12.2, 3.12.4 and 3.3.3).
 
 use crate::asked::{assert_answers, assert_answers_or_memory};
 
@@ -95,12 +95,98 @@ const JOINS: [(&str, &str); 22] = [
     ),
 ];
 
+/// Predicates that compare a step with a key keep what they keep one by one, and refuse as they do.
+const KEYED: [(&str, &str); 20] = [
+    (
+        "for $a in doc(\"b\")//book return string(doc(\"b\")//book[@id = $a/@id])",
+        "\"A\", \"B\"",
+    ),
+    (
+        "for $a in reverse(doc(\"b\")//book) return string(doc(\"b\")//book[$a/@id = @id])",
+        "\"B\", \"A\"",
+    ),
+    (
+        "for $a in doc(\"b\")//book return string(doc(\"b\")/lib/book[@id = $a/@id])",
+        "\"A\", \"B\"",
+    ),
+    (
+        "for $a in doc(\"b\")//book return count(doc(\"b\")//book[@id = $a/@none])",
+        "0, 0",
+    ),
+    (
+        "let $k := doc(\"b\")//book return doc(\"b\")//book[@id = $k/@id] ! string(.)",
+        "\"A\", \"B\"",
+    ),
+    (
+        "let $k := doc(\"b\")//@id return doc(\"b\")/lib/book[$k = @id] ! string(.)",
+        "\"A\", \"B\"",
+    ),
+    (
+        "let $d := document {element r {element n {\"3\"}, element n {\"2\"}, element n {\"2\"}}} return doc(\"b\")//book[@id = $d//n] ! string(.)",
+        "\"B\"",
+    ),
+    (
+        "let $d := document {element r {element n {\"3\"}, element n {\"2\"}}} return doc(\"b\")/lib/book[$d/r/n = @id] ! string(.)",
+        "\"B\"",
+    ),
+    (
+        "for $a in doc(\"b\")//book return count(doc(\"b\")//lib[book = $a])",
+        "1, 1",
+    ),
+    (
+        "for $a in doc(\"b\")//book return doc(\"b\")//book[@id = $a/@id][text() = $a/text()] ! string(.)",
+        "\"A\", \"B\"",
+    ),
+    (
+        "for $a in doc(\"b\")//book return doc(\"b\")//book[text() = $a/text()][1] ! string(.)",
+        "\"A\", \"B\"",
+    ),
+    (
+        "for $a in doc(\"b\")//book return doc(\"b\")//lib[book[@id = $a/@id] = \"B\"] ! count(book)",
+        "2",
+    ),
+    (
+        "let $k := () return count(doc(\"b\")//book[@id = $k/@id])",
+        "0",
+    ),
+    (
+        "let $k := (\"2\", \"1\") return doc(\"b\")//book[@id = $k] ! string(.)",
+        "\"A\", \"B\"",
+    ),
+    (
+        "let $k := (1, 2) return doc(\"b\")//book[@id = $k]",
+        "prof:DOUBLE",
+    ),
+    (
+        "let $k := (1, 2) return doc(\"b\")//book[@id = $k/@id]",
+        "XPTY0019",
+    ),
+    (
+        "let $k := (1, 2) return doc(\"b\")//none[@id = $k/@id]",
+        "()",
+    ),
+    (
+        "let $k := doc(\"b\")//book return (doc(\"b\")//book, 1)[@id = $k/@id]",
+        "XPTY0020",
+    ),
+    (
+        "let $k := doc(\"b\")//book return (1, doc(\"b\"))//book[@id = $k/@id]",
+        "XPTY0019",
+    ),
+    (
+        "let $k := doc(\"b\")//book return doc(\"b\")//book[@id = ./@id] ! string(.)",
+        "\"A\", \"B\"",
+    ),
+];
+
 #[test]
 fn joins(rt: HostRuntime) {
     assert_answers(&rt, &JOINS);
+    assert_answers(&rt, &KEYED);
 }
 
 #[test]
 fn each_allocation_of_joins(rt: HostRuntime) {
     assert_answers_or_memory(&rt, &JOINS);
+    assert_answers_or_memory(&rt, &KEYED);
 }

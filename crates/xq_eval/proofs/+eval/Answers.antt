@@ -32,7 +32,8 @@ use Rattle.xq_meaning.proofs.Turns.{begun_then}
 use Rattle.xq_forms.specs.Views.{order_specs, calling, ordering, after_double_slash, parents_below, plant_named, plant_unnamed, tuple_at, tuples_at, lists_of, spot_at, forget, frame_at, TupleIn, TuplesIn, GivesSequence, GivesTuples, FrameIn}
 use Rattle.xq_eval.specs.private.Results.{GivesKey, GivesKeys, GivesRows, GivesLists, GivesTests, GivesPlain}
 use Rattle.xq_forms.proofs.Growth.{extends_more, stays, frame_grown, frame_in_grown, items_grown, are_in_grown, item_at_grown, in_grown, tuple_grown, tuple_in_grown, tuples_grown, tuples_in_grown, goes_on_to}
-use Rattle.xq_regions.specs.declared.Axis.TheVariants.{Child}
+use Rattle.xq_regions.specs.declared.Axis.TheVariants.{Child, DescendantOrSelf}
+use Rattle.xq_meaning.specs.declared.node_tests.Test.TheVariants.{Any}
 use Rattle.xq_meaning.specs.declared.plans.PlanStep.TheVariants as plan_step
 use Rattle.std.specs.Prelude.{IsSome, Option}
 use Rattle.std.specs.Option.{option_copied}
@@ -72,7 +73,8 @@ use Rattle.xq_forms.specs.Reads.{rows_of, AreOf, HasGrown}
 use Rattle.xq_eval.specs.Reads.{rows_at}
 use Rattle.xq_eval.specs.private.Scanning.{IsLiteral, IsScan}
 use Rattle.xq_eval.proofs.DocumentScans.{other_form, literal_scans, call_scans, path_scans, are_scans, not_each, no_each, grown_more, not_grown, grown_from, grown_on, once, literal_value, document_value}
-use Rattle.xq_eval.proofs.TextSteps.{texts_kept, text_steps_are}
+use Rattle.xq_eval.proofs.TextSteps.{slashes_then}
+use Rattle.xq_eval.specs.private.Texts.{GivesFound}
 use Rattle.xq_eval.proofs.Counted.{only_text, first_same}
 use Rattle.xq_forms.specs.Reads.{IsAtom}
 use Rattle.xq_expressions.specs.declared.operators.AllowingEmpty.TheVariants.{No}
@@ -1167,8 +1169,8 @@ paths::step_list-returns-in_err-found-clause-gives g t c = λ clean inside items
 pub paths::step_list-returns-in_err-found-clause-goes : goal.paths::step_list-returns-in_err-found-clause-goes
 paths::step_list-returns-in_err-found-clause-goes g t c = goes_on_to c.loop-index.invariant.goes c.in_err-found.ensures.goes
 
-pub paths::step_list-loop-index-preserved-in-Some-children_by_text : goal.paths::step_list-loop-index-preserved-in-Some-children_by_text
-paths::step_list-loop-index-preserved-in-Some-children_by_text g t c =
+pub paths::step_list-loop-index-preserved-in-Some-2 : goal.paths::step_list-loop-index-preserved-in-Some-2
+paths::step_list-loop-index-preserved-in-Some-2 g t c =
     let i = c.loop-index.invariant in
     let old = g.W.TreeSource.forest c.args.world.now in
     let f = g.W.TreeSource.forest c.loop-index.world in
@@ -1177,23 +1179,28 @@ paths::step_list-loop-index-preserved-in-Some-children_by_text g t c =
     let frame = frame_at old held in
     let n = c.loop-index.index in
     let p = c.index-steps-index.result in
-    let chosen = c.in-Some-children_by_text.chosen in
-    let to = c.in-Some-children_by_text.ensures in
-    let q = plan_step.Each (plan.Step Child chosen.test.now (to.predicate ∷ [])) in
+    let some = c.in-Some-chosen_children in
+    let chosen = some.chosen in
+    let q = plan_step.Each (plan.Step Child chosen.test.now chosen.predicates.now) in
     let left = item_views c.loop-index.left in
-    let d : map item_view c.deref-in-Some-children_by_text.result.now ≡ left = ap (map item_view) c.deref-in-Some-children_by_text.ensures.value in
-    let next = sym c.at-next.ensures ∙ to.is_step in
+    let d : map item_view c.deref-in-Some-chosen_children.result.now ≡ left = ap (map item_view) c.deref-in-Some-chosen_children.ensures.value in
+    let next = sym c.at-next.ensures ∙ some.ensures in
     let are = ap (λ k. map plan_step_mean (drop k c.args.steps.now)) (none_taken c.loop-index.is_taken n c.if-is_taken.false) ∙ two_left plan_step_mean c.args.steps.now n p q (omega arith) c.index-steps-index.is next in
+    let double = c.is_double_slash.ensures c.if-is_double_slash.true in
+    let then_q = λ (ys : List Item). plan_step_mean q frame ys in
+    let f' = g.W.TreeSource.forest c.below_by_texts.new.world in
+    let kept = c.in-Some-2.kept in
     record {
-      goes = goes_on_to i.goes c.in_ok-kept.ensures.goes;
-      turns = turns_two _ _ _ (item_views c.in_ok-kept.kept) (plan_step_mean p) (plan_step_mean q) _ _ i.turns are c.in_ok-kept.ensures.goes.was_clean
+      goes = goes_on_to i.goes c.below_by_texts.ensures.goes;
+      turns = turns_two _ _ _ (item_views kept) (plan_step_mean p) (plan_step_mean q) _ _ i.turns are c.below_by_texts.ensures.goes.was_clean
           (λ clean inside is_in.
+          let within = tuple_in_grown i.goes.grows slots inside.0.slots_in in
           let env = sym (tuple_grown i.goes.grows slots inside.0.slots_in) in
-          let s = c.in_ok-kept.ensures.gives clean (subst (AreIn f) (sym d) is_in) slots to.predicate frame to.is_test env in
-          let after = λ (xs : List ItemView). go_on (after_double_slash chosen.test.now (items_at f xs) f) (λ ys. Forms.filtered frame ys (plan_mean to.predicate)) in
-          (s.0, text_steps_are slots chosen.predicate to.predicate to.is_test frame f env p q chosen.test.now (items_at f left) (c.is_double_slash.ensures c.if-is_double_slash.true) refl ∙ ap after (sym d) ∙ s.1));
+          let whole = go_on (Forms.scan DescendantOrSelf Any (items_at f (map item_view c.deref-in-Some-chosen_children.result.now)) f) then_q in
+          let s = subst (λ r. GivesFound whole f' (Ok r)) c.in-Some-2.is (c.in_ok-kept.ensures.gives clean within (subst (AreIn f) (sym d) is_in) frame env) in
+          (s.0, slashes_then p then_q frame (items_at f left) f double ∙ ap (λ xs. go_on (Forms.scan DescendantOrSelf Any (items_at f xs) f) then_q) (sym d) ∙ s.1));
       within = (let at = got_at c.args.steps.now (n + 1) q next in omega (arith, at.0));
-      reads = λ clean all tree h. absurd (no_each c.args.steps.now (n + 1) (plan.Step Child chosen.test.now (to.predicate ∷ [])) next all);
+      reads = λ clean all tree h. absurd (no_each c.args.steps.now (n + 1) (plan.Step Child chosen.test.now chosen.predicates.now) next all);
     }
 
 pub paths::step_list-returns-in_err-kept-clause-gives : goal.paths::step_list-returns-in_err-kept-clause-gives
@@ -1201,65 +1208,74 @@ paths::step_list-returns-in_err-kept-clause-gives g t c = λ clean inside items_
     let i = c.loop-index.invariant in
     let old = g.W.TreeSource.forest c.args.world.now in
     let f = g.W.TreeSource.forest c.loop-index.world in
-    let f' = g.W.TreeSource.forest c.double_slash_by_text.new.world in
     let held = c.args.frame in
     let slots = values_of held.slots.now in
     let frame = frame_at old held in
     let n = c.loop-index.index in
     let p = c.index-steps-index.result in
-    let chosen = c.in-Some-children_by_text.chosen in
-    let to = c.in-Some-children_by_text.ensures in
-    let q = plan_step.Each (plan.Step Child chosen.test.now (to.predicate ∷ [])) in
+    let some = c.in-Some-chosen_children in
+    let chosen = some.chosen in
+    let q = plan_step.Each (plan.Step Child chosen.test.now chosen.predicates.now) in
     let left = item_views c.loop-index.left in
-    let e = c.in_err-kept.field-0.0 in
-    let d : map item_view c.deref-in-Some-children_by_text.result.now ≡ left = ap (map item_view) c.deref-in-Some-children_by_text.ensures.value in
-    let next = sym c.at-next.ensures ∙ to.is_step in
+    let d : map item_view c.deref-in-Some-chosen_children.result.now ≡ left = ap (map item_view) c.deref-in-Some-chosen_children.ensures.value in
+    let next = sym c.at-next.ensures ∙ some.ensures in
     let are = ap (λ k. map plan_step_mean (drop k c.args.steps.now)) (none_taken c.loop-index.is_taken n c.if-is_taken.false) ∙ two_left plan_step_mean c.args.steps.now n p q (omega arith) c.index-steps-index.is next in
-    let after = λ (xs : List ItemView). go_on (after_double_slash chosen.test.now (items_at f xs) f) (λ ys. Forms.filtered frame ys (plan_mean to.predicate)) in
+    let double = c.is_double_slash.ensures c.if-is_double_slash.true in
+    let then_q = λ (ys : List Item). plan_step_mean q frame ys in
+    let f' = g.W.TreeSource.forest c.below_by_texts.new.world in
+    let e = c.in_err-kept.field-0.0 in
     handed_on item_views items_at AreIn _ f' e c.from_residual-in_err-kept.result c.from_residual-in_err-kept.ensures.1
-    (turns_stop_two _ _ _ item_views items_at AreIn (plan_step_mean p) (plan_step_mean q) _ f' e i.turns are c.double_slash_by_text.ensures.goes.was_clean
+    (turns_stop_two _ _ _ item_views items_at AreIn (plan_step_mean p) (plan_step_mean q) _ f' e i.turns are c.below_by_texts.ensures.goes.was_clean
     (λ clean inside is_in.
+    let within = tuple_in_grown i.goes.grows slots inside.0.slots_in in
     let env = sym (tuple_grown i.goes.grows slots inside.0.slots_in) in
-    subst (λ o. GivesSequence o f' (Err e)) (sym (text_steps_are slots chosen.predicate to.predicate to.is_test frame f env p q chosen.test.now (items_at f left) (c.is_double_slash.ensures c.if-is_double_slash.true) refl ∙ ap after (sym d)))
-    (c.in_err-kept.ensures.gives clean (subst (AreIn f) (sym d) is_in) slots to.predicate frame to.is_test env)) clean (inside, items_in))
+    subst (λ o. GivesSequence o f' (Err e)) (sym (slashes_then p then_q frame (items_at f left) f double ∙ ap (λ xs. go_on (Forms.scan DescendantOrSelf Any (items_at f xs) f) then_q) (sym d)))
+    (c.in_err-kept.ensures.gives clean within (subst (AreIn f) (sym d) is_in) frame env)) clean (inside, items_in))
 
 pub paths::step_list-returns-in_err-kept-clause-goes : goal.paths::step_list-returns-in_err-kept-clause-goes
-paths::step_list-returns-in_err-kept-clause-goes g t c = goes_on_to c.loop-index.invariant.goes c.in_err-kept.ensures.goes
+paths::step_list-returns-in_err-kept-clause-goes g t c = goes_on_to c.loop-index.invariant.goes c.below_by_texts.ensures.goes
 
 pub paths::step_list-returns-in_err-kept-clause-reads : goal.paths::step_list-returns-in_err-kept-clause-reads
 paths::step_list-returns-in_err-kept-clause-reads g t c = λ clean all tree h.
-    let chosen = c.in-Some-children_by_text.chosen in
-    let to = c.in-Some-children_by_text.ensures in
-    absurd (no_each c.args.steps.now (c.loop-index.index + 1) (plan.Step Child chosen.test.now (to.predicate ∷ [])) (sym c.at-next.ensures ∙ to.is_step) all)
+    let some = c.in-Some-chosen_children in
+    absurd (no_each c.args.steps.now (c.loop-index.index + 1) (plan.Step Child some.chosen.test.now some.chosen.predicates.now) (sym c.at-next.ensures ∙ some.ensures) all)
 
 pub paths::step_list-loop-index-preserved-in-Some-chosen_children : goal.paths::step_list-loop-index-preserved-in-Some-chosen_children
 paths::step_list-loop-index-preserved-in-Some-chosen_children g t c =
     let i = c.loop-index.invariant in
     let old = g.W.TreeSource.forest c.args.world.now in
     let f = g.W.TreeSource.forest c.loop-index.world in
-    let f' = g.W.TreeSource.forest c.parents_below.new.world in
-    let frame = frame_at old c.args.frame in
+    let held = c.args.frame in
+    let slots = values_of held.slots.now in
+    let frame = frame_at old held in
     let n = c.loop-index.index in
     let p = c.index-steps-index.result in
     let some = c.in-Some-chosen_children in
-    let test = some.test.now in
-    let q = plan_step.Each (plan.Step Child test some.ensures.0) in
+    let chosen = some.chosen in
+    let q = plan_step.Each (plan.Step Child chosen.test.now chosen.predicates.now) in
     let left = item_views c.loop-index.left in
-    let d : map item_view c.deref-in-Some-chosen_children.result.now ≡ left = ap (map item_view) c.deref-in-Some-chosen_children.ensures.value in
-    let next = sym c.at-next.ensures ∙ some.ensures.1 in
+    let d : map item_view c.deref-in-Some-chosen_children-2.result.now ≡ left = ap (map item_view) c.deref-in-Some-chosen_children-2.ensures.value in
+    let next = sym c.at-next.ensures ∙ some.ensures in
     let are = ap (λ k. map plan_step_mean (drop k c.args.steps.now)) (none_taken c.loop-index.is_taken n c.if-is_taken.false) ∙ two_left plan_step_mean c.args.steps.now n p q (omega arith) c.index-steps-index.is next in
-    let there = turns_from _ _ _ (item_views c.in_ok-parents.parents) (plan_step_mean p) (plan_step_mean q) _ f' i.turns are c.in_ok-parents.ensures.goes.was_clean
+    let double = c.is_double_slash.ensures c.if-is_double_slash.true in
+    let then_q = λ (ys : List Item). plan_step_mean q frame ys in
+    let f1 = g.W.TreeSource.forest c.below_by_texts.new.world in
+    let f' = g.W.TreeSource.forest c.parents_below.new.world in
+    let same : f1 ≡ f = c.in_ok-kept.ensures.keeps (c.in_default-2.is) in
+    let goes = goes_on_to c.below_by_texts.ensures.goes c.parents_below.ensures.goes in
+    let parents = item_views c.in_ok-parents.parents in
+    let there = turns_from _ _ _ parents (plan_step_mean p) (plan_step_mean q) _ f' i.turns are goes.was_clean
     (λ clean inside is_in.
-    let s = c.in_ok-parents.ensures.gives clean (subst (AreIn f) (sym d) is_in) in (
+    let s = subst (λ h. AreIn h left → AreIn f' parents × (parents_below chosen.test.now (items_at h left) h ≡ (Ok (items_at f' parents), f'))) same
+    (subst (λ xs. AreIn f1 xs → AreIn f' parents × (parents_below chosen.test.now (items_at f1 xs) f1 ≡ (Ok (items_at f' parents), f'))) d (λ xs_in. c.in_ok-parents.ensures.gives clean xs_in)) is_in in (
       s.0,
-      parents_below_is p q test some.ensures.0 frame (items_at f left) f (c.is_double_slash.ensures c.if-is_double_slash.true) refl
-          ∙ ap (λ o. go_on o (λ ys. plan_step_mean q frame ys)) (ap (λ xs. parents_below test (items_at f xs) f) (sym d) ∙ s.1),
+      parents_below_is p q chosen.test.now chosen.predicates.now frame (items_at f left) f double refl ∙ ap (λ o. go_on o then_q) s.1,
     )) in
     record {
-      goes = goes_on_to i.goes c.in_ok-parents.ensures.goes;
+      goes = goes_on_to i.goes goes;
       turns = turns_same _ _ _ _ there (sym (left_from plan_step_mean c.args.steps.now (n + 1) q next) ∙ ap (λ k. map plan_step_mean (drop k c.args.steps.now)) (sym (none_taken c.loop-index.is_taken (n + 1) c.if-is_taken.false)));
       within = subst (λ k. k ≤ length c.args.steps.now) (sym (none_taken c.loop-index.is_taken (n + 1) c.if-is_taken.false)) (omega arith);
-      reads = λ clean all tree h. absurd (no_each c.args.steps.now (n + 1) (plan.Step Child test some.ensures.0) next all);
+      reads = λ clean all tree h. absurd (no_each c.args.steps.now (n + 1) (plan.Step Child chosen.test.now chosen.predicates.now) next all);
     }
 
 pub paths::step_list-returns-in_err-parents-clause-gives : goal.paths::step_list-returns-in_err-parents-clause-gives
@@ -1267,25 +1283,40 @@ paths::step_list-returns-in_err-parents-clause-gives g t c = λ clean inside ite
     let i = c.loop-index.invariant in
     let old = g.W.TreeSource.forest c.args.world.now in
     let f = g.W.TreeSource.forest c.loop-index.world in
-    let f' = g.W.TreeSource.forest c.parents_below.new.world in
-    let frame = frame_at old c.args.frame in
+    let held = c.args.frame in
+    let slots = values_of held.slots.now in
+    let frame = frame_at old held in
     let n = c.loop-index.index in
     let p = c.index-steps-index.result in
     let some = c.in-Some-chosen_children in
-    let test = some.test.now in
-    let q = plan_step.Each (plan.Step Child test some.ensures.0) in
+    let chosen = some.chosen in
+    let q = plan_step.Each (plan.Step Child chosen.test.now chosen.predicates.now) in
     let left = item_views c.loop-index.left in
-    let e = c.in_err-parents.field-0.0 in
-    let d : map item_view c.deref-in-Some-chosen_children.result.now ≡ left = ap (map item_view) c.deref-in-Some-chosen_children.ensures.value in
-    let next = sym c.at-next.ensures ∙ some.ensures.1 in
+    let d : map item_view c.deref-in-Some-chosen_children-2.result.now ≡ left = ap (map item_view) c.deref-in-Some-chosen_children-2.ensures.value in
+    let next = sym c.at-next.ensures ∙ some.ensures in
     let are = ap (λ k. map plan_step_mean (drop k c.args.steps.now)) (none_taken c.loop-index.is_taken n c.if-is_taken.false) ∙ two_left plan_step_mean c.args.steps.now n p q (omega arith) c.index-steps-index.is next in
+    let double = c.is_double_slash.ensures c.if-is_double_slash.true in
     let then_q = λ (ys : List Item). plan_step_mean q frame ys in
+    let f1 = g.W.TreeSource.forest c.below_by_texts.new.world in
+    let f' = g.W.TreeSource.forest c.parents_below.new.world in
+    let same : f1 ≡ f = c.in_ok-kept.ensures.keeps (c.in_default-2.is) in
+    let goes = goes_on_to c.below_by_texts.ensures.goes c.parents_below.ensures.goes in
+    let e = c.in_err-parents.field-0.0 in
     handed_on item_views items_at AreIn _ f' e c.from_residual-in_err-parents.result c.from_residual-in_err-parents.ensures.1
-    (turns_stop_two _ _ _ item_views items_at AreIn (plan_step_mean p) (plan_step_mean q) _ f' e i.turns are c.parents_below.ensures.goes.was_clean
+    (turns_stop_two _ _ _ item_views items_at AreIn (plan_step_mean p) (plan_step_mean q) _ f' e i.turns are goes.was_clean
     (λ clean inside is_in.
-    subst (λ o. GivesSequence o f' (Err e)) (sym (parents_below_is p q test some.ensures.0 frame (items_at f left) f (c.is_double_slash.ensures c.if-is_double_slash.true) refl ∙ ap (λ xs. go_on (parents_below test (items_at f xs) f) then_q) (sym d)))
-    (go_on_stop item_views items_at AreIn item_views items_at AreIn (parents_below test (items_at f (map item_view c.deref-in-Some-chosen_children.result.now)) f) then_q f' e
-    (c.in_err-parents.ensures.gives clean (subst (AreIn f) (sym d) is_in)))) clean (inside, items_in))
+    let stop = subst (λ h. AreIn h left → GivesSequence (parents_below chosen.test.now (items_at h left) h) f' (Err e)) same
+    (subst (λ xs. AreIn f1 xs → GivesSequence (parents_below chosen.test.now (items_at f1 xs) f1) f' (Err e)) d (λ xs_in. c.in_err-parents.ensures.gives clean xs_in)) is_in in
+    subst (λ o. GivesSequence o f' (Err e)) (sym (parents_below_is p q chosen.test.now chosen.predicates.now frame (items_at f left) f double refl))
+    (go_on_stop item_views items_at AreIn item_views items_at AreIn (parents_below chosen.test.now (items_at f left) f) then_q f' e stop)) clean (inside, items_in))
+
+pub paths::step_list-returns-in_err-parents-clause-goes : goal.paths::step_list-returns-in_err-parents-clause-goes
+paths::step_list-returns-in_err-parents-clause-goes g t c = goes_on_to c.loop-index.invariant.goes (goes_on_to c.below_by_texts.ensures.goes c.parents_below.ensures.goes)
+
+pub paths::step_list-returns-in_err-parents-clause-reads : goal.paths::step_list-returns-in_err-parents-clause-reads
+paths::step_list-returns-in_err-parents-clause-reads g t c = λ clean all tree h.
+    let some = c.in-Some-chosen_children in
+    absurd (no_each c.args.steps.now (c.loop-index.index + 1) (plan.Step Child some.chosen.test.now some.chosen.predicates.now) (sym c.at-next.ensures ∙ some.ensures) all)
 
 pub paths::step_list-loop-index-preserved : goal.paths::step_list-loop-index-preserved
 paths::step_list-loop-index-preserved g t c =
@@ -1352,11 +1383,6 @@ paths::step_list-returns-in_err-found-clause-reads g t c = λ clean all tree h.
     let at = got_at c.args.steps.now (n + 1) (plan_step.Scan Child c.in-Some.test.now) (sym c.at-next.ensures ∙ c.in-Some.ensures) in
     let before = subst (λ k. HasGrown (g.W.TreeSource.meter c.args.world.now) (g.W.TreeSource.meter c.loop-index.world) (k * rows_of old tree)) (none_taken c.loop-index.is_taken n c.if-is_taken.false) w.1 in
     grown_on old f tree n 2 (length c.args.steps.now) i.goes.grows h.has_tree (omega (arith, at.0)) before (c.double_slash.ensures.reads clean tree (subst (AreOf f tree) (sym d) w.0))
-
-pub paths::step_list-returns-in_err-parents-clause-reads : goal.paths::step_list-returns-in_err-parents-clause-reads
-paths::step_list-returns-in_err-parents-clause-reads g t c = λ clean all tree h.
-    let some = c.in-Some-chosen_children in
-    absurd (no_each c.args.steps.now (c.loop-index.index + 1) (plan.Step Child some.test.now some.ensures.0) (sym c.at-next.ensures ∙ some.ensures.1) all)
 
 pub paths::step_list-returns-in_err-left-clause-reads : goal.paths::step_list-returns-in_err-left-clause-reads
 paths::step_list-returns-in_err-left-clause-reads g t c = λ clean all tree h.
@@ -3647,20 +3673,33 @@ evaluation::keep-returns-in-Some-clause-gives g t c = λ clean inside items_in.
     let told = subst (λ r. IfSome r (λ (v : ByPosition). IsPositional p (length items) v)) c.in-Some.is c.in_ok-value.ensures in
     c.keep_positional.ensures f (frame_at f c.args.frame) p told items_in
 
-pub evaluation::keep-returns-in-Some-text_test_at-clause-gives : goal.evaluation::keep-returns-in-Some-text_test_at-clause-gives
-evaluation::keep-returns-in-Some-text_test_at-clause-gives g t c = λ clean inside items_in.
+pub evaluation::keep-returns-in-Some-2-clause-gives : goal.evaluation::keep-returns-in-Some-2-clause-gives
+evaluation::keep-returns-in-Some-2-clause-gives g t c = λ clean inside items_in.
     let f = g.W.TreeSource.forest c.args.world.now in
-    let f' = g.W.TreeSource.forest c.keep_by_text.new.source in
-    let held = c.args.frame in
-    let some = c.in-Some-text_test_at in
-    texts_kept (values_of held.slots.now) some.test c.args.predicate.now some.ensures.test (frame_at f held) f refl f' (map item_view c.args.items.now) (item_views c.in_ok-keep_by_text.field-0)
-    some.ensures.nodes items_in (c.in_ok-keep_by_text.ensures.kept clean items_in) c.keep_by_text.ensures.keeps
+    let f' = g.W.TreeSource.forest c.keep_by_texts.new.world in
+    let whole = Forms.filtered (frame_at f c.args.frame) (items_at f (map item_view c.args.items.now)) (plan_mean c.args.predicate.now) f in
+    subst (λ r. IfSome r (λ (kept : Vec Item_held). GivesSequence whole f' (Ok kept))) c.in-Some-2.is (c.in_ok-found.ensures.gives clean inside items_in)
 
-pub evaluation::keep-returns-in-Some-text_test_at-clause-goes : goal.evaluation::keep-returns-in-Some-text_test_at-clause-goes
-evaluation::keep-returns-in-Some-text_test_at-clause-goes g t c = same_goes c.keep_by_text.ensures.keeps c.keep_by_text.ensures.was_clean
+pub evaluation::keep-returns-in-Some-2-clause-goes : goal.evaluation::keep-returns-in-Some-2-clause-goes
+evaluation::keep-returns-in-Some-2-clause-goes g t c = same_goes c.keep_by_texts.ensures.keeps c.keep_by_texts.ensures.was_clean
 
-pub evaluation::keep-returns-in_err-keep_by_text-clause-goes : goal.evaluation::keep-returns-in_err-keep_by_text-clause-goes
-evaluation::keep-returns-in_err-keep_by_text-clause-goes g t c = same_goes c.keep_by_text.ensures.keeps c.keep_by_text.ensures.was_clean
+pub evaluation::keep-returns-in_err-found-clause-goes : goal.evaluation::keep-returns-in_err-found-clause-goes
+evaluation::keep-returns-in_err-found-clause-goes g t c = same_goes c.keep_by_texts.ensures.keeps c.keep_by_texts.ensures.was_clean
+
+pub evaluation::keep-loop-index-init : goal.evaluation::keep-loop-index-init
+evaluation::keep-loop-index-init g t c =
+    let old = g.W.TreeSource.forest c.args.world.now in
+    let now = g.W.TreeSource.forest c.keep_by_texts.new.world in
+    let same : now ≡ old = c.keep_by_texts.ensures.keeps in
+    let none = c.new-kept.ensures.items in
+    let items = c.args.items.now in
+    let act = more (Forms.passed (plan_mean c.args.predicate.now) (frame_at old c.args.frame)) in
+    let xs = items_at old (map item_view items) in
+    let many : length xs ≡ length items = length-map (map item_view items) (item_at old) ∙ length-map items item_view in
+    record {
+      goes = same_goes same c.keep_by_texts.ensures.was_clean;
+      turns = record { rest = λ clean p. (subst (λ xs. AreIn now (map item_view xs)) (sym none) tt, (λ i. in_turn act (items_at (same i) (map item_view (none i))) (focuses_from 1 (length items) xs) (same i)) ∙ sym (ap (λ n. in_turn act [] (focuses_from 1 n xs) old) many)) };
+    }
 
 pub evaluation::keep-returns-in-Some-clause-goes : goal.evaluation::keep-returns-in-Some-clause-goes
 evaluation::keep-returns-in-Some-clause-goes g t c = stays _ _

@@ -1,18 +1,15 @@
--- Steps to children with a predicate that asks for a text.
-use Rattle.std.specs.Prelude.{◌≡◌, [], ◌∷◌, Option, Some}
-use Rattle.xq_regions.specs.Items.{ItemView}
-use Rattle.xq_regions.specs.Tuples.{Tuple}
-use Rattle.xq_regions.specs.declared.Axis.TheVariants.{Child}
-use Rattle.xq_meaning.specs.declared.plans.Plan.{Plan}
-use Rattle.xq_meaning.specs.declared.plans.Plan.TheVariants.{Step}
-use Rattle.xq_meaning.specs.declared.plans.PlanStep.{PlanStep}
-use Rattle.xq_meaning.specs.declared.plans.PlanStep.TheVariants.{Each}
-use Rattle.xq_joins.specs.Equalities.{IsTextTest}
-use Rattle.xq_eval.specs.declared.texts.TextStep.{TextStep}
+-- What is given where something was found.
+use Rattle.std.specs.Prelude.{List, Option, Some, None, Result, Ok, Err}
+use Rattle.std.specs.Global.{Vec}
+use Rattle.xq_atoms.specs.declared.refusals.Fault.{Fault}
+use Rattle.xq_regions.specs.declared.items.Item.{Item as Held}
+use Rattle.xq_regions.specs.Tree.{Tree}
+use Rattle.xq_meaning.specs.Items.{Item}
+use Rattle.xq_meaning.specs.Doing.{Outcome}
+use Rattle.xq_forms.specs.Views.{GivesSequence}
 
--- there is a step, and it is this one
-pub record IsToTexts (slots : Tuple ItemView) (found : TextStep) (next : Option PlanStep) : Type 0
-  where
-    pub predicate : Plan
-    pub is_test : IsTextTest slots found.predicate predicate
-    pub is_step : next ≡ Some (Each (Step Child found.test.now (predicate ∷ [])))
+-- a sequence that was found, or the refusal, is what the outcome says
+abbrev pub GivesFound : Outcome (List Item) → List Tree → Result (Option (Vec Held)) Fault → Type 0
+GivesFound outcome trees (Ok (Some items)) = GivesSequence outcome trees (Ok items)
+GivesFound outcome trees (Ok None) = Unit {0}
+GivesFound outcome trees (Err fault) = GivesSequence outcome trees (Err fault)

@@ -1,0 +1,27 @@
+-- Predicates that compare a step from the item with a key.
+use Rattle.std.specs.Prelude.{List, map, Bool, string_bytes}
+use Rattle.xq_atoms.specs.Text.{Text}
+use Rattle.xq_regions.specs.Items.{ItemView}
+use Rattle.xq_regions.specs.Tree.{Tree}
+use Rattle.xq_regions.specs.Tuples.{Tuple}
+use Rattle.xq_meaning.specs.declared.plans.Plan.{Plan}
+use Rattle.xq_meaning.specs.Items.{Place}
+use Rattle.xq_meaning.specs.Steps.{axis_nodes}
+use Rattle.xq_joins.specs.declared.keyed.KeyedTest.{KeyedTest}
+use Rattle.xq_joins.specs.Equalities.{on_nodes, Asks}
+use Rattle.xq_joins.specs.Keys.{text_at, meet}
+
+-- the step of the test leads from the node to one that has one of its texts
+abbrev pub leads_to_key : List Tree → KeyedTest → Place → Bool
+leads_to_key trees found p =
+    meet (map string_bytes found.texts.items)
+    (map (text_at trees) (axis_nodes trees found.axis found.test.now p))
+
+-- the same of an item that code holds, which has to be a node
+abbrev pub passes_key : List Tree → KeyedTest → ItemView → Bool
+passes_key trees found = on_nodes trees (leads_to_key trees found)
+
+-- over these trees, where the slots hold these values, the plan says of a node whether it passes
+-- the test, and refuses and constructs nothing
+abbrev pub IsKeyedTest : List Tree → Tuple ItemView → KeyedTest → Plan → Type 0
+IsKeyedTest trees slots found p = Asks trees slots (leads_to_key trees found) p
