@@ -1,6 +1,6 @@
 -- What predicates mean that compare one step with a key.
 use Rattle.std.proofs.Common.{◌≡◌, ℕ, List, [], map, false, Ok, refl, sym, ◌∙◌, ap}
-use Rattle.std.specs.Prelude.{filter, string_bytes}
+use Rattle.std.specs.Prelude.{filter}
 use Rattle.std.specs.List.{AllByRecursion}
 use Rattle.xq_regions.specs.Items.{ItemView, Place as NodeAt, Value}
 use Rattle.xq_regions.specs.Tree.{Tree}
@@ -19,7 +19,7 @@ use Rattle.xq_joins.specs.declared.keyed.Keyed.{Keyed}
 use Rattle.xq_joins.specs.declared.keyed.KeyedTest.{KeyedTest}
 use Rattle.xq_joins.specs.Equalities.{leads_to_text, passes_text, at_node}
 use Rattle.xq_joins.specs.Keyed.{leads_to_key, passes_key, IsKeyedTest}
-use Rattle.xq_joins.specs.Keys.{IsNode, scans, nodes_after, text_at, key_texts, meet, places_among, texts_from}
+use Rattle.xq_joins.specs.Keys.{IsNode, scans, nodes_after, text_at, key_texts, meet, places_among}
 use Rattle.xq_joins.specs.private.Keyed.{ComparesKey, HasTexts}
 use Rattle.xq_joins.specs.private.Shapes.{IsKey, equality}
 use Rattle.xq_joins.proofs.Clauses.{nodes_read, filter_same}

@@ -1,6 +1,5 @@
 -- Predicates that compare a step from the item with a key.
 use Rattle.std.specs.Prelude.{List, map, Bool, string_bytes}
-use Rattle.xq_atoms.specs.Text.{Text}
 use Rattle.xq_regions.specs.Items.{ItemView}
 use Rattle.xq_regions.specs.Tree.{Tree}
 use Rattle.xq_regions.specs.Tuples.{Tuple}

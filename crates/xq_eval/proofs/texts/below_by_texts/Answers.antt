@@ -1,10 +1,9 @@
-use Rattle.std.proofs.Common.{◌≡◌, ◌∷◌, [], ◌∙◌, refl, ap, sym, subst, map, List, Ok, Err, arith}
+use Rattle.std.proofs.Common.{◌≡◌, ◌∷◌, [], ap, sym, subst, map, List, Ok, Err, arith}
 use Rattle.std.specs.Prelude.{IfSome}
 use Rattle.xq_regions.specs.declared.Axis.TheVariants.{Child, DescendantOrSelf}
 use Rattle.xq_meaning.specs.declared.node_tests.Test.TheVariants.{Any}
-use Rattle.xq_regions.specs.Items.{item_view, item_views}
+use Rattle.xq_regions.specs.Items.{item_view}
 use Rattle.xq_regions.specs.Tree.{Tree}
-use Rattle.xq_meaning.specs.declared.plans.Plan.{Plan}
 use Rattle.xq_meaning.specs.declared.plans.Plan.TheVariants as plan
 use Rattle.xq_meaning.specs.declared.plans.PlanStep.TheVariants as plan_step
 use Rattle.xq_tuples.specs.Views.{values_of}

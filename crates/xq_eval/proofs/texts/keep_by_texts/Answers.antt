@@ -1,4 +1,4 @@
-use Rattle.std.proofs.Common.{◌≡◌, ◌∙◌, refl, sym, subst, map, List}
+use Rattle.std.proofs.Common.{◌≡◌, ◌∙◌, refl, subst, map, List}
 use Rattle.std.specs.Prelude.{filter, IfSome}
 use Rattle.std.specs.List.{AllByRecursion}
 use Rattle.xq_regions.specs.Items.{item_view, item_views}
