@@ -31,6 +31,9 @@ QUERIES = (
     "let $k := document {{element q {{{path}}}}} return ($k//{name}, count($k//{name}))",
     'for $x in doc("d")//{other} group by $g := count($x//{name}) return ($g, count($x))',
     "some $x in {path} satisfies $x//{name}",
+    'doc("d")//{name}[@id = "{number}"]',
+    'for $k in ({path})[position() <= 9] return count(doc("d")//{name}[@id = $k/@id])',
+    'let $k := {path} return count(doc("d")//{other}[$k/{name} = {name}])',
 )
 GROWN = 'document {{element r {{doc("d")/r/*[position() <= 30], element {name} {{"new"}}}}}}'
 MOST_SHOWN = 5

@@ -1,6 +1,6 @@
-//! Predicates that compare a step from the item with a key, the texts of nodes in a slot or of those
-//! to which scans lead from them (XQuery 3.1, sections 3.3.3 and 3.7.2): the key is the same at each
-//! item, and is read once.
+//! Predicates that compare a step from the item with a key, the texts of nodes in a slot or of
+//! those to which scans lead from them (XQuery 3.1, sections 3.3.3 and 3.7.2): the key is the same
+//! at each item, and is read once.
 ghost use Rattle.std.specs.Prelude.{◌≡◌, List, map, filter, string_bytes, IfOk, IfSome};
 ghost use Rattle.std.specs.List.{AllByRecursion};
 ghost use Rattle.xq_regions.specs.Items.{item_view, item_views};
@@ -62,8 +62,8 @@ fn compared(predicate: &Plan) -> Option<Keyed<'_>>
     Some(Keyed { axis, test, key })
 }
 
-/// The test with the texts that the key has where the slots hold these values, for these items. None
-/// where there is no item, or where an item or what the key starts from is no node.
+/// The test with the texts that the key has where the slots hold these values, for these items.
+/// None where there is no item, or where an item or what the key starts from is no node.
 pub fn with_texts<'a, L: RowLender>(
     alloc: Global,
     source: &mut L,

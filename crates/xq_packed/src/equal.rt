@@ -56,8 +56,8 @@ fn is_same_name(
     true
 }
 
-/// Whether two rows are the same but for their values, which end as far after the places where those
-/// of their runs begin.
+/// Whether two rows are the same but for their values, which end as far after the places where
+/// those of their runs begin.
 #[inline]
 fn is_alike(
     known: &mut [Option<(u32, u32)>],
@@ -134,8 +134,8 @@ impl PackedRows {
             && self.value_at(at) == other.value_at(at)
     }
 
-    /// A place from one on, and not after another, up to which the rows are the same as others: where
-    /// many are compared together, they are up to there.
+    /// A place from one on, and not after another, up to which the rows are the same as others:
+    /// where many are compared together, they are up to there.
     fn same_runs(&self, other: &PackedRows, low: usize, high: usize) -> usize
         requires order { low ≤ high }
         requires mine { high ≤ length self.now.rows }

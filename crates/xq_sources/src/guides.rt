@@ -53,8 +53,8 @@ impl Guide {
         Ok(())
     }
 
-    /// Of each level, where the last row lies that has it, of the last row of which the parent is kept
-    /// and those above that row.
+    /// Of each level, where the last row lies that has it, of the last row of which the parent is
+    /// kept and those above that row.
     fn lasts(&self, rows: &LentRows<'_>) -> [u32; LEVELS] {
         let mut lasts = [0; LEVELS];
         let mut place = self.parents.len().saturating_sub(1);

@@ -296,8 +296,8 @@ impl<'a> LentRows<'a> {
         row
     }
 
-    /// A place from one among them on up to which the rows are the same as others: packed rows are the
-    /// same up to the first that isn't. Of others nothing is told.
+    /// A place from one among them on up to which the rows are the same as others: packed rows are
+    /// the same up to the first that isn't. Of others nothing is told.
     pub fn same_until(&self, other: &LentRows<'_>, low: usize) -> usize
         requires mine { low ≤ length self.now }
         requires its { low ≤ length other.now }
