@@ -9,3 +9,4 @@ pub mod LoneTexts
 pub mod Valued
 pub mod Told
 pub mod Keying
+pub mod Deciding

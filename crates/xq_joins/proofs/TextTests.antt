@@ -128,7 +128,7 @@ module _ (slots : Tuple ItemView) (found : TextTest) (near other : Plan) (is : n
 
 -- # Which plans are such tests with a node at hand
 
-axis_ordered : (f : List Tree) (a : Axis) (of : Test) (n : Spot) → HasNode f n.tree n.pre → in_document_order f (flat_map (axis_nodes f a of) (node_at f n ∷ [])) ≡ axis_nodes f a of (node_at f n)
+pub axis_ordered : (f : List Tree) (a : Axis) (of : Test) (n : Spot) → HasNode f n.tree n.pre → in_document_order f (flat_map (axis_nodes f a of) (node_at f n ∷ [])) ≡ axis_nodes f a of (node_at f n)
 axis_ordered f a of n h =
     let ps = places_on a of (tree_at f n.tree) n.pre in
     let on = from_one f a of n ps (map (λ p. NodeAt (spot n.tree p)) ps) h refl refl in

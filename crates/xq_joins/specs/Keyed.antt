@@ -1,10 +1,13 @@
 -- Predicates that compare a step from the item with a key.
-use Rattle.std.specs.Prelude.{List, map, Bool, string_bytes}
+use Rattle.std.specs.Prelude.{List, [], ◌∷◌, map, Bool, string_bytes}
 use Rattle.xq_regions.specs.Items.{ItemView}
 use Rattle.xq_regions.specs.Tree.{Tree}
 use Rattle.xq_regions.specs.Tuples.{Tuple}
 use Rattle.xq_meaning.specs.declared.plans.Plan.{Plan}
-use Rattle.xq_meaning.specs.Items.{Place}
+use Rattle.xq_meaning.specs.Doing.{Doing, first_that}
+use Rattle.xq_meaning.specs.Forms as Forms
+use Rattle.xq_meaning.specs.Items.{Place, Item}
+use Rattle.xq_meaning.specs.PlanMeaning.{Frame, opened, plan_mean}
 use Rattle.xq_meaning.specs.Steps.{axis_nodes}
 use Rattle.xq_joins.specs.declared.keyed.KeyedTest.{KeyedTest}
 use Rattle.xq_joins.specs.Equalities.{on_nodes, Asks}
@@ -24,3 +27,11 @@ passes_key trees found = on_nodes trees (leads_to_key trees found)
 -- the test, and refuses and constructs nothing
 abbrev pub IsKeyedTest : List Tree → Tuple ItemView → KeyedTest → Plan → Type 0
 IsKeyedTest trees slots found p = Asks trees slots (leads_to_key trees found) p
+
+-- # In a quantified expression
+
+-- XQuery 3.1, 3.16: whether the test has the wanted truth with one of these items in the next slot;
+-- it isn't evaluated with those after the first that has
+abbrev pub first_with : Bool → Plan → List Item → Frame → Doing Bool
+first_with wanted p xs frame = first_that wanted (λ x.
+    Forms.tested (plan_mean p) (Forms.in_env frame (opened frame.env (x ∷ [])))) xs

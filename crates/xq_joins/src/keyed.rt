@@ -181,7 +181,7 @@ fn leads_to_key<L: RowLender>(
 }
 
 /// Whether the item is a node that passes the test.
-fn passes_key<L: RowLender>(
+pub fn passes_key<L: RowLender>(
     alloc: Global,
     source: &mut L,
     item: &Item,

@@ -6,6 +6,7 @@
 #![tactic(auto)]
 
 mod atoms;
+mod decisions;
 mod equalities;
 mod joins;
 mod keyed;
@@ -15,6 +16,7 @@ mod shapes;
 mod values;
 
 pub use atoms::{atom_of, atom_of_call};
+pub use decisions::decided_by_key;
 pub use equalities::{NodeTest, TextTest, keep_by_text, leads_to_text, node_test, text_test};
 pub use joins::{Join, Key, join_at};
 pub use keyed::{KeyedTest, keep_by_key, keyed_test, only_text_test};

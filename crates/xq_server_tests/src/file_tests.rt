@@ -122,7 +122,7 @@ const REFUSED: [&[u8]; 5] = [
 #[test]
 fn refused_files(rt: HostRuntime) -> Result<(), Fail> {
     make_folder(&rt, "xq_server_refused")?;
-    for bytes in REFUSED {
+    for bytes in &REFUSED {
         let path = "xq_server_refused/x";
         assert!(rt; refuse_file(&rt, path, "xq_server_refused/x-wal", bytes)?);
     }

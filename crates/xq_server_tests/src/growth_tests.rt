@@ -3,7 +3,7 @@
 //! one.
 
 use crate::rows::{Row, WORKED_ROWS};
-use crate::servers::MemoryServer;
+use crate::servers::{MemoryServer, run_bytes};
 use crate::tests::{frame, is_reply};
 use sqlite::Alter;
 use std::alloc::{AllocError, Global};
@@ -40,7 +40,7 @@ fn answer_of<S: Alter + Drop>(
     row: &Row,
 ) -> Answer {
     let mut out = Vec::new(alloc);
-    match server.run(request, &mut out) {
+    match run_bytes(server, request, &mut out) {
         End::Finished if is_reply(&out, 1, row.reply()) => Answer::Own,
         End::Finished if is_reply(&out, 1, (2, b"memory")) => Answer::Memory,
         End::Finished if is_reply(&out, 1, (2, b"store")) => Answer::Store,
@@ -109,7 +109,7 @@ fn each_allocation_of_the_worked_rows(rt: HostRuntime) -> Result<(), Fail> {
     let alloc = rt.alloc();
     let mut memory = MemoryServer::new(alloc).or_else(|_want| MemoryServer::new(alloc))?;
     let mut fate = Fate::Up;
-    for rows in WORKED_ROWS {
+    for rows in &WORKED_ROWS {
         fate = fate_of_rows(alloc, &mut memory.server, fate, rows)?;
     }
     assert!(rt; !matches!(fate, Fate::Wrong));

@@ -1,7 +1,7 @@
 //! Texts that are long or nest deeply, and frames that are cut anywhere.
 
 use crate::rows::{FIRST_ROWS, PUT_B};
-use crate::servers::MemoryServer;
+use crate::servers::{MemoryServer, run_bytes};
 use crate::tests::{check_groups, frame, is_answered};
 use std::alloc::{AllocError, Global};
 use std::process::Abort;
@@ -100,7 +100,7 @@ fn cut_anywhere(rt: HostRuntime) -> Result<(), Fail> {
     assert_eq!(rt; whole.len(), 128);
     for length in 1..whole.len() {
         let mut out = Vec::new(rt.alloc());
-        let end = memory.server.run(&whole[..length], &mut out);
+        let end = run_bytes(&mut memory.server, &whole[..length], &mut out);
         assert!(rt; end == End::Cut && out.is_empty(), "after {length} bytes");
         assert!(rt; is_answered(rt.alloc(), &mut memory.server, 3, (b'L', b""), (0, b"()"))?);
     }

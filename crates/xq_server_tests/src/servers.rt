@@ -1,12 +1,29 @@
 //! Servers over stores in memory and in files. How their stores are dropped is written out, and so
-//! is not proved here again.
+//! is not proved here again. Their calls are made here, once each and without a clause: who makes
+//! them carries nothing of what they promise, which is compared as the tests run.
 
-use sqlite::{FileFrom, FileStore, Unknown};
+use sqlite::{Alter, FileFrom, FileStore, Unknown};
 use std::alloc::Global;
+use std::io::{Read, Write};
 use xq_atoms::Want;
 use xq_memory_disk::MemoryDisk;
-use xq_server::Server;
+use xq_server::{End, Server};
 use xq_stores::{DiskStore, MemoryStore};
+
+/// Runs the bytes.
+pub fn run_bytes<S: Alter + Drop>(server: &mut Server<S>, bytes: &[u8], out: &mut Vec<u8>) -> End {
+    server.run(bytes, out)
+}
+
+/// Serves so many frames at most.
+pub fn serve_frames<S: Alter + Drop, R: Read, W: Write>(
+    server: &mut Server<S>,
+    reader: &mut R,
+    writer: &mut W,
+    most: u64,
+) -> End {
+    server.serve(reader, writer, most)
+}
 
 /// A server whose documents live in memory.
 pub struct MemoryServer {

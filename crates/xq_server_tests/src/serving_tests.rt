@@ -2,7 +2,7 @@
 
 use crate::rows::{DROPPING_ROWS, FIRST_ROWS, LAST_ROWS, NODE_ROWS, PATH_ROWS, Row};
 use crate::scripts::{Sink, Source};
-use crate::servers::MemoryServer;
+use crate::servers::{MemoryServer, run_bytes, serve_frames};
 use crate::tests::{INPUTS, frame, is_answered};
 use std::process::Abort;
 use std::test::Fail;
@@ -17,12 +17,12 @@ fn serve_as_run(
     piece: usize,
 ) {
     let mut replies = Vec::new(rt.alloc());
-    let end = ran.server.run(input, &mut replies);
+    let end = run_bytes(&mut ran.server, input, &mut replies);
     let mut source = Source::new(input);
     source.piece = piece;
     let mut sink = Sink::new(Vec::new(rt.alloc()));
     sink.piece = piece;
-    let served_end = served.server.serve(&mut source, &mut sink, u64::MAX);
+    let served_end = serve_frames(&mut served.server, &mut source, &mut sink, u64::MAX);
     assert_eq!(rt; served_end, end);
     assert_eq!(rt; sink.taken.as_slice(), replies.as_slice());
 }
@@ -51,10 +51,10 @@ fn serve_all_as_run(
     (served, ran): (&mut MemoryServer, &mut MemoryServer),
     piece: usize,
 ) -> Result<(), Fail> {
-    for rows in SERVED {
+    for rows in &SERVED {
         serve_rows_as_run(rt, (&mut *served, &mut *ran), rows, piece)?;
     }
-    for (input, _, _) in INPUTS {
+    for (input, _, _) in &INPUTS {
         serve_as_run(rt, (&mut *served, &mut *ran), input, piece);
     }
     Ok(())
@@ -173,7 +173,7 @@ fn check_replies(
     replies: &[u8],
 ) -> Result<(), Fail> {
     let mut memory = MemoryServer::new(rt.alloc())?;
-    assert_eq!(rt; memory.server.serve(source, sink, most), end);
+    assert_eq!(rt; serve_frames(&mut memory.server, source, sink, most), end);
     assert_eq!(rt; Some(sink.taken.as_slice()), replies.get(..written));
     Ok(())
 }
@@ -238,13 +238,16 @@ fn flushes(rt: HostRuntime) -> Result<(), Fail> {
     check_services(&rt, &[STUCK])
 }
 
+/// Bounds on frames, how many bytes of the replies are written, and how many the reader has left.
+const BOUNDS: [(u64, usize, usize); 4] = [(0, 0, 27), (1, 11, 18), (2, 22, 9), (3, 33, 0)];
+
 /// The bound on frames ends the service before the next is read.
 #[test]
 fn bounds(rt: HostRuntime) -> Result<(), Fail> {
-    for (bound, written, wanted) in [(0, 0, 27), (1, 11, 18), (2, 22, 9), (3, 33, 0)] {
-        let outcome = (bound, End::Bound, written);
+    for (bound, written, wanted) in &BOUNDS {
+        let outcome = (*bound, End::Bound, *written);
         let (left, _flushed) = check_service(&rt, ((27, 0, 0, true), ANY, outcome))?;
-        assert_eq!(rt; left, wanted);
+        assert_eq!(rt; left, *wanted);
     }
     Ok(())
 }
@@ -259,22 +262,25 @@ fn carries_out_what_it_cannot_tell(rt: HostRuntime) -> Result<(), Fail> {
     let mut memory = MemoryServer::new(rt.alloc())?;
     let mut sink = Sink::new(Vec::new(rt.alloc()));
     sink.room = 3;
-    let end = memory.server.serve(&mut Source::new(STORES), &mut sink, 10);
+    let end = serve_frames(&mut memory.server, &mut Source::new(STORES), &mut sink, 10);
     assert_eq!(rt; end, End::WriteFault);
     let addresses: (u8, &[u8]) = (0, b"\"a\"");
     assert!(rt; is_answered(rt.alloc(), &mut memory.server, 1, (b'L', b""), addresses)?);
     Ok(())
 }
 
+/// How much a writer takes, the end, and how many bytes are written.
+const ROOMS: [(usize, End, usize); 2] = [(usize::MAX, End::TooLong, 18), (17, End::WriteFault, 17)];
+
 /// A length over the limit is answered, and nothing after it is read; its reply may find a fault.
 #[test]
 fn too_long(rt: HostRuntime) -> Result<(), Fail> {
-    for (room, end, written) in [(usize::MAX, End::TooLong, 18), (17, End::WriteFault, 17)] {
+    for (room, end, written) in &ROOMS {
         let mut source = Source::new(b"\x00\x10\x01\x01rest");
         let mut sink = Sink::new(Vec::new(rt.alloc()));
-        sink.room = room;
+        sink.room = *room;
         let reply = b"\x00\x00\x00\x0e\x00\x00\x00\x00\x01prof:LONG";
-        check_replies(&rt, (&mut source, &mut sink), (10, end, written), reply)?;
+        check_replies(&rt, (&mut source, &mut sink), (10, *end, *written), reply)?;
         assert_eq!(rt; source.bytes, b"rest".as_slice());
     }
     Ok(())

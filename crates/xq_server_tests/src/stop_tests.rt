@@ -3,6 +3,7 @@
 //! it; after its own reply those after it.
 
 use crate::rows::{DOC_B, LIBRARY, PUT_B, Row};
+use crate::servers::run_bytes;
 use crate::tests::{frame, is_reply};
 use sqlite::Alter;
 use std::alloc::Global;
@@ -17,7 +18,7 @@ use xq_stops::{Run, Stop, StoppingStore, Task, wrong_run};
 fn send<S: Alter + Drop>(alloc: Global, server: &mut Server<S>, row: &Row) -> Result<bool, Want> {
     let mut out = Vec::new(alloc);
     let (kind, body) = row.request();
-    let end = server.run(&frame(alloc, 1, kind, body)?, &mut out);
+    let end = run_bytes(server, &frame(alloc, 1, kind, body)?, &mut out);
     if is_reply(&out, 1, (2, b"store")) {
         return Err(Want::Store);
     }

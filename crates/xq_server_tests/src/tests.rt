@@ -8,7 +8,7 @@ use crate::rows::{
     CONTENT_ROWS, DOC_B, DROPPING_ROWS, FIRST_ROWS, FUNCTION_ROWS, LAST_ROWS, LIBRARY, LIMIT_ROWS,
     NODE_ROWS, NUMBER_ROWS, PATH_ROWS, PUT_B, QUERIES, RANGE_ROWS, Row, STATIC_ROWS, TUPLE_ROWS,
 };
-use crate::servers::MemoryServer;
+use crate::servers::{MemoryServer, run_bytes};
 use sqlite::Alter;
 use std::alloc::{AllocError, Global};
 use std::process::Abort;
@@ -46,7 +46,7 @@ pub fn is_answered<S: Alter + Drop>(
     wanted: (u8, &[u8]),
 ) -> Result<bool, AllocError> {
     let mut out = Vec::new(alloc);
-    let end = server.run(&frame(alloc, tag, kind, body)?, &mut out);
+    let end = run_bytes(server, &frame(alloc, tag, kind, body)?, &mut out);
     Ok(end == End::Finished && is_reply(&out, tag, wanted))
 }
 
@@ -141,10 +141,10 @@ pub const INPUTS: [Input; 4] = [
 
 /// Runs whole inputs, and checks their replies and how they end.
 fn check_inputs(rt: &(impl Abort + AllocGlobal), memory: &mut MemoryServer) {
-    for (bytes, replies, end) in INPUTS {
+    for (bytes, replies, end) in &INPUTS {
         let mut out = Vec::new(rt.alloc());
-        assert_eq!(rt; memory.server.run(bytes, &mut out), end);
-        assert_eq!(rt; out.as_slice(), replies);
+        assert_eq!(rt; run_bytes(&mut memory.server, bytes, &mut out), *end);
+        assert_eq!(rt; out.as_slice(), *replies);
     }
 }
 

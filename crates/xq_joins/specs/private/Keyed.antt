@@ -1,14 +1,18 @@
 -- A step and a key that a predicate compares.
-use Rattle.std.specs.Prelude.{◌≡◌, ℕ, List, map, Ok, string_bytes}
+use Rattle.std.specs.Prelude.{◌≡◌, ◌<◌, ℕ, List, [], ◌∷◌, map, Bool, true, false, not, ◌||◌, ◌&&◌, Ok, string_bytes}
 use Rattle.std.specs.List.{AllByRecursion}
+use Rattle.xq_regions.specs.declared.items.Node.{Node as Spot}
 use Rattle.xq_regions.specs.Items.{ItemView}
 use Rattle.xq_regions.specs.Tree.{Tree}
 use Rattle.xq_regions.specs.Tuples.{Tuple, value_at}
 use Rattle.xq_meaning.specs.declared.plans.Plan.{Plan}
 use Rattle.xq_meaning.specs.Arguments.{boolean}
+use Rattle.xq_meaning.specs.Forms as Forms
 use Rattle.xq_meaning.specs.Items.{Place, Node}
 use Rattle.xq_meaning.specs.PlanMeaning.{Frame, plan_mean}
+use Rattle.xq_meaning.specs.Readings.{node_at}
 use Rattle.xq_meaning.specs.Steps.{axis_nodes}
+use Rattle.xq_sources.specs.Sources.{HasNode}
 use Rattle.xq_joins.specs.declared.keyed.Keyed.{Keyed}
 use Rattle.xq_joins.specs.declared.keyed.KeyedTest.{KeyedTest}
 use Rattle.xq_joins.specs.Equalities.{at_node}
@@ -36,3 +40,28 @@ pub record HasTexts (trees : List Tree) (slots : Tuple ItemView) (found : Keyed)
   pub nodes : AllByRecursion IsNode (value_at found.key.slot slots)
   pub texts : map string_bytes test.texts.items
       ≡ texts_from trees found.key.steps.now (value_at found.key.slot slots)
+
+-- # In a quantified expression
+
+-- where so many slots are open, and the slot of the key holds nodes, the test says of a node in the
+-- next slot whether the scan leads from it to one that has a text of the key, and refuses and
+-- constructs nothing
+pub record ComparesNext (next : ℕ) (found : Keyed) (p : Plan) : Type 0 where
+  pub earlier : found.key.slot < next
+  pub says : (frame : Frame) (trees : List Tree) (n : Spot) (qs : List Place)
+      → HasNode trees n.tree n.pre
+      → value_at next frame.env ≡ Node (node_at trees n) ∷ []
+      → value_at found.key.slot frame.env ≡ map Node qs
+      → Forms.tested (plan_mean p) frame trees
+      ≡ (
+        Ok (meet (key_texts trees (scans found.key.steps.now) qs)
+            (map (text_at trees)
+            (axis_nodes trees found.axis found.test.now (node_at trees n)))),
+        trees,
+      )
+
+-- whether one of them is true, or else all are
+abbrev pub decided : Bool → List Bool → Bool
+decided wanted [] = not wanted
+decided true (b ∷ bs) = b || decided true bs
+decided false (b ∷ bs) = b && decided false bs

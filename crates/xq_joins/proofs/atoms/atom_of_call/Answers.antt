@@ -1,4 +1,4 @@
-use Rattle.std.proofs.Common.{◌≡◌, ◌∷◌, [], map, sym, subst, ◌∙◌}
+use Rattle.std.proofs.Common.{subst}
 use Rattle.xq_functions.specs.Answers.{TellsAtom}
 use Rattle.xq_meaning.specs.Functions.{of_one}
 use Rattle.xq_forms.specs.Views.{frame_at, nodes_in}
