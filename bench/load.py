@@ -6,8 +6,10 @@
 `literals`: three shapes of a literal of one frame, in memory: microseconds a row to read the query,
 of which nothing is evaluated, to read it and make the document, to store it, and to store another
 of that shape in its place. `edits`: milliseconds for the document of bench/queries.py, in memory
-and on a file: made, stored, replaced by itself, and by copies in which one text is changed and in
-which a node more stands at the front, each copy also by itself, not stored; and the pages of log.
+and on a file: made, stored, replaced by itself, and by copies in which one text is changed, four
+times, and in which a node more stands at the front, each copy also by itself, not stored; and the
+pages of log. On a file the first edit waits until the engine has copied the log of the document's
+first store into the database: it is shown apart, and the bound is on those after it.
 
 The server, an older one where --base names it, BaseX where it is installed, which replaces the same
 by `db:replace`, and the inserts of C SQLite (python3's sqlite3) take turns, of which there are N
@@ -60,6 +62,12 @@ TABLES = (
 INSERT = "INSERT INTO node2 VALUES ('lib', ?1, ?2, ?3, ?4, ?5, ?6)"
 C_SQLITE, ON_FILE = "C SQLite", " on a file"
 MOST_PAGES = 20
+EDITS = 4
+"""How many times in a turn a text of the document is changed."""
+TEXT = "one text changed"
+FIRST_TEXT = f"{TEXT} for the first time, stored"
+"""On a file it waits for the engine, which first copies the log of the document's first store into
+the database; so it is shown, and those after it are judged."""
 Measures = dict[str, dict[str, list[float]]]
 """By what was measured and of which engine, the figures of the turns."""
 
@@ -171,9 +179,11 @@ class Place(Program):
 
 def steps(turn: int) -> list[tuple[str, str, bool]]:
     """What is done to the document: its name, the query, and whether its document is stored."""
-    text = ONE_TEXT % (2000 + turn)
+    texts = [ONE_TEXT % (2000 + EDITS * turn + edit) for edit in range(EDITS)]
     return [("made", MAKE, False), ("stored", MAKE, True), ("the same stored again", MAKE, True),
-            ("one text changed, made", text, False), ("one text changed, stored", text, True),
+            (FIRST_TEXT, texts[0], True),
+            *(step for text in texts[1:]
+              for step in ((f"{TEXT}, made", text, False), (f"{TEXT}, stored", text, True))),
             ("a node at the front, made", FRONT, False),
             ("a node at the front, stored", FRONT, True)]
 
@@ -231,18 +241,17 @@ def bounds(of: Mapping[str, Mapping[str, Times]]) -> Iterator[Bound]:
             yield ratio(f"{shape}, to the {BASE}", of[shape][OURS], of[shape][BASE], most)
     for where in ("", ON_FILE) if "made" in of else ():
         ours, base = OURS + where, BASE + where
-        again, changed = of["the same stored again"], of["one text changed, stored"]
+        again, changed = of["the same stored again"], of[f"{TEXT}, stored"]
         front = of["a node at the front, stored"]
-        yield ratio(f"one text changed{where}, to its making", changed[ours],
-                    of["one text changed, made"][ours], 1.3)
+        yield ratio(f"{TEXT}{where}, to its making", changed[ours], of[f"{TEXT}, made"][ours], 1.3)
         yield ratio(f"the same stored again{where}, to its making", again[ours],
                     of["made"][ours], 1.2)
         if base in front:
             yield ratio(f"a node at the front{where}, to the {BASE}", front[ours], front[base],
                         0.65)
-    if written := of.get("one text changed, stored: pages of log"):
+    if written := of.get(f"{TEXT}, stored: pages of log"):
         found = written[OURS + ON_FILE]
-        yield Bound("one text changed, pages of log", found.median, found.least, MOST_PAGES)
+        yield Bound(f"{TEXT}, pages of log", found.median, found.least, MOST_PAGES)
 
 
 def show(unit: str, measures: Measures) -> bool:

@@ -97,11 +97,16 @@ class Bounds(unittest.TestCase):
         self.assertEqual([it.most for it in found], [1.3, 1.2, 0.65, 1.3, 1.2, 0.65, 20])
         self.assertEqual(found[-1].ratio, 21.0)
 
-    def test_each_turn_changes_the_text_to_another(self) -> None:
-        texts = [next(query for what, query, _ in load.steps(turn) if what.startswith("one text"))
-                 for turn in (1, 2)]
-        self.assertNotEqual(*texts)
-        self.assertIn('element year {"2001"}', texts[0])
+    def test_each_edit_changes_the_text_to_another(self) -> None:
+        texts = [query for turn in (0, 1) for what, query, is_stored in load.steps(turn)
+                 if what.startswith("one text") and is_stored]
+        self.assertEqual(len(set(texts)), 2 * load.EDITS)
+        self.assertIn('element year {"2000"}', texts[0])
+
+    def test_the_first_edit_is_shown_and_not_judged(self) -> None:
+        names = [what for what, _, is_stored in load.steps(0) if is_stored and "text" in what]
+        self.assertEqual(names.count(load.FIRST_TEXT), 1)
+        self.assertEqual(names.count("one text changed, stored"), load.EDITS - 1)
 
 
 if __name__ == "__main__":
