@@ -28,5 +28,7 @@ pub use merges::merge;
 pub use owners::with_value;
 pub use picks::Places;
 pub use slashes::double_slash;
-pub use steps::{axis, first_children, items_on_axis, places_on_axis, step};
+pub use steps::{
+    as_items, axis, first_children, items_on_axis, places_on_axis, step, step_in_tree,
+};
 pub use values::string_value;
