@@ -27,7 +27,7 @@ pub use copies::copy;
 pub use merges::merge;
 pub use owners::with_value;
 pub use picks::Places;
-pub use slashes::double_slash;
+pub use slashes::{double_slash, double_slash_in_tree};
 pub use steps::{
     as_items, axis, first_children, items_on_axis, places_on_axis, step, step_in_tree,
 };
