@@ -11,7 +11,7 @@ use Rattle.xq_regions.specs.Axis.{IsOnAxis}
 use Rattle.xq_regions.specs.Forest.{Forest, end, node, tops, EachNode}
 use Rattle.xq_regions.specs.Node.{HasPath, kind_at}
 use Rattle.xq_regions.specs.Order.{IsAbove}
-use Rattle.xq_regions.specs.Tree.{Label, Tree, is_content, may_stand}
+use Rattle.xq_regions.specs.Tree.{Label, Tree, IsTree, is_content, may_stand}
 use Rattle.xq_regions.specs.declared.items.Node.{Node}
 use Rattle.xq_regions.proofs.Paths.{at_place}
 use Rattle.xq_meaning.specs.declared.node_tests.Test.{Test}
@@ -19,8 +19,10 @@ use Rattle.xq_meaning.specs.declared.node_tests.Test.TheVariants as test
 use Rattle.xq_meaning.specs.Items.{Place, place, nodes_at, places_from, same_node, is_among, in_document_order}
 use Rattle.xq_meaning.specs.Steps.{axis_nodes}
 use Rattle.xq_meaning.specs.Readings.{node_at}
+use Rattle.xq_sources.specs.Sources.{tree_at}
+use Rattle.xq_axes.specs.Many.{spot, AreReached}
 use Rattle.xq_axes.specs.Nodes.{HaveAll}
-use Rattle.xq_axes.specs.DoubleSlash.{selves_and_below, after_double_slash}
+use Rattle.xq_axes.specs.DoubleSlash.{selves_and_below, after_double_slash, AreAfterDoubleSlash}
 use Rattle.xq_axes.specs.private.Standing.{Stands, AreOfTrees}
 use Rattle.xq_regions.proofs.Lists.{same_test}
 use Rattle.xq_axes.proofs.Many.{any_flat}
@@ -171,3 +173,15 @@ pub stand_all : (trees : List Tree) (ns : List Node) → HaveAll trees ns → Ar
 stand_all trees [] h t = tt
 stand_all trees (n ∷ ns) h t =
     (record { tree = h.0.tree_in; path = (at_place (nodes_at trees n.tree) n.pre h.0.node_in).exists; content = t.0.content }, stand_all trees ns h.1 t.1)
+
+-- the nodes of one tree
+pub all_of_tree : (trees : List Tree) (tree : ℕ) (vs : List ℕ) → IsTree (tree_at trees tree) → AreOfTrees trees (map (spot tree) vs)
+all_of_tree trees tree [] h = tt
+all_of_tree trees tree (v ∷ vs) h = (h, all_of_tree trees tree vs h)
+
+pub after_slashes : (trees : List Tree) (of : Test) (tree : ℕ) (vs ps : List ℕ) → HaveAll trees (map (spot tree) vs) → AreOfTrees trees (map (spot tree) vs) → AreReached trees axis.Descendant of tree vs ps → AreAfterDoubleSlash trees of tree vs ps
+after_slashes trees of tree vs ps have stand r = record {
+  in_order = r.in_order ∙ double_slash_is_descendant trees of (map (node_at trees) (map (spot tree) vs)) (stand_all trees (map (spot tree) vs) have stand);
+  there = r.there;
+  rising = r.rising;
+}

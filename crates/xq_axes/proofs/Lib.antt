@@ -32,3 +32,4 @@ pub mod First
 pub mod ManyChildren
 pub mod Owning
 pub mod Owned
+pub mod InTree

@@ -17,7 +17,7 @@ use Rattle.xq_meaning.specs.declared.node_tests.Test.TheVariants as tests
 use Rattle.xq_axes.specs.private.Hits.{is_among, is_hit, is_wanted, row_passes, below_where, IsRising}
 use Rattle.xq_axes.specs.private.Named.{is_below_one}
 use Rattle.xq_axes.proofs.Clusters.{child_of_some}
-use Rattle.xq_axes.proofs.Lists.{any_agree, any_and, below_where-agree}
+use Rattle.xq_axes.proofs.Lists.{any_agree, any_and, below_where-agree, not_among}
 use Rattle.xq_axes.proofs.Named.{is_named_at, named_is_plain}
 
 -- # Places that a parent's place decides
@@ -107,3 +107,10 @@ flat us up i j a b = elim (cases_lt i j) [
   | inl l ↦ (let z = up i j l b in omega (arith, z))
   | inr l ↦ (let same : i ≡ j = omega (arith, a, l) in subst (λ k. get_or us i 0 ≤ get_or us k 0) same (omega arith))
 ]
+
+-- none of them lies between one and the next
+pub none_beside : (vs : List ℕ) (i n : ℕ) → IsRising vs → i < length vs → get_or vs i 0 < n → (i + 1 < length vs → n < get_or vs (i + 1) 0) → is_among vs n ≡ false
+none_beside vs i n up within low high = not_among vs n (λ j l same. elim (cases_lt i j) [
+  | inl later ↦ (let next = high (omega (arith, later, l)) in let f = flat vs up (i + 1) j (omega (arith, later)) l in omega (arith, next, f, same))
+  | inr until ↦ (let f = flat vs up j i until within in omega (arith, f, low, same))
+])

@@ -1,12 +1,15 @@
 -- Steps from many nodes.
 use Rattle.std.specs.Prelude.{ℕ, ◌<◌, ◌≤◌, ◌≡◌, ◌↔◌, List, [], ◌∷◌, length, map, take, Bool, ◌||◌, slice_index, slice_index_or}
-use Rattle.std.specs.List.{list_any, Contains}
+use Rattle.std.specs.List.{list_any, flat_map, Contains}
 use Rattle.xq_regions.specs.Forest.{count}
 use Rattle.xq_regions.specs.Tree.{Tree, nodes}
 use Rattle.xq_regions.specs.declared.Axis.{Axis}
 use Rattle.xq_regions.specs.declared.items.Node.{Node}
 use Rattle.xq_sources.specs.Sources.{tree_at, HasNode}
 use Rattle.xq_meaning.specs.declared.node_tests.Test.{Test}
+use Rattle.xq_meaning.specs.Items.{in_document_order}
+use Rattle.xq_meaning.specs.Readings.{node_at}
+use Rattle.xq_meaning.specs.Steps.{axis_nodes}
 use Rattle.xq_regions.specs.Rising.{AreRising}
 use Rattle.xq_axes.specs.Nodes.{HaveAll}
 use Rattle.xq_axes.specs.private.Hits.{is_wanted, below_where, IsRising}
@@ -60,3 +63,12 @@ pub record IsAt (contexts : List Node) (index : ℕ) (n : Node) : Type 0 where
 -- the contexts before the index, which are of one tree, were gathered
 abbrev pub AreKept : List Node → ℕ → ℕ → List ℕ → Type 0
 AreKept contexts index tree places = map (spot tree) places ≡ take index contexts
+
+-- in a tree: the places found are those of the nodes on the axis from the nodes at the places that
+-- pass the test, in document order, each once
+pub record AreReached (trees : List Tree) (axis : Axis) (test : Test) (tree : ℕ)
+    (places found : List ℕ) : Type 0 where
+  pub in_order : map (node_at trees) (map (spot tree) found) ≡ in_document_order trees
+      (flat_map (axis_nodes trees axis test) (map (node_at trees) (map (spot tree) places)))
+  pub there : HaveAll trees (map (spot tree) found)
+  pub rising : AreRising (map (spot tree) found)

@@ -20,9 +20,11 @@ use xq_sources::RowLender;
 /// From how many contexts on places of names are asked for: from fewer a walk is as fast.
 const MANY_CONTEXTS: usize = 64;
 
-/// How many places of a name there may be for each context where they are gone over: a walk reads
-/// no row below a child, so where there are many more it is faster.
-const PLACES_EACH: usize = 4;
+/// How many places of a name there may be for each context where they are gone over. The parent of
+/// a place is told in some 15 ns; a walk takes 10 to 20 ns for each attribute and each child of a
+/// context, whatever their names. So a walk is slower where most of the places are such children,
+/// and faster where many times more of them lie elsewhere, since it reads no row below a child.
+const PLACES_EACH: usize = 32;
 
 /// Whether this one of the places is the place.
 fn is_at(places: &[u32], index: usize, place: u32) -> bool
@@ -34,8 +36,26 @@ fn is_at(places: &[u32], index: usize, place: u32) -> bool
     }
 }
 
+/// Whether the place lies after this one of the places, which rise, and before the next, or after
+/// the last.
+fn is_beside(places: &[u32], index: usize, place: u32) -> bool
+    ensures { IsRising places.now → result ≡ true → is_among places.now place ≡ false }
+{
+    let Some(before) = places.get(index) else {
+        return false;
+    };
+    if place <= *before {
+        return false;
+    }
+    match places.get(index + 1) {
+        Some(after) => place < *after,
+        None => true,
+    }
+}
+
 /// Which of the places, which rise, is the place: it is looked for first where the last one was
-/// found, since one parent after another has its children.
+/// found, since one parent after another has its children, and those between two of the places are
+/// none.
 pub fn find_near(places: &[u32], near: usize, place: u32) -> Option<usize>
     ensures some { IsRising places.now → IfSome result (λ _. is_among places.now place ≡ true) }
     ensures none { IsRising places.now → result ≡ None → is_among places.now place ≡ false }
@@ -46,6 +66,9 @@ pub fn find_near(places: &[u32], near: usize, place: u32) -> Option<usize>
     let next = near.saturating_add(1);
     if is_at(places, next, place) {
         return Some(next);
+    }
+    if is_beside(places, near, place) {
+        return None;
     }
     match places.binary_search(&place) {
         Ok(index) => Some(index),

@@ -3,13 +3,15 @@ ghost use Rattle.std.specs.Prelude.{◌≡◌, ◌≤◌, ◌+◌, ◌*◌, ℕ,
 ghost use Rattle.xq_regions.specs.declared.Axis.TheVariants.{Descendant};
 ghost use Rattle.xq_sources.specs.Sources.{tree_at};
 ghost use Rattle.xq_meaning.specs.Readings.{node_at};
-ghost use Rattle.xq_axes.specs.DoubleSlash.{after_double_slash};
+ghost use Rattle.xq_axes.specs.DoubleSlash.{after_double_slash, AreAfterDoubleSlash};
 ghost use Rattle.xq_regions.specs.Rising.{AreRising};
+ghost use Rattle.xq_axes.specs.Many.{spot};
 ghost use Rattle.xq_axes.specs.Nodes.{HaveAll};
 ghost use Rattle.xq_axes.specs.Scans.{region, places_of, AreOf};
 ghost use Rattle.xq_axes.specs.private.Standing.{AreOfTrees};
 
-use crate::steps::step;
+use crate::picks::Places;
+use crate::steps::{step, step_in_tree};
 use std::alloc::Global;
 use xq_atoms::Want;
 use xq_meaning::Test;
@@ -70,4 +72,55 @@ pub fn double_slash<L: RowLender>(
 {
     ask_for_trees(alloc, source, nodes)?;
     step(alloc, source, nodes, Axis::Descendant, test)
+}
+
+/// Asks for a row of the tree where there are places: the source promises that it is a tree.
+fn ask_for_tree<L: RowLender>(
+    alloc: Global,
+    source: &mut L,
+    tree: usize,
+    places: &[u32],
+) -> Result<(), Want>
+    ensures trees { L.is_clean source.new
+        → OnOk result (AreOfTrees (L.forest source.old) (map (spot tree) places.now)) }
+    ensures rows { (L.meter source.new).rows ≡ (L.meter source.old).rows }
+    ensures singles { (L.meter source.new).singles
+        ≤ (L.meter source.old).singles + length places.now }
+    ensures keeps { L.forest source.new ≡ L.forest source.old }
+    ensures was_clean { L.is_clean source.new → L.is_clean source.old }
+{
+    let Some(first) = places.first() else {
+        return Ok(());
+    };
+    source.fetch_row(alloc, tree, *first)
+}
+
+/// The places in the tree of the nodes that [`double_slash`] finds from its nodes at the places,
+/// which rise, in the same order.
+///
+/// It reads each row below them once at most, and for each place at most two rows besides.
+///
+/// `Want::Store` where the source refuses to read a row; `Want::Memory` where a growth was
+/// refused.
+pub fn double_slash_in_tree<L: RowLender>(
+    alloc: Global,
+    source: &mut L,
+    tree: usize,
+    places: &[u32],
+    test: &Test,
+) -> Result<Places, Want>
+    ensures reached { L.is_clean source.new → let trees = L.forest source.old in
+        HaveAll trees (map (spot tree) places.now) → AreRising (map (spot tree) places.now)
+        → IfOk result (λ found.
+        AreAfterDoubleSlash trees test.now tree places.now found.items) }
+    ensures rows { L.is_clean source.new → AreRising (map (spot tree) places.now)
+        → (L.meter source.new).rows ≤ (L.meter source.old).rows
+        + length (region Descendant (tree_at (L.forest source.old) tree) places.now) }
+    ensures singles { (L.meter source.new).singles
+        ≤ (L.meter source.old).singles + 2 * length places.now }
+    ensures keeps { L.forest source.new ≡ L.forest source.old }
+    ensures was_clean { L.is_clean source.new → L.is_clean source.old }
+{
+    ask_for_tree(alloc, source, tree, places)?;
+    step_in_tree(alloc, source, tree, places, Axis::Descendant, test)
 }

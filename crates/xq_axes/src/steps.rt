@@ -14,7 +14,7 @@ ghost use Rattle.xq_regions.specs.Items.{Place as NodeAt, item_views};
 ghost use Rattle.xq_axes.specs.Nodes.{HaveAll, AreOnAxis, AreFirstOnAxis};
 ghost use Rattle.xq_axes.specs.Scans.{region, places_of, AreOf};
 ghost use Rattle.xq_axes.specs.private.Hits.{is_wanted, below_where, IsRising};
-ghost use Rattle.xq_axes.specs.Many.{spot, is_found_from, AreSame, AreThere, IsNext, IsGathered, IsAt, AreKept};
+ghost use Rattle.xq_axes.specs.Many.{spot, is_found_from, AreSame, AreThere, IsNext, IsGathered, IsAt, AreKept, AreReached};
 
 use crate::attributes::search_attributes;
 use crate::backward::{Backward, search_back};
@@ -128,8 +128,8 @@ pub fn axis<L: RowLender>(
     Ok(found)
 }
 
-/// The nodes of the tree at the places, as items.
-fn as_items(alloc: Global, tree: usize, places: &[u32]) -> Result<Items, Want>
+/// The nodes of the tree at the places, as items. `Want::Memory` where a growth was refused.
+pub fn as_items(alloc: Global, tree: usize, places: &[u32]) -> Result<Items, Want>
     ensures { IfOk result (λ items. item_views items
         ≡ map (λ p. NodeAt (spot tree p)) places.now) }
 {
@@ -219,6 +219,36 @@ pub fn places_on_axis<L: RowLender>(
     ensures was_clean { L.is_clean source.new → L.is_clean source.old }
 {
     search(alloc, source, node.tree, axis, &[node.pre], test)
+}
+
+/// The places in the tree of the nodes on the axis from one of its nodes at the places, which rise,
+/// that pass the test: those of the nodes that [`step`] finds, in the same order.
+///
+/// It reads each row of the axis' region once at most, and for each place at most one row besides.
+///
+/// `Want::Store` where the source refuses to read a row; `Want::Memory` where a growth was
+/// refused.
+pub fn step_in_tree<L: RowLender>(
+    alloc: Global,
+    source: &mut L,
+    tree: usize,
+    places: &[u32],
+    axis: Axis,
+    test: &Test,
+) -> Result<Places, Want>
+    ensures reached { L.is_clean source.new → let trees = L.forest source.old in
+        HaveAll trees (map (spot tree) places.now) → AreRising (map (spot tree) places.now)
+        → IfOk result (λ found.
+        AreReached trees axis test.now tree places.now found.items) }
+    ensures rows { L.is_clean source.new → AreRising (map (spot tree) places.now)
+        → (L.meter source.new).rows ≤ (L.meter source.old).rows
+        + length (region axis (tree_at (L.forest source.old) tree) places.now) }
+    ensures singles { (L.meter source.new).singles
+        ≤ (L.meter source.old).singles + length places.now }
+    ensures keeps { L.forest source.new ≡ L.forest source.old }
+    ensures was_clean { L.is_clean source.new → L.is_clean source.old }
+{
+    search(alloc, source, tree, axis, places, test)
 }
 
 /// Adds the nodes on the axis from the nodes of one tree, whose places rise, that pass the test.
