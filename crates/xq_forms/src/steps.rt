@@ -13,6 +13,7 @@ use crate::frames::Frame;
 use crate::nodes::{as_items, context_node, nodes_among, only_node, only_nodes};
 use std::alloc::Global;
 use xq_atoms::{Fault, Want};
+use xq_axes::{double_slash_in_tree, step_in_tree};
 use xq_axis_order::in_axis_order;
 use xq_meaning::Test;
 use xq_regions::{Axis, Item, Items, Node};
@@ -109,6 +110,30 @@ pub fn scan<W: Growing>(
     Ok(as_items(alloc, &nodes)?)
 }
 
+/// [`double_slash`] from one node.
+fn double_slash_from<W: Growing>(
+    alloc: Global,
+    world: &mut W,
+    node: Node,
+    test: &Test,
+) -> Result<Items, Want>
+    ensures goes { Goes (W.forest world.old) (W.forest world.new) (W.is_clean world.old)
+        (W.is_clean world.new) }
+    ensures gives { W.is_clean world.new → HasNode (W.forest world.old) node.tree node.pre
+        → IfOk result (λ found. AreIn (W.forest world.new) (item_views found)
+        × (after_double_slash test.now (NodeItem (node_at (W.forest world.old) node) ∷ [])
+        (W.forest world.old)
+        ≡ (Ok (items_at (W.forest world.new) (item_views found)), W.forest world.new))) }
+    ensures reads { W.is_clean world.new → HasNode (W.forest world.old) node.tree node.pre
+        → HasGrown (W.meter world.old) (W.meter world.new)
+        (2 * rows_of (W.forest world.old) node.tree) }
+    ensures of_tree { W.is_clean world.new → HasNode (W.forest world.old) node.tree node.pre
+        → IfOk result (λ found. AreOf (W.forest world.new) node.tree (item_views found)) }
+{
+    let places = double_slash_in_tree(alloc, world, node.tree, &[node.pre], test)?;
+    xq_axes::as_items(alloc, node.tree, places.as_slice())
+}
+
 /// What `//` and a step to children without predicates lead to from all items (XQuery 3.1, section
 /// 3.3.5): the two steps as one scan of what is below the items. XPTY0019 where an item is no node.
 ///
@@ -132,10 +157,41 @@ pub fn double_slash<W: Growing>(
         → AreOf (W.forest world.old) tree (map item_view items.now)
         → IfOk result (λ found. AreOf (W.forest world.new) tree (item_views found)) }
 {
+    if let Some(node) = only_node(items) {
+        return Ok(double_slash_from(alloc, world, node, test)?);
+    }
     only_nodes(items)?;
     let contexts = nodes_among(alloc, items)?;
     let nodes = xq_axes::double_slash(alloc, world, &contexts, test)?;
     Ok(as_items(alloc, &nodes)?)
+}
+
+/// [`parents_below`] from one node.
+fn parents_below_one<W: Growing>(
+    alloc: Global,
+    world: &mut W,
+    node: Node,
+    test: &Test,
+) -> Result<Items, Want>
+    ensures goes { Goes (W.forest world.old) (W.forest world.new) (W.is_clean world.old)
+        (W.is_clean world.new) }
+    ensures gives { W.is_clean world.new → HasNode (W.forest world.old) node.tree node.pre
+        → IfOk result (λ found. AreIn (W.forest world.new) (item_views found)
+        × (parents_below_lem test.now (NodeItem (node_at (W.forest world.old) node) ∷ [])
+        (W.forest world.old)
+        ≡ (Ok (items_at (W.forest world.new) (item_views found)), W.forest world.new))) }
+{
+    let tree = node.tree;
+    let found = double_slash_in_tree(alloc, world, tree, &[node.pre], test)?;
+    let parents = step_in_tree(
+        alloc,
+        world,
+        tree,
+        found.as_slice(),
+        Axis::Parent,
+        &Test::Any,
+    )?;
+    xq_axes::as_items(alloc, tree, parents.as_slice())
 }
 
 /// The nodes that `//` leads to from all items and that have a child which passes the test, in
@@ -153,6 +209,9 @@ pub fn parents_below<W: Growing>(
         → GivesSequence (parents_below_lem test.now (items_at (W.forest world.old) (map item_view
         items.now)) (W.forest world.old)) (W.forest world.new) result }
 {
+    if let Some(node) = only_node(items) {
+        return Ok(parents_below_one(alloc, world, node, test)?);
+    }
     let found = double_slash(alloc, world, items, test)?;
     scan(alloc, world, &found, Axis::Parent, &Test::Any)
 }
