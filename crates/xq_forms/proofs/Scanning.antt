@@ -1,17 +1,17 @@
 -- Scans one after another, from places to places in one tree.
-use Rattle.std.proofs.Common.{◌≡◌, ℕ, suc, ◌+◌, ◌*◌, ◌<◌, ◌≤◌, List, [], ◌∷◌, map, take, length, get_or, Ok, refl, sym, ◌∙◌, ap, subst, arith}
+use Rattle.std.proofs.Common.{◌≡◌, ℕ, suc, ◌+◌, ◌*◌, ◌<◌, ◌≤◌, List, [], ◌∷◌, map, take, length, get_or, Ok, refl, sym, ◌∙◌, ap, subst, arith, ◌-◌, ◌++◌, inr, drop}
 use Rattle.std.specs.List.{flat_map}
 use Rattle.std.proofs.Math.Nat.{add-mul, mul-le-mul_right}
-use Rattle.std.proofs.lemmas.List.{map-append, take_more}
+use Rattle.std.proofs.lemmas.List.{map-append, take_more, length-map, get_or-map, length-drop, take-append-drop}
 use Rattle.xq_axes.specs.Many.{spot, AreReached}
 use Rattle.xq_axes.specs.Nodes.{HaveAll}
 use Rattle.xq_axes.specs.Scans.{region, places_of}
 use Rattle.xq_regions.specs.declared.Axis.{Axis}
 use Rattle.xq_regions.specs.declared.items.Node.{Node as Spot}
-use Rattle.xq_regions.specs.Items.{Place as NodeAt}
-use Rattle.xq_regions.specs.Rising.{AreRising}
+use Rattle.xq_regions.specs.Items.{Place as NodeAt, ItemView}
+use Rattle.xq_regions.specs.Rising.{AreRising, document_order}
 use Rattle.xq_regions.specs.Tree.{Tree}
-use Rattle.xq_regions.proofs.Rising.{rising_none, rising_more}
+use Rattle.xq_regions.proofs.Rising.{rising_none, rising_more, order_less}
 use Rattle.xq_sources.specs.Meters.{Readings}
 use Rattle.xq_sources.specs.Sources.{tree_at, HasNode}
 use Rattle.xq_meaning.specs.declared.node_tests.Test.{Test}
@@ -20,19 +20,22 @@ use Rattle.xq_meaning.specs.declared.plans.PlanStep.TheVariants as step
 use Rattle.xq_atoms.specs.declared.refusals.Code.TheVariants.{XPTY0019}
 use Rattle.xq_meaning.specs.Arguments.{all_nodes}
 use Rattle.xq_meaning.specs.Doing.{in_turn, go_on}
+use Rattle.xq_meaning.specs.Forms as Forms
 use Rattle.xq_meaning.specs.Items.{Item, Node, in_document_order}
-use Rattle.xq_meaning.specs.PlanMeaning.{plan_step_mean, next_step}
-use Rattle.xq_meaning.specs.Readings.{node_at, items_at}
+use Rattle.xq_meaning.specs.PlanMeaning.{Frame, plan_step_mean, next_step}
+use Rattle.xq_meaning.specs.Readings.{node_at, items_at, item_at, AreIn}
 use Rattle.xq_meaning.specs.Steps.{axis_nodes}
 use Rattle.xq_meaning.proofs.PlanEquations.{step-Scan}
 use Rattle.xq_meaning.proofs.PathLemmas.{map-map}
-use Rattle.xq_meaning.proofs.Turns.{last_turn}
+use Rattle.xq_meaning.proofs.Turns.{last_turn, in_turn-append}
+use Rattle.std.specs.declared.cmp.Ordering.TheVariants.{Less}
+use Rattle.xq_forms.specs.private.InTree.{AreInTree}
 use Rattle.xq_forms.specs.Nodes.{nodes_among}
 use Rattle.xq_forms.specs.Reads.{rows_of, AreOf, HasGrown}
 use Rattle.xq_forms.specs.Runs.{views_of, ScansGive}
-use Rattle.xq_forms.specs.Views.{forget}
-use Rattle.xq_forms.proofs.NodeLemmas.{among_places, all_places, scan_gives}
-use Rattle.xq_forms.proofs.OneTree.{step_grown, step_found}
+use Rattle.xq_forms.specs.Views.{forget, nodes_in}
+use Rattle.xq_forms.proofs.NodeLemmas.{among_places, all_places, scan_gives, among_in}
+use Rattle.xq_forms.proofs.OneTree.{step_grown, step_found, of_in}
 
 -- the nodes of a tree at these places
 abbrev pub spots : ℕ → List ℕ → List Spot
@@ -135,3 +138,81 @@ pub reads_within : (before after : Readings) (i k r : ℕ) → i ≤ k → HasGr
 reads_within before after i k r le h =
     let most = mul-le-mul_right r le in
     record { rows = omega (arith, h.rows, most); singles = omega (arith, h.singles, most) }
+
+-- # From items that are nodes of one tree
+
+-- one place more, after the others
+pub next_rises : (tree : ℕ) (places : List ℕ) (place : ℕ) → (0 < length places → get_or places (length places - 1) 0 < place) → AreRising (spots tree places) → AreRising (spots tree (places ++ place ∷ []))
+next_rises tree places place last up =
+    subst AreRising (sym (map-append (spot tree) places (place ∷ [])))
+    (rising_more (spots tree places) (spot tree place) (spot tree place) up (λ i e.
+    let many = length-map places (spot tree) in
+    let less = last (omega (arith, e, many)) in
+    let at : i ≡ length places - 1 = omega (arith, e, many) in
+    let is : get_or (spots tree places) i (spot tree place) ≡ spot tree (get_or places i 0) = get_or-map (spot tree) places i 0 (spot tree place) (omega (arith, e, many)) in
+    subst (λ n. document_order n (spot tree place) ≡ Less) (sym is)
+    (order_less (spot tree (get_or places i 0)) (spot tree place) (inr (refl, subst (λ j. get_or places j 0 < place) (sym at) less)))))
+
+same_tree : (f : List Tree) (tree t : ℕ) (places : List ℕ) → 0 < length places → AreOf f tree (views_of t places) → t ≡ tree
+same_tree f tree t [] some h = absurd (omega (arith, some))
+same_tree f tree t (p ∷ ps) some h = h.of_tree.0.0
+
+module _ (f : List Tree) (t : ℕ) (places : List ℕ) (views : List ItemView) (in_tree : AreInTree t places views) where
+  pub contexts_are : spots t places ≡ nodes_among views
+  contexts_are = among_views t places ∙ ap nodes_among (sym in_tree.are)
+
+  pub contexts_in : AreIn f views → HaveAll f (spots t places)
+  contexts_in inside = subst (HaveAll f) (sym contexts_are) (among_in f views inside)
+
+  pub in_tree_gives : (axis : Axis) (test : Test) (found : List ℕ) (items : List ItemView) → AreReached f axis test t places found → items ≡ views_of t found
+      → AreIn f items × (Forms.scan axis test (items_at f views) f ≡ (Ok (items_at f items), f))
+  in_tree_gives axis test found items reached is =
+      let all = ap (λ vs. forget (all_nodes XPTY0019 (items_at f vs))) (in_tree.are ∙ views_are t places) ∙ all_places f (spots t places) in
+      let step = reached.in_order ∙ ap (λ ks. in_document_order f (flat_map (axis_nodes f axis test) (map (node_at f) ks))) contexts_are in
+      scan_gives f axis test views (spots t found) items all step reached.there (is ∙ views_are t found)
+
+  module _ (tree : ℕ) (h : AreOf f tree views) where
+    pub is_tree : t ≡ tree
+    is_tree = same_tree f tree t places in_tree.some (subst (AreOf f tree) in_tree.are h)
+
+    pub in_tree_inside : AreIn f views
+    in_tree_inside = of_in f tree views h.has_tree h.of_tree
+
+    pub in_tree_reads : (axis : Axis) (before after : Readings) → after.rows ≤ before.rows + length (region axis (tree_at f t) places) → after.singles ≤ before.singles + length places
+        → HasGrown before after (rows_of f tree)
+    in_tree_reads axis before after rows singles =
+        let back = places_back t places in
+        let many = length-map places (spot t) in
+        step_grown f tree views (spots t places) contexts_are h axis before after
+        (subst (λ ps. after.rows ≤ before.rows + length (region axis (tree_at f tree) ps)) (sym back) (subst (λ n. after.rows ≤ before.rows + length (region axis (tree_at f n) places)) is_tree rows))
+        (omega (arith, singles, many))
+
+    pub in_tree_found : (axis : Axis) (test : Test) (found : List ℕ) (items : List ItemView) → AreReached f axis test t places found → items ≡ views_of t found → AreOf f tree items
+    in_tree_found axis test found items reached is =
+        step_found f tree views (spots t places) contexts_are h axis test (spots t found) items reached.in_order reached.there reached.rising (is ∙ views_are t found)
+
+-- nodes at places, as items
+pub views_read : (trees : List Tree) (tree : ℕ) (places : List ℕ) → items_at trees (views_of tree places) ≡ nodes_in trees tree places
+views_read trees tree places = map-map (item_at trees) (λ p. NodeAt (spot tree p)) places
+
+-- # For the steps that come after these
+
+module _ (f : List Tree) (n : Spot) (steps : List PlanStep) (k : ℕ) (views : List ItemView) (gives : ScansGive f n (take k steps) views) where
+  pub go_on_scans : (frame : Frame) → in_turn (next_step frame) (Node (node_at f n) ∷ []) (map plan_step_mean steps) f ≡ in_turn (next_step frame) (items_at f views) (map plan_step_mean (drop k steps)) f
+  go_on_scans frame =
+      let from : List Item = Node (node_at f n) ∷ [] in
+      let rest = map plan_step_mean (drop k steps) in
+      ap (λ ss. in_turn (next_step frame) from (map plan_step_mean ss) f) (sym (take-append-drop k steps))
+      ∙ ap (λ ms. in_turn (next_step frame) from ms f) (map-append plan_step_mean (take k steps) (drop k steps))
+      ∙ in_turn-append (next_step frame) from (map plan_step_mean (take k steps)) rest f
+      ∙ ap (λ o. go_on o (λ xs. in_turn (next_step frame) xs rest)) (gives.value frame)
+
+  pub scans_read : (start now after : Readings) → k ≤ length steps → HasGrown start now (k * rows_of f n.tree) → HasGrown now after (length (drop k steps) * rows_of f n.tree)
+      → HasGrown start after (length steps * rows_of f n.tree)
+  scans_read start now after within first rest =
+      let r = rows_of f n.tree in
+      let m = length (drop k steps) in
+      let all : length steps ≡ k + m = (let d = length-drop k steps in omega (arith, d, within)) in
+      let sum = add-mul k m r in
+      let whole = ap (λ l. l * r) all in
+      record { rows = omega (arith, first.rows, rest.rows, sum, whole); singles = omega (arith, first.singles, rest.singles, sum, whole) }

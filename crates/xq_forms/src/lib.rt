@@ -20,7 +20,7 @@ pub use calls::{call, call_on_one};
 pub use clauses::{group, order, order_by_keys};
 pub use constructors::{named, node_name, unnamed};
 pub use frames::{Focus, Frame};
-pub use nodes::{gather, only_nodes, root};
+pub use nodes::{gather, only_node, only_nodes, root};
 pub use operators::{operate, sign};
 pub use paths::{ShortPath, held_node, short_path};
 pub use runs::{ItemsAfter, PlacesAfter, items_after_scans, places_after_scans};

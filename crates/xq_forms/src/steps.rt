@@ -1,16 +1,19 @@
 //! Steps along the axes (XQuery 3.1, sections 3.3.2 and 3.3.3).
-ghost use Rattle.std.specs.Prelude.{◌≡◌, ◌*◌, ◌∷◌, [], ℕ, map, IfOk, Ok};
+ghost use Rattle.std.specs.Prelude.{◌≡◌, ◌*◌, ◌∷◌, [], ℕ, List, map, IfOk, Ok};
 ghost use Rattle.xq_regions.specs.declared.Axis.TheVariants as axes;
-ghost use Rattle.xq_regions.specs.Items.{item_view, item_views};
+ghost use Rattle.xq_regions.specs.Items.{item_view, item_views, ItemView};
 ghost use Rattle.xq_sources.specs.Sources.{HasNode};
 ghost use Rattle.xq_meaning.specs.Items.{Node as NodeItem};
 ghost use Rattle.xq_meaning.specs.Readings.{node_at, items_at, AreIn};
 ghost use Rattle.xq_meaning.specs.Forms as Forms;
 ghost use Rattle.xq_forms.specs.Reads.{rows_of, AreOf, HasGrown};
+ghost use Rattle.xq_forms.specs.private.InTree.{AreInTree};
 ghost use Rattle.xq_forms.specs.Views.{focus_at, on_axis, first_on_axis, after_double_slash, parents_below as parents_below_lem, FrameIn, Goes, GivesSequence};
 
 use crate::frames::Frame;
-use crate::nodes::{as_items, context_node, nodes_among, only_node, only_nodes};
+use crate::nodes::{
+    InTree, as_items, context_node, in_one_tree, nodes_among, only_node, only_nodes,
+};
 use std::alloc::Global;
 use xq_atoms::{Fault, Want};
 use xq_axes::{double_slash_in_tree, step_in_tree};
@@ -77,6 +80,35 @@ pub fn scan_from<W: Growing>(
     xq_axes::items_on_axis(alloc, world, node, axis, test)
 }
 
+/// [`scan`] from nodes of one tree, which rise.
+fn scan_in_tree<W: Growing>(
+    alloc: Global,
+    world: &mut W,
+    contexts: &InTree,
+    axis: Axis,
+    test: &Test,
+) -> Result<Items, Want>
+    ensures goes { Goes (W.forest world.old) (W.forest world.new) (W.is_clean world.old)
+        (W.is_clean world.new) }
+    ensures gives { W.is_clean world.new → (views : List ItemView)
+        → AreInTree contexts.now.tree contexts.now.places.items views
+        → AreIn (W.forest world.old) views
+        → IfOk result (λ found. AreIn (W.forest world.new) (item_views found)
+        × (Forms.scan axis test.now (items_at (W.forest world.old) views) (W.forest world.old)
+        ≡ (Ok (items_at (W.forest world.new) (item_views found)), W.forest world.new))) }
+    ensures reads { W.is_clean world.new → (views : List ItemView)
+        → AreInTree contexts.now.tree contexts.now.places.items views
+        → (tree : ℕ) → AreOf (W.forest world.old) tree views
+        → HasGrown (W.meter world.old) (W.meter world.new) (rows_of (W.forest world.old) tree) }
+    ensures of_tree { W.is_clean world.new → (views : List ItemView)
+        → AreInTree contexts.now.tree contexts.now.places.items views
+        → (tree : ℕ) → AreOf (W.forest world.old) tree views
+        → IfOk result (λ found. AreOf (W.forest world.new) tree (item_views found)) }
+{
+    let places = step_in_tree(alloc, world, contexts.tree, &contexts.places, axis, test)?;
+    xq_axes::as_items(alloc, contexts.tree, places.as_slice())
+}
+
 /// The nodes on an axis from all items that pass the test, in document order, each once. XPTY0019
 /// where an item is no node.
 ///
@@ -103,6 +135,9 @@ pub fn scan<W: Growing>(
 {
     if let Some(node) = only_node(items) {
         return Ok(xq_axes::items_on_axis(alloc, world, node, axis, test)?);
+    }
+    if let Some(found) = in_one_tree(alloc, items)? {
+        return Ok(scan_in_tree(alloc, world, &found, axis, test)?);
     }
     only_nodes(items)?;
     let contexts = nodes_among(alloc, items)?;
