@@ -12,3 +12,4 @@ pub mod ParentsBelow
 pub mod OneTree
 pub mod ShortPaths
 pub mod NodePlaces
+pub mod Scanning

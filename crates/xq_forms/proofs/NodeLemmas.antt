@@ -9,7 +9,7 @@ use Rattle.xq_atoms.specs.Judged.{Judged, ◌>>=◌}
 use Rattle.xq_axes.specs.DoubleSlash.{selves_and_below, after_double_slash as after_places}
 use Rattle.xq_axes.specs.Nodes.{HaveAll}
 use Rattle.xq_regions.specs.declared.Axis.{Axis}
-use Rattle.xq_regions.specs.declared.Axis.TheVariants.{Child, DescendantOrSelf}
+use Rattle.xq_regions.specs.declared.Axis.TheVariants.{Child, DescendantOrSelf, Parent}
 use Rattle.xq_regions.specs.declared.items.Node.{Node as Spot}
 use Rattle.xq_regions.specs.Items.{ItemView, Place as NodeAt, Value, item_view}
 use Rattle.xq_regions.specs.Tree.{Tree}
@@ -25,7 +25,7 @@ use Rattle.xq_meaning.specs.Steps.{context_node, axis_nodes, in_axis_order, is_r
 use Rattle.xq_meaning.specs.Doing.{Doing, Outcome, go_on, give, judged, on_trees}
 use Rattle.xq_meaning.specs.Forms as Forms
 use Rattle.xq_forms.specs.declared.frames.Focus.{Focus}
-use Rattle.xq_forms.specs.Views.{forget, focus_at, FocusIn, on_axis, first_on_axis, after_double_slash}
+use Rattle.xq_forms.specs.Views.{forget, focus_at, FocusIn, on_axis, first_on_axis, after_double_slash, parents_below}
 use Rattle.xq_forms.specs.Nodes.{nodes_among}
 use Rattle.xq_forms.proofs.Existing.{Exists, exists_at, is_in}
 use Rattle.xq_regions.proofs.Lists.{map_reverse, all_reverse}
@@ -67,6 +67,19 @@ items_read trees (n ∷ ns) = ap (λ l. Node (node_at trees n) ∷ l) (items_rea
 pub items_in : (trees : List Tree) (nodes : List Spot) → HaveAll trees nodes → AreIn trees (map NodeAt nodes)
 items_in trees [] h = tt
 items_in trees (n ∷ ns) h = (h.0, items_in trees ns h.1)
+
+pub among_places : (nodes : List Spot) → nodes_among (map NodeAt nodes) ≡ nodes
+among_places [] = refl
+among_places (n ∷ ns) = ap (λ l. n ∷ l) (among_places ns)
+
+pub are_nodes : (code : Code) (ps : List Place) → all_nodes code (map Node ps) ≡ Ok ps
+are_nodes code [] = refl
+are_nodes code (p ∷ ps) = ap (λ r. r >>= (λ qs. Ok (p ∷ qs))) (are_nodes code ps)
+
+pub all_places : (trees : List Tree) (nodes : List Spot) → forget (all_nodes XPTY0019 (items_at trees (map NodeAt nodes))) ≡ Ok tt
+all_places trees nodes =
+    ap (λ xs. forget (all_nodes XPTY0019 xs)) (items_read trees nodes)
+    ∙ ap (λ (r : Judged (List Place)). forget r) (are_nodes XPTY0019 (map (node_at trees) nodes))
 
 -- # The context node
 
@@ -138,10 +151,6 @@ scan_stops f axis test xs code h = stops_at (all_nodes XPTY0019 xs) (λ places. 
 
 -- # A step to children after `//`
 
-pub are_nodes : (code : Code) (ps : List Place) → all_nodes code (map Node ps) ≡ Ok ps
-are_nodes code [] = refl
-are_nodes code (p ∷ ps) = ap (λ r. r >>= (λ qs. Ok (p ∷ qs))) (are_nodes code ps)
-
 -- a scan, once its contexts are known
 abbrev scanned : List Tree → Axis → Test → Judged (List Place) → Outcome (List Item)
 scanned f axis test r = go_on (judged r f) (λ places. on_trees (λ trees. Ok (in_order trees (flat_map (axis_nodes trees axis test) places))))
@@ -165,3 +174,15 @@ stops_before (Err other) next last f code h = ap (again code) h
 pub double_slash_stops : (f : List Tree) (test : Test) (xs : List Item) (code : Code) → forget (all_nodes XPTY0019 xs) ≡ Err code → (after_double_slash test xs f).0 ≡ Err code
 double_slash_stops f test xs code h =
     stops_before (all_nodes XPTY0019 xs) (λ places. on_trees (λ trees. Ok (in_order trees (flat_map (axis_nodes trees DescendantOrSelf Any) places)))) (Forms.scan Child test) f code h
+
+-- # The parents of those
+
+pub parents_give : (f : List Tree) (test : Test) (views : List ItemView) (found nodes : List Spot) (parents : List ItemView)
+    → forget (all_nodes XPTY0019 (items_at f views)) ≡ Ok tt → map (node_at f) found ≡ after_places f test (map (node_at f) (nodes_among views)) → HaveAll f found
+    → map (node_at f) nodes ≡ in_document_order f (flat_map (axis_nodes f Parent Any) (map (node_at f) found)) → HaveAll f nodes → parents ≡ map NodeAt nodes
+    → AreIn f parents × (parents_below test (items_at f views) f ≡ (Ok (items_at f parents), f))
+parents_give f test views found nodes parents all below have above have_all is =
+    let held = map NodeAt found in
+    let first = double_slash_gives f test views found held all below have refl in
+    let last = scan_gives f Parent Any held nodes parents (all_places f found) (above ∙ ap (λ ns. in_document_order f (flat_map (axis_nodes f Parent Any) (map (node_at f) ns))) (sym (among_places found))) have_all is in
+    (last.0, ap (λ o. go_on o (Forms.scan Parent Any)) first.1 ∙ last.1)

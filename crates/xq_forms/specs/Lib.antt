@@ -2,4 +2,5 @@ pub mod Views
 pub mod Paths
 pub mod Reads
 pub mod Nodes
+pub mod Runs
 pub mod private

@@ -1,5 +1,7 @@
 //! Nodes of paths (XQuery 3.1, section 3.3).
-ghost use Rattle.std.specs.Prelude.{◌≡◌, ◌∷◌, [], List, map, IfOk, IfSome, OnOk};
+ghost use Rattle.std.specs.Prelude.{◌≡◌, ◌∷◌, ◌++◌, [], ℕ, true, List, map, IfOk, IfSome, OnOk};
+ghost use Rattle.xq_axes.specs.Many.{spot};
+ghost use Rattle.xq_regions.specs.Rising.{AreRising};
 ghost use Rattle.xq_regions.specs.Tree.{Tree};
 ghost use Rattle.xq_regions.specs.Items.{Place, item_view, item_views};
 ghost use Rattle.xq_sources.specs.Sources.{HasNode};
@@ -13,6 +15,7 @@ ghost use Rattle.xq_meaning.specs.Doing.{on_trees};
 ghost use Rattle.xq_meaning.specs.Forms as Forms;
 ghost use Rattle.xq_forms.specs.Views.{focus_at, frame_at, forget, FrameIn, Goes, GivesSequence};
 ghost use Rattle.xq_forms.specs.Nodes.{nodes_among as nodes_among_lem};
+ghost use Rattle.xq_forms.specs.private.InTree.{AreInTree};
 
 use crate::frames::{Focus, Frame};
 use crate::values::single;
@@ -45,6 +48,48 @@ pub fn nodes_among(alloc: Global, items: &[Item]) -> Result<Vec<Node>, Want>
         }
     }
     Ok(nodes)
+}
+
+/// Whether the place comes after all of the places, which rise.
+fn is_next(places: &[u32], place: u32) -> bool
+    ensures { (tree : ℕ) → result ≡ true → AreRising (map (spot tree) places.now)
+        → AreRising (map (spot tree) (places.now ++ place ∷ [])) }
+{
+    match places.last() {
+        Some(last) => *last < place,
+        None => true,
+    }
+}
+
+/// Nodes of one tree, by their places.
+#[derive(Drop)]
+pub struct InTree {
+    pub tree: usize,
+    pub places: Vec<u32>,
+}
+
+/// The items by their places, where they are some nodes of one tree, each after the one before it.
+pub fn in_one_tree(alloc: Global, items: &[Item]) -> Result<Option<InTree>, Want>
+    ensures { IfOk result (λ told. IfSome told (λ found.
+        AreInTree found.tree found.places.items (map item_view items.now))) }
+{
+    let Some(Item::Node(first)) = items.first() else {
+        return Ok(None);
+    };
+    let mut places = Vec::with_capacity(alloc, items.len())?;
+    for item in items {
+        let Item::Node(node) = item else {
+            return Ok(None);
+        };
+        if node.tree != first.tree || !is_next(&places, node.pre) {
+            return Ok(None);
+        }
+        places.push(node.pre)?;
+    }
+    Ok(Some(InTree {
+        tree: first.tree,
+        places,
+    }))
 }
 
 /// The node that the item is.
