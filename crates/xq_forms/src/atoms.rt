@@ -79,7 +79,7 @@ pub fn atomized<L: RowLender>(
 }
 
 /// The atom of an item, which is the item itself where that is an atom.
-fn into_atom<L: RowLender>(alloc: Global, source: &mut L, item: Item) -> Result<Atom, Want>
+pub fn into_atom<L: RowLender>(alloc: Global, source: &mut L, item: Item) -> Result<Atom, Want>
     ensures value { L.is_clean source.new → IfOk result (λ atom. atomic_of atom
         ≡ atom_of (L.forest source.old) (item_at (L.forest source.old) (item_view item))) }
     ensures keeps { L.forest source.new ≡ L.forest source.old }

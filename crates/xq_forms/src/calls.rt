@@ -15,9 +15,10 @@ ghost use Rattle.xq_forms.specs.Reads.{IsAtom};
 ghost use Rattle.xq_forms.specs.Views.{tuple_at, lists_of, spot_at, focus_at, frame_at, calling, FrameIn, TupleIn, Goes, GivesSequence};
 ghost use Rattle.xq_forms.specs.private.Calls.{at_focus};
 
-use crate::atoms::{atomized, into_atoms, of_item};
+use crate::atoms::{atomized, into_atoms};
 use crate::frames::{Focus, Frame};
 use crate::node_functions::{call_on_nodes, context_argument};
+use crate::operands::Operand;
 use crate::values::single;
 use std::alloc::Global;
 use xq_atoms::{Atom, Code, Fault, Want};
@@ -30,36 +31,25 @@ use xq_regions::{Item, Items};
 use xq_sources::{Addresses, Growing, RowLender};
 
 /// The atoms of each list.
-fn all_atomized<L: RowLender>(
+fn all_into_atoms<L: RowLender>(
     alloc: Global,
     source: &mut L,
-    lists: &[Items],
+    lists: Vec<Items>,
 ) -> Result<Vec<Vec<Atom>>, Want>
     ensures value { L.is_clean source.new → IfOk result (λ atoms. column_of atoms
-        ≡ map (atomized_lem (L.forest source.old)) (tuple_at (L.forest source.old) (map item_views
-        lists.now))) }
+        ≡ map (atomized_lem (L.forest source.old)) (tuple_at (L.forest source.old)
+        (lists_of lists))) }
     ensures keeps { L.forest source.new ≡ L.forest source.old }
     ensures was_clean { L.is_clean source.new → L.is_clean source.old }
 {
     let mut atoms = Vec::with_capacity(alloc, lists.len())?;
     for list in lists {
-        atoms.push(atomized(alloc, source, list)?)?;
+        atoms.push(into_atoms(alloc, source, list)?)?;
     }
     Ok(atoms)
 }
 
-/// The only item.
-fn only_item(items: &[Item]) -> Option<&Item>
-    ensures { IfSome result (λ item. items.now ≡ item.now ∷ []) }
-{
-    let [item] = items else {
-        return None;
-    };
-    Some(item)
-}
-
-/// A call with one argument of a function that looks at its atoms. That of one item is put into no
-/// list.
+/// A call with one argument of a function that looks at its atoms.
 #[inline(never)]
 fn on_atoms<L: RowLender>(
     alloc: Global,
@@ -74,12 +64,8 @@ fn on_atoms<L: RowLender>(
     ensures keeps { L.forest source.new ≡ L.forest source.old }
     ensures was_clean { L.is_clean source.new → L.is_clean source.old }
 {
-    if let Some(item) = only_item(&items) {
-        let atom = of_item(alloc, source, item)?;
-        return call_on_atoms(alloc, function, &[atom]);
-    }
-    let atoms = into_atoms(alloc, source, items)?;
-    call_on_atoms(alloc, function, &atoms)
+    let operand = Operand::of_items(alloc, source, items)?;
+    call_on_atoms(alloc, function, operand.atoms())
 }
 
 /// A call with one argument.
@@ -169,16 +155,16 @@ fn on_many<L: RowLender>(
     alloc: Global,
     source: &mut L,
     function: Function,
-    arguments: &[Items],
+    arguments: Vec<Items>,
 ) -> Result<Items, Fault>
-    ensures gives { L.is_clean source.new → 2 ≤ length arguments.now
+    ensures gives { L.is_clean source.new → 2 ≤ length arguments.items
         → (addresses focus : _) → GivesUnlessWanting (items_of (L.forest source.old))
         (Functions.called function (L.forest source.old) addresses focus (tuple_at
-        (L.forest source.old) (map item_views arguments.now))) result }
+        (L.forest source.old) (lists_of arguments))) result }
     ensures keeps { L.forest source.new ≡ L.forest source.old }
     ensures was_clean { L.is_clean source.new → L.is_clean source.old }
 {
-    let atoms = all_atomized(alloc, source, arguments)?;
+    let atoms = all_into_atoms(alloc, source, arguments)?;
     call_on_lists(alloc, function, &atoms)
 }
 
@@ -204,7 +190,7 @@ pub fn call<W: Growing>(
 {
     let mut arguments = arguments;
     if arguments.len() >= 2 {
-        return on_many(alloc, world, function, &arguments);
+        return on_many(alloc, world, function, arguments);
     }
     match arguments.pop() {
         Some(items) => on_one(alloc, world, frame.addresses, function, items),

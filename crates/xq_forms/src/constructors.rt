@@ -1,7 +1,7 @@
 //! Computed constructors (XQuery 3.1, section 3.9.3).
-ghost use Rattle.std.specs.Prelude.{◌≡◌, ◌++◌, ◌∷◌, [], List, Option, Some, None, map, string_bytes, IfOk};
+ghost use Rattle.std.specs.Prelude.{◌≡◌, ◌++◌, ◌∷◌, [], List, Option, Some, None, map, string_bytes, IfOk, IfSome};
 ghost use Rattle.xq_atoms.specs.Atom.{atomic_of};
-ghost use Rattle.xq_regions.specs.Items.{item_view};
+ghost use Rattle.xq_regions.specs.Items.{item_view, Value as Valued};
 ghost use Rattle.xq_regions.specs.Tree.{Tree};
 ghost use Rattle.xq_meaning.specs.Content.{name_of as name_of_lem, spaced as spaced_lem, named_tree as named_tree_lem, unnamed_tree as unnamed_tree_lem};
 ghost use Rattle.xq_meaning.specs.Items.{atomized as atomized_lem};
@@ -14,12 +14,23 @@ ghost use Rattle.xq_forms.specs.Views.{plant_named, plant_unnamed, Goes, GivesSe
 use crate::atoms::atomized;
 use crate::values::single;
 use std::alloc::Global;
-use xq_atoms::{Atom, Fault, Want};
+use std::slice::from_ref;
+use xq_atoms::{Atom, Fault, Want, cast_str};
 use xq_build::{attribute, comment, document, element, name_of, pi, text};
 use xq_expressions::{NamedNode, UnnamedNode};
 use xq_packed_trees::PackedTree;
 use xq_regions::{Item, Items, Node};
 use xq_sources::{Growing, RowLender};
+
+/// The only item, where it is an atom.
+fn only_atom(items: &[Item]) -> Option<&Atom>
+    ensures { IfSome result (λ atom. map item_view items.now ≡ Valued (atomic_of atom.now) ∷ []) }
+{
+    let [Item::Atom(atom)] = items else {
+        return None;
+    };
+    Some(atom)
+}
 
 /// The name of a constructed node, from the value that computes it.
 pub fn node_name<W: Growing>(
@@ -35,6 +46,9 @@ pub fn node_name<W: Growing>(
         (W.forest world.old) (map item_view items.now)))) (W.forest world.old))
         (W.forest world.new) result }
 {
+    if let Some(atom) = only_atom(items) {
+        return name_of(alloc, kind, from_ref(atom));
+    }
     let atoms = atomized(alloc, world, items)?;
     name_of(alloc, kind, &atoms)
 }
@@ -44,6 +58,26 @@ fn spaced(alloc: Global, atoms: &[Atom]) -> Result<String, Want>
     ensures { IfOk result (λ made. string_bytes made ≡ spaced_lem (map atomic_of atoms.now)) }
 {
     xq_functions::joined(alloc, " ", atoms)
+}
+
+/// The text of an attribute's or an instruction's content: those of its atoms, with a space between
+/// them.
+fn text_of_content<L: RowLender>(
+    alloc: Global,
+    source: &mut L,
+    content: &[Item],
+) -> Result<String, Want>
+    ensures text { L.is_clean source.new → IfOk result (λ text. string_bytes text
+        ≡ spaced_lem (atomized_lem (L.forest source.old) (items_at (L.forest source.old)
+        (map item_view content.now)))) }
+    ensures keeps { L.forest source.new ≡ L.forest source.old }
+    ensures was_clean { L.is_clean source.new → L.is_clean source.old }
+{
+    if let Some(atom) = only_atom(content) {
+        return cast_str(alloc, atom);
+    }
+    let atoms = atomized(alloc, source, content)?;
+    spaced(alloc, &atoms)
 }
 
 /// The tree of a named node with this content.
@@ -63,8 +97,7 @@ fn named_tree<L: RowLender>(
     if let NamedNode::Element = kind {
         return element(alloc, source, name, content);
     }
-    let atoms = atomized(alloc, source, content)?;
-    let value = spaced(alloc, &atoms)?;
+    let value = text_of_content(alloc, source, content)?;
     match kind {
         NamedNode::ProcessingInstruction => pi(alloc, name, value),
         NamedNode::Element | NamedNode::Attribute => attribute(alloc, name, value),

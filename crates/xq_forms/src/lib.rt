@@ -8,6 +8,7 @@ mod constructors;
 mod frames;
 mod node_functions;
 mod nodes;
+mod operands;
 mod operators;
 mod paths;
 mod runs;

@@ -11,7 +11,8 @@ ghost use Rattle.xq_meaning.specs.Readings.{items_at, AreIn};
 ghost use Rattle.xq_meaning.specs.Doing.{on_trees};
 ghost use Rattle.xq_forms.specs.Views.{Goes, GivesSequence};
 
-use crate::atoms::{atomized, into_atoms};
+use crate::atoms::atomized;
+use crate::operands::Operand;
 use std::alloc::Global;
 use xq_atoms::{Code, Fault};
 use xq_expressions::{ComparisonOperator, Sign};
@@ -42,9 +43,9 @@ pub fn operate<W: Growing>(
     if !is_on_atoms(operator) {
         return operate_on_nodes(alloc, operator, &left, &right);
     }
-    let left = into_atoms(alloc, world, left)?;
-    let right = into_atoms(alloc, world, right)?;
-    operate_on_atoms(alloc, operator, &left, &right)
+    let left = Operand::of_items(alloc, world, left)?;
+    let right = Operand::of_items(alloc, world, right)?;
+    operate_on_atoms(alloc, operator, left.atoms(), right.atoms())
 }
 
 /// What an operator that takes nodes gives from two values.

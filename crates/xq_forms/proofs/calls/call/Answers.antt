@@ -16,9 +16,9 @@ returns-then-len-ge2-clause-gives g c = λ k inside lists.
     let frame = c.args.frame in
     let addresses = frame.addresses.now in
     let focus = focus_at old frame.focus in
-    let many : 2 ≤ length c.deref.result.now = omega (arith, c.if-len-ge2.true, c.len.ensures, c.deref.ensures.len) in
+    let many : 2 ≤ length c.args.arguments.items = omega (arith, c.if-len-ge2.true, c.len.ensures, c.args.arguments.ok.0) in
     call_gives old (g.W.TreeSource.forest c.on_many.new.source) frame c.args.function (lists_of c.args.arguments) c.on_many.result c.on_many.ensures.keeps inside lists
-    (subst (λ l. GivesUnlessWanting (items_of old) (Functions.called c.args.function old addresses focus (tuple_at old (map item_views l))) c.on_many.result) c.deref.ensures.value (c.on_many.ensures.gives k many addresses focus))
+    (c.on_many.ensures.gives k many addresses focus)
 
 pub returns-in-Some-clause-gives : goal.returns-in-Some-clause-gives
 returns-in-Some-clause-gives g c = λ k inside lists.

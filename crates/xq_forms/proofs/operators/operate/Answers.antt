@@ -13,15 +13,15 @@ use Rattle.xq_forms.proofs.operators.operate.Goals as goal
 pub returns-clause-gives : goal.returns-clause-gives
 returns-clause-gives g c = λ clean left_in right_in.
     let old = g.W.TreeSource.forest c.args.world.now in
-    let mid = g.W.TreeSource.forest c.into_atoms.new.source in
-    let new = g.W.TreeSource.forest c.into_atoms-2.new.source in
+    let mid = g.W.TreeSource.forest c.of_items.new.source in
+    let new = g.W.TreeSource.forest c.of_items-2.new.source in
     let xs = items_at old (item_views c.args.left) in
     let ys = items_at old (item_views c.args.right) in
-    let same : mid ≡ old = c.into_atoms.ensures.keeps in
-    let first : map atomic_of c.deref-2.result.now ≡ atomized old xs = ap (map atomic_of) c.deref-2.ensures.value ∙ c.in_ok-left.ensures.value (c.into_atoms-2.ensures.was_clean clean) in
-    let second : map atomic_of c.deref-3.result.now ≡ atomized old ys = ap (map atomic_of) c.deref-3.ensures.value ∙ c.in_ok-right.ensures.value clean ∙ ap (λ f. atomized f (items_at f (item_views c.args.right))) same in
+    let same : mid ≡ old = c.of_items.ensures.keeps in
+    let first : map atomic_of c.atoms.result.now ≡ atomized old xs = c.atoms.ensures ∙ c.in_ok-left.ensures.value (c.of_items-2.ensures.was_clean clean) in
+    let second : map atomic_of c.atoms-2.result.now ≡ atomized old ys = c.atoms-2.ensures ∙ c.in_ok-right.ensures.value clean ∙ ap (λ f. atomized f (items_at f (item_views c.args.right))) same in
     let on_atoms : is_on_atoms c.args.operator ≡ true = search rules in
-    plain_gives (operated c.args.operator old xs ys) old new c.operate_on_atoms.result (operated_atoms c.args.operator old xs ys on_atoms) (c.into_atoms-2.ensures.keeps ∙ same)
+    plain_gives (operated c.args.operator old xs ys) old new c.operate_on_atoms.result (operated_atoms c.args.operator old xs ys on_atoms) (c.of_items-2.ensures.keeps ∙ same)
     (c.operate_on_atoms.ensures on_atoms old xs ys (sym first) (sym second))
 
 pub returns-then-not-is_on_atoms-clause-gives : goal.returns-then-not-is_on_atoms-clause-gives

@@ -1,9 +1,9 @@
-use Rattle.std.proofs.Common.{◌≡◌, map, take}
+use Rattle.std.proofs.Common.{◌≡◌, map}
 use Rattle.xq_regions.specs.Items.{item_views}
 use Rattle.xq_tuples.specs.Keys.{column_of}
 use Rattle.xq_meaning.specs.Items.{atomized}
 use Rattle.xq_forms.specs.Views.{tuple_at}
-use Rattle.xq_forms.proofs.calls.all_atomized.Given as goal
+use Rattle.xq_forms.proofs.calls.all_into_atoms.Given as goal
 
 abbrev pub invariant-loop-list : goal.invariant-loop-list
 invariant-loop-list g l =
@@ -12,5 +12,5 @@ invariant-loop-list g l =
     record {
       keeps : g.L.TreeSource.forest l.source ≡ old;
       was_clean : clean → g.L.TreeSource.is_clean l.fn.source;
-      value : clean → column_of l.atoms ≡ map (atomized old) (tuple_at old (map item_views (take l.list-index l.lists)));
+      value : clean → column_of l.atoms ≡ map (atomized old) (tuple_at old (map item_views l.yielded));
     }
