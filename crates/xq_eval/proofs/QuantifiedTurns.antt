@@ -1,7 +1,7 @@
 -- A turn of a quantified expression, over the trees that it leaves.
-use Rattle.std.proofs.Common.{◌≡◌, ℕ, zero, suc, ◌+◌, ◌<◌, ◌≤◌, ◌++◌, List, [], ◌∷◌, map, take, drop, length, refl, sym, ◌∙◌, ap, subst, arith, Ok, Err, Bool, true, false, not, Option, Some, None, append_assoc, inl, inr}
+use Rattle.std.proofs.Common.{◌≡◌, ℕ, zero, suc, ◌+◌, ◌<◌, ◌≤◌, ◌++◌, List, [], ◌∷◌, map, take, drop, length, refl, sym, ◌∙◌, ap, subst, arith, Ok, Err, Bool, true, false, not, Option, Some, None, Result, append_assoc, inl, inr}
 use Rattle.std.specs.List.{AllByRecursion}
-use Rattle.std.specs.Prelude.{IfSome}
+use Rattle.std.specs.Prelude.{IsErrAnd}
 use Rattle.std.specs.Global.{Vec, Global}
 use Rattle.std.specs.declared.rc.Rc.{Rc}
 use Rattle.std.proofs.lemmas.Bool.{cases_lt}
@@ -10,23 +10,27 @@ use Rattle.xq_tuples.specs.Views.{values_of}
 use Rattle.xq_regions.specs.Items.{item_views, ItemView}
 use Rattle.xq_forms.specs.declared.frames.Frame.{Frame as Held}
 use Rattle.std.proofs.lemmas.List.{append-nil, length-append, length-map, map-append}
+use Rattle.xq_atoms.specs.declared.refusals.Code.{Code}
 use Rattle.xq_atoms.specs.declared.refusals.Fault.{Fault}
 use Rattle.xq_atoms.specs.declared.refusals.Fault.TheVariants.{Code as OfCode, Want as OfWant}
 use Rattle.xq_regions.specs.Tree.{Tree}
 use Rattle.xq_regions.specs.Tuples.{Tuple}
 use Rattle.xq_meaning.specs.Items.{Item}
 use Rattle.xq_meaning.specs.Readings.{item_at, items_at, IsIn, AreIn, Extends}
-use Rattle.xq_meaning.specs.Doing.{Outcome, go_on, give}
+use Rattle.xq_meaning.specs.Doing.{Doing, Outcome, go_on, first_that}
 use Rattle.xq_meaning.specs.Forms as Forms
-use Rattle.xq_meaning.specs.PlanMeaning.{Frame, Meaning}
-use Rattle.xq_forms.specs.Views.{tuple_at, focus_at, frame_at, TupleIn, FocusIn, FrameIn}
+use Rattle.xq_meaning.specs.declared.plans.Plan.{Plan}
+use Rattle.xq_meaning.specs.PlanMeaning.{Frame, Meaning, plan_mean}
+use Rattle.xq_joins.specs.Keyed.{first_with}
+use Rattle.xq_forms.specs.Views.{tuple_at, focus_at, frame_at, TupleIn, FocusIn, FrameIn, GivesAs}
 use Rattle.xq_eval.specs.private.Results.{GivesPlain}
 use Rattle.xq_forms.proofs.Growth.{tuple_grown, tuple_in_grown}
 use Rattle.xq_regions.proofs.Lists.{all_append}
 use Rattle.xq_eval.specs.private.Bindings.{Falls, stays, falls, Moved}
-use Rattle.xq_eval.specs.private.Quantifying.{at_top, holds, tried, resumed, turn, unless_wanted, weigh, all_weigh, some_weigh}
-use Rattle.xq_eval.specs.private.Turns.{values_found, found_at, FoundIn, GivesTurn}
-use Rattle.xq_eval.proofs.Quantifying.{at_top-env, same_top, found_top, code_top, falls_same, moved_same, none_left, turn_found, turn_some, turn_code, falls_weigh, moved_weigh, turn_weigh, falls_shorter}
+use Rattle.xq_eval.specs.private.Quantifying.{opened_at, at_top, holds, tried, resumed, weigh, all_weigh, some_weigh}
+use Rattle.xq_eval.specs.private.Turns.{values_found, IsTurn, GivesTurn, Leaves}
+use Rattle.xq_eval.proofs.Loops.{stops}
+use Rattle.xq_eval.proofs.Quantifying.{at_top-env, same_top, found_top, code_top, falls_same, moved_same, none_left, falls_weigh, moved_weigh, turn_weigh, falls_shorter}
 
 all_front : {A : Type 0} (P : A → Type 0) (xs ys : List A) → AllByRecursion P (xs ++ ys) → AllByRecursion P xs × AllByRecursion P ys
 all_front P [] ys h = (tt, h)
@@ -83,19 +87,19 @@ module _ (wanted : Bool) (test : Meaning) (parts : List Meaning) (frame : Frame)
   top_is f stack n h = ap (λ k. drop k parts) (h ∙ sym (length-map stack (items_at f)))
 
   after_turn : (f f' : List Tree) (stack : Tuple ItemView) (items : List ItemView) (n : ℕ) → At f stack → Extends f f' → n ≡ length stack
-      → turn wanted test (drop n parts) (at_top frame (tuple_at f stack)) f ≡ (Ok (Some (items_at f' items)), f')
+      → holds wanted test (drop n parts) (at_top frame (tuple_at f stack)) f ≡ tried wanted test (items_at f' items) (drop n parts) (at_top frame (tuple_at f stack)) f'
       → resumed wanted test (tried wanted test (items_at f' items)) parts frame (tuple_at f' stack) f' ≡ whole
   after_turn f f' stack items n at grows h step =
       let es = tuple_at f stack in
       let many = length-map stack (items_at f) in
       let w = at.within in
-      let top = ap (λ ps. turn wanted test ps (at_top frame es) f) (sym (top_is f stack n h)) ∙ step in
+      let top = subst (λ ps. holds wanted test ps (at_top frame es) f ≡ tried wanted test (items_at f' items) ps (at_top frame es) f') (top_is f stack n h) step in
       ap (λ s. resumed wanted test (tried wanted test (items_at f' items)) parts frame s f') (tuple_grown grows stack at.is_in)
-      ∙ sym (same_top wanted test (holds wanted test) (tried wanted test (items_at f' items)) parts frame es f f' (omega arith) (turn_some wanted test (drop (length es) parts) (at_top frame es) (items_at f' items) f f' top))
+      ∙ sym (same_top wanted test (holds wanted test) (tried wanted test (items_at f' items)) parts frame es f f' (omega arith) top)
       ∙ at.rest
 
   pub turn_moves : (f f' : List Tree) (stack stack' slots slots' : Tuple ItemView) (items : List ItemView) (outer n : ℕ) → At f stack → Extends f f' → n ≡ length stack
-      → AreIn f' items × (turn wanted test (drop n parts) (at_top frame (tuple_at f stack)) f ≡ (Ok (Some (items_at f' items)), f'))
+      → IsTurn wanted test (drop n parts) (at_top frame (tuple_at f stack)) f f' (Some items)
       → (length parts ≤ n → items ≡ []) → Moved outer slots stack items slots' stack' → At f' stack'
   turn_moves f f' stack stack' slots slots' items outer n at grows h step spent moved =
       let below = moved.below in
@@ -118,7 +122,7 @@ module _ (wanted : Bool) (test : Meaning) (parts : List Meaning) (frame : Frame)
       }
 
   pub turn_ends : (f f' : List Tree) (stack : Tuple ItemView) (items : List ItemView) (n : ℕ) → At f stack → Extends f f' → n ≡ length stack
-      → turn wanted test (drop n parts) (at_top frame (tuple_at f stack)) f ≡ (Ok (Some (items_at f' items)), f')
+      → holds wanted test (drop n parts) (at_top frame (tuple_at f stack)) f ≡ tried wanted test (items_at f' items) (drop n parts) (at_top frame (tuple_at f stack)) f'
       → Falls stack items [] [] → whole ≡ (Ok (not wanted), f')
   turn_ends f f' stack items n at grows h step ended =
       sym (after_turn f f' stack items n at grows h step)
@@ -126,23 +130,23 @@ module _ (wanted : Bool) (test : Meaning) (parts : List Meaning) (frame : Frame)
       ∙ none_left wanted test parts frame f'
 
   pub turn_decides : (f f' : List Tree) (stack : Tuple ItemView) (n : ℕ) → At f stack → n ≡ length stack
-      → turn wanted test (drop n parts) (at_top frame (tuple_at f stack)) f ≡ (Ok None, f') → whole ≡ (Ok wanted, f')
+      → holds wanted test (drop n parts) (at_top frame (tuple_at f stack)) f ≡ (Ok wanted, f') → whole ≡ (Ok wanted, f')
   turn_decides f f' stack n at h step =
       let es = tuple_at f stack in
       let many = length-map stack (items_at f) in
       let w = at.within in
-      let top = ap (λ ps. turn wanted test ps (at_top frame es) f) (sym (top_is f stack n h)) ∙ step in
-      sym at.rest ∙ found_top wanted test (holds wanted test) parts frame es f f' (omega arith) (turn_found wanted test (drop (length es) parts) (at_top frame es) f f' top)
+      let top = subst (λ ps. holds wanted test ps (at_top frame es) f ≡ (Ok wanted, f')) (top_is f stack n h) step in
+      sym at.rest ∙ found_top wanted test (holds wanted test) parts frame es f f' (omega arith) top
 
   pub turn_stops : (f f' : List Tree) (stack : Tuple ItemView) (n : ℕ) (e : Fault) → At f stack → n ≡ length stack
-      → GivesTurn (turn wanted test (drop n parts) (at_top frame (tuple_at f stack)) f) f' (Err e) → GivesPlain whole f' (Err e)
+      → GivesTurn wanted test (drop n parts) (at_top frame (tuple_at f stack)) f f' (Err e) → GivesPlain whole f' (Err e)
   turn_stops f f' stack n (OfWant want) at h step = tt
   turn_stops f f' stack n (OfCode code) at h step =
       let es = tuple_at f stack in
       let many = length-map stack (items_at f) in
       let w = at.within in
-      let top = ap (λ ps. (turn wanted test ps (at_top frame es) f).0) (sym (top_is f stack n h)) ∙ step in
-      ap (λ o. o.0) (sym at.rest) ∙ code_top wanted test (holds wanted test) parts frame es f code (omega arith) (turn_code wanted test (drop (length es) parts) (at_top frame es) f code top)
+      let top = subst (λ ps. (holds wanted test ps (at_top frame es) f).0 ≡ Err code) (top_is f stack n h) step in
+      ap (λ o. o.0) (sym at.rest) ∙ code_top wanted test (holds wanted test) parts frame es f code (omega arith) top
 
 -- what is left weighs less after a turn
 pub moved_lighter : (width n outer : ℕ) (slots stack slots' stack' : Tuple ItemView) (items : List ItemView) → length stack ≤ n → length items < width → (n ≤ length stack → items ≡ []) → Moved outer slots stack items slots' stack'
@@ -201,38 +205,49 @@ frame_open_in f frame inner stack e focus addresses h k = record {
   addresses_in = subst (λ xs. length xs ≤ length f) (sym addresses) h.addresses_in;
 }
 
--- what a turn found
-abbrev pub Found : Option (Rc (Vec HeldItem) Global) → Type 0
-Found r = IfSome r (λ items. item_views items.value ≡ [])
-
-pub some_found : (wanted : Bool) (test : Meaning) (parts : List Meaning) (frame : Frame) (f f' : List Tree) (found : Option (Rc (Vec HeldItem) Global)) (items : Rc (Vec HeldItem) Global) → found ≡ Some items
-    → FoundIn f' (values_found found) × (turn wanted test parts frame f ≡ (Ok (found_at f' (values_found found)), f'))
-    → AreIn f' (item_views items.value) × (turn wanted test parts frame f ≡ (Ok (Some (items_at f' (item_views items.value))), f'))
-some_found wanted test parts frame f f' found items e h = subst (λ r. FoundIn f' (values_found r) × (turn wanted test parts frame f ≡ (Ok (found_at f' (values_found r)), f'))) e h
-
-pub none_found : (wanted : Bool) (test : Meaning) (parts : List Meaning) (frame : Frame) (f f' : List Tree) (found : Option (Rc (Vec HeldItem) Global)) → found ≡ None
-    → FoundIn f' (values_found found) × (turn wanted test parts frame f ≡ (Ok (found_at f' (values_found found)), f'))
-    → turn wanted test parts frame f ≡ (Ok None, f')
-none_found wanted test parts frame f f' found e h = (subst (λ r. FoundIn f' (values_found r) × (turn wanted test parts frame f ≡ (Ok (found_at f' (values_found r)), f'))) e h).1
-
 -- # What one call for the next values gives
 
-pub turn_value : (wanted : Bool) (test : Meaning) (parts : List Meaning) (frame : Frame) (part : Meaning) (rest : List Meaning) (xs : List Item) (f f' : List Tree) → parts ≡ part ∷ rest → part frame f ≡ (Ok xs, f')
-    → turn wanted test parts frame f ≡ (Ok (Some xs), f')
-turn_value wanted test parts frame part rest xs f f' e step = ap (λ ps. turn wanted test ps frame f) e ∙ ap (λ o. go_on o (λ ys. give (Some ys))) step
+-- what a turn found
+pub some_found : (wanted : Bool) (test : Meaning) (parts : List Meaning) (frame : Frame) (f f' : List Tree) (found : Option (Rc (Vec HeldItem) Global)) (items : Rc (Vec HeldItem) Global) → found ≡ Some items
+    → IsTurn wanted test parts frame f f' (values_found found) → IsTurn wanted test parts frame f f' (Some (item_views items.value))
+some_found wanted test parts frame f f' found items e h = subst (λ r. IsTurn wanted test parts frame f f' (values_found r)) e h
+
+pub none_found : (wanted : Bool) (test : Meaning) (parts : List Meaning) (frame : Frame) (f f' : List Tree) (found : Option (Rc (Vec HeldItem) Global)) → found ≡ None
+    → IsTurn wanted test parts frame f f' (values_found found) → holds wanted test parts frame f ≡ (Ok wanted, f')
+none_found wanted test parts frame f f' found e h = subst (λ r. IsTurn wanted test parts frame f f' (values_found r)) e h
+
+module _ (wanted : Bool) (test : Meaning) (part : Meaning) (rest : List Meaning) (frame : Frame) where
+  -- with each of these values
+  abbrev each : List Item → Doing Bool
+  each xs = first_that wanted (λ x. holds wanted test rest (opened_at frame (x ∷ []))) xs
+
+  pub turn_value : (parts : List Meaning) (xs : List Item) (f f' : List Tree) → parts ≡ part ∷ rest → part frame f ≡ (Ok xs, f')
+      → holds wanted test parts frame f ≡ tried wanted test xs parts frame f'
+  turn_value parts xs f f' e step = subst (λ ps. holds wanted test ps frame f ≡ tried wanted test xs ps frame f') (sym e) (ap (λ o. go_on o each) step)
+
+  pub turn_refuses : (parts : List Meaning) (f : List Tree) → parts ≡ part ∷ rest → (code : Code) → (part frame f).0 ≡ Err code → (holds wanted test parts frame f).0 ≡ Err code
+  turn_refuses parts f e code step = ap (λ ps. (holds wanted test ps frame f).0) e ∙ stops (part frame f) each code step
 
 pub turn_tested : (wanted : Bool) (test : Meaning) (parts : List Meaning) (frame : Frame) (answer : Bool) (f f' : List Tree) → parts ≡ [] → Forms.tested test frame f ≡ (Ok answer, f')
-    → turn wanted test parts frame f ≡ (Ok (unless_wanted wanted answer), f')
-turn_tested wanted test parts frame answer f f' e step = ap (λ ps. turn wanted test ps frame f) e ∙ ap (λ o. go_on o (λ b. give (unless_wanted wanted b))) step
+    → holds wanted test parts frame f ≡ (Ok answer, f')
+turn_tested wanted test parts frame answer f f' e step = ap (λ ps. holds wanted test ps frame f) e ∙ step
 
-pub is_wanted : (wanted answer : Bool) → answer ≡ wanted → unless_wanted wanted answer ≡ None
-is_wanted true true e = refl
-is_wanted false false e = refl
-is_wanted true false e = absurd (let k : false ≡ true = e in cc)
-is_wanted false true e = absurd (let k : true ≡ false = e in cc)
+-- a refusal that `?` hands on
+pub turn_refused : {R S B : Type 0} (view : R → S) (read : List Tree → S → B) (In : List Tree → S → Type 0) (o : Outcome B) (wanted : Bool) (test : Meaning) (parts : List Meaning) (frame : Frame) (f f' : List Tree) (e : Fault)
+    (r : Result (Option (Rc (Vec HeldItem) Global)) Fault)
+    → ((code : Code) → o.0 ≡ Err code → (holds wanted test parts frame f).0 ≡ Err code) → IsErrAnd r (λ e'. e' ≡ e) → GivesAs view read In o f' (Err e) → GivesTurn wanted test parts frame f f' r
+turn_refused view read In o wanted test parts frame f f' (OfWant want) (Err e') codes h given = subst (λ x. GivesTurn wanted test parts frame f f' (Err x)) (sym h) tt
+turn_refused view read In o wanted test parts frame f f' (OfCode code) (Err e') codes h given = subst (λ x. GivesTurn wanted test parts frame f f' (Err x)) (sym h) (codes code given)
+turn_refused view read In o wanted test parts frame f f' e (Ok found) codes h given = elim h [ ]
 
-pub not_wanted : (wanted answer : Bool) → answer ≡ not wanted → unless_wanted wanted answer ≡ Some []
-not_wanted true false e = refl
-not_wanted false true e = refl
-not_wanted true true e = absurd (let k : true ≡ false = e in cc)
-not_wanted false false e = absurd (let k : false ≡ true = e in cc)
+-- the last variable's values, and those of them that are left
+pub turn_left : (wanted : Bool) (p : Plan) (parts : List Meaning) (part : Meaning) (frame : Frame) (xs : List ItemView) (found : Option (List ItemView)) (f f' f'' : List Tree) → parts ≡ part ∷ [] → part frame f ≡ (Ok (items_at f' xs), f')
+    → f'' ≡ f' → Leaves wanted p frame f' xs found → IsTurn wanted (plan_mean p) parts frame f f'' found
+turn_left wanted p parts part frame xs None f f' f'' e step same h =
+    let go : Outcome (List Item) → Outcome Bool = λ o. go_on o (λ ys. first_with wanted p ys frame) in
+    subst (λ t. holds wanted (plan_mean p) parts frame f ≡ (Ok wanted, t)) (sym same)
+    (subst (λ ps. holds wanted (plan_mean p) ps frame f ≡ (Ok wanted, f')) (sym e) (ap go step ∙ h))
+turn_left wanted p parts part frame xs (Some ys) f f' f'' e step same h =
+    let go : Outcome (List Item) → Outcome Bool = λ o. go_on o (λ ys. first_with wanted p ys frame) in
+    subst (λ t. IsTurn wanted (plan_mean p) parts frame f t (Some ys)) (sym same)
+    (h.0, subst (λ ps. holds wanted (plan_mean p) ps frame f ≡ tried wanted (plan_mean p) (items_at f' ys) ps frame f') (sym e) (ap go step ∙ h.1))

@@ -13,7 +13,7 @@ use Rattle.xq_meaning.specs.Forms as Forms
 use Rattle.xq_meaning.specs.PlanMeaning.{Frame, Meaning}
 use Rattle.xq_eval.proofs.Loops.{found_is, stops}
 use Rattle.xq_eval.specs.private.Bindings.{Falls, stays, falls}
-use Rattle.xq_eval.specs.private.Quantifying.{opened_at, at_top, holds, tried, resumed, unless_wanted, turn, weigh, all_weigh, some_weigh}
+use Rattle.xq_eval.specs.private.Quantifying.{opened_at, at_top, holds, tried, resumed, weigh, all_weigh, some_weigh}
 
 missed : (wanted : Bool) (rest : Doing Bool) (f : List Tree) → unless_found wanted (not wanted) rest f ≡ rest f
 missed true rest f = refl
@@ -106,56 +106,6 @@ module _ (wanted : Bool) (test : Meaning) where
   -- no variable has a value left
   pub none_left : (parts : List Meaning) (frame : Frame) (f : List Tree) → resumed wanted test (tried wanted test []) parts frame [] f ≡ (Ok (not wanted), f)
   none_left parts frame f = nothing_tried parts frame f
-
-  -- # One turn
-
-  -- what a turn gives decides how to go on
-  pub turn_found : (parts : List Meaning) (frame : Frame) (f f' : List Tree) → turn wanted test parts frame f ≡ (Ok None, f') → holds wanted test parts frame f ≡ (Ok wanted, f')
-  turn_found [] frame f f' e = by_answer wanted (Forms.tested test frame f) e
-    where
-      by_answer : (w : Bool) (o : Outcome Bool) → go_on o (λ answer. give (unless_wanted w answer)) ≡ (Ok None, f') → o ≡ (Ok w, f')
-      by_answer w (Err code, g) e = absurd (let k : ◌≡◌ {A = Judged (Option (List Item))} (Err code) (Ok None) = ap (λ o. o.0) e in cc)
-      by_answer true (Ok true, g) e = let k : g ≡ f' = ap (λ o. o.1) e in λ i. (Ok true, k i)
-      by_answer false (Ok false, g) e = let k : g ≡ f' = ap (λ o. o.1) e in λ i. (Ok false, k i)
-      by_answer true (Ok false, g) e = absurd (let k : ◌≡◌ {A = Judged (Option (List Item))} (Ok (Some [])) (Ok None) = ap (λ o. o.0) e in cc)
-      by_answer false (Ok true, g) e = absurd (let k : ◌≡◌ {A = Judged (Option (List Item))} (Ok (Some [])) (Ok None) = ap (λ o. o.0) e in cc)
-  turn_found (part ∷ parts) frame f f' e = absurd (by_value (part frame f) e)
-    where
-      by_value : (o : Outcome (List Item)) → go_on o (λ xs. give (Some xs)) ≡ (Ok None, f') → ⊥
-      by_value (Err code, g) e = let k : ◌≡◌ {A = Judged (Option (List Item))} (Err code) (Ok None) = ap (λ o. o.0) e in cc
-      by_value (Ok xs, g) e = let k : ◌≡◌ {A = Judged (Option (List Item))} (Ok (Some xs)) (Ok None) = ap (λ o. o.0) e in cc
-
-  pub turn_some : (parts : List Meaning) (frame : Frame) (xs : List Item) (f f' : List Tree) → turn wanted test parts frame f ≡ (Ok (Some xs), f') → holds wanted test parts frame f ≡ tried wanted test xs parts frame f'
-  turn_some [] frame xs f f' e = by_answer wanted (Forms.tested test frame f) e
-    where
-      by_answer : (w : Bool) (o : Outcome Bool) → go_on o (λ answer. give (unless_wanted w answer)) ≡ (Ok (Some xs), f') → o ≡ (Ok (not w), f')
-      by_answer w (Err code, g) e = absurd (let k : ◌≡◌ {A = Judged (Option (List Item))} (Err code) (Ok (Some xs)) = ap (λ o. o.0) e in cc)
-      by_answer true (Ok false, g) e = let k : g ≡ f' = ap (λ o. o.1) e in λ i. (Ok false, k i)
-      by_answer false (Ok true, g) e = let k : g ≡ f' = ap (λ o. o.1) e in λ i. (Ok true, k i)
-      by_answer true (Ok true, g) e = absurd (let k : ◌≡◌ {A = Judged (Option (List Item))} (Ok None) (Ok (Some xs)) = ap (λ o. o.0) e in cc)
-      by_answer false (Ok false, g) e = absurd (let k : ◌≡◌ {A = Judged (Option (List Item))} (Ok None) (Ok (Some xs)) = ap (λ o. o.0) e in cc)
-  turn_some (part ∷ parts) frame xs f f' e = by_value (part frame f) e
-    where
-      by_value : (o : Outcome (List Item)) → go_on o (λ ys. give (Some ys)) ≡ (Ok (Some xs), f')
-          → go_on o (λ ys. first_that wanted (λ x. holds wanted test parts (opened_at frame (x ∷ []))) ys) ≡ first_that wanted (λ x. holds wanted test parts (opened_at frame (x ∷ []))) xs f'
-      by_value (Err code, g) e = absurd (let k : ◌≡◌ {A = Judged (Option (List Item))} (Err code) (Ok (Some xs)) = ap (λ o. o.0) e in cc)
-      by_value (Ok ys, g) e =
-          let same : ys ≡ xs = (let k : ◌≡◌ {A = Judged (Option (List Item))} (Ok (Some ys)) (Ok (Some xs)) = ap (λ o. o.0) e in cc) in
-          let now : g ≡ f' = ap (λ o. o.1) e in
-          λ i. first_that wanted (λ x. holds wanted test parts (opened_at frame (x ∷ []))) (same i) (now i)
-
-  pub turn_code : (parts : List Meaning) (frame : Frame) (f : List Tree) (code : Code) → (turn wanted test parts frame f).0 ≡ Err code → (holds wanted test parts frame f).0 ≡ Err code
-  turn_code [] frame f code e = by_answer (Forms.tested test frame f) e
-    where
-      by_answer : (o : Outcome Bool) → (go_on o (λ answer. give (unless_wanted wanted answer))).0 ≡ Err code → o.0 ≡ Err code
-      by_answer (Ok answer, g) e = absurd (let k : ◌≡◌ {A = Judged (Option (List Item))} (Ok (unless_wanted wanted answer)) (Err code) = e in cc)
-      by_answer (Err other, g) e = let k : other ≡ code = (let j : ◌≡◌ {A = Judged (Option (List Item))} (Err other) (Err code) = e in cc) in ap Err k
-  turn_code (part ∷ parts) frame f code e = by_value (part frame f) e
-    where
-      by_value : (o : Outcome (List Item)) → (go_on o (λ ys. give (Some ys))).0 ≡ Err code
-          → (go_on o (λ ys. first_that wanted (λ x. holds wanted test parts (opened_at frame (x ∷ []))) ys)).0 ≡ Err code
-      by_value (Ok ys, g) e = absurd (let k : ◌≡◌ {A = Judged (Option (List Item))} (Ok (Some ys)) (Err code) = e in cc)
-      by_value (Err other, g) e = let k : other ≡ code = (let j : ◌≡◌ {A = Judged (Option (List Item))} (Err other) (Err code) = e in cc) in ap Err k
 
 -- # The measure falls
 

@@ -3,21 +3,25 @@
 ghost use Rattle.std.specs.Prelude.{◌≡◌, ◌≤◌, [], map, drop, length, IfOk, IfSome};
 ghost use Rattle.xq_regions.specs.Items.{item_views};
 ghost use Rattle.xq_meaning.specs.Forms as Forms;
-ghost use Rattle.xq_meaning.specs.PlanMeaning.{plan_mean};
-ghost use Rattle.xq_forms.specs.Views.{frame_at, FrameIn, Goes};
+ghost use Rattle.xq_meaning.specs.PlanMeaning.{Frame as Meant, plan_mean};
+ghost use Rattle.xq_meaning.specs.Readings.{AreIn};
+ghost use Rattle.xq_forms.specs.Views.{frame_at, tuple_at, TupleIn, FrameIn, Goes};
+ghost use Rattle.xq_tuples.specs.Views.{values_of};
 ghost use Rattle.xq_eval.specs.private.Results.{GivesPlain};
-ghost use Rattle.xq_eval.specs.private.Quantifying.{IsOf, bindings, turn as meant_turn};
-ghost use Rattle.xq_eval.specs.private.Turns.{GivesTurn};
+ghost use Rattle.xq_eval.specs.private.Quantifying.{IsOf, bindings};
+ghost use Rattle.xq_eval.specs.private.Turns.{GivesTurn, Leaves, values_found};
 
 use crate::bindings::advance;
 use crate::evaluation::{evaluate, tested};
 use std::alloc::Global;
 use std::rc::Rc;
-use xq_atoms::Fault;
+use xq_atoms::{Fault, Want};
 use xq_forms::Frame;
+use xq_joins::decided_by_key;
 use xq_meaning::Plan;
 use xq_regions::Items;
 use xq_sources::Growing;
+use xq_tuples::SlotValue;
 
 /// Whether the test has the wanted truth for some values of the variables, those of the later ones
 /// for each of the earlier ones; nothing is evaluated after the first that have.
@@ -61,8 +65,9 @@ pub fn satisfied<W: Growing>(
     }
 }
 
-/// Where so many of the variables have a value, the items that the next one ranges over; where all
-/// have one, `None` if the test has the wanted truth, and else no items.
+/// Where so many of the variables have a value, the items that the next one ranges over, or of the
+/// last one those that are undecided; where all have one, no items. `None` if the test has the
+/// wanted truth with these values, or with one of the last variable's.
 #[cycle(eval)]
 fn turn<W: Growing>(
     alloc: Global,
@@ -78,18 +83,51 @@ fn turn<W: Growing>(
     ensures goes { Goes (W.forest world.old) (W.forest world.new) (W.is_clean world.old)
         (W.is_clean world.new) }
     ensures gives { W.is_clean world.new → FrameIn (W.forest world.old) frame.entry
-        → GivesTurn (meant_turn wanted (plan_mean test.now) (drop opened (map plan_mean
-        ranges.now)) (frame_at (W.forest world.old) frame.entry) (W.forest world.old))
-        (W.forest world.new) result }
+        → GivesTurn wanted (plan_mean test.now) (drop opened (map plan_mean ranges.now))
+        (frame_at (W.forest world.old) frame.entry) (W.forest world.old) (W.forest world.new)
+        result }
     ensures spent { length ranges.now ≤ opened
         → IfOk result (λ found. IfSome found (λ items. item_views items.value ≡ [])) }
 {
     if opened < ranges.len() {
         let items = evaluate(alloc, world, frame, &ranges[opened])?;
-        return Ok(Some(Rc::new(alloc, items)?));
+        if opened + 1 < ranges.len() {
+            return Ok(Some(Rc::new(alloc, items)?));
+        }
+        let left = undecided(alloc, world, frame.slots, items, test, wanted)?;
+        return Ok(left);
     }
     let truth = tested(alloc, world, frame, test)?;
     if truth == wanted {
+        return Ok(None);
+    }
+    Ok(Some(Rc::new(alloc, Vec::new(alloc))?))
+}
+
+/// Of the last variable's items those with which the test is still to be evaluated: all, or where
+/// it compares with a key, none. `None` where it has the wanted truth with one of them.
+fn undecided<W: Growing>(
+    alloc: Global,
+    world: &mut W,
+    slots: &[SlotValue],
+    items: Items,
+    test: &Plan,
+    wanted: bool,
+) -> Result<Option<Rc<Items>>, Want>
+    ensures left { W.is_clean world.new → TupleIn (W.forest world.old) (values_of slots.now)
+        → AreIn (W.forest world.old) (item_views items)
+        → IfOk result (λ left. (frame : Meant)
+        → frame.env ≡ tuple_at (W.forest world.old) (values_of slots.now)
+        → Leaves wanted test.now frame (W.forest world.old) (item_views items)
+        (values_found left)) }
+    ensures keeps { W.forest world.new ≡ W.forest world.old }
+    ensures was_clean { W.is_clean world.new → W.is_clean world.old }
+{
+    let decided = decided_by_key(alloc, world, slots, items.as_slice(), test, wanted)?;
+    let Some(answer) = decided else {
+        return Ok(Some(Rc::new(alloc, items)?));
+    };
+    if answer == wanted {
         return Ok(None);
     }
     Ok(Some(Rc::new(alloc, Vec::new(alloc))?))

@@ -179,14 +179,80 @@ const KEYED: [(&str, &str); 20] = [
     ),
 ];
 
+/// Quantified expressions whose test compares with a key are decided as one by one.
+const QUANTIFIED: [(&str, &str); 15] = [
+    (
+        "for $a in doc(\"b\")//book return some $x in doc(\"b\")//book satisfies $x/@id = $a/@id",
+        "true(), true()",
+    ),
+    (
+        "for $a in doc(\"b\")//book return every $x in doc(\"b\")//book satisfies $a/@id = $x/@id",
+        "false(), false()",
+    ),
+    (
+        "let $k := doc(\"b\")//book return every $x in doc(\"b\")//book satisfies $x/@id = $k/@id",
+        "true()",
+    ),
+    (
+        "let $k := doc(\"b\")//book return some $x in doc(\"b\")//book satisfies $x/@id = $k/@none",
+        "false()",
+    ),
+    (
+        "let $k := doc(\"b\")//book return some $x in () satisfies $x/@id = $k/@id",
+        "false()",
+    ),
+    (
+        "let $k := doc(\"b\")//book return every $x in () satisfies $x/@id = $k/@id",
+        "true()",
+    ),
+    (
+        "some $x in doc(\"b\")//book, $y in reverse(doc(\"b\")//book) satisfies $y/@id = $x/@id",
+        "true()",
+    ),
+    (
+        "every $x in doc(\"b\")//book, $y in doc(\"b\")//book satisfies $y/@id = $x/@id",
+        "false()",
+    ),
+    (
+        "every $x in doc(\"b\")//book satisfies some $y in doc(\"b\")//@id satisfies $y = $x/@id",
+        "true()",
+    ),
+    (
+        "let $k := doc(\"b\")//book return some $x in (doc(\"b\")//book, 1) satisfies $x/@id = $k/@id",
+        "true()",
+    ),
+    (
+        "let $k := doc(\"b\")//book return some $x in (1, doc(\"b\")//book) satisfies $x/@id = $k/@id",
+        "XPTY0019",
+    ),
+    (
+        "let $k := (1, 2) return some $x in doc(\"b\")//book satisfies $x/@id = $k/@id",
+        "XPTY0019",
+    ),
+    (
+        "let $k := (1, 2) return some $x in doc(\"b\")//none satisfies $x/@id = $k/@id",
+        "false()",
+    ),
+    (
+        "let $k := (\"2\", \"1\") return every $x in doc(\"b\")//book satisfies $x/@id = $k",
+        "true()",
+    ),
+    (
+        "let $k := doc(\"b\")//book return some $x in (element n {\"1\"}, element n {\"3\"}) satisfies $x = $k/@id",
+        "true()",
+    ),
+];
+
 #[test]
 fn joins(rt: HostRuntime) {
     assert_answers(&rt, &JOINS);
     assert_answers(&rt, &KEYED);
+    assert_answers(&rt, &QUANTIFIED);
 }
 
 #[test]
 fn each_allocation_of_joins(rt: HostRuntime) {
     assert_answers_or_memory(&rt, &JOINS);
     assert_answers_or_memory(&rt, &KEYED);
+    assert_answers_or_memory(&rt, &QUANTIFIED);
 }

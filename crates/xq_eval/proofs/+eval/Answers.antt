@@ -55,15 +55,15 @@ use Rattle.xq_joins.specs.Atoms.{Tells}
 use Rattle.xq_eval.proofs.Telling.{told, told_stop}
 use Rattle.xq_meaning.specs.Content.{name_of}
 use Rattle.xq_eval.specs.private.Keys.{keys_at}
-use Rattle.xq_eval.specs.private.Quantifying.{holds, at_top, turn, resumed, weigh, all_weigh, unless_wanted}
+use Rattle.xq_eval.specs.private.Quantifying.{holds, at_top, resumed, tried, weigh, all_weigh}
 use Rattle.std.specs.Prelude.{string_bytes, IfSome, if◌then◌else◌}
 use Rattle.xq_eval.proofs.Steps.{double_slash_is, parents_below_is, axis_order_read, axis_order_in, step_from, named_is, same_goes, more_next, tested_ok, tested_err, go_on_stop, list_next, passed_ok, passed_err, kept_read, spots_left, element, left_at, frame_inner, frame_inner_in, bound_in, kept_in, expanded_in, numbered_in, slash_ok, slash_err, same_tests, any_tests}
 use Rattle.xq_forms.proofs.Lists.{all_at}
 use Rattle.xq_forms.proofs.Natural.{bound_natural, kept_natural, expanded_natural, numbered_natural}
 use Rattle.xq_tuples.proofs.Copies.{values_of-clones}
 use Rattle.xq_eval.specs.private.Bindings.{values_left, stack_of, Falls, Moved, MovesOn}
-use Rattle.xq_eval.specs.private.Turns.{GivesTurn, values_found, found_at, FoundIn}
-use Rattle.xq_eval.proofs.QuantifiedTurns.{At, moved_slots, moved_within, moved_lighter, turn_moves, turn_ends, turn_decides, turn_stops, frame_open, frame_open_in, some_found, none_found, turn_value, turn_tested, is_wanted, not_wanted}
+use Rattle.xq_eval.specs.private.Turns.{GivesTurn, IsTurn, values_found}
+use Rattle.xq_eval.proofs.QuantifiedTurns.{At, moved_slots, moved_within, moved_lighter, turn_moves, turn_ends, turn_decides, turn_stops, frame_open, frame_open_in, some_found, none_found, turn_value, turn_refuses, turn_tested, turn_refused, turn_left}
 use Rattle.xq_eval.proofs.NextValues.{next_left}
 use Rattle.xq_meaning.specs.Forms as Forms
 use Rattle.std.specs.List.{AllByRecursion}
@@ -2129,7 +2129,7 @@ quantified::satisfied-turns-preserved g t c =
           let was = c.turn.ensures.goes.was_clean clean in
           let gives = c.in_ok-found.ensures.gives clean (inner_in was inside) in
           let step = some_found wanted test (drop n parts) (frame_at f inner) f f' c.in_ok-found.found c.in-Some.items c.in-Some.is gives in
-          let next = turn_moves wanted test parts frame whole f f' stack stack' slots slots' items outer n (at was inside) c.turn.ensures.goes.grows opened (step.0, ap (λ fr. turn wanted test (drop n parts) fr f) (sym (top inside)) ∙ step.1) (λ full. spent (omega arith)) moved in
+          let next = turn_moves wanted test parts frame whole f f' stack stack' slots slots' items outer n (at was inside) c.turn.ensures.goes.grows opened (subst (λ fr. IsTurn wanted test (drop n parts) fr f f' (Some items)) (top inside) step) (λ full. spent (omega arith)) moved in
           (next.is_in, next.rest);
     }
 
@@ -2204,7 +2204,7 @@ quantified::satisfied-returns-in_err-found-clause-gives g t c = λ clean inside.
     let inner_in : (clean : g.W.TreeSource.is_clean c.turns.world) → FrameIn old held → FrameIn f inner = λ clean inside. frame_open_in f held inner stack slots_are refl refl (frame_in_grown i.goes.grows held inside) (i.rest clean inside).0 in
     let e = c.in_err-found.field-0.0 in
     let was = c.turn.ensures.goes.was_clean clean in
-    let step = subst (λ fr. GivesTurn (turn wanted test (drop n parts) fr f) f' (Err e)) (top inside) (c.in_err-found.ensures.gives clean (inner_in was inside)) in
+    let step = subst (λ fr. GivesTurn wanted test (drop n parts) fr f f' (Err e)) (top inside) (c.in_err-found.ensures.gives clean (inner_in was inside)) in
     handed_on (λ (b : Bool). b) (λ trees b. b) (λ trees b. Unit {0}) whole f' e c.from_residual-in_err-found.result c.from_residual-in_err-found.ensures.1
     (turn_stops wanted test parts frame whole f f' stack n e (at was inside) opened step)
 
@@ -2234,7 +2234,7 @@ quantified::satisfied-returns-in_default-clause-gives g t c = λ clean inside.
     let was = c.turn.ensures.goes.was_clean clean in
     let gives = c.in_ok-found.ensures.gives clean (inner_in was inside) in
     let step = none_found wanted test (drop n parts) (frame_at f inner) f f' c.in_ok-found.found c.in_default.is gives in
-    (tt, turn_decides wanted test parts frame whole f f' stack n (at was inside) opened (ap (λ fr. turn wanted test (drop n parts) fr f) (sym (top inside)) ∙ step))
+    (tt, turn_decides wanted test parts frame whole f f' stack n (at was inside) opened (subst (λ fr. holds wanted test (drop n parts) fr f ≡ (Ok wanted, f')) (top inside) step))
 
 pub quantified::satisfied-returns-then-not-branch-clause-gives : goal.quantified::satisfied-returns-then-not-branch-clause-gives
 quantified::satisfied-returns-then-not-branch-clause-gives g t c = λ clean inside.
@@ -2269,7 +2269,7 @@ quantified::satisfied-returns-then-not-branch-clause-gives g t c = λ clean insi
     let was = c.turn.ensures.goes.was_clean clean in
     let gives = c.in_ok-found.ensures.gives clean (inner_in was inside) in
     let step = some_found wanted test (drop n parts) (frame_at f inner) f f' c.in_ok-found.found c.in-Some.items c.in-Some.is gives in
-    (tt, turn_ends wanted test parts frame whole f f' stack items n (at was inside) c.turn.ensures.goes.grows opened (ap (λ fr. turn wanted test (drop n parts) fr f) (sym (top inside)) ∙ step.1) ended)
+    (tt, turn_ends wanted test parts frame whole f f' stack items n (at was inside) c.turn.ensures.goes.grows opened (subst (λ fr. IsTurn wanted test (drop n parts) fr f f' (Some items)) (top inside) step).1 ended)
 
 pub quantified::satisfied-returns-in_err-found-clause-goes : goal.quantified::satisfied-returns-in_err-found-clause-goes
 quantified::satisfied-returns-in_err-found-clause-goes g t c = goes_on_to c.turns.invariant.goes c.turn.ensures.goes
@@ -2283,8 +2283,8 @@ quantified::satisfied-returns-then-not-branch-clause-goes g t c = goes_on_to c.t
 pub quantified::satisfied-returns-in_err-advance-clause-goes : goal.quantified::satisfied-returns-in_err-advance-clause-goes
 quantified::satisfied-returns-in_err-advance-clause-goes g t c = goes_on_to c.turns.invariant.goes c.turn.ensures.goes
 
-pub quantified::turn-returns-then-opened-ranges-clause-gives : goal.quantified::turn-returns-then-opened-ranges-clause-gives
-quantified::turn-returns-then-opened-ranges-clause-gives g t c = λ clean inside.
+pub quantified::turn-returns-then-opened-ranges-2-clause-gives : goal.quantified::turn-returns-then-opened-ranges-2-clause-gives
+quantified::turn-returns-then-opened-ranges-2-clause-gives g t c = λ clean inside.
     let f = g.W.TreeSource.forest c.args.world.now in
     let f' = g.W.TreeSource.forest c.evaluate.new.world in
     let frame = frame_at f c.args.frame in
@@ -2293,10 +2293,29 @@ quantified::turn-returns-then-opened-ranges-clause-gives g t c = λ clean inside
     let part = c.index-ranges-opened.result in
     let test = plan_mean c.args.test.now in
     let parts = drop n (map plan_mean ranges) in
-    let split : parts ≡ plan_mean part ∷ map plan_mean (drop (n + 1) ranges) = next_left plan_mean ranges n part (omega arith) c.index-ranges-opened.is in
+    let rest = map plan_mean (drop (n + 1) ranges) in
+    let split : parts ≡ plan_mean part ∷ rest = next_left plan_mean ranges n part (omega arith) c.index-ranges-opened.is in
     let value = c.in_ok-items.ensures.gives clean inside in
     let held : item_views c.in_ok-new.field-0.value ≡ item_views c.in_ok-items.items = ap item_views c.in_ok-new.ensures.ok in
-    (subst (AreIn f') (sym held) value.0, turn_value c.args.wanted test parts frame (plan_mean part) (map plan_mean (drop (n + 1) ranges)) _ f f' split value.1 ∙ ap (λ xs. (Ok (Some (items_at f' xs)), f')) (sym held))
+    (subst (AreIn f') (sym held) value.0, turn_value c.args.wanted test (plan_mean part) rest frame parts _ f f' split value.1 ∙ ap (λ xs. tried c.args.wanted test (items_at f' xs) parts frame f') (sym held))
+
+pub quantified::turn-returns-then-opened-ranges-clause-gives : goal.quantified::turn-returns-then-opened-ranges-clause-gives
+quantified::turn-returns-then-opened-ranges-clause-gives g t c = λ clean inside.
+    let f = g.W.TreeSource.forest c.args.world.now in
+    let f' = g.W.TreeSource.forest c.evaluate.new.world in
+    let f'' = g.W.TreeSource.forest c.undecided.new.world in
+    let held = c.args.frame in
+    let frame = frame_at f held in
+    let n = c.args.opened in
+    let ranges = c.args.ranges.now in
+    let part = c.index-ranges-opened.result in
+    let parts = drop n (map plan_mean ranges) in
+    let split : parts ≡ plan_mean part ∷ map plan_mean (drop (n + 1) ranges) = next_left plan_mean ranges n part (omega arith) c.index-ranges-opened.is in
+    let alone : parts ≡ plan_mean part ∷ [] = split ∙ ap (λ l. plan_mean part ∷ map plan_mean l) (drop_all (n + 1) ranges (omega arith)) in
+    let value = c.in_ok-items.ensures.gives (c.undecided.ensures.was_clean clean) inside in
+    let grows = c.in_ok-items.ensures.goes.grows in
+    let left = c.in_ok-left.ensures.left clean (frame_in_grown grows held inside).slots_in value.0 frame (sym (tuple_grown grows (values_of held.slots.now) inside.slots_in)) in
+    turn_left c.args.wanted c.args.test.now parts (plan_mean part) frame (item_views c.in_ok-items.items) (values_found c.in_ok-left.left) f f' f'' alone value.1 c.undecided.ensures.keeps left
 
 pub quantified::turn-returns-in_err-items-clause-gives : goal.quantified::turn-returns-in_err-items-clause-gives
 quantified::turn-returns-in_err-items-clause-gives g t c = λ clean inside.
@@ -2308,9 +2327,10 @@ quantified::turn-returns-in_err-items-clause-gives g t c = λ clean inside.
     let part = c.index-ranges-opened.result in
     let test = plan_mean c.args.test.now in
     let parts = drop n (map plan_mean ranges) in
-    let split : parts ≡ plan_mean part ∷ map plan_mean (drop (n + 1) ranges) = next_left plan_mean ranges n part (omega arith) c.index-ranges-opened.is in
-    cut item_views items_at AreIn values_found found_at FoundIn _ (plan_mean part frame f) (λ (ys : List Item). give (Some ys)) f' c.in_err-items.field-0.0 c.from_residual.result
-    (ap (λ ps. turn c.args.wanted test ps frame f) split) c.from_residual.ensures.1 (c.in_err-items.ensures.gives clean inside)
+    let rest = map plan_mean (drop (n + 1) ranges) in
+    let split : parts ≡ plan_mean part ∷ rest = next_left plan_mean ranges n part (omega arith) c.index-ranges-opened.is in
+    turn_refused item_views items_at AreIn (plan_mean part frame f) c.args.wanted test parts frame f f' c.in_err-items.field-0.0 c.from_residual.result
+    (turn_refuses c.args.wanted test (plan_mean part) rest frame parts f split) c.from_residual.ensures.1 (c.in_err-items.ensures.gives clean inside)
 
 pub quantified::turn-returns-in_err-truth-clause-gives : goal.quantified::turn-returns-in_err-truth-clause-gives
 quantified::turn-returns-in_err-truth-clause-gives g t c = λ clean inside.
@@ -2322,8 +2342,8 @@ quantified::turn-returns-in_err-truth-clause-gives g t c = λ clean inside.
     let parts = drop c.args.opened (map plan_mean ranges) in
     let many = length-map ranges plan_mean in
     let none : parts ≡ [] = drop_all c.args.opened (map plan_mean ranges) (omega arith) in
-    cut (λ (b : Bool). b) (λ trees b. b) (λ trees b. Unit {0}) values_found found_at FoundIn _ (Forms.tested test frame f) (λ (b : Bool). give (unless_wanted c.args.wanted b)) f' c.in_err-truth.field-0.0 c.from_residual-in_err-truth.result
-    (ap (λ ps. turn c.args.wanted test ps frame f) none) c.from_residual-in_err-truth.ensures.1 (c.in_err-truth.ensures.gives clean inside)
+    turn_refused (λ (b : Bool). b) (λ trees b. b) (λ trees b. Unit {0}) (Forms.tested test frame f) c.args.wanted test parts frame f f' c.in_err-truth.field-0.0 c.from_residual-in_err-truth.result
+    (λ code h. ap (λ ps. (holds c.args.wanted test ps frame f).0) none ∙ h) c.from_residual-in_err-truth.ensures.1 (c.in_err-truth.ensures.gives clean inside)
 
 pub quantified::turn-returns-then-truth-wanted-clause-gives : goal.quantified::turn-returns-then-truth-wanted-clause-gives
 quantified::turn-returns-then-truth-wanted-clause-gives g t c = λ clean inside.
@@ -2337,7 +2357,7 @@ quantified::turn-returns-then-truth-wanted-clause-gives g t c = λ clean inside.
     let none : parts ≡ [] = drop_all c.args.opened (map plan_mean ranges) (omega arith) in
     let answer = c.in_ok-truth.truth in
     let same : answer ≡ c.args.wanted = search rules in
-    (tt, turn_tested c.args.wanted test parts frame answer f f' none (c.in_ok-truth.ensures.gives clean inside).1 ∙ ap (λ r. (Ok r, f')) (is_wanted c.args.wanted answer same))
+    turn_tested c.args.wanted test parts frame answer f f' none (c.in_ok-truth.ensures.gives clean inside).1 ∙ ap (λ b. (Ok b, f')) same
 
 pub quantified::turn-returns-clause-gives : goal.quantified::turn-returns-clause-gives
 quantified::turn-returns-clause-gives g t c = λ clean inside.
@@ -2345,17 +2365,29 @@ quantified::turn-returns-clause-gives g t c = λ clean inside.
     let f' = g.W.TreeSource.forest c.tested.new.world in
     let frame = frame_at f c.args.frame in
     let ranges = c.args.ranges.now in
+    let wanted = c.args.wanted in
     let test = plan_mean c.args.test.now in
     let parts = drop c.args.opened (map plan_mean ranges) in
     let many = length-map ranges plan_mean in
     let none : parts ≡ [] = drop_all c.args.opened (map plan_mean ranges) (omega arith) in
     let answer = c.in_ok-truth.truth in
-    let other : answer ≡ not c.args.wanted = search rules in
-    let held : item_views c.in_ok-new-2.field-0.value ≡ [] = ap item_views c.in_ok-new-2.ensures.ok ∙ ap (map item_view) c.new-2.ensures.items in
-    (subst (AreIn f') (sym held) tt, turn_tested c.args.wanted test parts frame answer f f' none (c.in_ok-truth.ensures.gives clean inside).1 ∙ ap (λ r. (Ok r, f')) (not_wanted c.args.wanted answer other) ∙ ap (λ xs. (Ok (Some (items_at f' xs)), f')) (sym held))
+    let other : answer ≡ not wanted = search rules in
+    let held : item_views c.in_ok-new-2.field-0.value ≡ [] = ap item_views c.in_ok-new-2.ensures.ok ∙ ap (map item_view) c.new-2.ensures.items in (
+      subst (AreIn f') (sym held) tt,
+      turn_tested wanted test parts frame answer f f' none (c.in_ok-truth.ensures.gives clean inside).1
+          ∙ ap (λ b. (Ok b, f')) other
+          ∙ ap (λ ps. tried wanted test [] ps frame f') (sym none)
+          ∙ ap (λ xs. tried wanted test (items_at f' xs) parts frame f') (sym held),
+    )
+
+pub quantified::turn-returns-then-opened-ranges-2-clause-goes : goal.quantified::turn-returns-then-opened-ranges-2-clause-goes
+quantified::turn-returns-then-opened-ranges-2-clause-goes g t c = c.in_ok-items.ensures.goes
 
 pub quantified::turn-returns-then-opened-ranges-clause-goes : goal.quantified::turn-returns-then-opened-ranges-clause-goes
-quantified::turn-returns-then-opened-ranges-clause-goes g t c = c.in_ok-items.ensures.goes
+quantified::turn-returns-then-opened-ranges-clause-goes g t c = goes_on_to c.in_ok-items.ensures.goes (same_goes c.undecided.ensures.keeps c.undecided.ensures.was_clean)
+
+pub quantified::turn-returns-in_err-left-clause-goes : goal.quantified::turn-returns-in_err-left-clause-goes
+quantified::turn-returns-in_err-left-clause-goes g t c = goes_on_to c.in_ok-items.ensures.goes (same_goes c.undecided.ensures.keeps c.undecided.ensures.was_clean)
 
 pub quantified::turn-returns-in_err-items-clause-goes : goal.quantified::turn-returns-in_err-items-clause-goes
 quantified::turn-returns-in_err-items-clause-goes g t c = c.in_err-items.ensures.goes

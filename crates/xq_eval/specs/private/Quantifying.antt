@@ -1,6 +1,6 @@
 -- What an evaluation of a quantified expression still has to give (XQuery 3.1, 3.16). Some of its
 -- variables have a value, and others left: a stack has both of each, the first variable's first.
-use Rattle.std.specs.Prelude.{◌≡◌, ℕ, ◌+◌, ◌*◌, List, [], ◌∷◌, map, take, drop, length, Bool, true, false, not, Option, Some, None}
+use Rattle.std.specs.Prelude.{◌≡◌, ℕ, ◌+◌, ◌*◌, List, [], ◌∷◌, map, take, drop, length, Bool, not}
 use Rattle.std.proofs.Common.{suc, zero}
 use Rattle.xq_meaning.specs.Items.{Item}
 use Rattle.xq_expressions.specs.declared.operators.Quantifier.{Quantifier}
@@ -27,12 +27,6 @@ abbrev pub at_top : Frame → List (List Item) → Frame
 at_top frame [] = frame
 at_top frame (e ∷ es) = at_top (opened_at frame (take 1 e)) es
 
--- nothing where the answer is the wanted one, or else no values
-abbrev pub unless_wanted : Bool → Bool → Option (List Item)
-unless_wanted true true = None
-unless_wanted false false = None
-unless_wanted wanted answer = Some []
-
 module _ (wanted : Bool) (test : Meaning) where
   abbrev pub holds : List Meaning → Frame → Doing Bool
   holds parts frame = Forms.satisfied wanted (bindings parts) test frame
@@ -51,15 +45,6 @@ module _ (wanted : Bool) (test : Meaning) where
   resumed inner (part ∷ parts) frame (e ∷ es) = do
     answer ← resumed inner parts (opened_at frame (take 1 e)) es
     unless_found wanted answer (tried (drop 1 e) (part ∷ parts) frame)
-
-  -- the values of the next variable, or the test where there is none
-  abbrev pub turn : List Meaning → Frame → Doing (Option (List Item))
-  turn [] frame = do
-    answer ← Forms.tested test frame
-    give (unless_wanted wanted answer)
-  turn (part ∷ parts) frame = do
-    xs ← part frame
-    give (Some xs)
 
 -- # A measure of what is left, where no variable has as many values as `width` says
 

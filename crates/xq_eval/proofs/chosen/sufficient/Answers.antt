@@ -1,6 +1,4 @@
 use Rattle.std.proofs.Common.{◌≡◌, ◌∷◌, sym, ap, ◌∙◌, rules, w64, to_z, of_z, drop}
-use Rattle.std.specs.Prelude.{ℤ}
-use Rattle.xq_meaning.specs.declared.plans.Plan.TheVariants as plan
 use Rattle.xq_eval.proofs.Choosing.{literal_suffices, positive, first_is}
 use Rattle.xq_eval.proofs.chosen.sufficient.Goals as goal
 
