@@ -76,6 +76,13 @@ pub fn places_after_scans<L: RowLender>(
     Ok(PlacesAfter { places, taken })
 }
 
+/// The nodes of the tree at the places, as items. `Want::Memory` where a growth was refused.
+pub fn items_at_places(alloc: Global, tree: usize, places: &[u32]) -> Result<Items, Want>
+    ensures { IfOk result (λ items. item_views items ≡ views_of tree places.now) }
+{
+    xq_axes::as_items(alloc, tree, places)
+}
+
 /// The items to which steps lead from a node.
 #[derive(Drop)]
 pub struct ItemsAfter {
@@ -112,7 +119,7 @@ pub fn items_after_scans<L: RowLender>(
     ensures was_clean { L.is_clean source.new → L.is_clean source.old }
 {
     let found = places_after_scans(alloc, source, node, steps)?;
-    let items = xq_axes::as_items(alloc, node.tree, found.places.as_slice())?;
+    let items = items_at_places(alloc, node.tree, found.places.as_slice())?;
     Ok(ItemsAfter {
         items,
         taken: found.taken,
