@@ -29,13 +29,16 @@ use Rattle.xq_meaning.proofs.PlanEquations.{step-Scan}
 use Rattle.xq_meaning.proofs.PathLemmas.{map-map}
 use Rattle.xq_meaning.proofs.Turns.{last_turn, in_turn-append}
 use Rattle.std.specs.declared.cmp.Ordering.TheVariants.{Less}
+use Rattle.xq_regions.specs.declared.Axis.TheVariants.{Child, Descendant, DescendantOrSelf}
+use Rattle.xq_meaning.specs.declared.node_tests.Test.TheVariants.{Any}
+use Rattle.xq_axes.specs.DoubleSlash.{after_double_slash as after_places, AreAfterDoubleSlash}
 use Rattle.xq_forms.specs.private.InTree.{AreInTree}
 use Rattle.xq_forms.specs.Nodes.{nodes_among}
 use Rattle.xq_forms.specs.Reads.{rows_of, AreOf, HasGrown}
 use Rattle.xq_forms.specs.Runs.{views_of, ScansGive}
 use Rattle.xq_forms.specs.Views.{forget, nodes_in}
-use Rattle.xq_forms.proofs.NodeLemmas.{among_places, all_places, scan_gives, among_in}
-use Rattle.xq_forms.proofs.OneTree.{step_grown, step_found, of_in}
+use Rattle.xq_forms.proofs.NodeLemmas.{among_places, all_places, scan_gives, among_in, double_slash_gives}
+use Rattle.xq_forms.proofs.OneTree.{step_grown, step_found, of_in, double_slash_grown, double_slash_found}
 
 -- the nodes of a tree at these places
 abbrev pub spots : ℕ → List ℕ → List Spot
@@ -82,32 +85,71 @@ no_step trees n steps places h e = subst (IsReached trees n []) (sym e) (record 
 })
 
 module _ (trees : List Tree) (n : Spot) (steps : List PlanStep) (i : ℕ) (places : List ℕ) (before : IsReached trees n (take i steps) places) where
+  all_nodes_there : forget (all_nodes XPTY0019 (items_at trees (views_of n.tree places))) ≡ Ok tt
+  all_nodes_there = ap (λ vs. forget (all_nodes XPTY0019 (items_at trees vs))) (views_are n.tree places) ∙ all_places trees (spots n.tree places)
+
+  -- the step after those taken
+  next_taken : (d : PlanStep) → i < length steps → (frame : Frame) → in_turn (next_step frame) (Node (node_at trees n) ∷ []) (map plan_step_mean (take (i + 1) steps)) trees ≡ next_step frame (items_at trees (views_of n.tree places)) (plan_step_mean (get_or steps i d)) trees
+  next_taken d within frame =
+      let from : List Item = Node (node_at trees n) ∷ [] in
+      let s = get_or steps i d in
+      ap (λ ss. in_turn (next_step frame) from (map plan_step_mean ss) trees) (take_more steps i d within)
+      ∙ ap (λ ms. in_turn (next_step frame) from ms trees) (map-append plan_step_mean (take i steps) (s ∷ []))
+      ∙ last_turn (next_step frame) from (map plan_step_mean (take i steps)) (plan_step_mean s) trees
+      ∙ ap (λ o. go_on o (λ xs. next_step frame xs (plan_step_mean s))) (before.gives.value frame)
+
   pub one_step : (x : PlanStep) (axis : Axis) (test : Test) (found : List ℕ) → i < length steps → x ≡ get_or steps i x → x ≡ step.Scan axis test → AreReached trees axis test n.tree places found → IsReached trees n (take (i + 1) steps) found
   one_step x axis test found within is scan reached =
       let views = views_of n.tree places in
       let new = views_of n.tree found in
-      let ns = spots n.tree places in
       let ms = spots n.tree found in
       let among = among_views n.tree places in
       let are = views_are n.tree found in
       let in_order = reached.in_order ∙ ap (λ ks. in_document_order trees (flat_map (axis_nodes trees axis test) (map (node_at trees) ks))) among in
-      let all : forget (all_nodes XPTY0019 (items_at trees views)) ≡ Ok tt =
-      ap (λ vs. forget (all_nodes XPTY0019 (items_at trees vs))) (views_are n.tree places) ∙ all_places trees ns in
-      let given = scan_gives trees axis test views ms new all in_order reached.there are in
-      let from : List Item = Node (node_at trees n) ∷ [] in
+      let given = scan_gives trees axis test views ms new all_nodes_there in_order reached.there are in
       record {
         there = reached.there;
         rising = reached.rising;
         gives = record {
           there = given.0;
-          of_tree = step_found trees n.tree views ns among before.gives.of_tree axis test ms new reached.in_order reached.there reached.rising are;
+          of_tree = step_found trees n.tree views (spots n.tree places) among before.gives.of_tree axis test ms new reached.in_order reached.there reached.rising are;
           value = λ frame.
-              ap (λ ss. in_turn (next_step frame) from (map plan_step_mean ss) trees) (take_more steps i x within)
-              ∙ ap (λ ms. in_turn (next_step frame) from ms trees) (map-append plan_step_mean (take i steps) (get_or steps i x ∷ []))
-              ∙ last_turn (next_step frame) from (map plan_step_mean (take i steps)) (plan_step_mean (get_or steps i x)) trees
-              ∙ ap (λ o. go_on o (λ xs. next_step frame xs (plan_step_mean (get_or steps i x)))) (before.gives.value frame)
+              next_taken x within frame
               ∙ ap (λ s. next_step frame (items_at trees views) (plan_step_mean s) trees) (sym is ∙ scan)
               ∙ ap (λ m. next_step frame (items_at trees views) m trees) (step-Scan axis test)
+              ∙ given.1;
+        };
+      }
+
+  -- `//` and a step to children
+  pub two_steps : (d : PlanStep) (test : Test) (found : List ℕ) → i + 1 < length steps → get_or steps i d ≡ step.Scan DescendantOrSelf Any → get_or steps (i + 1) d ≡ step.Scan Child test → AreAfterDoubleSlash trees test n.tree places found → IsReached trees n (take (i + 2) steps) found
+  two_steps d test found within slashes children reached =
+      let views = views_of n.tree places in
+      let new = views_of n.tree found in
+      let ms = spots n.tree found in
+      let among = among_views n.tree places in
+      let are = views_are n.tree found in
+      let from : List Item = Node (node_at trees n) ∷ [] in
+      let s = get_or steps (i + 1) d in
+      let two : i + 2 ≡ i + 1 + 1 = omega arith in
+      let in_order = reached.in_order ∙ ap (λ ks. after_places trees test (map (node_at trees) ks)) among in
+      let given = double_slash_gives trees test views ms new all_nodes_there in_order reached.there are in
+      record {
+        there = reached.there;
+        rising = reached.rising;
+        gives = record {
+          there = given.0;
+          of_tree = double_slash_found trees n.tree views (spots n.tree places) among before.gives.of_tree test ms new reached.in_order reached.there reached.rising are;
+          value = λ frame.
+              ap (λ k. in_turn (next_step frame) from (map plan_step_mean (take k steps)) trees) two
+              ∙ ap (λ ss. in_turn (next_step frame) from (map plan_step_mean ss) trees) (take_more steps (i + 1) d within)
+              ∙ ap (λ ms. in_turn (next_step frame) from ms trees) (map-append plan_step_mean (take (i + 1) steps) (s ∷ []))
+              ∙ last_turn (next_step frame) from (map plan_step_mean (take (i + 1) steps)) (plan_step_mean s) trees
+              ∙ ap (λ o. go_on o (λ xs. next_step frame xs (plan_step_mean s))) (next_taken d (omega (arith, within)) frame
+              ∙ ap (λ t. next_step frame (items_at trees views) (plan_step_mean t) trees) slashes
+              ∙ ap (λ m. next_step frame (items_at trees views) m trees) (step-Scan DescendantOrSelf Any))
+              ∙ ap (λ t. go_on (Forms.scan DescendantOrSelf Any (items_at trees views) trees) (λ xs. next_step frame xs (plan_step_mean t))) children
+              ∙ ap (λ m. go_on (Forms.scan DescendantOrSelf Any (items_at trees views) trees) (λ xs. next_step frame xs m)) (step-Scan Child test)
               ∙ given.1;
         };
       }
@@ -132,6 +174,18 @@ module _ (trees : List Tree) (n : Spot) (steps : List PlanStep) (i : ℕ) (place
       length_spots : (tree : ℕ) (ps : List ℕ) → length (spots tree ps) ≡ length ps
       length_spots tree [] = refl
       length_spots tree (p ∷ ps) = ap suc (length_spots tree ps)
+
+  pub two_steps_read : (start now after : Readings) → HasGrown start now (i * rows_of trees n.tree)
+      → after.rows ≤ now.rows + length (region Descendant (tree_at trees n.tree) places) → after.singles ≤ now.singles + 2 * length places
+      → HasGrown start after ((i + 2) * rows_of trees n.tree)
+  two_steps_read start now after so_far rows singles =
+      let ns = spots n.tree places in
+      let r = rows_of trees n.tree in
+      let many = length-map places (spot n.tree) in
+      let rows_here : after.rows ≤ now.rows + length (region Descendant (tree_at trees n.tree) (places_of ns)) = subst (λ ps. after.rows ≤ now.rows + length (region Descendant (tree_at trees n.tree) ps)) (sym (places_back n.tree places)) rows in
+      let more = double_slash_grown trees n.tree (views_of n.tree places) ns (among_views n.tree places) before.gives.of_tree now after rows_here (omega (arith, singles, many)) in
+      let sum = add-mul i 2 r in
+      record { rows = omega (arith, so_far.rows, more.rows, sum); singles = omega (arith, so_far.singles, more.singles, sum) }
 
 -- a bound on fewer steps is one on all
 pub reads_within : (before after : Readings) (i k r : ℕ) → i ≤ k → HasGrown before after (i * r) → HasGrown before after (k * r)

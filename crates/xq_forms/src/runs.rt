@@ -1,6 +1,6 @@
 //! Steps that are scans, taken one after another from one node: between them stand places in its
 //! tree, and no items (XQuery 3.1, section 3.3).
-ghost use Rattle.std.specs.Prelude.{◌≡◌, ◌*◌, ◌≤◌, length, take, IfOk, IfSome};
+ghost use Rattle.std.specs.Prelude.{◌≡◌, ◌*◌, ◌≤◌, length, take, true, IfOk, IfSome};
 ghost use Rattle.xq_regions.specs.Items.{item_views};
 ghost use Rattle.xq_sources.specs.Sources.{HasNode};
 ghost use Rattle.xq_meaning.specs.declared.plans.PlanStep.TheVariants as plan_step;
@@ -9,22 +9,26 @@ ghost use Rattle.xq_forms.specs.Runs.{views_of, ScansGive};
 
 use std::alloc::Global;
 use xq_atoms::Want;
-use xq_axes::{Places, step_in_tree};
+use xq_axes::{Places, double_slash_in_tree, step_in_tree};
 use xq_meaning::{PlanStep, Test};
 use xq_regions::{Axis, Items, Node};
 use xq_sources::RowLender;
 
-/// The axis and the test of a step that is a scan, but for `//`, which leads to far more nodes than
-/// it does with the step after it.
+/// Whether the step is `descendant-or-self::node()`, for which `//` stands (XQuery 3.1, section
+/// 3.3.5).
+fn is_slashes(step: &PlanStep) -> bool
+    ensures { result ≡ true → step.now ≡ plan_step.Scan Axis.DescendantOrSelf Test.Any }
+{
+    matches!(step, PlanStep::Scan(Axis::DescendantOrSelf, Test::Any))
+}
+
+/// The axis and the test of a step that is a scan.
 fn scan_of(step: &PlanStep) -> Option<(Axis, &Test)>
     ensures { IfSome result (λ scan. step.now ≡ plan_step.Scan scan.0 scan.1.now) }
 {
-    let PlanStep::Scan(axis, test) = step else {
-        return None;
-    };
-    match (axis, test) {
-        (Axis::DescendantOrSelf, Test::Any) => None,
-        _ => Some((*axis, test)),
+    match step {
+        PlanStep::Scan(axis, test) => Some((*axis, test)),
+        PlanStep::Each(_) => None,
     }
 }
 
@@ -37,7 +41,9 @@ pub struct PlacesAfter {
     pub taken: usize,
 }
 
-/// The nodes to which the first of the steps lead from the node, so many as are scans and not `//`.
+/// The nodes to which the first of the steps lead from the node, so many as are scans: `//` and a
+/// step to children are taken as one scan of what is below, and `//` before another step is not
+/// taken.
 ///
 /// It reads at most as many rows as the tree has for each of these steps, by ranges and singly.
 ///
@@ -65,10 +71,26 @@ pub fn places_after_scans<L: RowLender>(
 {
     let mut places = Places::from_array(alloc, [node.pre])?;
     let mut taken = 0;
+    // Whether the step before this one is `//`, and not taken yet.
+    let mut is_below = false;
     for step in steps {
+        if !is_below && is_slashes(step) {
+            is_below = true;
+            continue;
+        }
         let Some((axis, test)) = scan_of(step) else {
             return Ok(PlacesAfter { places, taken });
         };
+        if is_below {
+            let Axis::Child = axis else {
+                return Ok(PlacesAfter { places, taken });
+            };
+            let found = double_slash_in_tree(alloc, source, node.tree, places.as_slice(), test)?;
+            places = found;
+            taken += 2;
+            is_below = false;
+            continue;
+        }
         let found = step_in_tree(alloc, source, node.tree, places.as_slice(), axis, test)?;
         places = found;
         taken += 1;
@@ -91,8 +113,8 @@ pub struct ItemsAfter {
     pub taken: usize,
 }
 
-/// The items to which the first of the steps lead from the node, so many as are scans and not `//`:
-/// they are made once, after the last of these steps.
+/// The items to which the first of the steps lead from the node, as [`places_after_scans`] takes
+/// them: they are made once, after the last of these steps.
 ///
 /// It reads at most as many rows as the tree has for each of these steps, by ranges and singly.
 ///

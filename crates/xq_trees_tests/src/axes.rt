@@ -3,10 +3,10 @@
 use std::alloc::Global;
 use std::process::Abort;
 use xq_atoms::Want;
-use xq_axes::{merge, step};
+use xq_axes::{as_items, double_slash_in_tree, merge, step, step_in_tree};
 use xq_expressions::Text;
 use xq_meaning::Test;
-use xq_regions::{Axis, Node};
+use xq_regions::{Axis, Item, Node};
 use xq_samples::documents::{are_at, great_library, held, library, nodes_at, register};
 use xq_samples::scans::{
     GREAT_SCANS, REGISTER_SCANS, SCANS, Scan, reads_twice_in_two_steps, wrong_scan,
@@ -112,5 +112,46 @@ fn steps_go_through_several_trees(rt: HostRuntime) -> Result<(), Want> {
     let found = step(alloc, &mut fragments, &nodes, Axis::Child, &Test::Text)?;
     let wanted = nodes_of(alloc, &[(0, 4), (1, 4), (1, 7)])?;
     assert!(rt; found.as_slice() == wanted.as_slice());
+    Ok(())
+}
+
+#[test]
+fn steps_lead_from_places_to_places(rt: HostRuntime) -> Result<(), Want> {
+    let alloc = rt.alloc();
+    let mut fragments = held(alloc, library(alloc)?)?;
+    for (places, wanted) in [
+        ([2, 5].as_slice(), [4, 7].as_slice()),
+        ([2].as_slice(), [4].as_slice()),
+        ([].as_slice(), [].as_slice()),
+    ] {
+        let found = step_in_tree(alloc, &mut fragments, 0, places, Axis::Child, &Test::Text)?;
+        assert!(rt; found.as_slice() == wanted, "{places:?}");
+    }
+    Ok(())
+}
+
+#[test]
+fn slashes_lead_from_places_to_places(rt: HostRuntime) -> Result<(), Want> {
+    let alloc = rt.alloc();
+    let mut fragments = held(alloc, library(alloc)?)?;
+    for (places, wanted) in [
+        ([0].as_slice(), [4, 7].as_slice()),
+        ([2, 4].as_slice(), [4].as_slice()),
+        ([].as_slice(), [].as_slice()),
+    ] {
+        let found = double_slash_in_tree(alloc, &mut fragments, 0, places, &Test::Text)?;
+        assert!(rt; found.as_slice() == wanted, "{places:?}");
+    }
+    Ok(())
+}
+
+#[test]
+fn places_are_given_as_items(rt: HostRuntime) -> Result<(), Want> {
+    let items = as_items(rt.alloc(), 3, &[4, 7])?;
+    let [Item::Node(first), Item::Node(second)] = items.as_slice() else {
+        panic!(rt; "no two nodes");
+    };
+    assert_eq!(rt; (first.tree, first.pre), (3, 4));
+    assert_eq!(rt; (second.tree, second.pre), (3, 7));
     Ok(())
 }
