@@ -12,3 +12,4 @@ pub mod Telling
 pub mod Choosing
 pub mod FlatKeys
 pub mod LoneFor
+pub mod ItemCalls

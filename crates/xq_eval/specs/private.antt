@@ -9,3 +9,4 @@ pub mod Scanning
 pub mod Joining
 pub mod Texts
 pub mod Choosing
+pub mod Told

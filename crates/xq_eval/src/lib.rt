@@ -12,6 +12,7 @@ mod positions;
 mod quantified;
 mod queries;
 mod texts;
+mod told;
 mod variables;
 
 pub use queries::eval;

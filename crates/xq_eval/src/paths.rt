@@ -14,8 +14,9 @@ ghost use Rattle.xq_forms.specs.Reads.{rows_of, AreOf, HasGrown};
 ghost use Rattle.xq_eval.specs.private.Children.{IsToChildren};
 ghost use Rattle.xq_eval.specs.private.Scanning.{IsScan};
 
-use crate::evaluation::evaluate;
+use crate::evaluation::next_part;
 use crate::texts::{ChosenChildren, below_by_texts};
+use crate::told::told_at_each;
 use sqlite_items::at;
 use std::alloc::Global;
 use xq_atoms::Fault;
@@ -183,7 +184,8 @@ pub fn map_list<W: Growing>(
     Ok(left)
 }
 
-/// The items of a part at each item.
+/// The items of a part at each item. Where it calls a function on each, and all are nodes, no list
+/// is made of each.
 #[cycle(eval)]
 fn each<W: Growing>(
     alloc: Global,
@@ -200,6 +202,9 @@ fn each<W: Growing>(
         (W.forest world.old) frame.entry) spot)) (focuses (items_at (W.forest world.old) (map
         item_view items.now))) (W.forest world.old)) (W.forest world.new) result }
 {
+    if let Some(told) = told_at_each(alloc, world, items, part)? {
+        return Ok(told);
+    }
     let last = items.len();
     let mut found = Vec::new(alloc);
     for (index, item) in items.iter().enumerate() {
@@ -233,12 +238,9 @@ fn at_spot<W: Growing>(
         frame.entry) spot)) (items_at (W.forest world.old) (item_views done)) (spot_at
         (W.forest world.old) spot.entry) (W.forest world.old)) (W.forest world.new) result }
 {
-    let mut found = done;
     let inner = Frame {
         focus: Some(spot),
         ..frame
     };
-    let mut added = evaluate(alloc, world, inner, part)?;
-    found.append(&mut added)?;
-    Ok(found)
+    next_part(alloc, world, inner, done, part)
 }

@@ -30,7 +30,7 @@ pub enum ByPosition {
 }
 
 /// The function of a call without arguments.
-fn bare_call(plan: &Plan) -> Option<Function>
+pub fn bare_call(plan: &Plan) -> Option<Function>
     ensures { IfSome result (λ function. plan.now ≡ plan_of.Call function []) }
 {
     let Plan::Call(function, parts) = plan else {

@@ -30,7 +30,7 @@ use Rattle.xq_meaning.specs.PlanMeaning.{Frame, Meaning, flwor, plan_mean, plan_
 use Rattle.xq_meaning.proofs.PlanEquations.{plan-Int, plan-Str, plan-Root, plan-Step, plan-Named, plan-Unnamed, plan-Call, plan-Quantified, clause-Group, clause-Order, clause-Refused, step-Scan, plan-Dec, plan-Slot, plan-ContextItem, plan-Sequence, plan-Chain, plan-Unary, plan-If, plan-Or, plan-And, plan-Filter, plan-Path, plan-Flwor, step-Each, clause-For, clause-Let, clause-Where, clause-Count, plan-Arrow, plan-Map}
 use Rattle.xq_meaning.proofs.Turns.{begun_then}
 use Rattle.xq_forms.specs.Views.{order_specs, calling, ordering, after_double_slash, parents_below, plant_named, plant_unnamed, tuple_at, tuples_at, lists_of, spot_at, forget, frame_at, TupleIn, TuplesIn, GivesSequence, GivesTuples, FrameIn}
-use Rattle.xq_eval.specs.private.Results.{GivesKey, GivesKeys, GivesRows, GivesLists, GivesTests, GivesPlain}
+use Rattle.xq_eval.specs.private.Results.{GivesKey, GivesKeys, GivesLists, GivesTests, GivesPlain}
 use Rattle.xq_forms.proofs.Growth.{extends_more, stays, frame_grown, frame_in_grown, items_grown, are_in_grown, item_at_grown, in_grown, tuple_grown, tuple_in_grown, tuples_grown, tuples_in_grown, goes_on_to}
 use Rattle.xq_regions.specs.declared.Axis.TheVariants.{Child, DescendantOrSelf}
 use Rattle.xq_meaning.specs.declared.node_tests.Test.TheVariants.{Any}
@@ -1506,13 +1506,35 @@ paths::each-returns-in_err-found-clause-gives g t c = λ clean inside items_in.
     let found = item_views c.loop-index.found in
     let spot : Item → Spot = λ it. record { item = it; position = n + 1; last = length items } in
     let e = c.in_err-found.field-0.0 in
-    handed_on item_views items_at AreIn _ f' e c.from_residual.result c.from_residual.ensures.1
+    handed_on item_views items_at AreIn _ f' e c.from_residual-in_err-found.result c.from_residual-in_err-found.ensures.1
     (turns_stop _ _ _ item_views items_at AreIn (spot (item_at old (item_view x))) _ f' e i.turns (spots_left old items n x (length items) (omega arith) c.index-items-index.is) c.at_spot.ensures.goes.was_clean
     (λ clean inside is_in.
     let x_in = all_at (IsIn old) item_view items n x inside.1 (omega arith) c.index-items-index.is in
     subst (λ fr. GivesSequence (more (λ (s : Spot). p (Forms.in_focus fr s)) (items_at f found) (spot (item_at old (item_view x))) f) f' (Err e)) (frame_grown i.goes.grows held inside.0)
     (subst (λ it. GivesSequence (more (λ (s : Spot). p (Forms.in_focus (frame_at f held) s)) (items_at f found) (spot it) f) f' (Err e)) (item_at_grown i.goes.grows (item_view x) x_in)
     (c.in_err-found.ensures.gives clean (frame_in_grown i.goes.grows held inside.0) is_in (in_grown i.goes.grows (item_view x) x_in)))) clean (inside, items_in))
+
+pub paths::each-returns-in-Some-clause-gives : goal.paths::each-returns-in-Some-clause-gives
+paths::each-returns-in-Some-clause-gives g t c = λ clean inside items_in.
+    let f = g.W.TreeSource.forest c.args.world.now in
+    let f' = g.W.TreeSource.forest c.told_at_each.new.source in
+    let frame = frame_at f c.args.frame in
+    let whole = collected (λ (s : Spot). plan_mean c.args.part.now (Forms.in_focus frame s)) (focuses (items_at f (map item_view c.args.items.now))) f in
+    subst (λ r. GivesFound whole f' (Ok r)) c.in-Some.is (c.in_ok-told.ensures.gives clean items_in frame)
+
+pub paths::each-returns-in-Some-clause-goes : goal.paths::each-returns-in-Some-clause-goes
+paths::each-returns-in-Some-clause-goes g t c = same_goes c.told_at_each.ensures.keeps c.told_at_each.ensures.was_clean
+
+pub paths::each-returns-in_err-told-clause-gives : goal.paths::each-returns-in_err-told-clause-gives
+paths::each-returns-in_err-told-clause-gives g t c = λ clean inside items_in.
+    let f = g.W.TreeSource.forest c.args.world.now in
+    let f' = g.W.TreeSource.forest c.told_at_each.new.source in
+    let frame = frame_at f c.args.frame in
+    let whole = collected (λ (s : Spot). plan_mean c.args.part.now (Forms.in_focus frame s)) (focuses (items_at f (map item_view c.args.items.now))) f in
+    handed_on item_views items_at AreIn whole f' c.in_err-told.field-0.0 c.from_residual.result c.from_residual.ensures.1 (c.in_err-told.ensures.gives clean items_in frame)
+
+pub paths::each-returns-in_err-told-clause-goes : goal.paths::each-returns-in_err-told-clause-goes
+paths::each-returns-in_err-told-clause-goes g t c = same_goes c.told_at_each.ensures.keeps c.told_at_each.ensures.was_clean
 
 pub paths::each-returns-in_err-found-clause-goes : goal.paths::each-returns-in_err-found-clause-goes
 paths::each-returns-in_err-found-clause-goes g t c = goes_on_to c.loop-index.invariant.goes c.in_err-found.ensures.goes
@@ -1527,32 +1549,10 @@ paths::each-returns-clause-gives g t c = λ clean inside rest_in.
 
 pub paths::at_spot-returns-clause-gives : goal.paths::at_spot-returns-clause-gives
 paths::at_spot-returns-clause-gives g t c = λ clean inside done_in item_in.
-    let f = g.W.TreeSource.forest c.args.world.now in
-    let held = c.args.frame in
-    let frame = frame_at f held in
-    let p = plan_mean c.args.part.now in
-    let value = c.in_ok-added.ensures.gives clean (record { slots_in = inside.slots_in; focus_in = item_in; addresses_in = inside.addresses_in }) in
-    more_next (λ (s : Spot). p (Forms.in_focus frame s)) (item_views c.args.done) (item_views c.in_ok-added.added) (item_views c.append.new.self) (spot_at f c.args.spot) _ _
-    c.in_ok-added.ensures.goes.grows done_in value (ap (map item_view) c.in_ok-append.ensures.items ∙ map-append item_view c.args.done.items c.in_ok-added.added.items)
-
-pub paths::at_spot-returns-in_err-added-clause-gives : goal.paths::at_spot-returns-in_err-added-clause-gives
-paths::at_spot-returns-in_err-added-clause-gives g t c = λ clean inside done_in item_in.
-    let f = g.W.TreeSource.forest c.args.world.now in
-    let held = c.args.frame in
-    let frame = frame_at f held in
-    let f' = g.W.TreeSource.forest c.evaluate.new.world in
-    let next = λ (ys : List Item). give (items_at f (item_views c.args.done) ++ ys) in
-    cut item_views items_at AreIn item_views items_at AreIn _ (plan_mean c.args.part.now (Forms.in_focus frame (spot_at f c.args.spot)) f) next f' c.in_err-added.field-0.0 c.from_residual.result
-    refl c.from_residual.ensures.1 (c.in_err-added.ensures.gives clean (record { slots_in = inside.slots_in; focus_in = item_in; addresses_in = inside.addresses_in }))
-
-pub paths::at_spot-returns-in_err-added-clause-goes : goal.paths::at_spot-returns-in_err-added-clause-goes
-paths::at_spot-returns-in_err-added-clause-goes g t c = c.in_err-added.ensures.goes
-
-pub paths::at_spot-returns-in_err-append-clause-goes : goal.paths::at_spot-returns-in_err-append-clause-goes
-paths::at_spot-returns-in_err-append-clause-goes g t c = c.in_ok-added.ensures.goes
+    c.next_part.ensures.gives clean (record { slots_in = inside.slots_in; focus_in = item_in; addresses_in = inside.addresses_in }) done_in
 
 pub paths::at_spot-returns-clause-goes : goal.paths::at_spot-returns-clause-goes
-paths::at_spot-returns-clause-goes g t c = c.in_ok-added.ensures.goes
+paths::at_spot-returns-clause-goes g t c = c.next_part.ensures.goes
 
 pub evaluation::evaluate-returns-in-Root-clause-gives : goal.evaluation::evaluate-returns-in-Root-clause-gives
 evaluation::evaluate-returns-in-Root-clause-gives g t c = λ clean inside. rw (c.in-Root.is, plan-Root) (c.root.ensures.gives clean inside)
@@ -3617,7 +3617,7 @@ expressions::simple_map-evaluate-requires g t c = λ κs live.
 pub expressions::simple_map-map_list-requires : goal.expressions::simple_map-map_list-requires
 expressions::simple_map-map_list-requires g t c = λ κs live.
     let all : 8 * max (size-Plan c.args.start.now) (most size-Plan c.args.parts.now) + 9 ≡ t = c.decreases in
-    let below : 8 * most size-Plan c.args.parts.now + 6 < t = omega (arith, all) in
+    let below : 8 * most size-Plan c.args.parts.now + 7 < t = omega (arith, all) in
     (below, live)
 
 pub evaluation::evaluate-operands-requires : goal.evaluation::evaluate-operands-requires

@@ -318,13 +318,13 @@ abbrev pub decreases-paths::next_items : goal.decreases-paths::next_items
 decreases-paths::next_items g a = 8 * goal.size-paths::next_items g a + 6
 
 abbrev pub decreases-paths::map_list : goal.decreases-paths::map_list
-decreases-paths::map_list g a = 8 * goal.size-paths::map_list g a + 6
+decreases-paths::map_list g a = 8 * goal.size-paths::map_list g a + 7
 
 abbrev pub decreases-paths::each : goal.decreases-paths::each
-decreases-paths::each g a = 8 * goal.size-paths::each g a + 5
+decreases-paths::each g a = 8 * goal.size-paths::each g a + 6
 
 abbrev pub decreases-paths::at_spot : goal.decreases-paths::at_spot
-decreases-paths::at_spot g a = 8 * goal.size-paths::at_spot g a + 4
+decreases-paths::at_spot g a = 8 * goal.size-paths::at_spot g a + 5
 
 abbrev pub decreases-clauses::clause_list : goal.decreases-clauses::clause_list
 decreases-clauses::clause_list g a = 8 * goal.size-clauses::clause_list g a + 8
