@@ -1,5 +1,5 @@
 -- Keys of all tuples, one tuple after another, and those of each.
-use Rattle.std.proofs.Common.{◌≡◌, ℕ, zero, suc, List, [], ◌∷◌, ◌++◌, length, take, drop, refl, sym, ap, ◌∙◌, arith, Ok, Err}
+use Rattle.std.proofs.Common.{◌≡◌, ℕ, zero, suc, List, [], ◌∷◌, ◌++◌, length, refl, sym, ap, ◌∙◌, arith, Ok, Err}
 use Rattle.std.specs.List.{AllByRecursion}
 use Rattle.std.proofs.lemmas.List.{append_assoc, append-nil, take_at, drop_at}
 use Rattle.xq_atoms.specs.declared.refusals.Code.{Code}
@@ -10,8 +10,6 @@ use Rattle.xq_atoms.specs.Judged.{Judged}
 use Rattle.xq_regions.specs.Tree.{Tree}
 use Rattle.xq_tuples.specs.Keys.{by_tuple}
 use Rattle.xq_meaning.specs.Doing.{Doing, Outcome, go_on, give, in_turn, one_more, more, for_each, collected}
-use Rattle.xq_meaning.proofs.Turns.{go_on_go_on}
-use Rattle.xq_meaning.proofs.SameForms.{go_on_same}
 use Rattle.xq_eval.specs.private.Results.{GivesKeys, GivesRows}
 
 -- one list after another

@@ -5,7 +5,6 @@ use Rattle.xq_atoms.specs.declared.atoms.Atom.{Atom}
 use Rattle.xq_atoms.specs.declared.refusals.Fault.{Fault}
 use Rattle.xq_atoms.specs.declared.refusals.Fault.TheVariants.{Code as OfCode, Want as OfWant}
 use Rattle.xq_atoms.specs.Atom.{atomic_of}
-use Rattle.xq_atoms.specs.Judged.{Judged}
 use Rattle.xq_expressions.specs.declared.signatures.Function.{Function}
 use Rattle.xq_expressions.specs.declared.signatures.Function.TheVariants.{String as OfString, Data as OfData}
 use Rattle.xq_regions.specs.Items.{ItemView, Value}

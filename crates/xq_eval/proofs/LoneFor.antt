@@ -1,5 +1,5 @@
 -- A FLWOR expression whose only clause is a `for` of one variable.
-use Rattle.std.proofs.Common.{◌≡◌, ℕ, ◌+◌, List, [], ◌∷◌, ◌++◌, map, false, refl, sym, ap, ◌∙◌, Ok, Err}
+use Rattle.std.proofs.Common.{◌≡◌, ℕ, ◌+◌, List, [], ◌∷◌, ◌++◌, map, false, refl, ap, ◌∙◌, Ok, Err}
 use Rattle.std.specs.List.{enumerate_from}
 use Rattle.std.proofs.lemmas.List.{append-nil}
 use Rattle.xq_expressions.specs.declared.operators.AllowingEmpty.TheVariants.{No}
@@ -13,7 +13,6 @@ use Rattle.xq_meaning.specs.Items.{Item, Atom}
 use Rattle.xq_meaning.specs.Forms as Forms
 use Rattle.xq_meaning.specs.PlanMeaning.{Frame, Meaning, flwor, plan_mean, plan_clause_mean, at_tuple, next_clause}
 use Rattle.xq_meaning.proofs.PlanEquations.{clause-For}
-use Rattle.xq_meaning.proofs.SameForms.{go_on_same}
 
 -- the tuples: each item in a slot of its own
 each_alone : (n : ℕ) (xs : List Item) → map (λ (p : ℕ × Item). (p.1 ∷ []) ∷ []) (enumerate_from n xs) ≡ map (λ x. (x ∷ []) ∷ []) xs

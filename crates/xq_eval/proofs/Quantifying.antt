@@ -6,7 +6,7 @@ use Rattle.xq_regions.specs.Tree.{Tree}
 use Rattle.xq_regions.specs.Items.{ItemView}
 use Rattle.xq_regions.specs.Tuples.{Tuple}
 use Rattle.xq_meaning.specs.Items.{Item}
-use Rattle.xq_meaning.specs.Doing.{Doing, go_on, give, unless_found}
+use Rattle.xq_meaning.specs.Doing.{Doing, go_on, unless_found}
 use Rattle.std.proofs.Math.Nat.{mul-lt-mul_of_pos_right}
 use Rattle.xq_meaning.specs.Forms as Forms
 use Rattle.xq_meaning.specs.PlanMeaning.{Frame, Meaning}

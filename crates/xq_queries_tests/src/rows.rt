@@ -213,6 +213,59 @@ const CHAINS: [(&str, &str); 27] = [
     ("count $c return 1", "XPST0003"),
 ];
 
+/// Steps and simple maps that call a function on each node (XQuery 3.1, sections 3.3 and 3.19).
+const CALLS_ON_NODES: [(&str, &str); 25] = [
+    ("doc(\"b\")//book/string()", "\"A\", \"B\""),
+    ("doc(\"b\")//@id/string()", "\"1\", \"2\""),
+    ("doc(\"b\")//text()/string(.)", "\"A\", \"B\""),
+    (
+        "doc(\"b\")//book/data()",
+        "xs:untypedAtomic(\"A\"), xs:untypedAtomic(\"B\")",
+    ),
+    (
+        "doc(\"b\")//@id/data(.)",
+        "xs:untypedAtomic(\"1\"), xs:untypedAtomic(\"2\")",
+    ),
+    ("doc(\"b\")//*/name()", "\"lib\", \"book\", \"book\""),
+    ("doc(\"b\")//@id/name(.)", "\"id\", \"id\""),
+    ("doc(\"b\")//text()/name()", "\"\", \"\""),
+    ("doc(\"b\")//none/string()", "()"),
+    (
+        "(doc(\"b\")//book, doc(\"b\")//book[1])/string()",
+        "\"A\", \"B\", \"A\"",
+    ),
+    (
+        "element r {element s {\"1\", element t {2}, \"3\"}, comment {\"c\"}, \"4\"}/node()/string()",
+        "\"123\", \"c\", \"4\"",
+    ),
+    (
+        "element r {element s {\"1\", element t {2}, \"3\"}, comment {\"c\"}, \"4\"}/node()/data()",
+        "xs:untypedAtomic(\"123\"), \"c\", xs:untypedAtomic(\"4\")",
+    ),
+    ("string-join(doc(\"b\")//book/string(), \"|\")", "\"A|B\""),
+    (
+        "count(distinct-values((doc(\"b\")//book, doc(\"b\")//book)/string()))",
+        "2",
+    ),
+    ("(doc(\"b\")//book, 1)/string()", "XPTY0019"),
+    ("doc(\"b\")//book/data()/string()", "XPTY0019"),
+    ("(doc(\"b\")//book, 1) ! string()", "\"A\", \"B\", \"1\""),
+    (
+        "(1, doc(\"b\")//@id) ! data(.)",
+        "1, xs:untypedAtomic(\"1\"), xs:untypedAtomic(\"2\")",
+    ),
+    (
+        "doc(\"b\")//book ! (count(.), exists(.))",
+        "1, true(), 1, true()",
+    ),
+    ("doc(\"b\")//book/not(.)", "false(), false()"),
+    ("doc(\"b\")//@id/xs:integer(.)", "1, 2"),
+    ("doc(\"b\")//node()/xs:integer(.)", "FORG0001"),
+    ("doc(\"b\")//book/string-length()", "1, 1"),
+    ("doc(\"b\")//book ! string(@id)", "\"1\", \"2\""),
+    ("doc(\"b\")//book/string(.)[. = \"B\"]", "\"B\""),
+];
+
 /// Constructors and their content (XQuery 3.1, section 3.9).
 const CONSTRUCTORS: [(&str, &str); 14] = [
     (
@@ -336,6 +389,11 @@ fn chains(rt: HostRuntime) {
 }
 
 #[test]
+fn calls_on_nodes(rt: HostRuntime) {
+    assert_answers(&rt, &CALLS_ON_NODES);
+}
+
+#[test]
 fn constructors(rt: HostRuntime) {
     assert_answers(&rt, &CONSTRUCTORS);
 }
@@ -368,6 +426,11 @@ fn each_allocation_of_flwor(rt: HostRuntime) {
 #[test]
 fn each_allocation_of_chains(rt: HostRuntime) {
     assert_answers_or_memory(&rt, &CHAINS);
+}
+
+#[test]
+fn each_allocation_of_calls_on_nodes(rt: HostRuntime) {
+    assert_answers_or_memory(&rt, &CALLS_ON_NODES);
 }
 
 #[test]

@@ -1,4 +1,4 @@
-use Rattle.std.proofs.Common.{◌≡◌, ◌∷◌, [], ◌+◌, ◌∙◌, suc, refl, ap, sym, subst, arith, length, map, drop, Ok, Err}
+use Rattle.std.proofs.Common.{◌≡◌, ◌∷◌, [], ◌+◌, ◌∙◌, suc, refl, ap, sym, subst, arith, length, map, Ok, Err}
 use Rattle.std.proofs.lemmas.List.{drop_all, length-map, map-append}
 use Rattle.xq_atoms.specs.Atom.{atomic_of}
 use Rattle.xq_regions.specs.Items.{item_view, item_views}
