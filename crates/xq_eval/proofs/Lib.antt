@@ -6,6 +6,7 @@ pub mod QuantifiedTurns
 pub mod Steps
 pub mod PositionalPredicates
 pub mod DocumentScans
+pub mod FirstScans
 pub mod Joining
 pub mod TextSteps
 pub mod Telling

@@ -20,7 +20,10 @@ use crate::told::told_at_each;
 use sqlite_items::at;
 use std::alloc::Global;
 use xq_atoms::Fault;
-use xq_forms::{Focus, Frame, double_slash, gather, only_nodes, parents_below, scan};
+use xq_forms::{
+    Focus, Frame, double_slash, gather, items_after_scans, only_node, only_nodes, parents_below,
+    scan,
+};
 use xq_meaning::{Plan, PlanStep, Test};
 use xq_regions::{Axis, Item, Items};
 use xq_sources::Growing;
@@ -72,11 +75,39 @@ fn chosen_children(next: Option<&PlanStep>) -> Option<ChosenChildren<'_>>
     })
 }
 
+/// The items after all steps. Those that are scans from one node go from places to places.
+#[cycle(eval)]
+pub fn step_list<W: Growing>(
+    alloc: Global,
+    world: &mut W,
+    frame: Frame<'_>,
+    items: Items,
+    steps: &[PlanStep],
+) -> Result<Items, Fault>
+    ensures goes { Goes (W.forest world.old) (W.forest world.new) (W.is_clean world.old)
+        (W.is_clean world.new) }
+    ensures gives { W.is_clean world.new → FrameIn (W.forest world.old) frame.entry
+        → AreIn (W.forest world.old) (item_views items)
+        → GivesSequence (in_turn (next_step (frame_at (W.forest world.old) frame.entry)) (items_at
+        (W.forest world.old) (item_views items)) (map plan_step_mean steps.now)
+        (W.forest world.old)) (W.forest world.new) result }
+    ensures reads { W.is_clean world.new → AllByRecursion IsScan steps.now → (tree : ℕ)
+        → AreOf (W.forest world.old) tree (item_views items)
+        → HasGrown (W.meter world.old) (W.meter world.new)
+        (length steps.now * rows_of (W.forest world.old) tree) }
+{
+    let Some(node) = only_node(&items) else {
+        return later_steps(alloc, world, frame, items, steps);
+    };
+    let first = items_after_scans(alloc, world, node, steps)?;
+    later_steps(alloc, world, frame, first.items, &steps[first.taken..])
+}
+
 /// The items after all steps. Two that are `//` and a step to children are one scan, also where
 /// that step has one predicate, which asks for a text or for those of a key; where it has others,
 /// it is tried at those nodes alone that have such children.
 #[cycle(eval)]
-pub fn step_list<W: Growing>(
+fn later_steps<W: Growing>(
     alloc: Global,
     world: &mut W,
     frame: Frame<'_>,

@@ -1,4 +1,4 @@
-use Rattle.std.proofs.Common.{rules, to_z, of_z, w64, ◌≡◌, ◌++◌, ◌+◌, ◌*◌, List, [], ◌∷◌, map, subst, sym, ap, ◌∙◌, Ok, Err, arith, length, suc, add-one, refl, Bool, true, false, ◌<◌, ◌≤◌, ◌^◌, take, drop, not, Some}
+use Rattle.std.proofs.Common.{rules, to_z, of_z, w64, ◌≡◌, ◌++◌, ◌+◌, ◌-◌, ◌*◌, List, [], ◌∷◌, map, subst, sym, ap, ◌∙◌, Ok, Err, arith, length, suc, add-one, refl, Bool, true, false, ◌<◌, ◌≤◌, ◌^◌, take, drop, not, Some}
 use Rattle.std.specs.Global.{Vec, Global}
 use Rattle.std.proofs.lemmas.List.{map-append, drop_all, length-map, length-append, append-nil, take_at, take_all}
 use Rattle.xq_forms.specs.declared.frames.Frame.{Frame as Held}
@@ -6,7 +6,7 @@ use Rattle.xq_atoms.specs.Atom.{Atomic, Integer, atomic_of}
 use Rattle.xq_atoms.specs.declared.refusals.Code.TheVariants.{XPTY0019}
 use Rattle.xq_atoms.specs.declared.refusals.Fault.TheVariants.{Code as OfCode}
 use Rattle.xq_regions.specs.Tuples.{Tuple, expanded, numbered, bound, satisfying}
-use Rattle.xq_regions.specs.Items.{ItemView, Value, item_view, item_views}
+use Rattle.xq_regions.specs.Items.{ItemView, Place as NodeAt, Value, item_view, item_views}
 use Rattle.xq_eval.specs.declared.positions.ByPosition.{ByPosition}
 use Rattle.xq_eval.specs.private.Positions.{IsPositional}
 use Rattle.xq_tuples.specs.Views.{slot_items, values_of}
@@ -73,6 +73,7 @@ use Rattle.xq_forms.specs.Reads.{rows_of, AreOf, HasGrown}
 use Rattle.xq_eval.specs.Reads.{rows_at}
 use Rattle.xq_eval.specs.private.Scanning.{IsLiteral, IsScan}
 use Rattle.xq_eval.proofs.DocumentScans.{other_form, literal_scans, call_scans, path_scans, are_scans, not_each, no_each, grown_more, not_grown, grown_from, grown_on, once, literal_value, document_value}
+use Rattle.xq_eval.proofs.FirstScans.{all_drop, most_drop, slice_left, node_there, node_of, read_of, after_scans, read_after}
 use Rattle.xq_eval.proofs.TextSteps.{slashes_then}
 use Rattle.xq_eval.specs.private.Texts.{GivesFound}
 use Rattle.xq_eval.proofs.Counted.{only_text, first_same}
@@ -1104,8 +1105,61 @@ clauses::at_tuple-returns-clause-gives g t c = λ clean inside tuple at tuple_in
 pub clauses::at_tuple-returns-clause-goes : goal.clauses::at_tuple-returns-clause-goes
 clauses::at_tuple-returns-clause-goes g t c = c.evaluate.ensures.goes
 
-pub paths::step_list-loop-index-preserved-then-is_taken : goal.paths::step_list-loop-index-preserved-then-is_taken
-paths::step_list-loop-index-preserved-then-is_taken g t c =
+pub paths::step_list-returns-in_err-first-clause-goes : goal.paths::step_list-returns-in_err-first-clause-goes
+paths::step_list-returns-in_err-first-clause-goes g t c = same_goes c.items_after_scans.ensures.keeps c.items_after_scans.ensures.was_clean
+
+pub paths::step_list-returns-in_err-first-clause-reads : goal.paths::step_list-returns-in_err-first-clause-reads
+paths::step_list-returns-in_err-first-clause-reads g t c = λ clean all tree h.
+    let f = g.W.TreeSource.forest c.args.world.now in
+    let node = c.in-Some.node in
+    let items = item_views c.args.items in
+    let d : map item_view c.deref.result.now ≡ items = ap (map item_view) c.deref.ensures.value in
+    let is : items ≡ NodeAt node ∷ [] = sym d ∙ c.in-Some.ensures in
+    read_of f node items is tree h _ _ (length c.args.steps.now) (c.items_after_scans.ensures.reads_most clean (node_of f node items is tree h))
+
+pub paths::step_list-returns-clause-gives : goal.paths::step_list-returns-clause-gives
+paths::step_list-returns-clause-gives g t c = λ clean inside items_in.
+    let f = g.W.TreeSource.forest c.args.world.now in
+    let f' = g.W.TreeSource.forest c.later_steps-2.new.world in
+    let held = c.args.frame in
+    let steps = c.args.steps.now in
+    let first = c.in_ok-first.first in
+    let views = item_views first.items in
+    let node = c.in-Some.node in
+    let items = item_views c.args.items in
+    let d : map item_view c.deref.result.now ≡ items = ap (map item_view) c.deref.ensures.value in
+    let is : items ≡ NodeAt node ∷ [] = sym d ∙ c.in-Some.ensures in
+    let given = c.in_ok-first.ensures.gives (c.later_steps-2.ensures.goes.was_clean clean) (node_there f node items is items_in) in
+    let left = map plan_step_mean (take (length steps - first.taken) (drop first.taken steps)) in
+    let rest = subst (λ h. FrameIn h held → AreIn h views → GivesSequence (in_turn (next_step (frame_at h held)) (items_at h views) left h) f' c.later_steps-2.result) c.items_after_scans.ensures.keeps (c.later_steps-2.ensures.gives clean) inside given.there in
+    subst (λ o. GivesSequence o f' c.later_steps-2.result) (sym (after_scans f node items is steps first.taken views given (frame_at f held))) rest
+
+pub paths::step_list-returns-clause-goes : goal.paths::step_list-returns-clause-goes
+paths::step_list-returns-clause-goes g t c = goes_on_to (same_goes c.items_after_scans.ensures.keeps c.items_after_scans.ensures.was_clean) c.later_steps-2.ensures.goes
+
+pub paths::step_list-returns-clause-reads : goal.paths::step_list-returns-clause-reads
+paths::step_list-returns-clause-reads g t c = λ clean all tree h.
+    let f = g.W.TreeSource.forest c.args.world.now in
+    let start = g.W.TreeSource.meter c.args.world.now in
+    let now = g.W.TreeSource.meter c.items_after_scans.new.source in
+    let after = g.W.TreeSource.meter c.later_steps-2.new.world in
+    let steps = c.args.steps.now in
+    let first = c.in_ok-first.first in
+    let views = item_views first.items in
+    let node = c.in-Some.node in
+    let items = item_views c.args.items in
+    let d : map item_view c.deref.result.now ≡ items = ap (map item_view) c.deref.ensures.value in
+    let is : items ≡ NodeAt node ∷ [] = sym d ∙ c.in-Some.ensures in
+    let was = c.later_steps-2.ensures.goes.was_clean clean in
+    let there = node_of f node items is tree h in
+    let given = c.in_ok-first.ensures.gives was there in
+    let left = take (length steps - first.taken) (drop first.taken steps) in
+    let scans : AllByRecursion IsScan left = subst (AllByRecursion IsScan) (sym (slice_left first.taken steps)) (all_drop IsScan first.taken steps all) in
+    let rest = subst (λ trees. AreOf trees node.tree views → HasGrown now after (length left * rows_of trees node.tree)) c.items_after_scans.ensures.keeps (c.later_steps-2.ensures.reads clean scans node.tree) given.of_tree in
+    read_of f node items is tree h start after (length steps) (read_after f node items is steps first.taken views given start now after c.in_ok-first.ensures.taken (c.in_ok-first.ensures.reads was there) rest)
+
+pub paths::later_steps-loop-index-preserved-then-is_taken : goal.paths::later_steps-loop-index-preserved-then-is_taken
+paths::later_steps-loop-index-preserved-then-is_taken g t c =
     let i = c.loop-index.invariant in
     record {
       goes = i.goes;
@@ -1116,8 +1170,8 @@ paths::step_list-loop-index-preserved-then-is_taken g t c =
           (w.0, subst (λ n. HasGrown (g.W.TreeSource.meter c.args.world.now) (g.W.TreeSource.meter c.loop-index.world) (n * rows_of (g.W.TreeSource.forest c.args.world.now) tree)) (one_taken c.loop-index.is_taken c.loop-index.index c.if-is_taken.true) w.1);
     }
 
-pub paths::step_list-loop-index-preserved-in-Some : goal.paths::step_list-loop-index-preserved-in-Some
-paths::step_list-loop-index-preserved-in-Some g t c =
+pub paths::later_steps-loop-index-preserved-in-Some : goal.paths::later_steps-loop-index-preserved-in-Some
+paths::later_steps-loop-index-preserved-in-Some g t c =
     let i = c.loop-index.invariant in
     let old = g.W.TreeSource.forest c.args.world.now in
     let f = g.W.TreeSource.forest c.loop-index.world in
@@ -1144,8 +1198,8 @@ paths::step_list-loop-index-preserved-in-Some g t c =
           (c.in_ok-found.ensures.of_tree clean tree of, grown_on old f tree n 2 (n + 1 + 1) i.goes.grows h.has_tree (omega arith) before (c.double_slash.ensures.reads clean tree of));
     }
 
-pub paths::step_list-returns-in_err-found-clause-gives : goal.paths::step_list-returns-in_err-found-clause-gives
-paths::step_list-returns-in_err-found-clause-gives g t c = λ clean inside items_in.
+pub paths::later_steps-returns-in_err-found-clause-gives : goal.paths::later_steps-returns-in_err-found-clause-gives
+paths::later_steps-returns-in_err-found-clause-gives g t c = λ clean inside items_in.
     let i = c.loop-index.invariant in
     let old = g.W.TreeSource.forest c.args.world.now in
     let f = g.W.TreeSource.forest c.loop-index.world in
@@ -1166,11 +1220,11 @@ paths::step_list-returns-in_err-found-clause-gives g t c = λ clean inside items
     subst (λ o. GivesSequence o f' (Err e)) (sym (double_slash_is p q test (frame_at old held) (items_at f left) f (c.is_double_slash.ensures c.if-is_double_slash.true) refl ∙ ap (λ xs. after_double_slash test (items_at f xs) f) (sym d)))
     (c.in_err-found.ensures.gives clean (subst (AreIn f) (sym d) is_in))) clean (inside, items_in))
 
-pub paths::step_list-returns-in_err-found-clause-goes : goal.paths::step_list-returns-in_err-found-clause-goes
-paths::step_list-returns-in_err-found-clause-goes g t c = goes_on_to c.loop-index.invariant.goes c.in_err-found.ensures.goes
+pub paths::later_steps-returns-in_err-found-clause-goes : goal.paths::later_steps-returns-in_err-found-clause-goes
+paths::later_steps-returns-in_err-found-clause-goes g t c = goes_on_to c.loop-index.invariant.goes c.in_err-found.ensures.goes
 
-pub paths::step_list-loop-index-preserved-in-Some-2 : goal.paths::step_list-loop-index-preserved-in-Some-2
-paths::step_list-loop-index-preserved-in-Some-2 g t c =
+pub paths::later_steps-loop-index-preserved-in-Some-2 : goal.paths::later_steps-loop-index-preserved-in-Some-2
+paths::later_steps-loop-index-preserved-in-Some-2 g t c =
     let i = c.loop-index.invariant in
     let old = g.W.TreeSource.forest c.args.world.now in
     let f = g.W.TreeSource.forest c.loop-index.world in
@@ -1203,8 +1257,8 @@ paths::step_list-loop-index-preserved-in-Some-2 g t c =
       reads = λ clean all tree h. absurd (no_each c.args.steps.now (n + 1) (plan.Step Child chosen.test.now chosen.predicates.now) next all);
     }
 
-pub paths::step_list-returns-in_err-kept-clause-gives : goal.paths::step_list-returns-in_err-kept-clause-gives
-paths::step_list-returns-in_err-kept-clause-gives g t c = λ clean inside items_in.
+pub paths::later_steps-returns-in_err-kept-clause-gives : goal.paths::later_steps-returns-in_err-kept-clause-gives
+paths::later_steps-returns-in_err-kept-clause-gives g t c = λ clean inside items_in.
     let i = c.loop-index.invariant in
     let old = g.W.TreeSource.forest c.args.world.now in
     let f = g.W.TreeSource.forest c.loop-index.world in
@@ -1232,16 +1286,16 @@ paths::step_list-returns-in_err-kept-clause-gives g t c = λ clean inside items_
     subst (λ o. GivesSequence o f' (Err e)) (sym (slashes_then p then_q frame (items_at f left) f double ∙ ap (λ xs. go_on (Forms.scan DescendantOrSelf Any (items_at f xs) f) then_q) (sym d)))
     (c.in_err-kept.ensures.gives clean within (subst (AreIn f) (sym d) is_in) frame env)) clean (inside, items_in))
 
-pub paths::step_list-returns-in_err-kept-clause-goes : goal.paths::step_list-returns-in_err-kept-clause-goes
-paths::step_list-returns-in_err-kept-clause-goes g t c = goes_on_to c.loop-index.invariant.goes c.below_by_texts.ensures.goes
+pub paths::later_steps-returns-in_err-kept-clause-goes : goal.paths::later_steps-returns-in_err-kept-clause-goes
+paths::later_steps-returns-in_err-kept-clause-goes g t c = goes_on_to c.loop-index.invariant.goes c.below_by_texts.ensures.goes
 
-pub paths::step_list-returns-in_err-kept-clause-reads : goal.paths::step_list-returns-in_err-kept-clause-reads
-paths::step_list-returns-in_err-kept-clause-reads g t c = λ clean all tree h.
+pub paths::later_steps-returns-in_err-kept-clause-reads : goal.paths::later_steps-returns-in_err-kept-clause-reads
+paths::later_steps-returns-in_err-kept-clause-reads g t c = λ clean all tree h.
     let some = c.in-Some-chosen_children in
     absurd (no_each c.args.steps.now (c.loop-index.index + 1) (plan.Step Child some.chosen.test.now some.chosen.predicates.now) (sym c.at-next.ensures ∙ some.ensures) all)
 
-pub paths::step_list-loop-index-preserved-in-Some-chosen_children : goal.paths::step_list-loop-index-preserved-in-Some-chosen_children
-paths::step_list-loop-index-preserved-in-Some-chosen_children g t c =
+pub paths::later_steps-loop-index-preserved-in-Some-chosen_children : goal.paths::later_steps-loop-index-preserved-in-Some-chosen_children
+paths::later_steps-loop-index-preserved-in-Some-chosen_children g t c =
     let i = c.loop-index.invariant in
     let old = g.W.TreeSource.forest c.args.world.now in
     let f = g.W.TreeSource.forest c.loop-index.world in
@@ -1278,8 +1332,8 @@ paths::step_list-loop-index-preserved-in-Some-chosen_children g t c =
       reads = λ clean all tree h. absurd (no_each c.args.steps.now (n + 1) (plan.Step Child chosen.test.now chosen.predicates.now) next all);
     }
 
-pub paths::step_list-returns-in_err-parents-clause-gives : goal.paths::step_list-returns-in_err-parents-clause-gives
-paths::step_list-returns-in_err-parents-clause-gives g t c = λ clean inside items_in.
+pub paths::later_steps-returns-in_err-parents-clause-gives : goal.paths::later_steps-returns-in_err-parents-clause-gives
+paths::later_steps-returns-in_err-parents-clause-gives g t c = λ clean inside items_in.
     let i = c.loop-index.invariant in
     let old = g.W.TreeSource.forest c.args.world.now in
     let f = g.W.TreeSource.forest c.loop-index.world in
@@ -1310,16 +1364,16 @@ paths::step_list-returns-in_err-parents-clause-gives g t c = λ clean inside ite
     subst (λ o. GivesSequence o f' (Err e)) (sym (parents_below_is p q chosen.test.now chosen.predicates.now frame (items_at f left) f double refl))
     (go_on_stop item_views items_at AreIn item_views items_at AreIn (parents_below chosen.test.now (items_at f left) f) then_q f' e stop)) clean (inside, items_in))
 
-pub paths::step_list-returns-in_err-parents-clause-goes : goal.paths::step_list-returns-in_err-parents-clause-goes
-paths::step_list-returns-in_err-parents-clause-goes g t c = goes_on_to c.loop-index.invariant.goes (goes_on_to c.below_by_texts.ensures.goes c.parents_below.ensures.goes)
+pub paths::later_steps-returns-in_err-parents-clause-goes : goal.paths::later_steps-returns-in_err-parents-clause-goes
+paths::later_steps-returns-in_err-parents-clause-goes g t c = goes_on_to c.loop-index.invariant.goes (goes_on_to c.below_by_texts.ensures.goes c.parents_below.ensures.goes)
 
-pub paths::step_list-returns-in_err-parents-clause-reads : goal.paths::step_list-returns-in_err-parents-clause-reads
-paths::step_list-returns-in_err-parents-clause-reads g t c = λ clean all tree h.
+pub paths::later_steps-returns-in_err-parents-clause-reads : goal.paths::later_steps-returns-in_err-parents-clause-reads
+paths::later_steps-returns-in_err-parents-clause-reads g t c = λ clean all tree h.
     let some = c.in-Some-chosen_children in
     absurd (no_each c.args.steps.now (c.loop-index.index + 1) (plan.Step Child some.chosen.test.now some.chosen.predicates.now) (sym c.at-next.ensures ∙ some.ensures) all)
 
-pub paths::step_list-loop-index-preserved : goal.paths::step_list-loop-index-preserved
-paths::step_list-loop-index-preserved g t c =
+pub paths::later_steps-loop-index-preserved : goal.paths::later_steps-loop-index-preserved
+paths::later_steps-loop-index-preserved g t c =
     let i = c.loop-index.invariant in
     let old = g.W.TreeSource.forest c.args.world.now in
     let f = g.W.TreeSource.forest c.loop-index.world in
@@ -1343,8 +1397,8 @@ paths::step_list-loop-index-preserved g t c =
           (c.in_ok-left.ensures.of_tree clean scan tree w.0, subst (λ k. HasGrown (g.W.TreeSource.meter c.args.world.now) (g.W.TreeSource.meter c.next_items.new.world) (k * rows_of old tree)) one after);
     }
 
-pub paths::step_list-returns-in_err-left-clause-gives : goal.paths::step_list-returns-in_err-left-clause-gives
-paths::step_list-returns-in_err-left-clause-gives g t c = λ clean inside items_in.
+pub paths::later_steps-returns-in_err-left-clause-gives : goal.paths::later_steps-returns-in_err-left-clause-gives
+paths::later_steps-returns-in_err-left-clause-gives g t c = λ clean inside items_in.
     let i = c.loop-index.invariant in
     let old = g.W.TreeSource.forest c.args.world.now in
     let f = g.W.TreeSource.forest c.loop-index.world in
@@ -1358,22 +1412,22 @@ paths::step_list-returns-in_err-left-clause-gives g t c = λ clean inside items_
     (λ clean inside is_in. subst (λ fr. GivesSequence (plan_step_mean p fr (items_at f left) f) f' (Err e)) (frame_grown i.goes.grows held inside.0)
     (c.in_err-left.ensures.gives clean (frame_in_grown i.goes.grows held inside.0) is_in)) clean (inside, items_in))
 
-pub paths::step_list-returns-in_err-left-clause-goes : goal.paths::step_list-returns-in_err-left-clause-goes
-paths::step_list-returns-in_err-left-clause-goes g t c = goes_on_to c.loop-index.invariant.goes c.in_err-left.ensures.goes
+pub paths::later_steps-returns-in_err-left-clause-goes : goal.paths::later_steps-returns-in_err-left-clause-goes
+paths::later_steps-returns-in_err-left-clause-goes g t c = goes_on_to c.loop-index.invariant.goes c.in_err-left.ensures.goes
 
-pub paths::step_list-returns-clause-goes : goal.paths::step_list-returns-clause-goes
-paths::step_list-returns-clause-goes g t c = c.loop-index.invariant.goes
+pub paths::later_steps-returns-clause-goes : goal.paths::later_steps-returns-clause-goes
+paths::later_steps-returns-clause-goes g t c = c.loop-index.invariant.goes
 
-pub paths::step_list-loop-index-init : goal.paths::step_list-loop-index-init
-paths::step_list-loop-index-init g t c = record {
+pub paths::later_steps-loop-index-init : goal.paths::later_steps-loop-index-init
+paths::later_steps-loop-index-init g t c = record {
   goes = stays _ _;
   turns = record { rest = λ clean p. (p.1, refl) };
   within = omega arith;
   reads = λ clean all tree h. (h, not_grown _ _ _ refl);
 }
 
-pub paths::step_list-returns-in_err-found-clause-reads : goal.paths::step_list-returns-in_err-found-clause-reads
-paths::step_list-returns-in_err-found-clause-reads g t c = λ clean all tree h.
+pub paths::later_steps-returns-in_err-found-clause-reads : goal.paths::later_steps-returns-in_err-found-clause-reads
+paths::later_steps-returns-in_err-found-clause-reads g t c = λ clean all tree h.
     let i = c.loop-index.invariant in
     let old = g.W.TreeSource.forest c.args.world.now in
     let f = g.W.TreeSource.forest c.loop-index.world in
@@ -1384,8 +1438,8 @@ paths::step_list-returns-in_err-found-clause-reads g t c = λ clean all tree h.
     let before = subst (λ k. HasGrown (g.W.TreeSource.meter c.args.world.now) (g.W.TreeSource.meter c.loop-index.world) (k * rows_of old tree)) (none_taken c.loop-index.is_taken n c.if-is_taken.false) w.1 in
     grown_on old f tree n 2 (length c.args.steps.now) i.goes.grows h.has_tree (omega (arith, at.0)) before (c.double_slash.ensures.reads clean tree (subst (AreOf f tree) (sym d) w.0))
 
-pub paths::step_list-returns-in_err-left-clause-reads : goal.paths::step_list-returns-in_err-left-clause-reads
-paths::step_list-returns-in_err-left-clause-reads g t c = λ clean all tree h.
+pub paths::later_steps-returns-in_err-left-clause-reads : goal.paths::later_steps-returns-in_err-left-clause-reads
+paths::later_steps-returns-in_err-left-clause-reads g t c = λ clean all tree h.
     let i = c.loop-index.invariant in
     let old = g.W.TreeSource.forest c.args.world.now in
     let f = g.W.TreeSource.forest c.loop-index.world in
@@ -1396,8 +1450,8 @@ paths::step_list-returns-in_err-left-clause-reads g t c = λ clean all tree h.
     let before = subst (λ k. HasGrown (g.W.TreeSource.meter c.args.world.now) (g.W.TreeSource.meter c.loop-index.world) (k * rows_of old tree)) (none_taken c.loop-index.is_taken n c.if-is_taken.false) w.1 in
     grown_on old f tree n 1 (length c.args.steps.now) i.goes.grows h.has_tree (omega arith) before (once (c.next_items.ensures.reads clean scan tree w.0))
 
-pub paths::step_list-returns-clause-reads : goal.paths::step_list-returns-clause-reads
-paths::step_list-returns-clause-reads g t c = λ clean all tree h.
+pub paths::later_steps-returns-clause-reads : goal.paths::later_steps-returns-clause-reads
+paths::later_steps-returns-clause-reads g t c = λ clean all tree h.
     let i = c.loop-index.invariant in
     grown_more (i.reads clean all tree h).1 (mul-le-mul_right (rows_of (g.W.TreeSource.forest c.args.world.now) tree) i.within)
 
@@ -1425,8 +1479,8 @@ paths::next_items-returns-clause-of_tree g t c = λ clean scan tree h.
     let d : map item_view c.deref-in-Scan.result.now ≡ item_views c.args.items = ap (map item_view) c.deref-in-Scan.ensures.value in
     c.scan.ensures.of_tree clean tree (subst (AreOf f tree) (sym d) h)
 
-pub paths::step_list-returns-clause-gives : goal.paths::step_list-returns-clause-gives
-paths::step_list-returns-clause-gives g t c = λ clean inside rest_in.
+pub paths::later_steps-returns-clause-gives : goal.paths::later_steps-returns-clause-gives
+paths::later_steps-returns-clause-gives g t c = λ clean inside rest_in.
     let old = g.W.TreeSource.forest c.args.world.now in
     turns_end _ _ _ c.loop-index.invariant.turns (ap (map plan_step_mean) (drop_all (c.loop-index.index + (if c.loop-index.is_taken then 1 else 0)) c.args.steps.now (omega arith))) clean (inside, rest_in)
 
@@ -3579,7 +3633,23 @@ expressions::path-evaluate-requires g t c = λ κs live.
 pub expressions::path-step_list-requires : goal.expressions::path-step_list-requires
 expressions::path-step_list-requires g t c = λ κs live.
     let all : 8 * max (size-Plan c.args.start.now) (most size-PlanStep c.args.steps.now) + 9 ≡ t = c.decreases in
+    let below : 8 * most size-PlanStep c.args.steps.now + 8 < t = omega (arith, all) in
+    (below, live)
+
+pub paths::step_list-later_steps-requires : goal.paths::step_list-later_steps-requires
+paths::step_list-later_steps-requires g t c = λ κs live.
+    let all : 8 * most size-PlanStep c.args.steps.now + 8 ≡ t = c.decreases in
     let below : 8 * most size-PlanStep c.args.steps.now + 7 < t = omega (arith, all) in
+    (below, live)
+
+pub paths::step_list-later_steps-requires-2 : goal.paths::step_list-later_steps-requires-2
+paths::step_list-later_steps-requires-2 g t c = λ κs live.
+    let steps = c.args.steps.now in
+    let taken = c.in_ok-first.first.taken in
+    let all : 8 * most size-PlanStep steps + 8 ≡ t = c.decreases in
+    let same = ap (most size-PlanStep) (slice_left taken steps) in
+    let least = most_drop size-PlanStep taken steps in
+    let below : 8 * most size-PlanStep (take (length steps - taken) (drop taken steps)) + 7 < t = omega (arith, all, same, least) in
     (below, live)
 
 pub expressions::named_node-evaluate-requires : goal.expressions::named_node-evaluate-requires

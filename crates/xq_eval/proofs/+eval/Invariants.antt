@@ -151,8 +151,8 @@ invariant-clauses::tests-loop-index g l =
     }
 
 -- where the step was taken with the one before it, one fewer is left
-abbrev pub invariant-paths::step_list-loop-index : goal.invariant-paths::step_list-loop-index
-invariant-paths::step_list-loop-index g l =
+abbrev pub invariant-paths::later_steps-loop-index : goal.invariant-paths::later_steps-loop-index
+invariant-paths::later_steps-loop-index g l =
     let old = g.W.TreeSource.forest l.fn.world in
     let now = g.W.TreeSource.forest l.world in
     let frame = frame_at old l.frame in
@@ -312,7 +312,10 @@ abbrev pub decreases-evaluation::next_argument : goal.decreases-evaluation::next
 decreases-evaluation::next_argument g a = 8 * goal.size-evaluation::next_argument g a + 4
 
 abbrev pub decreases-paths::step_list : goal.decreases-paths::step_list
-decreases-paths::step_list g a = 8 * goal.size-paths::step_list g a + 7
+decreases-paths::step_list g a = 8 * goal.size-paths::step_list g a + 8
+
+abbrev pub decreases-paths::later_steps : goal.decreases-paths::later_steps
+decreases-paths::later_steps g a = 8 * goal.size-paths::later_steps g a + 7
 
 abbrev pub decreases-paths::next_items : goal.decreases-paths::next_items
 decreases-paths::next_items g a = 8 * goal.size-paths::next_items g a + 6
