@@ -34,6 +34,17 @@ QUERIES = (
     'doc("d")//{name}[@id = "{number}"]',
     'for $k in ({path})[position() <= 9] return count(doc("d")//{name}[@id = $k/@id])',
     'let $k := {path} return count(doc("d")//{other}[$k/{name} = {name}])',
+    'string-join({path}/string(), "|")',
+    "distinct-values({path}/{name}/data())",
+    "({path}/string(.), {path} ! string-length(.))",
+    'count(doc("d")/r/{name}/{other}/{name})',
+    'doc("d")/r/{name}/{other}/@id/..',
+    'count(doc("d")//{name}//{other}/{name})',
+    "let $k := {path} return some $x in {path} satisfies $x/@id = $k/@id",
+    'let $k := {path} return every $x in doc("d")//{name} satisfies $x/{other} = $k/{other}',
+    'some $y in {path}, $x in doc("d")//{other} satisfies $y/@id = $x/@id',
+    "for $x in {path} return (count($x/{name}) * 2 + 1) div {number} || concat($x/@id, 1, 'z')",
+    "element {{concat('q', {number})}} {{attribute {{'a'}} {{{number}, 'x'}}, {path}/string()}}",
 )
 GROWN = 'document {{element r {{doc("d")/r/*[position() <= 30], element {name} {{"new"}}}}}}'
 MOST_SHOWN = 5
