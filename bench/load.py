@@ -8,8 +8,8 @@ of which nothing is evaluated, to read it and make the document, to store it, an
 of that shape in its place. `edits`: milliseconds for the document of bench/queries.py, in memory
 and on a file: made, stored, replaced by itself, and by copies in which one text is changed, four
 times, and in which a node more stands at the front, each copy also by itself, not stored; and the
-pages of log. On a file the first edit waits until the engine has copied the log of the document's
-first store into the database: it is shown apart, and the bound is on those after it.
+pages of log. On a file the first of these edits waits until the engine has copied the log of the
+document's first store into the database: it is also shown by itself.
 
 The server, an older one where --base names it, BaseX where it is installed, which replaces the same
 by `db:replace`, and the inserts of C SQLite (python3's sqlite3) take turns, of which there are N
@@ -65,9 +65,10 @@ MOST_PAGES = 20
 EDITS = 4
 """How many times in a turn a text of the document is changed."""
 TEXT = "one text changed"
+CHANGED = f"{TEXT}, stored"
 FIRST_TEXT = f"{TEXT} for the first time, stored"
 """On a file it waits for the engine, which first copies the log of the document's first store into
-the database; so it is shown, and those after it are judged."""
+the database: one of the edits that are judged, and shown by itself besides."""
 Measures = dict[str, dict[str, list[float]]]
 """By what was measured and of which engine, the figures of the turns."""
 
@@ -181,9 +182,9 @@ def steps(turn: int) -> list[tuple[str, str, bool]]:
     """What is done to the document: its name, the query, and whether its document is stored."""
     texts = [ONE_TEXT % (2000 + EDITS * turn + edit) for edit in range(EDITS)]
     return [("made", MAKE, False), ("stored", MAKE, True), ("the same stored again", MAKE, True),
-            (FIRST_TEXT, texts[0], True),
-            *(step for text in texts[1:]
-              for step in ((f"{TEXT}, made", text, False), (f"{TEXT}, stored", text, True))),
+            *(step for text in texts for step in (
+                (f"{TEXT}, made", text, False),
+                (FIRST_TEXT if text == texts[0] else CHANGED, text, True))),
             ("a node at the front, made", FRONT, False),
             ("a node at the front, stored", FRONT, True)]
 
@@ -192,10 +193,11 @@ def step(found: Found, what: str, engine: Program | Driven, query: str, is_store
     """A step of one engine; those of Java have a document already, which "stored" replaces."""
     before = engine.written() if isinstance(engine, Place) else b""
     spent = (replaced if is_stored else made)(engine, query)
-    if what != "stored" or isinstance(engine, Place):
-        found.note(what, engine.name, spent)
-    if is_stored and isinstance(engine, Place) and engine.log:
-        found.count(f"{what}: pages of log", engine.name, pages(before, engine.written()))
+    for name in (CHANGED, FIRST_TEXT) if what == FIRST_TEXT else (what,):
+        if name != "stored" or isinstance(engine, Place):
+            found.note(name, engine.name, spent)
+        if is_stored and isinstance(engine, Place) and engine.log:
+            found.count(f"{name}: pages of log", engine.name, pages(before, engine.written()))
 
 
 def edit_turn(found: Found, turn: int, places: Sequence[Place], others: Sequence[Driven]) -> bool:
@@ -241,7 +243,7 @@ def bounds(of: Mapping[str, Mapping[str, Times]]) -> Iterator[Bound]:
             yield ratio(f"{shape}, to the {BASE}", of[shape][OURS], of[shape][BASE], most)
     for where in ("", ON_FILE) if "made" in of else ():
         ours, base = OURS + where, BASE + where
-        again, changed = of["the same stored again"], of[f"{TEXT}, stored"]
+        again, changed = of["the same stored again"], of[CHANGED]
         front = of["a node at the front, stored"]
         yield ratio(f"{TEXT}{where}, to its making", changed[ours], of[f"{TEXT}, made"][ours], 1.3)
         yield ratio(f"the same stored again{where}, to its making", again[ours],
@@ -249,7 +251,7 @@ def bounds(of: Mapping[str, Mapping[str, Times]]) -> Iterator[Bound]:
         if base in front:
             yield ratio(f"a node at the front{where}, to the {BASE}", front[ours], front[base],
                         0.65)
-    if written := of.get(f"{TEXT}, stored: pages of log"):
+    if written := of.get(f"{CHANGED}: pages of log"):
         found = written[OURS + ON_FILE]
         yield Bound(f"{TEXT}, pages of log", found.median, found.least, MOST_PAGES)
 

@@ -9,6 +9,7 @@ import pathlib
 import sqlite3
 import tempfile
 import unittest
+from unittest import mock
 
 import load
 import shapes
@@ -103,10 +104,15 @@ class Bounds(unittest.TestCase):
         self.assertEqual(len(set(texts)), 2 * load.EDITS)
         self.assertIn('element year {"2000"}', texts[0])
 
-    def test_the_first_edit_is_shown_and_not_judged(self) -> None:
-        names = [what for what, _, is_stored in load.steps(0) if is_stored and "text" in what]
-        self.assertEqual(names.count(load.FIRST_TEXT), 1)
-        self.assertEqual(names.count("one text changed, stored"), load.EDITS - 1)
+    def test_the_first_edit_is_judged_and_shown_by_itself_besides(self) -> None:
+        engine = mock.Mock(spec=load.Driven)
+        engine.name = "xqs"
+        engine.run.return_value = [load.Spent(2.0, 0.0, 1.0)]
+        found = load.Found()
+        for what, query, is_stored in load.steps(0):
+            load.step(found, what, engine, query, is_stored)
+        self.assertEqual(found.worked[load.FIRST_TEXT], {"xqs": [1.0]})
+        self.assertEqual(found.worked[load.CHANGED], {"xqs": [1.0] * load.EDITS})
 
 
 if __name__ == "__main__":
