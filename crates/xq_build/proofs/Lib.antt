@@ -4,3 +4,4 @@ pub mod Judges
 pub mod Spelling
 pub mod Surpluses
 pub mod Counted
+pub mod Lone

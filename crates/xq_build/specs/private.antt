@@ -3,3 +3,4 @@ pub mod Printing
 pub mod Judging
 pub mod Content
 pub mod Surplus
+pub mod Lone

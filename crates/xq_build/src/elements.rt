@@ -1,17 +1,48 @@
 //! Constructors of elements and documents.
-ghost use Rattle.std.specs.Prelude.{◌≡◌, map, string_bytes};
+ghost use Rattle.std.specs.Prelude.{◌≡◌, Ok, map, string_bytes, IfOk, IfSome};
 ghost use Rattle.xq_regions.specs.Items.{item_view};
 ghost use Rattle.xq_meaning.specs.Content.{element_tree, document_tree};
 ghost use Rattle.xq_meaning.specs.Readings.{items_at};
 ghost use Rattle.xq_atoms.specs.Answers.{GivesUnlessWanting};
+ghost use Rattle.xq_build.specs.private.Lone.{IsLoneText, around};
 
 use crate::content::content;
 use crate::judging::built;
 use std::alloc::Global;
-use xq_atoms::Fault;
+use xq_atoms::{Fault, Want, cast_str};
+use xq_packed::PackedRows;
 use xq_packed_trees::PackedTree;
 use xq_regions::{Item, Kind};
 use xq_sources::RowLender;
+
+/// The text of the only item, where that is an atom whose text is not empty.
+fn lone_text(alloc: Global, items: &[Item]) -> Result<Option<String>, Want>
+    ensures { IfOk result (λ found. IfSome found (λ text. IsLoneText (map item_view items.now)
+        (string_bytes text))) }
+{
+    let [Item::Atom(atom)] = items else {
+        return Ok(None);
+    };
+    let text = cast_str(alloc, atom)?;
+    if text.is_empty() {
+        return Ok(None);
+    }
+    Ok(Some(text))
+}
+
+/// An element with one text below it, which is not empty. Its rows are those of a tree where the
+/// name and the text are such as a tree may have.
+fn around_text(alloc: Global, name: &str, value: &str) -> Result<PackedTree, Fault>
+    ensures { GivesUnlessWanting (λ tree. tree) (Ok (around name.now value.now)) result }
+{
+    let mut rows = PackedRows::new(alloc);
+    rows.push_parts(1, 0, Kind::Element, name, "")?;
+    rows.push_parts(0, 1, Kind::Text, "", value)?;
+    match PackedTree::from_levels(rows)? {
+        Some(tree) => Ok(tree),
+        None => Err(Fault::Want(Want::Store)),
+    }
+}
 
 /// An element with the items as its content (XQuery 3.1, sections 3.9.1.3 and 3.9.3.1): atomic
 /// values side by side become one text, joined by single spaces; nodes are copied, a document as
@@ -36,6 +67,9 @@ pub fn element<L: RowLender>(
     ensures keeps { L.forest source.new ≡ L.forest source.old }
     ensures was_clean { L.is_clean source.new → L.is_clean source.old }
 {
+    if let Some(value) = lone_text(alloc, items)? {
+        return around_text(alloc, name.as_str(), value.as_str());
+    }
     let content = content(alloc, source, items)?;
     built(alloc, Kind::Element, name.as_str(), content)
 }

@@ -152,3 +152,39 @@ if_ok P Q f (Err e) h = tt
 pub if_none : {A : Type 0} (P Q : Type 0) → (P → Q) → (r : Option A) → IfNone r P → IfNone r Q
 if_none P Q f (Some x) h = tt
 if_none P Q f None h = f h
+
+-- # One number looked for among those after it
+
+left_false : (a b : Bool) → (a || b) ≡ false → a ≡ false
+left_false false b h = refl
+left_false true b h = h
+
+right_false : (a b : Bool) → (a || b) ≡ false → b ≡ false
+right_false false b h = h
+right_false true b h = absurd (true≢false h)
+
+none_same : (n : ℕ) (ks : List ℕ) → list_any (nat_eq n) ks ≡ false → AllByRecursion (λ m. nat_eq n m ≡ false) ks
+none_same n [] h = tt
+none_same n (k ∷ ks) h = (left_false (nat_eq n k) (list_any (nat_eq n) ks) h, none_same n ks (right_false (nat_eq n k) (list_any (nat_eq n) ks) h))
+
+one_same : (n : ℕ) (ks : List ℕ) → list_any (nat_eq n) ks ≡ true → AllByRecursion (λ m. nat_eq n m ≡ false) ks → ⊥
+one_same n [] h apart = true≢false (sym h)
+one_same n (k ∷ ks) h apart = one_same n ks (sym (ap (λ b. b || list_any (nat_eq n) ks) apart.0) ∙ h) apart.1
+
+-- the first shape has a number of its own: the others decide
+pub others_decide : (shapes after : List Shape) (first : Shape) → shapes ≡ first ∷ after → list_any (nat_eq first.name) (map number_of after) ≡ false
+    → IsDistinct nat_eq (map number_of shapes) ↔ IsDistinct nat_eq (map number_of after)
+others_decide shapes after first is none =
+    let here = ap (map number_of) is in (
+      λ d. IsDistinct-tail nat_eq first.name (map number_of after) (subst (IsDistinct nat_eq) here d),
+      λ d. subst (IsDistinct nat_eq) (sym here) (IsDistinct-cons nat_eq first.name (map number_of after) (none_same first.name (map number_of after) none) d),
+    )
+
+-- it has that of another one
+pub not_distinct : (shapes after : List Shape) (first : Shape) → shapes ≡ first ∷ after → list_any (nat_eq first.name) (map number_of after) ≡ true → IsDistinct nat_eq (map number_of shapes) → ⊥
+not_distinct shapes after first is some d =
+    one_same first.name (map number_of after) some (IsDistinct-head nat_eq first.name (map number_of after) (subst (IsDistinct nat_eq) (ap (map number_of) is) d))
+
+pub none_distinct : (shapes : List Shape) → length shapes ≡ 0 → IsDistinct nat_eq (map number_of shapes)
+none_distinct [] none = none_apart nat_eq
+none_distinct (s ∷ shapes) none = absurd (omega (arith, none))

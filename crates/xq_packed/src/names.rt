@@ -10,7 +10,7 @@ use xq_atoms::Want;
 
 /// How many names are looked for one by one. Most constructed trees have no more, and make no
 /// table then.
-const FEW: usize = 8;
+const FEW: usize = 16;
 
 /// The most names: their numbers have four bytes.
 const MOST_NAMES: usize = 0x1_0000_0000;

@@ -142,7 +142,8 @@ impl PackedRows {
         }
         let start = start_at(&other.shapes, low);
         let values = &other.text[start..start_at(&other.shapes, high)];
-        self.shapes.reserve(run.len())?;
+        // One row more: a root is put above most runs that are copied.
+        self.shapes.reserve(run.len() + 1)?;
         self.text.reserve(values.len())?;
         let way = Move {
             low: start,

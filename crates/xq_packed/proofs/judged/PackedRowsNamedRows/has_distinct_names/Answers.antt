@@ -50,3 +50,7 @@ returns-clause-distinct c =
     let at = (goal.at.returns-clause-distinct c).After-deref in
     if_ok (λ r. IsTrue r ↔ IsDistinct nat_eq (map number_of (slice_range c.deref.result.now c.args.low c.args.high))) (λ r. IsTrue r ↔ IsDistinct bytes_eq (map row_name (slice_range c.args.self.now.rows c.args.low c.args.high)))
     (told at) c.are_numbers_distinct.result c.are_numbers_distinct.ensures.distinct
+
+pub returns-then-run-le-FEW-clause-distinct : goal.returns-then-run-le-FEW-clause-distinct
+returns-then-run-le-FEW-clause-distinct c =
+    told (goal.at.returns-then-run-le-FEW-clause-distinct c).After-deref c.are_few_distinct.result c.are_few_distinct.ensures
