@@ -77,7 +77,11 @@ fn keeps_parents_in(
     let mut guide = Guide::new(alloc);
     guide.read_on(&LentRows::new(&rows))?;
     for node in 0..count {
-        let parent = if count > 64 { fragments.parent(0, node) } else { None };
+        let parent = if count > 64 {
+            fragments.parent(0, node)
+        } else {
+            None
+        };
         assert_eq!(rt; guide.kept(node), parent);
     }
     assert_eq!(rt; guide.kept(count), None);
