@@ -9,9 +9,9 @@ ghost use Rattle.xq_axes.specs.private.Hits.{is_among, is_wanted, below_where, I
 ghost use Rattle.xq_axes.specs.private.Named.{is_below_one};
 
 use crate::downward::{ToChildren, search_below};
-use crate::names::{is_large_part, wanted_name};
+use crate::names::{is_large_part, places_between, wanted_name};
 use crate::near::children_of;
-use crate::picks::{Found, Places};
+use crate::picks::Places;
 use std::alloc::Global;
 use xq_atoms::Want;
 use xq_meaning::Test;
@@ -26,7 +26,16 @@ const MANY_CONTEXTS: usize = 64;
 /// and faster where many times more of them lie elsewhere, since it reads no row below a child.
 const PLACES_EACH: usize = 32;
 
+/// Of how many places of a name after a context the parents are asked for, to see how many of such
+/// places are those of children of contexts.
+const SAMPLE: usize = 32;
+
+/// Of the places of a name that were looked at the part, one in so many, that has to be that of
+/// children of contexts for all to be gone over.
+const PART: usize = 4;
+
 /// Whether this one of the places is the place.
+#[inline]
 fn is_at(places: &[u32], index: usize, place: u32) -> bool
     ensures { result ≡ true → is_among places.now place ≡ true }
 {
@@ -38,6 +47,7 @@ fn is_at(places: &[u32], index: usize, place: u32) -> bool
 
 /// Whether the place lies after this one of the places, which rise, and before the next, or after
 /// the last.
+#[inline]
 fn is_beside(places: &[u32], index: usize, place: u32) -> bool
     ensures { IsRising places.now → result ≡ true → is_among places.now place ≡ false }
 {
@@ -53,9 +63,22 @@ fn is_beside(places: &[u32], index: usize, place: u32) -> bool
     }
 }
 
+/// Which of the places, which rise, is the place.
+#[inline(never)]
+fn find_among(places: &[u32], place: u32) -> Option<usize>
+    ensures some { IsRising places.now → IfSome result (λ _. is_among places.now place ≡ true) }
+    ensures none { IsRising places.now → result ≡ None → is_among places.now place ≡ false }
+{
+    match places.binary_search(&place) {
+        Ok(index) => Some(index),
+        Err(_) => None,
+    }
+}
+
 /// Which of the places, which rise, is the place: it is looked for first where the last one was
 /// found, since one parent after another has its children, and those between two of the places are
 /// none.
+#[inline]
 pub fn find_near(places: &[u32], near: usize, place: u32) -> Option<usize>
     ensures some { IsRising places.now → IfSome result (λ _. is_among places.now place ≡ true) }
     ensures none { IsRising places.now → result ≡ None → is_among places.now place ≡ false }
@@ -70,26 +93,23 @@ pub fn find_near(places: &[u32], near: usize, place: u32) -> Option<usize>
     if is_beside(places, near, place) {
         return None;
     }
-    match places.binary_search(&place) {
-        Ok(index) => Some(index),
-        Err(_) => None,
-    }
+    find_among(places, place)
 }
 
 /// Those of the places at which a child of a context lies, or an attribute, where the lender can
-/// tell the parent of each.
+/// tell the parent of each. All of them may be such: there is room for as many from the start.
 fn told_below<L: RowLender>(
     alloc: Global,
     source: &L,
     tree: usize,
     contexts: &[u32],
     places: &[u32],
-) -> Result<Option<Found>, Want>
+) -> Result<Option<Vec<u32>>, Want>
     ensures { L.is_clean source.now → IsRising contexts.now
         → IfOk result (λ told. IfSome told (λ found. found.items ≡ filter
         (is_below_one (tree_at (L.forest source.now) tree) contexts.now) places.now)) }
 {
-    let mut found = Found::new(alloc);
+    let mut found = Vec::with_capacity(alloc, places.len())?;
     let mut near = 0;
     for place in places {
         let Some(parent) = source.parent(tree, *place) else {
@@ -97,7 +117,7 @@ fn told_below<L: RowLender>(
         };
         if let Some(index) = find_near(contexts, near, parent) {
             near = index;
-            found.push(*place)?;
+            found.push_reserved(*place);
         }
     }
     Ok(Some(found))
@@ -110,6 +130,46 @@ fn are_many(places: &[u32]) -> bool {
         return false;
     };
     places.len() >= MANY_CONTEXTS && is_large_part(*first, *last)
+}
+
+/// Of the places of a name, which rise, those from one of the contexts to the next, a few at most.
+fn sample<'a>(contexts: &[u32], index: usize, named: &'a [u32]) -> &'a [u32] {
+    let (Some(context), Some(next)) = (contexts.get(index), contexts.get(index.saturating_add(1)))
+    else {
+        return &[];
+    };
+    let between = places_between(named, *context, *next);
+    &between[..between.len().min(SAMPLE)]
+}
+
+/// How many of the places are told as those of children of contexts, or of attributes.
+fn count_below<L: RowLender>(source: &L, tree: usize, contexts: &[u32], places: &[u32]) -> usize {
+    let mut count = 0usize;
+    for place in places {
+        let Some(parent) = source.parent(tree, *place) else {
+            return count;
+        };
+        if find_among(contexts, parent).is_some() {
+            count = count.saturating_add(1);
+        }
+    }
+    count
+}
+
+/// Whether so many of the places of a name are those of children of contexts that all are gone
+/// over, by a few of them: those after the first context, and those after one in the middle.
+fn are_mostly_below<L: RowLender>(
+    source: &L,
+    tree: usize,
+    contexts: &[u32],
+    named: &[u32],
+) -> bool {
+    let first = sample(contexts, 0, named);
+    let later = sample(contexts, contexts.len() / 2, named);
+    let below = count_below(source, tree, contexts, first).saturating_add(count_below(
+        source, tree, contexts, later,
+    ));
+    below >= first.len().saturating_add(later.len()) / PART
 }
 
 /// The places of the children of the nodes at the places, which rise, that pass the test, where it
@@ -143,10 +203,13 @@ fn named_children<L: RowLender>(
     if named.len() / PLACES_EACH > places.len() {
         return Ok(None);
     }
+    if !are_mostly_below(source, tree, places, named) {
+        return Ok(None);
+    }
     let Some(found) = told_below(alloc, source, tree, places, named)? else {
         return Ok(None);
     };
-    Ok(Some(found.into_places()?))
+    Ok(Some(Places::from_vec(found)))
 }
 
 /// The places of the children of the nodes at the places, which rise, that pass the test: in

@@ -36,7 +36,7 @@ fn count_before(places: &[u32], place: u64) -> usize
 }
 
 /// Those of the places, which rise, that lie from `low` to `high`.
-fn places_between(places: &[u32], low: u32, high: u32) -> &[u32]
+pub fn places_between(places: &[u32], low: u32, high: u32) -> &[u32]
     ensures { (f : ℕ → Bool) (n : ℕ) → places.now ≡ below_where f n → low ≤ high + 1 → high < n
         → below_where f (high + 1) ≡ below_where f low ++ result.now }
 {

@@ -135,7 +135,7 @@ pub fn as_items(alloc: Global, tree: usize, places: &[u32]) -> Result<Items, Wan
 {
     let mut items = Vec::with_capacity(alloc, places.len())?;
     for place in places {
-        items.push(Item::Node(Node { tree, pre: *place }))?;
+        items.push_reserved(Item::Node(Node { tree, pre: *place }));
     }
     Ok(items)
 }

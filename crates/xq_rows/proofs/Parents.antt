@@ -1,18 +1,14 @@
 -- Parents, by the rows that are kept of a tree.
-use Rattle.std.proofs.Common.{◌≡◌, ◌+◌, ◌<◌, ◌≤◌, ℕ, zero, suc, Bool, List, [], ◌∷◌, length, map, take, refl, sym, ap, subst, ◌∙◌, arith, Option, Some, None, IfSome}
+use Rattle.std.proofs.Common.{◌≡◌, ◌+◌, ◌<◌, ◌≤◌, ℕ, zero, suc, List, [], ◌∷◌, length, map, take, refl, sym, ap, subst, ◌∙◌, arith, Option, Some, None, IfSome}
 use Rattle.std.specs.List.{enumerate_from}
 use Rattle.std.proofs.lemmas.List.{take-map, length-map}
-use Rattle.sqlite_trees.specs.declared.store.Store.{Ghosts}
 use Rattle.xq_regions.specs.Tree.{Tree}
 use Rattle.xq_regions.specs.Rows.{Row, rows, row_at}
 use Rattle.xq_sources.specs.Lent.{unplaced}
-use Rattle.xq_sources.specs.Parents.{IsParentRow}
-use Rattle.xq_sources.specs.Sources.{tree_at as nth_tree}
-use Rattle.xq_rows.specs.Documents.{IsClean}
-use Rattle.xq_rows.specs.Views.{Beginning, HeldDocuments, Viewed, trees_under}
+use Rattle.xq_sources.specs.Parents.{AreParents, IsParentRow}
 use Rattle.xq_rows.specs.declared.shelves.Front.{Front}
-use Rattle.xq_rows.specs.private.Shelves.{IsFront, IsShelved, front_at}
-use Rattle.xq_rows.proofs.FrontLaws.{front_is, has_front}
+use Rattle.xq_rows.specs.private.Shelves.{IsFront, front_at}
+use Rattle.xq_rows.proofs.FrontLaws.{has_front}
 
 pub row-first : (n i : ℕ) (xs : List Row) → i < length (take n xs) → row_at (take n xs) i ≡ row_at xs i
 row-first zero i xs h = absurd (omega (arith, h))
@@ -55,15 +51,19 @@ parent-of-front t rs front u v q = parent-first (length rs) (rows t) u v (subst 
 pub some-front : (fronts : List Front) (tree v : ℕ) → v < length (unplaced (front_at fronts tree)) → tree < length fronts
 some-front fronts tree v h = has_front fronts tree v (let same = length-map (front_at fronts tree) (λ (p : ℕ × Row). p.1) in omega (arith, h, same))
 
--- the parent that a view's rows tell
-pub told : {S : Type 0} (g : Ghosts S) (b : Beginning) (v : Viewed S) (fronts : List Front) (stays : Bool) → IsShelved g b v fronts stays → IsClean g v.store → HeldDocuments b → (tree place node : ℕ)
-    → IsParentRow (unplaced (front_at fronts tree)) place node → IsParentRow (rows (nth_tree (trees_under b v.addresses) tree)) place node
-told g b v fronts stays is clean held tree place node q =
-    let within = some-front fronts tree node q.there in
-    parent-of-front (nth_tree (trees_under b v.addresses) tree) (front_at fronts tree) (front_is (trees_under b v.addresses) fronts tree (is.rows clean held) within) place node q
+-- the parent that these rows tell, with an answer or without one
+pub by_rows : (t : Tree) (rs : List (ℕ × Row)) → IsFront t rs → (node : ℕ) (answer : Option ℕ) → IfSome answer (λ place. IsParentRow (unplaced rs) place node) → IfSome answer (λ place. IsParentRow (rows t) place node)
+by_rows t rs front node None h = h
+by_rows t rs front node (Some place) h = parent-of-front t rs front place node h
 
--- with an answer or without one
-pub told_of : {S : Type 0} (g : Ghosts S) (b : Beginning) (v : Viewed S) (fronts : List Front) (stays : Bool) → IsShelved g b v fronts stays → IsClean g v.store → HeldDocuments b → (tree node : ℕ) (answer : Option ℕ)
-    → IfSome answer (λ place. IsParentRow (unplaced (front_at fronts tree)) place node) → IfSome answer (λ place. IsParentRow (rows (nth_tree (trees_under b v.addresses) tree)) place node)
-told_of g b v fronts stays is clean held tree node None h = h
-told_of g b v fronts stays is clean held tree node (Some place) h = told g b v fronts stays is clean held tree place node h
+-- # Parents that are kept
+
+pub none_kept : (rs : List Row) (parents : List ℕ) → parents ≡ [] → AreParents rs parents
+none_kept rs [] none = record { told = λ v within known. absurd (omega (arith, within)) }
+none_kept rs (u ∷ parents) none = absurd cc
+
+-- after a look at more of the first rows of a tree
+pub more_kept : (t : Tree) (rs : List (ℕ × Row)) (old new : List ℕ) → IsFront t rs
+    → ((qs : List Row) → ((u v : ℕ) → IsParentRow (unplaced rs) u v → IsParentRow qs u v) → AreParents qs old → AreParents qs new)
+    → AreParents (rows t) old → AreParents (rows t) new
+more_kept t rs old new front read = read (rows t) (parent-of-front t rs front)

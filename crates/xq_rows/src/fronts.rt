@@ -9,7 +9,6 @@ ghost use Rattle.xq_rows.specs.declared.shelves.Shelf.{Shelf};
 ghost use Rattle.xq_rows.specs.private.Keeps.{LeavesAlone};
 ghost use Rattle.xq_rows.specs.private.Shelves.{AreFronts, AreListed, HasReached, IsFront, IsFrontOf, Reaches, front_at, kept_rows, run_of};
 ghost use Rattle.xq_found.specs.Values.{valued};
-ghost use Rattle.xq_sources.specs.Lent.{unplaced};
 ghost use Rattle.xq_sources.specs.Names.{named};
 ghost use Rattle.xq_sources.specs.Parents.{IsParentRow};
 ghost use Rattle.xq_sources.specs.Sources.{tree_at};
@@ -165,13 +164,28 @@ fn read_front<S: Alter>(
     read
 }
 
-/// The place of the parent of a node, where the rows that are kept tell it.
+/// The place of the parent of a node by the rows that are kept of its tree, where they tell it. It
+/// stays a call, so that what is kept is told without one.
+#[inline(never)]
+fn parent_by_rows(front: &Front, node: u32) -> Option<u32>
+    ensures { (t : Tree) → IsFrontOf t front.now
+        → IfSome result (λ place. IsParentRow (rows t) place node) }
+{
+    front.guide.parent(&front.lent(), node)
+}
+
+/// The place of the parent of a node: where it is kept no row is read, else by the rows that are
+/// kept.
+#[inline]
 pub(crate) fn parent_of(shelf: &Shelf, tree: usize, node: u32) -> Option<u32>
-    ensures { IfSome result (λ place.
-        IsParentRow (unplaced (front_at shelf.now.fronts.items tree)) place node) }
+    ensures { (trees : List Tree) → AreFronts trees shelf.now.fronts.items
+        → IfSome result (λ place. IsParentRow (rows (tree_at trees tree)) place node) }
 {
     let front = shelf.fronts.get(tree)?;
-    front.guide.parent(&front.lent(), node)
+    match front.guide.kept(node) {
+        Some(place) => Some(place),
+        None => parent_by_rows(front, node),
+    }
 }
 
 /// Looks for the elements of a tree with a name, where all its rows are kept.

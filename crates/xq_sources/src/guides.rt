@@ -1,10 +1,12 @@
 //! Where the parent of a node lies.
-ghost use Rattle.std.specs.Prelude.{◌≡◌, ◌<◌, true, IfSome};
+ghost use Rattle.std.specs.Prelude.{ℕ, List, [], ◌≡◌, ◌<◌, true, IfSome};
+ghost use Rattle.xq_regions.specs.Rows.{Row};
 ghost use Rattle.xq_sources.specs.Lent.{unplaced};
-ghost use Rattle.xq_sources.specs.Parents.{IsParentRow};
+ghost use Rattle.xq_sources.specs.Parents.{AreParents, IsParentRow};
 
 use crate::{LentRow, LentRows};
 use std::alloc::Global;
+use std::marker::Model;
 use xq_atoms::Want;
 
 /// In a tree of so many rows, or of fewer, parents are looked for from row to row.
@@ -16,41 +18,58 @@ const LEVELS: usize = 101;
 /// How far a look goes: up from a row to the root, or back over few rows.
 const LOOKS: usize = LEVELS;
 
+/// What is kept of a row whose parent isn't told: no row has this place.
+const UNTOLD: u32 = u32::MAX;
+
 /// The places of the parents of the rows of a tree, four bytes a row, so that the parent of any is
-/// told at once, however many rows lie between. Of a tree of few rows nothing is kept.
+/// told at once, however many rows lie between. Of a tree of few rows nothing is kept. Contracts
+/// see what is kept.
 ///
-/// Nothing is promised of what is kept: [`Guide::parent`] reads the rows at both places before it
-/// answers, and gives no answer where they aren't those of a node and its parent.
+/// Each place is kept after a look at the rows of the node and its parent. So while the rows stay,
+/// [`Guide::kept`] reads none of them. Whose rows they are it can't see: [`Guide::parent`] is given
+/// them, and reads both before it answers.
 #[derive(Drop)]
 pub struct Guide {
     parents: Vec<u32>,
 }
 
+impl Model for Guide {
+    ghost use Rattle.std.specs.Prelude.{ℕ, List};
+    ghost use Rattle.std.specs.Coded.{coded_ℕ, coded_list};
+
+    ghost Value = { List ℕ };
+
+    ghost coded = { coded_list coded_ℕ };
+
+    ghost view = { λ guide. guide.parents.items };
+}
+
 impl Guide {
     /// Nothing kept yet.
-    pub fn new(alloc: Global) -> Guide {
+    pub fn new(alloc: Global) -> Guide
+        ensures { result ≡ [] }
+    {
         Guide {
             parents: Vec::new(alloc),
         }
     }
 
-    /// Goes on to the last of the rows, which are the first rows of a tree.
-    pub fn read_on(&mut self, rows: &LentRows<'_>) -> Result<(), Want> {
+    /// Goes on to the last of the rows, which are the first rows of a tree. What is kept is right
+    /// among any rows among which the parents of these are the same, where it was before; also
+    /// where the call is refused.
+    pub fn read_on(&mut self, rows: &LentRows<'_>) -> Result<(), Want>
+        ensures { (rs : List Row)
+            → ((u v : ℕ) → IsParentRow (unplaced rows.now) u v → IsParentRow rs u v)
+            → AreParents rs self.old → AreParents rs self.new }
+    {
         let count = rows.len();
         let kept = self.parents.len();
         if count <= FEW || count <= kept {
             return Ok(());
         }
-        let mut lasts = self.lasts(rows);
+        let lasts = self.lasts(rows);
         self.parents.reserve(count - kept)?;
-        for place in kept..count {
-            let row = rows.row(place);
-            let level = level_of(&row);
-            let parent = if level > 0 { lasts[level - 1] } else { 0 };
-            lasts[level] = row.pre;
-            self.parents.push(parent)?;
-        }
-        Ok(())
+        add_parents(&mut self.parents, rows, lasts)
     }
 
     /// Of each level, where the last row lies that has it, of the last row of which the parent is
@@ -71,13 +90,28 @@ impl Guide {
         lasts
     }
 
+    /// The place of the parent of the node, where it is kept. No row is read: it is right among
+    /// the rows among which what is kept is.
+    #[inline]
+    pub fn kept(&self, node: u32) -> Option<u32>
+        ensures { (rs : List Row) → AreParents rs self.now
+            → IfSome result (λ place. IsParentRow rs place node) }
+    {
+        let parent = self.parents.get(node as usize)?;
+        if *parent == UNTOLD {
+            return None;
+        }
+        Some(*parent)
+    }
+
     /// The place of the parent of the node, by the rows so far; none where it isn't among them or
     /// can't be told.
+    #[inline]
     pub fn parent(&self, rows: &LentRows<'_>, node: u32) -> Option<u32>
         ensures { IfSome result (λ place. IsParentRow (unplaced rows.now) place node) }
     {
         let place = self.guess(rows, node);
-        if is_parent(rows, place, node) {
+        if is_parent(rows, place, node as usize) {
             Some(place)
         } else {
             None
@@ -85,6 +119,7 @@ impl Guide {
     }
 
     /// A place where the parent of the node may lie.
+    #[inline]
     fn guess(&self, rows: &LentRows<'_>, node: u32) -> u32 {
         match self.parents.get(node as usize) {
             Some(parent) => *parent,
@@ -93,7 +128,8 @@ impl Guide {
     }
 
     /// The place of the last row of a lesser level before the node: that of the row before it, or
-    /// of a node above that one.
+    /// of a node above that one. It stays a call, so that what is kept is told without one.
+    #[inline(never)]
     fn look_back(&self, rows: &LentRows<'_>, node: u32) -> u32 {
         let level = level_at(rows, node);
         let mut place = node.saturating_sub(1);
@@ -107,6 +143,39 @@ impl Guide {
             };
         }
         place
+    }
+}
+
+/// Adds the places of the parents of the rows that come after those of which they are there. Of
+/// each level it is given where the last row before lies that has it.
+fn add_parents(
+    parents: &mut Vec<u32>,
+    rows: &LentRows<'_>,
+    lasts: [u32; LEVELS],
+) -> Result<(), Want>
+    ensures { (rs : List Row)
+        → ((u v : ℕ) → IsParentRow (unplaced rows.now) u v → IsParentRow rs u v)
+        → AreParents rs parents.old.items → AreParents rs parents.new.items }
+{
+    let mut lasts = lasts;
+    for place in parents.len()..rows.len() {
+        let row = rows.row(place);
+        let level = level_of(&row);
+        let above = if level > 0 { lasts[level - 1] } else { UNTOLD };
+        lasts[level] = row.pre;
+        parents.push(told(rows, above, place))?;
+    }
+    Ok(())
+}
+
+/// The place, where the rows there and at the node are those of a parent and its child.
+fn told(rows: &LentRows<'_>, place: u32, node: usize) -> u32
+    ensures { result < 4294967295 → IsParentRow (unplaced rows.now) result node }
+{
+    if is_parent(rows, place, node) {
+        place
+    } else {
+        UNTOLD
     }
 }
 
@@ -128,14 +197,19 @@ fn level_at(rows: &LentRows<'_>, place: u32) -> u32 {
 
 /// Whether the rows at both places are there and are those of a node and its parent, the parent's
 /// first.
-fn is_parent(rows: &LentRows<'_>, place: u32, node: u32) -> bool
+#[inline]
+fn is_parent(rows: &LentRows<'_>, place: u32, node: usize) -> bool
     ensures { result ≡ true → IsParentRow (unplaced rows.now) place node }
 {
-    let Some(above) = rows.get(place as usize) else {
+    let Some(row) = rows.get(node) else {
         return false;
     };
-    let Some(row) = rows.get(node as usize) else {
+    let place = place as usize;
+    if place >= node {
+        return false;
+    }
+    let Some(above) = rows.get(place) else {
         return false;
     };
-    place < node && node - place <= above.size && row.level > 0 && row.level - 1 == above.level
+    node - place <= above.size as usize && row.level > 0 && row.level - 1 == above.level
 }

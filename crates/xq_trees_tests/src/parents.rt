@@ -4,7 +4,7 @@ use std::alloc::{AllocError, Global};
 use std::process::Abort;
 use xq_atoms::Want;
 use xq_regions::{Fragment, Kind, NodeRow};
-use xq_sources::{Fragments, RowLender, RowSource};
+use xq_sources::{Fragments, Guide, LentRows, RowLender, RowSource};
 
 /// Adds an element of this level.
 fn push(alloc: Global, rows: &mut Vec<NodeRow>, level: u32) -> Result<(), AllocError> {
@@ -63,6 +63,28 @@ fn tells_parents_in(rt: &impl Abort, alloc: Global, rows: Vec<NodeRow>) -> Resul
     }
     assert_eq!(rt; fragments.parent(0, count), None);
     assert_eq!(rt; fragments.parent(1, 0), None);
+    keeps_parents_in(rt, alloc, &mut fragments, count)
+}
+
+/// What a guide keeps of each node is the same, and of a tree of few rows it keeps nothing.
+fn keeps_parents_in(
+    rt: &impl Abort,
+    alloc: Global,
+    fragments: &mut Fragments,
+    count: u32,
+) -> Result<(), Want> {
+    let rows = fragments.range(alloc, 0, 0, count)?;
+    let mut guide = Guide::new(alloc);
+    guide.read_on(&LentRows::new(&rows))?;
+    for node in 0..count {
+        let parent = if count > 64 {
+            fragments.parent(0, node)
+        } else {
+            None
+        };
+        assert_eq!(rt; guide.kept(node), parent);
+    }
+    assert_eq!(rt; guide.kept(count), None);
     Ok(())
 }
 

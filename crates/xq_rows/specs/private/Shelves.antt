@@ -8,6 +8,7 @@ use Rattle.xq_rows.specs.declared.shelves.Front.{Front}
 use Rattle.xq_rows.specs.declared.shelves.Shelf.{Shelf}
 use Rattle.xq_sources.specs.Addresses.{IsGap}
 use Rattle.xq_sources.specs.Names.{AreNames}
+use Rattle.xq_sources.specs.Parents.{AreParents}
 use Rattle.xq_sources.specs.Values.{AreValues}
 use Rattle.std.specs.List.{enumerate_from, insert, remove, slice_set as set}
 use Rattle.xq_sources.specs.Sources.{tree_at}
@@ -28,10 +29,12 @@ Reaches t place rows = (place < length rows) ⊎ (length (placed_rows t) ≤ len
 abbrev pub kept_rows : Front → List (ℕ × Row)
 kept_rows front = enumerate_from 0 front.rows.rows
 
--- what is kept of a tree are its first rows, all places of elements by their names, of some names,
--- and all places of attributes by their names and in the order of their values, of some names
+-- what is kept of a tree are its first rows, the places of the parents of some of these, all places
+-- of elements by their names, of some names, and all places of attributes by their names and in the
+-- order of their values, of some names
 pub record IsFrontOf (t : Tree) (front : Front) : Type 0 where
   pub rows : IsFront t (kept_rows front)
+  pub parents : AreParents (rows_of t) front.guide
   pub names : AreNames (placed_rows t) front.names
   pub values : AreValues (rows_of t) front.values
 

@@ -14,7 +14,7 @@ returns-clause-fronts c = λ trees are.
     let within : at < length fronts = omega (arith, c.in-Some.ensures.variant.0 refl, c.args.shelf.now.fronts.ok.0) in
     let before = its_front trees fronts at c.in-Some.front.now are within c.in-Some.ensures.value in
     let wanted : Front = record c.in-Some.front.now { wanted = c.args.shelf.now.clock } in
-    let is : IsFrontOf (tree_at trees at) wanted = record { rows = before.rows; names = before.names; values = before.values } in
+    let is : IsFrontOf (tree_at trees at) wanted = record { rows = before.rows; parents = before.parents; names = before.names; values = before.values } in
     fronts_set trees fronts at wanted are is
 
 pub returns-clause-reached : goal.returns-clause-reached
@@ -24,6 +24,6 @@ returns-clause-reached c more = λ trees are.
     let within : at < length fronts = omega (arith, c.in-Some.ensures.variant.0 refl, c.args.shelf.now.fronts.ok.0) in
     let before = its_front trees fronts at c.in-Some.front.now are within c.in-Some.ensures.value in
     let wanted : Front = record c.in-Some.front.now { wanted = c.args.shelf.now.clock } in
-    let is : IsFrontOf (tree_at trees at) wanted = record { rows = before.rows; names = before.names; values = before.values } in
+    let is : IsFrontOf (tree_at trees at) wanted = record { rows = before.rows; parents = before.parents; names = before.names; values = before.values } in
     let longer : c.args.place < length (kept_rows c.in-Some.front.now) = let e = c.len.ensures in let l = length-enumerate_from 0 c.in-Some.front.now.rows.rows in let m = ltb-true c.args.place c.len.result more in omega (arith, e, l, m) in
     reached_in trees (set fronts at wanted) at c.args.place (fronts_set trees fronts at wanted are is) (subst (λ rows. c.args.place < length rows) (sym (front_set fronts at wanted within)) longer)

@@ -4,7 +4,6 @@ use Rattle.xq_sources.specs.Parents.{IsParentRow}
 use Rattle.xq_sources.specs.Sources.{tree_at as nth_tree}
 use Rattle.xq_rows.specs.Documents.{IsClean}
 use Rattle.xq_rows.specs.Views.{Viewed, trees_under}
-use Rattle.xq_rows.proofs.Parents.{told_of}
 use Rattle.xq_rows.proofs.lending.ViewRowLender.parent.Goals as goal
 
 pub returns : goal.returns
@@ -12,4 +11,4 @@ returns g c = λ clean.
     let b = g.O.Origin.beginning in
     let was = subst (λ (w : Viewed _). IsClean g.S.Store w.store) (sym c.self.view_is) clean.0 in
     subst (λ (w : Viewed _). IfSome c.parent_of.result (λ place. IsParentRow (rows (nth_tree (trees_under b w.addresses) c.args.tree)) place c.args.node)) c.self.view_is
-    (told_of g.S.Store b _ _ _ c.self.invariant was clean.1 c.args.tree c.args.node c.parent_of.result c.parent_of.ensures)
+    (c.parent_of.ensures _ (c.self.invariant.rows was clean.1))

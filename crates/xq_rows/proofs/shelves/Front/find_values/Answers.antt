@@ -13,6 +13,7 @@ returns c = λ t is.
     let all = all_rows t rs whole in
     record {
       rows = is.rows;
+      parents = is.parents;
       names = is.names;
       values = subst (λ l. AreValues l c.find_values.new.values) all (c.find_values.ensures (subst (λ l. AreValues l c.args.self.now.values) (sym all) is.values));
     }

@@ -3,7 +3,7 @@ use Rattle.std.proofs.lemmas.List.Sorted.{searched}
 use Rattle.std.proofs.lemmas.Bool.{cases_lt}
 use Rattle.xq_axes.proofs.Lists.{not_among}
 use Rattle.xq_axes.proofs.ManyChildren.{flat}
-use Rattle.xq_axes.proofs.children.find_near.Goals as goal
+use Rattle.xq_axes.proofs.children.find_among.Goals as goal
 
 pub returns-in-Err-clause-none : goal.returns-in-Err-clause-none
 returns-in-Err-clause-none c = λ up _. (
