@@ -1,7 +1,7 @@
 //! Addresses added and taken out in a mixed order, each found where it stands.
 
+use crate::asserts::holds;
 use std::alloc::Global;
-use std::process::Abort;
 use xq_atoms::Want;
 use xq_sources::Addresses;
 
@@ -20,12 +20,24 @@ fn take_out(addresses: &mut Addresses, address: &str) {
     }
 }
 
-/// Each of so many addresses stands where it is found.
-fn are_found(rt: &impl Abort, addresses: &Addresses, wanted: usize) {
-    assert_eq!(rt; addresses.as_slice().len(), wanted);
+/// Where the address stands, if it is there.
+fn place_of(addresses: &Addresses, address: &str) -> Option<usize> {
+    addresses.search(address).ok()
+}
+
+/// Where the address would stand, if it is not there.
+fn gap_for(addresses: &Addresses, address: &str) -> Option<usize> {
+    addresses.search(address).err()
+}
+
+/// Whether there are so many addresses, and each stands where it is found.
+fn are_found(addresses: &Addresses, wanted: usize) -> bool {
     for (place, address) in addresses.as_slice().iter().enumerate() {
-        assert_eq!(rt; addresses.search(address.as_str()).ok(), Some(place));
+        if place_of(addresses, address.as_str()) != Some(place) {
+            return false;
+        }
     }
+    addresses.as_slice().len() == wanted
 }
 
 /// Adds so many addresses in a mixed order.
@@ -46,27 +58,54 @@ fn take_out_thirds(alloc: Global, addresses: &mut Addresses) -> Result<(), Want>
     Ok(())
 }
 
+/// Whether an address that was taken out is not there, nor one before all others or after them.
+fn are_absent(addresses: &Addresses) -> bool {
+    gap_for(addresses, "3").is_some()
+        && gap_for(addresses, "") == Some(0)
+        && gap_for(addresses, "z") == Some(200)
+}
+
 #[test]
 fn addresses_are_found_by_halves(rt: HostRuntime) -> Result<(), Want> {
     let mut addresses = Addresses::new(rt.alloc());
     add_many(rt.alloc(), &mut addresses)?;
-    are_found(&rt, &addresses, 300);
+    holds(&rt, are_found(&addresses, 300), 0);
     take_out_thirds(rt.alloc(), &mut addresses)?;
-    are_found(&rt, &addresses, 200);
-    assert_eq!(rt; addresses.search("3").is_ok(), false);
-    assert_eq!(rt; addresses.search("").err(), Some(0));
-    assert_eq!(rt; addresses.search("z").err(), Some(200));
+    holds(&rt, are_found(&addresses, 200), 1);
+    holds(&rt, are_absent(&addresses), 2);
     Ok(())
+}
+
+/// Addresses, and whether they rise.
+type Listed = (&'static [&'static str], bool);
+
+const LISTS: [Listed; 2] = [(&["b", "a"], false), (&["a", "b"], true)];
+
+/// Adds these addresses.
+fn push_all(alloc: Global, list: &mut Vec<String>, addresses: &[&str]) -> Result<(), Want> {
+    for address in addresses {
+        list.push(String::from_str(alloc, address)?)?;
+    }
+    Ok(())
+}
+
+/// These addresses.
+fn listed(alloc: Global, addresses: &[&str]) -> Result<Vec<String>, Want> {
+    let mut list = Vec::new(alloc);
+    push_all(alloc, &mut list, addresses)?;
+    Ok(list)
+}
+
+/// Whether the addresses are taken where they rise.
+fn are_judged(alloc: Global, (addresses, are_rising): Listed) -> Result<bool, Want> {
+    let list = listed(alloc, addresses)?;
+    Ok(Addresses::from_rising(list).is_some() == are_rising)
 }
 
 #[test]
 fn addresses_that_do_not_rise_are_none(rt: HostRuntime) -> Result<(), Want> {
-    for (given, are_rising) in [(["b", "a"], false), (["a", "b"], true)] {
-        let mut list = Vec::new(rt.alloc());
-        for address in given {
-            list.push(String::from_str(rt.alloc(), address)?)?;
-        }
-        assert_eq!(rt; Addresses::from_rising(list).is_some(), are_rising);
+    for (place, row) in LISTS.iter().enumerate() {
+        holds(&rt, are_judged(rt.alloc(), *row)?, place);
     }
     Ok(())
 }

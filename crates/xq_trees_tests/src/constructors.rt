@@ -1,5 +1,6 @@
 //! Constructors, their content and printed results over fragments and over a buffered source.
 
+use crate::asserts::is_text;
 use std::alloc::{AllocError, Global};
 use std::process::Abort;
 use xq_atoms::Fault;
@@ -180,7 +181,7 @@ fn assert_made<L: RowLender>(
 ) -> Result<(), Fault> {
     for row in rows {
         let found = shown(alloc, printed(alloc, lender, *row))?;
-        assert_eq!(rt; found.as_str(), row.2);
+        is_text(rt, found.as_str(), row.2);
     }
     Ok(())
 }
@@ -198,7 +199,7 @@ fn print_of<L: RowLender>(
 fn prints<L: RowLender>(rt: &impl Abort, alloc: Global, lender: &mut L) -> Result<(), Fault> {
     for (samples, wanted) in &PRINTS {
         let found = shown(alloc, print_of(alloc, lender, samples))?;
-        assert_eq!(rt; found.as_str(), *wanted);
+        is_text(rt, found.as_str(), wanted);
     }
     Ok(())
 }
@@ -244,7 +245,7 @@ fn named(alloc: Global, kind: NamedNode, samples: &[Sample]) -> Result<String, F
 fn names_are_judged(rt: HostRuntime) -> Result<(), Fault> {
     for (kind, samples, wanted) in &NAMES {
         let found = shown(rt.alloc(), named(rt.alloc(), *kind, samples))?;
-        assert_eq!(rt; found.as_str(), *wanted);
+        is_text(&rt, found.as_str(), wanted);
     }
     Ok(())
 }

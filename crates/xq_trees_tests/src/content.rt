@@ -1,8 +1,8 @@
 //! Content at the limits of levels, of nodes and of a reply, and over them.
 
+use crate::asserts::holds;
 use crate::constructors::{Constructor, made};
 use std::alloc::Global;
-use std::process::Abort;
 use xq_atoms::{Code, Fault, Want};
 use xq_build::{print_items, text};
 use xq_packed_trees::PackedTree;
@@ -30,23 +30,35 @@ fn push(
     Ok(())
 }
 
+/// Pushes an element with so many empty elements in it.
+fn push_wide(alloc: Global, rows: &mut Vec<NodeRow>, count: u32) -> Result<(), Fault> {
+    push(alloc, rows, 0, Kind::Element, "w")?;
+    for _child in 0..count {
+        push(alloc, rows, 1, Kind::Element, "c")?;
+    }
+    Ok(())
+}
+
 /// An element with so many empty elements in it.
 fn wide(alloc: Global, count: u32) -> Result<Fragment, Fault> {
     let mut rows = Vec::new(alloc);
-    push(alloc, &mut rows, 0, Kind::Element, "w")?;
-    for _child in 0..count {
-        push(alloc, &mut rows, 1, Kind::Element, "c")?;
-    }
+    push_wide(alloc, &mut rows, count)?;
     Fragment::from_levels(rows).ok_or(Fault::Want(Want::Store))
+}
+
+/// Pushes elements inside one another, the last one at the level, with an attribute one level below
+/// it.
+fn push_deep(alloc: Global, rows: &mut Vec<NodeRow>, level: u32) -> Result<(), Fault> {
+    for above in 0..level {
+        push(alloc, rows, above, Kind::Element, "d")?;
+    }
+    push(alloc, rows, level, Kind::Attribute, "a")
 }
 
 /// Elements inside one another, the last one at the level, with an attribute one level below it.
 fn deep(alloc: Global, level: u32) -> Result<Fragment, Fault> {
     let mut rows = Vec::new(alloc);
-    for above in 0..level {
-        push(alloc, &mut rows, above, Kind::Element, "d")?;
-    }
-    push(alloc, &mut rows, level, Kind::Attribute, "a")?;
+    push_deep(alloc, &mut rows, level)?;
     Fragment::from_levels(rows).ok_or(Fault::Want(Want::Store))
 }
 
@@ -85,14 +97,32 @@ const LEVELS: [(Constructor, &[Sample], Result<usize, Fault>); 4] = [
     ),
 ];
 
+/// Whether the constructor makes a tree of so many rows of the items, or is refused as is wanted.
+fn has_levels<L: RowLender>(
+    alloc: Global,
+    lender: &mut L,
+    constructor: Constructor,
+    (samples, wanted): (&[Sample], Result<usize, Fault>),
+) -> Result<bool, Fault> {
+    let items = items(alloc, samples)?;
+    Ok(count_of(alloc, lender, constructor, &items) == wanted)
+}
+
+/// Two trees of levels to so many.
+fn both_deep(alloc: Global) -> Result<Fragments, Fault> {
+    both(alloc, deep(alloc, 99)?, deep(alloc, 100)?)
+}
+
 #[test]
 fn levels_over_the_limit_are_refused(rt: HostRuntime) -> Result<(), Fault> {
-    let alloc = rt.alloc();
-    let mut trees = both(alloc, deep(alloc, 99)?, deep(alloc, 100)?)?;
-    for (constructor, samples, wanted) in &LEVELS {
-        let items = items(alloc, samples)?;
-        let found = count_of(alloc, &mut trees, *constructor, &items);
-        assert_eq!(rt; found, *wanted);
+    let mut trees = both_deep(rt.alloc())?;
+    for (place, (constructor, samples, wanted)) in LEVELS.iter().enumerate() {
+        let row = (*samples, *wanted);
+        holds(
+            &rt,
+            has_levels(rt.alloc(), &mut trees, *constructor, row)?,
+            place,
+        );
     }
     Ok(())
 }
@@ -118,29 +148,28 @@ const TOO_MANY: [(Constructor, u32, (usize, u32), Code); 5] = [
     (Constructor::Document, 1_000, (1, 100), Code::XPTY0004),
 ];
 
-/// Asserts that each content is refused.
-fn refuses_too_many<L: RowLender>(
-    rt: &impl Abort,
+/// Whether the content, at the end of which the node stands, is refused so.
+fn is_refused<L: RowLender>(
     alloc: Global,
     lender: &mut L,
-) -> Result<(), Fault> {
-    for (constructor, count, (tree, pre), code) in &TOO_MANY {
-        let last = Node {
-            tree: *tree,
-            pre: *pre,
-        };
-        let items = many(alloc, *count, last)?;
-        let found = count_of(alloc, lender, *constructor, &items);
-        assert_eq!(rt; found, Err(Fault::Code(*code)), "{count}");
-    }
-    Ok(())
+    (constructor, count, (tree, pre), code): (Constructor, u32, (usize, u32), Code),
+) -> Result<bool, Fault> {
+    let items = many(alloc, count, Node { tree, pre })?;
+    Ok(count_of(alloc, lender, constructor, &items) == Err(Fault::Code(code)))
+}
+
+/// A wide tree, and a deep one.
+fn wide_and_deep(alloc: Global) -> Result<Fragments, Fault> {
+    both(alloc, wide(alloc, 9_999)?, deep(alloc, 100)?)
 }
 
 #[test]
 fn nodes_over_the_limit_are_refused(rt: HostRuntime) -> Result<(), Fault> {
-    let alloc = rt.alloc();
-    let mut trees = both(alloc, wide(alloc, 9_999)?, deep(alloc, 100)?)?;
-    refuses_too_many(&rt, alloc, &mut trees)
+    let mut trees = wide_and_deep(rt.alloc())?;
+    for (place, row) in TOO_MANY.iter().enumerate() {
+        holds(&rt, is_refused(rt.alloc(), &mut trees, *row)?, place);
+    }
+    Ok(())
 }
 
 /// A text of a million letters.
@@ -158,16 +187,29 @@ fn printed_length<L: RowLender>(alloc: Global, lender: &mut L, count: u32) -> Re
     Ok(print_items(alloc, lender, &items)?.len())
 }
 
-#[test]
-fn replies_over_the_limit_are_refused(rt: HostRuntime) -> Result<(), Fault> {
-    let alloc = rt.alloc();
+/// How often the text stands in a reply beside one more, and how long the reply is, or why there is
+/// none.
+const REPLIES: [(u32, Result<usize, Fault>); 2] = [
+    (15, Ok(16_000_174)),
+    (16, Err(Fault::Code(Code::ProfReply))),
+];
+
+/// The one tree that the long text is.
+fn long_tree(alloc: Global) -> Result<Fragments, Fault> {
     let mut trees = Fragments::new(alloc);
     trees.push_packed(long_text(alloc)?)?;
-    for (count, wanted) in [
-        (15, Ok(16_000_174)),
-        (16, Err(Fault::Code(Code::ProfReply))),
-    ] {
-        assert_eq!(rt; printed_length(alloc, &mut trees, count), wanted);
+    Ok(trees)
+}
+
+#[test]
+fn replies_over_the_limit_are_refused(rt: HostRuntime) -> Result<(), Fault> {
+    let mut trees = long_tree(rt.alloc())?;
+    for (place, (count, wanted)) in REPLIES.iter().enumerate() {
+        holds(
+            &rt,
+            printed_length(rt.alloc(), &mut trees, *count) == *wanted,
+            place,
+        );
     }
     Ok(())
 }

@@ -1,16 +1,26 @@
 //! Rows that are those of a tree, and rows that are those of none.
 
+use crate::asserts::holds;
 use std::alloc::{AllocError, Global};
 use xq_regions::{Fragment, Kind, NodeRow};
 use xq_samples::documents::{LIBRARY, Row, row, rows_of};
 
+/// Whether the rows are those of a document of so many rows.
+fn is_document(rows: Vec<NodeRow>, count: usize) -> bool {
+    match Fragment::from_rows(rows) {
+        Ok(fragment) => fragment.is_document() && fragment.rows().len() == count,
+        Err(_rows) => false,
+    }
+}
+
+/// Whether the rows are those of a tree.
+fn are_taken(rows: Vec<NodeRow>) -> bool {
+    Fragment::from_rows(rows).is_ok()
+}
+
 #[test]
 fn takes_the_library(rt: HostRuntime) -> Result<(), AllocError> {
-    let Ok(fragment) = Fragment::from_rows(rows_of(rt.alloc(), &LIBRARY)?) else {
-        panic!(rt; "the rows are those of a document");
-    };
-    assert!(rt; fragment.is_document());
-    assert_eq!(rt; fragment.rows().len(), 8);
+    holds(&rt, is_document(rows_of(rt.alloc(), &LIBRARY)?, 8), 0);
     Ok(())
 }
 
@@ -44,9 +54,8 @@ fn changed(
 
 #[test]
 fn refuses_another_row(rt: HostRuntime) -> Result<(), AllocError> {
-    for (at, other) in &CHANGED {
-        let rows = changed(rt.alloc(), *at, *other)?;
-        assert!(rt; Fragment::from_rows(rows).is_err(), "at {at}");
+    for (place, (at, other)) in CHANGED.iter().enumerate() {
+        holds(&rt, !are_taken(changed(rt.alloc(), *at, *other)?), place);
     }
     Ok(())
 }
@@ -76,14 +85,40 @@ const JUDGED: [(Kind, &str, &str, bool); 17] = [
 fn is_tree(alloc: Global, kind: Kind, name: &str, value: &str) -> Result<bool, AllocError> {
     let mut rows = Vec::new(alloc);
     rows.push(row(alloc, (0, 0, 0), kind, name, value)?)?;
-    Ok(Fragment::from_rows(rows).is_ok())
+    Ok(are_taken(rows))
 }
 
 #[test]
 fn judges_names_and_values(rt: HostRuntime) -> Result<(), AllocError> {
-    for (kind, name, value, wanted) in &JUDGED {
-        let found = is_tree(rt.alloc(), *kind, name, value)?;
-        assert_eq!(rt; found, *wanted, "name {name}, value {value}");
+    for (place, (kind, name, value, wanted)) in JUDGED.iter().enumerate() {
+        holds(
+            &rt,
+            is_tree(rt.alloc(), *kind, name, value)? == *wanted,
+            place,
+        );
+    }
+    Ok(())
+}
+
+/// The name of a child: it begins so, where it is not empty, and ends with a number of its own.
+fn numbered(alloc: Global, name: &str, at: u32) -> Result<String, AllocError> {
+    if name.is_empty() {
+        return Ok(String::new(alloc));
+    }
+    let number = at.wrapping_mul(2_654_435_761);
+    format!(in alloc; "{name}{number}")
+}
+
+/// Adds so many children of the kind, with names where `name` begins one.
+fn push_children(
+    alloc: Global,
+    rows: &mut Vec<NodeRow>,
+    (kind, name): (Kind, &str),
+    count: u32,
+) -> Result<(), AllocError> {
+    for at in 0..count {
+        let own = numbered(alloc, name, at)?;
+        rows.push(row(alloc, (at.saturating_add(1), 0, 1), kind, own.as_str(), "")?)?;
     }
     Ok(())
 }
@@ -92,14 +127,7 @@ fn judges_names_and_values(rt: HostRuntime) -> Result<(), AllocError> {
 fn wide(alloc: Global, kind: Kind, name: &str, count: u32) -> Result<Vec<NodeRow>, AllocError> {
     let mut rows = Vec::new(alloc);
     rows.push(row(alloc, (0, count, 0), Kind::Element, "a", "")?)?;
-    for at in 0..count {
-        let mut own = String::from_str(alloc, name)?;
-        if !name.is_empty() {
-            let number = at.wrapping_mul(2_654_435_761);
-            own = format!(in alloc; "{name}{number}")?;
-        }
-        rows.push(row(alloc, (at.saturating_add(1), 0, 1), kind, own.as_str(), "")?)?;
-    }
+    push_children(alloc, &mut rows, (kind, name), count)?;
     Ok(rows)
 }
 
@@ -112,20 +140,28 @@ const WIDE: [(Kind, &str, u32, bool); 3] = [
 
 #[test]
 fn takes_many_nodes(rt: HostRuntime) -> Result<(), AllocError> {
-    for (kind, name, count, is_tree) in &WIDE {
-        let rows = wide(rt.alloc(), *kind, name, *count)?;
-        assert_eq!(rt; Fragment::from_rows(rows).is_ok(), *is_tree, "{count}");
+    for (place, (kind, name, count, is_tree)) in WIDE.iter().enumerate() {
+        holds(
+            &rt,
+            are_taken(wide(rt.alloc(), *kind, name, *count)?) == *is_tree,
+            place,
+        );
     }
     Ok(())
 }
 
+/// The rows of an element with many attributes, of which the last has the name of the first.
+fn twice_named(alloc: Global) -> Result<Vec<NodeRow>, AllocError> {
+    let mut attributes = wide(alloc, Kind::Attribute, "n", 20_000)?;
+    if let Some(last) = attributes.last_mut() {
+        last.name = String::from_str(alloc, "n0")?;
+    }
+    Ok(attributes)
+}
+
 #[test]
 fn refuses_a_name_twice_far_apart(rt: HostRuntime) -> Result<(), AllocError> {
-    let mut attributes = wide(rt.alloc(), Kind::Attribute, "n", 20_000)?;
-    if let Some(last) = attributes.last_mut() {
-        last.name = String::from_str(rt.alloc(), "n0")?;
-    }
-    assert!(rt; Fragment::from_rows(attributes).is_err());
+    holds(&rt, !are_taken(twice_named(rt.alloc())?), 0);
     Ok(())
 }
 
@@ -139,12 +175,22 @@ fn deep(alloc: Global, levels: u32) -> Result<Vec<NodeRow>, AllocError> {
     Ok(rows)
 }
 
+/// How many levels stand below the root, and whether that is a tree.
+const DEEP: [(u32, bool); 2] = [(100, true), (101, false)];
+
 #[test]
 fn takes_a_hundred_levels(rt: HostRuntime) -> Result<(), AllocError> {
-    for (levels, is_tree) in [(100, true), (101, false)] {
-        let rows = deep(rt.alloc(), levels)?;
-        assert_eq!(rt; Fragment::from_rows(rows).is_ok(), is_tree, "{levels}");
+    for (place, (levels, is_tree)) in DEEP.iter().enumerate() {
+        holds(
+            &rt,
+            are_taken(deep(rt.alloc(), *levels)?) == *is_tree,
+            place,
+        );
     }
-    assert!(rt; Fragment::from_rows(Vec::new(rt.alloc())).is_err());
     Ok(())
+}
+
+#[test]
+fn refuses_no_rows(rt: HostRuntime) {
+    holds(&rt, !are_taken(Vec::new(rt.alloc())), 0);
 }

@@ -7,6 +7,8 @@
 #[cfg(test)]
 mod addresses;
 #[cfg(test)]
+mod asserts;
+#[cfg(test)]
 mod attributes;
 #[cfg(test)]
 mod axes;

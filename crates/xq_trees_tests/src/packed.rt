@@ -1,5 +1,6 @@
 //! Packed rows that grow and change, and the trees that they become.
 
+use crate::asserts::holds;
 use std::alloc::Global;
 use xq_atoms::Want;
 use xq_packed::PackedRows;
@@ -209,13 +210,18 @@ fn has_rows(rows: &PackedRows, wanted: &[Row]) -> bool {
     rows.len() == wanted.len() && rows.get(wanted.len()).is_none()
 }
 
+/// Whether new rows are, after these changes, those that are wanted.
+fn are_changed(alloc: Global, steps: &[Step], wanted: &[Row]) -> bool {
+    let mut rows = PackedRows::new(alloc);
+    are_made(alloc, &mut rows, steps)
+        && has_rows(&rows, wanted)
+        && rows.is_empty() == wanted.is_empty()
+}
+
 #[test]
 fn packed_rows_are_changed(rt: HostRuntime) {
-    for (at, (steps, wanted)) in CHANGES.iter().enumerate() {
-        let mut rows = PackedRows::new(rt.alloc());
-        assert!(rt; are_made(rt.alloc(), &mut rows, steps), "{at}");
-        assert!(rt; has_rows(&rows, wanted), "{at}");
-        assert_eq!(rt; rows.is_empty(), wanted.is_empty(), "{at}");
+    for (place, (steps, wanted)) in CHANGES.iter().enumerate() {
+        holds(&rt, are_changed(rt.alloc(), steps, wanted), place);
     }
 }
 
@@ -239,25 +245,48 @@ fn become_tree(alloc: Global, rows: &[Row], wanted: Option<&[Row]>) -> Result<bo
 
 #[test]
 fn levels_make_trees(rt: HostRuntime) -> Result<(), Want> {
-    for (at, (rows, wanted)) in TREES.iter().enumerate() {
-        assert!(rt; become_tree(rt.alloc(), rows, *wanted)?, "{at}");
+    for (place, (rows, wanted)) in TREES.iter().enumerate() {
+        holds(&rt, become_tree(rt.alloc(), rows, *wanted)?, place);
     }
     Ok(())
+}
+
+/// More names than are looked for one by one.
+const MANY_NAMES: [&str; 11] = ["a", "b", "c", "d", "e", "f", "g", "h", "i", "j", "k"];
+
+/// Adds an attribute with each of these names.
+fn push_names(rows: &mut PackedRows) -> Result<(), Want> {
+    for name in &MANY_NAMES {
+        rows.push_parts(0, 1, Kind::Attribute, name, "")?;
+    }
+    Ok(())
+}
+
+/// The number of the name, if it has one.
+fn number_of(rows: &PackedRows, name: &str) -> Option<u32> {
+    rows.number_of(name)
+}
+
+/// Whether the second attribute with the name has it, and the name has this number.
+fn is_numbered(rows: &PackedRows, name: &'static str, number: usize) -> bool {
+    number_of(rows, name) == Some(number.min(100) as u32)
+        && has_row(
+            rows,
+            number.saturating_add(11),
+            (0, 0, 1, Kind::Attribute, name, ""),
+        )
 }
 
 /// Each name has one number, also where there are more names than are looked for one by one.
 #[test]
 fn many_names_have_their_numbers(rt: HostRuntime) -> Result<(), Want> {
-    let names = ["a", "b", "c", "d", "e", "f", "g", "h", "i", "j", "k"];
     let mut rows = PackedRows::new(rt.alloc());
-    for name in names.iter().chain(names.iter()) {
-        rows.push_parts(0, 1, Kind::Attribute, name, "")?;
+    push_names(&mut rows)?;
+    push_names(&mut rows)?;
+    for (number, name) in MANY_NAMES.iter().enumerate() {
+        holds(&rt, is_numbered(&rows, name, number), number);
     }
-    for (number, name) in names.iter().enumerate() {
-        assert_eq!(rt; rows.number_of(name), Some(number as u32));
-        assert!(rt; has_row(&rows, number + 11, (0, 0, 1, Kind::Attribute, name, "")));
-    }
-    assert_eq!(rt; rows.number_of("l"), None);
+    holds(&rt, number_of(&rows, "l").is_none(), 11);
     Ok(())
 }
 
@@ -345,20 +374,51 @@ fn same_until(
     Ok(mine.same_until(&its, low.min(high), high))
 }
 
+/// Rows, others, and a place.
+type Pair<'a> = (&'a [Row], &'a [Row], usize);
+
+/// Whether the rows and the others, each after so many, are the same from the place on up to the
+/// wanted one, and the others and the rows as well.
+fn are_same_until(
+    alloc: Global,
+    count: usize,
+    (mine, its, low): Pair<'_>,
+    wanted: usize,
+) -> Result<bool, Want> {
+    let from = count.saturating_add(low);
+    let until = count.saturating_add(wanted);
+    Ok(
+        same_until(alloc, count, (mine, its), from)? == until
+            && same_until(alloc, count, (its, mine), from)? == until,
+    )
+}
+
+/// How many rows stand before those that are compared.
+const COUNTS: [usize; 4] = [0, 1, 255, 600];
+
+/// Whether the same holds after each number of rows.
+fn are_same_after_each(alloc: Global, rows: Pair<'_>, wanted: usize) -> Result<bool, Want> {
+    for count in &COUNTS {
+        if !are_same_until(alloc, *count, rows, wanted)? {
+            return Ok(false);
+        }
+    }
+    Ok(true)
+}
+
+/// Whether rows after so many others are the same as far from the first place on as without them.
+fn are_same_from_the_first(alloc: Global, (mine, its, _): Pair<'_>) -> Result<bool, Want> {
+    let all = same_until(alloc, 600, (mine, its), 0)?;
+    let first = same_until(alloc, 0, (mine, its), 0)?;
+    Ok(all.checked_sub(600) == Some(first))
+}
+
 #[test]
 fn rows_are_the_same_up_to_a_place(rt: HostRuntime) -> Result<(), Want> {
-    for (at, (mine, its, low, wanted)) in SAMES.iter().enumerate() {
-        let alloc = rt.alloc();
-        for count in [0, 1, 255, 600] {
-            let from = count + *low;
-            let found = same_until(alloc, count, (*mine, *its), from)?;
-            assert_eq!(rt; found, count + *wanted, "{at} after {count}");
-            let turned = same_until(alloc, count, (*its, *mine), from)?;
-            assert_eq!(rt; turned, found, "{at} after {count}");
-        }
-        let all = same_until(alloc, 600, (*mine, *its), 0)?;
-        let first = same_until(alloc, 0, (*mine, *its), 0)?;
-        assert_eq!(rt; all.checked_sub(600), Some(first), "{at}");
+    for (place, (mine, its, low, wanted)) in SAMES.iter().enumerate() {
+        let rows = (*mine, *its, *low);
+        holds(&rt, are_same_after_each(rt.alloc(), rows, *wanted)?, place);
+        holds(&rt, are_same_from_the_first(rt.alloc(), rows)?, place);
     }
     Ok(())
 }

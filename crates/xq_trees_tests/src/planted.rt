@@ -2,6 +2,7 @@
 //! rows as they are lent, and the places of elements by their names and of attributes by their
 //! values.
 
+use crate::asserts::{holds, none_is_wrong};
 use std::alloc::Global;
 use std::collections::HashMap;
 use xq_atoms::Want;
@@ -149,7 +150,7 @@ const LISTS: [&[Look]; 2] = [&GIVEN, &UPROOTED];
 fn sources_give_both_kinds(rt: HostRuntime) -> Result<(), Want> {
     for looks in &LISTS {
         let mut trees = Trees::new(rt.alloc(), stored(rt.alloc())?);
-        assert_eq!(rt; wrong_look(rt.alloc(), &mut trees, looks)?, None);
+        none_is_wrong(&rt, wrong_look(rt.alloc(), &mut trees, looks)?);
     }
     Ok(())
 }
@@ -182,8 +183,24 @@ fn lends_both<T: Growing>(alloc: Global, trees: &mut T) -> Result<bool, Want> {
 fn lenders_lend_both_kinds(rt: HostRuntime) -> Result<(), Want> {
     let source = Buffered::new(rt.alloc(), stored(rt.alloc())?);
     let mut trees = Trees::new(rt.alloc(), source);
-    assert!(rt; lends_both(rt.alloc(), &mut trees)?);
+    holds(&rt, lends_both(rt.alloc(), &mut trees)?, 0);
     Ok(())
+}
+
+/// Names that are looked for, of which one is an element's.
+const SOUGHT: [&str; 5] = ["stored", "stored", "A", "", "store"];
+
+/// Looks for the names.
+fn find_all_named(alloc: Global, names: &mut Names, rows: &LentRows<'_>) {
+    for name in &SOUGHT {
+        find_named(alloc, names, rows, name);
+    }
+}
+
+/// Whether the places of the element are kept, and no others.
+fn are_found(names: &Names) -> bool {
+    names.len() == 1
+        && matches!(names.get("stored"), Some(places) if places.as_slice() == [0].as_slice())
 }
 
 /// Places are kept of names that were looked for and that elements have, and of no others.
@@ -191,11 +208,8 @@ fn lenders_lend_both_kinds(rt: HostRuntime) -> Result<(), Want> {
 fn names_are_found(rt: HostRuntime) -> Result<(), Want> {
     let mut names: Names = HashMap::new(rt.alloc());
     let rows = rows_of(rt.alloc(), &STORED)?;
-    for name in ["stored", "stored", "A", "", "store"] {
-        find_named(rt.alloc(), &mut names, &LentRows::new(&rows), name);
-    }
-    assert_eq!(rt; names.len(), 1);
-    assert!(rt; matches!(names.get("stored"), Some(places) if places.as_slice() == [0].as_slice()));
+    find_all_named(rt.alloc(), &mut names, &LentRows::new(&rows));
+    holds(&rt, are_found(&names), 0);
     Ok(())
 }
 
@@ -222,36 +236,67 @@ const PLACES: [(&str, &str, Option<&[u32]>); 7] = [
     ("no", "x", None),
 ];
 
+/// Packed rows.
+fn packed(alloc: Global, rows: &[Row]) -> Result<PackedRows, Want> {
+    let mut packed = PackedRows::new(alloc);
+    packed.extend(&rows_of(alloc, rows)?)?;
+    Ok(packed)
+}
+
+/// Names that are looked for, of which two are those of attributes.
+const SOUGHT_OF_VALUES: [&str; 6] = ["id", "id", "of", "no", "", "x"];
+
+/// Looks for the names of values.
+fn find_all_values(alloc: Global, values: &mut Values, rows: &PackedRows) {
+    for name in &SOUGHT_OF_VALUES {
+        find_values(alloc, values, rows, name);
+    }
+}
+
+/// Whether the places of the name and the value are these, where the name is kept.
+fn are_told(
+    values: &Values,
+    rows: &PackedRows,
+    (name, value, wanted): (&str, &str, Option<&[u32]>),
+) -> bool {
+    match (values.get(name), wanted) {
+        (Some(places), Some(wanted)) => places.with_value(rows, value) == wanted,
+        (None, None) => true,
+        _ => false,
+    }
+}
+
 /// Places are kept of names that were looked for and that attributes have, and of no others.
 #[test]
 fn values_are_found(rt: HostRuntime) -> Result<(), Want> {
     let mut values: Values = HashMap::new(rt.alloc());
-    let mut rows = PackedRows::new(rt.alloc());
-    rows.extend(&rows_of(rt.alloc(), &VALUED)?)?;
-    for name in ["id", "id", "of", "no", "", "x"] {
-        find_values(rt.alloc(), &mut values, &rows, name);
-    }
-    assert_eq!(rt; values.len(), 2);
-    for (name, value, wanted) in &PLACES {
-        let told = values
-            .get(*name)
-            .map(|places| places.with_value(&rows, value));
-        assert!(rt; told == *wanted, "{name} {value}");
+    let rows = packed(rt.alloc(), &VALUED)?;
+    find_all_values(rt.alloc(), &mut values, &rows);
+    holds(&rt, values.len() == 2, 0);
+    for (place, row) in PLACES.iter().enumerate() {
+        holds(&rt, are_told(&values, &rows, *row), place);
     }
     Ok(())
 }
 
 /// Trees over a source without places tell none, of the source's trees or of those that are
 /// constructed.
+fn tells_none<T: Growing>(alloc: Global, trees: &mut T) -> bool {
+    for tree in 0..3 {
+        trees.find_values(alloc, tree, "id");
+        if trees.valued(tree, "id", "x").is_some() {
+            return false;
+        }
+    }
+    true
+}
+
 #[test]
 fn trees_tell_no_values(rt: HostRuntime) -> Result<(), Want> {
     let source = Buffered::new(rt.alloc(), stored(rt.alloc())?);
     let mut trees = Trees::new(rt.alloc(), source);
     construct(rt.alloc(), &mut trees)?;
-    for tree in 0..3 {
-        trees.find_values(rt.alloc(), tree, "id");
-        assert!(rt; trees.valued(tree, "id", "x").is_none(), "{tree}");
-    }
+    holds(&rt, tells_none(rt.alloc(), &mut trees), 0);
     Ok(())
 }
 
@@ -262,17 +307,18 @@ const PARTS: [(usize, usize, &[Row]); 3] = [
     (2, 1, &[]),
 ];
 
+/// Whether these rows are lent, and no row after them.
+fn are_lent(rows: &PackedRows, (low, high, wanted): (usize, usize, &[Row])) -> bool {
+    let lent = LentRows::packed(rows, low, high);
+    are_rows(&lent, wanted) && lent.get(wanted.len()).is_none()
+}
+
 /// Packed rows are lent as the rows that they were packed from, with their places among all.
 #[test]
 fn packed_rows_are_lent(rt: HostRuntime) -> Result<(), Want> {
-    let mut packed = PackedRows::new(rt.alloc());
-    packed.extend(&rows_of(rt.alloc(), &STORED)?)?;
-    for (low, high, wanted) in &PARTS {
-        let lent = LentRows::packed(&packed, *low, *high);
-        assert!(rt;
-            are_rows(&lent, wanted) && lent.get(wanted.len()).is_none(),
-            "{low}"
-        );
+    let rows = packed(rt.alloc(), &STORED)?;
+    for (place, row) in PARTS.iter().enumerate() {
+        holds(&rt, are_lent(&rows, *row), place);
     }
     Ok(())
 }
