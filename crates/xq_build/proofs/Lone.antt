@@ -2,7 +2,7 @@
 use Rattle.std.proofs.Common.{◌≡◌, List, [], ◌∷◌, map, Ok, refl, sym, ◌∙◌, ap}
 use Rattle.xq_atoms.specs.Text.{Text, is_empty}
 use Rattle.xq_regions.specs.Forest.{end, node}
-use Rattle.xq_regions.specs.Items.{ItemView, Value}
+use Rattle.xq_regions.specs.Items.{ItemView}
 use Rattle.xq_regions.specs.Levels.{flat}
 use Rattle.xq_regions.specs.Rows.{Row, rows}
 use Rattle.xq_regions.specs.Tree.{Tree}

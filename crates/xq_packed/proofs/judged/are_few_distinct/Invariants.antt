@@ -1,4 +1,4 @@
-use Rattle.std.proofs.Common.{◌≡◌, ◌↔◌, map, length}
+use Rattle.std.proofs.Common.{◌↔◌, map, length}
 use Rattle.std.specs.Prelude.{nat_eq}
 use Rattle.std.specs.List.{IsDistinct}
 use Rattle.xq_packed.specs.private.Shapes.{number_of}
