@@ -14,3 +14,5 @@ pub mod Choosing
 pub mod FlatKeys
 pub mod LoneFor
 pub mod ItemCalls
+pub mod AtHand
+pub mod Pieces

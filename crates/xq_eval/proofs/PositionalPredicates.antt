@@ -4,7 +4,7 @@ use Rattle.std.specs.Prelude.{ℤ, pos}
 use Rattle.std.specs.Global.{Vec}
 use Rattle.xq_atoms.specs.declared.refusals.Code.{Code}
 use Rattle.xq_atoms.specs.declared.comparisons.CompOp.{CompOp}
-use Rattle.xq_atoms.specs.Atom.{Integer}
+use Rattle.xq_atoms.specs.Atom.{Atomic, Integer}
 use Rattle.xq_atoms.specs.Compare.{key, key_cmp, holds}
 use Rattle.xq_atoms.specs.Judged.{◌>>=◌}
 use Rattle.xq_expressions.specs.declared.operators.ComparisonOperator.TheVariants as comparing
@@ -16,7 +16,7 @@ use Rattle.xq_regions.specs.Tree.{Tree}
 use Rattle.xq_meaning.specs.declared.plans.Plan.{Plan}
 use Rattle.xq_meaning.specs.declared.plans.Plan.TheVariants as plan
 use Rattle.xq_meaning.specs.declared.operators.Operator.TheVariants as operator
-use Rattle.xq_meaning.specs.Arguments.{as_boolean, whole}
+use Rattle.xq_meaning.specs.Arguments.{as_boolean, atomic, whole}
 use Rattle.xq_meaning.specs.Doing.{Outcome, go_on, give, in_turn, more, judged, on_trees}
 use Rattle.xq_meaning.specs.Forms as Forms
 use Rattle.xq_meaning.specs.Functions.{Focus}
@@ -29,7 +29,7 @@ use Rattle.xq_meaning.proofs.PlanEquations.{plan-Int, plan-Call, plan-Chain}
 use Rattle.xq_forms.proofs.Growth.{extends_itself}
 use Rattle.xq_eval.specs.declared.positions.ByPosition.{ByPosition}
 use Rattle.xq_eval.specs.declared.positions.ByPosition.TheVariants.{Same, Compared}
-use Rattle.xq_eval.specs.private.Positions.{IsPositional, value_there}
+use Rattle.xq_eval.specs.private.Positions.{IsPositional, IsPositionalIn, value_there}
 use Rattle.xq_eval.proofs.Loops.{stops}
 use Rattle.xq_eval.proofs.Steps.{more_next, passed_ok, passed_err, kept_read, spots_left}
 
@@ -66,7 +66,12 @@ compared_position p relation op n last is same = record {
       ∙ ap (λ o. (Ok (items_at trees (value_there (Compared o n) focus.position)), trees)) (sym same);
 }
 
-module _ (trees : List Tree) (frame : Frame) (p : Plan) (items : List Held) (value : ByPosition) (positional : IsPositional p (length items) value) where
+-- the same number at each
+pub same_number : (trees : List Tree) (frame : Frame) (p : Plan) (last : ℕ) (value : Vec Held) (a : Atomic) → item_views value ≡ Value a ∷ []
+    → ((focus : Focus) → plan_mean p (Forms.in_focus frame focus) trees ≡ (Ok (atomic a), trees)) → IsPositionalIn trees frame p last (Same value)
+same_number trees frame p last value a one h = record { value_is = λ focus at. h focus ∙ ap (λ xs. (Ok (items_at trees xs), trees)) (sym one) }
+
+module _ (trees : List Tree) (frame : Frame) (p : Plan) (items : List Held) (value : ByPosition) (positional : IsPositionalIn trees frame p (length items) value) where
   abbrev left : ℕ → List Focus
   left i = focuses_from (suc i) (length items) (items_at trees (map item_view (drop i items)))
 
@@ -81,7 +86,7 @@ module _ (trees : List Tree) (frame : Frame) (p : Plan) (items : List Held) (val
       → AreIn trees done → IsIn trees (item_view x) → AreIn trees kept × (tried (items_at trees kept) (left (i + 1)) ≡ tried (items_at trees done) (left i))
   kept_next i x done kept b within at answer is done_in x_in =
       let added = kept_read trees trees (item_view x) b (extends_itself trees) x_in in
-      let passed = passed_ok (plan_mean p) frame (spot i x) (items_at trees (value_there value (i + 1))) b trees trees (positional.value_is trees frame (spot i x) refl) (sym answer) in
+      let passed = passed_ok (plan_mean p) frame (spot i x) (items_at trees (value_there value (i + 1))) b trees trees (positional.value_is (spot i x) refl) (sym answer) in
       let next = more_next (Forms.passed (plan_mean p) frame) done (Forms.kept_if (item_view x) b) kept (spot i x) trees trees (extends_itself trees) done_in (added.0, passed ∙ ap (λ ys. (Ok ys, trees)) added.1) is in
       (next.0, sym (ap (λ ss. tried (items_at trees done) ss) (spots_left trees items i x (length items) within at) ∙ ap (λ o. go_on o (λ ys. in_turn (more (Forms.passed (plan_mean p) frame)) ys (left (i + 1)))) next.1))
 
@@ -89,6 +94,6 @@ module _ (trees : List Tree) (frame : Frame) (p : Plan) (items : List Held) (val
   pub kept_stops : (i : ℕ) (x : Held) (done : List ItemView) (code : Code) → i < length items → x ≡ get_or items i x → Err code ≡ keeps (i + 1) (items_at trees (value_there value (i + 1))) → (tried (items_at trees done) (left i)).0 ≡ Err code
   kept_stops i x done code within at answer =
       let act = Forms.passed (plan_mean p) frame in
-      let refused = passed_err (plan_mean p) frame (spot i x) (items_at trees (value_there value (i + 1))) code trees trees (positional.value_is trees frame (spot i x) refl) (sym answer) in
+      let refused = passed_err (plan_mean p) frame (spot i x) (items_at trees (value_there value (i + 1))) code trees trees (positional.value_is (spot i x) refl) (sym answer) in
       ap (λ ss. (tried (items_at trees done) ss).0) (spots_left trees items i x (length items) within at)
       ∙ stops (more act (items_at trees done) (spot i x) trees) (λ ys. in_turn (more act) ys (left (i + 1))) code (stops (act (spot i x) trees) (λ ys. give (items_at trees done ++ ys)) code refused)

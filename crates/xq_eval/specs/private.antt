@@ -10,3 +10,4 @@ pub mod Joining
 pub mod Texts
 pub mod Choosing
 pub mod Told
+pub mod Numbers

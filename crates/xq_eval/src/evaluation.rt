@@ -12,12 +12,14 @@ ghost use Rattle.xq_forms.specs.Views.{tuple_at, lists_of, spot_at, frame_at, Fr
 ghost use Rattle.xq_eval.specs.private.Results.{GivesLists, GivesPlain};
 ghost use Rattle.xq_eval.specs.private.Scanning.{IsLiteral, Scans};
 
+use crate::concatenation::concatenated;
 use crate::counting::counted_variable;
 use crate::expressions::{
     arrow, axis_step, conditional, filtered, flwor, logical, named_node, operands, path,
     quantified, signed, simple_map, unnamed_node,
 };
-use crate::positions::{keep_positional, positional};
+use crate::numbers::number_of;
+use crate::positions::{ByPosition, keep_positional, positional};
 use crate::texts::keep_by_texts;
 use sqlite_items::Items as PlanItems;
 use std::alloc::Global;
@@ -303,6 +305,10 @@ fn keep<W: Growing>(
     if let Some(value) = positional(alloc, predicate, items)? {
         return keep_positional(alloc, items, &value);
     }
+    if let Ok(Some(number)) = number_of(frame.slots, predicate) {
+        let value = ByPosition::Same(single(alloc, Item::Atom(number))?);
+        return keep_positional(alloc, items, &value);
+    }
     if let Some(found) = keep_by_texts(alloc, world, frame, items, predicate)? {
         return Ok(found);
     }
@@ -384,8 +390,8 @@ fn call_value<W: Growing>(
     called(alloc, world, frame, function, parts)
 }
 
-/// The value of a call. That of a variable which is only counted is not copied, and one argument is
-/// put into no list.
+/// The value of a call. That of a variable which is only counted is not copied, one argument is put
+/// into no list, and numbers and literals that are put together are put into none.
 #[cycle(eval)]
 #[inline(never)]
 fn called<W: Growing>(
@@ -411,6 +417,9 @@ fn called<W: Growing>(
     if let Some(part) = only_part(parts) {
         let value = evaluate(alloc, world, frame, part)?;
         return call_on_one(alloc, world, frame, function, value);
+    }
+    if let Some(text) = concatenated(alloc, frame.slots, function, parts)? {
+        return Ok(single(alloc, Item::Atom(text))?);
     }
     let values = arguments(alloc, world, frame, Vec::new(alloc), parts)?;
     call(alloc, world, frame, function, values)

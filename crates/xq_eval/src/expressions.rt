@@ -2,6 +2,7 @@
 //! of its own, so that [`evaluate`], which every part of a plan enters, keeps nothing itself: a
 //! function pays at its entry for all that any of its arms keeps.
 ghost use Rattle.std.specs.Prelude.{◌≡◌, ◌*◌, ◌∷◌, [], List, map, length, false, IfSome};
+ghost use Rattle.xq_atoms.specs.Atom.{String as AtomicString};
 ghost use Rattle.xq_atoms.specs.Text.{Text};
 ghost use Rattle.xq_regions.specs.declared.Axis.{Axis as AxisLem};
 ghost use Rattle.xq_meaning.specs.declared.node_tests.Test.{Test as TestLem};
@@ -22,21 +23,25 @@ ghost use Rattle.xq_eval.specs.private.Quantifying.{IsOf, bindings};
 use crate::chosen::nodes_of_step;
 use crate::clauses::{clause_list, returned, returned_each};
 use crate::evaluation::{call_list, chain, decided, evaluate, filter};
+use crate::numbers::number_of_chain;
 use crate::paths::{map_list, step_list};
 use crate::quantified::satisfied;
 use sqlite_items::Items as PlanItems;
 use std::alloc::Global;
-use xq_atoms::Fault;
+use std::slice::from_ref;
+use xq_atoms::{Atom, Fault};
 use xq_expressions::{AllowingEmpty, Function, NamedNode, Quantifier, Sign, UnnamedNode};
 use xq_forms::{
-    Frame, boolean, deciding, in_axis_order, named, node_name, scan_from, short_path, sign, unnamed,
+    Frame, boolean, deciding, in_axis_order, named, node_name, scan_from, short_path, sign, single,
+    unnamed,
 };
 use xq_functions::effective;
 use xq_meaning::{Operator, Plan, PlanClause, PlanStep, Test};
-use xq_regions::{Axis, Items};
+use xq_regions::{Axis, Item, Items};
 use xq_sources::Growing;
 
-/// Operands and the operators between them (XQuery 3.1, sections 3.4 to 3.7).
+/// Operands and the operators between them (XQuery 3.1, sections 3.4 to 3.7). Where they are
+/// arithmetic on numbers at hand, no list is made of an operand.
 #[cycle(eval)]
 #[inline(never)]
 pub fn operands<W: Growing>(
@@ -53,6 +58,9 @@ pub fn operands<W: Growing>(
         rest.now) (frame_at (W.forest world.old) frame.entry) (W.forest world.old))
         (W.forest world.new) result }
 {
+    if let Some(number) = number_of_chain(frame.slots, first, rest)? {
+        return Ok(single(alloc, Item::Atom(number))?);
+    }
     let left = evaluate(alloc, world, frame, first)?;
     chain(alloc, world, frame, left, rest)
 }
@@ -243,6 +251,29 @@ pub fn axis_step<W: Growing>(
     Ok(in_axis_order(axis, kept))
 }
 
+/// A constructor of a node whose name is a string literal, of which no list is made.
+#[cycle(eval)]
+fn literally_named<W: Growing>(
+    alloc: Global,
+    world: &mut W,
+    frame: Frame<'_>,
+    kind: NamedNode,
+    text: &str,
+    part: &Plan,
+) -> Result<Items, Fault>
+    ensures goes { Goes (W.forest world.old) (W.forest world.new) (W.is_clean world.old)
+        (W.is_clean world.new) }
+    ensures gives { W.is_clean world.new → FrameIn (W.forest world.old) frame.entry
+        → GivesSequence (Forms.named_node kind (Forms.literal (AtomicString text.now))
+        (plan_mean part.now) (frame_at (W.forest world.old) frame.entry) (W.forest world.old))
+        (W.forest world.new) result }
+{
+    let value = Item::Atom(Atom::Str(String::from_str(alloc, text)?));
+    let name = node_name(alloc, world, kind, from_ref(&value))?;
+    let content = evaluate(alloc, world, frame, part)?;
+    named(alloc, world, kind, name, &content)
+}
+
 /// A constructor of a node with a name (XQuery 3.1, section 3.9.3).
 #[cycle(eval)]
 #[inline(never)]
@@ -261,6 +292,9 @@ pub fn named_node<W: Growing>(
         (frame_at (W.forest world.old) frame.entry) (W.forest world.old)) (W.forest world.new)
         result }
 {
+    if let Plan::Str(text) = name {
+        return literally_named(alloc, world, frame, kind, text.as_str(), part);
+    }
     let value = evaluate(alloc, world, frame, name)?;
     let name = node_name(alloc, world, kind, &value)?;
     let content = evaluate(alloc, world, frame, part)?;

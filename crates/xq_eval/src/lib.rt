@@ -4,9 +4,11 @@
 mod bindings;
 mod chosen;
 mod clauses;
+mod concatenation;
 mod counting;
 mod evaluation;
 mod expressions;
+mod numbers;
 mod paths;
 mod positions;
 mod quantified;

@@ -10,7 +10,7 @@ ghost use Rattle.xq_meaning.specs.Operators as Operators;
 ghost use Rattle.xq_meaning.specs.PlanMeaning.{Frame as Meant, plan_mean};
 ghost use Rattle.xq_meaning.specs.Readings.{items_at, AreIn};
 ghost use Rattle.xq_forms.specs.Views.{GivesSequence};
-ghost use Rattle.xq_eval.specs.private.Positions.{IsPositional, value_there};
+ghost use Rattle.xq_eval.specs.private.Positions.{IsPositional, IsPositionalIn, value_there};
 
 use std::alloc::Global;
 use xq_atoms::{Atom, Code, CompOp, Fault, Want, compare_value};
@@ -124,7 +124,7 @@ fn passes(value: &ByPosition, position: usize) -> Result<bool, Code>
 /// The items that a predicate keeps which has this value at each of them.
 pub fn keep_positional(alloc: Global, items: &[Item], value: &ByPosition) -> Result<Items, Fault>
     ensures { (trees : List Tree) (frame : Meant) (p : PlanLem)
-        → IsPositional p (length items.now) value.now
+        → IsPositionalIn trees frame p (length items.now) value.now
         → AreIn trees (map item_view items.now)
         → GivesSequence (Forms.filtered frame (items_at trees (map item_view items.now))
         (plan_mean p) trees) trees result }

@@ -2,13 +2,15 @@ use Rattle.std.proofs.Common.{rules, to_z, of_z, w64, ◌≡◌, ◌++◌, ◌+�
 use Rattle.std.specs.Global.{Vec, Global}
 use Rattle.std.proofs.lemmas.List.{map-append, drop_all, length-map, length-append, append-nil, take_at, take_all}
 use Rattle.xq_forms.specs.declared.frames.Frame.{Frame as Held}
-use Rattle.xq_atoms.specs.Atom.{Atomic, Integer, atomic_of}
+use Rattle.xq_atoms.specs.Atom.{Atomic, Integer, String as AtomicString, atomic_of}
 use Rattle.xq_atoms.specs.declared.refusals.Code.TheVariants.{XPTY0019}
 use Rattle.xq_atoms.specs.declared.refusals.Fault.TheVariants.{Code as OfCode}
 use Rattle.xq_regions.specs.Tuples.{Tuple, expanded, numbered, bound, satisfying}
 use Rattle.xq_regions.specs.Items.{ItemView, Place as NodeAt, Value, item_view, item_views}
 use Rattle.xq_eval.specs.declared.positions.ByPosition.{ByPosition}
 use Rattle.xq_eval.specs.private.Positions.{IsPositional}
+use Rattle.xq_eval.specs.private.Numbers.{TellsNumber}
+use Rattle.xq_eval.proofs.PositionalPredicates.{same_number}
 use Rattle.xq_tuples.specs.Views.{slot_items, values_of}
 use Rattle.xq_meaning.specs.Items.{Item, Node, Atom, atomized}
 use Rattle.xq_meaning.specs.Arguments.{atomic, boolean, effective, all_nodes}
@@ -2470,6 +2472,33 @@ evaluation::called-returns-in-Some-clause-gives g t c = λ clean inside.
     let frame = frame_at f c.args.frame in
     subst (λ r. IfSome r (λ given. AreIn f (item_views given) × (Forms.call c.args.function (map plan_mean c.args.parts.now) frame f ≡ (Ok (items_at f (item_views given)), f)))) c.in-Some.is (c.in_ok-items.ensures f frame refl)
 
+pub evaluation::called-returns-in-Some-2-clause-gives : goal.evaluation::called-returns-in-Some-2-clause-gives
+evaluation::called-returns-in-Some-2-clause-gives g t c = λ clean inside.
+    let f = g.W.TreeSource.forest c.args.world.now in
+    let frame = frame_at f c.args.frame in
+    let outcome = Forms.call c.args.function (map plan_mean c.args.parts.now) frame f in
+    let is : item_views c.in_ok-single.field-0 ≡ Value (atomic_of c.in-Some-2.text) ∷ [] = c.in_ok-single.ensures in
+    subst (λ vs. AreIn f vs × (outcome ≡ (Ok (items_at f vs), f))) (sym is)
+    ((tt, tt), subst (λ o. Tells atomic outcome f (Ok o)) c.in-Some-2.is (c.in_ok-text.ensures f frame refl))
+
+pub evaluation::called-returns-in_err-text-clause-gives : goal.evaluation::called-returns-in_err-text-clause-gives
+evaluation::called-returns-in_err-text-clause-gives g t c = λ clean inside.
+    let f = g.W.TreeSource.forest c.args.world.now in
+    let frame = frame_at f c.args.frame in
+    let outcome = Forms.call c.args.function (map plan_mean c.args.parts.now) frame f in
+    let e = c.in_err-text.field-0.0 in
+    handed_on item_views items_at AreIn outcome f e c.from_residual-in_err-text.result c.from_residual-in_err-text.ensures.1
+    (told_stop atomic item_views items_at AreIn outcome f f e (c.in_err-text.ensures f frame refl))
+
+pub evaluation::called-returns-in-Some-2-clause-goes : goal.evaluation::called-returns-in-Some-2-clause-goes
+evaluation::called-returns-in-Some-2-clause-goes g t c = stays _ _
+
+pub evaluation::called-returns-in_err-text-clause-goes : goal.evaluation::called-returns-in_err-text-clause-goes
+evaluation::called-returns-in_err-text-clause-goes g t c = stays _ _
+
+pub evaluation::called-returns-in_err-single-clause-goes : goal.evaluation::called-returns-in_err-single-clause-goes
+evaluation::called-returns-in_err-single-clause-goes g t c = stays _ _
+
 pub evaluation::called-returns-in-Some-only_part-clause-gives : goal.evaluation::called-returns-in-Some-only_part-clause-gives
 evaluation::called-returns-in-Some-only_part-clause-gives g t c = λ clean inside.
     let f = g.W.TreeSource.forest c.args.world.now in
@@ -2937,6 +2966,32 @@ evaluation::evaluate-returns-in-Quantified-clause-gives g t c = λ clean inside.
 pub evaluation::evaluate-returns-in-Quantified-clause-goes : goal.evaluation::evaluate-returns-in-Quantified-clause-goes
 evaluation::evaluate-returns-in-Quantified-clause-goes g t c = c.quantified.ensures.goes
 
+pub expressions::operands-returns-in-Some-clause-gives : goal.expressions::operands-returns-in-Some-clause-gives
+expressions::operands-returns-in-Some-clause-gives g t c = λ clean inside.
+    let f = g.W.TreeSource.forest c.args.world.now in
+    let frame = frame_at f c.args.frame in
+    let outcome = Forms.chain (plan_mean c.args.first.now) (map (λ (op, p). (op, plan_mean p)) c.args.rest.now) frame f in
+    let is : item_views c.in_ok-single.field-0 ≡ Value (atomic_of c.in-Some.number) ∷ [] = c.in_ok-single.ensures in
+    subst (λ vs. AreIn f vs × (outcome ≡ (Ok (items_at f vs), f))) (sym is)
+    ((tt, tt), subst (λ o. TellsNumber outcome f (Ok o)) c.in-Some.is (c.in_ok-number.ensures f frame refl))
+
+pub expressions::operands-returns-in_err-number-clause-gives : goal.expressions::operands-returns-in_err-number-clause-gives
+expressions::operands-returns-in_err-number-clause-gives g t c = λ clean inside.
+    let f = g.W.TreeSource.forest c.args.world.now in
+    let frame = frame_at f c.args.frame in
+    let outcome = Forms.chain (plan_mean c.args.first.now) (map (λ (op, p). (op, plan_mean p)) c.args.rest.now) frame f in
+    handed_on item_views items_at AreIn outcome f (OfCode c.in_err-number.field-0.0) c.from_residual.result c.from_residual.ensures.1
+    (ap (λ (o : Outcome (List Item)). o.0) (c.in_err-number.ensures f frame refl))
+
+pub expressions::operands-returns-in-Some-clause-goes : goal.expressions::operands-returns-in-Some-clause-goes
+expressions::operands-returns-in-Some-clause-goes g t c = stays _ _
+
+pub expressions::operands-returns-in_err-number-clause-goes : goal.expressions::operands-returns-in_err-number-clause-goes
+expressions::operands-returns-in_err-number-clause-goes g t c = stays _ _
+
+pub expressions::operands-returns-in_err-single-clause-goes : goal.expressions::operands-returns-in_err-single-clause-goes
+expressions::operands-returns-in_err-single-clause-goes g t c = stays _ _
+
 pub expressions::operands-returns-clause-gives : goal.expressions::operands-returns-clause-gives
 expressions::operands-returns-clause-gives g t c = λ clean inside.
     let f = g.W.TreeSource.forest c.args.world.now in
@@ -2956,7 +3011,7 @@ expressions::operands-returns-in_err-left-clause-gives g t c = λ clean inside.
     let frame = frame_at f held in
     let f' = g.W.TreeSource.forest c.evaluate.new.world in
     let next = λ (xs : List Item). in_turn (Forms.next_operand frame) xs (map (λ (op, p). (op, plan_mean p)) c.args.rest.now) in
-    cut item_views items_at AreIn item_views items_at AreIn _ (plan_mean c.args.first.now frame f) next f' c.in_err-left.field-0.0 c.from_residual.result refl c.from_residual.ensures.1 (c.in_err-left.ensures.gives clean inside)
+    cut item_views items_at AreIn item_views items_at AreIn _ (plan_mean c.args.first.now frame f) next f' c.in_err-left.field-0.0 c.from_residual-in_err-left.result refl c.from_residual-in_err-left.ensures.1 (c.in_err-left.ensures.gives clean inside)
 
 pub expressions::operands-returns-in_err-left-clause-goes : goal.expressions::operands-returns-in_err-left-clause-goes
 expressions::operands-returns-in_err-left-clause-goes g t c = c.in_err-left.ensures.goes
@@ -3447,6 +3502,97 @@ expressions::unnamed_node-returns-in_err-content-clause-goes g t c = c.in_err-co
 pub expressions::unnamed_node-returns-clause-goes : goal.expressions::unnamed_node-returns-clause-goes
 expressions::unnamed_node-returns-clause-goes g t c = goes_on_to c.in_ok-content.ensures.goes c.unnamed.ensures.goes
 
+pub expressions::named_node-returns-in-Str-clause-gives : goal.expressions::named_node-returns-in-Str-clause-gives
+expressions::named_node-returns-in-Str-clause-gives g t c = λ clean inside.
+    rw (c.in-Str.is, plan-Str c.in-Str.text, ← c.as_str.ensures) (c.literally_named.ensures.gives clean inside)
+
+pub expressions::named_node-returns-in-Str-clause-goes : goal.expressions::named_node-returns-in-Str-clause-goes
+expressions::named_node-returns-in-Str-clause-goes g t c = c.literally_named.ensures.goes
+
+pub expressions::literally_named-returns-in_err-name-clause-gives : goal.expressions::literally_named-returns-in_err-name-clause-gives
+expressions::literally_named-returns-in_err-name-clause-gives g t c = λ clean inside.
+    let f = g.W.TreeSource.forest c.args.world.now in
+    let held = c.args.frame in
+    let frame = frame_at f held in
+    let f'' = g.W.TreeSource.forest c.node_name.new.world in
+    let kind = c.args.kind in
+    let part = plan_mean c.args.part.now in
+    let wanted : Meaning = Forms.literal (AtomicString c.args.text.now) in
+    let value = Value (AtomicString c.args.text.now) ∷ [] in
+    let d : map item_view c.from_ref.result.now ≡ value = search rules in
+    let naming = λ (xs : List ItemView). on_trees (λ trees. name_of kind (atomized trees (items_at f xs))) f in
+    let next = λ (good : Text). part frame >>= (λ ys. plant_named kind good ys) in
+    let begun : Forms.named_node kind wanted part frame f ≡ go_on (naming (map item_view c.from_ref.result.now)) next =
+    named_is kind wanted part frame f ∙ ap (λ xs. go_on (naming xs) next) (sym d) in
+    cut (string_bytes {Z = Global}) (λ trees t. t) (λ trees t. Unit {0}) item_views items_at AreIn _ (naming (map item_view c.from_ref.result.now)) next f'' c.in_err-name.field-0.0 c.from_residual-in_err-name.result
+    begun c.from_residual-in_err-name.ensures.1 (c.in_err-name.ensures.gives clean (subst (AreIn f) (sym d) (tt, tt)))
+
+pub expressions::literally_named-returns-in_err-content-clause-gives : goal.expressions::literally_named-returns-in_err-content-clause-gives
+expressions::literally_named-returns-in_err-content-clause-gives g t c = λ clean inside.
+    let f = g.W.TreeSource.forest c.args.world.now in
+    let held = c.args.frame in
+    let frame = frame_at f held in
+    let f'' = g.W.TreeSource.forest c.node_name.new.world in
+    let f3 = g.W.TreeSource.forest c.evaluate.new.world in
+    let kind = c.args.kind in
+    let part = plan_mean c.args.part.now in
+    let wanted : Meaning = Forms.literal (AtomicString c.args.text.now) in
+    let before = c.evaluate.ensures.goes.was_clean clean in
+    let value = Value (AtomicString c.args.text.now) ∷ [] in
+    let d : map item_view c.from_ref.result.now ≡ value = search rules in
+    let naming = λ (xs : List ItemView). on_trees (λ trees. name_of kind (atomized trees (items_at f xs))) f in
+    let next = λ (good : Text). part frame >>= (λ ys. plant_named kind good ys) in
+    let begun : Forms.named_node kind wanted part frame f ≡ go_on (naming (map item_view c.from_ref.result.now)) next =
+    named_is kind wanted part frame f ∙ ap (λ xs. go_on (naming xs) next) (sym d) in
+    let name = c.in_ok-name.ensures.gives before (subst (AreIn f) (sym d) (tt, tt)) in
+    let good = string_bytes c.in_ok-name.name in
+    let grows = c.in_ok-name.ensures.goes.grows in
+    let last = λ (ys : List Item). plant_named kind good ys in
+    let meant : Forms.named_node kind wanted part frame f ≡ go_on (part (frame_at f'' held) f'') last =
+    begun ∙ ap (λ o. go_on o next) name.1 ∙ ap (λ fr. go_on (part fr f'') last) (sym (frame_grown grows held inside)) in
+    cut item_views items_at AreIn item_views items_at AreIn _ (part (frame_at f'' held) f'') last f3 c.in_err-content.field-0.0 c.from_residual-in_err-content.result
+    meant c.from_residual-in_err-content.ensures.1 (c.in_err-content.ensures.gives clean (frame_in_grown grows held inside))
+
+pub expressions::literally_named-returns-clause-gives : goal.expressions::literally_named-returns-clause-gives
+expressions::literally_named-returns-clause-gives g t c = λ clean inside.
+    let f = g.W.TreeSource.forest c.args.world.now in
+    let held = c.args.frame in
+    let frame = frame_at f held in
+    let f'' = g.W.TreeSource.forest c.node_name.new.world in
+    let f3 = g.W.TreeSource.forest c.evaluate.new.world in
+    let f4 = g.W.TreeSource.forest c.named.new.world in
+    let kind = c.args.kind in
+    let part = plan_mean c.args.part.now in
+    let wanted : Meaning = Forms.literal (AtomicString c.args.text.now) in
+    let content = item_views c.in_ok-content.content in
+    let was = c.named.ensures.goes.was_clean clean in
+    let before = c.in_ok-content.ensures.goes.was_clean was in
+    let value = Value (AtomicString c.args.text.now) ∷ [] in
+    let d : map item_view c.from_ref.result.now ≡ value = search rules in
+    let naming = λ (xs : List ItemView). on_trees (λ trees. name_of kind (atomized trees (items_at f xs))) f in
+    let next = λ (good : Text). part frame >>= (λ ys. plant_named kind good ys) in
+    let begun : Forms.named_node kind wanted part frame f ≡ go_on (naming (map item_view c.from_ref.result.now)) next =
+    named_is kind wanted part frame f ∙ ap (λ xs. go_on (naming xs) next) (sym d) in
+    let name = c.in_ok-name.ensures.gives before (subst (AreIn f) (sym d) (tt, tt)) in
+    let good = string_bytes c.in_ok-name.name in
+    let grows = c.in_ok-name.ensures.goes.grows in
+    let last = λ (ys : List Item). plant_named kind good ys in
+    let meant : Forms.named_node kind wanted part frame f ≡ go_on (part (frame_at f'' held) f'') last =
+    begun ∙ ap (λ o. go_on o next) name.1 ∙ ap (λ fr. go_on (part fr f'') last) (sym (frame_grown grows held inside)) in
+    let d' : map item_view c.deref.result.now ≡ content = ap (map item_view) c.deref.ensures.value in
+    let inner = c.in_ok-content.ensures.gives was (frame_in_grown grows held inside) in
+    let all = meant ∙ ap (λ o. go_on o last) inner.1 ∙ ap (λ xs. plant_named kind good (items_at f3 xs) f3) (sym d') in
+    subst (λ o. GivesSequence o f4 c.named.result) (sym all) (c.named.ensures.gives clean (subst (AreIn f3) (sym d') inner.0))
+
+pub expressions::literally_named-returns-in_err-name-clause-goes : goal.expressions::literally_named-returns-in_err-name-clause-goes
+expressions::literally_named-returns-in_err-name-clause-goes g t c = c.in_err-name.ensures.goes
+
+pub expressions::literally_named-returns-in_err-content-clause-goes : goal.expressions::literally_named-returns-in_err-content-clause-goes
+expressions::literally_named-returns-in_err-content-clause-goes g t c = goes_on_to c.in_ok-name.ensures.goes c.in_err-content.ensures.goes
+
+pub expressions::literally_named-returns-clause-goes : goal.expressions::literally_named-returns-clause-goes
+expressions::literally_named-returns-clause-goes g t c = goes_on_to (goes_on_to c.in_ok-name.ensures.goes c.in_ok-content.ensures.goes) c.named.ensures.goes
+
 pub expressions::named_node-returns-in_err-value-clause-gives : goal.expressions::named_node-returns-in_err-value-clause-gives
 expressions::named_node-returns-in_err-value-clause-gives g t c = λ clean inside.
     let f = g.W.TreeSource.forest c.args.world.now in
@@ -3652,6 +3798,12 @@ paths::step_list-later_steps-requires-2 g t c = λ κs live.
     let below : 8 * most size-PlanStep (take (length steps - taken) (drop taken steps)) + 7 < t = omega (arith, all, same, least) in
     (below, live)
 
+pub expressions::named_node-literally_named-requires : goal.expressions::named_node-literally_named-requires
+expressions::named_node-literally_named-requires g t c = λ κs live.
+    let all : 8 * max (size-Plan c.args.name.now) (size-Plan c.args.part.now) + 9 ≡ t = c.decreases in
+    let below : 8 * size-Plan c.args.part.now + 4 < t = omega (arith, all) in
+    (below, live)
+
 pub expressions::named_node-evaluate-requires : goal.expressions::named_node-evaluate-requires
 expressions::named_node-evaluate-requires g t c = λ κs live.
     let all : 8 * max (size-Plan c.args.name.now) (size-Plan c.args.part.now) + 9 ≡ t = c.decreases in
@@ -3773,7 +3925,20 @@ evaluation::keep-returns-in-Some-clause-gives g t c = λ clean inside items_in.
     let p = c.args.predicate.now in
     let items = c.args.items.now in
     let told = subst (λ r. IfSome r (λ (v : ByPosition). IsPositional p (length items) v)) c.in-Some.is c.in_ok-value.ensures in
-    c.keep_positional.ensures f (frame_at f c.args.frame) p told items_in
+    let frame = frame_at f c.args.frame in
+    c.keep_positional.ensures f frame p (record { value_is = told.value_is f frame }) items_in
+
+pub evaluation::keep-returns-in-Ok-Some-clause-gives : goal.evaluation::keep-returns-in-Ok-Some-clause-gives
+evaluation::keep-returns-in-Ok-Some-clause-gives g t c = λ clean inside items_in.
+    let f = g.W.TreeSource.forest c.args.world.now in
+    let p = c.args.predicate.now in
+    let frame = frame_at f c.args.frame in
+    let a = atomic_of c.in-Ok-Some.number in
+    let value = c.in_ok-single.field-0 in
+    let told : (focus : Spot) → plan_mean p (Forms.in_focus frame focus) f ≡ (Ok (atomic a), f) =
+    λ focus. subst (λ o. TellsNumber (plan_mean p (Forms.in_focus frame focus) f) f (Ok o)) c.in-Ok-Some.field-0-is
+    (subst (TellsNumber (plan_mean p (Forms.in_focus frame focus) f) f) c.in-Ok-Some.is (c.number_of.ensures f (Forms.in_focus frame focus) refl)) in
+    c.keep_positional-in-Ok-Some.ensures f frame p (same_number f frame p (length c.args.items.now) value a c.in_ok-single.ensures told) items_in
 
 pub evaluation::keep-returns-in-Some-2-clause-gives : goal.evaluation::keep-returns-in-Some-2-clause-gives
 evaluation::keep-returns-in-Some-2-clause-gives g t c = λ clean inside items_in.

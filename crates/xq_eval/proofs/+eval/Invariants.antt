@@ -412,6 +412,9 @@ decreases-expressions::axis_step g a = 8 * goal.size-expressions::axis_step g a 
 abbrev pub decreases-expressions::named_node : goal.decreases-expressions::named_node
 decreases-expressions::named_node g a = 8 * max (size-Plan a.name.now) (size-Plan a.part.now) + 9
 
+abbrev pub decreases-expressions::literally_named : goal.decreases-expressions::literally_named
+decreases-expressions::literally_named g a = 8 * goal.size-expressions::literally_named g a + 4
+
 abbrev pub decreases-expressions::unnamed_node : goal.decreases-expressions::unnamed_node
 decreases-expressions::unnamed_node g a = 8 * goal.size-expressions::unnamed_node g a + 9
 

@@ -23,3 +23,10 @@ pub record IsPositional (p : Plan) (last : ℕ) (value : ByPosition) : Type 0 wh
   pub value_is : (trees : List Tree) (frame : Frame) (focus : Focus) → focus.last ≡ last
       → plan_mean p (Forms.in_focus frame focus) trees
       ≡ (Ok (items_at trees (value_there value focus.position)), trees)
+
+-- the same over these trees, in this frame
+pub record IsPositionalIn (trees : List Tree) (frame : Frame) (p : Plan) (last : ℕ)
+    (value : ByPosition) : Type 0 where
+  pub value_is : (focus : Focus) → focus.last ≡ last
+      → plan_mean p (Forms.in_focus frame focus) trees
+      ≡ (Ok (items_at trees (value_there value focus.position)), trees)

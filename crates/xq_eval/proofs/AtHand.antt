@@ -1,0 +1,108 @@
+-- Arithmetic on numbers at hand.
+use Rattle.std.proofs.Common.{◌≡◌, ℕ, zero, suc, ◌+◌, ◌<◌, List, [], ◌∷◌, length, map, drop, get_or, Option, Some, None, Result, Ok, Err, refl, sym, ◌∙◌, ap, subst, arith}
+use Rattle.std.specs.Prelude.{ℤ, IfSome}
+use Rattle.xq_atoms.specs.declared.atoms.Atom.{Atom}
+use Rattle.xq_atoms.specs.declared.refusals.Code.{Code}
+use Rattle.xq_atoms.specs.Atom.{Atomic, Integer, Decimal, atomic_of, judged_of, numeric}
+use Rattle.xq_atoms.specs.Judged.{Judged, ◌>>=◌}
+use Rattle.xq_regions.specs.Items.{ItemView, Value}
+use Rattle.xq_regions.specs.Tree.{Tree}
+use Rattle.xq_regions.specs.Tuples.{value_at}
+use Rattle.xq_tuples.specs.declared.slots.SlotValue.{SlotValue}
+use Rattle.xq_tuples.specs.Views.{slot_items, values_of}
+use Rattle.xq_meaning.specs.declared.operators.Operator.{Operator}
+use Rattle.xq_meaning.specs.declared.plans.Plan.{Plan}
+use Rattle.xq_meaning.specs.declared.plans.Plan.TheVariants as plan
+use Rattle.xq_meaning.specs.Arguments.{as_items, atomic}
+use Rattle.xq_meaning.specs.Doing.{Doing, Outcome, go_on, give, in_turn, on_trees}
+use Rattle.xq_meaning.specs.Forms as Forms
+use Rattle.xq_meaning.specs.Items.{Item}
+use Rattle.xq_meaning.specs.Operators.{calculated, operated}
+use Rattle.xq_meaning.specs.PlanMeaning.{Frame, Meaning, plan_mean}
+use Rattle.xq_meaning.specs.Readings.{items_at}
+use Rattle.xq_meaning.proofs.PlanEquations.{plan-Int, plan-Dec, plan-Slot, plan-Chain}
+use Rattle.xq_forms.specs.Views.{tuple_at}
+use Rattle.xq_eval.proofs.Counted.{slot_value}
+use Rattle.xq_eval.proofs.Loops.{left_over}
+use Rattle.xq_eval.specs.private.Numbers.{TellsResult, TellsNumber}
+
+-- # Numbers at hand
+
+-- a variable that is one number
+pub number_there : (slots : List SlotValue) (n : ℕ) (slot : SlotValue) (items : List ItemView) (found : Option Atom) → n < length slots → slot ≡ get_or slots n slot → items ≡ slot_items slot
+    → IfSome found (λ atom. items ≡ Value (atomic_of atom) ∷ []) → IfSome found (λ atom. (trees : List Tree) → value_at n (tuple_at trees (values_of slots)) ≡ atomic (atomic_of atom))
+number_there slots n slot items (Some atom) h e is one = λ trees. slot_value trees slots n slot h e ∙ ap (items_at trees) (sym is ∙ one)
+number_there slots n slot items None h e is one = tt
+
+-- # One operator
+
+pub both_numbers : (op : Atomic → Atomic → Judged Atomic) (a b : Atomic) (trees : List Tree) → numeric a ≡ Ok a → numeric b ≡ Ok b → calculated op trees (atomic a) (atomic b) ≡ as_items (op a b)
+both_numbers op a b trees left right =
+    ap (λ j. j >>= (λ x. numeric b >>= (λ y. as_items (op x y)))) left ∙ ap (λ j. j >>= (λ y. as_items (op a y))) right
+
+pub told_result : (j : Judged Atomic) (r : Result Atom Code) (o : Judged (List Item)) (found : Result (Option Atom) Code) → judged_of r ≡ j → o ≡ as_items j → found ≡ (r >>= (λ atom. Ok (Some atom))) → TellsResult o found
+told_result j (Ok atom) o found e is f = subst (TellsResult o) (sym f) (is ∙ ap as_items (sym e))
+told_result j (Err code) o found e is f = subst (TellsResult o) (sym f) (is ∙ ap as_items (sym e))
+
+-- # Plans
+
+pub told_integer : (p : Plan) (n : ℤ) (frame : Frame) (trees : List Tree) → p ≡ plan.Int n → plan_mean p frame trees ≡ (Ok (atomic (Integer n)), trees)
+told_integer p n frame trees is = ap (λ q. plan_mean q frame trees) is ∙ ap (λ (m : Meaning). m frame trees) (plan-Int n)
+
+pub told_decimal : (p : Plan) (n : ℤ) (frame : Frame) (trees : List Tree) → p ≡ plan.Dec n → plan_mean p frame trees ≡ (Ok (atomic (Decimal n)), trees)
+told_decimal p n frame trees is = ap (λ q. plan_mean q frame trees) is ∙ ap (λ (m : Meaning). m frame trees) (plan-Dec n)
+
+pub told_slot : (p : Plan) (n : ℕ) (frame : Frame) (trees : List Tree) (slots : List SlotValue) (found : Option Atom) → p ≡ plan.Slot n → frame.env ≡ tuple_at trees (values_of slots)
+    → IfSome found (λ atom. (same : List Tree) → value_at n (tuple_at same (values_of slots)) ≡ atomic (atomic_of atom)) → TellsNumber (plan_mean p frame trees) trees (Ok found)
+told_slot p n frame trees slots (Some atom) is env one =
+    ap (λ q. plan_mean q frame trees) is ∙ ap (λ (m : Meaning). m frame trees) (plan-Slot n) ∙ ap (λ xs. (Ok xs, trees)) (ap (value_at n) env ∙ one trees)
+told_slot p n frame trees slots None is env one = tt
+
+abbrev operand_of : Operator × Plan → Operator × Meaning
+operand_of o = (o.0, plan_mean o.1)
+
+pub told_chain : (p first : Plan) (rest : List (Operator × Plan)) (frame : Frame) (trees : List Tree) (r : Result (Option Atom) Code) → p ≡ plan.Chain first rest
+    → TellsNumber (Forms.chain (plan_mean first) (map (λ (op, p). (op, plan_mean p)) rest) frame trees) trees r → TellsNumber (plan_mean p frame trees) trees r
+told_chain p first rest frame trees r is h =
+    subst (λ o. TellsNumber o trees r) (sym (ap (λ q. plan_mean q frame trees) is ∙ ap (λ (m : Meaning). m frame trees) (plan-Chain first rest))) h
+
+-- what comes after a number
+pub told_after : (outcome : Outcome (List Item)) (next : List Item → Doing (List Item)) (trees : List Tree) (a : Atom) → TellsNumber outcome trees (Ok (Some a)) → go_on outcome next ≡ next (atomic (atomic_of a)) trees
+told_after outcome next trees a h = ap (λ o. go_on o next) h
+
+-- what comes after a refusal
+pub told_refused : (outcome : Outcome (List Item)) (next : List Item → Doing (List Item)) (trees : List Tree) (code : Code) → outcome ≡ (Err code, trees) → go_on outcome next ≡ (Err code, trees)
+told_refused outcome next trees code h = ap (λ o. go_on o next) h
+
+pub handed_back : (outcome : Outcome (List Item)) (trees : List Tree) (code : Code) (r : Result (Option Atom) Code) → r ≡ Err code → outcome ≡ (Err code, trees) → TellsNumber outcome trees r
+handed_back outcome trees code r is h = subst (TellsNumber outcome trees) (sym is) h
+
+-- an operator on two numbers
+pub told_operand : (frame : Frame) (xs : List Item) (operator : Operator) (p : Plan) (trees : List Tree) (right : Atom) (r : Result (Option Atom) Code) → plan_mean p frame trees ≡ (Ok (atomic (atomic_of right)), trees)
+    → TellsResult (operated operator trees xs (atomic (atomic_of right))) r → TellsNumber (Forms.next_operand frame xs (operator, plan_mean p) trees) trees r
+told_operand frame xs operator p trees right r value h = by r h
+  where
+    is : Forms.next_operand frame xs (operator, plan_mean p) trees ≡ (operated operator trees xs (atomic (atomic_of right)), trees)
+    is = ap (λ o. go_on o (λ ys. on_trees (λ trees. operated operator trees xs ys))) value
+
+    by : (s : Result (Option Atom) Code) → TellsResult (operated operator trees xs (atomic (atomic_of right))) s → TellsNumber (Forms.next_operand frame xs (operator, plan_mean p) trees) trees s
+    by (Ok (Some atom)) k = is ∙ ap (λ j. (j, trees)) k
+    by (Ok None) k = tt
+    by (Err code) k = is ∙ ap (λ j. (j, trees)) k
+
+-- # Chains
+
+abbrev pub left_of : Frame → List Tree → Atomic → List (Operator × Plan) → Outcome (List Item)
+left_of frame trees total rest = in_turn (Forms.next_operand frame) (atomic total) (map (λ (op, p). (op, plan_mean p)) rest) trees
+
+pub one_further : (frame : Frame) (trees : List Tree) (rest : List (Operator × Plan)) (i : ℕ) (x : Operator × Plan) (total next : Atomic) → i < length rest → x ≡ get_or rest i x
+    → Forms.next_operand frame (atomic total) (x.0, plan_mean x.1) trees ≡ (Ok (atomic next), trees) → left_of frame trees total (drop i rest) ≡ left_of frame trees next (drop (i + 1) rest)
+one_further frame trees rest i x total next h at is =
+    ap (λ os. in_turn (Forms.next_operand frame) (atomic total) os trees) (left_over (λ (op, p). (op, plan_mean p)) rest i x h at)
+    ∙ ap (λ o. go_on o (λ xs. in_turn (Forms.next_operand frame) xs (map (λ (op, p). (op, plan_mean p)) (drop (i + 1) rest)))) is
+
+pub one_refused : (frame : Frame) (trees : List Tree) (rest : List (Operator × Plan)) (i : ℕ) (x : Operator × Plan) (total : Atomic) (code : Code) → i < length rest → x ≡ get_or rest i x
+    → Forms.next_operand frame (atomic total) (x.0, plan_mean x.1) trees ≡ (Err code, trees) → left_of frame trees total (drop i rest) ≡ (Err code, trees)
+one_refused frame trees rest i x total code h at is =
+    ap (λ os. in_turn (Forms.next_operand frame) (atomic total) os trees) (left_over (λ (op, p). (op, plan_mean p)) rest i x h at)
+    ∙ ap (λ o. go_on o (λ xs. in_turn (Forms.next_operand frame) xs (map (λ (op, p). (op, plan_mean p)) (drop (i + 1) rest)))) is
