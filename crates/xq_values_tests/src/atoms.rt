@@ -1,5 +1,6 @@
 //! The tables of the language's arithmetic, casts, comparisons and printing.
 
+use crate::asserts::{holds, is_text};
 use std::alloc::Global;
 use std::cmp::Ordering;
 use std::process::Abort;
@@ -313,7 +314,7 @@ fn found(alloc: Global, call: Call) -> Result<String, Fault> {
 fn assert_rows(rt: &(impl Abort + AllocGlobal), rows: &[Row]) {
     for (call, wanted) in rows {
         let found = found(rt.alloc(), *call).expect(rt, wanted);
-        assert_eq!(rt; found.as_str(), *wanted);
+        is_text(rt, found.as_str(), wanted);
     }
 }
 
@@ -322,7 +323,7 @@ fn arithmetic(rt: HostRuntime) {
     assert_rows(&rt, &PRODUCTS);
     assert_rows(&rt, &SUMS);
     assert_rows(&rt, &SIGNS_AND_ROUNDING);
-    assert_eq!(rt; Decimal::from_millionths(LIMIT), None);
+    holds(&rt, Decimal::from_millionths(LIMIT).is_none(), 0);
 }
 
 #[test]
@@ -349,11 +350,11 @@ const INTEGERS: [(&str, &str); 2] = [
 fn literals(rt: HostRuntime) -> Result<(), Fault> {
     for (text, wanted) in &DECIMALS {
         let found = shown(rt.alloc(), dec_literal(text).map(Atom::Dec))?;
-        assert_eq!(rt; found.as_str(), *wanted);
+        is_text(&rt, found.as_str(), wanted);
     }
     for (text, wanted) in &INTEGERS {
         let found = shown(rt.alloc(), int_literal(text).map(Atom::Int))?;
-        assert_eq!(rt; found.as_str(), *wanted);
+        is_text(&rt, found.as_str(), wanted);
     }
     Ok(())
 }
@@ -362,7 +363,7 @@ fn literals(rt: HostRuntime) -> Result<(), Fault> {
 fn prints_after_a_text(rt: HostRuntime) -> Result<(), Fault> {
     let mut out = String::from_str(rt.alloc(), "2, ")?;
     print(&Atom::Dec(Decimal::from_int(2)), &mut out)?;
-    assert_eq!(rt; out.as_str(), "2, 2.0");
+    is_text(&rt, out.as_str(), "2, 2.0");
     Ok(())
 }
 
@@ -378,16 +379,30 @@ fn keys_stand(alloc: Global, left: Sample, right: Sample) -> Result<(Ordering, b
     Ok((left.cmp(&right), left == right))
 }
 
+/// Whether the keys stand so, and are equal where they stand alike.
+fn do_stand(
+    alloc: Global,
+    (left, right, wanted): (Sample, Sample, Ordering),
+) -> Result<bool, Fault> {
+    let (found, are_equal) = keys_stand(alloc, left, right)?;
+    Ok(found == wanted && are_equal == (wanted == Ordering::Equal))
+}
+
+/// Whether the key of untyped data is a text.
+fn is_text_key(alloc: Global) -> Result<bool, Fault> {
+    let text = GroupKey::Text(String::from_str(alloc, "1")?);
+    Ok(key(alloc, Untyped("1"))? == text)
+}
+
 #[test]
 fn group_keys(rt: HostRuntime) -> Result<(), Fault> {
-    for (left, right, wanted) in &KEYS {
-        let stands = keys_stand(rt.alloc(), *left, *right)?;
-        assert_eq!(rt; stands, (*wanted, *wanted == Ordering::Equal));
+    for (place, row) in KEYS.iter().enumerate() {
+        holds(&rt, do_stand(rt.alloc(), *row)?, place);
     }
-    let text = GroupKey::Text(String::from_str(rt.alloc(), "1")?);
-    assert!(rt; key(rt.alloc(), Untyped("1"))? == text);
+    holds(&rt, is_text_key(rt.alloc())?, 4);
     Ok(())
 }
+
 /// The value, or None where memory is wanting; any other fault is a failure.
 fn unless_refused<T: Drop>(rt: &impl Abort, outcome: Result<T, Fault>) -> Option<T> {
     match outcome {
@@ -399,6 +414,40 @@ fn unless_refused<T: Drop>(rt: &impl Abort, outcome: Result<T, Fault>) -> Option
     }
 }
 
+/// A copy compares as what it is a copy of.
+fn copy_grows(rt: &impl Abort, alloc: Global, data: &Atom) {
+    if let Some(copy) = unless_refused(rt, data.try_clone(alloc).map_err(Fault::Want)) {
+        is_text(rt, told(compare_value(CompOp::Eq, &copy, data)), "true");
+    }
+}
+
+/// A decimal without a fraction is an integer's text.
+fn text_grows(rt: &impl Abort, alloc: Global) {
+    let two = cast_str(alloc, &Atom::Dec(Decimal::from_int(2)));
+    if let Some(text) = unless_refused(rt, two.map_err(Fault::Want)) {
+        is_text(rt, text.as_str(), "2");
+    }
+}
+
+/// The key of untyped data is a text.
+fn key_grows(rt: &impl Abort, alloc: Global) {
+    if let Some(key) = unless_refused(rt, key(alloc, Untyped("1"))) {
+        holds(rt, matches!(key, GroupKey::Text(_)), 0);
+    }
+}
+
+/// A refused print leaves the text as it was.
+fn print_grows(rt: &impl Abort, alloc: Global, data: &Atom) {
+    let mut out = String::new(alloc);
+    let is_printed = unless_refused(rt, print(data, &mut out).map_err(Fault::Want)).is_some();
+    let printed = if is_printed {
+        "xs:untypedAtomic(\"1\")"
+    } else {
+        ""
+    };
+    is_text(rt, out.as_str(), printed);
+}
+
 /// Passes with ample memory, and also where any one of its allocations is refused
 /// (`rt try --test --fail-alloc N`): each call then gives its value or want of memory, and a
 /// refused print leaves the text as it was.
@@ -408,40 +457,31 @@ fn each_growth(rt: HostRuntime) {
     let Some(data) = unless_refused(&rt, made(alloc, Untyped("1"))) else {
         return;
     };
-    if let Some(copy) = unless_refused(&rt, data.try_clone(alloc).map_err(Fault::Want)) {
-        assert_eq!(rt; told(compare_value(CompOp::Eq, &copy, &data)), "true");
-    }
-    let two = cast_str(alloc, &Atom::Dec(Decimal::from_int(2)));
-    if let Some(text) = unless_refused(&rt, two.map_err(Fault::Want)) {
-        assert_eq!(rt; text.as_str(), "2");
-    }
-    if let Some(key) = unless_refused(&rt, key(alloc, Untyped("1"))) {
-        assert!(rt; matches!(key, GroupKey::Text(_)));
-    }
-    let mut out = String::new(alloc);
-    let printed = match unless_refused(&rt, print(&data, &mut out).map_err(Fault::Want)) {
-        Some(()) => "xs:untypedAtomic(\"1\")",
-        None => "",
-    };
-    assert_eq!(rt; out.as_str(), printed);
+    copy_grows(&rt, alloc, &data);
+    text_grows(&rt, alloc);
+    key_grows(&rt, alloc);
+    print_grows(&rt, alloc, &data);
 }
 
+const LONGEST: [u8; 200] = [b'a'; 200];
+
+const TOO_LONG: [u8; 201] = [b'a'; 201];
+
 /// An address has 1 to 200 bytes of letters, digits and four signs.
+const ADDRESSES: [(&[u8], bool); 8] = [
+    (b"", false),
+    (b"a", true),
+    (&LONGEST, true),
+    (&TOO_LONG, false),
+    (b"A/z0._-9", true),
+    (b"a b", false),
+    (b"a:b", false),
+    (b"\xc3\xa4", false),
+];
+
 #[test]
 fn addresses(rt: HostRuntime) {
-    let longest = [b'a'; 200];
-    let too_long = [b'a'; 201];
-    let rows: [(&[u8], bool); 8] = [
-        (b"", false),
-        (b"a", true),
-        (&longest, true),
-        (&too_long, false),
-        (b"A/z0._-9", true),
-        (b"a b", false),
-        (b"a:b", false),
-        (b"\xc3\xa4", false),
-    ];
-    for (bytes, is_address) in rows {
-        assert_eq!(rt; address_ok(bytes), is_address);
+    for (place, (bytes, is_address)) in ADDRESSES.iter().enumerate() {
+        holds(&rt, address_ok(bytes) == *is_address, place);
     }
 }

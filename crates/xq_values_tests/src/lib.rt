@@ -5,6 +5,8 @@
 #[cfg(test)]
 mod answers;
 #[cfg(test)]
+mod asserts;
+#[cfg(test)]
 mod atoms;
 #[cfg(test)]
 mod documents;

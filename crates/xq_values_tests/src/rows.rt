@@ -1,6 +1,7 @@
 //! Rows: a call, its arguments, and what it has to give.
 
 use crate::answers::answer;
+use crate::asserts::is_text;
 use std::alloc::Global;
 use std::process::Abort;
 use xq_atoms::{Atom, Fault};
@@ -119,6 +120,6 @@ fn found(alloc: Global, call: Call) -> Result<String, Fault> {
 pub fn assert_rows(rt: &(impl Abort + AllocGlobal), rows: &[Called]) {
     for (call, wanted) in rows {
         let found = found(rt.alloc(), *call).expect(rt, wanted);
-        assert_eq!(rt; found.as_str(), *wanted);
+        is_text(rt, found.as_str(), wanted);
     }
 }

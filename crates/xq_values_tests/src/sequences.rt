@@ -1,7 +1,9 @@
 //! Functions on sequences, and effective boolean values (F&O 3.1, sections 7.3 and 14).
 
+use crate::asserts::holds;
 use crate::rows::Call::{OnAtoms, OnItems};
 use crate::rows::{Called, assert_rows};
+use std::alloc::Global;
 use xq_atoms::Fault;
 use xq_expressions::Function;
 use xq_functions::{effective, keeps};
@@ -73,15 +75,23 @@ const EFFECTIVE: [(Option<usize>, &[Sample], bool); 6] = [
     (Some(2), &[Str("")], false),
 ];
 
+/// Whether the items are true, at a position or without one.
+fn are_true(alloc: Global, position: Option<usize>, samples: &[Sample]) -> Result<bool, Fault> {
+    let items = items(alloc, samples)?;
+    Ok(match position {
+        Some(position) => keeps(position, &items)?,
+        None => effective(&items)?,
+    })
+}
+
 #[test]
 fn truths(rt: HostRuntime) -> Result<(), Fault> {
-    for (position, samples, wanted) in &EFFECTIVE {
-        let items = items(rt.alloc(), samples)?;
-        let found = match position {
-            Some(position) => keeps(*position, &items),
-            None => effective(&items),
-        };
-        assert_eq!(rt; found, Ok(*wanted));
+    for (place, (position, samples, wanted)) in EFFECTIVE.iter().enumerate() {
+        holds(
+            &rt,
+            are_true(rt.alloc(), *position, samples)? == *wanted,
+            place,
+        );
     }
     Ok(())
 }

@@ -2,6 +2,7 @@
 //! memory is refused.
 
 use crate::answers::push_items;
+use crate::asserts::{holds, is_number, is_text};
 use std::alloc::Global;
 use std::process::Abort;
 use xq_atoms::{Atom, Code, Fault, Want};
@@ -477,7 +478,7 @@ fn expand(
     allows_empty: bool,
 ) -> Result<Tuples, Fault> {
     let lists = values(alloc, lists)?;
-    assert_eq!(rt; lists.len(), stream.len());
+    assert!(rt; lists.len() == stream.len());
     if allows_empty {
         return Ok(stream.expand_empty(lists, at)?);
     }
@@ -492,13 +493,13 @@ fn bind(
     lists: &[&[Sample]],
 ) -> Result<Tuples, Fault> {
     let values = values(alloc, lists)?;
-    assert_eq!(rt; values.len(), stream.len());
+    assert!(rt; values.len() == stream.len());
     Ok(stream.bind(values)?)
 }
 
 /// `where`.
 fn keep(rt: &impl Abort, stream: Tuples, tests: &[bool]) -> Tuples {
-    assert_eq!(rt; tests.len(), stream.len());
+    assert!(rt; tests.len() == stream.len());
     stream.keep(tests)
 }
 
@@ -511,7 +512,7 @@ fn group(
     lists: &[&[Sample]],
 ) -> Result<Tuples, Fault> {
     let column = column(alloc, lists)?;
-    assert_eq!(rt; column.len(), stream.len());
+    assert!(rt; column.len() == stream.len());
     let mut keys = Vec::new(alloc);
     keys.push(column)?;
     stream.group(&[slot], keys)
@@ -526,7 +527,7 @@ fn order(
     spec: OrderSpec,
 ) -> Result<Tuples, Fault> {
     let column = column(alloc, lists)?;
-    assert_eq!(rt; column.len(), stream.len());
+    assert!(rt; column.len() == stream.len());
     let mut keys = Vec::new(alloc);
     keys.push(column)?;
     stream.order(keys, &[spec])
@@ -539,8 +540,8 @@ fn group_by_two(
     stream: Tuples,
     (first, second): (Vec<Vec<Atom>>, Vec<Vec<Atom>>),
 ) -> Result<Tuples, Fault> {
-    assert_eq!(rt; first.len(), stream.len());
-    assert_eq!(rt; second.len(), stream.len());
+    assert!(rt; first.len() == stream.len());
+    assert!(rt; second.len() == stream.len());
     let mut keys = Vec::new(alloc);
     keys.push(first)?;
     keys.push(second)?;
@@ -555,8 +556,8 @@ fn order_by_two(
     (first, second): (Vec<Vec<Atom>>, Vec<Vec<Atom>>),
     specs: [OrderSpec; 2],
 ) -> Result<Tuples, Fault> {
-    assert_eq!(rt; first.len(), stream.len());
-    assert_eq!(rt; second.len(), stream.len());
+    assert!(rt; first.len() == stream.len());
+    assert!(rt; second.len() == stream.len());
     let mut keys = Vec::new(alloc);
     keys.push(first)?;
     keys.push(second)?;
@@ -572,7 +573,7 @@ fn order_by_rows(
     specs: &[OrderSpec],
 ) -> Result<Tuples, Fault> {
     let rows = key_rows(alloc, lists)?;
-    assert_eq!(rt; rows.len(), stream.len());
+    assert!(rt; rows.len() == stream.len());
     stream.order_by_rows(rows, specs)
 }
 
@@ -596,7 +597,7 @@ fn group_by_keys(
     lists: &[&[Sample]],
 ) -> Result<Tuples, Fault> {
     let column = key_row(alloc, lists)?;
-    assert_eq!(rt; column.len(), stream.len());
+    assert!(rt; column.len() == stream.len());
     let mut keys = Vec::new(alloc);
     keys.push(column)?;
     stream.group_by_keys(&[slot], keys)
@@ -660,11 +661,11 @@ fn check_found(rt: &impl Abort, alloc: Global, stream: &Tuples, found: Found) ->
         Found::Values(slot, wanted) => (returned(rt, alloc, stream, slot)?, wanted),
         Found::Counts(slot, wanted) => (counts(rt, alloc, stream, slot)?, wanted),
         Found::Lacks(slot) => {
-            assert!(rt; !stream.has_slot(slot));
+            holds(rt, !stream.has_slot(slot), 0);
             return Ok(());
         }
     };
-    assert_eq!(rt; text.as_str(), wanted);
+    is_text(rt, text.as_str(), wanted);
     Ok(())
 }
 
@@ -675,7 +676,7 @@ fn check_stream(
     (clauses, length, wanted): Stream,
 ) -> Result<(), Fault> {
     let stream = stream_of(rt, alloc, clauses)?;
-    assert_eq!(rt; stream.len(), length);
+    is_number(rt, stream.len(), length);
     for found in wanted {
         check_found(rt, alloc, &stream, *found)?;
     }
@@ -705,7 +706,11 @@ fn rows_with_ample_memory(rt: HostRuntime) -> Result<(), Fault> {
 #[test]
 fn each_allocation(rt: HostRuntime) {
     let outcome = all_rows(&rt, rt.alloc());
-    assert!(rt; matches!(outcome, Ok(()) | Err(Fault::Want(Want::Memory))));
+    holds(
+        &rt,
+        matches!(outcome, Ok(()) | Err(Fault::Want(Want::Memory))),
+        0,
+    );
 }
 
 #[test]
@@ -723,11 +728,18 @@ fn no_tuples(rt: HostRuntime) -> Result<(), Fault> {
     check_streams(&rt, rt.alloc(), &NO_TUPLES)
 }
 
+/// Whether the keys of the clauses are refused.
+fn is_refused(rt: &impl Abort, alloc: Global, clauses: &[Clause]) -> bool {
+    matches!(
+        stream_of(rt, alloc, clauses),
+        Err(Fault::Code(Code::XPTY0004))
+    )
+}
+
 #[test]
 fn keys_of_one_kind(rt: HostRuntime) -> Result<(), Fault> {
-    for clauses in &REFUSED {
-        let refused = stream_of(&rt, rt.alloc(), clauses);
-        assert!(rt; matches!(refused, Err(Fault::Code(Code::XPTY0004))));
+    for (place, clauses) in REFUSED.iter().enumerate() {
+        holds(&rt, is_refused(&rt, rt.alloc(), clauses), place);
     }
     check_streams(&rt, rt.alloc(), &OF_ONE_KIND)
 }
