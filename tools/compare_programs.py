@@ -45,6 +45,13 @@ QUERIES = (
     'some $y in {path}, $x in doc("d")//{other} satisfies $y/@id = $x/@id',
     "for $x in {path} return (count($x/{name}) * 2 + 1) div {number} || concat($x/@id, 1, 'z')",
     "element {{concat('q', {number})}} {{attribute {{'a'}} {{{number}, 'x'}}, {path}/string()}}",
+    "for $x in 1 to {number}, $y in 2 return ($x * $y - 3 idiv $x + 1.5, {path}[$y])",
+    "for $x in 1 to {number} return {path}[$x - 1]",
+    "for $x in (0, {number}, 1.5) return concat('a', -7 + $x, {number} mod 2, 3 * $x)",
+    "let $z := 0, $x := ({number}, 2) return ({number} idiv $z, 1 + $x)",
+    'for $n in (1, 2.0, 0.5, {number}) return doc("d")//{name}/{other}[$n]',
+    "element {name} {{{number} + 1}}, element {other} {{concat('', {number})}}, element e {{''}}",
+    'doc("d")//{other}/{name}[2]/string()',
 )
 GROWN = 'document {{element r {{doc("d")/r/*[position() <= 30], element {name} {{"new"}}}}}}'
 MOST_SHOWN = 5
