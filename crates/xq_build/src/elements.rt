@@ -9,11 +9,24 @@ ghost use Rattle.xq_build.specs.private.Lone.{IsLoneText, around};
 use crate::content::content;
 use crate::judging::built;
 use std::alloc::Global;
-use xq_atoms::{Fault, Want, cast_str};
+use xq_atoms::{Atom, Fault, Want, cast_str};
 use xq_packed::PackedRows;
 use xq_packed_trees::PackedTree;
 use xq_regions::{Item, Kind};
 use xq_sources::RowLender;
+
+/// The string that is the only item, where it is not empty: it is read where it lies.
+fn lone_string(items: &[Item]) -> Option<&str>
+    ensures { IfSome result (λ text. IsLoneText (map item_view items.now) text.now) }
+{
+    let [Item::Atom(Atom::Str(text) | Atom::Untyped(text))] = items else {
+        return None;
+    };
+    if text.is_empty() {
+        return None;
+    }
+    Some(text.as_str())
+}
 
 /// The text of the only item, where that is an atom whose text is not empty.
 fn lone_text(alloc: Global, items: &[Item]) -> Result<Option<String>, Want>
@@ -67,6 +80,9 @@ pub fn element<L: RowLender>(
     ensures keeps { L.forest source.new ≡ L.forest source.old }
     ensures was_clean { L.is_clean source.new → L.is_clean source.old }
 {
+    if let Some(value) = lone_string(items) {
+        return around_text(alloc, name.as_str(), value);
+    }
     if let Some(value) = lone_text(alloc, items)? {
         return around_text(alloc, name.as_str(), value.as_str());
     }

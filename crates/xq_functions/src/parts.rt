@@ -1,5 +1,5 @@
 //! Texts put together, and texts that stand in other ones.
-ghost use Rattle.std.specs.Prelude.{◌≡◌, map, IfOk, IfErr, string_bytes};
+ghost use Rattle.std.specs.Prelude.{◌≡◌, ◌++◌, map, IfOk, IfErr, OnOk, string_bytes};
 ghost use Rattle.xq_atoms.specs.Atom.{atomic_of};
 ghost use Rattle.xq_atoms.specs.Cast.{text_of};
 ghost use Rattle.xq_regions.specs.Names.{holds};
@@ -7,6 +7,19 @@ ghost use Rattle.xq_meaning.specs.Texts as Texts;
 
 use std::alloc::Global;
 use xq_atoms::{Atom, Want, cast_str};
+
+/// Adds the text of an atom after others; that of a string is copied at once.
+fn push_text(alloc: Global, text: &mut String, atom: &Atom) -> Result<(), Want>
+    ensures text { OnOk result (string_bytes text.new
+        ≡ string_bytes text.old ++ text_of (atomic_of atom.now)) }
+    ensures want { IfErr result (λ want. want ≡ Want.Memory) }
+{
+    match atom {
+        Atom::Str(value) | Atom::Untyped(value) => text.push_str(value.as_str())?,
+        _ => text.push_str(cast_str(alloc, atom)?.as_str())?,
+    }
+    Ok(())
+}
 
 /// The atoms' texts with a separator between them (fn:string-join, F&O 3.1, section 5.4.2).
 pub fn joined(alloc: Global, separator: &str, atoms: &[Atom]) -> Result<String, Want>
@@ -20,7 +33,7 @@ pub fn joined(alloc: Global, separator: &str, atoms: &[Atom]) -> Result<String, 
         if !is_first {
             text.push_str(separator)?;
         }
-        text.push_str(cast_str(alloc, atom)?.as_str())?;
+        push_text(alloc, &mut text, atom)?;
         is_first = false;
     }
     Ok(text)

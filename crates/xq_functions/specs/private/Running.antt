@@ -1,8 +1,7 @@
 -- What is left to do of a walk over a list, from what it has so far.
 use Rattle.std.specs.Prelude.{◌≡◌, List, [], ◌++◌, map, Bool, Ok}
 use Rattle.xq_atoms.specs.declared.comparisons.CompOp.{CompOp}
-use Rattle.xq_atoms.specs.Compare.{key, key_of, key_cmp, holds}
-use Rattle.xq_atoms.specs.declared.atoms.GroupKey.{GroupKey}
+use Rattle.xq_atoms.specs.Compare.{Key, key, key_cmp, holds}
 use Rattle.xq_regions.specs.Items.{ItemView, Value}
 use Rattle.xq_atoms.specs.Judged.{Judged, ◌>>=◌}
 use Rattle.xq_atoms.specs.Text.{Text}
@@ -26,7 +25,7 @@ abbrev pub is_better : CompOp → Atomic → Atomic → Bool
 is_better op a b = holds op (key_cmp (key a) (key b))
 
 -- the keys that were seen, each once, and the values that they stand for
-pub record Distinct (done : List Atomic) (seen : List GroupKey)
+pub record Distinct (done : List Atomic) (seen : List Key)
     (values : List ItemView) : Type 0 where
-  pub keys : map key_of seen ≡ map key (distinct_values done)
+  pub keys : seen ≡ map key (distinct_values done)
   pub items : values ≡ map Value (distinct_values done)

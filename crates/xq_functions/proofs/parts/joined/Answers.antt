@@ -23,8 +23,8 @@ loop-atom-preserved c =
     let before : (length done == 0) ≡ c.loop-atom.is_first = ap (λ n. n == 0) count ∙ sym c.loop-atom.invariant.first in
     let more = map_more f atoms i c.atom-item.result (omega arith) in
     let item : map f (take (i + 1) atoms) ≡ done ++ this ∷ [] = more ∙ ap (λ x. done ++ f x ∷ []) (sym c.atom-item.is) in
-    let pushed : string_bytes c.push_str-in-loop-atom.new.self ≡ string_bytes c.if-not-is_first.text ++ this = c.in_ok-push_str-2.ensures.bytes ∙ ap (λ t. string_bytes c.if-not-is_first.text ++ t) (c.as_str.ensures.value ∙ c.in_ok-cast_str.ensures.ok) in
-    let text : string_bytes c.push_str-in-loop-atom.new.self ≡ Texts.joined separator (done ++ this ∷ []) =
+    let pushed : string_bytes c.push_text.new.text ≡ string_bytes c.if-not-is_first.text ++ this = c.in_ok-push_text.ensures.text in
+    let text : string_bytes c.push_text.new.text ≡ Texts.joined separator (done ++ this ∷ []) =
     elim c.if-not-is_first.branch [
       | then-not-is_first+in_ok-push_str w ↦
           pushed ∙ ap (λ t. string_bytes t ++ this) w.text-is ∙ ap (λ t. t ++ this) (w.in_ok-push_str.ensures.bytes ∙ ap (λ t. t ++ separator) c.loop-atom.invariant.text)
