@@ -1,7 +1,7 @@
 //! Which texts the grammar derives, as the outermost level of what they stand for (XQuery 3.1,
 //! appendix A.1).
 
-use crate::levels::{Outcome, assert_outcomes, outcome_of};
+use crate::levels::{Outcome, assert_outcomes, is_outcome, outcome_of};
 use std::alloc::{AllocError, Global};
 use xq_atoms::Code;
 use xq_expressions::{NamedNode, UnnamedNode};
@@ -236,7 +236,7 @@ const UNDERIVED: [&str; 54] = [
 fn what_nothing_derives_is_refused(rt: HostRuntime) {
     let refused = Outcome::Refused(Code::XPST0003);
     for text in &UNDERIVED {
-        assert_eq!(rt; outcome_of(rt.alloc(), text), refused, "{text}");
+        is_outcome(&rt, text, outcome_of(rt.alloc(), text), refused);
     }
 }
 
@@ -253,13 +253,28 @@ fn enclosed(alloc: Global, pairs: usize) -> Result<String, AllocError> {
     Ok(text)
 }
 
+/// What becomes of a number in so many pairs of parentheses.
+fn outcome_in(alloc: Global, pairs: usize) -> Outcome {
+    match enclosed(alloc, pairs) {
+        Ok(text) => outcome_of(alloc, text.as_str()),
+        Err(_refused) => Outcome::Memory,
+    }
+}
+
+/// Pairs of parentheses, and what becomes of the text.
+const NESTINGS: [(usize, Outcome); 2] = [
+    (128, Outcome::Literal),
+    (129, Outcome::Refused(Code::ProfDepth)),
+];
+
 #[test]
 fn nesting_ends_at_128(rt: HostRuntime) {
-    for (pairs, wanted) in [
-        (128, Outcome::Literal),
-        (129, Outcome::Refused(Code::ProfDepth)),
-    ] {
-        let text = enclosed(rt.alloc(), pairs).expect(&rt, "a text");
-        assert_eq!(rt; outcome_of(rt.alloc(), text.as_str()), wanted, "{pairs}");
+    for (pairs, wanted) in &NESTINGS {
+        is_outcome(
+            &rt,
+            "in parentheses",
+            outcome_in(rt.alloc(), *pairs),
+            *wanted,
+        );
     }
 }

@@ -115,9 +115,14 @@ pub fn outcome_of(alloc: Global, text: &str) -> Outcome {
     }
 }
 
+/// Asserts what became of a text.
+pub fn is_outcome(rt: &impl Abort, text: &str, found: Outcome, wanted: Outcome) {
+    assert_eq!(rt; found, wanted, "{text}");
+}
+
 /// Asserts what becomes of each text.
 pub fn assert_outcomes(rt: &(impl Abort + AllocGlobal), rows: &[(&str, Outcome)]) {
     for (text, wanted) in rows {
-        assert_eq!(rt; outcome_of(rt.alloc(), text), *wanted, "{text}");
+        is_outcome(rt, text, outcome_of(rt.alloc(), text), *wanted);
     }
 }

@@ -12,18 +12,27 @@ fn outcome_of(alloc: Global, text: &str) -> Result<(), Fault> {
     check(alloc, &found.expression)
 }
 
+/// Asserts how the checks of a text ended.
+fn is_outcome(rt: &impl Abort, text: &str, found: Result<(), Fault>, wanted: Result<(), Fault>) {
+    assert_eq!(rt; found, wanted, "{text}");
+}
+
 /// Asserts that each text is refused with its code.
 fn assert_refused(rt: &(impl Abort + AllocGlobal), rows: &[(&str, Code)]) {
     for (text, code) in rows {
-        let refused = Err(Fault::Code(*code));
-        assert_eq!(rt; outcome_of(rt.alloc(), text), refused, "{text}");
+        is_outcome(
+            rt,
+            text,
+            outcome_of(rt.alloc(), text),
+            Err(Fault::Code(*code)),
+        );
     }
 }
 
 /// Asserts that each text passes.
 fn assert_passed(rt: &(impl Abort + AllocGlobal), texts: &[&str]) {
     for text in texts {
-        assert_eq!(rt; outcome_of(rt.alloc(), text), Ok(()), "{text}");
+        is_outcome(rt, text, outcome_of(rt.alloc(), text), Ok(()));
     }
 }
 

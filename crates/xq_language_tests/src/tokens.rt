@@ -21,11 +21,16 @@ fn code_of(alloc: Global, text: &str) -> Option<Code> {
     }
 }
 
+/// Asserts how the tokens of a text are shown.
+fn is_shown(rt: &impl Abort, text: &str, found: &str, wanted: &str) {
+    assert_eq!(rt; found, wanted, "{text}");
+}
+
 /// Asserts how the tokens of each text are shown.
 fn assert_shown(rt: &(impl Abort + AllocGlobal), rows: &[(&str, &str)]) {
     for (text, wanted) in rows {
         let found = shown(rt.alloc(), text).expect(rt, wanted);
-        assert_eq!(rt; found.as_str(), *wanted, "{text}");
+        is_shown(rt, text, found.as_str(), wanted);
     }
 }
 
@@ -138,10 +143,15 @@ const FAULTS: [(&str, Code); 15] = [
     ("9223372036854775808", Code::FOAR0002),
 ];
 
+/// Asserts which code the text is refused with.
+fn is_code(rt: &impl Abort, text: &str, found: Option<Code>, wanted: Code) {
+    assert_eq!(rt; found, Some(wanted), "{text}");
+}
+
 #[test]
 fn faults_have_their_codes(rt: HostRuntime) {
     for (text, code) in &FAULTS {
-        assert_eq!(rt; code_of(rt.alloc(), text), Some(*code), "{text}");
+        is_code(&rt, text, code_of(rt.alloc(), text), *code);
     }
 }
 
@@ -154,13 +164,32 @@ fn enclosed(alloc: Global, brackets: u32) -> Result<String, AllocError> {
     Ok(text)
 }
 
+/// How deep the brackets of the text nest, where it is read.
+fn nesting_of(alloc: Global, text: &str) -> Option<u32> {
+    match lex(alloc, text) {
+        Ok(tokens) => Some(nesting(&tokens)),
+        Err(_fault) => None,
+    }
+}
+
+/// The same of a number in so many brackets.
+fn nesting_in(alloc: Global, brackets: u32) -> Option<u32> {
+    match enclosed(alloc, brackets) {
+        Ok(text) => nesting_of(alloc, text.as_str()),
+        Err(_refused) => None,
+    }
+}
+
+/// Asserts how deep brackets nest.
+fn is_nesting(rt: &impl Abort, found: Option<u32>, wanted: u32) {
+    assert_eq!(rt; found, Some(wanted));
+}
+
+const BRACKETS: [u32; 3] = [2, 128, 129];
+
 #[test]
 fn brackets_nest(rt: HostRuntime) {
-    for brackets in [2, 128, 129] {
-        let text = enclosed(rt.alloc(), brackets).expect(&rt, "a text");
-        let Ok(tokens) = lex(rt.alloc(), text.as_str()) else {
-            panic!(rt; "refused");
-        };
-        assert_eq!(rt; nesting(&tokens), brackets);
+    for brackets in &BRACKETS {
+        is_nesting(&rt, nesting_in(rt.alloc(), *brackets), *brackets);
     }
 }

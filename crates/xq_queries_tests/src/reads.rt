@@ -1,6 +1,8 @@
 //! How many rows of the library, which has eight, are read by paths from it.
 
 use crate::asked::{read_to_answer, read_to_evaluate};
+use std::process::Abort;
+use xq_sources::Meter;
 
 /// A path, eight times its number of steps, the rows below the nodes that it leads to, below each
 /// of them for itself, and the number of these nodes.
@@ -19,12 +21,19 @@ const PATHS: [(&str, u64, u64, u64); 7] = [
     ("doc(\"c\")/descendant::node()/descendant::node()", 0, 0, 0),
 ];
 
+/// Asserts that so many rows of ranges and so many single ones were read at most.
+fn reads_at_most(rt: &impl Abort, query: &str, meter: Meter, (rows, singles): (u64, u64)) {
+    assert!(rt;
+        meter.rows() <= rows && meter.singles() <= singles,
+        "{query}"
+    );
+}
+
 #[test]
 fn each_row_once_a_step(rt: HostRuntime) {
     for (query, scanned, _, _) in &PATHS {
         let meter = read_to_evaluate(rt.alloc(), query).expect(&rt, query);
-        assert!(rt; meter.rows() <= *scanned, "{query}");
-        assert!(rt; meter.singles() <= *scanned, "{query}");
+        reads_at_most(&rt, query, meter, (*scanned, *scanned));
     }
 }
 
@@ -32,10 +41,10 @@ fn each_row_once_a_step(rt: HostRuntime) {
 fn then_each_row_below_an_item(rt: HostRuntime) {
     for (query, scanned, below, nodes) in &PATHS {
         let meter = read_to_answer(rt.alloc(), query).expect(&rt, query);
-        assert!(rt; meter.rows() <= scanned.saturating_add(*below), "{query}");
-        assert!(rt;
-            meter.singles() <= scanned.saturating_add(*nodes),
-            "{query}"
+        let most = (
+            scanned.saturating_add(*below),
+            scanned.saturating_add(*nodes),
         );
+        reads_at_most(&rt, query, meter, most);
     }
 }

@@ -1,4 +1,5 @@
 //! What is adopted, and what is no store.
+use crate::asserts::none_is_wrong;
 use crate::stores::{ROWS_AS_TEXT, TABLE_NAMES, adopt, filled, made, shown};
 use sqlite::{Alter, Connection, Error};
 use std::alloc::Global;
@@ -330,7 +331,7 @@ fn first_misjudged(alloc: Global, (tables, judged): Table) -> Result<Option<usiz
 #[test]
 fn judges_databases(rt: HostRuntime) -> Result<(), Fail> {
     for (number, table) in ALL.iter().enumerate() {
-        assert_eq!(rt; first_misjudged(rt.alloc(), *table)?, None, "{number}");
+        none_is_wrong(&rt, first_misjudged(rt.alloc(), *table)?, number);
     }
     Ok(())
 }

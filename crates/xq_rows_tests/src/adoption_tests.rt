@@ -1,6 +1,7 @@
 //! What an adoption comes to where memory is refused once: the store of the documents that are
 //! there, at the second time where the first was refused.
 use crate::adopt_tests::{BOOKS, LAYOUT, NODE, ONE};
+use crate::asserts::is_right;
 use crate::calls::{Call, first_wrong};
 use crate::documents::LIBRARY;
 use crate::stores::{adopt, adopted, made, made_on_disks, opened_again};
@@ -58,9 +59,9 @@ fn serves_again<S: Alter + Drop>(alloc: Global, conn: Connection<S>, calls: &[Ca
 #[test]
 fn each_allocation_in_memory(rt: HostRuntime) -> Result<(), Fail> {
     let alloc = rt.alloc();
-    for (statements, calls) in &DATABASES {
+    for (place, (statements, calls)) in DATABASES.iter().enumerate() {
         let conn = made(alloc, statements).or_else(|_error| made(alloc, statements))?;
-        assert!(rt; serves_again(alloc, conn, calls));
+        is_right(&rt, serves_again(alloc, conn, calls), place);
     }
     Ok(())
 }
@@ -82,12 +83,12 @@ fn adopted_at_last(
 #[test]
 fn each_allocation_on_memory_disks(rt: HostRuntime) -> Result<(), Fail> {
     let alloc = rt.alloc();
-    for (statements, calls) in &DATABASES {
+    for (place, (statements, calls)) in DATABASES.iter().enumerate() {
         let conn = made_on_disks(alloc, statements).or_else(|_error| made_on_disks(
             alloc, statements,
         ))?;
         let store = adopted_at_last(alloc, conn)?;
-        assert!(rt; answers_again(alloc, store, calls));
+        is_right(&rt, answers_again(alloc, store, calls), place);
     }
     Ok(())
 }

@@ -1,6 +1,7 @@
 //! Steps over the documents of a store: over a view that reads their rows for the first time, and
 //! over one whose rows the store kept.
 
+use crate::asserts::none_is_wrong;
 use crate::stores::{in_memory, load, on_disks, put};
 use crate::views::{Task, seen};
 use sqlite::Alter;
@@ -95,9 +96,10 @@ fn wrong_scan_of<S: Alter + Drop>(
 fn steps_in_memory(rt: HostRuntime) -> Result<(), Want> {
     let alloc = rt.alloc();
     let document = library(alloc)?;
-    assert_eq!(rt;
+    none_is_wrong(
+        &rt,
         wrong_scan_of(alloc, in_memory(alloc)?, document, &SCANS)?,
-        None
+        0,
     );
     Ok(())
 }
@@ -106,9 +108,10 @@ fn steps_in_memory(rt: HostRuntime) -> Result<(), Want> {
 fn register_steps_in_memory(rt: HostRuntime) -> Result<(), Want> {
     let alloc = rt.alloc();
     let document = register(alloc)?;
-    assert_eq!(rt;
+    none_is_wrong(
+        &rt,
         wrong_scan_of(alloc, in_memory(alloc)?, document, &REGISTER_SCANS)?,
-        None
+        0,
     );
     Ok(())
 }
@@ -117,9 +120,10 @@ fn register_steps_in_memory(rt: HostRuntime) -> Result<(), Want> {
 fn great_steps_on_memory_disks(rt: HostRuntime) -> Result<(), Want> {
     let alloc = rt.alloc();
     let document = great_library(alloc)?;
-    assert_eq!(rt;
+    none_is_wrong(
+        &rt,
         wrong_scan_of(alloc, on_disks(alloc)?, document, &GREAT_SCANS)?,
-        None
+        0,
     );
     Ok(())
 }

@@ -1,6 +1,7 @@
 //! A view of kept rows reads none by a statement: it answers where the disk answers nothing any
 //! more, so that a statement that reads rows is refused.
 
+use crate::asserts::is_right;
 use crate::calls::Call;
 use crate::documents::LIBRARY;
 use crate::stores::adopt;
@@ -115,7 +116,7 @@ fn kept_rows_are_read_from_no_disk(rt: HostRuntime) -> Result<(), Want> {
     let alloc = rt.alloc();
     let log = fewest_of_log(alloc);
     let db = fewest_of_db(alloc, log);
-    assert!(rt; log < MOST && db < MOST);
-    assert!(rt; reads_kept_rows(alloc, opened(alloc, log, db)?)?);
+    is_right(&rt, log < MOST && db < MOST, 0);
+    is_right(&rt, reads_kept_rows(alloc, opened(alloc, log, db)?)?, 1);
     Ok(())
 }

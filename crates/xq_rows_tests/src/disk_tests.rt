@@ -1,5 +1,6 @@
 //! A disk in memory: what it holds after writes and cuts, and what it refuses to read.
 
+use crate::asserts::none_is_wrong;
 use sqlite_disk::Disk;
 use std::io;
 use std::test::Fail;
@@ -88,9 +89,9 @@ fn wrong_call(disk: &mut MemoryDisk, calls: &[Call]) -> io::Result<Option<usize>
 
 #[test]
 fn disks_in_memory(rt: HostRuntime) -> Result<(), Fail> {
-    for calls in &LISTS {
+    for (number, calls) in LISTS.iter().enumerate() {
         let mut disk = MemoryDisk::new(rt.alloc());
-        assert_eq!(rt; wrong_call(&mut disk, calls)?, None);
+        none_is_wrong(&rt, wrong_call(&mut disk, calls)?, number);
     }
     Ok(())
 }

@@ -2,6 +2,7 @@
 //! tables hold afterwards what a fresh put of the last document leaves in them.
 ghost use Rattle.std.specs.Prelude.{◌<◌};
 
+use crate::asserts::is_right;
 use crate::documents::rooted;
 use crate::stores::{hand_over, in_memory, left_in, on_disks, put};
 use crate::views::{Task, seen};
@@ -302,26 +303,44 @@ fn left_by_all<S: Alter + Drop>(
     Ok((left_by(alloc, store, &last)?, last))
 }
 
+/// Whether the tables of a store in memory hold, once the documents of a case have been put into
+/// it, what they hold once the last has been put alone.
+fn leaves_the_same_in_memory(alloc: Global, case: Case) -> Result<bool, Fail> {
+    let (left, last) = left_by_all(alloc, in_memory(alloc)?, case)?;
+    let fresh = left_by(alloc, in_memory(alloc)?, &last)?;
+    Ok(left == fresh)
+}
+
 #[test]
 fn edits_in_memory(rt: HostRuntime) -> Result<(), Fail> {
-    let alloc = rt.alloc();
     for seed in 0..30 {
-        let (left, last) = left_by_all(alloc, in_memory(alloc)?, case_of(seed, 12))?;
-        let fresh = left_by(alloc, in_memory(alloc)?, &last)?;
-        assert!(rt; left == fresh, "{seed}");
+        let case = case_of(seed, 12);
+        is_right(
+            &rt,
+            leaves_the_same_in_memory(rt.alloc(), case)?,
+            seed as usize,
+        );
     }
     Ok(())
+}
+
+/// The same of a store on disks in memory.
+fn leaves_the_same_on_disks(alloc: Global, case: Case) -> Result<bool, Fail> {
+    let (left, last) = left_by_all(alloc, on_disks(alloc)?, case)?;
+    let fresh = left_by(alloc, on_disks(alloc)?, &last)?;
+    Ok(left == fresh)
 }
 
 /// The last documents are so long that they are read and kept in parts.
 #[test]
 fn edits_on_memory_disks(rt: HostRuntime) -> Result<(), Fail> {
-    let alloc = rt.alloc();
     for seed in 30..60 {
         let case = case_of(seed, if seed < 57 { 12 } else { 600 });
-        let (left, last) = left_by_all(alloc, on_disks(alloc)?, case)?;
-        let fresh = left_by(alloc, on_disks(alloc)?, &last)?;
-        assert!(rt; left == fresh, "{seed}");
+        is_right(
+            &rt,
+            leaves_the_same_on_disks(rt.alloc(), case)?,
+            seed as usize,
+        );
     }
     Ok(())
 }

@@ -3,6 +3,7 @@
 //! elements.
 
 use crate::adopt_tests::ORDERS;
+use crate::asserts::none_is_wrong;
 use crate::calls::Call;
 use crate::documents::{EMPTY, LIBRARY, RENUMBERED, TURNED};
 use crate::loans::Look;
@@ -173,10 +174,11 @@ const LISTS: [&[Step]; 5] = [&STEPS, &BOTH, &TABLES, &NAMES, &VALUES];
 
 #[test]
 fn views_in_memory(rt: HostRuntime) -> Result<(), Want> {
-    for steps in &LISTS {
-        assert_eq!(rt;
+    for (number, steps) in LISTS.iter().enumerate() {
+        none_is_wrong(
+            &rt,
             wrong_step(rt.alloc(), in_memory(rt.alloc())?, steps)?,
-            None
+            number,
         );
     }
     Ok(())
@@ -184,17 +186,21 @@ fn views_in_memory(rt: HostRuntime) -> Result<(), Want> {
 
 #[test]
 fn views_on_memory_disks(rt: HostRuntime) -> Result<(), Want> {
-    for steps in &LISTS {
-        assert_eq!(rt; wrong_step(rt.alloc(), on_disks(rt.alloc())?, steps)?, None);
+    for (number, steps) in LISTS.iter().enumerate() {
+        none_is_wrong(
+            &rt,
+            wrong_step(rt.alloc(), on_disks(rt.alloc())?, steps)?,
+            number,
+        );
     }
     Ok(())
 }
 
 #[test]
 fn views_of_other_orders(rt: HostRuntime) -> Result<(), Fail> {
-    for order in &ORDERS {
+    for (number, order) in ORDERS.iter().enumerate() {
         let store = adopted(rt.alloc(), made(rt.alloc(), order)?)?;
-        assert_eq!(rt; wrong_step(rt.alloc(), store, &STEPS)?, None);
+        none_is_wrong(&rt, wrong_step(rt.alloc(), store, &STEPS)?, number);
     }
     Ok(())
 }

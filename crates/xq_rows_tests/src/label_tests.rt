@@ -2,6 +2,7 @@
 //! what is found as they are adopted again. Names have labels, also where tables of edition 1 are
 //! carried over.
 use crate::adopt_tests::{BOOKS, DOCUMENT_2, LABEL, LAYOUT, NODE, NODE2, ONE, TWO, ZERO};
+use crate::asserts::is_right_for;
 use crate::calls::{CALL_ROWS, Call, REPLACING, first_wrong, first_wrong_of};
 use crate::documents::{EMPTY, ID, LIBRARY, NEW, Z};
 use crate::stores::{
@@ -202,21 +203,28 @@ fn holds<S: Alter + Drop>(alloc: Global, store: Store<S>, case: &Case) -> Result
 #[test]
 fn adopted_stores(rt: HostRuntime) -> Result<(), Fail> {
     for case in &CASES {
-        let name = case.name;
         let store = adopted(rt.alloc(), made(rt.alloc(), case.made)?)?;
-        assert!(rt; holds(rt.alloc(), store, case)?, "{name}");
+        is_right_for(&rt, holds(rt.alloc(), store, case)?, case.name);
     }
     Ok(())
 }
 
 #[test]
 fn released_in_memory(rt: HostRuntime) -> Result<(), Fail> {
-    assert!(rt; holds(rt.alloc(), in_memory(rt.alloc())?, &NEW_STORE)?);
+    is_right_for(
+        &rt,
+        holds(rt.alloc(), in_memory(rt.alloc())?, &NEW_STORE)?,
+        NEW_STORE.name,
+    );
     Ok(())
 }
 
 #[test]
 fn released_on_memory_disks(rt: HostRuntime) -> Result<(), Fail> {
-    assert!(rt; holds(rt.alloc(), on_disks(rt.alloc())?, &NEW_STORE)?);
+    is_right_for(
+        &rt,
+        holds(rt.alloc(), on_disks(rt.alloc())?, &NEW_STORE)?,
+        NEW_STORE.name,
+    );
     Ok(())
 }

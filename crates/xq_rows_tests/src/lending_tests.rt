@@ -1,6 +1,7 @@
 //! What views lend, one after another: the rows of the documents as they are, over the borders of
 //! what is read and replaced at once, and after each put and drop between one view and the next.
 
+use crate::asserts::{each_is_answered, is_right, none_is_wrong};
 use crate::calls::{Call, first_wrong_of};
 use crate::documents::Document::Comments;
 use crate::loans::Look;
@@ -59,9 +60,10 @@ const STEPS: [Step; 12] = [
 
 #[test]
 fn rows_after_changes(rt: HostRuntime) -> Result<(), Want> {
-    assert_eq!(rt;
+    none_is_wrong(
+        &rt,
         wrong_step(rt.alloc(), on_disks(rt.alloc())?, &STEPS)?,
-        None
+        0,
     );
     Ok(())
 }
@@ -92,7 +94,11 @@ fn are_told<S: Alter + Drop>(
 #[test]
 fn names_among_all_rows(rt: HostRuntime) -> Result<(), Want> {
     let document = great_library(rt.alloc())?;
-    assert!(rt; are_told(rt.alloc(), on_disks(rt.alloc())?, &document)?);
+    is_right(
+        &rt,
+        are_told(rt.alloc(), on_disks(rt.alloc())?, &document)?,
+        0,
+    );
     Ok(())
 }
 
@@ -125,9 +131,10 @@ const PARTS: [Call; 22] = [
 
 #[test]
 fn longer_and_shorter_documents(rt: HostRuntime) -> Result<(), Want> {
-    assert_eq!(rt;
+    each_is_answered(
+        &rt,
         first_wrong_of(rt.alloc(), on_disks(rt.alloc())?, &PARTS)?,
-        0
+        0,
     );
     Ok(())
 }

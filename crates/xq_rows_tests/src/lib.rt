@@ -8,6 +8,8 @@ mod adopt_tests;
 #[cfg(test)]
 mod adoption_tests;
 #[cfg(test)]
+mod asserts;
+#[cfg(test)]
 mod axes_tests;
 #[cfg(test)]
 mod calls;

@@ -1,5 +1,6 @@
 //! Documents in the place of others: the tables hold afterwards what a fresh put leaves in them.
 
+use crate::asserts::{is_right, is_right_for};
 use crate::documents::rooted;
 use crate::stores::{left_in, on_disks, put};
 use sqlite::Alter;
@@ -84,13 +85,18 @@ fn left_by<S: Alter + Drop>(
     Ok(left_in(alloc, store)?)
 }
 
+/// Whether the tables hold, once the documents have been put one after the other, what they hold
+/// once the last has been put alone.
+fn leaves_the_same(alloc: Global, first: Runs, runs: Runs) -> Result<bool, Fail> {
+    let replaced = left_by(alloc, on_disks(alloc)?, &[first, runs])?;
+    let fresh = left_by(alloc, on_disks(alloc)?, &[runs])?;
+    Ok(replaced == fresh)
+}
+
 #[test]
 fn each_edit_leaves_what_a_fresh_put_leaves(rt: HostRuntime) -> Result<(), Fail> {
-    let alloc = rt.alloc();
     for (edit, first, runs) in &EDITS {
-        let replaced = left_by(alloc, on_disks(alloc)?, &[*first, *runs])?;
-        let fresh = left_by(alloc, on_disks(alloc)?, &[*runs])?;
-        assert!(rt; replaced == fresh, "{edit}");
+        is_right_for(&rt, leaves_the_same(rt.alloc(), *first, *runs)?, edit);
     }
     Ok(())
 }
@@ -117,12 +123,17 @@ fn rows_of(alloc: Global, count: u32) -> Result<String, Fail> {
     Ok(rows)
 }
 
+/// Whether the document with the first so many instructions is put whole.
+fn is_put_whole(alloc: Global, count: u32) -> Result<bool, Fail> {
+    let left = left_of(alloc, count)?;
+    Ok(left == rows_of(alloc, count)?)
+}
+
 /// One statement inserts eight rows, where there are so many.
 #[test]
 fn each_number_of_rows_is_put_whole(rt: HostRuntime) -> Result<(), Fail> {
-    let alloc = rt.alloc();
     for count in 0..26 {
-        assert!(rt; left_of(alloc, count)? == rows_of(alloc, count)?, "{count}");
+        is_right(&rt, is_put_whole(rt.alloc(), count)?, count as usize);
     }
     Ok(())
 }

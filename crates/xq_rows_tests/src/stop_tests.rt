@@ -4,6 +4,7 @@ use crate::adopt_tests::{BOOKS, LAYOUT, NODE, ONE};
 use crate::calls::{Call, first_wrong};
 use crate::documents::{EMPTY, LIBRARY, LONGER};
 use std::alloc::Global;
+use std::process::Abort;
 use std::test::Fail;
 use xq_atoms::Want;
 use xq_rows::Put;
@@ -114,27 +115,31 @@ const RUNS: [Run<'static, Call>; 6] = [
     },
 ];
 
+/// Makes each run, with a file that stops at each of its calls in turn, and checks that none is
+/// answered wrongly or leaves other documents. A log of one page is copied into the database at
+/// each commit.
+fn check_stops(rt: &(impl Abort + AllocGlobal), stop: Stop, log_pages: usize) -> Result<(), Fail> {
+    let wrong = wrong_run(rt.alloc(), &RUNS, stop, log_pages)?;
+    assert_eq!(rt; wrong, None);
+    Ok(())
+}
+
 #[test]
 fn of_the_log(rt: HostRuntime) -> Result<(), Fail> {
-    assert_eq!(rt; wrong_run(rt.alloc(), &RUNS, Stop::OfLog, 128)?, None);
-    Ok(())
+    check_stops(&rt, Stop::OfLog, 128)
 }
 
 #[test]
 fn of_the_database(rt: HostRuntime) -> Result<(), Fail> {
-    assert_eq!(rt; wrong_run(rt.alloc(), &RUNS, Stop::OfDatabase, 128)?, None);
-    Ok(())
+    check_stops(&rt, Stop::OfDatabase, 128)
 }
 
-/// A log of one page is copied into the database at each commit.
 #[test]
 fn of_a_short_log(rt: HostRuntime) -> Result<(), Fail> {
-    assert_eq!(rt; wrong_run(rt.alloc(), &RUNS, Stop::OfLog, 1)?, None);
-    Ok(())
+    check_stops(&rt, Stop::OfLog, 1)
 }
 
 #[test]
 fn of_the_database_under_a_short_log(rt: HostRuntime) -> Result<(), Fail> {
-    assert_eq!(rt; wrong_run(rt.alloc(), &RUNS, Stop::OfDatabase, 1)?, None);
-    Ok(())
+    check_stops(&rt, Stop::OfDatabase, 1)
 }

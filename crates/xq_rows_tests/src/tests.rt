@@ -1,5 +1,6 @@
 //! The calls over both stores, and what refused allocations leave.
 
+use crate::asserts::{each_is_answered, is_right};
 use crate::calls::{CALL_ROWS, Call, REPLACING, first_wrong_of};
 use crate::refusals::{Fate, fate_of_calls};
 use crate::stores::{in_memory, on_disks, opened_again, table_rows};
@@ -14,10 +15,11 @@ const TABLES: [&[Call]; 2] = [&CALL_ROWS, &REPLACING];
 
 #[test]
 fn calls_in_memory(rt: HostRuntime) -> Result<(), Want> {
-    for calls in &TABLES {
-        assert_eq!(rt;
+    for (number, calls) in TABLES.iter().enumerate() {
+        each_is_answered(
+            &rt,
             first_wrong_of(rt.alloc(), in_memory(rt.alloc())?, calls)?,
-            0
+            number,
         );
     }
     Ok(())
@@ -25,10 +27,11 @@ fn calls_in_memory(rt: HostRuntime) -> Result<(), Want> {
 
 #[test]
 fn calls_on_memory_disks(rt: HostRuntime) -> Result<(), Want> {
-    for calls in &TABLES {
-        assert_eq!(rt;
+    for (number, calls) in TABLES.iter().enumerate() {
+        each_is_answered(
+            &rt,
             first_wrong_of(rt.alloc(), on_disks(rt.alloc())?, calls)?,
-            0
+            number,
         );
     }
     Ok(())
@@ -46,7 +49,7 @@ fn comes_through<S: Alter + Drop>(alloc: Global, store: Store<S>) -> bool {
 fn each_allocation_in_memory(rt: HostRuntime) -> Result<(), Want> {
     let alloc = rt.alloc();
     let store = in_memory(alloc).or_else(|_want| in_memory(alloc))?;
-    assert!(rt; comes_through(alloc, store));
+    is_right(&rt, comes_through(alloc, store), 0);
     Ok(())
 }
 
@@ -79,6 +82,6 @@ fn each_allocation_on_memory_disks(rt: HostRuntime) -> Result<(), Fail> {
         return Ok(());
     };
     let rows = rows_left(alloc, opened_again(alloc, conn)?)?;
-    assert_eq!(rt; rows.as_str(), wanted);
+    is_right(&rt, rows.as_str() == wanted, 0);
     Ok(())
 }

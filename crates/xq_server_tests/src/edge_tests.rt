@@ -1,5 +1,7 @@
 //! The words of the command line, and the ends of the program.
 
+use crate::asserts::{is_number, is_right, is_text};
+use std::alloc::Global;
 use xq_command::endings::outcome;
 use xq_command::tasks::Asked;
 use xq_command::words::asked;
@@ -20,26 +22,46 @@ const ENDS: [(End, u8, &str); 7] = [
 fn endings(rt: HostRuntime) {
     for (end, wanted_status, wanted_line) in &ENDS {
         let (status, line) = outcome(*end);
-        assert_eq!(rt; status, *wanted_status);
-        assert_eq!(rt; line, *wanted_line);
+        is_number(&rt, usize::from(status), usize::from(*wanted_status));
+        is_text(&rt, line, wanted_line);
     }
 }
 
 /// Words that are none of the program's.
 const BAD_WORDS: [&str; 8] = ["a", "", "-", "--file", "--file=", "--version", "help", "-x"];
 
+/// Whether the words ask for what there is help on.
+fn ask_for_help(alloc: Global, words: &[&str]) -> bool {
+    match asked(alloc, words) {
+        Asked::Help(text) => text.as_str().contains("Usage: xq_server"),
+        _ => false,
+    }
+}
+
+/// Whether the words are none of the program's.
+fn are_bad(alloc: Global, words: &[&str]) -> bool {
+    matches!(asked(alloc, words), Asked::Bad)
+}
+
+/// Whether the words ask for the file `x`.
+fn ask_for_x(alloc: Global, words: &[&str]) -> bool {
+    match asked(alloc, words) {
+        Asked::File(path) => path.as_str() == "x",
+        _ => false,
+    }
+}
+
+/// Words that ask for help.
+const HELP_WORDS: [&str; 2] = ["--help", "-h"];
+
 #[test]
 fn words(rt: HostRuntime) {
-    assert!(rt; matches!(asked(rt.alloc(), &[]), Asked::InMemory));
-    for bad in &BAD_WORDS {
-        assert!(rt; matches!(asked(rt.alloc(), &[*bad]), Asked::Bad), "{bad}");
+    is_right(&rt, matches!(asked(rt.alloc(), &[]), Asked::InMemory), 0);
+    for (place, bad) in BAD_WORDS.iter().enumerate() {
+        is_right(&rt, are_bad(rt.alloc(), &[*bad]), place);
     }
-    for help in ["--help", "-h"] {
-        let Asked::Help(text) = asked(rt.alloc(), &[help]) else {
-            assert!(rt; false, "{help}");
-            return;
-        };
-        assert!(rt; text.as_str().contains("Usage: xq_server"), "{text}");
+    for (place, help) in HELP_WORDS.iter().enumerate() {
+        is_right(&rt, ask_for_help(rt.alloc(), &[*help]), place);
     }
 }
 
@@ -55,14 +77,10 @@ const BAD_FILE_WORDS: [&[&str]; 3] = [
 
 #[test]
 fn words_of_a_file(rt: HostRuntime) {
-    for words in &FILE_WORDS {
-        let Asked::File(path) = asked(rt.alloc(), words) else {
-            assert!(rt; false, "no file");
-            return;
-        };
-        assert_eq!(rt; path.as_str(), "x");
+    for (place, words) in FILE_WORDS.iter().enumerate() {
+        is_right(&rt, ask_for_x(rt.alloc(), words), place);
     }
-    for words in &BAD_FILE_WORDS {
-        assert!(rt; matches!(asked(rt.alloc(), words), Asked::Bad));
+    for (place, words) in BAD_FILE_WORDS.iter().enumerate() {
+        is_right(&rt, are_bad(rt.alloc(), words), place);
     }
 }

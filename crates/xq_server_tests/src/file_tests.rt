@@ -1,5 +1,6 @@
 //! Stores in files: a service, its end, and the next over the same file.
 
+use crate::asserts::{is_right, none_is_wrong};
 use crate::rows::{DOC_B, LIBRARY, PUT_B, Row};
 use crate::servers::FileServer;
 use crate::tests::is_answered;
@@ -55,7 +56,7 @@ const KEPT: [Row; 8] = [
 fn documents_outlive_a_service(rt: HostRuntime) -> Result<(), Fail> {
     make_folder(&rt, "xq_server_kept")?;
     let wrong = first_wrong(&rt, "xq_server_kept/x.db", &KEPT)?;
-    assert_eq!(rt; wrong, None);
+    none_is_wrong(&rt, wrong);
     fs::remove_dir_all(&rt, "xq_server_kept")?;
     Ok(())
 }
@@ -93,9 +94,13 @@ const UPGRADED: [Row; 5] = [
 #[test]
 fn a_file_of_edition_one(rt: HostRuntime) -> Result<(), Fail> {
     make_folder(&rt, "xq_server_edition_one")?;
-    assert!(rt; make_file(&rt, "xq_server_edition_one/x.db", &EDITION_ONE)?);
+    is_right(
+        &rt,
+        make_file(&rt, "xq_server_edition_one/x.db", &EDITION_ONE)?,
+        0,
+    );
     let wrong = first_wrong(&rt, "xq_server_edition_one/x.db", &UPGRADED)?;
-    assert_eq!(rt; wrong, None);
+    none_is_wrong(&rt, wrong);
     fs::remove_dir_all(&rt, "xq_server_edition_one")?;
     Ok(())
 }
@@ -122,9 +127,13 @@ const REFUSED: [&[u8]; 5] = [
 #[test]
 fn refused_files(rt: HostRuntime) -> Result<(), Fail> {
     make_folder(&rt, "xq_server_refused")?;
-    for bytes in &REFUSED {
+    for (place, bytes) in REFUSED.iter().enumerate() {
         let path = "xq_server_refused/x";
-        assert!(rt; refuse_file(&rt, path, "xq_server_refused/x-wal", bytes)?);
+        is_right(
+            &rt,
+            refuse_file(&rt, path, "xq_server_refused/x-wal", bytes)?,
+            place,
+        );
     }
     fs::remove_dir_all(&rt, "xq_server_refused")?;
     Ok(())
@@ -137,8 +146,8 @@ fn other_files(rt: HostRuntime) -> Result<(), Fail> {
     fs::write(&rt, "xq_server_other/empty", b"")?;
     let rows = [Row::Answers(b'L', b"", b"()")];
     let wrong = first_wrong(&rt, "xq_server_other/empty", &rows)?;
-    assert_eq!(rt; wrong, None);
-    assert!(rt; FileServer::open(&rt, "xq_server_other").is_none());
+    none_is_wrong(&rt, wrong);
+    is_right(&rt, FileServer::open(&rt, "xq_server_other").is_none(), 0);
     fs::remove_dir_all(&rt, "xq_server_other")?;
     Ok(())
 }

@@ -2,6 +2,7 @@
 //! refused; tools/each_allocation.sh runs them once for each of their allocations, refusing that
 //! one.
 
+use crate::asserts::is_right;
 use crate::rows::{Row, WORKED_ROWS};
 use crate::servers::{MemoryServer, run_bytes};
 use crate::tests::{frame, is_reply};
@@ -109,9 +110,9 @@ fn each_allocation_of_the_worked_rows(rt: HostRuntime) -> Result<(), Fail> {
     let alloc = rt.alloc();
     let mut memory = MemoryServer::new(alloc).or_else(|_want| MemoryServer::new(alloc))?;
     let mut fate = Fate::Up;
-    for rows in &WORKED_ROWS {
-        fate = fate_of_rows(alloc, &mut memory.server, fate, rows)?;
+    for group in &WORKED_ROWS {
+        fate = fate_of_rows(alloc, &mut memory.server, fate, group.rows())?;
     }
-    assert!(rt; !matches!(fate, Fate::Wrong));
+    is_right(&rt, !matches!(fate, Fate::Wrong), 0);
     Ok(())
 }

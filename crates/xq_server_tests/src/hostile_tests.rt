@@ -1,6 +1,7 @@
 //! Texts that are long or nest deeply, and frames that are cut anywhere.
 
-use crate::rows::{FIRST_ROWS, PUT_B};
+use crate::asserts::{is_number, is_right};
+use crate::rows::{Group, PUT_B};
 use crate::servers::{MemoryServer, run_bytes};
 use crate::tests::{check_groups, frame, is_answered};
 use std::alloc::{AllocError, Global};
@@ -79,7 +80,7 @@ pub fn check_texts(
     texts: &[LongText],
 ) -> Result<(), Fail> {
     for (at, text) in texts.iter().enumerate() {
-        assert!(rt; is_own_twice(rt.alloc(), memory, *text)?, "text {at}");
+        is_right(rt, is_own_twice(rt.alloc(), memory, *text)?, at);
     }
     Ok(())
 }
@@ -88,8 +89,16 @@ pub fn check_texts(
 #[test]
 fn long_texts(rt: HostRuntime) -> Result<(), Fail> {
     let mut memory = MemoryServer::new(rt.alloc())?;
-    check_groups(&rt, &mut memory, 1, &[FIRST_ROWS])?;
+    check_groups(&rt, &mut memory, 1, &[Group::First])?;
     check_texts(&rt, &mut memory, &LONG_TEXTS)
+}
+
+/// Whether a request that is cut has no reply, and leaves no document.
+fn has_no_reply(alloc: Global, memory: &mut MemoryServer, cut: &[u8]) -> Result<bool, AllocError> {
+    let mut out = Vec::new(alloc);
+    let end = run_bytes(&mut memory.server, cut, &mut out);
+    let is_none = end == End::Cut && out.is_empty();
+    Ok(is_none && is_answered(alloc, &mut memory.server, 3, (b'L', b""), (0, b"()"))?)
 }
 
 /// A store that is cut after any of its bytes has no reply, and leaves no document.
@@ -97,12 +106,13 @@ fn long_texts(rt: HostRuntime) -> Result<(), Fail> {
 fn cut_anywhere(rt: HostRuntime) -> Result<(), Fail> {
     let mut memory = MemoryServer::new(rt.alloc())?;
     let whole = frame(rt.alloc(), 2, b'S', PUT_B)?;
-    assert_eq!(rt; whole.len(), 128);
+    is_number(&rt, whole.len(), 128);
     for length in 1..whole.len() {
-        let mut out = Vec::new(rt.alloc());
-        let end = run_bytes(&mut memory.server, &whole[..length], &mut out);
-        assert!(rt; end == End::Cut && out.is_empty(), "after {length} bytes");
-        assert!(rt; is_answered(rt.alloc(), &mut memory.server, 3, (b'L', b""), (0, b"()"))?);
+        is_right(
+            &rt,
+            has_no_reply(rt.alloc(), &mut memory, &whole[..length])?,
+            length,
+        );
     }
     Ok(())
 }

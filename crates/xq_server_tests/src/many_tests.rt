@@ -1,6 +1,7 @@
 //! Three hundred documents, stored, replaced, dropped and asked in a mixed order, each reply compared
 //! with a map that is kept beside.
 
+use crate::asserts;
 use crate::servers::MemoryServer;
 use crate::tests::is_answered;
 use sqlite::Alter;
@@ -118,6 +119,21 @@ fn listed(alloc: Global, versions: &[Option<u32>]) -> Result<String, AllocError>
     Ok(text)
 }
 
+/// Takes one step, and after each hundredth looks at the list.
+fn is_right_then<S: Alter + Drop>(
+    alloc: Global,
+    server: &mut Server<S>,
+    versions: &mut Versions,
+    step: u32,
+) -> Result<bool, AllocError> {
+    let is_step = is_right(alloc, server, versions, step)?;
+    if step % 100 != 99 {
+        return Ok(is_step);
+    }
+    let list = listed(alloc, versions)?;
+    Ok(is_step && is_answered(alloc, server, 0, (b'L', b""), (0, list.as_bytes()))?)
+}
+
 /// Takes all steps, and looks at the list after each hundredth.
 fn check_steps<S: Alter + Drop>(
     rt: &(impl Abort + AllocGlobal),
@@ -125,14 +141,8 @@ fn check_steps<S: Alter + Drop>(
 ) -> Result<(), Fail> {
     let mut versions = no_versions(rt.alloc())?;
     for step in 0..STEPS {
-        assert!(rt;
-            is_right(rt.alloc(), server, &mut versions, step)?,
-            "step {step}"
-        );
-        if step % 100 == 99 {
-            let list = listed(rt.alloc(), &versions)?;
-            assert!(rt; is_answered(rt.alloc(), server, 0, (b'L', b""), (0, list.as_bytes()))?);
-        }
+        let holds = is_right_then(rt.alloc(), server, &mut versions, step)?;
+        asserts::is_right(rt, holds, step as usize);
     }
     Ok(())
 }

@@ -230,29 +230,66 @@ pub const LAST_ROWS: &[Row] = &[
     Row::Refuses(b'L', b"x", b"prof:FRAME"),
 ];
 
+/// A group of requests, by its name: who names one has not each of its rows to prove anew.
+#[derive(Clone, Copy)]
+pub enum Group {
+    First,
+    Path,
+    Tuple,
+    Number,
+    Content,
+    Node,
+    Function,
+    Range,
+    Limit,
+    Static,
+    Dropping,
+    Last,
+}
+
+impl Group {
+    /// Its requests.
+    pub fn rows(self) -> &'static [Row] {
+        match self {
+            Group::First => FIRST_ROWS,
+            Group::Path => PATH_ROWS,
+            Group::Tuple => TUPLE_ROWS,
+            Group::Number => NUMBER_ROWS,
+            Group::Content => CONTENT_ROWS,
+            Group::Node => NODE_ROWS,
+            Group::Function => FUNCTION_ROWS,
+            Group::Range => RANGE_ROWS,
+            Group::Limit => LIMIT_ROWS,
+            Group::Static => STATIC_ROWS,
+            Group::Dropping => DROPPING_ROWS,
+            Group::Last => LAST_ROWS,
+        }
+    }
+}
+
 /// The library is stored and asked: the worked rows up to its replacement, but for those of long
 /// results.
-pub const QUERIES: [&[Row]; 7] = [
-    FIRST_ROWS,
-    PATH_ROWS,
-    TUPLE_ROWS,
-    NUMBER_ROWS,
-    CONTENT_ROWS,
-    NODE_ROWS,
-    FUNCTION_ROWS,
+pub const QUERIES: [Group; 7] = [
+    Group::First,
+    Group::Path,
+    Group::Tuple,
+    Group::Number,
+    Group::Content,
+    Group::Node,
+    Group::Function,
 ];
 
 /// All worked rows, but for those of long results.
-pub const WORKED_ROWS: [&[Row]; 11] = [
-    FIRST_ROWS,
-    PATH_ROWS,
-    TUPLE_ROWS,
-    NUMBER_ROWS,
-    CONTENT_ROWS,
-    NODE_ROWS,
-    FUNCTION_ROWS,
-    RANGE_ROWS,
-    STATIC_ROWS,
-    DROPPING_ROWS,
-    LAST_ROWS,
+pub const WORKED_ROWS: [Group; 11] = [
+    Group::First,
+    Group::Path,
+    Group::Tuple,
+    Group::Number,
+    Group::Content,
+    Group::Node,
+    Group::Function,
+    Group::Range,
+    Group::Static,
+    Group::Dropping,
+    Group::Last,
 ];

@@ -1,6 +1,7 @@
 //! Services by scripted readers and writers: the worked rows in pieces, and each end.
 
-use crate::rows::{DROPPING_ROWS, FIRST_ROWS, LAST_ROWS, NODE_ROWS, PATH_ROWS, Row};
+use crate::asserts::{are_bytes, ends_so, is_number, is_right};
+use crate::rows::{Group, Row};
 use crate::scripts::{Sink, Source};
 use crate::servers::{MemoryServer, run_bytes, serve_frames};
 use crate::tests::{INPUTS, frame, is_answered};
@@ -23,8 +24,8 @@ fn serve_as_run(
     let mut sink = Sink::new(Vec::new(rt.alloc()));
     sink.piece = piece;
     let served_end = serve_frames(&mut served.server, &mut source, &mut sink, u64::MAX);
-    assert_eq!(rt; served_end, end);
-    assert_eq!(rt; sink.taken.as_slice(), replies.as_slice());
+    ends_so(rt, served_end, end);
+    are_bytes(rt, sink.taken.as_slice(), replies.as_slice());
 }
 
 /// The same for each of the requests.
@@ -43,7 +44,13 @@ fn serve_rows_as_run(
 }
 
 /// The requests that are served in pieces.
-const SERVED: [&[Row]; 5] = [FIRST_ROWS, PATH_ROWS, NODE_ROWS, DROPPING_ROWS, LAST_ROWS];
+const SERVED: [Group; 5] = [
+    Group::First,
+    Group::Path,
+    Group::Node,
+    Group::Dropping,
+    Group::Last,
+];
 
 /// The same for each group of requests, and for whole inputs after them.
 fn serve_all_as_run(
@@ -51,8 +58,8 @@ fn serve_all_as_run(
     (served, ran): (&mut MemoryServer, &mut MemoryServer),
     piece: usize,
 ) -> Result<(), Fail> {
-    for rows in &SERVED {
-        serve_rows_as_run(rt, (&mut *served, &mut *ran), rows, piece)?;
+    for group in &SERVED {
+        serve_rows_as_run(rt, (&mut *served, &mut *ran), group.rows(), piece)?;
     }
     for (input, _, _) in &INPUTS {
         serve_as_run(rt, (&mut *served, &mut *ran), input, piece);
@@ -60,13 +67,20 @@ fn serve_all_as_run(
     Ok(())
 }
 
+/// The same on two new servers.
+fn serve_pieces_as_run(rt: &(impl Abort + AllocGlobal), piece: usize) -> Result<(), Fail> {
+    let mut served = MemoryServer::new(rt.alloc())?;
+    let mut ran = MemoryServer::new(rt.alloc())?;
+    serve_all_as_run(rt, (&mut served, &mut ran), piece)
+}
+
+const PIECES: [usize; 4] = [1, 2, 3, 7];
+
 /// Bytes in pieces of 1, 2, 3 and 7 are served as a run answers them.
 #[test]
 fn in_pieces(rt: HostRuntime) -> Result<(), Fail> {
-    for piece in [1, 2, 3, 7] {
-        let mut served = MemoryServer::new(rt.alloc())?;
-        let mut ran = MemoryServer::new(rt.alloc())?;
-        serve_all_as_run(&rt, (&mut served, &mut ran), piece)?;
+    for piece in &PIECES {
+        serve_pieces_as_run(&rt, *piece)?;
     }
     Ok(())
 }
@@ -173,8 +187,17 @@ fn check_replies(
     replies: &[u8],
 ) -> Result<(), Fail> {
     let mut memory = MemoryServer::new(rt.alloc())?;
-    assert_eq!(rt; serve_frames(&mut memory.server, source, sink, most), end);
-    assert_eq!(rt; Some(sink.taken.as_slice()), replies.get(..written));
+    ends_so(
+        rt,
+        serve_frames(&mut memory.server, source, sink, most),
+        end,
+    );
+    is_number(rt, sink.taken.len(), written);
+    are_bytes(
+        rt,
+        sink.taken.as_slice(),
+        replies.get(..written).unwrap_or(&[]),
+    );
     Ok(())
 }
 
@@ -234,7 +257,7 @@ fn counts_anew_for_each_frame(rt: HostRuntime) -> Result<(), Fail> {
 #[test]
 fn flushes(rt: HostRuntime) -> Result<(), Fail> {
     let (_left, flushed) = check_service(&rt, FLUSHED)?;
-    assert_eq!(rt; flushed, 3);
+    is_number(&rt, flushed as usize, 3);
     check_services(&rt, &[STUCK])
 }
 
@@ -247,7 +270,7 @@ fn bounds(rt: HostRuntime) -> Result<(), Fail> {
     for (bound, written, wanted) in &BOUNDS {
         let outcome = (*bound, End::Bound, *written);
         let (left, _flushed) = check_service(&rt, ((27, 0, 0, true), ANY, outcome))?;
-        assert_eq!(rt; left, *wanted);
+        is_number(&rt, left, *wanted);
     }
     Ok(())
 }
@@ -263,25 +286,35 @@ fn carries_out_what_it_cannot_tell(rt: HostRuntime) -> Result<(), Fail> {
     let mut sink = Sink::new(Vec::new(rt.alloc()));
     sink.room = 3;
     let end = serve_frames(&mut memory.server, &mut Source::new(STORES), &mut sink, 10);
-    assert_eq!(rt; end, End::WriteFault);
+    ends_so(&rt, end, End::WriteFault);
     let addresses: (u8, &[u8]) = (0, b"\"a\"");
-    assert!(rt; is_answered(rt.alloc(), &mut memory.server, 1, (b'L', b""), addresses)?);
+    let lists_a = is_answered(rt.alloc(), &mut memory.server, 1, (b'L', b""), addresses)?;
+    is_right(&rt, lists_a, 0);
     Ok(())
 }
 
 /// How much a writer takes, the end, and how many bytes are written.
 const ROOMS: [(usize, End, usize); 2] = [(usize::MAX, End::TooLong, 18), (17, End::WriteFault, 17)];
 
+/// Serves a frame that is too long to a writer that takes so much.
+fn check_too_long(
+    rt: &(impl Abort + AllocGlobal),
+    (room, end, written): (usize, End, usize),
+) -> Result<(), Fail> {
+    let mut source = Source::new(b"\x00\x10\x01\x01rest");
+    let mut sink = Sink::new(Vec::new(rt.alloc()));
+    sink.room = room;
+    let reply = b"\x00\x00\x00\x0e\x00\x00\x00\x00\x01prof:LONG";
+    check_replies(rt, (&mut source, &mut sink), (10, end, written), reply)?;
+    are_bytes(rt, source.bytes, b"rest");
+    Ok(())
+}
+
 /// A length over the limit is answered, and nothing after it is read; its reply may find a fault.
 #[test]
 fn too_long(rt: HostRuntime) -> Result<(), Fail> {
-    for (room, end, written) in &ROOMS {
-        let mut source = Source::new(b"\x00\x10\x01\x01rest");
-        let mut sink = Sink::new(Vec::new(rt.alloc()));
-        sink.room = *room;
-        let reply = b"\x00\x00\x00\x0e\x00\x00\x00\x00\x01prof:LONG";
-        check_replies(&rt, (&mut source, &mut sink), (10, *end, *written), reply)?;
-        assert_eq!(rt; source.bytes, b"rest".as_slice());
+    for row in &ROOMS {
+        check_too_long(&rt, *row)?;
     }
     Ok(())
 }

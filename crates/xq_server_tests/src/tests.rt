@@ -1,13 +1,11 @@
 //! The worked rows of the protocol on one server, byte for byte, and every refusal.
 
+use crate::asserts::{are_bytes, ends_so};
 use crate::hostile_tests::{LongText, check_texts};
 use crate::refusal_rows::{
     CAST_REFUSALS, CONSTRUCTOR_REFUSALS, OPERATOR_REFUSALS, PATH_REFUSALS, TEXT_REFUSALS,
 };
-use crate::rows::{
-    CONTENT_ROWS, DOC_B, DROPPING_ROWS, FIRST_ROWS, FUNCTION_ROWS, LAST_ROWS, LIBRARY, LIMIT_ROWS,
-    NODE_ROWS, NUMBER_ROWS, PATH_ROWS, PUT_B, QUERIES, RANGE_ROWS, Row, STATIC_ROWS, TUPLE_ROWS,
-};
+use crate::rows::{DOC_B, Group, LIBRARY, PUT_B, QUERIES, Row};
 use crate::servers::{MemoryServer, run_bytes};
 use sqlite::Alter;
 use std::alloc::{AllocError, Global};
@@ -87,18 +85,18 @@ pub fn check_groups(
     rt: &(impl Abort + AllocGlobal),
     memory: &mut MemoryServer,
     tag: u32,
-    groups: &[&[Row]],
+    groups: &[Group],
 ) -> Result<(), Fail> {
-    for rows in groups {
-        check_rows(rt, memory, tag, rows)?;
+    for group in groups {
+        check_rows(rt, memory, tag, group.rows())?;
     }
     Ok(())
 }
 
-/// Sends each group of requests in turn to a server without a document.
-fn check_server(rt: &(impl Abort + AllocGlobal), groups: &[&[Row]]) -> Result<(), Fail> {
+/// Sends the requests to a server without a document.
+fn check_server(rt: &(impl Abort + AllocGlobal), rows: &[Row]) -> Result<(), Fail> {
     let mut memory = MemoryServer::new(rt.alloc())?;
-    check_groups(rt, &mut memory, 1, groups)
+    check_rows(rt, &mut memory, 1, rows)
 }
 
 /// 128 brackets are read, and 129 are not; 101 elements stand in one another, and 102 do not.
@@ -118,7 +116,7 @@ const DEPTHS: [LongText; 4] = [
 ];
 
 /// The worked rows after those of [`QUERIES`], up to the last.
-const CHANGES: [&[Row]; 3] = [RANGE_ROWS, STATIC_ROWS, DROPPING_ROWS];
+const CHANGES: [Group; 3] = [Group::Range, Group::Static, Group::Dropping];
 
 /// An input, its replies, and how it ends.
 type Input = (&'static [u8], &'static [u8], End);
@@ -143,8 +141,8 @@ pub const INPUTS: [Input; 4] = [
 fn check_inputs(rt: &(impl Abort + AllocGlobal), memory: &mut MemoryServer) {
     for (bytes, replies, end) in &INPUTS {
         let mut out = Vec::new(rt.alloc());
-        assert_eq!(rt; run_bytes(&mut memory.server, bytes, &mut out), *end);
-        assert_eq!(rt; out.as_slice(), *replies);
+        ends_so(rt, run_bytes(&mut memory.server, bytes, &mut out), *end);
+        are_bytes(rt, out.as_slice(), replies);
     }
 }
 
@@ -154,7 +152,7 @@ fn check_worked(rt: &(impl Abort + AllocGlobal), memory: &mut MemoryServer) -> R
     check_texts(rt, memory, &DEPTHS)?;
     check_groups(rt, memory, 1, &CHANGES)?;
     check_inputs(rt, memory);
-    check_rows(rt, memory, 1, LAST_ROWS)
+    check_rows(rt, memory, 1, Group::Last.rows())
 }
 
 #[test]
@@ -164,17 +162,17 @@ fn worked_rows(rt: HostRuntime) -> Result<(), Fail> {
 }
 
 /// Results of a million items, over the stored library.
-const LIMITS: [&[Row]; 3] = [FIRST_ROWS, LIMIT_ROWS, STATIC_ROWS];
+const LIMITS: [Group; 3] = [Group::First, Group::Limit, Group::Static];
 
 /// Before any proof they take minutes.
 #[test]
 fn long_results(rt: HostRuntime) -> Result<(), Fail> {
-    check_server(&rt, &LIMITS)
+    let mut memory = MemoryServer::new(rt.alloc())?;
+    check_groups(&rt, &mut memory, 1, &LIMITS)
 }
 
-/// The library, and each code that a query can be refused with.
-const REFUSALS: [&[Row]; 6] = [
-    FIRST_ROWS,
+/// Each code that a query can be refused with.
+const REFUSALS: [&[Row]; 5] = [
     TEXT_REFUSALS,
     PATH_REFUSALS,
     OPERATOR_REFUSALS,
@@ -184,7 +182,12 @@ const REFUSALS: [&[Row]; 6] = [
 
 #[test]
 fn refused_queries(rt: HostRuntime) -> Result<(), Fail> {
-    check_server(&rt, &REFUSALS)
+    let mut memory = MemoryServer::new(rt.alloc())?;
+    check_groups(&rt, &mut memory, 1, &[Group::First])?;
+    for rows in &REFUSALS {
+        check_rows(&rt, &mut memory, 1, rows)?;
+    }
+    Ok(())
 }
 
 /// Malformed frames, and the order in which the faults of one request are judged.
@@ -207,7 +210,7 @@ const FAULTS: &[Row] = &[
 
 #[test]
 fn refusals(rt: HostRuntime) -> Result<(), Fail> {
-    check_server(&rt, &[FAULTS])
+    check_server(&rt, FAULTS)
 }
 
 /// A document is copied under a second address; a store sees the documents as they were; line ends
@@ -231,23 +234,22 @@ const COPIES: &[Row] = &[
 
 #[test]
 fn copies_and_line_ends(rt: HostRuntime) -> Result<(), Fail> {
-    check_server(&rt, &[COPIES])
+    check_server(&rt, COPIES)
 }
 
 /// The library is dropped.
 const DROP_B: &[Row] = &[Row::Answers(b'D', b"b", b"dropped")];
 
-/// The library is stored, replaced, asked and dropped.
-const ROUND: [&[Row]; 9] = [
-    FIRST_ROWS,
-    PATH_ROWS,
-    TUPLE_ROWS,
-    NUMBER_ROWS,
-    CONTENT_ROWS,
-    NODE_ROWS,
-    FUNCTION_ROWS,
-    STATIC_ROWS,
-    DROP_B,
+/// The library is stored, replaced and asked.
+const ROUND: [Group; 8] = [
+    Group::First,
+    Group::Path,
+    Group::Tuple,
+    Group::Number,
+    Group::Content,
+    Group::Node,
+    Group::Function,
+    Group::Static,
 ];
 
 /// Storing, replacing, asking and dropping again and again never wants for anything.
@@ -256,6 +258,7 @@ fn fifty_rounds(rt: HostRuntime) -> Result<(), Fail> {
     let mut memory = MemoryServer::new(rt.alloc())?;
     for tag in 0..50 {
         check_groups(&rt, &mut memory, tag, &ROUND)?;
+        check_rows(&rt, &mut memory, tag, DROP_B)?;
     }
     Ok(())
 }
