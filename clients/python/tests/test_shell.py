@@ -5,6 +5,7 @@ import io
 import os
 import pty
 import select
+import signal
 import subprocess
 import sys
 import termios
@@ -104,6 +105,13 @@ class Sessions(ServerTest):
             self.assertTrue(is_whole(text), text)
 
 
+def take_terminal() -> None:
+    """Makes standard input the terminal of this process; its interrupts come through, even where
+    the tests run in the background of a script, which ignores them."""
+    signal.signal(signal.SIGINT, signal.SIG_DFL)
+    fcntl.ioctl(0, termios.TIOCSCTTY, 0)
+
+
 class TerminalTest(FolderTest):
     """Runs the shell on a terminal of its own."""
 
@@ -118,7 +126,7 @@ class TerminalTest(FolderTest):
         termios.tcsetwinsize(inner, (24, 80))
         process = subprocess.Popen([*command, *words], stdin=inner, stdout=inner, stderr=inner,
                                    env=environment, start_new_session=True,
-                                   preexec_fn=lambda: fcntl.ioctl(0, termios.TIOCSCTTY, 0))
+                                   preexec_fn=take_terminal)
         os.close(inner)
         screen = Screen(outer)
         before = ""
