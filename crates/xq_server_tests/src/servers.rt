@@ -7,8 +7,19 @@ use std::alloc::Global;
 use std::io::{Read, Write};
 use xq_atoms::Want;
 use xq_memory_disk::MemoryDisk;
+use xq_rows::Store;
 use xq_server::{End, Server};
 use xq_stores::{DiskStore, MemoryStore};
+
+/// A server over a store.
+pub fn server_over<S: Alter + Drop>(alloc: Global, store: Store<S>) -> Server<S> {
+    Server::new(alloc, store)
+}
+
+/// The store of a server.
+pub fn store_of<S: Alter + Drop>(server: Server<S>) -> Store<S> {
+    server.into_store()
+}
 
 /// Runs the bytes.
 pub fn run_bytes<S: Alter + Drop>(server: &mut Server<S>, bytes: &[u8], out: &mut Vec<u8>) -> End {
@@ -35,7 +46,7 @@ impl MemoryServer {
     pub fn new(alloc: Global) -> Result<MemoryServer, Want> {
         let memory = MemoryStore::new(alloc)?;
         Ok(MemoryServer {
-            server: Server::new(alloc, memory.into_store()),
+            server: server_over(alloc, memory.into_store()),
         })
     }
 
@@ -43,7 +54,7 @@ impl MemoryServer {
     pub fn restarted(self, alloc: Global) -> MemoryServer {
         let MemoryServer { server } = self;
         MemoryServer {
-            server: Server::new(alloc, server.into_store()),
+            server: server_over(alloc, store_of(server)),
         }
     }
 }
@@ -52,7 +63,7 @@ impl Drop for MemoryServer {
     fn drop(self) {
         let MemoryServer { server } = self;
         let _store = MemoryStore {
-            store: server.into_store(),
+            store: store_of(server),
         };
     }
 }
@@ -67,7 +78,7 @@ impl FileServer {
     pub fn open(rt: &HostRuntime, path: &str) -> Option<FileServer> {
         let file = DiskStore::open(rt, path)?;
         Some(FileServer {
-            server: Server::new(rt.alloc(), file.into_store()),
+            server: server_over(rt.alloc(), file.into_store()),
         })
     }
 
@@ -75,7 +86,7 @@ impl FileServer {
     pub fn close(self) -> bool {
         let FileServer { server } = self;
         let closing = DiskStore {
-            store: server.into_store(),
+            store: store_of(server),
         };
         closing.close()
     }
@@ -85,7 +96,7 @@ impl Drop for FileServer {
     fn drop(self) {
         let FileServer { server } = self;
         let _store = DiskStore {
-            store: server.into_store(),
+            store: store_of(server),
         };
     }
 }

@@ -3,13 +3,14 @@
 //! it; after its own reply those after it.
 
 use crate::rows::{DOC_B, LIBRARY, PUT_B, Row};
-use crate::servers::run_bytes;
+use crate::servers::{run_bytes, server_over, store_of};
 use crate::tests::{frame, is_reply};
 use sqlite::Alter;
 use std::alloc::Global;
 use std::process::Abort;
 use std::test::Fail;
 use xq_atoms::Want;
+use xq_rows::Store;
 use xq_server::{End, Server};
 use xq_stops::{Run, Stop, StoppingStore, Task, wrong_run};
 
@@ -39,15 +40,24 @@ fn send_all<S: Alter + Drop>(
     Ok(true)
 }
 
+/// What becomes of the requests, sent in turn to a server over the store, and the store again.
+fn send_to_store<S: Alter + Drop>(
+    alloc: Global,
+    store: Store<S>,
+    rows: &[Row],
+) -> (Result<bool, Want>, Store<S>) {
+    let mut server = server_over(alloc, store);
+    let are_own = send_all(alloc, &mut server, rows);
+    (are_own, store_of(server))
+}
+
 impl Task for Row {
     fn ask_all(
         tasks: &[Row],
         alloc: Global,
         store: StoppingStore,
     ) -> (Result<bool, Want>, StoppingStore) {
-        let mut server = Server::new(alloc, store);
-        let are_own = send_all(alloc, &mut server, tasks);
-        (are_own, server.into_store())
+        send_to_store(alloc, store, tasks)
     }
 }
 
