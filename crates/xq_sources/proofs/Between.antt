@@ -50,3 +50,9 @@ module _ {X : Type 0} where
 
 pub mapped_part : {X Y : Type 0} (f : X → Y) (xs : List X) (low high : ℕ) → map f (slice_range xs low high) ≡ slice_range (map f xs) low high
 mapped_part f xs low high = sym (take-map f (high - low) (drop low xs)) ∙ ap (take (high - low)) (sym (drop-map f low xs))
+
+-- a part, with its places counted from a base
+pub part_after : {X : Type 0} (xs : List X) (base low high : ℕ) → slice_range xs (base + low) (base + high) ≡ slice_range (drop base xs) low high
+part_after xs base low high =
+    let size : base + high - (base + low) ≡ high - low = omega arith in
+    ap (λ n. take n (drop (base + low) xs)) size ∙ sym (ap (take (high - low)) (drop-drop low base xs))

@@ -44,31 +44,35 @@ clamped rs low high = elim (cases_lt (min high (length rs)) low) [
 
 -- # What packed rows are seen as
 
-module _ (form : Form) (rows : Bor PackedRows) (low high : ℕ) (seen : List (ℕ × Row)) (is : form ≡ Packed rows low high) (view : rows_of_form form ≡ seen) (invariant : IsForm form) where
-  between : placed_between rows.now.rows low high ≡ seen
+module _ (form : Form) (rows : Bor PackedRows) (base low high : ℕ) (seen : List (ℕ × Row)) (is : form ≡ Packed rows base low high) (view : rows_of_form form ≡ seen) (invariant : IsForm form) where
+  abbrev part : List Row
+  part = drop base rows.now.rows
+
+  between : placed_between part low high ≡ seen
   between = sym (ap rows_of_form is) ∙ view
 
-  there : AreThere rows.now.rows low high
+  there : AreThere rows.now.rows base low high
   there = subst IsForm is invariant
+
+  enough : high ≤ length part
+  enough = omega (arith, there.within, length-drop base rows.now.rows)
 
   pub as_many : length seen ≡ high - low
   as_many =
-      let within = there.within in
-      let all : min (high - low) (length rows.now.rows - low) ≡ high - low = omega (arith, within) in
-      sym (ap length between) ∙ length-placed_between rows.now.rows low high ∙ all
+      let all : min (high - low) (length part - low) ≡ high - low = omega (arith, enough) in
+      sym (ap length between) ∙ length-placed_between part low high ∙ all
 
   -- the row at a place among them
-  pub is_got : (at : ℕ) → at < high - low → slice_get seen at ≡ Some (low + at, row_at rows.now.rows (low + at))
+  pub is_got : (at : ℕ) → at < high - low → slice_get seen at ≡ Some (low + at, row_at part (low + at))
   is_got at inside =
-      let within = there.within in
-      let places = enumerate_from 0 rows.now.rows in
+      let places = enumerate_from 0 part in
       let from_none : 0 + (low + at) ≡ low + at = omega arith in
       slice_get-get_or seen at (0, no_row) (omega (arith, inside, as_many))
       ∙ ap (λ (run : List (ℕ × Row)). Some (lent_at run at)) (sym between)
       ∙ ap Some (get_or-take (high - low) (drop low places) at (0, no_row) inside
       ∙ get_or-drop low places at (0, no_row)
-      ∙ get_or-enumerate_from 0 rows.now.rows (low + at) (0, no_row) (omega (arith, inside, within))
-      ∙ ap (λ n. (n, row_at rows.now.rows (low + at))) from_none)
+      ∙ get_or-enumerate_from 0 part (low + at) (0, no_row) (omega (arith, inside, enough))
+      ∙ ap (λ n. (n, row_at part (low + at))) from_none)
 
   -- there is none past the last
   pub none_got : (at : ℕ) → high - low ≤ at → slice_get seen at ≡ None

@@ -1,5 +1,5 @@
 //! Rows as they are lent: read where they lie, and not copied.
-ghost use Rattle.std.specs.Prelude.{ℕ, ◌≡◌, ◌^◌, ◌<◌, ◌≤◌, ◌++◌, ◌∷◌, length, map, slice_get, slice_range, take, IfOk, IfSome, IfNone, OnOk, IsTrue, ◌↔◌, []};
+ghost use Rattle.std.specs.Prelude.{ℕ, ◌≡◌, ◌^◌, ◌<◌, ◌≤◌, ◌++◌, ◌+◌, ◌∷◌, drop, length, map, slice_get, slice_range, take, IfOk, IfSome, IfNone, OnOk, IsTrue, ◌↔◌, []};
 ghost use Rattle.std.specs.List.{enumerate_from};
 ghost use Rattle.std.specs.Option.{option_map};
 ghost use Rattle.xq_regions.specs.Rows.{placed, row_at, row_of};
@@ -119,14 +119,14 @@ impl<'a> LentRow<'a> {
     }
 }
 
-/// The row at a place among packed rows, lent.
+/// The row at a place among the packed rows from `base` on, lent.
 #[inline]
-fn packed_row(rows: &PackedRows, at: usize) -> LentRow<'_>
-    requires within { at < length rows.now.rows }
-    requires room { at < 2 ^ 32 }
-    ensures { placed_lent result ≡ (at, row_at rows.now.rows at) }
+fn packed_row(rows: &PackedRows, base: usize, at: usize) -> LentRow<'_>
+    requires within { base + at < length rows.now.rows }
+    requires room { base + at < 2 ^ 32 }
+    ensures { placed_lent result ≡ (at, row_at (drop base rows.now.rows) at) }
 {
-    let row = PackedRow::new(rows, at);
+    let row = PackedRow::new(rows, base + at);
     LentRow {
         pre: at as u32,
         size: row.size(),
@@ -172,8 +172,9 @@ fn append_listed(rows: &mut PackedRows, listed: &[NodeRow], from: u32, to: u32) 
 enum Form<'a> {
     /// In a list.
     Listed(&'a [NodeRow]),
-    /// Among packed rows, from the first place to before the second.
-    Packed(&'a PackedRows, usize, usize),
+    /// Among packed rows, those from the first place on: of them from the second place, counted
+    /// from there, to before the third.
+    Packed(&'a PackedRows, usize, usize, usize),
 }
 
 /// Rows beside one another, as they are lent. Contracts see them with their places.
@@ -216,10 +217,19 @@ impl<'a> LentRows<'a> {
     pub fn packed(rows: &'a PackedRows, low: usize, high: usize) -> LentRows<'a>
         ensures { result ≡ placed_between rows.now.rows low high }
     {
-        let high = high.min(rows.len());
+        LentRows::packed_after(rows, 0, low, high)
+    }
+
+    /// The same of the packed rows from `base` on: all places are counted from there.
+    #[inline]
+    pub fn packed_after(rows: &'a PackedRows, base: usize, low: usize, high: usize) -> LentRows<'a>
+        requires { base ≤ length rows.now.rows }
+        ensures { result ≡ placed_between (drop base rows.now.rows) low high }
+    {
+        let high = high.min(rows.len() - base);
         let low = low.min(high);
         LentRows {
-            form: Form::Packed(rows, low, high),
+            form: Form::Packed(rows, base, low, high),
         }
     }
 
@@ -238,7 +248,7 @@ impl<'a> LentRows<'a> {
     {
         match self.form {
             Form::Listed(rows) => rows.len(),
-            Form::Packed(_, low, high) => high - low,
+            Form::Packed(_, _, low, high) => high - low,
         }
     }
 
@@ -262,9 +272,9 @@ impl<'a> LentRows<'a> {
                 Some(row) => Some(LentRow::new(row)),
                 None => None,
             },
-            Form::Packed(rows, low, high) => {
+            Form::Packed(rows, base, low, high) => {
                 if at < high - low {
-                    Some(packed_row(rows, low + at))
+                    Some(packed_row(rows, base, low + at))
                 } else {
                     None
                 }
@@ -278,8 +288,8 @@ impl<'a> LentRows<'a> {
     {
         match self.form {
             Form::Listed(rows) => LentRows::new(&rows[..count.min(rows.len())]),
-            Form::Packed(rows, low, high) => {
-                LentRows::packed(rows, low, low + count.min(high - low))
+            Form::Packed(rows, base, low, high) => {
+                LentRows::packed_after(rows, base, low, low + count.min(high - low))
             }
         }
     }
@@ -306,16 +316,17 @@ impl<'a> LentRows<'a> {
         ensures its { result ≤ length other.now }
         ensures same { (k : ℕ) → low ≤ k → k < result → lent_at self.now k ≡ lent_at other.now k }
     {
-        let Form::Packed(rows, start, end) = self.form else {
+        let Form::Packed(rows, base, start, end) = self.form else {
             return low;
         };
-        let Form::Packed(others, first, last) = other.form else {
+        let Form::Packed(others, front, first, last) = other.form else {
             return low;
         };
-        if start != first {
+        if base != front || start != first {
             return low;
         }
-        rows.same_until(others, start + low, end.min(last)) - start
+        let stop = base + end.min(last);
+        rows.same_until(others, base + start + low, stop) - base - start
     }
 
     /// Adds the rows, without their places, after packed ones: on the level `to` where they are on
@@ -327,7 +338,9 @@ impl<'a> LentRows<'a> {
     {
         match self.form {
             Form::Listed(listed) => append_listed(rows, listed, from, to),
-            Form::Packed(packed, low, high) => rows.append_run(packed, low, high, from, to),
+            Form::Packed(packed, base, low, high) => {
+                rows.append_run(packed, base + low, base + high, from, to)
+            }
         }
     }
 
@@ -341,9 +354,9 @@ impl<'a> LentRows<'a> {
                 let (_, part) = rows[..high].split_at(low.min(high));
                 LentRows::new(part)
             }
-            Form::Packed(rows, start, end) => {
+            Form::Packed(rows, base, start, end) => {
                 let high = high.min(end - start);
-                LentRows::packed(rows, start + low.min(high), start + high)
+                LentRows::packed_after(rows, base, start + low.min(high), start + high)
             }
         }
     }

@@ -1,5 +1,5 @@
 -- Where rows lie that are lent.
-use Rattle.std.specs.Prelude.{ℕ, ◌^◌, ◌<◌, ◌≤◌, List, length, map, string_bytes}
+use Rattle.std.specs.Prelude.{ℕ, ◌+◌, ◌^◌, ◌<◌, ◌≤◌, List, drop, length, map, string_bytes}
 use Rattle.xq_regions.specs.Rows.{Row, placed}
 use Rattle.xq_sources.specs.Lent.{placed_between}
 use Rattle.xq_sources.specs.declared.lent.Form.{Form}
@@ -18,15 +18,15 @@ texts_of_form (PackedTexts row) =
 -- the rows, with their places
 abbrev pub rows_of_form : Form → List (ℕ × Row)
 rows_of_form (Listed rows) = map placed rows.now
-rows_of_form (Packed rows low high) = placed_between rows.now.rows low high
+rows_of_form (Packed rows base low high) = placed_between (drop base rows.now.rows) low high
 
--- there are rows from one place to before another, whose places have four bytes
-pub record AreThere (rows : List Row) (low high : ℕ) : Type 0 where
+-- after the base there are rows from one place to before another, whose places have four bytes
+pub record AreThere (rows : List Row) (base low high : ℕ) : Type 0 where
   pub rises : low ≤ high
-  pub within : high ≤ length rows
-  pub room : high < 2 ^ 32
+  pub within : base + high ≤ length rows
+  pub room : base + high < 2 ^ 32
 
 -- the rows are there
 abbrev pub IsForm : Form → Type 0
 IsForm (Listed rows) = Unit {0}
-IsForm (Packed rows low high) = AreThere rows.now.rows low high
+IsForm (Packed rows base low high) = AreThere rows.now.rows base low high

@@ -1,4 +1,4 @@
-use Rattle.std.proofs.Common.{◌≡◌, ◌-◌, length, map, min, sym, ap, ◌∙◌, arith}
+use Rattle.std.proofs.Common.{◌≡◌, ◌-◌, drop, length, map, min, sym, ap, ◌∙◌, arith}
 use Rattle.std.specs.Prelude.{slice_range}
 use Rattle.std.specs.List.{enumerate_from}
 use Rattle.xq_regions.specs.Rows.{placed}
@@ -18,13 +18,13 @@ returns-in-Listed c =
 
 pub returns-in-Packed : goal.returns-in-Packed
 returns-in-Packed c =
-    let places = enumerate_from 0 c.in-Packed.rows.now.rows in
+    let places = enumerate_from 0 (drop c.in-Packed.base c.in-Packed.rows.now.rows) in
     let start = c.in-Packed.start in
     let end = c.in-Packed.end in
     let seen : slice_range places start end ≡ c.args.self.now = sym (ap rows_of_form c.in-Packed.is) ∙ c.self.view_is in
-    let many : length c.args.self.now ≡ end - start = as_many c.self.inside.form c.in-Packed.rows start end c.args.self.now c.in-Packed.is c.self.view_is c.self.invariant in
+    let many : length c.args.self.now ≡ end - start = as_many c.self.inside.form c.in-Packed.rows c.in-Packed.base start end c.args.self.now c.in-Packed.is c.self.view_is c.self.invariant in
     let last : c.min-high-in-Packed.result ≡ min c.args.high (length c.args.self.now) = c.min-high-in-Packed.ensures ∙ ap (min c.args.high) (sym many) in
-    c.packed.ensures
+    c.packed_after.ensures
     ∙ part_of_part places start end c.min-in-Packed.result c.min-high-in-Packed.result (omega (arith, c.min-in-Packed.ensures)) (omega (arith, last, many))
     ∙ ap (λ run. slice_range run c.min-in-Packed.result c.min-high-in-Packed.result) seen
     ∙ part_there c.args.self.now c.args.low c.args.high c.min-in-Packed.result c.min-high-in-Packed.result last c.min-in-Packed.ensures
