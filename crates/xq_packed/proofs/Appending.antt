@@ -39,13 +39,13 @@ shapes-drop text names start [] (suc n) h = tt
 shapes-drop text names start (s ∷ shapes) zero h = h
 shapes-drop text names start (s ∷ shapes) (suc n) h = shapes-drop text names (value_end s) shapes n h.1
 
-shapes-take : (text : Text) (names : List Text) (start : ℕ) (shapes : List Shape) (n : ℕ) → AreShapes text names start shapes → AreShapes text names start (take n shapes)
+pub shapes-take : (text : Text) (names : List Text) (start : ℕ) (shapes : List Shape) (n : ℕ) → AreShapes text names start shapes → AreShapes text names start (take n shapes)
 shapes-take text names start [] zero h = tt
 shapes-take text names start [] (suc n) h = tt
 shapes-take text names start (s ∷ shapes) zero h = tt
 shapes-take text names start (s ∷ shapes) (suc n) h = (h.0, shapes-take text names (value_end s) shapes n h.1)
 
-end-take : (start : ℕ) (shapes : List Shape) (n : ℕ) → last_end start (take n shapes) ≡ value_start start shapes n
+pub end-take : (start : ℕ) (shapes : List Shape) (n : ℕ) → last_end start (take n shapes) ≡ value_start start shapes n
 end-take start [] zero = refl
 end-take start [] (suc n) = refl
 end-take start (s ∷ shapes) zero = refl
@@ -198,6 +198,18 @@ module _ (text o : Text) (others names : List Text) (shapes run : List Shape) (l
       let one : IsAppended (text ++ text_between o low high) (names ++ more.0) shapes' rows added = subst (λ ss. IsAppended (text ++ text_between o low high) (names ++ more.0) ss rows added) (sym m.1) whole in
       let two : IsAppended (text ++ text_between o low high) names' shapes' rows added = subst (λ ns. IsAppended (text ++ text_between o low high) ns shapes' rows added) (sym e) one in
       subst (λ t. IsAppended t names' shapes' rows added) (sym te) two
+
+  -- where their names are among those that there are
+  pub run-repeated : (text' : Text) (shapes' : List Shape) (ts : List Shape) → text' ≡ text ++ text_between o low high → shapes' ≡ shapes ++ ts → AreMoved others names low (length text) from to run ts → length shapes + length run < 2 ^ 32 → IsAppended text' names shapes' (rows_of_shapes text names 0 shapes) (map (moved from to) (rows_of_shapes o others low run))
+  run-repeated text' shapes' ts te se m room =
+      let rows = rows_of_shapes text names 0 shapes in
+      let added = map (moved from to) (rows_of_shapes o others low run) in
+      let all = text ++ text_between o low high in
+      let none : names ++ [] ≡ names = append-nil names in
+      let whole : IsAppended all (names ++ []) (shapes ++ ts) rows added = here [] ts (subst (λ ns. AreMoved others ns low (length text) from to run ts) (sym none) m) room in
+      let one : IsAppended all names (shapes ++ ts) rows added = subst (λ ns. IsAppended all ns (shapes ++ ts) rows added) none whole in
+      let two : IsAppended all names shapes' rows added = subst (λ ss. IsAppended all names ss rows added) (sym se) one in
+      subst (λ t. IsAppended t names shapes' rows added) (sym te) two
 
 -- # One more of a run
 

@@ -6,5 +6,6 @@ pub mod Judging
 pub mod Knowing
 pub mod Numbering
 pub mod Parting
+pub mod Repeating
 pub mod Appending
 pub mod Standing

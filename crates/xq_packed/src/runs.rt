@@ -1,10 +1,10 @@
 //! Runs of rows that are copied after others.
-ghost use Rattle.std.specs.Prelude.{ℕ, List, ◌≡◌, ◌+◌, ◌-◌, ◌<◌, ◌≤◌, ◌++◌, map, take, length, slice_range, All, IfOk, IfErr, OnOk, OnErr};
+ghost use Rattle.std.specs.Prelude.{ℕ, List, ◌≡◌, ◌+◌, ◌-◌, ◌<◌, ◌≤◌, ◌++◌, map, take, length, slice_range, vec_len, vec_capacity, All, IfOk, IfErr, OnOk, OnErr};
 ghost use Rattle.xq_regions.specs.Tree.{most_levels};
 ghost use Rattle.xq_packed.specs.Packed.{IsNumbered, with_name, with_names};
 ghost use Rattle.xq_packed.specs.Changes.{moved, AreMovable};
 ghost use Rattle.xq_packed.specs.private.Shapes.{value_end, name_at};
-ghost use Rattle.xq_packed.specs.private.Copies.{IsKnown, IsReadable, IsMovedTo, AreMovedAfter, with_named};
+ghost use Rattle.xq_packed.specs.private.Copies.{IsKnown, IsReadable, IsMovedTo, AreMovedAfter, AreShiftedAfter, with_named};
 ghost use Rattle.xq_packed.specs.declared.shapes.Shape.{Shape};
 
 use crate::names::Names;
@@ -110,6 +110,29 @@ fn append_shapes(
     Ok(())
 }
 
+/// Adds the shapes from one place to before another once more, moved, where there is room. Where
+/// one is refused, some of them were added.
+fn repeat_shapes(shapes: &mut Vec<Shape>, low: usize, high: usize, way: Move) -> Result<(), Want>
+    requires order { low ≤ high }
+    requires inside { high ≤ length shapes.old.items }
+    requires ends { All (λ shape. way.low ≤ value_end shape)
+        (slice_range shapes.old.items low high) }
+    requires room { vec_len shapes.old + (high - low) ≤ vec_capacity shapes.old }
+    ensures moved { OnOk result (AreShiftedAfter way.low way.base way.from way.to shapes.old.items
+        (slice_range shapes.old.items low high) shapes.new.items) }
+    ensures fit { OnOk result (All (λ shape. shape.level - way.from + way.to < most_levels)
+        (slice_range shapes.old.items low high)) }
+    ensures front { (more : List Shape) × (shapes.new.items ≡ shapes.old.items ++ more) }
+    ensures want { All (λ shape. shape.level - way.from + way.to < most_levels)
+        (slice_range shapes.old.items low high) → IfErr result (λ want. want ≡ Want.Memory) }
+{
+    for at in low..high {
+        let shape = shapes[at];
+        shapes.push_reserved(moved_shape(shape, shape.name, way)?);
+    }
+    Ok(())
+}
+
 impl PackedRows {
     /// Adds the rows of others from one place to before another, those that there are, after these:
     /// on the level `to` where they are on the level `from`, others as far below or above as there.
@@ -159,5 +182,55 @@ impl PackedRows {
         }
         self.text.push_str(values)?;
         Ok(())
+    }
+
+    /// Adds rows of these from one place to before another, those that there are, once more after
+    /// the last: on the level `to` where they are on the level `from`, others as far below or above
+    /// as there. Where it is refused, the rows are as before. It is refused by `Want::Store` where
+    /// no tree has one of them: on too deep a level.
+    pub fn append_own(&mut self, low: usize, high: usize, from: u32, to: u32) -> Result<(), Want>
+        ensures rows { OnOk result (self.new.rows
+            ≡ self.old.rows ++ map (moved from to) (slice_range self.old.rows low high)) }
+        ensures names { self.new.names ≡ self.old.names }
+        ensures fit { OnOk result (AreMovable from to (slice_range self.old.rows low high)) }
+        ensures err { OnErr result (self.new ≡ self.old) }
+        ensures want { AreMovable from to (slice_range self.old.rows low high)
+            → IfErr result (λ want. want ≡ Want.Memory) }
+    {
+        let count = self.shapes.len();
+        let high = high.min(count);
+        let low = low.min(high);
+        if high - low > MOST_ROWS - count {
+            return Err(Want::Memory);
+        }
+        let start = start_at(&self.shapes, low);
+        let end = start_at(&self.shapes, high);
+        self.shapes.reserve(high - low)?;
+        self.text.reserve(end - start)?;
+        let way = Move {
+            low: start,
+            base: self.text.len(),
+            from,
+            to,
+        };
+        let done = repeat_shapes(&mut self.shapes, low, high, way);
+        if let Err(want) = done {
+            self.shapes.truncate(count);
+            return Err(want);
+        }
+        self.text.extend_from_within(start..end)?;
+        Ok(())
+    }
+
+    /// Keeps the first rows, as many as this, of those that there are. Their names stay, and so do
+    /// those of the others.
+    pub fn truncate(&mut self, count: usize)
+        ensures rows { self.new.rows ≡ take count self.old.rows }
+        ensures names { self.new.names ≡ self.old.names }
+    {
+        let count = count.min(self.shapes.len());
+        let end = start_at(&self.shapes, count);
+        self.shapes.truncate(count);
+        self.text.truncate(end);
     }
 }

@@ -33,6 +33,20 @@ abbrev pub AreMovedAfter : List (List ℕ) → List (List ℕ) → ℕ → ℕ �
 AreMovedAfter others names low base from to old run new =
     (ts : List Shape) × (new ≡ old ++ ts) × AreMoved others names low base from to run ts
 
+-- each of the second is the shape of a row of the first that is moved so, with the number of its
+-- name
+abbrev pub AreShifted : ℕ → ℕ → ℕ → ℕ → List Shape → List Shape → Type 0
+AreShifted low base from to [] [] = Unit {0}
+AreShifted low base from to [] (t ∷ ts) = ⊥
+AreShifted low base from to (s ∷ ss) [] = ⊥
+AreShifted low base from to (s ∷ ss) (t ∷ ts) =
+    IsMovedTo low base from to s s.name t × AreShifted low base from to ss ts
+
+-- some shapes, and after them those of rows that are moved so
+abbrev pub AreShiftedAfter : ℕ → ℕ → ℕ → ℕ → List Shape → List Shape → List Shape → Type 0
+AreShiftedAfter low base from to old run new =
+    (ts : List Shape) × (new ≡ old ++ ts) × AreShifted low base from to run ts
+
 -- the names with those of shapes, each where it is not among those before it
 abbrev pub with_named : List (List ℕ) → List (List ℕ) → List Shape → List (List ℕ)
 with_named others names [] = names
