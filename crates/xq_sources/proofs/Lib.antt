@@ -3,6 +3,7 @@ pub mod Between
 pub mod Forms
 pub mod Intervals
 pub mod KeptParents
+pub mod Planting
 pub mod ReadRows
 pub mod Rising
 pub mod Unplaced

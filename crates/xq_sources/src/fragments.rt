@@ -1,17 +1,15 @@
 //! Trees in memory.
-ghost use Rattle.std.specs.Prelude.{◌≡◌, ◌+◌, ◌++◌, ◌∷◌, [], Some, None, slice_get, IfNone, IfOk, IfSome, OnErr, OnOk};
-ghost use Rattle.xq_packed_trees.specs.PackedTrees.{Packs};
-ghost use Rattle.xq_sources.specs.Lent.{placed_between};
+ghost use Rattle.std.specs.Prelude.{◌≡◌, ◌+◌, ◌++◌, ◌∷◌, [], slice_get, slice_range, IfNone, IfSome, OnErr, OnOk};
 ghost use Rattle.xq_sources.specs.Meters.{no_readings};
-ghost use Rattle.xq_sources.specs.Sources.{tree_at, HasTree};
 ghost use Rattle.xq_sources.specs.private.Runs.{rows_of_run};
 
 use crate::attributes::count_attributes;
+use crate::guides::guide_to;
+use crate::planted::PlantedTrees;
 use crate::rows::{copy_enclosing, copy_rows};
 use crate::{Guide, LentRows, Meter, RowLender, RowSource, TreeSource};
 use std::alloc::Global;
 use xq_atoms::Want;
-use xq_packed::PackedRows;
 use xq_packed_trees::PackedTree;
 use xq_regions::{Fragment, NodeRow};
 
@@ -30,19 +28,19 @@ const NO_ROWS: Run = Run {
     high: 0,
 };
 
-/// The rows from `low` to `high`, lent.
-fn between(rows: &PackedRows, low: u32, high: u32) -> LentRows<'_>
-    ensures { result ≡ placed_between rows.now.rows low (high + 1) }
+/// The rows from `low` to `high`, those that there are.
+fn between<'a>(rows: &LentRows<'a>, low: u32, high: u32) -> LentRows<'a>
+    ensures { result ≡ slice_range rows.now low (high + 1) }
 {
-    LentRows::packed(rows, low as usize, high as usize + 1)
+    rows.between(low as usize, high as usize + 1)
 }
 
 /// Trees in memory, packed, which give copies of their rows and lend the rows themselves. They are
 /// always clean.
 #[derive(Drop)]
 pub struct Fragments {
-    list: Vec<PackedTree>,
-    /// Where parents lie, at the same places.
+    trees: PlantedTrees,
+    /// Where parents lie, at the same places, as far as trees were read.
     guides: Vec<Guide>,
     meter: Meter,
     run: Run,
@@ -55,7 +53,7 @@ impl Fragments {
         ensures unread { ⟦<Fragments as TreeSource>⟧.meter result ≡ no_readings }
     {
         Fragments {
-            list: Vec::new(alloc),
+            trees: PlantedTrees::new(alloc),
             guides: Vec::new(alloc),
             meter: Meter::new(),
             run: NO_ROWS,
@@ -88,12 +86,7 @@ impl Fragments {
         ensures lent { ⟦<Fragments as RowLender>⟧.lent self.new ≡ [] }
     {
         self.run = NO_ROWS;
-        let mut guide = Guide::new(*self.guides.allocator());
-        guide.read_on(&LentRows::all(tree.rows()))?;
-        self.guides.truncate(self.list.len());
-        self.guides.push(guide)?;
-        self.list.push(tree)?;
-        Ok(())
+        self.trees.push(&tree)
     }
 
     /// Takes the last tree away; none where there is none. No row is lent then.
@@ -107,35 +100,21 @@ impl Fragments {
         ensures lent { ⟦<Fragments as RowLender>⟧.lent self.new ≡ [] }
     {
         self.run = NO_ROWS;
-        let tree = self.list.pop()?;
-        self.guides.truncate(self.list.len());
+        let tree = self.trees.pop()?;
+        self.guides.truncate(self.trees.len());
         Some(tree)
-    }
-
-    /// The rows of the tree; `Want::Store` where there is none of this number.
-    fn rows_of(&self, tree: usize) -> Result<&PackedRows, Want>
-        ensures exists { OnOk result (HasTree self.now.list.items tree) }
-        ensures held { OnOk result (slice_get self.now.list.items tree
-            ≡ Some (tree_at self.now.list.items tree)) }
-        ensures absent { OnErr result (slice_get self.now.list.items tree ≡ None) }
-        ensures rows { IfOk result (λ rows. Packs rows.now (tree_at self.now.list.items tree)) }
-    {
-        match self.list.get(tree) {
-            Some(held) => Ok(held.rows()),
-            None => Err(Want::Store),
-        }
     }
 }
 
 impl TreeSource for Fragments {
-    ghost forest = { λ s. s.list.items };
+    ghost forest = { λ s. s.trees };
 
     ghost meter = { λ s. s.meter };
 
     ghost is_clean = { λ _. Unit {0} };
 
     fn trees(&self) -> usize {
-        self.list.len()
+        self.trees.len()
     }
 
     fn meter(&self) -> Meter {
@@ -151,22 +130,22 @@ impl RowSource for Fragments {
         low: u32,
         high: u32,
     ) -> Result<Vec<NodeRow>, Want> {
-        let rows = self.rows_of(tree)?;
-        let found = copy_rows(alloc, &between(rows, low, high))?;
+        let rows = self.trees.rows_of(tree)?;
+        let found = copy_rows(alloc, &between(&rows, low, high))?;
         self.meter = self.meter.with_rows(found.len());
         Ok(found)
     }
 
     fn enclosing(&mut self, alloc: Global, tree: usize, node: u32) -> Result<Vec<NodeRow>, Want> {
-        let rows = self.rows_of(tree)?;
-        let found = copy_enclosing(alloc, &LentRows::all(rows), node)?;
+        let rows = self.trees.rows_of(tree)?;
+        let found = copy_enclosing(alloc, &rows, node)?;
         self.meter = self.meter.with_singles(found.len());
         Ok(found)
     }
 
     fn row(&mut self, alloc: Global, tree: usize, node: u32) -> Result<NodeRow, Want> {
-        let rows = self.rows_of(tree)?;
-        let Some(row) = LentRows::all(rows).get(node as usize) else {
+        let rows = self.trees.rows_of(tree)?;
+        let Some(row) = rows.get(node as usize) else {
             return Err(Want::Store);
         };
         let found = row.to_row(alloc)?;
@@ -176,20 +155,22 @@ impl RowSource for Fragments {
 }
 
 impl RowLender for Fragments {
-    ghost lent = { λ s. rows_of_run (slice_get s.list.items s.run.tree) s.run.low s.run.high };
+    ghost lent = { λ s. rows_of_run (slice_get s.trees s.run.tree) s.run.low s.run.high };
 
-    fn fetch(&mut self, _: Global, tree: usize, low: u32, high: u32) -> Result<(), Want> {
+    fn fetch(&mut self, alloc: Global, tree: usize, low: u32, high: u32) -> Result<(), Want> {
         self.run = NO_ROWS;
-        let rows = self.rows_of(tree)?;
-        let count = between(rows, low, high).len();
+        let rows = self.trees.rows_of(tree)?;
+        guide_to(alloc, &mut self.guides, tree, &rows);
+        let count = between(&rows, low, high).len();
         self.run = Run { tree, low, high };
         self.meter = self.meter.with_rows(count);
         Ok(())
     }
 
-    fn fetch_row(&mut self, _: Global, tree: usize, node: u32) -> Result<(), Want> {
+    fn fetch_row(&mut self, alloc: Global, tree: usize, node: u32) -> Result<(), Want> {
         self.run = NO_ROWS;
-        let rows = self.rows_of(tree)?;
+        let rows = self.trees.rows_of(tree)?;
+        guide_to(alloc, &mut self.guides, tree, &rows);
         if node as usize >= rows.len() {
             return Err(Want::Store);
         }
@@ -203,14 +184,20 @@ impl RowLender for Fragments {
     }
 
     fn parent(&self, tree: usize, node: u32) -> Option<u32> {
-        let guide = self.guides.get(tree)?;
-        let held = self.list.get(tree)?;
-        guide.parent(&LentRows::all(held.rows()), node)
+        let Ok(rows) = self.trees.rows_of(tree) else {
+            return None;
+        };
+        match self.guides.get(tree) {
+            Some(guide) => guide.parent(&rows, node),
+            None => Guide::new(*self.guides.allocator()).parent(&rows, node),
+        }
     }
 
     fn attributes(&self, tree: usize, node: u32) -> Option<u32> {
-        let held = self.list.get(tree)?;
-        count_attributes(&LentRows::all(held.rows()), node)
+        let Ok(rows) = self.trees.rows_of(tree) else {
+            return None;
+        };
+        count_attributes(&rows, node)
     }
 
     fn find_named(&mut self, _: Global, _: usize, _: &str) {}
@@ -226,8 +213,8 @@ impl RowLender for Fragments {
     }
 
     fn lent(&self) -> LentRows<'_> {
-        match self.rows_of(self.run.tree) {
-            Ok(rows) => between(rows, self.run.low, self.run.high),
+        match self.trees.rows_of(self.run.tree) {
+            Ok(rows) => between(&rows, self.run.low, self.run.high),
             Err(_) => LentRows::new(&[]),
         }
     }

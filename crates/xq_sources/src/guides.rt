@@ -146,6 +146,22 @@ impl Guide {
     }
 }
 
+/// Keeps the guide of the tree with this number, among those of trees beside it, where it has many
+/// rows and none is kept yet. Where memory is short, none is.
+pub fn guide_to(alloc: Global, guides: &mut Vec<Guide>, tree: usize, rows: &LentRows<'_>) {
+    if rows.len() <= FEW {
+        return;
+    }
+    for _ in guides.len()..=tree {
+        if guides.push(Guide::new(alloc)).is_err() {
+            return;
+        }
+    }
+    if let Some(guide) = guides.get_mut(tree) {
+        let _ = guide.read_on(rows);
+    }
+}
+
 /// Adds the places of the parents of the rows that come after those of which they are there. Of
 /// each level it is given where the last row before lies that has it.
 fn add_parents(

@@ -11,6 +11,7 @@ mod lenders;
 mod lent;
 mod meters;
 mod names;
+mod planted;
 mod rows;
 mod sources;
 mod trees;

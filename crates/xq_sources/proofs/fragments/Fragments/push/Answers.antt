@@ -3,4 +3,4 @@ use Rattle.xq_sources.proofs.ReadRows.{no_rows}
 use Rattle.xq_sources.proofs.fragments.Fragments.push.Goals as goal
 
 pub returns-in_err-tree-clause-lent : goal.returns-in_err-tree-clause-lent
-returns-in_err-tree-clause-lent c = no_rows (slice_get c.args.self.now.list.items 0)
+returns-in_err-tree-clause-lent c = no_rows (slice_get c.args.self.now.trees 0)

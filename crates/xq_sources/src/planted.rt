@@ -1,0 +1,111 @@
+//! Trees whose rows lie one after another in one list.
+ghost use Rattle.std.specs.Prelude.{◌≡◌, ◌≤◌, ◌++◌, ◌∷◌, [], Some, None, length, slice_get, IfNone, IfOk, IfSome, OnErr, OnOk};
+ghost use Rattle.xq_regions.specs.Rows.{placed_rows};
+ghost use Rattle.xq_regions.specs.Tree.{IsTree};
+ghost use Rattle.xq_sources.specs.Sources.{tree_at, HasTree};
+ghost use Rattle.xq_sources.specs.private.Planted.{start_of as start_of_lem};
+
+use crate::LentRows;
+use std::alloc::Global;
+use std::marker::Model;
+use xq_atoms::Want;
+use xq_packed::PackedRows;
+use xq_packed_trees::PackedTree;
+
+/// Trees beside one another, the rows of one after those of another. Contracts see the trees.
+#[derive(Drop)]
+pub struct PlantedTrees {
+    rows: PackedRows,
+    /// Where the rows of each tree end.
+    ends: Vec<usize>,
+}
+
+impl Model for PlantedTrees {
+    ghost use Rattle.std.specs.Prelude.{List};
+    ghost use Rattle.std.specs.Coded.{coded_list};
+    ghost use Rattle.xq_regions.specs.Codes.{tree_code};
+    ghost use Rattle.xq_regions.specs.Tree.{Tree};
+    ghost use Rattle.xq_sources.specs.private.Planted.{trees_after, ArePlanted};
+
+    ghost Value = { List Tree };
+
+    ghost coded = { coded_list tree_code };
+
+    ghost view = { λ trees. trees_after trees.rows.rows 0 trees.ends.items };
+
+    ghost invariant = { λ trees. ArePlanted trees.rows.rows 0 trees.ends.items };
+}
+
+/// Where the rows of a tree begin, by the places where those of each tree end.
+#[inline]
+fn start_of(ends: &[usize], tree: usize) -> usize
+    requires { tree ≤ length ends.now }
+    ensures { result ≡ start_of_lem 0 ends.now tree }
+{
+    if tree == 0 { 0 } else { ends[tree - 1] }
+}
+
+impl PlantedTrees {
+    /// No tree.
+    pub fn new(alloc: Global) -> PlantedTrees
+        ensures { result ≡ [] }
+    {
+        PlantedTrees {
+            rows: PackedRows::new(alloc),
+            ends: Vec::new(alloc),
+        }
+    }
+
+    /// How many trees there are.
+    #[inline]
+    pub fn len(&self) -> usize
+        ensures { result ≡ length self.now }
+    {
+        self.ends.len()
+    }
+
+    /// The rows of a tree, lent; `Want::Store` where there is none of this number.
+    #[inline]
+    pub fn rows_of(&self, tree: usize) -> Result<LentRows<'_>, Want>
+        ensures exists { OnOk result (HasTree self.now tree) }
+        ensures held { OnOk result (slice_get self.now tree ≡ Some (tree_at self.now tree)) }
+        ensures absent { OnErr result (slice_get self.now tree ≡ None) }
+        ensures is_tree { OnOk result (IsTree (tree_at self.now tree)) }
+        ensures rows { IfOk result (λ rows. rows ≡ placed_rows (tree_at self.now tree)) }
+    {
+        if tree >= self.ends.len() {
+            return Err(Want::Store);
+        }
+        let start = start_of(&self.ends, tree);
+        let end = self.ends[tree];
+        Ok(LentRows::packed_after(&self.rows, start, 0, end - start))
+    }
+
+    /// Adds a tree after the others; where it is refused, they are as before.
+    pub fn push(&mut self, tree: &PackedTree) -> Result<(), Want>
+        ensures ok { OnOk result (self.new ≡ self.old ++ tree.now ∷ []) }
+        ensures err { OnErr result (self.new ≡ self.old) }
+    {
+        self.ends.reserve(1)?;
+        let rows = tree.rows();
+        self.rows.append_run(rows, 0, rows.len(), 0, 0)?;
+        self.ends.push_reserved(self.rows.len());
+        Ok(())
+    }
+
+    /// Takes the last tree away. None where there is none, or where memory for its rows is wanting.
+    pub fn pop(&mut self) -> Option<PackedTree>
+        ensures taken { IfSome result (λ tree. self.old ≡ self.new ++ tree ∷ []) }
+        ensures none { IfNone result (self.new ≡ self.old) }
+    {
+        let end = self.ends.pop()?;
+        let start = start_of(&self.ends, self.ends.len());
+        let mut rows = PackedRows::new(*self.ends.allocator());
+        let Ok(()) = rows.append_run(&self.rows, start, end, 0, 0) else {
+            self.ends.push_reserved(end);
+            return None;
+        };
+        self.rows.truncate(start);
+        Some(PackedTree::of_rows(rows))
+    }
+}
