@@ -1,16 +1,18 @@
 -- Trees that meet below a root make a tree, whose rows are theirs below the root's.
-use Rattle.std.proofs.Common.{◌≡◌, ℕ, zero, suc, ◌+◌, ◌<◌, List, [], ◌∷◌, ◌++◌, length, map, Bool, true, refl, sym, ap, ◌∙◌, subst, arith, append_assoc}
+use Rattle.std.proofs.Common.{◌≡◌, ℕ, zero, suc, ◌+◌, ◌<◌, List, [], ◌∷◌, ◌++◌, length, map, filter, cond, Bool, true, false, refl, sym, ap, ◌∙◌, subst, arith, append_assoc}
 use Rattle.std.specs.Prelude.{All, IsTrue}
 use Rattle.std.specs.List.{AllByRecursion, IsDistinct}
 use Rattle.std.specs.Str.{bytes_eq}
+use Rattle.std.proofs.lemmas.Bool.{true≢false}
 use Rattle.std.proofs.lemmas.List.{append-nil, map-append}
 use Rattle.std.proofs.lemmas.List.Elements.{All-nil, All-cons, All-head, All-tail, All-weaker}
 use Rattle.xq_regions.specs.Forest.{Forest, end, node, count, labels, tops, EachNode, IsWithinHeight}
-use Rattle.xq_regions.specs.Tree.{Label, Tree, IsText, IsTree, nodes, may_stand, may_follow, may_precede, has_text, is_content, is_legal, attribute_names, most_levels}
+use Rattle.xq_regions.specs.Tree.{Label, Tree, IsText, IsTree, nodes, may_stand, may_follow, may_precede, has_text, is_attribute, is_content, is_legal, attribute_names, most_levels}
 use Rattle.xq_regions.specs.Rows.{Row, measured, rows, tree_of, AreRowsOf}
 use Rattle.xq_regions.specs.Nesting.{count-measured, tree_of-rows}
 use Rattle.xq_regions.specs.Beside.{beside, rooted, root_of, lowered, lowered_rows, root_row, IsLow, MayMeet}
 use Rattle.xq_regions.specs.declared.Kind.{Kind}
+use Rattle.xq_regions.specs.declared.Kind.TheVariants.{Document, Element, Attribute, Text, Comment, ProcessingInstruction}
 use Rattle.xq_regions.proofs.Checking.{both, both_true}
 use Rattle.xq_regions.proofs.Regions.{length-labels}
 
@@ -145,6 +147,47 @@ content-push parent (b ∷ d ∷ ls) a h stands has ends =
     let v = both (has_text b.kind b.value) _ s.1 in
     let w = both (may_precede b.kind (d ∷ ls)) _ v.1 in
     both_true _ _ s.0 (both_true _ _ v.0 (both_true _ _ w.0 (content-push parent (d ∷ ls) a w.1 stands has ends)))
+
+-- and then what may stand after it is what may follow it
+pub may_end-push : (ls : List Label) (a : Label) (kind : Kind) → may_end (ls ++ a ∷ []) kind ≡ may_follow a.kind kind
+may_end-push [] a kind = refl
+may_end-push (b ∷ []) a kind = refl
+may_end-push (b ∷ d ∷ ls) a kind = may_end-push (d ∷ ls) a kind
+
+-- # Attributes among them
+
+pub names-attribute : (ls : List Label) (a : Label) → is_attribute a.kind ≡ true → attribute_names (ls ++ a ∷ []) ≡ attribute_names ls ++ a.name ∷ []
+names-attribute [] a e = rw e refl
+names-attribute (b ∷ ls) a e = by_test (is_attribute b.kind) (names-attribute ls a e)
+  where
+    by_test : (is : Bool) → attribute_names (ls ++ a ∷ []) ≡ attribute_names ls ++ a.name ∷ [] → map (λ (x : Label). x.name) (cond is (b ∷ filter (λ (x : Label). is_attribute x.kind) (ls ++ a ∷ [])) (filter (λ (x : Label). is_attribute x.kind) (ls ++ a ∷ []))) ≡ map (λ (x : Label). x.name) (cond is (b ∷ filter (λ (x : Label). is_attribute x.kind) ls) (filter (λ (x : Label). is_attribute x.kind) ls)) ++ a.name ∷ []
+    by_test true so_far = ap (λ ns. b.name ∷ ns) so_far
+    by_test false so_far = so_far
+
+pub names-other : (ls : List Label) (a : Label) → is_attribute a.kind ≡ false → attribute_names (ls ++ a ∷ []) ≡ attribute_names ls
+names-other [] a e = rw e refl
+names-other (b ∷ ls) a e = by_test (is_attribute b.kind) (names-other ls a e)
+  where
+    by_test : (is : Bool) → attribute_names (ls ++ a ∷ []) ≡ attribute_names ls → map (λ (x : Label). x.name) (cond is (b ∷ filter (λ (x : Label). is_attribute x.kind) (ls ++ a ∷ [])) (filter (λ (x : Label). is_attribute x.kind) (ls ++ a ∷ []))) ≡ map (λ (x : Label). x.name) (cond is (b ∷ filter (λ (x : Label). is_attribute x.kind) ls) (filter (λ (x : Label). is_attribute x.kind) ls))
+    by_test true so_far = ap (λ ns. b.name ∷ ns) so_far
+    by_test false so_far = so_far
+
+-- an attribute has one row
+pub rows-attribute : (t : Tree) → IsTree t → is_attribute t.root.kind ≡ true → rows t ≡ record { size = 0; level = 0; label = t.root } ∷ []
+rows-attribute t is e = ap (λ below. labels (measured 0 (node t.root below end))) (alone t.root t.below e is.content.0)
+  where
+    stands_nothing : (kind child : Kind) → is_attribute kind ≡ true → may_stand kind child ≡ false
+    stands_nothing Attribute child e = refl
+    stands_nothing Document child e = absurd (true≢false (sym e))
+    stands_nothing Element child e = absurd (true≢false (sym e))
+    stands_nothing Text child e = absurd (true≢false (sym e))
+    stands_nothing Comment child e = absurd (true≢false (sym e))
+    stands_nothing ProcessingInstruction child e = absurd (true≢false (sym e))
+
+    alone : (root : Label) (below : Forest Label) → is_attribute root.kind ≡ true → IsTrue (is_content root (tops below)) → below ≡ end
+    alone root end e h = refl
+    alone root (node a below beside) e h =
+        absurd (true≢false (sym (both (may_stand root.kind a.kind) _ h).0 ∙ stands_nothing root.kind a.kind e))
 
 -- # No tree
 

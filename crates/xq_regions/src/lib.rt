@@ -20,7 +20,7 @@ mod names;
 mod rows;
 mod values;
 
-pub use encodings::is_tree;
+pub use encodings::{has_text, is_legal, is_tree, may_follow, may_stand};
 pub use items::{Item, Items, Node};
 pub use laws::{roots_make_trees, subtrees_are_trees, trees_are_their_rows};
 pub use levels::size_below;
