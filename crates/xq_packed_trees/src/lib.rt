@@ -3,6 +3,7 @@
 
 ghost use Rattle.std.specs.Prelude.{◌≡◌, ◌↔◌, IsTrue, IsNone, IfOk, IfErr, IfSome};
 ghost use Rattle.xq_regions.specs.Tree.{Tree, IsTree};
+ghost use Rattle.xq_regions.specs.Rows.{tree_of};
 ghost use Rattle.xq_packed_trees.specs.PackedTrees.{Packs, AreLevels};
 
 use std::alloc::Global;
@@ -54,6 +55,14 @@ impl PackedTree {
         } else {
             Ok(None)
         }
+    }
+
+    /// The tree of these rows, which are known to be those of one: they are not judged again.
+    pub fn of_rows(rows: PackedRows) -> PackedTree
+        requires { Packs rows (tree_of rows.rows) }
+        ensures { result ≡ tree_of rows.rows }
+    {
+        PackedTree { rows }
     }
 
     /// The tree of a fragment.

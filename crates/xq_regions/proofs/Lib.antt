@@ -20,4 +20,5 @@ pub mod Sized
 pub mod Numbered
 pub mod Rising
 pub mod Subtrees
+pub mod Beside
 pub mod Grouping

@@ -12,7 +12,8 @@ use crate::{Kind, MAX_LEVEL, MAX_NODES};
 use xq_atoms::{Want, is_name};
 
 /// Whether a node of the kind `parent` may have a child or an attribute of the kind `child`.
-fn may_stand(parent: Kind, child: Kind) -> bool
+#[inline]
+pub fn may_stand(parent: Kind, child: Kind) -> bool
     ensures { result ≡ may_stand_lem parent child }
 {
     match (parent, child) {
@@ -25,7 +26,8 @@ fn may_stand(parent: Kind, child: Kind) -> bool
 }
 
 /// Whether a node of the kind `next` may stand right beside one of the kind `kind`.
-fn may_follow(kind: Kind, next: Kind) -> bool
+#[inline]
+pub fn may_follow(kind: Kind, next: Kind) -> bool
     ensures { result ≡ may_follow_lem kind next }
 {
     match (kind, next) {
@@ -37,7 +39,7 @@ fn may_follow(kind: Kind, next: Kind) -> bool
 }
 
 /// Whether a kind may have the name and the value.
-fn is_legal(kind: Kind, name: &str, value: &str) -> bool
+pub fn is_legal(kind: Kind, name: &str, value: &str) -> bool
     ensures { result ≡ is_legal_lem kind name.now value.now }
 {
     match kind {
@@ -51,7 +53,8 @@ fn is_legal(kind: Kind, name: &str, value: &str) -> bool
 }
 
 /// Whether a node of the kind with the value is no empty text.
-fn has_text(kind: Kind, value: &str) -> bool
+#[inline]
+pub fn has_text(kind: Kind, value: &str) -> bool
     ensures { result ≡ has_text_lem kind value.now }
 {
     kind != Kind::Text || !value.is_empty()

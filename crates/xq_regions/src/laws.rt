@@ -1,4 +1,5 @@
 //! The laws of trees and their rows.
+ghost use Rattle.xq_regions.specs.Beside.{RootsMakeTrees};
 ghost use Rattle.xq_regions.specs.Laws.{RowsTellTrees, PathsHavePlaces, PlacesHavePaths, OrderIsThatOfPlaces, AxesAreRegions};
 ghost use Rattle.xq_regions.specs.Subtrees.{SubtreesAreTrees};
 
@@ -14,4 +15,10 @@ pub fn trees_are_their_rows()
 /// Does nothing. Its contract says that a node of a tree, with all that is below it, is a tree.
 pub fn subtrees_are_trees()
     ensures { SubtreesAreTrees }
+{}
+
+/// Does nothing. Its contract says that trees that may meet below a root make a tree with it, whose
+/// rows are the root's and after it theirs.
+pub fn roots_make_trees()
+    ensures { RootsMakeTrees }
 {}

@@ -20,9 +20,9 @@ mod names;
 mod rows;
 mod values;
 
-pub use encodings::is_tree;
+pub use encodings::{has_text, is_legal, is_tree, may_follow, may_stand};
 pub use items::{Item, Items, Node};
-pub use laws::{subtrees_are_trees, trees_are_their_rows};
+pub use laws::{roots_make_trees, subtrees_are_trees, trees_are_their_rows};
 pub use levels::size_below;
 use listings::is_encoding;
 pub use merges::{comes_after, merge, rises};
