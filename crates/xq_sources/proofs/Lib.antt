@@ -1,5 +1,6 @@
 pub mod AttributeRows
 pub mod Between
+pub mod Few
 pub mod Forms
 pub mod Intervals
 pub mod KeptParents

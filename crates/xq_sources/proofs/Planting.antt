@@ -82,6 +82,18 @@ grown rs more t start (end ∷ ends) are planted =
     let rest = grown rs more t end ends are planted.1 in
     ((here.0, rest.0), ap (λ u. u ∷ trees_after (rs ++ more) end (ends ++ length (rs ++ more) ∷ [])) here.1 ∙ ap (λ us. tree_between rs start end ∷ us) rest.1)
 
+-- the trees, and one more after them
+pub record IsMore (rs : List Row) (ends : List ℕ) (trees : List Tree) (t : Tree) : Type 0 where
+  pub planted : ArePlanted rs 0 ends
+  pub seen : trees_after rs 0 ends ≡ trees ++ t ∷ []
+
+pub is_more : (rs rs' more : List Row) (ends ends' : List ℕ) (trees : List Tree) (t : Tree) → trees_after rs 0 ends ≡ trees → ArePlanted rs 0 ends → AreRowsOf more t → rs' ≡ rs ++ more → ends' ≡ ends ++ length rs' ∷ [] → IsMore rs' ends' trees t
+is_more rs rs' more ends ends' trees t view planted are same end =
+    let one = grown rs more t 0 ends are planted in
+    let both : IsMore (rs ++ more) (ends ++ length (rs ++ more) ∷ []) trees t = record { planted = one.0; seen = one.1 ∙ ap (λ (ts : List Tree). ts ++ t ∷ []) view } in
+    subst (λ (es : List ℕ). IsMore rs' es trees t) (sym end)
+    (subst (λ (qs : List Row). IsMore qs (ends ++ length qs ∷ []) trees t) (sym same) both)
+
 -- # One less
 
 -- the rows of the last tree

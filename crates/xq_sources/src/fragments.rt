@@ -1,5 +1,6 @@
 //! Trees in memory.
-ghost use Rattle.std.specs.Prelude.{◌≡◌, ◌+◌, ◌++◌, ◌∷◌, [], slice_get, slice_range, IfNone, IfSome, OnErr, OnOk};
+ghost use Rattle.std.specs.Prelude.{◌≡◌, ◌+◌, ◌++◌, ◌∷◌, [], slice_get, slice_range, true, false, IfNone, IfOk, IfSome, OnErr, OnOk};
+ghost use Rattle.xq_sources.specs.Grafts.{lone, around_text};
 ghost use Rattle.xq_sources.specs.Meters.{no_readings};
 ghost use Rattle.xq_sources.specs.private.Runs.{rows_of_run};
 
@@ -11,7 +12,7 @@ use crate::{Guide, LentRows, Meter, RowLender, RowSource, TreeSource};
 use std::alloc::Global;
 use xq_atoms::Want;
 use xq_packed_trees::PackedTree;
-use xq_regions::{Fragment, NodeRow};
+use xq_regions::{Fragment, Kind, NodeRow};
 
 /// The rows of a tree from `low` to `high`.
 #[derive(Clone, Copy)]
@@ -87,6 +88,43 @@ impl Fragments {
     {
         self.run = NO_ROWS;
         self.trees.push(&tree)
+    }
+
+    /// Adds the tree of one node after the others, where there is such a tree, and says whether it
+    /// did. Where it is refused, they are as before. No row is lent then.
+    pub fn push_lone(&mut self, kind: Kind, name: &str, value: &str) -> Result<bool, Want>
+        ensures grown { IfOk result (λ did. did ≡ true
+            → ⟦<Fragments as TreeSource>⟧.forest self.new
+            ≡ ⟦<Fragments as TreeSource>⟧.forest self.old ++ lone kind name.now value.now ∷ []) }
+        ensures left { IfOk result (λ did. did ≡ false
+            → ⟦<Fragments as TreeSource>⟧.forest self.new
+            ≡ ⟦<Fragments as TreeSource>⟧.forest self.old) }
+        ensures kept { OnErr result (⟦<Fragments as TreeSource>⟧.forest self.new
+            ≡ ⟦<Fragments as TreeSource>⟧.forest self.old) }
+        ensures meter { ⟦<Fragments as TreeSource>⟧.meter self.new
+            ≡ ⟦<Fragments as TreeSource>⟧.meter self.old }
+        ensures lent { ⟦<Fragments as RowLender>⟧.lent self.new ≡ [] }
+    {
+        self.run = NO_ROWS;
+        self.trees.push_lone(kind, name, value)
+    }
+
+    /// The same of an element with one text below it.
+    pub fn push_around(&mut self, name: &str, value: &str) -> Result<bool, Want>
+        ensures grown { IfOk result (λ did. did ≡ true
+            → ⟦<Fragments as TreeSource>⟧.forest self.new
+            ≡ ⟦<Fragments as TreeSource>⟧.forest self.old ++ around_text name.now value.now ∷ []) }
+        ensures left { IfOk result (λ did. did ≡ false
+            → ⟦<Fragments as TreeSource>⟧.forest self.new
+            ≡ ⟦<Fragments as TreeSource>⟧.forest self.old) }
+        ensures kept { OnErr result (⟦<Fragments as TreeSource>⟧.forest self.new
+            ≡ ⟦<Fragments as TreeSource>⟧.forest self.old) }
+        ensures meter { ⟦<Fragments as TreeSource>⟧.meter self.new
+            ≡ ⟦<Fragments as TreeSource>⟧.meter self.old }
+        ensures lent { ⟦<Fragments as RowLender>⟧.lent self.new ≡ [] }
+    {
+        self.run = NO_ROWS;
+        self.trees.push_around(name, value)
     }
 
     /// Takes the last tree away; none where there is none. No row is lent then.

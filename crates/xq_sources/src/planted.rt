@@ -1,7 +1,8 @@
 //! Trees whose rows lie one after another in one list.
-ghost use Rattle.std.specs.Prelude.{◌≡◌, ◌≤◌, ◌++◌, ◌∷◌, [], Some, None, length, slice_get, IfNone, IfOk, IfSome, OnErr, OnOk};
+ghost use Rattle.std.specs.Prelude.{◌≡◌, ◌≤◌, ◌++◌, ◌∷◌, [], Some, None, true, false, length, slice_get, IfNone, IfOk, IfSome, IsTrue, OnErr, OnOk};
 ghost use Rattle.xq_regions.specs.Rows.{placed_rows};
-ghost use Rattle.xq_regions.specs.Tree.{IsTree};
+ghost use Rattle.xq_regions.specs.Tree.{IsTree, has_text as has_text_lem, is_legal as is_legal_lem};
+ghost use Rattle.xq_sources.specs.Grafts.{lone, around_text};
 ghost use Rattle.xq_sources.specs.Sources.{tree_at, HasTree};
 ghost use Rattle.xq_sources.specs.private.Planted.{start_of as start_of_lem};
 
@@ -11,6 +12,7 @@ use std::marker::Model;
 use xq_atoms::Want;
 use xq_packed::PackedRows;
 use xq_packed_trees::PackedTree;
+use xq_regions::{Kind, has_text, is_legal};
 
 /// Trees beside one another, the rows of one after those of another. Contracts see the trees.
 #[derive(Drop)]
@@ -43,6 +45,17 @@ fn start_of(ends: &[usize], tree: usize) -> usize
     ensures { result ≡ start_of_lem 0 ends.now tree }
 {
     if tree == 0 { 0 } else { ends[tree - 1] }
+}
+
+/// Whether there is an element with the name and below it one text with the value.
+fn may_go_around(name: &str, value: &str) -> bool
+    ensures element { IsTrue result → IsTrue (is_legal_lem Kind.Element name.now []) }
+    ensures text { IsTrue result → IsTrue (is_legal_lem Kind.Text [] value.now) }
+    ensures some { IsTrue result → IsTrue (has_text_lem Kind.Text value.now) }
+{
+    has_text(Kind::Text, value)
+        && is_legal(Kind::Text, "", value)
+        && is_legal(Kind::Element, name, "")
 }
 
 impl PlantedTrees {
@@ -91,6 +104,44 @@ impl PlantedTrees {
         self.rows.append_run(rows, 0, rows.len(), 0, 0)?;
         self.ends.push_reserved(self.rows.len());
         Ok(())
+    }
+
+    /// Adds the tree of one node after the others, where there is such a tree, and says whether it
+    /// did. Where it is refused, they are as before.
+    pub fn push_lone(&mut self, kind: Kind, name: &str, value: &str) -> Result<bool, Want>
+        ensures grown { IfOk result (λ did. did ≡ true
+            → self.new ≡ self.old ++ lone kind name.now value.now ∷ []) }
+        ensures left { IfOk result (λ did. did ≡ false → self.new ≡ self.old) }
+        ensures kept { OnErr result (self.new ≡ self.old) }
+    {
+        if !is_legal(kind, name, value) {
+            return Ok(false);
+        }
+        self.ends.reserve(1)?;
+        self.rows.push_parts(0, 0, kind, name, value)?;
+        self.ends.push_reserved(self.rows.len());
+        Ok(true)
+    }
+
+    /// The same of an element with one text below it.
+    pub fn push_around(&mut self, name: &str, value: &str) -> Result<bool, Want>
+        ensures grown { IfOk result (λ did. did ≡ true
+            → self.new ≡ self.old ++ around_text name.now value.now ∷ []) }
+        ensures left { IfOk result (λ did. did ≡ false → self.new ≡ self.old) }
+        ensures kept { OnErr result (self.new ≡ self.old) }
+    {
+        if !may_go_around(name, value) {
+            return Ok(false);
+        }
+        self.ends.reserve(1)?;
+        let root = self.rows.len();
+        self.rows.push_parts(1, 0, Kind::Element, name, "")?;
+        if let Err(want) = self.rows.push_parts(0, 1, Kind::Text, "", value) {
+            self.rows.truncate(root);
+            return Err(want);
+        }
+        self.ends.push_reserved(self.rows.len());
+        Ok(true)
     }
 
     /// Takes the last tree away. None where there is none, or where memory for its rows is wanting.

@@ -81,12 +81,18 @@ impl<S: RowLender + Drop> Growing for Trees<S> {
         self.constructed.push_packed(tree)
     }
 
-    fn plant_lone(&mut self, _: Kind, _: &str, _: &str) -> Result<bool, Want> {
-        Ok(false)
+    fn plant_lone(&mut self, kind: Kind, name: &str, value: &str) -> Result<bool, Want> {
+        if self.trees() == usize::MAX {
+            return Err(Want::Memory);
+        }
+        self.constructed.push_lone(kind, name, value)
     }
 
-    fn plant_around(&mut self, _: &str, _: &str) -> Result<bool, Want> {
-        Ok(false)
+    fn plant_around(&mut self, name: &str, value: &str) -> Result<bool, Want> {
+        if self.trees() == usize::MAX {
+            return Err(Want::Memory);
+        }
+        self.constructed.push_around(name, value)
     }
 
     fn graft(&mut self, _: Kind, _: &str, _: &[Item]) -> Result<bool, Want> {
