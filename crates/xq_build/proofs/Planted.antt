@@ -1,5 +1,5 @@
 -- Roots of trees as content: the tree that is grafted is the one that is built.
-use Rattle.std.proofs.Common.{◌≡◌, ◌≤◌, ◌++◌, Bool, true, false, ◌&&◌, List, [], ◌∷◌, None, Ok, refl, sym, ap, ◌∙◌, subst, arith}
+use Rattle.std.proofs.Common.{◌≡◌, ◌≤◌, Bool, true, false, ◌&&◌, List, [], ◌∷◌, None, Ok, refl, sym, ap, ◌∙◌, subst, arith}
 use Rattle.std.specs.Prelude.{nat_le, bytes_eq}
 use Rattle.std.specs.List.{IsDistinct, AllByRecursion, list_any}
 use Rattle.std.proofs.lemmas.Bool.{and_parts, false≢true}
@@ -15,13 +15,11 @@ use Rattle.xq_regions.specs.Order.{path_at}
 use Rattle.xq_regions.specs.Node.{subtree}
 use Rattle.xq_regions.specs.Tree.{Label, Tree, nodes, IsTree, is_attribute, may_stand, may_follow, may_precede, has_text, is_content, attribute_names, most_levels, most_nodes}
 use Rattle.xq_sources.specs.Sources.{tree_at}
-use Rattle.xq_sources.specs.Grafts.{lone, around_text, rooted, IsRoot, side_by_side, Grafts}
+use Rattle.xq_sources.specs.Grafts.{rooted, IsRoot, side_by_side, Grafts}
 use Rattle.xq_meaning.specs.Items.{tree_below}
 use Rattle.xq_meaning.specs.Readings.{node_at, items_at}
 use Rattle.xq_meaning.specs.Content.{is_text, label, copied, copied_as, flattened, in_front, merged, in_front_unless, is_empty_text, without_empty_texts, content, attribute_fault, first_fault, within_limits, unless_fault, built, element_tree, document_tree}
 use Rattle.xq_build.specs.Plants.{Plants}
-use Rattle.xq_build.specs.private.Lone.{IsLoneText}
-use Rattle.xq_build.proofs.Lone.{lone_element}
 use Rattle.xq_build.proofs.Surpluses.{within_true}
 
 -- # What content is like
@@ -224,11 +222,3 @@ grafted_element name xs old new g =
 pub grafted_document : (xs : List ItemView) (old new : List Tree) → Grafts kind.Document [] xs old new → Plants (document_tree old (items_at old xs)) old new
 grafted_document xs old new g =
     record { tree = rooted kind.Document [] (side_by_side old xs); is = built_of_roots kind.Document [] xs old new g; grown = g.grown }
-
-pub planted_around : (name value : Text) (xs : List ItemView) (old new : List Tree) → IsLoneText xs value → new ≡ old ++ around_text name value ∷ []
-    → Plants (element_tree name old (items_at old xs)) old new
-planted_around name value xs old new is e = record { tree = around_text name value; is = lone_element name old xs value is; grown = e }
-
-pub planted_empty : (name : Text) (xs : List ItemView) (old new : List Tree) → xs ≡ [] → new ≡ old ++ lone kind.Element name [] ∷ []
-    → Plants (element_tree name old (items_at old xs)) old new
-planted_empty name xs old new is e = record { tree = lone kind.Element name []; is = ap (λ vs. element_tree name old (items_at old vs)) is; grown = e }
