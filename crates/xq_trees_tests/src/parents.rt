@@ -81,12 +81,15 @@ fn shelves(alloc: Global, shelves: u32, books: u32) -> Result<Vec<NodeRow>, Allo
     Ok(rows)
 }
 
-/// A source whose one tree has these rows.
+/// A source whose one tree has these rows. What tells parents of a tree far away is made at the
+/// first look at one of its rows.
 fn source_of(alloc: Global, rows: Vec<NodeRow>) -> Result<Fragments, Want> {
     let Some(tree) = Fragment::from_levels(rows) else {
         return Err(Want::Store);
     };
-    held(alloc, tree)
+    let mut source = held(alloc, tree)?;
+    source.fetch_row(alloc, 0, 0)?;
+    Ok(source)
 }
 
 /// The place of the last of the nodes above the node.

@@ -8,7 +8,7 @@ use std::collections::HashMap;
 use xq_atoms::Want;
 use xq_packed::PackedRows;
 use xq_packed_trees::PackedTree;
-use xq_regions::Kind;
+use xq_regions::{Item, Items, Kind, Node};
 use xq_samples::documents::{Row, are_rows, held, rows_of, tree_of};
 use xq_sources::{
     Buffered, Fragments, Growing, LentRows, Names, RowLender, RowSource, Trees, Values, find_named,
@@ -27,6 +27,38 @@ const CONSTRUCTED: [Row; 2] = [
     (1, 0, 1, Kind::Text, "", "B"),
 ];
 
+/// An element below which trees of two kinds were put together.
+const GRAFTED: [Row; 6] = [
+    (0, 5, 0, Kind::Element, "b", ""),
+    (1, 0, 1, Kind::Attribute, "id", "1"),
+    (2, 1, 1, Kind::Element, "a", ""),
+    (3, 0, 2, Kind::Text, "", "x"),
+    (4, 1, 1, Kind::Element, "a", ""),
+    (5, 0, 2, Kind::Text, "", "x"),
+];
+
+/// A document with that element.
+const DOCUMENT: [Row; 7] = [
+    (0, 6, 0, Kind::Document, "", ""),
+    (1, 5, 1, Kind::Element, "b", ""),
+    (2, 0, 2, Kind::Attribute, "id", "1"),
+    (3, 1, 2, Kind::Element, "a", ""),
+    (4, 0, 3, Kind::Text, "", "x"),
+    (5, 1, 2, Kind::Element, "a", ""),
+    (6, 0, 3, Kind::Text, "", "x"),
+];
+
+/// A tree that is built where it is kept.
+#[derive(Clone, Copy)]
+enum Plant {
+    /// One node: its kind, name and value.
+    Lone(Kind, &'static str, &'static str),
+    /// An element with a text.
+    Around(&'static str, &'static str),
+    /// A node of the kind with the name, above the trees with these numbers.
+    Graft(Kind, &'static str, &'static [usize]),
+}
+
 /// What is done with trees, or found of them.
 #[derive(Clone, Copy)]
 enum Look {
@@ -34,6 +66,8 @@ enum Look {
     Count(usize),
     /// One is constructed.
     Construct,
+    /// One is built where it is kept, or it can't be built there.
+    Plant(Plant, bool),
     /// The last one is taken away, where it was constructed.
     Uproot(Option<&'static [Row]>),
     /// The tree with a number has these rows.
@@ -67,6 +101,34 @@ const UPROOTED: [Look; 7] = [
     Look::Gives(1, &CONSTRUCTED),
 ];
 
+/// Trees are built where they are kept, where there are such trees; else nothing is done.
+const BUILT: [Look; 18] = [
+    Look::Plant(Plant::Lone(Kind::Attribute, "id", "1"), true),
+    Look::Plant(Plant::Around("a", "x"), true),
+    Look::Gives(2, &AROUND),
+    Look::Plant(Plant::Lone(Kind::Attribute, "1", "id"), false),
+    Look::Plant(Plant::Lone(Kind::Text, "", "\u{1}"), false),
+    Look::Plant(Plant::Around("a", ""), false),
+    Look::Plant(Plant::Around("", "x"), false),
+    Look::Plant(Plant::Graft(Kind::Element, "b", &[1, 2, 2]), true),
+    Look::Gives(3, &GRAFTED),
+    Look::Plant(Plant::Graft(Kind::Element, "b", &[2, 1]), false),
+    Look::Plant(Plant::Graft(Kind::Element, "b", &[1, 1]), false),
+    Look::Plant(Plant::Graft(Kind::Element, "b", &[0]), false),
+    Look::Plant(Plant::Graft(Kind::Document, "", &[1]), false),
+    Look::Plant(Plant::Graft(Kind::Element, "b", &[9]), false),
+    Look::Plant(Plant::Graft(Kind::Document, "", &[3]), true),
+    Look::Plant(Plant::Graft(Kind::Element, "b", &[4]), false),
+    Look::Uproot(Some(&DOCUMENT)),
+    Look::Count(4),
+];
+
+/// An element with a text, built where it is kept.
+const AROUND: [Row; 2] = [
+    (0, 1, 0, Kind::Element, "a", ""),
+    (1, 0, 1, Kind::Text, "", "x"),
+];
+
 /// A source with one tree.
 fn stored(alloc: Global) -> Result<Fragments, Want> {
     held(alloc, tree_of(alloc, &STORED)?)
@@ -76,6 +138,27 @@ fn stored(alloc: Global) -> Result<Fragments, Want> {
 fn construct<T: Growing>(alloc: Global, trees: &mut T) -> Result<(), Want> {
     let tree = tree_of(alloc, &CONSTRUCTED)?;
     trees.plant(PackedTree::of(alloc, &tree)?)
+}
+
+/// The roots of the trees with these numbers.
+fn roots(alloc: Global, trees: &[usize]) -> Result<Items, Want> {
+    let mut items = Vec::new(alloc);
+    for tree in trees {
+        items.push(Item::Node(Node {
+            tree: *tree,
+            pre: 0,
+        }))?;
+    }
+    Ok(items)
+}
+
+/// Builds a tree where it is kept, and tells whether that was done.
+fn is_planted<T: Growing>(alloc: Global, trees: &mut T, plant: Plant) -> Result<bool, Want> {
+    match plant {
+        Plant::Lone(kind, name, value) => trees.plant_lone(kind, name, value),
+        Plant::Around(name, value) => trees.plant_around(name, value),
+        Plant::Graft(kind, name, numbers) => trees.graft(kind, name, &roots(alloc, numbers)?),
+    }
 }
 
 /// Takes the last tree away, and tells whether it has these rows.
@@ -120,6 +203,7 @@ fn is_right<T: Growing + RowSource>(
             construct(alloc, trees)?;
             Ok(true)
         }
+        Look::Plant(tree, wanted) => Ok(is_planted(alloc, trees, tree)? == wanted),
         Look::Uproot(wanted) => Ok(is_uprooted(trees, wanted)),
         Look::Gives(tree, rows) => gives(alloc, trees, tree, rows),
         Look::Refuses(tree) => Ok(refuses(alloc, trees, tree)),
@@ -144,7 +228,7 @@ fn wrong_look<T: Growing + RowSource>(
 }
 
 /// Lists of what is done and found, each for trees of their own.
-const LISTS: [&[Look]; 2] = [&GIVEN, &UPROOTED];
+const LISTS: [&[Look]; 3] = [&GIVEN, &UPROOTED, &BUILT];
 
 #[test]
 fn sources_give_both_kinds(rt: HostRuntime) -> Result<(), Want> {
