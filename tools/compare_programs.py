@@ -4,8 +4,9 @@
     tools/compare_programs.py OLD NEW [--seed N] [--documents N] [--requests N]
 
 Documents have up to 1,500 nodes and few names, so that steps by a name find much. The requests are
-paths with predicates, from documents, from nodes and in loops, orders, groups, copies, and now and
-then a store that changes the document. The status is 1 where a reply differs, which is printed.
+paths with predicates, from documents, from nodes and in loops, orders, groups, copies, constructors
+within one another, and now and then a store that changes the document. The status is 1 where a
+reply differs, which is printed.
 """
 
 import argparse
@@ -58,6 +59,19 @@ QUERIES = (
     "element {name} {{{number} + 1}}, element {other} {{concat('', {number})}}, element e {{''}}",
     'doc("d")//{other}/{name}[2]/string()',
 )
+ATOMS = ('"x"', '""', '" "', "{0}", "{0}.5", "$k", "$k * 2 - 3", "concat('t', $k, {0})", "true()",
+         "('a', 'b', 'c', 'd')[{0}]", "('a', 2, 1.5)[$k mod 4]", "(1, 2)", "()")
+NODE_NAMES = ("a", "b", "id", "id", "k", '{" a "}', '{"xmlns"}', '{concat("n", $k)}')
+CONSTRUCTED = (
+    "let $k := {0} return ({1})",
+    "let $k := {0} return count(({1})//node())",
+    "for $k in 1 to {0} return element q {{{1}}}",
+    "for $k in 1 to {0} return string(element q {{{1}}})",
+    "for $k in ({0}, 2) let $x := element q {{{1}}} return ($x/@*, $x/node(), $x//*/..)",
+    "let $k := {0}, $x := ({1}) return (element a {{$x}}, document {{$x, $x}}/node())",
+    "let $k := {0} return document {{{1}}}",
+)
+"""Queries of a number and constructors."""
 GROWN = 'document {{element r {{doc("d")/r/*[position() <= 30], element {name} {{"new"}}}}}}'
 MOST_SHOWN = 5
 
@@ -105,8 +119,33 @@ class Requests:
             steps.append(self.random.choice(AXES) + self.name() + predicate)
         return 'doc("d")' + "".join(steps)
 
+    def constructor(self, level: int) -> str:
+        """A constructor, an atom, or nodes of the document."""
+        atom = self.random.choice(ATOMS).format(self.random.randint(0, 5))
+        name = self.random.choice(NODE_NAMES)
+        content = self.content(level + 1)
+        return self.random.choice((
+            f"attribute {name} {{{atom}}}", f"element {name} {{{content}}}",
+            f"element {name} {{{content}}}", f"element {name} {{{atom}}}", f"text {{{atom}}}", atom,
+            f"comment {{{atom}}}", f"processing-instruction p {{{atom}}}",
+            f"document {{{content}}}",
+            f"(for $k in 1 to 3 return {self.constructor(level + 1)})" if level < 4 else "$k",
+            self.path()))
+
+    def content(self, level: int) -> str:
+        """Some constructors one after another, attributes mostly first."""
+        if level > 4:
+            return self.random.choice(("", "$k", '"x"'))
+        parts = [self.constructor(level) for _ in range(self.random.choice((0, 1, 1, 2, 3, 4)))]
+        if self.random.random() < 0.8:
+            parts.sort(key=lambda part: not part.startswith("attribute"))
+        return ", ".join(parts)
+
     def query(self) -> str:
         """A query over the document."""
+        if self.random.random() < 0.25:
+            return self.random.choice(CONSTRUCTED).format(
+                self.random.randint(0, 5), self.content(0) or "()")
         return self.random.choice(QUERIES).format(
             path=self.path(), name=self.name(), other=self.name(),
             number=self.random.randint(0, 9))
