@@ -16,3 +16,4 @@ pub mod LoneFor
 pub mod ItemCalls
 pub mod AtHand
 pub mod Pieces
+pub mod Picking

@@ -12,6 +12,7 @@ ghost use Rattle.xq_forms.specs.Views.{tuple_at, lists_of, spot_at, frame_at, Fr
 ghost use Rattle.xq_eval.specs.private.Results.{GivesLists, GivesPlain};
 ghost use Rattle.xq_eval.specs.private.Scanning.{IsLiteral, Scans};
 
+use crate::at_hand::atom_at_hand;
 use crate::concatenation::concatenated;
 use crate::counting::counted_variable;
 use crate::expressions::{
@@ -113,7 +114,7 @@ fn sequence<W: Growing>(
     Ok(items)
 }
 
-/// The items of one part, after those before it.
+/// The items of one part, after those before it. Of one atom at hand no list is made.
 #[cycle(eval)]
 pub fn next_part<W: Growing>(
     alloc: Global,
@@ -134,6 +135,10 @@ pub fn next_part<W: Growing>(
         return next_called(alloc, world, frame, done, *function, parts.as_slice());
     }
     let mut items = done;
+    if let Some(value) = atom_at_hand(alloc, frame.slots, part)? {
+        items.push(Item::Atom(value))?;
+        return Ok(items);
+    }
     let mut added = evaluate(alloc, world, frame, part)?;
     items.append(&mut added)?;
     Ok(items)

@@ -1,7 +1,7 @@
 //! The forms of expressions that keep something while their parts are evaluated. Each is a function
 //! of its own, so that [`evaluate`], which every part of a plan enters, keeps nothing itself: a
 //! function pays at its entry for all that any of its arms keeps.
-ghost use Rattle.std.specs.Prelude.{◌≡◌, ◌*◌, ◌∷◌, [], List, map, length, false, IfSome};
+ghost use Rattle.std.specs.Prelude.{◌≡◌, ◌*◌, ◌∷◌, [], List, map, length, false, IfSome, string_bytes};
 ghost use Rattle.xq_atoms.specs.Atom.{String as AtomicString};
 ghost use Rattle.xq_atoms.specs.Text.{Text};
 ghost use Rattle.xq_regions.specs.declared.Axis.{Axis as AxisLem};
@@ -18,8 +18,10 @@ ghost use Rattle.xq_meaning.specs.PlanMeaning.{plan_mean, plan_clause_mean, plan
 ghost use Rattle.xq_forms.specs.Reads.{HasGrown};
 ghost use Rattle.xq_forms.specs.Views.{frame_at, FrameIn, Goes, GivesSequence};
 ghost use Rattle.xq_eval.specs.Reads.{rows_at};
+ghost use Rattle.xq_eval.specs.private.Filled.{filled};
 ghost use Rattle.xq_eval.specs.private.Quantifying.{IsOf, bindings};
 
+use crate::at_hand::{atom_at_hand, picked};
 use crate::chosen::nodes_of_step;
 use crate::clauses::{clause_list, returned, returned_each};
 use crate::evaluation::{call_list, chain, decided, evaluate, filter};
@@ -132,7 +134,8 @@ pub fn logical<W: Growing>(
     boolean(alloc, answer)
 }
 
-/// A primary expression and its predicates (XQuery 3.1, section 3.2.1).
+/// A primary expression and its predicates (XQuery 3.1, section 3.2.1). Where its value is one of
+/// several literals, the others are not made.
 #[cycle(eval)]
 #[inline(never)]
 pub fn filtered<W: Growing>(
@@ -149,6 +152,9 @@ pub fn filtered<W: Growing>(
         (frame_at (W.forest world.old) frame.entry) (W.forest world.old)) (W.forest world.new)
         result }
 {
+    if let Some(atom) = picked(alloc, frame.slots, start, predicates)? {
+        return Ok(single(alloc, Item::Atom(atom))?);
+    }
     let items = evaluate(alloc, world, frame, start)?;
     filter(alloc, world, frame, items, predicates)
 }
@@ -251,6 +257,31 @@ pub fn axis_step<W: Growing>(
     Ok(in_axis_order(axis, kept))
 }
 
+/// A node of this kind and name, whose content a plan gives. Where that is one atom at hand, no
+/// list is made of it.
+#[cycle(eval)]
+fn with_content<W: Growing>(
+    alloc: Global,
+    world: &mut W,
+    frame: Frame<'_>,
+    kind: NamedNode,
+    name: String,
+    part: &Plan,
+) -> Result<Items, Fault>
+    ensures goes { Goes (W.forest world.old) (W.forest world.new) (W.is_clean world.old)
+        (W.is_clean world.new) }
+    ensures gives { W.is_clean world.new → FrameIn (W.forest world.old) frame.entry
+        → GivesSequence (filled kind (string_bytes name) (plan_mean part.now)
+        (frame_at (W.forest world.old) frame.entry) (W.forest world.old)) (W.forest world.new)
+        result }
+{
+    if let Some(atom) = atom_at_hand(alloc, frame.slots, part)? {
+        return named(alloc, world, kind, name, from_ref(&Item::Atom(atom)));
+    }
+    let content = evaluate(alloc, world, frame, part)?;
+    named(alloc, world, kind, name, &content)
+}
+
 /// A constructor of a node whose name is a string literal, of which no list is made.
 #[cycle(eval)]
 fn literally_named<W: Growing>(
@@ -270,8 +301,7 @@ fn literally_named<W: Growing>(
 {
     let value = Item::Atom(Atom::Str(String::from_str(alloc, text)?));
     let name = node_name(alloc, world, kind, from_ref(&value))?;
-    let content = evaluate(alloc, world, frame, part)?;
-    named(alloc, world, kind, name, &content)
+    with_content(alloc, world, frame, kind, name, part)
 }
 
 /// A constructor of a node with a name (XQuery 3.1, section 3.9.3).
@@ -297,8 +327,7 @@ pub fn named_node<W: Growing>(
     }
     let value = evaluate(alloc, world, frame, name)?;
     let name = node_name(alloc, world, kind, &value)?;
-    let content = evaluate(alloc, world, frame, part)?;
-    named(alloc, world, kind, name, &content)
+    with_content(alloc, world, frame, kind, name, part)
 }
 
 /// A constructor of a node without a name (XQuery 3.1, section 3.9.3).

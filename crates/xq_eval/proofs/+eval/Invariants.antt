@@ -413,7 +413,10 @@ abbrev pub decreases-expressions::named_node : goal.decreases-expressions::named
 decreases-expressions::named_node g a = 8 * max (size-Plan a.name.now) (size-Plan a.part.now) + 9
 
 abbrev pub decreases-expressions::literally_named : goal.decreases-expressions::literally_named
-decreases-expressions::literally_named g a = 8 * goal.size-expressions::literally_named g a + 4
+decreases-expressions::literally_named g a = 8 * goal.size-expressions::literally_named g a + 5
+
+abbrev pub decreases-expressions::with_content : goal.decreases-expressions::with_content
+decreases-expressions::with_content g a = 8 * goal.size-expressions::with_content g a + 4
 
 abbrev pub decreases-expressions::unnamed_node : goal.decreases-expressions::unnamed_node
 decreases-expressions::unnamed_node g a = 8 * goal.size-expressions::unnamed_node g a + 9
