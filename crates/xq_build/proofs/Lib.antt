@@ -5,3 +5,4 @@ pub mod Spelling
 pub mod Surpluses
 pub mod Counted
 pub mod Lone
+pub mod Planted

@@ -463,7 +463,7 @@ height_at (suc n) (node a k r) (zero ∷ []) h c m le = height_more n m k (omega
 height_at (suc n) (node a k r) (zero ∷ i ∷ p) h c m le = height_at n k (i ∷ p) h c.0 m (omega (arith, le))
 height_at (suc n) (node a k r) (suc i ∷ p) h c m le = height_at (suc n) r (i ∷ p) h c.1 m le
 
-within_true : (n : ℕ) (f : Forest Label) → IsWithinHeight n f → is_within_height n f ≡ true
+pub within_true : (n : ℕ) (f : Forest Label) → IsWithinHeight n f → is_within_height n f ≡ true
 within_true n end h = refl
 within_true zero (node a below beside) h = absurd h
 within_true (suc n) (node a below beside) h = rw (within_true n below h.0) (within_true (suc n) beside h.1)

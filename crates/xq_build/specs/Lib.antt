@@ -1,3 +1,4 @@
 pub mod Gives
+pub mod Plants
 pub mod Reads
 pub mod private

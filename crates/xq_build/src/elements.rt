@@ -16,7 +16,7 @@ use xq_regions::{Item, Kind};
 use xq_sources::RowLender;
 
 /// The string that is the only item, where it is not empty: it is read where it lies.
-fn lone_string(items: &[Item]) -> Option<&str>
+pub fn lone_string(items: &[Item]) -> Option<&str>
     ensures { IfSome result (λ text. IsLoneText (map item_view items.now) text.now) }
 {
     let [Item::Atom(Atom::Str(text) | Atom::Untyped(text))] = items else {
@@ -29,7 +29,7 @@ fn lone_string(items: &[Item]) -> Option<&str>
 }
 
 /// The text of the only item, where that is an atom whose text is not empty.
-fn lone_text(alloc: Global, items: &[Item]) -> Result<Option<String>, Want>
+pub fn lone_text(alloc: Global, items: &[Item]) -> Result<Option<String>, Want>
     ensures { IfOk result (λ found. IfSome found (λ text. IsLoneText (map item_view items.now)
         (string_bytes text))) }
 {

@@ -8,11 +8,13 @@ mod judging;
 mod kinds;
 mod leaves;
 mod names;
+mod planting;
 mod printer;
 mod surplus;
 mod values;
 
 pub use elements::{document, element};
 pub use leaves::{attribute, comment, pi, text};
-pub use names::name_of;
+pub use names::{literal_name, name_of};
+pub use planting::{plant_document, plant_element};
 pub use printer::print_items;

@@ -1,7 +1,7 @@
 //! Names of nodes.
-ghost use Rattle.std.specs.Prelude.{◌≡◌, map, string_bytes};
+ghost use Rattle.std.specs.Prelude.{◌≡◌, ◌∷◌, [], map, string_bytes};
 ghost use Rattle.std.specs.Str.{chars};
-ghost use Rattle.xq_atoms.specs.Atom.{atomic_of};
+ghost use Rattle.xq_atoms.specs.Atom.{atomic_of, String as StringView};
 ghost use Rattle.xq_atoms.specs.Spaces.{trimmed as trimmed_lem};
 ghost use Rattle.xq_meaning.specs.Content.{name_of as name_of_lem, judged_name, element_name, is_prefixed as is_prefixed_lem};
 ghost use Rattle.xq_atoms.specs.Answers.{Gives};
@@ -50,13 +50,21 @@ fn judge_name(node_kind: NamedNode, name: &str) -> Result<(), Code>
     }
 }
 
-/// The name that the text is, without the white space at its ends.
+/// The name that the text is, without the white space at its ends, as for [`name_of`] of a string.
+pub fn literal_name(node_kind: NamedNode, text: &str) -> Result<&str, Fault>
+    ensures { Gives (λ name. name.now) (name_of_lem node_kind (StringView text.now ∷ [])) result }
+{
+    let name = trimmed(text);
+    judge_name(node_kind, name)?;
+    Ok(name)
+}
+
+/// A copy of the name that the text is.
 fn named(alloc: Global, node_kind: NamedNode, text: &str) -> Result<String, Fault>
     ensures { Gives string_bytes (judged_name node_kind (trimmed_lem text.now)) result }
 {
-    let name = trimmed(alloc, text)?;
-    judge_name(node_kind, name.as_str())?;
-    Ok(name)
+    let name = literal_name(node_kind, text)?;
+    Ok(String::from_str(alloc, name)?)
 }
 
 /// The name of an element, an attribute or a processing instruction, from the value of the

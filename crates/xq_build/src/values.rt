@@ -28,10 +28,12 @@ pub fn without_leading_space(alloc: Global, text: &str) -> Result<String, Want>
     copied_text(alloc, after_spaces(text.as_bytes()))
 }
 
-/// A copy of the text without the white space at its ends.
-pub fn trimmed(alloc: Global, text: &str) -> Result<String, Want>
-    ensures text { IfOk result (λ rest. string_bytes rest ≡ Spaces.trimmed text.now) }
-    ensures want { IfErr result (λ want. want ≡ Want.Memory) }
+/// The text without the white space at its ends.
+pub fn trimmed(text: &str) -> &str
+    ensures { result.now ≡ Spaces.trimmed text.now }
 {
-    copied_text(alloc, xq_atoms::trimmed(text.as_bytes()))
+    match std::str::from_utf8(xq_atoms::trimmed(text.as_bytes())) {
+        Ok(rest) => rest,
+        Err(_) => unreachable!(),
+    }
 }

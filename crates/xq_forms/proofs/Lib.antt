@@ -13,3 +13,4 @@ pub mod OneTree
 pub mod ShortPaths
 pub mod NodePlaces
 pub mod Scanning
+pub mod Planting

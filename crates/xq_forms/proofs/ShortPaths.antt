@@ -1,14 +1,8 @@
 -- The value of a variable, or the context item, where that is one node.
-use Rattle.std.proofs.Common.{◌≡◌, ℕ, ◌<◌, List, [], ◌∷◌, length, get_or, Ok, Some, sym, ◌∙◌, ap, subst}
-use Rattle.std.specs.Prelude.{Option}
-use Rattle.std.specs.Global.{Vec, Global}
-use Rattle.std.specs.declared.rc.Rc.{Rc}
-use Rattle.xq_regions.specs.declared.items.Item.{Item as Held}
+use Rattle.std.proofs.Common.{◌≡◌, ℕ, List, [], ◌∷◌, Ok, Some, sym, ◌∙◌, ap, subst}
 use Rattle.xq_regions.specs.declared.items.Node.{Node as Spot}
-use Rattle.xq_regions.specs.Items.{Place as NodeAt, item_view, item_views}
-use Rattle.xq_regions.specs.Tree.{Tree}
+use Rattle.xq_regions.specs.Items.{Place as NodeAt, item_view}
 use Rattle.xq_regions.specs.Tuples.{value_at}
-use Rattle.xq_sources.specs.Sources.{HasNode}
 use Rattle.xq_tuples.specs.Views.{values_of}
 use Rattle.xq_expressions.specs.declared.signatures.Function.{Function}
 use Rattle.xq_meaning.specs.declared.plans.Plan.{Plan, out-Plan}
@@ -17,15 +11,14 @@ use Rattle.xq_meaning.specs.declared.plans.Plan.TheOpen.{Plan-F}
 use Rattle.xq_meaning.specs.declared.plans.PlanClause.{PlanClause}
 use Rattle.xq_meaning.specs.declared.plans.PlanStep.{PlanStep}
 use Rattle.xq_meaning.specs.Doing.{judged}
-use Rattle.xq_meaning.specs.Items.{Node}
-use Rattle.xq_meaning.specs.Readings.{node_at, item_at, items_at, IsIn, AreIn}
+use Rattle.xq_meaning.specs.Readings.{item_at, items_at, IsIn, AreIn}
 use Rattle.xq_meaning.specs.Steps.{context_item}
 use Rattle.xq_meaning.specs.PlanMeaning.{plan_mean}
 use Rattle.xq_meaning.proofs.PlanEquations.{plan-Slot, plan-ContextItem}
 use Rattle.xq_forms.specs.declared.frames.Focus.{Focus}
 use Rattle.xq_forms.specs.declared.frames.Frame.{Frame}
 use Rattle.xq_forms.specs.Paths.{IsHeld}
-use Rattle.xq_forms.specs.Views.{focus_at, frame_at, FocusIn, FrameIn}
+use Rattle.xq_forms.specs.Views.{focus_at, frame_at, FocusIn}
 use Rattle.xq_forms.proofs.Growth.{value_in}
 
 -- a plan, opened once

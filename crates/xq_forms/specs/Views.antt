@@ -1,12 +1,13 @@
 -- What the values of an evaluation stand for over a list of trees, and what its calls give.
-use Rattle.std.specs.Prelude.{◌≡◌, ◌≤◌, ℕ, length, List, map, take, Option, Some, None, Result, Ok, Err, String, string_bytes}
+use Rattle.std.specs.Prelude.{◌≡◌, ◌≤◌, ◌∷◌, [], ℕ, length, List, map, take, Option, Some, None, Result, Ok, Err, String, string_bytes}
 use Rattle.std.specs.List.{AllByRecursion}
 use Rattle.std.specs.Global.{Global, Vec}
 use Rattle.xq_atoms.specs.declared.refusals.Fault.{Fault}
 use Rattle.xq_atoms.specs.declared.refusals.Fault.TheVariants.{Code as OfCode, Want as OfWant}
 use Rattle.xq_atoms.specs.Judged.{Judged}
 use Rattle.xq_regions.specs.declared.items.Item.{Item as Held}
-use Rattle.xq_regions.specs.Items.{ItemView, item_view, item_views}
+use Rattle.xq_regions.specs.declared.items.Node.{Node as HeldNode}
+use Rattle.xq_regions.specs.Items.{ItemView, Place as NodeAt, item_view, item_views}
 use Rattle.xq_regions.specs.Tree.{Tree}
 use Rattle.xq_regions.specs.Tuples.{Tuple, ordered}
 use Rattle.xq_expressions.specs.declared.signatures.Function.{Function}
@@ -106,6 +107,20 @@ GivesAs view read In outcome trees (Err (OfWant want)) = Unit {0}
 -- a sequence of items
 abbrev pub GivesSequence : Outcome (List Item) → List Tree → Result (Vec Held) Fault → Type 0
 GivesSequence = GivesAs item_views items_at AreIn
+
+-- a sequence of one node, which is answered in no list
+abbrev pub GivesNode : Outcome (List Item) → List Tree → Result HeldNode Fault → Type 0
+GivesNode = GivesAs (λ node. NodeAt node ∷ []) items_at AreIn
+
+-- the node, where there is one, as items
+abbrev pub node_if_any : Option HeldNode → List ItemView
+node_if_any None = []
+node_if_any (Some node) = NodeAt node ∷ []
+
+-- a sequence of one node or none
+abbrev pub GivesNodeIfAny : Outcome (List Item) → List Tree → Result (Option HeldNode) Fault →
+    Type 0
+GivesNodeIfAny = GivesAs node_if_any items_at AreIn
 
 -- a list of tuples
 abbrev pub GivesTuples : Outcome (List (Tuple Item)) → List Tree →

@@ -19,7 +19,7 @@ mod values;
 pub use atoms::{atomized, into_atoms};
 pub use calls::{call, call_on_one};
 pub use clauses::{group, order, order_by_keys};
-pub use constructors::{named, node_name, unnamed};
+pub use constructors::{named, node_name, planted_named, planted_unnamed, unnamed};
 pub use frames::{Focus, Frame};
 pub use nodes::{gather, only_node, only_nodes, root};
 pub use operators::{operate, sign};
@@ -32,3 +32,4 @@ pub use values::{
     refill, single, slot, string, variable,
 };
 pub use xq_axis_order::in_axis_order;
+pub use xq_build::literal_name;

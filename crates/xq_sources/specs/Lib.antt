@@ -10,3 +10,4 @@ pub mod Names
 pub mod Values
 pub mod private
 pub mod Sums
+pub mod Grafts

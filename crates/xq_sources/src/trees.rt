@@ -12,7 +12,7 @@ use crate::sources::{RowSource, TreeSource};
 use std::alloc::Global;
 use xq_atoms::Want;
 use xq_packed_trees::PackedTree;
-use xq_regions::NodeRow;
+use xq_regions::{Item, Kind, NodeRow};
 
 /// The trees of a source, and after them those that were constructed. The meter shows the sums of
 /// both, each standing still at `u64::MAX`; they are clean while the source is.
@@ -79,6 +79,18 @@ impl<S: RowLender + Drop> Growing for Trees<S> {
             return Err(Want::Memory);
         }
         self.constructed.push_packed(tree)
+    }
+
+    fn plant_lone(&mut self, _: Kind, _: &str, _: &str) -> Result<bool, Want> {
+        Ok(false)
+    }
+
+    fn plant_around(&mut self, _: &str, _: &str) -> Result<bool, Want> {
+        Ok(false)
+    }
+
+    fn graft(&mut self, _: Kind, _: &str, _: &[Item]) -> Result<bool, Want> {
+        Ok(false)
     }
 
     fn uproot(&mut self) -> Option<PackedTree> {

@@ -1,8 +1,5 @@
 use Rattle.std.proofs.Common.{◌≡◌, ◌≤◌, ◌<◌, ◌∷◌, [], ap, sym, subst, map, length, arith}
-use Rattle.xq_atoms.specs.Answers.{GivesUnlessWanting}
-use Rattle.xq_functions.specs.Answers.{items_of}
 use Rattle.xq_regions.specs.Items.{item_views}
-use Rattle.xq_meaning.specs.Functions as Functions
 use Rattle.xq_forms.specs.Views.{tuple_at, focus_at, frame_at, lists_of, calling, TupleIn, GivesSequence}
 use Rattle.std.specs.List.{AllByRecursion}
 use Rattle.std.proofs.lemmas.List.{length-map}

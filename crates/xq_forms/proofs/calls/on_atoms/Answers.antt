@@ -1,4 +1,4 @@
-use Rattle.std.proofs.Common.{◌≡◌, ◌∙◌, sym}
+use Rattle.std.proofs.Common.{◌∙◌, sym}
 use Rattle.xq_functions.specs.Answers.{items_of}
 use Rattle.xq_meaning.specs.Functions as Functions
 use Rattle.xq_forms.proofs.Giving.{told}

@@ -1,4 +1,4 @@
-use Rattle.std.proofs.Common.{◌≡◌, ◌∙◌, sym, subst, Ok}
+use Rattle.std.proofs.Common.{◌≡◌, sym, subst, Ok}
 use Rattle.xq_regions.specs.Items.{item_views}
 use Rattle.xq_regions.specs.declared.Axis.TheVariants.{Child}
 use Rattle.xq_meaning.specs.Readings.{items_at, AreIn}
