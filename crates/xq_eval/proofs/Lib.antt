@@ -17,3 +17,4 @@ pub mod ItemCalls
 pub mod AtHand
 pub mod Pieces
 pub mod Picking
+pub mod Constructors
