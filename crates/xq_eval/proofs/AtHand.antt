@@ -1,8 +1,10 @@
 -- Arithmetic on numbers at hand.
 use Rattle.std.proofs.Common.{◌≡◌, ℕ, zero, suc, ◌+◌, ◌<◌, List, [], ◌∷◌, length, map, drop, get_or, Option, Some, None, Result, Ok, Err, refl, sym, ◌∙◌, ap, subst, arith}
-use Rattle.std.specs.Prelude.{ℤ, IfSome}
+use Rattle.std.specs.Prelude.{ℤ, IfSome, IsErrAnd}
 use Rattle.xq_atoms.specs.declared.atoms.Atom.{Atom}
 use Rattle.xq_atoms.specs.declared.refusals.Code.{Code}
+use Rattle.xq_atoms.specs.declared.refusals.Fault.{Fault}
+use Rattle.xq_atoms.specs.declared.refusals.Fault.TheVariants.{Code as OfCode}
 use Rattle.xq_atoms.specs.Atom.{Atomic, Integer, Decimal, atomic_of, judged_of, numeric}
 use Rattle.xq_atoms.specs.Judged.{Judged, ◌>>=◌}
 use Rattle.xq_regions.specs.Items.{ItemView, Value}
@@ -22,17 +24,18 @@ use Rattle.xq_meaning.specs.PlanMeaning.{Frame, Meaning, plan_mean}
 use Rattle.xq_meaning.specs.Readings.{items_at}
 use Rattle.xq_meaning.proofs.PlanEquations.{plan-Int, plan-Dec, plan-Slot, plan-Chain}
 use Rattle.xq_forms.specs.Views.{tuple_at}
+use Rattle.xq_joins.specs.Atoms.{Tells}
 use Rattle.xq_eval.proofs.Counted.{slot_value}
 use Rattle.xq_eval.proofs.Loops.{left_over}
 use Rattle.xq_eval.specs.private.Numbers.{TellsResult, TellsNumber}
 
--- # Numbers at hand
+-- # Atoms at hand
 
--- a variable that is one number
-pub number_there : (slots : List SlotValue) (n : ℕ) (slot : SlotValue) (items : List ItemView) (found : Option Atom) → n < length slots → slot ≡ get_or slots n slot → items ≡ slot_items slot
-    → IfSome found (λ atom. items ≡ Value (atomic_of atom) ∷ []) → IfSome found (λ atom. (trees : List Tree) → value_at n (tuple_at trees (values_of slots)) ≡ atomic (atomic_of atom))
-number_there slots n slot items (Some atom) h e is one = λ trees. slot_value trees slots n slot h e ∙ ap (items_at trees) (sym is ∙ one)
-number_there slots n slot items None h e is one = tt
+-- a variable that is one atom
+pub atom_there : {X : Type 0} (view : X → Atomic) (slots : List SlotValue) (n : ℕ) (slot : SlotValue) (items : List ItemView) (found : Option X) → n < length slots → slot ≡ get_or slots n slot → items ≡ slot_items slot
+    → IfSome found (λ x. items ≡ Value (view x) ∷ []) → IfSome found (λ x. (trees : List Tree) → value_at n (tuple_at trees (values_of slots)) ≡ atomic (view x))
+atom_there view slots n slot items (Some x) h e is one = λ trees. slot_value trees slots n slot h e ∙ ap (items_at trees) (sym is ∙ one)
+atom_there view slots n slot items None h e is one = tt
 
 -- # One operator
 
@@ -52,10 +55,14 @@ told_integer p n frame trees is = ap (λ q. plan_mean q frame trees) is ∙ ap (
 pub told_decimal : (p : Plan) (n : ℤ) (frame : Frame) (trees : List Tree) → p ≡ plan.Dec n → plan_mean p frame trees ≡ (Ok (atomic (Decimal n)), trees)
 told_decimal p n frame trees is = ap (λ q. plan_mean q frame trees) is ∙ ap (λ (m : Meaning). m frame trees) (plan-Dec n)
 
+pub slot_told : (p : Plan) (n : ℕ) (frame : Frame) (trees : List Tree) (slots : List SlotValue) (a : Atomic) → p ≡ plan.Slot n → frame.env ≡ tuple_at trees (values_of slots)
+    → value_at n (tuple_at trees (values_of slots)) ≡ atomic a → plan_mean p frame trees ≡ (Ok (atomic a), trees)
+slot_told p n frame trees slots a is env one =
+    ap (λ q. plan_mean q frame trees) is ∙ ap (λ (m : Meaning). m frame trees) (plan-Slot n) ∙ ap (λ xs. (Ok xs, trees)) (ap (value_at n) env ∙ one)
+
 pub told_slot : (p : Plan) (n : ℕ) (frame : Frame) (trees : List Tree) (slots : List SlotValue) (found : Option Atom) → p ≡ plan.Slot n → frame.env ≡ tuple_at trees (values_of slots)
     → IfSome found (λ atom. (same : List Tree) → value_at n (tuple_at same (values_of slots)) ≡ atomic (atomic_of atom)) → TellsNumber (plan_mean p frame trees) trees (Ok found)
-told_slot p n frame trees slots (Some atom) is env one =
-    ap (λ q. plan_mean q frame trees) is ∙ ap (λ (m : Meaning). m frame trees) (plan-Slot n) ∙ ap (λ xs. (Ok xs, trees)) (ap (value_at n) env ∙ one trees)
+told_slot p n frame trees slots (Some atom) is env one = slot_told p n frame trees slots (atomic_of atom) is env (one trees)
 told_slot p n frame trees slots None is env one = tt
 
 abbrev operand_of : Operator × Plan → Operator × Meaning
@@ -76,6 +83,15 @@ told_refused outcome next trees code h = ap (λ o. go_on o next) h
 
 pub handed_back : (outcome : Outcome (List Item)) (trees : List Tree) (code : Code) (r : Result (Option Atom) Code) → r ≡ Err code → outcome ≡ (Err code, trees) → TellsNumber outcome trees r
 handed_back outcome trees code r is h = subst (TellsNumber outcome trees) (sym is) h
+
+-- a number is an atom, and a refusal is handed on
+pub number_told : (outcome : Outcome (List Item)) (trees : List Tree) (found : Option Atom) → TellsNumber outcome trees (Ok found) → Tells atomic outcome trees (Ok found)
+number_told outcome trees (Some atom) h = h
+number_told outcome trees None h = tt
+
+pub number_refused : (outcome : Outcome (List Item)) (trees : List Tree) (code : Code) (r : Result (Option Atom) Fault) → IsErrAnd r (λ e. e ≡ OfCode code) → outcome ≡ (Err code, trees) → Tells atomic outcome trees r
+number_refused outcome trees code (Err e) is h = subst (λ y. Tells atomic outcome trees (Err y)) (sym is) (ap (λ (o : Outcome (List Item)). o.0) h)
+number_refused outcome trees code (Ok v) is h = elim is [ ]
 
 -- an operator on two numbers
 pub told_operand : (frame : Frame) (xs : List Item) (operator : Operator) (p : Plan) (trees : List Tree) (right : Atom) (r : Result (Option Atom) Code) → plan_mean p frame trees ≡ (Ok (atomic (atomic_of right)), trees)

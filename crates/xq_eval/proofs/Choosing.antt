@@ -1,13 +1,16 @@
--- Of the items that an integer literal keeps, none comes after its position.
-use Rattle.std.proofs.Common.{◌≡◌, ℕ, zero, suc, ◌+◌, ◌<◌, ◌++◌, List, [], ◌∷◌, length, take, drop, true, false, cond, get_or, ltb, Ok, Err, refl, sym, ◌∙◌, ap, arith}
+-- Of the items that a predicate keeps whose value is one integer, none comes after its position.
+use Rattle.std.proofs.Common.{◌≡◌, ℕ, zero, suc, ◌+◌, ◌<◌, ◌++◌, List, [], ◌∷◌, length, take, drop, true, false, cond, get_or, ltb, Bool, Ok, Err, refl, sym, ◌∙◌, ap, arith}
 use Rattle.std.specs.Prelude.{ℤ, pos, negsuc, int_lt, nat_abs}
 use Rattle.std.specs.Ordering.{int_eq, is_eq}
 use Rattle.std.specs.declared.cmp.Ordering.TheVariants.{Less, Equal, Greater}
 use Rattle.std.proofs.lemmas.Bool.{lt-ltb}
+use Rattle.std.proofs.lemmas.Cmp.{int_eq_equiv}
 use Rattle.std.proofs.lemmas.List.{append-nil}
+use Rattle.xq_atoms.specs.Atom.{Integer}
 use Rattle.xq_regions.specs.Tree.{Tree}
 use Rattle.xq_meaning.specs.declared.plans.Plan.{Plan}
 use Rattle.xq_meaning.specs.declared.plans.Plan.TheVariants as plan
+use Rattle.xq_meaning.specs.Arguments.{atomic}
 use Rattle.xq_meaning.specs.Doing.{Outcome, go_on, give, in_turn, more}
 use Rattle.xq_meaning.specs.Forms as Forms
 use Rattle.xq_meaning.specs.Functions.{Focus}
@@ -18,9 +21,9 @@ use Rattle.xq_meaning.proofs.PlanEquations.{plan-Int}
 use Rattle.xq_eval.specs.private.Choosing.{chosen, Suffices}
 use Rattle.xq_eval.proofs.Steps.{passed_ok}
 
-module _ (n : ℤ) (frame : Frame) (trees : List Tree) where
+module _ (p : Plan) (n : ℤ) (frame : Frame) (trees : List Tree) (value : (spot : Focus) → plan_mean p (Forms.in_focus frame spot) trees ≡ (Ok (atomic (Integer n)), trees)) where
   act : Focus → List Tree → Outcome (List Item)
-  act spot = Forms.passed (plan_mean (plan.Int n)) frame spot
+  act spot = Forms.passed (plan_mean p) frame spot
 
   tried : List Item → List Focus → Outcome (List Item)
   tried done spots = in_turn (more act) done spots trees
@@ -30,7 +33,7 @@ module _ (n : ℤ) (frame : Frame) (trees : List Tree) where
   unfolding act tried
   one done spot rest =
       ap (λ o. go_on (go_on o (λ ys. give (done ++ ys))) (λ next. in_turn (more act) next rest))
-      (passed_ok (plan_mean (plan.Int n)) frame spot _ (int_eq n (pos spot.position)) trees trees (ap (λ m. m (Forms.in_focus frame spot) trees) (plan-Int n)) refl)
+      (passed_ok (plan_mean p) frame spot (atomic (Integer n)) (int_eq n (pos spot.position)) trees trees (value spot) refl)
 
   module _ (most : ℕ) (is : n ≡ pos most) where
     other : (k : ℕ) → most < k → int_eq n (pos k) ≡ false
@@ -48,6 +51,31 @@ module _ (n : ℤ) (frame : Frame) (trees : List Tree) where
         ∙ ap (λ ys. tried ys (focuses_from (suc k) last xs)) (append-nil done)
         ∙ none (suc k) last done xs (omega (arith, later))
 
+    -- the one at its position is the only one
+    earlier : (k : ℕ) → k < most → int_eq n (pos k) ≡ false
+    earlier k before = ap (λ m. int_eq m (pos k)) is ∙ ap (λ b. is_eq (cond (ltb most k) Less (cond b Greater Equal))) (lt-ltb k most before) ∙ by (ltb most k)
+      where
+        by : (b : Bool) → is_eq (cond b Less Greater) ≡ false
+        by true = refl
+        by false = refl
+
+    same : (k : ℕ) → k ≡ most → int_eq n (pos k) ≡ true
+    same k at = ap (λ m. int_eq n (pos m)) at ∙ ap (λ m. int_eq n m) (sym is) ∙ int_eq_equiv.refl n
+
+    pub only_kept : (left k last : ℕ) (done xs : List Item) (x : Item) → k + left ≡ most → left < length xs → x ≡ get_or xs left x → in_turn (more (Forms.passed (plan_mean p) frame)) done (focuses_from k last xs) trees ≡ (Ok (done ++ x ∷ []), trees)
+    unfolding act tried
+    only_kept left k last done [] x at within there = absurd (omega (arith, within))
+    only_kept zero k last done (y ∷ ys) x at within there =
+        one done (record { item = y; position = k; last = last }) (focuses_from (suc k) last ys)
+        ∙ ap (λ b. tried (done ++ Forms.kept_if y b) (focuses_from (suc k) last ys)) (same k (omega (arith, at)))
+        ∙ none (suc k) last (done ++ y ∷ []) ys (omega (arith, at))
+        ∙ ap (λ z. (Ok (done ++ z ∷ []), trees)) (sym there)
+    only_kept (suc left) k last done (y ∷ ys) x at within there =
+        one done (record { item = y; position = k; last = last }) (focuses_from (suc k) last ys)
+        ∙ ap (λ b. tried (done ++ Forms.kept_if y b) (focuses_from (suc k) last ys)) (earlier k (omega (arith, at)))
+        ∙ ap (λ zs. tried zs (focuses_from (suc k) last ys)) (append-nil done)
+        ∙ only_kept left (suc k) last done ys x (omega (arith, at)) (omega (arith, within)) there
+
     -- so those up to there suffice
     up_to : (left k last last' : ℕ) (done xs : List Item) → k + left ≡ suc most → tried done (focuses_from k last (take left xs)) ≡ tried done (focuses_from k last' xs)
     unfolding tried
@@ -63,7 +91,7 @@ pub literal_suffices : (predicates : List Plan) (n : ℤ) (most : ℕ) (rest : L
 unfolding act tried
 literal_suffices predicates n most rest are is frame xs trees =
     ap (λ ps. chosen ps frame (take most xs) trees) are
-    ∙ ap (λ o. go_on o (chosen rest frame)) (up_to n frame trees most is most 1 (length (take most xs)) (length xs) [] xs (omega arith))
+    ∙ ap (λ o. go_on o (chosen rest frame)) (up_to (plan.Int n) n frame trees (λ spot. ap (λ m. m (Forms.in_focus frame spot) trees) (plan-Int n)) most is most 1 (length (take most xs)) (length xs) [] xs (omega arith))
     ∙ ap (λ ps. chosen ps frame xs trees) (sym are)
 
 -- a positive number

@@ -16,3 +16,5 @@ pub mod LoneFor
 pub mod ItemCalls
 pub mod AtHand
 pub mod Pieces
+pub mod Picking
+pub mod Constructors

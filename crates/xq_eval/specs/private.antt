@@ -11,3 +11,5 @@ pub mod Texts
 pub mod Choosing
 pub mod Told
 pub mod Numbers
+pub mod AtHand
+pub mod Filled

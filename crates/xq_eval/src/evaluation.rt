@@ -12,11 +12,12 @@ ghost use Rattle.xq_forms.specs.Views.{tuple_at, lists_of, spot_at, frame_at, Fr
 ghost use Rattle.xq_eval.specs.private.Results.{GivesLists, GivesPlain};
 ghost use Rattle.xq_eval.specs.private.Scanning.{IsLiteral, Scans};
 
+use crate::at_hand::atom_at_hand;
 use crate::concatenation::concatenated;
 use crate::counting::counted_variable;
 use crate::expressions::{
-    arrow, axis_step, conditional, filtered, flwor, logical, named_node, operands, path,
-    quantified, signed, simple_map, unnamed_node,
+    arrow, axis_step, conditional, constructed, filtered, flwor, logical, named_node, operands,
+    path, quantified, signed, simple_map, unnamed_node,
 };
 use crate::numbers::number_of;
 use crate::positions::{ByPosition, keep_positional, positional};
@@ -24,7 +25,7 @@ use crate::texts::keep_by_texts;
 use sqlite_items::Items as PlanItems;
 use std::alloc::Global;
 use xq_atoms::Fault;
-use xq_expressions::Function;
+use xq_expressions::{Function, NamedNode};
 use xq_forms::{
     Focus, Frame, call, call_on_one, context_item, decimal, integer, operate, push_copy, root,
     single, string, variable,
@@ -113,7 +114,8 @@ fn sequence<W: Growing>(
     Ok(items)
 }
 
-/// The items of one part, after those before it.
+/// The items of one part, after those before it. Of one atom at hand, and of a constructed node, no
+/// list is made.
 #[cycle(eval)]
 pub fn next_part<W: Growing>(
     alloc: Global,
@@ -133,7 +135,14 @@ pub fn next_part<W: Growing>(
     if let Plan::Call(function, parts) = part {
         return next_called(alloc, world, frame, done, *function, parts.as_slice());
     }
+    if let Plan::Named(kind, name, content) = part {
+        return next_constructed(alloc, world, frame, done, *kind, name.get(), content.get());
+    }
     let mut items = done;
+    if let Some(value) = atom_at_hand(alloc, frame.slots, part)? {
+        items.push(Item::Atom(value))?;
+        return Ok(items);
+    }
     let mut added = evaluate(alloc, world, frame, part)?;
     items.append(&mut added)?;
     Ok(items)
@@ -165,6 +174,31 @@ fn next_called<W: Growing>(
     }
     let mut added = called(alloc, world, frame, function, parts)?;
     items.append(&mut added)?;
+    Ok(items)
+}
+
+/// The node of a constructor with a name, after the items before it.
+#[cycle(eval)]
+fn next_constructed<W: Growing>(
+    alloc: Global,
+    world: &mut W,
+    frame: Frame<'_>,
+    done: Items,
+    kind: NamedNode,
+    name: &Plan,
+    part: &Plan,
+) -> Result<Items, Fault>
+    ensures goes { Goes (W.forest world.old) (W.forest world.new) (W.is_clean world.old)
+        (W.is_clean world.new) }
+    ensures gives { W.is_clean world.new → FrameIn (W.forest world.old) frame.entry
+        → AreIn (W.forest world.old) (item_views done)
+        → GivesSequence (more (λ part. part (frame_at (W.forest world.old) frame.entry)) (items_at
+        (W.forest world.old) (item_views done)) (Forms.named_node kind (plan_mean name.now)
+        (plan_mean part.now)) (W.forest world.old)) (W.forest world.new) result }
+{
+    let mut items = done;
+    let node = constructed(alloc, world, frame, kind, name, part)?;
+    items.push(Item::Node(node))?;
     Ok(items)
 }
 

@@ -16,10 +16,12 @@ ghost use Rattle.xq_meaning.specs.Forms as Forms;
 ghost use Rattle.xq_meaning.specs.PlanMeaning as Meant;
 ghost use Rattle.xq_meaning.specs.PlanMeaning.{plan_mean, plan_clause_mean, plan_step_mean};
 ghost use Rattle.xq_forms.specs.Reads.{HasGrown};
-ghost use Rattle.xq_forms.specs.Views.{frame_at, FrameIn, Goes, GivesSequence};
+ghost use Rattle.xq_forms.specs.Views.{frame_at, FrameIn, Goes, GivesNode, GivesSequence};
 ghost use Rattle.xq_eval.specs.Reads.{rows_at};
+ghost use Rattle.xq_eval.specs.private.Filled.{filled};
 ghost use Rattle.xq_eval.specs.private.Quantifying.{IsOf, bindings};
 
+use crate::at_hand::{atom_at_hand, picked};
 use crate::chosen::nodes_of_step;
 use crate::clauses::{clause_list, returned, returned_each};
 use crate::evaluation::{call_list, chain, decided, evaluate, filter};
@@ -29,15 +31,15 @@ use crate::quantified::satisfied;
 use sqlite_items::Items as PlanItems;
 use std::alloc::Global;
 use std::slice::from_ref;
-use xq_atoms::{Atom, Fault};
+use xq_atoms::Fault;
 use xq_expressions::{AllowingEmpty, Function, NamedNode, Quantifier, Sign, UnnamedNode};
 use xq_forms::{
-    Frame, boolean, deciding, in_axis_order, named, node_name, scan_from, short_path, sign, single,
-    unnamed,
+    Frame, boolean, deciding, in_axis_order, literal_name, node_name, planted_named, scan_from,
+    short_path, sign, single, unnamed,
 };
 use xq_functions::effective;
 use xq_meaning::{Operator, Plan, PlanClause, PlanStep, Test};
-use xq_regions::{Axis, Item, Items};
+use xq_regions::{Axis, Item, Items, Node};
 use xq_sources::Growing;
 
 /// Operands and the operators between them (XQuery 3.1, sections 3.4 to 3.7). Where they are
@@ -132,7 +134,8 @@ pub fn logical<W: Growing>(
     boolean(alloc, answer)
 }
 
-/// A primary expression and its predicates (XQuery 3.1, section 3.2.1).
+/// A primary expression and its predicates (XQuery 3.1, section 3.2.1). Where its value is one of
+/// several literals, the others are not made.
 #[cycle(eval)]
 #[inline(never)]
 pub fn filtered<W: Growing>(
@@ -149,6 +152,9 @@ pub fn filtered<W: Growing>(
         (frame_at (W.forest world.old) frame.entry) (W.forest world.old)) (W.forest world.new)
         result }
 {
+    if let Some(atom) = picked(alloc, frame.slots, start, predicates)? {
+        return Ok(single(alloc, Item::Atom(atom))?);
+    }
     let items = evaluate(alloc, world, frame, start)?;
     filter(alloc, world, frame, items, predicates)
 }
@@ -251,7 +257,31 @@ pub fn axis_step<W: Growing>(
     Ok(in_axis_order(axis, kept))
 }
 
-/// A constructor of a node whose name is a string literal, of which no list is made.
+/// A node of this kind and name, whose content a plan gives. Where that is one atom at hand, no
+/// list is made of it.
+#[cycle(eval)]
+fn with_content<W: Growing>(
+    alloc: Global,
+    world: &mut W,
+    frame: Frame<'_>,
+    kind: NamedNode,
+    name: &str,
+    part: &Plan,
+) -> Result<Node, Fault>
+    ensures goes { Goes (W.forest world.old) (W.forest world.new) (W.is_clean world.old)
+        (W.is_clean world.new) }
+    ensures gives { W.is_clean world.new → FrameIn (W.forest world.old) frame.entry
+        → GivesNode (filled kind name.now (plan_mean part.now) (frame_at (W.forest world.old)
+        frame.entry) (W.forest world.old)) (W.forest world.new) result }
+{
+    if let Some(atom) = atom_at_hand(alloc, frame.slots, part)? {
+        return planted_named(alloc, world, kind, name, from_ref(&Item::Atom(atom)));
+    }
+    let content = evaluate(alloc, world, frame, part)?;
+    planted_named(alloc, world, kind, name, &content)
+}
+
+/// The node of a constructor whose name is a string literal, which is read where it lies.
 #[cycle(eval)]
 fn literally_named<W: Growing>(
     alloc: Global,
@@ -260,18 +290,41 @@ fn literally_named<W: Growing>(
     kind: NamedNode,
     text: &str,
     part: &Plan,
-) -> Result<Items, Fault>
+) -> Result<Node, Fault>
     ensures goes { Goes (W.forest world.old) (W.forest world.new) (W.is_clean world.old)
         (W.is_clean world.new) }
     ensures gives { W.is_clean world.new → FrameIn (W.forest world.old) frame.entry
-        → GivesSequence (Forms.named_node kind (Forms.literal (AtomicString text.now))
+        → GivesNode (Forms.named_node kind (Forms.literal (AtomicString text.now))
         (plan_mean part.now) (frame_at (W.forest world.old) frame.entry) (W.forest world.old))
         (W.forest world.new) result }
 {
-    let value = Item::Atom(Atom::Str(String::from_str(alloc, text)?));
-    let name = node_name(alloc, world, kind, from_ref(&value))?;
-    let content = evaluate(alloc, world, frame, part)?;
-    named(alloc, world, kind, name, &content)
+    let name = literal_name(kind, text)?;
+    with_content(alloc, world, frame, kind, name, part)
+}
+
+/// The node of a constructor with a name (XQuery 3.1, section 3.9.3).
+#[cycle(eval)]
+pub fn constructed<W: Growing>(
+    alloc: Global,
+    world: &mut W,
+    frame: Frame<'_>,
+    kind: NamedNode,
+    name: &Plan,
+    part: &Plan,
+) -> Result<Node, Fault>
+    ensures goes { Goes (W.forest world.old) (W.forest world.new) (W.is_clean world.old)
+        (W.is_clean world.new) }
+    ensures gives { W.is_clean world.new → FrameIn (W.forest world.old) frame.entry
+        → GivesNode (Forms.named_node kind (plan_mean name.now) (plan_mean part.now)
+        (frame_at (W.forest world.old) frame.entry) (W.forest world.old)) (W.forest world.new)
+        result }
+{
+    if let Plan::Str(text) = name {
+        return literally_named(alloc, world, frame, kind, text.as_str(), part);
+    }
+    let value = evaluate(alloc, world, frame, name)?;
+    let name = node_name(alloc, world, kind, &value)?;
+    with_content(alloc, world, frame, kind, name.as_str(), part)
 }
 
 /// A constructor of a node with a name (XQuery 3.1, section 3.9.3).
@@ -292,13 +345,8 @@ pub fn named_node<W: Growing>(
         (frame_at (W.forest world.old) frame.entry) (W.forest world.old)) (W.forest world.new)
         result }
 {
-    if let Plan::Str(text) = name {
-        return literally_named(alloc, world, frame, kind, text.as_str(), part);
-    }
-    let value = evaluate(alloc, world, frame, name)?;
-    let name = node_name(alloc, world, kind, &value)?;
-    let content = evaluate(alloc, world, frame, part)?;
-    named(alloc, world, kind, name, &content)
+    let node = constructed(alloc, world, frame, kind, name, part)?;
+    Ok(single(alloc, Item::Node(node))?)
 }
 
 /// A constructor of a node without a name (XQuery 3.1, section 3.9.3).

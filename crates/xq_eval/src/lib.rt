@@ -1,6 +1,7 @@
 //! The evaluator: the value of a plan, and the trees that it constructs.
 #![tactic(auto)]
 
+mod at_hand;
 mod bindings;
 mod chosen;
 mod clauses;

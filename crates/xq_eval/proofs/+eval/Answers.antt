@@ -3,6 +3,7 @@ use Rattle.std.specs.Global.{Vec, Global}
 use Rattle.std.proofs.lemmas.List.{map-append, drop_all, length-map, length-append, append-nil, take_at, take_all}
 use Rattle.xq_forms.specs.declared.frames.Frame.{Frame as Held}
 use Rattle.xq_atoms.specs.Atom.{Atomic, Integer, String as AtomicString, atomic_of}
+use Rattle.xq_atoms.specs.declared.atoms.Atom.{Atom as AtomHeld}
 use Rattle.xq_atoms.specs.declared.refusals.Code.TheVariants.{XPTY0019}
 use Rattle.xq_atoms.specs.declared.refusals.Fault.TheVariants.{Code as OfCode}
 use Rattle.xq_regions.specs.Tuples.{Tuple, expanded, numbered, bound, satisfying}
@@ -31,9 +32,10 @@ use Rattle.xq_meaning.specs.Doing.{◌>>=◌, Outcome, go_on, give, judged, on_t
 use Rattle.xq_meaning.specs.PlanMeaning.{Frame, Meaning, flwor, plan_mean, plan_clause_mean, plan_step_mean, at_tuple, next_clause, next_step}
 use Rattle.xq_meaning.proofs.PlanEquations.{plan-Int, plan-Str, plan-Root, plan-Step, plan-Named, plan-Unnamed, plan-Call, plan-Quantified, clause-Group, clause-Order, clause-Refused, step-Scan, plan-Dec, plan-Slot, plan-ContextItem, plan-Sequence, plan-Chain, plan-Unary, plan-If, plan-Or, plan-And, plan-Filter, plan-Path, plan-Flwor, step-Each, clause-For, clause-Let, clause-Where, clause-Count, plan-Arrow, plan-Map}
 use Rattle.xq_meaning.proofs.Turns.{begun_then}
-use Rattle.xq_forms.specs.Views.{order_specs, calling, ordering, after_double_slash, parents_below, plant_named, plant_unnamed, tuple_at, tuples_at, lists_of, spot_at, forget, frame_at, TupleIn, TuplesIn, GivesSequence, GivesTuples, FrameIn}
+use Rattle.xq_forms.specs.Views.{order_specs, calling, ordering, after_double_slash, parents_below, plant_named, plant_unnamed, tuple_at, tuples_at, lists_of, spot_at, forget, frame_at, TupleIn, TuplesIn, GivesNode, GivesSequence, GivesTuples, FrameIn}
 use Rattle.xq_eval.specs.private.Results.{GivesKey, GivesKeys, GivesLists, GivesTests, GivesPlain}
-use Rattle.xq_forms.proofs.Growth.{extends_more, stays, frame_grown, frame_in_grown, items_grown, are_in_grown, item_at_grown, in_grown, tuple_grown, tuple_in_grown, tuples_grown, tuples_in_grown, goes_on_to}
+use Rattle.xq_eval.specs.private.Filled.{filled}
+use Rattle.xq_forms.proofs.Growth.{extends_itself, extends_more, stays, frame_grown, frame_in_grown, items_grown, are_in_grown, item_at_grown, in_grown, tuple_grown, tuple_in_grown, tuples_grown, tuples_in_grown, goes_on_to}
 use Rattle.xq_regions.specs.declared.Axis.TheVariants.{Child, DescendantOrSelf}
 use Rattle.xq_meaning.specs.declared.node_tests.Test.TheVariants.{Any}
 use Rattle.xq_meaning.specs.declared.plans.PlanStep.TheVariants as plan_step
@@ -54,6 +56,7 @@ use Rattle.xq_expressions.specs.declared.operators.OrderModifier.{OrderModifier}
 use Rattle.xq_tuples.specs.declared.rows.Key.TheVariants.{One, Several}
 use Rattle.xq_tuples.specs.Keys.{values_in, row_of, rows_in, by_tuple}
 use Rattle.xq_joins.specs.Atoms.{Tells}
+use Rattle.xq_eval.proofs.Constructors.{one_node, name_refused, refused_so}
 use Rattle.xq_eval.proofs.Telling.{told, told_stop}
 use Rattle.xq_meaning.specs.Content.{name_of}
 use Rattle.xq_eval.specs.private.Keys.{keys_at}
@@ -137,6 +140,35 @@ evaluation::sequence-returns-clause-gives g t c = λ clean inside.
     let old = g.W.TreeSource.forest c.args.world.now in
     turns_end _ _ _ c.loop-part.invariant.turns (ap (map plan_mean) (drop_all c.loop-part.part-index c.args.parts.now (omega arith))) clean inside
 
+pub evaluation::next_part-returns-in-Some-clause-gives : goal.evaluation::next_part-returns-in-Some-clause-gives
+evaluation::next_part-returns-in-Some-clause-gives g t c = λ clean inside done_in.
+    let f = g.W.TreeSource.forest c.args.world.now in
+    let frame = frame_at f c.args.frame in
+    let act = plan_mean c.args.part.now in
+    let a = atomic_of c.in-Some.value in
+    let told : act frame f ≡ (Ok (atomic a), f) = subst (λ o. Tells atomic (act frame f) f (Ok o)) c.in-Some.is (c.in_ok-value.ensures f frame refl) in
+    more_next (λ (part : Meaning). part frame) (item_views c.args.done) (Value a ∷ []) (item_views c.push.new.self) act f f (extends_itself f) done_in ((tt, tt), told)
+    (ap (map item_view) c.in_ok-push.ensures.items ∙ map-append item_view c.args.done.items (_ ∷ []))
+
+pub evaluation::next_part-returns-in_err-value-clause-gives : goal.evaluation::next_part-returns-in_err-value-clause-gives
+evaluation::next_part-returns-in_err-value-clause-gives g t c = λ clean inside done_in.
+    let f = g.W.TreeSource.forest c.args.world.now in
+    let frame = frame_at f c.args.frame in
+    let outcome = plan_mean c.args.part.now frame f in
+    let next = λ (ys : List Item). give (items_at f (item_views c.args.done) ++ ys) in
+    let e = c.in_err-value.field-0.0 in
+    cut item_views items_at AreIn item_views items_at AreIn _ outcome next f e c.from_residual.result refl c.from_residual.ensures.1
+    (told_stop atomic item_views items_at AreIn outcome f f e (c.in_err-value.ensures f frame refl))
+
+pub evaluation::next_part-returns-in-Some-clause-goes : goal.evaluation::next_part-returns-in-Some-clause-goes
+evaluation::next_part-returns-in-Some-clause-goes g t c = stays _ _
+
+pub evaluation::next_part-returns-in_err-value-clause-goes : goal.evaluation::next_part-returns-in_err-value-clause-goes
+evaluation::next_part-returns-in_err-value-clause-goes g t c = stays _ _
+
+pub evaluation::next_part-returns-in_err-push-clause-goes : goal.evaluation::next_part-returns-in_err-push-clause-goes
+evaluation::next_part-returns-in_err-push-clause-goes g t c = stays _ _
+
 pub evaluation::next_part-returns-clause-gives : goal.evaluation::next_part-returns-clause-gives
 evaluation::next_part-returns-clause-gives g t c = λ clean inside done_in.
     more_next (λ (part : Meaning). part (frame_at (g.W.TreeSource.forest c.args.world.now) c.args.frame)) (item_views c.args.done) (item_views c.in_ok-added.added) (item_views c.append.new.self) (plan_mean c.args.part.now) _ _
@@ -149,8 +181,8 @@ evaluation::next_part-returns-in_err-added-clause-gives g t c = λ clean inside 
     let frame = frame_at f held in
     let f' = g.W.TreeSource.forest c.evaluate.new.world in
     let next = λ (ys : List Item). give (items_at f (item_views c.args.done) ++ ys) in
-    cut item_views items_at AreIn item_views items_at AreIn _ (plan_mean c.args.part.now frame f) next f' c.in_err-added.field-0.0 c.from_residual.result
-    refl c.from_residual.ensures.1 (c.in_err-added.ensures.gives clean inside)
+    cut item_views items_at AreIn item_views items_at AreIn _ (plan_mean c.args.part.now frame f) next f' c.in_err-added.field-0.0 c.from_residual-in_err-added.result
+    refl c.from_residual-in_err-added.ensures.1 (c.in_err-added.ensures.gives clean inside)
 
 pub evaluation::next_part-returns-in_err-added-clause-goes : goal.evaluation::next_part-returns-in_err-added-clause-goes
 evaluation::next_part-returns-in_err-added-clause-goes g t c = c.in_err-added.ensures.goes
@@ -167,6 +199,37 @@ evaluation::next_part-returns-in-Call-clause-gives g t c = λ clean inside done_
 
 pub evaluation::next_part-returns-in-Call-clause-goes : goal.evaluation::next_part-returns-in-Call-clause-goes
 evaluation::next_part-returns-in-Call-clause-goes g t c = c.next_called.ensures.goes
+
+pub evaluation::next_part-returns-in-Named-clause-gives : goal.evaluation::next_part-returns-in-Named-clause-gives
+evaluation::next_part-returns-in-Named-clause-gives g t c = λ clean inside done_in.
+    rw (c.in-Named.is, plan-Named c.in-Named.kind c.in-Named.name c.in-Named.content, ← c.get.ensures, ← c.get-in-Named.ensures) (c.next_constructed.ensures.gives clean inside done_in)
+
+pub evaluation::next_part-returns-in-Named-clause-goes : goal.evaluation::next_part-returns-in-Named-clause-goes
+evaluation::next_part-returns-in-Named-clause-goes g t c = c.next_constructed.ensures.goes
+
+pub evaluation::next_constructed-returns-clause-gives : goal.evaluation::next_constructed-returns-clause-gives
+evaluation::next_constructed-returns-clause-gives g t c = λ clean inside done_in.
+    let f = g.W.TreeSource.forest c.args.world.now in
+    let f' = g.W.TreeSource.forest c.constructed.new.world in
+    more_next (λ (part : Meaning). part (frame_at f c.args.frame)) (item_views c.args.done) (NodeAt c.in_ok-node.node ∷ []) (item_views c.push.new.self) (Forms.named_node c.args.kind (plan_mean c.args.name.now) (plan_mean c.args.part.now)) f f'
+    c.in_ok-node.ensures.goes.grows done_in (c.in_ok-node.ensures.gives clean inside) (ap (map item_view) c.in_ok-push.ensures.items ∙ map-append item_view c.args.done.items (_ ∷ []))
+
+pub evaluation::next_constructed-returns-in_err-node-clause-gives : goal.evaluation::next_constructed-returns-in_err-node-clause-gives
+evaluation::next_constructed-returns-in_err-node-clause-gives g t c = λ clean inside done_in.
+    let f = g.W.TreeSource.forest c.args.world.now in
+    let f' = g.W.TreeSource.forest c.constructed.new.world in
+    let outcome = Forms.named_node c.args.kind (plan_mean c.args.name.now) (plan_mean c.args.part.now) (frame_at f c.args.frame) f in
+    let next = λ (ys : List Item). give (items_at f (item_views c.args.done) ++ ys) in
+    cut one_node items_at AreIn item_views items_at AreIn _ outcome next f' c.in_err-node.field-0.0 c.from_residual.result refl c.from_residual.ensures.1 (c.in_err-node.ensures.gives clean inside)
+
+pub evaluation::next_constructed-returns-in_err-node-clause-goes : goal.evaluation::next_constructed-returns-in_err-node-clause-goes
+evaluation::next_constructed-returns-in_err-node-clause-goes g t c = c.in_err-node.ensures.goes
+
+pub evaluation::next_constructed-returns-in_err-push-clause-goes : goal.evaluation::next_constructed-returns-in_err-push-clause-goes
+evaluation::next_constructed-returns-in_err-push-clause-goes g t c = c.in_ok-node.ensures.goes
+
+pub evaluation::next_constructed-returns-clause-goes : goal.evaluation::next_constructed-returns-clause-goes
+evaluation::next_constructed-returns-clause-goes g t c = c.in_ok-node.ensures.goes
 
 pub evaluation::next_called-returns-in-Some-clause-gives : goal.evaluation::next_called-returns-in-Some-clause-gives
 evaluation::next_called-returns-in-Some-clause-gives g t c = λ clean inside done_in.
@@ -3019,6 +3082,24 @@ expressions::operands-returns-in_err-left-clause-goes g t c = c.in_err-left.ensu
 pub expressions::operands-returns-clause-goes : goal.expressions::operands-returns-clause-goes
 expressions::operands-returns-clause-goes g t c = goes_on_to c.in_ok-left.ensures.goes c.chain.ensures.goes
 
+pub expressions::filtered-returns-in-Some-clause-gives : goal.expressions::filtered-returns-in-Some-clause-gives
+expressions::filtered-returns-in-Some-clause-gives g t c = λ clean inside.
+    let f = g.W.TreeSource.forest c.args.world.now in
+    let frame = frame_at f c.args.frame in
+    let outcome = Forms.filter_of (plan_mean c.args.start.now) (map plan_mean c.args.predicates.now) in
+    let is : item_views c.in_ok-single.field-0 ≡ Value (atomic_of c.in-Some.atom) ∷ [] = c.in_ok-single.ensures in
+    let one = subst (λ o. IfSome o (λ (a : AtomHeld). (trees : List Tree) (fr : Frame) → fr.env ≡ tuple_at trees (values_of c.args.frame.slots.now) → outcome fr trees ≡ (Ok (atomic (atomic_of a)), trees))) c.in-Some.is c.in_ok-atom.ensures in
+    subst (λ vs. AreIn f vs × (outcome frame f ≡ (Ok (items_at f vs), f))) (sym is) ((tt, tt), one f frame refl)
+
+pub expressions::filtered-returns-in-Some-clause-goes : goal.expressions::filtered-returns-in-Some-clause-goes
+expressions::filtered-returns-in-Some-clause-goes g t c = stays _ _
+
+pub expressions::filtered-returns-in_err-atom-clause-goes : goal.expressions::filtered-returns-in_err-atom-clause-goes
+expressions::filtered-returns-in_err-atom-clause-goes g t c = stays _ _
+
+pub expressions::filtered-returns-in_err-single-clause-goes : goal.expressions::filtered-returns-in_err-single-clause-goes
+expressions::filtered-returns-in_err-single-clause-goes g t c = stays _ _
+
 pub expressions::filtered-returns-clause-gives : goal.expressions::filtered-returns-clause-gives
 expressions::filtered-returns-clause-gives g t c = λ clean inside.
     let f = g.W.TreeSource.forest c.args.world.now in
@@ -3038,7 +3119,7 @@ expressions::filtered-returns-in_err-items-clause-gives g t c = λ clean inside.
     let frame = frame_at f held in
     let f' = g.W.TreeSource.forest c.evaluate.new.world in
     let next = λ (xs : List Item). in_turn (Forms.filtered frame) xs (map plan_mean c.args.predicates.now) in
-    cut item_views items_at AreIn item_views items_at AreIn _ (plan_mean c.args.start.now frame f) next f' c.in_err-items.field-0.0 c.from_residual.result refl c.from_residual.ensures.1 (c.in_err-items.ensures.gives clean inside)
+    cut item_views items_at AreIn item_views items_at AreIn _ (plan_mean c.args.start.now frame f) next f' c.in_err-items.field-0.0 c.from_residual-in_err-items.result refl c.from_residual-in_err-items.ensures.1 (c.in_err-items.ensures.gives clean inside)
 
 pub expressions::filtered-returns-in_err-items-clause-goes : goal.expressions::filtered-returns-in_err-items-clause-goes
 expressions::filtered-returns-in_err-items-clause-goes g t c = c.in_err-items.ensures.goes
@@ -3502,99 +3583,120 @@ expressions::unnamed_node-returns-in_err-content-clause-goes g t c = c.in_err-co
 pub expressions::unnamed_node-returns-clause-goes : goal.expressions::unnamed_node-returns-clause-goes
 expressions::unnamed_node-returns-clause-goes g t c = goes_on_to c.in_ok-content.ensures.goes c.unnamed.ensures.goes
 
-pub expressions::named_node-returns-in-Str-clause-gives : goal.expressions::named_node-returns-in-Str-clause-gives
-expressions::named_node-returns-in-Str-clause-gives g t c = λ clean inside.
+pub expressions::named_node-returns-clause-gives : goal.expressions::named_node-returns-clause-gives
+expressions::named_node-returns-clause-gives g t c = λ clean inside.
+    let f = g.W.TreeSource.forest c.args.world.now in
+    let f' = g.W.TreeSource.forest c.constructed.new.world in
+    let outcome = Forms.named_node c.args.kind (plan_mean c.args.name.now) (plan_mean c.args.part.now) (frame_at f c.args.frame) f in
+    let is : item_views c.in_ok-single.field-0 ≡ NodeAt c.in_ok-node.node ∷ [] = c.in_ok-single.ensures in
+    subst (λ vs. AreIn f' vs × (outcome ≡ (Ok (items_at f' vs), f'))) (sym is) (c.in_ok-node.ensures.gives clean inside)
+
+pub expressions::named_node-returns-in_err-node-clause-gives : goal.expressions::named_node-returns-in_err-node-clause-gives
+expressions::named_node-returns-in_err-node-clause-gives g t c = λ clean inside.
+    let f = g.W.TreeSource.forest c.args.world.now in
+    let f' = g.W.TreeSource.forest c.constructed.new.world in
+    let outcome = Forms.named_node c.args.kind (plan_mean c.args.name.now) (plan_mean c.args.part.now) (frame_at f c.args.frame) f in
+    refused_so one_node item_views items_at items_at AreIn AreIn outcome f' c.in_err-node.field-0.0 c.from_residual.result c.from_residual.ensures.1 (c.in_err-node.ensures.gives clean inside)
+
+pub expressions::named_node-returns-clause-goes : goal.expressions::named_node-returns-clause-goes
+expressions::named_node-returns-clause-goes g t c = c.in_ok-node.ensures.goes
+
+pub expressions::named_node-returns-in_err-node-clause-goes : goal.expressions::named_node-returns-in_err-node-clause-goes
+expressions::named_node-returns-in_err-node-clause-goes g t c = c.in_err-node.ensures.goes
+
+pub expressions::named_node-returns-in_err-single-clause-goes : goal.expressions::named_node-returns-in_err-single-clause-goes
+expressions::named_node-returns-in_err-single-clause-goes g t c = c.in_ok-node.ensures.goes
+
+pub expressions::constructed-returns-in-Str-clause-gives : goal.expressions::constructed-returns-in-Str-clause-gives
+expressions::constructed-returns-in-Str-clause-gives g t c = λ clean inside.
     rw (c.in-Str.is, plan-Str c.in-Str.text, ← c.as_str.ensures) (c.literally_named.ensures.gives clean inside)
 
-pub expressions::named_node-returns-in-Str-clause-goes : goal.expressions::named_node-returns-in-Str-clause-goes
-expressions::named_node-returns-in-Str-clause-goes g t c = c.literally_named.ensures.goes
+pub expressions::constructed-returns-in-Str-clause-goes : goal.expressions::constructed-returns-in-Str-clause-goes
+expressions::constructed-returns-in-Str-clause-goes g t c = c.literally_named.ensures.goes
+
+pub expressions::with_content-returns-in-Some-clause-gives : goal.expressions::with_content-returns-in-Some-clause-gives
+expressions::with_content-returns-in-Some-clause-gives g t c = λ clean inside.
+    let f = g.W.TreeSource.forest c.args.world.now in
+    let f' = g.W.TreeSource.forest c.planted_named.new.world in
+    let frame = frame_at f c.args.frame in
+    let part = plan_mean c.args.part.now in
+    let a = atomic_of c.in-Some.atom in
+    let last = λ (xs : List Item). plant_named c.args.kind c.args.name.now xs in
+    let told : part frame f ≡ (Ok (atomic a), f) = subst (λ o. Tells atomic (part frame f) f (Ok o)) c.in-Some.is (c.in_ok-atom.ensures f frame refl) in
+    let d : map item_view c.from_ref.result.now ≡ Value a ∷ [] = search rules in
+    let meant = ap (λ o. go_on o last) told ∙ ap (λ xs. last (items_at f xs) f) (sym d) in
+    subst (λ o. GivesNode o f' c.planted_named.result) (sym meant) (c.planted_named.ensures.gives clean (subst (AreIn f) (sym d) (tt, tt)))
+
+pub expressions::with_content-returns-in_err-atom-clause-gives : goal.expressions::with_content-returns-in_err-atom-clause-gives
+expressions::with_content-returns-in_err-atom-clause-gives g t c = λ clean inside.
+    let f = g.W.TreeSource.forest c.args.world.now in
+    let frame = frame_at f c.args.frame in
+    let outcome = plan_mean c.args.part.now frame f in
+    let last = λ (xs : List Item). plant_named c.args.kind c.args.name.now xs in
+    let e = c.in_err-atom.field-0.0 in
+    cut item_views items_at AreIn one_node items_at AreIn _ outcome last f e c.from_residual.result refl c.from_residual.ensures.1
+    (told_stop atomic item_views items_at AreIn outcome f f e (c.in_err-atom.ensures f frame refl))
+
+pub expressions::with_content-returns-in_err-content-clause-gives : goal.expressions::with_content-returns-in_err-content-clause-gives
+expressions::with_content-returns-in_err-content-clause-gives g t c = λ clean inside.
+    let f = g.W.TreeSource.forest c.args.world.now in
+    let f' = g.W.TreeSource.forest c.evaluate.new.world in
+    let last = λ (xs : List Item). plant_named c.args.kind c.args.name.now xs in
+    cut item_views items_at AreIn one_node items_at AreIn _ (plan_mean c.args.part.now (frame_at f c.args.frame) f) last f' c.in_err-content.field-0.0 c.from_residual-in_err-content.result
+    refl c.from_residual-in_err-content.ensures.1 (c.in_err-content.ensures.gives clean inside)
+
+pub expressions::with_content-returns-clause-gives : goal.expressions::with_content-returns-clause-gives
+expressions::with_content-returns-clause-gives g t c = λ clean inside.
+    let f' = g.W.TreeSource.forest c.evaluate.new.world in
+    let f'' = g.W.TreeSource.forest c.planted_named-2.new.world in
+    let last = λ (xs : List Item). plant_named c.args.kind c.args.name.now xs in
+    let d : map item_view c.deref.result.now ≡ item_views c.in_ok-content.content = ap (map item_view) c.deref.ensures.value in
+    let inner = c.in_ok-content.ensures.gives (c.planted_named-2.ensures.goes.was_clean clean) inside in
+    let meant = ap (λ o. go_on o last) inner.1 ∙ ap (λ xs. last (items_at f' xs) f') (sym d) in
+    subst (λ o. GivesNode o f'' c.planted_named-2.result) (sym meant) (c.planted_named-2.ensures.gives clean (subst (AreIn f') (sym d) inner.0))
+
+pub expressions::with_content-returns-in-Some-clause-goes : goal.expressions::with_content-returns-in-Some-clause-goes
+expressions::with_content-returns-in-Some-clause-goes g t c = c.planted_named.ensures.goes
+
+pub expressions::with_content-returns-in_err-atom-clause-goes : goal.expressions::with_content-returns-in_err-atom-clause-goes
+expressions::with_content-returns-in_err-atom-clause-goes g t c = stays _ _
+
+pub expressions::with_content-returns-in_err-content-clause-goes : goal.expressions::with_content-returns-in_err-content-clause-goes
+expressions::with_content-returns-in_err-content-clause-goes g t c = c.in_err-content.ensures.goes
+
+pub expressions::with_content-returns-clause-goes : goal.expressions::with_content-returns-clause-goes
+expressions::with_content-returns-clause-goes g t c = goes_on_to c.in_ok-content.ensures.goes c.planted_named-2.ensures.goes
 
 pub expressions::literally_named-returns-in_err-name-clause-gives : goal.expressions::literally_named-returns-in_err-name-clause-gives
 expressions::literally_named-returns-in_err-name-clause-gives g t c = λ clean inside.
     let f = g.W.TreeSource.forest c.args.world.now in
-    let held = c.args.frame in
-    let frame = frame_at f held in
-    let f'' = g.W.TreeSource.forest c.node_name.new.world in
-    let kind = c.args.kind in
+    let frame = frame_at f c.args.frame in
     let part = plan_mean c.args.part.now in
-    let wanted : Meaning = Forms.literal (AtomicString c.args.text.now) in
-    let value = Value (AtomicString c.args.text.now) ∷ [] in
-    let d : map item_view c.from_ref.result.now ≡ value = search rules in
-    let naming = λ (xs : List ItemView). on_trees (λ trees. name_of kind (atomized trees (items_at f xs))) f in
-    let next = λ (good : Text). part frame >>= (λ ys. plant_named kind good ys) in
-    let begun : Forms.named_node kind wanted part frame f ≡ go_on (naming (map item_view c.from_ref.result.now)) next =
-    named_is kind wanted part frame f ∙ ap (λ xs. go_on (naming xs) next) (sym d) in
-    cut (string_bytes {Z = Global}) (λ trees t. t) (λ trees t. Unit {0}) item_views items_at AreIn _ (naming (map item_view c.from_ref.result.now)) next f'' c.in_err-name.field-0.0 c.from_residual-in_err-name.result
-    begun c.from_residual-in_err-name.ensures.1 (c.in_err-name.ensures.gives clean (subst (AreIn f) (sym d) (tt, tt)))
-
-pub expressions::literally_named-returns-in_err-content-clause-gives : goal.expressions::literally_named-returns-in_err-content-clause-gives
-expressions::literally_named-returns-in_err-content-clause-gives g t c = λ clean inside.
-    let f = g.W.TreeSource.forest c.args.world.now in
-    let held = c.args.frame in
-    let frame = frame_at f held in
-    let f'' = g.W.TreeSource.forest c.node_name.new.world in
-    let f3 = g.W.TreeSource.forest c.evaluate.new.world in
-    let kind = c.args.kind in
-    let part = plan_mean c.args.part.now in
-    let wanted : Meaning = Forms.literal (AtomicString c.args.text.now) in
-    let before = c.evaluate.ensures.goes.was_clean clean in
-    let value = Value (AtomicString c.args.text.now) ∷ [] in
-    let d : map item_view c.from_ref.result.now ≡ value = search rules in
-    let naming = λ (xs : List ItemView). on_trees (λ trees. name_of kind (atomized trees (items_at f xs))) f in
-    let next = λ (good : Text). part frame >>= (λ ys. plant_named kind good ys) in
-    let begun : Forms.named_node kind wanted part frame f ≡ go_on (naming (map item_view c.from_ref.result.now)) next =
-    named_is kind wanted part frame f ∙ ap (λ xs. go_on (naming xs) next) (sym d) in
-    let name = c.in_ok-name.ensures.gives before (subst (AreIn f) (sym d) (tt, tt)) in
-    let good = string_bytes c.in_ok-name.name in
-    let grows = c.in_ok-name.ensures.goes.grows in
-    let last = λ (ys : List Item). plant_named kind good ys in
-    let meant : Forms.named_node kind wanted part frame f ≡ go_on (part (frame_at f'' held) f'') last =
-    begun ∙ ap (λ o. go_on o next) name.1 ∙ ap (λ fr. go_on (part fr f'') last) (sym (frame_grown grows held inside)) in
-    cut item_views items_at AreIn item_views items_at AreIn _ (part (frame_at f'' held) f'') last f3 c.in_err-content.field-0.0 c.from_residual-in_err-content.result
-    meant c.from_residual-in_err-content.ensures.1 (c.in_err-content.ensures.gives clean (frame_in_grown grows held inside))
+    let next = λ (good : Text). part frame >>= (λ ys. plant_named c.args.kind good ys) in
+    let begun = named_is c.args.kind (Forms.literal (AtomicString c.args.text.now)) part frame f in
+    name_refused c.args.kind c.args.text.now (Forms.named_node c.args.kind (Forms.literal (AtomicString c.args.text.now)) part frame f) next f c.in_err-name.field-0.0 c.from_residual.result begun c.from_residual.ensures.1 c.in_err-name.ensures
 
 pub expressions::literally_named-returns-clause-gives : goal.expressions::literally_named-returns-clause-gives
 expressions::literally_named-returns-clause-gives g t c = λ clean inside.
     let f = g.W.TreeSource.forest c.args.world.now in
-    let held = c.args.frame in
-    let frame = frame_at f held in
-    let f'' = g.W.TreeSource.forest c.node_name.new.world in
-    let f3 = g.W.TreeSource.forest c.evaluate.new.world in
-    let f4 = g.W.TreeSource.forest c.named.new.world in
+    let f' = g.W.TreeSource.forest c.with_content.new.world in
     let kind = c.args.kind in
+    let frame = frame_at f c.args.frame in
     let part = plan_mean c.args.part.now in
     let wanted : Meaning = Forms.literal (AtomicString c.args.text.now) in
-    let content = item_views c.in_ok-content.content in
-    let was = c.named.ensures.goes.was_clean clean in
-    let before = c.in_ok-content.ensures.goes.was_clean was in
-    let value = Value (AtomicString c.args.text.now) ∷ [] in
-    let d : map item_view c.from_ref.result.now ≡ value = search rules in
-    let naming = λ (xs : List ItemView). on_trees (λ trees. name_of kind (atomized trees (items_at f xs))) f in
     let next = λ (good : Text). part frame >>= (λ ys. plant_named kind good ys) in
-    let begun : Forms.named_node kind wanted part frame f ≡ go_on (naming (map item_view c.from_ref.result.now)) next =
-    named_is kind wanted part frame f ∙ ap (λ xs. go_on (naming xs) next) (sym d) in
-    let name = c.in_ok-name.ensures.gives before (subst (AreIn f) (sym d) (tt, tt)) in
-    let good = string_bytes c.in_ok-name.name in
-    let grows = c.in_ok-name.ensures.goes.grows in
-    let last = λ (ys : List Item). plant_named kind good ys in
-    let meant : Forms.named_node kind wanted part frame f ≡ go_on (part (frame_at f'' held) f'') last =
-    begun ∙ ap (λ o. go_on o next) name.1 ∙ ap (λ fr. go_on (part fr f'') last) (sym (frame_grown grows held inside)) in
-    let d' : map item_view c.deref.result.now ≡ content = ap (map item_view) c.deref.ensures.value in
-    let inner = c.in_ok-content.ensures.gives was (frame_in_grown grows held inside) in
-    let all = meant ∙ ap (λ o. go_on o last) inner.1 ∙ ap (λ xs. plant_named kind good (items_at f3 xs) f3) (sym d') in
-    subst (λ o. GivesSequence o f4 c.named.result) (sym all) (c.named.ensures.gives clean (subst (AreIn f3) (sym d') inner.0))
+    let meant : Forms.named_node kind wanted part frame f ≡ filled kind c.in_ok-name.name.now part frame f =
+    named_is kind wanted part frame f ∙ ap (λ j. go_on (judged j f) next) c.in_ok-name.ensures in
+    subst (λ o. GivesNode o f' c.with_content.result) (sym meant) (c.with_content.ensures.gives clean inside)
 
 pub expressions::literally_named-returns-in_err-name-clause-goes : goal.expressions::literally_named-returns-in_err-name-clause-goes
-expressions::literally_named-returns-in_err-name-clause-goes g t c = c.in_err-name.ensures.goes
-
-pub expressions::literally_named-returns-in_err-content-clause-goes : goal.expressions::literally_named-returns-in_err-content-clause-goes
-expressions::literally_named-returns-in_err-content-clause-goes g t c = goes_on_to c.in_ok-name.ensures.goes c.in_err-content.ensures.goes
+expressions::literally_named-returns-in_err-name-clause-goes g t c = stays _ _
 
 pub expressions::literally_named-returns-clause-goes : goal.expressions::literally_named-returns-clause-goes
-expressions::literally_named-returns-clause-goes g t c = goes_on_to (goes_on_to c.in_ok-name.ensures.goes c.in_ok-content.ensures.goes) c.named.ensures.goes
+expressions::literally_named-returns-clause-goes g t c = c.with_content.ensures.goes
 
-pub expressions::named_node-returns-in_err-value-clause-gives : goal.expressions::named_node-returns-in_err-value-clause-gives
-expressions::named_node-returns-in_err-value-clause-gives g t c = λ clean inside.
+pub expressions::constructed-returns-in_err-value-clause-gives : goal.expressions::constructed-returns-in_err-value-clause-gives
+expressions::constructed-returns-in_err-value-clause-gives g t c = λ clean inside.
     let f = g.W.TreeSource.forest c.args.world.now in
     let held = c.args.frame in
     let frame = frame_at f held in
@@ -3603,11 +3705,11 @@ expressions::named_node-returns-in_err-value-clause-gives g t c = λ clean insid
     let part = plan_mean c.args.part.now in
     let wanted = plan_mean c.args.name.now in
     let next = λ (xs : List Item). on_trees (λ trees. name_of kind (atomized trees xs)) >>= (λ good. part frame >>= (λ ys. plant_named kind good ys)) in
-    cut item_views items_at AreIn item_views items_at AreIn _ (wanted frame f) next f' c.in_err-value.field-0.0 c.from_residual.result
+    cut item_views items_at AreIn one_node items_at AreIn _ (wanted frame f) next f' c.in_err-value.field-0.0 c.from_residual.result
     (named_is kind wanted part frame f) c.from_residual.ensures.1 (c.in_err-value.ensures.gives clean inside)
 
-pub expressions::named_node-returns-in_err-name-clause-gives : goal.expressions::named_node-returns-in_err-name-clause-gives
-expressions::named_node-returns-in_err-name-clause-gives g t c = λ clean inside.
+pub expressions::constructed-returns-in_err-name-clause-gives : goal.expressions::constructed-returns-in_err-name-clause-gives
+expressions::constructed-returns-in_err-name-clause-gives g t c = λ clean inside.
     let f = g.W.TreeSource.forest c.args.world.now in
     let held = c.args.frame in
     let frame = frame_at f held in
@@ -3623,11 +3725,11 @@ expressions::named_node-returns-in_err-name-clause-gives g t c = λ clean inside
     let next = λ (good : Text). part frame >>= (λ ys. plant_named kind good ys) in
     let begun : Forms.named_node kind wanted part frame f ≡ go_on (naming (map item_view c.deref.result.now)) next =
     named_is kind wanted part frame f ∙ ap (λ o. go_on o (λ xs. on_trees (λ trees. name_of kind (atomized trees xs)) >>= next)) found.1 ∙ ap (λ xs. go_on (naming xs) next) (sym d) in
-    cut (string_bytes {Z = Global}) (λ trees t. t) (λ trees t. Unit {0}) item_views items_at AreIn _ (naming (map item_view c.deref.result.now)) next f'' c.in_err-name.field-0.0 c.from_residual-in_err-name.result
+    cut (string_bytes {Z = Global}) (λ trees t. t) (λ trees t. Unit {0}) one_node items_at AreIn _ (naming (map item_view c.deref.result.now)) next f'' c.in_err-name.field-0.0 c.from_residual-in_err-name.result
     begun c.from_residual-in_err-name.ensures.1 (c.in_err-name.ensures.gives clean (subst (AreIn f') (sym d) found.0))
 
-pub expressions::named_node-returns-in_err-content-clause-gives : goal.expressions::named_node-returns-in_err-content-clause-gives
-expressions::named_node-returns-in_err-content-clause-gives g t c = λ clean inside.
+pub expressions::constructed-returns-clause-gives : goal.expressions::constructed-returns-clause-gives
+expressions::constructed-returns-clause-gives g t c = λ clean inside.
     let f = g.W.TreeSource.forest c.args.world.now in
     let held = c.args.frame in
     let frame = frame_at f held in
@@ -3636,8 +3738,8 @@ expressions::named_node-returns-in_err-content-clause-gives g t c = λ clean ins
     let part = plan_mean c.args.part.now in
     let wanted = plan_mean c.args.name.now in
     let f'' = g.W.TreeSource.forest c.node_name.new.world in
-    let f3 = g.W.TreeSource.forest c.evaluate-2.new.world in
-    let before = c.evaluate-2.ensures.goes.was_clean clean in
+    let f3 = g.W.TreeSource.forest c.with_content.new.world in
+    let before = c.with_content.ensures.goes.was_clean clean in
     let found = c.in_ok-value.ensures.gives (c.node_name.ensures.goes.was_clean before) inside in
     let value = item_views c.in_ok-value.value in
     let d : map item_view c.deref.result.now ≡ value = ap (map item_view) c.deref.ensures.value in
@@ -3649,55 +3751,18 @@ expressions::named_node-returns-in_err-content-clause-gives g t c = λ clean ins
     let good = string_bytes c.in_ok-name.name in
     let grows = extends_more c.in_ok-value.ensures.goes.grows c.in_ok-name.ensures.goes.grows in
     let last = λ (ys : List Item). plant_named kind good ys in
-    let meant : Forms.named_node kind wanted part frame f ≡ go_on (part (frame_at f'' held) f'') last =
+    let meant : Forms.named_node kind wanted part frame f ≡ filled kind good part (frame_at f'' held) f'' =
     begun ∙ ap (λ o. go_on o next) name.1 ∙ ap (λ fr. go_on (part fr f'') last) (sym (frame_grown grows held inside)) in
-    cut item_views items_at AreIn item_views items_at AreIn _ (part (frame_at f'' held) f'') last f3 c.in_err-content.field-0.0 c.from_residual-in_err-content.result
-    meant c.from_residual-in_err-content.ensures.1 (c.in_err-content.ensures.gives clean (frame_in_grown grows held inside))
+    subst (λ o. GivesNode o f3 c.with_content.result) (sym (meant ∙ ap (λ n. filled kind n part (frame_at f'' held) f'') (sym c.as_str-2.ensures.value))) (c.with_content.ensures.gives clean (frame_in_grown grows held inside))
 
-pub expressions::named_node-returns-clause-gives : goal.expressions::named_node-returns-clause-gives
-expressions::named_node-returns-clause-gives g t c = λ clean inside.
-    let f = g.W.TreeSource.forest c.args.world.now in
-    let held = c.args.frame in
-    let frame = frame_at f held in
-    let f' = g.W.TreeSource.forest c.evaluate.new.world in
-    let kind = c.args.kind in
-    let part = plan_mean c.args.part.now in
-    let wanted = plan_mean c.args.name.now in
-    let f'' = g.W.TreeSource.forest c.node_name.new.world in
-    let f3 = g.W.TreeSource.forest c.evaluate-2.new.world in
-    let f4 = g.W.TreeSource.forest c.named.new.world in
-    let content = item_views c.in_ok-content.content in
-    let was = c.named.ensures.goes.was_clean clean in
-    let before = c.in_ok-content.ensures.goes.was_clean was in
-    let found = c.in_ok-value.ensures.gives (c.node_name.ensures.goes.was_clean before) inside in
-    let value = item_views c.in_ok-value.value in
-    let d : map item_view c.deref.result.now ≡ value = ap (map item_view) c.deref.ensures.value in
-    let naming = λ (xs : List ItemView). on_trees (λ trees. name_of kind (atomized trees (items_at f' xs))) f' in
-    let next = λ (good : Text). part frame >>= (λ ys. plant_named kind good ys) in
-    let begun : Forms.named_node kind wanted part frame f ≡ go_on (naming (map item_view c.deref.result.now)) next =
-    named_is kind wanted part frame f ∙ ap (λ o. go_on o (λ xs. on_trees (λ trees. name_of kind (atomized trees xs)) >>= next)) found.1 ∙ ap (λ xs. go_on (naming xs) next) (sym d) in
-    let name = c.in_ok-name.ensures.gives before (subst (AreIn f') (sym d) found.0) in
-    let good = string_bytes c.in_ok-name.name in
-    let grows = extends_more c.in_ok-value.ensures.goes.grows c.in_ok-name.ensures.goes.grows in
-    let last = λ (ys : List Item). plant_named kind good ys in
-    let meant : Forms.named_node kind wanted part frame f ≡ go_on (part (frame_at f'' held) f'') last =
-    begun ∙ ap (λ o. go_on o next) name.1 ∙ ap (λ fr. go_on (part fr f'') last) (sym (frame_grown grows held inside)) in
-    let d' : map item_view c.deref-2.result.now ≡ content = ap (map item_view) c.deref-2.ensures.value in
-    let inner = c.in_ok-content.ensures.gives was (frame_in_grown grows held inside) in
-    let all = meant ∙ ap (λ o. go_on o last) inner.1 ∙ ap (λ xs. plant_named kind good (items_at f3 xs) f3) (sym d') in
-    subst (λ o. GivesSequence o f4 c.named.result) (sym all) (c.named.ensures.gives clean (subst (AreIn f3) (sym d') inner.0))
+pub expressions::constructed-returns-in_err-value-clause-goes : goal.expressions::constructed-returns-in_err-value-clause-goes
+expressions::constructed-returns-in_err-value-clause-goes g t c = c.in_err-value.ensures.goes
 
-pub expressions::named_node-returns-in_err-value-clause-goes : goal.expressions::named_node-returns-in_err-value-clause-goes
-expressions::named_node-returns-in_err-value-clause-goes g t c = c.in_err-value.ensures.goes
+pub expressions::constructed-returns-in_err-name-clause-goes : goal.expressions::constructed-returns-in_err-name-clause-goes
+expressions::constructed-returns-in_err-name-clause-goes g t c = goes_on_to c.in_ok-value.ensures.goes c.in_err-name.ensures.goes
 
-pub expressions::named_node-returns-in_err-name-clause-goes : goal.expressions::named_node-returns-in_err-name-clause-goes
-expressions::named_node-returns-in_err-name-clause-goes g t c = goes_on_to c.in_ok-value.ensures.goes c.in_err-name.ensures.goes
-
-pub expressions::named_node-returns-in_err-content-clause-goes : goal.expressions::named_node-returns-in_err-content-clause-goes
-expressions::named_node-returns-in_err-content-clause-goes g t c = goes_on_to (goes_on_to c.in_ok-value.ensures.goes c.in_ok-name.ensures.goes) c.in_err-content.ensures.goes
-
-pub expressions::named_node-returns-clause-goes : goal.expressions::named_node-returns-clause-goes
-expressions::named_node-returns-clause-goes g t c = goes_on_to (goes_on_to (goes_on_to c.in_ok-value.ensures.goes c.in_ok-name.ensures.goes) c.in_ok-content.ensures.goes) c.named.ensures.goes
+pub expressions::constructed-returns-clause-goes : goal.expressions::constructed-returns-clause-goes
+expressions::constructed-returns-clause-goes g t c = goes_on_to (goes_on_to c.in_ok-value.ensures.goes c.in_ok-name.ensures.goes) c.with_content.ensures.goes
 
 pub evaluation::evaluate-quantified-requires : goal.evaluation::evaluate-quantified-requires
 evaluation::evaluate-quantified-requires g t c = λ κs live.
@@ -3798,22 +3863,43 @@ paths::step_list-later_steps-requires-2 g t c = λ κs live.
     let below : 8 * most size-PlanStep (take (length steps - taken) (drop taken steps)) + 7 < t = omega (arith, all, same, least) in
     (below, live)
 
-pub expressions::named_node-literally_named-requires : goal.expressions::named_node-literally_named-requires
-expressions::named_node-literally_named-requires g t c = λ κs live.
+pub expressions::named_node-constructed-requires : goal.expressions::named_node-constructed-requires
+expressions::named_node-constructed-requires g t c = λ κs live.
     let all : 8 * max (size-Plan c.args.name.now) (size-Plan c.args.part.now) + 9 ≡ t = c.decreases in
-    let below : 8 * size-Plan c.args.part.now + 4 < t = omega (arith, all) in
+    let below : 8 * max (size-Plan c.args.name.now) (size-Plan c.args.part.now) + 8 < t = omega (arith, all) in
     (below, live)
 
-pub expressions::named_node-evaluate-requires : goal.expressions::named_node-evaluate-requires
-expressions::named_node-evaluate-requires g t c = λ κs live.
+pub evaluation::next_constructed-constructed-requires : goal.evaluation::next_constructed-constructed-requires
+evaluation::next_constructed-constructed-requires g t c = λ κs live.
     let all : 8 * max (size-Plan c.args.name.now) (size-Plan c.args.part.now) + 9 ≡ t = c.decreases in
+    let below : 8 * max (size-Plan c.args.name.now) (size-Plan c.args.part.now) + 8 < t = omega (arith, all) in
+    (below, live)
+
+pub evaluation::next_part-next_constructed-requires : goal.evaluation::next_part-next_constructed-requires
+evaluation::next_part-next_constructed-requires g t c = λ κs live.
+    let all : 8 * size-Plan c.args.part.now + 4 ≡ t = c.decreases in
+    let whole = ap size-Plan c.in-Named.is ∙ sized-Named c.in-Named.kind c.in-Named.name c.in-Named.content in
+    let e0 = ap (size-Plan) c.get.ensures in
+    let e1 = ap (size-Plan) c.get-in-Named.ensures in
+    let below : 8 * max (size-Plan c.get.result.now) (size-Plan c.get-in-Named.result.now) + 9 < t = omega (arith, all, whole, e0, e1) in
+    (below, live)
+
+pub expressions::constructed-literally_named-requires : goal.expressions::constructed-literally_named-requires
+expressions::constructed-literally_named-requires g t c = λ κs live.
+    let all : 8 * max (size-Plan c.args.name.now) (size-Plan c.args.part.now) + 8 ≡ t = c.decreases in
+    let below : 8 * size-Plan c.args.part.now + 5 < t = omega (arith, all) in
+    (below, live)
+
+pub expressions::constructed-evaluate-requires : goal.expressions::constructed-evaluate-requires
+expressions::constructed-evaluate-requires g t c = λ κs live.
+    let all : 8 * max (size-Plan c.args.name.now) (size-Plan c.args.part.now) + 8 ≡ t = c.decreases in
     let below : 8 * size-Plan c.args.name.now + 3 < t = omega (arith, all) in
     (below, live)
 
-pub expressions::named_node-evaluate-requires-2 : goal.expressions::named_node-evaluate-requires-2
-expressions::named_node-evaluate-requires-2 g t c = λ κs live.
-    let all : 8 * max (size-Plan c.args.name.now) (size-Plan c.args.part.now) + 9 ≡ t = c.decreases in
-    let below : 8 * size-Plan c.args.part.now + 3 < t = omega (arith, all) in
+pub expressions::constructed-with_content-requires : goal.expressions::constructed-with_content-requires
+expressions::constructed-with_content-requires g t c = λ κs live.
+    let all : 8 * max (size-Plan c.args.name.now) (size-Plan c.args.part.now) + 8 ≡ t = c.decreases in
+    let below : 8 * size-Plan c.args.part.now + 4 < t = omega (arith, all) in
     (below, live)
 
 pub expressions::arrow-evaluate-requires : goal.expressions::arrow-evaluate-requires

@@ -272,6 +272,9 @@ decreases-evaluation::next_part g a = 8 * goal.size-evaluation::next_part g a + 
 abbrev pub decreases-evaluation::next_called : goal.decreases-evaluation::next_called
 decreases-evaluation::next_called g a = 8 * goal.size-evaluation::next_called g a + 7
 
+abbrev pub decreases-evaluation::next_constructed : goal.decreases-evaluation::next_constructed
+decreases-evaluation::next_constructed g a = 8 * max (size-Plan a.name.now) (size-Plan a.part.now) + 9
+
 abbrev pub decreases-evaluation::chain : goal.decreases-evaluation::chain
 decreases-evaluation::chain g a = 8 * goal.size-evaluation::chain g a + 5
 
@@ -412,8 +415,14 @@ decreases-expressions::axis_step g a = 8 * goal.size-expressions::axis_step g a 
 abbrev pub decreases-expressions::named_node : goal.decreases-expressions::named_node
 decreases-expressions::named_node g a = 8 * max (size-Plan a.name.now) (size-Plan a.part.now) + 9
 
+abbrev pub decreases-expressions::constructed : goal.decreases-expressions::constructed
+decreases-expressions::constructed g a = 8 * max (size-Plan a.name.now) (size-Plan a.part.now) + 8
+
 abbrev pub decreases-expressions::literally_named : goal.decreases-expressions::literally_named
-decreases-expressions::literally_named g a = 8 * goal.size-expressions::literally_named g a + 4
+decreases-expressions::literally_named g a = 8 * goal.size-expressions::literally_named g a + 5
+
+abbrev pub decreases-expressions::with_content : goal.decreases-expressions::with_content
+decreases-expressions::with_content g a = 8 * goal.size-expressions::with_content g a + 4
 
 abbrev pub decreases-expressions::unnamed_node : goal.decreases-expressions::unnamed_node
 decreases-expressions::unnamed_node g a = 8 * goal.size-expressions::unnamed_node g a + 9

@@ -1,0 +1,24 @@
+-- Plans whose value is one atom, known before it is evaluated.
+use Rattle.std.specs.Prelude.{◌≡◌, ℕ, pos, List, Ok}
+use Rattle.xq_atoms.specs.Atom.{Atomic, Integer}
+use Rattle.xq_regions.specs.Tree.{Tree}
+use Rattle.xq_tuples.specs.declared.slots.SlotValue.{SlotValue}
+use Rattle.xq_tuples.specs.Views.{values_of}
+use Rattle.xq_meaning.specs.declared.plans.Plan.{Plan}
+use Rattle.xq_meaning.specs.Arguments.{atomic}
+use Rattle.xq_meaning.specs.PlanMeaning.{Frame, plan_mean}
+use Rattle.xq_forms.specs.Views.{tuple_at}
+
+-- in every frame the plan gives this atom, and leaves the trees
+abbrev pub Gives : Plan → Atomic → Type 0
+Gives p a = (frame : Frame) (trees : List Tree) → plan_mean p frame trees ≡ (Ok (atomic a), trees)
+
+-- it gives some such atom
+abbrev pub IsConstant : Plan → Type 0
+IsConstant p = (a : Atomic) × Gives p a
+
+-- wherever the variables have the values of these slots, the plan gives this number
+abbrev pub IsPosition : List SlotValue → Plan → ℕ → Type 0
+IsPosition slots p n = (trees : List Tree) (frame : Frame)
+    → frame.env ≡ tuple_at trees (values_of slots)
+    → plan_mean p frame trees ≡ (Ok (atomic (Integer (pos n))), trees)
