@@ -40,7 +40,7 @@ impl Model for PlantedTrees {
 
 /// Where the rows of a tree begin, by the places where those of each tree end.
 #[inline]
-fn start_of(ends: &[usize], tree: usize) -> usize
+pub fn start_of(ends: &[usize], tree: usize) -> usize
     requires { tree ≤ length ends.now }
     ensures { result ≡ start_of_lem 0 ends.now tree }
 {

@@ -1,0 +1,124 @@
+-- Trees that are copied below a root, one after another.
+use Rattle.std.proofs.Common.{◌≡◌, ◌<◌, ◌+◌, ◌-◌, ℕ, List, [], ◌∷◌, ◌++◌, Some, Bool, false, length, get_or, map, take, drop, refl, sym, ap, ◌∙◌, subst, arith, append_assoc}
+use Rattle.std.specs.Prelude.{All, IsTrue, slice_get, slice_range}
+use Rattle.std.specs.List.{AllByRecursion}
+use Rattle.std.proofs.lemmas.List.{append-nil, map-append, get_or-take, get_or-drop, length-append, length-take, take-append-le}
+use Rattle.std.proofs.lemmas.List.Elements.{All-weaker}
+use Rattle.std.proofs.lemmas.Option.{get_or_from_slice_get}
+use Rattle.xq_regions.specs.Beside.{root_of, lowered, lowered_rows, IsLow}
+use Rattle.xq_regions.specs.Rows.{Row, no_row, row_at, rows}
+use Rattle.xq_regions.specs.Tree.{Label, Tree, IsTree, has_text, is_attribute, is_content, attribute_names, may_follow, may_stand, most_levels}
+use Rattle.xq_regions.specs.Items.{ItemView}
+use Rattle.xq_regions.specs.declared.Kind.{Kind}
+use Rattle.xq_regions.specs.declared.Kind.TheVariants.{Element}
+use Rattle.xq_regions.proofs.Beside.{lowered_by, lowered_rows-push, low-push, content-push, may_end, may_end-push, names-other}
+use Rattle.xq_packed.specs.Changes.{moved, AreMovable}
+use Rattle.xq_sources.specs.Sources.{tree_at}
+use Rattle.xq_sources.specs.private.Meeting.{picked, all_picked, IsPicked, HaveMet, AreMet, IsNext, MayCome}
+use Rattle.xq_sources.specs.private.Planted.{start_of, trees_after, ArePlanted}
+use Rattle.xq_sources.proofs.Planting.{IsAt, at, same_part}
+
+-- # One tree
+
+-- the rows of a planted tree, read where more rows come after all
+planted_rows : (front more : List Row) (ends : List ℕ) (tree : ℕ) → ArePlanted front 0 ends → tree < length ends → slice_range (front ++ more) (start_of 0 ends tree) (get_or ends tree 0) ≡ rows (tree_at (trees_after front 0 ends) tree)
+planted_rows front more ends tree planted less =
+    let is = at front ends (trees_after front 0 ends) tree refl planted less in
+    let within = is.there.within in
+    same_part (front ++ more) front (start_of 0 ends tree) (get_or ends tree 0) is.there.rises (omega (arith, within, length-append front more)) within (take-append-le (get_or ends tree 0) front more within)
+    ∙ is.there.are.rows ∙ ap rows (sym is.is)
+
+-- the first of the rows of a tree is that of its root
+first_row : (rs : List Row) (start end : ℕ) (t : Tree) (root : Row) → slice_range rs start end ≡ rows t → slice_get rs start ≡ Some root → root.label ≡ t.root
+first_row rs start end t root part found =
+    let some : 0 < end - start = (let many = ap length part in omega (arith, many, length-take (end - start) (drop start rs))) in
+    let here : start + 0 ≡ start = omega arith in
+    ap (λ (r : Row). r.label)
+    (sym (get_or_from_slice_get rs start root no_row found)
+    ∙ ap (λ n. row_at rs n) (sym here)
+    ∙ sym (get_or-drop start rs 0 no_row)
+    ∙ sym (get_or-take (end - start) (drop start rs) 0 no_row some)
+    ∙ ap (λ (qs : List Row). row_at qs 0) part)
+
+lower : (r : Row) → moved 0 1 r ≡ lowered r
+lower r =
+    let level : r.level - 0 + 1 ≡ r.level + 1 = omega arith in
+    ap (λ l. record { size = r.size; level = l; label = r.label }) level
+
+pub is_next : (front more : List Row) (ends : List ℕ) (tree : ℕ) (parent last kind : Kind) (value : List ℕ) (root : Row) (old new : List Row) (start end : ℕ) → old ≡ front ++ more → ArePlanted front 0 ends → tree < length ends → start ≡ start_of 0 ends tree → end ≡ get_or ends tree 0 → slice_get old start ≡ Some root → kind ≡ root.label.kind → value ≡ root.label.value → is_attribute kind ≡ false → IsTrue (may_stand parent kind) → IsTrue (has_text kind value) → IsTrue (may_follow last kind) → AreMovable 0 1 (slice_range old start end) → new ≡ old ++ map (moved 0 1) (slice_range old start end) → IsNext front ends tree parent last kind old new
+is_next front more ends tree parent last kind value root old new start end same planted less from to found of_kind of_value plain stands some follows fit added =
+    let t = tree_at (trees_after front 0 ends) tree in
+    let is = at front ends (trees_after front 0 ends) tree refl planted less in
+    let part : slice_range old start end ≡ rows t = ap (λ (qs : List Row). slice_range qs start end) same
+    ∙ ap (λ n. slice_range (front ++ more) n end) from
+    ∙ ap (λ n. slice_range (front ++ more) (start_of 0 ends tree) n) to
+    ∙ planted_rows front more ends tree planted less in
+    let label : root.label ≡ t.root = first_row old start end t root part found in
+    let kinds : kind ≡ t.root.kind = of_kind ∙ ap (λ (a : Label). a.kind) label in
+    let values : value ≡ t.root.value = of_value ∙ ap (λ (a : Label). a.value) label in
+    record {
+      there = is.within;
+      of_root = kinds;
+      may_come = record {
+        stands = subst (λ (k : Kind). IsTrue (may_stand parent k)) kinds stands;
+        some = subst (λ (v : List ℕ). IsTrue (has_text t.root.kind v)) values (subst (λ (k : Kind). IsTrue (has_text k value)) kinds some);
+        follows = subst (λ (k : Kind). IsTrue (may_follow last k)) kinds follows;
+        plain = subst (λ (k : Kind). is_attribute k ≡ false) kinds plain;
+        low = record {
+          is_tree = subst IsTree (sym is.is) is.there.are.is_tree;
+          levels = subst (λ (qs : List Row). All (λ (r : Row). r.level + 1 < most_levels) qs) part (All-weaker (λ (r : Row). r.level - 0 + 1 < most_levels) (λ (r : Row). r.level + 1 < most_levels) (λ r h. omega (arith, h)) (slice_range old start end) fit);
+        };
+      };
+      copied = added ∙ ap (λ (qs : List Row). old ++ qs) (lowered_by (moved 0 1) lower (slice_range old start end) ∙ ap (map lowered) part);
+    }
+
+-- # One tree after another
+
+-- the trees have met so far, and what may come after the last kind may end them
+pub record MeetSoFar (first : ℕ) (root : Label) (items : List ItemView) (trees : List Tree) (old new : List Row) (last : Kind) : Type 0 where
+  pub met : AreMet first root items trees old new
+  pub ends : (kind : Kind) → IsTrue (may_follow last kind) → IsTrue (may_end (map root_of (all_picked first trees items)) kind)
+
+pub none_met : (first : ℕ) (root : Label) (trees : List Tree) (old : List Row) → MeetSoFar first root [] trees old old Element
+none_met first root trees old = record {
+  met = record {
+    picks = tt;
+    met = record { content = refl; plain = refl; low = tt };
+    copied = sym (append-nil old);
+  };
+  ends = λ kind may. refl;
+}
+
+picks-push : (first : ℕ) (trees : List Tree) (items : List ItemView) (item : ItemView) → AllByRecursion (IsPicked first trees) items → IsPicked first trees item → AllByRecursion (IsPicked first trees) (items ++ item ∷ [])
+picks-push first trees [] item h is = (is, tt)
+picks-push first trees (i ∷ items) item h is = (h.0, picks-push first trees items item h.1 is)
+
+pub one_met : (first : ℕ) (root : Label) (items : List ItemView) (item : ItemView) (front : List Row) (ends : List ℕ) (old rs new : List Row) (last kind : Kind) (tree : ℕ) → MeetSoFar first root items (trees_after front 0 ends) old rs last → IsPicked first (trees_after front 0 ends) item → picked first (trees_after front 0 ends) item ≡ tree_at (trees_after front 0 ends) tree → IsNext front ends tree root.kind last kind rs new → MeetSoFar first root (items ++ item ∷ []) (trees_after front 0 ends) old new kind
+one_met first root items item front ends old rs new last kind tree so_far picks is next =
+    let trees = trees_after front 0 ends in
+    let ts = all_picked first trees items in
+    let t = tree_at trees tree in
+    let may = next.may_come in
+    let met = so_far.met.met in
+    let all : all_picked first trees (items ++ item ∷ []) ≡ ts ++ t ∷ [] = map-append (picked first trees) items (item ∷ []) ∙ ap (λ u. ts ++ u ∷ []) is in
+    let roots : map root_of (ts ++ t ∷ []) ≡ map root_of ts ++ t.root ∷ [] = map-append root_of ts (t ∷ []) in
+    let copied : new ≡ old ++ lowered_rows (ts ++ t ∷ []) = next.copied
+    ∙ ap (λ (qs : List Row). qs ++ map lowered (rows t)) so_far.met.copied
+    ∙ append_assoc old (lowered_rows ts) (map lowered (rows t))
+    ∙ ap (λ (qs : List Row). old ++ qs) (sym (lowered_rows-push ts t)) in
+    let together : HaveMet root (ts ++ t ∷ []) = record {
+      content = subst (λ (ls : List Label). IsTrue (is_content root ls)) (sym roots) (content-push root (map root_of ts) t.root met.content may.stands may.some (so_far.ends t.root.kind may.follows));
+      plain = ap attribute_names roots ∙ names-other (map root_of ts) t.root may.plain ∙ met.plain;
+      low = low-push ts t met.low may.low;
+    } in
+    record {
+      met = record {
+        picks = picks-push first trees items item so_far.met.picks picks;
+        met = subst (HaveMet root) (sym all) together;
+        copied = copied ∙ ap (λ (us : List Tree). old ++ lowered_rows us) (sym all);
+      };
+      ends = λ k follows. subst (λ (us : List Tree). IsTrue (may_end (map root_of us) k)) (sym all)
+      (subst (λ (ls : List Label). IsTrue (may_end ls k)) (sym roots)
+      (subst IsTrue (sym (may_end-push (map root_of ts) t.root k))
+      (subst (λ (j : Kind). IsTrue (may_follow j k)) next.of_root follows)));
+    }

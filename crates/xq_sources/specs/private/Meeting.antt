@@ -1,0 +1,61 @@
+-- Trees that are copied below a root, one after another.
+use Rattle.std.specs.Prelude.{ℕ, ◌≡◌, ◌-◌, ◌<◌, ◌≤◌, ◌++◌, ◌∷◌, [], List, length, map, IsTrue, false}
+use Rattle.std.specs.List.{AllByRecursion}
+use Rattle.xq_regions.specs.Beside.{root_of, lowered, lowered_rows, rooted, IsLow}
+use Rattle.xq_regions.specs.Items.{ItemView, Place, Value}
+use Rattle.xq_regions.specs.Rows.{Row, rows}
+use Rattle.xq_regions.specs.Tree.{Label, Tree, IsTree, is_attribute, is_content, has_text, may_follow, may_stand, attribute_names}
+use Rattle.xq_regions.specs.declared.Kind.{Kind}
+use Rattle.xq_sources.specs.private.Planted.{trees_after}
+use Rattle.xq_sources.specs.Sources.{no_tree, tree_at, HasTree}
+
+-- # The trees that are meant
+
+-- the tree whose root the item is, among trees that are numbered from a number on
+abbrev pub picked : ℕ → List Tree → ItemView → Tree
+picked first trees (Place n) = tree_at trees (n.tree - first)
+picked first trees (Value a) = no_tree
+
+-- the item is the root of one of them
+abbrev pub IsPicked : ℕ → List Tree → ItemView → Type 0
+IsPicked first trees (Place n) = (n.pre ≡ 0) × ((first ≤ n.tree) × HasTree trees (n.tree - first))
+IsPicked first trees (Value a) = ⊥
+
+-- the trees whose roots the items are
+abbrev pub all_picked : ℕ → List Tree → List ItemView → List Tree
+all_picked first trees items = map (picked first trees) items
+
+-- # Where they meet
+
+-- the tree may come next below a parent, after one whose root has the last kind
+pub record MayCome (parent last : Kind) (t : Tree) : Type 0 where
+  pub stands : IsTrue (may_stand parent t.root.kind)
+  pub some : IsTrue (has_text t.root.kind t.root.value)
+  pub follows : IsTrue (may_follow last t.root.kind)
+  pub plain : is_attribute t.root.kind ≡ false
+  pub low : IsLow t
+
+-- the tree with a number, among trees that are planted in the first rows, was copied after rows
+pub record IsNext (front : List Row) (ends : List ℕ) (tree : ℕ) (parent last kind : Kind) (old new : List Row) : Type 0 where
+  pub there : HasTree (trees_after front 0 ends) tree
+  pub of_root : kind ≡ (tree_at (trees_after front 0 ends) tree).root.kind
+  pub may_come : MayCome parent last (tree_at (trees_after front 0 ends) tree)
+  pub copied : new ≡ old ++ map lowered (rows (tree_at (trees_after front 0 ends) tree))
+
+-- the items' trees have met below the root
+pub record HaveMet (root : Label) (ts : List Tree) : Type 0 where
+  pub content : IsTrue (is_content root (map root_of ts))
+  pub plain : attribute_names (map root_of ts) ≡ []
+  pub low : AllByRecursion IsLow ts
+
+-- a root and below it the trees whose roots the items are have become one tree more
+pub record IsGrafted (first : ℕ) (root : Label) (items : List ItemView) (old new : List Tree) : Type 0 where
+  pub picks : AllByRecursion (IsPicked first old) items
+  pub is_tree : IsTree (rooted root (all_picked first old items))
+  pub grown : new ≡ old ++ rooted root (all_picked first old items) ∷ []
+
+-- the items' trees were copied after rows, one level further down, and may stand below the root
+pub record AreMet (first : ℕ) (root : Label) (items : List ItemView) (trees : List Tree) (old new : List Row) : Type 0 where
+  pub picks : AllByRecursion (IsPicked first trees) items
+  pub met : HaveMet root (all_picked first trees items)
+  pub copied : new ≡ old ++ lowered_rows (all_picked first trees items)

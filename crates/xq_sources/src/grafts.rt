@@ -1,0 +1,103 @@
+//! Trees that are copied below a root, within the list where all of them lie.
+ghost use Rattle.std.specs.Prelude.{List, ◌≡◌, ◌++◌, ◌∷◌, [], map, true, false, IfOk, IfSome, IsTrue};
+ghost use Rattle.std.specs.List.{AllByRecursion};
+ghost use Rattle.xq_packed.specs.Packed.{row};
+ghost use Rattle.xq_regions.specs.Beside.{lowered_rows};
+ghost use Rattle.xq_regions.specs.Items.{item_view};
+ghost use Rattle.xq_regions.specs.Rows.{Row};
+ghost use Rattle.xq_regions.specs.Tree.{Label, Tree, has_text as has_text_lem, is_attribute as is_attribute_lem, may_follow as may_follow_lem, may_stand as may_stand_lem};
+ghost use Rattle.xq_sources.specs.Sources.{tree_at, HasTree};
+ghost use Rattle.xq_sources.specs.private.Meeting.{picked, AreMet, IsNext, IsPicked};
+ghost use Rattle.xq_sources.specs.private.Planted.{trees_after, ArePlanted};
+
+use crate::planted::start_of;
+use xq_atoms::Want;
+use xq_packed::PackedRows;
+use xq_regions::{Item, Kind, has_text, may_follow, may_stand};
+
+/// Whether a node of the kind with the value, which is no attribute, may come below a parent after
+/// a node of the last kind.
+fn may_come(parent: Kind, last: Kind, kind: Kind, value: &str) -> bool
+    ensures plain { IsTrue result → is_attribute_lem kind ≡ false }
+    ensures stands { IsTrue result → IsTrue (may_stand_lem parent kind) }
+    ensures some { IsTrue result → IsTrue (has_text_lem kind value.now) }
+    ensures follows { IsTrue result → IsTrue (may_follow_lem last kind) }
+{
+    !matches!(kind, Kind::Attribute)
+        && may_stand(parent, kind)
+        && has_text(kind, value)
+        && may_follow(last, kind)
+}
+
+/// Copies the rows of a tree after the last row, one level further down, where it may come below a
+/// parent after a tree whose root has the last kind, and tells the kind of its root. None where it
+/// may not; then, and where it is refused, the rows are as before.
+fn append_tree(
+    rows: &mut PackedRows,
+    ends: &[usize],
+    tree: usize,
+    parent: Kind,
+    last: Kind,
+) -> Result<Option<Kind>, Want>
+    ensures next { (front more : List Row) → rows.old.rows ≡ front ++ more
+        → ArePlanted front 0 ends.now → IfOk result (λ found. IfSome found (λ kind.
+        IsNext front ends.now tree parent last kind rows.old.rows rows.new.rows)) }
+    ensures after { (more : List Row) × (rows.new.rows ≡ rows.old.rows ++ more) }
+{
+    let Some(end) = ends.get(tree) else {
+        return Ok(None);
+    };
+    let start = start_of(ends, tree);
+    let Some(root) = rows.get(start) else {
+        return Ok(None);
+    };
+    let kind = root.kind();
+    if !may_come(parent, last, kind, root.value()) {
+        return Ok(None);
+    }
+    match rows.append_own(start, *end, 0, 1) {
+        Ok(()) => Ok(Some(kind)),
+        Err(Want::Store) => Ok(None),
+        Err(want) => Err(want),
+    }
+}
+
+/// The number of the tree whose root the item is, counted from the first; none where it is none.
+fn root_tree(first: usize, item: &Item) -> Option<usize>
+    ensures { (trees : List Tree) → IfSome result (λ tree. HasTree trees tree
+        → IsPicked first trees (item_view item.now)
+        × (picked first trees (item_view item.now) ≡ tree_at trees tree)) }
+{
+    match item {
+        Item::Node(node) if node.pre == 0 => node.tree.checked_sub(first),
+        _ => None,
+    }
+}
+
+/// Copies the rows of the trees whose roots the items are after the last row, a root's, where they
+/// may stand below it. False where they may not, or where this is not told here, as of attributes.
+fn append_trees(
+    rows: &mut PackedRows,
+    ends: &[usize],
+    first: usize,
+    root: Kind,
+    items: &[Item],
+) -> Result<bool, Want>
+    ensures met { (front more : List Row) (label : Label) → label.kind ≡ root
+        → rows.old.rows ≡ front ++ more → ArePlanted front 0 ends.now → IfOk result (λ did.
+        did ≡ true → AreMet first label (map item_view items.now)
+        (trees_after front 0 ends.now) rows.old.rows rows.new.rows) }
+    ensures after { (more : List Row) × (rows.new.rows ≡ rows.old.rows ++ more) }
+{
+    let mut last = Kind::Element;
+    for item in items {
+        let Some(tree) = root_tree(first, item) else {
+            return Ok(false);
+        };
+        let Some(kind) = append_tree(rows, ends, tree, root, last)? else {
+            return Ok(false);
+        };
+        last = kind;
+    }
+    Ok(true)
+}
