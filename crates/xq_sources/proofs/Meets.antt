@@ -12,7 +12,7 @@ use Rattle.xq_regions.specs.Items.{ItemView}
 use Rattle.xq_regions.specs.declared.Kind.{Kind}
 use Rattle.xq_regions.specs.declared.Kind.TheVariants.{Element}
 use Rattle.xq_regions.proofs.Beside.{lowered_by, lowered_rows-push, low-push, content-push, may_end, may_end-push, names-other}
-use Rattle.xq_packed.specs.Changes.{moved, AreMovable}
+use Rattle.xq_packed.specs.Changes.{moved, resized, with_size, AreMovable}
 use Rattle.xq_sources.specs.Sources.{tree_at}
 use Rattle.xq_sources.specs.private.Meeting.{picked, all_picked, IsPicked, HaveMet, AreMet, IsNext, MayCome}
 use Rattle.xq_sources.specs.private.Planted.{start_of, trees_after, ArePlanted}
@@ -118,7 +118,14 @@ one_met first root items item front ends old rs new last kind tree so_far picks 
         copied = copied ∙ ap (λ (us : List Tree). old ++ lowered_rows us) (sym all);
       };
       ends = λ k follows. subst (λ (us : List Tree). IsTrue (may_end (map root_of us) k)) (sym all)
-      (subst (λ (ls : List Label). IsTrue (may_end ls k)) (sym roots)
-      (subst IsTrue (sym (may_end-push (map root_of ts) t.root k))
-      (subst (λ (j : Kind). IsTrue (may_follow j k)) next.of_root follows)));
+          (subst (λ (ls : List Label). IsTrue (may_end ls k)) (sym roots)
+          (subst IsTrue (sym (may_end-push (map root_of ts) t.root k))
+          (subst (λ (j : Kind). IsTrue (may_follow j k)) next.of_root follows)));
     }
+
+-- # The root
+
+-- a row that gets another size after others
+pub with_size-after : (front more : List Row) (r : Row) (size : ℕ) → with_size (length front) size (front ++ r ∷ more) ≡ front ++ resized size r ∷ more
+with_size-after [] more r size = refl
+with_size-after (f ∷ front) more r size = ap (λ (qs : List Row). f ∷ qs) (with_size-after front more r size)

@@ -6,14 +6,16 @@ ghost use Rattle.xq_regions.specs.Beside.{lowered_rows};
 ghost use Rattle.xq_regions.specs.Items.{item_view};
 ghost use Rattle.xq_regions.specs.Rows.{Row};
 ghost use Rattle.xq_regions.specs.Tree.{Label, Tree, has_text as has_text_lem, is_attribute as is_attribute_lem, may_follow as may_follow_lem, may_stand as may_stand_lem};
+ghost use Rattle.xq_regions.specs.Forest.{end};
+ghost use Rattle.xq_sources.specs.Grafts.{rooted};
 ghost use Rattle.xq_sources.specs.Sources.{tree_at, HasTree};
-ghost use Rattle.xq_sources.specs.private.Meeting.{picked, AreMet, IsNext, IsPicked};
+ghost use Rattle.xq_sources.specs.private.Meeting.{picked, AreMet, AreRooted, IsNext, IsPicked};
 ghost use Rattle.xq_sources.specs.private.Planted.{trees_after, ArePlanted};
 
 use crate::planted::start_of;
 use xq_atoms::Want;
 use xq_packed::PackedRows;
-use xq_regions::{Item, Kind, has_text, may_follow, may_stand};
+use xq_regions::{Item, Kind, MAX_NODES, has_text, may_follow, may_stand};
 
 /// Whether a node of the kind with the value, which is no attribute, may come below a parent after
 /// a node of the last kind.
@@ -99,5 +101,34 @@ fn append_trees(
         };
         last = kind;
     }
+    Ok(true)
+}
+
+/// Adds a root without a value after the rows, and below it copies of the trees whose roots the
+/// items are. False where they may not stand there, or where this is not told here.
+pub fn append_rooted(
+    rows: &mut PackedRows,
+    ends: &[usize],
+    first: usize,
+    kind: Kind,
+    name: &str,
+    items: &[Item],
+) -> Result<bool, Want>
+    ensures rooted { ArePlanted rows.old.rows 0 ends.now → IfOk result (λ did. did ≡ true
+        → AreRooted first (rooted kind name.now end).root (map item_view items.now)
+        (trees_after rows.old.rows 0 ends.now) rows.old.rows rows.new.rows) }
+    ensures after { (more : List Row) × (rows.new.rows ≡ rows.old.rows ++ more) }
+{
+    let root = rows.len();
+    rows.push_parts(0, 0, kind, name, "")?;
+    let under = rows.len();
+    if !append_trees(rows, ends, first, kind, items)? {
+        return Ok(false);
+    }
+    let size = rows.len() - under;
+    if size >= MAX_NODES {
+        return Ok(false);
+    }
+    rows.set_size(root, size as u32);
     Ok(true)
 }

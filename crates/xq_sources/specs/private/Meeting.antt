@@ -1,10 +1,11 @@
 -- Trees that are copied below a root, one after another.
 use Rattle.std.specs.Prelude.{ℕ, ◌≡◌, ◌-◌, ◌<◌, ◌≤◌, ◌++◌, ◌∷◌, [], List, length, map, IsTrue, false}
 use Rattle.std.specs.List.{AllByRecursion}
-use Rattle.xq_regions.specs.Beside.{root_of, lowered, lowered_rows, rooted, IsLow}
+use Rattle.xq_regions.specs.Beside.{beside, root_of, root_row, lowered, lowered_rows, rooted, IsLow}
+use Rattle.xq_regions.specs.Forest.{count}
 use Rattle.xq_regions.specs.Items.{ItemView, Place, Value}
 use Rattle.xq_regions.specs.Rows.{Row, rows}
-use Rattle.xq_regions.specs.Tree.{Label, Tree, IsTree, is_attribute, is_content, has_text, may_follow, may_stand, attribute_names}
+use Rattle.xq_regions.specs.Tree.{Label, Tree, IsTree, is_attribute, is_content, has_text, may_follow, may_stand, attribute_names, most_nodes}
 use Rattle.xq_regions.specs.declared.Kind.{Kind}
 use Rattle.xq_sources.specs.private.Planted.{trees_after}
 use Rattle.xq_sources.specs.Sources.{no_tree, tree_at, HasTree}
@@ -59,3 +60,10 @@ pub record AreMet (first : ℕ) (root : Label) (items : List ItemView) (trees : 
   pub picks : AllByRecursion (IsPicked first trees) items
   pub met : HaveMet root (all_picked first trees items)
   pub copied : new ≡ old ++ lowered_rows (all_picked first trees items)
+
+-- a root, and below it the items' trees, were added after rows
+pub record AreRooted (first : ℕ) (root : Label) (items : List ItemView) (trees : List Tree) (old new : List Row) : Type 0 where
+  pub picks : AllByRecursion (IsPicked first trees) items
+  pub met : HaveMet root (all_picked first trees items)
+  pub room : count (beside (all_picked first trees items)) < most_nodes
+  pub grown : new ≡ old ++ root_row root (all_picked first trees items) ∷ lowered_rows (all_picked first trees items)
