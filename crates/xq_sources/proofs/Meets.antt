@@ -1,22 +1,25 @@
 -- Trees that are copied below a root, one after another.
-use Rattle.std.proofs.Common.{◌≡◌, ◌<◌, ◌+◌, ◌-◌, ℕ, List, [], ◌∷◌, ◌++◌, Some, Bool, false, length, get_or, map, take, drop, refl, sym, ap, ◌∙◌, subst, arith, append_assoc}
+use Rattle.std.proofs.Common.{◌≡◌, ◌<◌, ◌+◌, ◌-◌, ℕ, List, [], ◌∷◌, ◌++◌, Some, false, length, get_or, map, drop, refl, sym, ap, ◌∙◌, subst, arith, append_assoc}
 use Rattle.std.specs.Prelude.{All, IsTrue, slice_get, slice_range}
-use Rattle.std.specs.List.{AllByRecursion}
-use Rattle.std.proofs.lemmas.List.{append-nil, map-append, get_or-take, get_or-drop, length-append, length-take, take-append-le}
+use Rattle.std.specs.List.{AllByRecursion, IsDistinct}
+use Rattle.std.specs.Str.{bytes_eq}
+use Rattle.std.proofs.lemmas.List.{append-nil, map-append, get_or-append_right, get_or-take, get_or-drop, length-append, length-take, take-append-le}
 use Rattle.std.proofs.lemmas.List.Elements.{All-weaker}
 use Rattle.std.proofs.lemmas.Option.{get_or_from_slice_get}
-use Rattle.xq_regions.specs.Beside.{root_of, lowered, lowered_rows, IsLow}
+use Rattle.xq_regions.specs.Beside.{beside, root_of, root_row, rooted, lowered, lowered_rows, MayMeet}
+use Rattle.xq_regions.specs.Forest.{Forest, count, join}
 use Rattle.xq_regions.specs.Rows.{Row, no_row, row_at, rows}
-use Rattle.xq_regions.specs.Tree.{Label, Tree, IsTree, has_text, is_attribute, is_content, attribute_names, may_follow, may_stand, most_levels}
-use Rattle.xq_regions.specs.Items.{ItemView}
+use Rattle.xq_regions.specs.Tree.{Label, Tree, IsText, IsTree, nodes, has_text, is_attribute, is_content, is_legal, attribute_names, may_follow, may_stand, most_levels, most_nodes}
+use Rattle.xq_regions.specs.Items.{ItemView, Place, Value}
 use Rattle.xq_regions.specs.declared.Kind.{Kind}
 use Rattle.xq_regions.specs.declared.Kind.TheVariants.{Element}
-use Rattle.xq_regions.proofs.Beside.{lowered_by, lowered_rows-push, low-push, content-push, may_end, may_end-push, names-other}
+use Rattle.xq_regions.proofs.Beside.{lowered_by, lowered_rows-push, length-lowered_rows, are-rows-rooted, meet-none, low-push, content-push, may_end, may_end-push, names-other}
 use Rattle.xq_packed.specs.Changes.{moved, resized, with_size, AreMovable}
-use Rattle.xq_sources.specs.Sources.{tree_at}
-use Rattle.xq_sources.specs.private.Meeting.{picked, all_picked, IsPicked, HaveMet, AreMet, IsNext, MayCome}
+use Rattle.xq_sources.specs.Grafts.{lone, side_by_side, IsRoot, Grafts}
+use Rattle.xq_sources.specs.Sources.{no_tree, tree_at}
+use Rattle.xq_sources.specs.private.Meeting.{picked, all_picked, IsPicked, IsGrafted, HaveMet, AreMet, AreRooted, IsNext}
 use Rattle.xq_sources.specs.private.Planted.{start_of, trees_after, ArePlanted}
-use Rattle.xq_sources.proofs.Planting.{IsAt, at, same_part}
+use Rattle.xq_sources.proofs.Planting.{IsMore, is_more, at, same_part}
 
 -- # One tree
 
@@ -129,3 +132,71 @@ one_met first root items item front ends old rs new last kind tree so_far picks 
 pub with_size-after : (front more : List Row) (r : Row) (size : ℕ) → with_size (length front) size (front ++ r ∷ more) ≡ front ++ resized size r ∷ more
 with_size-after [] more r size = refl
 with_size-after (f ∷ front) more r size = ap (λ (qs : List Row). f ∷ qs) (with_size-after front more r size)
+
+-- rows after a root's row, which then gets as many below it as there are
+pub are_rooted : (first at size : ℕ) (root : Label) (items : List ItemView) (trees : List Tree) (old rs new : List Row) → at ≡ length old → size ≡ length rs - length (old ++ root_row root [] ∷ []) → size < most_nodes → AreMet first root items trees (old ++ root_row root [] ∷ []) rs → new ≡ with_size at size rs → AreRooted first root items trees old new
+are_rooted first at size root items trees old rs new here many less met set =
+    let ts = all_picked first trees items in
+    let all : rs ≡ old ++ root_row root [] ∷ lowered_rows ts = met.copied ∙ append_assoc old (root_row root [] ∷ []) (lowered_rows ts) in
+    let each : size ≡ count (beside ts) = omega (arith, many, ap length met.copied, length-append (old ++ root_row root [] ∷ []) (lowered_rows ts), length-lowered_rows ts) in
+    record {
+      picks = met.picks;
+      met = met.met;
+      room = omega (arith, each, less);
+      grown = set ∙ ap (λ n. with_size n size rs) here ∙ ap (with_size (length old) size) all
+          ∙ with_size-after old (lowered_rows ts) (root_row root []) size
+          ∙ ap (λ n. old ++ record { size = n; level = 0; label = root } ∷ lowered_rows ts) each;
+    }
+
+-- trees that have met below a root, where it is legal, may stand there
+may_meet : (root : Label) (ts : List Tree) → IsText root → IsTrue (is_legal root.kind root.name root.value) → HaveMet root ts → count (beside ts) < most_nodes → MayMeet root ts
+may_meet root ts text legal met room =
+    record {
+      text = text;
+      legal = legal;
+      content = met.content;
+      names = subst (IsDistinct bytes_eq) (sym met.plain) (let alone = meet-none root text legal in alone.names);
+      trees = met.low;
+      room = room;
+    }
+
+-- a tree more, whose rows were added after those of the others
+pub is_grafted : (first : ℕ) (root : Label) (items : List ItemView) (rs rs' : List Row) (ends ends' : List ℕ) (trees : List Tree) → trees_after rs 0 ends ≡ trees → ArePlanted rs 0 ends → IsText root → IsTrue (is_legal root.kind root.name root.value) → AreRooted first root items (trees_after rs 0 ends) rs rs' → ends' ≡ ends ++ length rs' ∷ [] → IsMore rs' ends' trees (rooted root (all_picked first trees items)) × IsGrafted first root items trees (trees_after rs' 0 ends')
+is_grafted first root items rs rs' ends ends' trees view planted text legal are end =
+    let seen = trees_after rs 0 ends in
+    let ts = all_picked first seen items in
+    let of_tree = are-rows-rooted root ts (root_row root ts ∷ lowered_rows ts) (may_meet root ts text legal are.met are.room) refl in
+    let more = is_more rs rs' (root_row root ts ∷ lowered_rows ts) ends ends' seen (rooted root ts) refl planted of_tree are.grown end in
+    subst (λ (us : List Tree). IsMore rs' ends' us (rooted root (all_picked first us items)) × IsGrafted first root items us (trees_after rs' 0 ends')) view
+    (more, record { picks = are.picks; is_tree = of_tree.is_tree; grown = more.seen })
+
+-- # Among the trees of a source
+
+-- the trees that are picked are those that the items' places tell
+side_by_side-picked : (front old : List Tree) (first : ℕ) (items : List ItemView) → first ≡ length front → AllByRecursion (IsPicked first old) items → side_by_side (front ++ old) items ≡ beside (all_picked first old items)
+side_by_side-picked front old first [] is h = refl
+side_by_side-picked front old first (Value a ∷ items) is h = absurd h.0
+side_by_side-picked front old first (Place n ∷ items) is h =
+    let here : tree_at (front ++ old) n.tree ≡ tree_at old (n.tree - first) = get_or-append_right front old first n.tree no_tree (sym is) h.0.1.0 in
+    ap (λ (t : Tree). join (nodes t) (side_by_side (front ++ old) items)) here
+    ∙ ap (join (nodes (tree_at old (n.tree - first)))) (side_by_side-picked front old first items is h.1)
+
+all-roots : (front old : List Tree) (first : ℕ) (items : List ItemView) → first ≡ length front → AllByRecursion (IsPicked first old) items → AllByRecursion (IsRoot (front ++ old)) items
+all-roots front old first [] is h = tt
+all-roots front old first (Value a ∷ items) is h = absurd h.0
+all-roots front old first (Place n ∷ items) is h =
+    let there = h.0.1.1 in
+    let above = h.0.1.0 in
+    ((omega (arith, is, there, above, length-append front old), h.0.0), all-roots front old first items is h.1)
+
+pub grafts : (front old new : List Tree) (first : ℕ) (kind : Kind) (name : List ℕ) (items : List ItemView) → first ≡ length front → IsGrafted first (lone kind name []).root items old new → Grafts kind name items (front ++ old) (front ++ new)
+grafts front old new first kind name items is grafted =
+    let root = (lone kind name []).root in
+    let same = side_by_side-picked front old first items is grafted.picks in
+    record {
+      roots = all-roots front old first items is grafted.picks;
+      is_tree = subst (λ (below : Forest Label). IsTree (record { root = root; below = below })) (sym same) grafted.is_tree;
+      grown = ap (λ (ts : List Tree). front ++ ts) grafted.grown
+          ∙ sym (append_assoc front old (rooted root (all_picked first old items) ∷ []))
+          ∙ ap (λ (below : Forest Label). (front ++ old) ++ record { root = root; below = below } ∷ []) (sym same);
+    }

@@ -1,5 +1,5 @@
 -- Trees that are copied below a root, one after another.
-use Rattle.std.specs.Prelude.{ℕ, ◌≡◌, ◌-◌, ◌<◌, ◌≤◌, ◌++◌, ◌∷◌, [], List, length, map, IsTrue, false}
+use Rattle.std.specs.Prelude.{ℕ, ◌≡◌, ◌-◌, ◌<◌, ◌≤◌, ◌++◌, ◌∷◌, [], List, map, IsTrue, false}
 use Rattle.std.specs.List.{AllByRecursion}
 use Rattle.xq_regions.specs.Beside.{beside, root_of, root_row, lowered, lowered_rows, rooted, IsLow}
 use Rattle.xq_regions.specs.Forest.{count}
