@@ -1,6 +1,8 @@
 -- Trees that are copied below a root, one after another.
-use Rattle.std.specs.Prelude.{ℕ, ◌≡◌, ◌-◌, ◌<◌, ◌≤◌, ◌++◌, ◌∷◌, [], List, map, IsTrue, false}
-use Rattle.std.specs.List.{AllByRecursion}
+use Rattle.std.specs.Prelude.{ℕ, ◌≡◌, ◌-◌, ◌<◌, ◌≤◌, ◌++◌, ◌∷◌, [], List, drop, map, IsTrue, true}
+use Rattle.std.specs.List.{AllByRecursion, IsDistinct}
+use Rattle.std.specs.Str.{bytes_eq}
+use Rattle.xq_packed.specs.Packed.{NoneNamed}
 use Rattle.xq_regions.specs.Beside.{beside, root_of, root_row, lowered, lowered_rows, rooted, IsLow}
 use Rattle.xq_regions.specs.Forest.{count}
 use Rattle.xq_regions.specs.Items.{ItemView, Place, Value}
@@ -28,25 +30,26 @@ all_picked first trees items = map (picked first trees) items
 
 -- # Where they meet
 
--- the tree may come next below a parent, after one whose root has the last kind
-pub record MayCome (parent last : Kind) (t : Tree) : Type 0 where
-  pub stands : IsTrue (may_stand parent t.root.kind)
-  pub some : IsTrue (has_text t.root.kind t.root.value)
-  pub follows : IsTrue (may_follow last t.root.kind)
-  pub plain : is_attribute t.root.kind ≡ false
-  pub low : IsLow t
+-- a node may come next below a parent, after one of the last kind, where all before it have these
+-- rows: an attribute with another name than each of them
+pub record MayCome (parent last : Kind) (others : List Row) (a : Label) : Type 0 where
+  pub stands : IsTrue (may_stand parent a.kind)
+  pub some : IsTrue (has_text a.kind a.value)
+  pub follows : IsTrue (may_follow last a.kind)
+  pub apart : is_attribute a.kind ≡ true → NoneNamed others a.name
 
 -- the tree with a number, among trees that are planted in the first rows, was copied after rows
-pub record IsNext (front : List Row) (ends : List ℕ) (tree : ℕ) (parent last kind : Kind) (old new : List Row) : Type 0 where
+pub record IsNext (front : List Row) (ends : List ℕ) (tree under : ℕ) (parent last kind : Kind) (old new : List Row) : Type 0 where
   pub there : HasTree (trees_after front 0 ends) tree
   pub of_root : kind ≡ (tree_at (trees_after front 0 ends) tree).root.kind
-  pub may_come : MayCome parent last (tree_at (trees_after front 0 ends) tree)
+  pub may_come : MayCome parent last (drop under old) (tree_at (trees_after front 0 ends) tree).root
+  pub low : IsLow (tree_at (trees_after front 0 ends) tree)
   pub copied : new ≡ old ++ map lowered (rows (tree_at (trees_after front 0 ends) tree))
 
 -- the items' trees have met below the root
 pub record HaveMet (root : Label) (ts : List Tree) : Type 0 where
   pub content : IsTrue (is_content root (map root_of ts))
-  pub plain : attribute_names (map root_of ts) ≡ []
+  pub names : IsDistinct bytes_eq (attribute_names (map root_of ts))
   pub low : AllByRecursion IsLow ts
 
 -- a root and below it the trees whose roots the items are have become one tree more

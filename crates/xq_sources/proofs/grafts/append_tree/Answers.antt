@@ -9,4 +9,4 @@ returns-in-Ok-clause-next c front more same planted =
     let found = c.in-Some.ensures.lookup in
     let may : IsTrue c.may_come.result = search rules in
     let end = found.1 ∙ get_or_default_zero c.args.ends.now c.args.tree c.in-Some.end.now found.3.0 in
-    is_next front more c.args.ends.now c.args.tree c.args.parent c.args.last c.kind-kind.result c.value.result.now c.in-Some-get.root.row c.args.rows.now.rows c.append_own.new.self.rows c.start_of-start.result c.in-Some.end.now same planted found.3.0 c.start_of-start.ensures end (sym c.in-Some-get.ensures.row) c.kind-kind.ensures c.value.ensures (c.may_come.ensures.plain may) (c.may_come.ensures.stands may) (c.may_come.ensures.some may) (c.may_come.ensures.follows may) c.in-Ok.ensures.fit c.in-Ok.ensures.rows
+    is_next front more c.args.ends.now c.args.tree c.args.under c.args.parent c.args.last c.kind-kind.result c.in-Some-get.root.row c.args.rows.now.rows c.append_own.new.self.rows c.start_of-start.result c.in-Some.end.now same planted found.3.0 c.start_of-start.ensures end (sym c.in-Some-get.ensures.row) c.kind-kind.ensures (c.may_come.ensures may) c.in-Ok.ensures.fit c.in-Ok.ensures.rows
