@@ -4,6 +4,7 @@ pub mod Few
 pub mod Forms
 pub mod Intervals
 pub mod KeptParents
+pub mod Meets
 pub mod Planting
 pub mod ReadRows
 pub mod Rising

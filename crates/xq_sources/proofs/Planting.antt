@@ -39,7 +39,7 @@ tree_is rs start (end ∷ ends) (suc n) less = tree_is rs end ends n (omega arit
 
 -- # The same trees in other rows
 
-same_part : (xs ys : List Row) (start end : ℕ) → start ≤ end → end ≤ length xs → end ≤ length ys → take end xs ≡ take end ys → slice_range xs start end ≡ slice_range ys start end
+pub same_part : (xs ys : List Row) (start end : ℕ) → start ≤ end → end ≤ length xs → end ≤ length ys → take end xs ≡ take end ys → slice_range xs start end ≡ slice_range ys start end
 same_part xs ys start end rises in_xs in_ys same =
     sym (part_left xs start end start end (omega (arith, in_xs)) (omega (arith, rises)))
     ∙ ap (drop start) same

@@ -1,7 +1,10 @@
 //! Trees in memory.
-ghost use Rattle.std.specs.Prelude.{◌≡◌, ◌+◌, ◌++◌, ◌∷◌, [], slice_get, slice_range, true, false, IfNone, IfOk, IfSome, OnErr, OnOk};
-ghost use Rattle.xq_sources.specs.Grafts.{lone, around_text};
+ghost use Rattle.std.specs.Prelude.{◌≡◌, ◌+◌, ◌++◌, ◌∷◌, [], map, slice_get, slice_range, true, false, IfNone, IfOk, IfSome, OnErr, OnOk};
+ghost use Rattle.xq_regions.specs.Forest.{end};
+ghost use Rattle.xq_regions.specs.Items.{item_view};
+ghost use Rattle.xq_sources.specs.Grafts.{lone, around_text, rooted};
 ghost use Rattle.xq_sources.specs.Meters.{no_readings};
+ghost use Rattle.xq_sources.specs.private.Meeting.{IsGrafted};
 ghost use Rattle.xq_sources.specs.private.Runs.{rows_of_run};
 
 use crate::attributes::count_attributes;
@@ -12,7 +15,7 @@ use crate::{Guide, LentRows, Meter, RowLender, RowSource, TreeSource};
 use std::alloc::Global;
 use xq_atoms::Want;
 use xq_packed_trees::PackedTree;
-use xq_regions::{Fragment, Kind, NodeRow};
+use xq_regions::{Fragment, Item, Kind, NodeRow};
 
 /// The rows of a tree from `low` to `high`.
 #[derive(Clone, Copy)]
@@ -125,6 +128,33 @@ impl Fragments {
     {
         self.run = NO_ROWS;
         self.trees.push_around(name, value)
+    }
+
+    /// Adds a root without a value after the trees, and below it copies of the trees whose roots
+    /// the items are, where these are numbered from a first number on, and says whether it did.
+    /// Where it is refused, they are as before. No row is lent then.
+    pub(crate) fn graft(
+        &mut self,
+        first: usize,
+        kind: Kind,
+        name: &str,
+        items: &[Item],
+    ) -> Result<bool, Want>
+        ensures grown { IfOk result (λ did. did ≡ true → IsGrafted first
+            (rooted kind name.now end).root (map item_view items.now)
+            (⟦<Fragments as TreeSource>⟧.forest self.old)
+            (⟦<Fragments as TreeSource>⟧.forest self.new)) }
+        ensures left { IfOk result (λ did. did ≡ false
+            → ⟦<Fragments as TreeSource>⟧.forest self.new
+            ≡ ⟦<Fragments as TreeSource>⟧.forest self.old) }
+        ensures kept { OnErr result (⟦<Fragments as TreeSource>⟧.forest self.new
+            ≡ ⟦<Fragments as TreeSource>⟧.forest self.old) }
+        ensures meter { ⟦<Fragments as TreeSource>⟧.meter self.new
+            ≡ ⟦<Fragments as TreeSource>⟧.meter self.old }
+        ensures lent { ⟦<Fragments as RowLender>⟧.lent self.new ≡ [] }
+    {
+        self.run = NO_ROWS;
+        self.trees.graft(first, kind, name, items)
     }
 
     /// Takes the last tree away; none where there is none. No row is lent then.

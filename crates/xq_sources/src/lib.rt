@@ -5,6 +5,7 @@
 mod addresses;
 mod attributes;
 mod fragments;
+mod grafts;
 mod growing;
 mod guides;
 mod lenders;

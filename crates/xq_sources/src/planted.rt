@@ -1,18 +1,22 @@
 //! Trees whose rows lie one after another in one list.
-ghost use Rattle.std.specs.Prelude.{◌≡◌, ◌≤◌, ◌++◌, ◌∷◌, [], Some, None, true, false, length, slice_get, IfNone, IfOk, IfSome, IsTrue, OnErr, OnOk};
+ghost use Rattle.std.specs.Prelude.{◌≡◌, ◌≤◌, ◌++◌, ◌∷◌, [], map, Some, None, true, false, length, slice_get, IfNone, IfOk, IfSome, IsTrue, OnErr, OnOk};
 ghost use Rattle.xq_regions.specs.Rows.{placed_rows};
 ghost use Rattle.xq_regions.specs.Tree.{IsTree, has_text as has_text_lem, is_legal as is_legal_lem};
-ghost use Rattle.xq_sources.specs.Grafts.{lone, around_text};
+ghost use Rattle.xq_sources.specs.Grafts.{lone, around_text, rooted};
+ghost use Rattle.xq_regions.specs.Forest.{end};
+ghost use Rattle.xq_regions.specs.Items.{item_view};
+ghost use Rattle.xq_sources.specs.private.Meeting.{IsGrafted};
 ghost use Rattle.xq_sources.specs.Sources.{tree_at, HasTree};
 ghost use Rattle.xq_sources.specs.private.Planted.{start_of as start_of_lem};
 
 use crate::LentRows;
+use crate::grafts::append_rooted;
 use std::alloc::Global;
 use std::marker::Model;
 use xq_atoms::Want;
 use xq_packed::PackedRows;
 use xq_packed_trees::PackedTree;
-use xq_regions::{Kind, has_text, is_legal};
+use xq_regions::{Item, Kind, has_text, is_legal};
 
 /// Trees beside one another, the rows of one after those of another. Contracts see the trees.
 #[derive(Drop)]
@@ -40,7 +44,7 @@ impl Model for PlantedTrees {
 
 /// Where the rows of a tree begin, by the places where those of each tree end.
 #[inline]
-fn start_of(ends: &[usize], tree: usize) -> usize
+pub fn start_of(ends: &[usize], tree: usize) -> usize
     requires { tree ≤ length ends.now }
     ensures { result ≡ start_of_lem 0 ends.now tree }
 {
@@ -140,6 +144,34 @@ impl PlantedTrees {
             self.rows.truncate(root);
             return Err(want);
         }
+        self.ends.push_reserved(self.rows.len());
+        Ok(true)
+    }
+
+    /// Adds a root without a value after the trees, and below it copies of the trees whose roots
+    /// the items are, where these are numbered from a first number on, and says whether it did.
+    pub fn graft(
+        &mut self,
+        first: usize,
+        kind: Kind,
+        name: &str,
+        items: &[Item],
+    ) -> Result<bool, Want>
+        ensures grown { IfOk result (λ did. did ≡ true → IsGrafted first
+            (rooted kind name.now end).root (map item_view items.now) self.old self.new) }
+        ensures left { IfOk result (λ did. did ≡ false → self.new ≡ self.old) }
+        ensures kept { OnErr result (self.new ≡ self.old) }
+    {
+        if !is_legal(kind, name, "") {
+            return Ok(false);
+        }
+        self.ends.reserve(1)?;
+        let root = self.rows.len();
+        let done = append_rooted(&mut self.rows, &self.ends, first, kind, name, items);
+        let Ok(true) = done else {
+            self.rows.truncate(root);
+            return done;
+        };
         self.ends.push_reserved(self.rows.len());
         Ok(true)
     }

@@ -95,8 +95,11 @@ impl<S: RowLender + Drop> Growing for Trees<S> {
         self.constructed.push_around(name, value)
     }
 
-    fn graft(&mut self, _: Kind, _: &str, _: &[Item]) -> Result<bool, Want> {
-        Ok(false)
+    fn graft(&mut self, kind: Kind, name: &str, items: &[Item]) -> Result<bool, Want> {
+        if self.trees() == usize::MAX {
+            return Err(Want::Memory);
+        }
+        self.constructed.graft(self.stored, kind, name, items)
     }
 
     fn uproot(&mut self) -> Option<PackedTree> {
