@@ -1,5 +1,5 @@
 -- Arithmetic on numbers at hand.
-use Rattle.std.proofs.Common.{◌≡◌, ℕ, zero, suc, ◌+◌, ◌<◌, List, [], ◌∷◌, length, map, drop, get_or, Option, Some, None, Result, Ok, Err, refl, sym, ◌∙◌, ap, subst, arith}
+use Rattle.std.proofs.Common.{◌≡◌, ℕ, ◌+◌, ◌<◌, List, [], ◌∷◌, length, map, drop, get_or, Option, Some, None, Result, Ok, Err, sym, ◌∙◌, ap, subst}
 use Rattle.std.specs.Prelude.{ℤ, IfSome, IsErrAnd}
 use Rattle.xq_atoms.specs.declared.atoms.Atom.{Atom}
 use Rattle.xq_atoms.specs.declared.refusals.Code.{Code}
@@ -16,7 +16,7 @@ use Rattle.xq_meaning.specs.declared.operators.Operator.{Operator}
 use Rattle.xq_meaning.specs.declared.plans.Plan.{Plan}
 use Rattle.xq_meaning.specs.declared.plans.Plan.TheVariants as plan
 use Rattle.xq_meaning.specs.Arguments.{as_items, atomic}
-use Rattle.xq_meaning.specs.Doing.{Doing, Outcome, go_on, give, in_turn, on_trees}
+use Rattle.xq_meaning.specs.Doing.{Doing, Outcome, go_on, in_turn, on_trees}
 use Rattle.xq_meaning.specs.Forms as Forms
 use Rattle.xq_meaning.specs.Items.{Item}
 use Rattle.xq_meaning.specs.Operators.{calculated, operated}

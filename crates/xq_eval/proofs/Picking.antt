@@ -1,5 +1,5 @@
 -- The one of several literals that a position keeps.
-use Rattle.std.proofs.Common.{◌≡◌, ℕ, zero, suc, ◌+◌, ◌-◌, ◌<◌, ◌++◌, List, [], ◌∷◌, length, map, get_or, false, Ok, refl, sym, ◌∙◌, ap, subst, arith, append_assoc, inl, inr}
+use Rattle.std.proofs.Common.{◌≡◌, ℕ, zero, suc, ◌+◌, ◌-◌, ◌<◌, ◌++◌, List, [], ◌∷◌, length, map, get_or, false, Ok, refl, sym, ◌∙◌, ap, arith, append_assoc, inl, inr}
 use Rattle.std.specs.Prelude.{ℤ, pos, negsuc, int_lt, nat_abs, ◌⊎◌}
 use Rattle.std.specs.List.{AllByRecursion}
 use Rattle.std.proofs.lemmas.List.{append-nil}
@@ -14,7 +14,6 @@ use Rattle.xq_meaning.specs.Forms as Forms
 use Rattle.xq_meaning.specs.Functions.{Focus}
 use Rattle.xq_meaning.specs.Items.{Item, Atom}
 use Rattle.xq_meaning.specs.PlanMeaning.{Frame, Meaning, plan_mean}
-use Rattle.xq_meaning.specs.Steps.{focuses_from}
 use Rattle.xq_meaning.proofs.PlanEquations.{plan-Int, plan-Dec, plan-Str, plan-Sequence}
 use Rattle.xq_eval.specs.private.AtHand.{Gives, IsConstant}
 use Rattle.xq_eval.proofs.Choosing.{only_kept}

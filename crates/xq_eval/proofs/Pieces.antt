@@ -1,12 +1,12 @@
 -- Calls of concat with arguments that are one atomic value each.
-use Rattle.std.proofs.Common.{◌≡◌, ℕ, zero, suc, ◌+◌, ◌<◌, ◌≤◌, List, [], ◌∷◌, ◌++◌, length, map, drop, get_or, Bool, true, Option, Result, Ok, Err, refl, sym, ◌∙◌, ap, subst, arith, append_assoc}
+use Rattle.std.proofs.Common.{◌≡◌, ℕ, ◌+◌, ◌<◌, ◌≤◌, List, [], ◌∷◌, ◌++◌, length, map, drop, get_or, Bool, true, Option, Result, Ok, Err, refl, sym, ◌∙◌, ap, subst, arith, append_assoc}
 use Rattle.std.specs.Prelude.{IsErrAnd}
 use Rattle.std.proofs.lemmas.List.{append-nil, map_push, length-append}
 use Rattle.xq_atoms.specs.declared.atoms.Atom.{Atom}
 use Rattle.xq_atoms.specs.declared.refusals.Code.{Code}
 use Rattle.xq_atoms.specs.declared.refusals.Fault.{Fault}
 use Rattle.xq_atoms.specs.declared.refusals.Fault.TheVariants.{Code as OfCode, Want as OfWant}
-use Rattle.xq_atoms.specs.Atom.{Atomic, String, atomic_of}
+use Rattle.xq_atoms.specs.Atom.{Atomic, String}
 use Rattle.xq_atoms.specs.Cast.{text_of}
 use Rattle.xq_atoms.specs.Judged.{◌>>=◌}
 use Rattle.xq_atoms.specs.Text.{Text}
@@ -16,7 +16,7 @@ use Rattle.xq_regions.specs.Tree.{Tree}
 use Rattle.xq_meaning.specs.declared.plans.Plan.{Plan}
 use Rattle.xq_meaning.specs.declared.plans.Plan.TheVariants as plan
 use Rattle.xq_meaning.specs.Arguments.{atomic, each, text}
-use Rattle.xq_meaning.specs.Doing.{Outcome, go_on, give, in_turn, one_more, for_each, on_trees}
+use Rattle.xq_meaning.specs.Doing.{Outcome, go_on, give, in_turn, one_more, on_trees}
 use Rattle.xq_meaning.specs.Forms as Forms
 use Rattle.xq_meaning.specs.Functions.{called, concat, piece}
 use Rattle.xq_meaning.specs.Items.{Item, atomized}

@@ -349,7 +349,8 @@ pub fn named_node<W: Growing>(
     Ok(single(alloc, Item::Node(node))?)
 }
 
-/// A constructor of a node without a name (XQuery 3.1, section 3.9.3).
+/// A constructor of a node without a name (XQuery 3.1, section 3.9.3). Where its content is one
+/// atom at hand, no list is made of it.
 #[cycle(eval)]
 #[inline(never)]
 pub fn unnamed_node<W: Growing>(
@@ -366,6 +367,9 @@ pub fn unnamed_node<W: Growing>(
         (frame_at (W.forest world.old) frame.entry) (W.forest world.old)) (W.forest world.new)
         result }
 {
+    if let Some(atom) = atom_at_hand(alloc, frame.slots, part)? {
+        return unnamed(alloc, world, kind, from_ref(&Item::Atom(atom)));
+    }
     let content = evaluate(alloc, world, frame, part)?;
     unnamed(alloc, world, kind, &content)
 }

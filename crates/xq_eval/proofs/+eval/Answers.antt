@@ -3553,6 +3553,35 @@ expressions::axis_step-returns-in_err-kept-clause-goes g t c = goes_on_to c.in_o
 pub expressions::axis_step-returns-clause-goes : goal.expressions::axis_step-returns-clause-goes
 expressions::axis_step-returns-clause-goes g t c = goes_on_to c.in_ok-nodes.ensures.goes c.in_ok-kept.ensures.goes
 
+pub expressions::unnamed_node-returns-in-Some-clause-gives : goal.expressions::unnamed_node-returns-in-Some-clause-gives
+expressions::unnamed_node-returns-in-Some-clause-gives g t c = λ clean inside.
+    let f = g.W.TreeSource.forest c.args.world.now in
+    let f' = g.W.TreeSource.forest c.unnamed.new.world in
+    let frame = frame_at f c.args.frame in
+    let part = plan_mean c.args.part.now in
+    let a = atomic_of c.in-Some.atom in
+    let last = λ (xs : List Item). plant_unnamed c.args.kind xs in
+    let told : part frame f ≡ (Ok (atomic a), f) = subst (λ o. Tells atomic (part frame f) f (Ok o)) c.in-Some.is (c.in_ok-atom.ensures f frame refl) in
+    let d : map item_view c.from_ref.result.now ≡ Value a ∷ [] = search rules in
+    let meant = ap (λ o. go_on o last) told ∙ ap (λ xs. last (items_at f xs) f) (sym d) in
+    subst (λ o. GivesSequence o f' c.unnamed.result) (sym meant) (c.unnamed.ensures.gives clean (subst (AreIn f) (sym d) (tt, tt)))
+
+pub expressions::unnamed_node-returns-in_err-atom-clause-gives : goal.expressions::unnamed_node-returns-in_err-atom-clause-gives
+expressions::unnamed_node-returns-in_err-atom-clause-gives g t c = λ clean inside.
+    let f = g.W.TreeSource.forest c.args.world.now in
+    let frame = frame_at f c.args.frame in
+    let outcome = plan_mean c.args.part.now frame f in
+    let last = λ (xs : List Item). plant_unnamed c.args.kind xs in
+    let e = c.in_err-atom.field-0.0 in
+    cut item_views items_at AreIn item_views items_at AreIn _ outcome last f e c.from_residual.result refl c.from_residual.ensures.1
+    (told_stop atomic item_views items_at AreIn outcome f f e (c.in_err-atom.ensures f frame refl))
+
+pub expressions::unnamed_node-returns-in-Some-clause-goes : goal.expressions::unnamed_node-returns-in-Some-clause-goes
+expressions::unnamed_node-returns-in-Some-clause-goes g t c = c.unnamed.ensures.goes
+
+pub expressions::unnamed_node-returns-in_err-atom-clause-goes : goal.expressions::unnamed_node-returns-in_err-atom-clause-goes
+expressions::unnamed_node-returns-in_err-atom-clause-goes g t c = stays _ _
+
 pub expressions::unnamed_node-returns-in_err-content-clause-gives : goal.expressions::unnamed_node-returns-in_err-content-clause-gives
 expressions::unnamed_node-returns-in_err-content-clause-gives g t c = λ clean inside.
     let f = g.W.TreeSource.forest c.args.world.now in
@@ -3560,7 +3589,7 @@ expressions::unnamed_node-returns-in_err-content-clause-gives g t c = λ clean i
     let frame = frame_at f held in
     let f' = g.W.TreeSource.forest c.evaluate.new.world in
     let next = λ (xs : List Item). plant_unnamed c.args.kind xs in
-    cut item_views items_at AreIn item_views items_at AreIn _ (plan_mean c.args.part.now frame f) next f' c.in_err-content.field-0.0 c.from_residual.result refl c.from_residual.ensures.1 (c.in_err-content.ensures.gives clean inside)
+    cut item_views items_at AreIn item_views items_at AreIn _ (plan_mean c.args.part.now frame f) next f' c.in_err-content.field-0.0 c.from_residual-in_err-content.result refl c.from_residual-in_err-content.ensures.1 (c.in_err-content.ensures.gives clean inside)
 
 pub expressions::unnamed_node-returns-clause-gives : goal.expressions::unnamed_node-returns-clause-gives
 expressions::unnamed_node-returns-clause-gives g t c = λ clean inside.
@@ -3568,20 +3597,20 @@ expressions::unnamed_node-returns-clause-gives g t c = λ clean inside.
     let held = c.args.frame in
     let frame = frame_at f held in
     let f' = g.W.TreeSource.forest c.evaluate.new.world in
-    let f'' = g.W.TreeSource.forest c.unnamed.new.world in
+    let f'' = g.W.TreeSource.forest c.unnamed-2.new.world in
     let kind = c.args.kind in
     let content = item_views c.in_ok-content.content in
-    let value = c.in_ok-content.ensures.gives (c.unnamed.ensures.goes.was_clean clean) inside in
+    let value = c.in_ok-content.ensures.gives (c.unnamed-2.ensures.goes.was_clean clean) inside in
     let d : map item_view c.deref.result.now ≡ content = ap (map item_view) c.deref.ensures.value in
     let meant : Forms.unnamed_node kind (plan_mean c.args.part.now) frame f ≡ plant_unnamed kind (items_at f' (map item_view c.deref.result.now)) f' =
     ap (λ o. go_on o (λ xs. plant_unnamed kind xs)) value.1 ∙ ap (λ xs. plant_unnamed kind (items_at f' xs) f') (sym d) in
-    subst (λ o. GivesSequence o f'' c.unnamed.result) (sym meant) (c.unnamed.ensures.gives clean (subst (AreIn f') (sym d) value.0))
+    subst (λ o. GivesSequence o f'' c.unnamed-2.result) (sym meant) (c.unnamed-2.ensures.gives clean (subst (AreIn f') (sym d) value.0))
 
 pub expressions::unnamed_node-returns-in_err-content-clause-goes : goal.expressions::unnamed_node-returns-in_err-content-clause-goes
 expressions::unnamed_node-returns-in_err-content-clause-goes g t c = c.in_err-content.ensures.goes
 
 pub expressions::unnamed_node-returns-clause-goes : goal.expressions::unnamed_node-returns-clause-goes
-expressions::unnamed_node-returns-clause-goes g t c = goes_on_to c.in_ok-content.ensures.goes c.unnamed.ensures.goes
+expressions::unnamed_node-returns-clause-goes g t c = goes_on_to c.in_ok-content.ensures.goes c.unnamed-2.ensures.goes
 
 pub expressions::named_node-returns-clause-gives : goal.expressions::named_node-returns-clause-gives
 expressions::named_node-returns-clause-gives g t c = λ clean inside.

@@ -1,4 +1,4 @@
-use Rattle.std.proofs.Common.{◌++◌, List, ℕ, ap, ◌∙◌, subst, Ok, Some}
+use Rattle.std.proofs.Common.{◌++◌, List, ℕ, ap, ◌∙◌, subst, Ok}
 use Rattle.std.specs.Prelude.{string_bytes}
 use Rattle.xq_atoms.specs.Atom.{String, atomic_of}
 use Rattle.xq_meaning.specs.PlanMeaning.{plan_mean}

@@ -1,12 +1,9 @@
-use Rattle.std.proofs.Common.{rules, ◌≡◌, ◌+◌, ◌*◌, ◌<◌, List, map, sym, ap, ◌∙◌, subst, arith, to_z, of_z, w64, Ok, Err}
+use Rattle.std.proofs.Common.{rules, ◌≡◌, List, map, sym, ap, ◌∙◌, subst, arith, to_z, of_z, w64, Ok, Err}
 use Rattle.std.proofs.lemmas.List.{drop_all}
 use Rattle.xq_atoms.specs.Atom.{Integer, atomic_of}
 use Rattle.xq_meaning.specs.declared.operators.Operator.{Operator}
-use Rattle.xq_meaning.specs.declared.plans.Plan.{Plan, size-Plan}
+use Rattle.xq_meaning.specs.declared.plans.Plan.{Plan}
 use Rattle.xq_meaning.specs.declared.plans.Plan.TheVariants as plan
-use Rattle.xq_meaning.specs.declared.plans.Plan.TheViews.{sized-Chain}
-use denote.Param.Weighed.{most}
-use Prim.Native.Nat.{max}
 use Rattle.xq_meaning.specs.Arguments.{atomic}
 use Rattle.xq_meaning.specs.Doing.{in_turn, on_trees}
 use Rattle.xq_meaning.specs.Forms as Forms
