@@ -11,10 +11,10 @@ the elements take.
 With --engines, over 100,000 elements in memory: milliseconds of the server, of Saxon-HE and of
 BaseX, as far as they are installed (bench/engines.py), and of an older program of the server where
 --base names it: the median of 15 runs and the least. They take three turns of five runs, after five
-of each query to warm up; each turn is of new servers. The same follows by the processor's time of
-each, which changes least where the machine has much else to do. All results are compared with one
-another, and the bounds of what is wanted beside the others are shown by both. The status is 1 where
-a result differs, or a bound is missed of the processor's time.
+of each query to warm up; each turn is of new servers. The last query makes the document. The same
+follows by the processor's time of each, which changes least where the machine has much else to do.
+All results are compared with one another, and the bounds of what is wanted beside the others are
+shown by both. The status is 1 where a result differs, or a bound is missed of the processor's time.
 """
 
 from __future__ import annotations
@@ -92,6 +92,7 @@ QUERIES = [
     ("copy and count", 'count(document {doc("lib")/node()}//node())'),
     ("print all", 'doc("lib")'),
 ]
+MAKING = "making the document"
 LARGE = 100_000
 AHEAD = ("[n]", "attribute filter", "order by", "group by", "join of two `for`", "copy and count")
 """The queries that are to take at most what the lesser of the other engines takes."""
@@ -107,6 +108,11 @@ def document(elements: int) -> str:
     """The query that makes a document of so many elements."""
     shelves = (elements - 1) // ELEMENTS_OF_A_SHELF
     return DOCUMENT % (shelves, elements - 1 - shelves * ELEMENTS_OF_A_SHELF)
+
+
+def compared() -> list[tuple[str, str]]:
+    """What is asked of all engines: the queries, and one that makes the document and counts."""
+    return [*QUERIES, (MAKING, f"count(({document(LARGE)})/node())")]
 
 
 def times(command: Command, elements: int, rounds: int
@@ -178,6 +184,14 @@ def beside_engines(times: Mapping[str, Mapping[str, Times]], names: Sequence[str
                         lesser(of[name] for name in there), 1.0)
 
 
+def making(times: Mapping[str, Mapping[str, Times]]) -> Iterator[Bound]:
+    """The bound of making the document, beside BaseX."""
+    of = times[MAKING]
+    if there := [name for name in (NODES.name, DATABASE.name) if name in of]:
+        yield ratio(f"{MAKING}, beside {', '.join(there)}", of[OURS],
+                    lesser(of[name] for name in there), 1.0)
+
+
 def beside_base(times: Mapping[str, Mapping[str, Times]]) -> Iterator[Bound]:
     """The bounds beside the older program, if it is there."""
     for query, of in times.items():
@@ -188,7 +202,7 @@ def beside_base(times: Mapping[str, Mapping[str, Times]]) -> Iterator[Bound]:
 
 def judged(times: Mapping[str, Mapping[str, Times]], names: Sequence[str]) -> list[Bound]:
     """All bounds of times."""
-    return [*beside_engines(times, names), *beside_base(times)]
+    return [*beside_engines(times, names), *making(times), *beside_base(times)]
 
 
 def allocations(command: Command) -> Iterator[Bound]:
@@ -206,8 +220,8 @@ def measured(servers: Mapping[str, Command], others: Sequence[Engine]) -> Measur
         engines: list[Engine] = [*programs, *others]
         for program in programs:
             program.put(document(LARGE))
-        warm_up(engines, [query for _, query in QUERIES])
-        for name, query in QUERIES:
+        warm_up(engines, [query for _, query in compared()])
+        for name, query in compared():
             found.add(name, query, engines)
         for program in programs:
             program.end()
