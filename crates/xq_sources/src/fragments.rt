@@ -90,7 +90,7 @@ impl Fragments {
         ensures lent { ⟦<Fragments as RowLender>⟧.lent self.new ≡ [] }
     {
         self.run = NO_ROWS;
-        self.trees.push(&tree)
+        self.trees.push(tree)
     }
 
     /// Adds the tree of one node after the others, where there is such a tree, and says whether it

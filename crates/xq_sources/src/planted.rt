@@ -1,6 +1,6 @@
 //! Trees whose rows lie one after another in one list.
 ghost use Rattle.std.specs.Prelude.{◌≡◌, ◌≤◌, ◌++◌, ◌∷◌, [], map, Some, None, true, false, length, slice_get, IfNone, IfOk, IfSome, IsTrue, OnErr, OnOk};
-ghost use Rattle.xq_regions.specs.Rows.{placed_rows};
+ghost use Rattle.xq_regions.specs.Rows.{placed_rows, rows};
 ghost use Rattle.xq_regions.specs.Tree.{IsTree, has_text as has_text_lem, is_legal as is_legal_lem};
 ghost use Rattle.xq_sources.specs.Grafts.{lone, around_text, rooted};
 ghost use Rattle.xq_regions.specs.Forest.{end};
@@ -62,6 +62,21 @@ fn may_go_around(name: &str, value: &str) -> bool
         && is_legal(Kind::Element, name, "")
 }
 
+/// Adds the rows of a tree after others; where there are none, they are taken as they are.
+fn append_whole(list: &mut PackedRows, tree: PackedTree) -> Result<(), Want>
+    ensures is_tree { IsTree tree }
+    ensures added { OnOk result (list.new.rows ≡ list.old.rows ++ rows tree) }
+    ensures err { OnErr result (list.new.rows ≡ list.old.rows) }
+{
+    if list.is_empty() {
+        *list = tree.into_rows();
+        return Ok(());
+    }
+    let more = tree.rows();
+    list.append_run(more, 0, more.len(), 0, 0)?;
+    Ok(())
+}
+
 impl PlantedTrees {
     /// No tree.
     pub fn new(alloc: Global) -> PlantedTrees
@@ -99,13 +114,12 @@ impl PlantedTrees {
     }
 
     /// Adds a tree after the others; where it is refused, they are as before.
-    pub fn push(&mut self, tree: &PackedTree) -> Result<(), Want>
-        ensures ok { OnOk result (self.new ≡ self.old ++ tree.now ∷ []) }
+    pub fn push(&mut self, tree: PackedTree) -> Result<(), Want>
+        ensures ok { OnOk result (self.new ≡ self.old ++ tree ∷ []) }
         ensures err { OnErr result (self.new ≡ self.old) }
     {
         self.ends.reserve(1)?;
-        let rows = tree.rows();
-        self.rows.append_run(rows, 0, rows.len(), 0, 0)?;
+        append_whole(&mut self.rows, tree)?;
         self.ends.push_reserved(self.rows.len());
         Ok(())
     }
