@@ -13,7 +13,7 @@ use xq_samples::documents::{great_library, held, library, register};
 use xq_samples::scans::{
     Counts, GREAT_SCANS, REGISTER_NODES, REGISTER_SCANS, SCANS, Scan, read_by,
 };
-use xq_sources::Fragments;
+use xq_sources::{Fragments, RowLender};
 
 /// Puts the one document of the store in its own place, so that no row of it stays.
 fn put_again<S: Alter>(store: &mut Store<S>) -> Result<(), Want> {
@@ -79,7 +79,7 @@ fn wrong_scan<S: Alter + Drop>(
     Ok(None)
 }
 
-/// The same of steps over a document.
+/// The same of steps over a document. Fragments tell parents from the first look at a row on.
 fn wrong_scan_of<S: Alter + Drop>(
     alloc: Global,
     store: Store<S>,
@@ -89,6 +89,7 @@ fn wrong_scan_of<S: Alter + Drop>(
     let mut store = store;
     let _put = put(&mut store, "b", &document)?;
     let mut fragments = held(alloc, document)?;
+    fragments.fetch_row(alloc, 0, 0)?;
     wrong_scan(alloc, store, &mut fragments, scans)
 }
 
