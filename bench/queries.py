@@ -27,7 +27,7 @@ import statistics
 import sys
 import tempfile
 from collections.abc import Iterator, Mapping, Sequence
-from dataclasses import dataclass, field
+from dataclasses import dataclass, field, replace
 
 TOP = pathlib.Path(__file__).resolve().parent.parent
 sys.path[:0] = [str(TOP / "tools"), str(TOP / "bench")]
@@ -94,8 +94,12 @@ QUERIES = [
 ]
 MAKING = "making the document"
 LARGE = 100_000
-AHEAD = ("[n]", "attribute filter", "order by", "group by", "join of two `for`", "copy and count")
-"""The queries that are to take at most what the lesser of the other engines takes."""
+HALVED = 12
+"""All queries are to take at most what the lesser of Saxon and BaseX takes, and so many of them at
+most half of that."""
+INDEXED, MOST_INDEXED = ("descendant by name", "chain of children", "attribute point"), 1.5
+"""Those of which BaseX's database tells from its indexes, and how many times as long as it they are
+to take at most."""
 HALF = ("chain of children", "[last()]", "attribute point")
 """Those that are to take at most half of what the older program takes."""
 SLOWER = 1.1
@@ -174,14 +178,30 @@ class Measured:
         print(*self.faults or ["All results are the same."], sep="\n")
 
 
-def beside_engines(times: Mapping[str, Mapping[str, Times]], names: Sequence[str]
-                   ) -> Iterator[Bound]:
-    """The bounds beside those of these engines that are there."""
-    for query in AHEAD:
+def beside_engines(times: Mapping[str, Mapping[str, Times]]) -> list[Bound]:
+    """The bounds beside those of Saxon and BaseX that are there, one of each query."""
+    bounds = []
+    for query, _ in QUERIES:
         of = times[query]
-        if there := [name for name in names if name in of]:
-            yield ratio(f"{query}, beside {', '.join(there)}", of[OURS],
-                        lesser(of[name] for name in there), 1.0)
+        if there := [name for name in (SAXON.name, NODES.name) if name in of]:
+            bounds.append(ratio(f"{query}, beside {', '.join(there)}", of[OURS],
+                                lesser(of[name] for name in there), 1.0))
+    return bounds
+
+
+def halved(bounds: Sequence[Bound]) -> Iterator[Bound]:
+    """The bound of the query up to which as many take half as are to, by these of all queries."""
+    for last in sorted(bounds, key=lambda bound: bound.ratio)[HALVED - 1:HALVED]:
+        yield replace(last, what=f"number {HALVED} of {len(bounds)}, {last.what}", most=0.5)
+
+
+def beside_database(times: Mapping[str, Mapping[str, Times]]) -> Iterator[Bound]:
+    """The bounds beside BaseX's database, if it is there."""
+    for query in INDEXED:
+        of = times[query]
+        if DATABASE.name in of:
+            yield ratio(f"{query}, beside {DATABASE.name}", of[OURS], of[DATABASE.name],
+                        MOST_INDEXED)
 
 
 def making(times: Mapping[str, Mapping[str, Times]]) -> Iterator[Bound]:
@@ -200,9 +220,10 @@ def beside_base(times: Mapping[str, Mapping[str, Times]]) -> Iterator[Bound]:
             yield ratio(f"{query}, beside the {BASE}", of[OURS], of[BASE], most)
 
 
-def judged(times: Mapping[str, Mapping[str, Times]], names: Sequence[str]) -> list[Bound]:
+def judged(times: Mapping[str, Mapping[str, Times]]) -> list[Bound]:
     """All bounds of times."""
-    return [*beside_engines(times, names), *making(times), *beside_base(times)]
+    ahead = beside_engines(times)
+    return [*ahead, *halved(ahead), *beside_database(times), *making(times), *beside_base(times)]
 
 
 def allocations(command: Command) -> Iterator[Bound]:
@@ -237,13 +258,10 @@ def compare(servers: Mapping[str, Command], are_engines_wanted: bool) -> bool:
         found = measured(servers, others)
     found.show([*servers, *(engine.name for engine in others)])
     print(f"the load of the machine is {os.getloadavg()[0]:.1f}")
-    worked, names = found.times("processor"), (SAXON.name, NODES.name)
     print("By the clock:")
-    said(judged(found.times("whole"), names))
-    print("By the processor's time, with BaseX's database:")
-    said(beside_engines(worked, (*names, DATABASE.name)))
+    said(judged(found.times("whole")))
     print("By the processor's time:")
-    are_kept = said([*judged(worked, names), *allocations(servers[OURS])])
+    are_kept = said([*judged(found.times("processor")), *allocations(servers[OURS])])
     return are_kept and not found.faults
 
 

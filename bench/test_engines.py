@@ -99,20 +99,45 @@ class Judged(unittest.TestCase):
     TIMES = {query: {"xqs": Times(10.0, 9.0), "Saxon": Times(20.0, 18.0), "BaseX": Times(8.0, 8.0)}
              for query, _ in queries.QUERIES}
 
+    def ours(self, times: dict[str, float]) -> list[queries.Bound]:
+        """The bounds of all queries, of which those named take so long, and others 3.2."""
+        return queries.beside_engines(
+            {query: {**of, "xqs": Times(times.get(query, 3.2), 3.2)}
+             for query, of in self.TIMES.items()})
+
     def test_queries_of_the_bounds_are_queries(self) -> None:
         names = {name for name, _ in queries.QUERIES}
-        self.assertLessEqual({*queries.AHEAD, *queries.HALF}, names)
+        self.assertLessEqual({*queries.INDEXED, *queries.HALF}, names)
         self.assertEqual(len(names), 16)
 
     def test_the_lesser_engine_is_the_bound(self) -> None:
-        found = list(queries.beside_engines(self.TIMES, ("Saxon", "BaseX")))
-        self.assertEqual([it.what.partition(",")[0] for it in found], list(queries.AHEAD))
-        self.assertEqual({it.ratio for it in found}, {1.25})
+        found = queries.beside_engines(self.TIMES)
+        self.assertEqual([it.what.partition(",")[0] for it in found],
+                         [name for name, _ in queries.QUERIES])
+        self.assertEqual({(it.ratio, it.most) for it in found}, {(1.25, 1.0)})
 
     def test_an_engine_that_is_absent_judges_nothing(self) -> None:
-        self.assertEqual({it.ratio for it in queries.beside_engines(self.TIMES, ("Saxon", "X"))},
-                         {0.5})
-        self.assertEqual(list(queries.beside_engines(self.TIMES, ("X",))), [])
+        one = {query: {name: it for name, it in of.items() if name != "BaseX"}
+               for query, of in self.TIMES.items()}
+        self.assertEqual({it.ratio for it in queries.beside_engines(one)}, {0.5})
+        none = {query: {"xqs": of["xqs"]} for query, of in self.TIMES.items()}
+        self.assertEqual(list(queries.halved(queries.beside_engines(none))), [])
+        self.assertEqual(list(queries.beside_database(none)), [])
+
+    def test_twelve_are_to_take_half(self) -> None:
+        slow = dict.fromkeys([name for name, _ in queries.QUERIES[:4]], 7.0)
+        [bound] = queries.halved(self.ours(slow))
+        self.assertTrue(bound.is_kept)
+        [bound] = queries.halved(self.ours({**slow, "print all": 6.0}))
+        self.assertEqual(bound.what, "number 12 of 16, print all, beside Saxon, BaseX")
+        self.assertFalse(bound.is_kept)
+
+    def test_some_are_judged_beside_the_database(self) -> None:
+        times = {query: {**of, "BaseX database": Times(5.0, 5.0)}
+                 for query, of in self.TIMES.items()}
+        found = {it.what: it.is_kept for it in queries.beside_database(times)}
+        self.assertEqual(found, {f"{query}, beside BaseX database": False
+                                 for query in queries.INDEXED})
 
     def test_beside_the_base_some_are_to_take_half(self) -> None:
         self.assertEqual(list(queries.beside_base(self.TIMES)), [])
