@@ -22,7 +22,8 @@ AXES = ("//", "//", "/", "/descendant::", "/descendant-or-self::", "/ancestor::"
         "/preceding::", "/child::")
 PREDICATES = ("", "", "[1]", "[2]", "[last()]", "[position() <= 2]", "[position() > 3]",
               "[position() = last()]", "[position() != 2]", "[position() >= 2]", '[@id = "1"]',
-              "[{0}]", '[{0} = "x"]', "[.//{0}]", "[count(.//{0}) > 1]")
+              "[last()][{0}]", "[last()][2]", "[{0}]", '[{0} = "x"]', "[.//{0}]",
+              "[count(.//{0}) > 1]")
 QUERIES = (
     "{path}", "{path}", "{path}", "count({path})", "({path})[{number}]//{name}",
     "for $x in {path} return count($x//{name})",
@@ -55,6 +56,9 @@ QUERIES = (
     "for $x in 1 to {number} return {path}[$x - 1]",
     "for $x in (0, {number}, 1.5) return concat('a', -7 + $x, {number} mod 2, 3 * $x)",
     "let $z := 0, $x := ({number}, 2) return ({number} idiv $z, 1 + $x)",
+    "for $x in ({number}, 2.5, -7), $y in (3, 0.5) return ($x - $y) * ($x + 2) - $x mod $y idiv 2",
+    "for $x in (9223372036854775807, 4611686018427387904, 0 - {number}) return $x * 2 - $x",
+    "for $x in ({number}, 0 - 9223372036854775807) return ($x - 1) idiv -1 - ($x - 1) mod -1",
     'for $n in (1, 2.0, 0.5, {number}) return doc("d")//{name}/{other}[$n]',
     "element {name} {{{number} + 1}}, element {other} {{concat('', {number})}}, element e {{''}}",
     'doc("d")//{other}/{name}[2]/string()',
