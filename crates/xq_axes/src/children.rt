@@ -11,6 +11,7 @@ ghost use Rattle.xq_axes.specs.private.Named.{is_below_one};
 use crate::downward::{ToChildren, search_below};
 use crate::names::{is_large_part, places_between, wanted_name};
 use crate::near::children_of;
+use crate::parents::parent_of;
 use crate::picks::Places;
 use std::alloc::Global;
 use xq_atoms::Want;
@@ -109,10 +110,11 @@ fn told_below<L: RowLender>(
         → IfOk result (λ told. IfSome told (λ found. found.items ≡ filter
         (is_below_one (tree_at (L.forest source.now) tree) contexts.now) places.now)) }
 {
+    let kept = source.parents(tree);
     let mut found = Vec::with_capacity(alloc, places.len())?;
     let mut near = 0;
     for place in places {
-        let Some(parent) = source.parent(tree, *place) else {
+        let Some(parent) = parent_of(source, kept, tree, *place) else {
             return Ok(None);
         };
         if let Some(index) = find_near(contexts, near, parent) {

@@ -3,6 +3,8 @@ ghost use Rattle.std.specs.Prelude.{◌≡◌, ◌+◌, ◌-◌, ◌≤◌, ◌=
 ghost use Rattle.xq_regions.specs.Forest.{count};
 ghost use Rattle.xq_regions.specs.Tree.{nodes};
 ghost use Rattle.xq_regions.specs.declared.Axis.TheVariants as axes;
+ghost use Rattle.xq_regions.specs.Rows.{rows};
+ghost use Rattle.xq_sources.specs.Parents.{AreParents, IsParentRow};
 ghost use Rattle.xq_sources.specs.Sources.{tree_at};
 ghost use Rattle.xq_axes.specs.Scans.{region};
 ghost use Rattle.xq_axes.specs.private.Hits.{is_among, is_wanted, below_where, IsRising};
@@ -14,7 +16,7 @@ use crate::selves::search_selves;
 use std::alloc::Global;
 use xq_atoms::Want;
 use xq_meaning::Test;
-use xq_sources::RowLender;
+use xq_sources::{RowLender, told_parent};
 
 /// Whether all of the places, which rise, come before the place.
 fn ends_before(places: &[u32], place: u32) -> bool
@@ -60,6 +62,20 @@ pub fn in_order(alloc: Global, places: &[u32]) -> Result<Vec<u32>, Want>
     Ok(ordered)
 }
 
+/// The place of the parent of the node: by the places that the source keeps of the parents in the
+/// tree, or else as it tells it.
+#[inline]
+pub fn parent_of<L: RowLender>(source: &L, kept: &[u32], tree: usize, node: u32) -> Option<u32>
+    ensures { L.is_clean source.now
+        → let rs = rows (tree_at (L.forest source.now) tree) in
+        AreParents rs kept.now → IfSome result (λ place. IsParentRow rs place node) }
+{
+    match told_parent(kept, node) {
+        Some(parent) => Some(parent),
+        None => source.parent(tree, node),
+    }
+}
+
 /// The place of the parent of the node at each of the places, where the source can tell all of them
 /// at once. It only asks: so that the source can look up the next while the last is on its way.
 pub fn told_parents<L: RowLender>(
@@ -73,9 +89,10 @@ pub fn told_parents<L: RowLender>(
     ensures all { IfOk result (λ found. IfSome found (λ parents.
         length parents.items ≡ length places.now)) }
 {
+    let kept = source.parents(tree);
     let mut parents = Vec::with_capacity(alloc, places.len())?;
     for place in places {
-        let Some(parent) = source.parent(tree, *place) else {
+        let Some(parent) = parent_of(source, kept, tree, *place) else {
             return Ok(None);
         };
         parents.push(parent)?;

@@ -10,7 +10,7 @@ ghost use Rattle.xq_rows.specs.private.Keeps.{LeavesAlone};
 ghost use Rattle.xq_rows.specs.private.Shelves.{AreFronts, AreListed, HasReached, IsFront, IsFrontOf, Reaches, front_at, kept_rows, run_of};
 ghost use Rattle.xq_found.specs.Values.{valued};
 ghost use Rattle.xq_sources.specs.Names.{named};
-ghost use Rattle.xq_sources.specs.Parents.{IsParentRow};
+ghost use Rattle.xq_sources.specs.Parents.{AreParents, IsParentRow};
 ghost use Rattle.xq_sources.specs.Sources.{tree_at};
 
 use crate::shelves::{Front, Shelf, address_at, all_of, are_whole};
@@ -19,7 +19,7 @@ use sqlite::Alter;
 use std::alloc::Global;
 use xq_atoms::Want;
 use xq_packed::PackedRows;
-use xq_sources::LentRows;
+use xq_sources::{LentRows, no_parents};
 
 /// How many rows are read at a time.
 const PART: u32 = 1_024;
@@ -185,6 +185,18 @@ pub(crate) fn parent_of(shelf: &Shelf, tree: usize, node: u32) -> Option<u32>
     match front.guide.kept(node) {
         Some(place) => Some(place),
         None => parent_by_rows(front, node),
+    }
+}
+
+/// The places of the parents of the first nodes of a tree, as far as they are kept.
+#[inline]
+pub(crate) fn parents_in(shelf: &Shelf, tree: usize) -> &[u32]
+    ensures { (trees : List Tree) → AreFronts trees shelf.now.fronts.items
+        → AreParents (rows (tree_at trees tree)) result.now }
+{
+    match shelf.fronts.get(tree) {
+        Some(front) => front.guide.places(),
+        None => no_parents(),
     }
 }
 

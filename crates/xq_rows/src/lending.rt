@@ -1,7 +1,8 @@
 //! What a view lends: rows that are kept in memory, read on where they are wanted.
 
 use crate::fronts::{
-    NO_ROWS, Run, find_in_front, find_values_in, kept_run, named_in, parent_of, read_on, valued_in,
+    NO_ROWS, Run, find_in_front, find_values_in, kept_run, named_in, parent_of, parents_in,
+    read_on, valued_in,
 };
 use crate::shelves::front_of;
 use crate::views::{Origin, View};
@@ -39,6 +40,10 @@ impl<S: Alter, O: Origin> RowLender for View<S, O> {
 
     fn parent(&self, tree: usize, node: u32) -> Option<u32> {
         parent_of(&self.shelf, tree, node)
+    }
+
+    fn parents(&self, tree: usize) -> &[u32] {
+        parents_in(&self.shelf, tree)
     }
 
     fn attributes(&self, tree: usize, node: u32) -> Option<u32> {

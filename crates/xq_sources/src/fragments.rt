@@ -8,7 +8,7 @@ ghost use Rattle.xq_sources.specs.private.Meeting.{IsGrafted};
 ghost use Rattle.xq_sources.specs.private.Runs.{rows_of_run};
 
 use crate::attributes::count_attributes;
-use crate::guides::guide_to;
+use crate::guides::{guide_to, no_parents};
 use crate::planted::PlantedTrees;
 use crate::rows::{copy_enclosing, copy_rows};
 use crate::{Guide, LentRows, Meter, RowLender, RowSource, TreeSource};
@@ -259,6 +259,10 @@ impl RowLender for Fragments {
             Some(guide) => guide.parent(&rows, node),
             None => Guide::new(*self.guides.allocator()).parent(&rows, node),
         }
+    }
+
+    fn parents(&self, _: usize) -> &[u32] {
+        no_parents()
     }
 
     fn attributes(&self, tree: usize, node: u32) -> Option<u32> {

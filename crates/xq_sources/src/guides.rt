@@ -44,6 +44,28 @@ impl Model for Guide {
     ghost view = { λ guide. guide.parents.items };
 }
 
+/// The place of the parent of the node, by those that are kept of the first nodes of a tree, one
+/// after another; none where it isn't among them or isn't told.
+#[inline]
+pub fn told_parent(parents: &[u32], node: u32) -> Option<u32>
+    ensures { (rs : List Row) → AreParents rs parents.now
+        → IfSome result (λ place. IsParentRow rs place node) }
+{
+    let parent = parents.get(node as usize)?;
+    if *parent == UNTOLD {
+        return None;
+    }
+    Some(*parent)
+}
+
+/// No place is kept.
+#[inline]
+pub fn no_parents<'a>() -> &'a [u32]
+    ensures { (rs : List Row) → AreParents rs result.now }
+{
+    &[]
+}
+
 impl Guide {
     /// Nothing kept yet.
     pub fn new(alloc: Global) -> Guide
@@ -97,11 +119,16 @@ impl Guide {
         ensures { (rs : List Row) → AreParents rs self.now
             → IfSome result (λ place. IsParentRow rs place node) }
     {
-        let parent = self.parents.get(node as usize)?;
-        if *parent == UNTOLD {
-            return None;
-        }
-        Some(*parent)
+        told_parent(&self.parents, node)
+    }
+
+    /// What is kept: of each node, one after another, the place of its parent, or of none where it
+    /// isn't told.
+    #[inline]
+    pub fn places(&self) -> &[u32]
+        ensures { result.now ≡ self.now }
+    {
+        &self.parents
     }
 
     /// The place of the parent of the node, by the rows so far; none where it isn't among them or

@@ -5,10 +5,11 @@ ghost use Rattle.xq_regions.specs.Rows.{Row, placed, placed_rows, row_at, rows};
 ghost use Rattle.xq_sources.specs.AttributeRows.{AreAttributeRows};
 ghost use Rattle.xq_found.specs.Values.{valued as valued_lem};
 ghost use Rattle.xq_sources.specs.Names.{named as named_lem};
-ghost use Rattle.xq_sources.specs.Parents.{IsParentRow};
+ghost use Rattle.xq_sources.specs.Parents.{AreParents, IsParentRow};
 ghost use Rattle.xq_sources.specs.Sources.{tree_at, HasTree, HasNode, rows_between, after_row};
 ghost use Rattle.xq_sources.specs.Lenders.{IsRun, after_fetch};
 
+use crate::guides::no_parents;
 use crate::{LentRows, Meter, RowSource, TreeSource};
 use std::alloc::Global;
 use xq_atoms::Want;
@@ -59,6 +60,13 @@ pub trait RowLender: TreeSource {
     fn parent(&self, tree: usize, node: u32) -> Option<u32>
         ensures { Self.is_clean self.now → IfSome result (λ place.
             IsParentRow (rows (tree_at (Self.forest self.now) tree)) place node) };
+
+    /// The places of the parents of the tree's first nodes, of one after another, as far as the
+    /// lender keeps them: [`told_parent`](crate::told_parent) tells one of them. Where it keeps
+    /// none there are none. A place is no row, so nothing is counted.
+    fn parents(&self, tree: usize) -> &[u32]
+        ensures { Self.is_clean self.now
+            → AreParents (rows (tree_at (Self.forest self.now) tree)) result.now };
 
     /// How many attributes the node has, where the lender can tell it at once; none says nothing.
     /// A number is no row, so nothing is counted.
@@ -170,6 +178,10 @@ impl<S: RowSource + Drop> RowLender for Buffered<S> {
 
     fn parent(&self, _: usize, _: u32) -> Option<u32> {
         None
+    }
+
+    fn parents(&self, _: usize) -> &[u32] {
+        no_parents()
     }
 
     fn attributes(&self, _: usize, _: u32) -> Option<u32> {

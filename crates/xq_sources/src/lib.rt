@@ -22,7 +22,7 @@ pub use addresses::Addresses;
 pub use attributes::count_attributes;
 pub use fragments::Fragments;
 pub use growing::Growing;
-pub use guides::Guide;
+pub use guides::{Guide, no_parents, told_parent};
 pub use lenders::{Buffered, RowLender};
 pub use lent::{LentRow, LentRows};
 pub use meters::Meter;

@@ -137,6 +137,14 @@ impl<S: RowLender + Drop> RowLender for Trees<S> {
         }
     }
 
+    fn parents(&self, tree: usize) -> &[u32] {
+        if tree < self.stored {
+            self.source.parents(tree)
+        } else {
+            self.constructed.parents(tree - self.stored)
+        }
+    }
+
     fn attributes(&self, tree: usize, node: u32) -> Option<u32> {
         if tree < self.stored {
             self.source.attributes(tree, node)

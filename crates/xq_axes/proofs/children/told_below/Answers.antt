@@ -17,7 +17,7 @@ loop-place-preserved g c = record {
       let i = c.loop-place.place-index in
       let place = get_or ps i 0 in
       let so_far = c.loop-place.invariant.kept k up in
-      let decided : is_below_one t vs place ≡ is_among vs c.in-Some.parent = below_told t vs c.in-Some.parent place (c.in-Some.ensures k) in
+      let decided : is_below_one t vs place ≡ is_among vs c.in-Some.parent = below_told t vs c.in-Some.parent place (c.in-Some.ensures k (c.parents-kept.ensures k)) in
       elim c.match-find_near.branch [
         | in-Some-find_near w ↦ ap (λ (f : Vec ℕ). f.items) w.found-is ∙ w.push_reserved.ensures.items ∙ kept_more (is_below_one t vs) ps c.loop-place.found.items i (omega arith) (decided ∙ w.in-Some-find_near.ensures.some up) so_far
         | in_default-find_near w ↦ ap (λ (f : Vec ℕ). f.items) w.found-is ∙ left_more (is_below_one t vs) ps c.loop-place.found.items i (omega arith) (decided ∙ w.in_default-find_near.ensures.none up refl) so_far
