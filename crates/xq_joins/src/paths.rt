@@ -92,9 +92,9 @@ fn are_taken(steps: &[PlanStep]) -> bool {
     !is_below
 }
 
-/// The atom that a call of a function gives which only counts, where its argument is a path of scans
-/// from a document that a literal names, as `count(doc("a")/b/c)`. None where it is no such call, or
-/// where no document has the address: nothing was refused then.
+/// The atom that a function gives which only counts, where its argument is a path of scans from a
+/// document that a literal names, as `count(doc("a")/b/c)`. None where it is anything else, or no
+/// document has the address: nothing was read or refused then.
 pub fn count_of_path<L: RowLender>(
     alloc: Global,
     source: &mut L,
@@ -122,11 +122,6 @@ pub fn count_of_path<L: RowLender>(
     if after.taken < path.steps.len() {
         return Ok(None);
     }
-    call_on_places(
-        alloc,
-        source,
-        function,
-        path.document.tree,
-        after.places.as_slice(),
-    )
+    let tree = path.document.tree;
+    call_on_places(alloc, source, function, tree, after.places.as_slice())
 }
