@@ -8,5 +8,6 @@ pub mod TextTests
 pub mod LoneTexts
 pub mod Valued
 pub mod Told
+pub mod DocumentPaths
 pub mod Keying
 pub mod Deciding

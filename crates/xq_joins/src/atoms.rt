@@ -1,5 +1,5 @@
-//! Values that are one atom, of one step from a node at hand: read where they lie, and no lists are
-//! made.
+//! Values that are one atom, of one step from a node at hand, or of a path from a document of which
+//! only the number of nodes is asked: read where they lie, and no lists are made.
 ghost use Rattle.std.specs.Prelude.{◌≡◌, ◌∷◌, [], map, IfSome};
 ghost use Rattle.xq_meaning.specs.Arguments.{atomic};
 ghost use Rattle.xq_meaning.specs.Forms as Forms;
@@ -8,6 +8,7 @@ ghost use Rattle.xq_forms.specs.Views.{frame_at, FrameIn};
 ghost use Rattle.xq_joins.specs.Atoms.{Tells};
 
 use crate::equalities::step_at;
+use crate::paths::count_of_path;
 use std::alloc::Global;
 use xq_atoms::{Atom, Fault};
 use xq_axes::places_on_axis;
@@ -27,8 +28,8 @@ fn only_part(parts: &[Plan]) -> Option<&Plan>
 }
 
 /// The atom that a call of a function gives, where its only argument is one step from a node at
-/// hand, as `string($b/title)` or `count($b/author)`. None where it is no such call, or gives
-/// anything but one atom: nothing was refused then.
+/// hand, as `string($b/title)` or `count($b/author)`, or a path of which [`count_of_path`] tells.
+/// None where it is no such call, or gives anything but one atom: nothing was refused then.
 pub fn atom_of_call<L: RowLender>(
     alloc: Global,
     source: &mut L,
@@ -51,7 +52,7 @@ pub fn atom_of_call<L: RowLender>(
         return Ok(None);
     };
     let Some(step) = step_at(frame, part) else {
-        return Ok(None);
+        return count_of_path(alloc, source, frame, function, part);
     };
     let places = places_on_axis(alloc, source, step.node, step.axis, step.test)?;
     call_on_places(alloc, source, function, step.node.tree, places.as_slice())

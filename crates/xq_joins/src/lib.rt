@@ -2,7 +2,8 @@
 //! after it that asks whether a key of each equals a key of the tuple, by a table from texts to
 //! nodes and not pair by pair (XQuery 3.1, sections 3.12.2 and 3.12.5); equalities of a text, or of
 //! the texts of a key, and of what one step leads to; and the atom of one step from a node at hand,
-//! or of a call on it: texts are read where they lie, and no lists are made.
+//! or of a call on it, or of one that counts what a path from a document leads to: texts are read
+//! where they lie, and no lists are made.
 #![tactic(auto)]
 
 mod atoms;
@@ -12,6 +13,7 @@ mod joins;
 mod keyed;
 mod keys;
 mod matches;
+mod paths;
 mod shapes;
 mod values;
 
