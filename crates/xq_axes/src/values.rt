@@ -70,6 +70,7 @@ fn texts_below<L: RowLender>(
     ensures keeps { L.forest source.new ≡ L.forest source.old }
     ensures was_clean { L.is_clean source.new → L.is_clean source.old }
 {
+    // No tree has a row beyond the greatest place.
     let (Some(low), Some(high)) = (node.pre.checked_add(1), node.pre.checked_add(size)) else {
         return Err(Want::Store);
     };
