@@ -62,17 +62,14 @@ rows_below t v size h e =
     ∙ ap (λ l. labels (measured l (below_at (nodes t) p))) z
 
 -- the texts of a walk over the rows below v
-pub texts_of_walk : (t : Tree) (v size low high : ℕ) (text : List ℕ) → IsSized t v size → low ≡ min (v + 1) 4294967295 → high ≡ min (v + size) 4294967295 → text ≡ joined_texts (rows_to (rows t) low (span_end t (span low high))) → text ≡ texts (below_at (nodes t) (path_at (nodes t) v))
-texts_of_walk t v size low high text h a b e =
-    let d = node_of t v h.is_there in
-    let r = h.is_tree.room in
-    let w : v + size < count (nodes t) = (let x = d.ends in let s = h.size in omega (arith, x, s)) in
-    let l : low ≡ v + 1 = omega (arith, w, r, a) in
-    let g : high ≡ v + size = omega (arith, w, r, b) in
+pub texts_of_walk : (t : Tree) (v size low high : ℕ) (text : List ℕ) → v < count (nodes t) → size ≡ (row_at (rows t) v).size → low ≡ v + 1 → high ≡ v + size → text ≡ joined_texts (rows_to (rows t) low (span_end t (span low high))) → text ≡ texts (below_at (nodes t) (path_at (nodes t) v))
+texts_of_walk t v size low high text h is l g e =
+    let ends = (node_of t v h).ends in
+    let w : v + size < count (nodes t) = omega (arith, ends, is) in
     e ∙ ap (λ n. joined_texts (rows_to (rows t) n (span_end t (span n high)))) l
     ∙ ap (λ n. joined_texts (rows_to (rows t) (v + 1) (span_end t (span (v + 1) n)))) g
     ∙ ap (λ n. joined_texts (rows_to (rows t) (v + 1) n)) (span_end-below t v size w)
-    ∙ ap joined_texts (rows_below t v size h.is_there h.size)
+    ∙ ap joined_texts (rows_below t v size h is)
     ∙ joined_texts-measured (length (path_at (nodes t) v)) (below_at (nodes t) (path_at (nodes t) v))
 
 -- a lone row that was read
