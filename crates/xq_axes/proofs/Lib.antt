@@ -29,6 +29,7 @@ pub mod AxisNodes
 pub mod DoubleSlash
 pub mod OneNode
 pub mod First
+pub mod Last
 pub mod ManyChildren
 pub mod Owning
 pub mod Owned

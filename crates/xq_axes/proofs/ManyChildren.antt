@@ -86,12 +86,16 @@ child_wanted t vs node_test name p e =
     ∙ any_and (λ v. inside (rows t) v p && one_below (rows t) v p) plain vs in
     ap (λ b. b && below) (sym named) ∙ turned below plain passes ∙ ap (λ b. b && passes) (sym hit)
 
+-- of the places of a name below a bound those at which such children lie
+pub children_named : (t : Tree) (vs : List ℕ) (node_test : Test) (name : Text) (n : ℕ) → node_test ≡ tests.Element (Some name) → filter (is_below_one t vs) (below_where (is_named_at t name) n) ≡ below_where (is_wanted axis.Child node_test t vs) n
+children_named t vs node_test name n e =
+    filter_below (is_named_at t name) (is_below_one t vs) n
+    ∙ below_where-agree (λ p. is_named_at t name p && is_below_one t vs p) (is_wanted axis.Child node_test t vs) n (λ p l. child_wanted t vs node_test name p e)
+
 -- all children that pass the test are among the places of its name
 pub named_children : (t : Tree) (vs places found : List ℕ) (node_test : Test) (name : Text) → node_test ≡ tests.Element (Some name) → places ≡ below_where (is_named_at t name) (count (nodes t)) → found ≡ filter (is_below_one t vs) places → found ≡ below_where (is_wanted axis.Child node_test t vs) (count (nodes t))
 named_children t vs places found node_test name e all is =
-    is ∙ ap (filter (is_below_one t vs)) all
-    ∙ filter_below (is_named_at t name) (is_below_one t vs) (count (nodes t))
-    ∙ below_where-agree (λ p. is_named_at t name p && is_below_one t vs p) (is_wanted axis.Child node_test t vs) (count (nodes t)) (λ p l. child_wanted t vs node_test name p e)
+    is ∙ ap (filter (is_below_one t vs)) all ∙ children_named t vs node_test name (count (nodes t)) e
 
 -- # One node
 

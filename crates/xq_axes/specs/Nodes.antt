@@ -1,6 +1,6 @@
 -- Nodes by the number of their tree and their place in it, over trees.
 use Rattle.std.specs.List.{AllByRecursion, flat_map}
-use Rattle.std.specs.Prelude.{ℕ, ◌≡◌, List, [], ◌∷◌, map, take}
+use Rattle.std.specs.Prelude.{ℕ, ◌≡◌, ◌-◌, List, [], ◌∷◌, map, take, drop, length}
 use Rattle.xq_regions.specs.Items.{ItemView, Place as NodeAt}
 use Rattle.xq_regions.specs.Rising.{AreRising}
 use Rattle.xq_regions.specs.Tree.{Tree}
@@ -33,4 +33,16 @@ pub record AreFirstOnAxis (trees : List Tree) (axis : Axis) (test : Test) (n : N
   pub nodes : List Node
   pub are : items ≡ map NodeAt nodes
   pub on_axis : map (node_at trees) nodes ≡ take most (axis_nodes trees axis test (node_at trees n))
+  pub there : HaveAll trees nodes
+
+-- the last of some, where there is one
+abbrev pub last_of : {A : Type 0} → List A → List A
+last_of xs = drop (length xs - 1) xs
+
+-- the items are the last of these, where there is one
+pub record IsLastOnAxis (trees : List Tree) (axis : Axis) (test : Test) (n : Node)
+    (items : List ItemView) : Type 0 where
+  pub nodes : List Node
+  pub are : items ≡ map NodeAt nodes
+  pub on_axis : map (node_at trees) nodes ≡ last_of (axis_nodes trees axis test (node_at trees n))
   pub there : HaveAll trees nodes

@@ -29,6 +29,6 @@ pub use owners::with_value;
 pub use picks::Places;
 pub use slashes::{double_slash, double_slash_in_tree};
 pub use steps::{
-    as_items, axis, first_children, items_on_axis, places_on_axis, step, step_in_tree,
+    as_items, axis, first_children, items_on_axis, last_child, places_on_axis, step, step_in_tree,
 };
 pub use values::string_value;

@@ -1,14 +1,16 @@
 //! Children and attributes of one node: most steps inside a loop or a predicate are such.
-ghost use Rattle.std.specs.Prelude.{◌≡◌, ◌+◌, ◌≤◌, ◌==◌, ◌∷◌, [], suc, take, length, IfOk};
+ghost use Rattle.std.specs.Prelude.{◌≡◌, ◌+◌, ◌-◌, ◌≤◌, ◌==◌, ◌∷◌, [], suc, take, filter, length, slice_get, IfOk, IfSome};
 ghost use Rattle.xq_regions.specs.Forest.{count};
 ghost use Rattle.xq_regions.specs.Tree.{nodes};
 ghost use Rattle.xq_regions.specs.declared.Axis.TheVariants as axes;
 ghost use Rattle.xq_sources.specs.Sources.{tree_at};
 ghost use Rattle.xq_axes.specs.Scans.{region};
 ghost use Rattle.xq_axes.specs.private.Hits.{is_wanted, below_where};
-ghost use Rattle.xq_axes.specs.private.Near.{IsOwner, AreBelow, AreFirst};
+ghost use Rattle.xq_axes.specs.private.Named.{is_below_one};
+ghost use Rattle.xq_axes.specs.private.Near.{IsOwner, AreBelow, AreFirst, EndWith};
 
-use crate::passing::search_rows;
+use crate::names::{places_between, wanted_name};
+use crate::passing::{last_of, search_rows};
 use crate::picks::{Found, Judge, Places, Verdict};
 use crate::tests::{is_plain, passes};
 use crate::walks::{Visitor, walk};
@@ -16,6 +18,11 @@ use std::alloc::Global;
 use xq_atoms::Want;
 use xq_meaning::Test;
 use xq_sources::{LentRow, RowLender};
+
+/// Of how many places of a name the parents are asked for, from the last one below a node on, to find
+/// its last child with the name. There may be any number of them below a later child, none of which
+/// is read where the children are walked over.
+const MOST_ASKED: usize = 32;
 
 /// A node whose children or attributes are looked for, as its row has it.
 #[derive(Clone, Copy)]
@@ -141,6 +148,38 @@ fn owner_at<L: RowLender>(
     })
 }
 
+/// The places of the children of the node that pass the test, where its row is known.
+fn children_below<L: RowLender>(
+    alloc: Global,
+    source: &mut L,
+    tree: usize,
+    owner: Owner,
+    test: &Test,
+) -> Result<Places, Want>
+    ensures found { L.is_clean source.new
+        → let t = tree_at (L.forest source.old) tree in
+        IsOwner t owner → IfOk result (λ found. found.items
+        ≡ below_where (is_wanted axes.Child test.now t (owner.place ∷ [])) (count (nodes t))) }
+    ensures rows { L.is_clean source.new
+        → let t = tree_at (L.forest source.old) tree in
+        IsOwner t owner → (L.meter source.new).rows ≤ (L.meter source.old).rows
+        + length (region axes.Child t (owner.place ∷ [])) }
+    ensures singles { (L.meter source.new).singles ≡ (L.meter source.old).singles }
+    ensures keeps { L.forest source.new ≡ L.forest source.old }
+    ensures was_clean { L.is_clean source.new → L.is_clean source.old }
+{
+    let low = owner.place.saturating_add(1);
+    search_rows(
+        alloc,
+        source,
+        tree,
+        low,
+        owner.last,
+        ChildrenOf { owner },
+        test,
+    )
+}
+
 /// The places of the children of the node that pass the test. Of its rows those below its children
 /// are not read.
 pub fn children_of<L: RowLender>(
@@ -162,16 +201,7 @@ pub fn children_of<L: RowLender>(
     ensures was_clean { L.is_clean source.new → L.is_clean source.old }
 {
     let owner = owner_at(alloc, source, tree, place)?;
-    let low = place.saturating_add(1);
-    search_rows(
-        alloc,
-        source,
-        tree,
-        low,
-        owner.last,
-        ChildrenOf { owner },
-        test,
-    )
+    children_below(alloc, source, tree, owner, test)
 }
 
 /// The places of the first children of the node that pass the test, so many at most. Of its rows
@@ -205,6 +235,66 @@ pub fn first_children_of<L: RowLender>(
     let low = place.saturating_add(1);
     walk(alloc, source, tree, low, owner.last, &mut first)?;
     first.found.into_places()
+}
+
+/// The last of the places, which come one after another, that is told as that of a child of the
+/// node, or of an attribute: none where the lender can't tell, or none of the last few is such.
+fn told_last<L: RowLender>(source: &L, tree: usize, place: u32, places: &[u32]) -> Option<u32>
+    ensures { L.is_clean source.now → IfSome result (λ child. EndWith (filter
+        (is_below_one (tree_at (L.forest source.now) tree) (place ∷ [])) places.now) child) }
+{
+    let first = places.len().saturating_sub(MOST_ASKED);
+    for index in (first..places.len()).rev() {
+        let child = places[index];
+        if source.parent(tree, child)? == place {
+            return Some(child);
+        }
+    }
+    None
+}
+
+/// The place of the last child of the node that passes the test, where it asks for a name, and the
+/// lender tells the places of the elements with the name, and the parents of a few of them: none
+/// says nothing. No row is read.
+fn named_last<L: RowLender>(source: &L, tree: usize, owner: Owner, test: &Test) -> Option<u32>
+    ensures { L.is_clean source.now
+        → let t = tree_at (L.forest source.now) tree in
+        IsOwner t owner → IfSome result (λ child. EndWith
+        (below_where (is_wanted axes.Child test.now t (owner.place ∷ [])) (count (nodes t))) child) }
+{
+    let name = wanted_name(test)?;
+    let named = source.named(tree, name)?;
+    let below = places_between(named, owner.place.saturating_add(1), owner.last);
+    told_last(source, tree, owner.place, below)
+}
+
+/// The place of the last child of the node that passes the test. It reads no row below the node
+/// where the lender tells the places of the elements with a name, and the parents of these; else
+/// those that [`children_of`] reads.
+pub fn last_child_of<L: RowLender>(
+    alloc: Global,
+    source: &mut L,
+    tree: usize,
+    place: u32,
+    test: &Test,
+) -> Result<Option<u32>, Want>
+    ensures found { L.is_clean source.new
+        → let t = tree_at (L.forest source.old) tree in
+        let all = below_where (is_wanted axes.Child test.now t (place ∷ [])) (count (nodes t)) in
+        IfOk result (λ found. found ≡ slice_get all (length all - 1)) }
+    ensures rows { L.is_clean source.new
+        → (L.meter source.new).rows ≤ (L.meter source.old).rows
+        + length (region axes.Child (tree_at (L.forest source.old) tree) (place ∷ [])) }
+    ensures singles { (L.meter source.new).singles ≤ (L.meter source.old).singles + 1 }
+    ensures keeps { L.forest source.new ≡ L.forest source.old }
+    ensures was_clean { L.is_clean source.new → L.is_clean source.old }
+{
+    let owner = owner_at(alloc, source, tree, place)?;
+    if let Some(child) = named_last(source, tree, owner, test) {
+        return Ok(Some(child));
+    }
+    let children = children_below(alloc, source, tree, owner, test)?;
+    Ok(last_of(children.as_slice()))
 }
 
 /// The places of the attributes of the node that pass the test. Of its rows those of its attributes

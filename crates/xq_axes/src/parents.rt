@@ -1,5 +1,5 @@
 //! The parent axis.
-ghost use Rattle.std.specs.Prelude.{◌≡◌, ◌+◌, ◌-◌, ◌≤◌, ◌==◌, ◌||◌, ◌∷◌, ◌⊎◌, ℕ, length, slice_get, IfOk, IfSome, OnOk};
+ghost use Rattle.std.specs.Prelude.{◌≡◌, ◌+◌, ◌-◌, ◌≤◌, ◌==◌, ◌||◌, ◌∷◌, ◌⊎◌, ℕ, true, length, slice_get, IfOk, IfSome, OnOk};
 ghost use Rattle.xq_regions.specs.Forest.{count};
 ghost use Rattle.xq_regions.specs.Tree.{nodes};
 ghost use Rattle.xq_regions.specs.declared.Axis.TheVariants as axes;
@@ -26,7 +26,18 @@ fn ends_before(places: &[u32], place: u32) -> bool
     }
 }
 
-/// Adds the place to those that rise, unless it is one of them.
+/// Whether the last of the places is the place.
+fn ends_with(places: &[u32], place: u32) -> bool
+    ensures { result ≡ true → is_among places.now place ≡ true }
+{
+    match places.last() {
+        Some(last) => *last == place,
+        None => false,
+    }
+}
+
+/// Adds the place to those that rise, unless it is one of them. Most often it is the last of them:
+/// the children of one parent come one after another.
 ///
 /// The parent of a later node that comes before those of earlier ones holds them: so each of these
 /// makes room once at most for each node above it.
@@ -36,6 +47,9 @@ fn add_place(places: &mut Vec<u32>, place: u32) -> Result<(), Want>
         → is_among places.new.items n ≡ ((place == n) || is_among places.old.items n)) }
     ensures fewer { OnOk result (length places.new.items ≤ length places.old.items + 1) }
 {
+    if ends_with(places, place) {
+        return Ok(());
+    }
     if ends_before(places, place) {
         places.push(place)?;
         return Ok(());

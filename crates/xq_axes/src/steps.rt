@@ -11,7 +11,7 @@ ghost use Rattle.xq_meaning.specs.Steps.{axis_nodes};
 ghost use Rattle.xq_meaning.specs.Readings.{node_at};
 ghost use Rattle.xq_regions.specs.Rising.{AreRising};
 ghost use Rattle.xq_regions.specs.Items.{Place as NodeAt, item_views};
-ghost use Rattle.xq_axes.specs.Nodes.{HaveAll, AreOnAxis, AreFirstOnAxis};
+ghost use Rattle.xq_axes.specs.Nodes.{HaveAll, AreOnAxis, AreFirstOnAxis, IsLastOnAxis};
 ghost use Rattle.xq_axes.specs.Scans.{region, places_of, AreOf};
 ghost use Rattle.xq_axes.specs.private.Hits.{is_wanted, below_where, IsRising};
 ghost use Rattle.xq_axes.specs.Many.{spot, is_found_from, AreSame, AreThere, IsNext, IsGathered, IsAt, AreKept, AreReached};
@@ -21,7 +21,7 @@ use crate::backward::{Backward, search_back};
 use crate::children::search_children;
 use crate::downward::{ToDescendants, ToDescendantsOrSelf, search_below};
 use crate::merges::merge;
-use crate::near::first_children_of;
+use crate::near::{first_children_of, last_child_of};
 use crate::onward::search_on;
 use crate::parents::search_parents;
 use crate::passing::{search_above, search_after, search_before};
@@ -192,6 +192,37 @@ pub fn first_children<L: RowLender>(
 {
     let places = first_children_of(alloc, source, node.tree, node.pre, test, most)?;
     as_items(alloc, node.tree, places.as_slice())
+}
+
+/// The last child of the node that passes the test, as items: none where no child does.
+///
+/// It reads the row of the node. Where the test asks for a name, and the source tells the places of
+/// the elements with the name and the parents of these, it most often reads no other; else each row
+/// below the node once at most.
+///
+/// `Want::Store` where the source refuses to read a row; `Want::Memory` where a growth was
+/// refused.
+pub fn last_child<L: RowLender>(
+    alloc: Global,
+    source: &mut L,
+    node: Node,
+    test: &Test,
+) -> Result<Items, Want>
+    ensures items { L.is_clean source.new
+        → HasNode (L.forest source.old) node.tree node.pre
+        → IfOk result (λ found.
+        IsLastOnAxis (L.forest source.old) axes.Child test.now node (item_views found)) }
+    ensures rows { L.is_clean source.new
+        → (L.meter source.new).rows ≤ (L.meter source.old).rows
+        + length (region axes.Child (tree_at (L.forest source.old) node.tree) (node.pre ∷ [])) }
+    ensures singles { (L.meter source.new).singles ≤ (L.meter source.old).singles + 1 }
+    ensures keeps { L.forest source.new ≡ L.forest source.old }
+    ensures was_clean { L.is_clean source.new → L.is_clean source.old }
+{
+    match last_child_of(alloc, source, node.tree, node.pre, test)? {
+        Some(place) => as_items(alloc, node.tree, &[place]),
+        None => Ok(Vec::new(alloc)),
+    }
 }
 
 /// The places, in its tree, of the nodes on the axis from the node that pass the test, as [`axis`]

@@ -1,13 +1,13 @@
 -- Items that have to be nodes.
-use Rattle.std.proofs.Common.{◌≡◌, ◌++◌, ℕ, List, [], ◌∷◌, map, take, reverse, true, false, Option, Some, None, Ok, Err, refl, sym, ◌∙◌, ap, subst}
+use Rattle.std.proofs.Common.{◌≡◌, ◌++◌, ◌-◌, ℕ, List, [], ◌∷◌, length, map, take, drop, reverse, true, false, Option, Some, None, Ok, Err, refl, sym, ◌∙◌, ap, subst}
 use Rattle.std.specs.Prelude.{if◌then◌else◌}
 use Rattle.std.specs.List.{AllByRecursion, flat_map}
-use Rattle.std.proofs.lemmas.List.{take-map}
+use Rattle.std.proofs.lemmas.List.{drop-map, length-map, take-map}
 use Rattle.xq_atoms.specs.declared.refusals.Code.{Code}
 use Rattle.xq_atoms.specs.declared.refusals.Code.TheVariants.{XPTY0019, XPTY0020}
 use Rattle.xq_atoms.specs.Judged.{Judged, ◌>>=◌}
 use Rattle.xq_axes.specs.DoubleSlash.{selves_and_below, after_double_slash as after_places}
-use Rattle.xq_axes.specs.Nodes.{HaveAll}
+use Rattle.xq_axes.specs.Nodes.{HaveAll, last_of}
 use Rattle.xq_regions.specs.declared.Axis.{Axis}
 use Rattle.xq_regions.specs.declared.Axis.TheVariants.{Child, DescendantOrSelf, Parent}
 use Rattle.xq_regions.specs.declared.items.Node.{Node as Spot}
@@ -25,7 +25,7 @@ use Rattle.xq_meaning.specs.Steps.{context_node, axis_nodes, in_axis_order, is_r
 use Rattle.xq_meaning.specs.Doing.{Doing, Outcome, go_on, give, judged, on_trees}
 use Rattle.xq_meaning.specs.Forms as Forms
 use Rattle.xq_forms.specs.declared.frames.Focus.{Focus}
-use Rattle.xq_forms.specs.Views.{forget, focus_at, FocusIn, on_axis, first_on_axis, after_double_slash, parents_below}
+use Rattle.xq_forms.specs.Views.{forget, focus_at, FocusIn, on_axis, first_on_axis, last_on_axis, after_double_slash, parents_below}
 use Rattle.xq_forms.specs.Nodes.{nodes_among}
 use Rattle.xq_forms.proofs.Existing.{Exists, exists_at, is_in}
 use Rattle.xq_regions.proofs.Lists.{map_reverse, all_reverse}
@@ -117,15 +117,32 @@ axis_gives f axis test focus node nodes views context found have is = (
       ∙ sym (turned_map (item_at f) axis (map NodeAt nodes)) ∙ ap (items_at f) (sym is)),
 )
 
+-- # Some of the children
+
+-- a part of them, which is chosen by their places alone
+part_gives : (part : List Place → List Place) (part_items : List Item → List Item) → ((ps : List Place) → part_items (map Node ps) ≡ map Node (part ps)) → (f : List Tree) (test : Test) (focus : Option Meant) (node : Spot) (nodes : List Spot) (views : List ItemView)
+    → Ok (node_at f node) ≡ context_node focus → map (node_at f) nodes ≡ part (axis_nodes f Child test (node_at f node)) → HaveAll f nodes → views ≡ map NodeAt nodes
+    → AreIn f views × (go_on (on_axis Child test focus f) (λ xs. give (part_items xs)) ≡ (Ok (items_at f views), f))
+part_gives part part_items maps f test focus node nodes views context found have is = (
+  subst (AreIn f) (sym is) (items_in f nodes have),
+  ap (λ r. go_on (go_on (judged r f) (λ p. on_trees (λ trees. Ok (map Node (in_axis_order Child (axis_nodes trees Child test p)))))) (λ xs. give (part_items xs))) (sym context)
+      ∙ ap (λ xs. (Ok xs, f)) (maps (axis_nodes f Child test (node_at f node)) ∙ ap (map Node) (sym found) ∙ sym (items_read f nodes) ∙ ap (items_at f) (sym is)),
+)
+
 -- the first children
 pub first_gives : (f : List Tree) (test : Test) (most : ℕ) (focus : Option Meant) (node : Spot) (nodes : List Spot) (views : List ItemView)
     → Ok (node_at f node) ≡ context_node focus → map (node_at f) nodes ≡ take most (axis_nodes f Child test (node_at f node)) → HaveAll f nodes → views ≡ map NodeAt nodes
     → AreIn f views × (first_on_axis most Child test focus f ≡ (Ok (items_at f views), f))
-first_gives f test most focus node nodes views context found have is = (
-  subst (AreIn f) (sym is) (items_in f nodes have),
-  ap (λ r. go_on (go_on (judged r f) (λ p. on_trees (λ trees. Ok (map Node (in_axis_order Child (axis_nodes trees Child test p)))))) (λ xs. give (take most xs))) (sym context)
-      ∙ ap (λ xs. (Ok xs, f)) (take-map Node most (axis_nodes f Child test (node_at f node)) ∙ ap (map Node) (sym found) ∙ sym (items_read f nodes) ∙ ap (items_at f) (sym is)),
-)
+first_gives f test most = part_gives (take most) (take most) (take-map Node most) f test
+
+-- the last child
+last-map : (ps : List Place) → last_of (map Node ps) ≡ map Node (last_of ps)
+last-map ps = ap (λ n. drop (n - 1) (map Node ps)) (length-map ps Node) ∙ drop-map Node (length ps - 1) ps
+
+pub last_gives : (f : List Tree) (test : Test) (focus : Option Meant) (node : Spot) (nodes : List Spot) (views : List ItemView)
+    → Ok (node_at f node) ≡ context_node focus → map (node_at f) nodes ≡ last_of (axis_nodes f Child test (node_at f node)) → HaveAll f nodes → views ≡ map NodeAt nodes
+    → AreIn f views × (last_on_axis Child test focus f ≡ (Ok (items_at f views), f))
+last_gives f test = part_gives (λ ps. last_of ps) (λ xs. last_of xs) last-map f test
 
 -- # Scans
 

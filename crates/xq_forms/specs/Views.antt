@@ -13,6 +13,7 @@ use Rattle.xq_regions.specs.Tuples.{Tuple, ordered}
 use Rattle.xq_expressions.specs.declared.signatures.Function.{Function}
 use Rattle.xq_atoms.specs.Atom.{Atomic}
 use Rattle.xq_expressions.specs.declared.operators.OrderModifier.{OrderModifier}
+use Rattle.xq_axes.specs.Nodes.{last_of}
 use Rattle.xq_tuples.specs.Views.{values_of}
 use Rattle.xq_meaning.specs.Items.{Item, Node}
 use Rattle.xq_meaning.specs.Functions.{Focus as Spot, called}
@@ -167,6 +168,12 @@ abbrev pub first_on_axis : ℕ → Axis → Test → Option Spot → Doing (List
 first_on_axis most axis test focus = do
   xs ← on_axis axis test focus
   give (take most xs)
+
+-- the last of them, where there is one
+abbrev pub last_on_axis : Axis → Test → Option Spot → Doing (List Item)
+last_on_axis axis test focus = do
+  xs ← on_axis axis test focus
+  give (last_of xs)
 
 -- `//` and a step to children: descendant-or-self::node(), and then that step
 abbrev pub after_double_slash : Test → List Item → Doing (List Item)

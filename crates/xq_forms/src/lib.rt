@@ -25,7 +25,9 @@ pub use nodes::{gather, only_node, only_nodes, root};
 pub use operators::{operate, sign};
 pub use paths::{ShortPath, held_node, short_path};
 pub use runs::{ItemsAfter, PlacesAfter, items_after_scans, items_at_places, places_after_scans};
-pub use steps::{axis_items, double_slash, first_children, parents_below, scan, scan_from};
+pub use steps::{
+    axis_items, double_slash, first_children, last_child, parents_below, scan, scan_from,
+};
 pub use told::{call_on_places, is_told, only_atom};
 pub use values::{
     boolean, context_item, copied, deciding, decimal, integer, joined, opened, push_copy, rebind,

@@ -8,7 +8,7 @@ ghost use Rattle.xq_meaning.specs.Readings.{node_at, items_at, AreIn};
 ghost use Rattle.xq_meaning.specs.Forms as Forms;
 ghost use Rattle.xq_forms.specs.Reads.{rows_of, AreOf, HasGrown};
 ghost use Rattle.xq_forms.specs.private.InTree.{AreInTree};
-ghost use Rattle.xq_forms.specs.Views.{focus_at, on_axis, first_on_axis, after_double_slash, parents_below as parents_below_lem, FrameIn, Goes, GivesSequence};
+ghost use Rattle.xq_forms.specs.Views.{focus_at, on_axis, first_on_axis, last_on_axis, after_double_slash, parents_below as parents_below_lem, FrameIn, Goes, GivesSequence};
 
 use crate::frames::Frame;
 use crate::nodes::{
@@ -58,6 +58,25 @@ pub fn first_children<W: Growing>(
 {
     let node = context_node(frame.focus)?;
     let items = xq_axes::first_children(alloc, world, node, test, most)?;
+    Ok(items)
+}
+
+/// The last child of the context node that passes the test, where there is one.
+pub fn last_child<W: Growing>(
+    alloc: Global,
+    world: &mut W,
+    frame: Frame<'_>,
+    test: &Test,
+) -> Result<Items, Fault>
+    ensures goes { Goes (W.forest world.old) (W.forest world.new) (W.is_clean world.old)
+        (W.is_clean world.new) }
+    ensures gives { W.is_clean world.new → FrameIn (W.forest world.old) frame.entry
+        → GivesSequence (last_on_axis axes.Child test.now
+        (focus_at (W.forest world.old) frame.entry.focus) (W.forest world.old))
+        (W.forest world.new) result }
+{
+    let node = context_node(frame.focus)?;
+    let items = xq_axes::last_child(alloc, world, node, test)?;
     Ok(items)
 }
 

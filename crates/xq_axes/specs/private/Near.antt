@@ -1,6 +1,6 @@
 -- One node, by whose row those below it are judged.
 use Rattle.std.proofs.Common.{suc}
-use Rattle.std.specs.Prelude.{ℕ, ◌-◌, ◌<◌, ◌≡◌, List, length, take}
+use Rattle.std.specs.Prelude.{ℕ, ◌-◌, ◌<◌, ◌≡◌, List, [], ◌∷◌, ◌++◌, length, take}
 use Rattle.xq_regions.specs.Forest.{count}
 use Rattle.xq_regions.specs.Tree.{Tree, IsTree, nodes}
 use Rattle.xq_axes.specs.Reads.{Span}
@@ -24,3 +24,8 @@ pub record AreBelow (t : Tree) (s : Span) (owner : Owner) : Type 0 where
 pub record AreFirst (most : ℕ) (all : List ℕ) (others : ℕ) (those : List ℕ) : Type 0 where
   pub found : those ≡ take most all
   pub left : others ≡ most - length all
+
+-- these end with this one
+pub record EndWith (all : List ℕ) (last : ℕ) : Type 0 where
+  pub before : List ℕ
+  pub are : all ≡ before ++ last ∷ []

@@ -1,13 +1,12 @@
-use Rattle.std.proofs.Common.{◌≡◌, ◌+◌, ◌∷◌, [], ℕ, min, refl, sym, ap, subst, ◌∙◌}
+use Rattle.std.proofs.Common.{◌≡◌, ◌∷◌, [], ℕ, sym, ap, subst, ◌∙◌}
 use Rattle.smallvec.specs.SmallVec.{SmallVec}
 use Rattle.xq_regions.specs.Forest.{count}
 use Rattle.xq_regions.specs.Tree.{nodes}
 use Rattle.xq_regions.specs.declared.Axis.TheVariants as axis
 use Rattle.xq_sources.specs.Sources.{tree_at}
-use Rattle.xq_axes.specs.Reads.{span, span_end}
 use Rattle.xq_axes.specs.private.Hits.{is_wanted, below_where}
-use Rattle.xq_axes.specs.private.Near.{AreBelow}
-use Rattle.xq_axes.proofs.OneNode.{none_before, none_after, read_below, starts_there, to_children}
+use Rattle.xq_axes.specs.private.Near.{IsOwner}
+use Rattle.xq_axes.proofs.Last.{same_children, same_region}
 use Rattle.xq_axes.proofs.Sizes.{OnOk-if}
 use Rattle.xq_axes.proofs.near.children_of.Goals as goal
 
@@ -18,22 +17,16 @@ returns-clause-found g c = λ k. (
     let same : u ≡ t = ap (λ f. tree_at f c.args.tree) c.in_ok-owner.ensures.keeps in
     let test = c.args.test.now in
     let owner = c.in_ok-owner.owner in
-    let place : owner.place ≡ c.args.place = c.in_ok-owner.ensures.place in
-    let is = c.in_ok-owner.ensures.is (c.search_rows.ensures.was_clean k) in
-    let low = c.saturating_add-low.result in
-    let s = span low owner.last in
-    let from = starts_there t owner low is (c.saturating_add-low.ensures ∙ ap (λ p. min (p + 1) 4294967295) (sym place)) in
-    let below : AreBelow u s owner = subst (λ z. AreBelow z s owner) (sym same) (record { is = is; low = from; high = refl }) in
-    let read = c.search_rows.ensures.found k (refl, below) (none_before axis.Child to_children u s owner below test) in
-    OnOk-if c.search_rows.result (λ (found : SmallVec ℕ). found.items ≡ below_where (is_wanted axis.Child test u (owner.place ∷ [])) (span_end u s)) (λ (found : SmallVec ℕ). found.items ≡ below_where (is_wanted axis.Child test t (c.args.place ∷ [])) (count (nodes t)))
-    (λ found e. e ∙ none_after axis.Child to_children u s owner below test
-    ∙ ap (λ z. below_where (is_wanted axis.Child test z (owner.place ∷ [])) (count (nodes z))) same
-    ∙ ap (λ p. below_where (is_wanted axis.Child test t (p ∷ [])) (count (nodes t))) place) read)
+    let is : IsOwner u owner = subst (λ z. IsOwner z owner) (sym same) (c.in_ok-owner.ensures.is (c.children_below.ensures.was_clean k)) in
+    OnOk-if c.children_below.result (λ (found : SmallVec ℕ). found.items ≡ below_where (is_wanted axis.Child test u (owner.place ∷ [])) (count (nodes u))) (λ (found : SmallVec ℕ). found.items ≡ below_where (is_wanted axis.Child test t (c.args.place ∷ [])) (count (nodes t)))
+    (λ found e. e ∙ same_children test t u c.args.place owner.place same c.in_ok-owner.ensures.place) (c.children_below.ensures.found k is))
 
 pub returns-clause-rows : goal.returns-clause-rows
-returns-clause-rows g c = λ k.
-    let trees = g.L.TreeSource.forest c.args.source.now in
-    let same = ap (λ f. tree_at f c.args.tree) c.in_ok-owner.ensures.keeps in
-    read_below axis.Child to_children (tree_at trees c.args.tree) (tree_at (g.L.TreeSource.forest c.owner_at.new.source) c.args.tree) c.in_ok-owner.owner c.args.place c.saturating_add-low.result
-    (g.L.TreeSource.meter c.args.source.now).rows (g.L.TreeSource.meter c.owner_at.new.source).rows (g.L.TreeSource.meter c.search_rows.new.source).rows
-    same c.in_ok-owner.ensures.place (c.in_ok-owner.ensures.is (c.search_rows.ensures.was_clean k)) c.saturating_add-low.ensures c.in_ok-owner.ensures.rows (c.search_rows.ensures.rows k)
+returns-clause-rows g c = λ k. (
+    let t = tree_at (g.L.TreeSource.forest c.args.source.now) c.args.tree in
+    let u = tree_at (g.L.TreeSource.forest c.owner_at.new.source) c.args.tree in
+    let same : u ≡ t = ap (λ f. tree_at f c.args.tree) c.in_ok-owner.ensures.keeps in
+    let owner = c.in_ok-owner.owner in
+    let is : IsOwner u owner = subst (λ z. IsOwner z owner) (sym same) (c.in_ok-owner.ensures.is (c.children_below.ensures.was_clean k)) in
+    same_region t u c.args.place owner.place (g.L.TreeSource.meter c.args.source.now).rows (g.L.TreeSource.meter c.owner_at.new.source).rows (g.L.TreeSource.meter c.children_below.new.source).rows
+    same c.in_ok-owner.ensures.place c.in_ok-owner.ensures.rows (c.children_below.ensures.rows k is))

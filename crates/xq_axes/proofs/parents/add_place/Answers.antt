@@ -21,18 +21,18 @@ between us seen u index e h up =
 pub returns-in_ok-insert-clause-rising : goal.returns-in_ok-insert-clause-rising
 returns-in_ok-insert-clause-rising c = λ up. (
     let us = c.args.places.now.items in
-    let at = between us c.deref-2.result.now c.args.place c.in-Err.index c.deref-2.ensures.value c.in-Err.ensures.position up in
+    let at = between us c.deref-3.result.now c.args.place c.in-Err.index c.deref-3.ensures.value c.in-Err.ensures.position up in
     subst (λ xs. IsRising xs) (sym c.in_ok-insert.ensures.items) (rising_between us c.in-Err.index c.args.place at up))
 
 pub returns-in_ok-insert-clause-among : goal.returns-in_ok-insert-clause-among
 returns-in_ok-insert-clause-among c = λ up n. (
     let us = c.args.places.now.items in
-    let at = between us c.deref-2.result.now c.args.place c.in-Err.index c.deref-2.ensures.value c.in-Err.ensures.position up in
+    let at = between us c.deref-3.result.now c.args.place c.in-Err.index c.deref-3.ensures.value c.in-Err.ensures.position up in
     ap (λ xs. is_among xs n) c.in_ok-insert.ensures.items ∙ among_between us c.in-Err.index c.args.place at n)
 
 pub returns-in_default-clause-among : goal.returns-in_default-clause-among
 returns-in_default-clause-among c = λ up n. (
     let us = c.args.places.now.items in
     let u = c.args.place in
-    let w = searched us u (Ok c.in_default.field-0) (subst (λ xs. IsBinarySearchResult (λ y. nat_cmp y u) xs (Ok c.in_default.field-0)) c.deref-2.ensures.value c.in_default.ensures.position) (flat us up) in
+    let w = searched us u (Ok c.in_default.field-0) (subst (λ xs. IsBinarySearchResult (λ y. nat_cmp y u) xs (Ok c.in_default.field-0)) c.deref-3.ensures.value c.in_default.ensures.position) (flat us up) in
     among_same us u n (among_at us c.in_default.field-0 u w.0 w.1))
