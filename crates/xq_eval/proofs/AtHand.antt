@@ -5,8 +5,7 @@ use Rattle.xq_atoms.specs.declared.atoms.Atom.{Atom}
 use Rattle.xq_atoms.specs.declared.refusals.Code.{Code}
 use Rattle.xq_atoms.specs.declared.refusals.Fault.{Fault}
 use Rattle.xq_atoms.specs.declared.refusals.Fault.TheVariants.{Code as OfCode}
-use Rattle.xq_atoms.specs.Atom.{Atomic, Integer, Decimal, atomic_of, judged_of, numeric}
-use Rattle.xq_atoms.specs.Judged.{Judged, ◌>>=◌}
+use Rattle.xq_atoms.specs.Atom.{Atomic, Integer, Decimal, atomic_of}
 use Rattle.xq_regions.specs.Items.{ItemView, Value}
 use Rattle.xq_regions.specs.Tree.{Tree}
 use Rattle.xq_regions.specs.Tuples.{value_at}
@@ -15,11 +14,11 @@ use Rattle.xq_tuples.specs.Views.{slot_items, values_of}
 use Rattle.xq_meaning.specs.declared.operators.Operator.{Operator}
 use Rattle.xq_meaning.specs.declared.plans.Plan.{Plan}
 use Rattle.xq_meaning.specs.declared.plans.Plan.TheVariants as plan
-use Rattle.xq_meaning.specs.Arguments.{as_items, atomic}
+use Rattle.xq_meaning.specs.Arguments.{atomic}
 use Rattle.xq_meaning.specs.Doing.{Doing, Outcome, go_on, in_turn, on_trees}
 use Rattle.xq_meaning.specs.Forms as Forms
 use Rattle.xq_meaning.specs.Items.{Item}
-use Rattle.xq_meaning.specs.Operators.{calculated, operated}
+use Rattle.xq_meaning.specs.Operators.{operated}
 use Rattle.xq_meaning.specs.PlanMeaning.{Frame, Meaning, plan_mean}
 use Rattle.xq_meaning.specs.Readings.{items_at}
 use Rattle.xq_meaning.proofs.PlanEquations.{plan-Int, plan-Dec, plan-Slot, plan-Chain}
@@ -27,6 +26,7 @@ use Rattle.xq_forms.specs.Views.{tuple_at}
 use Rattle.xq_joins.specs.Atoms.{Tells}
 use Rattle.xq_eval.proofs.Counted.{slot_value}
 use Rattle.xq_eval.proofs.Loops.{left_over}
+use Rattle.xq_eval.specs.private.AtHand.{GivesIn}
 use Rattle.xq_eval.specs.private.Numbers.{TellsResult, TellsNumber}
 
 -- # Atoms at hand
@@ -36,16 +36,6 @@ pub atom_there : {X : Type 0} (view : X → Atomic) (slots : List SlotValue) (n 
     → IfSome found (λ x. items ≡ Value (view x) ∷ []) → IfSome found (λ x. (trees : List Tree) → value_at n (tuple_at trees (values_of slots)) ≡ atomic (view x))
 atom_there view slots n slot items (Some x) h e is one = λ trees. slot_value trees slots n slot h e ∙ ap (items_at trees) (sym is ∙ one)
 atom_there view slots n slot items None h e is one = tt
-
--- # One operator
-
-pub both_numbers : (op : Atomic → Atomic → Judged Atomic) (a b : Atomic) (trees : List Tree) → numeric a ≡ Ok a → numeric b ≡ Ok b → calculated op trees (atomic a) (atomic b) ≡ as_items (op a b)
-both_numbers op a b trees left right =
-    ap (λ j. j >>= (λ x. numeric b >>= (λ y. as_items (op x y)))) left ∙ ap (λ j. j >>= (λ y. as_items (op a y))) right
-
-pub told_result : (j : Judged Atomic) (r : Result Atom Code) (o : Judged (List Item)) (found : Result (Option Atom) Code) → judged_of r ≡ j → o ≡ as_items j → found ≡ (r >>= (λ atom. Ok (Some atom))) → TellsResult o found
-told_result j (Ok atom) o found e is f = subst (TellsResult o) (sym f) (is ∙ ap as_items (sym e))
-told_result j (Err code) o found e is f = subst (TellsResult o) (sym f) (is ∙ ap as_items (sym e))
 
 -- # Plans
 
@@ -64,9 +54,6 @@ pub told_slot : (p : Plan) (n : ℕ) (frame : Frame) (trees : List Tree) (slots 
     → IfSome found (λ atom. (same : List Tree) → value_at n (tuple_at same (values_of slots)) ≡ atomic (atomic_of atom)) → TellsNumber (plan_mean p frame trees) trees (Ok found)
 told_slot p n frame trees slots (Some atom) is env one = slot_told p n frame trees slots (atomic_of atom) is env (one trees)
 told_slot p n frame trees slots None is env one = tt
-
-abbrev operand_of : Operator × Plan → Operator × Meaning
-operand_of o = (o.0, plan_mean o.1)
 
 pub told_chain : (p first : Plan) (rest : List (Operator × Plan)) (frame : Frame) (trees : List Tree) (r : Result (Option Atom) Code) → p ≡ plan.Chain first rest
     → TellsNumber (Forms.chain (plan_mean first) (map (λ (op, p). (op, plan_mean p)) rest) frame trees) trees r → TellsNumber (plan_mean p frame trees) trees r
@@ -105,6 +92,23 @@ told_operand frame xs operator p trees right r value h = by r h
     by (Ok (Some atom)) k = is ∙ ap (λ j. (j, trees)) k
     by (Ok None) k = tt
     by (Err code) k = is ∙ ap (λ j. (j, trees)) k
+
+-- # Integers
+
+pub integer_slot : (p : Plan) (n : ℕ) (slots : List SlotValue) (found : Option ℤ) → p ≡ plan.Slot n → IfSome found (λ z. (same : List Tree) → value_at n (tuple_at same (values_of slots)) ≡ atomic (Integer z))
+    → IfSome found (λ z. GivesIn slots (plan_mean p) (Integer z))
+integer_slot p n slots (Some z) is one = λ trees frame env. slot_told p n frame trees slots (Integer z) is env (one trees)
+integer_slot p n slots None is one = tt
+
+pub integer_chain : (p first : Plan) (rest : List (Operator × Plan)) (slots : List SlotValue) (found : Option ℤ) → p ≡ plan.Chain first rest → IfSome found (λ z. GivesIn slots (Forms.chain (plan_mean first) (map (λ (op, p). (op, plan_mean p)) rest)) (Integer z))
+    → IfSome found (λ z. GivesIn slots (plan_mean p) (Integer z))
+integer_chain p first rest slots (Some z) is h = λ trees frame env. ap (λ q. plan_mean q frame trees) is ∙ ap (λ (m : Meaning). m frame trees) (plan-Chain first rest) ∙ h trees frame env
+integer_chain p first rest slots None is h = tt
+
+-- an operator on two atoms
+pub given_operand : (frame : Frame) (trees : List Tree) (left right next : Atomic) (operator : Operator) (p : Plan) → plan_mean p frame trees ≡ (Ok (atomic right), trees)
+    → operated operator trees (atomic left) (atomic right) ≡ Ok (atomic next) → Forms.next_operand frame (atomic left) (operator, plan_mean p) trees ≡ (Ok (atomic next), trees)
+given_operand frame trees left right next operator p value h = ap (λ o. go_on o (λ ys. on_trees (λ trees. operated operator trees (atomic left) ys))) value ∙ ap (λ j. (j, trees)) h
 
 -- # Chains
 

@@ -72,4 +72,4 @@ module _ (frame : Frame) (trees : List Tree) where
       ap (λ (m : Meaning). Forms.filter_of m (map plan_mean predicates) frame trees) (ap plan_mean is ∙ plan-Sequence parts)
       ∙ ap (λ ps. go_on (Forms.sequence (map plan_mean parts) frame trees) (λ ys. in_turn (Forms.filtered frame) ys (map plan_mean ps))) one
       ∙ ap (λ o. go_on o (λ ys. in_turn (Forms.filtered frame) ys (plan_mean predicate ∷ []))) (made parts all [])
-      ∙ ap (λ o. go_on o (λ ys. give ys)) (only_kept predicate (pos (i + 1)) frame trees position (i + 1) refl i 1 (length xs) [] xs (Atom a) (omega arith) inside (there parts all i p a within at gives))
+      ∙ ap (λ o. go_on o (λ ys. give ys)) (only_kept predicate (pos (i + 1)) frame trees (λ last. Unit {0}) (λ spot known. position spot) (i + 1) refl i 1 (length xs) [] xs (Atom a) tt (omega arith) inside (there parts all i p a within at gives))

@@ -15,7 +15,8 @@ ghost use Rattle.xq_joins.specs.Atoms.{Tells};
 ghost use Rattle.xq_eval.specs.private.AtHand.{Gives, IsConstant, IsPosition};
 
 use crate::concatenation::concatenated;
-use crate::numbers::{number_of, number_of_chain};
+use crate::integers::integer_of;
+use crate::numbers::number_of_chain;
 use std::alloc::Global;
 use xq_atoms::{Atom, Fault, Want};
 use xq_meaning::Plan;
@@ -111,12 +112,7 @@ fn kept_index(slots: &[SlotValue], predicate: &Plan, count: usize) -> Option<usi
     ensures { IfSome result (λ index. index < count
         × IsPosition slots.now predicate.now (index + 1)) }
 {
-    let Ok(Some(number)) = number_of(slots, predicate) else {
-        return None;
-    };
-    let Atom::Int(position) = number else {
-        return None;
-    };
+    let position = integer_of(slots, predicate)?;
     if position < 1 || position as usize > count {
         return None;
     }

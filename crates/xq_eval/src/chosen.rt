@@ -1,10 +1,12 @@
 //! The nodes among which the predicates of a step choose (XQuery 3.1, section 3.3.3).
-ghost use Rattle.std.specs.Prelude.{IfSome};
+ghost use Rattle.std.specs.Prelude.{◌≡◌, true, IfSome};
 ghost use Rattle.xq_forms.specs.Views.{frame_at, FrameIn, Goes};
-ghost use Rattle.xq_eval.specs.private.Choosing.{Suffices, Chooses};
+ghost use Rattle.xq_eval.specs.private.Choosing.{Suffices, LastSuffices, Chooses};
 
+use crate::positions::bare_call;
 use std::alloc::Global;
 use xq_atoms::Fault;
+use xq_expressions::Function;
 use xq_forms::{Frame, axis_items, first_children};
 use xq_meaning::{Plan, Test};
 use xq_regions::{Axis, Items};
@@ -23,6 +25,16 @@ fn sufficient(predicates: &[Plan]) -> Option<usize>
     } else {
         None
     }
+}
+
+/// Whether the first of the predicates is `last()`: it keeps no item but the last.
+fn is_last(predicates: &[Plan]) -> bool
+    ensures { result ≡ true → LastSuffices predicates.now }
+{
+    let Some(first) = predicates.first() else {
+        return false;
+    };
+    matches!(bare_call(first), Some(Function::Last))
 }
 
 /// The nodes on the axis from the context node that pass the test, in axis order. Children are

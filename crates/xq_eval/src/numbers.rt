@@ -1,5 +1,5 @@
 //! Arithmetic on literals and on variables that are one number each: no lists are made of what its
-//! operands give.
+//! operands give, and no atoms where all of it is in integers.
 ghost use Rattle.std.specs.Prelude.{◌≡◌, ◌∷◌, [], List, map, true, Ok, IfSome};
 ghost use Rattle.xq_atoms.specs.Atom.{atomic_of, judged_of, numeric};
 ghost use Rattle.xq_regions.specs.Items.{Value as AtomView, item_view};
@@ -13,6 +13,7 @@ ghost use Rattle.xq_meaning.specs.PlanMeaning.{Frame as Meant, plan_mean};
 ghost use Rattle.xq_forms.specs.Views.{tuple_at};
 ghost use Rattle.xq_eval.specs.private.Numbers.{TellsResult, TellsNumber};
 
+use crate::integers::{integer_of, integer_of_chain};
 use xq_atoms::{Atom, Code, add, div, idiv, mod_, mul, sub};
 use xq_expressions::{ProductOperator, Sign};
 use xq_meaning::{Operator, Plan};
@@ -93,23 +94,18 @@ fn calculated(operator: Operator, left: &Atom, right: &Atom) -> Result<Option<At
 
 /// The number that a plan gives, where it is a literal, a variable that is one number, or
 /// arithmetic of such; none where it is something else.
-#[cycle(numbers)]
 pub fn number_of(slots: &[SlotValue], plan: &Plan) -> Result<Option<Atom>, Code>
     ensures { (trees : List Tree) (frame : Meant)
         → frame.env ≡ tuple_at trees (values_of slots.now)
         → TellsNumber (plan_mean plan.now frame trees) trees result }
 {
-    match plan {
-        Plan::Int(integer) => Ok(Some(Atom::Int(*integer))),
-        Plan::Dec(decimal) => Ok(Some(Atom::Dec(*decimal))),
-        Plan::Slot(slot) => Ok(number_in(slots, *slot)),
-        Plan::Chain(first, rest) => number_of_chain(slots, first.get(), rest.as_slice()),
-        _ => Ok(None),
+    match integer_of(slots, plan) {
+        Some(integer) => Ok(Some(Atom::Int(integer))),
+        None => judged_number(slots, plan),
     }
 }
 
 /// The number that operands and the operators between them give, as [`number_of`] tells it.
-#[cycle(numbers)]
 pub fn number_of_chain(
     slots: &[SlotValue],
     first: &Plan,
@@ -120,7 +116,42 @@ pub fn number_of_chain(
         → TellsNumber (Forms.chain (plan_mean first.now) (map (λ (op, p). (op, plan_mean p))
         rest.now) frame trees) trees result }
 {
-    let Some(first) = number_of(slots, first)? else {
+    match integer_of_chain(slots, first, rest) {
+        Some(integer) => Ok(Some(Atom::Int(integer))),
+        None => judged_chain(slots, first, rest),
+    }
+}
+
+/// The number that a plan gives, or its refusal, as [`number_of`] tells it, also where a number on
+/// the way is a decimal.
+#[cycle(numbers)]
+fn judged_number(slots: &[SlotValue], plan: &Plan) -> Result<Option<Atom>, Code>
+    ensures { (trees : List Tree) (frame : Meant)
+        → frame.env ≡ tuple_at trees (values_of slots.now)
+        → TellsNumber (plan_mean plan.now frame trees) trees result }
+{
+    match plan {
+        Plan::Int(integer) => Ok(Some(Atom::Int(*integer))),
+        Plan::Dec(decimal) => Ok(Some(Atom::Dec(*decimal))),
+        Plan::Slot(slot) => Ok(number_in(slots, *slot)),
+        Plan::Chain(first, rest) => judged_chain(slots, first.get(), rest.as_slice()),
+        _ => Ok(None),
+    }
+}
+
+/// The number that operands and the operators between them give, as [`judged_number`] tells it.
+#[cycle(numbers)]
+fn judged_chain(
+    slots: &[SlotValue],
+    first: &Plan,
+    rest: &[(Operator, Plan)],
+) -> Result<Option<Atom>, Code>
+    ensures { (trees : List Tree) (frame : Meant)
+        → frame.env ≡ tuple_at trees (values_of slots.now)
+        → TellsNumber (Forms.chain (plan_mean first.now) (map (λ (op, p). (op, plan_mean p))
+        rest.now) frame trees) trees result }
+{
+    let Some(first) = judged_number(slots, first)? else {
         return Ok(None);
     };
     let mut total = first;
@@ -146,7 +177,7 @@ fn next_number(
         → TellsNumber (Forms.next_operand frame (atomic (atomic_of left.now))
         (operator, plan_mean part.now) trees) trees result }
 {
-    let Some(right) = number_of(slots, part)? else {
+    let Some(right) = judged_number(slots, part)? else {
         return Ok(None);
     };
     calculated(operator, left, &right)

@@ -1,5 +1,5 @@
 -- The nodes among which the predicates of a step choose.
-use Rattle.std.specs.Prelude.{ℕ, ◌≡◌, List, map, take, Result}
+use Rattle.std.specs.Prelude.{ℕ, ◌≡◌, ◌-◌, List, map, take, drop, length, Result}
 use Rattle.std.specs.Global.{Vec}
 use Rattle.xq_atoms.specs.declared.refusals.Fault.{Fault}
 use Rattle.xq_regions.specs.declared.Axis.{Axis}
@@ -21,6 +21,11 @@ chosen predicates frame xs = in_turn (Forms.filtered frame) xs (map plan_mean pr
 abbrev pub Suffices : List Plan → ℕ → Type 0
 Suffices predicates most = (frame : Frame) (xs : List Item) (trees : List Tree)
     → chosen predicates frame (take most xs) trees ≡ chosen predicates frame xs trees
+
+-- and of the last item, where there is one
+abbrev pub LastSuffices : List Plan → Type 0
+LastSuffices predicates = (frame : Frame) (xs : List Item) (trees : List Tree)
+    → chosen predicates frame (drop (length xs - 1) xs) trees ≡ chosen predicates frame xs trees
 
 -- the result is of some nodes of which the predicates keep the same as of all on the axis
 pub record Chooses (axis : Axis) (test : Test) (predicates : List Plan) (frame : Frame)

@@ -13,17 +13,17 @@ use Rattle.xq_eval.proofs.AtHand.{left_of}
 use Rattle.xq_eval.proofs.numbers.+numbers.Given as goal
 
 -- the operators that are left go on from the number so far
-abbrev pub invariant-number_of_chain-loop-operator : goal.invariant-number_of_chain-loop-operator
-invariant-number_of_chain-loop-operator l = (trees : List Tree) (frame : Frame) → frame.env ≡ tuple_at trees (values_of l.slots)
+abbrev pub invariant-judged_chain-loop-operator : goal.invariant-judged_chain-loop-operator
+invariant-judged_chain-loop-operator l = (trees : List Tree) (frame : Frame) → frame.env ≡ tuple_at trees (values_of l.slots)
     → Forms.chain (plan_mean l.fn.first) (map (λ (op, p). (op, plan_mean p)) l.rest) frame trees ≡ left_of frame trees (atomic_of l.total) (drop l.operator-index l.rest)
 
 -- # Measures: at one depth a function calls those of lower rank
 
-abbrev pub decreases-number_of : goal.decreases-number_of
-decreases-number_of a = 3 * goal.size-number_of a
+abbrev pub decreases-judged_number : goal.decreases-judged_number
+decreases-judged_number a = 3 * goal.size-judged_number a
 
-abbrev pub decreases-number_of_chain : goal.decreases-number_of_chain
-decreases-number_of_chain a = 3 * max (size-Plan a.first.now) (most (λ (o : Operator × Plan). max 0 (max (size-Plan o.1) 0)) a.rest.now) + 2
+abbrev pub decreases-judged_chain : goal.decreases-judged_chain
+decreases-judged_chain a = 3 * max (size-Plan a.first.now) (most (λ (o : Operator × Plan). max 0 (max (size-Plan o.1) 0)) a.rest.now) + 2
 
 abbrev pub decreases-next_number : goal.decreases-next_number
 decreases-next_number a = 3 * goal.size-next_number a + 1
