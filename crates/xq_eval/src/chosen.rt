@@ -7,7 +7,7 @@ use crate::positions::bare_call;
 use std::alloc::Global;
 use xq_atoms::Fault;
 use xq_expressions::Function;
-use xq_forms::{Frame, axis_items, first_children};
+use xq_forms::{Frame, axis_items, first_children, last_child};
 use xq_meaning::{Plan, Test};
 use xq_regions::{Axis, Items};
 use xq_sources::Growing;
@@ -38,7 +38,8 @@ fn is_last(predicates: &[Plan]) -> bool
 }
 
 /// The nodes on the axis from the context node that pass the test, in axis order. Children are
-/// looked for only as far as the predicates may keep them.
+/// looked for only as far as the predicates may keep them, and only the last one where they keep no
+/// other.
 pub fn nodes_of_step<W: Growing>(
     alloc: Global,
     world: &mut W,
@@ -56,6 +57,9 @@ pub fn nodes_of_step<W: Growing>(
     if let Axis::Child = axis {
         if let Some(most) = sufficient(predicates) {
             return first_children(alloc, world, frame, test, most);
+        }
+        if is_last(predicates) {
+            return last_child(alloc, world, frame, test);
         }
     }
     axis_items(alloc, world, frame, axis, test)
