@@ -19,9 +19,9 @@ use xq_atoms::Want;
 use xq_meaning::Test;
 use xq_sources::{LentRow, RowLender};
 
-/// Of how many places of a name the parents are asked for, from the last one below a node on, to find
-/// its last child with the name. There may be any number of them below a later child, none of which
-/// is read where the children are walked over.
+/// Of how many places of a name the parents are asked for, from the last one below a node on, to
+/// find its last child with the name. There may be any number of them below a later child, none of
+/// which is read where the children are walked over.
 const MOST_ASKED: usize = 32;
 
 /// A node whose children or attributes are looked for, as its row has it.
@@ -259,8 +259,8 @@ fn told_last<L: RowLender>(source: &L, tree: usize, place: u32, places: &[u32]) 
 fn named_last<L: RowLender>(source: &L, tree: usize, owner: Owner, test: &Test) -> Option<u32>
     ensures { L.is_clean source.now
         → let t = tree_at (L.forest source.now) tree in
-        IsOwner t owner → IfSome result (λ child. EndWith
-        (below_where (is_wanted axes.Child test.now t (owner.place ∷ [])) (count (nodes t))) child) }
+        IsOwner t owner → IfSome result (λ child. EndWith (below_where
+        (is_wanted axes.Child test.now t (owner.place ∷ [])) (count (nodes t))) child) }
 {
     let name = wanted_name(test)?;
     let named = source.named(tree, name)?;
