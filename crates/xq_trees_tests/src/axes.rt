@@ -212,7 +212,7 @@ fn is_node(item: &Item, tree: usize, place: u32) -> bool {
 }
 
 /// Whether the items are the nodes of the tree at the places.
-fn are_nodes(items: &[Item], tree: usize, places: &[u32]) -> bool {
+pub fn are_nodes(items: &[Item], tree: usize, places: &[u32]) -> bool {
     for (item, place) in items.iter().zip(places) {
         if !is_node(item, tree, *place) {
             return false;

@@ -13,6 +13,8 @@ mod attributes;
 #[cfg(test)]
 mod axes;
 #[cfg(test)]
+mod children;
+#[cfg(test)]
 mod constructors;
 #[cfg(test)]
 mod content;
