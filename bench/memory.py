@@ -3,15 +3,19 @@
 usage: memory.py [FOLDER]    builds bench/axes/main.rattle in the folder, unless an earlier call did
 
 One process stores the document in a file, another opens it and reads all rows through a view, and
-again through a second one; then the rows are let go. Of the opening the engine's own part, which
-takes each table as a list, and the adoption of the store are shown apart. For each stage: the
-megabytes that the process has resident as it ends, and the most since the stage before; and with a
-C compiler the megabytes that are allocated and not freed, the most since the stage before, and how
-many bytes a row that is above the opened store. What opening the store frees stays resident, and
-the rows take its place.
+again through a second one; then all elements are found by their names, and all attributes by their
+values; then what is kept is let go. Of the opening the engine's own part, which takes each table as
+a list, and the adoption of the store are shown apart. For each stage: the megabytes that the
+process has resident as it ends, and the most since the stage before; and with a C compiler the
+megabytes that are allocated and not freed, the most since the stage before, and how many bytes a
+row that is above the opened store. What opening the store frees stays resident, and the rows take
+its place. Last: what a row takes with its names and values found, and how many such rows of all
+documents together are kept at most, by the bound that the store's source has.
 """
 
 import os
+import pathlib
+import re
 import subprocess
 import sys
 import tempfile
@@ -24,6 +28,10 @@ from workspace import bench_program
 
 # The library of so many elements has a million rows.
 ELEMENTS = 414_491
+
+# Where the store's source says how many bytes are kept at most, as 128 << 20.
+ROOM = pathlib.Path(HERE, "..", "crates", "xq_rows", "src", "room.rt")
+MOST_KEPT = re.compile(r"^const MOST_KEPT: usize = (\d+) << (\d+);$", re.MULTILINE)
 
 
 def counter(folder):
@@ -74,13 +82,30 @@ def report(rows, found):
         print(line)
 
 
+def most_kept():
+    """How many bytes are kept of all documents together at most."""
+    number, places = MOST_KEPT.search(ROOM.read_text()).groups()
+    return int(number) << int(places)
+
+
+def report_bound(rows, found):
+    """Prints what a row takes with names and values found, and how many of them are kept."""
+    held = {stage: held for stage, _, _, held in found}
+    if held["opened"]:
+        taken = (held["values"][0] - held["opened"][0]) / rows
+        print("a row with names and values: %.1f bytes; at most %d MB are kept, some %.1f million"
+              % (taken, most_kept() >> 20, most_kept() / taken / 1e6))
+
+
 def measure(program):
     with tempfile.TemporaryDirectory() as folder:
         path = os.path.join(folder, "rows.db")
         rows = int(answer(program, "fill %d %s" % (ELEMENTS, path)))
         size = sum(os.path.getsize(os.path.join(folder, name)) for name in os.listdir(folder))
         print("%d rows in a database of %.1f MB, its log counted" % (rows, size / 1e6), flush=True)
-        report(rows, stages(answer(program, "scan %s" % path, counter(folder))))
+        found = stages(answer(program, "scan %s" % path, counter(folder)))
+        report(rows, found)
+        report_bound(rows, found)
 
 
 def main():

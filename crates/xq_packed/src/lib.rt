@@ -28,6 +28,9 @@ use shapes::{Shape, end_after, start_at};
 /// The most rows: their places have four bytes.
 pub const MOST_ROWS: usize = 0xFFFF_FFFF;
 
+/// What a row takes beside its value and its name.
+const BYTES_OF_A_SHAPE: usize = 16;
+
 /// Rows in a list, without their places. Contracts see the rows and the distinct names among which
 /// theirs are, in the order of their numbers.
 #[derive(Drop)]
@@ -76,6 +79,15 @@ impl PackedRows {
         ensures room { result < 2 ^ 32 }
     {
         self.shapes.len()
+    }
+
+    /// How many bytes the rows take, without room to grow: sixteen each, their values, and their
+    /// names, each once.
+    pub fn bytes(&self) -> usize {
+        let shapes = self.len().saturating_mul(BYTES_OF_A_SHAPE);
+        shapes
+            .saturating_add(self.text.len())
+            .saturating_add(self.names.bytes())
     }
 
     /// Whether there is no row.

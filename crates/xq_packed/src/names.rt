@@ -15,6 +15,9 @@ const FEW: usize = 16;
 /// The most names: their numbers have four bytes.
 const MOST_NAMES: usize = 0x1_0000_0000;
 
+/// What a name takes beside its own bytes: where they lie, and what it is found by.
+const BESIDE_A_NAME: usize = 64;
+
 /// Distinct names, each with its number: how many were added before it. Contracts see them in the
 /// order of their numbers.
 #[derive(Drop)]
@@ -23,6 +26,8 @@ pub struct Names {
     few: Vec<String>,
     /// Those after them, where there are more.
     many: IndexSet<String>,
+    /// How many bytes they take in all.
+    bytes: usize,
 }
 
 impl Model for Names {
@@ -56,7 +61,14 @@ impl Names {
         Names {
             few: Vec::new(alloc),
             many: IndexSet::new(alloc),
+            bytes: 0,
         }
+    }
+
+    /// How many bytes they take in all.
+    #[inline]
+    pub fn bytes(&self) -> usize {
+        self.bytes
     }
 
     /// Where the names are kept.
@@ -107,11 +119,14 @@ impl Names {
             return Err(Want::Memory);
         }
         let kept = String::from_str(*self.few.allocator(), name)?;
+        let bytes = name.len().saturating_add(BESIDE_A_NAME);
         if number < FEW {
             self.few.push(kept)?;
+            self.bytes = self.bytes.saturating_add(bytes);
             return Ok(number as u32);
         }
         let _ = self.many.insert(kept)?;
+        self.bytes = self.bytes.saturating_add(bytes);
         Ok(number as u32)
     }
 

@@ -1,4 +1,4 @@
-//! The rows that are kept of documents: lent, read on where they are wanted, and forgotten.
+//! The rows that are kept of documents: lent, and read on where they are wanted.
 ghost use Rattle.std.specs.Prelude.{◌≡◌, IsTrue, List, Some, IfOk, IfSome, OnOk, filter};
 ghost use Rattle.std.specs.FinMap.{get};
 ghost use Rattle.std.specs.List.{enumerate_from};
@@ -13,6 +13,7 @@ ghost use Rattle.xq_sources.specs.Names.{named};
 ghost use Rattle.xq_sources.specs.Parents.{AreParents, IsParentRow};
 ghost use Rattle.xq_sources.specs.Sources.{tree_at};
 
+use crate::room::make_room;
 use crate::shelves::{Front, Shelf, address_at, all_of, are_whole};
 use crate::stores::Store;
 use sqlite::Alter;
@@ -23,10 +24,6 @@ use xq_sources::{LentRows, no_parents};
 
 /// How many rows are read at a time.
 const PART: u32 = 1_024;
-
-/// How many rows are kept of all documents together. Where there are more, those of the documents
-/// that were wanted longest ago are forgotten before one is read on.
-const MOST_KEPT: usize = 1_000_000;
 
 /// Rows of a tree from `low` to `high`.
 #[derive(Clone, Copy)]
@@ -42,66 +39,6 @@ pub(crate) const NO_ROWS: Run = Run {
     low: 1,
     high: 0,
 };
-
-/// The tree whose rows were wanted longest ago, of those that have some, but for one tree; else
-/// that one.
-fn oldest_but(fronts: &[Front], tree: usize) -> usize {
-    let mut oldest = tree;
-    let mut wanted = u64::MAX;
-    for (other, front) in fronts.iter().enumerate() {
-        if other != tree && front.rows.len() > 0 && front.wanted < wanted {
-            oldest = other;
-            wanted = front.wanted;
-        }
-    }
-    oldest
-}
-
-/// Forgets the rows of a tree, and tells how many they were.
-fn forget(alloc: Global, fronts: &mut Vec<Front>, tree: usize) -> usize
-    ensures { (trees : List Tree) → AreFronts trees fronts.old.items
-        → AreFronts trees fronts.new.items }
-{
-    if tree >= fronts.len() {
-        return 0;
-    }
-    let count = fronts[tree].rows.len();
-    fronts[tree] = Front::new(alloc);
-    count
-}
-
-/// While too many rows are kept, with so many that come, forgets those of the tree that was wanted
-/// longest ago, but for one tree.
-fn make_room(alloc: Global, shelf: &mut Shelf, tree: usize, coming: usize)
-    ensures addresses { shelf.new.addresses ≡ shelf.old.addresses }
-    ensures fronts { (trees : List Tree) → AreFronts trees shelf.old.fronts.items
-        → AreFronts trees shelf.new.fronts.items }
-    ensures stays { shelf.new.stays ≡ shelf.old.stays }
-{
-    for turn in 0..shelf.fronts.len() {
-        if shelf.kept.saturating_add(coming) <= MOST_KEPT {
-            return;
-        }
-        let oldest = oldest_but(&shelf.fronts, tree);
-        if oldest == tree {
-            return;
-        }
-        let count = forget(alloc, &mut shelf.fronts, oldest);
-        shelf.kept = shelf.kept.saturating_sub(count);
-    }
-}
-
-/// What is kept, with room for so many rows more as far as others can be forgotten.
-pub(crate) fn with_room(alloc: Global, shelf: Option<Shelf>, coming: usize) -> Option<Shelf>
-    ensures { IfSome result (λ later. (earlier : Shelf) × (shelf ≡ Some earlier)
-        × (later.addresses ≡ earlier.addresses) × ((trees : List Tree)
-        → AreFronts trees earlier.fronts.items → AreFronts trees later.fronts.items)) }
-{
-    let mut shelf = shelf?;
-    let none = shelf.fronts.len();
-    make_room(alloc, &mut shelf, none, coming);
-    Some(shelf)
-}
 
 /// Reads the document of an address on, a part at a time, until its rows reach a place or are all
 /// there.
@@ -314,9 +251,9 @@ pub(crate) fn read_on<S: Alter>(
     let Some(front) = shelf.fronts.get_mut(tree) else {
         return Err(Want::Store);
     };
-    let before = front.rows.len();
+    let before = front.bytes();
     let read = read_front(alloc, store, address, front, place);
-    let more = front.rows.len().saturating_sub(before);
+    let more = front.bytes().saturating_sub(before);
     shelf.kept = shelf.kept.saturating_add(more);
     shelf.clock = shelf.clock.saturating_add(1);
     shelf.stays &= read.is_ok();

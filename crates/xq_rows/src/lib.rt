@@ -20,6 +20,7 @@ mod memory_files;
 mod readings;
 mod refusals;
 mod replacements;
+mod room;
 mod rows;
 mod schemas;
 mod shelves;

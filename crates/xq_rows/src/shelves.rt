@@ -36,9 +36,9 @@ pub(crate) struct Front {
 pub(crate) struct Shelf {
     pub addresses: Rc<Addresses>,
     pub fronts: Vec<Front>,
-    /// How many rows that are in all.
+    /// How many bytes that are in all.
     pub kept: usize,
-    /// How often rows were wanted that had to be read, or a view began.
+    /// How often rows were wanted that had to be read, or a document came with its rows.
     pub clock: u64,
     /// Whether the store may keep this when its view ends.
     pub stays: bool,
@@ -72,6 +72,14 @@ impl Front {
             values: HashMap::new(alloc),
             wanted,
         }
+    }
+
+    /// How many bytes are kept at most: rows with their values, and of each row the place of its
+    /// parent, and its place among those of its name.
+    pub fn bytes(&self) -> usize {
+        self.rows
+            .bytes()
+            .saturating_add(self.rows.len().saturating_mul(8))
     }
 
     /// The rows, lent.
@@ -229,8 +237,8 @@ impl Shelf {
             × (later.fronts.items ≡ set self.fronts.items place front)) }
     {
         let old = self.fronts.get_mut(place)?;
-        let fewer = self.kept.saturating_sub(old.rows.len());
-        self.kept = fewer.saturating_add(front.rows.len());
+        let fewer = self.kept.saturating_sub(old.bytes());
+        self.kept = fewer.saturating_add(front.bytes());
         *old = front;
         Some(self)
     }
@@ -247,7 +255,7 @@ impl Shelf {
         }
         let addresses = Rc::get_mut(&mut self.addresses)?;
         addresses.insert(place, address).ok()?;
-        self.kept = self.kept.saturating_add(front.rows.len());
+        self.kept = self.kept.saturating_add(front.bytes());
         self.fronts.insert(place, front).ok()?;
         Some(self)
     }
@@ -265,7 +273,7 @@ impl Shelf {
         let addresses = Rc::get_mut(&mut self.addresses)?;
         addresses.remove(place);
         let front = self.fronts.remove(place);
-        self.kept = self.kept.saturating_sub(front.rows.len());
+        self.kept = self.kept.saturating_sub(front.bytes());
         Some(self)
     }
 }

@@ -24,10 +24,10 @@ ghost use Rattle.xq_sources.specs.Sources.{rows_between, rows_enclosing};
 
 use crate::adoptions::adopt_tables;
 use crate::faults::OpenFault;
-use crate::fronts::with_room;
 use crate::listings::list_shelf;
 use crate::memory_files::open_empty;
 use crate::readings::{check_open, document_of, nodes_above, nodes_between};
+use crate::room::with_room;
 use crate::schemas::tables_in;
 use crate::shelves::{Front, Shelf, all_of, kept_of, time_of};
 use crate::tables::make_tables;
@@ -330,7 +330,7 @@ impl<S: Alter> Store<S> {
         let there = kept_of(&others, address);
         let rows = all_of(document.rows());
         let replaced = put_rows(self.alloc, &mut self.conn, address, &there, &rows)?;
-        let shelf = with_room(self.alloc, others, document.rows().len());
+        let shelf = with_room(self.alloc, others, document.rows().bytes());
         let front = Front::whole(self.alloc, document, time_of(&shelf));
         self.shelf = shelf_with(shelf, address, front);
         Ok(Put::of(replaced))

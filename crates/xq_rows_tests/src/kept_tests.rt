@@ -5,6 +5,7 @@
 use crate::adopt_tests::ORDERS;
 use crate::asserts::none_is_wrong;
 use crate::calls::Call;
+use crate::documents::Document::Long;
 use crate::documents::{EMPTY, LIBRARY, RENUMBERED, TURNED};
 use crate::loans::Look;
 use crate::stores::{adopted, in_memory, made, on_disks};
@@ -168,6 +169,51 @@ const VALUES: [Step; 4] = [
         Task::Names(&[(1, Look::Valued("id", "2", Some(&[2, 4])))]),
     ),
 ];
+
+/// What is kept of a small document stays beside another of few rows and long values, and is
+/// forgotten for a longer one, which is forgotten in turn where the small one is read again. No
+/// document is lost.
+const ROOM: [Step; 4] = [
+    (
+        &[Call::HandOver("a", LIBRARY, Put::Stored)],
+        Task::Names(&[
+            (0, Look::Find("book")),
+            (0, Look::Told("book", Some(&[2, 5]))),
+        ]),
+    ),
+    (
+        &[Call::HandOver("b", Long(64), Put::Stored)],
+        Task::Names(&[(0, Look::Told("book", Some(&[2, 5])))]),
+    ),
+    (
+        &[Call::HandOver("b", Long(130), Put::Replaced)],
+        Task::Names(&[
+            (0, Look::Told("book", None)),
+            (0, Look::Find("book")),
+            (0, Look::Told("book", None)),
+            (0, Look::Read),
+            (0, Look::Find("book")),
+            (0, Look::Told("book", Some(&[2, 5]))),
+        ]),
+    ),
+    (
+        &[
+            Call::Load("a", Some(LIBRARY)),
+            Call::Load("b", Some(Long(130))),
+        ],
+        Task::Documents(&[LIBRARY, Long(130)]),
+    ),
+];
+
+#[test]
+fn room_for_long_values(rt: HostRuntime) -> Result<(), Want> {
+    none_is_wrong(
+        &rt,
+        wrong_step(rt.alloc(), in_memory(rt.alloc())?, &ROOM)?,
+        0,
+    );
+    Ok(())
+}
 
 /// The steps, each list for a new store.
 const LISTS: [&[Step]; 5] = [&STEPS, &BOTH, &TABLES, &NAMES, &VALUES];

@@ -22,37 +22,44 @@ absent : (c : In_ok-kept) → list_any (bytes_eq c.args.name.now) (map string_by
 absent c = subst (λ ns. list_any (bytes_eq c.args.name.now) ns ≡ false) (sym c.self.view_is) c.requires
 
 -- it is one of the first few
-first_added : (c : In_ok-push) → IsAdded (map string_bytes c.self.inside.few.items ++ map string_bytes c.self.inside.many.keys) (map string_bytes c.push.new.self.items) (map string_bytes c.self.inside.many.keys) c.args.name.now
-first_added c =
+first_added : (c : In_ok-push) → list_any (bytes_eq c.args.name.now) (map string_bytes c.self.inside.few.items ++ map string_bytes c.self.inside.many.keys) ≡ false → IsAdded (map string_bytes c.self.inside.few.items ++ map string_bytes c.self.inside.many.keys) (map string_bytes c.push.new.self.items) (map string_bytes c.self.inside.many.keys) c.args.name.now
+first_added c fresh =
     let first : c.len.result ≡ length c.self.inside.few.items = search (rules, c.len.ensures) in
     let second : c.len-2.result ≡ length c.self.inside.many.keys = search (rules, c.len-2.ensures.len) in
-    added-to_few c.self.inside.few.items c.self.inside.many.keys c.in_ok-kept.kept c.args.name.now c.in_ok-kept.ensures.ok c.self.invariant (absent (goal.at.invariant_of-self-then-number-lt-FEW c).In_ok-kept) c.push.new.self.items c.in_ok-push.ensures.items (omega (arith, first, second, c.if-number-lt-FEW.true))
+    added-to_few c.self.inside.few.items c.self.inside.many.keys c.in_ok-kept.kept c.args.name.now c.in_ok-kept.ensures.ok c.self.invariant fresh c.push.new.self.items c.in_ok-push.ensures.items (omega (arith, first, second, c.if-number-lt-FEW.true))
 
 pub invariant_of-self-then-number-lt-FEW : goal.invariant_of-self-then-number-lt-FEW
-invariant_of-self-then-number-lt-FEW c = (first_added c).kept
+invariant_of-self-then-number-lt-FEW c =
+    let at = goal.at.invariant_of-self-then-number-lt-FEW c in
+    (first_added at.In_ok-push (absent at.In_ok-kept)).kept
 
 pub returns-then-number-lt-FEW-clause-number : goal.returns-then-number-lt-FEW-clause-number
 returns-then-number-lt-FEW-clause-number c =
+    let at = goal.at.returns-then-number-lt-FEW-clause-number c in
     let n = c.len.result + c.len-2.result in
-    subst (λ ns. IsNumbered ns n c.args.name.now) (sym (first_added c).names)
-    (numbered-last _ c.args.name.now n (count (goal.at.returns-then-number-lt-FEW-clause-number c).In_ok-kept))
+    subst (λ ns. IsNumbered ns n c.args.name.now) (sym (first_added at.In_ok-push (absent at.In_ok-kept)).names)
+    (numbered-last _ c.args.name.now n (count at.In_ok-kept))
 
 -- it comes after the first few
-later_added : (c : In_ok-insert) → IsAdded (map string_bytes c.self.inside.few.items ++ map string_bytes c.self.inside.many.keys) (map string_bytes c.self.inside.few.items) (map string_bytes c.insert.new.self.keys) c.args.name.now
-later_added c =
+later_added : (c : In_ok-insert) → list_any (bytes_eq c.args.name.now) (map string_bytes c.self.inside.few.items ++ map string_bytes c.self.inside.many.keys) ≡ false → IsAdded (map string_bytes c.self.inside.few.items ++ map string_bytes c.self.inside.many.keys) (map string_bytes c.self.inside.few.items) (map string_bytes c.insert.new.self.keys) c.args.name.now
+later_added c fresh =
     let first : c.len.result ≡ length c.self.inside.few.items = search (rules, c.len.ensures) in
     let second : c.len-2.result ≡ length c.self.inside.many.keys = search (rules, c.len-2.ensures.len) in
-    added-to_many c.self.inside.few.items c.self.inside.many.keys c.in_ok-kept.kept c.args.name.now c.in_ok-kept.ensures.ok c.self.invariant (absent (goal.at.invariant_of-self-2 c).In_ok-kept) c.insert.new.self.keys c.in_ok-insert.ensures.keys (omega (arith, first, second, c.if-number-lt-FEW.false)) (omega (arith, first, second, c.if-number-ge-MOST_NAMES.false))
+    added-to_many c.self.inside.few.items c.self.inside.many.keys c.in_ok-kept.kept c.args.name.now c.in_ok-kept.ensures.ok c.self.invariant fresh c.insert.new.self.keys c.in_ok-insert.ensures.keys (omega (arith, first, second, c.if-number-lt-FEW.false)) (omega (arith, first, second, c.if-number-ge-MOST_NAMES.false))
 
 pub invariant_of-self-2 : goal.invariant_of-self-2
-invariant_of-self-2 c = (later_added c).kept
+invariant_of-self-2 c =
+    let at = goal.at.invariant_of-self-2 c in
+    (later_added at.In_ok-insert (absent at.In_ok-kept)).kept
 
 pub returns-clause-number : goal.returns-clause-number
 returns-clause-number c =
+    let at = goal.at.returns-clause-number c in
     let n = c.len.result + c.len-2.result in
-    subst (λ ns. IsNumbered ns n c.args.name.now) (sym (later_added c).names)
-    (numbered-last _ c.args.name.now n (count (goal.at.returns-clause-number c).In_ok-kept))
+    subst (λ ns. IsNumbered ns n c.args.name.now) (sym (later_added at.In_ok-insert (absent at.In_ok-kept)).names)
+    (numbered-last _ c.args.name.now n (count at.In_ok-kept))
 
 pub returns-clause-names : goal.returns-clause-names
 returns-clause-names c =
-    (later_added c).names ∙ ap (λ ns. ns ++ c.args.name.now ∷ []) c.self.view_is
+    let at = goal.at.returns-clause-names c in
+    (later_added at.In_ok-insert (absent at.In_ok-kept)).names ∙ ap (λ ns. ns ++ c.args.name.now ∷ []) c.self.view_is
