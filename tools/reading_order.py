@@ -2,6 +2,7 @@
 """Lists what a reader must believe: the definitions that public contracts reach.
 
     tools/reading_order.py [--unreached] [CRATE ..]
+    tools/reading_order.py --write     writes the lines of docs/PROOFS.md anew, with their numbers
 
 Begins at the clauses of the public functions of the crates named (of all, if none is), and follows
 each name through the specs/ of the repository. Prints a line for each file, lowest crate first:
@@ -17,6 +18,9 @@ definition of one that is reached, and the file brings that name in.
 import os
 import re
 import sys
+import textwrap
+
+import repository
 
 TOP = os.path.dirname(os.path.dirname(os.path.abspath(__file__)))
 USE = re.compile(r"(?m)^\s*(?:ghost )?use (Rattle\.[\w.+«»:-]+?)"
@@ -105,8 +109,9 @@ def files_of_specs():
 
 
 def order_of_crates():
-    return [line.split(":")[0].split()[0] for line in read(f"{TOP}/crates.txt").split("\n")
-            if ":" in line and not line.startswith("#")]
+    """The crates, each after those that it stands on."""
+    crates = repository.libraries(os.path.join(TOP, "crates.txt"))
+    return repository.all_below(list(crates), crates)
 
 
 def exported(crate):
@@ -200,6 +205,41 @@ def show(files, done):
     print(f"{sums[0]:5} {sums[1]:5}  lines of these files; lines of these definitions")
 
 
+def lines_by_crate(files, done):
+    """By crate, its files with the lines of the definitions that are reached."""
+    found = {crate: [] for crate in order_of_crates()}
+    for module in sorted(files):
+        lines = sum(len(files[module].definitions[it]) for it in files[module].definitions
+                    if (module, it) in done)
+        if lines and ".specs.private." not in module:
+            found[module.split(".")[1]].append((module.split(".specs.")[1].replace(".", "/"), lines))
+    return {crate: parts for crate, parts in found.items() if parts}
+
+
+def write(found):
+    """Writes the list of docs/PROOFS.md anew: what it says of each crate stays."""
+    path = os.path.join(TOP, "docs", "PROOFS.md")
+    text = read(path)
+    said = {}
+    for crate, words in re.findall(r"(?ms)^- \*\*(\w+)\*\*, \d+ lines: (.*?)(?=^- \*\*)", text):
+        # (the sentence after the last full stop is the list of files)
+        meant = " ".join(words.split()).rsplit(". ", 1)[0]
+        said[crate] = f"{said[crate]}; {meant}" if crate in said else meant
+    lacking = [crate for crate in found if crate not in said]
+    if lacking:
+        sys.exit(f"reading_order: {path} says nothing of {', '.join(lacking)}")
+    lines = []
+    for crate, parts in found.items():
+        told = ", ".join(f"{name} {count}" for name, count in parts)
+        line = f"- **{crate}**, {sum(it for _, it in parts)} lines: {said[crate]}. {told}."
+        lines += textwrap.wrap(line, 100, subsequent_indent="  ", break_on_hyphens=False)
+    whole = sum(count for parts in found.values() for _, count in parts)
+    begin, end = text.index("- **xq_atoms**,"), text.index("- **all**:")
+    rest = text[text.index("\n", end):]
+    with open(path, "w") as file:
+        file.write(text[:begin] + "\n".join(lines) + f"\n- **all**: {whole:,} lines." + rest)
+
+
 def show_unreached(files, done):
     for module, file in sorted(files.items()):
         names = [it for it in file.definitions if (module, it) not in done]
@@ -213,6 +253,8 @@ def main(words):
     done = reached(files, crates)
     if "--unreached" in words:
         show_unreached(files, done)
+    elif "--write" in words:
+        write(lines_by_crate(files, done))
     else:
         show(files, done)
 
