@@ -86,6 +86,13 @@ def die_with_parent() -> None:
     ctypes.CDLL(None).prctl(PR_SET_PDEATHSIG, signal.SIGKILL)
 
 
+def children_of(process: int) -> list[int]:
+    """The process ids of those that a process started."""
+    found = subprocess.run(["pgrep", "-P", str(process)],
+                           capture_output=True, text=True, check=False)
+    return [int(word) for word in found.stdout.split()]
+
+
 class Running:
     """A command of the package that runs, and what it says."""
 
@@ -117,10 +124,8 @@ class Running:
         return self.said().split(words)[1].split("\n")[0]
 
     def server_ids(self) -> list[int]:
-        """The process ids of the servers that run below it."""
-        found = subprocess.run(["pgrep", "-P", str(self.process.pid)],
-                               capture_output=True, text=True, check=False)
-        return [int(word) for word in found.stdout.split()]
+        """The process ids of the servers that run below it, each below its keeper."""
+        return [it for keeper in children_of(self.process.pid) for it in children_of(keeper)]
 
     def terminate(self) -> int:
         """Ends it by SIGTERM; gives its exit status."""

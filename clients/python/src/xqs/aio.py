@@ -19,6 +19,7 @@ from xqs.requests import (
     query_of,
     store_of,
 )
+from xqs.starting import kept
 from xqs.values import values
 
 
@@ -120,7 +121,7 @@ async def connect(where: Where) -> AsyncClient:
     if not isinstance(place, Command):
         return AsyncClient(*await asyncio.open_connection(place.host, place.port, limit=PIECE))
     process = await asyncio.create_subprocess_exec(
-        *place.words,
+        *kept(place.words, None),
         stdin=asyncio.subprocess.PIPE,
         stdout=asyncio.subprocess.PIPE,
         limit=PIECE,

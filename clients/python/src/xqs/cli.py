@@ -4,10 +4,13 @@ import argparse
 import importlib
 import io
 import os
+import signal
 import sys
+import threading
 from collections.abc import Callable, Sequence
 from dataclasses import dataclass
 from pathlib import Path
+from types import FrameType
 
 from xqs.endpoints import Command, Endpoint, endpoint
 from xqs.errors import XqError
@@ -106,6 +109,7 @@ def main(words: Sequence[str] | None = None) -> int:
     """Carries out a command, and gives its exit status: 0 done, 1 refused, 2 misused."""
     given = _parser().parse_args(words)
     _show_any_name()
+    _end_by_signals()
     try:
         return COMMANDS[given.command].load()(given.rest)
     except ModuleNotFoundError as error:
@@ -119,6 +123,22 @@ def main(words: Sequence[str] | None = None) -> int:
         print(f"xqs {given.command}: interrupted", file=sys.stderr)
         return 130
     return 1
+
+
+def _end_by_signals() -> None:
+    """Has the signals that end a program do so by an exception, so that what was begun is undone.
+
+    One that is ignored stays so, as `nohup` wants it. Only a main thread may ask for signals.
+    """
+    if threading.current_thread() is not threading.main_thread():
+        return
+    for number in (signal.SIGTERM, signal.SIGHUP):
+        if signal.getsignal(number) is signal.SIG_DFL:
+            signal.signal(number, _end_by)
+
+
+def _end_by(number: int, _: FrameType | None) -> None:
+    sys.exit(128 + number)
 
 
 def _show_any_name() -> None:

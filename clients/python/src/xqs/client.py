@@ -1,10 +1,12 @@
 """The client for threads. `aio` has the same for asyncio."""
 
 import os
+import signal
 import socket
 import subprocess
 import threading
 from collections.abc import Callable, Iterator
+from contextlib import suppress
 from types import TracebackType
 
 from xqs import protocol
@@ -22,6 +24,7 @@ from xqs.requests import (
     query_of,
     store_of,
 )
+from xqs.starting import kept
 from xqs.values import values
 
 PIECE = 1 << 18
@@ -120,7 +123,7 @@ class Client:
         error: BaseException | None,
         trace: TracebackType | None,
     ) -> None:
-        if kind is not None and issubclass(kind, KeyboardInterrupt):
+        if kind is not None and issubclass(kind, KeyboardInterrupt | SystemExit):
             self.kill()
         else:
             self.close()
@@ -200,7 +203,7 @@ class ProcessStream(Stream):
     def __init__(self, command: Command) -> None:
         # In a group of its own: Ctrl+C at a terminal is for whoever asks, and not for the server.
         self.process = subprocess.Popen(
-            command.words,
+            kept(command.words, None),
             stdin=subprocess.PIPE,
             stdout=subprocess.PIPE,
             bufsize=0,
@@ -228,7 +231,9 @@ class ProcessStream(Stream):
         return status
 
     def kill(self) -> None:
-        self.process.kill()
+        if self.process.poll() is None:
+            with suppress(ProcessLookupError):
+                os.killpg(self.process.pid, signal.SIGKILL)
         self.process.wait()
         self.finish_writing()
 

@@ -8,6 +8,7 @@ from xqs.mux_backend import Backend, StartFailed
 from xqs.mux_clients import Clients, Settings
 from xqs.mux_peer import Request, refusal
 from xqs.protocol import Kind, Status
+from xqs.starting import is_on_file as is_on_file
 
 WANTING_STORE = bytes([Status.WANTING]) + b"store"
 TOO_SLOW = refusal("xqs:SECONDS")
@@ -24,11 +25,6 @@ SHOWN = 10
 def is_gone(request: Request) -> bool:
     """Whether the client of a request no longer awaits its reply."""
     return request.peer is not None and request.peer.gone
-
-
-def is_on_file(command: Sequence[str]) -> bool:
-    """Whether the words of a server's command say that its documents live in a file."""
-    return any(word == "--file" or word.startswith("--file=") for word in command)
 
 
 class Multiplexer:

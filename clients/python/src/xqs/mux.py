@@ -92,10 +92,15 @@ def split_command(argv: Sequence[str]) -> tuple[list[str], list[str]]:
 
 
 async def until_signal(failed: asyncio.Event, again: asyncio.Event) -> None:
-    """Waits for SIGTERM, SIGINT or a failure; the next signal after that sets `again`."""
+    """Waits for SIGTERM, SIGINT, SIGHUP or a failure; the next signal after that sets `again`.
+
+    A SIGHUP that is ignored stays so, as `nohup` wants it.
+    """
     loop = asyncio.get_running_loop()
     first = asyncio.Event()
-    for number in (signal.SIGTERM, signal.SIGINT):
+    for number in (signal.SIGTERM, signal.SIGINT, signal.SIGHUP):
+        if number == signal.SIGHUP and signal.getsignal(number) is signal.SIG_IGN:
+            continue
         loop.add_signal_handler(number, lambda: again.set() if first.is_set() else first.set())
     await first_set(first, failed)
     first.set()

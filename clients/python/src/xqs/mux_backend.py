@@ -12,6 +12,7 @@ from xqs import protocol
 from xqs.client import PIECE
 from xqs.errors import XqError
 from xqs.mux_peer import Request
+from xqs.starting import kept
 from xqs.waiting import first_set
 
 PROBE = b"Q()"
@@ -58,7 +59,7 @@ class Backend:
         """
         try:
             process = await asyncio.create_subprocess_exec(
-                *command, stdin=asyncio.subprocess.PIPE, stdout=asyncio.subprocess.PIPE,
+                *kept(command, None), stdin=asyncio.subprocess.PIPE, stdout=asyncio.subprocess.PIPE,
                 limit=PIECE, process_group=0)
         except OSError as error:
             raise StartFailed(f"{command[0]}: {error.strerror or error}") from error

@@ -1,0 +1,118 @@
+"""Bounds of a request: how long the server may be at one, and how much memory it may have.
+
+All commands that start a server, the multiplexer, the page and the library share the options, the
+defaults and the texts that stand here:
+
+    add_options(parser)                 --seconds N, --memory SIZE; 0 is none
+    bounds = bounds_of(parser.parse_args())
+    bounds.seconds, bounds.memory       None where there is none
+"""
+
+import argparse
+import os
+import re
+from dataclasses import dataclass, field
+from pathlib import Path
+
+from xqs.errors import XqError
+
+SECONDS = 60.0
+"""How long a server may be at one request, where nothing else is said."""
+LONGEST = 1e9
+SHOWN_ADDRESSES = 10
+"""So many addresses of lost documents stand in a message."""
+_UNITS = {"": 1, "K": 1 << 10, "M": 1 << 20, "G": 1 << 30, "T": 1 << 40}
+_SIZE = re.compile(r"(\d+(?:\.\d+)?)\s*([KMGT]?)(?:i?B)?", re.IGNORECASE)
+_GROUPS = (Path("/sys/fs/cgroup/memory.max"), Path("/sys/fs/cgroup/memory/memory.limit_in_bytes"))
+"""Where a container's bound stands, by the two versions of the kernel's groups."""
+
+
+class NoBound(XqError, ValueError):
+    """A text or a number that is no bound of time or memory."""
+
+
+def half_of_memory() -> int:
+    """Half of the memory that this machine has, or this container may take, in bytes."""
+    whole = os.sysconf("SC_PHYS_PAGES") * os.sysconf("SC_PAGE_SIZE")
+    for file in _GROUPS:
+        try:
+            whole = min(whole, int(file.read_text(encoding="ascii")))
+        except (OSError, ValueError):
+            continue
+    return whole // 2
+
+
+@dataclass(frozen=True)
+class Bounds:
+    """How many seconds a server may be at one request, and how many bytes it may have; None: any.
+
+    The memory is that of its addresses (RLIMIT_AS), which the server takes little before it uses
+    them: a request that wants more is answered by status 2, `memory`, and the server goes on.
+    """
+
+    seconds: float | None = SECONDS
+    memory: int | None = field(default_factory=half_of_memory)
+
+    def __post_init__(self) -> None:
+        """NoBound for what is no number above 0."""
+        if self.seconds is not None and not 0 < self.seconds <= LONGEST:
+            raise NoBound(f"not a number of seconds: {self.seconds!r}")
+        if self.memory is not None and self.memory <= 0:
+            raise NoBound(f"not a number of bytes: {self.memory!r}")
+
+
+def seconds_of(text: str) -> float | None:
+    """A number of seconds, None for 0; for argparse."""
+    try:
+        number = float(text)
+    except ValueError:
+        raise argparse.ArgumentTypeError(f"not a number of seconds: {text!r}") from None
+    if not 0 <= number <= LONGEST:
+        raise argparse.ArgumentTypeError(f"from 0 to {LONGEST:,.0f} seconds, not {text}")
+    return number or None
+
+
+def memory_of(text: str) -> int | None:
+    """A number of bytes, as `4G` or `500M`, None for 0; for argparse."""
+    found = _SIZE.fullmatch(text.strip())
+    if not found:
+        raise argparse.ArgumentTypeError(f"not a size, as 4G or 500M: {text!r}")
+    return int(float(found[1]) * _UNITS[found[2].upper()]) or None
+
+
+def shown_size(size: int) -> str:
+    """A number of bytes as it is told: `12.0 GB`."""
+    unit = "G" if size >= _UNITS["G"] else "M"
+    return f"{size / _UNITS[unit]:.{1 if unit == 'G' else 0}f} {unit}B"
+
+
+def add_options(parser: argparse.ArgumentParser) -> None:
+    """Adds `--seconds` and `--memory`, which `bounds_of` reads."""
+    group = parser.add_argument_group("bounds of a request")
+    half = half_of_memory()
+    group.add_argument(
+        "--seconds", type=seconds_of, metavar="N", default=SECONDS,
+        help="how long the server may be at one request, before it is ended and started again "
+        "(%(default)g; 0: any time)")
+    group.add_argument(
+        "--memory", type=memory_of, metavar="SIZE", default=half,
+        help="how much memory the server may have, as 4G: a request that wants more is refused "
+        f"(half of this machine's, {shown_size(half)}; 0: any)")
+
+
+def bounds_of(given: argparse.Namespace) -> Bounds:
+    """The bounds that the options name."""
+    return Bounds(given.seconds, given.memory)
+
+
+def overdue(seconds: float) -> str:
+    """What is said of a request that the server was at for too long."""
+    return f"it took over {seconds:g} seconds (--seconds N allows more, 0 any time)"
+
+
+def lost(addresses: "set[str]") -> str:
+    """What is said of documents that were in the memory of a server which has ended."""
+    names = sorted(addresses)
+    more = f", and {len(names) - SHOWN_ADDRESSES:,} more" if len(names) > SHOWN_ADDRESSES else ""
+    return (f"the documents were in memory and are lost: {len(names):,} of them"
+            + (f": {', '.join(names[:SHOWN_ADDRESSES])}{more}" if names else ""))

@@ -1,0 +1,35 @@
+"""Servers that are started: each below a keeper, so that it ends with this process."""
+
+import errno
+import os
+import shutil
+import sys
+from collections.abc import Sequence
+from pathlib import Path
+
+KEEPER = Path(__file__).with_name("keeper.py")
+ISOLATED = ("-I", "-S")
+"""The keeper wants the standard library alone, and starts sooner without the rest."""
+
+
+def kept(command: Sequence[str], memory: int | None) -> list[str]:
+    """The words that run a server so that it ends with this process, within that much memory.
+
+    They have to be run as the leader of a process group (`process_group=0`): who kills the group
+    ends the server with all that it started. OSError where there is no such command.
+    """
+    _find(command[0])
+    python = sys.executable or "python3"
+    return [python, *ISOLATED, str(KEEPER), str(os.getpid()), str(memory or 0), *command]
+
+
+def _find(program: str) -> None:
+    """OSError where the program can't be run, as an `exec` of it would have it."""
+    if shutil.which(program) is None:
+        number = errno.EACCES if os.path.exists(program) else errno.ENOENT
+        raise OSError(number, os.strerror(number), program)
+
+
+def is_on_file(command: Sequence[str]) -> bool:
+    """Whether the words of a server's command say that its documents live in a file."""
+    return any(word == "--file" or word.startswith("--file=") for word in command)
