@@ -462,7 +462,7 @@ class PlacesTest(MuxTest):
     def test_wrong_words_and_servers_that_do_not_start(self) -> None:
         self.assertEqual(run_mux("--frames", "0", "unix:/tmp/none").returncode, 2)
         self.assertEqual(run_mux("unix:/tmp/none", "--server", "unix:/tmp/other").returncode, 1)
-        self.assertEqual(run_mux("unix:/tmp/none", "--seconds", "0", "--", "x").returncode, 2)
+        self.assertEqual(run_mux("unix:/tmp/none", "--seconds", "-1", "--", "x").returncode, 2)
         absent = run_mux("unix:/tmp/none", "--", "/nowhere/server")
         self.assertEqual(absent.returncode, 1)
         self.assertIn("/nowhere/server: No such file", absent.stderr)

@@ -6,26 +6,54 @@
         [book] = server.query(q("doc($a)//book[@id = $id]", a="books", id="7"))
 """
 
+from xqs.bounds import NoBound
 from xqs.client import Client, connect
-from xqs.errors import Closed, Misspelt, Refused, ReplyError, Wanting, XqError
+from xqs.errors import (
+    Closed,
+    Lost,
+    Misspelt,
+    NoPlace,
+    NotAnAddress,
+    NotConnected,
+    NoText,
+    Refused,
+    RefusedAsSlow,
+    ReplyError,
+    TimedOut,
+    Unknown,
+    Wanting,
+    XqError,
+)
 from xqs.protocol import FrameFault
 from xqs.queries import literal, q
-from xqs.values import Item, Node, NodeKind, Untyped, quoted, values
+from xqs.values import Item, Node, NodeKind, Untyped, items, quoted, values
+from xqs.version import __version__
 
 __all__ = [
     "Client",
     "Closed",
     "FrameFault",
     "Item",
+    "Lost",
     "Misspelt",
+    "NoBound",
+    "NoPlace",
+    "NoText",
     "Node",
     "NodeKind",
+    "NotAnAddress",
+    "NotConnected",
     "Refused",
+    "RefusedAsSlow",
     "ReplyError",
+    "TimedOut",
+    "Unknown",
     "Untyped",
     "Wanting",
     "XqError",
+    "__version__",
     "connect",
+    "items",
     "literal",
     "q",
     "quoted",

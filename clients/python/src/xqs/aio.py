@@ -1,17 +1,20 @@
 """The client for asyncio. Methods, results and errors are those of `client.Client`."""
 
 import asyncio
-from collections.abc import Iterator
+from collections.abc import AsyncIterator
 from types import TracebackType
 
-from xqs import protocol
-from xqs.client import PIECE
-from xqs.endpoints import Command, UnixSocket, Where, endpoint
-from xqs.errors import Closed
+from xqs.aio_link import AsyncLink
+from xqs.aio_streams import AsyncStream, open_async_stream
+from xqs.bounds import SECONDS
+from xqs.client import INTERRUPTS, bounds_for
+from xqs.endings import Origin
+from xqs.endpoints import Where, endpoint
+from xqs.errors import TimedOut, XqError
 from xqs.requests import (
     LIST,
+    SHOWN,
     Addresses,
-    InFlight,
     Items,
     Request,
     addresses_of,
@@ -19,67 +22,80 @@ from xqs.requests import (
     query_of,
     store_of,
 )
-from xqs.starting import kept
-from xqs.values import values
+from xqs.values import Item, items, values
 
 
 class AsyncClient:
-    """A connection to a server. Any number of tasks of one loop may use it at once."""
+    """A connection to a server. Any number of tasks of one loop may use it at once.
+
+    A task that is cancelled, as by `asyncio.timeout`, is free at once; what becomes of its request
+    is said at `Client`.
+    """
 
     def __init__(
-        self,
-        reader: asyncio.StreamReader,
-        writer: asyncio.StreamWriter,
-        process: asyncio.subprocess.Process | None = None,
+        self, stream: AsyncStream, origin: Origin | None = None, seconds: float | None = None
     ) -> None:
-        self._reader, self._writer, self.process = reader, writer, process
-        self._in_flight: InFlight[asyncio.Future[str]] = InFlight()
-        self._ended = ""
-        self._task = asyncio.create_task(self._read_replies(), name="xqs replies")
+        """`origin` says where another stream comes from, when this one ends; `seconds` is how long
+        the server may be at one request."""
+        self._origin, self._seconds = origin, seconds
+        self._link = AsyncLink(stream, origin)
 
-    async def request(self, request: Request) -> str:
+    def __repr__(self) -> str:
+        place = f"to {self._origin.place}" if self._origin else "over a stream"
+        return f"<xqs.aio.AsyncClient {place}{'' if self._link.stream else ', ended'}>"
+
+    @property
+    def process(self) -> asyncio.subprocess.Process | None:
+        """The process that was started for the connection, if any."""
+        return self._link.stream.process if self._link.stream else None
+
+    async def request(self, request: Request, timeout: float | None = None) -> str:
         """Sends a request, and gives the text of its reply."""
-        if self._ended:
-            raise Closed(self._ended)
-        future: asyncio.Future[str] = asyncio.get_running_loop().create_future()
-        _, data = self._in_flight.begin(request, future)
-        self._writer.write(data)
+        if not timeout:
+            return await self._link.ask(request, self._seconds if timeout is None else None)
+        bound = self._seconds if self._seconds is None else max(self._seconds, timeout)
         try:
-            await self._writer.drain()
-        except OSError as error:
-            self._stop(f"the request could not be sent: {error}")
-        return await future
+            async with asyncio.timeout(timeout):
+                return await self._link.ask(request, bound)
+        except TimeoutError as error:
+            if isinstance(error, XqError):
+                raise
+            shown = request.shown[:SHOWN]
+            raise TimedOut(f"no reply within {timeout:g} seconds to: {shown}") from None
 
-    async def query_text(self, query: str) -> str:
+    async def query_text(self, query: str, *, timeout: float | None = None) -> str:
         """The value of a query, as it is printed."""
-        return await self.request(query_of(query))
+        return await self.request(query_of(query), timeout)
 
-    async def query(self, query: str) -> Items:
+    async def query(self, query: str, *, timeout: float | None = None) -> Items:
         """The items of a query's value."""
-        return values(await self.query_text(query))
+        return values(await self.query_text(query, timeout=timeout))
 
-    async def store(self, address: str, query: str) -> bool:
+    async def iterate(self, query: str, *, timeout: float | None = None) -> AsyncIterator[Item]:
+        """The items of a query's value one by one, each read as it is asked for."""
+        for item in items(await self.query_text(query, timeout=timeout)):
+            yield item
+
+    async def store(self, address: str, query: str, *, timeout: float | None = None) -> bool:
         """Stores the document that the query gives; whether it replaced another one."""
-        return await self.request(store_of(address, query)) == "replaced"
+        return await self.request(store_of(address, query), timeout) == "replaced"
 
-    async def drop(self, address: str) -> None:
+    async def drop(self, address: str, *, timeout: float | None = None) -> None:
         """Drops the document."""
-        await self.request(drop_of(address))
+        await self.request(drop_of(address), timeout)
 
-    async def list(self) -> Addresses:
+    async def list(self, *, timeout: float | None = None) -> Addresses:
         """All addresses, in the order of their bytes."""
-        return addresses_of(await self.request(LIST))
+        return addresses_of(await self.request(LIST, timeout))
 
     async def close(self) -> int | None:
         """Ends the connection once the replies under way have come; the exit status of a command
         that was started, else None."""
-        if self._writer.can_write_eof():
-            self._writer.write_eof()
-        else:
-            self._writer.close()
-        await self._task
-        self._writer.close()
-        return None if self.process is None else await self.process.wait()
+        return await self._link.finish()
+
+    async def kill(self) -> None:
+        """Ends the connection at once, and a command that was started with it."""
+        await self._link.kill()
 
     async def __aenter__(self) -> "AsyncClient":
         return self
@@ -90,42 +106,21 @@ class AsyncClient:
         error: BaseException | None,
         trace: TracebackType | None,
     ) -> None:
-        await self.close()
-
-    def _stop(self, why: str) -> None:
-        self._ended = self._ended or why
-        self._in_flight.end(why)
-
-    def _settle(self, messages: Iterator[bytes]) -> None:
-        for message in messages:
-            self._in_flight.settle(message)
-
-    async def _read_replies(self) -> None:
-        why = "the stream ended"
-        splitter = protocol.Splitter(protocol.MAX_REPLY)
-        try:
-            while piece := await self._reader.read(PIECE):
-                self._settle(splitter.feed(piece))
-        except (protocol.FrameFault, KeyError) as error:
-            why = f"the stream is no server's ({error})"
-        except OSError as error:
-            why = f"the stream ended ({error})"
-        self._stop(why)
+        if kind is not None and issubclass(kind, (*INTERRUPTS, asyncio.CancelledError)):
+            await self.kill()
+        else:
+            await self.close()
 
 
-async def connect(where: Where) -> AsyncClient:
-    """Connects to a server; `where` and errors as for `client.connect`."""
+async def connect(
+    where: Where, *, timeout: float | None = SECONDS, memory: int | None = None
+) -> AsyncClient:
+    """Connects to a server; arguments and errors are those of `client.connect`."""
+    bounds = bounds_for(timeout, memory)
     place = endpoint(where)
-    if isinstance(place, UnixSocket):
-        return AsyncClient(*await asyncio.open_unix_connection(place.path, limit=PIECE))
-    if not isinstance(place, Command):
-        return AsyncClient(*await asyncio.open_connection(place.host, place.port, limit=PIECE))
-    process = await asyncio.create_subprocess_exec(
-        *kept(place.words, None),
-        stdin=asyncio.subprocess.PIPE,
-        stdout=asyncio.subprocess.PIPE,
-        limit=PIECE,
-        process_group=0,
-    )
-    assert process.stdin is not None and process.stdout is not None
-    return AsyncClient(process.stdout, process.stdin, process)
+    try:
+        async with asyncio.timeout(bounds.seconds):
+            stream = await open_async_stream(place, bounds)
+    except TimeoutError as error:
+        raise TimedOut(f"{place}: no connection within {bounds.seconds:g} seconds") from error
+    return AsyncClient(stream, Origin(place, bounds), bounds.seconds)

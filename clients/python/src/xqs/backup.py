@@ -15,8 +15,8 @@ from dataclasses import dataclass
 from pathlib import Path
 from typing import IO, BinaryIO
 
-from xqs.cli import connection_options, server_of
-from xqs.client import Client, connect
+from xqs.cli import connected, connection_options
+from xqs.client import Client
 from xqs.errors import Refused, XqError
 from xqs.fetch import write_text
 from xqs.stores import store_constructors
@@ -169,7 +169,7 @@ def main(words: Sequence[str]) -> int:
         raise FileExistsError(f"{given.backup} is there already; --force replaces it")
     part = given.backup.with_name(given.backup.name + ".part")
     try:
-        with connect(server_of(given)) as client, open(part, "w+b") as file:
+        with connected(given) as client, open(part, "w+b") as file:
             count = back_up(client, file)
             file.flush()
             os.fsync(file.fileno())
@@ -208,7 +208,7 @@ def restore_main(words: Sequence[str]) -> int:
     parser.add_argument("backup", type=Path)
     parser.add_argument("--replace", action="store_true", help="replace documents that are there")
     given = parser.parse_args(words)
-    with connect(server_of(given)) as client, open(given.backup, "rb") as file:
+    with connected(given) as client, open(given.backup, "rb") as file:
         _pass_state(file)
         try:
             count = restore(client, file, given.replace)

@@ -106,13 +106,18 @@ def bounds_of(given: argparse.Namespace) -> Bounds:
 
 
 def overdue(seconds: float) -> str:
-    """What is said of a request that the server was at for too long."""
-    return f"it took over {seconds:g} seconds (--seconds N allows more, 0 any time)"
+    """What is said after the name of a request that the server was at for too long."""
+    return f"took over {seconds:g} seconds (--seconds N allows more, 0 any time)"
 
 
-def lost(addresses: "set[str]") -> str:
-    """What is said of documents that were in the memory of a server which has ended."""
+def named(addresses: set[str]) -> str:
+    """Addresses as a message has them: the first ones, and how many more there are."""
     names = sorted(addresses)
     more = f", and {len(names) - SHOWN_ADDRESSES:,} more" if len(names) > SHOWN_ADDRESSES else ""
-    return (f"the documents were in memory and are lost: {len(names):,} of them"
-            + (f": {', '.join(names[:SHOWN_ADDRESSES])}{more}" if names else ""))
+    return ", ".join(names[:SHOWN_ADDRESSES]) + more
+
+
+def lost(addresses: set[str]) -> str:
+    """What is said of documents that were in the memory of a server which has ended."""
+    return (f"the documents were in memory and are lost: {len(addresses):,} of them"
+            + (f": {named(addresses)}" if addresses else ""))

@@ -11,9 +11,15 @@ from collections.abc import Callable, Sequence
 from dataclasses import dataclass
 from pathlib import Path
 from types import FrameType
+from typing import TYPE_CHECKING
 
+from xqs import bounds
 from xqs.endpoints import Command, Endpoint, endpoint
 from xqs.errors import XqError
+from xqs.starting import is_on_file
+
+if TYPE_CHECKING:
+    from xqs.client import Client
 
 _IN_CHECKOUT = ("clients", "python", "src", "xqs")
 SERVER_VARIABLE = "XQS_SERVER"
@@ -65,8 +71,9 @@ def checkout_server() -> Path | None:
     return serve if serve.exists() else None
 
 
-def connection_options() -> argparse.ArgumentParser:
-    """The options that say where the server is, as a parent of a command's parser."""
+def connection_options(bounded: bool = True) -> argparse.ArgumentParser:
+    """The options that say where the server is, as a parent of a command's parser; with the bounds
+    of a request, unless the command has its own."""
     options = argparse.ArgumentParser(add_help=False)
     group = options.add_argument_group("the server")
     group.add_argument(
@@ -78,6 +85,8 @@ def connection_options() -> argparse.ArgumentParser:
     group.add_argument(
         "--file", metavar="PATH", help="the file of the documents, where a command is started"
     )
+    if bounded:
+        bounds.add_options(options)
     return options
 
 
@@ -100,9 +109,24 @@ def _with_file(place: Endpoint, file: str) -> Endpoint:
 
 
 def is_lasting(place: Endpoint) -> bool:
-    """Whether documents may be there after the connection's end: not where a command is started
-    that was given no words, since they live in its memory."""
-    return not isinstance(place, Command) or len(place.words) > 1
+    """Whether documents are there after the connection's end: not where a command is started that
+    names no file, since they live in its memory."""
+    return not isinstance(place, Command) or is_on_file(place.words)
+
+
+def warn_of_memory(place: Endpoint, command: str) -> None:
+    """Says so, where what is stored lives in memory and is gone at the command's end."""
+    if not is_lasting(place):
+        print(f"xqs {command}: the documents live in memory, and are gone when this command ends: "
+              "name a --file, or a server that goes on", file=sys.stderr)
+
+
+def connected(given: argparse.Namespace, place: Endpoint | None = None) -> "Client":
+    """A connection to the server that the options name, within the bounds that they name."""
+    from xqs.client import connect
+
+    it = bounds.bounds_of(given)
+    return connect(place or server_of(given), timeout=it.seconds, memory=it.memory or 0)
 
 
 def main(words: Sequence[str] | None = None) -> int:

@@ -1,21 +1,18 @@
 """The client for threads. `aio` has the same for asyncio."""
 
-import os
-import signal
-import socket
-import subprocess
-import threading
-from collections.abc import Callable, Iterator
-from contextlib import suppress
+import time
+from collections.abc import Iterator
 from types import TracebackType
 
-from xqs import protocol
-from xqs.endpoints import Command, UnixSocket, Where, endpoint
-from xqs.errors import Closed
+from xqs.bounds import SECONDS, Bounds, half_of_memory
+from xqs.endings import Origin
+from xqs.endpoints import Where, endpoint
+from xqs.errors import TimedOut, XqError
+from xqs.link import Link
 from xqs.requests import (
     LIST,
+    SHOWN,
     Addresses,
-    InFlight,
     Items,
     Request,
     TextFuture,
@@ -24,48 +21,71 @@ from xqs.requests import (
     query_of,
     store_of,
 )
-from xqs.starting import kept
-from xqs.values import values
+from xqs.streams import PIECE as PIECE
+from xqs.streams import ProcessStream as ProcessStream
+from xqs.streams import SocketStream as SocketStream
+from xqs.streams import Stream, open_stream
+from xqs.values import Item, items, values
 
-PIECE = 1 << 18
-"""So many bytes of replies are read at once, at most."""
-PATIENCE = 60
-"""So many seconds the end of a socket's stream is awaited on closing."""
+INTERRUPTS = (KeyboardInterrupt, SystemExit, TimeoutError)
+"""What ends a connection at once where it leaves a `with`."""
 
 
 class Client:
     """A connection to a server. Any number of threads may use it at once.
 
     Methods that end in `_later` send the request and give a future of its reply's text; the others
-    wait. Each raises Refused, Wanting or Closed by what becomes of the request, FrameFault (a
-    ValueError) where it is too long for a frame, and ValueError where an address is none; then
-    nothing was sent.
+    wait. Each raises Refused, Wanting, Closed or TimedOut by what becomes of the request, FrameFault
+    where it is too long for a frame, and NotAnAddress where an address is none; then nothing was
+    sent. All of them are XqErrors.
+
+    `timeout` is how many seconds a call may take in all; 0 is any time, and without one the
+    connection's bound holds, which is how long the server may be at one request. When a call is
+    given up, or a future is cancelled, the caller is free at once. A server that was started here
+    is then ended, and started again, unless documents in its memory would be lost.
     """
 
-    def __init__(self, stream: "Stream") -> None:
-        self._stream = stream
-        self._in_flight: InFlight[TextFuture] = InFlight()
-        self._lock = threading.Lock()
-        self._ended = ""
-        self._reader = threading.Thread(target=self._read_replies, daemon=True, name="xqs replies")
-        self._reader.start()
+    def __init__(
+        self, stream: Stream, origin: Origin | None = None, seconds: float | None = None
+    ) -> None:
+        """`origin` says where another stream comes from, when this one ends; `seconds` is how long
+        the server may be at one request."""
+        self._origin, self._seconds = origin, seconds
+        self._link = Link(stream, origin)
+
+    def __repr__(self) -> str:
+        place = f"to {self._origin.place}" if self._origin else "over a stream"
+        return f"<xqs.Client {place}{'' if self._link.stream else ', ended'}>"
+
+    @property
+    def process(self) -> object:
+        """The process that was started for the connection, if any."""
+        return self._link.stream and self._link.stream.process
 
     def request_later(self, request: Request) -> TextFuture:
         """Sends a request; the future gives the text of its reply.
 
         This waits while the server's pipe is full. Closed where the stream has ended.
         """
-        future = TextFuture()
-        with self._lock:
-            if self._ended:
-                raise Closed(self._ended)
-            tag, data = self._in_flight.begin(request, future)
-            try:
-                self._stream.write(data)
-            except OSError as error:
-                self._in_flight.forget(tag)
-                raise Closed(f"the request could not be sent: {error}") from error
-        return future
+        return self._link.send(request, self._seconds)
+
+    def request(self, request: Request, timeout: float | None = None) -> str:
+        """Sends a request, and gives the text of its reply."""
+        if not timeout:
+            seconds = self._seconds if timeout is None else None
+            return self._link.send(request, seconds).result()
+        end = time.monotonic() + timeout
+        bound = self._seconds if self._seconds is None else max(self._seconds, timeout)
+        future = self._link.send(request, bound, end)
+        try:
+            return future.result(max(end - time.monotonic(), 0))
+        except TimeoutError as error:
+            if isinstance(error, XqError):
+                raise
+            if not future.cancel():
+                return future.result()
+            shown = request.shown[:SHOWN]
+            raise TimedOut(f"no reply within {timeout:g} seconds to: {shown}") from None
 
     def query_text_later(self, query: str) -> TextFuture:
         """Asks for the value of a query, as it is printed."""
@@ -79,40 +99,45 @@ class Client:
         """Asks to drop the document."""
         return self.request_later(drop_of(address))
 
-    def query_text(self, query: str) -> str:
+    def query_text(self, query: str, *, timeout: float | None = None) -> str:
         """The value of a query, as it is printed."""
-        return self.query_text_later(query).result()
+        return self.request(query_of(query), timeout)
 
-    def query(self, query: str) -> Items:
+    def query(self, query: str, *, timeout: float | None = None) -> Items:
         """The items of a query's value."""
-        return values(self.query_text(query))
+        return values(self.query_text(query, timeout=timeout))
 
-    def store(self, address: str, query: str) -> bool:
+    def iterate(self, query: str, *, timeout: float | None = None) -> Iterator[Item]:
+        """The items of a query's value one by one, each read as it is asked for."""
+        return items(self.query_text(query, timeout=timeout))
+
+    def store(self, address: str, query: str, *, timeout: float | None = None) -> bool:
         """Stores the document that the query gives; whether it replaced another one."""
-        return self.store_later(address, query).result() == "replaced"
+        return self.request(store_of(address, query), timeout) == "replaced"
 
-    def drop(self, address: str) -> None:
+    def drop(self, address: str, *, timeout: float | None = None) -> None:
         """Drops the document."""
-        self.drop_later(address).result()
+        self.request(drop_of(address), timeout)
 
-    def list(self) -> Addresses:
+    def list(self, *, timeout: float | None = None) -> Addresses:
         """All addresses, in the order of their bytes."""
-        return addresses_of(self.request_later(LIST).result())
+        return addresses_of(self.request(LIST, timeout))
+
+    @property
+    def is_losing(self) -> bool:
+        """Whether documents that were stored here would be lost if the server were ended now."""
+        return self._link.watch.is_losing
 
     def close(self) -> int | None:
         """Ends the connection once the replies under way have come.
 
         Of a command that was started its exit status, else None.
         """
-        self._stream.finish_writing()
-        self._reader.join(PATIENCE if self._stream.process is None else None)
-        return self._stream.close()
+        return self._link.finish()
 
     def kill(self) -> None:
         """Ends the connection at once, and a command that was started with it."""
-        self._stream.kill()
-        self._reader.join()
-        self._stream.close()
+        self._link.kill()
 
     def __enter__(self) -> "Client":
         return self
@@ -123,147 +148,28 @@ class Client:
         error: BaseException | None,
         trace: TracebackType | None,
     ) -> None:
-        if kind is not None and issubclass(kind, KeyboardInterrupt | SystemExit):
+        if kind is not None and issubclass(kind, INTERRUPTS):
             self.kill()
         else:
             self.close()
 
-    def _messages(self) -> Iterator[bytes]:
-        splitter = protocol.Splitter(protocol.MAX_REPLY)
-        while piece := self._stream.read(PIECE):
-            yield from splitter.feed(piece)
 
-    def _read_replies(self) -> None:
-        why = "the stream ended"
-        try:
-            for message in self._messages():
-                self._in_flight.settle(message)
-        except (protocol.FrameFault, KeyError) as error:
-            why = f"the stream is no server's ({error})"
-        except (OSError, ValueError) as error:
-            why = f"the stream ended ({error})"
-        with self._lock:
-            self._ended = why
-            self._in_flight.end(why)
-
-
-class Stream:
-    """Bytes to a server and from it."""
-
-    process: subprocess.Popen[bytes] | None = None
-
-    def write(self, data: bytes) -> None:
-        """Writes all the bytes; OSError where they don't arrive."""
-        raise NotImplementedError
-
-    def read(self, count: int) -> bytes:
-        """Some bytes, at most `count`; none at the end."""
-        raise NotImplementedError
-
-    def finish_writing(self) -> None:
-        """Tells the server that nothing more comes."""
-        raise NotImplementedError
-
-    def close(self) -> int | None:
-        """Gives the stream back; the exit status of its process, if it has one."""
-        raise NotImplementedError
-
-    def kill(self) -> None:
-        """Ends the stream at once."""
-        raise NotImplementedError
-
-
-class SocketStream(Stream):
-    """A connected socket."""
-
-    def __init__(self, connection: socket.socket) -> None:
-        self._socket = connection
-
-    def write(self, data: bytes) -> None:
-        self._socket.sendall(data)
-
-    def read(self, count: int) -> bytes:
-        return self._socket.recv(count)
-
-    def finish_writing(self) -> None:
-        _quietly(lambda: self._socket.shutdown(socket.SHUT_WR))
-
-    def close(self) -> None:
-        self._socket.close()
-
-    def kill(self) -> None:
-        _quietly(lambda: self._socket.shutdown(socket.SHUT_RDWR))
-
-
-class ProcessStream(Stream):
-    """The standard input and output of a program that was started."""
-
-    process: subprocess.Popen[bytes]
-
-    def __init__(self, command: Command) -> None:
-        # In a group of its own: Ctrl+C at a terminal is for whoever asks, and not for the server.
-        self.process = subprocess.Popen(
-            kept(command.words, None),
-            stdin=subprocess.PIPE,
-            stdout=subprocess.PIPE,
-            bufsize=0,
-            process_group=0,
-        )
-        assert self.process.stdin is not None and self.process.stdout is not None
-        self._in, self._out = self.process.stdin, self.process.stdout
-
-    def write(self, data: bytes) -> None:
-        if self._in.closed:
-            raise BrokenPipeError("the connection was closed")
-        view = memoryview(data)
-        while view:
-            view = view[os.write(self._in.fileno(), view) :]
-
-    def read(self, count: int) -> bytes:
-        return os.read(self._out.fileno(), count)
-
-    def finish_writing(self) -> None:
-        _quietly(self._in.close)
-
-    def close(self) -> int:
-        status = self.process.wait()
-        self._out.close()
-        return status
-
-    def kill(self) -> None:
-        if self.process.poll() is None:
-            with suppress(ProcessLookupError):
-                os.killpg(self.process.pid, signal.SIGKILL)
-        self.process.wait()
-        self.finish_writing()
-
-
-def _quietly(action: Callable[[], object]) -> None:
-    try:
-        action()
-    except OSError:
-        pass
-
-
-def connect(where: Where) -> Client:
+def connect(
+    where: Where, *, timeout: float | None = SECONDS, memory: int | None = None
+) -> Client:
     """Connects to a server: `unix:PATH`, `tcp:PORT`, `tcp:HOST:PORT`, or a command to start.
 
-    A command is one text, as a shell reads it, or a list of words. OSError where there is nothing
-    to connect to, ValueError where `where` is nothing of the kind.
+    A command is one text, as a shell reads it, or a list of words. `timeout` is how many seconds
+    the server may be at one request, `memory` how many bytes a server that is started may have, by
+    default half of the machine's; 0 is any. NotConnected (an OSError) where there is nothing to
+    connect to, NoPlace (a ValueError) where `where` is nothing of the kind.
     """
-    return Client(_stream_to(where))
-
-
-def _stream_to(where: Where) -> Stream:
+    bounds = bounds_for(timeout, memory)
     place = endpoint(where)
-    if isinstance(place, Command):
-        return ProcessStream(place)
-    if isinstance(place, UnixSocket):
-        connection = socket.socket(socket.AF_UNIX)
-        try:
-            connection.connect(place.path)
-        except OSError:
-            connection.close()
-            raise
-        return SocketStream(connection)
-    return SocketStream(socket.create_connection((place.host, place.port)))
+    stream = open_stream(place, bounds, bounds.seconds)
+    return Client(stream, Origin(place, bounds), bounds.seconds)
+
+
+def bounds_for(timeout: float | None, memory: int | None) -> Bounds:
+    """The bounds that the library's arguments name; NoBound where they name none."""
+    return Bounds(timeout or None, half_of_memory() if memory is None else memory or None)

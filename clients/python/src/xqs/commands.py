@@ -8,8 +8,8 @@ from pathlib import Path
 from typing import BinaryIO
 
 from xqs import places
-from xqs.cli import connection_options, server_of
-from xqs.client import Client, connect
+from xqs.cli import connected, connection_options
+from xqs.client import Client
 from xqs.constructors import write_constructors
 from xqs.errors import Refused
 from xqs.fetch import document_events
@@ -46,7 +46,7 @@ def query(words: Sequence[str]) -> int:
     given = parser.parse_args(words)
     text = sys.stdin.read() if given.query == "-" else given.query
     bound = q(text, **dict(_setting(it) for it in given.set))
-    with connect(server_of(given)) as client:
+    with connected(given) as client:
         try:
             answer = client.query_text(bound)
         except Refused as error:
@@ -73,7 +73,7 @@ def store(words: Sequence[str]) -> int:
     parser.add_argument("path", type=Path, help="the file, or - for standard input")
     xml_options(parser)
     given = parser.parse_args(words)
-    with connect(server_of(given)) as client:
+    with connected(given) as client:
         if str(given.path) == "-":
             answer = store_file(client, given.address, sys.stdin.buffer, "-", xml_choices(given))
         else:
@@ -106,7 +106,7 @@ def get(words: Sequence[str]) -> int:
     parser.add_argument("address")
     out_options(parser)
     given = parser.parse_args(words)
-    with connect(server_of(given)) as client:
+    with connected(given) as client:
         steps = document_events(client, given.address)
         if given.xml:
             write_document(steps, sys.stdout.write, given.names)
@@ -122,7 +122,7 @@ def drop(words: Sequence[str]) -> int:
     parser.add_argument("address", nargs="+")
     given = parser.parse_args(words)
     status = 0
-    with connect(server_of(given)) as client:
+    with connected(given) as client:
         for address in given.address:
             try:
                 client.drop(address)
@@ -137,7 +137,7 @@ def list_addresses(words: Sequence[str]) -> int:
     parser = _words("list", "Prints the addresses, one a line.")
     parser.add_argument("prefix", nargs="?", default="", help="those alone that begin so")
     given = parser.parse_args(words)
-    with connect(server_of(given)) as client:
+    with connected(given) as client:
         addresses = [it for it in client.list() if it.startswith(given.prefix)]
     sys.stdout.write("".join(f"{it}\n" for it in addresses))
     return 0

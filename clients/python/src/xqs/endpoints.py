@@ -6,6 +6,8 @@ from collections.abc import Sequence
 from dataclasses import dataclass
 from typing import TypeAlias
 
+from xqs.errors import NoPlace
+
 LOOPBACK = ("127.0.0.1", "::1", "localhost")
 """The hosts that a connection is made to, or taken from."""
 
@@ -49,7 +51,7 @@ Where: TypeAlias = Endpoint | str | os.PathLike[str] | Sequence[str | os.PathLik
 def endpoint(where: Where) -> Endpoint:
     """Where a text or a list of words points to.
 
-    ValueError for a host that is not loopback, a port that is none, and an empty command.
+    NoPlace (a ValueError) for a host that is not loopback, a port that is none, and an empty command.
     """
     if isinstance(where, UnixSocket | LoopbackPort | Command):
         return where
@@ -63,24 +65,28 @@ def _of_text(text: str) -> Endpoint:
     scheme, colon, rest = text.partition(":")
     if colon and scheme == "unix":
         if not rest:
-            raise ValueError("unix: wants the path of a socket")
+            raise NoPlace("unix: wants the path of a socket")
         return UnixSocket(rest)
     if colon and scheme == "tcp":
         return _port(rest)
-    return _command(tuple(shlex.split(text)))
+    try:
+        words = shlex.split(text)
+    except ValueError as error:
+        raise NoPlace(f"not a command: {text!r} ({error})") from error
+    return _command(tuple(words))
 
 
 def _port(text: str) -> LoopbackPort:
     host, _, port = text.rpartition(":")
     host = host.strip("[]") or LOOPBACK[0]
     if host not in LOOPBACK:
-        raise ValueError(f"not this machine: {host} (the protocol has no password and no cipher)")
+        raise NoPlace(f"not this machine: {host} (the protocol has no password and no cipher)")
     if not port.isascii() or not port.isdigit() or not 0 <= int(port) < 65536:
-        raise ValueError(f"not a port: {port!r}")
+        raise NoPlace(f"not a port: {port!r}")
     return LoopbackPort(host, int(port))
 
 
 def _command(words: tuple[str, ...]) -> Command:
-    if not words or not words[0]:
-        raise ValueError("no command is given")
+    if not words or not words[0] or any("\0" in word for word in words):
+        raise NoPlace("no command is given")
     return Command(words)

@@ -54,7 +54,7 @@ SENTENCES = {
     # Of status 2.
     # What `xqs mux` refuses by itself.
     "xqs:READONLY": "nothing can be stored or dropped here; the multiplexer runs with --read-only",
-    "xqs:SECONDS": "the query took longer than --seconds of the multiplexer allows",
+    "xqs:SECONDS": "the query took longer than the multiplexer allows (--seconds N, 0 for any time)",
     # Status 2.
     "memory": "the server ran out of memory; nothing has changed, the request may be sent again",
     "store": "the server's database failed; look at the disk, then send the request again, and "
@@ -69,7 +69,7 @@ def sentence(code: str) -> str:
 
 
 class XqError(Exception):
-    """Base of what this package raises by itself."""
+    """Base of all that this package raises by itself."""
 
 
 class ReplyError(XqError):
@@ -92,6 +92,39 @@ class Wanting(ReplyError):
 
 class Closed(XqError):
     """The stream ended before the reply: the request may have been carried out, or not."""
+
+
+class Unknown(Closed):
+    """A store or a drop whose fate is unknown: ask for the document before it is sent again."""
+
+
+class Lost(Closed):
+    """Documents that were in a server's memory are gone with it; the request was not carried
+    out."""
+
+
+class TimedOut(XqError, TimeoutError):
+    """A request took longer than it may, or its reply was awaited for longer than was said."""
+
+
+class RefusedAsSlow(Refused, TimedOut):
+    """A multiplexer ended its server, which was too long at the request; nothing has changed."""
+
+
+class NotConnected(XqError, OSError):
+    """There is no server where one was looked for, or it can't be started."""
+
+
+class NotAnAddress(XqError, ValueError):
+    """A text that is no address of a document."""
+
+
+class NoPlace(XqError, ValueError):
+    """A text that doesn't say where a server is."""
+
+
+class NoText(XqError, ValueError):
+    """A text that has no UTF-8, as one with half a pair of surrogates."""
 
 
 class Misspelt(XqError, ValueError):

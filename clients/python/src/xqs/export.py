@@ -8,8 +8,8 @@ from contextlib import contextmanager
 from pathlib import Path
 from typing import TextIO
 
-from xqs.cli import connection_options, server_of
-from xqs.client import Client, connect
+from xqs.cli import connected, connection_options
+from xqs.client import Client
 from xqs.constructors import write_constructors
 from xqs.errors import ReplyError
 from xqs.fetch import document_events
@@ -92,7 +92,7 @@ class Exporter:
 def main(words: Sequence[str]) -> int:
     """Carries out the command."""
     given = _parser().parse_args(words)
-    with connect(server_of(given)) as client:
+    with connected(given) as client:
         exporter = Exporter(client, given.folder, given.form, given.names, given.force)
         refused = exporter.export_all(given.prefix)
     for address, why in refused.items():

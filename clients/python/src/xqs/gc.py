@@ -4,8 +4,8 @@ import argparse
 import time
 from collections.abc import Sequence
 
-from xqs.cli import connection_options, server_of
-from xqs.client import Client, connect
+from xqs.cli import connected, connection_options
+from xqs.client import Client
 from xqs.temporary import age, is_temporary
 
 HOUR = 3600
@@ -36,7 +36,7 @@ def main(words: Sequence[str]) -> int:
     parser.add_argument("--all", action="store_true", help="all, of whatever age")
     parser.add_argument("--dry-run", action="store_true", help="print them, and drop nothing")
     given = parser.parse_args(words)
-    with connect(server_of(given)) as client:
+    with connected(given) as client:
         for address in collect(client, 0 if given.all else given.older, given.dry_run):
             print(address)
     return 0

@@ -38,7 +38,7 @@ def run_server(keeper: int, memory: int, words: Sequence[str]) -> int:
             # The soft limit alone, so that a script can lift it for what it builds.
             _, hard = resource.getrlimit(resource.RLIMIT_AS)
             resource.setrlimit(resource.RLIMIT_AS, (memory, hard))
-        os.execvp(words[0], words)
+        os.execvp(words[0], list(words))
     except (OSError, ValueError) as error:
         os.write(2, f"xqs: {words[0]} can't be run: {error}\n".encode())
     return CANNOT_RUN

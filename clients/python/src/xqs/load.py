@@ -10,8 +10,8 @@ from dataclasses import dataclass, field
 from fnmatch import fnmatch
 from pathlib import Path
 
-from xqs.cli import connection_options, is_lasting, server_of
-from xqs.client import Client, connect
+from xqs.cli import connected, connection_options, is_lasting, server_of
+from xqs.client import Client
 from xqs.errors import Closed, Wanting, XqError
 from xqs.journal import Journal, default_place
 from xqs.parts import Part
@@ -272,7 +272,7 @@ def main(words: Sequence[str]) -> int:
     journal = Journal(given.journal or default_place(json.dumps(head)), head, given.anew)
     progress = Progress(len(search.found), search.size)
     try:
-        with connect(place) as client:
+        with connected(given, place) as client:
             _drop_left(client, journal.temporary)
             loader = Loader(client, journal, progress, given.prefix, xml_choices(given))
             outcome = loader.load(search.found)

@@ -4,6 +4,7 @@ import asyncio
 import time
 from collections.abc import Callable, Sequence
 
+from xqs.bounds import lost, overdue
 from xqs.mux_backend import Backend, StartFailed
 from xqs.mux_clients import Clients, Settings
 from xqs.mux_peer import Request, refusal
@@ -18,8 +19,6 @@ VAIN_STARTS = 4
 """So many servers in turn may end before a client has sent them anything."""
 LOOK_AGAIN = 1.0
 """At most once in so many seconds the server is asked whether its database has shut."""
-SHOWN = 10
-"""So many addresses stand in a message."""
 
 
 def is_gone(request: Request) -> bool:
@@ -61,7 +60,7 @@ class Multiplexer:
 
     async def _begin_backend(self) -> None:
         self._backend = await Backend.start(
-            self._command, self._on_reply, self._settings.seconds)
+            self._command, self._on_reply, self._settings.seconds, self._settings.memory)
 
     async def _pass_on(self, request: Request) -> None:
         """Sends a request to the server in its turn: those who wait stand in one line."""
@@ -155,7 +154,7 @@ class Multiplexer:
     def _say_why(self, old: Backend, in_flight: int) -> None:
         why = f"{old.status()}, after {old.frames} frames"
         if old.overdue:
-            why = f"one request took over {self._settings.seconds:g} seconds"
+            why = f"one request {overdue(self._settings.seconds or 0)}"
         self._say(f"the server is started again ({why}; {in_flight} requests in flight)")
 
     def _settle(self, old: Backend, in_flight: list[Request]) -> list[Request]:
@@ -186,10 +185,7 @@ class Multiplexer:
 
     def _lose_memory(self) -> None:
         """Says which documents are lost, and ends each client, since it counts on them."""
-        names = sorted(name.decode() for name in self._addresses)
-        more = f", and {len(names) - SHOWN} more" if len(names) > SHOWN else ""
-        self._say(f"the documents were in memory and are lost: {len(names)} of them"
-                  + (f": {', '.join(names[:SHOWN])}{more}" if names else ""))
+        self._say(lost({name.decode() for name in self._addresses}))
         self._addresses.clear()
         self._clients.end_all()
 

@@ -9,6 +9,7 @@ import sys
 from collections.abc import Sequence
 
 from xqs import listening
+from xqs.bounds import bounds_of
 from xqs.cli import connection_options, server_of
 from xqs.endpoints import Command
 from xqs.multiplexer import Multiplexer, is_on_file
@@ -43,10 +44,9 @@ def duration(text: str) -> float:
 
 
 def add_limits(parser: argparse.ArgumentParser) -> None:
-    """Adds the options of a multiplexer's limits, which `settings_of` reads."""
+    """Adds the options of a multiplexer's limits, which `settings_of` reads beside the bounds of a
+    request (`bounds.add_options`)."""
     limit = parser.add_argument_group("limits").add_argument
-    limit("--seconds", type=duration, metavar="N",
-          help="end the server, and start it again, when it works on one request for longer")
     limit("--window", type=positive, metavar="N", default=DEFAULTS.window,
           help="frames of all clients that wait for replies (%(default)s)")
     limit("--frames", type=positive, metavar="N", default=DEFAULTS.frames,
@@ -72,9 +72,10 @@ def add_client_limits(parser: argparse.ArgumentParser, defaults: Settings) -> No
 
 def settings_of(arguments: argparse.Namespace) -> Settings:
     """The settings that the options of `add_limits` make."""
+    bounds = bounds_of(arguments)
     return dataclasses.replace(
         client_settings_of(arguments), window=arguments.window, frames=arguments.frames,
-        seconds=arguments.seconds)
+        seconds=bounds.seconds, memory=bounds.memory)
 
 
 def client_settings_of(arguments: argparse.Namespace) -> Settings:

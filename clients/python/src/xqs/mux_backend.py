@@ -9,10 +9,10 @@ import time
 from collections.abc import Callable, Iterator, Sequence
 
 from xqs import protocol
-from xqs.client import PIECE
 from xqs.errors import XqError
 from xqs.mux_peer import Request
 from xqs.starting import kept
+from xqs.streams import PIECE
 from xqs.waiting import first_set
 
 PROBE = b"Q()"
@@ -51,16 +51,17 @@ class Backend:
 
     @classmethod
     async def start(cls, command: Sequence[str], on_reply: Callable[[Request, bytes], None],
-                    seconds: float | None) -> "Backend":
-        """Runs the command, and waits until it has answered a frame, so that its store is open.
+                    seconds: float | None, memory: int | None = None) -> "Backend":
+        """Runs the command within so much memory, and waits until it has answered a frame, so that
+        its store is open.
 
         Raises StartFailed. The server is a process group of its own, so that a signal from the
         terminal reaches the multiplexer alone.
         """
         try:
             process = await asyncio.create_subprocess_exec(
-                *kept(command, None), stdin=asyncio.subprocess.PIPE, stdout=asyncio.subprocess.PIPE,
-                limit=PIECE, process_group=0)
+                *kept(command, memory), stdin=asyncio.subprocess.PIPE,
+                stdout=asyncio.subprocess.PIPE, limit=PIECE, process_group=0)
         except OSError as error:
             raise StartFailed(f"{command[0]}: {error.strerror or error}") from error
         answered = asyncio.Event()

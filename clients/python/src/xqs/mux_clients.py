@@ -6,6 +6,7 @@ import time
 from collections.abc import Awaitable, Callable
 
 from xqs import protocol
+from xqs.bounds import SECONDS, half_of_memory
 from xqs.mux_peer import Peer, Request, refusal
 from xqs.protocol import Kind
 
@@ -21,7 +22,8 @@ class Settings:
     Bytes: `unread` of one client's replies, above which its next frame waits; `held` of all
     clients' replies, above which the client with most of them is cut off. Seconds: `stall`, after
     which a client that takes nothing of its replies is cut off; `seconds`, after which a server
-    that still works on one request is ended. With `read_only` nothing can be stored or dropped.
+    that still works on one request is ended (None: never), and `memory` is how many bytes it may
+    have (None: any). With `read_only` nothing can be stored or dropped.
     """
 
     clients: int = 200
@@ -31,7 +33,8 @@ class Settings:
     unread: int = 1 << 20
     held: int = 512 << 20
     stall: float = 60.0
-    seconds: float | None = None
+    seconds: float | None = SECONDS
+    memory: int | None = dataclasses.field(default_factory=half_of_memory)
     read_only: bool = False
 
 

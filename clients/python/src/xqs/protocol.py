@@ -7,6 +7,8 @@ import struct
 from collections.abc import Iterator
 from enum import Enum
 
+from xqs.errors import NotAnAddress, NoText, XqError
+
 MAX_REQUEST = 1_048_832
 """The longest message of a request: tag, kind and body."""
 MAX_REPLY_TEXT = 16_777_216
@@ -47,15 +49,15 @@ class Status(int, Enum):
     WANTING = 2
 
 
-class FrameFault(ValueError):
+class FrameFault(XqError, ValueError):
     """A message that is too long, or too short for what it has to hold."""
 
 
 def address_bytes(address: str) -> bytes:
-    """The bytes of an address; ValueError where it is none."""
+    """The bytes of an address; NotAnAddress where it is none."""
     raw = address.encode("utf-8", "surrogatepass")
     if not 1 <= len(raw) <= MAX_ADDRESS or not _ADDRESS_BYTES.issuperset(raw):
-        raise ValueError(
+        raise NotAnAddress(
             f"not an address: {address!r} (1 to {MAX_ADDRESS} of A-Z a-z 0-9 . _ / -)"
         )
     return raw
@@ -64,10 +66,19 @@ def address_bytes(address: str) -> bytes:
 def store_body(address: str, query: str) -> bytes:
     """The body of a store: the address after its length, and the query.
 
-    ValueError where the address is none.
+    NotAnAddress where the address is none, NoText where the query is none.
     """
     raw = address_bytes(address)
-    return bytes([len(raw)]) + raw + query.encode()
+    return bytes([len(raw)]) + raw + utf8(query)
+
+
+def utf8(text: str) -> bytes:
+    """The bytes of a text; NoText where it has none."""
+    try:
+        return text.encode()
+    except UnicodeEncodeError as error:
+        raise NoText(f"the text has no UTF-8: character {error.start + 1} is half a pair of "
+                     "surrogates") from error
 
 
 def frame(tag: int, kind: Kind, body: bytes = b"") -> bytes:

@@ -10,8 +10,7 @@ import sys
 from collections.abc import Callable, Iterator, Sequence
 from pathlib import Path
 
-from xqs.cli import connection_options, is_lasting, server_of
-from xqs.client import connect
+from xqs.cli import connected, connection_options, is_lasting, server_of
 from xqs.session import Session, completions, is_whole
 
 PROMPT, MORE = "xqs> ", "...> "
@@ -39,7 +38,7 @@ def main(words: Sequence[str]) -> int:
     """Carries out the command."""
     given = _parser().parse_args(words)
     place = server_of(given)
-    with connect(place) as client:
+    with connected(given, place) as client:
         session = Session(client, _printer(given.pager), xml=given.xml, names=given.names)
         if given.command is not None:
             return 0 if session.run(given.command) else 1

@@ -209,37 +209,41 @@ def _atom(group: str, text: str) -> int | Decimal | str | bool | Untyped:
             return int(text)
 
 
-def values(text: str) -> list[Item]:
-    """The items that a reply's text spells; Misspelt where it spells none."""
-    items: list[Item] = []
+def items(text: str) -> Iterator[Item]:
+    """The items that a reply's text spells, one by one; Misspelt where it spells none."""
     stack: list[Node] = []
     for event in events(text):
         match event:
             case Leaf(NodeKind.ATTRIBUTE, name, value) if stack:
                 stack[-1].attributes[name] = value
+            case Leaf(kind, name, value) if stack:
+                stack[-1].children.append(Node(kind, name, value))
             case Leaf(kind, name, value):
-                _place(items, stack, Node(kind, name, value))
+                yield Node(kind, name, value)
             case Open(kind, name):
-                node = Node(kind, name)
-                _place(items, stack, node)
-                stack.append(node)
+                _open(stack, Node(kind, name))
             case Close():
-                _leave(stack)
+                node = _left(stack)
+                if not stack:
+                    yield node
             case Atom(atom):
-                items.append(atom)
+                yield atom
     if stack:
         raise Misspelt("a printed value that is cut")
-    return items
 
 
-def _place(items: list[Item], stack: list[Node], node: Node) -> None:
+def values(text: str) -> list[Item]:
+    """The items that a reply's text spells; Misspelt where it spells none."""
+    return list(items(text))
+
+
+def _open(stack: list[Node], node: Node) -> None:
     if stack:
         stack[-1].children.append(node)
-    else:
-        items.append(node)
+    stack.append(node)
 
 
-def _leave(stack: list[Node]) -> None:
+def _left(stack: list[Node]) -> Node:
     if not stack:
         raise Misspelt("a brace closes that was not opened")
-    stack.pop()
+    return stack.pop()

@@ -1,0 +1,111 @@
+"""When a server is too long at a request, and whether it may be ended: what the links for threads
+and for asyncio share."""
+
+import time
+from typing import Generic
+
+from xqs.endings import END_PATIENCE, GRACE, Cause, Ended, Origin, may_end
+from xqs.errors import TimedOut
+from xqs.requests import PROBE, SHOWN, F, InFlight, Waiting
+
+SOCKET_SHARE = 1.05
+"""Of the time that a request has, so much is waited at a socket, whose server has the same bound."""
+
+
+class Watch(Generic[F]):
+    """Looks at the requests under way, of which the server is at the oldest one."""
+
+    def __init__(self, origin: Origin | None) -> None:
+        self.origin = origin
+        self.in_flight: InFlight[F] = InFlight()
+        self.closing: float | None = None
+        """Since when nothing more is asked; None before."""
+        self.ended = ""
+        """Why nothing more can be asked; empty before."""
+
+    @property
+    def is_started(self) -> bool:
+        """Whether the server is one that was started here."""
+        return self.origin is not None and self.origin.is_started
+
+    @property
+    def is_losing(self) -> bool:
+        """Whether documents would be lost if the server were ended now."""
+        origin = self.origin
+        return origin is not None and origin.is_started and not origin.keeps and bool(
+            self.in_flight.stored)
+
+    def close(self) -> None:
+        """From now on nothing more is asked."""
+        self.closing = self.closing or time.monotonic()
+
+    def probes(self, future: F) -> list[Waiting[F]]:
+        """What a server that is started is asked first: it may have to be built, for as long as
+        that takes, and no request of anybody is to wait for its reply within bounds before."""
+        return [Waiting(PROBE, future, None)] if self.is_started else []
+
+    def deadline(self) -> float | None:
+        """When to look again, at the latest.
+
+        Where nothing is under way, that is how long a request may take: one that begins meanwhile
+        wakes nobody, and is due after this at the soonest.
+        """
+        front = self.in_flight.front()
+        if front is None or self._is_idle():
+            if self.closing is not None:
+                return self.closing + END_PATIENCE
+            seconds = self.origin.bounds.seconds if self.origin is not None else None
+            return None if seconds is None else time.monotonic() + seconds
+        if front.is_dead and self._may_end():
+            return self.in_flight.due(GRACE)
+        if front.is_dead and not front.future.cancelled():
+            return None
+        return self.in_flight.due(self._bound(front))
+
+    def _bound(self, front: Waiting[F]) -> float | None:
+        """How long the server may be at the request; one at a socket says first that it was."""
+        if front.seconds is None or self.is_started:
+            return front.seconds
+        return front.seconds * SOCKET_SHARE
+
+    def due(self) -> Cause | None:
+        """Why the stream is to be ended now; None where it is not.
+
+        At a socket a request that is due fails here: its server is somebody else's.
+        """
+        now, front = time.monotonic(), self.in_flight.front()
+        if front is None or self._is_idle():
+            is_late = self.closing is not None and now >= self.closing + END_PATIENCE
+            return Cause.CLOSED if is_late else None
+        if front.is_dead and self._may_end() and now >= (self.in_flight.due(GRACE) or now):
+            return Cause.ABANDONED
+        due = self.in_flight.due(self._bound(front))
+        if due is None or now < due:
+            return None
+        if self.is_started:
+            return Cause.OVERDUE
+        front.fail(TimedOut(f"no reply for {front.seconds:g} seconds; the server may be at it still "
+                            f"(the request was: {front.request.shown[:SHOWN]})"))
+        return None
+
+    def wants_stream(self, cause: Cause, ended: Ended[F]) -> bool:
+        """Whether another stream is to follow at once. Where none is, and none can follow later,
+        nothing more can be asked."""
+        if self.ended or cause is Cause.CLOSED:
+            return False
+        is_ended_here = cause in (Cause.OVERDUE, Cause.ABANDONED) and self.is_started
+        return bool(ended.again) or (is_ended_here and self.closing is None)
+
+    def end_for_good(self, why: str) -> None:
+        """Notes that a stream has ended which no other one follows, unless one can follow later."""
+        if self.origin is None or self.is_started or self.closing is not None:
+            self.ended = self.ended or why
+
+    def _is_idle(self) -> bool:
+        """Whether no reply is under way but that of the probe."""
+        front = self.in_flight.front()
+        return front is None or (front.request is PROBE and len(self.in_flight) == 1)
+
+    def _may_end(self) -> bool:
+        it = self.in_flight
+        return may_end(self.origin, self.closing is not None, bool(it.stored), it.has_changes())
