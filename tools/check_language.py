@@ -121,7 +121,8 @@ def missing_definitions(page):
 
 
 def main(words):
-    page = read(PAGE)
+    # (the table of the grammar has brackets of its own)
+    page = re.sub(r"(?s)<!-- grammar.*<!-- /grammar -->", "", read(PAGE))
     if "--write" in words:
         write(page)
     faults = [*missing_rows(page), *missing_definitions(page)]

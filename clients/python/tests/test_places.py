@@ -1,6 +1,10 @@
 """Where a text is refused: what is claimed holds, and nothing more is claimed."""
 
+import random
 import re
+import subprocess
+import sys
+import time
 import unittest
 
 from tests.support import TOP, ServerTest
@@ -26,6 +30,29 @@ FAULTS = (
     ("(:) :) $x", 7, "nothing binds $x"),
     ("1, xs:date(1)", 3, "there is no type xs:date"),
     ("doc('b')/p:a", 9, "has a prefix"),
+    ("1+", 2, "an operand is expected"),
+    ("1 +  ", 3, "an operand is expected"),
+    ("(1 +", 4, "an operand is expected"),
+    ("if (1) then 2", 13, "'else' or an operator is expected"),
+    ("for $x in 1", 11, "'return'"),
+    ("let $a := 1", 11, "'return'"),
+    ("let $a = 1 return 2", 7, "':='"),
+    ("for x in 1", 4, "'$'"),
+    ("some $x in 1", 12, "'satisfies'"),
+    ("1 2", 2, "2 is not expected here, but"),
+    ("1 = 2 = 3", 6, "= is not expected here"),
+    ("a b", 2, "b is not expected here"),
+    ("element a", 9, "'{' is expected"),
+    ("doc('b')//", 10, "is expected"),
+    ("", 0, "an expression is expected"),
+    ("  (: c :) ", 10, "an expression is expected"),
+    ("<a/>", 0, "an expression"),
+    ("1div 2", 1, "follows a number at once"),
+    ("1..2", 2, "follows a number at once"),
+    ("1.5e3", 0, "no exponent"),
+    ("1.1234567", 0, "more than six digits"),
+    ('"a&#0;"', 2, "&#0; names no character"),
+    ("'a\x01'", 2, "no such character"),
 )
 
 
@@ -43,14 +70,29 @@ class Places(ServerTest):
                 self.assertEqual(place.at, at)
                 self.assertIn(words, place.why)
 
-    def test_nothing_is_claimed_where_tokens_tell_nothing(self) -> None:
-        for text in ("1 +", "if (1) then 2", "for $x in 1", "1 2", "1 div 0", "a", "1 = (2"):
-            code = self.code_of(text)
-            place = places.find(text, code)
-            if text == "1 = (2":
-                self.assertIsNotNone(place)
-            else:
-                self.assertIsNone(place, text)
+    def test_nothing_is_claimed_where_the_server_reads_the_text(self) -> None:
+        for text in ("1 div 0", "a", "(1)/a", "/", "/ *", "()", "1 to 3 ! /"):
+            self.assertIsNone(places.find(text, "XPST0003"), text)
+
+    def test_each_refusal_of_the_grammar_has_a_place_and_nothing_else(self) -> None:
+        page = (TOP / "docs" / "LANGUAGE.md").read_text()
+        examples = re.findall(r"`([^`]+)`\s+(?:gives|is\s+refused)", page)
+        chosen = random.Random(83)
+        futures = []
+        for _ in range(1500):
+            text = mutated(chosen, chosen.choice(examples))
+            futures.append((text, self.server.query_text_later(f"if (1 = 2) then ({text}\n) else ()")))
+        refused = 0
+        for text, future in futures:
+            error = future.exception()
+            code = error.code if isinstance(error, Refused) else ""
+            if code in ("XQST0090", "prof:DOUBLE", "prof:DIGITS", "FOAR0002", "prof:DEPTH"):
+                continue  # (told before the grammar is)
+            place = places.find(f"if (1 = 2) then ({text}\n) else ()", "XPST0003")
+            with self.subTest(text):
+                self.assertEqual(place is not None, code == "XPST0003", code)
+                refused += place is not None
+        self.assertGreater(refused, 300)
 
     def test_a_text_that_is_read_has_no_bracket_open(self) -> None:
         page = (TOP / "docs" / "LANGUAGE.md").read_text()
@@ -73,7 +115,8 @@ class Places(ServerTest):
         for name, (least, most) in places.FUNCTIONS.items():
             for count in range(5):
                 call = f"{name}({', '.join(['1'] * count)})"
-                self.assertEqual(refused(call), not least <= count <= most, call)
+                takes = least <= count and (most is None or count <= most)
+                self.assertEqual(refused(call), not takes, call)
         self.assertTrue(all(not refused(f"xs:{it}(1)") for it in places.TYPES))
 
 
@@ -86,13 +129,53 @@ class Places(ServerTest):
         self.assertEqual(types, set(places.TYPES))
 
 
+def mutated(chosen: random.Random, text: str) -> str:
+    """The text with a token taken away, doubled, put elsewhere or replaced."""
+    pieces = [it.text for it in places.tokens(text)]
+    other = ["for", "return", "(", ")", "$", "x", "/", "//", ",", "1", "if", "eq", "{", "}", "*",
+             "text", "element", "@", "..", "::", ":=", "in", "'s'", "div", "[", "]", "child", "!"]
+    for _ in range(chosen.randint(1, 2)):
+        at = chosen.randrange(len(pieces))
+        match chosen.randrange(4):
+            case 0 if len(pieces) > 1:
+                del pieces[at]
+            case 1:
+                pieces.insert(at, chosen.choice(pieces))
+            case 2:
+                pieces[at] = chosen.choice(other)
+            case _:
+                pieces.insert(at, chosen.choice(other))
+    return " ".join(pieces)
+
+
+class Tables(unittest.TestCase):
+    def test_the_client_has_the_tables_of_the_server(self) -> None:
+        script = TOP / "tools" / "client_tables.py"
+        found = subprocess.run([sys.executable, script, "--check"], capture_output=True, text=True)
+        self.assertEqual(found.returncode, 0, found.stderr)
+
+    def test_texts_that_go_on(self) -> None:
+        for text in ("let $a := 1", "for $x in 1 to 3", "1 +", "(1,", "if (1) then 2", "doc('a')/",
+                     "'it", "(: c", "element a", "for $x in 1\nlet $y := $x", "some $x in 1"):
+            self.assertTrue(places.may_go_on(text), text)
+        for text in ("1", "1 2", "let $a = 1", ")", "", "a b (", "let $a := 1 return $a", "/"):
+            self.assertFalse(places.may_go_on(text), text)
+
+    def test_a_long_text_is_read_in_bounds(self) -> None:
+        begin = time.thread_time()
+        self.assertIsNotNone(places.find("(" + "1 + " * 50_000, "XPST0003"))
+        self.assertTrue(places.may_go_on("1, " * 6_000))
+        self.assertLess(time.thread_time() - begin, 20)
+
+
 class Shown(unittest.TestCase):
     def test_line_and_mark(self) -> None:
         self.assertEqual(places.shown("1,\n conut(2)", "XPST0017"), (
             "2:2: there is no function conut; the nearest is count\n"
             "     conut(2)\n"
             "     ^\n"))
-        self.assertEqual(places.shown("1 +", "XPST0003"), "")
+        self.assertEqual(places.shown("1+", "XPST0003"), (
+            "1:3: the text ends here, where an operand is expected\n    1+\n      ^\n"))
         self.assertEqual(places.shown("$x", "FODC0002"), "")
 
     def test_what_is_open(self) -> None:

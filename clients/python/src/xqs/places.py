@@ -1,47 +1,29 @@
-"""Where the text of a query is at fault, as far as its tokens tell.
+"""Where the text of a query is at fault.
 
-A reply has a code and no place. What is said here is seen in the text itself: a string, a comment
-or a bracket that does not close, a character that begins no token, a reference that is none, a
-function or a variable that nothing in the text or the language has. Where none of it explains the
-code, nothing is said.
+A reply has a code and no place. What is said here is seen in the text itself: by its tokens, by the
+grammar (`grammar` reads them), and by the functions and variables that the language or the text has.
+It is asked only where the server has refused the text, whose code decides; where nothing here
+explains the code, nothing is said.
 """
 
 import difflib
 import re
-from collections.abc import Iterator
+from collections.abc import Iterable, Iterator, Sequence
 from dataclasses import dataclass
+from functools import cache
+from typing import NamedTuple
 
-ANY = 1_000_000
-FUNCTIONS: dict[str, tuple[int, int]] = {
-    **dict.fromkeys(("collection", "true", "false", "position", "last"), (0, 0)),
-    **dict.fromkeys(
-        ("root", "name", "local-name", "string", "data", "string-length", "normalize-space"), (0, 1)
-    ),
-    **dict.fromkeys(
-        ("doc", "doc-available", "count", "empty", "exists", "head", "tail", "reverse", "not",
-         "distinct-values", "zero-or-one", "one-or-more", "exactly-one", "boolean", "sum", "min",
-         "max", "abs", "floor", "ceiling", "round"),
-        (1, 1),
-    ),
-    **dict.fromkeys(
-        ("contains", "starts-with", "ends-with", "substring-before", "substring-after"), (2, 2)
-    ),
-    "string-join": (1, 2),
-    "substring": (2, 3),
-    "concat": (2, ANY),
-}
-"""The functions of docs/LANGUAGE.md: the least and the greatest number of arguments of each."""
-TYPES = ("integer", "decimal", "string", "boolean", "untypedAtomic")
-"""The functions that are called after `xs:`."""
-KEYWORDS = (
-    "allowing", "and", "ascending", "at", "attribute", "by", "comment", "count", "descending",
-    "div", "document", "element", "else", "empty", "eq", "every", "except", "for", "ge", "greatest",
-    "group", "gt", "idiv", "if", "in", "intersect", "is", "le", "least", "let", "lt", "mod", "ne",
-    "node", "or", "order", "processing-instruction", "return", "satisfies", "some", "stable",
-    "text", "then", "to", "union", "where",
-)
-_NO_CALLS = {"document-node", *(it for it in KEYWORDS if it not in FUNCTIONS)}
+from xqs import grammar
+from xqs.language_tables import FUNCTIONS as FUNCTIONS
+from xqs.language_tables import GRAMMAR, NO_CALLS
+from xqs.language_tables import TYPES as TYPES
+
+KEYWORDS = tuple(sorted(set(re.findall(r'"([a-z-]+)"', GRAMMAR))))
+"""The words that mean something in the grammar."""
+_NO_CALLS = {*NO_CALLS, *(it for it in KEYWORDS if it not in FUNCTIONS)}
 """Names that stand before a bracket without being called: tests, `in (`, `return (`."""
+READ_AT_MOST = 20_000
+"""Of longer texts the grammar is not read: it takes time."""
 
 _NAME = r"[^\W\d][\w.\-\u00b7]*"
 _TOKEN = re.compile(
@@ -52,8 +34,13 @@ _TOKEN = re.compile(
     |(?P<symbol>:=|::|//|\.\.|!=|<=|>=|<<|>>|\|\||=>|[()\[\]{{}},$/.@*+\-=<>|!?])""",
     re.VERBOSE,
 )
+_NO_CHARACTER = re.compile("[^\t\n\r\x20-\ud7ff\ue000-\ufffd\U00010000-\U0010ffff]")
+"""What XML 1.0 doesn't have."""
+_NUMBERED = re.compile(r"&#(x[0-9a-fA-F]+|[0-9]+);")
+_EXPONENT = re.compile(r"[eE][+-]?[0-9]")
 _REFERENCE = re.compile(r"&(?!(?:lt|gt|amp|quot|apos|#[0-9]+|#x[0-9a-fA-F]+);)")
 _PAIRS = {")": "(", "]": "[", "}": "{"}
+_CLOSERS = {opener: closer for closer, opener in _PAIRS.items()}
 _BINDS = {"for", "let", "some", "every", "in", "at", "by", "count", ","}
 
 
@@ -65,8 +52,7 @@ class Place:
     why: str
 
 
-@dataclass(frozen=True)
-class Token:
+class Token(NamedTuple):
     """A token of a query, or a comment: its kind, where it begins, its text."""
 
     kind: str
@@ -118,27 +104,124 @@ def is_open(text: str) -> bool:
     return bool(stack)
 
 
+def may_go_on(text: str) -> bool:
+    """Whether a text is no whole one yet, and may become one by what follows it."""
+    found = list(tokens(text))
+    if found and found[-1].kind.startswith("open"):
+        return True
+    reading = _reading([it for it in found if it.kind != "comment"], text)
+    if reading is None:
+        return is_open(text)
+    read = [it for it in found if it.kind != "comment"]
+    return bool(read) and reading.count == len(read) and not reading.is_whole
+
+
 def find(text: str, code: str) -> Place | None:
-    """The first place that explains the code by which the text was refused; None where nothing in
-    the tokens does."""
+    """The first place that explains the code by which the text was refused; None where nothing
+    does."""
     all_tokens = [it for it in tokens(text) if it.kind != "comment"]
     judges = {
-        "XPST0003": (_no_token, _bracket),
-        "XPST0017": (_function,),
-        "XPST0008": (_variable,),
-        "prof:PREFIX": (_prefix,),
-        "prof:TYPE": (_type,),
+        "XPST0017": _function,
+        "XPST0008": _variable,
+        "XQST0090": _no_reference,
+        "prof:DOUBLE": _exponent,
+        "prof:DIGITS": _digits,
+        "prof:PREFIX": _prefix,
+        "prof:TYPE": _type,
     }
-    for judge in judges.get(code, ()):
-        place = judge(all_tokens)
-        if place:
-            return place
-    return None
+    if code == "XPST0003":
+        return _no_token(tokens(text)) or _unexpected(text, all_tokens)
+    return judges[code](all_tokens) if code in judges else None
 
 
-def _no_token(found: list[Token]) -> Place | None:
+def _reading(found: Sequence[Token], text: str) -> grammar.Reading | None:
+    """How far the grammar reads the tokens; None for a text that is too long."""
+    if len(text) > READ_AT_MOST:
+        return None
+    after: list[Token | None] = [*found[1:], None]
+    return grammar.read([_kinds(it, next_one) for it, next_one in zip(found, after, strict=False)])
+
+
+def _kinds(token: Token, after: Token | None) -> frozenset[str]:
+    """What a token is, as the grammar calls it."""
+    quoted = f'"{token.text}"'
+    match token.kind:
+        case "string":
+            return frozenset(("STRING",))
+        case "number":
+            return frozenset(("DECIMAL" if "." in token.text else "INTEGER",))
+        case "name" if ":" in token.text:
+            return frozenset(("PREFIXED",))
+        case "name":
+            return frozenset(("NAME", quoted, *(() if token.text in NO_CALLS else ("CALLED",))))
+    is_lone = token.text == "/" and not (after and _begins_step(after))
+    return frozenset((quoted, "SLASH") if is_lone else (quoted,))
+
+
+def _begins_step(token: Token) -> bool:
+    return token.kind != "symbol" or token.text in ("$", "(", ".", "..", "@", "*")
+
+
+def _unexpected(text: str, found: list[Token]) -> Place | None:
+    """The first token that fits nowhere, with what would; or the end, where the text is cut."""
+    reading = _reading(found, text)
+    if reading is None:
+        return _bracket(found)
+    if reading.count < len(found):
+        token = found[reading.count]
+        bracket = _bracket(found[: reading.count + 1]) if token.text in _PAIRS else None
+        if bracket and bracket.at == token.at:
+            return bracket
+        return Place(token.at, f"{_shown(token)} is not expected here, but {_wanted(reading)}")
+    if reading.is_whole:
+        return None
+    bracket = _bracket(found)
+    if bracket and f'"{_CLOSERS[text[bracket.at]]}"' in reading.expected:
+        return bracket
+    end = found[-1].at + len(found[-1].text) if found else len(text)
+    return Place(end, f"the text ends here, where {_wanted(reading)} is expected")
+
+
+def _shown(token: Token) -> str:
+    return token.text if len(token.text) <= 30 else f"{token.text[:30]}.."
+
+
+def _wanted(reading: grammar.Reading) -> str:
+    """What may stand at a place, in words: words and symbols first, and then kinds of them."""
+    rest, said = set(reading.expected), []
+    for words, signs, kinds in _kinds_told():
+        if signs <= rest:
+            rest -= kinds
+            said.append(words)
+    one = sorted((it[1:-1] for it in rest if it.startswith('"')),
+                 key=lambda it: (not it.isalpha(), it))
+    shown = [*(f"'{it}'" for it in one[:8]), *(["others"] if len(one) > 8 else []), *said]
+    return " or ".join(shown) or "nothing more"
+
+
+@cache
+def _kinds_told() -> tuple[tuple[str, frozenset[str], frozenset[str]], ...]:
+    """What is said where some signs may stand, these signs, and all that it stands for."""
+    operand = grammar.Reader(grammar.language()).expected()
+    after = grammar.Reader(grammar.language(), ("INTEGER",)).expected() - {'","'}
+    clauses = frozenset(f'"{it}"' for it in (
+        "for", "let", "where", "group", "count", "order", "stable"))
+    return (
+        ("a clause", clauses, clauses),
+        ("an expression", frozenset(("INTEGER", '"if"')), operand),
+        ("an operand", frozenset(("INTEGER", "STRING")), operand),
+        ("an operator", frozenset(('"+"', '"!"')), after),
+        ("a name", frozenset(("NAME",)), frozenset(("NAME", "PREFIXED"))),
+    )
+
+
+def _no_token(found: Iterable[Token]) -> Place | None:
+    before: Token | None = None
     for token in found:
         wrong = _REFERENCE.search(token.text) if token.kind == "string" else None
+        strange = _NO_CHARACTER.search(token.text)
+        if strange:
+            return Place(token.at + strange.start(), "XML has no such character")
         if wrong:
             return Place(token.at + wrong.start(), "this & begins no reference; &amp; is the sign")
         if token.kind == "open string":
@@ -147,6 +230,40 @@ def _no_token(found: list[Token]) -> Place | None:
             return Place(token.at, "this comment is not closed")
         if token.kind == "other":
             return Place(token.at, f"no token begins with {token.text!r}")
+        if before and before.kind == "number" and _follows_number(before, token):
+            return Place(token.at, f"{_shown(token)} follows a number at once; a space parts them")
+        before = token
+    return None
+
+
+def _follows_number(number: Token, token: Token) -> bool:
+    """Whether a token that may not stand at once behind a number does so."""
+    is_near = number.at + len(number.text) == token.at
+    return is_near and (token.kind in ("name", "number") or token.text in (".", ".."))
+
+
+def _no_reference(found: list[Token]) -> Place | None:
+    for token in (it for it in found if it.kind == "string"):
+        for wrong in _NUMBERED.finditer(token.text):
+            digits = wrong[1]
+            number = int(digits[1:], 16) if digits[0] == "x" else int(digits)
+            if number > 0x10FFFF or _NO_CHARACTER.match(chr(number)):
+                return Place(token.at + wrong.start(), f"{wrong[0]} names no character of XML")
+    return None
+
+
+def _exponent(found: list[Token]) -> Place | None:
+    for number, token in zip(found, found[1:], strict=False):
+        if number.kind == "number" and token.kind == "name" and _follows_number(number, token):
+            if _EXPONENT.match(token.text) or token.text in ("e", "E"):
+                return Place(number.at, "a number has no exponent here, since there are no doubles")
+    return None
+
+
+def _digits(found: list[Token]) -> Place | None:
+    for token in (it for it in found if it.kind == "number"):
+        if len(token.text.partition(".")[2].rstrip("0")) > 6:
+            return Place(token.at, "this number has more than six digits after its point")
     return None
 
 
@@ -177,7 +294,8 @@ def _function(found: list[Token]) -> Place | None:
         prefix, colon, local = token.text.rpartition(":")
         if prefix not in ("", "fn", "xs") or (not colon and local in _NO_CALLS):
             continue
-        known = dict.fromkeys(TYPES, (1, 1)) if prefix == "xs" else FUNCTIONS
+        known: dict[str, tuple[int, int | None]] = (
+            dict.fromkeys(TYPES, (1, 1)) if prefix == "xs" else FUNCTIONS)
         if local not in known:
             return Place(token.at, f"there is no function {token.text}" + _near(local, known))
         count = _arguments(found, number + 1)
@@ -186,14 +304,14 @@ def _function(found: list[Token]) -> Place | None:
             continue
         # What stands before an arrow is an argument too.
         count += number > 0 and found[number - 1].text == "=>"
-        if not least <= count <= most:
+        if not (least <= count and (most is None or count <= most)):
             return Place(token.at, f"{token.text} takes {_numbers(least, most)}, not {count}")
     return None
 
 
-def _numbers(least: int, most: int) -> str:
-    many = f"{least} or more" if most == ANY else f"{least} or {most}"
-    return f"{many if least < most else least} argument{'' if most == 1 else 's'}"
+def _numbers(least: int, most: int | None) -> str:
+    many = f"{least} or more" if most is None else f"{least} or {most}"
+    return f"{least if most == least else many} argument{'' if most == 1 else 's'}"
 
 
 def _arguments(found: list[Token], first: int) -> int | None:
