@@ -1,13 +1,19 @@
 """What the tests share: the server's command, a server for each class of tests, files of it."""
 
+import io
 import os
 import shlex
 import shutil
 import tempfile
 import unittest
+from contextlib import redirect_stderr, redirect_stdout
 from pathlib import Path
+from unittest import mock
 
 from xqs import Client, connect
+from xqs.cli import main
+from xqs.requests import store_of
+from xqs.temporary import Temporary
 
 TOP = Path(__file__).resolve().parents[3]
 """The repository's root."""
@@ -32,6 +38,11 @@ def file_server(path: str | Path) -> list[str]:
     return [*server_command(), "--file", str(path)]
 
 
+def store_part(client: Client, address: str = "") -> None:
+    """Stores a document as a load that was killed leaves one."""
+    client.request_later(store_of(address or Temporary().next(), "document {}")).result()
+
+
 class FolderTest(unittest.TestCase):
     """Tests with a folder of their own, `self.folder`."""
 
@@ -53,3 +64,28 @@ class ServerTest(FolderTest):
     def tearDown(self) -> None:
         for address in self.server.list():
             self.server.drop(address)
+
+
+class CommandTest(FolderTest):
+    """Runs the command over a server on a file."""
+
+    def setUp(self) -> None:
+        super().setUp()
+        self.words = ["--server", " ".join(server_command()), "--file", str(self.folder / "x.db")]
+        state = mock.patch.dict(os.environ, {"XDG_STATE_HOME": str(self.folder / "state")})
+        state.start()
+        self.addCleanup(state.stop)
+
+    def run_command(self, *words: str | Path) -> tuple[int, str, str]:
+        """The status of a command, its output, and what it says."""
+        out, said = io.StringIO(), io.StringIO()
+        with redirect_stdout(out), redirect_stderr(said):
+            status = main([str(words[0]), *self.words, *map(str, words[1:])])
+        return status, out.getvalue(), said.getvalue()
+
+    def write(self, path: str, text: str | bytes) -> Path:
+        """A file of the folder `in`."""
+        file = self.folder / "in" / path
+        file.parent.mkdir(parents=True, exist_ok=True)
+        file.write_bytes(text.encode() if isinstance(text, str) else text)
+        return file

@@ -8,7 +8,7 @@ import shlex
 import unittest
 
 from tests.histories import History, Read, Write, faults
-from tests.support import FolderTest, ServerTest, file_server
+from tests.support import FolderTest, ServerTest, file_server, store_part
 from xqs import Client, connect
 from xqs.backup import restore_main
 from xqs.cluster import addresses, batches, program, snapshots, sums
@@ -230,7 +230,7 @@ class Snapshots(ServerTest):
     def setUp(self) -> None:
         super().setUp()
         self.server.store("a", 'document {element a {text {"1"}}}')
-        self.server.store("xqs.temporary/1-ab/1", 'document {element part {text {"2"}}}')
+        store_part(self.server, "xqs.temporary/1-ab/1")
         self.state = State("log", "p", 41, 17, "3" * 64, Seen({"n/1": 17}))
         self.path, _ = snapshots.write(self.server, self.state, self.folder)
 

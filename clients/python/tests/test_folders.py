@@ -8,11 +8,18 @@ import subprocess
 import sys
 import time
 import unittest
-from contextlib import redirect_stderr, redirect_stdout
+from contextlib import redirect_stderr
 from pathlib import Path
-from unittest import mock
 
-from tests.support import TOP, FolderTest, ServerTest, file_server, server_command
+from tests.support import (
+    TOP,
+    CommandTest,
+    FolderTest,
+    ServerTest,
+    file_server,
+    server_command,
+    store_part,
+)
 from tests.test_xml import canonical
 from xqs import Closed, Refused, connect
 from xqs.backup import NoBackup, back_up, entries, restore
@@ -22,8 +29,8 @@ from xqs.gc import collect
 from xqs.journal import Journal
 from xqs.paths import NoPath, address_of, path_of
 from xqs.progress import Progress
-from xqs.stores import store_xml
-from xqs.temporary import PREFIX, Temporary
+from xqs.stores import store_constructors, store_xml
+from xqs.temporary import PREFIX, KeptAddress
 from xqs.values import events
 
 
@@ -45,30 +52,7 @@ class Paths(unittest.TestCase):
             address_of("é" * 40)
 
 
-class Commands(FolderTest):
-    """Runs the command over a server on a file."""
-
-    def setUp(self) -> None:
-        super().setUp()
-        self.words = ["--server", " ".join(server_command()), "--file", str(self.folder / "x.db")]
-        state = mock.patch.dict(os.environ, {"XDG_STATE_HOME": str(self.folder / "state")})
-        state.start()
-        self.addCleanup(state.stop)
-
-    def run_command(self, *words: str | Path) -> tuple[int, str, str]:
-        """The status of a command, its output, and what it says."""
-        out, said = io.StringIO(), io.StringIO()
-        with redirect_stdout(out), redirect_stderr(said):
-            status = main([str(words[0]), *self.words, *map(str, words[1:])])
-        return status, out.getvalue(), said.getvalue()
-
-    def write(self, path: str, text: str | bytes) -> Path:
-        """A file of the folder `in`."""
-        file = self.folder / "in" / path
-        file.parent.mkdir(parents=True, exist_ok=True)
-        file.write_bytes(text.encode() if isinstance(text, str) else text)
-        return file
-
+class Commands(CommandTest):
     def test_load_and_export_give_the_same_files(self) -> None:
         files = {"a.xml": "<a>1</a>", "b c/d.xml": '<?p q?><p:x xmlns:p="u">&lt;</p:x>',
                  "big.xml": "<a>" + f"<b>{'xyz' * 100}</b>" * 4_000 + "</a>", "no.txt": "text"}
@@ -128,7 +112,7 @@ class Commands(FolderTest):
             client.store("a", 'document {element a {"\n&amp;""é"}}')
             client.store("b/..", "document {}")
             store_xml(client, "big", [b"<a>" + b"<b>%s</b>" % (b"xyz" * 100) * 4_000 + b"</a>"])
-            client.store(Temporary().next(), "document {}")
+            store_part(client)
             texts = [client.query_text(f'doc("{it}")') for it in ("a", "b/..", "big")]
         file = self.folder / "x.backup"
         self.assertEqual(self.run_command("backup", file)[0], 0)
@@ -188,6 +172,21 @@ class Commands(FolderTest):
         with redirect_stderr(io.StringIO()), self.assertRaises(SystemExit) as caught:
             main(["nothing"])
         self.assertEqual(caught.exception.code, 2)
+
+    def test_nothing_is_stored_where_gc_would_drop_it(self) -> None:
+        file, address = self.write("a.xml", "<a/>"), PREFIX + "a"
+        query = self.write("a.xq", "document {}")
+        for path in (file, query):
+            status, _, said = self.run_command("store", address, path)
+            self.assertEqual((status, "which is kept for parts" in said), (1, True))
+        with connect(server_command()) as client:
+            for store in (client.store, client.store_later,
+                          lambda at, text: store_constructors(client, at, text)):
+                with self.assertRaises(KeptAddress):
+                    store(address, "document {}")
+            with self.assertRaises(KeptAddress):
+                store_xml(client, address, [b"<a/>"])
+            self.assertEqual(client.list(), [])
 
     def test_load_goes_on_after_a_kill(self) -> None:
         for number in range(60):
@@ -301,8 +300,8 @@ class Temporaries(ServerTest):
     def test_collection_leaves_those_of_now_and_other_documents(self) -> None:
         old = f"{PREFIX}1000-abc/1"
         self.server.store("a", "document {}")
-        self.server.store(old, "document {}")
-        self.server.store(Temporary().next(), "document {}")
+        store_part(self.server, old)
+        store_part(self.server)
         self.assertEqual(collect(self.server, 3600, is_dry=True), [old])
         self.assertEqual(collect(self.server, 3600), [old])
         self.assertEqual(len(self.server.list()), 2)

@@ -23,10 +23,11 @@ BOMB = b"""<!DOCTYPE a [<!ENTITY a "ha"><!ENTITY b "&a;&a;&a;&a;&a;&a;&a;&a;&a;&
 )
 
 
-def constructor(text: str | bytes, choices: XmlChoices = XmlChoices(), size: int = 1 << 16) -> str:
+def constructor(text: str | bytes, choices: XmlChoices = XmlChoices(), size: int = 1 << 16,
+                charset: str | None = None) -> str:
     """The constructor that XML becomes, read in pieces of so many bytes."""
     data = text.encode() if isinstance(text, str) else text
-    reader = XmlReader("x.xml", Temporary(), choices)
+    reader = XmlReader("x.xml", Temporary(), choices, charset)
     for at in range(0, len(data), size):
         reader.feed(data[at : at + size])
     reader.close()
@@ -99,6 +100,16 @@ class Reading(unittest.TestCase):
             'document {processing-instruction p {"q"}, comment {"c"}, element a {attribute x '
             '{"1"}, attribute y {"<\n"}, element b {}, text {"t&amp;""<"}, '
             'processing-instruction e {""}}, comment {"d"}}'))
+
+    def test_what_stands_in_a_document_type_is_no_node(self) -> None:
+        kinds = "<!ELEMENT a ANY><!-- x --><?p q?><!ATTLIST a b CDATA 'c'><!-- y -->"
+        for text in ("<!DOCTYPE a [<!-- x --><?p q?>]>", f"<!DOCTYPE a SYSTEM 'a.dtd' [{kinds}]>",
+                     f"<!DOCTYPE a [{kinds}\n]\n>", "<!DOCTYPE a>"):
+            for size in (1, 1 << 16):
+                made = constructor(f"<!--1--><?i?>{text}<!--2--><?j k?><a/><!--3-->", size=size)
+                self.assertEqual(made.replace('attribute b {"c"}', ""), (
+                    'document {comment {"1"}, processing-instruction i {""}, comment {"2"}, '
+                    'processing-instruction j {"k"}, element a {}, comment {"3"}}'))
 
     def test_pieces_of_any_size(self) -> None:
         text = "<a é='日'>日本<!--\U0001f600-->\r\n&#13;</a>"

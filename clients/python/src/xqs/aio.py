@@ -22,6 +22,7 @@ from xqs.requests import (
     query_of,
     store_of,
 )
+from xqs.temporary import check_lasting
 from xqs.values import Item, items, values
 
 
@@ -78,6 +79,7 @@ class AsyncClient:
 
     async def store(self, address: str, query: str, *, timeout: float | None = None) -> bool:
         """Stores the document that the query gives; whether it replaced another one."""
+        check_lasting(address)
         return await self.request(store_of(address, query), timeout) == "replaced"
 
     async def drop(self, address: str, *, timeout: float | None = None) -> None:

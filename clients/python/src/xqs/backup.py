@@ -19,7 +19,7 @@ from xqs.cli import connected, connection_options
 from xqs.client import Client
 from xqs.errors import Refused, XqError
 from xqs.fetch import write_text
-from xqs.stores import store_constructors
+from xqs.stores import store_again
 from xqs.temporary import is_temporary
 
 FORM = b"xqs backup 1\n"
@@ -137,7 +137,7 @@ def restore(client: Client, file: BinaryIO, replace: bool) -> int:
         )
     for entry in wanted:
         file.seek(entry.start)
-        store_constructors(client, entry.address, file.read(entry.size).decode())
+        store_again(client, entry.address, file.read(entry.size).decode())
         if digest_of(client, entry.address) != entry.digest:
             raise NoBackup(f"the document {entry.address} does not read back as it was")
     return len(wanted)

@@ -25,6 +25,7 @@ from xqs.streams import PIECE as PIECE
 from xqs.streams import ProcessStream as ProcessStream
 from xqs.streams import SocketStream as SocketStream
 from xqs.streams import Stream, open_stream
+from xqs.temporary import check_lasting
 from xqs.values import Item, items, values
 
 INTERRUPTS = (KeyboardInterrupt, SystemExit, TimeoutError)
@@ -93,6 +94,7 @@ class Client:
 
     def store_later(self, address: str, query: str) -> TextFuture:
         """Asks to store the document that the query gives."""
+        check_lasting(address)
         return self.request_later(store_of(address, query))
 
     def drop_later(self, address: str) -> TextFuture:

@@ -4,6 +4,7 @@ import argparse
 import os
 import sys
 from collections.abc import Sequence
+from dataclasses import replace
 from pathlib import Path
 from typing import BinaryIO
 
@@ -14,6 +15,7 @@ from xqs.constructors import write_constructors
 from xqs.errors import Refused
 from xqs.fetch import document_events
 from xqs.load import xml_choices, xml_options
+from xqs.prefixed import FlatQuery, flattened, prefixed_text
 from xqs.queries import q
 from xqs.stores import chunks_of, store_xml
 from xqs.values import values
@@ -33,7 +35,7 @@ def out_options(words: argparse.ArgumentParser) -> None:
     """Adds the options of how nodes are printed."""
     words.add_argument("--xml", action="store_true", help="nodes as XML, one item a line")
     words.add_argument("--names", choices=[KEEP, FLAT], default=KEEP,
-                       help="flat turns p__a into p:a on the way out")
+                       help="flat shows p__a as p:a; a query may then have such names too")
 
 
 def query(words: Sequence[str]) -> int:
@@ -45,18 +47,27 @@ def query(words: Sequence[str]) -> int:
     out_options(parser)
     given = parser.parse_args(words)
     text = sys.stdin.read() if given.query == "-" else given.query
-    bound = q(text, **dict(_setting(it) for it in given.set))
+    written = flattened(text) if given.names == FLAT else FlatQuery(text)
+    bound = q(written.text, **dict(_setting(it) for it in given.set))
     with connected(given) as client:
         try:
             answer = client.query_text(bound)
         except Refused as error:
             print(f"xqs query: {error}", file=sys.stderr)
-            print(places.shown(text, error.code), end="", file=sys.stderr)
+            print(_place(text, written, error.code), end="", file=sys.stderr)
             return 1
     if given.xml:
         answer = "\n".join(xml(it, given.names) for it in values(answer))
+    elif given.names == FLAT:
+        answer = prefixed_text(answer)
     print(answer)
     return 0
+
+
+def _place(text: str, written: FlatQuery, code: str) -> str:
+    """The place in the text that explains a refusal of the query that it was written as."""
+    place = places.find(written.text, code)
+    return places.marked(text, replace(place, at=written.place(place.at))) if place else ""
 
 
 def _setting(text: str) -> tuple[str, str]:

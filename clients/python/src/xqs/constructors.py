@@ -2,9 +2,16 @@
 
 from collections.abc import Callable, Iterable
 from dataclasses import dataclass
+from decimal import Decimal
 
 from xqs.queries import literal
 from xqs.values import Atom, Close, Event, Leaf, NodeKind, Open, leaf, opening, quoted
+
+
+def printed_atom(value: int | Decimal | str) -> str:
+    """An atomic value as the server prints it."""
+    text = literal(value)
+    return text[1:-1] if text.startswith("(") else text
 
 
 @dataclass
@@ -39,7 +46,7 @@ class ConstructorWriter:
         elif isinstance(event, Leaf):
             self.write(leaf(event.kind, event.name, event.value))
         elif isinstance(event, Atom):
-            self.write(literal(event.value))
+            self.write(printed_atom(event.value))
 
     def _text(self, value: str) -> None:
         if not self._in_text:

@@ -12,6 +12,7 @@ from xqs.client import Client
 from xqs.constructors import write_constructors
 from xqs.errors import Refused, XqError
 from xqs.queries import q
+from xqs.requests import store_of
 from xqs.temporary import Temporary
 from xqs.values import Close, Event, Leaf, NodeKind, Open, events
 
@@ -51,7 +52,7 @@ def write_text(
 @contextmanager
 def _copied(client: Client, address: str) -> Iterator[str]:
     copy = Temporary().next()
-    client.store(copy, q("doc($a)", a=address))
+    client.request_later(store_of(copy, q("doc($a)", a=address))).result()
     try:
         yield copy
     finally:

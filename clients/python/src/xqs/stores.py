@@ -16,7 +16,7 @@ from xqs.client import Client
 from xqs.errors import Closed, XqError
 from xqs.parts import DocumentText, Part
 from xqs.requests import store_of
-from xqs.temporary import Temporary
+from xqs.temporary import Temporary, check_lasting
 from xqs.values import Close, Event, NodeKind, Open, events
 from xqs.window import Window
 from xqs.xml_in import XmlChoices, XmlReader
@@ -158,9 +158,10 @@ def store_xml(
 ) -> Stored:
     """Stores a document of XML whose bytes come in any pieces.
 
-    XmlFault where it is not well-formed or refused, Refused and Wanting as the server says;
-    `source` is how messages call the text.
+    XmlFault where it is not well-formed or refused, KeptAddress where the address is kept for
+    parts, Refused and Wanting as the server says; `source` is how messages call the text.
     """
+    check_lasting(address)
     temporary = Temporary()
     reader = XmlReader(source, temporary, choices)
     answer = _send_and_wait(
@@ -173,8 +174,14 @@ def store_constructors(client: Client, address: str, text: str) -> Stored:
     """Stores a document of printed constructors, of any length.
 
     Misspelt (a ValueError) where the text is not as the server prints it, ValueError where it is
-    not one document that the server takes.
+    not one document that the server takes, KeptAddress where the address is kept for parts.
     """
+    check_lasting(address)
+    return store_again(client, address, text)
+
+
+def store_again(client: Client, address: str, text: str) -> Stored:
+    """As `store_constructors`, at any address: a backup may hold parts."""
     temporary = Temporary()
     document = DocumentText(temporary)
     parts = constructor_parts(document, events(text))
@@ -190,11 +197,12 @@ async def store_xml_async(
     choices: XmlChoices = XmlChoices(),  # noqa: B008 (it is frozen)
 ) -> Stored:
     """As `store_xml`, for asyncio; each part is waited for."""
+    check_lasting(address)
     temporary = Temporary()
     reader = XmlReader(source, temporary, choices)
     try:
         for part in xml_parts(reader, chunks):
-            await client.store(part.address, part.text)
+            await client.request(store_of(part.address, part.text))
         replaced = await client.store(address, reader.whole)
     finally:
         await _drop_async(client, temporary.given())

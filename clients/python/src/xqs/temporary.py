@@ -4,6 +4,8 @@ import os
 import re
 import time
 
+from xqs.errors import XqError
+
 PREFIX = "xqs.temporary/"
 """How such an address begins; `xqs gc` drops those that a crash left."""
 _ADDRESS = re.compile(re.escape(PREFIX) + r"(\d{1,12})-[0-9a-f]+/\d+")
@@ -29,6 +31,17 @@ class Temporary:
 def is_temporary(address: str) -> bool:
     """Whether the address is kept for documents that stand for a while."""
     return address.startswith(PREFIX)
+
+
+class KeptAddress(XqError, ValueError):
+    """An address that is kept for documents that stand for a while."""
+
+
+def check_lasting(address: str) -> None:
+    """KeptAddress for an address under which `xqs gc` would drop the document."""
+    if is_temporary(address):
+        raise KeptAddress(f"{address} is below {PREFIX}, which is kept for parts and copies; "
+                          "'xqs gc' drops what is there")
 
 
 def age(address: str, now: float) -> float | None:

@@ -13,12 +13,14 @@ from xml.parsers import expat
 from xqs.errors import XqError
 from xqs.parts import DocumentText, Part, TooLarge
 from xqs.temporary import Temporary
+from xqs.xml_decoding import EncodingFault, Utf8
 from xqs.xml_names import NameFault, Names, incoming, is_declaration
 
 _SPACE = " \t\r\n"
 _TEXT_HELD = 1 << 20
 """So many characters of a text are held back before they are passed on."""
 _SPACE_ATTRIBUTE = "xml:space"
+_INVALID_TOKEN = expat.errors.codes[expat.errors.XML_ERROR_INVALID_TOKEN]
 FAULTS = (NameFault, TooLarge)
 """What the names and the nodes of a text are refused by; the place is told where the text is read,
 since the parser has gone on when an error has left it."""
@@ -54,8 +56,10 @@ class XmlReader:
         source: str,
         temporary: Temporary,
         choices: XmlChoices = XmlChoices(),  # noqa: B008 (it is frozen)
+        charset: str | None = None,
     ) -> None:
-        """`source` is how messages call the text."""
+        """`source` is how messages call the text. `charset` is that of its transport, as of an
+        HTTP header: it goes before the declaration, and a byte order mark before both."""
         self._source = source
         self._document = DocumentText(temporary)
         self._strip = choices.strip
@@ -64,6 +68,8 @@ class XmlReader:
         self._text: list[str] = []
         self._text_length = 0
         self._preserved: list[bool] = [False]
+        self._bytes = Utf8(charset)
+        self._is_in_doctype = False
         self._parser = self._new_parser(choices.entities)
         self.whole = ""
 
@@ -84,7 +90,7 @@ class XmlReader:
         return self._document.nodes
 
     def _new_parser(self, entities: bool) -> expat.XMLParserType:
-        parser = expat.ParserCreate(intern={})
+        parser = expat.ParserCreate("utf-8", intern={})
         parser.buffer_text = True
         parser.buffer_size = 1 << 16
         parser.ordered_attributes = True
@@ -93,6 +99,8 @@ class XmlReader:
         parser.CharacterDataHandler = self._characters
         parser.CommentHandler = self._comment
         parser.ProcessingInstructionHandler = self._instruction
+        parser.StartDoctypeDeclHandler = self._start_doctype
+        parser.EndDoctypeDeclHandler = self._end_doctype
         parser.SkippedEntityHandler = self._skipped_entity
         parser.ExternalEntityRefHandler = self._external_entity
         parser.SetParamEntityParsing(expat.XML_PARAM_ENTITY_PARSING_NEVER)
@@ -102,9 +110,13 @@ class XmlReader:
 
     def _parse(self, data: bytes, final: bool) -> None:
         try:
-            self._parser.Parse(data, final)
+            self._parser.Parse(self._bytes.feed(data, final), final)
+        except EncodingFault as error:
+            raise XmlFault(self._source, error.line, error.column, error.why) from None
         except expat.ExpatError as error:
-            why = expat.errors.messages[error.code]
+            is_token = error.code == _INVALID_TOKEN
+            why = self._bytes.fault(self._parser.ErrorByteIndex) if is_token else ""
+            why = why or expat.errors.messages[error.code]
             raise XmlFault(self._source, error.lineno, error.offset + 1, why) from None
 
     def _refuse(self, why: str) -> NoReturn:
@@ -163,7 +175,15 @@ class XmlReader:
         except FAULTS as error:
             self._refuse(str(error))
 
+    def _start_doctype(self, *_: object) -> None:
+        self._is_in_doctype = True
+
+    def _end_doctype(self) -> None:
+        self._is_in_doctype = False
+
     def _comment(self, text: str) -> None:
+        if self._is_in_doctype:
+            return
         self._pass_text()
         try:
             self._document.comment(text)
@@ -171,6 +191,8 @@ class XmlReader:
             self._refuse(str(error))
 
     def _instruction(self, name: str, text: str) -> None:
+        if self._is_in_doctype:
+            return
         self._pass_text()
         try:
             self._document.instruction(self._names[name], text)

@@ -1,0 +1,143 @@
+"""Queries with prefixes over documents that were stored with flat names, and their results.
+
+A document that is loaded by `--names flat` has `dc__title` for `dc:title`. Here a query may be
+written as one writes it elsewhere, and its results are shown so:
+
+    from xqs.prefixed import flat_query, prefixed
+
+    items = client.query(flat_query('doc("a")//dc:title/@xlink:href'))
+    shown = [prefixed(it) for it in items]          # nodes with dc:title, strings as they are
+
+    text = client.query_text(flat_query("//dc:title"))
+    prefixed_text(text)                             # element dc:title {..}, which can be asked again
+
+Names are mapped token by token: names of elements, attributes and processing instructions, in steps
+and in constructors; never what stands in a string or a comment, a variable, or a name that is
+called, as `xs:integer(..)`. Prefixes are compared, and no URIs.
+"""
+
+from collections.abc import Iterable, Iterator
+from dataclasses import dataclass, replace
+
+from xqs.constructors import write_constructors
+from xqs.errors import XqError
+from xqs.tokens import Token, tokens
+from xqs.values import Event, Item, Leaf, Node, Open, events
+from xqs.xml_names import NAMESPACE, NameFault, Names, incoming, outgoing
+
+_WILDCARDS = {
+    "p:*": 'names by prefix are *[starts-with(name(), "p__")]',
+    "*:a": 'names under any prefix are *[name() = "a" or ends-with(name(), "__a")]',
+}
+
+
+class PrefixFault(XqError, ValueError):
+    """A name of a query that no flat name stands for; `at` is its place in the text, from 0."""
+
+    def __init__(self, text: str, at: int, why: str) -> None:
+        line, column = text.count("\n", 0, at) + 1, at - text.rfind("\n", 0, at)
+        super().__init__(f"{line}:{column}: {why}")
+        self.at, self.why = at, why
+
+
+@dataclass(frozen=True)
+class FlatQuery:
+    """A query with flat names, and where each of them ends in it with how much longer it is."""
+
+    text: str
+    _grown: tuple[tuple[int, int], ...] = ()
+
+    def place(self, at: int) -> int:
+        """The place in the text as it was written of a place in this one."""
+        shorter = 0
+        for end, by in self._grown:
+            if end > at:
+                return min(at - shorter, end - shorter - by)
+            shorter += by
+        return at - shorter
+
+
+def flat_query(text: str) -> str:
+    """The query with flat names in place of names with a prefix, and of `xmlns`.
+
+    PrefixFault for a name that flat names have no room for, as `a__b:c`, and for `p:*` and `*:a`,
+    which the language doesn't have. What is no query stays for the server to refuse.
+    """
+    return flattened(text).text
+
+
+def flattened(text: str) -> FlatQuery:
+    """As `flat_query`, with the places."""
+    pieces: list[str] = []
+    grown: list[tuple[int, int]] = []
+    at = length = 0
+    for token in _node_names(text):
+        name = _flat_name(text, token)
+        pieces += [text[at : token.at], name]
+        length += token.at - at + len(name)
+        at = token.at + len(token.text)
+        grown.append((length, len(name) - len(token.text)))
+    return FlatQuery("".join([*pieces, text[at:]]), tuple(grown))
+
+
+def _flat_name(text: str, token: Token) -> str:
+    try:
+        return incoming(Names.FLAT)(token.text)
+    except NameFault as error:
+        raise PrefixFault(text, token.at, str(error)) from None
+
+
+def _node_names(text: str) -> Iterator[Token]:
+    """The tokens that are names of nodes and have a prefix, or are `xmlns`."""
+    found = [it for it in tokens(text) if it.kind != "comment"]
+    _refuse_wildcard(text, found)
+    end = Token("end", len(text), "")
+    for before, token, after in zip([end, *found], found, [*found[1:], end], strict=False):
+        is_mapped = token.kind == "name" and (":" in token.text or token.text == NAMESPACE)
+        if is_mapped and before.text != "$" and after.text not in ("(", "::"):
+            yield token
+
+
+def _refuse_wildcard(text: str, found: list[Token]) -> None:
+    """Refuses `p:*` and `*:a`, at whose colon the tokens end."""
+    if len(found) < 2 or found[-1].text != ":":
+        return
+    before, colon = found[-2], found[-1].at
+    if before.at + len(before.text) != colon:
+        return
+    after = next(tokens(text[colon + 1 :]), None)
+    if before.kind == "name" and after and after.text == "*":
+        raise PrefixFault(text, before.at, f"the language has no {before.text}:*; "
+                          + _WILDCARDS["p:*"].replace("p__", f"{before.text}__"))
+    if before.text == "*" and after and after.kind == "name" and after.at == 0:
+        raise PrefixFault(text, before.at, f"the language has no *:{after.text}; "
+                          + _WILDCARDS["*:a"].replace("a\"", f"{after.text}\""))
+
+
+def prefixed(item: Item) -> Item:
+    """An item of a result with prefixes in place of flat names; an atomic value as it is."""
+    if not isinstance(item, Node):
+        return item
+    return Node(
+        item.kind, outgoing(item.name), item.value,
+        {outgoing(name): value for name, value in item.attributes.items()},
+        [it for it in map(prefixed, item.children) if isinstance(it, Node)],
+    )
+
+
+def prefixed_events(steps: Iterable[Event]) -> Iterator[Event]:
+    """The events of a result with prefixes in place of flat names."""
+    for event in steps:
+        if isinstance(event, Open | Leaf) and "__" in event.name:
+            yield replace(event, name=outgoing(event.name))
+        else:
+            yield event
+
+
+def prefixed_text(printed: str) -> str:
+    """A printed result with prefixes in place of flat names; Misspelt where it is none."""
+    if "__" not in printed:
+        return printed
+    pieces: list[str] = []
+    write_constructors(prefixed_events(events(printed)), pieces.append)
+    return "".join(pieces)

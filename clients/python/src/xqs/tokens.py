@@ -1,0 +1,63 @@
+"""The tokens of a query, as docs/LANGUAGE.md has them."""
+
+import re
+from collections.abc import Iterator
+from dataclasses import dataclass
+
+_FIRST = (
+    "A-Z_a-z\xc0-\xd6\xd8-\xf6\xf8-\u02ff\u0370-\u037d\u037f-\u1fff\u200c\u200d\u2070-\u218f"
+    "\u2c00-\u2fef\u3001-\ud7ff\uf900-\ufdcf\ufdf0-\ufffd\U00010000-\U000effff"
+)
+NAME = rf"[{_FIRST}][{_FIRST}0-9.\-\xb7\u0300-\u036f\u203f\u2040]*+"
+"""A name without a colon, by XML 1.0's fifth edition, as a regular expression."""
+_TOKEN = re.compile(
+    rf"""(?P<space>[ \t\r\n]+)
+    |(?P<string>"(?:[^"]|"")*+"|'(?:[^']|'')*+')
+    |(?P<name>{NAME}(?::{NAME})?)
+    |(?P<number>[0-9]+(?:\.[0-9]*)?|\.[0-9]+)
+    |(?P<symbol>:=|::|//|\.\.|!=|<=|>=|<<|>>|\|\||=>|[()\[\]{{}},$/.@*+\-=<>|!?])""",
+    re.VERBOSE,
+)
+_COMMENT_MARK = re.compile(r"\(:|:\)")
+ENDS = ("open string", "open comment", "other")
+"""The kinds of what is no token; nothing is read after it."""
+
+
+@dataclass(frozen=True, slots=True)
+class Token:
+    """A token of a query, or a comment: its kind, where it begins, its text."""
+
+    kind: str
+    at: int
+    text: str
+
+
+def tokens(text: str) -> Iterator[Token]:
+    """The tokens of a text but for white space, comments among them. The kinds of `ENDS` stand for
+    what is no token; they end the tokens."""
+    at = 0
+    while at < len(text):
+        token = _token_at(text, at)
+        if token.kind != "space":
+            yield token
+        if token.kind in ENDS:
+            return
+        at += len(token.text)
+
+
+def _token_at(text: str, at: int) -> Token:
+    if text.startswith("(:", at):
+        return _comment(text, at)
+    found = _TOKEN.match(text, at)
+    if found:
+        return Token(found.lastgroup or "", at, found[0])
+    return Token("open string" if text[at] in "\"'" else "other", at, text[at])
+
+
+def _comment(text: str, start: int) -> Token:
+    depth = 0
+    for found in _COMMENT_MARK.finditer(text, start):
+        depth += 1 if found[0] == "(:" else -1
+        if depth == 0:
+            return Token("comment", start, text[start : found.end()])
+    return Token("open comment", start, text[start:])
