@@ -34,7 +34,8 @@ PACKAGES = {
 }
 """The Python packages that the client's long tests want, by their files."""
 PROGRAMS = {
-    "test_cluster": ("/usr/lib/rabbitmq/bin/rabbitmq-server", "epmd"), "test_page": ("chromium",)
+    "test_cluster": ("/usr/lib/rabbitmq/bin/rabbitmq-server", "epmd"), "test_page": ("chromium",),
+    "test_xml_files": ("xmllint",),
 }
 ALLOCATIONS = {
     "allocations": [],

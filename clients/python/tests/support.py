@@ -38,9 +38,9 @@ def file_server(path: str | Path) -> list[str]:
     return [*server_command(), "--file", str(path)]
 
 
-def store_part(client: Client, address: str = "") -> None:
+def store_part(client: Client, address: str = "", text: str = "document {}") -> None:
     """Stores a document as a load that was killed leaves one."""
-    client.request_later(store_of(address or Temporary().next(), "document {}")).result()
+    client.request_later(store_of(address or Temporary().next(), text)).result()
 
 
 class FolderTest(unittest.TestCase):

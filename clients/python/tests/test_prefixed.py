@@ -45,7 +45,7 @@ class Mapping(unittest.TestCase):
 
     def test_what_flat_names_can_not_say_is_refused_with_its_place(self) -> None:
         for text, why in (
-            ("1,\n //p:*", '2:4: the language has no p:*; names by prefix are *[starts-with(name()'),
+            ("1,\n //p:*", '2:4: the language has no p:*; names by prefix are *[starts-with(name('),
             ("@p:*", "1:2: the language has no p:*"),
             ("//*:a", '1:3: the language has no *:a; names under any prefix are *[name() = "a" or'),
             ("//a__b:c", "1:3: the name a__b:c has __"),

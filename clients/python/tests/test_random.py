@@ -3,7 +3,7 @@
 import random
 from xml.sax.saxutils import escape, quoteattr
 
-from tests.support import ServerTest
+from tests.support import ServerTest, store_part
 from tests.test_xml import FLAT, canonical, document_text
 from xqs import Node, NodeKind, literal, q, values
 from xqs.parts import DocumentText
@@ -88,7 +88,7 @@ class Random(ServerTest):
             document = DocumentText(temporary, 150)
             parts = list(constructor_parts(document, events(printed)))
             for part in parts:
-                self.server.store(part.address, part.text)
+                store_part(self.server, part.address, part.text)
             self.server.store("y", document.whole())
             with self.subTest(seed=seed, parts=len(parts)):
                 self.assertEqual(self.server.query_text('doc("y")'), printed)

@@ -78,6 +78,41 @@ class Refusals(unittest.TestCase):
         self.refused('<!DOCTYPE a [<!ENTITY e SYSTEM "/etc/hostname">]>\n<a>&e;</a>', 2, 4,
                      "/etc/hostname, which is not read", XmlChoices(entities=True))
 
+    def test_entities_that_are_not_known_are_refused_in_values_of_attributes_too(self) -> None:
+        asked = XmlChoices(entities=True)
+        why = "the entity u is declared outside of this text"
+        for before, tag, column in (
+            ("", '<a y="1" x="&u;1"/>', 1), ("", "<a y='\"' x='1>2&u;'/>", 1),
+            ('<!ENTITY f "1&u;2">', '<a x="&f;"/>', 1),
+            ("<!ENTITY f \"<b y='&u;'/>\">", "<a>&f;</a>", 4),
+            ('<!ENTITY f "&g;"><!ENTITY g "<b y=\'&u;\'/>">', "<a>&f;</a>", 4),
+            ('<!ENTITY % p SYSTEM "p">%p;', '<a x="&u;"/>', 1),
+        ):
+            text = f'<!DOCTYPE a SYSTEM "a.dtd" [{before}]>\n{tag}'
+            self.refused(text, 2, column, why, asked)
+        default = '<!DOCTYPE a SYSTEM "a.dtd" [\n<!ATTLIST a x CDATA "1&u;">]><a/>'
+        self.refused(default, 2, 21, why)
+        known = '<!ENTITY f "1&g;2"><!ENTITY g "3"><!ATTLIST a y CDATA "&f;">'
+        self.assertEqual(
+            constructor(f'<!DOCTYPE a SYSTEM "a.dtd" [{known}]><a x="&f;&amp;&#65;"/>', asked),
+            'document {element a {attribute x {"132&amp;A"}, attribute y {"132"}}}')
+        self.assertEqual(
+            constructor('<!DOCTYPE a SYSTEM "a.dtd"><a x="1"><![CDATA[&u;]]><!--&u;--></a>'),
+            'document {element a {attribute x {"1"}, text {"&amp;u;"}, comment {"&amp;u;"}}}')
+
+    def test_parameter_entities_of_the_text_itself_are_read(self) -> None:
+        inside = "<!ENTITY % p '<!--c--><?q r?><!ATTLIST a x CDATA \"1\">'> %p;"
+        self.assertEqual(constructor(f"<!DOCTYPE a [{inside}]><a/>"),
+                         'document {element a {attribute x {"1"}}}')
+        inside = "<!ENTITY % p '<!ENTITY u \"7\">'>\n%p;"
+        self.refused(f"<!DOCTYPE a [{inside}]><a/>", 2, 1, "the entity u is declared here")
+        self.assertEqual(
+            constructor(f'<!DOCTYPE a [{inside}]><a x="&u;"/>', XmlChoices(entities=True)),
+            'document {element a {attribute x {"7"}}}')
+        bomb = "".join(f'<!ENTITY % a{at} "{f"&#37;a{at - 1};" * 10}">' for at in range(1, 9))
+        self.refused(f'<!DOCTYPE a [<!ENTITY % a0 "<!--{"x" * 1000}-->">{bomb}\n%a8;]><a/>', 2, 1,
+                     "amplification")
+
     def test_entity_bomb_that_is_asked_for_ends_soon(self) -> None:
         with self.assertRaises(XmlFault) as caught:
             constructor(BOMB, XmlChoices(entities=True))

@@ -39,11 +39,6 @@ class _Run:
         self.texts: list[str] = []
         self.size = self.parts = self.parts_size = 0
 
-    def add(self, text: str, size: int) -> None:
-        """Adds a constructor of so many bytes."""
-        self.texts.append(text)
-        self.size += size + 2
-
     def constructors(self) -> str:
         """What is to be put into a part: the constructors, and where the expressions for parts
         have become long themselves, these too."""
@@ -59,16 +54,17 @@ class _Run:
         self.size = 0
 
 
-class _Parent:
-    """An open document or element: its constructor up to the brace, attributes and children."""
+class _Parent(_Run):
+    """An open document or element: its constructor up to the brace, its attributes; it is the run
+    of its children itself."""
 
-    __slots__ = ("head", "size", "attributes", "children")
+    __slots__ = ("head", "attributes")
 
     def __init__(self, head: str) -> None:
+        self.texts = []
+        self.size = self.parts = self.parts_size = 0
         self.head = head
-        self.size = byte_count(head)
         self.attributes: _Run | None = None
-        self.children = _Run()
 
 
 def byte_count(text: str) -> int:
@@ -76,74 +72,116 @@ def byte_count(text: str) -> int:
     return len(text) if text.isascii() else len(text.encode())
 
 
-class DocumentText:
-    """Takes the nodes of a document in order, and gives the text that makes it.
+class NodeCount:
+    """Counts the nodes of a document, taken in order, as they will be: adjacent texts are one.
 
     Each method that takes a node raises TooLarge at the node that is one too many or too deep.
     """
+
+    def __init__(self) -> None:
+        self.nodes = 1
+        self._level = 1
+        self._after_text = False
+
+    def open(self) -> None:
+        """An element begins."""
+        self.add()
+        self._level += 1
+
+    def close(self) -> None:
+        """The element that was opened last ends."""
+        self._level -= 1
+        self._after_text = False
+
+    def text(self) -> None:
+        """A text, which is not empty."""
+        if not self._after_text:
+            self.add()
+            self._after_text = True
+
+    def add(self, count: int = 1) -> None:
+        """So many nodes that hold no others."""
+        self._after_text = False
+        self.nodes += count
+        if self.nodes > MAX_NODES:
+            raise TooLarge(f"more than {MAX_NODES:,} nodes, which is the server's limit")
+        if self._level > MAX_LEVEL:
+            raise TooLarge(f"deeper than {MAX_LEVEL} levels, which is the server's limit")
+
+
+class DocumentText:
+    """Takes the nodes of a document in order, and gives the text that makes it; TooLarge as of
+    NodeCount."""
 
     def __init__(self, temporary: Temporary, part_bytes: int = PART_BYTES) -> None:
         self._temporary = temporary
         self._limit = part_bytes
         # A character takes five bytes at most: that of `&`, or four and none to escape.
         self._piece = max(part_bytes // 6, 1)
-        self._stack = [_Parent("document {")]
+        self._count = NodeCount()
+        self._last = _Parent("document {")
+        self._stack = [self._last]
         self._parts: list[Part] = []
-        self._after_text = False
-        self.nodes = 1
+
+    @property
+    def nodes(self) -> int:
+        """How many nodes the document has so far."""
+        return self._count.nodes
 
     def open(self, name: str) -> None:
         """An element begins."""
-        self._count()
-        self._stack.append(_Parent(f"element {name} {{"))
+        self._count.open()
+        self._last = _Parent(f"element {name} {{")
+        self._stack.append(self._last)
 
     def attribute(self, name: str, value: str) -> None:
         """An attribute of the element that has begun; before its children."""
-        self._count()
-        parent = self._stack[-1]
-        if parent.attributes is None:
-            parent.attributes = _Run()
-        run = parent.attributes
+        self._count.add()
+        run = self._last.attributes
+        if run is None:
+            run = self._last.attributes = _Run()
         text = self._valued(f"attribute {name} {{", value)
         size = byte_count(text)
         if run.size and run.size + size > self._limit // 2:
             holder = "document {element holder {" + run.constructors() + "}}"
             run.replace(f'doc("{self._stored(holder)}")/*/@*')
-        run.add(text, size)
+        run.texts.append(text)
+        run.size += size + 2
 
     def text(self, value: str) -> None:
         """A text; it may be empty, and it is one node with a text before it."""
         if not value:
             return
-        if not self._after_text:
-            self._count()
-            self._after_text = True
+        self._count.text()
+        if len(value) <= self._piece:
+            self._add(f"text {{{quoted(value)}}}")
+            return
         for at in range(0, len(value), self._piece):
             self._add(f"text {{{quoted(value[at : at + self._piece])}}}")
 
     def comment(self, value: str) -> None:
         """A comment."""
-        self._count()
+        self._count.add()
         self._add(self._valued("comment {", value))
 
     def instruction(self, name: str, value: str) -> None:
         """A processing instruction."""
-        self._count()
+        self._count.add()
         self._add(self._valued(f"processing-instruction {name} {{", value))
 
     def close(self) -> None:
         """The element that was opened last ends."""
-        self._after_text = False
-        parent = self._stack[-1]
-        attributes, children = parent.attributes, parent.children
-        size = parent.size + children.size + children.parts_size
+        self._count.close()
+        last = self._stack.pop()
+        attributes = last.attributes
+        size = last.size + last.parts_size + byte_count(last.head)
         if attributes:
             size += attributes.size + attributes.parts_size
-        if size > self._limit and children.size:
-            self._take_away(children)
-        self._stack.pop()
-        texts = attributes.texts + children.texts if attributes else children.texts
-        self._add(parent.head + ", ".join(texts) + "}")
+        if size > self._limit and last.size:
+            self._take_away(last)
+        texts = attributes.texts + last.texts if attributes else last.texts
+        self._last = self._stack[-1]
+        self._add(last.head + ", ".join(texts) + "}")
 
     def event(self, event: Event) -> None:
         """A step through printed nodes, those of the document itself aside.
@@ -173,22 +211,15 @@ class DocumentText:
 
     def whole(self) -> str:
         """The text of the whole document, once all its elements have ended."""
-        return self._stack[0].head + ", ".join(self._stack[0].children.texts) + "}"
-
-    def _count(self) -> None:
-        self._after_text = False
-        self.nodes += 1
-        if self.nodes > MAX_NODES:
-            raise TooLarge(f"more than {MAX_NODES:,} nodes, which is the server's limit")
-        if len(self._stack) > MAX_LEVEL:
-            raise TooLarge(f"deeper than {MAX_LEVEL} levels, which is the server's limit")
+        return self._stack[0].head + ", ".join(self._stack[0].texts) + "}"
 
     def _add(self, text: str) -> None:
-        children = self._stack[-1].children
+        run = self._last
         size = len(text) if text.isascii() else len(text.encode())
-        if children.size + size > self._limit and children.size:
-            self._take_away(children)
-        children.add(text, size)
+        if run.size + size > self._limit and run.size:
+            self._take_away(run)
+        run.texts.append(text)
+        run.size += size + 2
 
     def _take_away(self, run: _Run) -> None:
         """Makes a part of the nodes that the run holds."""

@@ -9,7 +9,7 @@ written as one writes it elsewhere, and its results are shown so:
     shown = [prefixed(it) for it in items]          # nodes with dc:title, strings as they are
 
     text = client.query_text(flat_query("//dc:title"))
-    prefixed_text(text)                             # element dc:title {..}, which can be asked again
+    prefixed_text(text)                             # element dc:title {..}, a query again
 
 Names are mapped token by token: names of elements, attributes and processing instructions, in steps
 and in constructors; never what stands in a string or a comment, a variable, or a name that is

@@ -1,11 +1,10 @@
 """XML text, as it comes, turned into the constructor text of a document. Nothing here reads files.
 
-Entities that the text declares are refused unless they are asked for; what stands outside of the
-text, external entities and definitions, is never read. The document type itself is dropped, and
-the default values of attributes in its internal part are kept.
+What stands outside of the text, external entities and definitions, is never read. The document
+type itself is dropped, and the default values of attributes in its internal part are kept.
 """
 
-from collections.abc import Callable
+from collections.abc import Callable, Iterator
 from dataclasses import dataclass
 from typing import NoReturn
 from xml.parsers import expat
@@ -14,12 +13,16 @@ from xqs.errors import XqError
 from xqs.parts import DocumentText, Part, TooLarge
 from xqs.temporary import Temporary
 from xqs.xml_decoding import EncodingFault, Utf8
+from xqs.xml_doctype import Doctype
 from xqs.xml_names import NameFault, Names, incoming, is_declaration
 
-_SPACE = " \t\r\n"
+SPACE = " \t\r\n"
+"""White space, as XML has it."""
 _TEXT_HELD = 1 << 20
 """So many characters of a text are held back before they are passed on."""
 _SPACE_ATTRIBUTE = "xml:space"
+_SLICE = 1 << 16
+"""So many bytes of a text with a document type are parsed at once, at least."""
 _INVALID_TOKEN = expat.errors.codes[expat.errors.XML_ERROR_INVALID_TOKEN]
 FAULTS = (NameFault, TooLarge)
 """What the names and the nodes of a text are refused by; the place is told where the text is read,
@@ -64,13 +67,14 @@ class XmlReader:
         self._document = DocumentText(temporary)
         self._strip = choices.strip
         self._names = _Cache(incoming(choices.names))
-        self._drops_declarations = choices.names is Names.LOCAL
+        self._is_local = choices.names is Names.LOCAL
         self._text: list[str] = []
         self._text_length = 0
         self._preserved: list[bool] = [False]
         self._bytes = Utf8(charset)
-        self._is_in_doctype = False
-        self._parser = self._new_parser(choices.entities)
+        self._slice = _SLICE
+        self._parser = self._new_parser()
+        self._doctype = Doctype(self._parser, choices.entities, self._refuse)
         self.whole = ""
 
     def feed(self, data: bytes) -> list[Part]:
@@ -89,7 +93,7 @@ class XmlReader:
         """How many nodes the document has so far."""
         return self._document.nodes
 
-    def _new_parser(self, entities: bool) -> expat.XMLParserType:
+    def _new_parser(self) -> expat.XMLParserType:
         parser = expat.ParserCreate("utf-8", intern={})
         parser.buffer_text = True
         parser.buffer_size = 1 << 16
@@ -99,18 +103,14 @@ class XmlReader:
         parser.CharacterDataHandler = self._characters
         parser.CommentHandler = self._comment
         parser.ProcessingInstructionHandler = self._instruction
-        parser.StartDoctypeDeclHandler = self._start_doctype
-        parser.EndDoctypeDeclHandler = self._end_doctype
-        parser.SkippedEntityHandler = self._skipped_entity
-        parser.ExternalEntityRefHandler = self._external_entity
-        parser.SetParamEntityParsing(expat.XML_PARAM_ENTITY_PARSING_NEVER)
-        if not entities:
-            parser.EntityDeclHandler = self._declared_entity
         return parser
 
     def _parse(self, data: bytes, final: bool) -> None:
         try:
-            self._parser.Parse(self._bytes.feed(data, final), final)
+            for piece in self._slices(self._bytes.feed(data, final)):
+                self._parser.Parse(piece, False)
+            if final:
+                self._parser.Parse(b"", True)
         except EncodingFault as error:
             raise XmlFault(self._source, error.line, error.column, error.why) from None
         except expat.ExpatError as error:
@@ -118,6 +118,17 @@ class XmlReader:
             why = self._bytes.fault(self._parser.ErrorByteIndex) if is_token else ""
             why = why or expat.errors.messages[error.code]
             raise XmlFault(self._source, error.lineno, error.offset + 1, why) from None
+
+    def _slices(self, data: bytes) -> Iterator[bytes]:
+        """The bytes in pieces that are short, since to look at the source of a tag copies a piece,
+        and longer ones where a token goes on and on."""
+        at = 0
+        while at < len(data):
+            begun = self._parser.CurrentByteIndex
+            yield data[at : at + self._slice]
+            at += self._slice
+            is_on = self._parser.CurrentByteIndex > begun
+            self._slice = _SLICE if is_on else self._slice * 2
 
     def _refuse(self, why: str) -> NoReturn:
         line, column = self._parser.CurrentLineNumber, self._parser.CurrentColumnNumber + 1
@@ -131,20 +142,35 @@ class XmlReader:
         try:
             self._document.open(self._names[name])
             if pairs:
-                self._attributes(pairs)
+                self._attributes(self._stored(pairs))
         except FAULTS as error:
             self._refuse(str(error))
 
     def _attributes(self, pairs: list[str]) -> None:
-        seen: set[str] = set()
+        attribute = self._document.attribute
         for name, value in zip(pairs[::2], pairs[1::2], strict=True):
-            if self._drops_declarations and is_declaration(name):
+            attribute(name, value)
+
+    def _stored(self, pairs: list[str]) -> list[str]:
+        """Names and values of attributes as they are stored."""
+        if self._doctype.has_begun:
+            self._doctype.check_tag()
+        if self._is_local:
+            return self._local(pairs)
+        pairs[::2] = [self._names[it] for it in pairs[::2]]
+        return pairs
+
+    def _local(self, pairs: list[str]) -> list[str]:
+        """As `_stored` where prefixes and declarations are dropped."""
+        values: dict[str, str] = {}
+        for name, value in zip(pairs[::2], pairs[1::2], strict=True):
+            if is_declaration(name):
                 continue
             stored = self._names[name]
-            if stored in seen:
+            if stored in values:
                 self._refuse(f"two attributes would be called {stored}")
-            seen.add(stored)
-            self._document.attribute(stored, value)
+            values[stored] = value
+        return [it for pair in values.items() for it in pair]
 
     def _is_preserved(self, pairs: list[str]) -> bool:
         if _SPACE_ATTRIBUTE not in pairs[::2]:
@@ -168,21 +194,15 @@ class XmlReader:
         text = "".join(self._text)
         self._text.clear()
         self._text_length = 0
-        if self._strip and not self._preserved[-1] and not text.strip(_SPACE):
+        if self._strip and not self._preserved[-1] and not text.strip(SPACE):
             return
         try:
             self._document.text(text)
         except FAULTS as error:
             self._refuse(str(error))
 
-    def _start_doctype(self, *_: object) -> None:
-        self._is_in_doctype = True
-
-    def _end_doctype(self) -> None:
-        self._is_in_doctype = False
-
     def _comment(self, text: str) -> None:
-        if self._is_in_doctype:
+        if self._doctype.is_inside:
             return
         self._pass_text()
         try:
@@ -191,23 +211,13 @@ class XmlReader:
             self._refuse(str(error))
 
     def _instruction(self, name: str, text: str) -> None:
-        if self._is_in_doctype:
+        if self._doctype.is_inside:
             return
         self._pass_text()
         try:
             self._document.instruction(self._names[name], text)
         except FAULTS as error:
             self._refuse(str(error))
-
-    def _declared_entity(self, name: str, is_parameter: bool, *_: object) -> None:
-        if not is_parameter:
-            self._refuse(f"the entity {name} is declared here; entities have to be asked for")
-
-    def _skipped_entity(self, name: str, _: bool) -> None:
-        self._refuse(f"the entity {name} is declared outside of this text, which is not read")
-
-    def _external_entity(self, _: str, __: str | None, place: str | None, ___: str | None) -> int:
-        self._refuse(f"the entity stands outside of this text, at {place}, which is not read")
 
 
 class _Cache(dict[str, str]):
